@@ -1,0 +1,6 @@
+pub mod Lists
+pub mod Names
+pub mod Points
+pub mod Bounds
+pub mod Walks
+pub mod Tokens

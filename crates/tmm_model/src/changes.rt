@@ -1,0 +1,61 @@
+// What an edit changed, and rows of longer replies.
+use crate::answer::Report;
+use crate::name::Name;
+use crate::point::{Occ, QueryPoint};
+use crate::seq::Seq;
+use crate::walk::WalkStep;
+
+/// A token, and the first token that clips it.
+#[derive(Drop)]
+pub struct Clip {
+    pub token: Occ,
+    pub by: Occ,
+}
+
+/// What an accepted edit changed.
+#[derive(Drop)]
+pub struct Changes {
+    /// The retracted premises.
+    pub erased: Seq<Name>,
+    /// The derived occurrences that are believed no longer.
+    pub left: Seq<Occ>,
+    /// The derived occurrences that are newly believed.
+    pub entered: Seq<Occ>,
+    /// The tokens that are clipped no longer.
+    pub loose: Seq<Occ>,
+    /// The tokens that are newly clipped, or by another token.
+    pub clips: Seq<Clip>,
+    /// The protections that are newly broken.
+    pub broken: Seq<Report>,
+    /// The protections that are broken no longer.
+    pub mended: Seq<Name>,
+}
+
+/// A line of the reasons of a belief.
+#[derive(Drop)]
+pub enum WhyLine {
+    Premise(Name),
+    /// The first point is surely at or before the second: `far` is the upper bound on the first
+    /// minus the second, and the steps are constraints that give it.
+    Order {
+        first: QueryPoint,
+        second: QueryPoint,
+        far: i64,
+        steps: Seq<WalkStep>,
+    },
+    Derived {
+        occ: Occ,
+        rule: Name,
+        trigger: Occ,
+        supports: Seq<Occ>,
+    },
+}
+
+/// A believed occurrence: its earliest date, its kind or fact, and what clips it.
+#[derive(Drop)]
+pub struct ListRow {
+    pub early: i64,
+    pub occ: Occ,
+    pub what: Name,
+    pub clip: Option<Occ>,
+}

@@ -1,0 +1,34 @@
+//! The plain types that the layers of the time map share, and the definitions that their contracts
+//! cite: names, points and premises, distances over constraints, and what tokens support.
+//! It stands on no other crate of this repository.
+#![tactic(auto)]
+
+mod answer;
+mod bound;
+mod changes;
+mod line;
+mod memory;
+mod name;
+mod point;
+mod premise;
+mod refusal;
+mod seq;
+mod sure;
+mod token;
+mod turn;
+mod walk;
+
+pub use answer::{Answer, Blame, Cause, Report};
+pub use bound::Bound;
+pub use changes::{Changes, Clip, ListRow, WhyLine};
+pub use line::{Line, Query};
+pub use memory::NoMemory;
+pub use name::Name;
+pub use point::{Occ, PointName, QueryPoint};
+pub use premise::{Edit, Premise};
+pub use refusal::{Refusal, Stop};
+pub use seq::Seq;
+pub use sure::Sure;
+pub use token::{Shape, TokenRow};
+pub use turn::Turn;
+pub use walk::{Side, WalkStep};

@@ -1,0 +1,14 @@
+// Want of memory.
+use std::alloc::AllocError;
+use thiserror::Error;
+
+/// The allocator gave no memory.
+#[derive(Clone, Copy, PartialEq, Eq, Debug, Error)]
+#[error("out of memory")]
+pub struct NoMemory;
+
+impl From<AllocError> for NoMemory {
+    fn from(_: AllocError) -> NoMemory {
+        NoMemory
+    }
+}

@@ -1,0 +1,132 @@
+// Names of a script.
+ghost use Rattle.std.specs.Prelude.{◌≡◌, ◌+◌, ◌-◌, ◌<◌, ◌≤◌, ℕ, List, [], ◌∷◌, ◌++◌, take, drop, replicate, length, IsTrue, IsSome, IfSome, IsNone, ◌↔◌, nat_eq, refl};
+ghost use Rattle.std.specs.List.{list_all};
+ghost use Rattle.std.specs.Ordering.{nat_cmp, as_partial_cmp};
+ghost use Rattle.std.specs.Cmp.{partial_equiv_from_equiv, partial_order_from_agreeing_total, unsigned_ties};
+ghost use Rattle.std.specs.Cmp.Lexicographic.{slice_cmp, pointwise, nat_list_cmp_total, nat_list_eq_equiv, lists_ties};
+ghost use Rattle.tmm_model.specs.Names.{is_letter, is_name_byte, is_name as is_name_of};
+
+use std::cmp::Ordering;
+use std::marker::Model;
+
+/// A name: 1 to 24 bytes, a letter first, then letters, digits, `_` or `-`. Names are ordered by
+/// their bytes.
+#[derive(Clone, Copy, Hash, Debug)]
+pub struct Name {
+    // the bytes, and zeros behind them
+    bytes: [u8; 24],
+    len: u8,
+}
+
+impl Model for Name {
+    ghost use Rattle.std.specs.Prelude.{ℕ, List, ◌++◌, ◌-◌, take, replicate, length};
+    ghost use Rattle.tmm_model.specs.Names.{IsPadded, append-padded, length-padded};
+
+    ghost Value = { List ℕ };
+
+    ghost view = { λ n. take n.len n.bytes };
+
+    ghost invariant = { λ n. IsPadded n.bytes n.len };
+
+    ghost inverse = { λ bs. record { bytes = bs ++ replicate (24 - length bs) 0; len = length bs } };
+
+    ghost inverse_ok = { λ a h. λ i. record { bytes = append-padded a.bytes a.len h i; len = length-padded a.bytes a.len h i } };
+}
+
+impl Name {
+    /// The name with these bytes, or none where they are no name.
+    pub fn of(bytes: &[u8]) -> Option<Name>
+        ensures some { IsSome result ↔ IsTrue (is_name_of bytes.now) }
+        ensures value { IfSome result (λ name. name ≡ bytes.now) }
+    {
+        if is_name(bytes) {
+            Some(padded(bytes))
+        } else {
+            None
+        }
+    }
+
+    /// Its bytes.
+    pub fn bytes(&self) -> &[u8]
+        ensures value { result.now ≡ self.now }
+    {
+        &self.bytes[..self.len as usize]
+    }
+}
+
+fn is_name(bytes: &[u8]) -> bool
+    ensures { result ≡ is_name_of bytes.now }
+{
+    match bytes {
+        [] => false,
+        [first, rest @ ..] => letter(*first) && all_name_bytes(rest) && rest.len() <= 23,
+    }
+}
+
+fn all_name_bytes(bytes: &[u8]) -> bool
+    ensures { result ≡ list_all is_name_byte bytes.now }
+{
+    bytes.iter().all(|b| name_byte(*b))
+}
+
+fn padded(bytes: &[u8]) -> Name
+    requires { length bytes.now ≤ 24 }
+    ensures { result ≡ bytes.now }
+{
+    let mut padded = [0; 24];
+    padded[..bytes.len()].copy_from_slice(bytes);
+    Name {
+        bytes: padded,
+        len: bytes.len() as u8,
+    }
+}
+
+fn letter(b: u8) -> bool
+    ensures { result ≡ is_letter b }
+{
+    b.is_ascii_alphabetic()
+}
+
+fn name_byte(b: u8) -> bool
+    ensures { result ≡ is_name_byte b }
+{
+    letter(b) || b.is_ascii_digit() || b == b'_' || b == b'-'
+}
+
+impl PartialEq for Name {
+    ghost eq = { pointwise nat_eq };
+
+    ghost laws = { partial_equiv_from_equiv nat_list_eq_equiv };
+
+    fn eq(&self, other: &Name) -> bool {
+        self.bytes() == other.bytes()
+    }
+}
+
+impl Eq for Name {
+    ghost laws = { nat_list_eq_equiv };
+}
+
+impl PartialOrd for Name {
+    ghost partial_cmp = { as_partial_cmp (slice_cmp nat_cmp) };
+
+    ghost laws = { partial_order_from_agreeing_total (slice_cmp nat_cmp) nat_list_cmp_total (λ a b. refl) (lists_ties nat_cmp unsigned_ties) };
+
+    fn partial_cmp(&self, other: &Name) -> Option<Ordering> {
+        Some(self.cmp(other))
+    }
+}
+
+impl Ord for Name {
+    ghost cmp = { slice_cmp nat_cmp };
+
+    ghost total = { nat_list_cmp_total };
+
+    ghost matches_partial_cmp = { λ a b. refl };
+
+    ghost matches_eq = { lists_ties nat_cmp unsigned_ties };
+
+    fn cmp(&self, other: &Name) -> Ordering {
+        self.bytes().cmp(other.bytes())
+    }
+}

@@ -1,0 +1,26 @@
+// Constraints as steps of a walk.
+use crate::name::Name;
+use crate::point::PointName;
+
+/// Which of a premise's constraints a step is.
+#[derive(Clone, Copy, PartialEq, Eq, Debug)]
+pub enum Side {
+    /// The upper bound of a `dist`.
+    Hi,
+    /// The lower bound of a `dist`.
+    Lo,
+    /// No point is before `start`.
+    Base,
+    /// A span lasts at least 1 time unit.
+    Length,
+}
+
+/// A constraint of a premise: the date of `to` is at most `weight` after that of `from`.
+#[derive(Clone, Copy, PartialEq, Eq, Debug)]
+pub struct WalkStep {
+    pub premise: Name,
+    pub side: Side,
+    pub from: PointName,
+    pub to: PointName,
+    pub weight: i64,
+}
