@@ -4,3 +4,6 @@ pub mod Points
 pub mod Bounds
 pub mod Walks
 pub mod Tokens
+pub mod Standing
+pub mod Sorts
+pub mod Verdicts
