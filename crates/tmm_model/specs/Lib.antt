@@ -3,4 +3,5 @@ pub mod Names
 pub mod Points
 pub mod Bounds
 pub mod Walks
+pub mod DateLaw
 pub mod Tokens
