@@ -3,6 +3,7 @@ pub mod Names
 pub mod Points
 pub mod Bounds
 pub mod Walks
+pub mod DateLaw
 pub mod Tokens
 pub mod Standing
 pub mod Sorts

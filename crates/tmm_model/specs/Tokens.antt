@@ -1,6 +1,6 @@
 -- Tokens that stand at spots: which of them last, support and clip, given the distances and the order of spots.
-use Rattle.std.specs.Prelude.{MatchOption, ◌≡◌, ℕ, ◌<◌, ℤ, pos, negsuc, Bool, true, false, not, ◌&&◌, List, length, IsTrue, Option, Some, None, slice_index_or}
-use Rattle.std.specs.List.{list_any, All}
+use Rattle.std.specs.Prelude.{MatchOption, ◌≡◌, ℕ, ◌<◌, pos, negsuc, Bool, false, not, ◌&&◌, List, length, IsTrue, Option, Some, None, slice_index_or}
+use Rattle.std.specs.List.{list_any}
 use Rattle.std.specs.declared.cmp.Ordering.{Ordering}
 use Rattle.std.specs.declared.cmp.Ordering.TheVariants.{Less, Equal}
 use Rattle.std.specs.Ordering.{is_gt, ordering_reverse}

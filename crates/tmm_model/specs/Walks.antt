@@ -12,6 +12,10 @@ pub record Arc (P : Type 0) : Type 0 where
   pub to : P
   pub weight : ℤ
 
+-- the constraint between the points that f gives its own
+abbrev pub renamed : {P Q : Type 0} → (P → Q) → Arc P → Arc Q
+renamed f e = record { from = f e.from; to = f e.to; weight = e.weight }
+
 module _ {P : Type 0} where
   -- the dates satisfy every constraint, and `start` is at 0
   pub record IsDates (start : P) (arcs : List (Arc P)) (date : P → ℤ) : Type 0 where

@@ -6,6 +6,7 @@
 mod answer;
 mod bound;
 mod changes;
+mod laws;
 mod line;
 mod memory;
 mod name;
@@ -21,6 +22,7 @@ mod walk;
 pub use answer::{Answer, Blame, Cause, Report};
 pub use bound::Bound;
 pub use changes::{Changes, Clip, ListRow, WhyLine};
+pub use laws::dates_exactly_without_negative_cycle;
 pub use line::{Line, Query};
 pub use memory::NoMemory;
 pub use name::Name;
