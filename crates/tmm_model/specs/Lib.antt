@@ -4,3 +4,4 @@ pub mod Points
 pub mod Bounds
 pub mod Walks
 pub mod Tokens
+pub mod Lines
