@@ -8,3 +8,4 @@ pub mod Tokens
 pub mod Standing
 pub mod Sorts
 pub mod Verdicts
+pub mod Lines

@@ -1,0 +1,221 @@
+-- The grammar of a script line, on the list of the line's words.
+use Rattle.std.specs.Prelude.{◌≡◌, ◌≢◌, ℕ, ◌≤◌, ℤ, pos, ◌≤ℤ◌, Bool, false, cond, not, ◌||◌, ◌==◌, List, [], ◌∷◌, ◌++◌, length, codes, decimal, IsTrue, ◌↔◌}
+use Rattle.std.specs.List.{list_all}
+use Rattle.std.specs.Fmt.{signed_decimal}
+use Rattle.tmm_model.specs.declared.bound.Bound.{Bound}
+use Rattle.tmm_model.specs.declared.bound.Bound.TheVariants.{Finite, Free}
+use Rattle.tmm_model.specs.declared.point.PointName.{PointName}
+use Rattle.tmm_model.specs.declared.point.PointName.TheVariants.{Start, Begin, End}
+use Rattle.tmm_model.specs.declared.point.Occ.{Occ}
+use Rattle.tmm_model.specs.declared.point.QueryPoint.{QueryPoint}
+use Rattle.tmm_model.specs.declared.point.QueryPoint.TheVariants.{Declared, Derived}
+use Rattle.tmm_model.specs.declared.premise.Premise.{Premise}
+use Rattle.tmm_model.specs.declared.premise.Premise.TheVariants.{Class, Kind, Point, Event, Token, Span, Dist, Rule, Protect}
+use Rattle.tmm_model.specs.declared.premise.Edit.{Edit}
+use Rattle.tmm_model.specs.declared.premise.Edit.TheVariants.{Add, Erase, Horizon}
+use Rattle.tmm_model.specs.declared.line.Query.{Query}
+use Rattle.tmm_model.specs.declared.line.Query.TheVariants.{Bounds, Path, Ask, Why, Check, List as Listing, Dump, Audit, Size}
+use Rattle.tmm_model.specs.declared.line.Line.{Line}
+use Rattle.tmm_model.specs.declared.line.Line.TheVariants.{Silent, Change, Question}
+use Rattle.tmm_model.specs.Names.{is_name}
+use Rattle.tmm_model.specs.Bounds.{IfFinite, IsWithin}
+use Rattle.tmm_model.specs.Points.{point_word, occ_word, query_word}
+
+-- a space, a tab or a carriage return, which part words
+abbrev pub is_blank : ℕ → Bool
+is_blank b = (b == 32) || (b == 9) || (b == 13)
+
+-- whether a word goes on at the front of the bytes
+abbrev pub goes_on : List ℕ → Bool
+goes_on [] = false
+goes_on (b ∷ _) = not (is_blank b)
+
+-- the byte before the first of the words
+abbrev pub onto_first : ℕ → List (List ℕ) → List (List ℕ)
+onto_first b [] = (b ∷ []) ∷ []
+onto_first b (w ∷ ws) = (b ∷ w) ∷ ws
+
+-- the words of a line: the longest runs of bytes that are no blanks
+unfoldable pub words : List ℕ → List (List ℕ)
+words [] = []
+words (b ∷ line) = cond (is_blank b) (words line) (cond (goes_on line) (onto_first b (words line)) ((b ∷ []) ∷ words line))
+
+abbrev pub AreBlanks : List ℕ → Type 0
+AreBlanks gap = IsTrue (list_all is_blank gap)
+
+-- at least one byte, and no blank
+abbrev pub IsWord : List ℕ → Type 0
+IsWord w = (w ≢ []) × IsTrue (list_all (λ b. not (is_blank b)) w)
+
+-- the same in other words: the line is blanks, a word that goes on no further, and so on, and blanks at the end
+abbrev pub AreWords : List ℕ → List (List ℕ) → Type 0
+AreWords line [] = AreBlanks line
+AreWords line (w ∷ ws) = (gap : List ℕ) × (rest : List ℕ) × (line ≡ gap ++ w ++ rest) × AreBlanks gap × IsWord w × (goes_on rest ≡ false) × AreWords rest ws
+
+abbrev pub IsName : List ℕ → Type 0
+IsName w = IsTrue (is_name w)
+
+abbrev pub AreNames : List (List ℕ) → Type 0
+AreNames ws = IsTrue (list_all is_name ws)
+
+-- the word for a number: `0`, or digits that begin with none, behind a `-` where it is below zero
+abbrev pub number_word : ℤ → List ℕ
+number_word z = signed_decimal z
+
+-- the word for a bound: a number, or `*` for none
+abbrev pub bound_word : Bound → List ℕ
+bound_word (Finite z) = number_word z
+bound_word Free = codes "*"
+
+abbrev pub IsNumber : ℤ → Type 0
+IsNumber z = IsWithin 1000000000 z
+
+abbrev pub IsBound : Bound → Type 0
+IsBound b = IfFinite b IsNumber
+
+-- a point that a word can name: the word `start` names the point `start` alone
+abbrev pub IsWellFormedPoint : PointName → Type 0
+IsWellFormedPoint Start = Unit {0}
+IsWellFormedPoint (Begin k) = IsName k × (k ≢ codes "start")
+IsWellFormedPoint (End k) = IsName k
+
+abbrev pub IsWellFormedOcc : Occ → Type 0
+IsWellFormedOcc o = IsName o.root × AreNames o.rules.items
+
+-- a derived occurrence has at least one rule
+abbrev pub IsWellFormedQueryPoint : QueryPoint → Type 0
+IsWellFormedQueryPoint (Declared p) = IsWellFormedPoint p
+IsWellFormedQueryPoint (Derived o) = IsWellFormedOcc o × (o.rules.items ≢ [])
+
+-- bounds on a distance: not both are none, and the lower is at most the upper
+abbrev pub IsRange : Bound → Bound → Type 0
+IsRange (Finite lo) (Finite hi) = lo ≤ℤ hi
+IsRange Free Free = ⊥
+IsRange _ _ = Unit {0}
+
+abbrev pub IsWellFormedPremise : Premise → Type 0
+IsWellFormedPremise (Class name facts) = IsName name × AreNames facts.items × (1 ≤ length facts.items) × (length facts.items ≤ 8)
+IsWellFormedPremise (Kind name) = IsName name
+IsWellFormedPremise (Point name) = IsName name
+IsWellFormedPremise (Event name kind) = IsName name × IsName kind
+IsWellFormedPremise (Token name fact) = IsName name × IsName fact
+IsWellFormedPremise (Span name fact) = IsName name × IsName fact
+IsWellFormedPremise (Dist name from to lo hi) = IsName name × IsWellFormedPoint from × IsWellFormedPoint to × IsBound lo × IsBound hi × IsRange lo hi
+IsWellFormedPremise (Rule name trigger lo hi effect given) =
+    IsName name × IsName trigger × IsNumber lo × IsBound hi × (pos 1 ≤ℤ lo) × IsRange (Finite lo) hi × IsName effect × AreNames given.items × (length given.items ≤ 4)
+IsWellFormedPremise (Protect name fact from to) = IsName name × IsName fact × IsWellFormedPoint from × IsWellFormedPoint to
+
+abbrev pub IsWellFormedEdit : Edit → Type 0
+IsWellFormedEdit (Add premise) = IsWellFormedPremise premise
+IsWellFormedEdit (Erase name) = IsName name
+IsWellFormedEdit (Horizon n) = n ≤ 100000
+
+abbrev pub IsWellFormedQuery : Query → Type 0
+IsWellFormedQuery (Bounds p q) = IsWellFormedQueryPoint p × IsWellFormedQueryPoint q
+IsWellFormedQuery (Path p q) = IsWellFormedQueryPoint p × IsWellFormedQueryPoint q
+IsWellFormedQuery (Ask fact p q) = IsName fact × IsWellFormedQueryPoint p × IsWellFormedQueryPoint q
+IsWellFormedQuery (Why o) = IsWellFormedOcc o
+IsWellFormedQuery _ = Unit {0}
+
+-- the antecedents of a rule behind the word `if`, and nothing where it has none
+abbrev pub given_words : List (List ℕ) → List (List ℕ)
+given_words [] = []
+given_words (f ∷ facts) = codes "if" ∷ f ∷ facts
+
+-- the words that declare a premise
+abbrev pub shown : Premise → List (List ℕ)
+shown (Class name facts) = codes "class" ∷ name ∷ facts.items
+shown (Kind name) = codes "kind" ∷ name ∷ []
+shown (Point name) = codes "point" ∷ name ∷ []
+shown (Event name kind) = codes "event" ∷ name ∷ kind ∷ []
+shown (Token name fact) = codes "token" ∷ name ∷ fact ∷ []
+shown (Span name fact) = codes "span" ∷ name ∷ fact ∷ []
+shown (Dist name from to lo hi) = codes "dist" ∷ name ∷ point_word from ∷ point_word to ∷ bound_word lo ∷ bound_word hi ∷ []
+shown (Rule name trigger lo hi effect given) = codes "rule" ∷ name ∷ trigger ∷ number_word lo ∷ bound_word hi ∷ effect ∷ given_words given.items
+shown (Protect name fact from to) = codes "protect" ∷ name ∷ fact ∷ point_word from ∷ point_word to ∷ []
+
+-- the words that make a change
+abbrev pub edit_words : Edit → List (List ℕ)
+edit_words (Add premise) = shown premise
+edit_words (Erase name) = codes "erase" ∷ name ∷ []
+edit_words (Horizon n) = codes "horizon" ∷ decimal n ∷ []
+
+-- the words that ask a question
+abbrev pub query_words : Query → List (List ℕ)
+query_words (Bounds p q) = codes "bounds" ∷ query_word p ∷ query_word q ∷ []
+query_words (Path p q) = codes "path" ∷ query_word p ∷ query_word q ∷ []
+query_words (Ask fact p q) = codes "ask" ∷ fact ∷ query_word p ∷ query_word q ∷ []
+query_words (Why o) = codes "why" ∷ occ_word o ∷ []
+query_words Check = codes "check" ∷ []
+query_words Listing = codes "list" ∷ []
+query_words Dump = codes "dump" ∷ []
+query_words Audit = codes "audit" ∷ []
+query_words Size = codes "size" ∷ []
+
+-- a word that begins with `#`
+abbrev pub is_comment : List ℕ → Bool
+is_comment [] = false
+is_comment (b ∷ _) = b == 35
+
+-- no word, or a comment
+abbrev pub IsSilent : List (List ℕ) → Type 0
+IsSilent [] = Unit {0}
+IsSilent (w ∷ _) = IsTrue (is_comment w)
+
+-- The words read as what the line says. They read as nothing exactly where they are in no form of the grammar.
+abbrev pub Reads : List (List ℕ) → Line → Type 0
+Reads ws Silent = IsSilent ws
+Reads ws (Change edit) = (ws ≡ edit_words edit) × IsWellFormedEdit edit
+Reads ws (Question query) = (ws ≡ query_words query) × IsWellFormedQuery query
+
+abbrev pub ReadsLine : List ℕ → Line → Type 0
+ReadsLine line l = Reads (words line) l
+
+-- each word behind a space
+abbrev pub behind_spaces : List (List ℕ) → List ℕ
+behind_spaces [] = []
+behind_spaces (w ∷ ws) = 32 ∷ w ++ behind_spaces ws
+
+-- the words parted by one space
+abbrev pub spaced : List (List ℕ) → List ℕ
+spaced [] = []
+spaced (w ∷ ws) = w ++ behind_spaces ws
+
+-- the line that declares a premise
+abbrev pub shown_text : Premise → List ℕ
+shown_text premise = spaced (shown premise)
+
+-- an occurrence, point, question or line but for the room of its lists
+abbrev pub bare_occ : Occ → Occ
+bare_occ o = record { root = o.root; rules = record { items = o.rules.items; room = 0 } }
+
+abbrev pub bare_point : QueryPoint → QueryPoint
+bare_point (Declared p) = Declared p
+bare_point (Derived o) = Derived (bare_occ o)
+
+abbrev pub bare_query : Query → Query
+bare_query (Bounds p q) = Bounds (bare_point p) (bare_point q)
+bare_query (Path p q) = Path (bare_point p) (bare_point q)
+bare_query (Ask fact p q) = Ask fact (bare_point p) (bare_point q)
+bare_query (Why o) = Why (bare_occ o)
+bare_query query = query
+
+abbrev pub bare_line : Line → Line
+bare_line (Question query) = Question (bare_query query)
+bare_line l = l
+
+-- the lines say the same
+abbrev pub SameLine : Line → Line → Type 0
+SameLine a b = bare_line a ≡ bare_line b
+
+-- a line has one list of words
+abbrev pub WordsAreOne : Type 0
+WordsAreOne = (line : List ℕ) (ws : List (List ℕ)) → AreWords line ws ↔ (ws ≡ words line)
+
+-- words read as at most one thing
+abbrev pub ReadingIsOne : Type 0
+ReadingIsOne = (ws : List (List ℕ)) (a b : Line) → Reads ws a → Reads ws b → SameLine a b
+
+-- the line that shows a premise reads as it
+abbrev pub ShownReads : Type 0
+ShownReads = (premise : Premise) → IsWellFormedPremise premise → ReadsLine (shown_text premise) (Change (Add premise))
