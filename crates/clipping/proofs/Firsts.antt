@@ -1,0 +1,94 @@
+-- One more element at a search for the first.
+use Rattle.std.proofs.Common.{◌≡◌, ℕ, ◌+◌, ◌<◌, Bool, true, false, List, length, IsTrue, refl, sym, ◌∙◌, subst, ap, below_more, arith}
+use Rattle.std.proofs.lemmas.List.{get_or_default, get_or_read}
+use Rattle.std.specs.Prelude.{Option, Some, None, slice_index_or, if◌then◌else◌}
+use Rattle.std.specs.List.{All}
+use Rattle.std.specs.declared.cmp.Ordering.{Ordering}
+use Rattle.std.specs.declared.cmp.Ordering.TheVariants.{Less, Equal, Greater}
+use Rattle.std.specs.Ordering.{is_gt, ordering_reverse, on}
+use Rattle.tmm_model.specs.declared.token.TokenRow.{TokenRow}
+use Rattle.tmm_model.specs.Tokens.{IsOrderOn, IsFirstAmong, IsFirstPlaceAmong}
+use Rattle.clipping.specs.Live.{IsLive}
+use Rattle.clipping.specs.Earlier.{IsEarlierPlace}
+
+module _ {P : Type 0} {live : P → Type 0} {order : P → P → Ordering} (law : IsOrderOn live order) where
+  -- not after, one after the other
+  pub upto : (x y z : P) → live x → live y → live z → is_gt (order x y) ≡ false → is_gt (order y z) ≡ false → is_gt (order x z) ≡ false
+  upto x y z lx ly lz h g = by (order x y) refl (order y z) refl
+    where
+      by : (r : Ordering) → order x y ≡ r → (s : Ordering) → order y z ≡ s → is_gt (order x z) ≡ false
+      by Less e Less f = ap is_gt (law.trans x y z lx ly lz e f)
+      by Less e Equal f = subst (λ w. is_gt (order x w) ≡ false) (law.strict y z ly lz f) h
+      by Less e Greater f = cc
+      by Equal e s f = subst (λ w. is_gt (order w z) ≡ false) (sym (law.strict x y lx ly e)) g
+      by Greater e s f = cc
+
+  pub turned : (x y : P) → live x → live y → is_gt (order x y) ≡ true → is_gt (order y x) ≡ false
+  turned x y lx ly h = ap is_gt (law.antisymm y x ly lx) ∙ by (order x y) h
+    where
+      by : (r : Ordering) → is_gt r ≡ true → is_gt (ordering_reverse r) ≡ false
+      by Less e = cc
+      by Equal e = cc
+      by Greater e = refl
+
+  pub itself : (x : P) → live x → is_gt (order x x) ≡ false
+  itself x lx = by (order x x) refl
+    where
+      by : (r : Ordering) → order x x ≡ r → is_gt (order x x) ≡ false
+      by Less e = ap is_gt e
+      by Equal e = ap is_gt e
+      by Greater e = let t : is_gt (order x x) ≡ true → is_gt (order x x) ≡ false = turned x x lx lx in t (ap is_gt e)
+
+  module _ (test : TokenRow P → Bool) (xs : List (TokenRow P)) (all : All (IsLive live) xs) where
+    abbrev cmp : TokenRow P → TokenRow P → Ordering
+    cmp = on (λ k. k.spot) order
+
+    pub first_skipped : (i : ℕ) (best : Option ℕ) → IsFirstPlaceAmong cmp test xs i best → ((d : TokenRow P) → test (slice_index_or xs i d) ≡ false) → IsFirstPlaceAmong cmp test xs (i + 1) best
+    first_skipped i None h out = λ j d. below_more (λ k. test (slice_index_or xs k d) ≡ false) i (λ k lt. h k d lt) (out d) j
+    first_skipped i (Some b) h out =
+        let lt : b < i = h.within in
+        record {
+          within = omega arith;
+          passes = h.passes;
+          least = λ j d. below_more (λ k. IsTrue (test (slice_index_or xs k d)) → is_gt (cmp (slice_index_or xs b d) (slice_index_or xs k d)) ≡ false) i (λ k. h.least k d) (λ t. let o : test (slice_index_or xs i d) ≡ false = out d in cc) j;
+        }
+
+    -- the element at i is the first of them
+    now_first : (i : ℕ) → i < length xs → ((d : TokenRow P) → IsTrue (test (slice_index_or xs i d))) → ((k : ℕ) (d : TokenRow P) → k < i → IsTrue (test (slice_index_or xs k d)) → is_gt (cmp (slice_index_or xs i d) (slice_index_or xs k d)) ≡ false) → IsFirstAmong cmp test xs (i + 1) i
+    now_first i lt sure least =
+        record {
+          within = omega arith;
+          passes = sure;
+          least = λ j d. below_more (λ k. IsTrue (test (slice_index_or xs k d)) → is_gt (cmp (slice_index_or xs i d) (slice_index_or xs k d)) ≡ false) i (λ k. least k d) (λ t. itself (slice_index_or xs i d).spot (all i d lt).begin) j;
+        }
+
+    pub first_taken : (x : TokenRow P) (i : ℕ) (best : Option ℕ) (r : ℕ) → i < length xs → IsFirstPlaceAmong cmp test xs i best → ((d : TokenRow P) → IsTrue (test (slice_index_or xs i d))) → IsEarlierPlace cmp xs best i r → IsFirstPlaceAmong cmp test xs (i + 1) (Some r)
+    first_taken x i None r lt h sure e =
+        subst (λ r. IsFirstAmong cmp test xs (i + 1) r) (sym e)
+        (now_first i lt sure (λ k d below t. let o : test (slice_index_or xs k d) ≡ false = h k d below in cc))
+    first_taken x i (Some b) r lt h sure e = by (is_gt (cmp (slice_index_or xs b x) (slice_index_or xs i x))) refl (e x)
+      where
+        before : b < length xs
+        before = let below : b < i = h.within in omega arith
+
+        moved : (d : TokenRow P) → is_gt (cmp (slice_index_or xs b d) (slice_index_or xs i d)) ≡ is_gt (cmp (slice_index_or xs b x) (slice_index_or xs i x))
+        moved d = λ t. is_gt (cmp (get_or_default xs b d x before t) (get_or_default xs i d x lt t))
+
+        by : (g : Bool) → is_gt (cmp (slice_index_or xs b x) (slice_index_or xs i x)) ≡ g → r ≡ (if g then i else b) → IsFirstAmong cmp test xs (i + 1) r
+        by true f q =
+            subst (λ r. IsFirstAmong cmp test xs (i + 1) r) (sym q)
+            (now_first i lt sure (λ k d below t. upto (slice_index_or xs i d).spot (slice_index_or xs b d).spot (slice_index_or xs k d).spot (all i d lt).begin (all b d before).begin (all k d (omega arith)).begin (turned (slice_index_or xs b d).spot (slice_index_or xs i d).spot (all b d before).begin (all i d lt).begin (moved d ∙ f)) (h.least k d below t)))
+        by false f q =
+            subst (λ r. IsFirstAmong cmp test xs (i + 1) r) (sym q)
+            (record {
+              within = let below : b < i = h.within in omega arith;
+              passes = h.passes;
+              least = λ j d. below_more (λ k. IsTrue (test (slice_index_or xs k d)) → is_gt (cmp (slice_index_or xs b d) (slice_index_or xs k d)) ≡ false) i (λ k. h.least k d) (λ t. moved d ∙ f) j;
+            })
+
+    -- the same for the element x that the loop reads at i
+    pub first_skip : (x : TokenRow P) (i : ℕ) (best : Option ℕ) → i < length xs → x ≡ slice_index_or xs i x → IsFirstPlaceAmong cmp test xs i best → test x ≡ false → IsFirstPlaceAmong cmp test xs (i + 1) best
+    first_skip x i best lt is h out = first_skipped i best h (λ d. subst (λ y. test y ≡ false) (get_or_read xs i x lt is d) out)
+
+    pub first_take : (x : TokenRow P) (i : ℕ) (best : Option ℕ) (r : ℕ) → i < length xs → x ≡ slice_index_or xs i x → IsFirstPlaceAmong cmp test xs i best → test x ≡ true → IsEarlierPlace cmp xs best i r → IsFirstPlaceAmong cmp test xs (i + 1) (Some r)
+    first_take x i best r lt is h sure e = first_taken x i best r lt h (λ d. subst (λ y. IsTrue (test y)) (get_or_read xs i x lt is d) sure) e

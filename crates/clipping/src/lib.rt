@@ -1,0 +1,229 @@
+//! Which token supports a fact, what clips a token, and why a token is no supporter, over any
+//! distances and order of spots.
+//!
+//! It stands on `tmm_model` alone. Each call answers exactly as the definitions of support and clip
+//! say: the first token by the order of spots, and none exactly where no token is such. No call
+//! takes memory.
+#![tactic(auto)]
+
+ghost use Rattle.std.specs.Prelude.{◌≡◌, ◌<◌, ◌≤◌, ◌↔◌, ℕ, length, IsTrue, Bool, true, false, MatchOption, slice_index_or, slice_get, IfSome};
+ghost use Rattle.std.specs.List.{list_any, All};
+ghost use Rattle.std.specs.Ordering.{on};
+ghost use Rattle.tmm_model.specs.Tokens.{of_one_class, supports, cuts, clips, lasts_to, IsFirstPlace};
+ghost use Rattle.std.specs.Option.{ForSome};
+ghost use Rattle.clipping.specs.Live.{IsLive};
+ghost use Rattle.clipping.specs.Earlier.{IsEarlierPlace};
+ghost use Rattle.clipping.specs.Faults.{IsClipPlace, IsFault};
+
+use std::cmp::Ordering;
+use tmm_model::{Name, Sure, TokenRow};
+
+// Whether `c` contradicts `k`, and surely begins after it and at or before `q`.
+fn cuts_before<S: Sure>(order: &S, k: &TokenRow<S::Spot>, c: &TokenRow<S::Spot>, q: S::Spot) -> bool
+    requires k_live { S.live order.now k.now.spot }
+    requires c_live { S.live order.now c.now.spot }
+    requires q_live { S.live order.now q }
+    ensures { result ≡ cuts of_one_class (S.distance order.now) k.now q c.now }
+{
+    clips_after(order, k, c) && order.at_most(q, c.spot, 0)
+}
+
+// Whether `c` contradicts `k`, and surely begins after it.
+fn clips_after<S: Sure>(order: &S, k: &TokenRow<S::Spot>, c: &TokenRow<S::Spot>) -> bool
+    requires k_live { S.live order.now k.now.spot }
+    requires c_live { S.live order.now c.now.spot }
+    ensures { result ≡ clips of_one_class (S.distance order.now) k.now c.now }
+{
+    k.class == c.class && k.fact != c.fact && order.at_most(c.spot, k.spot, -1)
+}
+
+// Whether `k` lasts up to `q` among the tokens.
+fn lasts<S: Sure>(
+    order: &S,
+    tokens: &[TokenRow<S::Spot>],
+    k: &TokenRow<S::Spot>,
+    q: S::Spot,
+) -> bool
+    requires all_live { All (IsLive (S.live order.now)) tokens.now }
+    requires k_live { IsLive (S.live order.now) k.now }
+    requires q_live { S.live order.now q }
+    ensures { result ≡ lasts_to of_one_class (S.distance order.now) tokens.now k.now q k.now.end }
+{
+    match k.end {
+        Some(end) => order.at_most(end, q, -1),
+        None => !is_cut(order, tokens, k, q),
+    }
+}
+
+// Whether a token cuts `k` before `q`.
+fn is_cut<S: Sure>(
+    order: &S,
+    tokens: &[TokenRow<S::Spot>],
+    k: &TokenRow<S::Spot>,
+    q: S::Spot,
+) -> bool
+    requires all_live { All (IsLive (S.live order.now)) tokens.now }
+    requires k_live { S.live order.now k.now.spot }
+    requires q_live { S.live order.now q }
+    ensures { result ≡ list_any (cuts of_one_class (S.distance order.now) k.now q) tokens.now }
+{
+    for c in tokens {
+        if cuts_before(order, k, c, q) {
+            return true;
+        }
+    }
+    false
+}
+
+// Whether `k` supports the fact throughout `p` to `q` among the tokens.
+fn is_supporter<S: Sure>(
+    order: &S,
+    tokens: &[TokenRow<S::Spot>],
+    k: &TokenRow<S::Spot>,
+    fact: Name,
+    p: S::Spot,
+    q: S::Spot,
+) -> bool
+    requires all_live { All (IsLive (S.live order.now)) tokens.now }
+    requires k_live { IsLive (S.live order.now) k.now }
+    requires p_live { S.live order.now p }
+    requires q_live { S.live order.now q }
+    ensures { result ≡ supports of_one_class (S.distance order.now) tokens.now fact p q k.now }
+{
+    k.fact == fact && order.at_most(p, k.spot, 0) && lasts(order, tokens, k, q)
+}
+
+// The earlier of the best place so far and of `i`.
+fn earlier<S: Sure>(order: &S, tokens: &[TokenRow<S::Spot>], best: Option<usize>, i: usize) -> usize
+    requires all_live { All (IsLive (S.live order.now)) tokens.now }
+    requires best_within { ForSome best (λ b. b < length tokens.now) }
+    requires within { i < length tokens.now }
+    ensures { IsEarlierPlace (on (λ k. k.spot) (S.order order.now)) tokens.now best i result }
+{
+    match best {
+        None => i,
+        Some(b) => match order.rank(tokens[b].spot, tokens[i].spot) {
+            Ordering::Greater => i,
+            _ => b,
+        },
+    }
+}
+
+/// The place of the first token that supports the fact throughout `p` to `q`, none exactly where no
+/// token does.
+pub fn holder<S: Sure>(
+    order: &S,
+    tokens: &[TokenRow<S::Spot>],
+    fact: Name,
+    p: S::Spot,
+    q: S::Spot,
+) -> Option<usize>
+    requires all_live { All (IsLive (S.live order.now)) tokens.now }
+    requires p_live { S.live order.now p }
+    requires q_live { S.live order.now q }
+    ensures { IsFirstPlace (on (λ k. k.spot) (S.order order.now)) (supports of_one_class (S.distance order.now) tokens.now fact p q) tokens.now result }
+{
+    let mut best = None;
+    for (i, k) in tokens.iter().enumerate() {
+        if is_supporter(order, tokens, k, fact, p, q) {
+            best = Some(earlier(order, tokens, best, i));
+        }
+    }
+    best
+}
+
+// The place of the first token that clips `k`.
+fn first_clip<S: Sure>(
+    order: &S,
+    tokens: &[TokenRow<S::Spot>],
+    k: &TokenRow<S::Spot>,
+) -> Option<usize>
+    requires all_live { All (IsLive (S.live order.now)) tokens.now }
+    requires k_live { S.live order.now k.now.spot }
+    ensures { IsFirstPlace (on (λ k. k.spot) (S.order order.now)) (clips of_one_class (S.distance order.now) k.now) tokens.now result }
+{
+    let mut clip = None;
+    for (i, c) in tokens.iter().enumerate() {
+        if clips_after(order, k, c) {
+            clip = Some(earlier(order, tokens, clip, i));
+        }
+    }
+    clip
+}
+
+// The place of the first token that clips `k` at or before `q`.
+fn first_cut<S: Sure>(
+    order: &S,
+    tokens: &[TokenRow<S::Spot>],
+    k: &TokenRow<S::Spot>,
+    q: S::Spot,
+) -> Option<usize>
+    requires all_live { All (IsLive (S.live order.now)) tokens.now }
+    requires k_live { S.live order.now k.now.spot }
+    requires q_live { S.live order.now q }
+    ensures { IsFirstPlace (on (λ k. k.spot) (S.order order.now)) (cuts of_one_class (S.distance order.now) k.now q) tokens.now result }
+{
+    let mut cut = None;
+    for (i, c) in tokens.iter().enumerate() {
+        if cuts_before(order, k, c, q) {
+            cut = Some(earlier(order, tokens, cut, i));
+        }
+    }
+    cut
+}
+
+/// The place of the first token that clips the one at `k`, none exactly where no token does. A span
+/// has none.
+pub fn first_clipper<S: Sure>(order: &S, tokens: &[TokenRow<S::Spot>], k: usize) -> Option<usize>
+    requires all_live { All (IsLive (S.live order.now)) tokens.now }
+    requires within { k < length tokens.now }
+    ensures { IfSome (slice_get tokens.now k) (λ row. IsClipPlace of_one_class (S.distance order.now) (S.order order.now) tokens.now row result) }
+{
+    let row = &tokens[k];
+    match row.end {
+        Some(_) => None,
+        None => first_clip(order, tokens, row),
+    }
+}
+
+/// Why a token does not support its fact.
+#[derive(Clone, Copy, PartialEq, Eq, Debug)]
+pub enum Fault {
+    /// It does not surely begin at or before the first point.
+    Late,
+    /// The token at this place is the first that clips it surely at or before the last point.
+    Clipped(usize),
+    /// It is a span that does not surely end after the last point.
+    Ends,
+}
+
+/// Why the token at `k` does not support its fact throughout `p` to `q`, which the caller knows.
+pub fn blame<S: Sure>(
+    order: &S,
+    tokens: &[TokenRow<S::Spot>],
+    k: usize,
+    p: S::Spot,
+    q: S::Spot,
+) -> Fault
+    requires all_live { All (IsLive (S.live order.now)) tokens.now }
+    requires p_live { S.live order.now p }
+    requires q_live { S.live order.now q }
+    requires within { k < length tokens.now }
+    requires no_supporter { ForSome (slice_get tokens.now k) (λ row. supports of_one_class (S.distance order.now) tokens.now row.fact p q row ≡ false) }
+    ensures { IfSome (slice_get tokens.now k) (λ row. IsFault of_one_class (S.distance order.now) (S.order order.now) tokens.now row p q result) }
+{
+    let row = &tokens[k];
+    if !order.at_most(p, row.spot, 0) {
+        return Fault::Late;
+    }
+    match row.end {
+        Some(_) => Fault::Ends,
+        None => match first_cut(order, tokens, row, q) {
+            Some(c) => Fault::Clipped(c),
+            None => Fault::Ends,
+        },
+    }
+}
+
+#[cfg(test)]
+mod tests;
