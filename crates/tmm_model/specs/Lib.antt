@@ -9,3 +9,5 @@ pub mod Standing
 pub mod Sorts
 pub mod Verdicts
 pub mod Lines
+pub mod Cuts
+pub mod Runs
