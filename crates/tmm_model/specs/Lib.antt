@@ -7,3 +7,4 @@ pub mod Tokens
 pub mod Standing
 pub mod Sorts
 pub mod Verdicts
+pub mod Replies
