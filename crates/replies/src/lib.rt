@@ -1,0 +1,19 @@
+//! The bytes of every reply to a line of a script.
+//!
+//! Each call makes the whole reply in one buffer, and ensures that its bytes are the text which the
+//! definitions of `tmm_model` give for that answer under the line's number. It stands on `tmm_model`,
+//! whose types it prints.
+#![tactic(auto)]
+
+mod details;
+mod edits;
+mod memory;
+mod questions;
+mod reasons;
+mod words;
+
+pub use edits::{reply_no, reply_ok};
+pub use memory::memory_reply;
+pub use questions::{
+    Word, reply_answer, reply_bounds, reply_check, reply_list, reply_number, reply_path, reply_why,
+};
