@@ -10,3 +10,9 @@ pub mod Renaming
 pub mod Sizes
 pub mod Walks
 pub mod Within
+pub mod LineNumbers
+pub mod LineReaders
+pub mod LineWords
+pub mod LinePoints
+pub mod LineForms
+pub mod LineShown

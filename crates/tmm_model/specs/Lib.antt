@@ -11,3 +11,4 @@ pub mod Verdicts
 pub mod Lines
 pub mod Cuts
 pub mod Runs
+pub mod Reading
