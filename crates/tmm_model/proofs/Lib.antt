@@ -11,3 +11,9 @@ pub mod Sizes
 pub mod Walks
 pub mod Within
 mod WorkedReplies
+pub mod LineNumbers
+pub mod LineReaders
+pub mod LineWords
+pub mod LinePoints
+pub mod LineForms
+pub mod LineShown

@@ -12,3 +12,4 @@ pub mod Lines
 pub mod Cuts
 pub mod Runs
 pub mod Replies
+pub mod Reading

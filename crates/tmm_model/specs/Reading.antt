@@ -1,0 +1,192 @@
+-- The grammar of a script line as a function from words, which code follows word by word. It gives the
+-- values for which `Reads` holds, with no room in their lists.
+use Rattle.std.specs.Prelude.{ℕ, zero, suc, ◌+◌, ◌-◌, ◌*◌, ℤ, pos, negsuc, int_le, Bool, true, false, cond, ◌&&◌, ◌==◌, nat_le, List, [], ◌∷◌, length, take, drop, Option, Some, None, option_map, codes}
+use Rattle.std.specs.List.{list_all, list_any}
+use Rattle.std.specs.Option.{option_or}
+use Rattle.tmm_model.specs.declared.bound.Bound.{Bound}
+use Rattle.tmm_model.specs.declared.bound.Bound.TheVariants.{Finite, Free}
+use Rattle.tmm_model.specs.declared.point.PointName.{PointName}
+use Rattle.tmm_model.specs.declared.point.PointName.TheVariants.{Start, Begin, End}
+use Rattle.tmm_model.specs.declared.point.Occ.{Occ}
+use Rattle.tmm_model.specs.declared.point.QueryPoint.{QueryPoint}
+use Rattle.tmm_model.specs.declared.point.QueryPoint.TheVariants.{Declared, Derived}
+use Rattle.tmm_model.specs.declared.premise.Premise.{Premise}
+use Rattle.tmm_model.specs.declared.premise.Premise.TheVariants.{Class, Kind, Point, Event, Token, Span, Dist, Rule, Protect}
+use Rattle.tmm_model.specs.declared.premise.Edit.{Edit}
+use Rattle.tmm_model.specs.declared.premise.Edit.TheVariants.{Add, Erase, Horizon}
+use Rattle.tmm_model.specs.declared.line.Query.{Query}
+use Rattle.tmm_model.specs.declared.line.Query.TheVariants.{Bounds, Path, Ask, Why, Check, List as Listing, Dump, Audit, Size}
+use Rattle.tmm_model.specs.declared.line.Line.{Line}
+use Rattle.tmm_model.specs.declared.line.Line.TheVariants.{Silent, Change, Question}
+use Rattle.tmm_model.specs.Names.{is_name}
+use Rattle.tmm_model.specs.Points.{same_name}
+use Rattle.tmm_model.specs.Lines.{onto_first, is_comment}
+
+infixl 10 ◌>>=◌
+abbrev pub ◌>>=◌ : {A B : Type 0} → Option A → (A → Option B) → Option B
+(Some x) >>= f = f x
+None >>= f = None
+
+-- the value where it passes
+abbrev pub passing : {A : Type 0} → Bool → A → Option A
+passing true x = Some x
+passing false x = None
+
+-- the value where nothing is left
+abbrev pub ended : {A B : Type 0} → A → List B → Option A
+ended x [] = Some x
+ended x (_ ∷ _) = None
+
+-- what the first word reads as, and the words behind it
+abbrev pub front : {A : Type 0} → (List ℕ → Option A) → List (List ℕ) → Option (A × List (List ℕ))
+front read [] = None
+front read (w ∷ ws) = read w >>= λ x. Some (x, ws)
+
+-- what a word and no other reads as
+abbrev pub alone : {A : Type 0} → (List ℕ → Option A) → List (List ℕ) → Option A
+alone read ws = front read ws >>= λ x. ended x.0 x.1
+
+-- what a word and then the words behind it read as
+abbrev pub both : {A B : Type 0} → (List ℕ → Option A) → (List (List ℕ) → Option B) → List (List ℕ) → Option (A × B)
+both read rest ws = front read ws >>= λ x. rest x.1 >>= λ y. Some (x.0, y)
+
+-- ---- words
+
+abbrev pub name_of : List ℕ → Option (List ℕ)
+name_of w = passing (is_name w) w
+
+-- the words where they are at most n names
+abbrev pub names_of : ℕ → List (List ℕ) → Option (List (List ℕ))
+names_of n ws = passing (list_all is_name ws && nat_le (length ws) n) ws
+
+abbrev pub is_digit : ℕ → Bool
+is_digit b = nat_le 48 b && nat_le b 57
+
+-- the number that digits write behind those of n, where it is at most 1,000,000,000
+unfoldable pub digits_on : ℕ → List ℕ → Option ℕ
+digits_on n [] = Some n
+digits_on n (b ∷ bs) = cond (is_digit b && nat_le (n * 10 + (b - 48)) 1000000000) (digits_on (n * 10 + (b - 48)) bs) None
+
+-- a number without a sign
+unfoldable pub natural_of : List ℕ → Option ℕ
+natural_of [] = None
+natural_of (b ∷ bs) = cond (b == 48) (ended 0 bs) (digits_on 0 (b ∷ bs))
+
+abbrev pub negative : ℕ → Option ℤ
+negative zero = None
+negative (suc n) = Some (negsuc n)
+
+unfoldable pub number_of : List ℕ → Option ℤ
+number_of [] = None
+number_of (b ∷ bs) = cond (b == 45) (natural_of bs >>= negative) (option_map pos (natural_of (b ∷ bs)))
+
+unfoldable pub bound_of : List ℕ → Option Bound
+bound_of w = cond (same_name w (codes "*")) (Some Free) (option_map Finite (number_of w))
+
+-- a name with `.end` behind it
+abbrev pub end_of : List ℕ → Option PointName
+end_of w = cond (same_name (drop (length w - 4) w) (codes ".end")) (option_map End (name_of (take (length w - 4) w))) None
+
+unfoldable pub point_of : List ℕ → Option PointName
+point_of w = cond (same_name w (codes "start")) (Some Start) (cond (is_name w) (Some (Begin w)) (end_of w))
+
+-- what stands before, between and behind the bytes `/`
+unfoldable pub parts : List ℕ → List (List ℕ)
+parts [] = [] ∷ []
+parts (b ∷ w) = cond (b == 47) ([] ∷ parts w) (onto_first b (parts w))
+
+abbrev pub bare : List ℕ → List (List ℕ) → Occ
+bare root rules = record { root = root; rules = record { items = rules; room = 0 } }
+
+abbrev pub occ_from : List (List ℕ) → Option Occ
+occ_from [] = None
+occ_from (root ∷ rules) = passing (list_all is_name (root ∷ rules)) (bare root rules)
+
+unfoldable pub occ_of : List ℕ → Option Occ
+occ_of w = occ_from (parts w)
+
+unfoldable pub query_point_of : List ℕ → Option QueryPoint
+query_point_of w = cond (list_any (λ b. b == 47) w) (option_map Derived (occ_of w)) (option_map Declared (point_of w))
+
+abbrev pub horizon_from : ℤ → Option ℕ
+horizon_from (pos n) = passing (nat_le n 100000) n
+horizon_from (negsuc _) = None
+
+unfoldable pub horizon_of : List ℕ → Option ℕ
+horizon_of w = number_of w >>= horizon_from
+
+-- ---- the words behind the first one
+
+-- the bounds leave a distance
+abbrev pub is_range : Bound → Bound → Bool
+is_range (Finite lo) (Finite hi) = int_le lo hi
+is_range Free Free = false
+is_range _ _ = true
+
+-- a name, and 1 to 8 facts
+unfoldable pub class_of : List (List ℕ) → Option Premise
+class_of ws = both name_of (names_of 8) ws >>= λ t. passing (nat_le 1 (length t.1)) (Class t.0 (record { items = t.1 }))
+
+unfoldable pub dist_of : List (List ℕ) → Option Premise
+dist_of ws = both name_of (both point_of (both point_of (both bound_of (alone bound_of)))) ws
+    >>= λ t. passing (is_range t.1.1.1.0 t.1.1.1.1) (Dist t.0 t.1.0 t.1.1.0 t.1.1.1.0 t.1.1.1.1)
+
+-- nothing, or `if` and 1 to 4 facts
+unfoldable pub given_of : List (List ℕ) → Option (List (List ℕ))
+given_of [] = Some []
+given_of (w ∷ ws) = cond (same_name w (codes "if")) (names_of 4 ws >>= λ facts. passing (nat_le 1 (length facts)) facts) None
+
+unfoldable pub rule_of : List (List ℕ) → Option Premise
+rule_of ws = both name_of (both name_of (both number_of (both bound_of (both name_of given_of)))) ws
+    >>= λ t. passing (int_le (pos 1) t.1.1.0 && is_range (Finite t.1.1.0) t.1.1.1.0) (Rule t.0 t.1.0 t.1.1.0 t.1.1.1.0 t.1.1.1.1.0 (record { items = t.1.1.1.1.1 }))
+
+unfoldable pub protect_of : List (List ℕ) → Option Premise
+protect_of ws = option_map (λ t. Protect t.0 t.1.0 t.1.1.0 t.1.1.1) (both name_of (both name_of (both point_of (alone point_of))) ws)
+
+unfoldable pub name_alone_of : List (List ℕ) → Option (List ℕ)
+name_alone_of = alone name_of
+
+unfoldable pub two_names_of : List (List ℕ) → Option (List ℕ × List ℕ)
+two_names_of = both name_of (alone name_of)
+
+unfoldable pub two_points_of : List (List ℕ) → Option (QueryPoint × QueryPoint)
+two_points_of = both query_point_of (alone query_point_of)
+
+unfoldable pub ask_of : List (List ℕ) → Option Query
+ask_of ws = option_map (λ t. Ask t.0 t.1.0 t.1.1) (both name_of two_points_of ws)
+
+-- ---- the first word and the words behind it
+
+unfoldable pub premise_of : List ℕ → List (List ℕ) → Option Premise
+premise_of w ws =
+    cond (same_name w (codes "class")) (class_of ws)
+    (cond (same_name w (codes "kind")) (option_map Kind (name_alone_of ws))
+    (cond (same_name w (codes "point")) (option_map Point (name_alone_of ws))
+    (cond (same_name w (codes "event")) (option_map (λ p. Event p.0 p.1) (two_names_of ws))
+    (cond (same_name w (codes "token")) (option_map (λ p. Token p.0 p.1) (two_names_of ws))
+    (cond (same_name w (codes "span")) (option_map (λ p. Span p.0 p.1) (two_names_of ws))
+    (cond (same_name w (codes "dist")) (dist_of ws)
+    (cond (same_name w (codes "rule")) (rule_of ws)
+    (cond (same_name w (codes "protect")) (protect_of ws) None))))))))
+
+unfoldable pub edit_of : List ℕ → List (List ℕ) → Option Edit
+edit_of w ws =
+    cond (same_name w (codes "erase")) (option_map Erase (name_alone_of ws))
+    (cond (same_name w (codes "horizon")) (option_map Horizon (alone horizon_of ws))
+    (option_map Add (premise_of w ws)))
+
+unfoldable pub query_of : List ℕ → List (List ℕ) → Option Query
+query_of w ws =
+    cond (same_name w (codes "ask")) (ask_of ws)
+    (cond (same_name w (codes "bounds")) (option_map (λ p. Bounds p.0 p.1) (two_points_of ws))
+    (cond (same_name w (codes "path")) (option_map (λ p. Path p.0 p.1) (two_points_of ws))
+    (cond (same_name w (codes "why")) (option_map Why (alone occ_of ws))
+    (cond (same_name w (codes "check")) (ended Check ws)
+    (cond (same_name w (codes "list")) (ended Listing ws)
+    (cond (same_name w (codes "dump")) (ended Dump ws)
+    (cond (same_name w (codes "audit")) (ended Audit ws)
+    (cond (same_name w (codes "size")) (ended Size ws) None))))))))
+
+unfoldable pub line_of : List (List ℕ) → Option Line
+line_of [] = Some Silent
+line_of (w ∷ ws) = cond (is_comment w) (Some Silent) (option_or (option_map Change (edit_of w ws)) (option_map Question (query_of w ws)))
