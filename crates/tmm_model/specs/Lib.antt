@@ -10,6 +10,8 @@ pub mod Sorts
 pub mod Verdicts
 pub mod Lines
 pub mod Cuts
-pub mod Runs
 pub mod Replies
+pub mod Runs
 pub mod Reading
+pub mod Erasure
+pub mod Steps

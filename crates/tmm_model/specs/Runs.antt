@@ -1,11 +1,8 @@
 -- What lines are answered, one after the other.
-use Rattle.std.specs.Prelude.{ℕ, ◌+◌, ◌≡◌, Bool, true, false, List, [], ◌∷◌, ◌++◌, codes, decimal}
+use Rattle.std.specs.Prelude.{ℕ, ◌+◌, ◌≡◌, Bool, true, false, List, [], ◌∷◌, ◌++◌}
 use Rattle.tmm_model.specs.declared.turn.Turn.{Turn}
 use Rattle.tmm_model.specs.declared.turn.Turn.TheVariants.{Silent, Reply, Memory}
-
--- the reply for want of memory
-abbrev pub memory_text : ℕ → List ℕ
-memory_text number = decimal number ++ codes " memory\n"
+use Rattle.tmm_model.specs.Replies.{memory_text}
 
 -- the bytes that answer the line of this number
 abbrev pub turn_text : ℕ → Turn → List ℕ

@@ -1,0 +1,8 @@
+//! The map: a standing list with its distances, of which one edit may be pending. It knows all layers
+//! below and is known to the program alone. `MapCore` is its contract: an edit is accepted exactly
+//! where the definitions say so, and a refusal changes nothing.
+#![tactic(auto)]
+
+mod map_core;
+
+pub use map_core::{MapCore, Pending};
