@@ -93,6 +93,17 @@ fn name_byte(b: u8) -> bool
     letter(b) || b.is_ascii_digit() || b == b'_' || b == b'-'
 }
 
+/// The name `a`.
+impl Default for Name {
+    ghost use Rattle.std.specs.Prelude.{◌≡◌, codes};
+
+    ghost is_default = { λ name. name ≡ codes "a" };
+
+    fn default() -> Name {
+        padded(b"a")
+    }
+}
+
 impl PartialEq for Name {
     ghost eq = { pointwise nat_eq };
 
