@@ -1,8 +1,8 @@
 -- The table of distances, closed row by row.
-use Rattle.std.proofs.Common.{◌≡◌, ◌≢◌, ◌⊎◌, inl, inr, ℕ, ◌+◌, ◌*◌, ◌<◌, ◌≤◌, ◌∙◌, Bool, true, false, List, length, get_or, set, length-set, Option, Some, None, MatchOption, ap, sym, subst, arith, refl, ℤ, pos, ◌+ℤ◌, ◌≤ℤ◌}
+use Rattle.std.proofs.Common.{◌≡◌, ◌≢◌, ◌⊎◌, inl, inr, ℕ, ◌+◌, ◌*◌, ◌/◌, ◌%◌, replicate, ◌<◌, ◌≤◌, ◌∙◌, Bool, true, false, List, length, get_or, set, length-set, Option, Some, None, MatchOption, ap, sym, subst, arith, refl, ℤ, pos, ◌+ℤ◌, ◌≤ℤ◌}
 use Rattle.std.specs.Int.{int_min}
 use Rattle.std.proofs.lemmas.Bool.{cases_lt, cases_eq, false≢true}
-use Rattle.std.proofs.lemmas.List.{get_or-set_other, get_or-set_same, get_or_default}
+use Rattle.std.proofs.lemmas.List.{get_or-set_other, get_or-set_same, get_or_default, ext_get_or, get_or-replicate, length-replicate}
 use Rattle.std.proofs.lemmas.Int.{ints, clamps}
 use Rattle.tmm_model.specs.declared.bound.Bound.{Bound}
 use Rattle.tmm_model.specs.declared.bound.Bound.TheVariants.{Finite, Free}
@@ -11,7 +11,7 @@ use Rattle.tmm_model.specs.Walks.{Arc, closed}
 use Rattle.tmm_model.proofs.Bounds.{AtMost-weaker}
 use Rattle.tmm_model.proofs.Sizes.{lesser-past_cycle_left}
 use Rattle.dist_net.specs.Net.{entry}
-use Rattle.dist_net.specs.Table.{IsLowered, IsReady, IsRowClosed, IsClosedTo, IsMarking, AreDistances}
+use Rattle.dist_net.specs.Table.{IsLowered, IsReady, IsRowClosed, IsClosedTo, IsMarking, AreDistances, IsDiagonalTo}
 
 pub entry-set_same : (table : List Bound) (a b : ℕ) (x : Bound) → length table ≡ 65536 → a < 256 → b < 256 → entry (set table (a * 256 + b) x) a b ≡ x
 entry-set_same table a b x places in_a in_b = get_or-set_same table (a * 256 + b) x Free (omega arith)
@@ -236,3 +236,40 @@ IsMarking-row marks old new a places in_a others = record {
   where
     other : (p : ℕ) → get_or (set marks a true) p false ≡ false → p ≢ a
     other p e same = false≢true (sym e ∙ (ap (λ (r : ℕ). get_or (set marks a true) r false) same ∙ get_or-set_same marks a true false (omega (arith, places, in_a))))
+
+-- ---- a new table
+
+pub IsDiagonalTo-start : (table : List Bound) → table ≡ replicate 65536 Free → IsDiagonalTo 0 table
+IsDiagonalTo-start table is = record {
+  places = ap length is ∙ length-replicate 65536 Free;
+  zeros = λ a lt _. absurd (omega arith);
+  none = λ a b in_a in_b ne. ap (λ (t : List Bound). entry t a b) is ∙ get_or-replicate 65536 (a * 256 + b) Free Free (omega arith);
+}
+
+pub IsDiagonalTo-more : (table : List Bound) (n : ℕ) → n < 256 → IsDiagonalTo n table → IsDiagonalTo (n + 1) (set table (n * 256 + n) (Finite (pos 0)))
+IsDiagonalTo-more table n in_n is = record {
+  places = length-set table (n * 256 + n) (Finite (pos 0)) ∙ is.places;
+  zeros = λ a lt in_a.
+      elim (cases_eq a n) [
+        | inl same ↦ subst (λ (r : ℕ). entry (set table (n * 256 + n) (Finite (pos 0))) r r ≡ Finite (pos 0)) (sym same)
+            (entry-set_same table n n (Finite (pos 0)) is.places in_n in_n)
+        | inr other ↦ entry-set_other table n n a a (Finite (pos 0)) (λ e. other (omega arith)) ∙ is.zeros a (omega (arith, other)) in_a
+      ];
+  none = λ a b in_a in_b ne. entry-set_other table n n a b (Finite (pos 0)) (λ e. ne (omega arith)) ∙ is.none a b in_a in_b ne;
+}
+
+-- two new tables are the same
+pub diagonals_same : (old new : List Bound) → IsDiagonalTo 256 old → IsDiagonalTo 256 new → (a b : ℕ) → a < 256 → b < 256 → entry old a b ≡ entry new a b
+diagonals_same old new is_old is_new a b in_a in_b =
+    elim (cases_eq a b) [
+      | inl same ↦ subst (λ (c : ℕ). entry old a c ≡ entry new a c) same (is_old.zeros a in_a in_a ∙ sym (is_new.zeros a in_a in_a))
+      | inr other ↦ is_old.none a b in_a in_b other ∙ sym (is_new.none a b in_a in_b other)
+    ]
+
+-- tables with the same entries are the same
+pub tables_same : (old new : List Bound) → length old ≡ 65536 → length new ≡ 65536 → ((a b : ℕ) → a < 256 → b < 256 → entry old a b ≡ entry new a b) → old ≡ new
+tables_same old new places_old places_new same =
+    ext_get_or Free old new (places_old ∙ sym places_new)
+    (λ k lt.
+    (let quotient : (k / 256) * 256 + k % 256 ≡ k = omega arith in
+    subst (λ (j : ℕ). get_or old j Free ≡ get_or new j Free) quotient (same (k / 256) (k % 256) (omega (arith, places_old, lt)) (omega arith))))

@@ -3,7 +3,7 @@ use Rattle.std.specs.Prelude.{◌≡◌, ◌≢◌, ℕ, ◌+◌, ◌*◌, ◌<�
 use Rattle.tmm_model.specs.declared.point.PointName.{PointName}
 use Rattle.tmm_model.specs.declared.point.PointName.TheVariants.{Start}
 use Rattle.tmm_model.specs.declared.bound.Bound.{Bound}
-use Rattle.tmm_model.specs.declared.bound.Bound.TheVariants.{Free}
+use Rattle.tmm_model.specs.declared.bound.Bound.TheVariants.{Finite, Free}
 use Rattle.tmm_model.specs.Bounds.{IfFinite, AtMost, IsWithin, Fits, lesser, after}
 use Rattle.tmm_model.specs.Walks.{Arc, IsFar, HasDates, AreLight, closed}
 use Rattle.dist_net.specs.declared.Edge.{Edge}
@@ -101,8 +101,29 @@ pub record AreDistances (table : List Bound) (limit : ℕ) : Type 0 where
   pub from_outside : (a b : ℕ) → a < 256 → b < 256 → limit ≤ a → a ≢ b → entry table a b ≡ Free
   pub to_outside : (a b : ℕ) → a < 256 → b < 256 → limit ≤ b → a ≢ b → entry table a b ≡ Free
 
--- new has the draft's bounds between points, and old's elsewhere; the first `done` rows stand
-pub record IsCopied (names : List (Option PointName)) (old draft : List Bound) (done : ℕ) (new : List Bound) : Type 0 where
+-- new has other's row of a, and old's rows elsewhere
+pub record IsRowCopied (old other : List Bound) (a : ℕ) (new : List Bound) : Type 0 where
+  pub places : length new ≡ 65536
+  pub row : (b : ℕ) → b < 256 → entry new a b ≡ entry other a b
+  pub others : (p q : ℕ) → p < 256 → q < 256 → p ≢ a → entry new p q ≡ entry old p q
+
+-- new has the draft's bounds from a to the first `done` numbers where they are in use, and old's elsewhere
+pub record IsUsedRowCopiedTo (names : List (Option PointName)) (old draft : List Bound) (a done : ℕ) (new : List Bound) : Type 0 where
+  pub places : length new ≡ 65536
+  pub copied : (b : ℕ) → b < 256 → b < done → IsInUse names b → entry new a b ≡ entry draft a b
+  pub kept : (b : ℕ) → b < 256 → (IsInUse names b → ⊥) → entry new a b ≡ entry old a b
+  pub others : (p q : ℕ) → p < 256 → q < 256 → p ≢ a → entry new p q ≡ entry old p q
+
+-- new has the draft's bounds between points, for the first `done` rows, and old's elsewhere
+pub record IsCopiedTo (names : List (Option PointName)) (old draft : List Bound) (done : ℕ) (new : List Bound) : Type 0 where
   pub places : length new ≡ 65536
   pub copied : (a b : ℕ) → a < 256 → b < 256 → a < done → IsInUse names a → IsInUse names b → entry new a b ≡ entry draft a b
-  pub kept : (a b : ℕ) → a < 256 → b < 256 → ((IsInUse names a × IsInUse names b) → ⊥) → entry new a b ≡ entry old a b
+  pub kept_from : (a b : ℕ) → a < 256 → b < 256 → (IsInUse names a → ⊥) → entry new a b ≡ entry old a b
+  pub kept_to : (a b : ℕ) → a < 256 → b < 256 → (IsInUse names b → ⊥) → entry new a b ≡ entry old a b
+  pub kept_above : (a b : ℕ) → a < 256 → b < 256 → done ≤ a → entry new a b ≡ entry old a b
+
+-- nothing but zeros on the diagonal, of which the first `done` stand
+pub record IsDiagonalTo (done : ℕ) (table : List Bound) : Type 0 where
+  pub places : length table ≡ 65536
+  pub zeros : (a : ℕ) → a < done → a < 256 → entry table a a ≡ Finite (pos 0)
+  pub none : (a b : ℕ) → a < 256 → b < 256 → a ≢ b → entry table a b ≡ Free

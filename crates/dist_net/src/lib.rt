@@ -3,6 +3,7 @@
 
 ghost use Rattle.std.specs.Prelude.{◌≡◌, ℕ, ◌+◌, ◌*◌, ◌-◌, ◌<◌, ◌≤◌, [], ◌∷◌, ◌++◌, length, IfOk, IfErr, IsOk, ◌↔◌, ◌≢◌, ◌⊎◌};
 
+mod state;
 mod table;
 
 use tmm_model::{Name, Side};

@@ -1,8 +1,8 @@
 // The table of distances: a row of 256 bounds for each number.
-ghost use Rattle.std.specs.Prelude.{◌≡◌, ◌≢◌, ℕ, ◌+◌, ◌*◌, ◌-◌, ◌<◌, ◌≤◌, length, MatchOption, Option, IsSome};
+ghost use Rattle.std.specs.Prelude.{◌≡◌, ◌≢◌, ℕ, ◌+◌, ◌*◌, ◌-◌, ◌<◌, ◌≤◌, length, MatchOption, slice_index_or};
 ghost use Rattle.tmm_model.specs.Bounds.{IfFinite, AtMost, Fits, IsWithin, lesser, after};
 ghost use Rattle.dist_net.specs.Net.{entry};
-ghost use Rattle.dist_net.specs.Table.{AreDistances, IsLowered, IsReady, IsRowClosed, IsClosedTo, IsMarking, IsCopied};
+ghost use Rattle.dist_net.specs.Table.{AreDistances, IsLowered, IsReady, IsRowClosed, IsClosedTo, IsMarking, AreMarked, IsRowCopied, IsCopiedTo, IsUsedRowCopiedTo};
 
 use crate::POINTS;
 use tmm_model::{Bound, PointName};
@@ -111,5 +111,79 @@ fn lowered(bound: Bound, first: i64, rest: Bound) -> Bound
     match rest {
         Bound::Finite(rest) => bound.lesser(Bound::Finite(first + rest)),
         Bound::Free => bound,
+    }
+}
+
+/// Makes the table equal to the other, from which it differs in marked rows alone.
+pub fn copy_rows(table: &mut [Bound], other: &[Bound], changed: &[bool])
+    requires places { length table.old ≡ 65536 }
+    requires others { length other.now ≡ 65536 }
+    requires marks { length changed.now ≡ 256 }
+    requires rows { AreMarked changed.now table.old other.now }
+    ensures { table.new ≡ other.now }
+{
+    for (a, marked) in changed.iter().enumerate() {
+        if *marked {
+            copy_row(table, other, a);
+        }
+    }
+}
+
+// Copies a row.
+fn copy_row(table: &mut [Bound], other: &[Bound], a: usize)
+    requires places { length table.old ≡ 65536 }
+    requires others { length other.now ≡ 65536 }
+    requires row { a < 256 }
+    ensures { IsRowCopied table.old other.now a table.new }
+{
+    let start = a * POINTS;
+    table[start..start + POINTS].copy_from_slice(&other[start..start + POINTS]);
+}
+
+/// Copies the bounds between points, and marks the rows that it writes.
+pub fn copy_used(
+    table: &mut [Bound],
+    changed: &mut [bool],
+    draft: &[Bound],
+    names: &[Option<PointName>],
+    limit: usize,
+)
+    requires places { length table.old ≡ 65536 }
+    requires draft { length draft.now ≡ 65536 }
+    requires marks { length changed.old ≡ 256 }
+    requires names { length names.now ≡ 256 }
+    requires limit { limit ≤ 256 }
+    requires unused { (k : ℕ) → limit ≤ k → slice_index_or names.now k None ≡ None }
+    ensures copied { IsCopiedTo names.now table.old draft.now 256 table.new }
+    ensures marking { IsMarking changed.old table.old changed.new table.new }
+{
+    for a in 0..limit {
+        if names[a].is_some() {
+            changed[a] = true;
+            copy_used_row(table, draft, names, limit, a);
+        }
+    }
+}
+
+// Copies the bounds of the way from `a` to each point.
+fn copy_used_row(
+    table: &mut [Bound],
+    draft: &[Bound],
+    names: &[Option<PointName>],
+    limit: usize,
+    a: usize,
+)
+    requires places { length table.old ≡ 65536 }
+    requires draft { length draft.now ≡ 65536 }
+    requires names { length names.now ≡ 256 }
+    requires limit { limit ≤ 256 }
+    requires unused { (k : ℕ) → limit ≤ k → slice_index_or names.now k None ≡ None }
+    requires row { a < 256 }
+    ensures { IsUsedRowCopiedTo names.now table.old draft.now a 256 table.new }
+{
+    for b in 0..limit {
+        if names[b].is_some() {
+            table[a * POINTS + b] = draft[a * POINTS + b];
+        }
     }
 }
