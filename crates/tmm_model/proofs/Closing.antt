@@ -29,6 +29,15 @@ module _ {P : Type 0} where
       (omega (arith, ints, r.2, total-append r.0 (e ∷ [])))
   IsFar-last arcs a e Free far s m near_far far_far h = absurd h
 
+  -- the triangle law: a way over c is a way
+  pub IsFar-triangle : (arcs : List (Arc P)) (a c b : P) (x y z : Bound) (s t : ℤ) → IsFar arcs a c x → IsFar arcs c b y → IsFar arcs a b z → AtMost x s → AtMost y t → AtMost z (s +ℤ t)
+  IsFar-triangle arcs a c b (Finite x) (Finite y) z s t far_x far_y far_z h k =
+      let r : HasWalk arcs a c x = far_x.reached in
+      let q : HasWalk arcs c b y = far_y.reached in
+      AtMost-weaker z _ _ (far_z.least (r.0 ++ q.0) (IsWalk-append arcs a c b r.0 q.0 r.1 q.1)) (omega (arith, ints, r.2, q.2, total-append r.0 q.0))
+  IsFar-triangle arcs a c b (Finite x) Free z s t far_x far_y far_z h k = absurd k
+  IsFar-triangle arcs a c b Free y z s t far_x far_y far_z h k = absurd h
+
   pub IfFinite-through : (arcs : List (Arc P)) (a b : P) (e : Arc P) (x y : Bound) → Contains arcs e → IfFinite x (HasWalk arcs a e.from) → IfFinite y (HasWalk arcs e.to b) → IfFinite (through x e.weight y) (HasWalk arcs a b)
   IfFinite-through arcs a b e (Finite x) (Finite y) m h k =
       (h.0 ++ e ∷ k.0, IsWalk-append arcs a e.from b h.0 (e ∷ k.0) h.1 (m, refl, k.1), omega (arith, ints, h.2, k.2, total-append h.0 (e ∷ k.0)))

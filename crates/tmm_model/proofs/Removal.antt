@@ -1,12 +1,11 @@
 -- Distances after a constraint is taken out.
 use Rattle.std.proofs.Common.{◌≡◌, ◌⊎◌, inl, inr, ◌∙◌, List, [], ◌∷◌, ℤ, ◌+ℤ◌, ◌-ℤ◌, ◌≤ℤ◌, ap, sym, subst, arith, refl}
 use Rattle.std.specs.List.{Contains}
-use Rattle.std.proofs.lemmas.List.Elements.{All-contains}
 use Rattle.std.proofs.lemmas.Int.{ints}
 use Rattle.tmm_model.specs.declared.bound.Bound.{Bound}
 use Rattle.tmm_model.specs.declared.bound.Bound.TheVariants.{Finite, Free}
 use Rattle.tmm_model.specs.Bounds.{IfFinite, AtMost, through}
-use Rattle.tmm_model.specs.Walks.{Arc, IsWalk, total, HasWalk, IsFar, HasDates, IsDates, Adds, AreAmong}
+use Rattle.tmm_model.specs.Walks.{Arc, IsWalk, total, HasWalk, IsFar, HasDates, IsDates, Adds}
 use Rattle.tmm_model.proofs.Bounds.{AtMost-weaker, AtMost-through}
 use Rattle.tmm_model.proofs.Closing.{IfFinite-through}
 use Rattle.tmm_model.proofs.Dates.{met_at}
@@ -35,19 +34,35 @@ module _ {P : Type 0} where
       record { reached = (r.0, to r.0 r.1, r.2); least = λ walk h. far.least walk (from walk h) }
   IsFar-by arcs others a b Free to from far = record { reached = tt; least = λ walk h. far.least walk (from walk h) }
 
-  -- no constraint leads from a point that is not among those known, and none to it
-  pub walk_from_outside : (known : List P) (arcs others : List (Arc P)) → AreAmong known arcs → (a b : P) → (Contains known a → ⊥) → (walk : List (Arc P)) → IsWalk arcs a b walk → IsWalk others a b walk
-  walk_from_outside known arcs others among a b out [] h = h
-  walk_from_outside known arcs others among a b out (e ∷ walk) h =
-      absurd (out (subst (Contains known) h.1 (All-contains (λ x. Contains known x.from × Contains known x.to) arcs e among h.0).0))
+  -- where the constraints are between points of In, none leads from a point outside, and none to it
+  pub walk_from_outside : (In : P → Type 0) (arcs others : List (Arc P)) → ((e : Arc P) → Contains arcs e → In e.from × In e.to) → (a b : P) → (In a → ⊥) → (walk : List (Arc P)) → IsWalk arcs a b walk → IsWalk others a b walk
+  walk_from_outside In arcs others ends a b out [] h = h
+  walk_from_outside In arcs others ends a b out (e ∷ walk) h = absurd (out (subst In h.1 (ends e h.0).0))
 
-  leads_inside : (known : List P) (arcs : List (Arc P)) → AreAmong known arcs → (a b : P) → (Contains known b → ⊥) → (e : Arc P) (walk : List (Arc P)) → IsWalk arcs a b (e ∷ walk) → ⊥
-  leads_inside known arcs among a b out e [] h = out (subst (Contains known) h.2 (All-contains (λ x. Contains known x.from × Contains known x.to) arcs e among h.0).1)
-  leads_inside known arcs among a b out e (f ∷ walk) h = leads_inside known arcs among e.to b out f walk h.2
+  leads_inside : (In : P → Type 0) (arcs : List (Arc P)) → ((e : Arc P) → Contains arcs e → In e.from × In e.to) → (a b : P) → (In b → ⊥) → (e : Arc P) (walk : List (Arc P)) → IsWalk arcs a b (e ∷ walk) → ⊥
+  leads_inside In arcs ends a b out e [] h = out (subst In h.2 (ends e h.0).1)
+  leads_inside In arcs ends a b out e (f ∷ walk) h = leads_inside In arcs ends e.to b out f walk h.2
 
-  pub walk_to_outside : (known : List P) (arcs others : List (Arc P)) → AreAmong known arcs → (a b : P) → (Contains known b → ⊥) → (walk : List (Arc P)) → IsWalk arcs a b walk → IsWalk others a b walk
-  walk_to_outside known arcs others among a b out [] h = h
-  walk_to_outside known arcs others among a b out (e ∷ walk) h = absurd (leads_inside known arcs among a b out e walk h)
+  pub walk_to_outside : (In : P → Type 0) (arcs others : List (Arc P)) → ((e : Arc P) → Contains arcs e → In e.from × In e.to) → (a b : P) → (In b → ⊥) → (walk : List (Arc P)) → IsWalk arcs a b walk → IsWalk others a b walk
+  walk_to_outside In arcs others ends a b out [] h = h
+  walk_to_outside In arcs others ends a b out (e ∷ walk) h = absurd (leads_inside In arcs ends a b out e walk h)
+
+  no_walk_from_outside : (In : P → Type 0) (arcs : List (Arc P)) → ((e : Arc P) → Contains arcs e → In e.from × In e.to) → (a b : P) → (In a → ⊥) → (a ≡ b → ⊥) → (walk : List (Arc P)) → IsWalk arcs a b walk → ⊥
+  no_walk_from_outside In arcs ends a b out ne [] h = ne h
+  no_walk_from_outside In arcs ends a b out ne (e ∷ walk) h = out (subst In h.1 (ends e h.0).0)
+
+  no_walk_to_outside : (In : P → Type 0) (arcs : List (Arc P)) → ((e : Arc P) → Contains arcs e → In e.from × In e.to) → (a b : P) → (In b → ⊥) → (a ≡ b → ⊥) → (walk : List (Arc P)) → IsWalk arcs a b walk → ⊥
+  no_walk_to_outside In arcs ends a b out ne [] h = ne h
+  no_walk_to_outside In arcs ends a b out ne (e ∷ walk) h = leads_inside In arcs ends a b out e walk h
+
+  -- a distance from a point outside to another is none, and so is one to it
+  pub Free-from_outside : (In : P → Type 0) (arcs : List (Arc P)) → ((e : Arc P) → Contains arcs e → In e.from × In e.to) → (a b : P) → (In a → ⊥) → (a ≡ b → ⊥) → (x : Bound) → IsFar arcs a b x → x ≡ Free
+  Free-from_outside In arcs ends a b out ne (Finite x) far = let r : HasWalk arcs a b x = far.reached in absurd (no_walk_from_outside In arcs ends a b out ne r.0 r.1)
+  Free-from_outside In arcs ends a b out ne Free far = refl
+
+  pub Free-to_outside : (In : P → Type 0) (arcs : List (Arc P)) → ((e : Arc P) → Contains arcs e → In e.from × In e.to) → (a b : P) → (In b → ⊥) → (a ≡ b → ⊥) → (x : Bound) → IsFar arcs a b x → x ≡ Free
+  Free-to_outside In arcs ends a b out ne (Finite x) far = let r : HasWalk arcs a b x = far.reached in absurd (no_walk_to_outside In arcs ends a b out ne r.0 r.1)
+  Free-to_outside In arcs ends a b out ne Free far = refl
 
   -- ---- pairs that the constraint taken out does not serve
 
