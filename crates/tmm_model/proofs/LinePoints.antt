@@ -1,7 +1,7 @@
 -- The words for names, bounds, points and occurrences, and what they read as.
 use Rattle.std.proofs.Common.{◌≡◌, ◌≢◌, ℕ, ◌-◌, ◌≤◌, ℤ, pos, negsuc, Bool, true, false, cond, List, [], ◌∷◌, ◌++◌, length, take, drop, Some, None, refl, sym, ap, subst, ◌∙◌, inl, inr, arith}
 use Rattle.std.specs.Prelude.{decimal, option_map, ◌&&◌, nat_le, ◌==◌, codes, not}
-use Rattle.std.specs.List.{list_all, list_any}
+use Rattle.std.specs.List.{list_all, list_any, onto_first}
 use Rattle.std.proofs.lemmas.Bool.{and_parts, and_from, leb-true, le-leb, eqb-true, ne_eqb, cases_Bool, true≢false, false_from_ne_true, or_from, not-true, or_left, or_right, not_from_false, both_ways}
 use Rattle.std.proofs.lemmas.Int.{ints}
 use Rattle.std.proofs.lemmas.List.{append-nil, take_at, drop_at, take-append-drop, length-append}
@@ -16,7 +16,7 @@ use Rattle.tmm_model.specs.declared.point.QueryPoint.{QueryPoint}
 use Rattle.tmm_model.specs.declared.point.QueryPoint.TheVariants.{Declared, Derived}
 use Rattle.tmm_model.specs.Names.{is_letter, is_name_byte, is_name}
 use Rattle.tmm_model.specs.Points.{same_name, point_word, slashed, occ_word, query_word}
-use Rattle.tmm_model.specs.Lines.{is_blank, onto_first, IsName, AreNames, number_word, bound_word, IsBound, IsWellFormedPoint, IsWellFormedOcc}
+use Rattle.tmm_model.specs.Lines.{is_blank, IsName, AreNames, number_word, bound_word, IsBound, IsWellFormedPoint, IsWellFormedOcc}
 use Rattle.tmm_model.specs.Reading.{name_of, digits_on, natural_of, number_of, bound_of, end_of, point_of, parts, bare, occ_from, occ_of, query_point_of, horizon_from, horizon_of}
 use Rattle.tmm_model.proofs.LineReaders.{chosen, bind_some, map_some, passing_some, IsReader}
 use Rattle.tmm_model.proofs.LineNumbers.{number_reader}

@@ -1,10 +1,10 @@
 -- Cutting a line into words, and joining words to a line.
 use Rattle.std.proofs.Common.{◌≡◌, ℕ, true, false, cond, List, [], ◌∷◌, ◌++◌, refl, sym, ap, subst, ◌∙◌, inl, inr, append_assoc}
 use Rattle.std.specs.Prelude.{not, ◌↔◌}
-use Rattle.std.specs.List.{list_all, AllByRecursion}
+use Rattle.std.specs.List.{list_all, onto_first, AllByRecursion}
 use Rattle.std.proofs.lemmas.Bool.{and_parts, and_from, cases_Bool, not-true, not_from_false, both_ways, true≢false}
 use Rattle.std.proofs.lemmas.List.{append-nil}
-use Rattle.tmm_model.specs.Lines.{is_blank, goes_on, onto_first, words, AreBlanks, IsWord, AreWords, behind_spaces, spaced}
+use Rattle.tmm_model.specs.Lines.{is_blank, goes_on, words, AreBlanks, IsWord, AreWords, behind_spaces, spaced}
 
 -- blanks at the front part nothing
 pub words-blanks : (gap line : List ℕ) → AreBlanks gap → words (gap ++ line) ≡ words line

@@ -1,6 +1,6 @@
 -- The grammar of a script line, on the list of the line's words.
 use Rattle.std.specs.Prelude.{◌≡◌, ◌≢◌, ℕ, ◌≤◌, ℤ, pos, ◌≤ℤ◌, Bool, false, cond, not, ◌||◌, ◌==◌, List, [], ◌∷◌, ◌++◌, length, codes, decimal, IsTrue, ◌↔◌}
-use Rattle.std.specs.List.{list_all}
+use Rattle.std.specs.List.{list_all, onto_first}
 use Rattle.std.specs.Fmt.{signed_decimal}
 use Rattle.tmm_model.specs.declared.bound.Bound.{Bound}
 use Rattle.tmm_model.specs.declared.bound.Bound.TheVariants.{Finite, Free}
@@ -29,11 +29,6 @@ is_blank b = (b == 32) || (b == 9) || (b == 13)
 abbrev pub goes_on : List ℕ → Bool
 goes_on [] = false
 goes_on (b ∷ _) = not (is_blank b)
-
--- the byte before the first of the words
-abbrev pub onto_first : ℕ → List (List ℕ) → List (List ℕ)
-onto_first b [] = (b ∷ []) ∷ []
-onto_first b (w ∷ ws) = (b ∷ w) ∷ ws
 
 -- the words of a line: the longest runs of bytes that are no blanks
 unfoldable pub words : List ℕ → List (List ℕ)

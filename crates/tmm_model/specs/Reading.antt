@@ -1,7 +1,7 @@
 -- The grammar of a script line as a function from words, which code follows word by word. It gives the
 -- values for which `Reads` holds, with no room in their lists.
 use Rattle.std.specs.Prelude.{ℕ, zero, suc, ◌+◌, ◌-◌, ◌*◌, ℤ, pos, negsuc, int_le, Bool, true, false, cond, ◌&&◌, ◌==◌, nat_le, List, [], ◌∷◌, length, take, drop, Option, Some, None, option_map, codes}
-use Rattle.std.specs.List.{list_all, list_any}
+use Rattle.std.specs.List.{list_all, list_any, slice_split}
 use Rattle.std.specs.Option.{option_or}
 use Rattle.tmm_model.specs.declared.bound.Bound.{Bound}
 use Rattle.tmm_model.specs.declared.bound.Bound.TheVariants.{Finite, Free}
@@ -20,7 +20,7 @@ use Rattle.tmm_model.specs.declared.line.Line.{Line}
 use Rattle.tmm_model.specs.declared.line.Line.TheVariants.{Silent, Change, Question}
 use Rattle.tmm_model.specs.Names.{is_name}
 use Rattle.tmm_model.specs.Points.{same_name}
-use Rattle.tmm_model.specs.Lines.{onto_first, is_comment}
+use Rattle.tmm_model.specs.Lines.{is_comment}
 
 infixl 10 ◌>>=◌
 abbrev pub ◌>>=◌ : {A B : Type 0} → Option A → (A → Option B) → Option B
@@ -92,8 +92,7 @@ point_of w = cond (same_name w (codes "start")) (Some Start) (cond (is_name w) (
 
 -- what stands before, between and behind the bytes `/`
 unfoldable pub parts : List ℕ → List (List ℕ)
-parts [] = [] ∷ []
-parts (b ∷ w) = cond (b == 47) ([] ∷ parts w) (onto_first b (parts w))
+parts w = slice_split (λ b. b == 47) w
 
 abbrev pub bare : List ℕ → List (List ℕ) → Occ
 bare root rules = record { root = root; rules = record { items = rules; room = 0 } }
