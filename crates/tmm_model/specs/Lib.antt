@@ -15,3 +15,10 @@ pub mod Runs
 pub mod Reading
 pub mod Erasure
 pub mod Steps
+pub mod WellNamed
+pub mod Moments
+pub mod Firsts
+pub mod Beliefs
+pub mod Maps
+pub mod Answers
+pub mod Right
