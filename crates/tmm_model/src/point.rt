@@ -3,9 +3,10 @@ use crate::name::Name;
 use crate::seq::Seq;
 
 /// A declared point: date 0, or the begin or the end of what a premise declares.
-#[derive(Clone, Copy, PartialEq, Eq, PartialOrd, Ord, Hash, Debug)]
+#[derive(Clone, Copy, Default, PartialEq, Eq, PartialOrd, Ord, Hash, Debug)]
 pub enum PointName {
     /// The point `start`, which is date 0.
+    #[default]
     Start,
     /// The point of a point, event, token or span.
     Begin(Name),
