@@ -17,3 +17,4 @@ pub mod LineWords
 pub mod LinePoints
 pub mod LineForms
 pub mod LineShown
+pub mod Places
