@@ -70,7 +70,7 @@ module _ (old : Kept) (edges : List Edge) (i : ℕ) (now : Kept) (is : IsAdding 
             (edge_fits used dates) closed_to;
       }
 
--- what a borrow of the table leaves
-pub refilled : (old new : List Bound) (n : ℕ) → n ≡ length old → length new ≡ length old → take n (new ++ drop (length new) old) ≡ new
+-- what a list keeps of a loan of all its items
+pub refilled : {X : Type 0} (old new : List X) (n : ℕ) → n ≡ length old → length new ≡ length old → take n (new ++ drop (length new) old) ≡ new
 refilled old new n is same =
     subst (λ (m : ℕ). take m (new ++ drop (length new) old) ≡ new) (same ∙ sym is) (take-append_seam new (drop (length new) old))

@@ -6,3 +6,4 @@ pub mod States
 pub mod Sums
 pub mod Tables
 pub mod Taking
+pub mod Tied

@@ -11,7 +11,7 @@ use Rattle.tmm_model.specs.declared.point.PointName.TheVariants.{Start}
 use Rattle.tmm_model.specs.Walks.{Arc, AreAmong}
 use Rattle.tmm_model.proofs.Members.{All-from_contains, Contains-map_from, Contains-cons, Contains-cons_first}
 use Rattle.dist_net.specs.declared.Edge.{Edge}
-use Rattle.dist_net.specs.Net.{start_alone, arc_of, arcs_of, IsInUse, AreInUse, points_in_use}
+use Rattle.dist_net.specs.Net.{Net, start_alone, arc_of, arcs_of, IsInUse, AreInUse, points_in_use}
 use Rattle.dist_net.specs.Table.{AreNames}
 
 -- ---- a new network
@@ -162,3 +162,10 @@ AreNames-named names limit place name next is in_place free new below le within 
     named : (p : ℕ) → p ≡ place → (other : PointName) → get_or (set names place (Some name)) p None ≡ Some other → name ≡ other
     named p same other at =
         some_same name other (sym (ap (λ (r : ℕ). get_or (set names place (Some name)) r None) same ∙ get_or-set_same names place (Some name) None (omega (arith, is.places))) ∙ at)
+
+pub net_made : (names : List (Option PointName)) (edges : List Edge) → names ≡ start_alone.names → edges ≡ [] → ◌≡◌ {A = Net} (record { names = names; edges = edges }) start_alone
+unfolding start_alone
+net_made names edges is_names is_edges =
+    let named : (n : List (Option PointName)) → Net = λ n. record { names = n; edges = edges } in
+    let with_edges : (e : List Edge) → Net = λ e. record { names = start_alone.names; edges = e } in
+    ap named is_names ∙ ap with_edges is_edges

@@ -63,6 +63,14 @@ impl State {
         count_points(&self.names)
     }
 
+    /// A number above those of all points.
+    pub fn limit(&self) -> u16
+        ensures range { result ≤ POINTS }
+        ensures above { (k : ℕ) → result ≤ k → slice_index_or self.now.names k None ≡ None }
+    {
+        self.limit as u16
+    }
+
     /// The number of the point with this name.
     pub fn number(&self, name: PointName) -> Option<u16>
         ensures { MatchOption result ((k : ℕ) → slice_index_or self.now.names k None ≢ Some name) (λ p. slice_index_or self.now.names p None ≡ Some name) }
