@@ -4,5 +4,8 @@
 #![tactic(auto)]
 
 mod map_core;
+mod network;
+mod plain;
 
 pub use map_core::{MapCore, Pending};
+pub use plain::PlainMap;

@@ -1,0 +1,55 @@
+-- What a network of numbered points tells of points, and how it grows.
+use Rattle.std.specs.Prelude.{◌≡◌, ◌≢◌, ◌⊎◌, ℕ, ℤ, pos, ◌+ℤ◌, ◌≤ℤ◌, List, [], ◌∷◌, ◌++◌, map, Result, Ok, Err}
+use Rattle.std.specs.List.{All}
+use Rattle.tmm_model.specs.declared.point.PointName.{PointName}
+use Rattle.tmm_model.specs.declared.walk.WalkStep.{WalkStep}
+use Rattle.tmm_model.specs.Bounds.{IsWithin}
+use Rattle.tmm_model.specs.Walks.{Arc, renamed, HasDates}
+use Rattle.tmm_model.specs.Standing.{arc_of as arc_of_step}
+use Rattle.dist_net.specs.declared.Edge.{Edge}
+use Rattle.dist_net.specs.declared.Conflict.{Conflict}
+use Rattle.dist_net.specs.Net.{Net, arc_of, arcs_of, IsConflict}
+use Rattle.map_engine.specs.Represents.{Names, IsNumberOf, name_at, Represents}
+
+-- no number is that of the point
+abbrev pub IsNew : Names → PointName → Type 0
+IsNew names p = (k : ℕ) → IsNumberOf names k p → ⊥
+
+-- some number is that of the point
+abbrev pub IsThere : Names → PointName → Type 0
+IsThere names p = (n : ℕ) × IsNumberOf names n p
+
+abbrev pub edge_arc : Edge → Arc ℕ
+edge_arc e = arc_of e
+
+-- what the network stands for has one point more
+abbrev pub AddsPoint : Net → Net → PointName → Type 0
+AddsPoint old new p =
+    (points : List PointName) (named : List (Arc PointName)) → Represents points named old.names (arcs_of old.edges)
+    → Represents (points ++ p ∷ []) named new.names (arcs_of new.edges)
+
+-- both points of each constraint are there
+abbrev pub AreThere : Names → List WalkStep → Type 0
+AreThere names steps = All (λ s. IsThere names s.from × IsThere names s.to) steps
+
+-- Of two constraints the second leads back along the first, with no negative sum, or begins at a point that
+-- no edge leads to, and ends at another.
+abbrev pub AreApart : Names → List Edge → List WalkStep → Type 0
+AreApart names edges (s ∷ t ∷ []) =
+    ((t.from ≡ s.to) × (t.to ≡ s.from) × (pos 0 ≤ℤ (s.weight +ℤ t.weight)))
+    ⊎ ((t.to ≢ t.from) × (s.to ≢ t.from) × All (λ e. IsNumberOf names e.to t.from → ⊥) edges)
+AreApart names edges steps = Unit {0}
+
+-- every weight is at most 10^9 in absolute value
+abbrev pub AreLightSteps : List WalkStep → Type 0
+AreLightSteps steps = All (λ s. IsWithin 1000000000 s.weight) steps
+
+-- some dates satisfy the edges with those that stand, and they are added; or none do, and nothing changes
+abbrev pub AddsEdges : Net → List Edge → Net → Result (Unit {0}) Conflict → Type 0
+AddsEdges old edges new (Ok done) = HasDates 0 (arcs_of (old.edges ++ edges)) × (new ≡ record old { edges = old.edges ++ edges })
+AddsEdges old edges new (Err found) = (HasDates 0 (arcs_of (old.edges ++ edges)) → ⊥) × IsConflict old.edges edges found × (new ≡ old)
+
+-- the same of constraints between points
+abbrev pub AddsSteps : Net → List WalkStep → Net → Result (Unit {0}) Conflict → Type 0
+AddsSteps old steps new result =
+    (edges : List Edge) × (map (renamed (name_at old.names)) (arcs_of edges) ≡ map arc_of_step steps) × AddsEdges old edges new result
