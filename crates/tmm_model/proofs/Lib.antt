@@ -10,3 +10,4 @@ pub mod Renaming
 pub mod Sizes
 pub mod Walks
 pub mod Within
+pub mod WellNamed

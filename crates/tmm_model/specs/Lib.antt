@@ -11,3 +11,5 @@ pub mod Verdicts
 pub mod Lines
 pub mod Cuts
 pub mod Runs
+pub mod WellNamed
+pub mod Erasure
