@@ -9,4 +9,7 @@
 
 mod check;
 mod premise;
+mod standing;
 mod table;
+
+pub use standing::Standing;

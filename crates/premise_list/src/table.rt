@@ -1,5 +1,5 @@
 // A list of premises with the index of its names.
-ghost use Rattle.std.specs.Prelude.{◌≡◌, ◌<◌, ◌≤◌, ◌+◌, [], ◌∷◌, ◌++◌, false, None, OnOk, length, map, take, slice_get};
+ghost use Rattle.std.specs.Prelude.{◌≡◌, ◌<◌, ◌≤◌, ◌+◌, ◌*◌, [], ◌∷◌, ◌++◌, false, None, OnOk, length, map, take, slice_get};
 ghost use Rattle.std.specs.List.{flat_map, list_any};
 ghost use Rattle.std.specs.Map.{lookup};
 ghost use Rattle.std.specs.Option.{option_map, option_copied};
@@ -7,12 +7,12 @@ ghost use Rattle.tmm_model.specs.Points.{same_name};
 ghost use Rattle.tmm_model.specs.Sorts.{sort_in, class_in, declared_by};
 ghost use Rattle.tmm_model.specs.Standing.{points_in, points_of};
 ghost use Rattle.tmm_model.specs.Verdicts.{most_premises, first_taken, words_known};
-ghost use Rattle.tmm_model.specs.WellNamed.{Follows, IsWellNamed, premise_in};
+ghost use Rattle.tmm_model.specs.WellNamed.{AllFollow, Follows, IsWellNamed, premise_in};
 ghost use Rattle.indexmap.specs.IndexMap.{keys, spare};
 ghost use Rattle.premise_list.specs.Words.{sort_seen};
 ghost use Rattle.premise_list.specs.Table.{placed, word_seen, fact_entry};
 
-use crate::premise::{Sort, facts_of, name_of, point_count, sort_of};
+use crate::premise::{Sort, copy_of, facts_of, name_of, point_count, sort_of};
 use indexmap::IndexMap;
 use std::alloc::Global;
 use std::marker::Model;
@@ -62,6 +62,7 @@ impl Table {
     // The premises, oldest first.
     pub(crate) fn premises(&self) -> &[Premise]
         ensures value { result.now ≡ self.now.premises }
+        ensures few { length self.now.premises ≤ most_premises }
         ensures well_named { IsWellNamed self.now.premises }
     {
         self.premises.as_slice()
@@ -153,6 +154,21 @@ impl Table {
         self.premises.push_reserved(premise);
     }
 
+    // Appends premises each of which follows those before it. It takes no memory.
+    pub(crate) fn append(&mut self, premises: &[Premise])
+        requires follow { AllFollow self.old.premises premises.now }
+        requires few { length self.old.premises + length premises.now ≤ most_premises }
+        requires places { length premises.now ≤ self.old.places }
+        requires words { length (words_known premises.now) ≤ self.old.words }
+        ensures premises { self.new.premises ≡ self.old.premises ++ premises.now }
+        ensures places { self.old.places ≡ self.new.places + length premises.now }
+        ensures words { self.old.words ≤ self.new.words + length (words_known premises.now) }
+    {
+        for premise in premises {
+            self.push(copy_of(premise));
+        }
+    }
+
     // Takes off all but the first `n` premises. It takes no memory.
     pub(crate) fn truncate(&mut self, n: usize)
         requires { n ≤ length self.old.premises }
@@ -199,7 +215,8 @@ fn declare_facts(words: &mut IndexMap<Name, Word>, facts: &[Name], place: usize)
 // How many names the premises declare.
 pub(crate) fn word_count(premises: &[Premise]) -> usize
     requires { length premises.now ≤ most_premises }
-    ensures { result ≡ length (words_known premises.now) }
+    ensures value { result ≡ length (words_known premises.now) }
+    ensures few { result ≤ 9 * length premises.now }
 {
     let mut count = 0;
     for premise in premises {

@@ -13,3 +13,4 @@ pub mod Cuts
 pub mod Runs
 pub mod WellNamed
 pub mod Erasure
+pub mod Edits

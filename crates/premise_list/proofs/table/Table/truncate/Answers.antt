@@ -15,7 +15,7 @@ overflow_sub-kept_words c =
     let ps = c.self.inside.premises.items in
     let total = word_total c.self.inside.words.entries ps c.self.invariant.indexed in
     let parted = words_parted c.args.n ps in
-    let dropped = c.word_count-words.ensures ∙ ap (λ l. length (words_known l)) (rest_of c.args.n c.deref.result.now ps c.deref.ensures.value) in
+    let dropped = c.word_count-words.ensures.value ∙ ap (λ l. length (words_known l)) (rest_of c.args.n c.deref.result.now ps c.deref.ensures.value) in
     omega arith
 
 pub overflow_sub-self : goal.overflow_sub-self
@@ -34,7 +34,7 @@ invariant_of-self c =
     let total = word_total es ps c.self.invariant.indexed in
     let words = words_parted n ps in
     let points = points_parted n ps in
-    let dropped_words = c.word_count-words.ensures ∙ ap (λ l. length (words_known l)) (rest_of n c.deref.result.now ps c.deref.ensures.value) in
+    let dropped_words = c.word_count-words.ensures.value ∙ ap (λ l. length (words_known l)) (rest_of n c.deref.result.now ps c.deref.ensures.value) in
     let dropped_points = c.points_count-points.ensures ∙ ap (λ l. length (flat_map points_of l)) (rest_of n c.deref.result.now ps c.deref.ensures.value) in
     let counted = c.self.invariant.counted in
     let kept = c.len.result - c.word_count-words.result in
