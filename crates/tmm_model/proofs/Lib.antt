@@ -18,3 +18,4 @@ pub mod LinePoints
 pub mod LineForms
 pub mod LineShown
 pub mod Places
+pub mod WellNamed

@@ -22,3 +22,6 @@ pub mod Beliefs
 pub mod Maps
 pub mod Answers
 pub mod Right
+pub mod WellNamed
+pub mod Erasure
+pub mod Edits

@@ -1,0 +1,49 @@
+use Rattle.std.proofs.Common.{◌≡◌, ◌+◌, ◌-◌, ◌≤◌, List, map, length, take, drop, ap, subst, sym, ◌∙◌, arith}
+use Rattle.std.specs.List.{flat_map}
+use Rattle.std.proofs.lemmas.List.{length-take}
+use Rattle.std.proofs.lemmas.Grind.{common_steps}
+use Rattle.tmm_model.specs.declared.premise.Premise.{Premise}
+use Rattle.tmm_model.specs.Standing.{points_of}
+use Rattle.tmm_model.specs.Verdicts.{words_known}
+use Rattle.tmm_model.specs.WellNamed.{IsWellNamed}
+use Rattle.premise_list.specs.Table.{placed, entry_seen}
+use Rattle.premise_list.proofs.TableFacts.{word_total, indexed_taken, words_parted, points_parted, well_named_taken, rest_of}
+use Rattle.premise_list.proofs.table.Table.truncate.Goals as goal
+
+pub overflow_sub-kept_words : goal.overflow_sub-kept_words
+overflow_sub-kept_words c =
+    let ps = c.self.inside.premises.items in
+    let total = word_total c.self.inside.words.entries ps c.self.invariant.indexed in
+    let parted = words_parted c.args.n ps in
+    let dropped = c.word_count-words.ensures.value ∙ ap (λ l. length (words_known l)) (rest_of c.args.n c.deref.result.now ps c.deref.ensures.value) in
+    omega arith
+
+pub overflow_sub-self : goal.overflow_sub-self
+overflow_sub-self c =
+    let ps = c.self.inside.premises.items in
+    let parted = points_parted c.args.n ps in
+    let dropped = c.points_count-points.ensures ∙ ap (λ l. length (flat_map points_of l)) (rest_of c.args.n c.deref.result.now ps c.deref.ensures.value) in
+    let counted = c.self.invariant.counted in
+    omega arith
+
+pub invariant_of-self : goal.invariant_of-self
+invariant_of-self c =
+    let n = c.args.n in
+    let ps = c.self.inside.premises.items in
+    let es = c.self.inside.words.entries in
+    let total = word_total es ps c.self.invariant.indexed in
+    let words = words_parted n ps in
+    let points = points_parted n ps in
+    let dropped_words = c.word_count-words.ensures.value ∙ ap (λ l. length (words_known l)) (rest_of n c.deref.result.now ps c.deref.ensures.value) in
+    let dropped_points = c.points_count-points.ensures ∙ ap (λ l. length (flat_map points_of l)) (rest_of n c.deref.result.now ps c.deref.ensures.value) in
+    let counted = c.self.invariant.counted in
+    let kept = c.len.result - c.word_count-words.result in
+    let kept_count : kept + length (words_known (drop n ps)) ≡ length es = omega arith in
+    let items = c.truncate-2.ensures.items in
+    let points_now = ap (λ l. length (flat_map points_of l)) items in
+    record {
+      indexed = ap (map entry_seen) c.truncate.ensures.entries ∙ indexed_taken es ps c.self.invariant.indexed n kept kept_count ∙ ap (placed 0) (sym items);
+      counted = omega arith;
+      few = omega (arith, ap length items, length-take n ps);
+      well_named = subst IsWellNamed (sym items) (well_named_taken n ps c.self.invariant.well_named);
+    }

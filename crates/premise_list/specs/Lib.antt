@@ -1,0 +1,6 @@
+pub mod Words
+pub mod Table
+pub mod TableInside
+pub mod Judged
+pub mod States
+pub mod StandingInside

@@ -1,0 +1,153 @@
+// The standing list, present and committed.
+ghost use Rattle.std.specs.Prelude.{◌≡◌, ◌≤◌, ◌↔◌, ◌++◌, None, length, slice_get, IsOk, IfErr, OnOk, OnErr, vec_len, vec_capacity, ◌+◌};
+ghost use Rattle.std.specs.Option.{option_copied};
+ghost use Rattle.tmm_model.specs.Standing.{empty_list};
+ghost use Rattle.tmm_model.specs.Sorts.{class_in};
+ghost use Rattle.tmm_model.specs.Verdicts.{list_cause, most_premises, Tells};
+ghost use Rattle.tmm_model.specs.WellNamed.{IsWellNamed, premise_in};
+ghost use Rattle.tmm_model.specs.Edits.{list_with, list_until};
+
+use crate::premise::{copy_of, facts_of};
+use crate::table::{Table, word_count};
+use std::alloc::Global;
+use std::marker::Model;
+use tmm_model::{Edit, Name, NoMemory, Premise, Refusal};
+
+/// The standing list and its horizon, now and as they were at the last commit.
+#[derive(Drop)]
+pub struct Standing {
+    table: Table,
+    horizon: u32,
+    committed: Vec<Premise>,
+    committed_horizon: u32,
+    // how many first premises of both lists are known to be the same
+    shared: usize,
+}
+
+impl Model for Standing {
+    ghost use Rattle.premise_list.specs.States.{States};
+
+    ghost Value = { States };
+
+    ghost use Rattle.premise_list.specs.StandingInside.{states_of, IsStanding};
+
+    ghost view = { states_of };
+
+    ghost invariant = { IsStanding };
+}
+
+impl Standing {
+    /// The empty list, with horizon 1,000. It takes no memory.
+    pub fn make(alloc: Global) -> Standing
+        ensures present { result.present ≡ empty_list }
+        ensures committed { result.committed ≡ empty_list }
+    {
+        Standing {
+            table: Table::make(alloc),
+            horizon: 1000,
+            committed: Vec::new(alloc),
+            committed_horizon: 1000,
+            shared: 0,
+        }
+    }
+
+    /// Whether names and counts let the edit through, and else the first cause against it.
+    pub fn check(&self, edit: &Edit) -> Result<(), Refusal>
+        ensures ok { IsOk result ↔ (list_cause self.now.present.premises edit.now ≡ None) }
+        ensures told { IfErr result (λ refusal. Tells refusal (list_cause self.now.present.premises edit.now)) }
+    {
+        self.table.check(edit)
+    }
+
+    /// Appends a premise that `check` lets through. Without memory nothing has changed.
+    pub fn add(&mut self, _alloc: Global, premise: &Premise) -> Result<(), NoMemory>
+        requires { list_cause self.old.present.premises (Edit.Add premise.now) ≡ None }
+        ensures ok { OnOk result (self.new ≡ record self.old { present = list_with self.old.present premise.now }) }
+        ensures err { OnErr result (self.new ≡ self.old) }
+    {
+        let present = self.table.premises().len();
+        let committed = self.committed.as_slice();
+        let missing = (present + 1).saturating_sub(committed.len());
+        let owed = word_count(&committed[self.shared..]);
+        self.committed.reserve(missing)?;
+        self.table.reserve(1, 1 + facts_of(premise).len() + owed)?;
+        self.table.push(copy_of(premise));
+        Ok(())
+    }
+
+    /// Sets the last date at which an effect is projected.
+    pub fn set_horizon(&mut self, n: u32)
+        requires { n ≤ 100000 }
+        ensures { self.new ≡ record self.old { present = list_until self.old.present n } }
+    {
+        self.horizon = n;
+    }
+
+    /// The last date at which an effect is projected.
+    pub fn horizon(&self) -> u32
+        ensures { result ≡ self.now.present.horizon }
+    {
+        self.horizon
+    }
+
+    /// The number of premises.
+    pub fn len(&self) -> usize
+        ensures value { result ≡ length self.now.present.premises }
+        ensures few { result ≤ most_premises }
+        ensures well_named { IsWellNamed self.now.present.premises }
+    {
+        self.table.premises().len()
+    }
+
+    /// The premise at this place, the oldest at 0.
+    pub fn at(&self, i: usize) -> Option<&Premise>
+        ensures { option_copied result ≡ slice_get self.now.present.premises i }
+    {
+        self.table.at(i)
+    }
+
+    /// The premise of this name.
+    pub fn get(&self, name: Name) -> Option<&Premise>
+        ensures { option_copied result ≡ premise_in self.now.present.premises name }
+    {
+        self.table.find(name)
+    }
+
+    /// The class that declares the fact.
+    pub fn class_of(&self, fact: Name) -> Option<Name>
+        ensures { result ≡ class_in self.now.present.premises fact }
+    {
+        self.table.class_of(fact)
+    }
+
+    /// Makes the present list the one of the last commit. It takes no memory.
+    pub fn commit(&mut self)
+        ensures { self.new ≡ record self.old { committed = self.old.present } }
+    {
+        self.committed.truncate(self.shared);
+        append_copies(&mut self.committed, &self.table.premises()[self.shared..]);
+        self.shared = self.committed.as_slice().len();
+        self.committed_horizon = self.horizon;
+    }
+
+    /// Makes the list of the last commit the present one. It takes no memory.
+    pub fn rollback(&mut self)
+        ensures { self.new ≡ record self.old { present = self.old.committed } }
+    {
+        self.table.truncate(self.shared);
+        self.table.append(&self.committed.as_slice()[self.shared..]);
+        self.shared = self.committed.as_slice().len();
+        self.horizon = self.committed_horizon;
+    }
+}
+
+// Appends the premises to a list that has room for them.
+fn append_copies(list: &mut Vec<Premise>, premises: &[Premise])
+    requires { vec_len list.old + length premises.now ≤ vec_capacity list.old }
+    ensures items { list.new.items ≡ list.old.items ++ premises.now }
+    ensures capacity { vec_capacity list.new ≡ vec_capacity list.old }
+{
+    for premise in premises {
+        list.push_reserved(copy_of(premise));
+    }
+}

@@ -1,0 +1,238 @@
+// A list of premises with the index of its names.
+ghost use Rattle.std.specs.Prelude.{◌≡◌, ◌<◌, ◌≤◌, ◌+◌, ◌*◌, [], ◌∷◌, ◌++◌, false, None, OnOk, length, map, take, slice_get};
+ghost use Rattle.std.specs.List.{flat_map, list_any};
+ghost use Rattle.std.specs.Map.{lookup};
+ghost use Rattle.std.specs.Option.{option_map, option_copied};
+ghost use Rattle.tmm_model.specs.Points.{same_name};
+ghost use Rattle.tmm_model.specs.Sorts.{sort_in, class_in, declared_by};
+ghost use Rattle.tmm_model.specs.Standing.{points_in, points_of};
+ghost use Rattle.tmm_model.specs.Verdicts.{most_premises, first_taken, words_known};
+ghost use Rattle.tmm_model.specs.WellNamed.{AllFollow, Follows, IsWellNamed, premise_in};
+ghost use Rattle.indexmap.specs.IndexMap.{keys, spare};
+ghost use Rattle.premise_list.specs.Words.{sort_seen};
+ghost use Rattle.premise_list.specs.Table.{placed, word_seen, fact_entry};
+
+use crate::premise::{Sort, copy_of, facts_of, name_of, point_count, sort_of};
+use indexmap::IndexMap;
+use std::alloc::Global;
+use std::marker::Model;
+use tmm_model::{Name, NoMemory, Premise};
+
+/// What a name is declared as, and the place of the premise that declares it.
+#[derive(Clone, Copy)]
+pub(crate) struct Word {
+    pub sort: Sort,
+    pub place: usize,
+}
+
+/// Premises in order, each of which follows those before it, with an index of all declared names.
+#[derive(Drop)]
+pub(crate) struct Table {
+    premises: Vec<Premise>,
+    // each declared name, in the order of declaration
+    words: IndexMap<Name, Word>,
+    // the number of points, `start` among them
+    points: usize,
+}
+
+impl Model for Table {
+    ghost use Rattle.premise_list.specs.Table.{Rows};
+
+    ghost Value = { Rows };
+
+    ghost use Rattle.premise_list.specs.TableInside.{rows_of, IsTable};
+
+    ghost view = { rows_of };
+
+    ghost invariant = { IsTable };
+}
+
+impl Table {
+    // No premises. It takes no memory.
+    pub(crate) fn make(alloc: Global) -> Table
+        ensures { result.premises ≡ [] }
+    {
+        Table {
+            premises: Vec::new(alloc),
+            words: IndexMap::new(alloc),
+            points: 1,
+        }
+    }
+
+    // The premises, oldest first.
+    pub(crate) fn premises(&self) -> &[Premise]
+        ensures value { result.now ≡ self.now.premises }
+        ensures few { length self.now.premises ≤ most_premises }
+        ensures well_named { IsWellNamed self.now.premises }
+    {
+        self.premises.as_slice()
+    }
+
+    // The premise at this place.
+    pub(crate) fn at(&self, place: usize) -> Option<&Premise>
+        ensures { option_copied result ≡ slice_get self.now.premises place }
+    {
+        self.premises.get(place)
+    }
+
+    // What the name is declared as, and where.
+    pub(crate) fn word(&self, name: Name) -> Option<Word>
+        ensures { option_map word_seen result ≡ lookup (same_name name) (placed 0 self.now.premises) }
+    {
+        self.words.get(&name).copied()
+    }
+
+    // What the name is declared as.
+    pub(crate) fn sort_of(&self, name: Name) -> Option<Sort>
+        ensures { option_map sort_seen result ≡ sort_in self.now.premises name }
+    {
+        Some(self.word(name)?.sort)
+    }
+
+    // The premise of this name.
+    pub(crate) fn find(&self, name: Name) -> Option<&Premise>
+        ensures { option_copied result ≡ premise_in self.now.premises name }
+    {
+        let _distinct = self.words.len();
+        let word = self.word(name)?;
+        match word.sort {
+            Sort::Fact => None,
+            _ => self.at(word.place),
+        }
+    }
+
+    // The class that declares the fact.
+    pub(crate) fn class_of(&self, fact: Name) -> Option<Name>
+        ensures { result ≡ class_in self.now.premises fact }
+    {
+        let _distinct = self.words.len();
+        let word = self.word(fact)?;
+        match word.sort {
+            Sort::Fact => Some(name_of(self.at(word.place)?)),
+            _ => None,
+        }
+    }
+
+    // Room for more premises and more declared names.
+    pub(crate) fn reserve(&mut self, places: usize, words: usize) -> Result<(), NoMemory>
+        ensures premises { self.new.premises ≡ self.old.premises }
+        ensures places { OnOk result (places ≤ self.new.places) }
+        ensures words { OnOk result (words ≤ self.new.words) }
+        ensures places_kept { self.old.places ≤ self.new.places }
+        ensures words_kept { self.old.words ≤ self.new.words }
+    {
+        self.premises.reserve(places)?;
+        self.words.reserve(words)?;
+        Ok(())
+    }
+
+    // The number of points, `start` among them.
+    pub(crate) fn points(&self) -> usize
+        ensures { result ≡ length (points_in self.now.premises) }
+    {
+        self.points
+    }
+
+    // Appends a premise that follows the others. It takes no memory.
+    pub(crate) fn push(&mut self, premise: Premise)
+        requires follows { Follows self.old.premises premise }
+        requires few { length self.old.premises < most_premises }
+        requires places { 0 < self.old.places }
+        requires words { length (declared_by premise) ≤ self.old.words }
+        ensures premises { self.new.premises ≡ self.old.premises ++ premise ∷ [] }
+        ensures places { self.old.places ≡ self.new.places + 1 }
+        ensures words { self.old.words ≤ self.new.words + length (declared_by premise) }
+    {
+        let place = self.premises().len();
+        let word = Word {
+            sort: sort_of(&premise),
+            place,
+        };
+        declare(&mut self.words, name_of(&premise), word);
+        declare_facts(&mut self.words, facts_of(&premise), place);
+        self.points += point_count(&premise);
+        self.premises.push_reserved(premise);
+    }
+
+    // Appends premises each of which follows those before it. It takes no memory.
+    pub(crate) fn append(&mut self, premises: &[Premise])
+        requires follow { AllFollow self.old.premises premises.now }
+        requires few { length self.old.premises + length premises.now ≤ most_premises }
+        requires places { length premises.now ≤ self.old.places }
+        requires words { length (words_known premises.now) ≤ self.old.words }
+        ensures premises { self.new.premises ≡ self.old.premises ++ premises.now }
+        ensures places { self.old.places ≡ self.new.places + length premises.now }
+        ensures words { self.old.words ≤ self.new.words + length (words_known premises.now) }
+    {
+        for premise in premises {
+            self.push(copy_of(premise));
+        }
+    }
+
+    // Takes off all but the first `n` premises. It takes no memory.
+    pub(crate) fn truncate(&mut self, n: usize)
+        requires { n ≤ length self.old.premises }
+        ensures premises { self.new.premises ≡ take n self.old.premises }
+        ensures places { self.old.places + length self.old.premises ≡ self.new.places + n }
+        ensures words { self.old.words ≤ self.new.words }
+    {
+        let dropped = &self.premises[n..];
+        let words = word_count(dropped);
+        let points = points_count(dropped);
+        let kept_words = self.words.len() - words;
+        self.words.truncate(kept_words);
+        self.points -= points;
+        self.premises.truncate(n);
+    }
+}
+
+// Adds a new name to the index.
+fn declare(words: &mut IndexMap<Name, Word>, name: Name, word: Word)
+    requires room { 0 < spare words.old }
+    requires new { list_any (same_name name) (keys words.old) ≡ false }
+    ensures entries { words.new.entries ≡ words.old.entries ++ (name, word) ∷ [] }
+    ensures room { spare words.old ≤ spare words.new + 1 }
+{
+    let _new = words.insert(name, word);
+}
+
+// Adds the facts of a class, which are new.
+fn declare_facts(words: &mut IndexMap<Name, Word>, facts: &[Name], place: usize)
+    requires room { length facts.now ≤ spare words.old }
+    requires new { first_taken (keys words.old) facts.now ≡ None }
+    ensures entries { words.new.entries ≡ words.old.entries ++ map (fact_entry place) facts.now }
+    ensures room { spare words.old ≤ spare words.new + length facts.now }
+{
+    for fact in facts {
+        let word = Word {
+            sort: Sort::Fact,
+            place,
+        };
+        declare(words, *fact, word);
+    }
+}
+
+// How many names the premises declare.
+pub(crate) fn word_count(premises: &[Premise]) -> usize
+    requires { length premises.now ≤ most_premises }
+    ensures value { result ≡ length (words_known premises.now) }
+    ensures few { result ≤ 9 * length premises.now }
+{
+    let mut count = 0;
+    for premise in premises {
+        count += 1 + facts_of(premise).len();
+    }
+    count
+}
+
+// How many points the premises declare.
+fn points_count(premises: &[Premise]) -> usize
+    requires { length premises.now ≤ most_premises }
+    ensures { result ≡ length (flat_map points_of premises.now) }
+{
+    let mut count = 0;
+    for premise in premises {
+        count += point_count(premise);
+    }
+    count
+}

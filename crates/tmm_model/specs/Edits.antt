@@ -1,0 +1,22 @@
+-- The standing list after an edit.
+use Rattle.std.specs.Prelude.{ℕ, List, [], ◌∷◌, ◌++◌}
+use Rattle.tmm_model.specs.declared.premise.Premise.{Premise}
+use Rattle.tmm_model.specs.declared.premise.Edit.{Edit}
+use Rattle.tmm_model.specs.declared.premise.Edit.TheVariants.{Add, Erase, Horizon}
+use Rattle.tmm_model.specs.Standing.{Standing}
+use Rattle.tmm_model.specs.Erasure.{kept_without}
+
+abbrev pub list_with : Standing → Premise → Standing
+list_with s premise = record { horizon = s.horizon; premises = s.premises ++ premise ∷ [] }
+
+abbrev pub list_without : Standing → List ℕ → Standing
+list_without s name = record { horizon = s.horizon; premises = kept_without name s.premises }
+
+abbrev pub list_until : Standing → ℕ → Standing
+list_until s n = record { horizon = n; premises = s.premises }
+
+-- the list after an accepted edit
+abbrev pub next_list : Standing → Edit → Standing
+next_list s (Add premise) = list_with s premise
+next_list s (Erase name) = list_without s name
+next_list s (Horizon n) = list_until s n
