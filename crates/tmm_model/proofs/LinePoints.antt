@@ -17,7 +17,7 @@ use Rattle.tmm_model.specs.declared.point.QueryPoint.TheVariants.{Declared, Deri
 use Rattle.tmm_model.specs.Names.{is_letter, is_name_byte, is_name}
 use Rattle.tmm_model.specs.Points.{same_name, point_word, slashed, occ_word, query_word}
 use Rattle.tmm_model.specs.Lines.{is_blank, IsName, AreNames, number_word, bound_word, IsBound, IsWellFormedPoint, IsWellFormedOcc}
-use Rattle.tmm_model.specs.Reading.{name_of, digits_on, natural_of, number_of, bound_of, end_of, point_of, parts, bare, occ_from, occ_of, query_point_of, horizon_from, horizon_of}
+use Rattle.tmm_model.specs.Reading.{name_of, digits_on, natural_of, number_of, bound_of, end_of, point_of, parts, parts_behind, bare, occ_from, occ_of, query_point_of, horizon_from, horizon_of}
 use Rattle.tmm_model.proofs.LineReaders.{chosen, bind_some, map_some, passing_some, IsReader}
 use Rattle.tmm_model.proofs.LineNumbers.{number_reader}
 
@@ -81,7 +81,7 @@ bound_reader = record { sound = bound_of-sound; complete = bound_of-complete }
 
 -- ---- points
 
-no_dot : (k : List ℕ) → is_name (k ++ codes ".end") ≡ false
+pub no_dot : (k : List ℕ) → is_name (k ++ codes ".end") ≡ false
 no_dot k = false_from_ne_true _ (λ e.
     let p = name_bytes (k ++ codes ".end") e in
     let q = sym (list_all-append is_name_byte k (codes ".end")) ∙ p in
@@ -139,11 +139,6 @@ abbrev pub at_slash : List ℕ → Bool
 at_slash [] = true
 at_slash (b ∷ _) = b == 47
 
--- the parts behind a `/` that stands first
-abbrev pub parts_behind : List ℕ → List (List ℕ)
-parts_behind [] = []
-parts_behind (_ ∷ w) = parts w
-
 -- a part up to a `/` or the end
 pub parts-first : (a rest : List ℕ) → list_all (λ b. not (b == 47)) a ≡ true → at_slash rest ≡ true → parts (a ++ rest) ≡ a ∷ parts_behind rest
 unfolding parts
@@ -185,6 +180,11 @@ parts-joined (b ∷ w) =
       | inr f ↦ rw f (joined-onto b (parts w) ∙ ap (λ (x : List ℕ). b ∷ x) (parts-joined w))
     ]
 
+-- a word whose parts are these is their occurrence's
+pub word-parts : (w root : List ℕ) (rules : List (List ℕ)) → parts w ≡ root ∷ rules → w ≡ root ++ slashed rules
+unfolding joined
+word-parts w root rules e = sym (parts-joined w) ∙ ap joined e
+
 -- no byte of a name is a `/`, and none is a blank
 name_byte_plain : (b : ℕ) → is_name_byte b ≡ true → (b ≡ 47 → ⊥) × (is_blank b ≡ false)
 name_byte_plain b h =
@@ -214,7 +214,7 @@ parts-slashed (r ∷ rules) h =
     parts-first r (slashed rules) (no_slash r (name_bytes r p.0)) (slashed-at rules) ∙ ap (λ (x : List (List ℕ)). r ∷ x) (parts-slashed rules p.1)
 
 -- the parts of an occurrence's word are its root and its rules
-parts-occ : (root : List ℕ) (rules : List (List ℕ)) → IsName root → AreNames rules → parts (root ++ slashed rules) ≡ root ∷ rules
+pub parts-occ : (root : List ℕ) (rules : List (List ℕ)) → IsName root → AreNames rules → parts (root ++ slashed rules) ≡ root ∷ rules
 parts-occ root rules h k = parts-first root (slashed rules) (no_slash root (name_bytes root h)) (slashed-at rules) ∙ ap (λ (x : List (List ℕ)). root ∷ x) (parts-slashed rules k)
 
 -- an occurrence whose list has no room
@@ -229,10 +229,10 @@ occ_from-sound (root ∷ rules) o e =
     subst (λ (x : Occ). IsBareOcc x × (root ∷ rules ≡ x.root ∷ x.rules.items)) p.1 ((q, refl), refl)
 
 pub occ_of-sound : (w : List ℕ) (o : Occ) → occ_of w ≡ Some o → IsBareOcc o × (w ≡ occ_word o)
-unfolding occ_of joined
+unfolding occ_of
 occ_of-sound w o e =
     let p = occ_from-sound (parts w) o e in
-    (p.0, sym (parts-joined w) ∙ ap joined p.1)
+    (p.0, word-parts w o.root o.rules.items p.1)
 
 pub occ_of-complete : (o : Occ) → IsBareOcc o → occ_of (occ_word o) ≡ Some o
 unfolding occ_of

@@ -94,6 +94,11 @@ point_of w = cond (same_name w (codes "start")) (Some Start) (cond (is_name w) (
 unfoldable pub parts : List ℕ → List (List ℕ)
 parts w = slice_split (λ b. b == 47) w
 
+-- the parts behind a first byte `/`
+abbrev pub parts_behind : List ℕ → List (List ℕ)
+parts_behind [] = []
+parts_behind (_ ∷ w) = parts w
+
 abbrev pub bare : List ℕ → List (List ℕ) → Occ
 bare root rules = record { root = root; rules = record { items = rules; room = 0 } }
 
