@@ -22,3 +22,10 @@ pub mod Beliefs
 pub mod Maps
 pub mod Answers
 pub mod Right
+pub mod Paths
+pub mod Changes
+pub mod Reasons
+pub mod Touched
+pub mod Questions
+pub mod Kept
+pub mod Generator
