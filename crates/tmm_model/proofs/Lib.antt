@@ -11,6 +11,8 @@ pub mod Sizes
 pub mod Walks
 pub mod Within
 mod WorkedReplies
+pub mod FarTables
+mod WorkedBeliefs
 pub mod LineNumbers
 pub mod LineReaders
 pub mod LineWords
@@ -19,3 +21,22 @@ pub mod LineForms
 pub mod LineShown
 pub mod Places
 pub mod WellNamed
+pub mod Elements
+pub mod Triangle
+pub mod Timed
+pub mod OneRight
+pub mod LevelRight
+pub mod Firsts
+pub mod Settling
+pub mod Inside
+pub mod Distinct
+pub mod LevelDistinct
+pub mod ClassTokens
+pub mod Order
+pub mod Sorts
+pub mod Watched
+pub mod Updating
+pub mod WellNamed
+pub mod KnownNames
+pub mod Sound
+pub mod SoundBeliefs

@@ -1,5 +1,5 @@
 -- What is believed of a standing list: its events, tokens and spans, and what rules bring about.
-use Rattle.std.specs.Prelude.{ℕ, suc, zero, ℤ, pos, ◌+ℤ◌, Bool, true, false, List, [], ◌∷◌, ◌++◌, map, filter, position, Option, Some, None, int_le}
+use Rattle.std.specs.Prelude.{ℕ, suc, zero, ℤ, pos, ◌+ℤ◌, Bool, true, false, List, [], ◌++◌, map, filter, position, Option, Some, None, int_le}
 use Rattle.std.specs.List.{list_any, list_all, filter_map, flat_map}
 use Rattle.std.specs.Option.{option_map, is_none}
 use Rattle.std.specs.Ordering.{int_eq, on}

@@ -25,3 +25,10 @@ pub mod Right
 pub mod WellNamed
 pub mod Erasure
 pub mod Edits
+pub mod Paths
+pub mod Changes
+pub mod Reasons
+pub mod Touched
+pub mod Questions
+pub mod Kept
+pub mod Generator

@@ -1,14 +1,13 @@
 -- Sets of occurrences that agree with the rules, and the laws of belief.
-use Rattle.std.specs.Prelude.{◌≡◌, ◌↔◌, ◌≤◌, ℕ, ℤ, pos, ◌≤ℤ◌, List, IsTrue}
+use Rattle.std.specs.Prelude.{◌≡◌, ◌↔◌, ℕ, ℤ, pos, ◌≤ℤ◌, List, IsTrue}
 use Rattle.std.specs.List.{Contains, All}
-use Rattle.tmm_model.specs.declared.bound.Bound.{Bound}
 use Rattle.tmm_model.specs.declared.bound.Bound.TheVariants.{Finite}
 use Rattle.tmm_model.specs.declared.point.PointName.{PointName}
 use Rattle.tmm_model.specs.declared.point.PointName.TheVariants.{Start}
-use Rattle.tmm_model.specs.declared.premise.Premise.{Premise}
 use Rattle.tmm_model.specs.Beliefs.{roots, rules_at, due, is_free, beliefs}
 use Rattle.tmm_model.specs.Bounds.{IsTighter, bound_plus}
 use Rattle.tmm_model.specs.Lines.{IsWellFormedPremise}
+use Rattle.tmm_model.specs.Maps.{built}
 use Rattle.tmm_model.specs.Moments.{Moment, At, After, Distances, distance, early, rule_of}
 use Rattle.tmm_model.specs.Standing.{Standing, IsConsistent, far_in}
 use Rattle.tmm_model.specs.Tokens.{is_by}
@@ -92,3 +91,10 @@ OneRightSet =
 -- the believed occurrences are right
 abbrev pub BeliefsAreRight : Type 0
 BeliefsAreRight = (s : Standing) (far : Distances) → IsTimed s far → IsRight s far (beliefs s far)
+
+-- **The map of a sound list believes the one right set.**
+abbrev pub MapsAreRight : Type 0
+MapsAreRight =
+    (s : Standing) → IsSound s
+    → IsRight s (far_in s.premises) (built s).believed
+    × ((b : List Moment) → IsRight s (far_in s.premises) b → (x : Moment) → Contains b x ↔ Contains (built s).believed x)

@@ -1,13 +1,10 @@
 -- What names are declared as, and which names an edit uses.
-use Rattle.std.specs.Prelude.{ℕ, ◌≡◌, Bool, true, false, ◌||◌, List, [], ◌∷◌, ◌++◌, map, codes, Option, Some, None}
+use Rattle.std.specs.Prelude.{ℕ, Bool, true, false, ◌||◌, List, [], ◌∷◌, map, codes, Option, Some, None}
 use Rattle.std.specs.List.{flat_map, list_any}
 use Rattle.std.specs.Map.{lookup}
 use Rattle.tmm_model.specs.declared.point.PointName.{PointName}
-use Rattle.tmm_model.specs.declared.point.PointName.TheVariants.{Start, Begin, End}
 use Rattle.tmm_model.specs.declared.premise.Premise.{Premise}
 use Rattle.tmm_model.specs.declared.premise.Premise.TheVariants.{Class, Kind, Point, Event, Token, Span, Dist, Rule, Protect}
-use Rattle.tmm_model.specs.declared.premise.Edit.{Edit}
-use Rattle.tmm_model.specs.declared.premise.Edit.TheVariants.{Add, Erase, Horizon}
 use Rattle.tmm_model.specs.Points.{same_name}
 
 -- what a name is declared as

@@ -1,5 +1,5 @@
 -- Why an edit is refused: the first cause that holds, in the order of this file.
-use Rattle.std.specs.Prelude.{◌≡◌, ◌≢◌, ℕ, ◌+◌, ◌≤◌, ◌<◌, nat_le, Bool, true, false, ◌||◌, List, [], ◌∷◌, ◌++◌, map, length, codes, ℤ, pos, ◌<ℤ◌, Option, Some, None, IsSome}
+use Rattle.std.specs.Prelude.{◌≡◌, ℕ, nat_le, Bool, true, false, ◌||◌, List, [], ◌∷◌, ◌++◌, map, length, codes, ℤ, pos, ◌<ℤ◌, Option, Some, None, IsSome}
 use Rattle.std.specs.List.{Contains, list_any}
 use Rattle.std.specs.Option.{option_or}
 use Rattle.tmm_model.specs.declared.bound.Bound.TheVariants.{Finite}
@@ -9,11 +9,11 @@ use Rattle.tmm_model.specs.declared.premise.Premise.{Premise}
 use Rattle.tmm_model.specs.declared.premise.Edit.{Edit}
 use Rattle.tmm_model.specs.declared.premise.Edit.TheVariants.{Add, Erase, Horizon}
 use Rattle.tmm_model.specs.declared.refusal.Refusal.{Refusal}
-use Rattle.tmm_model.specs.declared.refusal.Refusal.TheVariants.{LimitLine, Form, Taken, Unknown, Sort as IllSorted, LimitPremises, LimitPoints, Cycle, LimitSize}
+use Rattle.tmm_model.specs.declared.refusal.Refusal.TheVariants.{Taken, Unknown, Sort as IllSorted, LimitPremises, LimitPoints}
 use Rattle.tmm_model.specs.Points.{same_name, point_word, query_word}
 use Rattle.tmm_model.specs.Bounds.{after}
 use Rattle.tmm_model.specs.Walks.{Arc}
-use Rattle.tmm_model.specs.Standing.{Standing, name_of, points_in, arcs_of, arcs_in, IsConsistent, far_in}
+use Rattle.tmm_model.specs.Standing.{points_in, arcs_of, far_in}
 use Rattle.tmm_model.specs.Sorts.{Sort, a_span, is_reserved, declared_by, declarations_in, sort_in, is_place, is_premise, Use, a_name, a_place, a_premise, uses_of}
 
 abbrev pub most_premises : ℕ

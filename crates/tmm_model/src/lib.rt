@@ -4,6 +4,7 @@
 #![tactic(auto)]
 
 mod answer;
+mod belief_laws;
 mod bound;
 mod changes;
 mod laws;
@@ -21,6 +22,10 @@ mod turn;
 mod walk;
 
 pub use answer::{Answer, Blame, Cause, Report};
+pub use belief_laws::{
+    beliefs_are_right, distances_are_shortest, maps_are_right, one_right_set,
+    points_time_occurrences, sound_lists_are_shortest,
+};
 pub use bound::Bound;
 pub use changes::{Changes, Clip, ListRow, WhyLine};
 pub use laws::dates_exactly_without_negative_cycle;

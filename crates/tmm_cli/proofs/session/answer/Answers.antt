@@ -1,0 +1,19 @@
+use Rattle.std.proofs.Common.{refl, ◌≡◌, subst, sym}
+use Rattle.tmm_model.specs.declared.line.Query.{Query}
+use Rattle.tmm_model.specs.declared.line.Query.TheVariants.{Bounds}
+use Rattle.tmm_model.specs.declared.line.Line.TheVariants.{Question}
+use Rattle.tmm_model.specs.Replies.{BoundsAre}
+use Rattle.tmm_cli.specs.Sessions.{TellsMeaning}
+use Rattle.tmm_cli.proofs.Turns.{Tells-reply, TellsMeaning-refused_query}
+use Rattle.tmm_cli.proofs.session.answer.Goals as goal
+
+pub returns-in-Ok : goal.returns-in-Ok
+returns-in-Ok g c =
+    subst (λ (query : Query). TellsMeaning (g.M.MapCore.list c.args.core.now) c.args.line (Question query) c.reply.result (g.M.MapCore.list c.args.core.now)) (sym c.in-Bounds.is)
+    (Tells-reply _ _ _ c.reply_bounds.result (BoundsAre c.in-Ok.lo c.in-Ok.hi) _ c.reply_bounds.ensures
+    (c.in-Ok.ensures.known, c.in-Ok.ensures.low, c.in-Ok.ensures.high, refl) refl c.reply.ensures)
+
+pub returns-in-Err-Refused : goal.returns-in-Err-Refused
+returns-in-Err-Refused g c =
+    subst (λ (query : Query). TellsMeaning (g.M.MapCore.list c.args.core.now) c.args.line (Question query) c.refuse.result (g.M.MapCore.list c.args.core.now)) (sym c.in-Bounds.is)
+    (TellsMeaning-refused_query _ _ (Bounds c.in-Bounds.p c.in-Bounds.q) c.in-Err-Refused.refusal _ (rw c.in-Err-Refused.field-0-is at c.in-Err-Refused.ensures.stops) c.refuse.ensures)

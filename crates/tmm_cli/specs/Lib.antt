@@ -1,0 +1,6 @@
+pub mod Statuses
+pub mod Endings
+pub mod Reading
+pub mod Sessions
+pub mod LongLines
+pub mod Program

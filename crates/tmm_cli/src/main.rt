@@ -1,0 +1,36 @@
+//! `tmm`: a script of lines in, a reply for each line out. It stands on all other crates: `drive` cuts
+//! a source into lines and writes replies, `Session` answers a line over a map, and `run` is the whole
+//! program. The contract of `run` says what its words, the bytes taken, the bytes written and its
+//! status have to do with each other.
+#![tactic(auto)]
+
+mod drive;
+mod lines;
+mod run;
+mod session;
+mod status;
+mod tally;
+
+use crate::run::run;
+use std::env;
+use std::process::ExitCode;
+use tmm_io::{StdSink, StdSource};
+
+/// The status where the runtime doesn't give the words.
+const NO_WORDS: u8 = 8;
+
+fn main(rt: HostRuntime) -> ExitCode {
+    let Ok(words) = words(&rt) else {
+        return ExitCode::from(NO_WORDS);
+    };
+    let mut source = StdSource::make(rt.stdin());
+    let mut sink = StdSink::make(rt.stdout());
+    let status = run(rt.alloc(), words.as_slice(), &mut source, &mut sink);
+    ExitCode::from(status.number())
+}
+
+// The words after the program's name.
+fn words(rt: &HostRuntime) -> std::io::Result<Vec<String>> {
+    let words = env::args(rt)?.skip(1).collect(rt.alloc())?;
+    Ok(words)
+}

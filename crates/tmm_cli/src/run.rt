@@ -1,0 +1,50 @@
+// The top call.
+ghost use Rattle.std.specs.Prelude.{◌≡◌, ◌≢◌, ◌<◌, ◌≤◌, List, ℕ, None};
+ghost use Rattle.std.specs.Io.KnownBytes.{Appends, Consumes, IsAtEnd};
+ghost use Rattle.tmm_io.specs.Causes.{Rose};
+ghost use Rattle.tmm_model.specs.Standing.{empty_list};
+ghost use Rattle.tmm_model.specs.Steps.{Step};
+ghost use Rattle.tmm_cli.specs.Program.{ProgramEnds};
+
+use crate::drive::drive;
+use crate::session::Session;
+use crate::status::Status;
+use map_engine::PlainMap;
+use std::alloc::Global;
+use tmm_io::{Sink, Source};
+use tmm_model::Seq;
+
+/// All that the program does. Without words it reads a script from the source and writes a reply for
+/// each line to the sink; with any words it writes how it is used.
+pub fn run<S: Source, K: Sink>(
+    alloc: Global,
+    words: &[String],
+    source: &mut S,
+    sink: &mut K,
+) -> Status
+    ensures ends { (taken output : List ℕ)
+        × Consumes (S.left source.old) (S.left source.new) taken
+        × Appends (K.written sink.old) (K.written sink.new) output
+        × ProgramEnds Step empty_list words.now (IsAtEnd (S.left source.new)) taken output result }
+
+    ensures read_fault { result ≡ Status.ReadFault → Rose (S.faults source.old) (S.faults source.new) }
+    ensures write_fault { result ≡ Status.WriteFault → Rose (K.faults sink.old) (K.faults sink.new) }
+    ensures source_faults { result ≢ Status.ReadFault → S.faults source.new ≡ S.faults source.old }
+    ensures sink_faults { result ≢ Status.WriteFault → K.faults sink.new ≡ K.faults sink.old }
+{
+    if !words.is_empty() {
+        return match sink.write_all(b"usage: tmm [demo N], N from 1 to 1000\n") {
+            Ok(()) => Status::Words,
+            Err(_) => Status::WriteFault,
+        };
+    }
+    let Ok(core) = PlainMap::make(alloc) else {
+        return Status::NoMemory;
+    };
+    let mut buffer = Seq::make(alloc);
+    if buffer.reserve(401).is_err() {
+        return Status::NoMemory;
+    }
+    let mut session = Session::make(core);
+    drive(alloc, &mut session, &mut buffer, source, sink)
+}

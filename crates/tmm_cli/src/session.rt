@@ -1,0 +1,137 @@
+// One line to one reply.
+ghost use Rattle.std.specs.Prelude.{◌≡◌, ◌+◌, ◌-◌, ◌^◌, ◌<◌, None, IsTrue, MatchResult};
+ghost use Rattle.tmm_model.specs.Lines.{IsWellFormedEdit, IsWellFormedQuery};
+ghost use Rattle.tmm_model.specs.Replies.{Refused};
+ghost use Rattle.tmm_model.specs.Standing.{Standing};
+ghost use Rattle.tmm_model.specs.Steps.{Step, is_built, is_built_edit, is_built_premise, is_built_query};
+ghost use Rattle.tmm_cli.specs.Sessions.{Tells, TellsMeaning};
+ghost use Rattle.tmm_cli.specs.LongLines.{Step-long};
+
+use crate::lines::Lines;
+use map_engine::MapCore;
+use replies::{reply_bounds, reply_no, reply_ok};
+use std::alloc::Global;
+use tmm_model::{Edit, Line, NoMemory, Premise, Query, Refusal, Seq, Stop, Turn};
+use tmm_script::parse_line;
+
+/// Answers the lines of a script over a map.
+#[derive(Drop)]
+pub struct Session<M: MapCore + Drop> {
+    pub core: M,
+    pub lines: u64,
+}
+
+impl<M: MapCore + Drop> Session<M> {
+    /// A session over a map in which nothing is pending, with no line given.
+    pub fn make(core: M) -> Session<M>
+        requires { M.pending core ≡ None }
+        ensures core { result.core ≡ core }
+        ensures lines { result.lines ≡ 0 }
+    {
+        Session { core, lines: 0 }
+    }
+}
+
+impl<M: MapCore + Drop> Lines for Session<M> {
+    ghost State = { Standing };
+
+    ghost state = { λ s. M.list s.core };
+
+    ghost number = { λ s. s.lines };
+
+    ghost ready = { λ s. M.pending s.core ≡ None };
+
+    ghost step = { Step };
+
+    ghost long_lines = { Step-long };
+
+    fn line(&mut self, alloc: Global, bytes: &[u8]) -> Turn {
+        self.lines += 1;
+        let meaning = match parse_line(alloc, bytes) {
+            Ok(meaning) => meaning,
+            Err(Stop::Refused(refusal)) => return refuse(alloc, self.lines, &refusal),
+            Err(Stop::NoMemory) => return Turn::Memory,
+        };
+        if !is_answered(&meaning) {
+            return refuse(alloc, self.lines, &Refusal::Form);
+        }
+        match meaning {
+            Line::Silent => Turn::Silent,
+            Line::Change(edit) => change(alloc, self.lines, &edit, &mut self.core),
+            Line::Question(query) => answer(alloc, self.lines, &query, &self.core),
+        }
+    }
+}
+
+// Whether the program answers such a line so far.
+fn is_answered(meaning: &Line) -> bool
+    ensures { result ≡ is_built meaning.now }
+{
+    match meaning {
+        Line::Silent => true,
+        Line::Change(Edit::Add(Premise::Point { .. } | Premise::Dist { .. })) => true,
+        Line::Change(_) => false,
+        Line::Question(query) => matches!(query, Query::Bounds(_, _)),
+    }
+}
+
+// The reply that these bytes are, where there was memory for them.
+fn reply(bytes: Result<Seq<u8>, NoMemory>, refused: bool) -> Turn
+    ensures { MatchResult bytes (λ text. result ≡ Turn.Reply text refused) (λ _. result ≡ Turn.Memory) }
+{
+    match bytes {
+        Ok(bytes) => Turn::Reply { bytes, refused },
+        Err(NoMemory) => Turn::Memory,
+    }
+}
+
+// Refuses a line.
+fn refuse(alloc: Global, line: u64, refusal: &Refusal) -> Turn
+    ensures { Tells line (λ reply. reply ≡ Refused refusal.now) (Unit {0}) result }
+{
+    reply(reply_no(alloc, line, refusal), true)
+}
+
+// Makes an edit, and keeps it once there is a reply.
+fn change<M: MapCore>(alloc: Global, line: u64, edit: &Edit, core: &mut M) -> Turn
+    requires idle { M.pending core.old ≡ None }
+    requires well_formed { IsWellFormedEdit edit.now }
+    requires built { IsTrue (is_built_edit edit.now) }
+    ensures tells { TellsMeaning (M.list core.old) line (Line.Change edit.now) result (M.list core.new) }
+    ensures idle { M.pending core.new ≡ None }
+{
+    match core.apply(alloc, edit) {
+        Ok(made) => match reply_ok(alloc, line, &made.changes) {
+            Ok(bytes) => {
+                core.commit();
+                Turn::Reply {
+                    bytes,
+                    refused: false,
+                }
+            }
+            Err(NoMemory) => {
+                core.rollback();
+                Turn::Memory
+            }
+        },
+        Err(Stop::Refused(refusal)) => refuse(alloc, line, &refusal),
+        Err(Stop::NoMemory) => Turn::Memory,
+    }
+}
+
+/// Answers a question about the map's list, under this line number.
+pub fn answer<M: MapCore>(alloc: Global, line: u64, query: &Query, core: &M) -> Turn
+    requires idle { M.pending core.now ≡ None }
+    requires well_formed { IsWellFormedQuery query.now }
+    requires built { IsTrue (is_built_query query.now) }
+    ensures { TellsMeaning (M.list core.now) line (Line.Question query.now) result (M.list core.now) }
+{
+    match query {
+        Query::Bounds(p, q) => match core.bounds(alloc, p, q) {
+            Ok((lo, hi)) => reply(reply_bounds(alloc, line, lo, hi), false),
+            Err(Stop::Refused(refusal)) => refuse(alloc, line, &refusal),
+            Err(Stop::NoMemory) => Turn::Memory,
+        },
+        _ => unreachable!(),
+    }
+}

@@ -1,0 +1,103 @@
+//! What no clause says: the text of whole scripts, that calls succeed, and what faults leave.
+use crate::run::run;
+use crate::status::Status;
+use std::alloc::Global;
+use std::process::Abort;
+use std::test::Fail;
+use tmm_io::{MemSink, MemSource, RepeatSource, SteadySource};
+
+/// Runs a script in pieces of this many bytes, and compares its replies and its status.
+fn expect(
+    rt: &impl Abort,
+    alloc: Global,
+    script: &[u8],
+    piece: usize,
+    replies: &[u8],
+    status: Status,
+) -> Result<(), Fail> {
+    let mut source = MemSource::make(alloc, script, piece.max(1), &[])?;
+    let mut sink = MemSink::make(alloc, 1 << 20, &[])?;
+    let ended = run(alloc, &[], &mut source, &mut sink);
+    assert_eq!(rt; sink.bytes(), replies);
+    assert_eq!(rt; ended, status);
+    Ok(())
+}
+
+const FIRST: &[u8] = b"point a\npoint b\ndist d a b 3 7\nbounds a b\n";
+
+#[test]
+fn scripts_are_answered(rt: HostRuntime) -> Result<(), Fail> {
+    let alloc = rt.alloc();
+    expect(&rt, alloc, b"", 4096, b"", Status::Clean)?;
+    for piece in [1, 8, 4096] {
+        expect(&rt, alloc, FIRST, piece, b"1 ok\n2 ok\n3 ok\n4 bounds 3 7\n", Status::Clean)?;
+    }
+    expect(
+        &rt,
+        alloc,
+        b"point a\npoint b\ndist d a b 3 7\nbounds a b\npoint c\ndist e b c 2 4\nbounds a c\nbounds start a\ndist x c a 0 *\nbounds a c",
+        4096,
+        b"1 ok\n2 ok\n3 ok\n4 bounds 3 7\n5 ok\n6 ok\n7 bounds 5 11\n8 bounds 0 *\n9 no cycle -5\n10 bounds 5 11\n",
+        Status::SomeRefused,
+    )?;
+    expect(&rt, alloc, b"  point   a\r", 4096, b"1 ok\n", Status::Clean)?;
+    expect(
+        &rt,
+        alloc,
+        b"point a\ndist d a a 1 2\ndist e a a 0 5\n",
+        4096,
+        b"1 ok\n2 no cycle -1\n3 ok\n",
+        Status::SomeRefused,
+    )
+}
+
+// The first cause that holds, with the word as it stands in the line.
+#[test]
+fn refusals_have_their_causes(rt: HostRuntime) -> Result<(), Fail> {
+    expect(
+        &rt,
+        rt.alloc(),
+        b"point a\npoint a\npoint start\npoint if\ndist d x y 0 1\ndist a x y 0 1\ndist d start.end a 0 1\ndist d a.end a 0 1\nbounds a q\nbounds a/r q\ndist d a start 0 1\ndist e d a 0 1\nbogus\n# note\n\nbounds a start\n",
+        4096,
+        b"1 ok\n2 no taken a\n3 no taken start\n4 no taken if\n5 no unknown x\n6 no taken a\n7 no unknown start.end\n8 no sort a.end\n9 no unknown q\n10 no unknown a/r\n11 ok\n12 no sort d\n13 no form\n16 bounds 0 0\n",
+        Status::SomeRefused,
+    )
+}
+
+#[test]
+fn faults_end_the_run(rt: HostRuntime) -> Result<(), Fail> {
+    let alloc = rt.alloc();
+    let mut source = MemSource::make(alloc, FIRST, 8, &[3])?;
+    let mut sink = MemSink::make(alloc, 1 << 20, &[])?;
+    assert_eq!(rt; run(alloc, &[], &mut source, &mut sink), Status::ReadFault);
+    assert_eq!(rt; sink.bytes(), b"1 ok\n2 ok\n".as_slice());
+    let mut source = SteadySource::make(alloc, FIRST, 4096)?;
+    let mut sink = MemSink::make(alloc, 1 << 20, &[(3, 2)])?;
+    assert_eq!(rt; run(alloc, &[], &mut source, &mut sink), Status::WriteFault);
+    assert_eq!(rt; sink.bytes(), b"1 ok\n2 ok\n3 ".as_slice());
+    Ok(())
+}
+
+// Just as many bytes as are taken, in lines without a reply, and one more.
+#[test]
+fn the_longest_input_is_read(rt: HostRuntime) -> Result<(), Fail> {
+    let alloc = rt.alloc();
+    for (total, status) in [(1 << 30, Status::Clean), ((1 << 30) + 1, Status::TooLong)] {
+        let mut source = RepeatSource::make(alloc, b"#                                                            \n", total)?;
+        let mut sink = MemSink::make(alloc, 16, &[])?;
+        assert_eq!(rt; run(alloc, &[], &mut source, &mut sink), status);
+        assert_eq!(rt; sink.bytes(), b"".as_slice());
+    }
+    Ok(())
+}
+
+#[test]
+fn other_words_get_the_usage_line(rt: HostRuntime) -> Result<(), Fail> {
+    let alloc = rt.alloc();
+    let words = [String::from_str(alloc, "x")?];
+    let mut source = SteadySource::make(alloc, FIRST, 4096)?;
+    let mut sink = MemSink::make(alloc, 1 << 20, &[])?;
+    assert_eq!(rt; run(alloc, &words, &mut source, &mut sink), Status::Words);
+    assert_eq!(rt; sink.bytes(), b"usage: tmm [demo N], N from 1 to 1000\n".as_slice());
+    Ok(())
+}

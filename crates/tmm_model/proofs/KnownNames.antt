@@ -1,0 +1,279 @@
+-- What a well-named list finds under a name, and which points its constraints are between.
+use Rattle.std.proofs.Common.{◌≡◌, ℕ, Bool, true, false, List, [], ◌∷◌, ◌++◌, map, refl, sym, ◌∙◌, ap, subst, inl, inr, append_assoc, cond}
+use Rattle.std.specs.Prelude.{Option, Some, None, codes}
+use Rattle.std.specs.List.{flat_map, list_any, Contains}
+use Rattle.std.specs.Map.{lookup}
+use Rattle.std.specs.Cmp.Lexicographic.{bytes_decides, nat_list_eq_equiv}
+use Rattle.tmm_model.specs.declared.bound.Bound.{Bound}
+use Rattle.tmm_model.specs.declared.bound.Bound.TheVariants.{Finite, Free}
+use Rattle.tmm_model.specs.declared.point.PointName.{PointName}
+use Rattle.tmm_model.specs.declared.point.PointName.TheVariants.{Start, Begin, End}
+use Rattle.tmm_model.specs.declared.premise.Premise.{Premise}
+use Rattle.tmm_model.specs.declared.premise.Premise.TheVariants.{Class, Kind, Point, Event, Token, Span, Dist, Rule, Protect}
+use Rattle.tmm_model.specs.declared.walk.WalkStep.{WalkStep}
+use Rattle.tmm_model.specs.Points.{same_name, point_word}
+use Rattle.tmm_model.specs.Sorts.{Sort, a_class, a_fact, a_kind, a_point, an_event, a_token, a_span, a_dist, a_rule, a_protection, fact_declaration, declarations_of, declarations_in, declared_by, sort_in, is_place, Use, a_place}
+use Rattle.tmm_model.specs.Standing.{name_of, points_of, points_in, base_step, length_step, steps_of, hi_steps, lo_steps, arc_of, arcs_of, arcs_in}
+use Rattle.tmm_model.specs.Verdicts.{Cause, unknown, ill_sorted, first_taken, use_cause, uses_cause, place_cause, name_cause, end_cause, words_known}
+use Rattle.tmm_model.specs.Walks.{Arc, AreAmong}
+use Rattle.tmm_model.specs.WellNamed.{Follows, AllFollow, IsWellNamed, premise_in}
+use Rattle.tmm_model.proofs.Elements.{In, In-list_any, In-left, In-right, In-cases, In-flat_map, flat_map-In, In-map, map-In, Contains-from_In, In-from_Contains}
+use Rattle.tmm_model.proofs.Members.{All-from_contains}
+use Rattle.tmm_model.proofs.WellNamed.{first_taken-none}
+
+same_name_itself : (n : List ℕ) → same_name n n ≡ true
+same_name_itself n = nat_list_eq_equiv.refl n
+
+-- ---- names
+
+-- a premise declares its own name
+own_name : (p : Premise) → In (name_of p) (declared_by p)
+own_name (Class name facts) = inl refl
+own_name (Kind name) = inl refl
+own_name (Point name) = inl refl
+own_name (Event name kind) = inl refl
+own_name (Token name fact) = inl refl
+own_name (Span name fact) = inl refl
+own_name (Dist name from to lo hi) = inl refl
+own_name (Rule name trigger lo hi effect given) = inl refl
+own_name (Protect name fact from to) = inl refl
+
+own_first : (p : Premise) → (ws : List (List ℕ)) × (declared_by p ≡ name_of p ∷ ws)
+own_first (Class name facts) = (map (λ d. d.0) (map fact_declaration facts.items), refl)
+own_first (Kind name) = ([], refl)
+own_first (Point name) = ([], refl)
+own_first (Event name kind) = ([], refl)
+own_first (Token name fact) = ([], refl)
+own_first (Span name fact) = ([], refl)
+own_first (Dist name from to lo hi) = ([], refl)
+own_first (Rule name trigger lo hi effect given) = ([], refl)
+own_first (Protect name fact from to) = ([], refl)
+
+-- the own name of a premise that follows was not known
+own_new : (earlier : List Premise) (p : Premise) → Follows earlier p → list_any (same_name (name_of p)) (words_known earlier) ≡ false
+own_new earlier p f =
+    let (ws, e) = own_first p in
+    (first_taken-none (words_known earlier) (name_of p) ws (subst (λ l. first_taken (words_known earlier) l ≡ None) e f.new)).new
+
+-- so no premise before has it
+fresh : (earlier premises : List Premise) → AllFollow earlier premises → (p : Premise) → In p premises → (q : Premise) → In q earlier → same_name (name_of p) (name_of q) ≡ true → ⊥
+fresh earlier [] h p at q before e = absurd at
+fresh earlier (o ∷ premises) h p (inl is) q before e =
+    let unknown : list_any (same_name (name_of p)) (words_known earlier) ≡ false = subst (λ z. list_any (same_name (name_of z)) (words_known earlier) ≡ false) is (own_new earlier o h.0) in
+    let known : In (name_of q) (words_known earlier) = known_name earlier q before in
+    let t : list_any (same_name (name_of p)) (words_known earlier) ≡ true = In-list_any (same_name (name_of p)) (words_known earlier) (name_of q) known e in
+    cc
+  where
+    known_name : (earlier : List Premise) (q : Premise) → In q earlier → In (name_of q) (words_known earlier)
+    known_name earlier q at =
+        let (d, there, is) = In-map (λ d. d.0) (declarations_of q) (name_of q) (own_name q) in
+        subst (λ n. In n (words_known earlier)) is (map-In (λ d. d.0) (declarations_in earlier) d (flat_map-In declarations_of earlier q d at there))
+fresh earlier (o ∷ premises) h p (inr at) q before e = fresh (earlier ++ o ∷ []) premises h.1 p at q (In-left earlier (o ∷ []) q before) e
+
+-- **A premise of a well-named list is the one found under its name.**
+found_after : (earlier premises : List Premise) → AllFollow earlier premises → (p : Premise) → In p premises → premise_in premises (name_of p) ≡ Some p
+found_after earlier [] h p at = absurd at
+found_after earlier (o ∷ premises) h p (inl is) = by (same_name (name_of p) (name_of o)) (ap (same_name (name_of p)) (ap name_of is) ∙ same_name_itself (name_of p))
+  where
+    by : (b : Bool) → b ≡ true → cond b (Some o) (premise_in premises (name_of p)) ≡ Some p
+    by true e = ap Some is
+    by false e = cc
+found_after earlier (o ∷ premises) h p (inr at) = by (found_after (earlier ++ o ∷ []) premises h.1 p at) (same_name (name_of p) (name_of o)) refl
+  where
+    by : premise_in premises (name_of p) ≡ Some p → (b : Bool) → same_name (name_of p) (name_of o) ≡ b → cond b (Some o) (premise_in premises (name_of p)) ≡ Some p
+    by rest true e = absurd (fresh (earlier ++ o ∷ []) premises h.1 p at o (In-right earlier (o ∷ []) o (inl refl)) e)
+    by rest false e = rest
+
+pub found : (premises : List Premise) → IsWellNamed premises → (p : Premise) → In p premises → premise_in premises (name_of p) ≡ Some p
+found premises h = found_after [] premises h
+
+-- what is found is a member of that name
+pub finds : (premises : List Premise) (name : List ℕ) (p : Premise) → premise_in premises name ≡ Some p → In p premises × (name_of p ≡ name)
+finds [] name p e = cc
+finds (o ∷ premises) name p e = by (finds premises name p) (same_name name (name_of o)) refl e
+  where
+    by : (premise_in premises name ≡ Some p → In p premises × (name_of p ≡ name)) → (b : Bool) → same_name name (name_of o) ≡ b → cond b (Some o) (premise_in premises name) ≡ Some p → In p (o ∷ premises) × (name_of p ≡ name)
+    by rest true is e = let same : o ≡ p = cc in (inl same, ap name_of (sym same) ∙ sym ((bytes_decides name (name_of o)).0 is))
+    by rest false is e = let (at, named) = rest e in (inr at, named)
+
+-- ---- points
+
+-- the declaration that a look-up finds
+declared : (name : List ℕ) (ds : List (List ℕ × Sort)) (sort : Sort) → lookup (same_name name) ds ≡ Some sort → In (name, sort) ds
+declared name [] sort e = cc
+declared name (d ∷ ds) sort e = by (declared name ds sort) (same_name name d.0) refl e
+  where
+    by : (lookup (same_name name) ds ≡ Some sort → In (name, sort) ds) → (b : Bool) → same_name name d.0 ≡ b → cond b (Some d.1) (lookup (same_name name) ds) ≡ Some sort → In (name, sort) (d ∷ ds)
+    by rest true is e = let named : name ≡ d.0 = (bytes_decides name d.0).0 is in let sorted : d.1 ≡ sort = cc in inl (λ i. (sym named i, sorted i))
+    by rest false is e = inr (rest e)
+
+facts_no_place : (name : List ℕ) (sort : Sort) (facts : List (List ℕ)) → In (name, sort) (map fact_declaration facts) → is_place sort ≡ true → ⊥
+facts_no_place name sort [] at e = absurd at
+facts_no_place name sort (f ∷ facts) (inl is) e = let s : a_fact ≡ sort = ap (λ d. d.1) is in let t : is_place a_fact ≡ true = subst (λ z. is_place z ≡ true) (sym s) e in cc
+facts_no_place name sort (f ∷ facts) (inr at) e = facts_no_place name sort facts at e
+
+-- the premise that declares a name as a place declares its point
+begins : (p : Premise) (name : List ℕ) (sort : Sort) → In (name, sort) (declarations_of p) → is_place sort ≡ true → In (Begin name) (points_of p)
+begins (Class n facts) name sort (inl is) e = let s : a_class ≡ sort = ap (λ d. d.1) is in let t : is_place a_class ≡ true = subst (λ z. is_place z ≡ true) (sym s) e in cc
+begins (Class n facts) name sort (inr at) e = absurd (facts_no_place name sort facts.items at e)
+begins (Kind n) name sort (inl is) e = let s : a_kind ≡ sort = ap (λ d. d.1) is in let t : is_place a_kind ≡ true = subst (λ z. is_place z ≡ true) (sym s) e in cc
+begins (Kind n) name sort (inr at) e = absurd at
+begins (Point n) name sort (inl is) e = inl (ap (λ d. Begin d.0) is)
+begins (Point n) name sort (inr at) e = absurd at
+begins (Event n kind) name sort (inl is) e = inl (ap (λ d. Begin d.0) is)
+begins (Event n kind) name sort (inr at) e = absurd at
+begins (Token n fact) name sort (inl is) e = inl (ap (λ d. Begin d.0) is)
+begins (Token n fact) name sort (inr at) e = absurd at
+begins (Span n fact) name sort (inl is) e = inl (ap (λ d. Begin d.0) is)
+begins (Span n fact) name sort (inr at) e = absurd at
+begins (Dist n from to lo hi) name sort (inl is) e = let s : a_dist ≡ sort = ap (λ d. d.1) is in let t : is_place a_dist ≡ true = subst (λ z. is_place z ≡ true) (sym s) e in cc
+begins (Dist n from to lo hi) name sort (inr at) e = absurd at
+begins (Rule n trigger lo hi effect given) name sort (inl is) e = let s : a_rule ≡ sort = ap (λ d. d.1) is in let t : is_place a_rule ≡ true = subst (λ z. is_place z ≡ true) (sym s) e in cc
+begins (Rule n trigger lo hi effect given) name sort (inr at) e = absurd at
+begins (Protect n fact from to) name sort (inl is) e = let s : a_protection ≡ sort = ap (λ d. d.1) is in let t : is_place a_protection ≡ true = subst (λ z. is_place z ≡ true) (sym s) e in cc
+begins (Protect n fact from to) name sort (inr at) e = absurd at
+
+facts_no_span : (name : List ℕ) (facts : List (List ℕ)) → In (name, a_span) (map fact_declaration facts) → ⊥
+facts_no_span name [] at = absurd at
+facts_no_span name (f ∷ facts) (inl is) = let s : a_fact ≡ a_span = ap (λ d. d.1) is in cc
+facts_no_span name (f ∷ facts) (inr at) = facts_no_span name facts at
+
+-- and the one that declares it as a span declares its end
+has_end : (p : Premise) (name : List ℕ) → In (name, a_span) (declarations_of p) → In (End name) (points_of p)
+has_end (Class n facts) name (inl is) = let s : a_class ≡ a_span = ap (λ d. d.1) is in cc
+has_end (Class n facts) name (inr at) = absurd (facts_no_span name facts.items at)
+has_end (Kind n) name (inl is) = let s : a_kind ≡ a_span = ap (λ d. d.1) is in cc
+has_end (Kind n) name (inr at) = absurd at
+has_end (Point n) name (inl is) = let s : a_point ≡ a_span = ap (λ d. d.1) is in cc
+has_end (Point n) name (inr at) = absurd at
+has_end (Event n kind) name (inl is) = let s : an_event ≡ a_span = ap (λ d. d.1) is in cc
+has_end (Event n kind) name (inr at) = absurd at
+has_end (Token n fact) name (inl is) = let s : a_token ≡ a_span = ap (λ d. d.1) is in cc
+has_end (Token n fact) name (inr at) = absurd at
+has_end (Span n fact) name (inl is) = inr (inl (ap (λ d. End d.0) is))
+has_end (Span n fact) name (inr at) = absurd at
+has_end (Dist n from to lo hi) name (inl is) = let s : a_dist ≡ a_span = ap (λ d. d.1) is in cc
+has_end (Dist n from to lo hi) name (inr at) = absurd at
+has_end (Rule n trigger lo hi effect given) name (inl is) = let s : a_rule ≡ a_span = ap (λ d. d.1) is in cc
+has_end (Rule n trigger lo hi effect given) name (inr at) = absurd at
+has_end (Protect n fact from to) name (inl is) = let s : a_protection ≡ a_span = ap (λ d. d.1) is in cc
+has_end (Protect n fact from to) name (inr at) = absurd at
+
+some_cause : (b : Bool) (c d : Cause) → elim b as (λ _. Option Cause) [ true ↦ Some c | false ↦ Some d ] ≡ None → ⊥
+some_cause true c d e = cc
+some_cause false c d e = cc
+
+no_cause : (b : Bool) (c : Cause) → elim b as (λ _. Option Cause) [ true ↦ None | false ↦ Some c ] ≡ None → b ≡ true
+no_cause true c e = refl
+no_cause false c e = cc
+
+-- **A point that may be named is declared.**
+pub place_known : (premises : List Premise) (p : PointName) → place_cause premises p ≡ None → In p (points_in premises)
+place_known premises Start e = inl refl
+place_known premises (Begin name) e = by (sort_in premises name) refl e
+  where
+    by : (o : Option Sort) → sort_in premises name ≡ o → name_cause o name is_place ≡ None → In (Begin name) (points_in premises)
+    by None is e = absurd (some_cause (same_name name (codes "start")) (ill_sorted name) (unknown name) e)
+    by (Some sort) is e =
+        let (p, at, d) = In-flat_map declarations_of premises (name, sort) (declared name (declarations_in premises) sort is) in
+        inr (flat_map-In points_of premises p (Begin name) at (begins p name sort d (no_cause (is_place sort) (ill_sorted name) e)))
+place_known premises (End name) e = by (sort_in premises name) refl e
+  where
+    by : (o : Option Sort) → sort_in premises name ≡ o → end_cause o (point_word (End name)) ≡ None → In (End name) (points_in premises)
+    by None is e = cc
+    by (Some a_class) is e = cc
+    by (Some a_fact) is e = cc
+    by (Some a_kind) is e = cc
+    by (Some a_point) is e = cc
+    by (Some an_event) is e = cc
+    by (Some a_token) is e = cc
+    by (Some a_span) is e =
+        let (p, at, d) = In-flat_map declarations_of premises (name, a_span) (declared name (declarations_in premises) a_span is) in
+        inr (flat_map-In points_of premises p (End name) at (has_end p name d))
+    by (Some a_dist) is e = cc
+    by (Some a_rule) is e = cc
+    by (Some a_protection) is e = cc
+
+-- ---- constraints
+
+-- both points of a constraint of a premise that follows are declared by it or before it
+sides_known : (known : List PointName) (name : List ℕ) (from to : PointName) (lo hi : Bound) → In from known → In to known → (e : WalkStep) → In e (hi_steps name from to hi ++ lo_steps name from to lo) → In e.from known × In e.to known
+sides_known known name from to lo hi f t e at = elim (In-cases (hi_steps name from to hi) (lo_steps name from to lo) e at) [ inl h ↦ upper hi h | inr l ↦ lower lo l ]
+  where
+    upper : (hi : Bound) → In e (hi_steps name from to hi) → In e.from known × In e.to known
+    upper Free h = absurd h
+    upper (Finite x) (inl is) = (subst (λ z. In z known) (ap (λ s. s.from) is) f, subst (λ z. In z known) (ap (λ s. s.to) is) t)
+    upper (Finite x) (inr h) = absurd h
+
+    lower : (lo : Bound) → In e (lo_steps name from to lo) → In e.from known × In e.to known
+    lower Free h = absurd h
+    lower (Finite x) (inl is) = (subst (λ z. In z known) (ap (λ s. s.from) is) t, subst (λ z. In z known) (ap (λ s. s.to) is) f)
+    lower (Finite x) (inr h) = absurd h
+
+uses_none : (premises : List Premise) (u : Use) (us : List Use) → uses_cause premises (u ∷ us) ≡ None → (use_cause premises u ≡ None) × (uses_cause premises us ≡ None)
+uses_none premises u us e = by (use_cause premises u) refl e
+  where
+    by : (x : Option Cause) → use_cause premises u ≡ x → elim x as (λ _. Option Cause) [ Some cause ↦ Some cause | None ↦ uses_cause premises us ] ≡ None → (use_cause premises u ≡ None) × (uses_cause premises us ≡ None)
+    by None f e = (f, e)
+    by (Some x) f e = cc
+
+points_more : (xs ys : List Premise) (q : PointName) → In q (points_in xs) → In q (points_in (xs ++ ys))
+points_more xs ys q (inl is) = inl is
+points_more xs ys q (inr at) = let (p, there, here) = In-flat_map points_of xs q at in inr (flat_map-In points_of (xs ++ ys) p q (In-left xs ys p there) here)
+
+points_own : (xs : List Premise) (p : Premise) (q : PointName) → In q (points_of p) → In q (points_in (xs ++ p ∷ []))
+points_own xs p q at = inr (flat_map-In points_of (xs ++ p ∷ []) p q (In-right xs (p ∷ []) p (inl refl)) at)
+
+abbrev AreKnown : List Premise → WalkStep → Type 0
+AreKnown premises e = In e.from (points_in premises) × In e.to (points_in premises)
+
+base_known : (xs : List Premise) (p : Premise) (name : List ℕ) → In (Begin name) (points_of p) → (e : WalkStep) → In e (base_step name ∷ []) → AreKnown (xs ++ p ∷ []) e
+base_known xs p name at e (inl is) =
+    (subst (λ z. In z (points_in (xs ++ p ∷ []))) (ap (λ s. s.from) is) (points_own xs p (Begin name) at), subst (λ z. In z (points_in (xs ++ p ∷ []))) (ap (λ s. s.to) is) (inl refl))
+base_known xs p name at e (inr n) = absurd n
+
+length_known : (xs : List Premise) (name fact : List ℕ) (e : WalkStep) → In e (length_step name ∷ []) → AreKnown (xs ++ Span name fact ∷ []) e
+length_known xs name fact e (inl is) = (
+  subst (λ z. In z (points_in (xs ++ Span name fact ∷ []))) (ap (λ s. s.from) is) (points_own xs (Span name fact) (End name) (inr (inl refl))),
+  subst (λ z. In z (points_in (xs ++ Span name fact ∷ []))) (ap (λ s. s.to) is) (points_own xs (Span name fact) (Begin name) (inl refl)),
+)
+length_known xs name fact e (inr n) = absurd n
+
+steps_known : (earlier : List Premise) (p : Premise) → Follows earlier p → (e : WalkStep) → In e (steps_of p) → AreKnown (earlier ++ p ∷ []) e
+steps_known earlier (Class name facts) f e at = absurd at
+steps_known earlier (Kind name) f e at = absurd at
+steps_known earlier (Point name) f e at = base_known earlier (Point name) name (inl refl) e at
+steps_known earlier (Event name kind) f e at = base_known earlier (Event name kind) name (inl refl) e at
+steps_known earlier (Token name fact) f e at = base_known earlier (Token name fact) name (inl refl) e at
+steps_known earlier (Span name fact) f e (inl is) = base_known earlier (Span name fact) name (inl refl) e (inl is)
+steps_known earlier (Span name fact) f e (inr at) = length_known earlier name fact e at
+steps_known earlier (Dist name from to lo hi) f e at =
+    let one = uses_none earlier (a_place from) (a_place to ∷ []) f.known in
+    let two = uses_none earlier (a_place to) [] one.1 in
+    sides_known (points_in (earlier ++ Dist name from to lo hi ∷ [])) name from to lo hi
+    (points_more earlier (Dist name from to lo hi ∷ []) from (place_known earlier from one.0))
+    (points_more earlier (Dist name from to lo hi ∷ []) to (place_known earlier to two.0))
+    e at
+steps_known earlier (Rule name trigger lo hi effect given) f e at = absurd at
+steps_known earlier (Protect name fact from to) f e at = absurd at
+
+arcs_after : (earlier premises : List Premise) → AllFollow earlier premises → (e : Arc PointName) → In e (flat_map arcs_of premises) → In e.from (points_in (earlier ++ premises)) × In e.to (points_in (earlier ++ premises))
+arcs_after earlier [] h e at = absurd at
+arcs_after earlier (p ∷ premises) h e at =
+    let same : (earlier ++ p ∷ []) ++ premises ≡ earlier ++ p ∷ premises = append_assoc earlier (p ∷ []) premises in
+    elim (In-cases (arcs_of p) (flat_map arcs_of premises) e at) [
+      | inl own ↦
+          let (step, there, is) = In-map arc_of (steps_of p) e own in
+          let known = steps_known earlier p h.0 step there in
+          subst (λ ps. In e.from (points_in ps) × In e.to (points_in ps)) same (
+            subst (λ z. In z (points_in ((earlier ++ p ∷ []) ++ premises))) (ap (λ a. a.from) is) (points_more (earlier ++ p ∷ []) premises step.from known.0),
+            subst (λ z. In z (points_in ((earlier ++ p ∷ []) ++ premises))) (ap (λ a. a.to) is) (points_more (earlier ++ p ∷ []) premises step.to known.1),
+          )
+      | inr rest ↦ subst (λ ps. In e.from (points_in ps) × In e.to (points_in ps)) same (arcs_after (earlier ++ p ∷ []) premises h.1 e rest)
+    ]
+
+-- **The constraints of a well-named list are between its points.**
+pub arcs_among : (premises : List Premise) → IsWellNamed premises → AreAmong (points_in premises) (arcs_in premises)
+arcs_among premises h =
+    All-from_contains (λ e. Contains (points_in premises) e.from × Contains (points_in premises) e.to) (arcs_in premises)
+    (λ e m. let known = arcs_after [] premises h e (In-from_Contains (arcs_in premises) e m) in (Contains-from_In (points_in premises) e.from known.0, Contains-from_In (points_in premises) e.to known.1))

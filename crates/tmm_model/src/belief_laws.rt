@@ -1,0 +1,32 @@
+// Laws of distances and of belief.
+ghost use Rattle.tmm_model.specs.Right.{SoundListsAreShortest, PointsTimeOccurrences, DistancesAreShortest, OneRightSet, BeliefsAreRight, MapsAreRight};
+
+/// Where some dates satisfy a well-formed list, its distances are shortest and its rules are sound.
+pub fn sound_lists_are_shortest()
+    ensures { SoundListsAreShortest }
+{}
+
+/// Then occurrences have earliest dates, as their rules say.
+pub fn points_time_occurrences()
+    ensures { PointsTimeOccurrences }
+{}
+
+/// And distances of occurrences obey the triangle law.
+pub fn distances_are_shortest()
+    ensures { DistancesAreShortest }
+{}
+
+/// Two right sets of occurrences have the same members.
+pub fn one_right_set()
+    ensures { OneRightSet }
+{}
+
+/// The believed occurrences are right.
+pub fn beliefs_are_right()
+    ensures { BeliefsAreRight }
+{}
+
+/// The map of a sound list believes the one right set.
+pub fn maps_are_right()
+    ensures { MapsAreRight }
+{}
