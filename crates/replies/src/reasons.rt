@@ -1,6 +1,6 @@
 // Lines of the reasons of a belief, each appended to the bytes of a reply.
 ghost use Rattle.std.specs.Prelude.{◌≡◌, ◌++◌, [], ◌∷◌, OnOk};
-ghost use Rattle.replies.specs.Spaced.{behind_spaces};
+ghost use Rattle.tmm_model.specs.Lines.{behind_spaces};
 ghost use Rattle.tmm_model.specs.Points.{occ_word};
 ghost use Rattle.tmm_model.specs.Replies.{line_of, why_lines, with_words};
 

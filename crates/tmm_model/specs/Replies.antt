@@ -21,6 +21,7 @@ use Rattle.tmm_model.specs.declared.refusal.Refusal.TheVariants.{LimitLine, Form
 use Rattle.tmm_model.specs.declared.walk.Side.{Side}
 use Rattle.tmm_model.specs.declared.walk.Side.TheVariants.{Hi, Lo, Base, Length}
 use Rattle.tmm_model.specs.declared.walk.WalkStep.{WalkStep}
+use Rattle.tmm_model.specs.Lines.{spaced}
 use Rattle.tmm_model.specs.Points.{point_word, occ_word, query_word}
 
 -- What a line is answered, where it is answered and there is memory.
@@ -53,12 +54,6 @@ abbrev pub is_refusal : Reply → Bool
 is_refusal (Refused _) = true
 is_refusal (Answered Unordered) = true
 is_refusal _ = false
-
--- words parted by one space
-abbrev pub spaced : List (List ℕ) → List ℕ
-spaced [] = []
-spaced (word ∷ []) = word
-spaced (word ∷ words) = word ++ 32 ∷ spaced words
 
 -- a line: its indent, its words, and byte 10
 abbrev pub line_of : List ℕ → List (List ℕ) → List ℕ

@@ -1,6 +1,6 @@
 use Rattle.std.proofs.Common.{◌≡◌, ◌++◌, drop, map}
 use Rattle.tmm_model.specs.Points.{occ_word}
-use Rattle.replies.specs.Spaced.{behind_spaces}
+use Rattle.tmm_model.specs.Lines.{behind_spaces}
 use Rattle.replies.proofs.reasons.put_supports.Given as goal
 
 abbrev pub invariant-loop-token : goal.invariant-loop-token

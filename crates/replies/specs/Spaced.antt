@@ -1,7 +1,0 @@
--- Words behind spaces.
-use Rattle.std.specs.Prelude.{ℕ, List, ◌∷◌}
-use Rattle.std.specs.List.{flat_map}
-
--- each word behind one space
-abbrev pub behind_spaces : List (List ℕ) → List ℕ
-behind_spaces words = flat_map (λ word. 32 ∷ word) words
