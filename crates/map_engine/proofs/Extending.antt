@@ -47,7 +47,7 @@ module _ (names : Names) (n : ℕ) (p : PointName) (short : n < length names) (f
   used_is_other k used same = let e : get_or names n None ≡ Some used.0 = ap (λ (i : ℕ). get_or names i None) (sym same) ∙ used.1 in cc
 
   -- a number in use keeps its point
-  IsNumberOf-kept : (k : ℕ) (q : PointName) → IsNumberOf names k q → IsNumberOf (set names n (Some p)) k q
+  pub IsNumberOf-kept : (k : ℕ) (q : PointName) → IsNumberOf names k q → IsNumberOf (set names n (Some p)) k q
   IsNumberOf-kept k q is = get_or-set_other names n k (Some p) None (used_is_other k (q, is)) ∙ is
 
   -- a number in use was that before, or is the new one

@@ -3,3 +3,4 @@ pub mod Representing
 pub mod Extending
 pub mod Nets
 pub mod Steps
+pub mod Additions

@@ -1,15 +1,18 @@
 -- Facts of a network in the words of numbers and points.
-use Rattle.std.proofs.Common.{◌≡◌, ℕ, ◌+◌, ◌<◌, List, [], ◌∷◌, ◌++◌, length, set, get_or, Option, Some, None, refl, arith, sym, subst, ap}
-use Rattle.std.specs.List.{Contains}
-use Rattle.std.specs.Prelude.{IsSome}
+use Rattle.std.proofs.Common.{◌≡◌, ◌⊎◌, inl, inr, ℕ, ◌+◌, ◌<◌, List, [], ◌∷◌, ◌++◌, length, set, get_or, Option, Some, None, refl, arith, sym, subst, ap}
+use Rattle.std.specs.List.{All, Contains}
+use Rattle.std.proofs.lemmas.List.Elements.{All-contains}
+use Rattle.std.specs.Prelude.{IsSome, is_some}
 use Rattle.tmm_model.specs.declared.point.PointName.{PointName}
 use Rattle.tmm_model.specs.Walks.{Arc}
+use Rattle.tmm_model.proofs.Members.{All-from_contains, Contains-cons_cases}
 use Rattle.dist_net.specs.declared.Edge.{Edge}
 use Rattle.dist_net.specs.Net.{IsInUse, AreInUse, arcs_of}
 use Rattle.dist_net.proofs.Names.{ends_of}
-use Rattle.map_engine.specs.Represents.{Names, Represents}
+use Rattle.map_engine.specs.Network.{KeepsNumbers}
+use Rattle.map_engine.specs.Represents.{Names, IsNumberOf, Represents}
 use Rattle.map_engine.proofs.Representing.{IsUsed}
-use Rattle.map_engine.proofs.Extending.{Represents-point}
+use Rattle.map_engine.proofs.Extending.{IsNumberOf-kept, Represents-point}
 
 some_is : (o : Option PointName) → IsSome o → (p : PointName) × (o ≡ Some p)
 some_is (Some p) h = (p, refl)
@@ -25,3 +28,25 @@ ends_used names edges in_use e m = let ends = ends_of names edges in_use e m in 
 pub adds_point : (names : Names) (edges : List Edge) (n : ℕ) (p : PointName) → n < length names → get_or names n None ≡ None → AreInUse names edges
     → (points : List PointName) (named : List (Arc PointName)) → Represents points named names (arcs_of edges) → Represents (points ++ p ∷ []) named (set names n (Some p)) (arcs_of edges)
 adds_point names edges n p short free in_use points named stands = Represents-point names n p short free points named (arcs_of edges) stands (ends_used names edges in_use)
+
+pub keeps_numbers : (names : Names) (n : ℕ) (p : PointName) → n < length names → get_or names n None ≡ None → KeepsNumbers names (set names n (Some p))
+keeps_numbers names n p short free = IsNumberOf-kept names n p short free
+
+-- an edge between numbers of points is in use
+is_in_use : (names : Names) (n : ℕ) (p : PointName) → IsNumberOf names n p → IsInUse names n
+is_in_use names n p is = ap is_some is
+
+pub one_in_use : (names : Names) (e : Edge) (p q : PointName) → IsNumberOf names e.from p → IsNumberOf names e.to q → AreInUse names (e ∷ [])
+one_in_use names e p q from to = All-from_contains (λ x. IsInUse names x.from × IsInUse names x.to) (e ∷ [])
+    (λ x m. elim (Contains-cons_cases e [] x m) [
+      | inl none ↦ absurd (omega (arith, none.1))
+      | inr is ↦ subst (λ (y : Edge). IsInUse names y.from × IsInUse names y.to) (sym is) (is_in_use names e.from p from, is_in_use names e.to q to)
+    ])
+
+pub two_in_use : (names : Names) (e f : Edge) (p q r s : PointName) → IsNumberOf names e.from p → IsNumberOf names e.to q → IsNumberOf names f.from r → IsNumberOf names f.to s
+    → AreInUse names (e ∷ f ∷ [])
+two_in_use names e f p q r s from to second_from second_to = All-from_contains (λ x. IsInUse names x.from × IsInUse names x.to) (e ∷ f ∷ [])
+    (λ x m. elim (Contains-cons_cases e (f ∷ []) x m) [
+      | inl later ↦ All-contains (λ y. IsInUse names y.from × IsInUse names y.to) (f ∷ []) x (one_in_use names f r s second_from second_to) later
+      | inr is ↦ subst (λ (y : Edge). IsInUse names y.from × IsInUse names y.to) (sym is) (is_in_use names e.from p from, is_in_use names e.to q to)
+    ])

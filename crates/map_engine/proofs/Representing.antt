@@ -37,6 +37,14 @@ module _ {P : Type 0} (old new : List (Arc P)) (kept : (x : Arc P) → Contains 
 
 -- ---- a network that stands for points and constraints
 
+-- dates of the points are dates of the numbers
+pub HasDates-numbered : (points : List PointName) (named_arcs : List (Arc PointName)) (names : Names) (arcs : List (Arc ℕ)) → Represents points named_arcs names arcs
+    → IsNumberOf names 0 Start → HasDates Start named_arcs → HasDates 0 arcs
+HasDates-numbered points named_arcs names arcs stands start dates =
+    HasDates-from_renamed (name_at names) arcs 0
+    (subst (λ (r : PointName). HasDates r (map (renamed (name_at names)) arcs)) (sym (name_at-is names 0 Start start))
+    (HasDates-like named_arcs (map (renamed (name_at names)) arcs) stands.there stands.only Start dates))
+
 -- the number is in use
 abbrev pub IsUsed : Names → ℕ → Type 0
 IsUsed names n = (p : PointName) × IsNumberOf names n p
@@ -61,12 +69,6 @@ module _ (points : List PointName) (named_arcs : List (Arc PointName)) (names : 
       HasDates-like (map (renamed (name_at names)) arcs) named_arcs stands.only stands.there Start
       (subst (λ (r : PointName). HasDates r (map (renamed (name_at names)) arcs)) (name_at-is names 0 Start start)
       (HasDates-renamed (name_at names) (number_in names) arcs (IsUsed names) ends back 0 (Start, start) dates))
-
-  pub HasDates-numbered : HasDates Start named_arcs → HasDates 0 arcs
-  HasDates-numbered dates =
-      HasDates-from_renamed (name_at names) arcs 0
-      (subst (λ (r : PointName). HasDates r (map (renamed (name_at names)) arcs)) (sym (name_at-is names 0 Start start))
-      (HasDates-like named_arcs (map (renamed (name_at names)) arcs) stands.there stands.only Start dates))
 
   -- every constraint is between two of the points
   pub AreAmong-named : AreAmong points named_arcs

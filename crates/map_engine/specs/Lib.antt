@@ -1,3 +1,5 @@
 pub mod Stops
 pub mod Represents
 pub mod Network
+pub mod Changed
+pub mod Plain

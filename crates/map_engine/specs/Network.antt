@@ -8,7 +8,7 @@ use Rattle.tmm_model.specs.Walks.{Arc, renamed, HasDates}
 use Rattle.tmm_model.specs.Standing.{arc_of as arc_of_step}
 use Rattle.dist_net.specs.declared.Edge.{Edge}
 use Rattle.dist_net.specs.declared.Conflict.{Conflict}
-use Rattle.dist_net.specs.Net.{Net, arc_of, arcs_of, IsConflict}
+use Rattle.dist_net.specs.Net.{Net, arc_of, arcs_of, AreInUse, IsConflict}
 use Rattle.map_engine.specs.Represents.{Names, IsNumberOf, name_at, Represents}
 
 -- no number is that of the point
@@ -19,14 +19,21 @@ IsNew names p = (k : ℕ) → IsNumberOf names k p → ⊥
 abbrev pub IsThere : Names → PointName → Type 0
 IsThere names p = (n : ℕ) × IsNumberOf names n p
 
+-- every number in use keeps its point
+abbrev pub KeepsNumbers : Names → Names → Type 0
+KeepsNumbers old new = (k : ℕ) (p : PointName) → IsNumberOf old k p → IsNumberOf new k p
+
 abbrev pub edge_arc : Edge → Arc ℕ
 edge_arc e = arc_of e
 
--- what the network stands for has one point more
-abbrev pub AddsPoint : Net → Net → PointName → Type 0
-AddsPoint old new p =
+-- what the network stands for has these points more
+abbrev pub AddsPoints : Net → Net → List PointName → Type 0
+AddsPoints old new more =
     (points : List PointName) (named : List (Arc PointName)) → Represents points named old.names (arcs_of old.edges)
-    → Represents (points ++ p ∷ []) named new.names (arcs_of new.edges)
+    → Represents (points ++ more) named new.names (arcs_of new.edges)
+
+abbrev pub AddsPoint : Net → Net → PointName → Type 0
+AddsPoint old new p = AddsPoints old new (p ∷ [])
 
 -- both points of each constraint are there
 abbrev pub AreThere : Names → List WalkStep → Type 0
@@ -52,4 +59,4 @@ AddsEdges old edges new (Err found) = (HasDates 0 (arcs_of (old.edges ++ edges))
 -- the same of constraints between points
 abbrev pub AddsSteps : Net → List WalkStep → Net → Result (Unit {0}) Conflict → Type 0
 AddsSteps old steps new result =
-    (edges : List Edge) × (map (renamed (name_at old.names)) (arcs_of edges) ≡ map arc_of_step steps) × AddsEdges old edges new result
+    (edges : List Edge) × (map (renamed (name_at old.names)) (arcs_of edges) ≡ map arc_of_step steps) × AreInUse old.names edges × AddsEdges old edges new result

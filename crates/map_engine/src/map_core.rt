@@ -4,7 +4,8 @@ ghost use Rattle.std.specs.declared.option.Option.{Option};
 ghost use Rattle.tmm_model.specs.Bounds.{bound_negated};
 ghost use Rattle.tmm_model.specs.Lines.{IsWellFormedEdit, IsWellFormedQuery};
 ghost use Rattle.tmm_model.specs.Standing.{Standing};
-ghost use Rattle.tmm_model.specs.Steps.{Accepts, AreChanges, next_list, is_built_edit, question_cause, distance_of};
+ghost use Rattle.tmm_model.specs.Steps.{Accepts, AreChanges, is_built_edit, question_cause, distance_of};
+ghost use Rattle.tmm_model.specs.Edits.{next_list};
 ghost use Rattle.map_engine.specs.Stops.{StopsEdit, StopsQuery};
 
 use std::alloc::Global;

@@ -1,13 +1,13 @@
 // A premise's points and constraints in the network of distances.
 ghost use Rattle.std.specs.Prelude.{◌≡◌, ◌≢◌, ℕ, ◌+◌, ◌<◌, ◌≤◌, List, [], ◌∷◌, ◌++◌, length, None, Some};
-ghost use Rattle.std.specs.List.{Contains};
+ghost use Rattle.std.specs.List.{All};
 ghost use Rattle.tmm_model.specs.declared.point.PointName.{PointName};
 ghost use Rattle.tmm_model.specs.Lines.{IsWellFormedPremise};
-ghost use Rattle.tmm_model.specs.Standing.{arc_of, steps_of};
+ghost use Rattle.tmm_model.specs.Standing.{arc_of, points_of, steps_of};
 ghost use Rattle.tmm_model.specs.Walks.{Arc, renamed, AreLight};
 ghost use Rattle.dist_net.specs.Net.{points_in_use, arcs_of, AreInUse, AreOfOnePremise};
 ghost use Rattle.map_engine.specs.Represents.{IsNumberOf, Represents, name_at};
-ghost use Rattle.map_engine.specs.Network.{IsNew, IsThere, AddsPoint, edge_arc, AreThere, AreApart, AreLightSteps, AddsEdges, AddsSteps};
+ghost use Rattle.map_engine.specs.Network.{IsNew, IsThere, KeepsNumbers, AddsPoint, AddsPoints, edge_arc, AreThere, AreApart, AreLightSteps, AddsEdges, AddsSteps};
 
 use dist_net::{Conflict, DistNet, Edge};
 use tmm_model::{PointName, Premise, WalkStep};
@@ -18,11 +18,32 @@ pub(crate) fn add_point(net: &mut DistNet, point: PointName)
     requires new { IsNew net.old.present.names point }
     ensures stands { AddsPoint net.old.present net.new.present point }
     ensures others { net.new ≡ record net.old { present = record net.old.present { names = net.new.present.names } } }
+    ensures kept { KeepsNumbers net.old.present.names net.new.present.names }
     ensures only { (other : PointName) → IsNew net.old.present.names other → other ≢ point → IsNew net.new.present.names other }
     ensures count { points_in_use net.new.present.names ≡ points_in_use net.old.present.names + 1 }
 {
     let _ = net.edges();
     let _ = net.add_point(point);
+}
+
+/// Adds the points that a premise declares.
+pub(crate) fn add_points(net: &mut DistNet, premise: &Premise)
+    requires room { points_in_use net.old.present.names + length (points_of premise.now) ≤ 256 }
+    requires new { All (IsNew net.old.present.names) (points_of premise.now) }
+    ensures stands { AddsPoints net.old.present net.new.present (points_of premise.now) }
+    ensures others { net.new ≡ record net.old { present = record net.old.present { names = net.new.present.names } } }
+    ensures kept { KeepsNumbers net.old.present.names net.new.present.names }
+{
+    match premise {
+        Premise::Point { name } | Premise::Event { name, .. } | Premise::Token { name, .. } => {
+            add_point(net, PointName::Begin(*name));
+        }
+        Premise::Span { name, .. } => {
+            add_point(net, PointName::Begin(*name));
+            add_point(net, PointName::End(*name));
+        }
+        _ => {}
+    }
 }
 
 /// The number of a point that is there.

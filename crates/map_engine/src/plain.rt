@@ -1,36 +1,89 @@
-ghost use Rattle.std.specs.Prelude.{◌≡◌, None, IfOk};
-ghost use Rattle.tmm_model.specs.Standing.{Standing, empty_list};
+// The plain map: distances are kept current, and nothing else is kept.
+ghost use Rattle.std.specs.Prelude.{◌≡◌, [], None, IfOk, IfErr, OnOk, OnErr, true, false};
+ghost use Rattle.tmm_model.specs.Edits.{list_with};
+ghost use Rattle.tmm_model.specs.Lines.{IsWellFormedPremise};
+ghost use Rattle.tmm_model.specs.Standing.{Standing, empty_list, IsConsistent};
+ghost use Rattle.tmm_model.specs.Steps.{point_cause};
+ghost use Rattle.tmm_model.specs.Verdicts.{list_cause, place_cause, Tells};
+ghost use Rattle.map_engine.specs.Plain.{Fits, IsSettled};
+ghost use Rattle.map_engine.specs.Stops.{StopsEdit};
+ghost use Rattle.map_engine.specs.Changed.{AreNone};
 
 use crate::map_core::{MapCore, Pending};
+use crate::network::{add_points, add_steps, number_of};
+use dist_net::DistNet;
+use premise_list::Standing;
 use std::alloc::Global;
-use tmm_model::{Bound, Edit, NoMemory, QueryPoint, Stop};
+use std::marker::Model;
+use tmm_model::{
+    Bound, Changes, Edit, NoMemory, PointName, Premise, QueryPoint, Refusal, Seq, Stop,
+};
 
+/// A map that keeps the standing list and its distances. The list and the distances before a pending
+/// edit are kept until it is committed.
 #[derive(Drop)]
 pub struct PlainMap {
-    pub size: u64,
+    standing: Standing,
+    net: DistNet,
+    pending: bool,
+}
+
+impl Model for PlainMap {
+    ghost use Rattle.map_engine.specs.Plain.{MapState, IsPlain, pending_list};
+
+    ghost Value = { MapState };
+
+    ghost view = { λ m. record { list = m.standing.committed; pending = pending_list m.pending m.standing.present } };
+
+    ghost invariant = { λ m. IsPlain m.standing m.net m.pending };
 }
 
 impl PlainMap {
-    pub fn make(alloc: Global) -> Result<PlainMap, NoMemory> {
-        let _ = alloc;
-        Ok(PlainMap { size: 0 })
+    /// The empty map, with nothing pending.
+    pub fn make(alloc: Global) -> Result<PlainMap, NoMemory>
+        ensures list { IfOk result (λ m. m.list ≡ empty_list) }
+        ensures idle { IfOk result (λ m. m.pending ≡ None) }
+    {
+        Ok(PlainMap {
+            standing: Standing::make(alloc),
+            net: DistNet::make(alloc)?,
+            pending: false,
+        })
     }
 }
 
 impl MapCore for PlainMap {
-    ghost list = { λ s. empty_list };
+    ghost list = { λ m. m.list };
 
-    ghost pending = { λ s. None };
+    ghost pending = { λ m. m.pending };
 
     fn apply(&mut self, alloc: Global, edit: &Edit) -> Result<Pending, Stop> {
-        let _ = alloc;
-        let _ = edit;
-        Err(Stop::NoMemory)
+        if let Err(refusal) = self.standing.check(edit) {
+            return Err(Stop::Refused(refusal));
+        }
+        match edit {
+            Edit::Add(premise) => {
+                add_premise(alloc, &mut self.standing, &mut self.net, premise)?;
+                self.pending = true;
+                Ok(Pending {
+                    changes: no_changes(alloc),
+                })
+            }
+            Edit::Erase(_) | Edit::Horizon(_) => unreachable!(),
+        }
     }
 
-    fn commit(&mut self) {}
+    fn commit(&mut self) {
+        self.standing.commit();
+        self.net.commit();
+        self.pending = false;
+    }
 
-    fn rollback(&mut self) {}
+    fn rollback(&mut self) {
+        self.standing.rollback();
+        self.net.rollback();
+        self.pending = false;
+    }
 
     fn bounds(
         &self,
@@ -42,5 +95,56 @@ impl MapCore for PlainMap {
         let _ = p;
         let _ = q;
         Err(Stop::NoMemory)
+    }
+}
+
+// Adds a premise to the list and its points and constraints to the network. Otherwise both are as at
+// the last commit.
+fn add_premise(
+    alloc: Global,
+    standing: &mut Standing,
+    net: &mut DistNet,
+    premise: &Premise,
+) -> Result<(), Stop>
+    requires no_cause { list_cause standing.old.present.premises (Edit.Add premise.now) ≡ None }
+    requires well_formed { IsWellFormedPremise premise.now }
+    requires fits { Fits standing.old.present net.old.present }
+    requires settled { IsSettled standing.old net.old }
+    ensures list { OnOk result (standing.new ≡ record standing.old { present = list_with standing.old.present premise.now }) }
+    ensures fits { OnOk result (Fits standing.new.present net.new.present) }
+    ensures dates { OnOk result (IsConsistent (list_with standing.old.present premise.now).premises) }
+    ensures stops { IfErr result (StopsEdit standing.old.present (Edit.Add premise.now)) }
+    ensures list_kept { OnErr result (standing.new ≡ standing.old) }
+    ensures net_kept { OnErr result (net.new.present ≡ net.old.present) }
+    ensures committed { net.new.committed ≡ net.old.committed }
+{
+    let _ = net.edges();
+    add_points(net, premise);
+    let _ = net.edges();
+    if let Err(conflict) = add_steps(net, premise) {
+        net.rollback();
+        return Err(Stop::Refused(Refusal::Cycle {
+            sum: conflict.sum,
+            steps: Seq::make(alloc),
+        }));
+    }
+    if standing.add(alloc, premise).is_err() {
+        net.rollback();
+        return Err(Stop::NoMemory);
+    }
+    Ok(())
+}
+
+fn no_changes(alloc: Global) -> Changes
+    ensures { AreNone result }
+{
+    Changes {
+        erased: Seq::make(alloc),
+        left: Seq::make(alloc),
+        entered: Seq::make(alloc),
+        loose: Seq::make(alloc),
+        clips: Seq::make(alloc),
+        broken: Seq::make(alloc),
+        mended: Seq::make(alloc),
     }
 }

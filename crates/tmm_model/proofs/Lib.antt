@@ -36,7 +36,7 @@ pub mod Order
 pub mod Sorts
 pub mod Watched
 pub mod Updating
-pub mod WellNamed
 pub mod KnownNames
 pub mod Sound
 pub mod SoundBeliefs
+pub mod Adding

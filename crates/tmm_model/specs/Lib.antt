@@ -14,7 +14,6 @@ pub mod Replies
 pub mod Runs
 pub mod Reading
 pub mod Erasure
-pub mod Steps
 pub mod WellNamed
 pub mod Moments
 pub mod Firsts
@@ -22,8 +21,6 @@ pub mod Beliefs
 pub mod Maps
 pub mod Answers
 pub mod Right
-pub mod WellNamed
-pub mod Erasure
 pub mod Edits
 pub mod Paths
 pub mod Changes
@@ -32,3 +29,4 @@ pub mod Touched
 pub mod Questions
 pub mod Kept
 pub mod Generator
+pub mod Steps

@@ -19,7 +19,8 @@ use Rattle.tmm_model.specs.declared.refusal.Refusal.TheVariants.{LimitLine, Form
 use Rattle.tmm_model.specs.declared.turn.Turn.{Turn}
 use Rattle.tmm_model.specs.declared.turn.Turn.TheVariants.{Silent as NoReply, Reply as ReplyOf, Memory}
 use Rattle.tmm_model.specs.Bounds.{bound_negated}
-use Rattle.tmm_model.specs.Erasure.{kept_without, fallen_with}
+use Rattle.tmm_model.specs.Edits.{next_list}
+use Rattle.tmm_model.specs.Erasure.{fallen_with}
 use Rattle.tmm_model.specs.Lines.{ReadsLine}
 use Rattle.tmm_model.specs.Points.{occ_word}
 use Rattle.tmm_model.specs.Replies.{Reply, Accepted, Refused, BoundsAre, text_of, is_refusal}
@@ -30,12 +31,6 @@ abbrev pub most_bytes : ℕ
 most_bytes = 400
 
 -- ---- edits
-
--- the list after an edit
-abbrev pub next_list : Standing → Edit → Standing
-next_list old (Add premise) = record old { premises = old.premises ++ premise ∷ [] }
-next_list old (Erase name) = record old { premises = kept_without name old.premises }
-next_list old (Horizon n) = record old { horizon = n }
 
 -- the premises that an edit retracts
 abbrev pub erased_names : Standing → Edit → List (List ℕ)

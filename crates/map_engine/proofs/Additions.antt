@@ -1,0 +1,199 @@
+-- What the addition of a premise that may be added does to a network that stands for a list.
+use Rattle.std.proofs.Common.{◌≡◌, ◌≢◌, ◌⊎◌, inl, inr, ◌∙◌, ℕ, ◌+◌, ◌<◌, ◌≤◌, ◌*◌, List, [], ◌∷◌, ◌++◌, map, length, length-append, append-nil, get_or, Option, Some, None, ap, sym, subst, arith, refl, ℤ, pos, ◌+ℤ◌, ◌≤ℤ◌, ◌<ℤ◌, neg_ℤ, Result, Ok, Err}
+use Rattle.std.specs.List.{All, Contains, flat_map}
+use Rattle.std.proofs.lemmas.Bool.Decides.{Decides-eqb}
+use Rattle.std.proofs.lemmas.Int.{ints}
+use Rattle.std.proofs.lemmas.List.{length-map, map-append}
+use Rattle.std.proofs.lemmas.List.Elements.{All-append, All-contains, Contains-get_or}
+use Rattle.tmm_model.specs.declared.bound.Bound.{Bound}
+use Rattle.tmm_model.specs.declared.bound.Bound.TheVariants.{Finite, Free}
+use Rattle.tmm_model.specs.declared.point.PointName.{PointName}
+use Rattle.tmm_model.specs.declared.point.PointName.TheVariants.{Start, Begin, End}
+use Rattle.tmm_model.specs.declared.premise.Premise.{Premise}
+use Rattle.tmm_model.specs.declared.premise.Premise.TheVariants.{Class, Kind, Point, Event, Token, Span, Dist, Rule, Protect}
+use Rattle.tmm_model.specs.declared.walk.WalkStep.{WalkStep}
+use Rattle.tmm_model.specs.Bounds.{after}
+use Rattle.tmm_model.specs.Lines.{IsWellFormedPremise}
+use Rattle.tmm_model.specs.Points.{same_point}
+use Rattle.tmm_model.specs.Standing.{arc_of as arc_of_step, points_of, points_in, steps_of, arcs_of as arcs_of_premise, arcs_in, IsConsistent, far_in}
+use Rattle.tmm_model.specs.Verdicts.{IsCycleSum}
+use Rattle.tmm_model.specs.Walks.{Arc, renamed, IsWalk, total, IsFar, HasDates, AreAmong}
+use Rattle.tmm_model.proofs.Adding.{MayBeAdded, steps_at, own_or_none}
+use Rattle.tmm_model.proofs.Dates.{Solved, solve}
+use Rattle.tmm_model.proofs.Members.{All-from_contains, Contains-map, Contains-map_from}
+use Rattle.tmm_model.proofs.Paths.{IsFar-same}
+use Rattle.tmm_model.proofs.Places.{arcs_in-push, length-arcs_in-le, points_new}
+use Rattle.tmm_model.proofs.Reach.{solved}
+use Rattle.tmm_model.proofs.WellNamed.{points_in-push}
+use Rattle.dist_net.specs.declared.Edge.{Edge}
+use Rattle.dist_net.specs.declared.Conflict.{Conflict}
+use Rattle.dist_net.specs.Net.{Net, same_number, arc_of, arcs_of, IsInUse, AreInUse, IsConflict}
+use Rattle.map_engine.specs.Represents.{Names, IsNumberOf, name_at, Represents, StandsFor}
+use Rattle.map_engine.specs.Network.{IsNew, IsThere, KeepsNumbers, AddsPoints, AreThere, AreApart, AddsEdges, AddsSteps}
+use Rattle.map_engine.proofs.Nets.{ends_used, is_used}
+use Rattle.map_engine.proofs.Representing.{IsUsed, IsFar-named, HasDates-named, HasDates-numbered, far-named}
+use Rattle.map_engine.proofs.Named.{AreDistinct, name_at-is}
+use Rattle.map_engine.proofs.Extending.{Represents-arcs}
+
+module _ (ps : List Premise) (p : Premise) (may : MayBeAdded ps p) (names : Names) (edges : List Edge) (stands : StandsFor ps names (arcs_of edges)) where
+  -- the premise's points are new
+  pub points_are_new : All (IsNew names) (points_of p)
+  points_are_new = All-from_contains (IsNew names) (points_of p) (λ q m. λ k is. points_new ps p may.names q m (stands.named k q is))
+
+  -- there is a place for two more edges
+  pub room_for_edges : length edges + 2 ≤ 4000
+  room_for_edges = omega (arith, length-map edges arc_of, stands.arcs_count, length-arcs_in-le ps, may.few)
+
+  -- the points of its constraints are there once its own are added
+  pub steps_are_there : (new : Net) → Represents (points_in ps ++ points_of p) (arcs_in ps) new.names (arcs_of new.edges) → AreThere new.names (steps_of p)
+  steps_are_there new grown = All-from_contains (λ s. IsThere new.names s.from × IsThere new.names s.to) (steps_of p)
+      (λ s m. (let at = All-contains (λ t. Contains (points_in ps ++ points_of p) t.from × Contains (points_in ps ++ points_of p) t.to) (steps_of p) s (steps_at ps p may) m in
+      (grown.numbered s.from at.0, grown.numbered s.to at.1)))
+
+-- no edge leads to a point that was new
+no_way_to_new : (names new_names : Names) (edges : List Edge) → AreInUse names edges → KeepsNumbers names new_names → AreDistinct new_names → (q : PointName) → IsNew names q
+    → All (λ e. IsNumberOf new_names e.to q → ⊥) edges
+no_way_to_new names new_names edges in_use kept distinct q new = All-from_contains (λ e. IsNumberOf new_names e.to q → ⊥) edges
+    (λ e m. (let ends = ends_used names edges in_use (arc_of e) (Contains-map arc_of edges e m) in
+    λ is. (let same : Some ends.1.0 ≡ Some q = sym (kept e.to ends.1.0 ends.1.1) ∙ is in
+    let r : ends.1.0 ≡ q = cc in
+    new e.to (subst (λ (x : PointName). IsNumberOf names e.to x) r ends.1.1))))
+
+dist_apart : (names : Names) (edges : List Edge) (name : List ℕ) (from to : PointName) (lo hi : Bound) → IsWellFormedPremise (Dist name from to lo hi) → AreApart names edges (steps_of (Dist name from to lo hi))
+dist_apart names edges name from to (Finite lo) (Finite hi) wf = inl (refl, refl, omega (arith, ints, wf.5))
+dist_apart names edges name from to Free (Finite hi) wf = tt
+dist_apart names edges name from to (Finite lo) Free wf = tt
+dist_apart names edges name from to Free Free wf = tt
+
+-- **The constraints of a premise fit together.**
+pub steps_are_apart : (p : Premise) → IsWellFormedPremise p → (names new_names : Names) (edges : List Edge) → AreInUse names edges → KeepsNumbers names new_names → AreDistinct new_names
+    → All (IsNew names) (points_of p) → AreApart new_names edges (steps_of p)
+steps_are_apart (Class name facts) wf names new_names edges in_use kept distinct new = tt
+steps_are_apart (Kind name) wf names new_names edges in_use kept distinct new = tt
+steps_are_apart (Point name) wf names new_names edges in_use kept distinct new = tt
+steps_are_apart (Event name kind) wf names new_names edges in_use kept distinct new = tt
+steps_are_apart (Token name fact) wf names new_names edges in_use kept distinct new = tt
+steps_are_apart (Span name fact) wf names new_names edges in_use kept distinct new =
+    inr ((λ e. cc e), (λ e. cc e), no_way_to_new names new_names edges in_use kept distinct (End name) (new 1 Start (omega arith)))
+steps_are_apart (Dist name from to lo hi) wf names new_names edges in_use kept distinct new = dist_apart new_names edges name from to lo hi wf
+steps_are_apart (Rule name trigger lo hi effect given) wf names new_names edges in_use kept distinct new = tt
+steps_are_apart (Protect name fact from to) wf names new_names edges in_use kept distinct new = tt
+
+-- ---- the list with the premise
+
+module _ (ps : List Premise) (p : Premise) (net : Net) (grown : Represents (points_in ps ++ points_of p) (arcs_in ps) net.names (arcs_of net.edges))
+    (more : List Edge) (named : map (renamed (name_at net.names)) (arcs_of more) ≡ map arc_of_step (steps_of p)) where
+  -- with the constraints the network stands for the list with the premise
+  pub stands_with : StandsFor (ps ++ p ∷ []) net.names (arcs_of (net.edges ++ more))
+  stands_with =
+      subst (λ (l : List (Arc ℕ)). StandsFor (ps ++ p ∷ []) net.names l) (sym (map-append arc_of net.edges more))
+      (subst (λ (l : List (Arc PointName)). Represents (points_in (ps ++ p ∷ [])) l net.names (arcs_of net.edges ++ arcs_of more)) (sym (arcs_in-push ps p))
+      (subst (λ (l : List PointName). Represents l (arcs_in ps ++ arcs_of_premise p) net.names (arcs_of net.edges ++ arcs_of more)) (sym (points_in-push ps p))
+      (Represents-arcs (points_in ps ++ points_of p) (arcs_in ps) (arcs_of_premise p) net.names (arcs_of net.edges) (arcs_of more) grown named)))
+
+  -- where no dates satisfy the edges, none satisfy the premises
+  pub no_dates : IsNumberOf net.names 0 Start → (HasDates 0 (arcs_of (net.edges ++ more)) → ⊥) → IsConsistent (ps ++ p ∷ []) → ⊥
+  no_dates start none dates = none (HasDates-numbered (points_in (ps ++ p ∷ [])) (arcs_in (ps ++ p ∷ [])) net.names (arcs_of (net.edges ++ more)) stands_with start dates)
+
+-- no walk leads to a point that no constraint leads to
+no_walk : {P : Type 0} (arcs : List (Arc P)) (b : P) → ((e : Arc P) → Contains arcs e → e.to ≢ b) → (a : P) → a ≢ b → (walk : List (Arc P)) → IsWalk arcs a b walk → ⊥
+no_walk arcs b none a other [] h = other h
+no_walk arcs b none a other (e ∷ walk) h = no_walk arcs b none e.to (none e h.0) walk h.2
+
+IsFar-none : {P : Type 0} (arcs : List (Arc P)) (a b : P) → ((e : Arc P) → Contains arcs e → e.to ≢ b) → a ≢ b → IsFar arcs a b Free
+IsFar-none arcs a b none other = record { reached = tt; least = λ walk h. no_walk arcs b none a other walk h }
+
+-- the sum of a way without a distance is none
+never : (w : ℤ) (back : Bound) (sum : ℤ) → back ≡ Free → after w back ≡ Finite sum → ⊥
+never w (Finite x) sum free sums = cc (free)
+never w Free sum free sums = cc (sums)
+
+module _ (ps : List Premise) (p : Premise) (may : MayBeAdded ps p) (old_names : Names) (net : Net)
+    (in_use : AreInUse old_names net.edges) (kept : KeepsNumbers old_names net.names) (distinct : AreDistinct net.names) (start : IsNumberOf net.names 0 Start)
+    (in_use_now : AreInUse net.names net.edges) (dates : HasDates 0 (arcs_of net.edges)) (new : All (IsNew old_names) (points_of p))
+    (grown : Represents (points_in ps ++ points_of p) (arcs_in ps) net.names (arcs_of net.edges))
+    (more : List Edge) (named : map (renamed (name_at net.names)) (arcs_of more) ≡ map arc_of_step (steps_of p)) (more_in_use : AreInUse net.names more)
+    (found : Conflict) (conflict : IsConflict net.edges more found) where
+  -- the edge of the conflict, and the step that it is
+  module _ (d : Edge) where
+    abbrev the_edge : Edge
+    the_edge = get_or more found.edge d
+
+    abbrev the_arc : Arc PointName
+    the_arc = renamed (name_at net.names) (arc_of the_edge)
+
+    is_more : Contains more the_edge
+    is_more = Contains-get_or more found.edge d conflict.place
+
+    is_own : Contains (arcs_of_premise p) the_arc
+    is_own = subst (λ (l : List (Arc PointName)). Contains l the_arc) named (Contains-map (renamed (name_at net.names)) (arcs_of more) (arc_of the_edge) (Contains-map arc_of more the_edge is_more))
+
+    is_step : (s : WalkStep) × Contains (steps_of p) s × (arc_of_step s ≡ the_arc)
+    is_step = Contains-map_from arc_of_step (steps_of p) the_arc is_own
+
+    ends : IsUsed net.names the_edge.from × IsUsed net.names the_edge.to
+    ends = ends_used net.names more more_in_use (arc_of the_edge) (Contains-map arc_of more the_edge is_more)
+
+    at_from : IsNumberOf net.names the_edge.from the_arc.from
+    at_from = ends.0.1 ∙ ap (λ (x : PointName). Some x) (sym (name_at-is net.names the_edge.from ends.0.0 ends.0.1))
+
+    at_to : IsNumberOf net.names the_edge.to the_arc.to
+    at_to = ends.1.1 ∙ ap (λ (x : PointName). Some x) (sym (name_at-is net.names the_edge.to ends.1.0 ends.1.1))
+
+    solution : Solved 0 (arcs_of net.edges)
+    solution = solved same_number Decides-eqb 0 (arcs_of net.edges) dates
+
+    abbrev back : Bound
+    back = solution.table the_edge.to the_edge.from
+
+    sums : after the_edge.weight back ≡ Finite found.sum
+    sums = conflict.sums d back (solution.is_far the_edge.to the_edge.from)
+
+    -- a premise with points of its own makes no closed walk
+    none_by_own : (s : WalkStep) → arc_of_step s ≡ the_arc → Contains (points_of p) s.from → s.to ≢ s.from → back ≡ Free
+    none_by_own s is own other =
+        let from : s.from ≡ the_arc.from = ap (λ (x : Arc PointName). x.from) is in
+        let to : s.to ≡ the_arc.to = ap (λ (x : Arc PointName). x.to) is in
+        let new_from : IsNew old_names the_arc.from = subst (IsNew old_names) from (All-contains (IsNew old_names) (points_of p) s.from new own) in
+        let no_way = no_way_to_new old_names net.names net.edges in_use kept distinct the_arc.from new_from in
+        IsFar-same (arcs_of net.edges) the_edge.to the_edge.from back Free (solution.is_far the_edge.to the_edge.from)
+        (IsFar-none (arcs_of net.edges) the_edge.to the_edge.from
+        (λ e m same. (let k = Contains-map_from arc_of net.edges e m in
+        All-contains (λ x. IsNumberOf net.names x.to the_arc.from → ⊥) net.edges k.0 no_way k.1
+        (ap (λ (i : ℕ). get_or net.names i None) (ap (λ (x : Arc ℕ). x.to) k.2 ∙ same) ∙ at_from)))
+        (λ same. other (to ∙ (let e : Some the_arc.to ≡ Some the_arc.from = sym at_to ∙ ap (λ (i : ℕ). get_or net.names i None) same ∙ at_from in
+        let r : the_arc.to ≡ the_arc.from = cc in r) ∙ sym from)))
+
+    -- the way back between points that are there
+    far_back : points_of p ≡ [] → back ≡ far_in ps the_arc.to the_arc.from
+    far_back none =
+        let plain : points_in ps ++ points_of p ≡ points_in ps = ap (λ (l : List PointName). points_in ps ++ l) none ∙ append-nil (points_in ps) in
+        let stands : StandsFor ps net.names (arcs_of net.edges) = subst (λ (l : List PointName). Represents l (arcs_in ps) net.names (arcs_of net.edges)) plain grown in
+        far-named (points_in ps) (arcs_in ps) net.names (arcs_of net.edges) stands distinct start (ends_used net.names net.edges in_use_now) dates
+        the_edge.to the_edge.from the_arc.to the_arc.from back at_to at_from (solution.is_far the_edge.to the_edge.from)
+
+    -- **The sum of a conflict is that of a closed walk that the premise makes.**
+    pub is_cycle_sum : IsCycleSum ps p found.sum
+    is_cycle_sum = elim (own_or_none p) [
+      | inl own ↦ absurd (let s = is_step in let at = All-contains (λ (t : WalkStep). Contains (points_of p) t.from × (t.to ≢ t.from)) (steps_of p) s.0 own s.1 in
+          never the_edge.weight back found.sum (none_by_own s.0 s.2 at.0 at.1) sums)
+      | inr none ↦ record {
+        first = the_arc;
+        own = is_own;
+        sums = ap (λ (x : Bound). after the_edge.weight x) (sym (far_back none)) ∙ sums;
+        negative = conflict.negative;
+      }
+    ]
+
+pub first_of : (more : List Edge) (n : ℕ) → n < length more → Edge
+first_of [] n lt = absurd (omega arith)
+first_of (e ∷ more) n lt = e
+
+-- some dates satisfy the premises where some satisfy the edges
+pub some_dates : (ps : List Premise) (p : Premise) (net : Net) → Represents (points_in ps ++ points_of p) (arcs_in ps) net.names (arcs_of net.edges)
+    → (more : List Edge) → map (renamed (name_at net.names)) (arcs_of more) ≡ map arc_of_step (steps_of p)
+    → AreDistinct net.names → IsNumberOf net.names 0 Start → AreInUse net.names net.edges → AreInUse net.names more
+    → HasDates 0 (arcs_of (net.edges ++ more)) → IsConsistent (ps ++ p ∷ [])
+some_dates ps p net grown more named distinct start in_use more_in_use dates =
+    HasDates-named (points_in (ps ++ p ∷ [])) (arcs_in (ps ++ p ∷ [])) net.names (arcs_of (net.edges ++ more)) (stands_with ps p net grown more named) distinct start
+    (ends_used net.names (net.edges ++ more) (All-append (λ e. IsInUse net.names e.from × IsInUse net.names e.to) net.edges more in_use more_in_use)) dates

@@ -1,0 +1,30 @@
+-- What the plain map keeps.
+use Rattle.std.specs.Prelude.{◌≡◌, Bool, true, false, Option, Some, None}
+use Rattle.tmm_model.specs.Standing.{Standing, IsConsistent}
+use Rattle.dist_net.specs.Net.{Net, Nets, arcs_of}
+use Rattle.premise_list.specs.States.{States}
+use Rattle.map_engine.specs.Represents.{StandsFor}
+
+-- a map as its callers see it: the list of the last commit, and the one that a pending edit leaves
+pub record MapState : Type 0 where
+  pub list : Standing
+  pub pending : Option Standing
+
+abbrev pub pending_list : Bool → Standing → Option Standing
+pending_list true present = Some present
+pending_list false present = None
+
+-- the network stands for the list
+pub record Fits (list : Standing) (net : Net) : Type 0 where
+  pub stands : StandsFor list.premises net.names (arcs_of net.edges)
+
+-- nothing has changed since the last commit
+pub record IsSettled (lists : States) (nets : Nets) : Type 0 where
+  pub list : lists.present ≡ lists.committed
+  pub net : nets.present ≡ nets.committed
+
+-- both states of the list have their network, and where nothing is pending they are one
+pub record IsPlain (lists : States) (nets : Nets) (pending : Bool) : Type 0 where
+  pub present : Fits lists.present nets.present
+  pub committed : Fits lists.committed nets.committed
+  pub settled : pending ≡ false → IsSettled lists nets
