@@ -1,15 +1,15 @@
 -- The numbers of points.
-use Rattle.std.proofs.Common.{◌≡◌, ◌≢◌, ◌∙◌, ℕ, zero, suc, ◌+◌, ◌-◌, ◌<◌, ◌≤◌, ◌++◌, Bool, true, false, cond, List, [], ◌∷◌, length, length-set, get_or, set, replicate, Option, Some, None, ap, sym, subst, arith, refl, inl, inr}
+use Rattle.std.proofs.Common.{◌≡◌, ◌≢◌, ◌∙◌, ℕ, zero, suc, ◌+◌, ◌-◌, ◌<◌, ◌≤◌, ◌++◌, cond, List, [], ◌∷◌, length, length-set, get_or, set, replicate, Option, Some, None, ap, sym, subst, arith, refl, inl, inr}
 use Rattle.std.specs.Option.{is_some}
-use Rattle.std.specs.List.{All, Contains, count_by}
+use Rattle.std.specs.List.{Contains}
 use Rattle.std.proofs.lemmas.Bool.{cases_lt, cases_eq, false≢true}
 use Rattle.std.proofs.lemmas.List.{get_or_past, get_or-set_other, get_or-set_same, get_or-replicate, length-replicate, replicate-append-replicate}
-use Rattle.std.proofs.lemmas.List.Elements.{All-contains, Contains-get_or}
+use Rattle.std.proofs.lemmas.List.Elements.{All-contains}
 use Rattle.std.proofs.lemmas.List.Sums.{count_by-le-length, sum_by-cons}
 use Rattle.tmm_model.specs.declared.point.PointName.{PointName}
 use Rattle.tmm_model.specs.declared.point.PointName.TheVariants.{Start}
-use Rattle.tmm_model.specs.Walks.{Arc, AreAmong}
-use Rattle.tmm_model.proofs.Members.{All-from_contains, Contains-map_from, Contains-cons, Contains-cons_first}
+use Rattle.tmm_model.specs.Walks.{Arc}
+use Rattle.tmm_model.proofs.Members.{Contains-map_from, Contains-cons, Contains-cons_first}
 use Rattle.dist_net.specs.declared.Edge.{Edge}
 use Rattle.dist_net.specs.Net.{Net, start_alone, arc_of, arcs_of, IsInUse, AreInUse, points_in_use}
 use Rattle.dist_net.specs.Table.{AreNames}

@@ -1,6 +1,5 @@
 // One state of a network.
 ghost use Rattle.std.specs.Prelude.{◌≡◌, ◌≢◌, ◌⊎◌, ℕ, ◌+◌, ◌*◌, ◌-◌, ◌<◌, ◌≤◌, [], ◌∷◌, ◌++◌, length, take, slice_index_or, slice_set, IfOk, IfErr, IsOk, IsTrue, ◌↔◌, MatchOption, Option, vec_capacity};
-
 ghost use Rattle.dist_net.specs.Net.{start_alone, IsInUse, points_in_use};
 ghost use Rattle.dist_net.specs.Table.{IsDiagonalTo};
 
@@ -201,13 +200,7 @@ impl State {
         ensures taken { (d : Edge) → self.new ≡ record self.old { edges = swap_remove self.old.edges place d; table = self.new.table } }
         ensures marking { IsMarking changed.old self.old.table changed.new self.new.table }
     {
-        copy_used(
-            &mut self.table,
-            changed,
-            draft,
-            &self.names,
-            self.limit,
-        );
+        copy_used(&mut self.table, changed, draft, &self.names, self.limit);
         let _ = self.edges.swap_remove(place);
     }
 
