@@ -99,7 +99,7 @@ impl DistNet {
         self.present.points()
     }
 
-    /// A number above those of all points.
+    /// Numbers from here on are of no point.
     pub fn limit(&self) -> u16
         ensures range { result ≤ POINTS }
         ensures above { (k : ℕ) → result ≤ k → slice_index_or self.now.present.names k None ≡ None }

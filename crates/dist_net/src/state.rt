@@ -62,7 +62,7 @@ impl State {
         count_points(&self.names)
     }
 
-    /// A number above those of all points.
+    /// Numbers from here on are of no point.
     pub fn limit(&self) -> u16
         ensures range { result ≤ POINTS }
         ensures above { (k : ℕ) → result ≤ k → slice_index_or self.now.names k None ≡ None }
