@@ -1,5 +1,6 @@
 pub mod Adding
 pub mod Copies
+pub mod Named
 pub mod Names
 pub mod Premises
 pub mod States

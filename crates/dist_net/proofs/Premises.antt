@@ -17,7 +17,7 @@ use Rattle.tmm_model.proofs.Paths.{IsFar-same}
 use Rattle.tmm_model.proofs.Sizes.{Fits-from_dates, Fits-round}
 use Rattle.tmm_model.proofs.Walks.{Last, last_of}
 use Rattle.dist_net.specs.declared.Edge.{Edge}
-use Rattle.dist_net.specs.Net.{arc_of, arcs_of, entry, IsInUse, AreInUse, AreOfOnePremise, IsApart, IsConflict, IsWayBack}
+use Rattle.dist_net.specs.Net.{arc_of, arcs_of, entry, IsInUse, AreInUse, AreOfOnePremise, IsConflict}
 use Rattle.dist_net.specs.Table.{Kept, IsState}
 use Rattle.dist_net.proofs.Names.{below_limit}
 use Rattle.dist_net.proofs.States.{arcs_of-push, ends_below}

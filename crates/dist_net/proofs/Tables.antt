@@ -1,5 +1,5 @@
 -- The table of distances, closed row by row.
-use Rattle.std.proofs.Common.{◌≡◌, ◌≢◌, ◌⊎◌, inl, inr, ℕ, ◌+◌, ◌*◌, ◌/◌, ◌%◌, replicate, ◌<◌, ◌≤◌, ◌∙◌, Bool, true, false, List, length, get_or, set, length-set, Option, Some, None, MatchOption, ap, sym, subst, arith, refl, ℤ, pos, ◌+ℤ◌, ◌≤ℤ◌}
+use Rattle.std.proofs.Common.{◌≡◌, ◌≢◌, inl, inr, ℕ, ◌+◌, ◌*◌, ◌/◌, ◌%◌, replicate, ◌<◌, ◌≤◌, ◌∙◌, Bool, true, false, List, length, get_or, set, length-set, Option, Some, None, MatchOption, ap, sym, subst, arith, refl, ℤ, pos, ◌+ℤ◌, ◌≤ℤ◌}
 use Rattle.std.specs.Int.{int_min}
 use Rattle.std.proofs.lemmas.Bool.{cases_lt, cases_eq, false≢true}
 use Rattle.std.proofs.lemmas.List.{get_or-set_other, get_or-set_same, get_or_default, ext_get_or, get_or-replicate, length-replicate}

@@ -1,10 +1,8 @@
 -- Two states, and where they differ.
-use Rattle.std.proofs.Common.{◌≡◌, ◌∙◌, ℕ, ◌+◌, ◌-◌, ◌<◌, ◌≤◌, Bool, List, [], ◌∷◌, length, length-set, take, get_or, set, ap, sym, subst, arith, refl}
+use Rattle.std.proofs.Common.{◌≡◌, ◌∙◌, ℕ, ◌-◌, ◌<◌, ◌≤◌, Bool, List, [], ◌∷◌, length, length-set, take, get_or, set, ap, sym, arith, refl}
 use Rattle.std.specs.List.{swap_remove}
 use Rattle.std.proofs.lemmas.List.{take-take, take-set-le, length-take}
-use Rattle.tmm_model.specs.declared.bound.Bound.{Bound}
 use Rattle.dist_net.specs.declared.Edge.{Edge}
-use Rattle.dist_net.specs.Net.{start_alone}
 use Rattle.dist_net.specs.Table.{Kept, AreTied, IsDiagonalTo, IsMarking}
 use Rattle.dist_net.proofs.Tables.{diagonals_same}
 

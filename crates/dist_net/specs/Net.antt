@@ -1,5 +1,5 @@
 -- A network of points and constraints as its callers see it.
-use Rattle.std.specs.Prelude.{◌≡◌, ◌≢◌, ℕ, ◌+◌, ◌*◌, ◌<◌, ℤ, pos, ◌+ℤ◌, ◌≤ℤ◌, ◌<ℤ◌, ◌⊎◌, Bool, ◌==◌, List, [], ◌∷◌, map, length, replicate, slice_index_or, Option, Some, None, IsSome}
+use Rattle.std.specs.Prelude.{◌≡◌, ◌≢◌, ℕ, ◌+◌, ◌*◌, ◌<◌, pos, ◌+ℤ◌, ◌≤ℤ◌, ◌<ℤ◌, ◌⊎◌, Bool, ◌==◌, List, [], ◌∷◌, map, length, replicate, slice_index_or, Option, Some, None, IsSome}
 use Rattle.std.specs.Option.{is_some}
 use Rattle.std.specs.List.{All, count_by, swap_remove}
 use Rattle.tmm_model.specs.declared.point.PointName.{PointName}

@@ -10,6 +10,8 @@ ghost use Rattle.std.specs.Prelude.{◌≡◌, ◌≢◌, ◌⊎◌, ℕ, ◌+�
 
 mod state;
 mod table;
+#[cfg(test)]
+mod tests;
 
 use state::State;
 use std::alloc::Global;
@@ -97,7 +99,7 @@ impl DistNet {
         self.present.points()
     }
 
-    /// A number above those of all points.
+    /// Numbers from here on are of no point.
     pub fn limit(&self) -> u16
         ensures range { result ≤ POINTS }
         ensures above { (k : ℕ) → result ≤ k → slice_index_or self.now.present.names k None ≡ None }
@@ -227,7 +229,8 @@ impl DistNet {
         requires draft { IsFarWithout self.old.present place self.old.draft }
         ensures { (d : Edge) → self.new ≡ record self.old { present = record self.old.present { edges = swap_remove self.old.present.edges place d } } }
     {
-        self.present.take_edge(place, &self.draft, &mut self.changed);
+        self.present
+            .take_edge(place, &self.draft, &mut self.changed);
         self.kept = self.kept.min(place);
     }
 
@@ -235,7 +238,8 @@ impl DistNet {
     pub fn commit(&mut self)
         ensures { self.new ≡ record self.old { committed = self.old.present } }
     {
-        self.committed.copy_from(&self.present, &self.changed, self.kept);
+        self.committed
+            .copy_from(&self.present, &self.changed, self.kept);
         self.changed.fill(false);
         self.kept = self.present.edges().len();
     }
@@ -244,7 +248,8 @@ impl DistNet {
     pub fn rollback(&mut self)
         ensures { self.new ≡ record self.old { present = self.old.committed } }
     {
-        self.present.copy_from(&self.committed, &self.changed, self.kept);
+        self.present
+            .copy_from(&self.committed, &self.changed, self.kept);
         self.changed.fill(false);
         self.kept = self.present.edges().len();
     }

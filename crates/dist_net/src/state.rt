@@ -1,6 +1,5 @@
 // One state of a network.
 ghost use Rattle.std.specs.Prelude.{◌≡◌, ◌≢◌, ◌⊎◌, ℕ, ◌+◌, ◌*◌, ◌-◌, ◌<◌, ◌≤◌, [], ◌∷◌, ◌++◌, length, take, slice_index_or, slice_set, IfOk, IfErr, IsOk, IsTrue, ◌↔◌, MatchOption, Option, vec_capacity};
-
 ghost use Rattle.dist_net.specs.Net.{start_alone, IsInUse, points_in_use};
 ghost use Rattle.dist_net.specs.Table.{IsDiagonalTo};
 
@@ -63,7 +62,7 @@ impl State {
         count_points(&self.names)
     }
 
-    /// A number above those of all points.
+    /// Numbers from here on are of no point.
     pub fn limit(&self) -> u16
         ensures range { result ≤ POINTS }
         ensures above { (k : ℕ) → result ≤ k → slice_index_or self.now.names k None ≡ None }
@@ -201,13 +200,7 @@ impl State {
         ensures taken { (d : Edge) → self.new ≡ record self.old { edges = swap_remove self.old.edges place d; table = self.new.table } }
         ensures marking { IsMarking changed.old self.old.table changed.new self.new.table }
     {
-        copy_used(
-            &mut self.table,
-            changed,
-            draft,
-            &self.names,
-            self.limit,
-        );
+        copy_used(&mut self.table, changed, draft, &self.names, self.limit);
         let _ = self.edges.swap_remove(place);
     }
 

@@ -51,11 +51,7 @@ fn close_row(
     ensures closed { IsRowClosed table.old (record { from = from; to = to; weight = weight }) a table.new }
     ensures marking { IsMarking changed.old table.old changed.new table.new }
 {
-    let Some(first) = shorter_way(
-        table[a * POINTS + from],
-        weight,
-        table[a * POINTS + to],
-    ) else {
+    let Some(first) = shorter_way(table[a * POINTS + from], weight, table[a * POINTS + to]) else {
         return;
     };
     changed[a] = true;
@@ -72,13 +68,7 @@ fn shorter_way(way: Bound, weight: i64, end: Bound) -> Option<i64>
         Bound::Finite(x) => {
             let first = x + weight;
             match end {
-                Bound::Finite(y) => {
-                    if y <= first {
-                        None
-                    } else {
-                        Some(first)
-                    }
-                }
+                Bound::Finite(y) => { if y <= first { None } else { Some(first) } }
                 Bound::Free => Some(first),
             }
         }
