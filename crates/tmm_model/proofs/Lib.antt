@@ -11,3 +11,4 @@ pub mod Sizes
 pub mod Walks
 pub mod Within
 pub mod WellNamed
+pub mod Erasure
