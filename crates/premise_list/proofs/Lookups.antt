@@ -14,20 +14,11 @@ use Rattle.tmm_model.specs.Points.{same_name}
 use Rattle.tmm_model.specs.Standing.{name_of}
 use Rattle.tmm_model.specs.Sorts.{Sort, a_class, a_fact, a_kind, a_point, an_event, a_token, a_span, a_dist, a_rule, a_protection, is_fact, fact_declaration, declarations_of, declarations_in, sort_in, class_in}
 use Rattle.tmm_model.specs.WellNamed.{premise_in}
+use Rattle.tmm_model.proofs.WellNamed.{lookup-append}
 use Rattle.premise_list.specs.declared.premise.Sort.{Sort as Code}
 use Rattle.premise_list.specs.declared.premise.Sort.TheVariants as code
 use Rattle.premise_list.specs.Words.{facts_of, own_sort, sort_seen}
 use Rattle.premise_list.specs.Table.{at_place, placed}
-
-module _ {K X : Type 0} (test : K → Bool) where
-  pub lookup-append : (xs ys : List (K × X)) → lookup test (xs ++ ys) ≡ option_or (lookup test xs) (lookup test ys)
-  lookup-append [] ys = refl
-  lookup-append (x ∷ xs) ys = by (test x.0) (lookup-append xs ys)
-    where
-      by : (b : Bool) → lookup test (xs ++ ys) ≡ option_or (lookup test xs) (lookup test ys)
-          → cond b (Some x.1) (lookup test (xs ++ ys)) ≡ option_or (cond b (Some x.1) (lookup test xs)) (lookup test ys)
-      by true e = refl
-      by false e = e
 
 -- the declarations of a premise: its own name, and then its facts
 pub declarations_parted : (p : Premise) → declarations_of p ≡ (name_of p, own_sort p) ∷ map fact_declaration (facts_of p)
@@ -219,12 +210,3 @@ module _ (n : List ℕ) (ps : List Premise) (distinct : IsDistinct same_name (ke
           let (k, at) = fact_placed n 0 ps c e in
           let no_fact : true ≡ false = none a_fact k (lookup-from_Contains nat_list_eq_equiv n (a_fact, k) (placed 0 ps) distinct at) in
           cc
-
--- a name that is not among the keys
-pub lookup-unknown : {K X : Type 0} (test : K → Bool) (es : List (K × X)) → list_any test (keys_of es) ≡ false → lookup test es ≡ None
-lookup-unknown test [] h = refl
-lookup-unknown test (e ∷ es) h = by (test e.0) (lookup-unknown test es) h
-  where
-    by : (b : Bool) → (list_any test (keys_of es) ≡ false → lookup test es ≡ None) → (b || list_any test (keys_of es)) ≡ false → cond b (Some e.1) (lookup test es) ≡ None
-    by true again h = cc
-    by false again h = again h

@@ -4,3 +4,5 @@ pub mod TableInside
 pub mod Judged
 pub mod States
 pub mod StandingInside
+pub mod Gone
+pub mod Found

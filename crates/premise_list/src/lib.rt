@@ -8,6 +8,7 @@
 #![tactic(auto)]
 
 mod check;
+mod erase;
 mod premise;
 mod standing;
 mod table;

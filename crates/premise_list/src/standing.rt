@@ -1,17 +1,19 @@
 // The standing list, present and committed.
-ghost use Rattle.std.specs.Prelude.{◌≡◌, ◌≤◌, ◌↔◌, ◌++◌, None, length, slice_get, IsOk, IfErr, OnOk, OnErr, vec_len, vec_capacity, ◌+◌};
+ghost use Rattle.std.specs.Prelude.{◌≡◌, ◌≤◌, ◌↔◌, ◌++◌, None, length, map, slice_get, IsOk, IfOk, IfErr, OnOk, OnErr, vec_len, vec_capacity, ◌+◌};
 ghost use Rattle.std.specs.Option.{option_copied};
-ghost use Rattle.tmm_model.specs.Standing.{empty_list};
+ghost use Rattle.tmm_model.specs.Standing.{empty_list, name_of};
+ghost use Rattle.tmm_model.specs.Erasure.{fallen_with};
 ghost use Rattle.tmm_model.specs.Sorts.{class_in};
 ghost use Rattle.tmm_model.specs.Verdicts.{list_cause, most_premises, Tells};
 ghost use Rattle.tmm_model.specs.WellNamed.{IsWellNamed, premise_in};
-ghost use Rattle.tmm_model.specs.Edits.{list_with, list_until};
+ghost use Rattle.tmm_model.specs.Edits.{list_with, list_without, list_until};
 
+use crate::erase::fall_with;
 use crate::premise::{copy_of, facts_of};
 use crate::table::{Table, word_count};
 use std::alloc::Global;
 use std::marker::Model;
-use tmm_model::{Edit, Name, NoMemory, Premise, Refusal};
+use tmm_model::{Edit, Name, NoMemory, Premise, Refusal, Seq};
 
 /// The standing list and its horizon, now and as they were at the last commit.
 #[derive(Drop)]
@@ -75,6 +77,26 @@ impl Standing {
         Ok(())
     }
 
+    /// Retracts the premise of this name and all that mentions, directly or through others, what is
+    /// retracted, and answers the names of these premises in their order. Without memory nothing has
+    /// changed.
+    pub fn erase(&mut self, alloc: Global, name: Name) -> Result<Seq<Name>, NoMemory>
+        requires { list_cause self.old.present.premises (Edit.Erase name) ≡ None }
+        ensures names { IfOk result (λ names. names.items ≡ map name_of (fallen_with name self.old.present.premises)) }
+        ensures ok { OnOk result (self.new ≡ record self.old { present = list_without self.old.present name }) }
+        ensures err { OnErr result (self.new ≡ self.old) }
+    {
+        let first = self.table.place_of(name);
+        let fall = fall_with(alloc, name, &self.table.premises()[first..])?;
+        let kept = fall.kept.as_slice();
+        let shared = self.shared.min(first);
+        let owed = word_count(&self.committed.as_slice()[shared..]);
+        self.table.reserve(0, word_count(kept) + owed)?;
+        self.table.replace_from(first, kept);
+        self.shared = shared;
+        Ok(fall.names)
+    }
+
     /// Sets the last date at which an effect is projected.
     pub fn set_horizon(&mut self, n: u32)
         requires { n ≤ 100000 }
@@ -134,9 +156,10 @@ impl Standing {
     pub fn rollback(&mut self)
         ensures { self.new ≡ record self.old { present = self.old.committed } }
     {
-        self.table.truncate(self.shared);
-        self.table.append(&self.committed.as_slice()[self.shared..]);
-        self.shared = self.committed.as_slice().len();
+        let committed = self.committed.as_slice();
+        self.table
+            .replace_from(self.shared, &committed[self.shared..]);
+        self.shared = committed.len();
         self.horizon = self.committed_horizon;
     }
 }

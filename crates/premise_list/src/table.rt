@@ -6,10 +6,11 @@ ghost use Rattle.std.specs.Option.{option_map, option_copied};
 ghost use Rattle.tmm_model.specs.Points.{same_name};
 ghost use Rattle.tmm_model.specs.Sorts.{sort_in, class_in, declared_by};
 ghost use Rattle.tmm_model.specs.Standing.{points_in, points_of};
-ghost use Rattle.tmm_model.specs.Verdicts.{most_premises, first_taken, words_known};
+ghost use Rattle.tmm_model.specs.Verdicts.{most_premises, first_taken, premise_cause, words_known};
 ghost use Rattle.tmm_model.specs.WellNamed.{AllFollow, Follows, IsWellNamed, premise_in};
 ghost use Rattle.indexmap.specs.IndexMap.{keys, spare};
 ghost use Rattle.premise_list.specs.Words.{sort_seen};
+ghost use Rattle.premise_list.specs.Found.{IsFoundAt};
 ghost use Rattle.premise_list.specs.Table.{placed, word_seen, fact_entry};
 
 use crate::premise::{Sort, copy_of, facts_of, name_of, point_count, sort_of};
@@ -36,6 +37,7 @@ pub(crate) struct Table {
 }
 
 impl Model for Table {
+    ghost use Rattle.premise_list.specs.Found.{IsFoundAt};
     ghost use Rattle.premise_list.specs.Table.{Rows};
 
     ghost Value = { Rows };
@@ -113,6 +115,17 @@ impl Table {
         }
     }
 
+    // The place of the premise of this name, which is declared. Those before it stay where it is erased.
+    pub(crate) fn place_of(&self, name: Name) -> usize
+        requires { premise_cause (sort_in self.now.premises name) name ≡ None }
+        ensures { IsFoundAt name self.now.premises result }
+    {
+        match self.word(name) {
+            Some(word) => word.place,
+            None => 0,
+        }
+    }
+
     // Room for more premises and more declared names.
     pub(crate) fn reserve(&mut self, places: usize, words: usize) -> Result<(), NoMemory>
         ensures premises { self.new.premises ≡ self.old.premises }
@@ -155,7 +168,7 @@ impl Table {
     }
 
     // Appends premises each of which follows those before it. It takes no memory.
-    pub(crate) fn append(&mut self, premises: &[Premise])
+    fn append(&mut self, premises: &[Premise])
         requires follow { AllFollow self.old.premises premises.now }
         requires few { length self.old.premises + length premises.now ≤ most_premises }
         requires places { length premises.now ≤ self.old.places }
@@ -170,7 +183,7 @@ impl Table {
     }
 
     // Takes off all but the first `n` premises. It takes no memory.
-    pub(crate) fn truncate(&mut self, n: usize)
+    fn truncate(&mut self, n: usize)
         requires { n ≤ length self.old.premises }
         ensures premises { self.new.premises ≡ take n self.old.premises }
         ensures places { self.old.places + length self.old.premises ≡ self.new.places + n }
@@ -183,6 +196,21 @@ impl Table {
         self.words.truncate(kept_words);
         self.points -= points;
         self.premises.truncate(n);
+    }
+
+    // Puts these premises, which follow the first `n`, in the place of those after them. It takes no memory.
+    pub(crate) fn replace_from(&mut self, n: usize, premises: &[Premise])
+        requires within { n ≤ length self.old.premises }
+        requires follow { AllFollow (take n self.old.premises) premises.now }
+        requires few { n + length premises.now ≤ most_premises }
+        requires places { n + length premises.now ≤ length self.old.premises + self.old.places }
+        requires words { length (words_known premises.now) ≤ self.old.words }
+        ensures premises { self.new.premises ≡ take n self.old.premises ++ premises.now }
+        ensures places { self.old.places + length self.old.premises ≡ self.new.places + length self.new.premises }
+        ensures words { self.old.words ≤ self.new.words + length (words_known premises.now) }
+    {
+        self.truncate(n);
+        self.append(premises);
     }
 }
 

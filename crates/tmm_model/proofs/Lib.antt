@@ -40,3 +40,4 @@ pub mod KnownNames
 pub mod Sound
 pub mod SoundBeliefs
 pub mod Adding
+pub mod Erasure

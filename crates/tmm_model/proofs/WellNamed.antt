@@ -2,7 +2,8 @@
 use Rattle.std.proofs.Common.{◌≡◌, ℕ, ◌≤◌, ◌*◌, Bool, true, false, ◌||◌, List, [], ◌∷◌, ◌++◌, map, length, refl, sym, ◌∙◌, ap, subst, arith, append_assoc, append-nil}
 use Rattle.std.specs.Prelude.{Option, Some, None, is_some, cond}
 use Rattle.std.specs.List.{flat_map, list_any}
-use Rattle.std.specs.Map.{lookup}
+use Rattle.std.specs.Map.{lookup, keys_of}
+use Rattle.std.specs.Option.{option_or}
 use Rattle.std.proofs.lemmas.Grind.{flat_map-append}
 use Rattle.std.proofs.lemmas.List.{length-append, map-append}
 use Rattle.std.proofs.lemmas.List.Folds.{list_any-append}
@@ -11,7 +12,7 @@ use Rattle.tmm_model.specs.declared.premise.Premise.{Premise}
 use Rattle.tmm_model.specs.declared.premise.Premise.TheVariants.{Class, Kind, Point, Event, Token, Span, Dist, Rule, Protect}
 use Rattle.tmm_model.specs.Points.{same_name}
 use Rattle.tmm_model.specs.Standing.{points_of, points_in}
-use Rattle.tmm_model.specs.Sorts.{Sort, is_reserved, declarations_of, declarations_in, declared_by}
+use Rattle.tmm_model.specs.Sorts.{Sort, is_reserved, declarations_of, declarations_in, declared_by, sort_in}
 use Rattle.tmm_model.specs.Verdicts.{Cause, taken, first_taken, words_known}
 use Rattle.tmm_model.specs.WellNamed.{Follows, AllFollow, IsWellNamed}
 
@@ -135,3 +136,29 @@ first_taken-same a b same (w ∷ ws) =
 -- past a word that is new
 pub first_taken-new : (known : List (List ℕ)) (w : List ℕ) (ws : List (List ℕ)) → (is_reserved w || list_any (same_name w) known) ≡ false → first_taken known (w ∷ ws) ≡ first_taken (w ∷ known) ws
 first_taken-new known w ws e = rw (e, first_taken) refl
+
+module _ {K X : Type 0} (test : K → Bool) where
+  -- a look-up in one list and then in another
+  pub lookup-append : (xs ys : List (K × X)) → lookup test (xs ++ ys) ≡ option_or (lookup test xs) (lookup test ys)
+  lookup-append [] ys = refl
+  lookup-append (x ∷ xs) ys = by (test x.0) (lookup-append xs ys)
+    where
+      by : (b : Bool) → lookup test (xs ++ ys) ≡ option_or (lookup test xs) (lookup test ys)
+          → cond b (Some x.1) (lookup test (xs ++ ys)) ≡ option_or (cond b (Some x.1) (lookup test xs)) (lookup test ys)
+      by true e = refl
+      by false e = e
+
+-- a name that is not among the keys
+pub lookup-unknown : {K X : Type 0} (test : K → Bool) (es : List (K × X)) → list_any test (keys_of es) ≡ false → lookup test es ≡ None
+lookup-unknown test [] h = refl
+lookup-unknown test (e ∷ es) h = by (test e.0) (lookup-unknown test es) h
+  where
+    by : (b : Bool) → (list_any test (keys_of es) ≡ false → lookup test es ≡ None) → (b || list_any test (keys_of es)) ≡ false → cond b (Some e.1) (lookup test es) ≡ None
+    by true again h = cc
+    by false again h = again h
+
+-- the sort of a name in a list with one more premise
+pub sort_in-push : (ps : List Premise) (p : Premise) (v : List ℕ) → sort_in (ps ++ p ∷ []) v ≡ option_or (sort_in ps v) (lookup (same_name v) (declarations_of p))
+sort_in-push ps p v =
+    ap (lookup (same_name v)) (flat_map-append declarations_of ps (p ∷ []) ∙ ap (λ l. declarations_in ps ++ l) (append-nil (declarations_of p)))
+    ∙ lookup-append (same_name v) (declarations_in ps) (declarations_of p)

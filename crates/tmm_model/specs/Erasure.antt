@@ -1,18 +1,23 @@
 -- What is retracted with a premise: all that mentions it.
 use Rattle.std.specs.Prelude.{ℕ, Bool, true, false, ◌||◌, List, [], ◌∷◌, ◌++◌}
 use Rattle.std.specs.List.{flat_map, list_any}
+use Rattle.tmm_model.specs.declared.point.PointName.{PointName}
 use Rattle.tmm_model.specs.declared.point.PointName.TheVariants.{Start, Begin, End}
 use Rattle.tmm_model.specs.declared.premise.Premise.{Premise}
 use Rattle.tmm_model.specs.Points.{same_name}
 use Rattle.tmm_model.specs.Standing.{name_of}
 use Rattle.tmm_model.specs.Sorts.{declared_by, Use, a_name, a_place, a_premise, uses_of}
 
--- the name in a word that is used; `start` is none
+-- the name of what a point belongs to; `start` belongs to none
+abbrev pub names_at : PointName → List (List ℕ)
+names_at Start = []
+names_at (Begin name) = name ∷ []
+names_at (End name) = name ∷ []
+
+-- the names in a word that is used
 abbrev pub names_used : Use → List (List ℕ)
 names_used (a_name word wanted) = word ∷ []
-names_used (a_place Start) = []
-names_used (a_place (Begin name)) = name ∷ []
-names_used (a_place (End name)) = name ∷ []
+names_used (a_place point) = names_at point
 names_used (a_premise word) = word ∷ []
 
 -- the names that a premise mentions, its own aside

@@ -5,11 +5,11 @@ use Rattle.tmm_model.proofs.WellNamed.{AllFollow-append}
 use Rattle.premise_list.proofs.TableFacts.{rest_of}
 use Rattle.premise_list.proofs.standing.Standing.rollback.Goals as goal
 
-pub append-requires-clause-follow : goal.append-requires-clause-follow
-append-requires-clause-follow c =
+pub replace_from-requires-clause-follow : goal.replace_from-requires-clause-follow
+replace_from-requires-clause-follow c =
     let n = c.self.inside.shared in
     let ps = c.self.inside.committed.items in
+    let slice = c.as_slice-committed.result.now in
     let parts = (AllFollow-append [] (take n ps) (drop n ps) (subst IsWellNamed (sym (take-append-drop n ps)) c.self.invariant.well_named)).1 in
-    let first : take n ps ≡ c.truncate.new.self.premises = sym (c.truncate.ensures.premises ∙ c.self.invariant.alike) in
-    let rest : drop n ps ≡ take (length c.as_slice.result.now - n) (drop n c.as_slice.result.now) = sym (rest_of n c.as_slice.result.now ps c.as_slice.ensures.value) in
-    subst (λ l. AllFollow l (take (length c.as_slice.result.now - n) (drop n c.as_slice.result.now))) first (subst (AllFollow (take n ps)) rest parts)
+    let rest : drop n ps ≡ take (length slice - n) (drop n slice) = sym (rest_of n slice ps c.as_slice-committed.ensures.value) in
+    subst (λ l. AllFollow l (take (length slice - n) (drop n slice))) (sym c.self.invariant.alike) (subst (AllFollow (take n ps)) rest parts)

@@ -1,0 +1,122 @@
+-- The part of a list that an erasure walks.
+use Rattle.std.proofs.Common.{◌≡◌, ℕ, zero, suc, ◌+◌, ◌<◌, ◌≤◌, Bool, true, false, ◌||◌, List, [], ◌∷◌, ◌++◌, map, length, take, drop, refl, sym, ◌∙◌, ap, subst, arith, cond, append_assoc}
+use Rattle.std.specs.Prelude.{Option, Some, None, unwrap_or}
+use Rattle.std.specs.List.{flat_map, list_any}
+use Rattle.std.specs.Map.{lookup}
+use Rattle.std.proofs.lemmas.List.{take-append-drop, take-append-le, take-take, length-take-le, length-append}
+use Rattle.std.proofs.lemmas.List.Folds.{list_any-append}
+use Rattle.tmm_model.specs.declared.premise.Premise.{Premise}
+use Rattle.tmm_model.specs.Points.{same_name}
+use Rattle.tmm_model.specs.Standing.{name_of}
+use Rattle.tmm_model.specs.Sorts.{Sort, a_fact, fact_use, declared_by}
+use Rattle.tmm_model.specs.WellNamed.{AllFollow, IsWellNamed}
+use Rattle.tmm_model.specs.Erasure.{names_used, is_among, falls, kept_after, fallen_after, kept_without, fallen_with}
+use Rattle.tmm_model.proofs.WellNamed.{AllFollow-append}
+use Rattle.tmm_model.proofs.Erasure.{stays_before, kept_after-stays, kept_after-falls, kept_after-same, fallen_after-stays, fallen_after-falls, fallen_after-same, kept_without-IsWellNamed}
+use Rattle.premise_list.specs.Words.{facts_of, own_sort}
+use Rattle.premise_list.specs.Table.{placed}
+use Rattle.premise_list.specs.Gone.{SameNames}
+use Rattle.premise_list.specs.Found.{IsFoundAt}
+use Rattle.premise_list.proofs.Lookups.{lookup-placed_cons}
+use Rattle.premise_list.proofs.TableFacts.{declared_by_parted}
+
+-- where a name is found
+pub found_at : (n : List ℕ) (i : ℕ) (ps : List Premise) (s : Sort) (k : ℕ) → lookup (same_name n) (placed i ps) ≡ Some (s, k) → (j : ℕ) × (k ≡ i + j) × IsFoundAt n ps j
+found_at n i [] s k h = cc
+found_at n i (p ∷ ps) s k h =
+    by (same_name n (name_of p)) refl (list_any (same_name n) (facts_of p)) (found_at n (suc i) ps s k) (sym (lookup-placed_cons (same_name n) i p ps) ∙ h)
+  where
+    here : i ≡ k → (j : ℕ) × (k ≡ i + j) × IsFoundAt n (p ∷ ps) j
+    here e = (0, omega arith, record { within = omega arith; kept = refl; fallen = refl })
+
+    by : (a : Bool) → same_name n (name_of p) ≡ a → (b : Bool) → (lookup (same_name n) (placed (suc i) ps) ≡ Some (s, k) → (j : ℕ) × (k ≡ suc i + j) × IsFoundAt n ps j)
+        → cond a (Some (own_sort p, i)) (cond b (Some (a_fact, i)) (lookup (same_name n) (placed (suc i) ps))) ≡ Some (s, k)
+        → (j : ℕ) × (k ≡ i + j) × IsFoundAt n (p ∷ ps) j
+    by true f b again e = here (ap (λ o. (unwrap_or {T = Sort × ℕ} o (a_fact, 0)).1) e)
+    by false f true again e = here (ap (λ o. (unwrap_or {T = Sort × ℕ} o (a_fact, 0)).1) e)
+    by false f false again e =
+        let (j, at, found) = again e in
+        let stays = stays_before n p f in (
+          suc j,
+          omega arith,
+          record {
+            within = let below : j < length ps = found.within in omega arith;
+            kept = kept_after-stays n [] p ps stays ∙ ap (λ l. p ∷ l) found.kept;
+            fallen = fallen_after-stays n [] p ps stays ∙ found.fallen;
+          },
+        )
+
+-- no more stay than there are
+pub kept_after-fewer : (n : List ℕ) (gone : List (List ℕ)) (ps : List Premise) → length (kept_after n gone ps) ≤ length ps
+kept_after-fewer n gone [] = omega arith
+kept_after-fewer n gone (p ∷ ps) = by (kept_after-fewer n (declared_by p ++ gone) ps) (kept_after-fewer n gone ps) (falls n gone p)
+  where
+    by : length (kept_after n (declared_by p ++ gone) ps) ≤ length ps → length (kept_after n gone ps) ≤ length ps → (b : Bool)
+        → length (elim b as (λ _. List Premise) [ true ↦ kept_after n (declared_by p ++ gone) ps | false ↦ p ∷ kept_after n gone ps ]) ≤ length (p ∷ ps)
+    by one two true = omega arith
+    by one two false = omega arith
+
+-- those that stay follow the premises before the erased one
+pub follow_before : (n : List ℕ) (ps : List Premise) (j : ℕ) → IsFoundAt n ps j → IsWellNamed ps → AllFollow (take j ps) (kept_without n (drop j ps))
+follow_before n ps j found h = (AllFollow-append [] (take j ps) (kept_without n (drop j ps)) (subst IsWellNamed found.kept (kept_without-IsWellNamed n ps h))).1
+
+-- the first m of the list, where the others change
+pub alike_before : (m n j : ℕ) (ps qs rest : List Premise) → take n ps ≡ take n qs → m ≤ n → m ≤ j → j ≤ length ps → take m (take j ps ++ rest) ≡ take m qs
+alike_before m n j ps qs rest alike h g within =
+    let long : m ≤ length (take j ps) = omega (arith, length-take-le j ps within) in
+    take-append-le m (take j ps) rest long ∙ take-take m j ps g ∙ sym (take-take m n ps h) ∙ ap (take m) alike ∙ take-take m n qs h
+
+-- the names in a list of facts that are used
+pub facts_used : (fs : List (List ℕ)) → flat_map names_used (map fact_use fs) ≡ fs
+facts_used [] = refl
+facts_used (f ∷ fs) = ap (λ l. f ∷ l) (facts_used fs)
+
+-- a premise that falls, and one that stays, at the head of those to be walked
+module _ (n : List ℕ) (gone : List (List ℕ)) (p : Premise) (rest : List Premise) where
+  pub names_fall : (more : List (List ℕ)) (names whole : List (List ℕ)) → falls n gone p ≡ true → SameNames more (declared_by p ++ gone)
+      → names ++ map name_of (fallen_after n gone (p ∷ rest)) ≡ whole → (names ++ name_of p ∷ []) ++ map name_of (fallen_after n more rest) ≡ whole
+  names_fall more names whole e same h =
+      append_assoc names (name_of p ∷ []) (map name_of (fallen_after n more rest))
+      ∙ ap (λ l. names ++ name_of p ∷ map name_of l) (fallen_after-same n more (declared_by p ++ gone) same rest)
+      ∙ ap (λ l. names ++ map name_of l) (sym (fallen_after-falls n gone p rest e)) ∙ h
+
+  pub names_stay : (names whole : List (List ℕ)) → falls n gone p ≡ false → names ++ map name_of (fallen_after n gone (p ∷ rest)) ≡ whole → names ++ map name_of (fallen_after n gone rest) ≡ whole
+  names_stay names whole e h = ap (λ l. names ++ map name_of l) (sym (fallen_after-stays n gone p rest e)) ∙ h
+
+  pub kept_fall : (more : List (List ℕ)) (kept whole : List Premise) → falls n gone p ≡ true → SameNames more (declared_by p ++ gone)
+      → kept ++ kept_after n gone (p ∷ rest) ≡ whole → kept ++ kept_after n more rest ≡ whole
+  kept_fall more kept whole e same h = ap (λ l. kept ++ l) (kept_after-same n more (declared_by p ++ gone) same rest ∙ sym (kept_after-falls n gone p rest e)) ∙ h
+
+  pub kept_stay : (kept whole : List Premise) → falls n gone p ≡ false → kept ++ kept_after n gone (p ∷ rest) ≡ whole → (kept ++ p ∷ []) ++ kept_after n gone rest ≡ whole
+  kept_stay kept whole e h = append_assoc kept (p ∷ []) (kept_after n gone rest) ∙ ap (λ l. kept ++ l) (sym (kept_after-stays n gone p rest e)) ∙ h
+
+-- the names of a premise, lost one after the other
+pub all_lost : (p : Premise) (old mid new : List (List ℕ)) → SameNames mid (name_of p ∷ old) → SameNames new (facts_of p ++ mid) → SameNames new (declared_by p ++ old)
+all_lost p old mid new first others v =
+    others v ∙ list_any-append (same_name v) (facts_of p) mid ∙ ap (λ x. list_any (same_name v) (facts_of p) || x) (first v)
+    ∙ by (list_any (same_name v) (facts_of p)) (same_name v (name_of p)) (list_any (same_name v) old)
+    ∙ ap (λ x. same_name v (name_of p) || x) (sym (list_any-append (same_name v) (facts_of p) old))
+    ∙ ap (λ l. list_any (same_name v) (l ++ old)) (sym (declared_by_parted p))
+  where
+    by : (x y z : Bool) → (x || (y || z)) ≡ (y || (x || z))
+    by true true z = refl
+    by true false z = refl
+    by false true z = refl
+    by false false z = refl
+
+-- one more name that is lost, after others
+pub one_lost : (fs : List (List ℕ)) (f : List ℕ) (old mid new : List (List ℕ)) → SameNames mid (fs ++ old) → SameNames new (f ∷ mid) → SameNames new ((fs ++ f ∷ []) ++ old)
+one_lost fs f old mid new others next v =
+    next v ∙ ap (λ x. same_name v f || x) (others v ∙ list_any-append (same_name v) fs old) ∙ by (same_name v f) (list_any (same_name v) fs) (list_any (same_name v) old)
+    ∙ ap (λ x. x || list_any (same_name v) old) (sym (list_any-append (same_name v) fs (f ∷ []))) ∙ sym (list_any-append (same_name v) (fs ++ f ∷ []) old)
+  where
+    by : (x y z : Bool) → (x || (y || z)) ≡ ((y || (x || false)) || z)
+    by true true z = refl
+    by true false z = refl
+    by false true z = refl
+    by false false z = refl
+
+-- a rule whose trigger and effect are not gone
+pub rule_mentions : (gone : List (List ℕ)) (trigger effect : List ℕ) (fs : List (List ℕ)) → is_among gone trigger ≡ false → is_among gone effect ≡ false
+    → list_any (is_among gone) fs ≡ (is_among gone trigger || (is_among gone effect || list_any (is_among gone) (flat_map names_used (map fact_use fs))))
+rule_mentions gone trigger effect fs t e = λ i. sym t i || (sym e i || list_any (is_among gone) (sym (facts_used fs) i))

@@ -1,0 +1,114 @@
+// Which premises fall with one that is retracted.
+ghost use Rattle.std.specs.Prelude.{◌≡◌, [], ◌∷◌, ◌++◌, ◌≤◌, length, map, vec_len, IfOk, OnOk};
+ghost use Rattle.std.specs.List.{list_any};
+ghost use Rattle.tmm_model.specs.Standing.{name_of};
+ghost use Rattle.tmm_model.specs.Sorts.{declared_by};
+ghost use Rattle.tmm_model.specs.Erasure.{names_at, mentioned_by, is_among, falls, kept_after, fallen_after};
+ghost use Rattle.premise_list.specs.Gone.{SameNames};
+
+use crate::premise::{copy_of, facts_of, name_of};
+use indexmap::IndexSet;
+use std::alloc::Global;
+use tmm_model::{Name, NoMemory, PointName, Premise, Seq};
+
+/// Premises parted into those that fall and those that stay.
+#[derive(Drop)]
+pub(crate) struct Fall {
+    // the names of those that fall
+    pub names: Seq<Name>,
+    pub kept: Vec<Premise>,
+}
+
+// The premises, parted by whether they fall with the one of this name.
+pub(crate) fn fall_with(alloc: Global, erased: Name, premises: &[Premise]) -> Result<Fall, NoMemory>
+    ensures names { IfOk result (λ fall. fall.names.items ≡ map name_of (fallen_after erased [] premises.now)) }
+    ensures kept { IfOk result (λ fall. fall.kept.items ≡ kept_after erased [] premises.now) }
+    ensures fewer { IfOk result (λ fall. vec_len fall.kept ≤ length premises.now) }
+{
+    let mut names = Seq::make(alloc);
+    let mut kept = Vec::with_capacity(alloc, premises.len())?;
+    let mut gone = IndexSet::new(alloc);
+    for premise in premises {
+        if falls(erased, &gone, premise) {
+            take(&mut names, name_of(premise))?;
+            lose(&mut gone, premise)?;
+        } else {
+            kept.push_reserved(copy_of(premise));
+        }
+    }
+    Ok(Fall { names, kept })
+}
+
+fn take(names: &mut Seq<Name>, name: Name) -> Result<(), NoMemory>
+    ensures { OnOk result (names.new.items ≡ names.old.items ++ name ∷ []) }
+{
+    match names.push(name) {
+        Ok(()) => Ok(()),
+        Err(_) => Err(NoMemory),
+    }
+}
+
+// Whether the premise falls, where these names are gone.
+fn falls(erased: Name, gone: &IndexSet<Name>, premise: &Premise) -> bool
+    ensures { result ≡ falls erased gone.now.keys premise.now }
+{
+    name_of(premise) == erased || mentions(gone, premise)
+}
+
+// Whether the premise mentions a name that is gone.
+fn mentions(gone: &IndexSet<Name>, premise: &Premise) -> bool
+    ensures { result ≡ list_any (is_among gone.now.keys) (mentioned_by premise.now) }
+{
+    match premise {
+        Premise::Class { .. } | Premise::Kind { .. } | Premise::Point { .. } => false,
+        Premise::Event { kind, .. } => gone.contains(kind),
+        Premise::Token { fact, .. } | Premise::Span { fact, .. } => gone.contains(fact),
+        Premise::Dist { from, to, .. } => mentions_point(gone, *from) || mentions_point(gone, *to),
+        Premise::Rule {
+            trigger,
+            effect,
+            given,
+            ..
+        } => {
+            gone.contains(trigger) || gone.contains(effect) || mentions_any(gone, given.as_slice())
+        }
+        Premise::Protect { fact, from, to, .. } => {
+            gone.contains(fact) || mentions_point(gone, *from) || mentions_point(gone, *to)
+        }
+    }
+}
+
+fn mentions_point(gone: &IndexSet<Name>, point: PointName) -> bool
+    ensures { result ≡ list_any (is_among gone.now.keys) (names_at point) }
+{
+    match point {
+        PointName::Start => false,
+        PointName::Begin(name) | PointName::End(name) => gone.contains(&name),
+    }
+}
+
+fn mentions_any(gone: &IndexSet<Name>, names: &[Name]) -> bool
+    ensures { result ≡ list_any (is_among gone.now.keys) names.now }
+{
+    names.iter().any(|name| gone.contains(name))
+}
+
+// Adds the names that the premise declares to those that are gone.
+fn lose(gone: &mut IndexSet<Name>, premise: &Premise) -> Result<(), NoMemory>
+    ensures { OnOk result (SameNames gone.new.keys (declared_by premise.now ++ gone.old.keys)) }
+{
+    lose_name(gone, name_of(premise))?;
+    for fact in facts_of(premise) {
+        lose_name(gone, *fact)?;
+    }
+    Ok(())
+}
+
+fn lose_name(gone: &mut IndexSet<Name>, name: Name) -> Result<(), NoMemory>
+    ensures { OnOk result (SameNames gone.new.keys (name ∷ gone.old.keys)) }
+{
+    match gone.insert(name) {
+        Ok(_) => Ok(()),
+        Err(_) => Err(NoMemory),
+    }
+}
