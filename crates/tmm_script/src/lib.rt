@@ -8,3 +8,5 @@ mod edits;
 mod fields;
 mod parse;
 mod queries;
+
+pub use parse::{LONGEST_LINE, parse_line};
