@@ -1,17 +1,12 @@
+//! The grammar of a script line, both ways: a line to its value, and a premise to its line.
+//! It stands on `tmm_model`, which defines the grammar, and `tmm_words`. `parse_line` gives exactly
+//! what a line reads as, and refuses it exactly where it is too long or reads as nothing;
+//! `print_premise` writes the line that reads as the premise.
 #![tactic(auto)]
-ghost use Rattle.std.specs.Prelude.{◌≡◌, ◌≤◌, ◌<◌, length, IfOk, IfErr};
-ghost use Rattle.tmm_model.specs.Lines.{ReadsLine};
-ghost use Rattle.tmm_script.specs.Stops.{StopsReading};
 
-use std::alloc::Global;
-use tmm_model::{Line, Stop};
+mod edits;
+mod fields;
+mod parse;
+mod queries;
 
-pub fn parse_line(alloc: Global, line: &[u8]) -> Result<Line, Stop>
-    ensures short { IfOk result (λ meaning. length line.now ≤ 400) }
-    ensures reads { IfOk result (λ meaning. ReadsLine line.now meaning) }
-    ensures stops { IfErr result (StopsReading line.now) }
-{
-    let _ = alloc;
-    let _ = line;
-    Err(Stop::NoMemory)
-}
+pub use parse::{LONGEST_LINE, parse_line};

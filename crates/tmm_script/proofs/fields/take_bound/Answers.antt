@@ -1,0 +1,10 @@
+use Rattle.tmm_model.specs.Lines.{words}
+use Rattle.tmm_model.specs.Reading.{bound_of}
+use Rattle.tmm_model.proofs.LinePoints.{bound_reader}
+use Rattle.tmm_words.proofs.Spelled.{read_from}
+use Rattle.tmm_script.proofs.Fronts.{front_is}
+use Rattle.tmm_script.proofs.fields.take_bound.Goals as goal
+
+pub returns : goal.returns
+returns c =
+    front_is bound_of (words c.args.rest.now.now) c.in_ok-word.word.now (words c.in_ok-word.behind.now) c.bound.result c.in_ok-word.ensures (read_from bound_reader c.in_ok-word.word.now c.bound.result c.bound.ensures)

@@ -1,0 +1,22 @@
+-- What a line is answered.
+use Rattle.std.specs.Prelude.{◌≡◌, ℕ, List, Option, Some, None, Result, Ok, Err}
+use Rattle.tmm_model.specs.declared.line.Line.{Line}
+use Rattle.tmm_model.specs.declared.refusal.Refusal.TheVariants.{Form}
+use Rattle.tmm_model.specs.declared.refusal.Stop.{Stop}
+use Rattle.tmm_model.specs.declared.refusal.Stop.TheVariants.{Refused, NoMemory}
+use Rattle.tmm_model.specs.Lines.{ReadsLine}
+use Rattle.tmm_script.specs.declared.fields.Misread.{Misread}
+use Rattle.tmm_script.specs.declared.fields.Misread.TheVariants as misreads
+
+-- The line reads as the answer. It is in no form where it reads as nothing, and no other refusal is answered.
+abbrev pub IsReadingOf : List ℕ → Result Line Stop → Type 0
+IsReadingOf line (Ok l) = ReadsLine line l
+IsReadingOf line (Err (Refused Form)) = (l : Line) → ReadsLine line l → ⊥
+IsReadingOf line (Err (Refused _)) = ⊥
+IsReadingOf line (Err NoMemory) = Unit {0}
+
+-- what a function returned, seen by view, is what reading gives, unless memory ran out
+abbrev pub Gives : {X Y : Type 0} → (X → Y) → Result X Misread → Option Y → Type 0
+Gives view (Ok x) read = read ≡ Some (view x)
+Gives view (Err misreads.Form) read = read ≡ None
+Gives view (Err misreads.Memory) read = Unit {0}

@@ -1,0 +1,65 @@
+// A line of a script.
+ghost use Rattle.std.specs.Prelude.{◌≡◌, ◌<◌, ◌≤◌, length, ◌↔◌, Ok, Err};
+ghost use Rattle.tmm_model.specs.declared.line.Line.TheVariants.{Silent, Change};
+ghost use Rattle.tmm_model.specs.declared.premise.Edit.{Edit as Edits};
+ghost use Rattle.tmm_model.specs.declared.refusal.Refusal.TheVariants.{LimitLine};
+ghost use Rattle.tmm_model.specs.declared.refusal.Stop.TheVariants.{Refused, NoMemory};
+ghost use Rattle.tmm_model.specs.Lines.{words, is_comment, bare_line, IsSilent, Reads, ReadsLine};
+ghost use Rattle.tmm_model.specs.Reading.{line_of};
+ghost use Rattle.tmm_script.specs.Given.{IsReadingOf, Gives};
+ghost use Rattle.tmm_script.specs.declared.fields.Misread.TheVariants.{Memory};
+
+use crate::edits::edit;
+use crate::fields::Misread;
+use crate::queries::query;
+use std::alloc::Global;
+use tmm_model::{Line, Refusal, Stop};
+use tmm_words::split_word;
+
+/// The greatest number of bytes of a line.
+pub const LONGEST_LINE: usize = 400;
+
+/// What a line of a script, without its line break, says. A line of more than `LONGEST_LINE` bytes
+/// is refused as `LimitLine`, and one that is in no form of the grammar as `Form`. Only a question
+/// that names an occurrence takes memory.
+pub fn parse_line(alloc: Global, line: &[u8]) -> Result<Line, Stop>
+    ensures too_long { (result ≡ Err (Refused LimitLine)) ↔ (400 < length line.now) }
+    ensures read { length line.now ≤ 400 → IsReadingOf line.now result }
+    ensures silent { length line.now ≤ 400 → IsSilent (words line.now) → result ≡ Ok Silent }
+    ensures no_memory { result ≡ Err NoMemory → (length line.now ≤ 400) × ((e : Edits) → ReadsLine line.now (Change e) → ⊥) }
+{
+    if line.len() > LONGEST_LINE {
+        return Err(Stop::Refused(Refusal::LimitLine));
+    }
+    match read(alloc, line) {
+        Ok(line) => Ok(line),
+        Err(Misread::Form) => Err(Stop::Refused(Refusal::Form)),
+        Err(Misread::Memory) => Err(Stop::NoMemory),
+    }
+}
+
+fn read(alloc: Global, line: &[u8]) -> Result<Line, Misread>
+    ensures value { Gives bare_line result (line_of (words line.now)) }
+    ensures silent { IsSilent (words line.now) → result ≡ Ok Silent }
+    ensures memory { result ≡ Err Memory → (e : Edits) → Reads (words line.now) (Change e) → ⊥ }
+{
+    let Some((word, rest)) = split_word(line) else {
+        return Ok(Line::Silent);
+    };
+    if comment(word) {
+        return Ok(Line::Silent);
+    }
+    match edit(word, rest) {
+        Some(edit) => Ok(Line::Change(edit)),
+        None => Ok(Line::Question(query(alloc, word, rest)?)),
+    }
+}
+
+fn comment(word: &[u8]) -> bool
+    ensures { result ≡ is_comment word.now }
+{
+    match word {
+        [b'#', ..] => true,
+        _ => false,
+    }
+}
