@@ -24,6 +24,9 @@ mod WorkedTouched
 pub mod Moments
 pub mod Upholding
 mod WorkedReasons
+mod WorkedQuestions
+mod WorkedDemo
+mod WorkedWorkshop
 pub mod LineNumbers
 pub mod LineReaders
 pub mod LineWords
