@@ -12,7 +12,21 @@ pub mod Walks
 pub mod Within
 mod WorkedReplies
 pub mod FarTables
-mod WorkedBeliefs
+pub mod WorkedScripts
+mod WorkedClips
+mod WorkedEffects
+mod WorkedChanges
+mod WorkedSizes
+mod WorkedSpans
+mod WorkedLists
+mod WorkedPaths
+mod WorkedTouched
+pub mod Moments
+pub mod Upholding
+mod WorkedReasons
+mod WorkedQuestions
+mod WorkedDemo
+mod WorkedWorkshop
 pub mod LineNumbers
 pub mod LineReaders
 pub mod LineWords

@@ -1,0 +1,123 @@
+-- Walks that give distances, and a cycle.
+use Rattle.std.proofs.Common.{◌≡◌, ◌++◌, List, [], ◌∷◌, pos, negsuc, inl, inr, refl, sym, subst, arith}
+use Rattle.std.specs.Prelude.{codes}
+use Rattle.std.specs.List.{All, Contains, IsDistinct}
+use Rattle.std.proofs.lemmas.Int.{ints}
+use Rattle.tmm_model.specs.declared.bound.Bound.TheVariants.{Finite, Free}
+use Rattle.tmm_model.specs.declared.point.PointName.TheVariants.{Start, Begin}
+use Rattle.tmm_model.specs.declared.premise.Premise.{Premise}
+use Rattle.tmm_model.specs.declared.premise.Premise.TheVariants.{Point, Dist}
+use Rattle.tmm_model.specs.declared.walk.Side.TheVariants.{Hi, Lo}
+use Rattle.tmm_model.specs.declared.walk.WalkStep.{WalkStep}
+use Rattle.tmm_model.specs.Maps.{built, gap}
+use Rattle.tmm_model.specs.Moments.{At}
+use Rattle.tmm_model.specs.Paths.{steps_in, IsPlainWalk, IsPath, IsCycle}
+use Rattle.tmm_model.specs.Standing.{Standing, far_in}
+use Rattle.tmm_model.proofs.FarTables.{by_table}
+use Rattle.tmm_model.proofs.WorkedScripts.{of_map, within, root}
+use Rattle.tmm_model.specs.Bounds.{after}
+use Rattle.tmm_model.proofs.Elements.{In-from_Contains}
+use Rattle.tmm_model.proofs.Members.{All-from_contains}
+
+-- point a / point b / dist d a b 3 7 / point c / dist e b c 2 4
+abbrev three : List Premise
+three =
+    Point (codes "a") ∷ Point (codes "b")
+    ∷ Dist (codes "d") (Begin (codes "a")) (Begin (codes "b")) (Finite (pos 3)) (Finite (pos 7))
+    ∷ Point (codes "c")
+    ∷ Dist (codes "e") (Begin (codes "b")) (Begin (codes "c")) (Finite (pos 2)) (Finite (pos 4)) ∷ []
+
+distances : (far_in three (Begin (codes "a")) (Begin (codes "b")) ≡ Finite (pos 7))
+    × (far_in three (Begin (codes "b")) (Begin (codes "a")) ≡ Finite (negsuc 2))
+    × (far_in three (Begin (codes "a")) (Begin (codes "c")) ≡ Finite (pos 11))
+    × (far_in three (Begin (codes "c")) (Begin (codes "a")) ≡ Finite (negsuc 4))
+    × (far_in three Start (Begin (codes "a")) ≡ Free)
+    × (far_in three (Begin (codes "a")) Start ≡ Finite (pos 0))
+distances = (
+  by_table (λ far. far (Begin (codes "a")) (Begin (codes "b"))) three,
+  by_table (λ far. far (Begin (codes "b")) (Begin (codes "a"))) three,
+  by_table (λ far. far (Begin (codes "a")) (Begin (codes "c"))) three,
+  by_table (λ far. far (Begin (codes "c")) (Begin (codes "a"))) three,
+  by_table (λ far. far Start (Begin (codes "a"))) three,
+  by_table (λ far. far (Begin (codes "a")) Start) three,
+)
+
+-- dist d a b 3 7, and dist e b c 2 4, from above and from below
+abbrev d_hi : WalkStep
+d_hi = record { premise = codes "d"; side = Hi; from = Begin (codes "a"); to = Begin (codes "b"); weight = pos 7 }
+
+abbrev e_hi : WalkStep
+e_hi = record { premise = codes "e"; side = Hi; from = Begin (codes "b"); to = Begin (codes "c"); weight = pos 4 }
+
+abbrev d_lo : WalkStep
+d_lo = record { premise = codes "d"; side = Lo; from = Begin (codes "b"); to = Begin (codes "a"); weight = negsuc 2 }
+
+abbrev e_lo : WalkStep
+e_lo = record { premise = codes "e"; side = Lo; from = Begin (codes "c"); to = Begin (codes "b"); weight = negsuc 1 }
+
+two : {X : Type 0} (F : X → Type 0) (x y : X) → F x → F y → All F (x ∷ y ∷ [])
+two F x y fx fy =
+    All-from_contains F (x ∷ y ∷ []) (λ z at.
+    elim (In-from_Contains (x ∷ y ∷ []) z at) [ inl is ↦ subst F is fx | inr rest ↦ elim rest [ inl is ↦ subst F is fy | inr none ↦ absurd none ] ])
+
+abbrev map : Standing
+map = within 1000 three
+
+up : IsPlainWalk three (Begin (codes "a")) (Begin (codes "c")) (d_hi ∷ e_hi ∷ [])
+unfolding IsDistinct
+up = record {
+  standing = two (Contains (steps_in three)) d_hi e_hi (2, omega arith, refl) (5, omega arith, refl);
+  leads = ((2, omega arith, refl), refl, ((5, omega arith, refl), refl, refl));
+  once = ((refl, (refl, tt)), ((refl, tt), (tt, tt)));
+}
+
+down : IsPlainWalk three (Begin (codes "c")) (Begin (codes "a")) (e_lo ∷ d_lo ∷ [])
+unfolding IsDistinct
+down = record {
+  standing = two (Contains (steps_in three)) e_lo d_lo (6, omega arith, refl) (3, omega arith, refl);
+  leads = ((6, omega arith, refl), refl, ((3, omega arith, refl), refl, refl));
+  once = ((refl, (refl, tt)), ((refl, tt), (tt, tt)));
+}
+
+-- path a c, path c a, path start a
+path_up : IsPath (built map) (root (codes "a")) (root (codes "c")) (Finite (pos 11)) (d_hi ∷ e_hi ∷ [])
+path_up = record {
+  bound = sym (of_map (λ m. gap m (root (codes "a")) (root (codes "c"))) map);
+  walk = record { plain = up; least = by_table (λ far. far (Begin (codes "a")) (Begin (codes "c"))) three };
+}
+
+path_down : IsPath (built map) (root (codes "c")) (root (codes "a")) (Finite (negsuc 4)) (e_lo ∷ d_lo ∷ [])
+path_down = record {
+  bound = sym (of_map (λ m. gap m (root (codes "c")) (root (codes "a"))) map);
+  walk = record { plain = down; least = by_table (λ far. far (Begin (codes "c")) (Begin (codes "a"))) three };
+}
+
+no_path : IsPath (built map) (At Start) (root (codes "a")) Free []
+no_path = record { bound = sym (of_map (λ m. gap m (At Start) (root (codes "a"))) map); walk = refl }
+
+-- ---- dist x c a 0 * would have a at or after c
+abbrev backwards : Premise
+backwards = Dist (codes "x") (Begin (codes "c")) (Begin (codes "a")) (Finite (pos 0)) Free
+
+abbrev x_lo : WalkStep
+x_lo = record { premise = codes "x"; side = Lo; from = Begin (codes "a"); to = Begin (codes "c"); weight = pos 0 }
+
+down_still : IsPlainWalk (three ++ backwards ∷ []) (Begin (codes "c")) (Begin (codes "a")) (e_lo ∷ d_lo ∷ [])
+unfolding IsDistinct
+down_still = record {
+  standing = two (Contains (steps_in (three ++ backwards ∷ []))) e_lo d_lo (6, omega arith, refl) (3, omega arith, refl);
+  leads = ((6, omega arith, refl), refl, ((3, omega arith, refl), refl, refl));
+  once = ((refl, (refl, tt)), ((refl, tt), (tt, tt)));
+}
+
+a_cycle : IsCycle three backwards (negsuc 4) (x_lo ∷ e_lo ∷ d_lo ∷ [])
+a_cycle = record {
+  first = x_lo;
+  back = e_lo ∷ d_lo ∷ [];
+  parted = refl;
+  own = (0, omega arith, refl);
+  walk = down_still;
+  tightest = by_table (λ far. after (pos 0) (far (Begin (codes "c")) (Begin (codes "a")))) three;
+  sums = refl;
+  negative = omega (arith, ints);
+}
