@@ -22,3 +22,4 @@ pub mod Beliefs
 pub mod Maps
 pub mod Answers
 pub mod Right
+pub mod Cycles
