@@ -30,3 +30,4 @@ pub mod Questions
 pub mod Kept
 pub mod Generator
 pub mod Steps
+pub mod Cycles

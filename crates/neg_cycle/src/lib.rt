@@ -1,0 +1,12 @@
+//! Walks of least sum over the constraints of a network, and closed walks of negative sum as
+//! certificates that no dates satisfy a premise.
+//!
+//! It stands on `tmm_model` and `dist_net`. `walk` and `cycle` give constraints of the network that
+//! lead from point to point without a repeated one, with the least sum, and `check_cycle_of` tells
+//! exactly whether steps, whoever made them, are such a closed walk.
+#![tactic(auto)]
+
+mod ranks;
+mod trail;
+
+pub use trail::{cycle, walk};
