@@ -1,9 +1,11 @@
 -- What the addition of a premise that may be added does to a network that stands for a list.
-use Rattle.std.proofs.Common.{◌≡◌, ◌≢◌, ◌⊎◌, inl, inr, ◌∙◌, ℕ, ◌+◌, ◌<◌, ◌≤◌, ◌*◌, List, [], ◌∷◌, ◌++◌, map, length, length-append, append-nil, get_or, Option, Some, None, ap, sym, subst, arith, refl, ℤ, pos, ◌+ℤ◌, ◌≤ℤ◌, ◌<ℤ◌, neg_ℤ, Result, Ok, Err}
-use Rattle.std.specs.List.{All, Contains, flat_map}
+use Rattle.std.proofs.Common.{◌≡◌, ◌≢◌, ◌⊎◌, inl, inr, ◌∙◌, ℕ, ◌+◌, ◌<◌, ◌≤◌, ◌*◌, List, [], ◌∷◌, ◌++◌, map, length, length-append, append-nil, get_or, replicate, zero, suc, cond, Option, Some, None, ap, sym, subst, arith, refl, ℤ, pos, ◌+ℤ◌, ◌≤ℤ◌, ◌<ℤ◌, neg_ℤ, Result, Ok, Err}
+use Rattle.std.specs.List.{All, Contains, count_by, flat_map}
+use Rattle.std.specs.Option.{is_some}
 use Rattle.std.proofs.lemmas.Bool.Decides.{Decides-eqb}
 use Rattle.std.proofs.lemmas.Int.{ints}
 use Rattle.std.proofs.lemmas.List.{length-map, map-append}
+use Rattle.std.proofs.lemmas.List.Sums.{sum_by-cons}
 use Rattle.std.proofs.lemmas.List.Elements.{All-append, All-contains, Contains-get_or}
 use Rattle.tmm_model.specs.declared.bound.Bound.{Bound}
 use Rattle.tmm_model.specs.declared.bound.Bound.TheVariants.{Finite, Free}
@@ -20,14 +22,15 @@ use Rattle.tmm_model.specs.Verdicts.{IsCycleSum}
 use Rattle.tmm_model.specs.Walks.{Arc, renamed, IsWalk, total, IsFar, HasDates, AreAmong}
 use Rattle.tmm_model.proofs.Adding.{MayBeAdded, steps_at, own_or_none}
 use Rattle.tmm_model.proofs.Dates.{Solved, solve}
-use Rattle.tmm_model.proofs.Members.{All-from_contains, Contains-map, Contains-map_from}
+use Rattle.tmm_model.proofs.Members.{All-from_contains, Contains-cons_first, Contains-cons_cases, Contains-map, Contains-map_from}
 use Rattle.tmm_model.proofs.Paths.{IsFar-same}
 use Rattle.tmm_model.proofs.Places.{arcs_in-push, length-arcs_in-le, points_new}
 use Rattle.tmm_model.proofs.Reach.{solved}
 use Rattle.tmm_model.proofs.WellNamed.{points_in-push}
 use Rattle.dist_net.specs.declared.Edge.{Edge}
 use Rattle.dist_net.specs.declared.Conflict.{Conflict}
-use Rattle.dist_net.specs.Net.{Net, same_number, arc_of, arcs_of, IsInUse, AreInUse, IsConflict}
+use Rattle.dist_net.specs.Net.{Net, start_alone, same_number, arc_of, arcs_of, IsInUse, AreInUse, IsConflict}
+use Rattle.dist_net.proofs.Names.{names_at_start, edges_at_start, only_start}
 use Rattle.map_engine.specs.Represents.{Names, IsNumberOf, name_at, Represents, StandsFor}
 use Rattle.map_engine.specs.Network.{IsNew, IsThere, KeepsNumbers, AddsPoints, AreThere, AreApart, AddsEdges, AddsSteps}
 use Rattle.map_engine.proofs.Nets.{ends_used, is_used}
@@ -197,3 +200,31 @@ pub some_dates : (ps : List Premise) (p : Premise) (net : Net) → Represents (p
 some_dates ps p net grown more named distinct start in_use more_in_use dates =
     HasDates-named (points_in (ps ++ p ∷ [])) (arcs_in (ps ++ p ∷ [])) net.names (arcs_of (net.edges ++ more)) (stands_with ps p net grown more named) distinct start
     (ends_used net.names (net.edges ++ more) (All-append (λ e. IsInUse net.names e.from × IsInUse net.names e.to) net.edges more in_use more_in_use)) dates
+
+-- ---- the empty list
+
+-- numbers that are not in use count for nothing
+count-replicate_none : (n : ℕ) → count_by (is_some {T = PointName}) (replicate n None) ≡ 0
+count-replicate_none zero = refl
+count-replicate_none (suc n) = sum_by-cons (λ (x : Option PointName). cond (is_some x) 1 0) None (replicate n None) ∙ (omega (arith, count-replicate_none n))
+
+count_start : count_by is_some start_alone.names ≡ 1
+count_start =
+    ap (λ (l : List (Option PointName)). count_by is_some l) names_at_start ∙ count-some_start (replicate 255 None) ∙ ap (λ k. 1 + k) (count-replicate_none 255)
+  where
+    count-some_start : (l : List (Option PointName)) → count_by is_some (Some Start ∷ l) ≡ 1 + count_by is_some l
+    count-some_start l = sum_by-cons (λ (x : Option PointName). cond (is_some x) 1 0) (Some Start) l
+
+pub stands_at_start : StandsFor [] start_alone.names (arcs_of start_alone.edges)
+stands_at_start =
+    let none : arcs_of start_alone.edges ≡ [] = ap arcs_of edges_at_start in
+    let first : get_or start_alone.names 0 None ≡ Some Start = ap (λ (l : List (Option PointName)). get_or l 0 None) names_at_start in
+    subst (λ (l : List (Arc ℕ)). StandsFor [] start_alone.names l) (sym none)
+    (record {
+      numbered = λ p m. (0, first ∙ ap (λ (x : PointName). Some x) (sym (elim (Contains-cons_cases Start [] p m) [ inl never ↦ absurd (omega (arith, never.1)) | inr is ↦ is ])));
+      named = λ n p is. (let o = only_start n p is in subst (Contains (Start ∷ [])) (sym o.1) (Contains-cons_first Start []));
+      count = count_start;
+      there = λ e m. absurd (omega (arith, m.1));
+      only = λ e m. absurd (omega (arith, m.1));
+      arcs_count = refl;
+    })

@@ -4,3 +4,4 @@ pub mod Extending
 pub mod Nets
 pub mod Steps
 pub mod Additions
+mod Distances

@@ -1,9 +1,11 @@
 -- What the plain map keeps.
-use Rattle.std.specs.Prelude.{◌≡◌, Bool, true, false, Option, Some, None}
+use Rattle.std.specs.Prelude.{◌≡◌, ℕ, Bool, true, false, Option, Some, None}
+use Rattle.tmm_model.specs.declared.point.QueryPoint.{QueryPoint}
+use Rattle.tmm_model.specs.declared.point.QueryPoint.TheVariants.{Declared, Derived}
 use Rattle.tmm_model.specs.Standing.{Standing, IsConsistent}
 use Rattle.dist_net.specs.Net.{Net, Nets, arcs_of}
 use Rattle.premise_list.specs.States.{States}
-use Rattle.map_engine.specs.Represents.{StandsFor}
+use Rattle.map_engine.specs.Represents.{Names, IsNumberOf, StandsFor}
 
 -- a map as its callers see it: the list of the last commit, and the one that a pending edit leaves
 pub record MapState : Type 0 where
@@ -28,3 +30,8 @@ pub record IsPlain (lists : States) (nets : Nets) (pending : Bool) : Type 0 wher
   pub present : Fits lists.present nets.present
   pub committed : Fits lists.committed nets.committed
   pub settled : pending ≡ false → IsSettled lists nets
+
+-- the number is that of the declared point that a question names
+abbrev pub IsNumberOfPoint : Names → ℕ → QueryPoint → Type 0
+IsNumberOfPoint names n (Declared p) = IsNumberOf names n p
+IsNumberOfPoint names n (Derived o) = ⊥

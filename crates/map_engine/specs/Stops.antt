@@ -1,10 +1,11 @@
 -- Why a call of a map gives no answer: a refusal, or want of memory.
 use Rattle.tmm_model.specs.declared.line.Query.{Query}
+use Rattle.tmm_model.specs.declared.point.QueryPoint.{QueryPoint}
 use Rattle.tmm_model.specs.declared.premise.Edit.{Edit}
 use Rattle.tmm_model.specs.declared.refusal.Stop.{Stop}
 use Rattle.tmm_model.specs.declared.refusal.Stop.TheVariants.{Refused, NoMemory}
 use Rattle.tmm_model.specs.Standing.{Standing}
-use Rattle.tmm_model.specs.Steps.{Refuses, question_cause}
+use Rattle.tmm_model.specs.Steps.{Refuses, point_cause, question_cause}
 use Rattle.tmm_model.specs.Verdicts.{Tells}
 
 abbrev pub StopsEdit : Standing → Edit → Stop → Type 0
@@ -14,3 +15,7 @@ StopsEdit list edit NoMemory = Unit {0}
 abbrev pub StopsQuery : Standing → Query → Stop → Type 0
 StopsQuery list query (Refused refusal) = Tells refusal (question_cause list.premises query)
 StopsQuery list query NoMemory = Unit {0}
+
+abbrev pub StopsPoint : Standing → QueryPoint → Stop → Type 0
+StopsPoint list point (Refused refusal) = Tells refusal (point_cause list.premises point)
+StopsPoint list point NoMemory = Unit {0}

@@ -4,9 +4,9 @@ ghost use Rattle.tmm_model.specs.Edits.{list_with};
 ghost use Rattle.tmm_model.specs.Lines.{IsWellFormedPremise};
 ghost use Rattle.tmm_model.specs.Standing.{Standing, empty_list, IsConsistent};
 ghost use Rattle.tmm_model.specs.Steps.{point_cause};
-ghost use Rattle.tmm_model.specs.Verdicts.{list_cause, place_cause, Tells};
-ghost use Rattle.map_engine.specs.Plain.{Fits, IsSettled};
-ghost use Rattle.map_engine.specs.Stops.{StopsEdit};
+ghost use Rattle.tmm_model.specs.Verdicts.{list_cause};
+ghost use Rattle.map_engine.specs.Plain.{Fits, IsSettled, IsNumberOfPoint};
+ghost use Rattle.map_engine.specs.Stops.{StopsEdit, StopsPoint};
 ghost use Rattle.map_engine.specs.Changed.{AreNone};
 
 use crate::map_core::{MapCore, Pending};
@@ -15,9 +15,7 @@ use dist_net::DistNet;
 use premise_list::Standing;
 use std::alloc::Global;
 use std::marker::Model;
-use tmm_model::{
-    Bound, Changes, Edit, NoMemory, PointName, Premise, QueryPoint, Refusal, Seq, Stop,
-};
+use tmm_model::{Bound, Changes, Edit, NoMemory, Premise, QueryPoint, Refusal, Seq, Stop};
 
 /// A map that keeps the standing list and its distances. The list and the distances before a pending
 /// edit are kept until it is committed.
@@ -91,10 +89,34 @@ impl MapCore for PlainMap {
         p: &QueryPoint,
         q: &QueryPoint,
     ) -> Result<(Bound, Bound), Stop> {
-        let _ = alloc;
-        let _ = p;
-        let _ = q;
-        Err(Stop::NoMemory)
+        let from = resolve(alloc, &self.standing, &self.net, p)?;
+        let to = resolve(alloc, &self.standing, &self.net, q)?;
+        let _ = self.net.edges();
+        Ok((self.net.far(to, from).negated(), self.net.far(from, to)))
+    }
+}
+
+// The number of a point that a question names. Nothing derived is believed yet.
+fn resolve(
+    alloc: Global,
+    standing: &Standing,
+    net: &DistNet,
+    point: &QueryPoint,
+) -> Result<u16, Stop>
+    requires fits { Fits standing.now.present net.now.present }
+    ensures known { IfOk result (λ number. point_cause standing.now.present.premises point.now ≡ None) }
+    ensures number { IfOk result (λ number. IsNumberOfPoint net.now.present.names number point.now) }
+    ensures stops { IfErr result (StopsPoint standing.now.present point.now) }
+{
+    match point {
+        QueryPoint::Declared(place) => match standing.check_place(*place) {
+            Ok(()) => Ok(number_of(net, *place)),
+            Err(refusal) => Err(Stop::Refused(refusal)),
+        },
+        QueryPoint::Derived(occ) => Err(match occ.copy(alloc) {
+            Ok(occ) => Stop::Refused(Refusal::Unknown(QueryPoint::Derived(occ))),
+            Err(_) => Stop::NoMemory,
+        }),
     }
 }
 

@@ -126,7 +126,7 @@ impl Table {
         Ok(())
     }
 
-    fn check_name(&self, name: Name, wanted: Wanted) -> Result<(), Refusal>
+    pub(crate) fn check_name(&self, name: Name, wanted: Wanted) -> Result<(), Refusal>
         ensures { Judges result (name_cause (sort_in self.now.premises name) name (wants wanted)) }
     {
         match self.sort_of(name) {
@@ -147,7 +147,7 @@ impl Table {
         }
     }
 
-    fn check_place(&self, point: PointName) -> Result<(), Refusal>
+    pub(crate) fn check_place(&self, point: PointName) -> Result<(), Refusal>
         ensures { Judges result (place_cause self.now.premises point) }
     {
         match point {

@@ -3,17 +3,18 @@ ghost use Rattle.std.specs.Prelude.{◌≡◌, ◌≤◌, ◌↔◌, ◌++◌, N
 ghost use Rattle.std.specs.Option.{option_copied};
 ghost use Rattle.tmm_model.specs.Standing.{empty_list, name_of};
 ghost use Rattle.tmm_model.specs.Erasure.{fallen_with};
-ghost use Rattle.tmm_model.specs.Sorts.{class_in};
-ghost use Rattle.tmm_model.specs.Verdicts.{list_cause, most_premises, Tells};
+ghost use Rattle.tmm_model.specs.Sorts.{class_in, fact_use};
+ghost use Rattle.tmm_model.specs.Verdicts.{list_cause, place_cause, use_cause, most_premises, Tells};
 ghost use Rattle.tmm_model.specs.WellNamed.{IsWellNamed, premise_in};
 ghost use Rattle.tmm_model.specs.Edits.{list_with, list_without, list_until};
 
+use crate::check::Wanted;
 use crate::erase::fall_with;
 use crate::premise::{copy_of, facts_of};
 use crate::table::{Table, word_count};
 use std::alloc::Global;
 use std::marker::Model;
-use tmm_model::{Edit, Name, NoMemory, Premise, Refusal, Seq};
+use tmm_model::{Edit, Name, NoMemory, PointName, Premise, Refusal, Seq};
 
 /// The standing list and its horizon, now and as they were at the last commit.
 #[derive(Drop)]
@@ -59,6 +60,22 @@ impl Standing {
         ensures told { IfErr result (λ refusal. Tells refusal (list_cause self.now.present.premises edit.now)) }
     {
         self.table.check(edit)
+    }
+
+    /// Whether a point is there, and else the cause against its word.
+    pub fn check_place(&self, point: PointName) -> Result<(), Refusal>
+        ensures ok { IsOk result ↔ (place_cause self.now.present.premises point ≡ None) }
+        ensures told { IfErr result (λ refusal. Tells refusal (place_cause self.now.present.premises point)) }
+    {
+        self.table.check_place(point)
+    }
+
+    /// Whether a fact is declared, and else the cause against its word.
+    pub fn check_fact(&self, fact: Name) -> Result<(), Refusal>
+        ensures ok { IsOk result ↔ (use_cause self.now.present.premises (fact_use fact) ≡ None) }
+        ensures told { IfErr result (λ refusal. Tells refusal (use_cause self.now.present.premises (fact_use fact))) }
+    {
+        self.table.check_name(fact, Wanted::Fact)
     }
 
     /// Appends a premise that `check` lets through. Without memory nothing has changed.

@@ -1,5 +1,6 @@
 -- What a session's turns tell.
-use Rattle.std.proofs.Common.{◌≡◌, ℕ, List, ◌≤◌, length, Bool, false, IsTrue, Result, Ok, Err, MatchResult, IfOk, refl, sym, ap, ◌∙◌, subst, arith}
+use Rattle.std.proofs.lemmas.Bool.Decides.{leb_tells}
+use Rattle.std.proofs.Common.{◌≡◌, ◌⊎◌, inl, inr, ℕ, List, ◌≤◌, ◌<◌, ◌↔◌, length, Bool, false, IsTrue, Result, Ok, Err, MatchResult, IfOk, refl, sym, ap, ◌∙◌, subst, arith}
 use Rattle.tmm_model.specs.declared.line.Line.{Line}
 use Rattle.tmm_model.specs.declared.line.Line.TheVariants.{Silent as Blank, Change, Question}
 use Rattle.tmm_model.specs.declared.line.Query.{Query}
@@ -8,7 +9,8 @@ use Rattle.tmm_model.specs.declared.memory.NoMemory.{NoMemory}
 use Rattle.tmm_model.specs.declared.premise.Edit.{Edit}
 use Rattle.tmm_model.specs.declared.refusal.Refusal.{Refusal}
 use Rattle.tmm_model.specs.declared.refusal.Refusal.TheVariants.{LimitLine, Form, Taken, Unknown, Sort, LimitPremises, LimitPoints, Cycle, LimitSize}
-use Rattle.tmm_model.specs.declared.refusal.Stop.TheVariants.{Refused as Stopped}
+use Rattle.tmm_model.specs.declared.refusal.Stop.{Stop}
+use Rattle.tmm_model.specs.declared.refusal.Stop.TheVariants.{Refused as Stopped, NoMemory as OutOfMemory}
 use Rattle.tmm_model.specs.declared.seq.Seq.{Seq}
 use Rattle.tmm_model.specs.declared.turn.Turn.{Turn}
 use Rattle.tmm_model.specs.declared.turn.Turn.TheVariants.{Silent, Reply as ReplyOf, Memory}
@@ -17,8 +19,9 @@ use Rattle.tmm_model.specs.Replies.{Reply, Refused, text_of, is_refusal}
 use Rattle.tmm_model.specs.Standing.{Standing}
 use Rattle.tmm_model.specs.Steps.{Says, is_built, is_built_query, Refuses, question_cause, AnswersMeaning, AnswersTo, by_length, by_form, by_meaning, Step}
 use Rattle.tmm_model.specs.Verdicts.{Tells as TellsCause}
-use Rattle.tmm_script.specs.Stops.{StopsReading}
+use Rattle.tmm_script.specs.Given.{IsReadingOf}
 use Rattle.tmm_cli.specs.Sessions.{Tells, TellsMeaning}
+use Rattle.tmm_cli.specs.Stopping.{StopsReading}
 
 -- bytes that are the text of a reply, or want of memory
 pub Tells-reply : (k : ℕ) (replied : Reply → Type 0) (kept : Type 0) (bytes : Result (Seq ℕ) NoMemory) (reply : Reply) (turn : Turn)
@@ -98,7 +101,7 @@ question_is_not_silent one line query reads says =
     let same : bare_line (Question query) ≡ bare_line Blank = one (words line) (Question query) Blank reads says.reads in cc same
 
 -- a line is refused as it is read
-pub Step-stopped : (old : Standing) (k : ℕ) (line : List ℕ) (refusal : Refusal) (turn : Turn) → StopsReading line (Stopped refusal)
+pub Step-stopped : (old : Standing) (k : ℕ) (line : List ℕ) (refusal : Refusal) (turn : Turn) → StopsReading line refusal
     → Tells k (λ reply. reply ≡ Refused refusal) (Unit {0}) turn → Step old k line turn old
 Step-stopped old k line LimitLine turn long told =
     Step-refused old k line LimitLine turn (λ reply e. by_length long e refl) (λ says. omega (arith, says.short)) told
@@ -118,3 +121,38 @@ pub Step-unanswered : ReadingIsOne → (old : Standing) (k : ℕ) (line : List �
 Step-unanswered one old k line meaning turn short reads unbuilt told =
     let nothing : (other : Line) → Says line other → ⊥ = says_nothing one line meaning reads unbuilt in
     Step-refused old k line Form turn (λ reply e. by_form short nothing e refl) (nothing Blank) told
+
+-- ---- what reading a line gives
+
+-- a line that was read is short, and reads so
+pub read_line : (line : List ℕ) (meaning : Line) (result : Result Line Stop) → result ≡ Ok meaning
+    → ((result ≡ Err (Stopped LimitLine)) ↔ (400 < length line)) → (length line ≤ 400 → IsReadingOf line result) → (length line ≤ 400) × ReadsLine line meaning
+read_line line meaning result is too_long read = elim (leb_tells (length line) 400) [
+  | inl short ↦ (short.1, subst (IsReadingOf line) is (read short.1))
+  | inr long ↦ absurd (let e : Ok meaning ≡ Err (Stopped LimitLine) = sym is ∙ too_long.1 long.1 in cc e)
+]
+
+-- a line that is refused is too long, or in no form
+pub stops_reading : (line : List ℕ) (refusal : Refusal) (result : Result Line Stop) → result ≡ Err (Stopped refusal)
+    → ((result ≡ Err (Stopped LimitLine)) ↔ (400 < length line)) → (length line ≤ 400 → IsReadingOf line result) → StopsReading line refusal
+stops_reading line refusal result is too_long read = elim (leb_tells (length line) 400) [
+  | inl short ↦ by refusal is (subst (IsReadingOf line) is (read short.1)) short.1
+  | inr long ↦ (let e : Err (Stopped refusal) ≡ Err (Stopped LimitLine) = sym is ∙ too_long.1 long.1 in
+      let same : refusal ≡ LimitLine = cc in subst (StopsReading line) (sym same) long.1)
+]
+  where
+    by : (refusal : Refusal) → result ≡ Err (Stopped refusal) → IsReadingOf line (Err (Stopped refusal)) → length line ≤ 400 → StopsReading line refusal
+    by LimitLine is given short = too_long.0 is
+    by Form is given short = (short, given)
+    by (Taken word) is given short = absurd given
+    by (Unknown word) is given short = absurd given
+    by (Sort word) is given short = absurd given
+    by LimitPremises is given short = absurd given
+    by LimitPoints is given short = absurd given
+    by (Cycle sum steps) is given short = absurd given
+    by LimitSize is given short = absurd given
+
+-- a line for which there was no memory is not silent
+pub no_memory_is_not_silent : (line : List ℕ) (result : Result Line Stop) → result ≡ Err OutOfMemory
+    → (length line ≤ 400 → ReadsLine line Blank → result ≡ Ok Blank) → Says line Blank → ⊥
+no_memory_is_not_silent line result is silent says = let e : Err OutOfMemory ≡ Ok Blank = sym is ∙ silent says.short says.reads in cc e

@@ -4,3 +4,4 @@ pub mod Reading
 pub mod Sessions
 pub mod LongLines
 pub mod Program
+pub mod Stopping

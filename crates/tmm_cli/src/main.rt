@@ -10,6 +10,8 @@ mod run;
 mod session;
 mod status;
 mod tally;
+#[cfg(test)]
+mod tests;
 
 use crate::run::run;
 use std::env;

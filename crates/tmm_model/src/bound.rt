@@ -1,5 +1,5 @@
 ghost use Rattle.std.specs.Prelude.{◌≡◌, ℕ, ◌+◌, ◌-◌, ◌<◌, ◌≤◌, length, IsTrue, ◌↔◌};
-ghost use Rattle.tmm_model.specs.Bounds.{lesser, through, IsSmall, IsWithin};
+ghost use Rattle.tmm_model.specs.Bounds.{lesser, through, bound_negated, IsSmall, IsWithin};
 
 /// An upper bound on the distance from one point to another, in whole time units: a number, or none.
 #[derive(Clone, Copy, PartialEq, Eq, Debug)]
@@ -34,6 +34,17 @@ impl Bound {
                 Bound::Finite(y) => Bound::Finite(x + weight + y),
                 Bound::Free => Bound::Free,
             },
+            Bound::Free => Bound::Free,
+        }
+    }
+
+    /// With its sign turned: the lower bound on the distance the other way.
+    pub fn negated(self) -> Bound
+        requires { IsSmall self }
+        ensures { result ≡ bound_negated self }
+    {
+        match self {
+            Bound::Finite(x) => Bound::Finite(-x),
             Bound::Free => Bound::Free,
         }
     }

@@ -1,6 +1,10 @@
 // Points in time as a script names them.
+ghost use Rattle.std.specs.Prelude.{◌≡◌, IfOk};
+
+use crate::memory::NoMemory;
 use crate::name::Name;
 use crate::seq::Seq;
+use std::alloc::Global;
 
 /// A declared point: date 0, or the begin or the end of what a premise declares.
 #[derive(Clone, Copy, Default, PartialEq, Eq, PartialOrd, Ord, Hash, Debug)]
@@ -19,6 +23,21 @@ pub enum PointName {
 pub struct Occ {
     pub root: Name,
     pub rules: Seq<Name>,
+}
+
+impl Occ {
+    /// The same occurrence once more.
+    pub fn copy(&self, alloc: Global) -> Result<Occ, NoMemory>
+        ensures root { IfOk result (λ occ. occ.root ≡ self.now.root) }
+        ensures rules { IfOk result (λ occ. occ.rules.items ≡ self.now.rules.items) }
+    {
+        let mut rules = Seq::make(alloc);
+        rules.extend(self.rules.items())?;
+        Ok(Occ {
+            root: self.root,
+            rules,
+        })
+    }
 }
 
 /// A point that a query names: a declared one, or the begin of a derived occurrence.

@@ -1,5 +1,6 @@
 use Rattle.std.proofs.Common.{◌≡◌, ◌<◌, ◌≤◌, ◌+◌, ◌++◌, ◌∷◌, [], List, ℕ, ℤ, length, length-append, false, Result, Ok, Err, OnOk, is_err, ap, sym, subst, ◌∙◌, arith, rules}
-use Rattle.std.specs.Int.{FitsSigned, w64}
+use Rattle.std.specs.Prelude.{FitsSigned}
+use Rattle.std.specs.Int.{w64}
 use Rattle.std.proofs.lemmas.Int.{to_z-of_z}
 use Rattle.tmm_model.specs.Standing.{Standing, points_in, points_of}
 use Rattle.tmm_model.specs.Verdicts.{IsCycleSum}
