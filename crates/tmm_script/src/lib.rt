@@ -7,6 +7,8 @@
 mod edits;
 mod fields;
 mod parse;
+mod print;
 mod queries;
 
 pub use parse::{LONGEST_LINE, parse_line};
+pub use print::print_premise;
