@@ -80,19 +80,19 @@ shown_parts (Protect n f p q) = whole (codes "protect") (n ∷ f ∷ point_word 
 -- text that was appended, and text behind it of which a front was
 front_behind : (old mid new x y : List ℕ) → mid ≡ old ++ x → AppendsFront mid new y → AppendsFront old new (x ++ y)
 front_behind old mid new x y e f = record {
-    front = x ++ f.front;
-    rest = f.rest;
-    parts = ap (λ (t : List ℕ). x ++ t) f.parts ∙ sym (append_assoc x f.front f.rest);
-    appended = f.appended ∙ ap (λ (t : List ℕ). t ++ f.front) e ∙ append_assoc old x f.front;
-  }
+  front = x ++ f.front;
+  rest = f.rest;
+  parts = ap (λ (t : List ℕ). x ++ t) f.parts ∙ sym (append_assoc x f.front f.rest);
+  appended = f.appended ∙ ap (λ (t : List ℕ). t ++ f.front) e ∙ append_assoc old x f.front;
+}
 
 front_before : (old new x y : List ℕ) → AppendsFront old new x → AppendsFront old new (x ++ y)
 front_before old new x y f = record {
-    front = f.front;
-    rest = f.rest ++ y;
-    parts = ap (λ (t : List ℕ). t ++ y) f.parts ∙ append_assoc f.front f.rest y;
-    appended = f.appended;
-  }
+  front = f.front;
+  rest = f.rest ++ y;
+  parts = ap (λ (t : List ℕ). t ++ y) f.parts ∙ append_assoc f.front f.rest y;
+  appended = f.appended;
+}
 
 -- the same of the parts of a premise's text
 module _ (p : Premise) (old mid k : List ℕ) (heads : List (List ℕ)) (key : k ≡ first_word (shown p)) (is : heads ≡ head_words p) (begun : mid ≡ old ++ k) where

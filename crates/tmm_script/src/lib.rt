@@ -12,3 +12,6 @@ mod queries;
 
 pub use parse::{LONGEST_LINE, parse_line};
 pub use print::print_premise;
+
+#[cfg(test)]
+mod tests;
