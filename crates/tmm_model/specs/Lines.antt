@@ -211,6 +211,6 @@ WordsAreOne = (line : List ℕ) (ws : List (List ℕ)) → AreWords line ws ↔ 
 abbrev pub ReadingIsOne : Type 0
 ReadingIsOne = (ws : List (List ℕ)) (a b : Line) → Reads ws a → Reads ws b → SameLine a b
 
--- the line that shows a premise reads as it
+-- the line that shows a premise has at most 400 bytes and reads as the premise
 abbrev pub ShownReads : Type 0
-ShownReads = (premise : Premise) → IsWellFormedPremise premise → ReadsLine (shown_text premise) (Change (Add premise))
+ShownReads = (premise : Premise) → IsWellFormedPremise premise → (length (shown_text premise) ≤ 400) × ReadsLine (shown_text premise) (Change (Add premise))

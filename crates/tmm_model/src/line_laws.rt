@@ -11,7 +11,7 @@ pub fn reading_is_one()
     ensures { ReadingIsOne }
 {}
 
-/// The line that shows a well-formed premise reads as this premise.
+/// The line that shows a well-formed premise has at most 400 bytes and reads as this premise.
 pub fn shown_premise_reads()
     ensures { ShownReads }
 {}

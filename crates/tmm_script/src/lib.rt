@@ -7,6 +7,11 @@
 mod edits;
 mod fields;
 mod parse;
+mod print;
 mod queries;
 
 pub use parse::{LONGEST_LINE, parse_line};
+pub use print::print_premise;
+
+#[cfg(test)]
+mod tests;
