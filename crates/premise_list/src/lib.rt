@@ -14,3 +14,6 @@ mod standing;
 mod table;
 
 pub use standing::Standing;
+
+#[cfg(test)]
+mod tests;
