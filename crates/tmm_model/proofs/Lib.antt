@@ -23,6 +23,7 @@ mod WorkedPaths
 mod WorkedTouched
 pub mod Moments
 pub mod Upholding
+pub mod Outcomes
 mod WorkedReasons
 mod WorkedQuestions
 mod WorkedDemo
