@@ -11,7 +11,7 @@ use Rattle.tmm_model.specs.Changes.{Delta, delta, changes}
 use Rattle.tmm_model.specs.Maps.{built}
 use Rattle.tmm_model.specs.Moments.{Moment, After}
 use Rattle.tmm_model.specs.Standing.{Standing}
-use Rattle.tmm_model.specs.Steps.{next_list}
+use Rattle.tmm_model.specs.Edits.{next_list}
 use Rattle.tmm_model.proofs.WorkedScripts.{of_map, of_maps, within, rule, root, effect, dated, apart_by, two_tokens, before_push, push, one_event, lamp, shut_at_five, push_at_ten, chain, guarded}
 
 abbrev none : Delta

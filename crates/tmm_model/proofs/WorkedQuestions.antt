@@ -14,7 +14,7 @@ use Rattle.tmm_model.specs.Maps.{built}
 use Rattle.tmm_model.specs.Questions.{query_cause, Answers}
 use Rattle.tmm_model.specs.Replies.{DumpIs}
 use Rattle.tmm_model.specs.Standing.{Standing}
-use Rattle.tmm_model.specs.Steps.{next_list}
+use Rattle.tmm_model.specs.Edits.{next_list}
 use Rattle.tmm_model.specs.Verdicts.{taken, unknown, ill_sorted, list_cause}
 use Rattle.tmm_model.proofs.WorkedScripts.{of_map, within, class, apart_by, two_tokens, push}
 

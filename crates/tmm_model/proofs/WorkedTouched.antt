@@ -4,7 +4,7 @@ use Rattle.std.specs.Prelude.{codes}
 use Rattle.tmm_model.specs.declared.premise.Premise.TheVariants.{Point}
 use Rattle.tmm_model.specs.declared.premise.Edit.TheVariants.{Add, Erase}
 use Rattle.tmm_model.specs.Standing.{Standing}
-use Rattle.tmm_model.specs.Steps.{next_list}
+use Rattle.tmm_model.specs.Edits.{next_list}
 use Rattle.tmm_model.specs.Touched.{touched, touched_decisions}
 use Rattle.tmm_model.proofs.WorkedScripts.{of_maps, within, chain, lamp, push, shut_at_five, push_at_ten}
 

@@ -12,7 +12,7 @@ use Rattle.tmm_model.specs.Changes.{changes, delta}
 use Rattle.tmm_model.specs.Maps.{built, gap}
 use Rattle.tmm_model.specs.Moments.{Moment, After}
 use Rattle.tmm_model.specs.Standing.{Standing, far_in}
-use Rattle.tmm_model.specs.Steps.{next_list}
+use Rattle.tmm_model.specs.Edits.{next_list}
 use Rattle.tmm_model.proofs.FarTables.{by_table}
 use Rattle.tmm_model.proofs.WorkedScripts.{of_map, of_maps, within, class, rule, dated, root, effect}
 
