@@ -28,6 +28,7 @@ mod WorkedReasons
 mod WorkedQuestions
 mod WorkedDemo
 mod WorkedWorkshop
+mod WorkedGuide
 pub mod LineNumbers
 pub mod LineReaders
 pub mod LineWords
