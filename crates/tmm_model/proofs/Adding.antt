@@ -1,8 +1,7 @@
 -- A premise that may be added: its points are new, and its constraints are between points that are there.
-use Rattle.std.proofs.Common.{◌≡◌, ◌≢◌, ◌⊎◌, inl, inr, ◌∙◌, ℕ, ◌+◌, ◌≤◌, ◌<◌, Bool, true, false, leb, List, [], ◌∷◌, ◌++◌, map, length, Option, Some, None, ap, sym, subst, arith, refl, ℤ, pos, ◌+ℤ◌, ◌≤ℤ◌, neg_ℤ}
+use Rattle.std.proofs.Common.{◌≡◌, ◌≢◌, ◌⊎◌, inl, inr, ℕ, ◌≤◌, ◌<◌, Bool, true, false, leb, List, [], ◌∷◌, ◌++◌, length, Option, Some, None, sym, subst, arith, refl, ℤ, neg_ℤ}
 use Rattle.std.specs.List.{All, Contains, flat_map}
 use Rattle.std.specs.Option.{option_or}
-use Rattle.std.proofs.lemmas.Int.{ints}
 use Rattle.std.proofs.lemmas.List.Elements.{All-contains, Contains-append_left, Contains-append_right}
 use Rattle.tmm_model.specs.declared.bound.Bound.{Bound}
 use Rattle.tmm_model.specs.declared.bound.Bound.TheVariants.{Finite, Free}
@@ -13,12 +12,11 @@ use Rattle.tmm_model.specs.declared.premise.Premise.TheVariants.{Class, Kind, Po
 use Rattle.tmm_model.specs.declared.premise.Edit.TheVariants.{Add}
 use Rattle.tmm_model.specs.declared.walk.Side.TheVariants.{Hi, Lo}
 use Rattle.tmm_model.specs.declared.walk.WalkStep.{WalkStep}
-use Rattle.tmm_model.specs.Lines.{IsWellFormedPremise, IsRange}
 use Rattle.tmm_model.specs.Standing.{points_of, points_in, steps_of, base_step, length_step, hi_steps, lo_steps}
 use Rattle.tmm_model.specs.Sorts.{Use, a_place, uses_of, declared_by}
-use Rattle.tmm_model.specs.Verdicts.{Cause, too_many_premises, too_many_points, most_premises, most_points, place_cause, use_cause, uses_cause, first_taken, words_known, premises_cause, points_cause, list_cause}
+use Rattle.tmm_model.specs.Verdicts.{Cause, too_many_premises, too_many_points, most_premises, most_points, use_cause, uses_cause, first_taken, words_known, premises_cause, points_cause, list_cause}
 use Rattle.tmm_model.proofs.Members.{All-from_contains, Contains-cons, Contains-cons_first, Contains-cons_cases}
-use Rattle.tmm_model.proofs.Places.{place_known, points_new}
+use Rattle.tmm_model.proofs.Places.{place_known}
 
 -- ---- what no cause means
 

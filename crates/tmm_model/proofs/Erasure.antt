@@ -1,18 +1,16 @@
 -- What an erasure leaves.
-use Rattle.std.proofs.Common.{◌≡◌, ℕ, Bool, true, false, ◌||◌, List, [], ◌∷◌, ◌++◌, map, refl, sym, ◌∙◌, ap, subst, cond}
+use Rattle.std.proofs.Common.{◌≡◌, ℕ, Bool, true, false, ◌||◌, List, [], ◌∷◌, ◌++◌, refl, sym, ◌∙◌, ap}
 use Rattle.std.specs.Prelude.{Option, Some, None}
 use Rattle.std.specs.List.{flat_map, list_any}
 use Rattle.std.specs.Map.{lookup}
 use Rattle.std.specs.Option.{option_or}
-use Rattle.std.proofs.lemmas.Grind.{flat_map-append}
-use Rattle.std.proofs.lemmas.List.{map-append, append-nil}
 use Rattle.std.proofs.lemmas.List.Folds.{list_any-append}
 use Rattle.tmm_model.specs.declared.point.PointName.TheVariants.{Start, Begin, End}
 use Rattle.tmm_model.specs.declared.premise.Premise.{Premise}
 use Rattle.tmm_model.specs.Points.{same_name, point_word}
 use Rattle.tmm_model.specs.Standing.{name_of}
-use Rattle.tmm_model.specs.Sorts.{Sort, declarations_of, declarations_in, declared_by, sort_in, Use, a_name, a_place, a_premise, uses_of, is_place}
-use Rattle.tmm_model.specs.Verdicts.{Cause, words_known, use_cause, uses_cause, name_cause, end_cause, premise_cause, first_taken}
+use Rattle.tmm_model.specs.Sorts.{declarations_of, declared_by, sort_in, Use, a_name, a_place, a_premise, uses_of, is_place}
+use Rattle.tmm_model.specs.Verdicts.{Cause, words_known, use_cause, uses_cause, name_cause, end_cause, premise_cause}
 use Rattle.tmm_model.specs.WellNamed.{Follows, AllFollow, IsWellNamed}
 use Rattle.tmm_model.specs.Erasure.{names_used, mentioned_by, is_among, falls, kept_after, fallen_after, kept_without}
 use Rattle.tmm_model.proofs.WellNamed.{words_known-push, first_taken-fewer, lookup-unknown, sort_in-push}

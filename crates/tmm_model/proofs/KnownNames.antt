@@ -1,24 +1,24 @@
 -- What a well-named list finds under a name, and which points its constraints are between.
 use Rattle.std.proofs.Common.{◌≡◌, ℕ, Bool, true, false, List, [], ◌∷◌, ◌++◌, map, refl, sym, ◌∙◌, ap, subst, inl, inr, append_assoc, cond}
-use Rattle.std.specs.Prelude.{Option, Some, None, codes}
+use Rattle.std.specs.Prelude.{Option, Some, None}
 use Rattle.std.specs.List.{flat_map, list_any, Contains}
-use Rattle.std.specs.Map.{lookup}
 use Rattle.std.specs.Cmp.Lexicographic.{bytes_decides, nat_list_eq_equiv}
 use Rattle.tmm_model.specs.declared.bound.Bound.{Bound}
 use Rattle.tmm_model.specs.declared.bound.Bound.TheVariants.{Finite, Free}
 use Rattle.tmm_model.specs.declared.point.PointName.{PointName}
-use Rattle.tmm_model.specs.declared.point.PointName.TheVariants.{Start, Begin, End}
+use Rattle.tmm_model.specs.declared.point.PointName.TheVariants.{Begin, End}
 use Rattle.tmm_model.specs.declared.premise.Premise.{Premise}
 use Rattle.tmm_model.specs.declared.premise.Premise.TheVariants.{Class, Kind, Point, Event, Token, Span, Dist, Rule, Protect}
 use Rattle.tmm_model.specs.declared.walk.WalkStep.{WalkStep}
-use Rattle.tmm_model.specs.Points.{same_name, point_word}
-use Rattle.tmm_model.specs.Sorts.{Sort, a_class, a_fact, a_kind, a_point, an_event, a_token, a_span, a_dist, a_rule, a_protection, fact_declaration, declarations_of, declarations_in, declared_by, sort_in, is_place, Use, a_place}
+use Rattle.tmm_model.specs.Points.{same_name}
+use Rattle.tmm_model.specs.Sorts.{fact_declaration, declarations_of, declarations_in, declared_by, Use, a_place}
 use Rattle.tmm_model.specs.Standing.{name_of, points_of, points_in, base_step, length_step, steps_of, hi_steps, lo_steps, arc_of, arcs_of, arcs_in}
-use Rattle.tmm_model.specs.Verdicts.{Cause, unknown, ill_sorted, first_taken, use_cause, uses_cause, place_cause, name_cause, end_cause, words_known}
+use Rattle.tmm_model.specs.Verdicts.{Cause, first_taken, use_cause, uses_cause, place_cause, words_known}
 use Rattle.tmm_model.specs.Walks.{Arc, AreAmong}
 use Rattle.tmm_model.specs.WellNamed.{Follows, AllFollow, IsWellNamed, premise_in}
 use Rattle.tmm_model.proofs.Elements.{In, In-list_any, In-left, In-right, In-cases, In-flat_map, flat_map-In, In-map, map-In, Contains-from_In, In-from_Contains}
 use Rattle.tmm_model.proofs.Members.{All-from_contains}
+use Rattle.tmm_model.proofs.Places.{place_known}
 use Rattle.tmm_model.proofs.WellNamed.{first_taken-none}
 
 same_name_itself : (n : List ℕ) → same_name n n ≡ true
@@ -96,104 +96,6 @@ finds (o ∷ premises) name p e = by (finds premises name p) (same_name name (na
     by rest true is e = let same : o ≡ p = cc in (inl same, ap name_of (sym same) ∙ sym ((bytes_decides name (name_of o)).0 is))
     by rest false is e = let (at, named) = rest e in (inr at, named)
 
--- ---- points
-
--- the declaration that a look-up finds
-declared : (name : List ℕ) (ds : List (List ℕ × Sort)) (sort : Sort) → lookup (same_name name) ds ≡ Some sort → In (name, sort) ds
-declared name [] sort e = cc
-declared name (d ∷ ds) sort e = by (declared name ds sort) (same_name name d.0) refl e
-  where
-    by : (lookup (same_name name) ds ≡ Some sort → In (name, sort) ds) → (b : Bool) → same_name name d.0 ≡ b → cond b (Some d.1) (lookup (same_name name) ds) ≡ Some sort → In (name, sort) (d ∷ ds)
-    by rest true is e = let named : name ≡ d.0 = (bytes_decides name d.0).0 is in let sorted : d.1 ≡ sort = cc in inl (λ i. (sym named i, sorted i))
-    by rest false is e = inr (rest e)
-
-facts_no_place : (name : List ℕ) (sort : Sort) (facts : List (List ℕ)) → In (name, sort) (map fact_declaration facts) → is_place sort ≡ true → ⊥
-facts_no_place name sort [] at e = absurd at
-facts_no_place name sort (f ∷ facts) (inl is) e = let s : a_fact ≡ sort = ap (λ d. d.1) is in let t : is_place a_fact ≡ true = subst (λ z. is_place z ≡ true) (sym s) e in cc
-facts_no_place name sort (f ∷ facts) (inr at) e = facts_no_place name sort facts at e
-
--- the premise that declares a name as a place declares its point
-begins : (p : Premise) (name : List ℕ) (sort : Sort) → In (name, sort) (declarations_of p) → is_place sort ≡ true → In (Begin name) (points_of p)
-begins (Class n facts) name sort (inl is) e = let s : a_class ≡ sort = ap (λ d. d.1) is in let t : is_place a_class ≡ true = subst (λ z. is_place z ≡ true) (sym s) e in cc
-begins (Class n facts) name sort (inr at) e = absurd (facts_no_place name sort facts.items at e)
-begins (Kind n) name sort (inl is) e = let s : a_kind ≡ sort = ap (λ d. d.1) is in let t : is_place a_kind ≡ true = subst (λ z. is_place z ≡ true) (sym s) e in cc
-begins (Kind n) name sort (inr at) e = absurd at
-begins (Point n) name sort (inl is) e = inl (ap (λ d. Begin d.0) is)
-begins (Point n) name sort (inr at) e = absurd at
-begins (Event n kind) name sort (inl is) e = inl (ap (λ d. Begin d.0) is)
-begins (Event n kind) name sort (inr at) e = absurd at
-begins (Token n fact) name sort (inl is) e = inl (ap (λ d. Begin d.0) is)
-begins (Token n fact) name sort (inr at) e = absurd at
-begins (Span n fact) name sort (inl is) e = inl (ap (λ d. Begin d.0) is)
-begins (Span n fact) name sort (inr at) e = absurd at
-begins (Dist n from to lo hi) name sort (inl is) e = let s : a_dist ≡ sort = ap (λ d. d.1) is in let t : is_place a_dist ≡ true = subst (λ z. is_place z ≡ true) (sym s) e in cc
-begins (Dist n from to lo hi) name sort (inr at) e = absurd at
-begins (Rule n trigger lo hi effect given) name sort (inl is) e = let s : a_rule ≡ sort = ap (λ d. d.1) is in let t : is_place a_rule ≡ true = subst (λ z. is_place z ≡ true) (sym s) e in cc
-begins (Rule n trigger lo hi effect given) name sort (inr at) e = absurd at
-begins (Protect n fact from to) name sort (inl is) e = let s : a_protection ≡ sort = ap (λ d. d.1) is in let t : is_place a_protection ≡ true = subst (λ z. is_place z ≡ true) (sym s) e in cc
-begins (Protect n fact from to) name sort (inr at) e = absurd at
-
-facts_no_span : (name : List ℕ) (facts : List (List ℕ)) → In (name, a_span) (map fact_declaration facts) → ⊥
-facts_no_span name [] at = absurd at
-facts_no_span name (f ∷ facts) (inl is) = let s : a_fact ≡ a_span = ap (λ d. d.1) is in cc
-facts_no_span name (f ∷ facts) (inr at) = facts_no_span name facts at
-
--- and the one that declares it as a span declares its end
-has_end : (p : Premise) (name : List ℕ) → In (name, a_span) (declarations_of p) → In (End name) (points_of p)
-has_end (Class n facts) name (inl is) = let s : a_class ≡ a_span = ap (λ d. d.1) is in cc
-has_end (Class n facts) name (inr at) = absurd (facts_no_span name facts.items at)
-has_end (Kind n) name (inl is) = let s : a_kind ≡ a_span = ap (λ d. d.1) is in cc
-has_end (Kind n) name (inr at) = absurd at
-has_end (Point n) name (inl is) = let s : a_point ≡ a_span = ap (λ d. d.1) is in cc
-has_end (Point n) name (inr at) = absurd at
-has_end (Event n kind) name (inl is) = let s : an_event ≡ a_span = ap (λ d. d.1) is in cc
-has_end (Event n kind) name (inr at) = absurd at
-has_end (Token n fact) name (inl is) = let s : a_token ≡ a_span = ap (λ d. d.1) is in cc
-has_end (Token n fact) name (inr at) = absurd at
-has_end (Span n fact) name (inl is) = inr (inl (ap (λ d. End d.0) is))
-has_end (Span n fact) name (inr at) = absurd at
-has_end (Dist n from to lo hi) name (inl is) = let s : a_dist ≡ a_span = ap (λ d. d.1) is in cc
-has_end (Dist n from to lo hi) name (inr at) = absurd at
-has_end (Rule n trigger lo hi effect given) name (inl is) = let s : a_rule ≡ a_span = ap (λ d. d.1) is in cc
-has_end (Rule n trigger lo hi effect given) name (inr at) = absurd at
-has_end (Protect n fact from to) name (inl is) = let s : a_protection ≡ a_span = ap (λ d. d.1) is in cc
-has_end (Protect n fact from to) name (inr at) = absurd at
-
-some_cause : (b : Bool) (c d : Cause) → elim b as (λ _. Option Cause) [ true ↦ Some c | false ↦ Some d ] ≡ None → ⊥
-some_cause true c d e = cc
-some_cause false c d e = cc
-
-no_cause : (b : Bool) (c : Cause) → elim b as (λ _. Option Cause) [ true ↦ None | false ↦ Some c ] ≡ None → b ≡ true
-no_cause true c e = refl
-no_cause false c e = cc
-
--- **A point that may be named is declared.**
-pub place_known : (premises : List Premise) (p : PointName) → place_cause premises p ≡ None → In p (points_in premises)
-place_known premises Start e = inl refl
-place_known premises (Begin name) e = by (sort_in premises name) refl e
-  where
-    by : (o : Option Sort) → sort_in premises name ≡ o → name_cause o name is_place ≡ None → In (Begin name) (points_in premises)
-    by None is e = absurd (some_cause (same_name name (codes "start")) (ill_sorted name) (unknown name) e)
-    by (Some sort) is e =
-        let (p, at, d) = In-flat_map declarations_of premises (name, sort) (declared name (declarations_in premises) sort is) in
-        inr (flat_map-In points_of premises p (Begin name) at (begins p name sort d (no_cause (is_place sort) (ill_sorted name) e)))
-place_known premises (End name) e = by (sort_in premises name) refl e
-  where
-    by : (o : Option Sort) → sort_in premises name ≡ o → end_cause o (point_word (End name)) ≡ None → In (End name) (points_in premises)
-    by None is e = cc
-    by (Some a_class) is e = cc
-    by (Some a_fact) is e = cc
-    by (Some a_kind) is e = cc
-    by (Some a_point) is e = cc
-    by (Some an_event) is e = cc
-    by (Some a_token) is e = cc
-    by (Some a_span) is e =
-        let (p, at, d) = In-flat_map declarations_of premises (name, a_span) (declared name (declarations_in premises) a_span is) in
-        inr (flat_map-In points_of premises p (End name) at (has_end p name d))
-    by (Some a_dist) is e = cc
-    by (Some a_rule) is e = cc
-    by (Some a_protection) is e = cc
-
 -- ---- constraints
 
 -- both points of a constraint of a premise that follows are declared by it or before it
@@ -209,6 +111,9 @@ sides_known known name from to lo hi f t e at = elim (In-cases (hi_steps name fr
     lower Free h = absurd h
     lower (Finite x) (inl is) = (subst (λ z. In z known) (ap (λ s. s.from) is) t, subst (λ z. In z known) (ap (λ s. s.to) is) f)
     lower (Finite x) (inr h) = absurd h
+
+known_place : (premises : List Premise) (p : PointName) → place_cause premises p ≡ None → In p (points_in premises)
+known_place premises p e = In-from_Contains (points_in premises) p (place_known premises p e)
 
 uses_none : (premises : List Premise) (u : Use) (us : List Use) → uses_cause premises (u ∷ us) ≡ None → (use_cause premises u ≡ None) × (uses_cause premises us ≡ None)
 uses_none premises u us e = by (use_cause premises u) refl e
@@ -251,8 +156,8 @@ steps_known earlier (Dist name from to lo hi) f e at =
     let one = uses_none earlier (a_place from) (a_place to ∷ []) f.known in
     let two = uses_none earlier (a_place to) [] one.1 in
     sides_known (points_in (earlier ++ Dist name from to lo hi ∷ [])) name from to lo hi
-    (points_more earlier (Dist name from to lo hi ∷ []) from (place_known earlier from one.0))
-    (points_more earlier (Dist name from to lo hi ∷ []) to (place_known earlier to two.0))
+    (points_more earlier (Dist name from to lo hi ∷ []) from (known_place earlier from one.0))
+    (points_more earlier (Dist name from to lo hi ∷ []) to (known_place earlier to two.0))
     e at
 steps_known earlier (Rule name trigger lo hi effect given) f e at = absurd at
 steps_known earlier (Protect name fact from to) f e at = absurd at

@@ -23,10 +23,12 @@ mod WorkedPaths
 mod WorkedTouched
 pub mod Moments
 pub mod Upholding
+pub mod Outcomes
 mod WorkedReasons
 mod WorkedQuestions
 mod WorkedDemo
 mod WorkedWorkshop
+mod WorkedGuide
 pub mod LineNumbers
 pub mod LineReaders
 pub mod LineWords

@@ -17,7 +17,7 @@ use Rattle.tmm_model.specs.Right.{Occurs, IsRightTo, IsTimed}
 use Rattle.tmm_model.proofs.Elements.{both, In, In-from_Contains, Contains-from_In, list_any-In, In-list_any, In-filter_map, filter_map-In}
 
 -- a token stands at its own occurrence
-spot-token_of : (s : Standing) (x : Moment) (k : TokenRow Moment) → token_of s x ≡ Some k → k.spot ≡ x
+pub spot-token_of : (s : Standing) (x : Moment) (k : TokenRow Moment) → token_of s x ≡ Some k → k.spot ≡ x
 spot-token_of s x k h = by (is_of s x) h
   where
     by : (o : Option (Shape × List ℕ)) → (elim o [ None ↦ None | Some y ↦ token_at s x y ]) ≡ Some k → k.spot ≡ x

@@ -47,7 +47,7 @@ one_text (After t r) (After u q) sx sy e =
     λ i. After (triggers i) ((cut.1) i)
 
 module _ (s : Standing) (far : Distances) where
-  total : IsTotalOrder (occ_cmp s far)
+  pub total : IsTotalOrder (occ_cmp s far)
   total = then_total (on_total (early s far) int_cmp_total) (on_total printed nat_list_cmp_total)
 
   tied_text : (a b : List ℕ) → slice_cmp nat_cmp a b ≡ Equal → a ≡ b

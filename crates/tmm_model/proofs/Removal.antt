@@ -39,7 +39,7 @@ module _ {P : Type 0} where
   walk_from_outside In arcs others ends a b out [] h = h
   walk_from_outside In arcs others ends a b out (e ∷ walk) h = absurd (out (subst In h.1 (ends e h.0).0))
 
-  leads_inside : (In : P → Type 0) (arcs : List (Arc P)) → ((e : Arc P) → Contains arcs e → In e.from × In e.to) → (a b : P) → (In b → ⊥) → (e : Arc P) (walk : List (Arc P)) → IsWalk arcs a b (e ∷ walk) → ⊥
+  pub leads_inside : (In : P → Type 0) (arcs : List (Arc P)) → ((e : Arc P) → Contains arcs e → In e.from × In e.to) → (a b : P) → (In b → ⊥) → (e : Arc P) (walk : List (Arc P)) → IsWalk arcs a b (e ∷ walk) → ⊥
   leads_inside In arcs ends a b out e [] h = out (subst In h.2 (ends e h.0).1)
   leads_inside In arcs ends a b out e (f ∷ walk) h = leads_inside In arcs ends e.to b out f walk h.2
 

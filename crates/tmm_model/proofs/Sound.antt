@@ -1,7 +1,7 @@
 -- A sound list: its distances are shortest, and its rules are sound.
-use Rattle.std.proofs.Common.{◌≡◌, ℕ, ◌-◌, ◌≤◌, Bool, true, false, List, [], ◌∷◌, ◌++◌, length, refl, sym, ap, subst, inl, arith}
+use Rattle.std.proofs.Common.{◌≡◌, ℕ, ◌-◌, ◌≤◌, Bool, true, false, List, [], ◌∷◌, length, refl, sym, ap, subst, inl, arith}
 use Rattle.std.proofs.lemmas.Int.{ints}
-use Rattle.std.specs.Prelude.{Option, Some, None, ℤ, pos, ◌≤ℤ◌}
+use Rattle.std.specs.Prelude.{Option, Some, None, ℤ, pos, ◌+ℤ◌, ◌≤ℤ◌}
 use Rattle.std.specs.List.{Contains, filter_map, list_any}
 use Rattle.std.proofs.lemmas.List.Elements.{All-contains}
 use Rattle.tmm_model.specs.declared.bound.Bound.{Bound}
@@ -25,17 +25,13 @@ use Rattle.tmm_model.proofs.Elements.{In, In-from_Contains, Contains-from_In, In
 use Rattle.tmm_model.proofs.KnownNames.{found, finds, arcs_among}
 use Rattle.tmm_model.proofs.Paths.{IsFar-far, closed_walks}
 use Rattle.tmm_model.proofs.Points.{Decides-same_point}
-use Rattle.tmm_model.proofs.Walks.{IsWalk-append, total-append}
+use Rattle.tmm_model.proofs.Closing.{IsFar-triangle}
+use Rattle.tmm_model.proofs.Removal.{leads_inside}
 use Rattle.tmm_model.proofs.Within.{IsFarWithin-far_within}
 
 -- ---- distances
 
--- no walk leads over a constraint to a point that is not known
-outside : {P : Type 0} (known : List P) (arcs : List (Arc P)) → AreAmong known arcs → (a b : P) → (Contains known b → ⊥) → (e : Arc P) (walk : List (Arc P)) → IsWalk arcs a b (e ∷ walk) → ⊥
-outside known arcs among a b out e [] h = out (subst (Contains known) h.2 (All-contains (λ x. Contains known x.from × Contains known x.to) arcs e among h.0).1)
-outside known arcs among a b out e (f ∷ walk) h = outside known arcs among e.to b out f walk h.2
-
--- so the distance to it is that over no constraint
+-- the distance to a point that is not known is that over no constraint
 IsFar-outside : {P : Type 0} (known : List P) (arcs : List (Arc P)) → AreAmong known arcs → (k : ℕ) (a b : P) → (Contains known b → ⊥) → (x : Bound) → IsFarWithin arcs k a b x → IsFar arcs a b x
 IsFar-outside {P} known arcs among k a b out x w = record { reached = forget x w.reached; least = least }
   where
@@ -45,7 +41,7 @@ IsFar-outside {P} known arcs among k a b out x w = record { reached = forget x w
 
     least : (walk : List (Arc P)) → IsWalk arcs a b walk → AtMost x (total walk)
     least [] h = w.least [] h (omega arith)
-    least (e ∷ walk) h = absurd (outside known arcs among a b out e walk h)
+    least (e ∷ walk) h = absurd (leads_inside (Contains known) arcs (λ x m. All-contains (λ y. Contains known y.from × Contains known y.to) arcs x among m) a b out e walk h)
 
 -- the distances of a sound list are least over all walks, also to points that it does not declare
 pub far_in-IsFar : (s : Standing) → IsSound s → (a b : PointName) → IsFar (arcs_in s.premises) a b (far_in s.premises a b)
@@ -81,14 +77,11 @@ module _ {P : Type 0} (start : P) (arcs : List (Arc P)) (dates : HasDates start 
 triangle : {P : Type 0} (arcs : List (Arc P)) (a b c : P) (x y z : Bound) → IsFar arcs a b x → IsFar arcs b c y → IsFar arcs a c z → IsTighter z (bound_plus x y)
 triangle arcs a b c Free y z f g h = tt
 triangle arcs a b c (Finite x) Free z f g h = tt
-triangle arcs a b c (Finite x) (Finite y) z f g h =
-    let r : HasWalk arcs a b x = f.reached in
-    let q : HasWalk arcs b c y = g.reached in
-    least z (h.least (r.0 ++ q.0) (IsWalk-append arcs a b c r.0 q.0 r.1 q.1)) (omega (arith, ints, r.2, q.2, total-append r.0 q.0))
+triangle arcs a b c (Finite x) (Finite y) z f g h = tighter z (IsFar-triangle arcs a b c (Finite x) (Finite y) z x y f g h (omega (arith, ints)) (omega (arith, ints)))
   where
-    least : (z : Bound) {s t : ℤ} → AtMost z s → s ≡ t → IsTighter z (Finite t)
-    least (Finite z) h e = omega (arith, ints)
-    least Free h e = absurd h
+    tighter : (z : Bound) → AtMost z (x +ℤ y) → IsTighter z (Finite (x +ℤ y))
+    tighter (Finite z) h = h
+    tighter Free h = absurd h
 
 -- a root's point is at 0 at the earliest
 base_arc : (premises : List Premise) (p : PointName) → In (At p) (filter_map root_of premises) → Contains (arcs_in premises) (record { from = p; to = Start; weight = pos 0 })

@@ -1,5 +1,5 @@
 -- Walks that give distances, and a cycle.
-use Rattle.std.proofs.Common.{◌≡◌, ◌++◌, List, [], ◌∷◌, pos, negsuc, inl, inr, refl, sym, subst, arith}
+use Rattle.std.proofs.Common.{◌≡◌, List, [], ◌∷◌, pos, negsuc, inl, inr, refl, sym, subst, arith}
 use Rattle.std.specs.Prelude.{codes}
 use Rattle.std.specs.List.{All, Contains, IsDistinct}
 use Rattle.std.proofs.lemmas.Int.{ints}
@@ -11,7 +11,8 @@ use Rattle.tmm_model.specs.declared.walk.Side.TheVariants.{Hi, Lo}
 use Rattle.tmm_model.specs.declared.walk.WalkStep.{WalkStep}
 use Rattle.tmm_model.specs.Maps.{built, gap}
 use Rattle.tmm_model.specs.Moments.{At}
-use Rattle.tmm_model.specs.Paths.{steps_in, IsPlainWalk, IsPath, IsCycle}
+use Rattle.tmm_model.specs.Cycles.{steps_in, IsPath, IsCycleOf}
+use Rattle.tmm_model.specs.Paths.{GivesPath}
 use Rattle.tmm_model.specs.Standing.{Standing, far_in}
 use Rattle.tmm_model.proofs.FarTables.{by_table}
 use Rattle.tmm_model.proofs.WorkedScripts.{of_map, within, root}
@@ -63,36 +64,36 @@ two F x y fx fy =
 abbrev map : Standing
 map = within 1000 three
 
-up : IsPlainWalk three (Begin (codes "a")) (Begin (codes "c")) (d_hi ∷ e_hi ∷ [])
+up : IsPath (steps_in three) (Begin (codes "a")) (Begin (codes "c")) (d_hi ∷ e_hi ∷ [])
 unfolding IsDistinct
 up = record {
-  standing = two (Contains (steps_in three)) d_hi e_hi (2, omega arith, refl) (5, omega arith, refl);
-  leads = ((2, omega arith, refl), refl, ((5, omega arith, refl), refl, refl));
-  once = ((refl, (refl, tt)), ((refl, tt), (tt, tt)));
+  own = two (Contains (steps_in three)) d_hi e_hi (2, omega arith, refl) (5, omega arith, refl);
+  leads = (refl, (refl, refl));
+  distinct = ((refl, (refl, tt)), ((refl, tt), (tt, tt)));
 }
 
-down : IsPlainWalk three (Begin (codes "c")) (Begin (codes "a")) (e_lo ∷ d_lo ∷ [])
+down : IsPath (steps_in three) (Begin (codes "c")) (Begin (codes "a")) (e_lo ∷ d_lo ∷ [])
 unfolding IsDistinct
 down = record {
-  standing = two (Contains (steps_in three)) e_lo d_lo (6, omega arith, refl) (3, omega arith, refl);
-  leads = ((6, omega arith, refl), refl, ((3, omega arith, refl), refl, refl));
-  once = ((refl, (refl, tt)), ((refl, tt), (tt, tt)));
+  own = two (Contains (steps_in three)) e_lo d_lo (6, omega arith, refl) (3, omega arith, refl);
+  leads = (refl, (refl, refl));
+  distinct = ((refl, (refl, tt)), ((refl, tt), (tt, tt)));
 }
 
 -- path a c, path c a, path start a
-path_up : IsPath (built map) (root (codes "a")) (root (codes "c")) (Finite (pos 11)) (d_hi ∷ e_hi ∷ [])
+path_up : GivesPath (built map) (root (codes "a")) (root (codes "c")) (Finite (pos 11)) (d_hi ∷ e_hi ∷ [])
 path_up = record {
   bound = sym (of_map (λ m. gap m (root (codes "a")) (root (codes "c"))) map);
-  walk = record { plain = up; least = by_table (λ far. far (Begin (codes "a")) (Begin (codes "c"))) three };
+  walk = record { path = up; least = by_table (λ far. far (Begin (codes "a")) (Begin (codes "c"))) three };
 }
 
-path_down : IsPath (built map) (root (codes "c")) (root (codes "a")) (Finite (negsuc 4)) (e_lo ∷ d_lo ∷ [])
+path_down : GivesPath (built map) (root (codes "c")) (root (codes "a")) (Finite (negsuc 4)) (e_lo ∷ d_lo ∷ [])
 path_down = record {
   bound = sym (of_map (λ m. gap m (root (codes "c")) (root (codes "a"))) map);
-  walk = record { plain = down; least = by_table (λ far. far (Begin (codes "c")) (Begin (codes "a"))) three };
+  walk = record { path = down; least = by_table (λ far. far (Begin (codes "c")) (Begin (codes "a"))) three };
 }
 
-no_path : IsPath (built map) (At Start) (root (codes "a")) Free []
+no_path : GivesPath (built map) (At Start) (root (codes "a")) Free []
 no_path = record { bound = sym (of_map (λ m. gap m (At Start) (root (codes "a"))) map); walk = refl }
 
 -- ---- dist x c a 0 * would have a at or after c
@@ -102,22 +103,11 @@ backwards = Dist (codes "x") (Begin (codes "c")) (Begin (codes "a")) (Finite (po
 abbrev x_lo : WalkStep
 x_lo = record { premise = codes "x"; side = Lo; from = Begin (codes "a"); to = Begin (codes "c"); weight = pos 0 }
 
-down_still : IsPlainWalk (three ++ backwards ∷ []) (Begin (codes "c")) (Begin (codes "a")) (e_lo ∷ d_lo ∷ [])
-unfolding IsDistinct
-down_still = record {
-  standing = two (Contains (steps_in (three ++ backwards ∷ []))) e_lo d_lo (6, omega arith, refl) (3, omega arith, refl);
-  leads = ((6, omega arith, refl), refl, ((3, omega arith, refl), refl, refl));
-  once = ((refl, (refl, tt)), ((refl, tt), (tt, tt)));
-}
-
-a_cycle : IsCycle three backwards (negsuc 4) (x_lo ∷ e_lo ∷ d_lo ∷ [])
+a_cycle : IsCycleOf three backwards (negsuc 4) (x_lo ∷ e_lo ∷ d_lo ∷ [])
 a_cycle = record {
   first = x_lo;
-  back = e_lo ∷ d_lo ∷ [];
-  parted = refl;
   own = (0, omega arith, refl);
-  walk = down_still;
+  cycle = record { rest = e_lo ∷ d_lo ∷ []; are = refl; back = down; sums = refl };
   tightest = by_table (λ far. after (pos 0) (far (Begin (codes "c")) (Begin (codes "a")))) three;
-  sums = refl;
   negative = omega (arith, ints);
 }

@@ -9,7 +9,8 @@ use Rattle.tmm_model.specs.declared.walk.Side.TheVariants.{Hi, Lo}
 use Rattle.tmm_model.specs.declared.walk.WalkStep.{WalkStep}
 use Rattle.tmm_model.specs.Maps.{TimeMap, built, gap, order}
 use Rattle.tmm_model.specs.Moments.{Moment}
-use Rattle.tmm_model.specs.Paths.{steps_in, IsPlainWalk, IsLeastWalk}
+use Rattle.tmm_model.specs.Cycles.{steps_in, IsPath}
+use Rattle.tmm_model.specs.Paths.{IsLeastWalk}
 use Rattle.tmm_model.specs.Reasons.{Reason, by_premise, by_order, by_rule, Upholds, pairs, belief_line, IsOrderLine, IsWhy}
 use Rattle.tmm_model.specs.Standing.{Standing}
 use Rattle.tmm_model.proofs.Elements.{In-from_Contains}
@@ -36,21 +37,21 @@ to_k =
     record { premise = codes "x"; side = Lo; from = Begin (codes "e"); to = Start; weight = negsuc 9 }
     ∷ record { premise = codes "z"; side = Hi; from = Start; to = Begin (codes "k"); weight = pos 0 } ∷ []
 
-from_e_to_k : IsPlainWalk push (Begin (codes "e")) (Begin (codes "k")) to_k
+from_e_to_k : IsPath (steps_in push) (Begin (codes "e")) (Begin (codes "k")) to_k
 unfolding IsDistinct
 from_e_to_k = record {
-  standing =
+  own =
       All-from_contains (Contains (steps_in push)) to_k (λ x at.
       elim (In-from_Contains to_k x at) [
         | inl is ↦ subst (Contains (steps_in push)) is (5, omega arith, refl)
         | inr rest ↦ elim rest [ inl is ↦ subst (Contains (steps_in push)) is (1, omega arith, refl) | inr none ↦ absurd none ]
       ]);
-  leads = ((5, omega arith, refl), refl, ((1, omega arith, refl), refl, refl));
-  once = ((refl, (refl, tt)), ((refl, tt), (tt, tt)));
+  leads = (refl, (refl, refl));
+  distinct = ((refl, (refl, tt)), ((refl, tt), (tt, tt)));
 }
 
 from_e : IsLeastWalk (built pushed) (Begin (codes "e")) (Begin (codes "k")) to_k
-from_e = record { plain = from_e_to_k; least = by_table (λ far. far (Begin (codes "e")) (Begin (codes "k"))) push }
+from_e = record { path = from_e_to_k; least = by_table (λ far. far (Begin (codes "e")) (Begin (codes "k"))) push }
 
 -- k is surely at or before e, since it is 10 before it at the least
 k_before_e : IsOrderLine (built pushed) (k, e) (by_order k e (negsuc 9) to_k)

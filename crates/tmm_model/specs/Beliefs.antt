@@ -1,7 +1,7 @@
 -- What is believed of a standing list: its events, tokens and spans, and what rules bring about.
-use Rattle.std.specs.Prelude.{ℕ, suc, zero, ℤ, pos, ◌+ℤ◌, Bool, true, false, List, [], ◌++◌, map, filter, position, Option, Some, None, int_le}
+use Rattle.std.specs.Prelude.{ℕ, suc, zero, ℤ, pos, ◌+ℤ◌, Bool, true, false, List, [], ◌∷◌, ◌++◌, map, filter, Option, Some, None, int_le}
 use Rattle.std.specs.List.{list_any, list_all, filter_map, flat_map}
-use Rattle.std.specs.Option.{option_map, is_none}
+use Rattle.std.specs.Option.{option_map}
 use Rattle.std.specs.Ordering.{int_eq, on}
 use Rattle.tmm_model.specs.declared.point.PointName.TheVariants.{Begin, End}
 use Rattle.tmm_model.specs.declared.premise.Premise.{Premise}
@@ -142,6 +142,12 @@ pub data Outcome : Type 0 where
   -- its effect would begin after the horizon
   beyond : Outcome
 
+-- the place of the first that is none
+abbrev pub first_without : List (Option Moment) → Option ℕ
+first_without [] = None
+first_without (None ∷ found) = Some 0
+first_without (Some k ∷ found) = option_map suc (first_without found)
+
 module _ (s : Standing) (far : Distances) where
   -- the first of the tokens among b that pass
   abbrev pub first_token : List Moment → (TokenRow Moment → Bool) → Option Moment
@@ -156,7 +162,7 @@ module _ (s : Standing) (far : Distances) where
   supporters b t r = map (λ fact. holder b fact t t) (rule_of s r).given
 
   abbrev pub tried : List (Option Moment) → Outcome
-  tried found = elim (position is_none found) [ Some place ↦ blocked place | None ↦ fires (filter_map (λ k. k) found) ]
+  tried found = elim (first_without found) [ Some place ↦ blocked place | None ↦ fires (filter_map (λ k. k) found) ]
 
   -- the outcome of r at t, among the occurrences b
   abbrev pub outcome : List Moment → Moment → List ℕ → Outcome

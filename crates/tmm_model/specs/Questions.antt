@@ -11,7 +11,7 @@ use Rattle.tmm_model.specs.Bounds.{bound_negated}
 use Rattle.tmm_model.specs.Lines.{shown_text}
 use Rattle.tmm_model.specs.Maps.{TimeMap, gap, is_believed}
 use Rattle.tmm_model.specs.Moments.{moment_of, moment_of_point}
-use Rattle.tmm_model.specs.Paths.{IsPath}
+use Rattle.tmm_model.specs.Paths.{GivesPath}
 use Rattle.tmm_model.specs.Points.{occ_word}
 use Rattle.tmm_model.specs.Reasons.{IsWhy, reason_of}
 use Rattle.tmm_model.specs.Replies.{Reply, BoundsAre, PathIs, Answered, Reasons, BrokenAre, Believed, DumpIs, AuditYes, SizeIs}
@@ -50,7 +50,7 @@ module _ (m : TimeMap) where
   abbrev pub Answers : Query → Reply → Type 0
   Answers (Bounds p q) (BoundsAre lo hi) =
       (lo ≡ bound_negated (gap m (moment_of_point q) (moment_of_point p))) × (hi ≡ gap m (moment_of_point p) (moment_of_point q))
-  Answers (Path p q) (PathIs far steps) = IsPath m (moment_of_point p) (moment_of_point q) far steps
+  Answers (Path p q) (PathIs far steps) = GivesPath m (moment_of_point p) (moment_of_point q) far steps
   Answers (Ask fact p q) (Answered answer) = finding_of answer ≡ ask m fact (moment_of_point p) (moment_of_point q)
   Answers (Why o) (Reasons lines) = IsWhy m (moment_of o) (map reason_of lines)
   Answers Check (BrokenAre broken) = map report_of broken ≡ reports m

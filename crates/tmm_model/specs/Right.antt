@@ -4,7 +4,7 @@ use Rattle.std.specs.List.{Contains, All}
 use Rattle.tmm_model.specs.declared.bound.Bound.TheVariants.{Finite}
 use Rattle.tmm_model.specs.declared.point.PointName.{PointName}
 use Rattle.tmm_model.specs.declared.point.PointName.TheVariants.{Start}
-use Rattle.tmm_model.specs.Beliefs.{roots, rules_at, due, is_free, beliefs}
+use Rattle.tmm_model.specs.Beliefs.{roots, rules_at, due, is_free, beliefs, outcome, fires}
 use Rattle.tmm_model.specs.Bounds.{IsTighter, bound_plus}
 use Rattle.tmm_model.specs.Lines.{IsWellFormedPremise}
 use Rattle.tmm_model.specs.Maps.{built}
@@ -98,3 +98,9 @@ MapsAreRight =
     (s : Standing) → IsSound s
     → IsRight s (far_in s.premises) (built s).believed
     × ((b : List Moment) → IsRight s (far_in s.premises) b → (x : Moment) → Contains b x ↔ Contains (built s).believed x)
+
+-- and a decision of its map fires exactly where the effect is believed
+abbrev pub FiresWhereBelieved : Type 0
+FiresWhereBelieved =
+    (s : Standing) → IsSound s → (t : Moment) (r : List ℕ) → Contains (built s).believed t → Contains (rules_at s t) r
+    → ((ks : List Moment) × (outcome s (far_in s.premises) (built s).believed t r ≡ fires ks)) ↔ Contains (built s).believed (After t r)

@@ -1,5 +1,6 @@
 // Laws of distances and of belief.
-ghost use Rattle.tmm_model.specs.Right.{SoundListsAreShortest, PointsTimeOccurrences, DistancesAreShortest, OneRightSet, BeliefsAreRight, MapsAreRight};
+ghost use Rattle.tmm_model.specs.Right.{SoundListsAreShortest, PointsTimeOccurrences, DistancesAreShortest, OneRightSet, BeliefsAreRight, MapsAreRight, FiresWhereBelieved};
+ghost use Rattle.tmm_model.specs.Reasons.{ReasonsAreEarlier, CitedStandBefore};
 
 /// Where some dates satisfy a well-formed list, its distances are shortest and its rules are sound.
 pub fn sound_lists_are_shortest()
@@ -29,4 +30,16 @@ pub fn beliefs_are_right()
 /// The map of a sound list believes the one right set.
 pub fn maps_are_right()
     ensures { MapsAreRight }
+{}
+
+/// A decision of that map fires exactly where its effect is believed.
+pub fn decisions_fire_where_believed()
+    ensures { FiresWhereBelieved }
+{}
+
+/// What a believed occurrence rests on is believed and has an earlier date, and its line stands
+/// before that of what rests on it.
+pub fn reasons_are_earlier()
+    ensures earlier { ReasonsAreEarlier }
+    ensures order { CitedStandBefore }
 {}
