@@ -55,3 +55,4 @@ pub mod Sound
 pub mod SoundBeliefs
 pub mod Adding
 pub mod Erasure
+pub mod Cycles

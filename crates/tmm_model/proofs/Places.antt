@@ -1,5 +1,5 @@
 -- Points and constraints of a list of premises, and the names that they are declared by.
-use Rattle.std.proofs.Common.{◌≡◌, ◌≢◌, ◌⊎◌, inl, inr, ◌∙◌, ℕ, ◌+◌, ◌*◌, ◌≤◌, ◌||◌, Bool, true, false, cond, List, [], ◌∷◌, ◌++◌, map, length, length-append, append-nil, Option, Some, None, ap, sym, subst, arith, refl, codes}
+use Rattle.std.proofs.Common.{◌≡◌, ◌≢◌, ◌⊎◌, inl, inr, ◌∙◌, ℕ, ◌*◌, ◌≤◌, ◌||◌, Bool, true, false, cond, List, [], ◌∷◌, ◌++◌, map, length, length-append, append-nil, Option, Some, None, ap, sym, subst, arith, refl, codes}
 use Rattle.std.specs.List.{Contains, flat_map, list_any}
 use Rattle.std.specs.Map.{lookup}
 use Rattle.std.proofs.lemmas.Bool.{false≢true}
@@ -14,9 +14,8 @@ use Rattle.tmm_model.specs.declared.point.PointName.{PointName}
 use Rattle.tmm_model.specs.declared.point.PointName.TheVariants.{Start, Begin, End}
 use Rattle.tmm_model.specs.declared.premise.Premise.{Premise}
 use Rattle.tmm_model.specs.declared.premise.Premise.TheVariants.{Class, Kind, Point, Event, Token, Span, Dist, Rule, Protect}
-use Rattle.tmm_model.specs.Points.{same_name, same_point}
-use Rattle.tmm_model.specs.Walks.{Arc}
-use Rattle.tmm_model.specs.Standing.{name_of, points_of, points_in, arcs_of, arcs_in, hi_steps, lo_steps}
+use Rattle.tmm_model.specs.Points.{same_name}
+use Rattle.tmm_model.specs.Standing.{name_of, points_of, points_in, arcs_of, arcs_in}
 use Rattle.tmm_model.specs.Sorts.{Sort, is_reserved, a_class, a_fact, a_kind, a_point, an_event, a_token, a_span, a_dist, a_rule, a_protection, is_place, fact_declaration, declarations_of, declarations_in, sort_in, declared_by}
 use Rattle.tmm_model.specs.Verdicts.{Cause, unknown, ill_sorted, taken, place_cause, name_cause, end_cause, first_taken, words_known}
 use Rattle.tmm_model.proofs.Members.{Contains-cons, Contains-cons_first, Contains-cons_cases}
