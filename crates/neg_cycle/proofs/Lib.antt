@@ -1,3 +1,4 @@
+pub mod Checked
 pub mod Followed
 pub mod Named
 pub mod Ranked

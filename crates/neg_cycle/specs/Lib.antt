@@ -1,2 +1,3 @@
+pub mod DistanceLaw
 pub mod Ranks
 pub mod Steps

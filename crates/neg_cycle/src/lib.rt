@@ -6,7 +6,11 @@
 //! exactly whether steps, whoever made them, are such a closed walk.
 #![tactic(auto)]
 
+mod check;
+mod laws;
 mod ranks;
 mod trail;
 
+pub use check::check_cycle_of;
+pub use laws::{cycles_refuse, distances_are_tightest};
 pub use trail::{cycle, walk};

@@ -57,3 +57,4 @@ pub mod Sound
 pub mod SoundBeliefs
 pub mod Adding
 pub mod Erasure
+pub mod Cycles

@@ -1,0 +1,20 @@
+use Rattle.std.proofs.Common.{List, length, arith}
+use Rattle.tmm_model.specs.declared.bound.Bound.{Bound}
+use Rattle.tmm_model.specs.declared.bound.Bound.TheVariants.{Finite, Free}
+use Rattle.tmm_model.specs.declared.point.PointName.{PointName}
+use Rattle.tmm_model.specs.declared.point.PointName.TheVariants.{Start}
+use Rattle.tmm_model.specs.Points.{same_point}
+use Rattle.tmm_model.specs.Walks.{Arc, HasDates, IsFar, far}
+use Rattle.tmm_model.proofs.Paths.{IsFar-far}
+use Rattle.tmm_model.proofs.Points.{Decides-same_point}
+use Rattle.tmm_model.proofs.Reach.{difference-le_far, dates_reach, dates_pass}
+use Rattle.neg_cycle.specs.DistanceLaw.{IsTightest}
+use Rattle.neg_cycle.proofs.laws.distances_are_tightest.Goals as goal
+
+tightest : (arcs : List (Arc PointName)) (a b : PointName) → HasDates Start arcs → (x : Bound) → IsFar arcs a b x → IsTightest arcs a b x
+tightest arcs a b dates (Finite x) far = (difference-le_far Start arcs a b x far, dates_reach same_point Decides-same_point Start arcs dates a b x far)
+tightest arcs a b dates Free far = dates_pass same_point Decides-same_point Start arcs dates a b far
+
+pub returns : goal.returns
+returns c known arcs a b among dates in_b =
+    tightest arcs a b dates (far same_point arcs (length known) a b) (IsFar-far same_point Decides-same_point Start known (length known) (omega arith) arcs among dates a b in_b)

@@ -1,0 +1,29 @@
+-- The law of distances: the tightest distance of two points is exactly what the dates allow.
+use Rattle.std.specs.Prelude.{◌≡◌, List, ◌∷◌, ◌++◌, [], length, ℤ, ◌-ℤ◌, ◌≤ℤ◌, ◌<ℤ◌}
+use Rattle.std.specs.List.{Contains}
+use Rattle.tmm_model.specs.declared.bound.Bound.{Bound}
+use Rattle.tmm_model.specs.declared.bound.Bound.TheVariants.{Finite, Free}
+use Rattle.tmm_model.specs.declared.point.PointName.{PointName}
+use Rattle.tmm_model.specs.declared.point.PointName.TheVariants.{Start}
+use Rattle.tmm_model.specs.declared.premise.Premise.{Premise}
+use Rattle.tmm_model.specs.declared.walk.WalkStep.{WalkStep}
+use Rattle.tmm_model.specs.Cycles.{IsNegativeCycle}
+use Rattle.tmm_model.specs.Points.{same_point}
+use Rattle.tmm_model.specs.Standing.{IsConsistent}
+use Rattle.tmm_model.specs.Walks.{Arc, IsDates, HasDates, AreAmong, far}
+
+-- A number is never exceeded by the date of b less that of a, and some dates reach it. Where there is
+-- no bound, some dates exceed any number.
+abbrev pub IsTightest : List (Arc PointName) → PointName → PointName → Bound → Type 0
+IsTightest arcs a b (Finite x) =
+    ((date : PointName → ℤ) → IsDates Start arcs date → (date b -ℤ date a) ≤ℤ x) × ((date : PointName → ℤ) × IsDates Start arcs date × ((date b -ℤ date a) ≡ x))
+IsTightest arcs a b Free = (m : ℤ) → (date : PointName → ℤ) × IsDates Start arcs date × (m <ℤ (date b -ℤ date a))
+
+-- where constraints among known points have dates, the distance of two of them is the tightest bound
+abbrev pub DistancesAreTightest : Type 0
+DistancesAreTightest =
+    (known : List PointName) (arcs : List (Arc PointName)) (a b : PointName) → AreAmong known arcs → HasDates Start arcs → Contains known b → IsTightest arcs a b (far same_point arcs (length known) a b)
+
+-- where steps are a negative cycle, no dates satisfy the premises with the refused one
+abbrev pub CyclesRefuse : Type 0
+CyclesRefuse = (premises : List Premise) (refused : Premise) (steps : List WalkStep) → IsNegativeCycle premises refused steps → IsConsistent (premises ++ refused ∷ []) → ⊥
