@@ -1,4 +1,4 @@
-use Rattle.std.proofs.Common.{◌≡◌, true, refl, subst, sym}
+use Rattle.std.proofs.Common.{◌≡◌, ◌∙◌, true, refl, subst, sym, ap, Err}
 use Rattle.tmm_model.proofs.LineForms.{one_reading}
 use Rattle.tmm_model.specs.declared.line.Line.{Line}
 use Rattle.tmm_model.specs.declared.line.Line.TheVariants.{Change, Question}
@@ -13,10 +13,10 @@ one = one_reading
 pub returns-in-Err-Refused-clause-answers : goal.returns-in-Err-Refused-clause-answers
 returns-in-Err-Refused-clause-answers g c =
     Step-stopped _ _ c.args.bytes.now c.in-Err-Refused.refusal _
-    (stops_reading c.args.bytes.now c.in-Err-Refused.refusal c.parse_line.result (c.in-Err-Refused.is) c.parse_line.ensures.too_long c.parse_line.ensures.read) c.refuse.ensures
+    (stops_reading c.args.bytes.now c.in-Err-Refused.refusal c.parse_line.result (c.in-Err-Refused.is ∙ ap Err c.in-Err-Refused.field-0-is) c.parse_line.ensures.too_long c.parse_line.ensures.read) c.refuse.ensures
 
 pub returns-in-Err-NoMemory-clause-answers : goal.returns-in-Err-NoMemory-clause-answers
-returns-in-Err-NoMemory-clause-answers g c = (no_memory_is_not_silent c.args.bytes.now c.parse_line.result c.in-Err-NoMemory.is c.parse_line.ensures.silent, refl)
+returns-in-Err-NoMemory-clause-answers g c = (no_memory_is_not_silent c.args.bytes.now c.parse_line.result (c.in-Err-NoMemory.is ∙ ap Err c.in-Err-NoMemory.field-0-is) c.parse_line.ensures.silent, refl)
 
 pub returns-then-not-is_answered-clause-answers : goal.returns-then-not-is_answered-clause-answers
 returns-then-not-is_answered-clause-answers g c =
