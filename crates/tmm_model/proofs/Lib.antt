@@ -55,6 +55,9 @@ pub mod Updating
 pub mod KnownNames
 pub mod Sound
 pub mod SoundBeliefs
+pub mod Spelt
+pub mod Untouched
+pub mod EditLaws
 pub mod Adding
 pub mod Erasure
 pub mod Cycles

@@ -46,7 +46,7 @@ digits_no_blank (b ∷ ds) h =
     let r = digit_from_value b h.0 in
     and_from _ _ (not_from_false (is_blank b) (or_from _ _ (or_from _ _ (ne_eqb b 32 (λ e. omega arith)) (ne_eqb b 9 (λ e. omega arith))) (ne_eqb b 13 (λ e. omega arith)))) (digits_no_blank ds h.1)
 
-decimal_is_word : (n : ℕ) → n < 2 ^ 64 → IsWord (decimal n)
+pub decimal_is_word : (n : ℕ) → n < 2 ^ 64 → IsWord (decimal n)
 decimal_is_word n h =
     let k = decimal_is_IsNumeral n h in
     ((λ e. let z : length (decimal n) ≡ 0 = ap length e in omega (arith, k.0.0)), digits_no_blank (decimal n) k.0.1)
