@@ -41,7 +41,7 @@ use Rattle.tmm_model.proofs.WellNamed.{AllFollow-append}
 
 -- ---- rules under edits
 
-kept_before : (erased : List ℕ) (gone : List (List ℕ)) (ps : List Premise) (p : Premise) → In p (kept_after erased gone ps) → In p ps
+pub kept_before : (erased : List ℕ) (gone : List (List ℕ)) (ps : List Premise) (p : Premise) → In p (kept_after erased gone ps) → In p ps
 kept_before erased gone [] p at = absurd at
 kept_before erased gone (q ∷ ps) p at = by (falls erased gone q) (kept_before erased (declared_by q ++ gone) ps p) (kept_before erased gone ps p) at
   where
@@ -55,7 +55,7 @@ abbrev AreWithin : List Premise → List Premise → Type 0
 AreWithin ps qs = (p : Premise) → In p ps → In p qs
 
 -- an edit adds premises, or takes some away
-one_way : (s : Standing) (edit : Edit) → AreWithin s.premises (next_list s edit).premises ⊎ AreWithin (next_list s edit).premises s.premises
+pub one_way : (s : Standing) (edit : Edit) → AreWithin s.premises (next_list s edit).premises ⊎ AreWithin (next_list s edit).premises s.premises
 one_way s (Add p) = inl (λ q at. In-left s.premises (p ∷ []) q at)
 one_way s (Erase name) = inr (kept_before name [] s.premises)
 one_way s (Horizon n) = inl (λ q at. at)

@@ -58,6 +58,7 @@ pub mod SoundBeliefs
 pub mod Spelt
 pub mod Untouched
 pub mod EditLaws
+pub mod Erased
 pub mod Adding
 pub mod Erasure
 pub mod Cycles
