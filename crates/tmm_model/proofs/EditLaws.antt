@@ -1,6 +1,7 @@
 -- A decision that an edit does not touch keeps its outcome; a dumped list is read again.
 use Rattle.std.proofs.Common.{◌≡◌, ◌∙◌, ℕ, suc, ◌+◌, ◌≤◌, ◌<◌, Bool, true, false, List, [], ◌∷◌, ◌++◌, map, length, refl, sym, ap, subst, inl, inr, arith, append_assoc, append-nil}
-use Rattle.std.specs.Prelude.{◌⊎◌, Option, Some, None, nat_le}
+use Rattle.std.specs.Prelude.{pos, codes, decimal, ◌⊎◌, Option, Some, None, nat_le}
+use Rattle.std.proofs.lemmas.Int.{ints}
 use Rattle.std.specs.List.{AllByRecursion, Contains, flat_map}
 use Rattle.std.specs.Option.{option_or}
 use Rattle.std.proofs.lemmas.List.{length-append}
@@ -12,7 +13,7 @@ use Rattle.tmm_model.specs.declared.premise.Edit.TheVariants.{Add, Erase, Horizo
 use Rattle.tmm_model.specs.declared.premise.Premise.{Premise}
 use Rattle.tmm_model.specs.declared.token.TokenRow.{TokenRow}
 use Rattle.tmm_model.specs.Beliefs.{rules_at, token_of, outcome}
-use Rattle.tmm_model.specs.EditLaws.{AcceptsAll, dump_edits, dumped_line, GrowsSmall}
+use Rattle.tmm_model.specs.EditLaws.{AcceptsAll, dump_edits, ReadsBack, GrowsSmall}
 use Rattle.tmm_model.specs.Edits.{next_list}
 use Rattle.tmm_model.specs.Erasure.{falls, kept_after}
 use Rattle.tmm_model.specs.Kept.{IsKept, IsAccepted}
@@ -28,7 +29,7 @@ use Rattle.tmm_model.specs.WellNamed.{Follows, AllFollow, premise_in}
 use Rattle.tmm_model.proofs.Dates.{HasDates-nil}
 use Rattle.tmm_model.proofs.Elements.{In, In-left, In-flat_map, flat_map-In, In-from_Contains, Contains-from_In, In-filter_map}
 use Rattle.tmm_model.proofs.KnownNames.{found}
-use Rattle.tmm_model.proofs.LineShown.{decimal_is_word, shown_reads}
+use Rattle.tmm_model.proofs.LineShown.{decimal_is_word, number_length, shown_short, shown_reads}
 use Rattle.tmm_model.proofs.LineWords.{words-spaced}
 use Rattle.tmm_model.proofs.OneRight.{spot-token_of}
 use Rattle.tmm_model.proofs.Order.{IsSpelt}
@@ -164,21 +165,31 @@ reads_behind line edit h = (behind_blanks line ∙ h.0, h.1)
 horizon_reads : (n : ℕ) → n ≤ 100000 → ReadsLine (spaced (edit_words (Horizon n))) (Change (Horizon n))
 horizon_reads n h = (words-spaced (edit_words (Horizon n)) (((λ e. cc), refl), (decimal_is_word n (omega arith), tt)), h)
 
-premises_read : (ps : List Premise) → AllByRecursion IsWellFormedPremise ps → AllByRecursion (λ edit. ReadsLine (dumped_line edit) (Change edit)) (map Add ps)
-premises_read [] h = tt
-premises_read (p ∷ ps) h = (reads_behind (spaced (edit_words (Add p))) (Add p) (shown_reads p h.0), premises_read ps h.1)
+-- a line of a dump, from the line without blanks before it
+tells : (edit : Edit) → length (spaced (edit_words edit)) ≤ 300 → ReadsLine (spaced (edit_words edit)) (Change edit) → ReadsBack edit
+tells edit short reads = (omega (arith, short), reads_behind (spaced (edit_words edit)) edit reads)
+
+premises_tell : (ps : List Premise) → AllByRecursion IsWellFormedPremise ps → AllByRecursion ReadsBack (map Add ps)
+premises_tell [] h = tt
+premises_tell (p ∷ ps) h = (tells (Add p) (shown_short p h.0) (shown_reads p h.0).1, premises_tell ps h.1)
+
+horizon_short : (n : ℕ) → n ≤ 100000 → length (spaced (edit_words (Horizon n))) ≤ 300
+horizon_short n h =
+    let digits : length (decimal n) ≤ 11 = number_length (pos n) (omega (arith, ints), omega (arith, ints)) in
+    let all : length (codes "horizon" ++ 32 ∷ decimal n ++ []) ≡ length (codes "horizon") + length (32 ∷ decimal n ++ []) = length-append (codes "horizon") (32 ∷ decimal n ++ []) in
+    omega (arith, digits, all, length-append (decimal n) [])
 
 one_by_one : (F : Premise → Type 0) (ps : List Premise) → ((p : Premise) → In p ps → F p) → AllByRecursion F ps
 one_by_one F [] h = tt
 one_by_one F (p ∷ ps) h = (h p (inl refl), one_by_one F ps (λ q at. h q (inr at)))
 
 pub dump_reloads : (s : Standing) → IsKept s → GrowsSmall s
-    → AllByRecursion (λ edit. ReadsLine (dumped_line edit) (Change edit)) (dump_edits s)
+    → AllByRecursion ReadsBack (dump_edits s)
     × AcceptsAll empty_list (dump_edits s) s
 dump_reloads s kept small = (
   (
-    reads_behind (spaced (edit_words (Horizon s.horizon))) (Horizon s.horizon) (horizon_reads s.horizon kept.horizon),
-    premises_read s.premises (one_by_one IsWellFormedPremise s.premises (λ p at. All-contains IsWellFormedPremise s.premises p kept.sound.well_formed (Contains-from_In s.premises p at))),
+    tells (Horizon s.horizon) (horizon_short s.horizon kept.horizon) (horizon_reads s.horizon kept.horizon),
+    premises_tell s.premises (one_by_one IsWellFormedPremise s.premises (λ p at. All-contains IsWellFormedPremise s.premises p kept.sound.well_formed (Contains-from_In s.premises p at))),
   ),
   reloads s kept small,
 )

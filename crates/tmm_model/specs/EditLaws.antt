@@ -1,5 +1,5 @@
 -- Laws of edits.
-use Rattle.std.specs.Prelude.{◌≡◌, ℕ, ◌≤◌, false, List, [], ◌∷◌, ◌++◌, map, codes}
+use Rattle.std.specs.Prelude.{◌≡◌, ℕ, ◌≤◌, false, List, [], ◌∷◌, ◌++◌, map, length, codes}
 use Rattle.std.specs.List.{AllByRecursion, Contains}
 use Rattle.tmm_model.specs.declared.line.Line.TheVariants.{Change}
 use Rattle.tmm_model.specs.declared.premise.Edit.{Edit}
@@ -46,10 +46,14 @@ dumped_line edit = codes "  " ++ spaced (edit_words edit)
 abbrev pub GrowsSmall : Standing → Type 0
 GrowsSmall s = (front back : List Premise) → s.premises ≡ front ++ back → size (built (record { horizon = s.horizon; premises = front })) ≤ most_size
 
--- the lines that a dump shows of a kept list read as its edits, and these are accepted from the empty list
--- on, and leave the list
+-- the line is short enough, and reads as the edit
+abbrev pub ReadsBack : Edit → Type 0
+ReadsBack edit = (length (dumped_line edit) ≤ 400) × ReadsLine (dumped_line edit) (Change edit)
+
+-- the lines that a dump shows of a kept list tell its edits, and these are accepted from the empty list on,
+-- and leave the list
 abbrev pub DumpReloads : Type 0
 DumpReloads =
     (s : Standing) → IsKept s → GrowsSmall s
-    → AllByRecursion (λ edit. ReadsLine (dumped_line edit) (Change edit)) (dump_edits s)
+    → AllByRecursion ReadsBack (dump_edits s)
     × AcceptsAll empty_list (dump_edits s) s
