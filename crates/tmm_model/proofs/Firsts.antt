@@ -55,7 +55,7 @@ module _ {P : Type 0} {live : P → Type 0} {order : P → P → Ordering} (law 
       by Greater e = cc
 
   -- two of which neither is after the other
-  one_spot : (x y : P) → live x → live y → is_gt (order x y) ≡ false → is_gt (order y x) ≡ false → x ≡ y
+  pub one_spot : (x y : P) → live x → live y → is_gt (order x y) ≡ false → is_gt (order y x) ≡ false → x ≡ y
   one_spot x y lx ly h g = by (order x y) refl
     where
       by : (r : Ordering) → order x y ≡ r → x ≡ y
@@ -67,7 +67,7 @@ module _ {P : Type 0} {live : P → Type 0} {order : P → P → Ordering} (law 
     pub member : In k xs
     pub below : (y : TokenRow P) → In y xs → is_gt (order k.spot y.spot) ≡ false
 
-  least_is : (x : TokenRow P) (xs : List (TokenRow P)) → Live (x ∷ xs) → IsLeast (earliest by_spot x xs) (x ∷ xs)
+  pub least_is : (x : TokenRow P) (xs : List (TokenRow P)) → Live (x ∷ xs) → IsLeast (earliest by_spot x xs) (x ∷ xs)
   least_is x [] all = record { member = inl refl; below = λ y at. elim at [ inl e ↦ subst (λ z. is_gt (order x.spot z.spot) ≡ false) e (itself x.spot (all x (inl refl))) | inr n ↦ absurd n ] }
   least_is x (y ∷ ys) all =
       by (λ _. least_is y ys (λ k at. all k (inr at)))

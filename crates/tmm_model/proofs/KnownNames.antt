@@ -56,7 +56,7 @@ own_new earlier p f =
     (first_taken-none (words_known earlier) (name_of p) ws (subst (λ l. first_taken (words_known earlier) l ≡ None) e f.new)).new
 
 -- so no premise before has it
-fresh : (earlier premises : List Premise) → AllFollow earlier premises → (p : Premise) → In p premises → (q : Premise) → In q earlier → same_name (name_of p) (name_of q) ≡ true → ⊥
+pub fresh : (earlier premises : List Premise) → AllFollow earlier premises → (p : Premise) → In p premises → (q : Premise) → In q earlier → same_name (name_of p) (name_of q) ≡ true → ⊥
 fresh earlier [] h p at q before e = absurd at
 fresh earlier (o ∷ premises) h p (inl is) q before e =
     let unknown : list_any (same_name (name_of p)) (words_known earlier) ≡ false = subst (λ z. list_any (same_name (name_of z)) (words_known earlier) ≡ false) is (own_new earlier o h.0) in

@@ -55,6 +55,10 @@ pub mod Updating
 pub mod KnownNames
 pub mod Sound
 pub mod SoundBeliefs
+pub mod Spelt
+pub mod Untouched
+pub mod EditLaws
+pub mod Erased
 pub mod Adding
 pub mod Erasure
 pub mod Cycles

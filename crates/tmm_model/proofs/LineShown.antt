@@ -46,7 +46,7 @@ digits_no_blank (b ∷ ds) h =
     let r = digit_from_value b h.0 in
     and_from _ _ (not_from_false (is_blank b) (or_from _ _ (or_from _ _ (ne_eqb b 32 (λ e. omega arith)) (ne_eqb b 9 (λ e. omega arith))) (ne_eqb b 13 (λ e. omega arith)))) (digits_no_blank ds h.1)
 
-decimal_is_word : (n : ℕ) → n < 2 ^ 64 → IsWord (decimal n)
+pub decimal_is_word : (n : ℕ) → n < 2 ^ 64 → IsWord (decimal n)
 decimal_is_word n h =
     let k = decimal_is_IsNumeral n h in
     ((λ e. let z : length (decimal n) ≡ 0 = ap length e in omega (arith, k.0.0)), digits_no_blank (decimal n) k.0.1)
@@ -88,7 +88,7 @@ point_length Start h = omega arith
 point_length (Begin k) h = omega (arith, name_length k h.0)
 point_length (End k) h = omega (arith, name_length k h, length-append k (codes ".end"))
 
-number_length : (z : ℤ) → IsNumber z → length (number_word z) ≤ 11
+pub number_length : (z : ℤ) → IsNumber z → length (number_word z) ≤ 11
 number_length z h = length_signed_le 10 z (magnitude z h) (omega (arith, magnitude z h))
   where
     magnitude : (z : ℤ) → IsNumber z → mag z + 1 < 10 ^ 10
@@ -122,14 +122,14 @@ length-given : (ns : List (List ℕ)) → length (given_words ns) ≤ suc (lengt
 length-given [] = omega arith
 length-given (n ∷ ns) = omega arith
 
-short_line : (k : List ℕ) (ws : List (List ℕ)) → length k ≤ 7 → AreShort ws → length ws ≤ 10 → length (spaced (k ∷ ws)) ≤ 400
+short_line : (k : List ℕ) (ws : List (List ℕ)) → length k ≤ 7 → AreShort ws → length ws ≤ 10 → length (spaced (k ∷ ws)) ≤ 300
 short_line k ws first h few = omega (arith, length-append k (behind_spaces ws), length-behind ws h)
 
-two_short : (k n m : List ℕ) → length k ≤ 7 → IsName n → IsName m → length (spaced (k ∷ n ∷ m ∷ [])) ≤ 400
+two_short : (k n m : List ℕ) → length k ≤ 7 → IsName n → IsName m → length (spaced (k ∷ n ∷ m ∷ [])) ≤ 300
 unfolding AreShort
 two_short k n m first h j = short_line k (n ∷ m ∷ []) first (omega (arith, name_length n h), (omega (arith, name_length m j), tt)) (omega arith)
 
-shown_short : (p : Premise) → IsWellFormedPremise p → length (shown_text p) ≤ 400
+pub shown_short : (p : Premise) → IsWellFormedPremise p → length (shown_text p) ≤ 300
 unfolding AreShort
 shown_short (Class n fs) h = short_line (codes "class") (n ∷ fs.items) (omega arith) (omega (arith, name_length n h.0), names_short fs.items h.1) (omega (arith, h.3))
 shown_short (Kind n) h = short_line (codes "kind") (n ∷ []) (omega arith) (omega (arith, name_length n h), tt) (omega arith)
@@ -151,4 +151,4 @@ shown_short (Protect n f p q) h =
     (omega arith)
 
 pub shown_reads : (p : Premise) → IsWellFormedPremise p → (length (shown_text p) ≤ 400) × ReadsLine (shown_text p) (Change (Add p))
-shown_reads p h = (shown_short p h, (words-spaced (shown p) (shown_are_words p h), h))
+shown_reads p h = (omega (arith, shown_short p h), (words-spaced (shown p) (shown_are_words p h), h))

@@ -15,7 +15,7 @@ use Rattle.tmm_model.specs.Tokens.{clips, cuts, is_by, is_before, lasts_to, supp
 use Rattle.tmm_model.specs.Beliefs.{class_of, contradicts_in, is_of, end_of, token_at, token_of, tokens, supported, is_free}
 use Rattle.tmm_model.proofs.Elements.{both, In, list_any-In, In-list_any, In-filter_map}
 
-class-token_of : (s : Standing) (x : Moment) (k : TokenRow Moment) → token_of s x ≡ Some k → k.class ≡ class_of s k.fact
+pub class-token_of : (s : Standing) (x : Moment) (k : TokenRow Moment) → token_of s x ≡ Some k → k.class ≡ class_of s k.fact
 class-token_of s x k h = by (is_of s x) h
   where
     told : (f : List ℕ) (o : Option Moment) → record { spot = x; end = o; fact = f; class = class_of s f } ≡ k → k.class ≡ class_of s k.fact

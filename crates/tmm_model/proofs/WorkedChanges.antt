@@ -153,3 +153,13 @@ not_mended = of_maps delta shut_early (next_list shut_early (Erase (codes "z")))
 
 is_unordered : reports (built (next_list shut_early (Erase (codes "z")))) ≡ (codes "g", unordered) ∷ []
 is_unordered = of_map reports (next_list shut_early (Erase (codes "z")))
+
+nothing_is_broken : reports (built (next_list shut_later (Add (dated (codes "x") (codes "m") 9)))) ≡ []
+nothing_is_broken = of_map reports (next_list shut_later (Add (dated (codes "x") (codes "m") 9)))
+
+-- the door of the lamp is shut at 5, before there is a push
+abbrev shut_undated : Standing
+shut_undated = within 1000 (lamp ++ Token (codes "m") (codes "shut") ∷ [])
+
+shut_at_last : changed shut_undated (Add (dated (codes "x") (codes "m") 5)) ≡ record none { clips = (k, m) ∷ [] }
+shut_at_last = of_maps delta shut_undated (next_list shut_undated (Add (dated (codes "x") (codes "m") 5)))

@@ -1,5 +1,5 @@
 -- Walks that give distances, and a cycle.
-use Rattle.std.proofs.Common.{◌≡◌, List, [], ◌∷◌, pos, negsuc, inl, inr, refl, sym, subst, arith}
+use Rattle.std.proofs.Common.{◌≡◌, ◌++◌, List, [], ◌∷◌, pos, negsuc, inl, inr, refl, sym, subst, arith}
 use Rattle.std.specs.Prelude.{codes}
 use Rattle.std.specs.List.{All, Contains, IsDistinct}
 use Rattle.std.proofs.lemmas.Int.{ints}
@@ -111,3 +111,22 @@ a_cycle = record {
   tightest = by_table (λ far. after (pos 0) (far (Begin (codes "c")) (Begin (codes "a")))) three;
   negative = omega (arith, ints);
 }
+
+-- dist d a a 1 2 is a cycle by itself
+loop : IsCycleOf (Point (codes "a") ∷ []) (Dist (codes "d") (Begin (codes "a")) (Begin (codes "a")) (Finite (pos 1)) (Finite (pos 2))) (negsuc 0)
+    (record { premise = codes "d"; side = Lo; from = Begin (codes "a"); to = Begin (codes "a"); weight = negsuc 0 } ∷ [])
+unfolding IsDistinct
+loop = record {
+  first = record { premise = codes "d"; side = Lo; from = Begin (codes "a"); to = Begin (codes "a"); weight = negsuc 0 };
+  own = (1, omega arith, refl);
+  cycle = record { rest = []; are = refl; back = record { own = All-from_contains (Contains (steps_in (Point (codes "a") ∷ []))) [] (λ x at. absurd (In-from_Contains [] x at)); leads = refl; distinct = (tt, tt) }; sums = refl };
+  tightest = by_table (λ far. after (negsuc 0) (far (Begin (codes "a")) (Begin (codes "a")))) (Point (codes "a") ∷ []);
+  negative = omega (arith, ints);
+}
+
+-- dist f a b 2 5 beside dist d a b 3 7
+abbrev narrower : List Premise
+narrower = three ++ Dist (codes "f") (Begin (codes "a")) (Begin (codes "b")) (Finite (pos 2)) (Finite (pos 5)) ∷ []
+
+narrowed : (far_in narrower (Begin (codes "a")) (Begin (codes "b")) ≡ Finite (pos 5)) × (far_in narrower (Begin (codes "b")) (Begin (codes "a")) ≡ Finite (negsuc 2))
+narrowed = (by_table (λ far. far (Begin (codes "a")) (Begin (codes "b"))) narrower, by_table (λ far. far (Begin (codes "b")) (Begin (codes "a"))) narrower)

@@ -148,6 +148,10 @@ first_without [] = None
 first_without (None ∷ found) = Some 0
 first_without (Some k ∷ found) = option_map suc (first_without found)
 
+-- what becomes of a rule in time, by the first supporters of its antecedents
+abbrev pub tried : List (Option Moment) → Outcome
+tried found = elim (first_without found) [ Some place ↦ blocked place | None ↦ fires (filter_map (λ k. k) found) ]
+
 module _ (s : Standing) (far : Distances) where
   -- the first of the tokens among b that pass
   abbrev pub first_token : List Moment → (TokenRow Moment → Bool) → Option Moment
@@ -160,9 +164,6 @@ module _ (s : Standing) (far : Distances) where
   -- for each antecedent of r, its first supporter at t
   abbrev pub supporters : List Moment → Moment → List ℕ → List (Option Moment)
   supporters b t r = map (λ fact. holder b fact t t) (rule_of s r).given
-
-  abbrev pub tried : List (Option Moment) → Outcome
-  tried found = elim (first_without found) [ Some place ↦ blocked place | None ↦ fires (filter_map (λ k. k) found) ]
 
   -- the outcome of r at t, among the occurrences b
   abbrev pub outcome : List Moment → Moment → List ℕ → Outcome

@@ -31,3 +31,4 @@ pub mod Kept
 pub mod Generator
 pub mod Steps
 pub mod Cycles
+pub mod EditLaws

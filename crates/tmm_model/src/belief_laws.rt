@@ -1,5 +1,6 @@
-// Laws of distances and of belief.
+// Laws of distances, of belief and of edits.
 ghost use Rattle.tmm_model.specs.Right.{SoundListsAreShortest, PointsTimeOccurrences, DistancesAreShortest, OneRightSet, BeliefsAreRight, MapsAreRight, FiresWhereBelieved};
+ghost use Rattle.tmm_model.specs.EditLaws.{UntouchedKeepOutcome, DumpReloads};
 ghost use Rattle.tmm_model.specs.Reasons.{ReasonsAreEarlier, CitedStandBefore};
 
 /// Where some dates satisfy a well-formed list, its distances are shortest and its rules are sound.
@@ -42,4 +43,15 @@ pub fn decisions_fire_where_believed()
 pub fn reasons_are_earlier()
     ensures earlier { ReasonsAreEarlier }
     ensures order { CitedStandBefore }
+{}
+
+/// A decision that an edit does not touch keeps its outcome.
+pub fn untouched_decisions_keep_outcomes()
+    ensures { UntouchedKeepOutcome }
+{}
+
+/// The lines of a dump, read from the empty list on, are accepted and leave the dumped list, if at
+/// no time the map is too large.
+pub fn dump_reloads()
+    ensures { DumpReloads }
 {}
