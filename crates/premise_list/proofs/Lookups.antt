@@ -1,7 +1,7 @@
 -- Look-ups among the declarations of a list.
-use Rattle.std.proofs.Common.{◌≡◌, ℕ, zero, suc, ◌+◌, Bool, true, false, ◌||◌, List, [], ◌∷◌, ◌++◌, map, refl, sym, ◌∙◌, ap, subst, arith, cond, Contains}
-use Rattle.std.specs.Prelude.{Option, Some, None, find, slice_get, unwrap_or}
-use Rattle.std.specs.List.{flat_map, list_any, IsDistinct}
+use Rattle.std.proofs.Common.{◌≡◌, ℕ, suc, ◌+◌, Bool, true, false, ◌||◌, List, [], ◌∷◌, ◌++◌, map, refl, sym, ◌∙◌, ap, subst, arith, cond, Contains}
+use Rattle.std.specs.Prelude.{Option, Some, None, slice_get, unwrap_or}
+use Rattle.std.specs.List.{list_any, IsDistinct}
 use Rattle.std.specs.Map.{lookup, keys_of}
 use Rattle.std.specs.Option.{option_map, option_or}
 use Rattle.std.specs.Cmp.Lexicographic.{nat_list_eq_equiv, bytes_decides}
@@ -12,7 +12,7 @@ use Rattle.tmm_model.specs.declared.premise.Premise.{Premise}
 use Rattle.tmm_model.specs.declared.premise.Premise.TheVariants.{Class, Kind, Point, Event, Token, Span, Dist, Rule, Protect}
 use Rattle.tmm_model.specs.Points.{same_name}
 use Rattle.tmm_model.specs.Standing.{name_of}
-use Rattle.tmm_model.specs.Sorts.{Sort, a_class, a_fact, a_kind, a_point, an_event, a_token, a_span, a_dist, a_rule, a_protection, is_fact, fact_declaration, declarations_of, declarations_in, sort_in, class_in}
+use Rattle.tmm_model.specs.Sorts.{Sort, a_fact, is_fact, fact_declaration, declarations_of, declarations_in, class_in}
 use Rattle.tmm_model.specs.WellNamed.{premise_in}
 use Rattle.tmm_model.proofs.WellNamed.{lookup-append}
 use Rattle.premise_list.specs.declared.premise.Sort.{Sort as Code}

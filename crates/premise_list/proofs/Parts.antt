@@ -1,16 +1,16 @@
 -- The part of a list that an erasure walks.
-use Rattle.std.proofs.Common.{◌≡◌, ℕ, zero, suc, ◌+◌, ◌<◌, ◌≤◌, Bool, true, false, ◌||◌, List, [], ◌∷◌, ◌++◌, map, length, take, drop, refl, sym, ◌∙◌, ap, subst, arith, cond, append_assoc}
-use Rattle.std.specs.Prelude.{Option, Some, None, unwrap_or}
+use Rattle.std.proofs.Common.{◌≡◌, ℕ, suc, ◌+◌, ◌<◌, ◌≤◌, Bool, true, false, ◌||◌, List, [], ◌∷◌, ◌++◌, map, length, take, drop, refl, sym, ◌∙◌, ap, subst, arith, cond, append_assoc}
+use Rattle.std.specs.Prelude.{Some, unwrap_or}
 use Rattle.std.specs.List.{flat_map, list_any}
 use Rattle.std.specs.Map.{lookup}
-use Rattle.std.proofs.lemmas.List.{take-append-drop, take-append-le, take-take, length-take-le, length-append}
+use Rattle.std.proofs.lemmas.List.{take-append-le, take-take, length-take-le}
 use Rattle.std.proofs.lemmas.List.Folds.{list_any-append}
 use Rattle.tmm_model.specs.declared.premise.Premise.{Premise}
 use Rattle.tmm_model.specs.Points.{same_name}
 use Rattle.tmm_model.specs.Standing.{name_of}
 use Rattle.tmm_model.specs.Sorts.{Sort, a_fact, fact_use, declared_by}
 use Rattle.tmm_model.specs.WellNamed.{AllFollow, IsWellNamed}
-use Rattle.tmm_model.specs.Erasure.{names_used, is_among, falls, kept_after, fallen_after, kept_without, fallen_with}
+use Rattle.tmm_model.specs.Erasure.{names_used, is_among, falls, kept_after, fallen_after, kept_without}
 use Rattle.tmm_model.proofs.WellNamed.{AllFollow-append}
 use Rattle.tmm_model.proofs.Erasure.{stays_before, kept_after-stays, kept_after-falls, kept_after-same, fallen_after-stays, fallen_after-falls, fallen_after-same, kept_without-IsWellNamed}
 use Rattle.premise_list.specs.Words.{facts_of, own_sort}

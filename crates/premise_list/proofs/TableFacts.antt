@@ -1,5 +1,5 @@
 -- What a table's fields say of its rows.
-use Rattle.std.proofs.Common.{◌≡◌, ℕ, zero, suc, ◌+◌, ◌-◌, ◌<◌, ◌≤◌, ◌*◌, List, [], ◌∷◌, ◌++◌, map, length, take, drop, refl, ap, subst, sym, ◌∙◌, arith, append_assoc, append-nil, add-zero}
+use Rattle.std.proofs.Common.{◌≡◌, ℕ, suc, ◌+◌, ◌-◌, List, [], ◌∷◌, ◌++◌, map, length, take, drop, refl, ap, subst, sym, ◌∙◌, arith, append_assoc, append-nil}
 use Rattle.std.specs.Prelude.{None}
 use Rattle.std.specs.List.{IsDistinct, flat_map}
 use Rattle.std.specs.Map.{keys_of}
@@ -10,14 +10,12 @@ use Rattle.std.proofs.lemmas.Map.Made.{keys_of-map_values}
 use Rattle.indexmap.specs.IndexMap.{IsUnique}
 use Rattle.tmm_model.specs.declared.name.Name.{Name}
 use Rattle.tmm_model.specs.declared.premise.Premise.{Premise}
-use Rattle.tmm_model.specs.declared.premise.Premise.TheVariants.{Class, Kind, Point, Event, Token, Span, Dist, Rule, Protect}
 use Rattle.tmm_model.specs.Points.{same_name}
 use Rattle.tmm_model.specs.Standing.{name_of, points_of}
 use Rattle.tmm_model.specs.Sorts.{Sort, a_fact, declarations_of, declared_by, fact_declaration}
 use Rattle.tmm_model.specs.Verdicts.{words_known, first_taken}
-use Rattle.tmm_model.specs.WellNamed.{AllFollow, IsWellNamed}
-use Rattle.tmm_model.proofs.WellNamed.{words_known-append, AllFollow-append, IsNewThen, first_taken-none, first_taken-turned}
-use Rattle.premise_list.specs.declared.premise.Sort.TheVariants.{Fact}
+use Rattle.tmm_model.specs.WellNamed.{IsWellNamed}
+use Rattle.tmm_model.proofs.WellNamed.{words_known-append, AllFollow-append, IsNewThen, first_taken-none}
 use Rattle.premise_list.specs.declared.table.Word.{Word}
 use Rattle.premise_list.specs.declared.table.Table.TheInside.{Inside}
 use Rattle.premise_list.specs.Words.{facts_of, own_sort, sort_seen}

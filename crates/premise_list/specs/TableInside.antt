@@ -1,5 +1,5 @@
 -- What holds of the fields of a table.
-use Rattle.std.specs.Prelude.{ℕ, ◌≡◌, ◌+◌, ◌*◌, ◌-◌, ◌≤◌, List, length, map, vec_len, vec_capacity}
+use Rattle.std.specs.Prelude.{◌≡◌, ◌-◌, ◌≤◌, length, map, vec_len, vec_capacity}
 use Rattle.indexmap.specs.IndexMap.{spare}
 use Rattle.tmm_model.specs.Standing.{points_in}
 use Rattle.tmm_model.specs.Verdicts.{most_premises}

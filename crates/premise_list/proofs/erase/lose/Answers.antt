@@ -1,7 +1,6 @@
-use Rattle.std.proofs.Common.{◌≡◌, ℕ, ◌≤◌, ◌∷◌, ◌++◌, List, length, take, ap, subst, sym, ◌∙◌, arith}
+use Rattle.std.proofs.Common.{◌≡◌, ◌∷◌, ◌++◌, take, subst, ◌∙◌}
 use Rattle.std.proofs.lemmas.List.{take_all}
 use Rattle.tmm_model.specs.Standing.{name_of}
-use Rattle.tmm_model.specs.Erasure.{is_among}
 use Rattle.premise_list.specs.Words.{facts_of}
 use Rattle.premise_list.specs.Gone.{SameNames}
 use Rattle.premise_list.proofs.Parts.{all_lost}

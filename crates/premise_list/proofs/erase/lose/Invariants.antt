@@ -1,4 +1,4 @@
-use Rattle.std.proofs.Common.{◌≡◌, ◌∷◌, ◌++◌, take}
+use Rattle.std.proofs.Common.{◌++◌, take}
 use Rattle.premise_list.specs.Gone.{SameNames}
 use Rattle.premise_list.proofs.erase.lose.Given as goal
 

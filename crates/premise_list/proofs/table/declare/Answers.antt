@@ -1,4 +1,4 @@
-use Rattle.std.proofs.Common.{◌≡◌, ◌∙◌}
+use Rattle.std.proofs.Common.{◌∙◌}
 use Rattle.std.specs.Prelude.{Result, Ok, Err, IsOk, OnOk}
 use Rattle.indexmap.proofs.CallerLemmas.{insert_entry-new}
 use Rattle.tmm_model.specs.Points.{same_name}

@@ -1,7 +1,7 @@
-use Rattle.std.proofs.Common.{◌≡◌, ◌<◌, ◌+◌, suc, map, length, take, drop, ◌++◌, ◌∷◌, [], ap, subst, sym, ◌∙◌, arith, append_assoc, add-one}
+use Rattle.std.proofs.Common.{◌≡◌, ◌+◌, map, take, drop, ◌++◌, ◌∷◌, [], ap, subst, sym, ◌∙◌, arith, append_assoc, add-one}
 use Rattle.std.specs.Prelude.{None}
 use Rattle.std.proofs.Math.Seq.{drop-cons}
-use Rattle.std.proofs.lemmas.List.{take_more, map_push, get_or_read}
+use Rattle.std.proofs.lemmas.List.{take_more, map_push}
 use Rattle.std.specs.Map.{keys_of}
 use Rattle.indexmap.specs.IndexMap.{keys}
 use Rattle.tmm_model.specs.Verdicts.{first_taken}

@@ -1,4 +1,4 @@
-use Rattle.std.proofs.Common.{◌≡◌, ◌≤◌, ◌+◌, ◌++◌, map, length, take, drop}
+use Rattle.std.proofs.Common.{◌≡◌, ◌≤◌, ◌+◌, ◌++◌, map, take, drop}
 use Rattle.std.specs.Prelude.{None}
 use Rattle.indexmap.specs.IndexMap.{keys, spare}
 use Rattle.tmm_model.specs.Verdicts.{first_taken}

@@ -1,4 +1,4 @@
-use Rattle.std.proofs.Common.{arith, length, take}
+use Rattle.std.proofs.Common.{arith, take}
 use Rattle.std.proofs.lemmas.List.{length-take}
 use Rattle.tmm_model.proofs.WellNamed.{points_in-few, points_of-few}
 use Rattle.premise_list.proofs.table.points_count.Goals as goal

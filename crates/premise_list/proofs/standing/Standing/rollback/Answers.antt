@@ -1,4 +1,4 @@
-use Rattle.std.proofs.Common.{◌≡◌, ◌-◌, [], ◌++◌, length, take, drop, ap, subst, sym, ◌∙◌}
+use Rattle.std.proofs.Common.{◌≡◌, ◌-◌, [], length, take, drop, subst, sym}
 use Rattle.std.proofs.lemmas.List.{take-append-drop}
 use Rattle.tmm_model.specs.WellNamed.{AllFollow, IsWellNamed}
 use Rattle.tmm_model.proofs.WellNamed.{AllFollow-append}

@@ -1,14 +1,12 @@
-use Rattle.std.proofs.Common.{◌≡◌, ℕ, ◌+◌, ◌<◌, Bool, true, false, ◌||◌, List, [], ◌∷◌, ◌++◌, length, take, drop, refl, ap, subst, sym, ◌∙◌, add-one, append_assoc}
+use Rattle.std.proofs.Common.{◌≡◌, ℕ, ◌+◌, Bool, true, false, ◌||◌, List, [], ◌∷◌, ◌++◌, take, drop, refl, ap, sym, ◌∙◌, add-one}
 use Rattle.std.specs.List.{list_any}
 use Rattle.std.proofs.Math.Seq.{drop-cons}
 use Rattle.std.proofs.lemmas.List.{take_more}
 use Rattle.std.proofs.lemmas.List.Folds.{list_any-append}
 use Rattle.tmm_model.specs.Points.{same_name}
-use Rattle.tmm_model.specs.Standing.{name_of}
-use Rattle.tmm_model.specs.Sorts.{is_reserved, declared_by}
+use Rattle.tmm_model.specs.Sorts.{is_reserved}
 use Rattle.tmm_model.specs.Verdicts.{first_taken, words_known}
 use Rattle.tmm_model.proofs.WellNamed.{first_taken-new, first_taken-same}
-use Rattle.premise_list.specs.Words.{facts_of}
 use Rattle.premise_list.proofs.TableFacts.{declared_by_parted}
 use Rattle.premise_list.proofs.table.Table.check_declared.Goals as goal
 

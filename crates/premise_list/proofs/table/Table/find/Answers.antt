@@ -1,14 +1,11 @@
-use Rattle.std.proofs.Common.{rules, ◌≡◌, ◌+◌, ℕ, true, false, ap, sym, ◌∙◌, arith, cond}
-use Rattle.std.specs.Prelude.{Option, Some, None, slice_get, unwrap_or}
+use Rattle.std.proofs.Common.{◌≡◌, ℕ, ap, sym, ◌∙◌, arith}
+use Rattle.std.specs.Prelude.{Some, None, slice_get, unwrap_or}
 use Rattle.std.specs.Map.{lookup}
-use Rattle.std.specs.Option.{option_map, option_copied}
 use Rattle.tmm_model.specs.Points.{same_name}
-use Rattle.tmm_model.specs.Standing.{name_of}
-use Rattle.tmm_model.specs.Sorts.{Sort, a_fact, is_fact, class_in}
-use Rattle.tmm_model.specs.WellNamed.{premise_in}
+use Rattle.tmm_model.specs.Sorts.{Sort, is_fact}
 use Rattle.premise_list.specs.Words.{sort_seen}
 use Rattle.premise_list.specs.Table.{placed}
-use Rattle.premise_list.proofs.Lookups.{not_fact, premise_found, premise_absent, class_found, class_absent}
+use Rattle.premise_list.proofs.Lookups.{not_fact, premise_found, premise_absent}
 use Rattle.premise_list.proofs.TableFacts.{distinct_words}
 use Rattle.premise_list.proofs.table.Table.find.Goals as goal
 

@@ -1,10 +1,10 @@
-use Rattle.std.proofs.Common.{◌≡◌, ℕ, ◌+◌, ap, subst, sym, ◌∙◌, arith}
-use Rattle.std.specs.Prelude.{Option, Some, None}
+use Rattle.std.proofs.Common.{◌≡◌, ap, subst, sym, ◌∙◌, arith}
+use Rattle.std.specs.Prelude.{Some, None}
 use Rattle.std.specs.Map.{lookup}
 use Rattle.std.specs.Option.{option_map}
 use Rattle.tmm_model.specs.Points.{same_name}
-use Rattle.tmm_model.specs.Sorts.{Sort, sort_in}
-use Rattle.tmm_model.specs.Verdicts.{Cause, unknown, premise_cause}
+use Rattle.tmm_model.specs.Sorts.{sort_in}
+use Rattle.tmm_model.specs.Verdicts.{unknown, premise_cause}
 use Rattle.premise_list.specs.Words.{sort_seen}
 use Rattle.premise_list.specs.Table.{placed}
 use Rattle.premise_list.specs.Found.{IsFoundAt}

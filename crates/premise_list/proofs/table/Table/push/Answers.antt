@@ -1,6 +1,5 @@
-use Rattle.std.proofs.Common.{◌≡◌, ◌+◌, ◌≤◌, ◌<◌, false, ◌++◌, ◌∷◌, [], map, length, ap, subst, sym, ◌∙◌, arith, append_assoc}
-use Rattle.std.specs.Prelude.{None, List}
-use Rattle.std.specs.List.{flat_map, list_any}
+use Rattle.std.proofs.Common.{◌≡◌, ◌+◌, ◌≤◌, ◌++◌, ◌∷◌, [], map, length, ap, subst, sym, ◌∙◌, arith}
+use Rattle.std.specs.List.{list_any}
 use Rattle.std.specs.Map.{keys_of}
 use Rattle.std.proofs.lemmas.List.{length-append, map_push, length_push}
 use Rattle.indexmap.specs.IndexMap.{keys}
@@ -8,7 +7,7 @@ use Rattle.tmm_model.specs.declared.premise.Premise.{Premise}
 use Rattle.tmm_model.specs.Points.{same_name}
 use Rattle.tmm_model.specs.Standing.{name_of, points_of, points_in}
 use Rattle.tmm_model.specs.Sorts.{declared_by}
-use Rattle.tmm_model.specs.Verdicts.{first_taken, words_known}
+use Rattle.tmm_model.specs.Verdicts.{first_taken}
 use Rattle.tmm_model.specs.WellNamed.{IsWellNamed, Follows}
 use Rattle.tmm_model.proofs.WellNamed.{IsNewThen, first_taken-turned, points_in-few, points_of-few, points_in-push, IsWellNamed-push}
 use Rattle.premise_list.specs.declared.table.Table.TheInside.{Inside}

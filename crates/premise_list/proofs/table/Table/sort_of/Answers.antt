@@ -1,4 +1,4 @@
-use Rattle.std.proofs.Common.{◌≡◌, ap, ◌∙◌}
+use Rattle.std.proofs.Common.{ap, ◌∙◌}
 use Rattle.std.specs.Option.{option_map}
 use Rattle.tmm_model.specs.Points.{same_name}
 use Rattle.premise_list.proofs.Lookups.{lookup-placed}

@@ -1,8 +1,6 @@
-use Rattle.std.proofs.Common.{◌≡◌, ◌+◌, ◌-◌, ◌≤◌, List, map, length, take, drop, ap, subst, sym, ◌∙◌, arith}
+use Rattle.std.proofs.Common.{◌≡◌, ◌+◌, ◌-◌, map, length, drop, ap, subst, sym, ◌∙◌, arith}
 use Rattle.std.specs.List.{flat_map}
 use Rattle.std.proofs.lemmas.List.{length-take}
-use Rattle.std.proofs.lemmas.Grind.{common_steps}
-use Rattle.tmm_model.specs.declared.premise.Premise.{Premise}
 use Rattle.tmm_model.specs.Standing.{points_of}
 use Rattle.tmm_model.specs.Verdicts.{words_known}
 use Rattle.tmm_model.specs.WellNamed.{IsWellNamed}
