@@ -10,3 +10,6 @@ mod words;
 pub use numbers::{bound, number};
 pub use points::{occ, point_name};
 pub use words::{next_word, split_word};
+
+#[cfg(test)]
+mod tests;

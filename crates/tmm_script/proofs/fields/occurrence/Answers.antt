@@ -1,4 +1,4 @@
-use Rattle.std.proofs.Common.{◌≡◌, sym, ap, ◌∙◌}
+use Rattle.std.proofs.Common.{sym, ap, ◌∙◌}
 use Rattle.std.specs.Prelude.{option_map}
 use Rattle.tmm_model.specs.Lines.{bare_occ}
 use Rattle.tmm_words.proofs.Spelled.{occ_seen}

@@ -1,5 +1,5 @@
-use Rattle.std.proofs.Common.{◌≡◌, sym, ap, refl, ◌∙◌}
-use Rattle.tmm_model.specs.Reading.{point_of, query_point_of}
+use Rattle.std.proofs.Common.{sym, refl, ◌∙◌}
+use Rattle.tmm_model.specs.Reading.{query_point_of}
 use Rattle.tmm_model.proofs.LinePoints.{point_reader}
 use Rattle.tmm_words.proofs.Spelled.{read_from}
 use Rattle.tmm_script.proofs.fields.query_point.Goals as goal
