@@ -12,7 +12,7 @@ use map_engine::MapCore;
 use replies::{reply_bounds, reply_no, reply_ok};
 use std::alloc::Global;
 use tmm_model::{Edit, Line, NoMemory, Premise, Query, Refusal, Seq, Stop, Turn};
-use tmm_script::parse_line;
+use tmm_script::{LONGEST_LINE, is_silent, parse_line};
 
 /// Answers the lines of a script over a map.
 #[derive(Drop)]
@@ -47,6 +47,10 @@ impl<M: MapCore + Drop> Lines for Session<M> {
 
     fn line(&mut self, alloc: Global, bytes: &[u8]) -> Turn {
         self.lines += 1;
+        // Most of a long script may be comments: they are passed over before a `Line` is made.
+        if bytes.len() <= LONGEST_LINE && is_silent(bytes) {
+            return Turn::Silent;
+        }
         let meaning = match parse_line(alloc, bytes) {
             Ok(meaning) => meaning,
             Err(Stop::Refused(refusal)) => return refuse(alloc, self.lines, &refusal),

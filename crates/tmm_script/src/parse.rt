@@ -1,5 +1,5 @@
 // A line of a script.
-ghost use Rattle.std.specs.Prelude.{◌≡◌, ◌<◌, ◌≤◌, length, ◌↔◌, Ok, Err};
+ghost use Rattle.std.specs.Prelude.{◌≡◌, ◌<◌, ◌≤◌, length, ◌↔◌, IsTrue, Ok, Err};
 ghost use Rattle.tmm_model.specs.declared.line.Line.TheVariants.{Silent, Change};
 ghost use Rattle.tmm_model.specs.declared.premise.Edit.{Edit as Edits};
 ghost use Rattle.tmm_model.specs.declared.refusal.Refusal.TheVariants.{LimitLine};
@@ -35,6 +35,17 @@ pub fn parse_line(alloc: Global, line: &[u8]) -> Result<Line, Stop>
         Ok(line) => Ok(line),
         Err(Misread::Form) => Err(Stop::Refused(Refusal::Form)),
         Err(Misread::Memory) => Err(Stop::NoMemory),
+    }
+}
+
+/// Whether the line says nothing: it has no words, or is a comment. A line of any length is asked for
+/// its words alone.
+pub fn is_silent(line: &[u8]) -> bool
+    ensures { IsTrue result ↔ IsSilent (words line.now) }
+{
+    match split_word(line) {
+        None => true,
+        Some((word, _)) => comment(word),
     }
 }
 
