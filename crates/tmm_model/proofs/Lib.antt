@@ -29,6 +29,7 @@ mod WorkedQuestions
 mod WorkedDemo
 mod WorkedWorkshop
 mod WorkedGuide
+mod WorkedTranscript
 pub mod LineNumbers
 pub mod LineReaders
 pub mod LineWords
