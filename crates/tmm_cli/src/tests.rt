@@ -4,7 +4,7 @@ use crate::status::Status;
 use std::alloc::Global;
 use std::process::Abort;
 use std::test::Fail;
-use tmm_io::{MemSink, MemSource, RepeatSource, SteadySource};
+use tmm_io::{MemSink, MemSource, SteadySource};
 
 /// Runs a script in pieces of this many bytes, and compares its replies and its status.
 fn expect(
@@ -30,7 +30,14 @@ fn scripts_are_answered(rt: HostRuntime) -> Result<(), Fail> {
     let alloc = rt.alloc();
     expect(&rt, alloc, b"", 4096, b"", Status::Clean)?;
     for piece in [1, 8, 4096] {
-        expect(&rt, alloc, FIRST, piece, b"1 ok\n2 ok\n3 ok\n4 bounds 3 7\n", Status::Clean)?;
+        expect(
+            &rt,
+            alloc,
+            FIRST,
+            piece,
+            b"1 ok\n2 ok\n3 ok\n4 bounds 3 7\n",
+            Status::Clean,
+        )?;
     }
     expect(
         &rt,
@@ -78,19 +85,6 @@ fn faults_end_the_run(rt: HostRuntime) -> Result<(), Fail> {
     Ok(())
 }
 
-// Just as many bytes as are taken, in lines without a reply, and one more.
-#[test]
-fn the_longest_input_is_read(rt: HostRuntime) -> Result<(), Fail> {
-    let alloc = rt.alloc();
-    for (total, status) in [(1 << 30, Status::Clean), ((1 << 30) + 1, Status::TooLong)] {
-        let mut source = RepeatSource::make(alloc, b"#                                                            \n", total)?;
-        let mut sink = MemSink::make(alloc, 16, &[])?;
-        assert_eq!(rt; run(alloc, &[], &mut source, &mut sink), status);
-        assert_eq!(rt; sink.bytes(), b"".as_slice());
-    }
-    Ok(())
-}
-
 #[test]
 fn other_words_get_the_usage_line(rt: HostRuntime) -> Result<(), Fail> {
     let alloc = rt.alloc();
@@ -98,6 +92,9 @@ fn other_words_get_the_usage_line(rt: HostRuntime) -> Result<(), Fail> {
     let mut source = SteadySource::make(alloc, FIRST, 4096)?;
     let mut sink = MemSink::make(alloc, 1 << 20, &[])?;
     assert_eq!(rt; run(alloc, &words, &mut source, &mut sink), Status::Words);
-    assert_eq!(rt; sink.bytes(), b"usage: tmm [demo N], N from 1 to 1000\n".as_slice());
+    assert_eq!(rt;
+        sink.bytes(),
+        b"usage: tmm [demo N], N from 1 to 1000\n".as_slice()
+    );
     Ok(())
 }

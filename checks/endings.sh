@@ -1,0 +1,50 @@
+#!/usr/bin/env bash
+# What no test of a function can show: the endings of the built program over real streams, and the
+# most bytes that are taken.
+set -u
+cd "$(dirname "$0")/.." || exit 1
+failed=0
+
+# expect STATUS WHAT: compares the status of the last command with the one that is due.
+expect() {
+  if [ "$status" != "$1" ]; then
+    echo "checks: $2: status $status instead of $1" >&2
+    failed=1
+  fi
+}
+
+[ "$(./tmm < examples/first.tmm)" == "$(cat examples/first.out)" ]
+status=$?
+expect 0 "the replies to the first script"
+
+./tmm < /dev/null
+status=$?
+expect 0 "an empty script"
+
+./tmm word > /dev/null < /dev/null
+status=$?
+expect 2 "a word on the command line"
+
+./tmm <&-
+status=$?
+expect 3 "a closed input"
+
+./tmm < docs
+status=$?
+expect 3 "a folder as input"
+
+{ cat examples/first.tmm; yes 'point a'; } | head -n 100000 | { ./tmm; echo $? > checks/out; } | head -n 1 > /dev/null
+status=$(cat checks/out)
+expect 4 "a pipe that is closed"
+
+comment=$(printf '# %0300d' 0)
+yes "$comment" | head -c $((1 << 30)) | ./tmm
+status=$?
+expect 0 "2^30 bytes"
+
+yes "$comment" | head -c $(((1 << 30) + 1)) | ./tmm
+status=$?
+expect 6 "2^30 bytes and one more"
+
+rm -f checks/out
+exit $failed
