@@ -1,6 +1,6 @@
 -- What the addition of a premise that may be added does to a network that stands for a list.
-use Rattle.std.proofs.Common.{◌≡◌, ◌≢◌, ◌⊎◌, inl, inr, ◌∙◌, ℕ, ◌+◌, ◌<◌, ◌≤◌, ◌*◌, List, [], ◌∷◌, ◌++◌, map, length, length-append, append-nil, get_or, replicate, zero, suc, cond, Option, Some, None, ap, sym, subst, arith, refl, ℤ, pos, ◌+ℤ◌, ◌≤ℤ◌, ◌<ℤ◌, neg_ℤ, Result, Ok, Err}
-use Rattle.std.specs.List.{All, Contains, count_by, flat_map}
+use Rattle.std.proofs.Common.{◌≡◌, ◌≢◌, inl, inr, ◌∙◌, ℕ, ◌+◌, ◌<◌, ◌≤◌, List, [], ◌∷◌, ◌++◌, map, length, append-nil, get_or, replicate, zero, suc, cond, Option, Some, None, ap, sym, subst, arith, refl, ℤ}
+use Rattle.std.specs.List.{All, Contains, count_by}
 use Rattle.std.specs.Option.{is_some}
 use Rattle.std.proofs.lemmas.Bool.Decides.{Decides-eqb}
 use Rattle.std.proofs.lemmas.Int.{ints}
@@ -10,18 +10,17 @@ use Rattle.std.proofs.lemmas.List.Elements.{All-append, All-contains, Contains-g
 use Rattle.tmm_model.specs.declared.bound.Bound.{Bound}
 use Rattle.tmm_model.specs.declared.bound.Bound.TheVariants.{Finite, Free}
 use Rattle.tmm_model.specs.declared.point.PointName.{PointName}
-use Rattle.tmm_model.specs.declared.point.PointName.TheVariants.{Start, Begin, End}
+use Rattle.tmm_model.specs.declared.point.PointName.TheVariants.{Start, End}
 use Rattle.tmm_model.specs.declared.premise.Premise.{Premise}
 use Rattle.tmm_model.specs.declared.premise.Premise.TheVariants.{Class, Kind, Point, Event, Token, Span, Dist, Rule, Protect}
 use Rattle.tmm_model.specs.declared.walk.WalkStep.{WalkStep}
 use Rattle.tmm_model.specs.Bounds.{after}
 use Rattle.tmm_model.specs.Lines.{IsWellFormedPremise}
-use Rattle.tmm_model.specs.Points.{same_point}
 use Rattle.tmm_model.specs.Standing.{arc_of as arc_of_step, points_of, points_in, steps_of, arcs_of as arcs_of_premise, arcs_in, IsConsistent, far_in}
 use Rattle.tmm_model.specs.Verdicts.{IsCycleSum}
-use Rattle.tmm_model.specs.Walks.{Arc, renamed, IsWalk, total, IsFar, HasDates, AreAmong}
+use Rattle.tmm_model.specs.Walks.{Arc, renamed, IsWalk, IsFar, HasDates}
 use Rattle.tmm_model.proofs.Adding.{MayBeAdded, steps_at, own_or_none}
-use Rattle.tmm_model.proofs.Dates.{Solved, solve}
+use Rattle.tmm_model.proofs.Dates.{Solved}
 use Rattle.tmm_model.proofs.Members.{All-from_contains, Contains-cons_first, Contains-cons_cases, Contains-map, Contains-map_from}
 use Rattle.tmm_model.proofs.Paths.{IsFar-same}
 use Rattle.tmm_model.proofs.Places.{arcs_in-push, length-arcs_in-le, points_new}
@@ -32,9 +31,9 @@ use Rattle.dist_net.specs.declared.Conflict.{Conflict}
 use Rattle.dist_net.specs.Net.{Net, start_alone, same_number, arc_of, arcs_of, IsInUse, AreInUse, IsConflict}
 use Rattle.dist_net.proofs.Names.{names_at_start, edges_at_start, only_start}
 use Rattle.map_engine.specs.Represents.{Names, IsNumberOf, name_at, Represents, StandsFor}
-use Rattle.map_engine.specs.Network.{IsNew, IsThere, KeepsNumbers, AddsPoints, AreThere, AreApart, AddsEdges, AddsSteps}
-use Rattle.map_engine.proofs.Nets.{ends_used, is_used}
-use Rattle.map_engine.proofs.Representing.{IsUsed, IsFar-named, HasDates-named, HasDates-numbered, far-named}
+use Rattle.map_engine.specs.Network.{IsNew, IsThere, KeepsNumbers, AreThere, AreApart}
+use Rattle.map_engine.proofs.Nets.{ends_used}
+use Rattle.map_engine.proofs.Representing.{IsUsed, HasDates-named, HasDates-numbered, far-named}
 use Rattle.map_engine.proofs.Named.{AreDistinct, name_at-is}
 use Rattle.map_engine.proofs.Extending.{Represents-arcs}
 

@@ -1,6 +1,6 @@
 -- A network that stands for points and constraints, with one point or some constraints more.
-use Rattle.std.proofs.Common.{◌≡◌, ◌≢◌, ◌⊎◌, inl, inr, ◌∙◌, ℕ, zero, suc, cond, ◌+◌, ◌<◌, ◌≤◌, List, [], ◌∷◌, ◌++◌, map, length, set, get_or, length-append, Option, Some, None, ap, sym, subst, arith, refl, unwrap_or, get_or-set_other, get_or-set_same}
-use Rattle.std.specs.List.{All, Contains, count_by}
+use Rattle.std.proofs.Common.{◌≡◌, ◌≢◌, ◌⊎◌, inl, inr, ◌∙◌, ℕ, zero, suc, cond, ◌+◌, ◌<◌, List, [], ◌∷◌, ◌++◌, map, length, set, get_or, length-append, Option, Some, None, ap, sym, subst, arith, refl, unwrap_or, get_or-set_other, get_or-set_same}
+use Rattle.std.specs.List.{Contains, count_by}
 use Rattle.std.specs.Option.{is_some}
 use Rattle.std.proofs.lemmas.Bool.Decides.{eqb_tells}
 use Rattle.std.proofs.lemmas.List.{map-append, length-map}

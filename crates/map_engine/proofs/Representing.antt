@@ -1,12 +1,11 @@
 -- What a network that stands for points and constraints tells of them.
-use Rattle.std.proofs.Common.{◌≡◌, ◌≢◌, ◌⊎◌, inl, inr, ◌∙◌, ℕ, ◌≤◌, List, [], ◌∷◌, ◌++◌, map, length, ap, sym, subst, arith, refl, ℤ, ◌-ℤ◌, ◌≤ℤ◌, ◌↔◌}
-use Rattle.std.specs.List.{All, Contains}
-use Rattle.std.proofs.lemmas.List.Elements.{All-contains}
+use Rattle.std.proofs.Common.{◌≡◌, ◌∙◌, ℕ, List, map, length, ap, sym, subst, arith, ◌-ℤ◌, ◌≤ℤ◌}
+use Rattle.std.specs.List.{Contains}
 use Rattle.tmm_model.specs.declared.bound.Bound.{Bound}
 use Rattle.tmm_model.specs.declared.point.PointName.{PointName}
 use Rattle.tmm_model.specs.declared.point.PointName.TheVariants.{Start}
 use Rattle.tmm_model.specs.Points.{same_point}
-use Rattle.tmm_model.specs.Walks.{Arc, renamed, IsFar, HasDates, IsDates, IsWalk, AreAmong, far}
+use Rattle.tmm_model.specs.Walks.{Arc, renamed, IsFar, HasDates, AreAmong, far}
 use Rattle.tmm_model.proofs.Points.{Decides-same_point}
 use Rattle.tmm_model.proofs.Paths.{IsFar-far, IsFar-same}
 use Rattle.tmm_model.proofs.Closing.{IfFinite-kept}

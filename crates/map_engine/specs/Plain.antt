@@ -2,7 +2,7 @@
 use Rattle.std.specs.Prelude.{◌≡◌, ℕ, Bool, true, false, Option, Some, None}
 use Rattle.tmm_model.specs.declared.point.QueryPoint.{QueryPoint}
 use Rattle.tmm_model.specs.declared.point.QueryPoint.TheVariants.{Declared, Derived}
-use Rattle.tmm_model.specs.Standing.{Standing, IsConsistent}
+use Rattle.tmm_model.specs.Standing.{Standing}
 use Rattle.dist_net.specs.Net.{Net, Nets, arcs_of}
 use Rattle.premise_list.specs.States.{States}
 use Rattle.map_engine.specs.Represents.{Names, IsNumberOf, StandsFor}

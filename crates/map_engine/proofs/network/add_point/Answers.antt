@@ -1,5 +1,4 @@
-use Rattle.std.proofs.Common.{◌<◌, ◌++◌, ◌∷◌, [], length, subst, sym, arith}
-use Rattle.tmm_model.specs.declared.point.PointName.{PointName}
+use Rattle.std.proofs.Common.{◌++◌, ◌∷◌, [], subst, sym, arith}
 use Rattle.dist_net.specs.Net.{Nets, arcs_of}
 use Rattle.map_engine.specs.Network.{KeepsNumbers}
 use Rattle.map_engine.specs.Represents.{Represents}

@@ -1,7 +1,6 @@
-use Rattle.std.proofs.Common.{◌≡◌, List, [], ◌∷◌, sym, ◌∙◌, subst}
-use Rattle.tmm_model.specs.declared.walk.WalkStep.{WalkStep}
-use Rattle.map_engine.specs.Network.{AreThere, AreApart, AreLightSteps, AddsSteps}
-use Rattle.map_engine.proofs.Steps.{two_are, one_is, none_are, length-steps_of-le}
+use Rattle.std.proofs.Common.{sym, ◌∙◌, subst}
+use Rattle.map_engine.specs.Network.{AreThere, AreApart}
+use Rattle.map_engine.proofs.Steps.{two_are, one_is, length-steps_of-le}
 use Rattle.map_engine.proofs.network.add_steps.Goals as goal
 
 pub add_two-requires-clause-there : goal.add_two-requires-clause-there

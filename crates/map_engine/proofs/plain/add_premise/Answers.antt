@@ -1,12 +1,11 @@
-use Rattle.std.proofs.Common.{◌≡◌, ◌<◌, ◌≤◌, ◌+◌, ◌++◌, ◌∷◌, [], List, ℕ, ℤ, length, length-append, false, Result, Ok, Err, OnOk, is_err, ap, sym, subst, ◌∙◌, arith, rules}
+use Rattle.std.proofs.Common.{◌≡◌, ◌≤◌, ◌+◌, ◌++◌, ◌∷◌, [], length, length-append, false, Result, Ok, Err, OnOk, is_err, ap, sym, subst, ◌∙◌, arith, rules}
 use Rattle.std.specs.Prelude.{FitsSigned}
 use Rattle.std.specs.Int.{w64}
 use Rattle.std.proofs.lemmas.Int.{to_z-of_z}
-use Rattle.tmm_model.specs.Standing.{Standing, points_in, points_of}
+use Rattle.tmm_model.specs.Standing.{points_in, points_of}
 use Rattle.tmm_model.specs.Verdicts.{IsCycleSum}
 use Rattle.tmm_model.proofs.Adding.{MayBeAdded, may_be_added}
 use Rattle.tmm_model.proofs.WellNamed.{points_in-push}
-use Rattle.dist_net.specs.declared.Edge.{Edge}
 use Rattle.dist_net.specs.Net.{Net, Nets, AreInUse, arcs_of}
 use Rattle.premise_list.specs.States.{States}
 use Rattle.map_engine.specs.Plain.{Fits}

@@ -1,4 +1,4 @@
-use Rattle.std.proofs.Common.{◌≡◌, false, sym, subst, ◌∙◌}
+use Rattle.std.proofs.Common.{◌≡◌, sym, subst, ◌∙◌}
 use Rattle.tmm_model.specs.Standing.{Standing, empty_list}
 use Rattle.dist_net.specs.Net.{Net, start_alone}
 use Rattle.map_engine.specs.Plain.{Fits}

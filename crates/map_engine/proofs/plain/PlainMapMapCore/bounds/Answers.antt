@@ -1,7 +1,4 @@
-use Rattle.std.proofs.Common.{◌≡◌, ℕ, List, None, false, map, ap, sym, subst, ◌∙◌}
-use Rattle.tmm_model.specs.declared.bound.Bound.{Bound}
-use Rattle.tmm_model.specs.declared.point.QueryPoint.{QueryPoint}
-use Rattle.tmm_model.specs.declared.point.QueryPoint.TheVariants.{Declared, Derived}
+use Rattle.std.proofs.Common.{◌≡◌, ap, ◌∙◌}
 use Rattle.tmm_model.specs.Bounds.{bound_negated}
 use Rattle.tmm_model.specs.Standing.{Standing}
 use Rattle.tmm_model.specs.Steps.{distance_of}
