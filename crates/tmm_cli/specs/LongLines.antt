@@ -1,5 +1,5 @@
 -- Lines of more than 400 bytes are answered alike.
-use Rattle.std.specs.Prelude.{◌≡◌, ℕ, ◌≤◌, ◌<◌, List, length}
+use Rattle.std.specs.Prelude.{ℕ, ◌<◌, List, length}
 use Rattle.std.proofs.Common.{arith}
 use Rattle.tmm_model.specs.declared.turn.Turn.{Turn}
 use Rattle.tmm_model.specs.declared.turn.Turn.TheVariants.{Silent, Reply as ReplyOf, Memory}

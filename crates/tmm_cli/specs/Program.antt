@@ -4,7 +4,7 @@ use Rattle.std.specs.declared.alloc.Global.{Global}
 use Rattle.std.specs.declared.string.String.{String}
 use Rattle.tmm_model.specs.declared.turn.Turn.{Turn}
 use Rattle.tmm_cli.specs.declared.status.Status.{Status}
-use Rattle.tmm_cli.specs.declared.status.Status.TheVariants.{Clean, SomeRefused, Words, ReadFault, WriteFault, NoMemory, TooLong, SomeMemory}
+use Rattle.tmm_cli.specs.declared.status.Status.TheVariants.{Words, WriteFault, NoMemory}
 use Rattle.tmm_cli.specs.Endings.{Ends}
 
 abbrev pub usage : List ℕ

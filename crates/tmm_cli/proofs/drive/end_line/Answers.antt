@@ -1,4 +1,4 @@
-use Rattle.std.proofs.Common.{◌≡◌, ◌<◌, [], ◌∷◌, ◌++◌, List, ℕ, length, sym, ap, ◌∙◌, append_assoc, arith, take}
+use Rattle.std.proofs.Common.{◌≡◌, [], ◌∷◌, ◌++◌, ◌∙◌, append_assoc, arith, take}
 use Rattle.tmm_cli.specs.Reading.{most_kept}
 use Rattle.tmm_cli.proofs.Steps.{Stands-part, line_goes_on, answers_kept, answers_part, length-zero}
 use Rattle.tmm_cli.proofs.drive.end_line.Goals as goal

@@ -1,8 +1,6 @@
-use Rattle.std.proofs.Common.{◌≡◌, ◌≤◌, ◌+◌, ◌∷◌, ◌++◌, [], List, ℕ, length, refl, sym, ap, ◌∙◌, subst, arith, append_assoc, append-nil, length-append, take}
+use Rattle.std.proofs.Common.{◌≡◌, ◌∷◌, ◌++◌, [], length, refl, sym, ap, ◌∙◌, arith, append_assoc, length-append}
 use Rattle.std.proofs.lemmas.List.{length-take}
 use Rattle.std.proofs.lemmas.Result.{err_from_is_err_and}
-use Rattle.std.proofs.KnownBytes.{Appends-nil}
-use Rattle.tmm_cli.specs.Reading.{Stands, GoesOn, GivesUp, most_kept}
 use Rattle.tmm_cli.proofs.Steps.{GoesOn-none, GoesOn-then, GoesOn-part, GivesUp-then}
 use Rattle.tmm_cli.proofs.drive.feed.Goals as goal
 

@@ -1,4 +1,4 @@
-use Rattle.std.proofs.Common.{◌≡◌, ◌+◌, ◌-◌, ◌<◌, ◌≤◌, ◌++◌, List, ℕ, length, take, min, Result, Ok, Err, OnOk, OnErr, sym, ap, ◌∙◌, subst, arith}
+use Rattle.std.proofs.Common.{◌≡◌, ◌+◌, ◌-◌, ◌<◌, ◌≤◌, ◌++◌, List, ℕ, length, take, min, Result, Ok, Err, OnOk, OnErr, sym, ap, ◌∙◌, arith}
 use Rattle.std.proofs.lemmas.List.{length-take, take_min}
 use Rattle.std.proofs.Math.Seq.{take-append-add}
 use Rattle.tmm_cli.proofs.drive.keep.Goals as goal

@@ -1,4 +1,4 @@
-use Rattle.std.proofs.Common.{refl, ◌≡◌, subst, sym}
+use Rattle.std.proofs.Common.{refl, subst, sym}
 use Rattle.tmm_model.specs.declared.line.Query.{Query}
 use Rattle.tmm_model.specs.declared.line.Query.TheVariants.{Bounds}
 use Rattle.tmm_model.specs.declared.line.Line.TheVariants.{Question}

@@ -1,7 +1,6 @@
-use Rattle.std.proofs.Common.{refl, ◌≡◌, ◌∙◌, sym, Some}
+use Rattle.std.proofs.Common.{refl, ◌≡◌, Some}
 use Rattle.std.specs.declared.option.Option.{Option}
 use Rattle.tmm_model.specs.Replies.{Accepted}
-use Rattle.tmm_model.specs.Edits.{next_list}
 use Rattle.tmm_model.specs.Standing.{Standing}
 use Rattle.tmm_cli.proofs.Turns.{TellsMeaning-refused_edit}
 use Rattle.tmm_cli.proofs.session.change.Goals as goal
