@@ -1,5 +1,5 @@
 -- What the checker of cycles has seen of the steps.
-use Rattle.std.proofs.Common.{◌≡◌, ◌≢◌, ◌∙◌, ◌↔◌, inl, inr, ℕ, suc, ◌+◌, ◌*◌, ◌-◌, ◌<◌, ◌≤◌, List, [], ◌∷◌, ◌++◌, map, length, get_or, take, drop, IsTrue, Bool, true, false, ◌||◌, ap, sym, subst, arith, refl, ℤ, pos, neg_ℤ, ◌+ℤ◌, ◌≤ℤ◌, ◌^◌, w64, to_z, of_z}
+use Rattle.std.proofs.Common.{◌≡◌, ◌≢◌, ◌∙◌, ◌↔◌, inl, inr, ℕ, suc, ◌+◌, ◌*◌, ◌-◌, ◌<◌, ◌≤◌, List, [], ◌∷◌, ◌++◌, map, length, get_or, take, drop, IsTrue, Some, None, Bool, true, false, ◌||◌, ap, sym, subst, arith, refl, ℤ, pos, neg_ℤ, ◌+ℤ◌, ◌≤ℤ◌, ◌^◌, w64, to_z, of_z}
 use Rattle.std.specs.List.{AllByRecursion, Contains, IsDistinct, list_any}
 use Rattle.std.proofs.lemmas.Bool.{false≢true, false_from_ne_true, or_left, or_right}
 use Rattle.std.specs.Int.{w128}
@@ -16,7 +16,10 @@ use Rattle.tmm_model.specs.Cycles.{steps_in, Leads, sum_of, begins}
 use Rattle.tmm_model.specs.Points.{same_point}
 use Rattle.tmm_model.specs.Standing.{arc_of, steps_of}
 use Rattle.tmm_model.specs.Walks.{total}
-use Rattle.tmm_model.proofs.Cycles.{Contains-flat_map, Contains-flat_map_from, steps_in-push}
+use Rattle.tmm_model.specs.WellNamed.{IsWellNamed, premise_in}
+use Rattle.tmm_model.proofs.Cycles.{names_own, Contains-flat_map, Contains-flat_map_from, steps_in-push}
+use Rattle.tmm_model.proofs.Elements.{Contains-from_In, In-from_Contains}
+use Rattle.tmm_model.proofs.KnownNames.{found, finds}
 use Rattle.tmm_model.proofs.Members.{Contains-cons_cases, Contains-cons_first}
 use Rattle.tmm_model.proofs.Walks.{total-append}
 
@@ -121,13 +124,26 @@ sum_seen sum w from is fits fits_sum =
 
 -- ---- known constraints
 
-pub known-at : (premises : List Premise) (i : ℕ) (p : Premise) (s : WalkStep) → i < length premises → p ≡ get_or premises i p → Contains (steps_of p) s → Contains (steps_in premises) s
-known-at premises i p s lt at m = Contains-flat_map steps_of premises p s (i, lt, sym at) m
+module _ (premises : List Premise) (well_named : IsWellNamed premises) (s : WalkStep) where
+  named_by : (q : Premise) → Contains premises q → Contains (steps_of q) s → premise_in premises s.premise ≡ Some q
+  named_by q m own = subst (λ (n : List ℕ). premise_in premises n ≡ Some q) (sym (names_own q s own)) (found premises well_named q (In-from_Contains premises q m))
 
-pub none_known : (premises : List Premise) (s : WalkStep) (i : ℕ) → length premises ≤ i → ((k : ℕ) (d : Premise) → k < i → Contains (steps_of (get_or premises k d)) s → ⊥) → Contains (steps_in premises) s → ⊥
-none_known premises s i out none m =
-    let r : (p : Premise) × Contains premises p × Contains (steps_of p) s = Contains-flat_map_from steps_of premises s m in
-    none r.1.0 r.0 (omega (arith, r.1.1, out)) (subst (λ (p : Premise). Contains (steps_of p) s) (sym r.1.2) r.2)
+  -- the premise that a constraint names is the one that it is of
+  pub IsTrue-found : (b : Bool) (p : Premise) → Some p ≡ premise_in premises s.premise → (IsTrue b ↔ Contains (steps_of p) s) → IsTrue b ↔ Contains (steps_in premises) s
+  IsTrue-found b p at tells = (
+    λ t. Contains-flat_map steps_of premises p s (Contains-from_In premises p (finds premises s.premise p (sym at)).0) (tells.0 t),
+    λ m.
+        (let r : (q : Premise) × Contains premises q × Contains (steps_of q) s = Contains-flat_map_from steps_of premises s m in
+        let there : premise_in premises s.premise ≡ Some r.0 = named_by r.0 r.1 r.2 in
+        let same : r.0 ≡ p = cc in
+        tells.1 (subst (λ (q : Premise). Contains (steps_of q) s) same r.2)),
+  )
+
+  pub none_found : premise_in premises s.premise ≡ None → Contains (steps_in premises) s → ⊥
+  none_found none m =
+      let r : (q : Premise) × Contains premises q × Contains (steps_of q) s = Contains-flat_map_from steps_of premises s m in
+      let there : premise_in premises s.premise ≡ Some r.0 = named_by r.0 r.1 r.2 in
+      cc
 
 -- a constraint of the refused premise, or one of the others
 pub IsTrue-refused : (premises : List Premise) (refused : Premise) (s : WalkStep) → Contains (steps_of refused) s → Contains (steps_in (premises ++ refused ∷ [])) s

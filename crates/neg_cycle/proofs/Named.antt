@@ -1,5 +1,5 @@
 -- Walks over edges as steps between named points.
-use Rattle.std.proofs.Common.{◌≡◌, ◌∙◌, ℕ, ◌<◌, List, [], ◌∷◌, ◌++◌, map, get_or, append_assoc, append-nil, ap, sym, subst, arith, refl, ℤ, ◌+ℤ◌, false, Option, Some, None, IsSome, inl, inr}
+use Rattle.std.proofs.Common.{◌≡◌, ◌∙◌, ℕ, ◌<◌, List, [], ◌∷◌, ◌++◌, map, get_or, append_assoc, append-nil, ap, sym, subst, arith, refl, ℤ, ◌+ℤ◌, false, Option, Some, None, IsSome, inl, inr, unwrap_or}
 use Rattle.std.specs.List.{All, AllByRecursion, Contains, IsDistinct}
 use Rattle.std.proofs.lemmas.Bool.{false≢true, eq-eqb}
 use Rattle.std.proofs.lemmas.Bool.Decides.{Decides-eqb}
@@ -9,6 +9,7 @@ use Rattle.std.proofs.lemmas.Map.Keys.{IsDistinct-cons, IsDistinct-head, IsDisti
 use Rattle.tmm_model.specs.declared.bound.Bound.{Bound}
 use Rattle.tmm_model.specs.declared.bound.Bound.TheVariants.{Finite, Free}
 use Rattle.tmm_model.specs.declared.point.PointName.{PointName}
+use Rattle.tmm_model.specs.declared.point.PointName.TheVariants.{Start}
 use Rattle.tmm_model.specs.declared.walk.WalkStep.{WalkStep}
 use Rattle.tmm_model.specs.Cycles.{Leads, sum_of, begins, IsPath, IsCycleBy}
 use Rattle.tmm_model.specs.Bounds.{after}
@@ -22,7 +23,7 @@ use Rattle.dist_net.specs.declared.Edge.{Edge}
 use Rattle.dist_net.specs.declared.Conflict.{Conflict}
 use Rattle.dist_net.specs.Net.{IsConflict, Net, arcs_of, same_number, IsInUse, AreInUse, AreDistinct}
 use Rattle.neg_cycle.specs.Ranks.{HasFar, IsLeastPath, IsNext, AppendsPath}
-use Rattle.neg_cycle.specs.Steps.{named, point_at, step_of, steps_in_net}
+use Rattle.neg_cycle.specs.Steps.{point_at, step_of, steps_in_net}
 use Rattle.neg_cycle.proofs.Followed.{IsFollowing, IsFollowing-start, IsFollowing-more, IsLeastPath-end}
 
 -- ---- names
@@ -31,7 +32,7 @@ use Rattle.neg_cycle.proofs.Followed.{IsFollowing, IsFollowing-start, IsFollowin
 named_at : (names : List (Option PointName)) (p : ℕ) → IsInUse names p → get_or names p None ≡ Some (point_at names p)
 named_at names p used = some (get_or names p None) used
   where
-    some : (x : Option PointName) → IsSome x → x ≡ Some (named x)
+    some : (x : Option PointName) → IsSome x → x ≡ Some (unwrap_or x Start)
     some (Some name) h = refl
     some None h = absurd (false≢true h)
 

@@ -9,7 +9,8 @@ use Rattle.tmm_model.specs.declared.premise.Premise.{Premise}
 use Rattle.tmm_model.specs.declared.walk.WalkStep.{WalkStep}
 use Rattle.tmm_model.specs.Cycles.{IsNegativeCycle}
 use Rattle.tmm_model.specs.Points.{same_point}
-use Rattle.tmm_model.specs.Standing.{IsConsistent}
+use Rattle.tmm_model.specs.Standing.{arcs_in, points_in, far_in, IsConsistent}
+use Rattle.tmm_model.specs.WellNamed.{IsWellNamed}
 use Rattle.tmm_model.specs.Walks.{Arc, IsDates, HasDates, AreAmong, far}
 
 -- A number is never exceeded by the date of b less that of a, and some dates reach it. Where there is
@@ -23,6 +24,12 @@ IsTightest arcs a b Free = (m : ℤ) → (date : PointName → ℤ) × IsDates S
 abbrev pub DistancesAreTightest : Type 0
 DistancesAreTightest =
     (known : List PointName) (arcs : List (Arc PointName)) (a b : PointName) → AreAmong known arcs → HasDates Start arcs → Contains known b → IsTightest arcs a b (far same_point arcs (length known) a b)
+
+-- The same over premises: where a well-named list has dates, the distance of two of its points is the
+-- tightest bound.
+abbrev pub ListDistancesAreTightest : Type 0
+ListDistancesAreTightest =
+    (premises : List Premise) (a b : PointName) → IsWellNamed premises → IsConsistent premises → Contains (points_in premises) b → IsTightest (arcs_in premises) a b (far_in premises a b)
 
 -- where steps are a negative cycle, no dates satisfy the premises with the refused one
 abbrev pub CyclesRefuse : Type 0

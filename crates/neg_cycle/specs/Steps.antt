@@ -1,5 +1,5 @@
 -- The edges of a network as steps between named points.
-use Rattle.std.specs.Prelude.{List, ℕ, map, slice_index_or, Option, Some, None}
+use Rattle.std.specs.Prelude.{List, ℕ, map, slice_index_or, Option, None, unwrap_or}
 use Rattle.tmm_model.specs.declared.bound.Bound.{Bound}
 use Rattle.tmm_model.specs.declared.point.PointName.{PointName}
 use Rattle.tmm_model.specs.declared.point.PointName.TheVariants.{Start}
@@ -8,13 +8,9 @@ use Rattle.tmm_model.specs.Walks.{far}
 use Rattle.dist_net.specs.declared.Edge.{Edge}
 use Rattle.dist_net.specs.Net.{Net, arcs_of, same_number, points_in_use}
 
-abbrev pub named : Option PointName → PointName
-named (Some name) = name
-named None = Start
-
 -- the name of the point with a number that is in use
 abbrev pub point_at : List (Option PointName) → ℕ → PointName
-point_at names p = named (slice_index_or names p None)
+point_at names p = unwrap_or (slice_index_or names p None) Start
 
 -- the edge between the names of its points
 abbrev pub step_of : List (Option PointName) → Edge → WalkStep

@@ -6,15 +6,16 @@ ghost use Rattle.tmm_model.specs.Cycles.{Leads, steps_in, sum_of, begins, IsNega
 ghost use Rattle.tmm_model.specs.Points.{same_point};
 ghost use Rattle.tmm_model.specs.Standing.{base_step, length_step, hi_steps, lo_steps, steps_of};
 
+use premise_list::Standing;
 use tmm_model::{Bound, Name, PointName, Premise, Side, WalkStep};
 
-/// Whether the steps, whoever made them, are a negative cycle: constraints of the premises and of
-/// the refused one, which lead from a point back to it without a repeated point, with a negative
+/// Whether the steps, whoever made them, are a negative cycle: constraints of standing premises and
+/// of the refused one, which lead from a point back to it without a repeated point, with a negative
 /// sum. It takes no memory.
-pub fn check_cycle_of(premises: &[Premise], refused: &Premise, steps: &[WalkStep]) -> bool
-    ensures { IsTrue result ↔ IsNegativeCycle premises.now refused.now steps.now }
+pub fn check_cycle(standing: &Standing, refused: &Premise, steps: &[WalkStep]) -> bool
+    ensures { IsTrue result ↔ IsNegativeCycle standing.now.present.premises refused.now steps.now }
 {
-    is_closed(steps) && sum(steps) < 0 && begin_apart(steps) && are_known(premises, refused, steps)
+    is_closed(steps) && sum(steps) < 0 && begin_apart(steps) && are_known(standing, refused, steps)
 }
 
 // Whether the steps lead from a point back to it.
@@ -87,34 +88,33 @@ fn is_same_point(a: &PointName, b: &PointName) -> bool
     }
 }
 
-// Whether each step is a constraint of a premise or of the refused one.
-fn are_known(premises: &[Premise], refused: &Premise, steps: &[WalkStep]) -> bool
-    ensures { IsTrue result ↔ All (Contains (steps_in (premises.now ++ refused.now ∷ []))) steps.now }
+// Whether each step is a constraint of a standing premise or of the refused one.
+fn are_known(standing: &Standing, refused: &Premise, steps: &[WalkStep]) -> bool
+    ensures { IsTrue result ↔ All (Contains (steps_in (standing.now.present.premises ++ refused.now ∷ []))) steps.now }
 {
     for step in steps {
-        if !is_known(premises, refused, step) {
+        if !is_known(standing, refused, step) {
             return false;
         }
     }
     true
 }
 
-fn is_known(premises: &[Premise], refused: &Premise, step: &WalkStep) -> bool
-    ensures { IsTrue result ↔ Contains (steps_in (premises.now ++ refused.now ∷ [])) step.now }
+fn is_known(standing: &Standing, refused: &Premise, step: &WalkStep) -> bool
+    ensures { IsTrue result ↔ Contains (steps_in (standing.now.present.premises ++ refused.now ∷ [])) step.now }
 {
-    is_step_of(refused, step) || is_step_in(premises, step)
+    is_step_of(refused, step) || is_standing(standing, step)
 }
 
-// Whether the step is a constraint of one of the premises.
-fn is_step_in(premises: &[Premise], step: &WalkStep) -> bool
-    ensures { IsTrue result ↔ Contains (steps_in premises.now) step.now }
+// Whether the step is a constraint of a standing premise, which it names.
+fn is_standing(standing: &Standing, step: &WalkStep) -> bool
+    ensures { IsTrue result ↔ Contains (steps_in standing.now.present.premises) step.now }
 {
-    for premise in premises {
-        if is_step_of(premise, step) {
-            return true;
-        }
+    let _ = standing.len();
+    match standing.get(step.premise) {
+        Some(premise) => is_step_of(premise, step),
+        None => false,
     }
-    false
 }
 
 // Whether the step is a constraint of the premise.

@@ -16,10 +16,7 @@ use tmm_model::{Bound, NoMemory, PointName, Seq, WalkStep};
 fn point_at(net: &DistNet, p: u16) -> PointName
     ensures { result ≡ point_at net.now.present.names p }
 {
-    match net.name_of(p) {
-        Some(name) => name,
-        None => PointName::Start,
-    }
+    net.name_of(p).unwrap_or(PointName::Start)
 }
 
 // The edge as a step between named points.
@@ -96,7 +93,8 @@ pub fn cycle(
     let rank = ranks(alloc, net, edge.to, edge.from)?;
     let mut steps = Seq::make(alloc);
     steps.reserve(rank[edge.to as usize] as usize)?;
-    steps.extend(&[step_of(net, edge)])?;
+    let first = step_of(net, edge);
+    steps.extend(&[first])?;
     follow(net, &rank, edge.to, edge.from, &mut steps)?;
     Ok(steps)
 }

@@ -1,5 +1,5 @@
 -- Steps of walks, closed walks of negative sum, and what they show.
-use Rattle.std.proofs.Common.{◌≡◌, ◌∙◌, inl, inr, List, [], ◌∷◌, ◌++◌, map, ap, sym, subst, arith, refl, ℤ, pos, ◌<ℤ◌, append-nil}
+use Rattle.std.proofs.Common.{◌≡◌, ◌∙◌, ℕ, inl, inr, List, [], ◌∷◌, ◌++◌, map, ap, sym, subst, arith, refl, ℤ, pos, ◌<ℤ◌, append-nil}
 use Rattle.std.specs.List.{All, Contains, flat_map}
 use Rattle.std.proofs.lemmas.Bool.Decides.{same_from_decides, Decides-like}
 use Rattle.std.proofs.lemmas.Grind.{flat_map-append}
@@ -7,16 +7,20 @@ use Rattle.std.proofs.lemmas.List.{map-append}
 use Rattle.std.proofs.lemmas.List.Elements.{All-contains, All-tail, Contains-append_cases, Contains-append_left, Contains-append_right}
 use Rattle.std.proofs.lemmas.List.Sorted.{IsPermutation-to_front}
 use Rattle.std.proofs.lemmas.Map.Keys.{IsDistinct-IsPermutation}
+use Rattle.tmm_model.specs.declared.bound.Bound.{Bound}
+use Rattle.tmm_model.specs.declared.bound.Bound.TheVariants.{Finite, Free}
 use Rattle.tmm_model.specs.declared.point.PointName.{PointName}
 use Rattle.tmm_model.specs.declared.point.PointName.TheVariants.{Start}
 use Rattle.tmm_model.specs.declared.premise.Premise.{Premise}
+use Rattle.tmm_model.specs.declared.premise.Premise.TheVariants.{Class, Kind, Point, Event, Token, Span, Dist, Rule, Protect}
 use Rattle.tmm_model.specs.declared.walk.WalkStep.{WalkStep}
 use Rattle.tmm_model.specs.Cycles.{steps_in, Leads, sum_of, begins, IsPath, IsNegativeCycle, IsCycleBy, IsCycleOf}
 use Rattle.tmm_model.specs.Points.{same_point}
-use Rattle.tmm_model.specs.Standing.{arc_of, arcs_of, arcs_in, steps_of, IsConsistent}
+use Rattle.tmm_model.specs.Standing.{arc_of, arcs_of, arcs_in, name_of, steps_of, hi_steps, lo_steps, IsConsistent}
 use Rattle.tmm_model.specs.Verdicts.{IsCycleSum}
 use Rattle.tmm_model.specs.Walks.{Arc, IsWalk}
 use Rattle.tmm_model.proofs.Dates.{no_cycle_from_dates}
+use Rattle.tmm_model.proofs.Elements.{In, In-cases, In-flat_map, flat_map-In, Contains-from_In, In-from_Contains}
 use Rattle.tmm_model.proofs.Members.{All-from_contains, Contains-cons_cases, Contains-cons_first, Contains-map}
 use Rattle.tmm_model.proofs.Points.{Decides-same_point}
 
@@ -24,23 +28,45 @@ use Rattle.tmm_model.proofs.Points.{Decides-same_point}
 
 module _ {X Y : Type 0} (f : X → List Y) where
   pub Contains-flat_map : (xs : List X) (x : X) (y : Y) → Contains xs x → Contains (f x) y → Contains (flat_map f xs) y
-  Contains-flat_map [] x y m h = absurd (omega (arith, m.1))
-  Contains-flat_map (z ∷ xs) x y m h =
-      elim (Contains-cons_cases z xs x m) [
-        | inl k ↦ Contains-append_right (f z) (flat_map f xs) y (Contains-flat_map xs x y k h)
-        | inr is ↦ Contains-append_left (f z) (flat_map f xs) y (subst (λ (w : X). Contains (f w) y) is h)
-      ]
+  Contains-flat_map xs x y m h = Contains-from_In (flat_map f xs) y (flat_map-In f xs x y (In-from_Contains xs x m) (In-from_Contains (f x) y h))
 
   -- which list it stands in
   pub Contains-flat_map_from : (xs : List X) (y : Y) → Contains (flat_map f xs) y → (x : X) × Contains xs x × Contains (f x) y
-  Contains-flat_map_from [] y m = absurd (omega (arith, m.1))
-  Contains-flat_map_from (z ∷ xs) y m =
-      elim (Contains-append_cases (f z) (flat_map f xs) y m) [
-        | inl k ↦ (z, Contains-cons_first z xs, k)
-        | inr k ↦ (let r : (x : X) × Contains xs x × Contains (f x) y = Contains-flat_map_from xs y k in (r.0, Contains-append_right (z ∷ []) xs r.0 r.1, r.2))
-      ]
+  Contains-flat_map_from xs y m =
+      let r : (x : X) × In x xs × In y (f x) = In-flat_map f xs y (In-from_Contains (flat_map f xs) y m) in
+      (r.0, Contains-from_In xs r.0 r.1, Contains-from_In (f r.0) y r.2)
 
 -- ---- the constraints of premises
+
+names_hi : (name : List ℕ) (from to : PointName) (hi : Bound) (s : WalkStep) → In s (hi_steps name from to hi) → s.premise ≡ name
+names_hi name from to (Finite hi) s (inl is) = sym (ap (λ (x : WalkStep). x.premise) is)
+names_hi name from to (Finite hi) s (inr none) = absurd none
+names_hi name from to Free s m = absurd m
+
+names_lo : (name : List ℕ) (from to : PointName) (lo : Bound) (s : WalkStep) → In s (lo_steps name from to lo) → s.premise ≡ name
+names_lo name from to (Finite lo) s (inl is) = sym (ap (λ (x : WalkStep). x.premise) is)
+names_lo name from to (Finite lo) s (inr none) = absurd none
+names_lo name from to Free s m = absurd m
+
+names_its : (p : Premise) (s : WalkStep) → In s (steps_of p) → s.premise ≡ name_of p
+names_its (Class name facts) s m = absurd m
+names_its (Kind name) s m = absurd m
+names_its (Point name) s (inl is) = sym (ap (λ (x : WalkStep). x.premise) is)
+names_its (Point name) s (inr none) = absurd none
+names_its (Event name kind) s (inl is) = sym (ap (λ (x : WalkStep). x.premise) is)
+names_its (Event name kind) s (inr none) = absurd none
+names_its (Token name fact) s (inl is) = sym (ap (λ (x : WalkStep). x.premise) is)
+names_its (Token name fact) s (inr none) = absurd none
+names_its (Span name fact) s (inl is) = sym (ap (λ (x : WalkStep). x.premise) is)
+names_its (Span name fact) s (inr (inl is)) = sym (ap (λ (x : WalkStep). x.premise) is)
+names_its (Span name fact) s (inr (inr none)) = absurd none
+names_its (Dist name from to lo hi) s m = elim (In-cases (hi_steps name from to hi) (lo_steps name from to lo) s m) [ inl h ↦ names_hi name from to hi s h | inr l ↦ names_lo name from to lo s l ]
+names_its (Rule name trigger lo hi effect given) s m = absurd m
+names_its (Protect name fact from to) s m = absurd m
+
+-- **A constraint names its premise.**
+pub names_own : (p : Premise) (s : WalkStep) → Contains (steps_of p) s → s.premise ≡ name_of p
+names_own p s m = names_its p s (In-from_Contains (steps_of p) s m)
 
 pub steps_in-push : (premises : List Premise) (refused : Premise) → steps_in (premises ++ refused ∷ []) ≡ steps_in premises ++ steps_of refused
 steps_in-push premises refused = flat_map-append steps_of premises (refused ∷ []) ∙ ap (λ (t : List WalkStep). steps_in premises ++ t) (append-nil (steps_of refused))

@@ -5,4 +5,4 @@ use Rattle.tmm_model.specs.Cycles.{steps_in}
 use Rattle.neg_cycle.proofs.check.are_known.Given as goal
 
 abbrev pub invariant-loop-step : goal.invariant-loop-step
-invariant-loop-step l = (k : ℕ) (d : WalkStep) → k < l.step-index → Contains (steps_in (l.premises ++ l.refused ∷ [])) (get_or l.steps k d)
+invariant-loop-step l = (k : ℕ) (d : WalkStep) → k < l.step-index → Contains (steps_in (l.standing.present.premises ++ l.refused ∷ [])) (get_or l.steps k d)

@@ -12,4 +12,4 @@ follow-requires-clause-reached c = HasFar-conflict c.args.net.now.present.edges 
 pub returns : goal.returns
 returns c d =
     IsCycleBy-appended c.args.net.now.present c.args.edges.now c.args.found c.index-edges-found.result c.extend.new.self.items c.follow.new.steps.items c.edges.ensures.distinct c.edges.ensures.in_use c.requires.points c.index-edges-found.is
-    c.requires.conflict (c.in_ok-extend.ensures.ok ∙ (ap (λ (t : List WalkStep). t ++ c.step_of.result ∷ []) (c.reserve.ensures.items ∙ c.make-steps.ensures) ∙ ap (λ (x : WalkStep). x ∷ []) c.step_of.ensures)) c.in_ok-follow.ensures d
+    c.requires.conflict (c.in_ok-extend.ensures.ok ∙ (ap (λ (t : List WalkStep). t ++ c.step_of-first.result ∷ []) (c.reserve.ensures.items ∙ c.make-steps.ensures) ∙ ap (λ (x : WalkStep). x ∷ []) c.step_of-first.ensures)) c.in_ok-follow.ensures d

@@ -5,8 +5,8 @@ use Rattle.std.specs.Int.{w128}
 use Rattle.std.specs.Int.RustNames.{FitsSigned}
 use Rattle.dist_net.proofs.Sums.{negative_from}
 use Rattle.tmm_model.specs.Cycles.{sum_of}
-use Rattle.neg_cycle.proofs.check.check_cycle_of.Goals as goal
-use Rattle.neg_cycle.proofs.check.check_cycle_of.Goals.{then-is_closed, else-is_closed, then-sum-lt0, else-sum-lt0}
+use Rattle.neg_cycle.proofs.check.check_cycle.Goals as goal
+use Rattle.neg_cycle.proofs.check.check_cycle.Goals.{then-is_closed, else-is_closed, then-sum-lt0, else-sum-lt0}
 
 pub returns-then-begin_apart : goal.returns-then-begin_apart
 returns-then-begin_apart c =
