@@ -1,6 +1,5 @@
 pub mod Adding
 pub mod Copies
-pub mod Named
 pub mod Names
 pub mod Premises
 pub mod States
