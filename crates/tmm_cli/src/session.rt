@@ -51,19 +51,30 @@ impl<M: MapCore + Drop> Lines for Session<M> {
         if bytes.len() <= LONGEST_LINE && is_silent(bytes) {
             return Turn::Silent;
         }
-        let meaning = match parse_line(alloc, bytes) {
-            Ok(meaning) => meaning,
-            Err(Stop::Refused(refusal)) => return refuse(alloc, self.lines, &refusal),
-            Err(Stop::NoMemory) => return Turn::Memory,
-        };
-        if !is_answered(&meaning) {
-            return refuse(alloc, self.lines, &Refusal::Form);
-        }
-        match meaning {
-            Line::Silent => Turn::Silent,
-            Line::Change(edit) => change(alloc, self.lines, &edit, &mut self.core),
-            Line::Question(query) => answer(alloc, self.lines, &query, &self.core),
-        }
+        said(alloc, self.lines, bytes, &mut self.core)
+    }
+}
+
+// Answers a line by what it says. What it says may be large, so this is kept apart from the way that
+// silent lines take.
+#[inline(never)]
+fn said<M: MapCore>(alloc: Global, line: u64, bytes: &[u8], core: &mut M) -> Turn
+    requires idle { M.pending core.old ≡ None }
+    ensures answers { Step (M.list core.old) line bytes.now result (M.list core.new) }
+    ensures idle { M.pending core.new ≡ None }
+{
+    let meaning = match parse_line(alloc, bytes) {
+        Ok(meaning) => meaning,
+        Err(Stop::Refused(refusal)) => return refuse(alloc, line, &refusal),
+        Err(Stop::NoMemory) => return Turn::Memory,
+    };
+    if !is_answered(&meaning) {
+        return refuse(alloc, line, &Refusal::Form);
+    }
+    match meaning {
+        Line::Silent => Turn::Silent,
+        Line::Change(edit) => change(alloc, line, &edit, core),
+        Line::Question(query) => answer(alloc, line, &query, core),
     }
 }
 

@@ -5,7 +5,7 @@ use Rattle.tmm_model.specs.declared.line.Line.TheVariants.{Change, Question}
 use Rattle.tmm_model.specs.Lines.{ReadsLine, ReadingIsOne}
 use Rattle.tmm_model.specs.Steps.{Says, is_built}
 use Rattle.tmm_cli.proofs.Turns.{read_line, stops_reading, no_memory_is_not_silent, Step-stopped, Step-unanswered, Step-meaning, change_is_not_silent, question_is_not_silent}
-use Rattle.tmm_cli.proofs.session.SessionLines.line.Goals as goal
+use Rattle.tmm_cli.proofs.session.said.Goals as goal
 
 one : ReadingIsOne
 one = one_reading
