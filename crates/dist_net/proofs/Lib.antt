@@ -1,5 +1,7 @@
 pub mod Adding
 pub mod Copies
+pub mod Named
+pub mod Ends
 pub mod Names
 pub mod Premises
 pub mod States

@@ -129,18 +129,3 @@ IsRanked-start edges b rank places in_b none = record {
 pub AreRankedWithin-start : (edges : List Edge) (b : ℕ) (rank : List ℕ) → IsRanked edges b rank → AreRankedWithin edges b 0 rank
 AreRankedWithin-start edges b rank is p [] h far few = subst (λ (q : ℕ). 0 < get_or rank q 0) (sym h) is.at_end
 AreRankedWithin-start edges b rank is p (e ∷ walk) h far few = absurd (omega arith)
-
--- ---- numbers in use
-
--- a number in use is one of the places
-pub in_places : (names : List (Option PointName)) → length names ≡ 256 → (p : ℕ) → IsInUse names p → p < 256
-in_places names places p used =
-    elim (cases_lt p (length names)) [
-      | inl lt ↦ omega arith
-      | inr out ↦ absurd (false≢true (sym (ap is_some (get_or_past names p None out)) ∙ used))
-    ]
-
-pub below_places : (names : List (Option PointName)) (edges : List Edge) (e : Edge) → length names ≡ 256 → AreInUse names edges → Contains edges e → (e.from < 256) × (e.to < 256)
-below_places names edges e places used m =
-    let h : IsInUse names e.from × IsInUse names e.to = All-contains (λ (x : Edge). IsInUse names x.from × IsInUse names x.to) edges e used m in
-    (in_places names places e.from h.0, in_places names places e.to h.1)

@@ -3,7 +3,8 @@ use Rattle.std.specs.List.{Contains}
 use Rattle.std.proofs.lemmas.List.{get_or_default}
 use Rattle.dist_net.specs.declared.Edge.{Edge}
 use Rattle.neg_cycle.specs.Ranks.{IsTight}
-use Rattle.neg_cycle.proofs.Ranked.{IsRanked-more, from_ranked_set, below_places}
+use Rattle.dist_net.proofs.Ends.{below_places}
+use Rattle.neg_cycle.proofs.Ranked.{IsRanked-more, from_ranked_set}
 use Rattle.neg_cycle.proofs.ranks.visit.Goals as goal
 
 pub returns-then-is_tight-clause-ranked : goal.returns-then-is_tight-clause-ranked
