@@ -12,6 +12,9 @@ ghost use Rattle.dist_net.specs.declared.Edge.{Edge};
 ghost use Rattle.dist_net.specs.Net.{IsInUse, entry, arc_of, arcs_of};
 ghost use Rattle.dist_repair.specs.Rows.{rest_of, IsSafe, IsStarted, IsSound, IsLeastWithin, IsRelaxed, IsLowered, AreRelaxed, IsOneStep, IsSameRow, ChangesRow, IsFarRow, IsSafeRow, IsStartedRow};
 
+#[cfg(test)]
+mod tests;
+
 use dist_net::{DistNet, Edge};
 use tmm_model::Bound;
 
