@@ -1,16 +1,12 @@
 -- Least walks, edge by edge.
-use Rattle.std.proofs.Common.{◌≡◌, ◌∙◌, inl, inr, ℕ, ◌+◌, ◌<◌, ◌≤◌, List, [], ◌∷◌, length, get_or, set, length-set, ap, sym, subst, arith, refl, Option, None, ℤ, ◌+ℤ◌, ◌≤ℤ◌}
+use Rattle.std.proofs.Common.{◌≡◌, ◌∙◌, inl, inr, ℕ, ◌+◌, ◌<◌, ◌≤◌, List, [], ◌∷◌, length, get_or, set, length-set, ap, sym, subst, arith, refl, ℤ, ◌+ℤ◌, ◌≤ℤ◌}
 use Rattle.std.specs.List.{Contains}
-use Rattle.std.specs.Option.{is_some}
-use Rattle.std.proofs.lemmas.Bool.{cases_eq, cases_lt, false≢true}
-use Rattle.std.proofs.lemmas.List.Elements.{All-contains}
+use Rattle.std.proofs.lemmas.Bool.{cases_eq}
 use Rattle.std.proofs.lemmas.Int.{ints}
-use Rattle.std.proofs.lemmas.List.{get_or-set_same, get_or-set_other, get_or_past}
+use Rattle.std.proofs.lemmas.List.{get_or-set_same, get_or-set_other}
 use Rattle.tmm_model.specs.declared.bound.Bound.TheVariants.{Finite}
-use Rattle.tmm_model.specs.declared.point.PointName.{PointName}
 use Rattle.tmm_model.specs.Walks.{Arc, IsWalk, IsFar, total}
 use Rattle.dist_net.specs.declared.Edge.{Edge}
-use Rattle.dist_net.specs.Net.{IsInUse, AreInUse}
 use Rattle.neg_cycle.specs.Ranks.{IsTight, IsRanked, AreRankedWithin, AreAtMost, AreKept}
 
 -- a least walk to b begins with the constraint
