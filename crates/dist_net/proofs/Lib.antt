@@ -1,6 +1,5 @@
 pub mod Adding
 pub mod Copies
-pub mod Named
 pub mod Ends
 pub mod Names
 pub mod Premises
