@@ -1,9 +1,12 @@
 -- What the plain map keeps.
 use Rattle.std.specs.Prelude.{◌≡◌, ℕ, Bool, true, false, Option, Some, None}
+use Rattle.std.specs.List.{All, Contains}
 use Rattle.tmm_model.specs.declared.point.QueryPoint.{QueryPoint}
 use Rattle.tmm_model.specs.declared.point.QueryPoint.TheVariants.{Declared, Derived}
+use Rattle.tmm_model.specs.Cycles.{steps_in}
 use Rattle.tmm_model.specs.Standing.{Standing}
 use Rattle.dist_net.specs.Net.{Net, Nets, arcs_of}
+use Rattle.neg_cycle.specs.Steps.{steps_in_net}
 use Rattle.premise_list.specs.States.{States}
 use Rattle.map_engine.specs.Represents.{Names, IsNumberOf, StandsFor}
 
@@ -16,9 +19,10 @@ abbrev pub pending_list : Bool → Standing → Option Standing
 pending_list true present = Some present
 pending_list false present = None
 
--- the network stands for the list
+-- the network stands for the list, and each of its edges is a constraint of a premise that it names
 pub record Fits (list : Standing) (net : Net) : Type 0 where
   pub stands : StandsFor list.premises net.names (arcs_of net.edges)
+  pub own : All (Contains (steps_in list.premises)) (steps_in_net net)
 
 -- nothing has changed since the last commit
 pub record IsSettled (lists : States) (nets : Nets) : Type 0 where

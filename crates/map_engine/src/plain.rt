@@ -143,12 +143,9 @@ fn add_premise(
     let _ = net.edges();
     add_points(net, premise);
     let _ = net.edges();
-    if let Err(conflict) = add_steps(net, premise) {
+    if let Err(stop) = add_steps(alloc, net, premise) {
         net.rollback();
-        return Err(Stop::Refused(Refusal::Cycle {
-            sum: conflict.sum,
-            steps: Seq::make(alloc),
-        }));
+        return Err(stop);
     }
     if standing.add(alloc, premise).is_err() {
         net.rollback();

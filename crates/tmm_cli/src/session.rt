@@ -3,7 +3,8 @@ ghost use Rattle.std.specs.Prelude.{◌≡◌, ◌+◌, ◌-◌, ◌^◌, ◌<�
 ghost use Rattle.tmm_model.specs.Lines.{IsWellFormedEdit, IsWellFormedQuery};
 ghost use Rattle.tmm_model.specs.Replies.{Refused};
 ghost use Rattle.tmm_model.specs.Standing.{Standing};
-ghost use Rattle.tmm_model.specs.Steps.{Step, is_built, is_built_edit, is_built_premise, is_built_query};
+ghost use Rattle.tmm_model.specs.Steps.{is_built, is_built_edit, is_built_premise, is_built_query};
+ghost use Rattle.map_engine.specs.Steps.{Step};
 ghost use Rattle.tmm_cli.specs.Sessions.{Tells, TellsMeaning};
 ghost use Rattle.tmm_cli.specs.LongLines.{Step-long};
 
