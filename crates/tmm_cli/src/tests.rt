@@ -58,6 +58,18 @@ fn scripts_are_answered(rt: HostRuntime) -> Result<(), Fail> {
     )
 }
 
+#[test]
+fn paths_have_their_steps(rt: HostRuntime) -> Result<(), Fail> {
+    expect(
+        &rt,
+        rt.alloc(),
+        b"point a\npoint b\ndist d a b 3 7\npoint c\ndist e b c 2 4\npath a c\npath c a\npath a a\npath start a\npath c start\npath a q\npath q/r a\npath a d\n",
+        4096,
+        b"1 ok\n2 ok\n3 ok\n4 ok\n5 ok\n6 path 11\n  d hi a b 7\n  e hi b c 4\n7 path -5\n  e lo c b -2\n  d lo b a -3\n8 path 0\n9 path *\n10 path -5\n  e lo c b -2\n  d lo b a -3\n  a base a start 0\n11 no unknown q\n12 no unknown q/r\n13 no sort d\n",
+        Status::SomeRefused,
+    )
+}
+
 // The first cause that holds, with the word as it stands in the line.
 #[test]
 fn refusals_have_their_causes(rt: HostRuntime) -> Result<(), Fail> {
