@@ -1,5 +1,5 @@
 -- What the addition of a premise that may be added does to a network that stands for a list.
-use Rattle.std.proofs.Common.{◌≡◌, ◌≢◌, inl, inr, ◌∙◌, ℕ, ◌+◌, ◌<◌, ◌≤◌, List, [], ◌∷◌, ◌++◌, map, length, append-nil, get_or, replicate, zero, suc, cond, Option, Some, None, ap, sym, subst, arith, refl, ℤ}
+use Rattle.std.proofs.Common.{◌≡◌, ◌≢◌, inl, inr, ◌∙◌, ℕ, ◌+◌, ◌<◌, ◌≤◌, List, [], ◌∷◌, ◌++◌, map, length, append-nil, get_or, replicate, zero, suc, cond, Option, Some, None, ap, sym, subst, arith, refl, ℤ, Err}
 use Rattle.std.specs.List.{All, Contains, count_by}
 use Rattle.std.specs.Option.{is_some}
 use Rattle.std.proofs.lemmas.Bool.Decides.{Decides-eqb}
@@ -11,13 +11,18 @@ use Rattle.tmm_model.specs.declared.bound.Bound.{Bound}
 use Rattle.tmm_model.specs.declared.bound.Bound.TheVariants.{Finite, Free}
 use Rattle.tmm_model.specs.declared.point.PointName.{PointName}
 use Rattle.tmm_model.specs.declared.point.PointName.TheVariants.{Start, End}
+use Rattle.tmm_model.specs.declared.premise.Edit.TheVariants.{Add}
 use Rattle.tmm_model.specs.declared.premise.Premise.{Premise}
 use Rattle.tmm_model.specs.declared.premise.Premise.TheVariants.{Class, Kind, Point, Event, Token, Span, Dist, Rule, Protect}
+use Rattle.tmm_model.specs.declared.refusal.Refusal.TheVariants.{LimitLine, Form, Taken, Unknown, Sort, LimitPremises, LimitPoints, Cycle, LimitSize}
+use Rattle.tmm_model.specs.declared.refusal.Stop.{Stop}
+use Rattle.tmm_model.specs.declared.refusal.Stop.TheVariants.{Refused, NoMemory}
 use Rattle.tmm_model.specs.declared.walk.WalkStep.{WalkStep}
 use Rattle.tmm_model.specs.Bounds.{after}
+use Rattle.tmm_model.specs.Cycles.{steps_in, IsCycleBy, IsCycleOf}
 use Rattle.tmm_model.specs.Lines.{IsWellFormedPremise}
 use Rattle.tmm_model.specs.Standing.{arc_of as arc_of_step, points_of, points_in, steps_of, arcs_of as arcs_of_premise, arcs_in, IsConsistent, far_in}
-use Rattle.tmm_model.specs.Verdicts.{IsCycleSum}
+use Rattle.tmm_model.specs.Verdicts.{list_cause}
 use Rattle.tmm_model.specs.Walks.{Arc, renamed, IsWalk, IsFar, HasDates}
 use Rattle.tmm_model.proofs.Adding.{MayBeAdded, steps_at, own_or_none}
 use Rattle.tmm_model.proofs.Dates.{Solved}
@@ -31,8 +36,11 @@ use Rattle.dist_net.specs.declared.Conflict.{Conflict}
 use Rattle.dist_net.specs.Net.{Net, start_alone, same_number, arc_of, arcs_of, IsInUse, AreInUse, IsConflict}
 use Rattle.dist_net.proofs.Names.{names_at_start, edges_at_start, only_start}
 use Rattle.map_engine.specs.Represents.{Names, IsNumberOf, name_at, Represents, StandsFor}
-use Rattle.map_engine.specs.Network.{IsNew, IsThere, KeepsNumbers, AreThere, AreApart}
+use Rattle.neg_cycle.specs.Steps.{step_of, steps_in_net}
+use Rattle.map_engine.specs.Network.{IsNew, IsThere, KeepsNumbers, AreThere, AreApart, IsClosedBy, AddsEdges}
+use Rattle.map_engine.specs.Stops.{StopsEdit}
 use Rattle.map_engine.proofs.Nets.{ends_used}
+use Rattle.map_engine.proofs.Owned.{arcs_of_steps, IsCycleBy-known}
 use Rattle.map_engine.proofs.Representing.{IsUsed, HasDates-named, HasDates-numbered, far-named}
 use Rattle.map_engine.proofs.Named.{AreDistinct, name_at-is}
 use Rattle.map_engine.proofs.Extending.{Represents-arcs}
@@ -84,14 +92,17 @@ steps_are_apart (Protect name fact from to) wf names new_names edges in_use kept
 -- ---- the list with the premise
 
 module _ (ps : List Premise) (p : Premise) (net : Net) (grown : Represents (points_in ps ++ points_of p) (arcs_in ps) net.names (arcs_of net.edges))
-    (more : List Edge) (named : map (renamed (name_at net.names)) (arcs_of more) ≡ map arc_of_step (steps_of p)) where
+    (more : List Edge) (named : map (step_of net.names) more ≡ steps_of p) where
+  named_arcs : map (renamed (name_at net.names)) (arcs_of more) ≡ arcs_of_premise p
+  named_arcs = arcs_of_steps net.names more ∙ ap (λ (l : List WalkStep). map arc_of_step l) named
+
   -- with the constraints the network stands for the list with the premise
   pub stands_with : StandsFor (ps ++ p ∷ []) net.names (arcs_of (net.edges ++ more))
   stands_with =
       subst (λ (l : List (Arc ℕ)). StandsFor (ps ++ p ∷ []) net.names l) (sym (map-append arc_of net.edges more))
       (subst (λ (l : List (Arc PointName)). Represents (points_in (ps ++ p ∷ [])) l net.names (arcs_of net.edges ++ arcs_of more)) (sym (arcs_in-push ps p))
       (subst (λ (l : List PointName). Represents l (arcs_in ps ++ arcs_of_premise p) net.names (arcs_of net.edges ++ arcs_of more)) (sym (points_in-push ps p))
-      (Represents-arcs (points_in ps ++ points_of p) (arcs_in ps) (arcs_of_premise p) net.names (arcs_of net.edges) (arcs_of more) grown named)))
+      (Represents-arcs (points_in ps ++ points_of p) (arcs_in ps) (arcs_of_premise p) net.names (arcs_of net.edges) (arcs_of more) grown named_arcs)))
 
   -- where no dates satisfy the edges, none satisfy the premises
   pub no_dates : IsNumberOf net.names 0 Start → (HasDates 0 (arcs_of (net.edges ++ more)) → ⊥) → IsConsistent (ps ++ p ∷ []) → ⊥
@@ -110,14 +121,17 @@ never : (w : ℤ) (back : Bound) (sum : ℤ) → back ≡ Free → after w back 
 never w (Finite x) sum free sums = cc (free)
 never w Free sum free sums = cc (sums)
 
+first_of : (more : List Edge) (n : ℕ) → n < length more → Edge
+first_of [] n lt = absurd (omega arith)
+first_of (e ∷ more) n lt = e
+
 module _ (ps : List Premise) (p : Premise) (may : MayBeAdded ps p) (old_names : Names) (net : Net)
     (in_use : AreInUse old_names net.edges) (kept : KeepsNumbers old_names net.names) (distinct : AreDistinct net.names) (start : IsNumberOf net.names 0 Start)
     (in_use_now : AreInUse net.names net.edges) (dates : HasDates 0 (arcs_of net.edges)) (new : All (IsNew old_names) (points_of p))
     (grown : Represents (points_in ps ++ points_of p) (arcs_in ps) net.names (arcs_of net.edges))
-    (more : List Edge) (named : map (renamed (name_at net.names)) (arcs_of more) ≡ map arc_of_step (steps_of p)) (more_in_use : AreInUse net.names more)
-    (found : Conflict) (conflict : IsConflict net.edges more found) where
+    (own : All (Contains (steps_in ps)) (steps_in_net net)) (more : List Edge) (named : map (step_of net.names) more ≡ steps_of p) (more_in_use : AreInUse net.names more) where
   -- the edge of the conflict, and the step that it is
-  module _ (d : Edge) where
+  module _ (found : Conflict) (conflict : IsConflict net.edges more found) (d : Edge) where
     abbrev the_edge : Edge
     the_edge = get_or more found.edge d
 
@@ -127,11 +141,11 @@ module _ (ps : List Premise) (p : Premise) (may : MayBeAdded ps p) (old_names : 
     is_more : Contains more the_edge
     is_more = Contains-get_or more found.edge d conflict.place
 
-    is_own : Contains (arcs_of_premise p) the_arc
-    is_own = subst (λ (l : List (Arc PointName)). Contains l the_arc) named (Contains-map (renamed (name_at net.names)) (arcs_of more) (arc_of the_edge) (Contains-map arc_of more the_edge is_more))
+    abbrev the_step : WalkStep
+    the_step = step_of net.names the_edge
 
-    is_step : (s : WalkStep) × Contains (steps_of p) s × (arc_of_step s ≡ the_arc)
-    is_step = Contains-map_from arc_of_step (steps_of p) the_arc is_own
+    is_own : Contains (steps_of p) the_step
+    is_own = subst (λ (l : List WalkStep). Contains l the_step) named (Contains-map (step_of net.names) more the_edge is_more)
 
     ends : IsUsed net.names the_edge.from × IsUsed net.names the_edge.to
     ends = ends_used net.names more more_in_use (arc_of the_edge) (Contains-map arc_of more the_edge is_more)
@@ -152,19 +166,17 @@ module _ (ps : List Premise) (p : Premise) (may : MayBeAdded ps p) (old_names : 
     sums = conflict.sums d back (solution.is_far the_edge.to the_edge.from)
 
     -- a premise with points of its own makes no closed walk
-    none_by_own : (s : WalkStep) → arc_of_step s ≡ the_arc → Contains (points_of p) s.from → s.to ≢ s.from → back ≡ Free
-    none_by_own s is own other =
-        let from : s.from ≡ the_arc.from = ap (λ (x : Arc PointName). x.from) is in
-        let to : s.to ≡ the_arc.to = ap (λ (x : Arc PointName). x.to) is in
-        let new_from : IsNew old_names the_arc.from = subst (IsNew old_names) from (All-contains (IsNew old_names) (points_of p) s.from new own) in
+    none_by_own : Contains (points_of p) the_arc.from → the_arc.to ≢ the_arc.from → back ≡ Free
+    none_by_own mine other =
+        let new_from : IsNew old_names the_arc.from = All-contains (IsNew old_names) (points_of p) the_arc.from new mine in
         let no_way = no_way_to_new old_names net.names net.edges in_use kept distinct the_arc.from new_from in
         IsFar-same (arcs_of net.edges) the_edge.to the_edge.from back Free (solution.is_far the_edge.to the_edge.from)
         (IsFar-none (arcs_of net.edges) the_edge.to the_edge.from
         (λ e m same. (let k = Contains-map_from arc_of net.edges e m in
         All-contains (λ x. IsNumberOf net.names x.to the_arc.from → ⊥) net.edges k.0 no_way k.1
         (ap (λ (i : ℕ). get_or net.names i None) (ap (λ (x : Arc ℕ). x.to) k.2 ∙ same) ∙ at_from)))
-        (λ same. other (to ∙ (let e : Some the_arc.to ≡ Some the_arc.from = sym at_to ∙ ap (λ (i : ℕ). get_or net.names i None) same ∙ at_from in
-        let r : the_arc.to ≡ the_arc.from = cc in r) ∙ sym from)))
+        (λ same. other (let e : Some the_arc.to ≡ Some the_arc.from = sym at_to ∙ ap (λ (i : ℕ). get_or net.names i None) same ∙ at_from in
+        let r : the_arc.to ≡ the_arc.from = cc in r)))
 
     -- the way back between points that are there
     far_back : points_of p ≡ [] → back ≡ far_in ps the_arc.to the_arc.from
@@ -174,26 +186,46 @@ module _ (ps : List Premise) (p : Premise) (may : MayBeAdded ps p) (old_names : 
         far-named (points_in ps) (arcs_in ps) net.names (arcs_of net.edges) stands distinct start (ends_used net.names net.edges in_use_now) dates
         the_edge.to the_edge.from the_arc.to the_arc.from back at_to at_from (solution.is_far the_edge.to the_edge.from)
 
-    -- **The sum of a conflict is that of a closed walk that the premise makes.**
-    pub is_cycle_sum : IsCycleSum ps p found.sum
-    is_cycle_sum = elim (own_or_none p) [
-      | inl own ↦ absurd (let s = is_step in let at = All-contains (λ (t : WalkStep). Contains (points_of p) t.from × (t.to ≢ t.from)) (steps_of p) s.0 own s.1 in
-          never the_edge.weight back found.sum (none_by_own s.0 s.2 at.0 at.1) sums)
+    -- **The walk of a conflict is a cycle that the premise makes.**
+    is_cycle : (steps : List WalkStep) → IsCycleBy (steps_in_net net) the_step found.sum steps → IsCycleOf ps p found.sum steps
+    is_cycle steps walk = elim (own_or_none p) [
+      | inl mine ↦ absurd (let at = All-contains (λ (t : WalkStep). Contains (points_of p) t.from × (t.to ≢ t.from)) (steps_of p) the_step mine is_own in
+          never the_edge.weight back found.sum (none_by_own at.0 at.1) sums)
       | inr none ↦ record {
-        first = the_arc;
+        first = the_step;
         own = is_own;
-        sums = ap (λ (x : Bound). after the_edge.weight x) (sym (far_back none)) ∙ sums;
+        cycle = IsCycleBy-known (steps_in_net net) (steps_in ps) own the_step found.sum steps walk;
+        tightest = ap (λ (x : Bound). after the_edge.weight x) (sym (far_back none)) ∙ sums;
         negative = conflict.negative;
       }
     ]
 
-pub first_of : (more : List Edge) (n : ℕ) → n < length more → Edge
-first_of [] n lt = absurd (omega arith)
-first_of (e ∷ more) n lt = e
+  is_cycle_of : (sum : ℤ) (steps : List WalkStep) → IsClosedBy net more sum steps → IsCycleOf ps p sum steps
+  is_cycle_of sum steps is =
+      let d = first_of more is.found.edge is.conflict.place in
+      subst (λ (z : ℤ). IsCycleOf ps p z steps) is.sum_is (is_cycle is.found is.conflict d steps (is.cycle d))
+
+  -- **Where the constraints are not added, the premise is refused for a cycle, or there is no memory.**
+  pub stops_by : (h : ℕ) → list_cause ps (Add p) ≡ None → (after_net : Net) (stop : Stop) → AddsEdges net more after_net (Err stop)
+      → StopsEdit (record { horizon = h; premises = ps }) (Add p) stop
+  stops_by h no_cause after_net NoMemory adds = tt
+  stops_by h no_cause after_net (Refused (Cycle sum steps)) adds = record {
+    no_cause = no_cause;
+    no_dates = no_dates ps p net grown more named start adds.0;
+    cycle = is_cycle_of sum steps.items adds.1;
+  }
+  stops_by h no_cause after_net (Refused LimitLine) adds = absurd adds
+  stops_by h no_cause after_net (Refused Form) adds = absurd adds
+  stops_by h no_cause after_net (Refused (Taken word)) adds = absurd adds
+  stops_by h no_cause after_net (Refused (Unknown word)) adds = absurd adds
+  stops_by h no_cause after_net (Refused (Sort word)) adds = absurd adds
+  stops_by h no_cause after_net (Refused LimitPremises) adds = absurd adds
+  stops_by h no_cause after_net (Refused LimitPoints) adds = absurd adds
+  stops_by h no_cause after_net (Refused LimitSize) adds = absurd adds
 
 -- some dates satisfy the premises where some satisfy the edges
 pub some_dates : (ps : List Premise) (p : Premise) (net : Net) → Represents (points_in ps ++ points_of p) (arcs_in ps) net.names (arcs_of net.edges)
-    → (more : List Edge) → map (renamed (name_at net.names)) (arcs_of more) ≡ map arc_of_step (steps_of p)
+    → (more : List Edge) → map (step_of net.names) more ≡ steps_of p
     → AreDistinct net.names → IsNumberOf net.names 0 Start → AreInUse net.names net.edges → AreInUse net.names more
     → HasDates 0 (arcs_of (net.edges ++ more)) → IsConsistent (ps ++ p ∷ [])
 some_dates ps p net grown more named distinct start in_use more_in_use dates =
@@ -227,3 +259,6 @@ stands_at_start =
       only = λ e m. absurd (omega (arith, m.1));
       arcs_count = refl;
     })
+
+pub own_at_start : All (Contains (steps_in [])) (steps_in_net start_alone)
+own_at_start = subst (λ (l : List Edge). All (Contains (steps_in [])) (map (step_of start_alone.names) l)) (sym edges_at_start) (All-from_contains (Contains (steps_in [])) [] (λ s m. absurd (omega (arith, m.1))))

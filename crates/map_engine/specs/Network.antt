@@ -1,15 +1,19 @@
 -- What a network of numbered points tells of points, and how it grows.
-use Rattle.std.specs.Prelude.{◌≡◌, ◌≢◌, ◌⊎◌, ℕ, pos, ◌+ℤ◌, ◌≤ℤ◌, List, [], ◌∷◌, ◌++◌, map, Result, Ok, Err}
+use Rattle.std.specs.Prelude.{◌≡◌, ◌≢◌, ◌⊎◌, ℕ, ℤ, pos, ◌+ℤ◌, ◌≤ℤ◌, List, [], ◌∷◌, ◌++◌, map, slice_index_or, Result, Ok, Err}
 use Rattle.std.specs.List.{All}
 use Rattle.tmm_model.specs.declared.point.PointName.{PointName}
+use Rattle.tmm_model.specs.declared.refusal.Refusal.TheVariants.{Cycle}
+use Rattle.tmm_model.specs.declared.refusal.Stop.{Stop}
+use Rattle.tmm_model.specs.declared.refusal.Stop.TheVariants.{Refused, NoMemory}
 use Rattle.tmm_model.specs.declared.walk.WalkStep.{WalkStep}
 use Rattle.tmm_model.specs.Bounds.{IsWithin}
-use Rattle.tmm_model.specs.Walks.{Arc, renamed, HasDates}
-use Rattle.tmm_model.specs.Standing.{arc_of as arc_of_step}
+use Rattle.tmm_model.specs.Cycles.{IsCycleBy}
+use Rattle.tmm_model.specs.Walks.{Arc, HasDates}
 use Rattle.dist_net.specs.declared.Edge.{Edge}
 use Rattle.dist_net.specs.declared.Conflict.{Conflict}
-use Rattle.dist_net.specs.Net.{Net, arc_of, arcs_of, AreInUse, IsConflict}
-use Rattle.map_engine.specs.Represents.{Names, IsNumberOf, name_at, Represents}
+use Rattle.dist_net.specs.Net.{Net, arcs_of, AreInUse, IsConflict}
+use Rattle.neg_cycle.specs.Steps.{step_of, steps_in_net}
+use Rattle.map_engine.specs.Represents.{Names, IsNumberOf, Represents}
 
 -- no number is that of the point
 abbrev pub IsNew : Names → PointName → Type 0
@@ -22,9 +26,6 @@ IsThere names p = (n : ℕ) × IsNumberOf names n p
 -- every number in use keeps its point
 abbrev pub KeepsNumbers : Names → Names → Type 0
 KeepsNumbers old new = (k : ℕ) (p : PointName) → IsNumberOf old k p → IsNumberOf new k p
-
-abbrev pub edge_arc : Edge → Arc ℕ
-edge_arc e = arc_of e
 
 -- what the network stands for has these points more
 abbrev pub AddsPoints : Net → Net → List PointName → Type 0
@@ -51,12 +52,22 @@ AreApart names edges steps = Unit {0}
 abbrev pub AreLightSteps : List WalkStep → Type 0
 AreLightSteps steps = All (λ s. IsWithin 1000000000 s.weight) steps
 
--- some dates satisfy the edges with those that stand, and they are added; or none do, and nothing changes
-abbrev pub AddsEdges : Net → List Edge → Net → Result (Unit {0}) Conflict → Type 0
+-- one of the edges closes a walk of this negative sum over the edges that stand, and the steps are such a walk
+pub record IsClosedBy (net : Net) (edges : List Edge) (sum : ℤ) (steps : List WalkStep) : Type 0 where
+  pub found : Conflict
+  pub conflict : IsConflict net.edges edges found
+  pub sum_is : found.sum ≡ sum
+  pub cycle : (d : Edge) → IsCycleBy (steps_in_net net) (step_of net.names (slice_index_or edges found.edge d)) found.sum steps
+
+-- Some dates satisfy the edges with those that stand, and they are added; or none do, a cycle shows it, and
+-- nothing changes. Nor does anything where there is no memory for the cycle.
+abbrev pub AddsEdges : Net → List Edge → Net → Result (Unit {0}) Stop → Type 0
 AddsEdges old edges new (Ok done) = HasDates 0 (arcs_of (old.edges ++ edges)) × (new ≡ record old { edges = old.edges ++ edges })
-AddsEdges old edges new (Err found) = (HasDates 0 (arcs_of (old.edges ++ edges)) → ⊥) × IsConflict old.edges edges found × (new ≡ old)
+AddsEdges old edges new (Err (Refused (Cycle sum steps))) = (HasDates 0 (arcs_of (old.edges ++ edges)) → ⊥) × IsClosedBy old edges sum steps.items × (new ≡ old)
+AddsEdges old edges new (Err (Refused refusal)) = ⊥
+AddsEdges old edges new (Err NoMemory) = new ≡ old
 
 -- the same of constraints between points
-abbrev pub AddsSteps : Net → List WalkStep → Net → Result (Unit {0}) Conflict → Type 0
+abbrev pub AddsSteps : Net → List WalkStep → Net → Result (Unit {0}) Stop → Type 0
 AddsSteps old steps new result =
-    (edges : List Edge) × (map (renamed (name_at old.names)) (arcs_of edges) ≡ map arc_of_step steps) × AreInUse old.names edges × AddsEdges old edges new result
+    (edges : List Edge) × (map (step_of old.names) edges ≡ steps) × AreInUse old.names edges × AddsEdges old edges new result

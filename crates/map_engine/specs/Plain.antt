@@ -1,9 +1,15 @@
 -- What the plain map keeps.
-use Rattle.std.specs.Prelude.{◌≡◌, ℕ, Bool, true, false, Option, Some, None}
+use Rattle.std.specs.Prelude.{◌≡◌, ℕ, Bool, true, false, List, [], Option, Some, None}
+use Rattle.std.specs.List.{All, Contains}
+use Rattle.tmm_model.specs.declared.bound.Bound.{Bound}
+use Rattle.tmm_model.specs.declared.bound.Bound.TheVariants.{Finite, Free}
 use Rattle.tmm_model.specs.declared.point.QueryPoint.{QueryPoint}
 use Rattle.tmm_model.specs.declared.point.QueryPoint.TheVariants.{Declared, Derived}
+use Rattle.tmm_model.specs.declared.walk.WalkStep.{WalkStep}
+use Rattle.tmm_model.specs.Cycles.{steps_in, sum_of, IsPath}
 use Rattle.tmm_model.specs.Standing.{Standing}
 use Rattle.dist_net.specs.Net.{Net, Nets, arcs_of}
+use Rattle.neg_cycle.specs.Steps.{point_at, steps_in_net}
 use Rattle.premise_list.specs.States.{States}
 use Rattle.map_engine.specs.Represents.{Names, IsNumberOf, StandsFor}
 
@@ -16,9 +22,10 @@ abbrev pub pending_list : Bool → Standing → Option Standing
 pending_list true present = Some present
 pending_list false present = None
 
--- the network stands for the list
+-- the network stands for the list, and each of its edges is a constraint of a premise that it names
 pub record Fits (list : Standing) (net : Net) : Type 0 where
   pub stands : StandsFor list.premises net.names (arcs_of net.edges)
+  pub own : All (Contains (steps_in list.premises)) (steps_in_net net)
 
 -- nothing has changed since the last commit
 pub record IsSettled (lists : States) (nets : Nets) : Type 0 where
@@ -35,3 +42,8 @@ pub record IsPlain (lists : States) (nets : Nets) (pending : Bool) : Type 0 wher
 abbrev pub IsNumberOfPoint : Names → ℕ → QueryPoint → Type 0
 IsNumberOfPoint names n (Declared p) = IsNumberOf names n p
 IsNumberOfPoint names n (Derived o) = ⊥
+
+-- where there is a bound, the steps are edges that lead from a to b and have it as their sum, and else there are none
+abbrev pub ReachesIn : Net → ℕ → ℕ → Bound → List WalkStep → Type 0
+ReachesIn net a b Free steps = steps ≡ []
+ReachesIn net a b (Finite d) steps = IsPath (steps_in_net net) (point_at net.names a) (point_at net.names b) steps × (sum_of steps ≡ d)

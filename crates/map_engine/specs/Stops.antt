@@ -5,8 +5,9 @@ use Rattle.tmm_model.specs.declared.premise.Edit.{Edit}
 use Rattle.tmm_model.specs.declared.refusal.Stop.{Stop}
 use Rattle.tmm_model.specs.declared.refusal.Stop.TheVariants.{Refused, NoMemory}
 use Rattle.tmm_model.specs.Standing.{Standing}
-use Rattle.tmm_model.specs.Steps.{Refuses, point_cause, question_cause}
+use Rattle.tmm_model.specs.Steps.{point_cause}
 use Rattle.tmm_model.specs.Verdicts.{Tells}
+use Rattle.map_engine.specs.Steps.{Refuses, question_cause}
 
 abbrev pub StopsEdit : Standing → Edit → Stop → Type 0
 StopsEdit list edit (Refused refusal) = Refuses list edit refusal

@@ -4,12 +4,13 @@ ghost use Rattle.std.specs.declared.option.Option.{Option};
 ghost use Rattle.tmm_model.specs.Bounds.{bound_negated};
 ghost use Rattle.tmm_model.specs.Lines.{IsWellFormedEdit, IsWellFormedQuery};
 ghost use Rattle.tmm_model.specs.Standing.{Standing};
-ghost use Rattle.tmm_model.specs.Steps.{Accepts, AreChanges, is_built_edit, question_cause, distance_of};
+ghost use Rattle.tmm_model.specs.Steps.{Accepts, AreChanges, is_built_edit, distance_of};
 ghost use Rattle.tmm_model.specs.Edits.{next_list};
+ghost use Rattle.map_engine.specs.Steps.{GivesWalk, question_cause};
 ghost use Rattle.map_engine.specs.Stops.{StopsEdit, StopsQuery};
 
 use std::alloc::Global;
-use tmm_model::{Bound, Changes, Edit, Query, QueryPoint, Stop};
+use tmm_model::{Bound, Changes, Edit, Query, QueryPoint, Seq, Stop, WalkStep};
 
 /// An edit that is made and not yet committed, and what it changed.
 #[derive(Drop)]
@@ -58,4 +59,18 @@ pub trait MapCore {
         ensures low { IfOk result (λ found. found.0 ≡ bound_negated (distance_of (list self.now).premises q.now p.now)) }
         ensures high { IfOk result (λ found. found.1 ≡ distance_of (list self.now).premises p.now q.now) }
         ensures stops { IfErr result (StopsQuery (list self.now) (Query.Bounds p.now q.now)) };
+
+    /// The upper bound on the date of the second point less that of the first, and the constraints of
+    /// a walk that gives it. Without a bound there are none.
+    fn path(
+        &self,
+        alloc: Global,
+        p: &QueryPoint,
+        q: &QueryPoint,
+    ) -> Result<(Bound, Seq<WalkStep>), Stop>
+        requires idle { pending self.now ≡ None }
+        requires well_formed { IsWellFormedQuery (Query.Path p.now q.now) }
+        ensures known { IfOk result (λ found. question_cause (list self.now).premises (Query.Path p.now q.now) ≡ None) }
+        ensures gives { IfOk result (λ found. GivesWalk (list self.now).premises p.now q.now found.0 found.1.items) }
+        ensures stops { IfErr result (StopsQuery (list self.now) (Query.Path p.now q.now)) };
 }

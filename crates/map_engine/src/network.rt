@@ -3,14 +3,17 @@ ghost use Rattle.std.specs.Prelude.{◌≡◌, ◌≢◌, ℕ, ◌+◌, ◌<◌,
 ghost use Rattle.std.specs.List.{All};
 ghost use Rattle.tmm_model.specs.declared.point.PointName.{PointName};
 ghost use Rattle.tmm_model.specs.Lines.{IsWellFormedPremise};
-ghost use Rattle.tmm_model.specs.Standing.{arc_of, points_of, steps_of};
-ghost use Rattle.tmm_model.specs.Walks.{Arc, renamed, AreLight};
+ghost use Rattle.tmm_model.specs.Standing.{points_of, steps_of};
+ghost use Rattle.tmm_model.specs.Walks.{AreLight};
+ghost use Rattle.neg_cycle.specs.Steps.{step_of};
 ghost use Rattle.dist_net.specs.Net.{points_in_use, arcs_of, AreInUse, AreOfOnePremise};
-ghost use Rattle.map_engine.specs.Represents.{IsNumberOf, Represents, name_at};
-ghost use Rattle.map_engine.specs.Network.{IsNew, IsThere, KeepsNumbers, AddsPoint, AddsPoints, edge_arc, AreThere, AreApart, AreLightSteps, AddsEdges, AddsSteps};
+ghost use Rattle.map_engine.specs.Represents.{IsNumberOf};
+ghost use Rattle.map_engine.specs.Network.{IsNew, IsThere, KeepsNumbers, AddsPoint, AddsPoints, AreThere, AreApart, AreLightSteps, AddsEdges, AddsSteps};
 
-use dist_net::{Conflict, DistNet, Edge};
-use tmm_model::{PointName, Premise, WalkStep};
+use dist_net::{DistNet, Edge};
+use neg_cycle::cycle;
+use std::alloc::Global;
+use tmm_model::{PointName, Premise, Refusal, Stop, WalkStep};
 
 /// Adds a point. The network then stands for one point more.
 pub(crate) fn add_point(net: &mut DistNet, point: PointName)
@@ -64,7 +67,7 @@ pub(crate) fn edge_of(net: &DistNet, step: &WalkStep) -> Edge
     ensures from { IsNumberOf net.now.present.names result.from step.now.from }
     ensures to { IsNumberOf net.now.present.names result.to step.now.to }
     ensures weight { result.weight ≡ step.now.weight }
-    ensures arc { renamed (name_at net.now.present.names) (edge_arc result) ≡ arc_of step.now }
+    ensures step { step_of net.now.present.names result ≡ step.now }
 {
     Edge {
         from: number_of(net, step.from),
@@ -76,8 +79,8 @@ pub(crate) fn edge_of(net: &DistNet, step: &WalkStep) -> Edge
 }
 
 /// Adds the constraints of a premise where some dates satisfy them together with those that stand.
-/// Where none do, nothing changes.
-pub(crate) fn add_steps(net: &mut DistNet, premise: &Premise) -> Result<(), Conflict>
+/// Where none do, it answers the cycle, and nothing changes.
+pub(crate) fn add_steps(alloc: Global, net: &mut DistNet, premise: &Premise) -> Result<(), Stop>
     requires well_formed { IsWellFormedPremise premise.now }
     requires there { AreThere net.old.present.names (steps_of premise.now) }
     requires apart { AreApart net.old.present.names net.old.present.edges (steps_of premise.now) }
@@ -86,13 +89,13 @@ pub(crate) fn add_steps(net: &mut DistNet, premise: &Premise) -> Result<(), Conf
     ensures others { net.new ≡ record net.old { present = net.new.present } }
 {
     match (premise.step(0), premise.step(1)) {
-        (Some(first), Some(second)) => add_two(net, &first, &second),
-        (Some(first), None) => add_one(net, &first),
-        (None, _) => add_fitting(net, &[]),
+        (Some(first), Some(second)) => add_two(alloc, net, &first, &second),
+        (Some(first), None) => add_one(alloc, net, &first),
+        (None, _) => add_fitting(alloc, net, &[]),
     }
 }
 
-fn add_one(net: &mut DistNet, step: &WalkStep) -> Result<(), Conflict>
+fn add_one(alloc: Global, net: &mut DistNet, step: &WalkStep) -> Result<(), Stop>
     requires there { AreThere net.old.present.names (step.now ∷ []) }
     requires light { AreLightSteps (step.now ∷ []) }
     requires room { length net.old.present.edges + 2 ≤ 4000 }
@@ -100,10 +103,15 @@ fn add_one(net: &mut DistNet, step: &WalkStep) -> Result<(), Conflict>
     ensures others { net.new ≡ record net.old { present = net.new.present } }
 {
     let edges = [edge_of(net, step)];
-    add_fitting(net, &edges)
+    add_fitting(alloc, net, &edges)
 }
 
-fn add_two(net: &mut DistNet, first: &WalkStep, second: &WalkStep) -> Result<(), Conflict>
+fn add_two(
+    alloc: Global,
+    net: &mut DistNet,
+    first: &WalkStep,
+    second: &WalkStep,
+) -> Result<(), Stop>
     requires there { AreThere net.old.present.names (first.now ∷ second.now ∷ []) }
     requires light { AreLightSteps (first.now ∷ second.now ∷ []) }
     requires apart { AreApart net.old.present.names net.old.present.edges (first.now ∷ second.now ∷ []) }
@@ -113,10 +121,10 @@ fn add_two(net: &mut DistNet, first: &WalkStep, second: &WalkStep) -> Result<(),
 {
     let _ = net.edges();
     let edges = [edge_of(net, first), edge_of(net, second)];
-    add_fitting(net, &edges)
+    add_fitting(alloc, net, &edges)
 }
 
-fn add_fitting(net: &mut DistNet, edges: &[Edge]) -> Result<(), Conflict>
+fn add_fitting(alloc: Global, net: &mut DistNet, edges: &[Edge]) -> Result<(), Stop>
     requires points { AreInUse net.old.present.names edges.now }
     requires light { AreLight 1000000000 (arcs_of edges.now) }
     requires premise { AreOfOnePremise net.old.present.edges edges.now }
@@ -124,11 +132,15 @@ fn add_fitting(net: &mut DistNet, edges: &[Edge]) -> Result<(), Conflict>
     ensures adds { AddsEdges net.old.present edges.now net.new.present result }
     ensures others { net.new ≡ record net.old { present = net.new.present } }
 {
-    match net.fits(edges) {
-        Ok(()) => {
-            net.add_edges(edges);
-            Ok(())
-        }
-        Err(conflict) => Err(conflict),
+    if let Err(conflict) = net.fits(edges) {
+        let Ok(steps) = cycle(alloc, net, edges, conflict) else {
+            return Err(Stop::NoMemory);
+        };
+        return Err(Stop::Refused(Refusal::Cycle {
+            sum: conflict.sum,
+            steps,
+        }));
     }
+    net.add_edges(edges);
+    Ok(())
 }

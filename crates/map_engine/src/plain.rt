@@ -5,17 +5,22 @@ ghost use Rattle.tmm_model.specs.Lines.{IsWellFormedPremise};
 ghost use Rattle.tmm_model.specs.Standing.{Standing, empty_list, IsConsistent};
 ghost use Rattle.tmm_model.specs.Steps.{point_cause};
 ghost use Rattle.tmm_model.specs.Verdicts.{list_cause};
-ghost use Rattle.map_engine.specs.Plain.{Fits, IsSettled, IsNumberOfPoint};
+ghost use Rattle.tmm_model.specs.Walks.{IsFar};
+ghost use Rattle.dist_net.specs.Net.{IsInUse, arcs_of};
+ghost use Rattle.map_engine.specs.Plain.{Fits, IsSettled, IsNumberOfPoint, ReachesIn};
 ghost use Rattle.map_engine.specs.Stops.{StopsEdit, StopsPoint};
 ghost use Rattle.map_engine.specs.Changed.{AreNone};
 
 use crate::map_core::{MapCore, Pending};
 use crate::network::{add_points, add_steps, number_of};
 use dist_net::DistNet;
+use neg_cycle::walk;
 use premise_list::Standing;
 use std::alloc::Global;
 use std::marker::Model;
-use tmm_model::{Bound, Changes, Edit, NoMemory, Premise, QueryPoint, Refusal, Seq, Stop};
+use tmm_model::{
+    Bound, Changes, Edit, NoMemory, Premise, QueryPoint, Refusal, Seq, Stop, WalkStep,
+};
 
 /// A map that keeps the standing list and its distances. The list and the distances before a pending
 /// edit are kept until it is committed.
@@ -94,6 +99,39 @@ impl MapCore for PlainMap {
         let _ = self.net.edges();
         Ok((self.net.far(to, from).negated(), self.net.far(from, to)))
     }
+
+    fn path(
+        &self,
+        alloc: Global,
+        p: &QueryPoint,
+        q: &QueryPoint,
+    ) -> Result<(Bound, Seq<WalkStep>), Stop> {
+        let from = resolve(alloc, &self.standing, &self.net, p)?;
+        let to = resolve(alloc, &self.standing, &self.net, q)?;
+        let _ = self.net.edges();
+        match walk_between(alloc, &self.net, from, to) {
+            Ok(found) => Ok(found),
+            Err(_) => Err(Stop::NoMemory),
+        }
+    }
+}
+
+// The distance of two numbers, and the steps of a walk of that sum, where there is one.
+fn walk_between(
+    alloc: Global,
+    net: &DistNet,
+    from: u16,
+    to: u16,
+) -> Result<(Bound, Seq<WalkStep>), NoMemory>
+    requires from { IsInUse net.now.present.names from }
+    requires to { IsInUse net.now.present.names to }
+    ensures least { IfOk result (λ found. IsFar (arcs_of net.now.present.edges) from to found.0) }
+    ensures walk { IfOk result (λ found. ReachesIn net.now.present from to found.0 found.1.items) }
+{
+    match walk(alloc, net, from, to)? {
+        Some(steps) => Ok((net.far(from, to), steps)),
+        None => Ok((Bound::Free, Seq::make(alloc))),
+    }
 }
 
 // The number of a point that a question names. Nothing derived is believed yet.
@@ -143,12 +181,9 @@ fn add_premise(
     let _ = net.edges();
     add_points(net, premise);
     let _ = net.edges();
-    if let Err(conflict) = add_steps(net, premise) {
+    if let Err(stop) = add_steps(alloc, net, premise) {
         net.rollback();
-        return Err(Stop::Refused(Refusal::Cycle {
-            sum: conflict.sum,
-            steps: Seq::make(alloc),
-        }));
+        return Err(stop);
     }
     if standing.add(alloc, premise).is_err() {
         net.rollback();

@@ -17,7 +17,7 @@ use Rattle.tmm_model.specs.declared.turn.Turn.TheVariants.{Silent, Reply as Repl
 use Rattle.tmm_model.specs.Lines.{words, ReadsLine, bare_query, bare_line, ReadingIsOne}
 use Rattle.tmm_model.specs.Replies.{Reply, Refused, text_of, is_refusal}
 use Rattle.tmm_model.specs.Standing.{Standing}
-use Rattle.tmm_model.specs.Steps.{Says, is_built, is_built_query, Refuses, question_cause, AnswersMeaning, AnswersTo, by_length, by_form, by_meaning, Step}
+use Rattle.map_engine.specs.Steps.{Says, is_built, is_built_query, question_cause, Refuses, AnswersMeaning, AnswersTo, by_length, by_form, by_meaning, Step}
 use Rattle.tmm_model.specs.Verdicts.{Tells as TellsCause}
 use Rattle.tmm_script.specs.Given.{IsReadingOf}
 use Rattle.tmm_cli.specs.Sessions.{Tells, TellsMeaning}

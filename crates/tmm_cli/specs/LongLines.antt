@@ -5,7 +5,7 @@ use Rattle.tmm_model.specs.declared.turn.Turn.{Turn}
 use Rattle.tmm_model.specs.declared.turn.Turn.TheVariants.{Silent, Reply as ReplyOf, Memory}
 use Rattle.tmm_model.specs.Replies.{Reply}
 use Rattle.tmm_model.specs.Standing.{Standing}
-use Rattle.tmm_model.specs.Steps.{Step, AnswersTo, by_length, by_form, by_meaning}
+use Rattle.map_engine.specs.Steps.{Step, AnswersTo, by_length, by_form, by_meaning}
 
 AnswersTo-long : (old new : Standing) (a b : List ℕ) (reply : Reply) → 400 < length a → 400 < length b → AnswersTo old a reply new → AnswersTo old b reply new
 AnswersTo-long old new a b reply long_a long_b answers = elim answers [

@@ -5,7 +5,7 @@ use Rattle.tmm_model.specs.declared.turn.Turn.{Turn}
 use Rattle.tmm_model.specs.declared.turn.Turn.TheVariants.{Silent, Reply as ReplyOf, Memory}
 use Rattle.tmm_model.specs.Replies.{Reply, text_of, is_refusal}
 use Rattle.tmm_model.specs.Standing.{Standing}
-use Rattle.tmm_model.specs.Steps.{AnswersMeaning}
+use Rattle.map_engine.specs.Steps.{AnswersMeaning}
 
 -- the turn is this reply to the line of number k, or want of memory
 abbrev pub Tells : ℕ → (Reply → Type 0) → Type 0 → Turn → Type 0

@@ -3,7 +3,7 @@ ghost use Rattle.std.specs.Prelude.{◌≡◌, ◌≢◌, ◌<◌, ◌≤◌, Li
 ghost use Rattle.std.specs.Io.KnownBytes.{Appends, Consumes, IsAtEnd};
 ghost use Rattle.tmm_io.specs.Causes.{Rose};
 ghost use Rattle.tmm_model.specs.Standing.{empty_list};
-ghost use Rattle.tmm_model.specs.Steps.{Step};
+ghost use Rattle.map_engine.specs.Steps.{Step};
 ghost use Rattle.tmm_cli.specs.Program.{ProgramEnds};
 
 use crate::drive::drive;

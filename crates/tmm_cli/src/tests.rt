@@ -47,7 +47,7 @@ fn scripts_are_answered(rt: HostRuntime) -> Result<(), Fail> {
         alloc,
         b"point a\npoint b\ndist d a b 3 7\nbounds a b\npoint c\ndist e b c 2 4\nbounds a c\nbounds start a\ndist x c a 0 *\nbounds a c",
         4096,
-        b"1 ok\n2 ok\n3 ok\n4 bounds 3 7\n5 ok\n6 ok\n7 bounds 5 11\n8 bounds 0 *\n9 no cycle -5\n10 bounds 5 11\n",
+        b"1 ok\n2 ok\n3 ok\n4 bounds 3 7\n5 ok\n6 ok\n7 bounds 5 11\n8 bounds 0 *\n9 no cycle -5\n  x lo a c 0\n  e lo c b -2\n  d lo b a -3\n10 bounds 5 11\n",
         Status::SomeRefused,
     )?;
     expect(&rt, alloc, b"  point   a\r", 4096, b"1 ok\n", Status::Clean)?;
@@ -56,7 +56,19 @@ fn scripts_are_answered(rt: HostRuntime) -> Result<(), Fail> {
         alloc,
         b"point a\ndist d a a 1 2\ndist e a a 0 5\n",
         4096,
-        b"1 ok\n2 no cycle -1\n3 ok\n",
+        b"1 ok\n2 no cycle -1\n  d lo a a -1\n3 ok\n",
+        Status::SomeRefused,
+    )
+}
+
+#[test]
+fn paths_have_their_steps(rt: HostRuntime) -> Result<(), Fail> {
+    expect(
+        &rt,
+        rt.alloc(),
+        b"point a\npoint b\ndist d a b 3 7\npoint c\ndist e b c 2 4\npath a c\npath c a\npath a a\npath start a\npath c start\npath a q\npath q/r a\npath a d\n",
+        4096,
+        b"1 ok\n2 ok\n3 ok\n4 ok\n5 ok\n6 path 11\n  d hi a b 7\n  e hi b c 4\n7 path -5\n  e lo c b -2\n  d lo b a -3\n8 path 0\n9 path *\n10 path -5\n  e lo c b -2\n  d lo b a -3\n  a base a start 0\n11 no unknown q\n12 no unknown q/r\n13 no sort d\n",
         Status::SomeRefused,
     )
 }

@@ -4,7 +4,7 @@ use Rattle.std.proofs.KnownBytes.{Consumes-nil, Appends-nil}
 use Rattle.std.specs.declared.alloc.Global.{Global}
 use Rattle.std.specs.declared.string.String.{String}
 use Rattle.tmm_model.specs.Standing.{Standing, empty_list}
-use Rattle.tmm_model.specs.Steps.{Step}
+use Rattle.map_engine.specs.Steps.{Step}
 use Rattle.tmm_cli.specs.declared.status.Status.{Status}
 use Rattle.tmm_cli.specs.declared.status.Status.TheVariants.{Clean, SomeRefused, Words, ReadFault, WriteFault, NoMemory, TooLong, SomeMemory}
 use Rattle.tmm_cli.specs.Endings.{Ends}

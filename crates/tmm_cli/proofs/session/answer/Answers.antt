@@ -1,8 +1,10 @@
-use Rattle.std.proofs.Common.{refl, subst, sym}
+use Rattle.std.proofs.Common.{List, refl, subst, sym}
 use Rattle.tmm_model.specs.declared.line.Query.{Query}
 use Rattle.tmm_model.specs.declared.line.Query.TheVariants.{Bounds}
 use Rattle.tmm_model.specs.declared.line.Line.TheVariants.{Question}
-use Rattle.tmm_model.specs.Replies.{BoundsAre}
+use Rattle.tmm_model.specs.declared.walk.WalkStep.{WalkStep}
+use Rattle.tmm_model.specs.Replies.{BoundsAre, PathIs}
+use Rattle.map_engine.specs.Steps.{GivesWalk}
 use Rattle.tmm_cli.specs.Sessions.{TellsMeaning}
 use Rattle.tmm_cli.proofs.Turns.{Tells-reply, TellsMeaning-refused_query}
 use Rattle.tmm_cli.proofs.session.answer.Goals as goal
@@ -17,3 +19,11 @@ pub returns-in-Err-Refused : goal.returns-in-Err-Refused
 returns-in-Err-Refused g c =
     subst (λ (query : Query). TellsMeaning (g.M.MapCore.list c.args.core.now) c.args.line (Question query) c.refuse.result (g.M.MapCore.list c.args.core.now)) (sym c.in-Bounds.is)
     (TellsMeaning-refused_query _ _ (Bounds c.in-Bounds.p c.in-Bounds.q) c.in-Err-Refused.refusal _ (rw c.in-Err-Refused.field-0-is at c.in-Err-Refused.ensures.stops) c.refuse.ensures)
+
+pub returns-in-Ok-path : goal.returns-in-Ok-path
+returns-in-Ok-path g c =
+    let premises = (g.M.MapCore.list c.args.core.now).premises in
+    let gives : GivesWalk premises c.in-Path.p c.in-Path.q c.in-Ok-path.far c.items.result.now =
+    subst (λ (steps : List WalkStep). GivesWalk premises c.in-Path.p c.in-Path.q c.in-Ok-path.far steps) (sym c.items.ensures) c.in-Ok-path.ensures.gives in
+    subst (λ (query : Query). TellsMeaning (g.M.MapCore.list c.args.core.now) c.args.line (Question query) c.reply-in-Ok-path.result (g.M.MapCore.list c.args.core.now)) (sym c.in-Path.is)
+    (Tells-reply _ _ _ c.reply_path.result (PathIs c.in-Ok-path.far c.items.result.now) _ c.reply_path.ensures (c.in-Ok-path.ensures.known, gives, refl) refl c.reply-in-Ok-path.ensures)

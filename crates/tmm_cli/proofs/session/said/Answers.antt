@@ -3,7 +3,7 @@ use Rattle.tmm_model.proofs.LineForms.{one_reading}
 use Rattle.tmm_model.specs.declared.line.Line.{Line}
 use Rattle.tmm_model.specs.declared.line.Line.TheVariants.{Change, Question}
 use Rattle.tmm_model.specs.Lines.{ReadsLine, ReadingIsOne}
-use Rattle.tmm_model.specs.Steps.{Says, is_built}
+use Rattle.map_engine.specs.Steps.{Says, is_built}
 use Rattle.tmm_cli.proofs.Turns.{read_line, stops_reading, no_memory_is_not_silent, Step-stopped, Step-unanswered, Step-meaning, change_is_not_silent, question_is_not_silent}
 use Rattle.tmm_cli.proofs.session.said.Goals as goal
 
