@@ -153,7 +153,10 @@ fn any_lines_are_driven(rt: HostRuntime) -> Result<(), Fail> {
         buffer.reserve(401)?;
         let mut lines = Forgetful { lines: 0 };
         let ended = drive(alloc, &mut lines, &mut buffer, &mut source, &mut sink);
-        assert_eq!(rt; sink.bytes(), b"1 memory\n2 memory\n3 memory\n4 memory\n".as_slice());
+        assert_eq!(rt;
+            sink.bytes(),
+            b"1 memory\n2 memory\n3 memory\n4 memory\n".as_slice()
+        );
         assert_eq!(rt; ended, Status::SomeMemory);
     }
     Ok(())
