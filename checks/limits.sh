@@ -4,10 +4,11 @@ set -u
 cd "$(dirname "$0")/.." || exit 1
 failed=0
 
-# last WANTED WHAT: runs the script on standard input, and compares the last reply.
+# last WANTED WHAT: runs the script on standard input, and compares the last numbered reply. It stands
+# in no pipeline, where what it finds would be lost.
 last() {
   local have
-  have=$(./tmm | tail -n 1)
+  have=$(./tmm | grep -v '^ ' | tail -n 1)
   if [ "$have" != "$1" ]; then
     echo "checks: $2: '$have' instead of '$1'" >&2
     failed=1
@@ -18,15 +19,17 @@ points() { for ((i = 1; i <= $1; i++)); do echo "point p$i"; done; }
 dists() { for ((i = 1; i <= $1; i++)); do echo "dist d$i p1 p1 0 *"; done; }
 chain() { for ((i = 1; i < $1; i++)); do echo "dist d$i p$i p$((i + 1)) $2 $3"; done; }
 
-points 255 | last "255 ok" "256 points with start"
-points 256 | last "256 no limit points" "the 257th point"
-{ points 1; dists 1999; } | last "2000 ok" "2,000 premises"
-{ points 1; dists 2000; } | last "2001 no limit premises" "the 2,001st premise"
-{ points 255; chain 255 1000000000 1000000000; echo "bounds p1 p255"; } |
-  last "510 bounds 254000000000 254000000000" "a chain of the greatest bounds"
-{ points 255; chain 255 -1000000000 -1000000000; } | last "256 no cycle -1000000000" "a chain that ends before start"
-{ points 255; chain 255 3 7; echo "dist x p1 p255 0 761"; } | last "510 no cycle -1" "a chain that is one too short"
-printf '# %0398d' 0 | last "" "a line of 400 bytes"
-printf '# %0399d' 0 | last "1 no limit line" "a line of 401 bytes"
+last "255 ok" "256 points with start" < <(points 255)
+last "256 no limit points" "the 257th point" < <(points 256)
+last "2000 ok" "2,000 premises" < <(points 1; dists 1999)
+last "2001 no limit premises" "the 2,001st premise" < <(points 1; dists 2000)
+last "510 bounds 254000000000 254000000000" "a chain of the greatest bounds" \
+  < <(points 255; chain 255 1000000000 1000000000; echo "bounds p1 p255")
+last "4 no cycle -1000000000" "a point before start" \
+  < <(points 2; echo "dist s start p1 0 0"; chain 2 -1000000000 -1000000000)
+last "510 no cycle -1" "a chain that is one too short" \
+  < <(points 255; chain 255 3 7; echo "dist x p1 p255 0 761")
+last "" "a line of 400 bytes" < <(printf '# %0398d' 0)
+last "1 no limit line" "a line of 401 bytes" < <(printf '# %0399d' 0)
 
 exit $failed
