@@ -13,13 +13,14 @@ use Rattle.tmm_model.specs.Steps.{distance_of}
 use Rattle.tmm_model.specs.Walks.{IsFar, HasDates}
 use Rattle.dist_net.specs.Net.{Net, AreInUse, arcs_of}
 use Rattle.neg_cycle.specs.Steps.{point_at, steps_in_net}
-use Rattle.map_engine.specs.Plain.{Fits, IsNumberOfPoint, ReachesIn, pending_list}
-use Rattle.map_engine.specs.Represents.{IsNumberOf}
+use Rattle.list_net.specs.Fits.{Fits}
+use Rattle.map_engine.specs.Plain.{IsNumberOfPoint, ReachesIn, pending_list}
+use Rattle.list_net.specs.Represents.{IsNumberOf}
 use Rattle.map_engine.specs.Steps.{Reaches}
-use Rattle.map_engine.proofs.Named.{AreDistinct, name_at-is}
-use Rattle.map_engine.proofs.Nets.{ends_used}
-use Rattle.map_engine.proofs.Owned.{IsPath-known}
-use Rattle.map_engine.proofs.Representing.{far-named}
+use Rattle.list_net.proofs.Named.{AreDistinct, name_at-is}
+use Rattle.list_net.proofs.Nets.{ends_used}
+use Rattle.list_net.proofs.Owned.{IsPath-known, own_steps}
+use Rattle.list_net.proofs.Representing.{far-named}
 
 pub none_pending : (pending : Bool) (present : Standing) → pending_list pending present ≡ None → pending ≡ false
 none_pending true present none = absurd (cc (none))
@@ -41,7 +42,7 @@ reaches list net fits a b p q Free steps at_a at_b is = is
 reaches list net fits a b (Declared p) (Declared q) (Finite d) steps at_a at_b is = (
   subst (λ (r : PointName). IsPath (steps_in list.premises) p r steps) (name_at-is net.names b q at_b)
       (subst (λ (r : PointName). IsPath (steps_in list.premises) r (point_at net.names b) steps) (name_at-is net.names a p at_a)
-      (IsPath-known (steps_in_net net) (steps_in list.premises) fits.own (point_at net.names a) (point_at net.names b) steps is.0)),
+      (IsPath-known (steps_in_net net) (steps_in list.premises) (own_steps list.premises net fits.steps) (point_at net.names a) (point_at net.names b) steps is.0)),
   is.1,
 )
 reaches list net fits a b (Declared p) (Derived o) (Finite d) steps at_a at_b is = absurd at_b

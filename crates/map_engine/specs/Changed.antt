@@ -1,9 +1,10 @@
 -- Edits that change no belief.
-use Rattle.std.specs.Prelude.{◌≡◌, []}
+use Rattle.std.specs.Prelude.{◌≡◌, ℕ, List, []}
 use Rattle.tmm_model.specs.declared.changes.Changes.{Changes}
 
-pub record AreNone (changes : Changes) : Type 0 where
-  pub erased : changes.erased.items ≡ []
+-- these premises are retracted, and nothing else changes
+pub record OnlyErases (names : List (List ℕ)) (changes : Changes) : Type 0 where
+  pub erased : changes.erased.items ≡ names
   pub left : changes.left.items ≡ []
   pub entered : changes.entered.items ≡ []
   pub loose : changes.loose.items ≡ []

@@ -1,17 +1,17 @@
 -- What the plain map keeps.
 use Rattle.std.specs.Prelude.{◌≡◌, ℕ, Bool, true, false, List, [], Option, Some, None}
-use Rattle.std.specs.List.{All, Contains}
 use Rattle.tmm_model.specs.declared.bound.Bound.{Bound}
 use Rattle.tmm_model.specs.declared.bound.Bound.TheVariants.{Finite, Free}
 use Rattle.tmm_model.specs.declared.point.QueryPoint.{QueryPoint}
 use Rattle.tmm_model.specs.declared.point.QueryPoint.TheVariants.{Declared, Derived}
 use Rattle.tmm_model.specs.declared.walk.WalkStep.{WalkStep}
-use Rattle.tmm_model.specs.Cycles.{steps_in, sum_of, IsPath}
+use Rattle.tmm_model.specs.Cycles.{sum_of, IsPath}
 use Rattle.tmm_model.specs.Standing.{Standing}
-use Rattle.dist_net.specs.Net.{Net, Nets, arcs_of}
+use Rattle.dist_net.specs.Net.{Net, Nets}
 use Rattle.neg_cycle.specs.Steps.{point_at, steps_in_net}
 use Rattle.premise_list.specs.States.{States}
-use Rattle.map_engine.specs.Represents.{Names, IsNumberOf, StandsFor}
+use Rattle.list_net.specs.Represents.{Names, IsNumberOf}
+use Rattle.list_net.specs.Fits.{Fits, IsSettled}
 
 -- a map as its callers see it: the list of the last commit, and the one that a pending edit leaves
 pub record MapState : Type 0 where
@@ -21,16 +21,6 @@ pub record MapState : Type 0 where
 abbrev pub pending_list : Bool → Standing → Option Standing
 pending_list true present = Some present
 pending_list false present = None
-
--- the network stands for the list, and each of its edges is a constraint of a premise that it names
-pub record Fits (list : Standing) (net : Net) : Type 0 where
-  pub stands : StandsFor list.premises net.names (arcs_of net.edges)
-  pub own : All (Contains (steps_in list.premises)) (steps_in_net net)
-
--- nothing has changed since the last commit
-pub record IsSettled (lists : States) (nets : Nets) : Type 0 where
-  pub list : lists.present ≡ lists.committed
-  pub net : nets.present ≡ nets.committed
 
 -- both states of the list have their network, and where nothing is pending they are one
 pub record IsPlain (lists : States) (nets : Nets) (pending : Bool) : Type 0 where

@@ -1,15 +1,16 @@
 -- What each line of a script is answered, and what it leaves of the standing list.
-use Rattle.std.specs.Prelude.{◌≡◌, ℕ, ◌≤◌, ◌<◌, Bool, true, false, List, [], length, IsTrue, Option, None}
+use Rattle.std.specs.Prelude.{◌≡◌, ℕ, ◌≤◌, ◌<◌, Bool, true, false, List, [], map, length, IsTrue, Option, None}
 use Rattle.std.specs.Option.{option_or}
 use Rattle.tmm_model.specs.declared.bound.Bound.{Bound}
 use Rattle.tmm_model.specs.declared.bound.Bound.TheVariants.{Finite, Free}
 use Rattle.tmm_model.specs.declared.line.Line.{Line}
 use Rattle.tmm_model.specs.declared.line.Line.TheVariants.{Silent, Change, Question}
 use Rattle.tmm_model.specs.declared.line.Query.{Query}
-use Rattle.tmm_model.specs.declared.line.Query.TheVariants.{Bounds, Path}
+use Rattle.tmm_model.specs.declared.line.Query.TheVariants.{Bounds, Path, Dump}
 use Rattle.tmm_model.specs.declared.point.QueryPoint.{QueryPoint}
 use Rattle.tmm_model.specs.declared.point.QueryPoint.TheVariants.{Declared}
 use Rattle.tmm_model.specs.declared.premise.Edit.{Edit}
+use Rattle.tmm_model.specs.declared.premise.Edit.TheVariants.{Add, Erase, Horizon}
 use Rattle.tmm_model.specs.declared.premise.Premise.{Premise}
 use Rattle.tmm_model.specs.declared.refusal.Refusal.{Refusal}
 use Rattle.tmm_model.specs.declared.refusal.Refusal.TheVariants.{LimitLine, Form, Cycle, LimitSize}
@@ -19,10 +20,10 @@ use Rattle.tmm_model.specs.declared.walk.WalkStep.{WalkStep}
 use Rattle.tmm_model.specs.Bounds.{bound_negated}
 use Rattle.tmm_model.specs.Cycles.{steps_in, sum_of, IsPath}
 use Rattle.tmm_model.specs.Edits.{next_list}
-use Rattle.tmm_model.specs.Lines.{ReadsLine}
-use Rattle.tmm_model.specs.Replies.{Reply, Accepted, Refused, BoundsAre, PathIs, text_of, is_refusal}
+use Rattle.tmm_model.specs.Lines.{ReadsLine, shown_text}
+use Rattle.tmm_model.specs.Replies.{Reply, Accepted, Refused, BoundsAre, PathIs, DumpIs, text_of, is_refusal}
 use Rattle.tmm_model.specs.Standing.{Standing}
-use Rattle.tmm_model.specs.Steps.{most_bytes, Accepts, AreChanges, point_cause, distance_of, is_built_edit}
+use Rattle.tmm_model.specs.Steps.{most_bytes, Accepts, AreChanges, point_cause, distance_of, is_built_premise}
 use Rattle.tmm_model.specs.Transcript.{IsCyclic}
 use Rattle.tmm_model.specs.Verdicts.{Cause, list_cause, Tells}
 
@@ -60,9 +61,15 @@ pub record GivesWalk (premises : List Premise) (p q : QueryPoint) (far : Bound) 
 -- ---- lines
 
 -- the lines that the program answers so far
+abbrev pub is_built_edit : Edit → Bool
+is_built_edit (Add premise) = is_built_premise premise
+is_built_edit (Erase name) = true
+is_built_edit (Horizon n) = true
+
 abbrev pub is_built_query : Query → Bool
 is_built_query (Bounds p q) = true
 is_built_query (Path p q) = true
+is_built_query Dump = true
 is_built_query query = false
 
 abbrev pub is_built : Line → Bool
@@ -86,6 +93,7 @@ AnswersMeaning old (Question (Bounds p q)) (BoundsAre lo hi) new =
     × (lo ≡ bound_negated (distance_of old.premises q p)) × (hi ≡ distance_of old.premises p q) × (new ≡ old)
 AnswersMeaning old (Question (Path p q)) (PathIs far steps) new =
     (question_cause old.premises (Path p q) ≡ None) × GivesWalk old.premises p q far steps × (new ≡ old)
+AnswersMeaning old (Question Dump) (DumpIs horizon lines) new = (horizon ≡ old.horizon) × (lines ≡ map shown_text old.premises) × (new ≡ old)
 AnswersMeaning old meaning reply new = ⊥
 
 -- What a line may be answered, and the list that it leaves: a line of more than 400 bytes is refused for its

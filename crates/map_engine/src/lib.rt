@@ -4,7 +4,6 @@
 #![tactic(auto)]
 
 mod map_core;
-mod network;
 mod plain;
 
 pub use map_core::{MapCore, Pending};

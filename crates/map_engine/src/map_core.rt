@@ -3,12 +3,13 @@ ghost use Rattle.std.specs.Prelude.{◌≡◌, None, Some, IfOk, IfErr, OnErr, I
 ghost use Rattle.std.specs.declared.option.Option.{Option};
 ghost use Rattle.tmm_model.specs.Bounds.{bound_negated};
 ghost use Rattle.tmm_model.specs.Lines.{IsWellFormedEdit, IsWellFormedQuery};
-ghost use Rattle.tmm_model.specs.Standing.{Standing};
-ghost use Rattle.tmm_model.specs.Steps.{Accepts, AreChanges, is_built_edit, distance_of};
+ghost use Rattle.tmm_model.specs.Standing.{Standing as StandingList};
+ghost use Rattle.tmm_model.specs.Steps.{Accepts, AreChanges, distance_of};
 ghost use Rattle.tmm_model.specs.Edits.{next_list};
-ghost use Rattle.map_engine.specs.Steps.{GivesWalk, question_cause};
+ghost use Rattle.map_engine.specs.Steps.{GivesWalk, is_built_edit, question_cause};
 ghost use Rattle.map_engine.specs.Stops.{StopsEdit, StopsQuery};
 
+use premise_list::Standing;
 use std::alloc::Global;
 use tmm_model::{Bound, Changes, Edit, Query, QueryPoint, Seq, Stop, WalkStep};
 
@@ -21,10 +22,10 @@ pub struct Pending {
 /// A map of standing premises.
 pub trait MapCore {
     /// The standing list of the last commit.
-    ghost list: { Self → Standing };
+    ghost list: { Self → StandingList };
 
     /// The list that a pending edit leaves.
-    ghost pending: { Self → Option Standing };
+    ghost pending: { Self → Option StandingList };
 
     /// Makes an edit, and leaves it pending. A refusal is the first cause that holds. A refused edit,
     /// or one for which there is no memory, changes nothing.
@@ -41,15 +42,20 @@ pub trait MapCore {
 
     /// Keeps the pending edit. It takes no memory.
     fn commit(&mut self)
-        requires { (next : Standing) × (pending self.old ≡ Some next) }
+        requires { (next : StandingList) × (pending self.old ≡ Some next) }
         ensures list { pending self.old ≡ Some (list self.new) }
         ensures idle { pending self.new ≡ None };
 
     /// Undoes the pending edit. It takes no memory.
     fn rollback(&mut self)
-        requires { (next : Standing) × (pending self.old ≡ Some next) }
+        requires { (next : StandingList) × (pending self.old ≡ Some next) }
         ensures list { list self.new ≡ list self.old }
         ensures idle { pending self.new ≡ None };
+
+    /// The standing list, with its horizon.
+    fn standing(&self) -> &Standing
+        requires { pending self.now ≡ None }
+        ensures { result.now.present ≡ list self.now };
 
     /// The lower and the upper bound on the date of the second point less that of the first.
     fn bounds(&self, alloc: Global, p: &QueryPoint, q: &QueryPoint) -> Result<(Bound, Bound), Stop>

@@ -1,26 +1,25 @@
 // The plain map: distances are kept current, and nothing else is kept.
 ghost use Rattle.std.specs.Prelude.{◌≡◌, [], None, IfOk, IfErr, OnOk, OnErr, true, false};
-ghost use Rattle.tmm_model.specs.Edits.{list_with};
-ghost use Rattle.tmm_model.specs.Lines.{IsWellFormedPremise};
 ghost use Rattle.tmm_model.specs.Standing.{Standing, empty_list, IsConsistent};
-ghost use Rattle.tmm_model.specs.Steps.{point_cause};
+ghost use Rattle.tmm_model.specs.Edits.{next_list};
+ghost use Rattle.tmm_model.specs.Lines.{IsWellFormedEdit};
+ghost use Rattle.tmm_model.specs.Steps.{erased_names, point_cause};
 ghost use Rattle.tmm_model.specs.Verdicts.{list_cause};
 ghost use Rattle.tmm_model.specs.Walks.{IsFar};
 ghost use Rattle.dist_net.specs.Net.{IsInUse, arcs_of};
-ghost use Rattle.map_engine.specs.Plain.{Fits, IsSettled, IsNumberOfPoint, ReachesIn};
+ghost use Rattle.list_net.specs.Fits.{Fits, IsSettled};
+ghost use Rattle.map_engine.specs.Plain.{IsNumberOfPoint, ReachesIn};
 ghost use Rattle.map_engine.specs.Stops.{StopsEdit, StopsPoint};
-ghost use Rattle.map_engine.specs.Changed.{AreNone};
+ghost use Rattle.map_engine.specs.Changed.{OnlyErases};
 
 use crate::map_core::{MapCore, Pending};
-use crate::network::{add_points, add_steps, number_of};
 use dist_net::DistNet;
+use list_net::{add_premise, erase_premise, number_of};
 use neg_cycle::walk;
 use premise_list::Standing;
 use std::alloc::Global;
 use std::marker::Model;
-use tmm_model::{
-    Bound, Changes, Edit, NoMemory, Premise, QueryPoint, Refusal, Seq, Stop, WalkStep,
-};
+use tmm_model::{Bound, Changes, Edit, Name, NoMemory, QueryPoint, Refusal, Seq, Stop, WalkStep};
 
 /// A map that keeps the standing list and its distances. The list and the distances before a pending
 /// edit are kept until it is committed.
@@ -64,16 +63,11 @@ impl MapCore for PlainMap {
         if let Err(refusal) = self.standing.check(edit) {
             return Err(Stop::Refused(refusal));
         }
-        match edit {
-            Edit::Add(premise) => {
-                add_premise(alloc, &mut self.standing, &mut self.net, premise)?;
-                self.pending = true;
-                Ok(Pending {
-                    changes: no_changes(alloc),
-                })
-            }
-            Edit::Erase(_) | Edit::Horizon(_) => unreachable!(),
-        }
+        let erased = make_edit(alloc, &mut self.standing, &mut self.net, edit)?;
+        self.pending = true;
+        Ok(Pending {
+            changes: changes_of(alloc, erased),
+        })
     }
 
     fn commit(&mut self) {
@@ -86,6 +80,10 @@ impl MapCore for PlainMap {
         self.standing.rollback();
         self.net.rollback();
         self.pending = false;
+    }
+
+    fn standing(&self) -> &Standing {
+        &self.standing
     }
 
     fn bounds(
@@ -112,6 +110,44 @@ impl MapCore for PlainMap {
         match walk_between(alloc, &self.net, from, to) {
             Ok(found) => Ok(found),
             Err(_) => Err(Stop::NoMemory),
+        }
+    }
+}
+
+// Makes an edit that names and counts let through, in the list and in its network, and answers the
+// names of the retracted premises. Otherwise than with `Ok` both are as at the last commit.
+fn make_edit(
+    alloc: Global,
+    standing: &mut Standing,
+    net: &mut DistNet,
+    edit: &Edit,
+) -> Result<Seq<Name>, Stop>
+    requires no_cause { list_cause standing.old.present.premises edit.now ≡ None }
+    requires well_formed { IsWellFormedEdit edit.now }
+    requires fits { Fits standing.old.present net.old.present }
+    requires settled { IsSettled standing.old net.old }
+    ensures names { IfOk result (λ names. names.items ≡ erased_names standing.old.present edit.now) }
+    ensures list { OnOk result (standing.new ≡ record standing.old { present = next_list standing.old.present edit.now }) }
+    ensures fits { OnOk result (Fits standing.new.present net.new.present) }
+    ensures dates { OnOk result (IsConsistent (next_list standing.old.present edit.now).premises) }
+    ensures stops { IfErr result (StopsEdit standing.old.present edit.now) }
+    ensures list_kept { OnErr result (standing.new ≡ standing.old) }
+    ensures net_kept { OnErr result (net.new.present ≡ net.old.present) }
+    ensures committed { net.new.committed ≡ net.old.committed }
+{
+    match edit {
+        Edit::Add(premise) => match add_premise(alloc, standing, net, premise) {
+            Ok(()) => Ok(Seq::make(alloc)),
+            Err(stop) => Err(stop),
+        },
+        Edit::Erase(name) => match erase_premise(alloc, standing, net, *name) {
+            Ok(names) => Ok(names),
+            Err(NoMemory) => Err(Stop::NoMemory),
+        },
+        Edit::Horizon(n) => {
+            let _ = net.edges();
+            standing.set_horizon(*n);
+            Ok(Seq::make(alloc))
         }
     }
 }
@@ -158,45 +194,13 @@ fn resolve(
     }
 }
 
-// Adds a premise to the list and its points and constraints to the network. Otherwise both are as at
-// the last commit.
-fn add_premise(
-    alloc: Global,
-    standing: &mut Standing,
-    net: &mut DistNet,
-    premise: &Premise,
-) -> Result<(), Stop>
-    requires no_cause { list_cause standing.old.present.premises (Edit.Add premise.now) ≡ None }
-    requires well_formed { IsWellFormedPremise premise.now }
-    requires fits { Fits standing.old.present net.old.present }
-    requires settled { IsSettled standing.old net.old }
-    ensures list { OnOk result (standing.new ≡ record standing.old { present = list_with standing.old.present premise.now }) }
-    ensures fits { OnOk result (Fits standing.new.present net.new.present) }
-    ensures dates { OnOk result (IsConsistent (list_with standing.old.present premise.now).premises) }
-    ensures stops { IfErr result (StopsEdit standing.old.present (Edit.Add premise.now)) }
-    ensures list_kept { OnErr result (standing.new ≡ standing.old) }
-    ensures net_kept { OnErr result (net.new.present ≡ net.old.present) }
-    ensures committed { net.new.committed ≡ net.old.committed }
-{
-    let _ = net.edges();
-    add_points(net, premise);
-    let _ = net.edges();
-    if let Err(stop) = add_steps(alloc, net, premise) {
-        net.rollback();
-        return Err(stop);
-    }
-    if standing.add(alloc, premise).is_err() {
-        net.rollback();
-        return Err(Stop::NoMemory);
-    }
-    Ok(())
-}
-
-fn no_changes(alloc: Global) -> Changes
-    ensures { AreNone result }
+// What an edit changes that retracts these premises, none where it retracts none. Nothing is believed
+// yet.
+fn changes_of(alloc: Global, erased: Seq<Name>) -> Changes
+    ensures { OnlyErases erased.items result }
 {
     Changes {
-        erased: Seq::make(alloc),
+        erased,
         left: Seq::make(alloc),
         entered: Seq::make(alloc),
         loose: Seq::make(alloc),

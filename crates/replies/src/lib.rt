@@ -2,16 +2,18 @@
 //!
 //! Each call makes the whole reply in one buffer, and ensures that its bytes are the text which the
 //! definitions of `tmm_model` give for that answer under the line's number. It stands on `tmm_model`,
-//! whose types it prints.
+//! whose types it prints, and for `dump` on `premise_list` and `tmm_script`.
 #![tactic(auto)]
 
 mod details;
+mod dump;
 mod edits;
 mod memory;
 mod questions;
 mod reasons;
 mod words;
 
+pub use dump::reply_dump;
 pub use edits::{reply_no, reply_ok};
 pub use memory::memory_reply;
 pub use questions::{

@@ -1,4 +1,5 @@
 use super::*;
+use premise_list::Standing;
 use std::alloc::Global;
 use std::test::Fail;
 use tmm_model::{
@@ -162,6 +163,16 @@ fn reasons_are_replied(rt: HostRuntime) -> Result<(), Fail> {
     assert!(rt;
         reply_why(alloc, 8, &lines)?.items()
             == b"8 why\n  premise k\n  order k e -10\n    z hi s k 0\n  e/r by r on e with k\n".as_slice()
+    );
+    Ok(())
+}
+
+#[test]
+fn dumps_are_replied(rt: HostRuntime) -> Result<(), Fail> {
+    let alloc = rt.alloc();
+    let standing = Standing::make(alloc);
+    assert!(rt;
+        reply_dump(alloc, 7, &standing)?.items() == b"7 dump 0\n  horizon 1000\n".as_slice()
     );
     Ok(())
 }

@@ -3,14 +3,14 @@ ghost use Rattle.std.specs.Prelude.{◌≡◌, ◌+◌, ◌-◌, ◌^◌, ◌<�
 ghost use Rattle.tmm_model.specs.Lines.{IsWellFormedEdit, IsWellFormedQuery};
 ghost use Rattle.tmm_model.specs.Replies.{Refused};
 ghost use Rattle.tmm_model.specs.Standing.{Standing};
-ghost use Rattle.tmm_model.specs.Steps.{is_built_edit, is_built_premise};
-ghost use Rattle.map_engine.specs.Steps.{is_built, is_built_query, Step};
+ghost use Rattle.tmm_model.specs.Steps.{is_built_premise};
+ghost use Rattle.map_engine.specs.Steps.{is_built, is_built_edit, is_built_query, Step};
 ghost use Rattle.tmm_cli.specs.Sessions.{Tells, TellsMeaning};
 ghost use Rattle.tmm_cli.specs.LongLines.{Step-long};
 
 use crate::lines::Lines;
 use map_engine::MapCore;
-use replies::{reply_bounds, reply_no, reply_ok, reply_path};
+use replies::{reply_bounds, reply_dump, reply_no, reply_ok, reply_path};
 use std::alloc::Global;
 use tmm_model::{Edit, Line, NoMemory, Premise, Query, Refusal, Seq, Stop, Turn};
 use tmm_script::{LONGEST_LINE, is_silent, parse_line};
@@ -85,9 +85,15 @@ fn is_answered(meaning: &Line) -> bool
 {
     match meaning {
         Line::Silent => true,
-        Line::Change(Edit::Add(Premise::Point { .. } | Premise::Dist { .. })) => true,
-        Line::Change(_) => false,
-        Line::Question(query) => matches!(query, Query::Bounds(_, _) | Query::Path(_, _)),
+        Line::Change(edit) => matches!(
+            edit,
+            Edit::Add(Premise::Point { .. } | Premise::Dist { .. })
+                | Edit::Erase(_)
+                | Edit::Horizon(_)
+        ),
+        Line::Question(query) => {
+            matches!(query, Query::Bounds(_, _) | Query::Path(_, _) | Query::Dump)
+        }
     }
 }
 
@@ -153,6 +159,7 @@ pub fn answer<M: MapCore>(alloc: Global, line: u64, query: &Query, core: &M) -> 
             Err(Stop::Refused(refusal)) => refuse(alloc, line, &refusal),
             Err(Stop::NoMemory) => Turn::Memory,
         },
+        Query::Dump => reply(reply_dump(alloc, line, core.standing()), false),
         _ => unreachable!(),
     }
 }

@@ -86,6 +86,19 @@ fn refusals_have_their_causes(rt: HostRuntime) -> Result<(), Fail> {
     )
 }
 
+// What mentions an erased premise is erased too, and a dump tells what stands.
+#[test]
+fn premises_are_erased(rt: HostRuntime) -> Result<(), Fail> {
+    expect(
+        &rt,
+        rt.alloc(),
+        b"point a\npoint b\ndist d a b 3 7\ndist e a b 4 9\nhorizon 50\ndump\nbounds a b\nerase d\nbounds a b\nerase a\ndump\nbounds start b\nerase a\nerase start\npoint a\ndist d a b 1 2\ndist f a b 1 2\nerase f\nbounds a b\nhorizon 0\nerase b\ndump\nhorizon 100001\nerase\ndump x\n",
+        4096,
+        b"1 ok\n2 ok\n3 ok\n4 ok\n5 ok\n6 dump 4\n  horizon 50\n  point a\n  point b\n  dist d a b 3 7\n  dist e a b 4 9\n7 bounds 4 7\n8 ok\n  erased d\n9 bounds 4 9\n10 ok\n  erased a\n  erased e\n11 dump 1\n  horizon 50\n  point b\n12 bounds 0 *\n13 no unknown a\n14 no unknown start\n15 ok\n16 ok\n17 ok\n18 ok\n  erased f\n19 bounds 1 2\n20 ok\n21 ok\n  erased b\n  erased d\n22 dump 1\n  horizon 0\n  point a\n23 no form\n24 no form\n25 no form\n",
+        Status::SomeRefused,
+    )
+}
+
 #[test]
 fn faults_end_the_run(rt: HostRuntime) -> Result<(), Fail> {
     let alloc = rt.alloc();
