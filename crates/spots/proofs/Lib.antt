@@ -1,0 +1,7 @@
+pub mod Links
+pub mod Nodes
+pub mod Rows
+pub mod Seen
+pub mod Laws
+pub mod Believed
+pub mod Held

@@ -1,0 +1,4 @@
+pub mod Forest
+pub mod Spots
+pub mod Seen
+pub mod Laws
