@@ -1,0 +1,11 @@
+pub mod Sums
+pub mod Apart
+pub mod InUse
+pub mod ClassLists
+pub mod NodeLists
+pub mod Entering
+pub mod Roots
+pub mod Once
+pub mod Words
+pub mod Children
+pub mod Lookups

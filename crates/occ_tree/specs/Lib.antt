@@ -1,0 +1,5 @@
+pub mod Light
+pub mod Classes
+pub mod Nodes
+pub mod TreeInside
+pub mod Rows

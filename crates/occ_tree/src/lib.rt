@@ -1,0 +1,21 @@
+//! Occurrences as nodes of a tree: declared events, tokens and spans, and below each event what rules
+//! lead to from it. It stands on `spots`.
+//!
+//! A `Tree` is seen as the node of each number. With a network of distances it answers the tightest
+//! distance of two spots, the earliest date of a node and the order of nodes; `Order` is that order
+//! for `clipping`. Where the nodes and the network are those of a standing list, these are the
+//! distances, dates and order of the list's occurrences.
+#![tactic(auto)]
+
+mod classes;
+mod links;
+mod node;
+mod order;
+mod tree;
+
+pub use node::NodeRow;
+pub use order::Order;
+pub use tree::Tree;
+
+#[cfg(test)]
+mod tests;

@@ -1,0 +1,174 @@
+// What a node keeps, and what is told of it.
+ghost use Rattle.std.specs.Prelude.{◌≡◌, ◌<◌, [], ◌∷◌, ◌++◌, length, IfOk, OnOk};
+ghost use Rattle.slab.specs.Slab.{ContainsKey};
+ghost use Rattle.std.specs.Option.{option_map};
+ghost use Rattle.spots.specs.declared.spot.Spot.TheVariants.{Declared};
+ghost use Rattle.spots.specs.Forest.{last_name as last_name_of, HasClass};
+ghost use Rattle.spots.specs.Spots.{token_row};
+ghost use Rattle.occ_tree.specs.Light.{IsLight};
+ghost use Rattle.occ_tree.specs.Nodes.{member_of, IsSummed, IsEffect, Rewrites, HasChildRoom};
+
+use crate::links::plus;
+use slab::Slab;
+use spots::{Link, Spot};
+use std::alloc::Global;
+use tmm_model::{Bound, Name, NoMemory, Shape, TokenRow};
+
+/// What is told of a node.
+#[derive(Clone, Copy)]
+pub struct NodeRow {
+    /// The event whose effect it is, none for a root.
+    pub parent: Option<u32>,
+    /// The name of the root, or of the last rule.
+    pub name: Name,
+    /// The node of its root.
+    pub root: u32,
+    /// The number of rules.
+    pub rules: u32,
+    /// The sum of their least delays, in whole time units.
+    pub low: i64,
+    /// The sum of their most delays, none where one of them has no bound.
+    pub high: Bound,
+    /// The number of the root's point.
+    pub begin: u16,
+    /// The number of a span's end.
+    pub end: Option<u16>,
+    /// The kind of an event, or the fact of a token.
+    pub what: Name,
+    /// The class of a token's fact.
+    pub class: Option<Name>,
+    pub shape: Shape,
+}
+
+/// An occurrence, and where it stands in the tree.
+#[derive(Drop)]
+pub(crate) struct Node {
+    pub root: Name,
+    pub links: Vec<Link>,
+    pub begin: u16,
+    pub end: Option<u16>,
+    pub what: Name,
+    pub class: Option<Name>,
+    pub shape: Shape,
+    /// The occurrence as it is printed: its root and its rules, parted by `/`.
+    pub word: Vec<u8>,
+    /// The sum of the least delays.
+    pub low: i64,
+    /// The sum of the most delays.
+    pub high: Bound,
+    pub root_node: u32,
+    pub parent: Option<u32>,
+    pub children: Vec<u32>,
+}
+
+// The last of the names of a root and its rules.
+pub(crate) fn last_name(root: Name, links: &[Link]) -> Name
+    ensures { result ≡ last_name_of root links.now }
+{
+    match links.last() {
+        Some(link) => link.rule,
+        None => root,
+    }
+}
+
+// The token that a node is, none for an event.
+pub(crate) fn token_of(x: u32, node: &Node) -> Option<TokenRow<Spot>>
+    ensures { result ≡ token_row x (member_of node.now) }
+{
+    match node.class {
+        Some(class) => Some(TokenRow {
+            spot: Spot::Node(x),
+            end: end_of(node),
+            fact: node.what,
+            class,
+        }),
+        None => None,
+    }
+}
+
+// The end of a span.
+fn end_of(node: &Node) -> Option<Spot>
+    ensures { result ≡ option_map Declared node.now.end }
+{
+    match node.end {
+        Some(end) => Some(Spot::Declared(end)),
+        None => None,
+    }
+}
+
+// The effect of a rule on an event.
+pub(crate) fn effect(
+    alloc: Global,
+    event: &Node,
+    parent: u32,
+    link: &Link,
+    what: Name,
+    class: Option<Name>,
+    shape: Shape,
+) -> Result<Node, NoMemory>
+    requires own { IsSummed event.now }
+    requires room { length event.now.links.items < 100000 }
+    requires light { IsLight link.now }
+    requires class { HasClass class shape }
+    ensures { IfOk result (IsEffect event.now parent link.now what class shape) }
+{
+    let links = longer(alloc, event.links.as_slice(), link)?;
+    let word = longer_word(alloc, event.word.as_slice(), &link.rule)?;
+    Ok(Node {
+        root: event.root,
+        links,
+        begin: event.begin,
+        end: None,
+        what,
+        class,
+        shape,
+        word,
+        low: event.low + link.lo,
+        high: plus(event.high, link.hi),
+        root_node: event.root_node,
+        parent: Some(parent),
+        children: Vec::new(alloc),
+    })
+}
+
+// The rules and one more.
+fn longer(alloc: Global, links: &[Link], link: &Link) -> Result<Vec<Link>, NoMemory>
+    ensures { IfOk result (λ more. more.items ≡ links.now ++ link.now ∷ []) }
+{
+    let mut more = Vec::from_slice(alloc, links)?;
+    more.reserve(1)?;
+    more.push_reserved(*link);
+    Ok(more)
+}
+
+// The word with a rule behind it.
+fn longer_word(alloc: Global, word: &[u8], rule: &Name) -> Result<Vec<u8>, NoMemory>
+    ensures { IfOk result (λ more. more.items ≡ word.now ++ 47 ∷ rule.now) }
+{
+    let mut more = Vec::from_slice(alloc, word)?;
+    more.reserve(1)?;
+    more.push_reserved(b'/');
+    more.extend_from_slice(rule.bytes())?;
+    Ok(more)
+}
+
+// Room for one more child of a node.
+pub(crate) fn reserve_child(nodes: &mut Slab<Node>, parent: u32) -> Result<(), NoMemory>
+    requires { ContainsKey nodes.old parent }
+    ensures kept { Rewrites nodes.old nodes.new parent [] }
+    ensures room { OnOk result (HasChildRoom nodes.new parent) }
+{
+    let node = &mut nodes[parent as usize];
+    node.children.reserve(1)?;
+    Ok(())
+}
+
+// Adds a child to those of a node.
+pub(crate) fn push_child(nodes: &mut Slab<Node>, parent: u32, x: u32)
+    requires live { ContainsKey nodes.old parent }
+    requires room { HasChildRoom nodes.old parent }
+    ensures { Rewrites nodes.old nodes.new parent (x ∷ []) }
+{
+    let node = &mut nodes[parent as usize];
+    node.children.push_reserved(x);
+}

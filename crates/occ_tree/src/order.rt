@@ -1,0 +1,143 @@
+// The order of the nodes of a tree, with the distances of a network.
+ghost use Rattle.std.specs.Prelude.{◌≡◌, ◌≢◌};
+ghost use Rattle.dist_net.specs.Net.{IsInUse};
+ghost use Rattle.spots.specs.Forest.{IsLive};
+ghost use Rattle.spots.specs.Seen.{HasList};
+ghost use Rattle.spots.specs.Spots.{IsSpot, base_of, links_of, links_low, links_high, spot_distance, node_early, node_cmp, spot_cmp};
+ghost use Rattle.tmm_model.specs.Bounds.{IfFinite, IsWithin};
+ghost use Rattle.occ_tree.specs.Light.{AreLight};
+ghost use Rattle.occ_tree.specs.Nodes.{IsThere};
+
+use crate::links::{apart, less, plus};
+use crate::tree::Tree;
+use dist_net::DistNet;
+use spots::{Link, Spot};
+use std::cmp::Ordering;
+use tmm_model::{Bound, Sure};
+
+impl Tree {
+    /// The tightest upper bound on the date of the second spot less that of the first, in whole time units.
+    pub fn far(&self, net: &DistNet, from: Spot, to: Spot) -> Bound
+        requires list { HasList net.now.present self.now }
+        requires from { IsSpot net.now.present.names self.now from }
+        requires to { IsSpot net.now.present.names self.now to }
+        ensures exact { result ≡ spot_distance net.now.present self.now from to }
+        ensures small { IfFinite result (IsWithin 1000000000000000) }
+    {
+        let start = self.place(from);
+        let end = self.place(to);
+        if start.base == end.base {
+            apart(start.links, end.links)
+        } else {
+            less(plus(net.far(start.base, end.base), end.high), start.low)
+        }
+    }
+
+    /// The earliest date of a node, in whole time units.
+    pub fn early(&self, net: &DistNet, x: u32) -> i64
+        requires list { HasList net.now.present self.now }
+        requires live { IsLive self.now x }
+        ensures { result ≡ node_early net.now.present self.now x }
+    {
+        match self.far(net, Spot::Node(x), Spot::Declared(0)) {
+            Bound::Finite(far) => -far,
+            Bound::Free => 0,
+        }
+    }
+
+    /// The order of two nodes: by their earliest dates, and then by the bytes of their words.
+    pub fn cmp_order(&self, net: &DistNet, x: u32, y: u32) -> Ordering
+        requires list { HasList net.now.present self.now }
+        requires x_live { IsLive self.now x }
+        requires y_live { IsLive self.now y }
+        ensures { result ≡ node_cmp net.now.present self.now x y }
+    {
+        match self.early(net, x).cmp(&self.early(net, y)) {
+            Ordering::Equal => self.word(x).cmp(self.word(y)),
+            other => other,
+        }
+    }
+
+    // Where a spot is.
+    fn place(&self, spot: Spot) -> Place<'_>
+        requires { IsThere self.now spot }
+        ensures base { result.base ≡ base_of self.now spot }
+        ensures links { result.links.now ≡ links_of self.now spot }
+        ensures low { result.low ≡ links_low (links_of self.now spot) }
+        ensures high { result.high ≡ links_high (links_of self.now spot) }
+        ensures light { AreLight (links_of self.now spot) }
+    {
+        match spot {
+            Spot::Declared(base) => Place {
+                base,
+                links: &[],
+                low: 0,
+                high: Bound::Finite(0),
+            },
+            Spot::Node(x) => {
+                let node = self.node(x);
+                Place {
+                    base: node.begin,
+                    links: node.links.as_slice(),
+                    low: node.low,
+                    high: node.high,
+                }
+            }
+        }
+    }
+}
+
+// Where a spot is: the declared point from which rules lead to it, the rules, and their sums.
+#[derive(Clone, Copy)]
+struct Place<'a> {
+    base: u16,
+    links: &'a [Link],
+    low: i64,
+    high: Bound,
+}
+
+/// The spots of a tree in a network, with their tightest distances and their order: nodes by their
+/// earliest dates and then by their words, and behind them declared points by their numbers.
+#[derive(Drop)]
+pub struct Order<'a> {
+    pub tree: &'a Tree,
+    pub net: &'a DistNet,
+}
+
+impl Sure for Order<'_> {
+    ghost use Rattle.spots.proofs.Laws.{itself, triangle, ordered};
+
+    type Spot = Spot;
+
+    ghost live = { λ o p. HasList o.net.now.present o.tree.now × IsSpot o.net.now.present.names o.tree.now p };
+
+    ghost distance = { λ o p q. spot_distance o.net.now.present o.tree.now p q };
+
+    ghost order = { λ o p q. spot_cmp o.net.now.present o.tree.now p q };
+
+    fn at_most(&self, from: Spot, to: Spot, w: i64) -> bool {
+        match self.tree.far(self.net, from, to) {
+            Bound::Finite(far) => far <= w,
+            Bound::Free => false,
+        }
+    }
+
+    fn rank(&self, a: Spot, b: Spot) -> Ordering {
+        match a {
+            Spot::Node(x) => match b {
+                Spot::Node(y) => self.tree.cmp_order(self.net, x, y),
+                Spot::Declared(_) => Ordering::Less,
+            },
+            Spot::Declared(p) => match b {
+                Spot::Node(_) => Ordering::Greater,
+                Spot::Declared(q) => p.cmp(&q),
+            },
+        }
+    }
+
+    ghost itself = { λ o p at. itself o.net.now.present o.tree.now p at };
+
+    ghost triangle = { λ o p q r at_p at_q at_r. triangle o.net.now.present o.tree.now p q r at_p at_q at_r };
+
+    ghost ordered = { λ o. ordered o.net.now.present o.tree.now };
+}

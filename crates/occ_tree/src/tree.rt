@@ -1,0 +1,382 @@
+// The tree of occurrences.
+ghost use Rattle.std.specs.Prelude.{◌≡◌, ◌≢◌, ℕ, List, map, slice_get, IfSome, IfNone, ◌<◌, ◌≤◌, pos, ◌≤ℤ◌, ◌++◌, length, None, Some, IfOk, OnOk, OnErr, IsSome, IsTrue, ◌↔◌};
+ghost use Rattle.tmm_model.specs.Lines.{IsNumber, IsBound, IsRange};
+ghost use Rattle.tmm_model.specs.Moments.{At, After, moment_of, printed};
+ghost use Rattle.tmm_model.specs.declared.point.PointName.TheVariants.{Begin};
+ghost use Rattle.std.specs.List.{Contains};
+ghost use Rattle.spots.specs.Forest.{Member, member, IsLive, IsOnce, moment_at, Enters, root_member, child_member, IsNoRoot, HasClass, HasEnd, IsTrigger, IsFound, last_name as last_name_of};
+ghost use Rattle.occ_tree.specs.Rows.{IsRowOf, IsFirstChild, IsNextChild};
+ghost use Rattle.spots.specs.Spots.{AreTokens, token_row};
+ghost use Rattle.occ_tree.specs.Classes.{rows_in, TakesToken};
+ghost use Rattle.slab.specs.Slab.{get, Updates};
+ghost use Rattle.occ_tree.specs.Nodes.{member_of, IsKept, IsChild, AreChildren, IsWayTo};
+ghost use Rattle.tmm_model.specs.declared.bound.Bound.TheVariants.{Finite};
+
+use crate::classes::{ClassRows, add_row, rows_of};
+use crate::node::{Node, NodeRow, effect, last_name, push_child, reserve_child, token_of};
+use slab::Slab;
+use spots::{Link, Spot};
+use std::alloc::Global;
+use std::marker::Model;
+use tmm_model::{Bound, Name, NoMemory, Occ, Seq, Shape, TokenRow};
+
+/// Occurrences under numbers.
+#[derive(Drop)]
+pub struct Tree {
+    nodes: Slab<Node>,
+    // the nodes without a parent
+    roots: Vec<u32>,
+    // the tokens of each class
+    classes: Vec<ClassRows>,
+    // every number of a node is below it
+    limit: u32,
+}
+
+impl Model for Tree {
+    ghost use Rattle.spots.specs.Forest.{Forest};
+
+    ghost Value = { Forest };
+
+    ghost use Rattle.occ_tree.specs.TreeInside.{forest_of, IsTree};
+
+    ghost view = { forest_of };
+
+    ghost invariant = { IsTree };
+}
+
+impl Tree {
+    /// The tree without nodes. It takes no memory.
+    pub fn make(alloc: Global) -> Tree
+        ensures { (x : ℕ) → member result x ≡ None }
+    {
+        Tree {
+            nodes: Slab::new(alloc),
+            roots: Vec::new(alloc),
+            classes: Vec::new(alloc),
+            limit: 0,
+        }
+    }
+
+    /// Adds a declared event, token or span, and returns its number. Without memory nothing has changed.
+    pub fn insert_root(
+        &mut self,
+        alloc: Global,
+        name: Name,
+        begin: u16,
+        end: Option<u16>,
+        what: Name,
+        class: Option<Name>,
+        shape: Shape,
+    ) -> Result<u32, NoMemory>
+        requires new { IsNoRoot self.old name }
+        requires class { HasClass class shape }
+        requires span { HasEnd end shape }
+        ensures ok { IfOk result (λ x. Enters self.old self.new x (root_member name begin end what class shape)) }
+        ensures err { OnErr result (self.new ≡ self.old) }
+    {
+        let x = next_number(&self.nodes)?;
+        self.roots.reserve(1)?;
+        let node = Node {
+            root: name,
+            links: Vec::new(alloc),
+            begin,
+            end,
+            what,
+            class,
+            shape,
+            word: copied(alloc, name.bytes())?,
+            low: 0,
+            high: Bound::Finite(0),
+            root_node: x,
+            parent: None,
+            children: Vec::new(alloc),
+        };
+        enter(alloc, &mut self.nodes, &mut self.classes, x, node)?;
+        self.roots.push_reserved(x);
+        self.limit = self.limit.max(x + 1);
+        Ok(x)
+    }
+
+    /// Adds what a rule leads to from an event. The delays are in whole time units. Without memory
+    /// nothing has changed.
+    pub fn insert_child(
+        &mut self,
+        alloc: Global,
+        parent: u32,
+        rule: Name,
+        lo: i64,
+        hi: Bound,
+        what: Name,
+        class: Option<Name>,
+        shape: Shape,
+    ) -> Result<u32, NoMemory>
+        requires trigger { (m : Member) × (member self.old parent ≡ Some m) × IsTrigger self.old m rule }
+        requires delay { IsNumber lo × IsBound hi × (pos 1 ≤ℤ lo) × IsRange (Finite lo) hi }
+        requires class { HasClass class shape }
+        requires no_span { shape ≢ Shape.Span }
+        ensures ok { IfOk result (λ x. (m : Member) → member self.old parent ≡ Some m → Enters self.old self.new x (child_member m (record { rule = rule; lo = lo; hi = hi }) what class shape)) }
+        ensures err { OnErr result (self.new ≡ self.old) }
+    {
+        let link = Link { rule, lo, hi };
+        let x = next_number(&self.nodes)?;
+        let event = &self.nodes[parent as usize];
+        let node = effect(alloc, event, parent, &link, what, class, shape)?;
+        reserve_child(&mut self.nodes, parent)?;
+        enter(alloc, &mut self.nodes, &mut self.classes, x, node)?;
+        push_child(&mut self.nodes, parent, x);
+        self.limit = self.limit.max(x + 1);
+        Ok(x)
+    }
+
+    /// The occurrence of a node.
+    pub fn occ_of(&self, alloc: Global, x: u32) -> Result<Occ, NoMemory>
+        requires { IsLive self.now x }
+        ensures { IfOk result (λ occ. moment_of occ ≡ moment_at self.now x) }
+    {
+        let node = self.node(x);
+        let rules = rules_of(alloc, node.links.as_slice())?;
+        Ok(Occ {
+            root: node.root,
+            rules,
+        })
+    }
+
+    /// Appends the word of a node. Without memory a prefix of it may stand.
+    pub fn name_into(&self, _alloc: Global, x: u32, out: &mut Seq<u8>) -> Result<(), NoMemory>
+        requires { IsLive self.now x }
+        ensures { OnOk result (out.new.items ≡ out.old.items ++ printed (moment_at self.now x)) }
+    {
+        out.extend(self.word(x))
+    }
+
+    /// Every number of a node is below it.
+    pub fn limit(&self) -> u32
+        ensures { (x : ℕ) → IsLive self.now x → x < result }
+    {
+        self.limit
+    }
+
+    /// Whether the number is of a node.
+    pub fn is_live(&self, x: u32) -> bool
+        ensures { IsTrue result ↔ IsLive self.now x }
+    {
+        self.nodes.contains(x as usize)
+    }
+
+    /// What there is to tell of a node.
+    pub fn row(&self, x: u32) -> NodeRow
+        requires { IsLive self.now x }
+        ensures { IsRowOf self.now x result }
+    {
+        let node = self.node(x);
+        NodeRow {
+            parent: node.parent,
+            name: last_name(node.root, node.links.as_slice()),
+            root: node.root_node,
+            rules: node.links.len() as u32,
+            low: node.low,
+            high: node.high,
+            begin: node.begin,
+            end: node.end,
+            what: node.what,
+            class: node.class,
+            shape: node.shape,
+        }
+    }
+
+    /// The tokens of a class, each once.
+    pub fn tokens(&self, class: Name) -> &[TokenRow<Spot>]
+        ensures rows { AreTokens self.now class result.now }
+        ensures once { IsOnce self.now }
+    {
+        rows_of(self.classes.as_slice(), class)
+    }
+
+    /// The number of an occurrence, none exactly where no node is of it.
+    pub fn find(&self, occ: &Occ) -> Option<u32>
+        ensures { IsFound self.now (moment_of occ.now) result }
+    {
+        let mut x = self.root_of(&occ.root)?;
+        for rule in occ.rules.items() {
+            x = self.effect_of(x, rule)?;
+        }
+        Some(x)
+    }
+
+    /// The number here of what is node `x` of another tree, none exactly where no node is of it.
+    pub fn find_same(&self, other: &Tree, x: u32) -> Option<u32>
+        requires { IsLive other.now x }
+        ensures { IsFound self.now (moment_at other.now x) result }
+    {
+        let node = other.node(x);
+        let mut same = self.root_of(&node.root)?;
+        for link in &node.links {
+            same = self.effect_of(same, &link.rule)?;
+        }
+        Some(same)
+    }
+
+    /// What rules lead to from a node, in the order in which it came.
+    pub fn children(&self, x: u32) -> &[u32]
+        requires { IsLive self.now x }
+        ensures { AreChildren self.now x result.now }
+    {
+        self.node(x).children.as_slice()
+    }
+
+    /// The first of the children of a node, none exactly where it has none.
+    pub fn first_child(&self, x: u32) -> Option<u32>
+        requires { IsLive self.now x }
+        ensures { IsFirstChild self.now x result }
+    {
+        self.children(x).first().copied()
+    }
+
+    /// The child of the same parent that came after this one, none exactly for the last.
+    pub fn next_child(&self, x: u32) -> Option<u32>
+        requires { (parent : ℕ) × IsChild self.now parent x }
+        ensures { IsNextChild self.now x result }
+    {
+        let parent = self.node(x).parent?;
+        let siblings = self.children(parent);
+        let place = place_in(siblings, x)?;
+        number_at(siblings, place + 1)
+    }
+
+    // The node of a root.
+    fn root_of(&self, name: &Name) -> Option<u32>
+        ensures { IsWayTo self.now (At (Begin name.now)) result }
+    {
+        for x in &self.roots {
+            if self.nodes[*x as usize].root == *name {
+                return Some(*x);
+            }
+        }
+        None
+    }
+
+    // The node of what a rule leads to from a node.
+    fn effect_of(&self, x: u32, rule: &Name) -> Option<u32>
+        requires { IsLive self.now x }
+        ensures { IsWayTo self.now (After (moment_at self.now x) rule.now) result }
+    {
+        for child in &self.nodes[x as usize].children {
+            if is_by(&self.nodes[*child as usize], rule) {
+                return Some(*child);
+            }
+        }
+        None
+    }
+
+    // The node of a number.
+    pub(crate) fn node(&self, x: u32) -> &Node
+        requires { IsLive self.now x }
+        ensures { IsKept self.now x result.now }
+    {
+        &self.nodes[x as usize]
+    }
+
+    /// The word of a node, as it is printed.
+    pub fn word(&self, x: u32) -> &[u8]
+        requires { IsLive self.now x }
+        ensures { result.now ≡ printed (moment_at self.now x) }
+    {
+        self.node(x).word.as_slice()
+    }
+}
+
+// Whether the last rule that leads to a node is this one.
+fn is_by(node: &Node, rule: &Name) -> bool
+    ensures { IsTrue result ↔ (last_name_of node.now.root node.now.links.items ≡ rule.now) }
+{
+    last_name(node.root, node.links.as_slice()) == *rule
+}
+
+// The place of a number in a list.
+fn place_in(numbers: &[u32], x: u32) -> Option<usize>
+    ensures some { IfSome result (λ k. slice_get numbers.now k ≡ Some x) }
+    ensures none { IfNone result (Contains numbers.now x → ⊥) }
+{
+    for (k, y) in numbers.iter().enumerate() {
+        if *y == x {
+            return Some(k);
+        }
+    }
+    None
+}
+
+// The number at a place of a list.
+fn number_at(numbers: &[u32], k: usize) -> Option<u32>
+    ensures { result ≡ slice_get numbers.now k }
+{
+    numbers.get(k).copied()
+}
+
+// The number of the next node, as long as it fits.
+fn next_number(nodes: &Slab<Node>) -> Result<u32, NoMemory>
+    ensures { IfOk result (λ x. (x ≡ nodes.now.vacant_key) × (x < 4294967295)) }
+{
+    let key = nodes.vacant_key();
+    if key < u32::MAX as usize {
+        Ok(key as u32)
+    } else {
+        Err(NoMemory)
+    }
+}
+
+// Puts a node under its number, and its token to those of its class. Without memory nothing has changed.
+fn enter(
+    alloc: Global,
+    nodes: &mut Slab<Node>,
+    classes: &mut Vec<ClassRows>,
+    x: u32,
+    node: Node,
+) -> Result<(), NoMemory>
+    requires { x ≡ nodes.old.vacant_key }
+    ensures ok { OnOk result (TakesToken classes.old.items classes.new.items (token_row x (member_of node))) }
+    ensures free { OnOk result (get nodes.old x ≡ None) }
+    ensures entered { OnOk result (Updates nodes.old nodes.new x (Some node)) }
+    ensures err { OnErr result (nodes.new.slots ≡ nodes.old.slots) }
+    ensures err_tokens { OnErr result ((c : List ℕ) → rows_in classes.new.items c ≡ rows_in classes.old.items c) }
+{
+    nodes.reserve(1)?;
+    add_token(alloc, classes, x, &node)?;
+    nodes.insert_reserved(node);
+    Ok(())
+}
+
+// The bytes once more.
+fn copied(alloc: Global, bytes: &[u8]) -> Result<Vec<u8>, NoMemory>
+    ensures { IfOk result (λ word. word.items ≡ bytes.now) }
+{
+    Ok(Vec::from_slice(alloc, bytes)?)
+}
+
+// The names of the rules.
+fn rules_of(alloc: Global, links: &[Link]) -> Result<Seq<Name>, NoMemory>
+    ensures { IfOk result (λ rules. rules.items ≡ map (λ l. l.rule) links.now) }
+{
+    let mut rules = Seq::make(alloc);
+    for link in links {
+        if rules.push(link.rule).is_err() {
+            return Err(NoMemory);
+        }
+    }
+    Ok(rules)
+}
+
+// Adds the token that a node is to those of its class.
+fn add_token(
+    alloc: Global,
+    classes: &mut Vec<ClassRows>,
+    x: u32,
+    node: &Node,
+) -> Result<(), NoMemory>
+    ensures ok { OnOk result (TakesToken classes.old.items classes.new.items (token_row x (member_of node.now))) }
+    ensures err { OnErr result ((c : List ℕ) → rows_in classes.new.items c ≡ rows_in classes.old.items c) }
+{
+    match token_of(x, node) {
+        Some(row) => add_row(alloc, classes, row),
+        None => Ok(()),
+    }
+}
