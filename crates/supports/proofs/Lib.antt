@@ -1,0 +1,4 @@
+pub mod Moved
+pub mod FirstRows
+pub mod TokenRows
+pub mod Answered

@@ -1,0 +1,130 @@
+//! Which believed token supports a fact, what clips a token, and why a token is no supporter: what
+//! `clipping` answers over the tokens of a tree, told of the occurrences of the standing list. It
+//! stands on `occ_tree` and `clipping`.
+//!
+//! Each call answers the definition for the list, over the occurrences that the nodes are. No call
+//! takes memory.
+#![tactic(auto)]
+
+ghost use Rattle.std.specs.Prelude.{◌≡◌, ◌<◌, ℕ, List, length, None, Some, IsSome, IfSome, slice_index_or};
+ghost use Rattle.std.specs.List.{All};
+ghost use Rattle.std.specs.Option.{option_map};
+ghost use Rattle.tmm_model.specs.declared.token.TokenRow.{TokenRow};
+ghost use Rattle.tmm_model.specs.Answers.{clip, fault};
+ghost use Rattle.tmm_model.specs.Beliefs.{holder, token_of};
+ghost use Rattle.tmm_model.specs.Moments.{Moment};
+ghost use Rattle.tmm_model.specs.Sorts.{class_in};
+ghost use Rattle.tmm_model.specs.Standing.{far_in};
+ghost use Rattle.spots.specs.Forest.{Member, member, IsLive, moment_at};
+ghost use Rattle.spots.specs.Seen.{IsSeen, Holds, map_of};
+ghost use Rattle.spots.specs.declared.spot.Spot.{Spot};
+ghost use Rattle.spots.specs.Spots.{IsSpot, spot_moment};
+ghost use Rattle.supports.specs.Faults.{fault_at};
+ghost use Rattle.supports.specs.Nodes.{IsOfNode, HasNode};
+
+use clipping::{Fault, first_clipper, holder};
+use dist_net::DistNet;
+use occ_tree::{Order, Tree};
+use premise_list::Standing;
+use spots::Spot;
+use tmm_model::{Name, TokenRow};
+
+// The node of the token at a place.
+fn node_at(rows: &[TokenRow<Spot>], place: usize) -> u32
+    requires within { place < length rows.now }
+    requires nodes { All IsOfNode rows.now }
+    ensures { (d : TokenRow Spot) → (slice_index_or rows.now place d).spot ≡ Spot.Node result }
+{
+    match rows[place].spot {
+        Spot::Node(x) => x,
+        Spot::Declared(_) => unreachable!(),
+    }
+}
+
+// The place of the token of a node.
+fn place_of(rows: &[TokenRow<Spot>], x: u32) -> usize
+    requires { HasNode rows.now x }
+    ensures within { result < length rows.now }
+    ensures at { (d : TokenRow Spot) → (slice_index_or rows.now result d).spot ≡ Spot.Node x }
+{
+    for (i, row) in rows.iter().enumerate() {
+        if row.spot == Spot::Node(x) {
+            return i;
+        }
+    }
+    unreachable!()
+}
+
+/// The node of the first token that supports the fact throughout `p` to `q`, none exactly where no
+/// token does.
+pub fn supporter(
+    standing: &Standing,
+    tree: &Tree,
+    net: &DistNet,
+    fact: Name,
+    p: Spot,
+    q: Spot,
+) -> Option<u32>
+    requires seen { IsSeen standing.now.present net.now.present tree.now }
+    requires fact { IsSome (class_in standing.now.present.premises fact) }
+    requires p { IsSpot net.now.present.names tree.now p }
+    requires q { IsSpot net.now.present.names tree.now q }
+    ensures live { IfSome result (IsLive tree.now) }
+    ensures first { (b : List Moment) → Holds b tree.now → option_map (moment_at tree.now) result ≡ holder standing.now.present (far_in standing.now.present.premises) b fact (spot_moment net.now.present.names tree.now p) (spot_moment net.now.present.names tree.now q) }
+{
+    let Some(class) = standing.class_of(fact) else {
+        unreachable!()
+    };
+    let rows = tree.tokens(class);
+    let place = holder(&Order { tree, net }, rows, fact, p, q)?;
+    Some(node_at(rows, place))
+}
+
+/// The node of the first token that clips the one at `x`, none exactly where no token does. A span
+/// and an event have none.
+pub fn clip(standing: &Standing, tree: &Tree, net: &DistNet, x: u32) -> Option<u32>
+    requires seen { IsSeen standing.now.present net.now.present tree.now }
+    requires live { IsLive tree.now x }
+    ensures live { IfSome result (IsLive tree.now) }
+    ensures first { (b : List Moment) → Holds b tree.now → option_map (moment_at tree.now) result ≡ clip (map_of standing.now.present b) (moment_at tree.now x) }
+{
+    let class = tree.row(x).class?;
+    let rows = tree.tokens(class);
+    let place = place_of(rows, x);
+    let clipper = first_clipper(&Order { tree, net }, rows, place)?;
+    Some(node_at(rows, clipper))
+}
+
+/// Why a token does not support its fact.
+#[derive(Clone, Copy, PartialEq, Eq, Debug)]
+pub enum NodeFault {
+    /// It does not surely begin at or before the first point.
+    Late,
+    /// The token of this node is the first that clips it surely at or before the last point.
+    Clipped(u32),
+    /// It is a span that does not surely end after the last point.
+    Ends,
+}
+
+/// Why the token at `x` does not support its fact throughout `p` to `q`, where no token does.
+pub fn blame(standing: &Standing, tree: &Tree, net: &DistNet, x: u32, p: Spot, q: Spot) -> NodeFault
+    requires seen { IsSeen standing.now.present net.now.present tree.now }
+    requires p { IsSpot net.now.present.names tree.now p }
+    requires q { IsSpot net.now.present.names tree.now q }
+    requires no_supporter { (b : List Moment) × (m : Member) × Holds b tree.now × (member tree.now x ≡ Some m) × IsSome m.class
+        × (holder standing.now.present (far_in standing.now.present.premises) b m.what (spot_moment net.now.present.names tree.now p) (spot_moment net.now.present.names tree.now q) ≡ None) }
+    ensures live { (c : ℕ) → result ≡ NodeFault.Clipped c → IsLive tree.now c }
+    ensures fault { (b : List Moment) (k : TokenRow Moment) → Holds b tree.now → token_of standing.now.present (moment_at tree.now x) ≡ Some k
+        → fault (map_of standing.now.present b) (spot_moment net.now.present.names tree.now p) (spot_moment net.now.present.names tree.now q) k ≡ fault_at tree.now result }
+{
+    let Some(class) = tree.row(x).class else {
+        unreachable!()
+    };
+    let rows = tree.tokens(class);
+    let place = place_of(rows, x);
+    match clipping::blame(&Order { tree, net }, rows, place, p, q) {
+        Fault::Late => NodeFault::Late,
+        Fault::Clipped(c) => NodeFault::Clipped(node_at(rows, c)),
+        Fault::Ends => NodeFault::Ends,
+    }
+}
