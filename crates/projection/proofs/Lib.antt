@@ -1,0 +1,12 @@
+pub mod Facts
+pub mod Grown
+pub mod Tried
+pub mod Dates
+pub mod OnKinds
+pub mod Waiting
+pub mod Effects
+pub mod OneEach
+pub mod Steps
+pub mod Settled
+pub mod Decided
+pub mod Ends

@@ -1,0 +1,40 @@
+use Rattle.std.proofs.Common.{◌∙◌, ◌+◌, ◌∷◌, [], map, length, sym, subst, ap, Some, arith}
+use Rattle.std.specs.List.{All}
+use Rattle.std.proofs.lemmas.List.{take_all, length-append}
+use Rattle.tmm_model.specs.Beliefs.{holder}
+use Rattle.tmm_model.specs.Standing.{far_in}
+use Rattle.spots.specs.Forest.{IsLive, moment_at}
+use Rattle.projection.proofs.Tried.{found_more, tried_fires, tried_blocked, all_push}
+use Rattle.projection.proofs.decision.try_given.Goals as goal
+
+pub returns-in-None-clause-outcome : goal.returns-in-None-clause-outcome
+returns-in-None-clause-outcome c b holds =
+    let s = c.args.standing.now.present in
+    let f = c.args.tree.now in
+    let t = moment_at f c.args.trigger in
+    tried_blocked (moment_at f) (λ fact. holder s (far_in s.premises) b fact t t) c.loop-antecedent.supports.items c.args.given.now c.loop-antecedent.antecedent c.index-given-antecedent.result
+    (c.loop-antecedent.invariant.found b holds) c.loop-antecedent.invariant.count (omega arith) c.index-given-antecedent.is (c.in-None.ensures.first b holds)
+
+pub loop-antecedent-preserved : goal.loop-antecedent-preserved
+loop-antecedent-preserved c =
+    let s = c.args.standing.now.present in
+    let f = c.args.tree.now in
+    let t = moment_at f c.args.trigger in
+    let old = c.loop-antecedent.supports.items in
+    let pushed = c.push.ensures.items in
+    record {
+      count = ap length pushed ∙ length-append old (c.in-Some.x ∷ []) ∙ ap (λ n. n + 1) c.loop-antecedent.invariant.count;
+      live = subst (All (IsLive f)) (sym pushed) (all_push (IsLive f) old c.in-Some.x c.loop-antecedent.invariant.live c.in-Some.ensures.live);
+      found = λ b holds.
+          (ap (map (λ x. Some (moment_at f x))) pushed
+          ∙ found_more (moment_at f) (λ fact. holder s (far_in s.premises) b fact t t) old c.args.given.now c.loop-antecedent.antecedent c.in-Some.x c.index-given-antecedent.result
+          (c.loop-antecedent.invariant.found b holds) (omega arith) c.index-given-antecedent.is (c.in-Some.ensures.first b holds));
+    }
+
+pub returns-clause-outcome : goal.returns-clause-outcome
+returns-clause-outcome c b holds =
+    let s = c.args.standing.now.present in
+    let f = c.args.tree.now in
+    let t = moment_at f c.args.trigger in
+    tried_fires (moment_at f) (λ fact. holder s (far_in s.premises) b fact t t) c.loop-antecedent.supports.items c.args.given.now
+    (c.loop-antecedent.invariant.found b holds ∙ ap (map (λ fact. holder s (far_in s.premises) b fact t t)) (take_all c.loop-antecedent.antecedent c.args.given.now (omega arith)))

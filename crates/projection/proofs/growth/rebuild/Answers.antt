@@ -1,0 +1,42 @@
+use Rattle.std.proofs.Common.{◌≡◌, [], ◌∷◌, refl, subst, arith}
+use Rattle.std.proofs.lemmas.List.{take_all}
+use Rattle.std.proofs.lemmas.List.Sorted.{length_permutation}
+use Rattle.projection.specs.Projecting.{IsStarted, IsGrowing}
+use Rattle.projection.proofs.Decided.{holds_at_end, size_at_end}
+use Rattle.projection.proofs.Grown.{seen_first, holds_first}
+use Rattle.projection.proofs.Settled.{started_first, growing_first}
+use Rattle.projection.proofs.growth.rebuild.Goals as goal
+
+pub loop-place-init : goal.loop-place-init
+loop-place-init c =
+    started_first c.args.standing.now.present c.args.net.now.present c.make.result c.make-2.result 0
+    (seen_first c.args.standing.now.present c.args.net.now.present c.make.result c.requires.network c.make.ensures) (holds_first c.make.result c.make.ensures) c.make-2.ensures refl
+
+pub loop-pending-init : goal.loop-pending-init
+loop-pending-init c =
+    let s = c.args.standing.now.present in
+    let net = c.args.net.now.present in
+    let g = c.loop-place.growing in
+    growing_first s net g.tree g.queue g.size
+    (subst (λ ps. IsStarted s net ps g.tree g.queue g.size) (take_all c.loop-place.place s.premises (omega arith)) c.loop-place.invariant)
+
+pub loop-pending-smaller : goal.loop-pending-smaller
+loop-pending-smaller c =
+    let nearer = c.in_ok-settle.ensures.nearer in
+    omega (arith, nearer, length_permutation c.loop-pending.growing.queue (c.in-Some.pending ∷ c.pop.new.self) c.in-Some.ensures.0)
+
+pub returns-clause-holds : goal.returns-clause-holds
+returns-clause-holds c =
+    let s = c.args.standing.now.present in
+    let net = c.args.net.now.present in
+    let g = c.loop-pending.growing in
+    let none : c.loop-pending.growing.queue ≡ [] = c.in_default-pop.ensures in
+    holds_at_end s net g.tree g.size (subst (λ q. IsGrowing s net g.tree q g.size) none c.loop-pending.invariant)
+
+pub returns-clause-size : goal.returns-clause-size
+returns-clause-size c =
+    let s = c.args.standing.now.present in
+    let net = c.args.net.now.present in
+    let g = c.loop-pending.growing in
+    let none : c.loop-pending.growing.queue ≡ [] = c.in_default-pop.ensures in
+    size_at_end s net g.tree g.size (subst (λ q. IsGrowing s net g.tree q g.size) none c.loop-pending.invariant)

@@ -1,0 +1,82 @@
+use Rattle.std.proofs.Common.{inl, inr, refl, sym, subst, Some, None}
+use Rattle.std.specs.Prelude.{IsSome}
+use Rattle.tmm_model.specs.declared.point.PointName.TheVariants.{Begin, End}
+use Rattle.tmm_model.specs.declared.premise.Premise.TheVariants.{Event, Token, Span}
+use Rattle.tmm_model.specs.declared.token.Shape.TheVariants.{Persistence as APersistence, Span as ASpan}
+use Rattle.tmm_model.proofs.Elements.{In}
+use Rattle.spots.specs.Forest.{Enters, root_member}
+use Rattle.projection.specs.Growing.{AddsRoot}
+use Rattle.projection.proofs.Facts.{fact_known}
+use Rattle.projection.proofs.Grown.{number_there, event_adds, token_adds, span_adds}
+use Rattle.projection.proofs.root.add_root.Goals as goal
+
+pub number_of-begin-requires : goal.number_of-begin-requires
+number_of-begin-requires c =
+    let s = c.args.standing.now.present in
+    let p = Event c.in-Event.name c.in-Event.kind in
+    number_there s c.requires.network.sound c.args.net.now.present c.requires.network p (Begin c.in-Event.name) (subst (λ q. In q s.premises) c.in-Event.is c.requires.stands) (inl refl)
+
+pub number_of-begin-requires-in-Token : goal.number_of-begin-requires-in-Token
+number_of-begin-requires-in-Token c =
+    let s = c.args.standing.now.present in
+    let p = Token c.in-Token.name c.in-Token.fact in
+    number_there s c.requires.network.sound c.args.net.now.present c.requires.network p (Begin c.in-Token.name) (subst (λ q. In q s.premises) c.in-Token.is c.requires.stands) (inl refl)
+
+pub number_of-begin-requires-in-Span : goal.number_of-begin-requires-in-Span
+number_of-begin-requires-in-Span c =
+    let s = c.args.standing.now.present in
+    let p = Span c.in-Span.name c.in-Span.fact in
+    number_there s c.requires.network.sound c.args.net.now.present c.requires.network p (Begin c.in-Span.name) (subst (λ q. In q s.premises) c.in-Span.is c.requires.stands) (inl refl)
+
+pub number_of-end-requires : goal.number_of-end-requires
+number_of-end-requires c =
+    let s = c.args.standing.now.present in
+    let p = Span c.in-Span.name c.in-Span.fact in
+    number_there s c.requires.network.sound c.args.net.now.present c.requires.network p (End c.in-Span.name) (subst (λ q. In q s.premises) c.in-Span.is c.requires.stands) (inr (inl refl))
+
+pub insert_root-requires-in-Token-clause-class : goal.insert_root-requires-in-Token-clause-class
+insert_root-requires-in-Token-clause-class c =
+    let s = c.args.standing.now.present in
+    let p = Token c.in-Token.name c.in-Token.fact in
+    subst IsSome (sym c.class_of-class.ensures) (fact_known s.premises c.requires.network.sound.well_named p (subst (λ q. In q s.premises) c.in-Token.is c.requires.stands) c.in-Token.fact (inl refl))
+
+pub insert_root-requires-in-Span-clause-class : goal.insert_root-requires-in-Span-clause-class
+insert_root-requires-in-Span-clause-class c =
+    let s = c.args.standing.now.present in
+    let p = Span c.in-Span.name c.in-Span.fact in
+    subst IsSome (sym c.class_of-class-in-Span.ensures) (fact_known s.premises c.requires.network.sound.well_named p (subst (λ q. In q s.premises) c.in-Span.is c.requires.stands) c.in-Span.fact (inl refl))
+
+pub returns-in_ok-x-in-Event : goal.returns-in_ok-x-in-Event
+returns-in_ok-x-in-Event c =
+    let s = c.args.standing.now.present in
+    let names = c.args.net.now.present.names in
+    let p = Event c.in-Event.name c.in-Event.kind in
+    subst (λ q. AddsRoot s names q c.args.tree.now c.insert_root.new.self (Some c.in_ok-x-in-Event.x)) (sym c.in-Event.is)
+    (event_adds s c.requires.network.sound c.args.net.now.present c.requires.network c.in-Event.name c.in-Event.kind (subst (λ q. In q s.premises) c.in-Event.is c.requires.stands)
+    c.number_of-begin.result c.number_of-begin.ensures c.args.tree.now c.insert_root.new.self c.in_ok-x-in-Event.x c.in_ok-x-in-Event.ensures.ok)
+
+pub returns-in_ok-x-in-Token : goal.returns-in_ok-x-in-Token
+returns-in_ok-x-in-Token c =
+    let s = c.args.standing.now.present in
+    let names = c.args.net.now.present.names in
+    let p = Token c.in-Token.name c.in-Token.fact in
+    let begin = c.number_of-begin-in-Token.result in
+    let old = c.args.tree.now in
+    let new = c.insert_root-in-Token.new.self in
+    subst (λ q. AddsRoot s names q old new (Some c.in_ok-x-in-Token.x)) (sym c.in-Token.is)
+    (token_adds s c.requires.network.sound c.args.net.now.present c.requires.network c.in-Token.name c.in-Token.fact (subst (λ q. In q s.premises) c.in-Token.is c.requires.stands)
+    begin c.number_of-begin-in-Token.ensures old new c.in_ok-x-in-Token.x
+    (subst (λ class. Enters old new c.in_ok-x-in-Token.x (root_member c.in-Token.name begin None c.in-Token.fact class APersistence)) c.class_of-class.ensures c.in_ok-x-in-Token.ensures.ok))
+
+pub returns-in_ok-x-in-Span : goal.returns-in_ok-x-in-Span
+returns-in_ok-x-in-Span c =
+    let s = c.args.standing.now.present in
+    let names = c.args.net.now.present.names in
+    let p = Span c.in-Span.name c.in-Span.fact in
+    let begin = c.number_of-begin-in-Span.result in
+    let old = c.args.tree.now in
+    let new = c.insert_root-in-Span.new.self in
+    subst (λ q. AddsRoot s names q old new (Some c.in_ok-x-in-Span.x)) (sym c.in-Span.is)
+    (span_adds s c.requires.network.sound c.args.net.now.present c.requires.network c.in-Span.name c.in-Span.fact (subst (λ q. In q s.premises) c.in-Span.is c.requires.stands)
+    begin c.number_of-end.result c.number_of-begin-in-Span.ensures c.number_of-end.ensures old new c.in_ok-x-in-Span.x
+    (subst (λ class. Enters old new c.in_ok-x-in-Span.x (root_member c.in-Span.name begin (Some c.number_of-end.result) c.in-Span.fact class ASpan)) c.class_of-class-in-Span.ensures c.in_ok-x-in-Span.ensures.ok))

@@ -1,0 +1,5 @@
+pub mod Decisions
+pub mod Growing
+pub mod Kinds
+pub mod Queues
+pub mod Projecting

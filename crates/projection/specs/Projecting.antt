@@ -1,0 +1,74 @@
+-- What has entered of a list, and what waits, as its projection grows.
+use Rattle.std.specs.Prelude.{◌≡◌, ℕ, ◌+◌, ◌-◌, ◌≤◌, pos, ◌≤ℤ◌, List, ◌∷◌, length, sum_by, IsTrue}
+use Rattle.std.specs.List.{All, Contains, filter_map}
+use Rattle.std.specs.List.Sorted.{IsPermutation}
+use Rattle.tmm_model.specs.Answers.{weight, most_size}
+use Rattle.tmm_model.specs.Beliefs.{due, is_free, rules_at, root_of}
+use Rattle.tmm_model.specs.Maps.{built}
+use Rattle.tmm_model.specs.Moments.{Moment, After}
+use Rattle.tmm_model.specs.Right.{IsSound}
+use Rattle.tmm_model.specs.Standing.{Standing, far_in}
+use Rattle.tmm_model.specs.declared.premise.Premise.{Premise}
+use Rattle.tmm_model.proofs.Distinct.{Distinct}
+use Rattle.tmm_model.proofs.Elements.{In}
+use Rattle.tmm_model.proofs.Settling.{Settling}
+use Rattle.tmm_model.proofs.SoundBeliefs.{sound_timed}
+use Rattle.dist_net.specs.Net.{Net}
+use Rattle.spots.specs.Forest.{Forest, IsLive, moment_at}
+use Rattle.spots.specs.Seen.{IsSeen, Holds}
+use Rattle.projection.specs.declared.pending.Pending.{Pending}
+use Rattle.projection.specs.Queues.{is_for}
+
+-- the entry is of a standing rule at an event, with the date at which its effect begins
+pub record IsEntry (s : Standing) (f : Forest) (p : Pending) : Type 0 where
+  pub live : IsLive f p.trigger
+  pub stands : Contains (rules_at s (moment_at f p.trigger)) p.rule
+  pub date : due s (far_in s.premises) (moment_at f p.trigger) p.rule ≡ pos p.due.0
+  pub in_time : p.due.0 ≤ s.horizon
+
+-- the rule at the event waits
+abbrev pub Pends : Forest → List Pending → Moment → List ℕ → Type 0
+Pends f queue t r = (p : Pending) × In p queue × (moment_at f p.trigger ≡ t) × (p.rule ≡ r)
+
+-- the occurrences b have entered, each once, and the rules that wait are undecided
+pub record IsGrown (s : Standing) (net : Net) (b : List Moment) (f : Forest) (queue : List Pending) (size : ℕ) : Type 0 where
+  pub seen : IsSeen s net f
+  pub holds : Holds b f
+  pub distinct : Distinct b
+  pub sized : size ≡ sum_by (weight (built s)) b
+  pub small : size ≤ most_size
+  pub entries : (p : Pending) → In p queue → IsEntry s f p
+  pub once : (x : ℕ) (r : List ℕ) → sum_by (is_for x r) queue ≤ 1
+  pub undecided : (p : Pending) → In p queue → In (After (moment_at f p.trigger) p.rule) b → ⊥
+
+-- what these premises declare has entered, and all rules on it that are due by the horizon wait
+pub record IsStarted (s : Standing) (net : Net) (front : List Premise) (f : Forest) (queue : List Pending) (size : ℕ) : Type 0 where
+  pub grown : IsGrown s net (filter_map root_of front) f queue size
+  pub queued : (t : Moment) (r : List ℕ) → In t (filter_map root_of front) → Contains (rules_at s t) r → due s (far_in s.premises) t r ≤ℤ pos s.horizon → Pends f queue t r
+
+-- all that is due before what waits is decided, up to some date
+pub record IsGrowing (s : Standing) (net : Net) (f : Forest) (queue : List Pending) (size : ℕ) : Type 0 where
+  pub entered : List Moment
+  pub date : ℕ
+  pub sound : IsSound s
+  pub grown : IsGrown s net entered f queue size
+  pub settling : Settling s (far_in s.premises) (sound_timed s sound) s.horizon date entered (Pends f queue)
+
+-- of what waits, this is due first, and the rest goes on waiting
+pub record IsFirstOf (queue : List Pending) (p : Pending) (rest : List Pending) : Type 0 where
+  pub taken : IsPermutation queue (p ∷ rest)
+  pub first : All (λ q. p.due.0 ≤ q.due.0) rest
+
+-- so it stands where p has been taken out
+pub record IsGrowingWith (s : Standing) (net : Net) (f : Forest) (p : Pending) (rest : List Pending) (size : ℕ) : Type 0 where
+  pub queue : List Pending
+  pub next : IsFirstOf queue p rest
+  pub growing : IsGrowing s net f queue size
+
+-- among the occurrences that the nodes are, each antecedent of the rule that waits has a supporter
+abbrev pub FiresAmong : Standing → Forest → Pending → Type 0
+FiresAmong s f p = (b : List Moment) → Holds b f → IsTrue (is_free s (far_in s.premises) b (moment_at f p.trigger) p.rule)
+
+-- how much there is left to do at most
+abbrev pub left : List Pending → ℕ → ℕ
+left queue size = (most_size - size) + length queue

@@ -1,0 +1,116 @@
+// What becomes of a rule at an event.
+ghost use Rattle.std.specs.Prelude.{◌≡◌, ◌≤◌, min, ◌+◌, List, length, IsSome};
+ghost use Rattle.std.specs.List.{All, Contains};
+ghost use Rattle.tmm_model.specs.Beliefs.{outcome, rules_at, tried, holder};
+ghost use Rattle.tmm_model.specs.Moments.{Moment};
+ghost use Rattle.tmm_model.specs.Sorts.{class_in};
+ghost use Rattle.tmm_model.specs.Standing.{far_in};
+ghost use Rattle.spots.specs.Forest.{IsLive, moment_at};
+ghost use Rattle.spots.specs.Seen.{IsSeen, Holds};
+ghost use Rattle.projection.specs.Decisions.{outcome_at, AreLive, tried_at};
+
+use crate::rule::{due_of, text_of};
+use arrayvec::ArrayVec;
+use dist_net::DistNet;
+use occ_tree::Tree;
+use premise_list::Standing;
+use spots::Spot;
+use std::marker::Model;
+use supports::supporter;
+use tmm_model::Name;
+
+/// What becomes of a rule at an event.
+#[derive(Drop)]
+pub enum Decision {
+    /// Its effect is believed. These nodes are the first supporters of its antecedents, in order.
+    Fires { supports: ArrayVec<u32, 4> },
+    /// The antecedent at this place is the first without a supporter.
+    Blocked { antecedent: usize },
+    /// Its effect would begin after the horizon.
+    Beyond,
+}
+
+/// How many decisions have been made, up to the greatest number that it can hold.
+#[derive(Drop)]
+pub struct Counter {
+    count: u64,
+}
+
+impl Model for Counter {
+    ghost use Rattle.std.specs.Prelude.{ℕ};
+
+    ghost Value = { ℕ };
+
+    ghost view = { λ c. c.count };
+}
+
+impl Counter {
+    pub fn zero() -> Counter
+        ensures { result ≡ 0 }
+    {
+        Counter { count: 0 }
+    }
+
+    pub fn value(&self) -> u64
+        ensures { result ≡ self.now }
+    {
+        self.count
+    }
+
+    fn raise(&mut self)
+        ensures { self.new ≡ min (self.old + 1) 18446744073709551615 }
+    {
+        self.count = self.count.saturating_add(1);
+    }
+}
+
+/// Decides a standing rule on the kind of the event at the node `trigger`, among the nodes of the
+/// tree, and counts the decision.
+pub fn decide(
+    tree: &Tree,
+    net: &DistNet,
+    standing: &Standing,
+    trigger: u32,
+    rule: Name,
+    counter: &mut Counter,
+) -> Decision
+    requires seen { IsSeen standing.now.present net.now.present tree.now }
+    requires trigger { IsLive tree.now trigger }
+    requires rule { Contains (rules_at standing.now.present (moment_at tree.now trigger)) rule }
+    ensures outcome { (b : List Moment) → Holds b tree.now → outcome_at tree.now result ≡ outcome standing.now.present (far_in standing.now.present.premises) b (moment_at tree.now trigger) rule }
+    ensures live { AreLive tree.now result }
+    ensures counted { counter.new ≡ min (counter.old + 1) 18446744073709551615 }
+{
+    counter.raise();
+    if due_of(tree, net, standing, trigger, rule).is_none() {
+        return Decision::Beyond;
+    }
+    let text = text_of(standing, rule);
+    try_given(tree, net, standing, trigger, text.given)
+}
+
+// The first supporters of the facts at the event, or the first fact without one.
+fn try_given(
+    tree: &Tree,
+    net: &DistNet,
+    standing: &Standing,
+    trigger: u32,
+    given: &[Name],
+) -> Decision
+    requires seen { IsSeen standing.now.present net.now.present tree.now }
+    requires trigger { IsLive tree.now trigger }
+    requires facts { All (λ fact. IsSome (class_in standing.now.present.premises fact)) given.now }
+    requires few { length given.now ≤ 4 }
+    ensures outcome { (b : List Moment) → Holds b tree.now → outcome_at tree.now result ≡ tried_at standing.now.present b (moment_at tree.now trigger) given.now }
+    ensures live { AreLive tree.now result }
+{
+    let at = Spot::Node(trigger);
+    let mut supports = ArrayVec::new();
+    for antecedent in 0..given.len() {
+        match supporter(standing, tree, net, given[antecedent], at, at) {
+            Some(x) => supports.push(x),
+            None => return Decision::Blocked { antecedent },
+        }
+    }
+    Decision::Fires { supports }
+}

@@ -1,0 +1,263 @@
+// What is believed, decision by decision in the order of their dates.
+ghost use Rattle.std.specs.Prelude.{◌≡◌, ◌+◌, ◌<◌, ◌≤◌, length, take, IfOk, IfErr, OnOk};
+ghost use Rattle.tmm_model.specs.Answers.{size, most_size};
+ghost use Rattle.tmm_model.specs.Beliefs.{rules_at};
+ghost use Rattle.tmm_model.specs.Maps.{built};
+ghost use Rattle.tmm_model.specs.Moments.{After};
+ghost use Rattle.dist_net.specs.Net.{Net};
+ghost use Rattle.list_net.specs.Fits.{IsNetOf};
+ghost use Rattle.spots.specs.Forest.{IsLive, moment_at};
+ghost use Rattle.spots.specs.Seen.{IsSeen, Holds};
+ghost use Rattle.projection.specs.Decisions.{IsRuleOf};
+ghost use Rattle.projection.specs.Growing.{Adds, effect_shape, MayEnter};
+ghost use Rattle.projection.specs.Kinds.{AreRules};
+ghost use Rattle.projection.specs.Projecting.{IsStarted, IsGrowing, IsGrowingWith, FiresAmong, left};
+ghost use Rattle.projection.specs.Queues.{Queues, weight_at, IsTooLarge};
+
+use crate::decision::{Counter, Decision, decide};
+use crate::kinds::RulesByKind;
+use crate::pending::{Pending, Queue};
+use crate::root::add_root;
+use crate::rule::due_of;
+use dist_net::DistNet;
+use occ_tree::Tree;
+use premise_list::Standing;
+use std::alloc::Global;
+use std::cmp::Reverse;
+use tmm_model::{Name, NoMemory, Premise, Refusal, Shape, Stop};
+
+/// The most that the occurrences of a map with their rules may count.
+const MOST_SIZE: u64 = 100_000;
+
+/// What is believed of a standing list.
+#[derive(Drop)]
+pub struct Projected {
+    /// The believed occurrences.
+    pub tree: Tree,
+    /// The size of the map.
+    pub size: u64,
+}
+
+// What a rule brings about, by the class of its effect, which a kind hasn't.
+fn effect_shape(class: &Option<Name>) -> Shape
+    ensures { result ≡ effect_shape class.now }
+{
+    match class {
+        Some(_) => Shape::Persistence,
+        None => Shape::Event,
+    }
+}
+
+// Adds what the rule brings about at the event of a node, and answers its number.
+fn add_effect(
+    alloc: Global,
+    standing: &Standing,
+    tree: &mut Tree,
+    trigger: u32,
+    rule: Name,
+) -> Result<u32, NoMemory>
+    requires seen { (net : Net) × IsSeen standing.now.present net tree.old }
+    requires trigger { IsLive tree.old trigger }
+    requires rule { IsRuleOf standing.now.present rule }
+    requires enters { MayEnter standing.now.present tree.old trigger rule }
+    ensures { IfOk result (λ x. (net : Net) → IsSeen standing.now.present net tree.old → Adds standing.now.present net.names tree.old tree.new x (After (moment_at tree.old trigger) rule)) }
+{
+    let Some(Premise::Rule { lo, hi, effect, .. }) = standing.get(rule) else {
+        unreachable!()
+    };
+    let class = standing.class_of(*effect);
+    let shape = effect_shape(&class);
+    tree.insert_child(alloc, trigger, rule, *lo, *hi, *effect, class, shape)
+}
+
+// Lets the rules at a node wait for their dates.
+fn wait_for(
+    tree: &Tree,
+    net: &DistNet,
+    standing: &Standing,
+    rules: &[Name],
+    queue: &mut Queue,
+    x: u32,
+) -> Result<(), NoMemory>
+    requires seen { IsSeen standing.now.present net.now.present tree.now }
+    requires live { IsLive tree.now x }
+    requires rules { rules.now ≡ rules_at standing.now.present (moment_at tree.now x) }
+    ensures { OnOk result (Queues standing.now.present tree.now x rules.now queue.old queue.new) }
+{
+    for rule in rules {
+        if let Some(due) = due_of(tree, net, standing, x, *rule) {
+            queue.push(Pending {
+                due: Reverse(due),
+                trigger: x,
+                rule: *rule,
+            })?;
+        }
+    }
+    Ok(())
+}
+
+// The occurrences that have entered, the rules on them that wait, and the size so far.
+#[derive(Drop)]
+struct Growing {
+    tree: Tree,
+    queue: Queue,
+    size: u64,
+}
+
+// Counts the occurrence at a node, and lets the rules on it wait for their dates.
+fn count_in(
+    standing: &Standing,
+    net: &DistNet,
+    rules: &RulesByKind,
+    growing: &mut Growing,
+    x: u32,
+) -> Result<(), Stop>
+    requires seen { IsSeen standing.now.present net.now.present growing.old.tree }
+    requires live { IsLive growing.old.tree x }
+    requires rules { AreRules standing.now.present rules.now }
+    requires size { growing.old.size ≤ most_size }
+    ensures tree { OnOk result (growing.new.tree ≡ growing.old.tree) }
+    ensures size { OnOk result (growing.new.size ≡ growing.old.size + weight_at standing.now.present growing.old.tree x) }
+    ensures small { OnOk result (growing.old.size + weight_at standing.now.present growing.old.tree x ≤ most_size) }
+    ensures queued { OnOk result (Queues standing.now.present growing.old.tree x (rules_at standing.now.present (moment_at growing.old.tree x)) growing.old.queue growing.new.queue) }
+    ensures stops { IfErr result (IsTooLarge (growing.old.size + weight_at standing.now.present growing.old.tree x)) }
+{
+    let names = rules.at(standing, &growing.tree, x);
+    let row = growing.tree.row(x);
+    let size = growing.size + (1 + u64::from(row.rules) + names.len() as u64);
+    if size > MOST_SIZE {
+        return Err(Stop::Refused(Refusal::LimitSize));
+    }
+    growing.size = size;
+    match wait_for(&growing.tree, net, standing, names, &mut growing.queue, x) {
+        Ok(()) => Ok(()),
+        Err(_) => Err(Stop::NoMemory),
+    }
+}
+
+// Adds what the premise at this place declares to occur.
+fn declare(
+    alloc: Global,
+    standing: &Standing,
+    net: &DistNet,
+    rules: &RulesByKind,
+    growing: &mut Growing,
+    place: usize,
+) -> Result<(), Stop>
+    requires network { IsNetOf standing.now.present net.now.present }
+    requires rules { AreRules standing.now.present rules.now }
+    requires place { place < length standing.now.present.premises }
+    requires before { IsStarted standing.now.present net.now.present (take place standing.now.present.premises) growing.old.tree growing.old.queue growing.old.size }
+    ensures after { OnOk result (IsStarted standing.now.present net.now.present (take (place + 1) standing.now.present.premises) growing.new.tree growing.new.queue growing.new.size) }
+    ensures stops { IfErr result (IsTooLarge (size (built standing.now.present))) }
+{
+    let Some(premise) = standing.at(place) else {
+        unreachable!()
+    };
+    match add_root(alloc, standing, net, &mut growing.tree, premise) {
+        Ok(Some(x)) => count_in(standing, net, rules, growing, x),
+        Ok(None) => Ok(()),
+        Err(_) => Err(Stop::NoMemory),
+    }
+}
+
+// Decides what is due first of what waited, and adds the effect where the rule fires.
+fn settle(
+    alloc: Global,
+    standing: &Standing,
+    net: &DistNet,
+    rules: &RulesByKind,
+    growing: &mut Growing,
+    pending: &Pending,
+    counter: &mut Counter,
+) -> Result<(), Stop>
+    requires rules { AreRules standing.now.present rules.now }
+    requires before { IsGrowingWith standing.now.present net.now.present growing.old.tree pending.now growing.old.queue growing.old.size }
+    ensures after { OnOk result (IsGrowing standing.now.present net.now.present growing.new.tree growing.new.queue growing.new.size) }
+    ensures nearer { OnOk result (left growing.new.queue growing.new.size ≤ left growing.old.queue growing.old.size) }
+    ensures stops { IfErr result (IsTooLarge (size (built standing.now.present))) }
+{
+    let decision = decide(
+        &growing.tree,
+        net,
+        standing,
+        pending.trigger,
+        pending.rule,
+        counter,
+    );
+    match decision {
+        Decision::Fires { .. } => bring_about(alloc, standing, net, rules, growing, pending),
+        _ => Ok(()),
+    }
+}
+
+// Adds the effect of a rule that fires.
+fn bring_about(
+    alloc: Global,
+    standing: &Standing,
+    net: &DistNet,
+    rules: &RulesByKind,
+    growing: &mut Growing,
+    pending: &Pending,
+) -> Result<(), Stop>
+    requires rules { AreRules standing.now.present rules.now }
+    requires before { IsGrowingWith standing.now.present net.now.present growing.old.tree pending.now growing.old.queue growing.old.size }
+    requires fires { FiresAmong standing.now.present growing.old.tree pending.now }
+    ensures after { OnOk result (IsGrowing standing.now.present net.now.present growing.new.tree growing.new.queue growing.new.size) }
+    ensures nearer { OnOk result (left growing.new.queue growing.new.size ≤ left growing.old.queue growing.old.size) }
+    ensures stops { IfErr result (IsTooLarge (size (built standing.now.present))) }
+{
+    match add_effect(
+        alloc,
+        standing,
+        &mut growing.tree,
+        pending.trigger,
+        pending.rule,
+    ) {
+        Ok(x) => count_in(standing, net, rules, growing, x),
+        Err(_) => Err(Stop::NoMemory),
+    }
+}
+
+/// The tree of the believed occurrences, and the size of the map. Where that would be more than
+/// 100,000 it is refused, at the first date at which it is.
+pub fn rebuild(
+    alloc: Global,
+    standing: &Standing,
+    net: &DistNet,
+    counter: &mut Counter,
+) -> Result<Projected, Stop>
+    requires network { IsNetOf standing.now.present net.now.present }
+    ensures seen { IfOk result (λ projected. IsSeen standing.now.present net.now.present projected.tree) }
+    ensures holds { IfOk result (λ projected. Holds (built standing.now.present).believed projected.tree) }
+    ensures size { IfOk result (λ projected. projected.size ≡ size (built standing.now.present)) }
+    ensures small { IfOk result (λ projected. projected.size ≤ most_size) }
+    ensures stops { IfErr result (IsTooLarge (size (built standing.now.present))) }
+{
+    let Ok(rules) = RulesByKind::of(alloc, standing) else {
+        return Err(Stop::NoMemory);
+    };
+    let mut growing = Growing {
+        tree: Tree::make(alloc),
+        queue: Queue::make(alloc),
+        size: 0,
+    };
+    for place in 0..standing.len() {
+        declare(alloc, standing, net, &rules, &mut growing, place)?;
+    }
+    while let Some(pending) = growing.queue.pop() {
+        settle(
+            alloc,
+            standing,
+            net,
+            &rules,
+            &mut growing,
+            &pending,
+            counter,
+        )?;
+    }
+    Ok(Projected {
+        tree: growing.tree,
+        size: growing.size,
+    })
+}
