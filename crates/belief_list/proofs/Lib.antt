@@ -1,0 +1,4 @@
+pub mod Lookups
+pub mod Deltas
+pub mod Tables
+pub mod Ordered

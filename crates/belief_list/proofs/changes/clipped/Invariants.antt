@@ -1,0 +1,11 @@
+use Rattle.std.proofs.Common.{◌≡◌, ◌++◌, map, drop}
+use Rattle.std.specs.List.{filter_map}
+use Rattle.tmm_model.specs.Changes.{clip_pair}
+use Rattle.belief_list.specs.Rows.{row_at}
+use Rattle.belief_list.specs.Compared.{clip_row}
+use Rattle.belief_list.proofs.changes.clipped.Given as goal
+
+abbrev pub invariant-loop-row : goal.invariant-loop-row
+invariant-loop-row l =
+    map clip_pair l.clips.items ++ filter_map (clip_row (map (row_at l.before.tree.now) l.before.rows.now)) (map (row_at l.tree) (drop l.row-index l.rows))
+    ≡ filter_map (clip_row (map (row_at l.before.tree.now) l.before.rows.now)) (map (row_at l.tree) l.rows)

@@ -1,0 +1,15 @@
+//! The believed occurrences in order, each with its earliest date and its clip, and what changed
+//! between two such lists. It stands on `supports`.
+//!
+//! `listed` answers the rows of the map of a standing list; `compare` answers what of belief changed
+//! from one list of rows to another, as it is defined for their maps; `list_rows` tells the rows for a
+//! reply. Where there is no memory nothing has changed.
+#![tactic(auto)]
+
+mod changes;
+mod list;
+#[cfg(test)]
+mod tests;
+
+pub use changes::{BeliefChanges, compare};
+pub use list::{BeliefRow, list_rows, listed};

@@ -1,0 +1,19 @@
+//! Calls that answer, where nothing is believed.
+ghost use Rattle.std.specs.Prelude.{◌≡◌};
+
+use super::*;
+use occ_tree::Tree;
+use std::test::Fail;
+
+#[test]
+fn nothing_is_told_of_empty_trees(rt: HostRuntime) -> Result<(), Fail> {
+    let tree = Tree::make(rt.alloc());
+    let told = list_rows(rt.alloc(), &tree, &[])?;
+    let changes = compare(rt.alloc(), &tree, &[], &tree, &[])?;
+    assert_eq!(rt; told.items().len(), 0);
+    assert_eq!(rt; changes.left.items().len(), 0);
+    assert_eq!(rt; changes.entered.items().len(), 0);
+    assert_eq!(rt; changes.loose.items().len(), 0);
+    assert_eq!(rt; changes.clips.items().len(), 0);
+    Ok(())
+}
