@@ -1,0 +1,31 @@
+-- Why a point that a question names has no spot: a refusal, or want of memory for the refused word.
+use Rattle.std.specs.Prelude.{ℕ, List, [], ◌∷◌, Some, IsSome}
+use Rattle.tmm_model.specs.declared.point.Occ.{Occ}
+use Rattle.tmm_model.specs.declared.point.QueryPoint.{QueryPoint}
+use Rattle.tmm_model.specs.declared.point.QueryPoint.TheVariants.{Declared, Derived}
+use Rattle.tmm_model.specs.declared.refusal.Stop.{Stop}
+use Rattle.tmm_model.specs.declared.refusal.Stop.TheVariants.{Refused, NoMemory}
+use Rattle.tmm_model.specs.Maps.{TimeMap}
+use Rattle.tmm_model.specs.Points.{occ_word}
+use Rattle.tmm_model.specs.Questions.{point_cause, derived_cause, why_cause}
+use Rattle.tmm_model.specs.Verdicts.{Tells, unknown}
+
+-- only the word of a derived occurrence that is not believed asks for memory
+abbrev pub StopsPoint : TimeMap → QueryPoint → Stop → Type 0
+StopsPoint m point (Refused refusal) = Tells refusal (point_cause m point)
+StopsPoint m (Declared p) NoMemory = ⊥
+StopsPoint m (Derived o) NoMemory = IsSome (derived_cause m o)
+
+abbrev pub StopsFor : TimeMap → Occ → List (List ℕ) → Stop → Type 0
+StopsFor m o rules (Refused refusal) = Tells refusal (why_cause m o rules)
+StopsFor m o [] NoMemory = ⊥
+StopsFor m o (r ∷ rules) NoMemory = IsSome (derived_cause m o)
+
+-- the same where reasons are asked for
+abbrev pub StopsWhy : TimeMap → Occ → Stop → Type 0
+StopsWhy m o stop = StopsFor m o o.rules.items stop
+
+-- the occurrence is told to be unknown, or there is no memory for its word
+abbrev pub StopsUnknown : Occ → Stop → Type 0
+StopsUnknown o (Refused refusal) = Tells refusal (Some (unknown (occ_word o)))
+StopsUnknown o NoMemory = Unit {0}

@@ -1,0 +1,169 @@
+// Whether a fact holds.
+ghost use Rattle.std.specs.Prelude.{◌≡◌, ℕ, pos, ◌++◌, ◌∷◌, [], None, map, IfOk, OnOk, IsSome};
+ghost use Rattle.std.specs.List.{All};
+ghost use Rattle.tmm_model.specs.Answers.{ask, finding_of, blame_of, fault_of};
+ghost use Rattle.tmm_model.specs.Beliefs.{holder};
+ghost use Rattle.tmm_model.specs.Bounds.{bound_at_most};
+ghost use Rattle.tmm_model.specs.Maps.{built};
+ghost use Rattle.tmm_model.specs.Sorts.{class_in};
+ghost use Rattle.tmm_model.specs.Standing.{far_in};
+ghost use Rattle.spots.specs.Forest.{IsLive};
+ghost use Rattle.spots.specs.Seen.{IsSeen, HasList, Holds};
+ghost use Rattle.spots.specs.Spots.{IsSpot, spot_moment, spot_distance};
+ghost use Rattle.supports.specs.Faults.{fault_at};
+ghost use Rattle.tt_query.specs.Firsts.{blame_at, failing_of, HasNoSupporter};
+
+use crate::firsts::{BLAMES, first_tokens};
+use dist_net::DistNet;
+use occ_tree::Tree;
+use premise_list::Standing;
+use spots::Spot;
+use std::alloc::Global;
+use supports::{NodeFault, blame, supporter};
+use tmm_model::{Answer, Blame, Bound, Cause, Name, NoMemory, Seq};
+
+/// Whether a fact holds throughout two spots: it does by its first supporter, and where none is there,
+/// its first 8 tokens in the order of occurrences are blamed.
+pub fn ask(
+    alloc: Global,
+    standing: &Standing,
+    tree: &Tree,
+    net: &DistNet,
+    fact: Name,
+    p: Spot,
+    q: Spot,
+) -> Result<Answer, NoMemory>
+    requires seen { IsSeen standing.now.present net.now.present tree.now }
+    requires holds { Holds (built standing.now.present).believed tree.now }
+    requires fact { IsSome (class_in standing.now.present.premises fact) }
+    requires p { IsSpot net.now.present.names tree.now p }
+    requires q { IsSpot net.now.present.names tree.now q }
+    ensures { IfOk result (λ answer. finding_of answer ≡ ask (built standing.now.present) fact (spot_moment net.now.present.names tree.now p) (spot_moment net.now.present.names tree.now q)) }
+{
+    if !is_by(tree, net, p, q) {
+        return Ok(Answer::Unordered);
+    }
+    match supporter(standing, tree, net, fact, p, q) {
+        Some(x) => match tree.occ_of(alloc, x) {
+            Ok(token) => Ok(Answer::Yes(token)),
+            Err(_) => Err(NoMemory),
+        },
+        None => blamed(alloc, standing, tree, net, fact, p, q),
+    }
+}
+
+// Whether the first spot is surely at or before the second.
+fn is_by(tree: &Tree, net: &DistNet, p: Spot, q: Spot) -> bool
+    requires list { HasList net.now.present tree.now }
+    requires p { IsSpot net.now.present.names tree.now p }
+    requires q { IsSpot net.now.present.names tree.now q }
+    ensures { result ≡ bound_at_most (spot_distance net.now.present tree.now q p) (pos 0) }
+{
+    match tree.far(net, q, p) {
+        Bound::Finite(far) => far <= 0,
+        Bound::Free => false,
+    }
+}
+
+// The answer where the fact has no supporter.
+fn blamed(
+    alloc: Global,
+    standing: &Standing,
+    tree: &Tree,
+    net: &DistNet,
+    fact: Name,
+    p: Spot,
+    q: Spot,
+) -> Result<Answer, NoMemory>
+    requires seen { IsSeen standing.now.present net.now.present tree.now }
+    requires holds { Holds (built standing.now.present).believed tree.now }
+    requires fact { IsSome (class_in standing.now.present.premises fact) }
+    requires p { IsSpot net.now.present.names tree.now p }
+    requires q { IsSpot net.now.present.names tree.now q }
+    requires none { holder standing.now.present (far_in standing.now.present.premises) (built standing.now.present).believed fact (spot_moment net.now.present.names tree.now p) (spot_moment net.now.present.names tree.now q) ≡ None }
+    ensures { IfOk result (λ answer. finding_of answer ≡ failing_of (built standing.now.present) fact (spot_moment net.now.present.names tree.now p) (spot_moment net.now.present.names tree.now q)) }
+{
+    let class = match standing.class_of(fact) {
+        Some(class) => class,
+        None => unreachable!(),
+    };
+    let rows = tree.tokens(class);
+    let first = first_tokens(tree, net, class, rows, fact);
+    let blames = blames(alloc, standing, tree, net, first.nodes.as_slice(), p, q)?;
+    Ok(Answer::No {
+        blames,
+        more: first.count.saturating_sub(BLAMES) as u64,
+    })
+}
+
+// Tokens of a fact that has no supporter, each with its fault.
+fn blames(
+    alloc: Global,
+    standing: &Standing,
+    tree: &Tree,
+    net: &DistNet,
+    nodes: &[u32],
+    p: Spot,
+    q: Spot,
+) -> Result<Seq<Blame>, NoMemory>
+    requires seen { IsSeen standing.now.present net.now.present tree.now }
+    requires holds { Holds (built standing.now.present).believed tree.now }
+    requires p { IsSpot net.now.present.names tree.now p }
+    requires q { IsSpot net.now.present.names tree.now q }
+    requires none { All (HasNoSupporter standing.now.present tree.now (spot_moment net.now.present.names tree.now p) (spot_moment net.now.present.names tree.now q)) nodes.now }
+    ensures { IfOk result (λ blames. map blame_of blames.items ≡ map (blame_at (built standing.now.present) tree.now (spot_moment net.now.present.names tree.now p) (spot_moment net.now.present.names tree.now q)) nodes.now) }
+{
+    let mut blames = Seq::make(alloc);
+    for x in nodes {
+        push(
+            &mut blames,
+            blame_node(alloc, standing, tree, net, *x, p, q)?,
+        )?;
+    }
+    Ok(blames)
+}
+
+fn push(blames: &mut Seq<Blame>, blame: Blame) -> Result<(), NoMemory>
+    ensures { OnOk result (blames.new.items ≡ blames.old.items ++ blame ∷ []) }
+{
+    match blames.push(blame) {
+        Ok(()) => Ok(()),
+        Err(_) => Err(NoMemory),
+    }
+}
+
+// A token of a fact that has no supporter, with its fault.
+fn blame_node(
+    alloc: Global,
+    standing: &Standing,
+    tree: &Tree,
+    net: &DistNet,
+    x: u32,
+    p: Spot,
+    q: Spot,
+) -> Result<Blame, NoMemory>
+    requires seen { IsSeen standing.now.present net.now.present tree.now }
+    requires holds { Holds (built standing.now.present).believed tree.now }
+    requires p { IsSpot net.now.present.names tree.now p }
+    requires q { IsSpot net.now.present.names tree.now q }
+    requires none { HasNoSupporter standing.now.present tree.now (spot_moment net.now.present.names tree.now p) (spot_moment net.now.present.names tree.now q) x }
+    ensures { IfOk result (λ blame. blame_of blame ≡ blame_at (built standing.now.present) tree.now (spot_moment net.now.present.names tree.now p) (spot_moment net.now.present.names tree.now q) x) }
+{
+    let cause = cause_of(alloc, tree, blame(standing, tree, net, x, p, q))?;
+    Ok(Blame {
+        token: tree.occ_of(alloc, x)?,
+        cause,
+    })
+}
+
+// A fault, told of occurrences.
+fn cause_of(alloc: Global, tree: &Tree, fault: NodeFault) -> Result<Cause, NoMemory>
+    requires { (c : ℕ) → fault ≡ NodeFault.Clipped c → IsLive tree.now c }
+    ensures { IfOk result (λ cause. fault_of cause ≡ fault_at tree.now fault) }
+{
+    Ok(match fault {
+        NodeFault::Late => Cause::Late,
+        NodeFault::Clipped(by) => Cause::Clipped(tree.occ_of(alloc, by)?),
+        NodeFault::Ends => Cause::Ends,
+    })
+}

@@ -1,0 +1,98 @@
+// The spot of a point that a question names.
+ghost use Rattle.std.specs.Prelude.{◌≡◌, [], None, IfOk, IfErr};
+ghost use Rattle.tmm_model.specs.Lines.{IsWellFormedQueryPoint, IsWellFormedOcc};
+ghost use Rattle.tmm_model.specs.Maps.{built};
+ghost use Rattle.tmm_model.specs.Moments.{moment_of, moment_of_point};
+ghost use Rattle.tmm_model.specs.Questions.{point_cause, why_cause};
+ghost use Rattle.dist_net.specs.Net.{Net};
+ghost use Rattle.spots.specs.Forest.{IsLive, moment_at};
+ghost use Rattle.spots.specs.Seen.{IsSeen, Holds};
+ghost use Rattle.spots.specs.Spots.{IsSpot, spot_moment};
+ghost use Rattle.tt_query.specs.Stops.{StopsPoint, StopsWhy, StopsUnknown};
+
+use dist_net::DistNet;
+use list_net::number_of;
+use occ_tree::Tree;
+use premise_list::Standing;
+use spots::Spot;
+use std::alloc::Global;
+use tmm_model::{Occ, PointName, QueryPoint, Refusal, Stop};
+
+/// The spot of a point that a question names. A declared point asks for no memory.
+pub fn resolve(
+    alloc: Global,
+    standing: &Standing,
+    tree: &Tree,
+    net: &DistNet,
+    point: &QueryPoint,
+) -> Result<Spot, Stop>
+    requires seen { IsSeen standing.now.present net.now.present tree.now }
+    requires holds { Holds (built standing.now.present).believed tree.now }
+    requires well_formed { IsWellFormedQueryPoint point.now }
+    ensures known { IfOk result (λ spot. point_cause (built standing.now.present) point.now ≡ None) }
+    ensures spot { IfOk result (IsSpot net.now.present.names tree.now) }
+    ensures moment { IfOk result (λ spot. spot_moment net.now.present.names tree.now spot ≡ moment_of_point point.now) }
+    ensures stops { IfErr result (StopsPoint (built standing.now.present) point.now) }
+{
+    match point {
+        QueryPoint::Declared(place) => match standing.check_place(*place) {
+            Ok(()) => Ok(Spot::Declared(number_of(net, *place))),
+            Err(refusal) => Err(Stop::Refused(refusal)),
+        },
+        QueryPoint::Derived(occ) => match tree.find(occ) {
+            Some(x) => Ok(Spot::Node(x)),
+            None => Err(unknown(alloc, occ)),
+        },
+    }
+}
+
+/// The node of an occurrence whose reasons are asked for. A declared event, token or span asks for no
+/// memory.
+pub fn resolve_why(alloc: Global, standing: &Standing, tree: &Tree, occ: &Occ) -> Result<u32, Stop>
+    requires seen { (net : Net) × IsSeen standing.now.present net tree.now }
+    requires holds { Holds (built standing.now.present).believed tree.now }
+    requires well_formed { IsWellFormedOcc occ.now }
+    ensures known { IfOk result (λ x. why_cause (built standing.now.present) occ.now occ.now.rules.items ≡ None) }
+    ensures there { IfOk result (IsLive tree.now) }
+    ensures moment { IfOk result (λ x. moment_at tree.now x ≡ moment_of occ.now) }
+    ensures stops { IfErr result (StopsWhy (built standing.now.present) occ.now) }
+{
+    if occ.rules.items().is_empty() {
+        return resolve_root(standing, tree, occ);
+    }
+    match tree.find(occ) {
+        Some(x) => Ok(x),
+        None => Err(unknown(alloc, occ)),
+    }
+}
+
+// The node of a declared event, token or span.
+fn resolve_root(standing: &Standing, tree: &Tree, occ: &Occ) -> Result<u32, Stop>
+    requires seen { (net : Net) × IsSeen standing.now.present net tree.now }
+    requires holds { Holds (built standing.now.present).believed tree.now }
+    requires root { occ.now.rules.items ≡ [] }
+    ensures known { IfOk result (λ x. why_cause (built standing.now.present) occ.now [] ≡ None) }
+    ensures there { IfOk result (IsLive tree.now) }
+    ensures moment { IfOk result (λ x. moment_at tree.now x ≡ moment_of occ.now) }
+    ensures stops { IfErr result (StopsWhy (built standing.now.present) occ.now) }
+{
+    let root = occ.root;
+    if let Err(refusal) = standing.check_place(PointName::Begin(root)) {
+        return Err(Stop::Refused(refusal));
+    }
+    // of what begins at a point, only a plain point is no occurrence
+    match tree.find(occ) {
+        Some(x) => Ok(x),
+        None => Err(Stop::Refused(Refusal::Sort(QueryPoint::Declared(PointName::Begin(root))))),
+    }
+}
+
+// The refusal of an occurrence that is not believed.
+fn unknown(alloc: Global, occ: &Occ) -> Stop
+    ensures { StopsUnknown occ.now result }
+{
+    match occ.copy(alloc) {
+        Ok(occ) => Stop::Refused(Refusal::Unknown(QueryPoint::Derived(occ))),
+        Err(_) => Stop::NoMemory,
+    }
+}
