@@ -1,0 +1,73 @@
+// The broken protections of a map.
+ghost use Rattle.std.specs.Prelude.{◌≡◌, map, IfOk};
+ghost use Rattle.std.specs.Option.{option_map};
+ghost use Rattle.std.specs.List.{Contains};
+ghost use Rattle.tmm_model.specs.Answers.{broken, reports, report_of};
+ghost use Rattle.tmm_model.specs.Maps.{built};
+ghost use Rattle.spots.specs.Seen.{IsSeen, Holds};
+
+use crate::lists::push_some;
+use dist_net::DistNet;
+use list_net::number_of;
+use occ_tree::Tree;
+use premise_list::Standing;
+use spots::Spot;
+use std::alloc::Global;
+use tmm_model::{Answer, NoMemory, Premise, Report, Seq};
+use tt_query::ask;
+
+/// The broken protections, in the order of premises, each with its answer.
+pub fn report(
+    alloc: Global,
+    standing: &Standing,
+    tree: &Tree,
+    net: &DistNet,
+) -> Result<Seq<Report>, NoMemory>
+    requires seen { IsSeen standing.now.present net.now.present tree.now }
+    requires holds { Holds (built standing.now.present).believed tree.now }
+    ensures { IfOk result (λ found. map report_of found.items ≡ reports (built standing.now.present)) }
+{
+    let mut found = Seq::make(alloc);
+    for i in 0..standing.len() {
+        match standing.at(i) {
+            Some(premise) => push_some(&mut found, broken(alloc, standing, tree, net, premise)?)?,
+            None => unreachable!(),
+        }
+    }
+    Ok(found)
+}
+
+// The report of a premise that is a broken protection.
+fn broken(
+    alloc: Global,
+    standing: &Standing,
+    tree: &Tree,
+    net: &DistNet,
+    premise: &Premise,
+) -> Result<Option<Report>, NoMemory>
+    requires seen { IsSeen standing.now.present net.now.present tree.now }
+    requires holds { Holds (built standing.now.present).believed tree.now }
+    requires stands { Contains standing.now.present.premises premise.now }
+    ensures { IfOk result (λ found. option_map report_of found ≡ broken (built standing.now.present) premise.now) }
+{
+    match premise {
+        Premise::Protect {
+            name,
+            fact,
+            from,
+            to,
+        } => {
+            let first = Spot::Declared(number_of(net, *from));
+            let last = Spot::Declared(number_of(net, *to));
+            match ask(alloc, standing, tree, net, *fact, first, last) {
+                Ok(Answer::Yes(_)) => Ok(None),
+                Ok(answer) => Ok(Some(Report {
+                    name: *name,
+                    answer,
+                })),
+                Err(_) => Err(NoMemory),
+            }
+        }
+        _ => Ok(None),
+    }
+}
