@@ -19,6 +19,8 @@ points() { for ((i = 1; i <= $1; i++)); do echo "point p$i"; done; }
 dists() { for ((i = 1; i <= $1; i++)); do echo "dist d$i p1 p1 0 *"; done; }
 chain() { for ((i = 1; i < $1; i++)); do echo "dist d$i p$i p$((i + 1)) $2 $3"; done; }
 
+effects() { printf 'kind t\nevent e t\ndist z start e 0 0\nhorizon 444\nrule r t 1 1 t\n'; }
+
 last "255 ok" "256 points with start" < <(points 255)
 last "256 no limit points" "the 257th point" < <(points 256)
 last "2000 ok" "2,000 premises" < <(points 1; dists 1999)
@@ -29,6 +31,13 @@ last "4 no cycle -1000000000" "a point before start" \
   < <(points 2; echo "dist s start p1 0 0"; chain 2 -1000000000 -1000000000)
 last "510 no cycle -1" "a chain that is one too short" \
   < <(points 255; chain 255 3 7; echo "dist x p1 p255 0 761")
+last "258 no limit points" "a span's two points" \
+  < <(echo "class c f g"; points 254; echo "span s f"; echo "point q"; echo "point z")
+last "2003 ok" "a premise in the place of one that was erased" \
+  < <(for ((i = 1; i <= 2000; i++)); do echo "kind k$i"; done; echo "kind x"; echo "erase k7"; echo "kind x")
+last "6 size 99680" "a chain of 444 effects" < <(effects; echo "size")
+last "6 no limit size" "one effect more than a map may have" < <(effects; echo "horizon 445")
+last "7 size 99680" "the map that a refused edit leaves" < <(effects; echo "horizon 445"; echo "size")
 last "" "a line of 400 bytes" < <(printf '# %0398d' 0)
 last "1 no limit line" "a line of 401 bytes" < <(printf '# %0399d' 0)
 

@@ -1,1 +1,4 @@
-mod Distances
+mod NextLists
+mod Told
+mod Walked
+mod Bases

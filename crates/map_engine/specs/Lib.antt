@@ -1,4 +1,5 @@
 pub mod Steps
 pub mod Stops
-pub mod Changed
+pub mod Beliefs
 pub mod Plain
+pub mod Questions

@@ -1,10 +1,14 @@
-//! The map: a standing list with its distances, of which one edit may be pending. It knows all layers
-//! below and is known to the program alone. `MapCore` is its contract: an edit is accepted exactly
-//! where the definitions say so, and a refusal changes nothing.
+//! The map: a standing list with its distances, its beliefs and its broken protections, of which one
+//! edit may be pending. It knows all layers below and is known to the program alone. `MapCore` is its
+//! contract: every answer is that of the map which is built of the list from scratch, an edit is
+//! accepted exactly where the definitions say so, and a refusal changes nothing.
 #![tactic(auto)]
 
+mod beliefs;
+mod edited;
 mod map_core;
 mod plain;
+mod questions;
 
 pub use map_core::{MapCore, Pending};
 pub use plain::PlainMap;

@@ -1,17 +1,26 @@
 // What the program asks of a map.
-ghost use Rattle.std.specs.Prelude.{◌≡◌, None, Some, IfOk, IfErr, OnErr, IsTrue};
+ghost use Rattle.std.specs.Prelude.{◌≡◌, None, Some, map, IfOk, IfErr, OnErr};
 ghost use Rattle.std.specs.declared.option.Option.{Option};
+ghost use Rattle.tmm_model.specs.Answers.{ask, finding_of, reports, report_of, rows, row_of, size};
 ghost use Rattle.tmm_model.specs.Bounds.{bound_negated};
-ghost use Rattle.tmm_model.specs.Lines.{IsWellFormedEdit, IsWellFormedQuery};
-ghost use Rattle.tmm_model.specs.Standing.{Standing as StandingList};
-ghost use Rattle.tmm_model.specs.Steps.{Accepts, AreChanges, distance_of};
+ghost use Rattle.tmm_model.specs.Changes.{changes, delta_of};
 ghost use Rattle.tmm_model.specs.Edits.{next_list};
-ghost use Rattle.map_engine.specs.Steps.{GivesWalk, is_built_edit, question_cause};
+ghost use Rattle.tmm_model.specs.Kept.{IsAccepted};
+ghost use Rattle.tmm_model.specs.Lines.{IsWellFormedEdit, IsWellFormedQuery};
+ghost use Rattle.tmm_model.specs.Maps.{built, gap};
+ghost use Rattle.tmm_model.specs.Moments.{moment_of_point};
+ghost use Rattle.tmm_model.specs.Paths.{GivesPath};
+ghost use Rattle.tmm_model.specs.Questions.{query_cause};
+ghost use Rattle.tmm_model.specs.Standing.{Standing as List};
 ghost use Rattle.map_engine.specs.Stops.{StopsEdit, StopsQuery};
 
 use premise_list::Standing;
+use projection::Counter;
 use std::alloc::Global;
-use tmm_model::{Bound, Changes, Edit, Query, QueryPoint, Seq, Stop, WalkStep};
+use tmm_model::{
+    Answer, Bound, Changes, Edit, ListRow, Name, NoMemory, Query, QueryPoint, Report, Seq, Stop,
+    WalkStep,
+};
 
 /// An edit that is made and not yet committed, and what it changed.
 #[derive(Drop)]
@@ -19,22 +28,22 @@ pub struct Pending {
     pub changes: Changes,
 }
 
-/// A map of standing premises.
+/// A map of standing premises. Every answer is that of the map which is built of its list from
+/// scratch. Questions are asked while no edit is pending.
 pub trait MapCore {
     /// The standing list of the last commit.
-    ghost list: { Self → StandingList };
+    ghost list: { Self → List };
 
     /// The list that a pending edit leaves.
-    ghost pending: { Self → Option StandingList };
+    ghost pending: { Self → Option List };
 
     /// Makes an edit, and leaves it pending. A refusal is the first cause that holds. A refused edit,
-    /// or one for which there is no memory, changes nothing.
-    fn apply(&mut self, alloc: Global, edit: &Edit) -> Result<Pending, Stop>
+    /// or one for which there is no memory, changes nothing. `counter` counts decisions.
+    fn apply(&mut self, alloc: Global, edit: &Edit, counter: &mut Counter) -> Result<Pending, Stop>
         requires idle { pending self.old ≡ None }
         requires well_formed { IsWellFormedEdit edit.now }
-        requires built { IsTrue (is_built_edit edit.now) }
-        ensures accepted { IfOk result (λ made. Accepts (list self.old) edit.now) }
-        ensures changes { IfOk result (λ made. AreChanges (list self.old) edit.now made.changes) }
+        ensures accepted { IfOk result (λ made. IsAccepted (list self.old) edit.now) }
+        ensures changes { IfOk result (λ made. delta_of made.changes ≡ changes (list self.old) (next_list (list self.old) edit.now)) }
         ensures pending { IfOk result (λ made. pending self.new ≡ Some (next_list (list self.old) edit.now)) }
         ensures stops { IfErr result (StopsEdit (list self.old) edit.now) }
         ensures idle { OnErr result (pending self.new ≡ None) }
@@ -42,32 +51,27 @@ pub trait MapCore {
 
     /// Keeps the pending edit. It takes no memory.
     fn commit(&mut self)
-        requires { (next : StandingList) × (pending self.old ≡ Some next) }
+        requires { (next : List) × (pending self.old ≡ Some next) }
         ensures list { pending self.old ≡ Some (list self.new) }
         ensures idle { pending self.new ≡ None };
 
     /// Undoes the pending edit. It takes no memory.
     fn rollback(&mut self)
-        requires { (next : StandingList) × (pending self.old ≡ Some next) }
+        requires { (next : List) × (pending self.old ≡ Some next) }
         ensures list { list self.new ≡ list self.old }
         ensures idle { pending self.new ≡ None };
-
-    /// The standing list, with its horizon.
-    fn standing(&self) -> &Standing
-        requires { pending self.now ≡ None }
-        ensures { result.now.present ≡ list self.now };
 
     /// The lower and the upper bound on the date of the second point less that of the first.
     fn bounds(&self, alloc: Global, p: &QueryPoint, q: &QueryPoint) -> Result<(Bound, Bound), Stop>
         requires idle { pending self.now ≡ None }
         requires well_formed { IsWellFormedQuery (Query.Bounds p.now q.now) }
-        ensures known { IfOk result (λ found. question_cause (list self.now).premises (Query.Bounds p.now q.now) ≡ None) }
-        ensures low { IfOk result (λ found. found.0 ≡ bound_negated (distance_of (list self.now).premises q.now p.now)) }
-        ensures high { IfOk result (λ found. found.1 ≡ distance_of (list self.now).premises p.now q.now) }
+        ensures known { IfOk result (λ found. query_cause (built (list self.now)) (Query.Bounds p.now q.now) ≡ None) }
+        ensures low { IfOk result (λ found. found.0 ≡ bound_negated (gap (built (list self.now)) (moment_of_point q.now) (moment_of_point p.now))) }
+        ensures high { IfOk result (λ found. found.1 ≡ gap (built (list self.now)) (moment_of_point p.now) (moment_of_point q.now)) }
         ensures stops { IfErr result (StopsQuery (list self.now) (Query.Bounds p.now q.now)) };
 
-    /// The upper bound on the date of the second point less that of the first, and the constraints of
-    /// a walk that gives it. Without a bound there are none.
+    /// The upper bound on the date of the second point less that of the first, and where there is one,
+    /// the constraints of a walk between their declared points that gives the bound on these.
     fn path(
         &self,
         alloc: Global,
@@ -76,7 +80,35 @@ pub trait MapCore {
     ) -> Result<(Bound, Seq<WalkStep>), Stop>
         requires idle { pending self.now ≡ None }
         requires well_formed { IsWellFormedQuery (Query.Path p.now q.now) }
-        ensures known { IfOk result (λ found. question_cause (list self.now).premises (Query.Path p.now q.now) ≡ None) }
-        ensures gives { IfOk result (λ found. GivesWalk (list self.now).premises p.now q.now found.0 found.1.items) }
+        ensures known { IfOk result (λ found. query_cause (built (list self.now)) (Query.Path p.now q.now) ≡ None) }
+        ensures gives { IfOk result (λ found. GivesPath (built (list self.now)) (moment_of_point p.now) (moment_of_point q.now) found.0 found.1.items) }
         ensures stops { IfErr result (StopsQuery (list self.now) (Query.Path p.now q.now)) };
+
+    /// Whether a fact holds from one point to another.
+    fn ask(&self, alloc: Global, fact: Name, p: &QueryPoint, q: &QueryPoint) -> Result<Answer, Stop>
+        requires idle { pending self.now ≡ None }
+        requires well_formed { IsWellFormedQuery (Query.Ask fact p.now q.now) }
+        ensures known { IfOk result (λ answer. query_cause (built (list self.now)) (Query.Ask fact p.now q.now) ≡ None) }
+        ensures answer { IfOk result (λ answer. finding_of answer ≡ ask (built (list self.now)) fact (moment_of_point p.now) (moment_of_point q.now)) }
+        ensures stops { IfErr result (StopsQuery (list self.now) (Query.Ask fact p.now q.now)) };
+
+    /// The broken protections, in the order of premises.
+    fn check(&self, alloc: Global) -> Result<Seq<Report>, NoMemory>
+        requires idle { pending self.now ≡ None }
+        ensures { IfOk result (λ found. map report_of found.items ≡ reports (built (list self.now))) };
+
+    /// The believed occurrences, in their order.
+    fn list(&self, alloc: Global) -> Result<Seq<ListRow>, NoMemory>
+        requires idle { pending self.now ≡ None }
+        ensures { IfOk result (λ found. map row_of found.items ≡ rows (built (list self.now))) };
+
+    /// The standing premises and their horizon.
+    fn standing(&self) -> &Standing
+        requires idle { pending self.now ≡ None }
+        ensures { result.now.present ≡ list self.now };
+
+    /// The size of the map.
+    fn size(&self) -> u64
+        requires idle { pending self.now ≡ None }
+        ensures { result ≡ size (built (list self.now)) };
 }

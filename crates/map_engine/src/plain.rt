@@ -1,43 +1,51 @@
-// The plain map: distances are kept current, and nothing else is kept.
-ghost use Rattle.std.specs.Prelude.{◌≡◌, [], None, IfOk, IfErr, OnOk, OnErr, true, false};
-ghost use Rattle.tmm_model.specs.Standing.{Standing, empty_list, IsConsistent};
-ghost use Rattle.tmm_model.specs.Edits.{next_list};
-ghost use Rattle.tmm_model.specs.Lines.{IsWellFormedEdit};
-ghost use Rattle.tmm_model.specs.Steps.{erased_names, point_cause};
-ghost use Rattle.tmm_model.specs.Verdicts.{list_cause};
-ghost use Rattle.tmm_model.specs.Walks.{IsFar};
-ghost use Rattle.dist_net.specs.Net.{IsInUse, arcs_of};
-ghost use Rattle.list_net.specs.Fits.{Fits, IsSettled};
-ghost use Rattle.map_engine.specs.Plain.{IsNumberOfPoint, ReachesIn};
-ghost use Rattle.map_engine.specs.Stops.{StopsEdit, StopsPoint};
-ghost use Rattle.map_engine.specs.Changed.{OnlyErases};
+// The plain map: distances are kept current, and beliefs are made afresh at each edit.
+ghost use Rattle.std.specs.Prelude.{◌≡◌, None, IfOk, IfErr};
+ghost use Rattle.tmm_model.specs.Answers.{size};
+ghost use Rattle.tmm_model.specs.Changes.{changes, delta_of};
+ghost use Rattle.tmm_model.specs.Maps.{built};
+ghost use Rattle.tmm_model.specs.Standing.{Standing as List, empty_list};
+ghost use Rattle.dist_net.specs.Net.{Net};
+ghost use Rattle.belief_list.specs.Rows.{IsListing};
+ghost use Rattle.list_net.specs.Fits.{IsNetOf};
+ghost use Rattle.map_engine.specs.Beliefs.{AreBeliefs, IsLeftOut};
+ghost use Rattle.projection.specs.Queues.{IsTooLarge};
 
+use crate::beliefs::{Beliefs, believe, changes_to};
+use crate::edited::edited;
 use crate::map_core::{MapCore, Pending};
+use crate::questions::{ask_between, bounds_between, path_between};
+use belief_list::list_rows;
 use dist_net::DistNet;
-use list_net::{add_premise, erase_premise, number_of};
-use neg_cycle::walk;
 use premise_list::Standing;
+use projection::Counter;
+use protections::copied;
 use std::alloc::Global;
 use std::marker::Model;
-use tmm_model::{Bound, Changes, Edit, Name, NoMemory, QueryPoint, Refusal, Seq, Stop, WalkStep};
+use tmm_model::{
+    Answer, Bound, Changes, Edit, ListRow, Name, NoMemory, QueryPoint, Report, Seq, Stop, WalkStep,
+};
 
-/// A map that keeps the standing list and its distances. The list and the distances before a pending
-/// edit are kept until it is committed.
+/// A map that keeps the standing list, its distances and its beliefs. Those before a pending edit are
+/// kept until it is committed.
 #[derive(Drop)]
 pub struct PlainMap {
     standing: Standing,
     net: DistNet,
-    pending: bool,
+    // of the list of the last commit
+    beliefs: Beliefs,
+    // of the list that a pending edit leaves
+    next: Option<Beliefs>,
 }
 
 impl Model for PlainMap {
-    ghost use Rattle.map_engine.specs.Plain.{MapState, IsPlain, pending_list};
+    ghost use Rattle.std.specs.Option.{option_map};
+    ghost use Rattle.map_engine.specs.Plain.{MapState, IsPlain};
 
     ghost Value = { MapState };
 
-    ghost view = { λ m. record { list = m.standing.committed; pending = pending_list m.pending m.standing.present } };
+    ghost view = { λ m. record { list = m.standing.committed; pending = option_map (λ _. m.standing.present) m.next } };
 
-    ghost invariant = { λ m. IsPlain m.standing m.net m.pending };
+    ghost invariant = { λ m. IsPlain m.standing m.net m.beliefs m.next };
 }
 
 impl PlainMap {
@@ -46,12 +54,53 @@ impl PlainMap {
         ensures list { IfOk result (λ m. m.list ≡ empty_list) }
         ensures idle { IfOk result (λ m. m.pending ≡ None) }
     {
-        Ok(PlainMap {
-            standing: Standing::make(alloc),
-            net: DistNet::make(alloc)?,
-            pending: false,
-        })
+        let standing = Standing::make(alloc);
+        let net = DistNet::make(alloc)?;
+        let _ = net.edges();
+        let mut counter = Counter::zero();
+        match believe(alloc, &standing, &net, &mut counter) {
+            Ok(beliefs) => Ok(PlainMap {
+                standing,
+                net,
+                beliefs,
+                next: None,
+            }),
+            // The empty map is small, so only memory can be wanting.
+            Err(_) => Err(NoMemory),
+        }
     }
+}
+
+// The beliefs of the list that an edit leaves, and what it changes.
+fn drawn(
+    alloc: Global,
+    standing: &Standing,
+    net: &DistNet,
+    old: &Beliefs,
+    erased: Seq<Name>,
+    counter: &mut Counter,
+) -> Result<(Beliefs, Changes), Stop>
+    requires network { IsNetOf standing.now.present net.now.present }
+    requires old { IsListing old.now.tree old.now.rows.items }
+    ensures beliefs { IfOk result (λ made. AreBeliefs standing.now.present net.now.present made.0) }
+    ensures changes { (list : List) (old_net : Net) → AreBeliefs list old_net old.now → IsLeftOut list standing.now.present erased.items
+        → IfOk result (λ made. delta_of made.1 ≡ changes list standing.now.present) }
+    ensures stops { IfErr result (IsTooLarge (size (built standing.now.present))) }
+{
+    let next = believe(alloc, standing, net, counter)?;
+    match changes_to(alloc, erased, old, &next, standing) {
+        Ok(changes) => Ok((next, changes)),
+        Err(NoMemory) => Err(Stop::NoMemory),
+    }
+}
+
+// Makes the list and its network those of the last commit.
+fn roll_back(standing: &mut Standing, net: &mut DistNet)
+    ensures list { standing.new ≡ record standing.old { present = standing.old.committed } }
+    ensures net { net.new ≡ record net.old { present = net.old.committed } }
+{
+    standing.rollback();
+    net.rollback();
 }
 
 impl MapCore for PlainMap {
@@ -59,31 +108,46 @@ impl MapCore for PlainMap {
 
     ghost pending = { λ m. m.pending };
 
-    fn apply(&mut self, alloc: Global, edit: &Edit) -> Result<Pending, Stop> {
+    fn apply(
+        &mut self,
+        alloc: Global,
+        edit: &Edit,
+        counter: &mut Counter,
+    ) -> Result<Pending, Stop> {
         if let Err(refusal) = self.standing.check(edit) {
             return Err(Stop::Refused(refusal));
         }
-        let erased = make_edit(alloc, &mut self.standing, &mut self.net, edit)?;
-        self.pending = true;
-        Ok(Pending {
-            changes: changes_of(alloc, erased),
-        })
+        let erased = edited(alloc, &mut self.standing, &mut self.net, edit)?;
+        match drawn(
+            alloc,
+            &self.standing,
+            &self.net,
+            &self.beliefs,
+            erased,
+            counter,
+        ) {
+            Ok((next, changes)) => {
+                self.next = Some(next);
+                Ok(Pending { changes })
+            }
+            Err(stop) => {
+                roll_back(&mut self.standing, &mut self.net);
+                Err(stop)
+            }
+        }
     }
 
     fn commit(&mut self) {
-        self.standing.commit();
-        self.net.commit();
-        self.pending = false;
+        if let Some(next) = self.next.take() {
+            self.standing.commit();
+            self.net.commit();
+            self.beliefs = next;
+        }
     }
 
     fn rollback(&mut self) {
-        self.standing.rollback();
-        self.net.rollback();
-        self.pending = false;
-    }
-
-    fn standing(&self) -> &Standing {
-        &self.standing
+        roll_back(&mut self.standing, &mut self.net);
+        self.next = None;
     }
 
     fn bounds(
@@ -92,10 +156,7 @@ impl MapCore for PlainMap {
         p: &QueryPoint,
         q: &QueryPoint,
     ) -> Result<(Bound, Bound), Stop> {
-        let from = resolve(alloc, &self.standing, &self.net, p)?;
-        let to = resolve(alloc, &self.standing, &self.net, q)?;
-        let _ = self.net.edges();
-        Ok((self.net.far(to, from).negated(), self.net.far(from, to)))
+        bounds_between(alloc, &self.standing, &self.beliefs.tree, &self.net, p, q)
     }
 
     fn path(
@@ -104,108 +165,40 @@ impl MapCore for PlainMap {
         p: &QueryPoint,
         q: &QueryPoint,
     ) -> Result<(Bound, Seq<WalkStep>), Stop> {
-        let from = resolve(alloc, &self.standing, &self.net, p)?;
-        let to = resolve(alloc, &self.standing, &self.net, q)?;
-        let _ = self.net.edges();
-        match walk_between(alloc, &self.net, from, to) {
-            Ok(found) => Ok(found),
-            Err(_) => Err(Stop::NoMemory),
-        }
+        path_between(alloc, &self.standing, &self.beliefs.tree, &self.net, p, q)
     }
-}
 
-// Makes an edit that names and counts let through, in the list and in its network, and answers the
-// names of the retracted premises. Otherwise than with `Ok` both are as at the last commit.
-fn make_edit(
-    alloc: Global,
-    standing: &mut Standing,
-    net: &mut DistNet,
-    edit: &Edit,
-) -> Result<Seq<Name>, Stop>
-    requires no_cause { list_cause standing.old.present.premises edit.now ≡ None }
-    requires well_formed { IsWellFormedEdit edit.now }
-    requires fits { Fits standing.old.present net.old.present }
-    requires settled { IsSettled standing.old net.old }
-    ensures names { IfOk result (λ names. names.items ≡ erased_names standing.old.present edit.now) }
-    ensures list { OnOk result (standing.new ≡ record standing.old { present = next_list standing.old.present edit.now }) }
-    ensures fits { OnOk result (Fits standing.new.present net.new.present) }
-    ensures dates { OnOk result (IsConsistent (next_list standing.old.present edit.now).premises) }
-    ensures stops { IfErr result (StopsEdit standing.old.present edit.now) }
-    ensures list_kept { OnErr result (standing.new ≡ standing.old) }
-    ensures net_kept { OnErr result (net.new.present ≡ net.old.present) }
-    ensures committed { net.new.committed ≡ net.old.committed }
-{
-    match edit {
-        Edit::Add(premise) => match add_premise(alloc, standing, net, premise) {
-            Ok(()) => Ok(Seq::make(alloc)),
-            Err(stop) => Err(stop),
-        },
-        Edit::Erase(name) => match erase_premise(alloc, standing, net, *name) {
-            Ok(names) => Ok(names),
-            Err(NoMemory) => Err(Stop::NoMemory),
-        },
-        Edit::Horizon(n) => {
-            let _ = net.edges();
-            standing.set_horizon(*n);
-            Ok(Seq::make(alloc))
-        }
+    fn ask(
+        &self,
+        alloc: Global,
+        fact: Name,
+        p: &QueryPoint,
+        q: &QueryPoint,
+    ) -> Result<Answer, Stop> {
+        ask_between(
+            alloc,
+            &self.standing,
+            &self.beliefs.tree,
+            &self.net,
+            fact,
+            p,
+            q,
+        )
     }
-}
 
-// The distance of two numbers, and the steps of a walk of that sum, where there is one.
-fn walk_between(
-    alloc: Global,
-    net: &DistNet,
-    from: u16,
-    to: u16,
-) -> Result<(Bound, Seq<WalkStep>), NoMemory>
-    requires from { IsInUse net.now.present.names from }
-    requires to { IsInUse net.now.present.names to }
-    ensures least { IfOk result (λ found. IsFar (arcs_of net.now.present.edges) from to found.0) }
-    ensures walk { IfOk result (λ found. ReachesIn net.now.present from to found.0 found.1.items) }
-{
-    match walk(alloc, net, from, to)? {
-        Some(steps) => Ok((net.far(from, to), steps)),
-        None => Ok((Bound::Free, Seq::make(alloc))),
+    fn check(&self, alloc: Global) -> Result<Seq<Report>, NoMemory> {
+        copied(alloc, self.beliefs.reports.items())
     }
-}
 
-// The number of a point that a question names. Nothing derived is believed yet.
-fn resolve(
-    alloc: Global,
-    standing: &Standing,
-    net: &DistNet,
-    point: &QueryPoint,
-) -> Result<u16, Stop>
-    requires fits { Fits standing.now.present net.now.present }
-    ensures known { IfOk result (λ number. point_cause standing.now.present.premises point.now ≡ None) }
-    ensures number { IfOk result (λ number. IsNumberOfPoint net.now.present.names number point.now) }
-    ensures stops { IfErr result (StopsPoint standing.now.present point.now) }
-{
-    match point {
-        QueryPoint::Declared(place) => match standing.check_place(*place) {
-            Ok(()) => Ok(number_of(net, *place)),
-            Err(refusal) => Err(Stop::Refused(refusal)),
-        },
-        QueryPoint::Derived(occ) => Err(match occ.copy(alloc) {
-            Ok(occ) => Stop::Refused(Refusal::Unknown(QueryPoint::Derived(occ))),
-            Err(_) => Stop::NoMemory,
-        }),
+    fn list(&self, alloc: Global) -> Result<Seq<ListRow>, NoMemory> {
+        list_rows(alloc, &self.beliefs.tree, self.beliefs.rows.items())
     }
-}
 
-// What an edit changes that retracts these premises, none where it retracts none. Nothing is believed
-// yet.
-fn changes_of(alloc: Global, erased: Seq<Name>) -> Changes
-    ensures { OnlyErases erased.items result }
-{
-    Changes {
-        erased,
-        left: Seq::make(alloc),
-        entered: Seq::make(alloc),
-        loose: Seq::make(alloc),
-        clips: Seq::make(alloc),
-        broken: Seq::make(alloc),
-        mended: Seq::make(alloc),
+    fn standing(&self) -> &Standing {
+        &self.standing
+    }
+
+    fn size(&self) -> u64 {
+        self.beliefs.size
     }
 }

@@ -17,7 +17,10 @@ use Rattle.tmm_model.specs.declared.turn.Turn.TheVariants.{Silent, Reply as Repl
 use Rattle.tmm_model.specs.Lines.{words, ReadsLine, bare_query, bare_line, ReadingIsOne}
 use Rattle.tmm_model.specs.Replies.{Reply, Refused, text_of, is_refusal}
 use Rattle.tmm_model.specs.Standing.{Standing}
-use Rattle.map_engine.specs.Steps.{Says, is_built, is_built_query, question_cause, Refuses, AnswersMeaning, AnswersTo, by_length, by_form, by_meaning, Step}
+use Rattle.tmm_model.specs.Maps.{built}
+use Rattle.tmm_model.specs.Questions.{query_cause}
+use Rattle.tmm_model.specs.Transcript.{RefusesEdit, AnswersLine}
+use Rattle.map_engine.specs.Steps.{Says, is_built, is_built_query, AnswersTo, by_length, by_form, by_meaning, Step}
 use Rattle.tmm_model.specs.Verdicts.{Tells as TellsCause}
 use Rattle.tmm_script.specs.Given.{IsReadingOf}
 use Rattle.tmm_cli.specs.Sessions.{Tells, TellsMeaning}
@@ -39,17 +42,17 @@ Tells-so k replied also kept keeps so stays (ReplyOf bytes refused) told = (told
 
 -- ---- what a map answers
 
-pub TellsMeaning-refused_edit : (old new : Standing) (k : ℕ) (edit : Edit) (refusal : Refusal) (turn : Turn) → Refuses old edit refusal → new ≡ old
+pub TellsMeaning-refused_edit : (old new : Standing) (k : ℕ) (edit : Edit) (refusal : Refusal) (turn : Turn) → RefusesEdit old edit refusal → new ≡ old
     → Tells k (λ reply. reply ≡ Refused refusal) (Unit {0}) turn → TellsMeaning old k (Change edit) turn new
 TellsMeaning-refused_edit old new k edit refusal turn refused kept told =
-    Tells-so k (λ reply. reply ≡ Refused refusal) (λ reply. AnswersMeaning old (Change edit) reply new) (Unit {0}) (new ≡ old)
-    (λ reply e. subst (λ r. AnswersMeaning old (Change edit) r new) (sym e) (refused, kept)) (λ _. kept) turn told
+    Tells-so k (λ reply. reply ≡ Refused refusal) (λ reply. AnswersLine old (Change edit) reply new) (Unit {0}) (new ≡ old)
+    (λ reply e. subst (λ r. AnswersLine old (Change edit) r new) (sym e) (refused, kept)) (λ _. kept) turn told
 
-pub TellsMeaning-refused_query : (old : Standing) (k : ℕ) (query : Query) (refusal : Refusal) (turn : Turn) → TellsCause refusal (question_cause old.premises query)
+pub TellsMeaning-refused_query : (old : Standing) (k : ℕ) (query : Query) (refusal : Refusal) (turn : Turn) → TellsCause refusal (query_cause (built old) query)
     → Tells k (λ reply. reply ≡ Refused refusal) (Unit {0}) turn → TellsMeaning old k (Question query) turn old
 TellsMeaning-refused_query old k query refusal turn refused told =
-    Tells-so k (λ reply. reply ≡ Refused refusal) (λ reply. AnswersMeaning old (Question query) reply old) (Unit {0}) (old ≡ old)
-    (λ reply e. subst (λ r. AnswersMeaning old (Question query) r old) (sym e) (refused, refl)) (λ _. refl) turn told
+    Tells-so k (λ reply. reply ≡ Refused refusal) (λ reply. AnswersLine old (Question query) reply old) (Unit {0}) (old ≡ old)
+    (λ reply e. subst (λ r. AnswersLine old (Question query) r old) (sym e) (refused, refl)) (λ _. refl) turn told
 
 -- ---- what a line is answered
 

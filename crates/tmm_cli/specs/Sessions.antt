@@ -5,7 +5,7 @@ use Rattle.tmm_model.specs.declared.turn.Turn.{Turn}
 use Rattle.tmm_model.specs.declared.turn.Turn.TheVariants.{Silent, Reply as ReplyOf, Memory}
 use Rattle.tmm_model.specs.Replies.{Reply, text_of, is_refusal}
 use Rattle.tmm_model.specs.Standing.{Standing}
-use Rattle.map_engine.specs.Steps.{AnswersMeaning}
+use Rattle.tmm_model.specs.Transcript.{AnswersLine}
 
 -- the turn is this reply to the line of number k, or want of memory
 abbrev pub Tells : ℕ → (Reply → Type 0) → Type 0 → Turn → Type 0
@@ -15,4 +15,4 @@ Tells k replied kept (ReplyOf bytes refused) = (reply : Reply) × replied reply 
 
 -- a meaning is answered
 abbrev pub TellsMeaning : Standing → ℕ → Line → Turn → Standing → Type 0
-TellsMeaning old k meaning turn new = Tells k (λ reply. AnswersMeaning old meaning reply new) (new ≡ old) turn
+TellsMeaning old k meaning turn new = Tells k (λ reply. AnswersLine old meaning reply new) (new ≡ old) turn

@@ -1,5 +1,5 @@
 // The top call.
-ghost use Rattle.std.specs.Prelude.{◌≡◌, ◌≢◌, ◌<◌, ◌≤◌, List, ℕ, None};
+ghost use Rattle.std.specs.Prelude.{[], IfOk, ◌≡◌, ◌≢◌, ◌<◌, ◌≤◌, List, ℕ, None};
 ghost use Rattle.std.specs.Io.KnownBytes.{Appends, Consumes, IsAtEnd};
 ghost use Rattle.tmm_io.specs.Causes.{Rose};
 ghost use Rattle.tmm_model.specs.Standing.{empty_list};
@@ -12,7 +12,7 @@ use crate::status::Status;
 use map_engine::PlainMap;
 use std::alloc::Global;
 use tmm_io::{Sink, Source};
-use tmm_model::Seq;
+use tmm_model::{NoMemory, Seq};
 
 /// All that the program does. Without words it reads a script from the source and writes a reply for
 /// each line to the sink; with any words it writes how it is used.
@@ -41,10 +41,19 @@ pub fn run<S: Source, K: Sink>(
     let Ok(core) = PlainMap::make(alloc) else {
         return Status::NoMemory;
     };
-    let mut buffer = Seq::make(alloc);
-    if buffer.reserve(401).is_err() {
+    let Ok(mut buffer) = line_buffer(alloc) else {
         return Status::NoMemory;
-    }
+    };
     let mut session = Session::make(core);
     drive(alloc, &mut session, &mut buffer, source, sink)
+}
+
+// Room for the part of a line that is kept.
+fn line_buffer(alloc: Global) -> Result<Seq<u8>, NoMemory>
+    ensures empty { IfOk result (λ buffer. buffer.items ≡ []) }
+    ensures room { IfOk result (λ buffer. 401 ≤ buffer.room) }
+{
+    let mut buffer = Seq::make(alloc);
+    buffer.reserve(401)?;
+    Ok(buffer)
 }

@@ -1,18 +1,21 @@
 // One line to one reply.
 ghost use Rattle.std.specs.Prelude.{◌≡◌, ◌+◌, ◌-◌, ◌^◌, ◌<◌, None, IsTrue, MatchResult};
 ghost use Rattle.tmm_model.specs.Lines.{IsWellFormedEdit, IsWellFormedQuery};
-ghost use Rattle.tmm_model.specs.Replies.{Refused};
+ghost use Rattle.tmm_model.specs.Replies.{Refused, Answered, is_refusal};
 ghost use Rattle.tmm_model.specs.Standing.{Standing};
-ghost use Rattle.tmm_model.specs.Steps.{is_built_premise};
-ghost use Rattle.map_engine.specs.Steps.{is_built, is_built_edit, is_built_query, Step};
+ghost use Rattle.map_engine.specs.Steps.{is_built, is_built_query, Step};
 ghost use Rattle.tmm_cli.specs.Sessions.{Tells, TellsMeaning};
 ghost use Rattle.tmm_cli.specs.LongLines.{Step-long};
 
 use crate::lines::Lines;
 use map_engine::MapCore;
-use replies::{reply_bounds, reply_dump, reply_no, reply_ok, reply_path};
+use projection::Counter;
+use replies::{
+    Word, reply_answer, reply_bounds, reply_check, reply_dump, reply_list, reply_no, reply_number,
+    reply_ok, reply_path,
+};
 use std::alloc::Global;
-use tmm_model::{Edit, Line, NoMemory, Premise, Query, Refusal, Seq, Stop, Turn};
+use tmm_model::{Answer, Edit, Line, Name, NoMemory, Query, QueryPoint, Refusal, Seq, Stop, Turn};
 use tmm_script::{LONGEST_LINE, is_silent, parse_line};
 
 /// Answers the lines of a script over a map.
@@ -20,6 +23,8 @@ use tmm_script::{LONGEST_LINE, is_silent, parse_line};
 pub struct Session<M: MapCore + Drop> {
     pub core: M,
     pub lines: u64,
+    /// The decisions that were made.
+    pub counter: Counter,
 }
 
 impl<M: MapCore + Drop> Session<M> {
@@ -29,7 +34,11 @@ impl<M: MapCore + Drop> Session<M> {
         ensures core { result.core ≡ core }
         ensures lines { result.lines ≡ 0 }
     {
-        Session { core, lines: 0 }
+        Session {
+            core,
+            lines: 0,
+            counter: Counter::zero(),
+        }
     }
 }
 
@@ -52,14 +61,20 @@ impl<M: MapCore + Drop> Lines for Session<M> {
         if bytes.len() <= LONGEST_LINE && is_silent(bytes) {
             return Turn::Silent;
         }
-        said(alloc, self.lines, bytes, &mut self.core)
+        said(alloc, self.lines, bytes, &mut self.core, &mut self.counter)
     }
 }
 
 // Answers a line by what it says. What it says may be large, so this is kept apart from the way that
 // silent lines take.
 #[inline(never)]
-fn said<M: MapCore>(alloc: Global, line: u64, bytes: &[u8], core: &mut M) -> Turn
+fn said<M: MapCore>(
+    alloc: Global,
+    line: u64,
+    bytes: &[u8],
+    core: &mut M,
+    counter: &mut Counter,
+) -> Turn
     requires idle { M.pending core.old ≡ None }
     ensures answers { Step (M.list core.old) line bytes.now result (M.list core.new) }
     ensures idle { M.pending core.new ≡ None }
@@ -74,7 +89,7 @@ fn said<M: MapCore>(alloc: Global, line: u64, bytes: &[u8], core: &mut M) -> Tur
     }
     match meaning {
         Line::Silent => Turn::Silent,
-        Line::Change(edit) => change(alloc, line, &edit, core),
+        Line::Change(edit) => change(alloc, line, &edit, core, counter),
         Line::Question(query) => answer(alloc, line, &query, core),
     }
 }
@@ -83,18 +98,7 @@ fn said<M: MapCore>(alloc: Global, line: u64, bytes: &[u8], core: &mut M) -> Tur
 fn is_answered(meaning: &Line) -> bool
     ensures { result ≡ is_built meaning.now }
 {
-    match meaning {
-        Line::Silent => true,
-        Line::Change(edit) => matches!(
-            edit,
-            Edit::Add(Premise::Point { .. } | Premise::Dist { .. })
-                | Edit::Erase(_)
-                | Edit::Horizon(_)
-        ),
-        Line::Question(query) => {
-            matches!(query, Query::Bounds(_, _) | Query::Path(_, _) | Query::Dump)
-        }
-    }
+    !matches!(meaning, Line::Question(Query::Why(_) | Query::Audit))
 }
 
 // The reply that these bytes are, where there was memory for them.
@@ -115,14 +119,19 @@ fn refuse(alloc: Global, line: u64, refusal: &Refusal) -> Turn
 }
 
 // Makes an edit, and keeps it once there is a reply.
-fn change<M: MapCore>(alloc: Global, line: u64, edit: &Edit, core: &mut M) -> Turn
+fn change<M: MapCore>(
+    alloc: Global,
+    line: u64,
+    edit: &Edit,
+    core: &mut M,
+    counter: &mut Counter,
+) -> Turn
     requires idle { M.pending core.old ≡ None }
     requires well_formed { IsWellFormedEdit edit.now }
-    requires built { IsTrue (is_built_edit edit.now) }
     ensures tells { TellsMeaning (M.list core.old) line (Line.Change edit.now) result (M.list core.new) }
     ensures idle { M.pending core.new ≡ None }
 {
-    match core.apply(alloc, edit) {
+    match core.apply(alloc, edit, counter) {
         Ok(made) => match reply_ok(alloc, line, &made.changes) {
             Ok(bytes) => {
                 core.commit();
@@ -149,17 +158,104 @@ pub fn answer<M: MapCore>(alloc: Global, line: u64, query: &Query, core: &M) -> 
     ensures { TellsMeaning (M.list core.now) line (Line.Question query.now) result (M.list core.now) }
 {
     match query {
-        Query::Bounds(p, q) => match core.bounds(alloc, p, q) {
-            Ok((lo, hi)) => reply(reply_bounds(alloc, line, lo, hi), false),
-            Err(Stop::Refused(refusal)) => refuse(alloc, line, &refusal),
-            Err(Stop::NoMemory) => Turn::Memory,
-        },
-        Query::Path(p, q) => match core.path(alloc, p, q) {
-            Ok((far, steps)) => reply(reply_path(alloc, line, far, steps.items()), false),
-            Err(Stop::Refused(refusal)) => refuse(alloc, line, &refusal),
-            Err(Stop::NoMemory) => Turn::Memory,
-        },
+        Query::Bounds(p, q) => answer_bounds(alloc, line, p, q, core),
+        Query::Path(p, q) => answer_path(alloc, line, p, q, core),
+        Query::Ask(fact, p, q) => answer_ask(alloc, line, *fact, p, q, core),
+        Query::Check => answer_check(alloc, line, core),
+        Query::List => answer_list(alloc, line, core),
         Query::Dump => reply(reply_dump(alloc, line, core.standing()), false),
-        _ => unreachable!(),
+        Query::Size => reply(reply_number(alloc, line, Word::Size, core.size()), false),
+        Query::Why(_) | Query::Audit => unreachable!(),
+    }
+}
+
+fn answer_bounds<M: MapCore>(
+    alloc: Global,
+    line: u64,
+    p: &QueryPoint,
+    q: &QueryPoint,
+    core: &M,
+) -> Turn
+    requires idle { M.pending core.now ≡ None }
+    requires well_formed { IsWellFormedQuery (Query.Bounds p.now q.now) }
+    ensures { TellsMeaning (M.list core.now) line (Line.Question (Query.Bounds p.now q.now)) result (M.list core.now) }
+{
+    match core.bounds(alloc, p, q) {
+        Ok((lo, hi)) => reply(reply_bounds(alloc, line, lo, hi), false),
+        Err(Stop::Refused(refusal)) => refuse(alloc, line, &refusal),
+        Err(Stop::NoMemory) => Turn::Memory,
+    }
+}
+
+fn answer_path<M: MapCore>(
+    alloc: Global,
+    line: u64,
+    p: &QueryPoint,
+    q: &QueryPoint,
+    core: &M,
+) -> Turn
+    requires idle { M.pending core.now ≡ None }
+    requires well_formed { IsWellFormedQuery (Query.Path p.now q.now) }
+    ensures { TellsMeaning (M.list core.now) line (Line.Question (Query.Path p.now q.now)) result (M.list core.now) }
+{
+    match core.path(alloc, p, q) {
+        Ok((far, steps)) => reply(reply_path(alloc, line, far, steps.items()), false),
+        Err(Stop::Refused(refusal)) => refuse(alloc, line, &refusal),
+        Err(Stop::NoMemory) => Turn::Memory,
+    }
+}
+
+fn answer_ask<M: MapCore>(
+    alloc: Global,
+    line: u64,
+    fact: Name,
+    p: &QueryPoint,
+    q: &QueryPoint,
+    core: &M,
+) -> Turn
+    requires idle { M.pending core.now ≡ None }
+    requires well_formed { IsWellFormedQuery (Query.Ask fact p.now q.now) }
+    ensures { TellsMeaning (M.list core.now) line (Line.Question (Query.Ask fact p.now q.now)) result (M.list core.now) }
+{
+    match core.ask(alloc, fact, p, q) {
+        Ok(answer) => tell_answer(alloc, line, &answer),
+        Err(Stop::Refused(refusal)) => refuse(alloc, line, &refusal),
+        Err(Stop::NoMemory) => Turn::Memory,
+    }
+}
+
+// Tells an answer; that the points are in no order is a refusal.
+fn tell_answer(alloc: Global, line: u64, answer: &Answer) -> Turn
+    ensures { Tells line (λ reply. reply ≡ Answered answer.now) (Unit {0}) result }
+{
+    reply(reply_answer(alloc, line, answer), is_unordered(answer))
+}
+
+fn is_unordered(answer: &Answer) -> bool
+    ensures { result ≡ is_refusal (Answered answer.now) }
+{
+    match answer {
+        Answer::Unordered => true,
+        Answer::Yes(_) | Answer::No { .. } => false,
+    }
+}
+
+fn answer_check<M: MapCore>(alloc: Global, line: u64, core: &M) -> Turn
+    requires idle { M.pending core.now ≡ None }
+    ensures { TellsMeaning (M.list core.now) line (Line.Question Query.Check) result (M.list core.now) }
+{
+    match core.check(alloc) {
+        Ok(reports) => reply(reply_check(alloc, line, reports.items()), false),
+        Err(NoMemory) => Turn::Memory,
+    }
+}
+
+fn answer_list<M: MapCore>(alloc: Global, line: u64, core: &M) -> Turn
+    requires idle { M.pending core.now ≡ None }
+    ensures { TellsMeaning (M.list core.now) line (Line.Question Query.List) result (M.list core.now) }
+{
+    match core.list(alloc) {
+        Ok(rows) => reply(reply_list(alloc, line, rows.items()), false),
+        Err(NoMemory) => Turn::Memory,
     }
 }

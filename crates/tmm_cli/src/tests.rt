@@ -174,3 +174,105 @@ fn any_lines_are_driven(rt: HostRuntime) -> Result<(), Fail> {
     }
     Ok(())
 }
+
+/// Scripts of facts, events and rules, with their replies and their statuses.
+const ROWS: &[(&[u8], &[u8], Status)] = &[
+    // a premise that others hang on
+    (
+        b"point a\npoint b\ndist d a b 3 7\nbounds a b\npoint c\ndist w c b 0 0\nerase a\nbounds c b\n",
+        b"1 ok\n2 ok\n3 ok\n4 bounds 3 7\n5 ok\n6 ok\n7 ok\n  erased a\n  erased d\n8 bounds 0 0\n",
+        Status::Clean,
+    ),
+    // a bound that another gives again
+    (
+        b"point a\npoint b\ndist d a b 3 7\nbounds a b\ndist f a b 2 5\nbounds a b\nerase f\nbounds a b\n",
+        b"1 ok\n2 ok\n3 ok\n4 bounds 3 7\n5 ok\n6 bounds 3 5\n7 ok\n  erased f\n8 bounds 3 7\n",
+        Status::Clean,
+    ),
+    // a door and a shutter
+    (
+        b"class door open shut\ntoken k open\ntoken m shut\ndist d k m 5 5\nask open k k\nask open k m\nask shut m m\n",
+        b"1 ok\n2 ok\n3 ok\n4 ok\n  clip k by m\n5 yes k\n6 no\n  k clipped m\n7 yes m\n",
+        Status::Clean,
+    ),
+    // a tie
+    (
+        b"class door open shut\ntoken k open\ntoken m shut\ndist d k m 0 0\nask open k k\nask open k m\nask shut m m\n",
+        b"1 ok\n2 ok\n3 ok\n4 ok\n5 yes k\n6 yes k\n7 yes m\n",
+        Status::Clean,
+    ),
+    // an unknown order
+    (
+        b"class door open shut\ntoken k open\ntoken m shut\nask open k k\nask open k m\nask shut m m\n",
+        b"1 ok\n2 ok\n3 ok\n4 yes k\n5 no unordered\n6 yes m\n",
+        Status::SomeRefused,
+    ),
+    // a span that ends
+    (
+        b"class w on off\nspan s on\ndist a start s 0 0\ndist b s s.end 5 5\npoint p\ndist c start p 5 5\nask on s p\nask on s s\n",
+        b"1 ok\n2 ok\n3 ok\n4 ok\n5 ok\n6 ok\n7 no\n  s ends\n8 yes s\n",
+        Status::Clean,
+    ),
+    // blames that are cut
+    (
+        b"class c f g\ntoken t0 f\ntoken t1 f\ntoken t2 f\ntoken t3 f\ntoken t4 f\ntoken t5 f\ntoken t6 f\ntoken t7 f\ntoken t8 f\ntoken t9 f\nask f start start\n",
+        b"1 ok\n2 ok\n3 ok\n4 ok\n5 ok\n6 ok\n7 ok\n8 ok\n9 ok\n10 ok\n11 ok\n12 no\n  t0 late\n  t1 late\n  t2 late\n  t3 late\n  t4 late\n  t5 late\n  t6 late\n  t7 late\n  and 2 more\n",
+        Status::Clean,
+    ),
+    // sorts and unknown names
+    (
+        b"class c f g\nkind f\ntoken f h\ntoken t h\ntoken t c\nclass d g2 g2\nerase f\ndist d f x 0 1\nbounds start e/r\nask f start t\n",
+        b"1 ok\n2 no taken f\n3 no taken f\n4 no unknown h\n5 no sort c\n6 no taken g2\n7 no sort f\n8 no sort f\n9 no unknown e/r\n10 no unknown t\n",
+        Status::SomeRefused,
+    ),
+    // protections
+    (
+        b"class door open shut\ntoken k open\ndist z start k 0 0\npoint p\ndist y start p 8 8\nprotect g open k p\ntoken m shut\ndist x start m 5 5\ncheck\nerase x\ndist x start m 9 9\ncheck\n",
+        b"1 ok\n2 ok\n3 ok\n4 ok\n5 ok\n6 ok\n7 ok\n8 ok\n  clip k by m\n  broken g\n    k clipped m\n9 check 1\n  broken g\n    k clipped m\n10 ok\n  erased x\n  loose k\n  mended g\n11 ok\n  clip k by m\n12 check 0\n",
+        Status::Clean,
+    ),
+    // an order that is lost
+    (
+        b"class door open shut\ntoken k open\ndist z start k 0 0\npoint p\ndist y start p 8 8\nprotect g open k p\ntoken m shut\ndist x start m 5 5\ncheck\nerase z\ncheck\n",
+        b"1 ok\n2 ok\n3 ok\n4 ok\n5 ok\n6 ok\n7 ok\n8 ok\n  clip k by m\n  broken g\n    k clipped m\n9 check 1\n  broken g\n    k clipped m\n10 ok\n  erased z\n  loose k\n11 check 1\n  broken g unordered\n",
+        Status::Clean,
+    ),
+    // events of unknown order
+    (
+        b"class a a1 a2\nclass b b1 b2\nkind t\nkind u\ntoken p a1\ndist pz start p 0 0\ntoken q b1\ndist qz start q 0 0\nrule r t 1 1 b2 if a1\nrule s u 1 1 a2 if b1\nevent e t\nevent f u\nask b2 e/r e/r\nask a2 f/s f/s\n",
+        b"1 ok\n2 ok\n3 ok\n4 ok\n5 ok\n6 ok\n7 ok\n8 ok\n9 ok\n10 ok\n11 ok\n  in e/r\n  clip q by e/r\n12 ok\n  in f/s\n  clip p by f/s\n13 yes e/r\n14 yes f/s\n",
+        Status::Clean,
+    ),
+    // an effect, and a rule that is gone
+    (
+        b"class door open shut\nkind push\nrule r push 1 2 shut if open\ntoken k open\ndist z start k 0 0\nevent e push\ndist x start e 10 10\nbounds e e/r\nerase r\n",
+        b"1 ok\n2 ok\n3 ok\n4 ok\n5 ok\n6 ok\n  in e/r\n  clip k by e/r\n7 ok\n8 bounds 1 2\n9 ok\n  erased r\n  out e/r\n  loose k\n",
+        Status::Clean,
+    ),
+    // siblings
+    (
+        b"class door open shut\nkind push\nrule r push 1 2 shut if open\ntoken k open\ndist z start k 0 0\nevent e push\ndist x start e 10 10\nbounds e e/r\nrule q push 4 6 open\nbounds e/r e/q\n",
+        b"1 ok\n2 ok\n3 ok\n4 ok\n5 ok\n6 ok\n  in e/r\n  clip k by e/r\n7 ok\n8 bounds 1 2\n9 ok\n  in e/q\n  clip e/r by e/q\n10 bounds 2 5\n",
+        Status::Clean,
+    ),
+    // a rule that is blocked
+    (
+        b"class door open shut\nclass lamp dark lit\nkind push\nrule r push 1 1 lit if open\ntoken k open\ndist z start k 0 0\ntoken n dark\ndist y start n 0 0\ntoken m shut\ndist x start m 5 5\nevent e push\ndist w start e 10 10\nerase m\ntoken m shut\ndist x start m 5 5\nlist\n",
+        b"1 ok\n2 ok\n3 ok\n4 ok\n5 ok\n6 ok\n7 ok\n8 ok\n9 ok\n10 ok\n  clip k by m\n11 ok\n  in e/r\n  clip n by e/r\n12 ok\n  out e/r\n  loose n\n13 ok\n  erased m\n  erased x\n  in e/r\n  loose k\n  clip n by e/r\n14 ok\n15 ok\n  out e/r\n  loose n\n  clip k by m\n16 list 4\n  0 k open clip m\n  0 n dark\n  5 m shut\n  10 e push\n",
+        Status::Clean,
+    ),
+    // a horizon
+    (
+        b"kind t\nevent e t\ndist z start e 0 0\nhorizon 35\nrule r t 10 10 t\nhorizon 20\nsize\n",
+        b"1 ok\n2 ok\n3 ok\n4 ok\n5 ok\n  in e/r\n  in e/r/r\n  in e/r/r/r\n6 ok\n  out e/r/r/r\n7 size 9\n",
+        Status::Clean,
+    ),
+];
+
+#[test]
+fn rows_are_answered(rt: HostRuntime) -> Result<(), Fail> {
+    for (script, replies, status) in ROWS {
+        expect(&rt, rt.alloc(), script, 4096, replies, *status)?;
+    }
+    Ok(())
+}

@@ -49,9 +49,6 @@ returns-in-Ok-clause-ends g c = ([], _, Consumes-nil _, c.in-Ok.ensures.bytes, e
 pub returns-in-Err-clause-ends : goal.returns-in-Err-clause-ends
 returns-in-Err-clause-ends g c = ([], _, Consumes-nil _, c.in-Err.ensures.bytes.1, ends_with_words c.args.words.now _ [] _ _ (sym c.if-not-is_empty.ensures) (refl, c.in-Err.ensures.bytes.0, refl))
 
-pub returns-then-is_err-clause-ends : goal.returns-then-is_err-clause-ends
-returns-then-is_err-clause-ends g c = ([], [], Consumes-nil _, Appends-nil _, without_memory c.args.words.now _ (sym c.if-not-is_empty.ensures))
-
 pub returns-clause-ends : goal.returns-clause-ends
 returns-clause-ends g c =
     let ends = c.drive.ensures.ends in (

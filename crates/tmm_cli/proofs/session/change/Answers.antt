@@ -1,5 +1,6 @@
-use Rattle.std.proofs.Common.{refl, ◌≡◌, Some}
+use Rattle.std.proofs.Common.{refl, ◌≡◌, ◌∙◌, Some, ap, sym}
 use Rattle.std.specs.declared.option.Option.{Option}
+use Rattle.tmm_model.specs.Changes.{changes}
 use Rattle.tmm_model.specs.Replies.{Accepted}
 use Rattle.tmm_model.specs.Standing.{Standing}
 use Rattle.tmm_cli.proofs.Turns.{TellsMeaning-refused_edit}
@@ -12,7 +13,11 @@ kept_is pending list next is also = cc
 pub returns-in-Ok-reply_ok-clause-tells : goal.returns-in-Ok-reply_ok-clause-tells
 returns-in-Ok-reply_ok-clause-tells g c = (
   Accepted c.in-Ok.made.changes,
-  (c.in-Ok.ensures.accepted, c.in-Ok.ensures.changes, kept_is _ _ _ c.commit.ensures.list c.in-Ok.ensures.pending),
+  (
+    c.in-Ok.ensures.accepted,
+    c.in-Ok.ensures.changes ∙ ap (λ (s : Standing). changes (g.M.MapCore.list c.args.core.now) s) (sym (kept_is _ _ _ c.commit.ensures.list c.in-Ok.ensures.pending)),
+    kept_is _ _ _ c.commit.ensures.list c.in-Ok.ensures.pending,
+  ),
   c.in-Ok-reply_ok.ensures,
   refl,
 )

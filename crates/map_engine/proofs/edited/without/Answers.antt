@@ -1,0 +1,24 @@
+use Rattle.std.proofs.Common.{◌∙◌, All, ap, sym, subst}
+use Rattle.tmm_model.specs.Lines.{IsWellFormedPremise}
+use Rattle.tmm_model.specs.Standing.{IsConsistent}
+use Rattle.tmm_model.proofs.Erased.{gone_by_erasure}
+use Rattle.premise_list.specs.States.{States}
+use Rattle.map_engine.proofs.NextLists.{consistent, net_of, well_formed_without}
+use Rattle.map_engine.proofs.edited.without.Goals as goal
+
+pub returns-clause-network : goal.returns-clause-network
+returns-clause-network c =
+    let ps = c.args.standing.now.present.premises in
+    let new = ap (λ (s : States). s.present.premises) c.in-Ok.ensures.list in
+    net_of c.erase_premise.new.standing.present c.erase_premise.new.net.present
+    (subst (All IsWellFormedPremise) (sym new) (well_formed_without c.args.name ps c.requires.network.sound.well_formed))
+    c.len.ensures.well_named c.in-Ok.ensures.fits c.edges.ensures.distinct c.edges.ensures.start c.edges.ensures.in_use c.edges.ensures.dates
+
+pub returns-clause-dates : goal.returns-clause-dates
+returns-clause-dates c =
+    let new = ap (λ (s : States). s.present.premises) c.in-Ok.ensures.list in
+    subst IsConsistent new
+    (consistent c.erase_premise.new.standing.present c.erase_premise.new.net.present c.in-Ok.ensures.fits c.edges.ensures.distinct c.edges.ensures.start c.edges.ensures.in_use c.edges.ensures.dates)
+
+pub returns-clause-erased : goal.returns-clause-erased
+returns-clause-erased c = c.in-Ok.ensures.names ∙ sym (gone_by_erasure c.args.name c.args.standing.now.present.premises c.requires.network.sound.well_named)

@@ -1,0 +1,27 @@
+use Rattle.std.proofs.Common.{sym, subst}
+use Rattle.list_net.specs.Represents.{IsNumberOf}
+use Rattle.spots.specs.Spots.{spot_moment}
+use Rattle.spots.proofs.Nodes.{point_is}
+use Rattle.tmm_model.specs.Moments.{base}
+use Rattle.map_engine.proofs.Walked.{walks, has_walk}
+use Rattle.map_engine.proofs.questions.steps_between.Goals as goal
+
+pub returns-in-Some : goal.returns-in-Some
+returns-in-Some c =
+    let s = c.args.standing.now.present in
+    let net = c.args.net.now.present in
+    let f = c.args.tree.now in
+    let at_a = subst (λ n. IsNumberOf net.names n (base (spot_moment net.names f c.args.from))) (sym c.base_point-a.ensures) (point_is s net f c.requires.seen c.args.from c.requires.from) in
+    let at_b = subst (λ n. IsNumberOf net.names n (base (spot_moment net.names f c.args.to))) (sym c.base_point-b.ensures) (point_is s net f c.requires.seen c.args.to c.requires.to) in
+    walks s net c.requires.seen.network (spot_moment net.names f c.args.from) (spot_moment net.names f c.args.to) c.base_point-a.result c.base_point-b.result at_a at_b
+    c.args.far c.requires.far c.in-Some.steps.items (rw c.in-Some.is at c.in_ok-steps-in-Finite.ensures.exact) (rw c.in-Some.is at c.in_ok-steps-in-Finite.ensures.path) c.in-Finite.field-0 c.in-Finite.is
+
+pub returns-in-None : goal.returns-in-None
+returns-in-None c =
+    let s = c.args.standing.now.present in
+    let net = c.args.net.now.present in
+    let f = c.args.tree.now in
+    let at_a = subst (λ n. IsNumberOf net.names n (base (spot_moment net.names f c.args.from))) (sym c.base_point-a.ensures) (point_is s net f c.requires.seen c.args.from c.requires.from) in
+    let at_b = subst (λ n. IsNumberOf net.names n (base (spot_moment net.names f c.args.to))) (sym c.base_point-b.ensures) (point_is s net f c.requires.seen c.args.to c.requires.to) in
+    absurd (has_walk s net c.requires.seen.network (spot_moment net.names f c.args.from) (spot_moment net.names f c.args.to) c.base_point-a.result c.base_point-b.result at_a at_b
+    c.args.far c.requires.far (rw c.in-None.is at c.in_ok-steps-in-Finite.ensures.exact) c.in-Finite.field-0 c.in-Finite.is)

@@ -1,0 +1,17 @@
+-- Why one of two points of a question is refused.
+use Rattle.std.specs.Prelude.{Option}
+use Rattle.std.specs.Option.{option_or}
+use Rattle.tmm_model.specs.declared.point.QueryPoint.{QueryPoint}
+use Rattle.tmm_model.specs.declared.refusal.Stop.{Stop}
+use Rattle.tmm_model.specs.declared.refusal.Stop.TheVariants.{Refused, NoMemory}
+use Rattle.tmm_model.specs.Maps.{TimeMap}
+use Rattle.tmm_model.specs.Questions.{point_cause}
+use Rattle.tmm_model.specs.Verdicts.{Cause, Tells}
+
+-- the first cause of two points, from the left
+abbrev pub points_cause : TimeMap → QueryPoint → QueryPoint → Option Cause
+points_cause m p q = option_or (point_cause m p) (point_cause m q)
+
+abbrev pub StopsPoints : TimeMap → QueryPoint → QueryPoint → Stop → Type 0
+StopsPoints m p q (Refused refusal) = Tells refusal (points_cause m p q)
+StopsPoints m p q NoMemory = Unit {0}

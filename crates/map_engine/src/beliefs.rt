@@ -1,0 +1,109 @@
+// What the map keeps of a list beside its distances.
+ghost use Rattle.std.specs.Prelude.{◌≡◌, map, IfOk, IfErr};
+ghost use Rattle.tmm_model.specs.Answers.{rows, reports, report_of, size};
+ghost use Rattle.tmm_model.specs.Maps.{built};
+ghost use Rattle.belief_list.specs.Rows.{row_at, IsListing};
+ghost use Rattle.spots.specs.Seen.{IsSeen, Holds};
+ghost use Rattle.tmm_model.specs.Changes.{changes, delta_of};
+ghost use Rattle.tmm_model.specs.Standing.{Standing as List};
+ghost use Rattle.projection.specs.Queues.{IsTooLarge};
+ghost use Rattle.list_net.specs.Fits.{IsNetOf};
+ghost use Rattle.dist_net.specs.Net.{Net};
+ghost use Rattle.map_engine.specs.Beliefs.{AreBeliefs, IsLeftOut};
+
+use belief_list::{BeliefChanges, BeliefRow, compare, listed};
+use dist_net::DistNet;
+use occ_tree::Tree;
+use premise_list::Standing;
+use projection::{Counter, Projected, rebuild};
+use protections::{delta, report};
+use std::alloc::Global;
+use tmm_model::{Changes, Name, NoMemory, Report, Seq, Stop};
+
+/// The beliefs of a list: the tree of the believed occurrences and its size, the occurrences in
+/// their order with their clips, and the broken protections.
+#[derive(Drop)]
+pub(crate) struct Beliefs {
+    pub tree: Tree,
+    pub size: u64,
+    pub rows: Seq<BeliefRow>,
+    pub reports: Seq<Report>,
+}
+
+/// The beliefs of a list, from scratch. A map that is too large is refused.
+pub(crate) fn believe(
+    alloc: Global,
+    standing: &Standing,
+    net: &DistNet,
+    counter: &mut Counter,
+) -> Result<Beliefs, Stop>
+    requires network { IsNetOf standing.now.present net.now.present }
+    ensures beliefs { IfOk result (AreBeliefs standing.now.present net.now.present) }
+    ensures stops { IfErr result (IsTooLarge (size (built standing.now.present))) }
+{
+    let Projected { tree, size } = rebuild(alloc, standing, net, counter)?;
+    match survey(alloc, standing, net, &tree) {
+        Ok((rows, reports)) => Ok(Beliefs {
+            tree,
+            size,
+            rows,
+            reports,
+        }),
+        Err(NoMemory) => Err(Stop::NoMemory),
+    }
+}
+
+// The believed occurrences in their order, and the broken protections.
+fn survey(
+    alloc: Global,
+    standing: &Standing,
+    net: &DistNet,
+    tree: &Tree,
+) -> Result<(Seq<BeliefRow>, Seq<Report>), NoMemory>
+    requires seen { IsSeen standing.now.present net.now.present tree.now }
+    requires holds { Holds (built standing.now.present).believed tree.now }
+    ensures rows { IfOk result (λ found. map (row_at tree.now) found.0.items ≡ rows (built standing.now.present)) }
+    ensures listing { IfOk result (λ found. IsListing tree.now found.0.items) }
+    ensures reports { IfOk result (λ found. map report_of found.1.items ≡ reports (built standing.now.present)) }
+{
+    let rows = listed(alloc, standing, tree, net)?;
+    let reports = report(alloc, standing, tree, net)?;
+    Ok((rows, reports))
+}
+
+/// What changes from the beliefs of one list to those of another, from which these premises are gone.
+pub(crate) fn changes_to(
+    alloc: Global,
+    erased: Seq<Name>,
+    old: &Beliefs,
+    new: &Beliefs,
+    standing: &Standing,
+) -> Result<Changes, NoMemory>
+    requires old { IsListing old.now.tree old.now.rows.items }
+    requires new { IsListing new.now.tree new.now.rows.items }
+    ensures { (list : List) (old_net net : Net) → AreBeliefs list old_net old.now → AreBeliefs standing.now.present net new.now → IsLeftOut list standing.now.present erased.items
+        → IfOk result (λ told. delta_of told ≡ changes list standing.now.present) }
+{
+    let BeliefChanges {
+        left,
+        entered,
+        loose,
+        clips,
+    } = compare(
+        alloc,
+        &old.tree,
+        old.rows.items(),
+        &new.tree,
+        new.rows.items(),
+    )?;
+    let (broken, mended) = delta(alloc, old.reports.items(), new.reports.items(), standing)?;
+    Ok(Changes {
+        erased,
+        left,
+        entered,
+        loose,
+        clips,
+        broken,
+        mended,
+    })
+}

@@ -1,0 +1,162 @@
+// Questions between two points.
+ghost use Rattle.std.specs.Prelude.{◌≡◌, None, IfOk, IfErr};
+ghost use Rattle.tmm_model.specs.declared.line.Query.TheVariants.{Bounds as BoundsLine, Path as PathLine, Ask as AskLine};
+ghost use Rattle.tmm_model.specs.Answers.{ask, finding_of};
+ghost use Rattle.tmm_model.specs.Bounds.{bound_negated};
+ghost use Rattle.tmm_model.specs.Lines.{IsWellFormedQueryPoint};
+ghost use Rattle.tmm_model.specs.Maps.{built, gap};
+ghost use Rattle.tmm_model.specs.Moments.{moment_of_point};
+ghost use Rattle.tmm_model.specs.Paths.{GivesPath, WalksIf};
+ghost use Rattle.tmm_model.specs.Questions.{query_cause};
+ghost use Rattle.spots.specs.Seen.{IsSeen, Holds};
+ghost use Rattle.spots.specs.Spots.{IsSpot, spot_moment, base_of};
+ghost use Rattle.map_engine.specs.Questions.{points_cause, StopsPoints};
+ghost use Rattle.map_engine.specs.Stops.{StopsQuery};
+
+use dist_net::DistNet;
+use neg_cycle::walk;
+use occ_tree::Tree;
+use premise_list::Standing;
+use spots::Spot;
+use std::alloc::Global;
+use tmm_model::{Answer, Bound, Name, NoMemory, QueryPoint, Seq, Stop, WalkStep};
+use tt_query::{ask, bounds, resolve};
+
+// The spots of two points, the first cause from the left.
+fn resolve_both(
+    alloc: Global,
+    standing: &Standing,
+    tree: &Tree,
+    net: &DistNet,
+    p: &QueryPoint,
+    q: &QueryPoint,
+) -> Result<(Spot, Spot), Stop>
+    requires seen { IsSeen standing.now.present net.now.present tree.now }
+    requires holds { Holds (built standing.now.present).believed tree.now }
+    requires p_well_formed { IsWellFormedQueryPoint p.now }
+    requires q_well_formed { IsWellFormedQueryPoint q.now }
+    ensures known { IfOk result (λ spots. points_cause (built standing.now.present) p.now q.now ≡ None) }
+    ensures from { IfOk result (λ spots. IsSpot net.now.present.names tree.now spots.0 × (spot_moment net.now.present.names tree.now spots.0 ≡ moment_of_point p.now)) }
+    ensures to { IfOk result (λ spots. IsSpot net.now.present.names tree.now spots.1 × (spot_moment net.now.present.names tree.now spots.1 ≡ moment_of_point q.now)) }
+    ensures stops { IfErr result (StopsPoints (built standing.now.present) p.now q.now) }
+{
+    let from = resolve(alloc, standing, tree, net, p)?;
+    let to = resolve(alloc, standing, tree, net, q)?;
+    Ok((from, to))
+}
+
+/// The lower and the upper bound on the date of the second point less that of the first.
+pub(crate) fn bounds_between(
+    alloc: Global,
+    standing: &Standing,
+    tree: &Tree,
+    net: &DistNet,
+    p: &QueryPoint,
+    q: &QueryPoint,
+) -> Result<(Bound, Bound), Stop>
+    requires seen { IsSeen standing.now.present net.now.present tree.now }
+    requires holds { Holds (built standing.now.present).believed tree.now }
+    requires p_well_formed { IsWellFormedQueryPoint p.now }
+    requires q_well_formed { IsWellFormedQueryPoint q.now }
+    ensures known { IfOk result (λ found. query_cause (built standing.now.present) (BoundsLine p.now q.now) ≡ None) }
+    ensures low { IfOk result (λ found. found.0 ≡ bound_negated (gap (built standing.now.present) (moment_of_point q.now) (moment_of_point p.now))) }
+    ensures high { IfOk result (λ found. found.1 ≡ gap (built standing.now.present) (moment_of_point p.now) (moment_of_point q.now)) }
+    ensures stops { IfErr result (StopsQuery standing.now.present (BoundsLine p.now q.now)) }
+{
+    let (from, to) = resolve_both(alloc, standing, tree, net, p, q)?;
+    Ok(bounds(tree, net, from, to))
+}
+
+/// Whether a fact holds from one point to another.
+pub(crate) fn ask_between(
+    alloc: Global,
+    standing: &Standing,
+    tree: &Tree,
+    net: &DistNet,
+    fact: Name,
+    p: &QueryPoint,
+    q: &QueryPoint,
+) -> Result<Answer, Stop>
+    requires seen { IsSeen standing.now.present net.now.present tree.now }
+    requires holds { Holds (built standing.now.present).believed tree.now }
+    requires p_well_formed { IsWellFormedQueryPoint p.now }
+    requires q_well_formed { IsWellFormedQueryPoint q.now }
+    ensures known { IfOk result (λ answer. query_cause (built standing.now.present) (AskLine fact p.now q.now) ≡ None) }
+    ensures answer { IfOk result (λ answer. finding_of answer ≡ ask (built standing.now.present) fact (moment_of_point p.now) (moment_of_point q.now)) }
+    ensures stops { IfErr result (StopsQuery standing.now.present (AskLine fact p.now q.now)) }
+{
+    if let Err(refusal) = standing.check_fact(fact) {
+        return Err(Stop::Refused(refusal));
+    }
+    let (from, to) = resolve_both(alloc, standing, tree, net, p, q)?;
+    match ask(alloc, standing, tree, net, fact, from, to) {
+        Ok(answer) => Ok(answer),
+        Err(NoMemory) => Err(Stop::NoMemory),
+    }
+}
+
+/// The upper bound on the date of the second point less that of the first, and where there is one,
+/// the constraints of a walk between their declared points.
+pub(crate) fn path_between(
+    alloc: Global,
+    standing: &Standing,
+    tree: &Tree,
+    net: &DistNet,
+    p: &QueryPoint,
+    q: &QueryPoint,
+) -> Result<(Bound, Seq<WalkStep>), Stop>
+    requires seen { IsSeen standing.now.present net.now.present tree.now }
+    requires holds { Holds (built standing.now.present).believed tree.now }
+    requires p_well_formed { IsWellFormedQueryPoint p.now }
+    requires q_well_formed { IsWellFormedQueryPoint q.now }
+    ensures known { IfOk result (λ found. query_cause (built standing.now.present) (PathLine p.now q.now) ≡ None) }
+    ensures gives { IfOk result (λ found. GivesPath (built standing.now.present) (moment_of_point p.now) (moment_of_point q.now) found.0 found.1.items) }
+    ensures stops { IfErr result (StopsQuery standing.now.present (PathLine p.now q.now)) }
+{
+    let (from, to) = resolve_both(alloc, standing, tree, net, p, q)?;
+    let (_, far) = bounds(tree, net, from, to);
+    match steps_between(alloc, standing, tree, net, from, to, far) {
+        Ok(steps) => Ok((far, steps)),
+        Err(NoMemory) => Err(Stop::NoMemory),
+    }
+}
+
+// Where there is a bound, the constraints of a least walk between the declared points of two spots.
+fn steps_between(
+    alloc: Global,
+    standing: &Standing,
+    tree: &Tree,
+    net: &DistNet,
+    from: Spot,
+    to: Spot,
+    far: Bound,
+) -> Result<Seq<WalkStep>, NoMemory>
+    requires seen { IsSeen standing.now.present net.now.present tree.now }
+    requires from { IsSpot net.now.present.names tree.now from }
+    requires to { IsSpot net.now.present.names tree.now to }
+    requires far { far ≡ gap (built standing.now.present) (spot_moment net.now.present.names tree.now from) (spot_moment net.now.present.names tree.now to) }
+    ensures { IfOk result (λ steps. WalksIf (built standing.now.present) (spot_moment net.now.present.names tree.now from) (spot_moment net.now.present.names tree.now to) far steps.items) }
+{
+    match far {
+        Bound::Free => Ok(Seq::make(alloc)),
+        Bound::Finite(_) => {
+            let a = base_point(tree, net, from);
+            let b = base_point(tree, net, to);
+            match walk(alloc, net, a, b)? {
+                Some(steps) => Ok(steps),
+                None => Ok(Seq::make(alloc)),
+            }
+        }
+    }
+}
+
+// The number of the declared point from which rules lead to a spot.
+fn base_point(tree: &Tree, net: &DistNet, spot: Spot) -> u16
+    requires { IsSpot net.now.present.names tree.now spot }
+    ensures { result ≡ base_of tree.now spot }
+{
+    match spot {
+        Spot::Declared(p) => p,
+        Spot::Node(x) => tree.row(x).begin,
+    }
+}
