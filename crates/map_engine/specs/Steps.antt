@@ -10,8 +10,7 @@ use Rattle.tmm_model.specs.declared.turn.Turn.TheVariants.{Silent as NoReply, Re
 use Rattle.tmm_model.specs.Lines.{ReadsLine}
 use Rattle.tmm_model.specs.Replies.{Reply, Refused, text_of, is_refusal}
 use Rattle.tmm_model.specs.Standing.{Standing}
-use Rattle.tmm_model.specs.Steps.{most_bytes}
-use Rattle.tmm_model.specs.Transcript.{AnswersLine}
+use Rattle.tmm_model.specs.Transcript.{AnswersLine, most_bytes}
 
 -- ---- the lines that the program answers so far: all but these
 

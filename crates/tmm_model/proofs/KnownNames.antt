@@ -1,5 +1,5 @@
 -- What a well-named list finds under a name, and which points its constraints are between.
-use Rattle.std.proofs.Common.{◌≡◌, ℕ, Bool, true, false, List, [], ◌∷◌, ◌++◌, map, refl, sym, ◌∙◌, ap, subst, inl, inr, append_assoc, cond}
+use Rattle.std.proofs.Common.{◌≡◌, ℕ, Bool, true, false, List, [], ◌∷◌, ◌++◌, refl, sym, ◌∙◌, ap, subst, inl, inr, append_assoc, cond}
 use Rattle.std.specs.Prelude.{Option, Some, None}
 use Rattle.std.specs.List.{flat_map, list_any, Contains}
 use Rattle.std.specs.Cmp.Lexicographic.{bytes_decides, nat_list_eq_equiv}
@@ -11,14 +11,14 @@ use Rattle.tmm_model.specs.declared.premise.Premise.{Premise}
 use Rattle.tmm_model.specs.declared.premise.Premise.TheVariants.{Class, Kind, Point, Event, Token, Span, Dist, Rule, Protect}
 use Rattle.tmm_model.specs.declared.walk.WalkStep.{WalkStep}
 use Rattle.tmm_model.specs.Points.{same_name}
-use Rattle.tmm_model.specs.Sorts.{fact_declaration, declarations_of, declarations_in, declared_by, Use, a_place}
+use Rattle.tmm_model.specs.Sorts.{declarations_of, declarations_in, declared_by, Use, a_place}
 use Rattle.tmm_model.specs.Standing.{name_of, points_of, points_in, base_step, length_step, steps_of, hi_steps, lo_steps, arc_of, arcs_of, arcs_in}
 use Rattle.tmm_model.specs.Verdicts.{Cause, first_taken, use_cause, uses_cause, place_cause, words_known}
 use Rattle.tmm_model.specs.Walks.{Arc, AreAmong}
 use Rattle.tmm_model.specs.WellNamed.{Follows, AllFollow, IsWellNamed, premise_in}
 use Rattle.tmm_model.proofs.Elements.{In, In-list_any, In-left, In-right, In-cases, In-flat_map, flat_map-In, In-map, map-In, Contains-from_In, In-from_Contains}
 use Rattle.tmm_model.proofs.Members.{All-from_contains}
-use Rattle.tmm_model.proofs.Places.{place_known}
+use Rattle.tmm_model.proofs.Places.{place_known, first_declared}
 use Rattle.tmm_model.proofs.WellNamed.{first_taken-none}
 
 same_name_itself : (n : List ℕ) → same_name n n ≡ true
@@ -38,21 +38,10 @@ own_name (Dist name from to lo hi) = inl refl
 own_name (Rule name trigger lo hi effect given) = inl refl
 own_name (Protect name fact from to) = inl refl
 
-own_first : (p : Premise) → (ws : List (List ℕ)) × (declared_by p ≡ name_of p ∷ ws)
-own_first (Class name facts) = (map (λ d. d.0) (map fact_declaration facts.items), refl)
-own_first (Kind name) = ([], refl)
-own_first (Point name) = ([], refl)
-own_first (Event name kind) = ([], refl)
-own_first (Token name fact) = ([], refl)
-own_first (Span name fact) = ([], refl)
-own_first (Dist name from to lo hi) = ([], refl)
-own_first (Rule name trigger lo hi effect given) = ([], refl)
-own_first (Protect name fact from to) = ([], refl)
-
 -- the own name of a premise that follows was not known
 own_new : (earlier : List Premise) (p : Premise) → Follows earlier p → list_any (same_name (name_of p)) (words_known earlier) ≡ false
 own_new earlier p f =
-    let (ws, e) = own_first p in
+    let (ws, e) = first_declared p in
     (first_taken-none (words_known earlier) (name_of p) ws (subst (λ l. first_taken (words_known earlier) l ≡ None) e f.new)).new
 
 -- so no premise before has it

@@ -16,10 +16,11 @@ use Rattle.tmm_model.specs.declared.premise.Premise.{Premise}
 use Rattle.tmm_model.specs.declared.premise.Premise.TheVariants.{Class, Kind, Point, Event, Token, Span, Dist, Rule, Protect}
 use Rattle.tmm_model.specs.Points.{same_name}
 use Rattle.tmm_model.specs.Standing.{name_of, points_of, points_in, arcs_of, arcs_in}
-use Rattle.tmm_model.specs.Sorts.{Sort, is_reserved, a_class, a_fact, a_kind, a_point, an_event, a_token, a_span, a_dist, a_rule, a_protection, is_place, fact_declaration, declarations_of, declarations_in, sort_in, declared_by}
-use Rattle.tmm_model.specs.Verdicts.{Cause, unknown, ill_sorted, taken, place_cause, name_cause, end_cause, first_taken, words_known}
+use Rattle.tmm_model.specs.Sorts.{Sort, a_class, a_fact, a_kind, a_point, an_event, a_token, a_span, a_dist, a_rule, a_protection, is_place, fact_declaration, declarations_of, declarations_in, sort_in, declared_by}
+use Rattle.tmm_model.specs.Verdicts.{Cause, unknown, ill_sorted, place_cause, name_cause, end_cause, first_taken, words_known}
 use Rattle.tmm_model.proofs.Members.{Contains-cons, Contains-cons_first, Contains-cons_cases}
 use Rattle.tmm_model.proofs.Points.{Decides-same_point}
+use Rattle.tmm_model.proofs.WellNamed.{first_taken-none}
 
 -- ---- one premise more
 
@@ -214,7 +215,7 @@ point_name (Rule name trigger lo hi effect given) q m = absurd (omega (arith, m.
 point_name (Protect name fact from to) q m = absurd (omega (arith, m.1))
 
 -- the first name that a premise declares is its own
-first_declared : (p : Premise) → (rest : List (List ℕ)) × (declared_by p ≡ name_of p ∷ rest)
+pub first_declared : (p : Premise) → (rest : List (List ℕ)) × (declared_by p ≡ name_of p ∷ rest)
 first_declared (Class name facts) = (map (λ d. d.0) (map fact_declaration facts.items), refl)
 first_declared (Kind name) = ([], refl)
 first_declared (Point name) = ([], refl)
@@ -243,21 +244,13 @@ point_is_known (p ∷ ps) q m =
           ∙ ap (λ b. list_any (same_name (base_name q)) (declared_by p) || b) (point_is_known ps q later) ∙ or-true (list_any (same_name (base_name q)) (declared_by p))
     ])
 
-first_is_new : (known : List (List ℕ)) (w : List ℕ) (ws : List (List ℕ)) → first_taken known (w ∷ ws) ≡ None → list_any (same_name w) known ≡ false
-first_is_new known w ws = by (is_reserved w) (list_any (same_name w) known)
-  where
-    by : (x y : Bool) → elim (x || y) as (λ _. Option Cause) [ true ↦ Some (taken w) | false ↦ first_taken (w ∷ known) ws ] ≡ None → y ≡ false
-    by true y h = absurd (cc (h))
-    by false true h = absurd (cc (h))
-    by false false h = refl
-
 -- **The points of a premise whose names are new are new.**
 pub points_new : (ps : List Premise) (p : Premise) → first_taken (words_known ps) (declared_by p) ≡ None → (q : PointName) → Contains (points_of p) q → Contains (points_in ps) q → ⊥
 points_new ps p none q m there =
     let d = first_declared p in
     let named = point_name p q m in
     let new : list_any (same_name (name_of p)) (words_known ps) ≡ false =
-    first_is_new (words_known ps) (name_of p) d.0 (subst (λ (l : List (List ℕ)). first_taken (words_known ps) l ≡ None) d.1 none) in
+    (first_taken-none (words_known ps) (name_of p) d.0 (subst (λ (l : List (List ℕ)). first_taken (words_known ps) l ≡ None) d.1 none)).new in
     elim (Contains-cons_cases Start (flat_map points_of ps) q there) [
       | inl later ↦ (let known : list_any (same_name (name_of p)) (words_known ps) ≡ true =
           subst (λ (n : List ℕ). list_any (same_name n) (words_known ps) ≡ true) named.0 (point_is_known ps q later) in

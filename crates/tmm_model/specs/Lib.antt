@@ -29,7 +29,6 @@ pub mod Touched
 pub mod Questions
 pub mod Kept
 pub mod Generator
-pub mod Steps
 pub mod Transcript
 pub mod Cycles
 pub mod EditLaws

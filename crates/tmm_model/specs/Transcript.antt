@@ -21,8 +21,11 @@ use Rattle.tmm_model.specs.Maps.{built}
 use Rattle.tmm_model.specs.Questions.{query_cause, Answers}
 use Rattle.tmm_model.specs.Replies.{Reply, Accepted, Refused, text_of, is_refusal}
 use Rattle.tmm_model.specs.Standing.{Standing, IsConsistent}
-use Rattle.tmm_model.specs.Steps.{most_bytes}
 use Rattle.tmm_model.specs.Verdicts.{list_cause, Tells}
+
+-- a longer line is refused for its length
+abbrev pub most_bytes : ℕ
+most_bytes = 400
 
 -- ---- edits
 
