@@ -17,7 +17,9 @@ pub enum Cause {
 /// A token of the fact, and why it is no supporter.
 #[derive(Drop)]
 pub struct Blame {
+    /// The token that is blamed.
     pub token: Occ,
+    /// Why it does not support the fact.
     pub cause: Cause,
 }
 
@@ -35,6 +37,8 @@ pub enum Answer {
 /// A broken protection, and its answer.
 #[derive(Drop)]
 pub struct Report {
+    /// The name of the protection.
     pub name: Name,
+    /// What is found of its fact.
     pub answer: Answer,
 }

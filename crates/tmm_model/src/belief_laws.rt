@@ -8,12 +8,12 @@ pub fn sound_lists_are_shortest()
     ensures { SoundListsAreShortest }
 {}
 
-/// Then occurrences have earliest dates, as their rules say.
+/// Occurrences of a sound list have earliest dates, as their rules say.
 pub fn points_time_occurrences()
     ensures { PointsTimeOccurrences }
 {}
 
-/// And distances of occurrences obey the triangle law.
+/// Distances of occurrences of a sound list obey the triangle inequality.
 pub fn distances_are_shortest()
     ensures { DistancesAreShortest }
 {}
@@ -33,7 +33,7 @@ pub fn maps_are_right()
     ensures { MapsAreRight }
 {}
 
-/// A decision of that map fires exactly where its effect is believed.
+/// A decision of the map of a sound list fires exactly where its effect is believed.
 pub fn decisions_fire_where_believed()
     ensures { FiresWhereBelieved }
 {}

@@ -8,7 +8,9 @@ use crate::walk::WalkStep;
 /// A token, and the first token that clips it.
 #[derive(Drop)]
 pub struct Clip {
+    /// The token that is clipped.
     pub token: Occ,
+    /// The first token that clips it.
     pub by: Occ,
 }
 
@@ -34,6 +36,7 @@ pub struct Changes {
 /// A line of the reasons of a belief.
 #[derive(Drop)]
 pub enum WhyLine {
+    /// The premise of this name declares the occurrence.
     Premise(Name),
     /// The first point is surely at or before the second: `far` is the upper bound on the first
     /// minus the second, and the steps are constraints that give it.
@@ -43,6 +46,8 @@ pub enum WhyLine {
         far: i64,
         steps: Seq<WalkStep>,
     },
+    /// `occ` is the effect of `rule` on the event `trigger`; `supports` are the first supporters of
+    /// the rule's antecedents, in their order.
     Derived {
         occ: Occ,
         rule: Name,
@@ -54,8 +59,12 @@ pub enum WhyLine {
 /// A believed occurrence: its earliest date, its kind or fact, and what clips it.
 #[derive(Drop)]
 pub struct ListRow {
+    /// Its earliest date, in whole time units.
     pub early: i64,
+    /// The occurrence.
     pub occ: Occ,
+    /// The kind of an event, or the fact of a token.
     pub what: Name,
+    /// The first token that clips it, none where no token does.
     pub clip: Option<Occ>,
 }

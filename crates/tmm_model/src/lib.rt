@@ -1,6 +1,8 @@
 //! The plain types that the layers of the time map share, and the definitions that their contracts
-//! cite: names, points and premises, distances over constraints, and what tokens support.
-//! It stands on no other crate of this repository.
+//! cite: names, points and premises, distances over constraints, what tokens support, what is believed
+//! and why, and what each line of a script is answered. It stands on no other crate of this repository.
+//!
+//! Its functions with empty bodies are laws of the definitions: each ensures one.
 #![tactic(auto)]
 
 mod answer;

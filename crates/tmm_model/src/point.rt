@@ -21,7 +21,9 @@ pub enum PointName {
 /// An occurrence: a declared event, token or span, and the rules that lead on from it, as in `e/r/s`.
 #[derive(Drop)]
 pub struct Occ {
+    /// The name of the declared event, token or span.
     pub root: Name,
+    /// The names of the rules, the one on the root first.
     pub rules: Seq<Name>,
 }
 
@@ -43,6 +45,8 @@ impl Occ {
 /// A point that a query names: a declared one, or the begin of a derived occurrence.
 #[derive(Drop)]
 pub enum QueryPoint {
+    /// A declared point, or the beginning of a declared occurrence.
     Declared(PointName),
+    /// The beginning of an occurrence with at least one rule.
     Derived(Occ),
 }

@@ -218,6 +218,7 @@ fn dist_step(
 /// A change of the standing premises.
 #[derive(Drop)]
 pub enum Edit {
+    /// Adds a premise after all that stand.
     Add(Premise),
     /// Retracts a premise and all that mentions it.
     Erase(Name),

@@ -31,7 +31,9 @@ pub enum Refusal {
 /// Why a call gives no answer.
 #[derive(Drop)]
 pub enum Stop {
+    /// The line is refused, for this cause.
     Refused(Refusal),
+    /// There was no memory.
     NoMemory,
 }
 

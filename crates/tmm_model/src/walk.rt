@@ -15,12 +15,15 @@ pub enum Side {
     Length,
 }
 
-/// A constraint of a premise: the date of `to` is at most `weight` after that of `from`.
+/// A constraint of a premise: the date of `to` is at most `weight` time units after that of `from`.
 #[derive(Clone, Copy, PartialEq, Eq, Debug)]
 pub struct WalkStep {
+    /// The name of the premise.
     pub premise: Name,
+    /// Which of its constraints it is.
     pub side: Side,
     pub from: PointName,
     pub to: PointName,
+    /// In whole time units.
     pub weight: i64,
 }
