@@ -16,6 +16,7 @@ use tmm_words::{bound, number, occ, point_name, split_word};
 pub enum Misread {
     /// They are in no form of the grammar.
     Form,
+    /// There was no memory for what they name.
     Memory,
 }
 
@@ -27,6 +28,7 @@ impl From<NoMemory> for Misread {
     }
 }
 
+/// Takes the next word, where it is a name.
 pub fn take_name(rest: &mut &[u8]) -> Option<Name>
     ensures { option_map (λ x. (x, words rest.new.now)) result ≡ front name_of (words rest.old.now) }
 {
@@ -35,6 +37,7 @@ pub fn take_name(rest: &mut &[u8]) -> Option<Name>
     Name::of(word)
 }
 
+/// Takes the next word, where it is a number.
 pub fn take_number(rest: &mut &[u8]) -> Option<i64>
     ensures { option_map (λ x. (x, words rest.new.now)) result ≡ front number_of (words rest.old.now) }
 {
@@ -43,6 +46,7 @@ pub fn take_number(rest: &mut &[u8]) -> Option<i64>
     number(word)
 }
 
+/// Takes the next word, where it is a bound.
 pub fn take_bound(rest: &mut &[u8]) -> Option<Bound>
     ensures { option_map (λ x. (x, words rest.new.now)) result ≡ front bound_of (words rest.old.now) }
 {
@@ -51,6 +55,7 @@ pub fn take_bound(rest: &mut &[u8]) -> Option<Bound>
     bound(word)
 }
 
+/// Takes the next word, where it names a declared point.
 pub fn take_point(rest: &mut &[u8]) -> Option<PointName>
     ensures { option_map (λ x. (x, words rest.new.now)) result ≡ front point_of (words rest.old.now) }
 {
@@ -59,6 +64,7 @@ pub fn take_point(rest: &mut &[u8]) -> Option<PointName>
     point_name(word)
 }
 
+/// Takes the next word, where it is a number from 0 to 100,000.
 pub fn take_horizon(rest: &mut &[u8]) -> Option<u32>
     ensures { option_map (λ x. (x, words rest.new.now)) result ≡ front horizon_of (words rest.old.now) }
 {
@@ -83,6 +89,7 @@ fn within_horizons(n: i64) -> Option<u32>
     }
 }
 
+/// Whether no word is left.
 pub fn at_end(line: &[u8]) -> Option<()>
     ensures { IsSome result ↔ (words line.now ≡ []) }
 {
@@ -108,6 +115,7 @@ pub fn all_names<const N: usize>(line: &[u8]) -> Option<ArrayVec<Name, N>>
     Some(names)
 }
 
+/// Takes the next word, where it names a point of a question.
 pub fn take_query_point(alloc: Global, rest: &mut &[u8]) -> Result<QueryPoint, Misread>
     ensures { Gives (λ x. (bare_point x, words rest.new.now)) result (front query_point_of (words rest.old.now)) }
 {
@@ -118,6 +126,7 @@ pub fn take_query_point(alloc: Global, rest: &mut &[u8]) -> Result<QueryPoint, M
     query_point(alloc, word)
 }
 
+/// Takes the next word, where it names an occurrence.
 pub fn take_occ(alloc: Global, rest: &mut &[u8]) -> Result<Occ, Misread>
     ensures { Gives (λ x. (bare_occ x, words rest.new.now)) result (front occ_of (words rest.old.now)) }
 {

@@ -20,8 +20,8 @@ use tmm_words::split_word;
 pub const LONGEST_LINE: usize = 400;
 
 /// What a line of a script, without its line break, says. A line of more than `LONGEST_LINE` bytes
-/// is refused as `LimitLine`, and one that is in no form of the grammar as `Form`. Only a question
-/// that names an occurrence takes memory.
+/// is refused as `LimitLine`, and one that is in no form of the grammar as `Form`. A silent line and
+/// a change take no memory.
 pub fn parse_line(alloc: Global, line: &[u8]) -> Result<Line, Stop>
     ensures too_long { (result ≡ Err (Refused LimitLine)) ↔ (400 < length line.now) }
     ensures read { length line.now ≤ 400 → IsReadingOf line.now result }

@@ -11,6 +11,7 @@ use Rattle.tmm_model.specs.Points.{slashed, occ_word}
 use Rattle.tmm_model.specs.Lines.{IsName, IsWellFormedOcc}
 use Rattle.tmm_model.specs.Reading.{parts, parts_behind}
 use Rattle.tmm_model.proofs.LinePoints.{parts-occ, parts-first, at_slash, word-parts}
+use Rattle.tmm_words.specs.Spelling.{HasRules}
 use Rattle.tmm_words.proofs.Places.{fails_at, prefix-passes, prefix-stops}
 
 slash_stops : (xs : List ℕ) → fails_at (λ b. not (b == 47)) xs ≡ true → at_slash xs ≡ true
@@ -49,3 +50,18 @@ occ_whole w root rules (b ∷ rest) none e = absurd (omega arith)
 -- no name was found
 pub not_name : (w : List ℕ) (r : Option (List ℕ)) → (IsSome r ↔ IsName w) → r ≡ None → is_name w ≡ false
 not_name w r h e = false_from_ne_true (is_name w) (λ t. true≢false (sym (h.1 t) ∙ ap is_some e))
+
+-- a word has some part
+some_part : (w : List ℕ) → parts w ≡ [] → ⊥
+some_part w e = let k = part_first w (position_or_len (λ b. b == 47) w) refl in cc (k, e)
+
+none_behind : (front more : List (List ℕ)) → front ++ more ≡ [] → more ≡ []
+none_behind [] more e = e
+none_behind (part ∷ front) more e = absurd (cc (e))
+
+-- where bytes are left behind the root, the word's occurrence has rules
+pub some_rules : (w root : List ℕ) (rules : List (List ℕ)) (rest : List ℕ) → 1 ≤ length rest → parts w ≡ root ∷ (rules ++ parts_behind rest) → HasRules w
+some_rules w root rules rest some e a ok is none =
+    let k : a.root ∷ a.rules.items ≡ root ∷ (rules ++ parts_behind rest) = sym (parts-occ a.root a.rules.items ok.0 ok.1) ∙ ap parts (sym is) ∙ e in
+    let all : rules ++ parts_behind rest ≡ [] = cc (k, none) in
+    some_part (drop 1 rest) (sym (behind_first rest some) ∙ none_behind rules (parts_behind rest) all)

@@ -1,7 +1,14 @@
 -- What a word spells.
-use Rattle.std.specs.Prelude.{◌≡◌, ◌≢◌, ℕ, List, Option, Some, None}
+use Rattle.std.specs.Prelude.{◌≡◌, ◌≢◌, ℕ, List, [], Option, Some, None}
+use Rattle.tmm_model.specs.declared.point.Occ.{Occ}
+use Rattle.tmm_model.specs.Points.{occ_word}
+use Rattle.tmm_model.specs.Lines.{IsWellFormedOcc}
 
 -- The word is the spelling of the value, and there is no value exactly where the word is the spelling of none.
 abbrev pub IsSpelling : {A : Type 0} → (A → List ℕ) → (A → Type 0) → List ℕ → Option A → Type 0
 IsSpelling spell Ok w (Some a) = Ok a × (w ≡ spell a)
 IsSpelling {A} spell Ok w None = (a : A) → Ok a → w ≢ spell a
+
+-- An occurrence that the word names has rules.
+abbrev pub HasRules : List ℕ → Type 0
+HasRules w = (a : Occ) → IsWellFormedOcc a → w ≡ occ_word a → a.rules.items ≢ []

@@ -1,9 +1,9 @@
 // Points and occurrences.
-ghost use Rattle.std.specs.Prelude.{◌≡◌, ◌==◌, ◌∷◌, ◌<◌, ◌≤◌, length, position, IfSome, IfOk};
+ghost use Rattle.std.specs.Prelude.{◌≡◌, ◌==◌, ◌∷◌, ◌<◌, ◌≤◌, length, position, IfSome, IfOk, OnErr};
 ghost use Rattle.tmm_model.specs.Points.{point_word, occ_word};
 ghost use Rattle.tmm_model.specs.Lines.{IsWellFormedPoint, IsWellFormedOcc};
 ghost use Rattle.tmm_model.specs.Reading.{parts, parts_behind};
-ghost use Rattle.tmm_words.specs.Spelling.{IsSpelling};
+ghost use Rattle.tmm_words.specs.Spelling.{IsSpelling, HasRules};
 
 use std::alloc::Global;
 use tmm_model::{Name, NoMemory, Occ, PointName, Seq};
@@ -21,9 +21,11 @@ pub fn point_name(word: &[u8]) -> Option<PointName>
     }
 }
 
-/// The occurrence that a word names: a name, and any number of further names, each behind a `/`.
+/// The occurrence that a word names: a name, and any number of further names, each behind a `/`,
+/// which alone take memory.
 pub fn occ(alloc: Global, word: &[u8]) -> Result<Option<Occ>, NoMemory>
-    ensures { IfOk result (IsSpelling occ_word IsWellFormedOcc word.now) }
+    ensures read { IfOk result (IsSpelling occ_word IsWellFormedOcc word.now) }
+    ensures memory { OnErr result (HasRules word.now) }
 {
     let (first, mut rest) = split_part(word);
     let Some(root) = Name::of(first) else {

@@ -3,7 +3,8 @@ ghost use Rattle.std.specs.Prelude.{◌≡◌, ◌∷◌, [], ◌≤◌, ◌<◌
 ghost use Rattle.tmm_model.specs.Lines.{is_blank, words, AreBlanks};
 ghost use Rattle.tmm_words.specs.Places.{IsFirstWord};
 
-/// The begin and the end of the first word of the line at or after a place.
+/// Where the first word of the line at or after a place begins and ends, none exactly where there is
+/// none.
 pub fn next_word(line: &[u8], from: usize) -> Option<(usize, usize)>
     requires { from ≤ length line.now }
     ensures none { IsNone result ↔ AreBlanks (drop from line.now) }
@@ -16,7 +17,7 @@ pub fn next_word(line: &[u8], from: usize) -> Option<(usize, usize)>
     Some((from + begin, from + begin + len))
 }
 
-/// The first word of the line, and the line behind it.
+/// The first word of the line and what follows it, none exactly where there is no word.
 pub fn split_word(line: &[u8]) -> Option<(&[u8], &[u8])>
     ensures { MatchOption result (words line.now ≡ []) (λ x. words line.now ≡ x.0.now ∷ words x.1.now) }
 {
