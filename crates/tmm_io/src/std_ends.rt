@@ -1,6 +1,10 @@
 // The real ends. They tell what the reader or writer below tells, which for an object of the system
 // is nothing.
-ghost use Rattle.std.specs.Prelude.{◌≡◌};
+ghost use Rattle.std.specs.Prelude.{◌≡◌, OnErr};
+ghost use Rattle.std.specs.Io.{ReadsAtMost};
+ghost use Rattle.std.specs.Io.KnownBytes.{ReadConsumes};
+ghost use Rattle.tmm_io.specs.Causes.{HasCause, raised};
+ghost use Rattle.tmm_io.specs.Ends.{WritesAll};
 
 use crate::{Failed, Sink, Source};
 use std::io::{Read, Write};
@@ -27,7 +31,12 @@ impl<R: Read> Source for StdSource<R> {
 
     ghost faults = { λ s. s.faults };
 
-    fn read(&mut self, buf: &mut [u8]) -> Result<usize, Failed> {
+    fn read(&mut self, buf: &mut [u8]) -> Result<usize, Failed>
+        ensures bound { ReadsAtMost result buf.new }
+        ensures bytes { ReadConsumes (R.remaining self.old.inner) (R.remaining self.new.inner) result buf.new }
+        ensures cause { HasCause self.old.faults self.new.faults result }
+        ensures counted { OnErr result (self.new.faults ≡ raised self.old.faults) }
+    {
         match self.inner.read(buf) {
             Ok(count) => Ok(count),
             Err(_) => {
@@ -61,7 +70,11 @@ impl<W: Write> Sink for StdSink<W> {
 
     ghost faults = { λ s. s.faults };
 
-    fn write_all(&mut self, bytes: &[u8]) -> Result<(), Failed> {
+    fn write_all(&mut self, bytes: &[u8]) -> Result<(), Failed>
+        ensures bytes { WritesAll (W.contents self.old.inner) (W.contents self.new.inner) result bytes.now }
+        ensures cause { HasCause self.old.faults self.new.faults result }
+        ensures counted { OnErr result (self.new.faults ≡ raised self.old.faults) }
+    {
         let mut rest = bytes;
         'writes: while !rest.is_empty() {
             let Ok(count) = self.inner.write(rest) else {
