@@ -30,18 +30,24 @@ const PLACES: usize = 65536;
 /// A constraint of a premise: the date of `to` is at most `weight` time units after that of `from`.
 #[derive(Clone, Copy, PartialEq, Eq, Debug)]
 pub struct Edge {
+    /// The number of its first point.
     pub from: u16,
+    /// The number of its second point.
     pub to: u16,
+    /// In whole time units.
     pub weight: i64,
     /// The premise that the constraint is of.
     pub owner: Name,
+    /// Which of the premise's constraints it is.
     pub side: Side,
 }
 
 /// The edge of a premise that no dates satisfy, and the negative sum of the walk that it closes.
 #[derive(Clone, Copy, PartialEq, Eq, Debug)]
 pub struct Conflict {
+    /// The place of the edge among those of the premise.
     pub edge: usize,
+    /// The sum of the walk, which is below 0.
     pub sum: i64,
 }
 
@@ -77,7 +83,7 @@ impl DistNet {
     ghost use Rattle.tmm_model.specs.Bounds.{IfFinite, IsWithin};
     ghost use Rattle.tmm_model.specs.Walks.{far, IsFar, HasDates, AreLight};
 
-    /// The point `start` alone, and places for all points and edges.
+    /// The point `start` alone, and places for all points and edges. Without memory there is none.
     pub fn make(alloc: Global) -> Result<DistNet, NoMemory>
         ensures present { IfOk result (λ n. n.present ≡ start_alone) }
         ensures committed { IfOk result (λ n. n.committed ≡ start_alone) }

@@ -14,8 +14,9 @@ use tmm_model::{Name, NoMemory, PointName, Premise, Seq};
 /// Premises parted into those that fall and those that stay.
 #[derive(Drop)]
 pub(crate) struct Fall {
-    // the names of those that fall
+    /// The names of those that fall.
     pub names: Seq<Name>,
+    /// Those that stay, in their order.
     pub kept: Vec<Premise>,
 }
 

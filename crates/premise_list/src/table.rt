@@ -22,7 +22,9 @@ use tmm_model::{Name, NoMemory, Premise};
 /// What a name is declared as, and the place of the premise that declares it.
 #[derive(Clone, Copy)]
 pub(crate) struct Word {
+    /// What the name is declared as.
     pub sort: Sort,
+    /// The place of the premise that declares it, from 0.
     pub place: usize,
 }
 
