@@ -34,6 +34,7 @@ fn put_constraint(out: &mut Seq<u8>, step: &WalkStep) -> Result<(), NoMemory>
     out.extend(b"\n")
 }
 
+/// Appends a line for each step.
 pub fn put_steps(out: &mut Seq<u8>, indent: &[u8], steps: &[WalkStep]) -> Result<(), NoMemory>
     ensures { OnOk result (out.new.items ≡ out.old.items ++ step_lines indent.now steps.now) }
 {
@@ -71,6 +72,7 @@ fn put_more(out: &mut Seq<u8>, indent: &[u8], more: u64) -> Result<(), NoMemory>
     out.extend(b" more\n")
 }
 
+/// Appends a line for each blame, and how many more there are.
 pub fn put_blames(out: &mut Seq<u8>, indent: &[u8], answer: &Answer) -> Result<(), NoMemory>
     ensures { OnOk result (out.new.items ≡ out.old.items ++ blame_lines indent.now answer.now) }
 {
@@ -97,6 +99,7 @@ fn put_report(out: &mut Seq<u8>, report: &Report) -> Result<(), NoMemory>
     put_blames(out, b"    ", &report.answer)
 }
 
+/// Appends each broken protection with its blames.
 pub fn put_reports(out: &mut Seq<u8>, reports: &[Report]) -> Result<(), NoMemory>
     ensures { OnOk result (out.new.items ≡ out.old.items ++ flat_map report_lines reports.now) }
 {
@@ -145,6 +148,7 @@ fn put_clips(out: &mut Seq<u8>, clips: &[Clip]) -> Result<(), NoMemory>
     Ok(())
 }
 
+/// Appends a line for each change.
 pub fn put_changes(out: &mut Seq<u8>, changes: &Changes) -> Result<(), NoMemory>
     ensures { OnOk result (out.new.items ≡ out.old.items ++ change_lines changes.now) }
 {
@@ -157,6 +161,7 @@ pub fn put_changes(out: &mut Seq<u8>, changes: &Changes) -> Result<(), NoMemory>
     put_names(out, b"mended", changes.mended.items())
 }
 
+/// Appends the line of a believed occurrence.
 pub fn put_row(out: &mut Seq<u8>, row: &ListRow) -> Result<(), NoMemory>
     ensures { OnOk result (out.new.items ≡ out.old.items ++ row_line row.now) }
 {

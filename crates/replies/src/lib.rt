@@ -2,7 +2,8 @@
 //!
 //! Each call makes the whole reply in one buffer, and ensures that its bytes are the text which the
 //! definitions of `tmm_model` give for that answer under the line's number. It stands on `tmm_model`,
-//! whose types it prints, and for `dump` on `premise_list` and `tmm_script`.
+//! whose types it prints, and for `dump` on `premise_list` and `tmm_script`. Without memory for the
+//! reply a call answers `NoMemory`.
 #![tactic(auto)]
 
 mod details;

@@ -8,6 +8,7 @@ use crate::details::put_steps;
 use crate::words::{put_number, put_occ, put_query};
 use tmm_model::{NoMemory, Occ, Seq, WhyLine};
 
+/// Appends a line of reasons, with its steps.
 pub fn put_reason(out: &mut Seq<u8>, reason: &WhyLine) -> Result<(), NoMemory>
     ensures { OnOk result (out.new.items ≡ out.old.items ++ why_lines reason.now) }
 {

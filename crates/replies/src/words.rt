@@ -23,6 +23,7 @@ pub fn begun(alloc: Global, line: u64, text: &[u8]) -> Result<Seq<u8>, NoMemory>
     Ok(out)
 }
 
+/// Appends a count in decimal.
 pub fn put_count(out: &mut Seq<u8>, n: u64) -> Result<(), NoMemory>
     ensures { OnOk result (out.new.items ≡ out.old.items ++ decimal n) }
 {
@@ -30,6 +31,7 @@ pub fn put_count(out: &mut Seq<u8>, n: u64) -> Result<(), NoMemory>
     out.extend(digits.format(n).as_bytes())
 }
 
+/// Appends a number in decimal.
 pub fn put_number(out: &mut Seq<u8>, n: i64) -> Result<(), NoMemory>
     ensures { OnOk result (out.new.items ≡ out.old.items ++ signed_decimal n) }
 {
@@ -37,6 +39,7 @@ pub fn put_number(out: &mut Seq<u8>, n: i64) -> Result<(), NoMemory>
     out.extend(digits.format(n).as_bytes())
 }
 
+/// Appends a number, or `*` for none.
 pub fn put_bound(out: &mut Seq<u8>, bound: Bound) -> Result<(), NoMemory>
     ensures { OnOk result (out.new.items ≡ out.old.items ++ bound_word bound) }
 {
@@ -46,6 +49,7 @@ pub fn put_bound(out: &mut Seq<u8>, bound: Bound) -> Result<(), NoMemory>
     }
 }
 
+/// Appends the word of a side.
 pub fn put_side(out: &mut Seq<u8>, side: Side) -> Result<(), NoMemory>
     ensures { OnOk result (out.new.items ≡ out.old.items ++ side_word side) }
 {
@@ -57,6 +61,7 @@ pub fn put_side(out: &mut Seq<u8>, side: Side) -> Result<(), NoMemory>
     }
 }
 
+/// Appends the word of a declared point.
 pub fn put_point(out: &mut Seq<u8>, point: &PointName) -> Result<(), NoMemory>
     ensures { OnOk result (out.new.items ≡ out.old.items ++ point_word point.now) }
 {
@@ -70,6 +75,7 @@ pub fn put_point(out: &mut Seq<u8>, point: &PointName) -> Result<(), NoMemory>
     }
 }
 
+/// Appends the word of an occurrence.
 pub fn put_occ(out: &mut Seq<u8>, occ: &Occ) -> Result<(), NoMemory>
     ensures { OnOk result (out.new.items ≡ out.old.items ++ occ_word occ.now) }
 {
@@ -81,6 +87,7 @@ pub fn put_occ(out: &mut Seq<u8>, occ: &Occ) -> Result<(), NoMemory>
     Ok(())
 }
 
+/// Appends the word of a point that a question names.
 pub fn put_query(out: &mut Seq<u8>, point: &QueryPoint) -> Result<(), NoMemory>
     ensures { OnOk result (out.new.items ≡ out.old.items ++ query_word point.now) }
 {
