@@ -1,3 +1,4 @@
 pub mod DistanceLaw
 pub mod Ranks
 pub mod Steps
+pub mod TimingLaw

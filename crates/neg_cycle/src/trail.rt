@@ -1,5 +1,5 @@
 // Least walks and negative cycles.
-ghost use Rattle.std.specs.Prelude.{◌≡◌, [], ◌∷◌, ◌++◌, ℕ, ◌<◌, length, slice_index, slice_index_or, IfOk, OnOk, OnErr, IfSome, MatchOption, Option};
+ghost use Rattle.std.specs.Prelude.{◌≡◌, ◌≢◌, [], ◌∷◌, ◌++◌, ℕ, ◌<◌, length, slice_index, slice_index_or, IfOk, OnOk, OnErr, IfSome, MatchOption, Option};
 ghost use Rattle.dist_net.specs.declared.Edge.{Edge};
 ghost use Rattle.dist_net.specs.Net.{IsInUse, AreInUse, IsConflict, arcs_of};
 ghost use Rattle.tmm_model.specs.Cycles.{sum_of, IsPath, IsCycleBy};
@@ -57,11 +57,12 @@ fn follow(
 }
 
 /// A walk from `a` to `b` over the constraints of the network that has their tightest distance as
-/// its sum and visits no point twice. None exactly where there is no walk.
+/// its sum and visits no point twice. None exactly where there is no walk, and that takes no memory.
 pub fn walk(alloc: Global, net: &DistNet, a: u16, b: u16) -> Result<Option<Seq<WalkStep>>, NoMemory>
     requires from { IsInUse net.now.present.names a }
     requires to { IsInUse net.now.present.names b }
     ensures exact { IfOk result (λ found. MatchOption found (far_in_net net.now.present a b ≡ Bound.Free) (λ steps. far_in_net net.now.present a b ≡ Bound.Finite (sum_of steps.items))) }
+    ensures memory { OnErr result (far_in_net net.now.present a b ≢ Bound.Free) }
     ensures least { IfOk result (λ found. MatchOption found (IsFar (arcs_of net.now.present.edges) a b Bound.Free) (λ steps. IsFar (arcs_of net.now.present.edges) a b (Bound.Finite (sum_of steps.items)))) }
     ensures path { IfOk result (λ found. IfSome found (λ steps. IsPath (steps_in_net net.now.present) (point_at net.now.present.names a) (point_at net.now.present.names b) steps.items)) }
 {
