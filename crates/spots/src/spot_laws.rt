@@ -7,7 +7,8 @@ pub fn spots_are_the_lists()
     ensures { SpotsAreTheLists }
 {}
 
-/// And the rows of a class are the tokens of that class among the occurrences that the nodes are.
+/// Where nodes are those of a list, the rows of a class are the tokens of that class among the
+/// occurrences that the nodes are.
 pub fn rows_are_the_tokens()
     ensures { RowsAreTheTokens }
 {}
