@@ -92,3 +92,17 @@ module _ {P : Type 0} {live : P → Type 0} {order : P → P → Ordering} (law 
 
     pub first_take : (x : TokenRow P) (i : ℕ) (best : Option ℕ) (r : ℕ) → i < length xs → x ≡ slice_index_or xs i x → IsFirstPlaceAmong cmp test xs i best → test x ≡ true → IsEarlierPlace cmp xs best i r → IsFirstPlaceAmong cmp test xs (i + 1) (Some r)
     first_take x i best r lt is h sure e = first_taken x i best r lt h (λ d. subst (λ y. IsTrue (test y)) (get_or_read xs i x lt is d) sure) e
+
+    -- what is not before the best place leaves it as it is, whether it passes or not
+    pub first_kept : (x : TokenRow P) (i : ℕ) (best : Option ℕ) (r : ℕ) → i < length xs → IsFirstPlaceAmong cmp test xs i best → IsEarlierPlace cmp xs best i r → (r ≡ i → ⊥) → IsFirstPlaceAmong cmp test xs (i + 1) best
+    first_kept x i None r lt h e other = absurd (other e)
+    first_kept x i (Some b) r lt h e other = by (test (slice_index_or xs i x)) refl (is_gt (cmp (slice_index_or xs b x) (slice_index_or xs i x))) refl (e x)
+      where
+        read : (d : TokenRow P) → slice_index_or xs i x ≡ slice_index_or xs i d
+        read d = get_or_default xs i x d lt
+
+        by : (t : Bool) → test (slice_index_or xs i x) ≡ t → (g : Bool) → is_gt (cmp (slice_index_or xs b x) (slice_index_or xs i x)) ≡ g → r ≡ (if g then i else b) → IsFirstAmong cmp test xs (i + 1) b
+        by t f true k q = absurd (other q)
+        by false f false k q = first_skipped i (Some b) h (λ d. subst (λ y. test y ≡ false) (read d) f)
+        by true f false k q =
+            subst (λ z. IsFirstAmong cmp test xs (i + 1) z) q (first_taken x i (Some b) r lt h (λ d. subst (λ y. IsTrue (test y)) (read d) f) e)

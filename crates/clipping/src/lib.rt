@@ -6,10 +6,10 @@
 //! takes memory.
 #![tactic(auto)]
 
-ghost use Rattle.std.specs.Prelude.{◌≡◌, ◌<◌, ◌≤◌, ◌↔◌, ℕ, length, IsTrue, Bool, true, false, MatchOption, slice_index_or, slice_get, IfSome};
+ghost use Rattle.std.specs.Prelude.{◌≡◌, ◌<◌, ◌≤◌, ◌↔◌, ◌+◌, ℕ, length, IsTrue, Bool, true, false, MatchOption, slice_index_or, slice_get, IfSome};
 ghost use Rattle.std.specs.List.{list_any, All};
 ghost use Rattle.std.specs.Ordering.{on};
-ghost use Rattle.tmm_model.specs.Tokens.{of_one_class, supports, cuts, clips, lasts_to, IsFirstPlace};
+ghost use Rattle.tmm_model.specs.Tokens.{of_one_class, supports, cuts, clips, lasts_to, IsFirstPlace, IsFirstPlaceAmong};
 ghost use Rattle.std.specs.Option.{ForSome};
 ghost use Rattle.clipping.specs.Live.{IsLive};
 ghost use Rattle.clipping.specs.Earlier.{IsEarlierPlace};
@@ -34,7 +34,7 @@ fn clips_after<S: Sure>(order: &S, k: &TokenRow<S::Spot>, c: &TokenRow<S::Spot>)
     requires c_live { S.live order.now c.now.spot }
     ensures { result ≡ clips of_one_class (S.distance order.now) k.now c.now }
 {
-    k.class == c.class && k.fact != c.fact && order.at_most(c.spot, k.spot, -1)
+    k.fact != c.fact && k.class == c.class && order.at_most(c.spot, k.spot, -1)
 }
 
 // Whether `k` lasts up to `q` among the tokens.
@@ -67,8 +67,9 @@ fn is_cut<S: Sure>(
     requires q_live { S.live order.now q }
     ensures { result ≡ list_any (cuts of_one_class (S.distance order.now) k.now q) tokens.now }
 {
-    for c in tokens {
-        if cuts_before(order, k, c, q) {
+    // tokens mostly enter in the order of their dates, and what cuts is found among the last
+    for i in (0..tokens.len()).rev() {
+        if cuts_before(order, k, &tokens[i], q) {
             return true;
         }
     }
@@ -109,6 +110,38 @@ fn earlier<S: Sure>(order: &S, tokens: &[TokenRow<S::Spot>], best: Option<usize>
     }
 }
 
+// The first place that supports the fact so far, one more token being looked at: the one at `i`. One
+// of another fact, or behind the best so far, is not tested whether it lasts.
+fn better<S: Sure>(
+    order: &S,
+    tokens: &[TokenRow<S::Spot>],
+    best: Option<usize>,
+    i: usize,
+    fact: Name,
+    p: S::Spot,
+    q: S::Spot,
+) -> Option<usize>
+    requires all_live { All (IsLive (S.live order.now)) tokens.now }
+    requires p_live { S.live order.now p }
+    requires q_live { S.live order.now q }
+    requires within { i < length tokens.now }
+    requires best { IsFirstPlaceAmong (on (λ k. k.spot) (S.order order.now)) (supports of_one_class (S.distance order.now) tokens.now fact p q) tokens.now i best }
+    ensures { IsFirstPlaceAmong (on (λ k. k.spot) (S.order order.now)) (supports of_one_class (S.distance order.now) tokens.now fact p q) tokens.now (i + 1) result }
+{
+    let k = &tokens[i];
+    if k.fact != fact {
+        return best;
+    }
+    if earlier(order, tokens, best, i) != i {
+        return best;
+    }
+    if is_supporter(order, tokens, k, fact, p, q) {
+        Some(i)
+    } else {
+        best
+    }
+}
+
 /// The place of the first token that supports the fact throughout `p` to `q`, none exactly where no
 /// token does.
 pub fn holder<S: Sure>(
@@ -124,10 +157,8 @@ pub fn holder<S: Sure>(
     ensures { IsFirstPlace (on (λ k. k.spot) (S.order order.now)) (supports of_one_class (S.distance order.now) tokens.now fact p q) tokens.now result }
 {
     let mut best = None;
-    for (i, k) in tokens.iter().enumerate() {
-        if is_supporter(order, tokens, k, fact, p, q) {
-            best = Some(earlier(order, tokens, best, i));
-        }
+    for i in 0..tokens.len() {
+        best = better(order, tokens, best, i, fact, p, q);
     }
     best
 }
