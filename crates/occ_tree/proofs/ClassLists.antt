@@ -58,17 +58,23 @@ module _ (c : List ℕ) where
 same : (c d : List ℕ) → c ≡ d → same_name c d ≡ true
 same c d e = (bytes_decides c d).1 e
 
+-- the entry of a class is written again
+pub own_rows : (es : List ClassRows) (c : List ℕ) (i : ℕ) (x d : ClassRows) → IsPlace es c i → x.class ≡ (get_or es i d).class → rows_in (set es i x) c ≡ x.rows.items
+own_rows es c i x d place class = own_written c es i x place.within place.before (same c x.class ((bytes_decides c (get_or es i d).class).0 (place.here d) ∙ sym class))
+
+pub other_rows : (es : List ClassRows) (c : List ℕ) (i : ℕ) (x d : ClassRows) → IsPlace es c i → x.class ≡ (get_or es i d).class → (q : List ℕ) → q ≢ c → rows_in (set es i x) q ≡ rows_in es q
+other_rows es c i x d place class q other =
+    let is : c ≡ (get_or es i d).class = (bytes_decides c (get_or es i d).class).0 (place.here d) in
+    other_written q es i x place.within
+    (λ e. differs q (get_or es i e).class (λ f. other (f ∙ sym ((bytes_decides c (get_or es i e).class).0 (place.here e)))))
+    (differs q x.class (λ f. other (f ∙ class ∙ sym is)))
+
 -- a token is added to the entry of its class
 pub AddsRow-written : (es : List ClassRows) (row : TokenRow Spot) (i : ℕ) (x d : ClassRows) → IsPlace es row.class i → x.class ≡ (get_or es i d).class → x.rows.items ≡ (get_or es i d).rows.items ++ row ∷ [] → AddsRow es (set es i x) row
-AddsRow-written es row i x d place class rows =
-    let c = row.class in
-    let is : c ≡ (get_or es i d).class = (bytes_decides c (get_or es i d).class).0 (place.here d) in
-    record {
-      own = own_written c es i x place.within place.before (same c x.class (is ∙ sym class)) ∙ rows ∙ ap (λ r. r ++ row ∷ []) (sym (rows_at c es i d place.within place.before place.here));
-      others = λ q other. other_written q es i x place.within
-          (λ e. differs q (get_or es i e).class (λ f. other (f ∙ sym ((bytes_decides c (get_or es i e).class).0 (place.here e)))))
-          (differs q x.class (λ f. other (f ∙ class ∙ sym is)));
-    }
+AddsRow-written es row i x d place class rows = record {
+  own = own_rows es row.class i x d place class ∙ rows ∙ ap (λ r. r ++ row ∷ []) (sym (rows_at row.class es i d place.within place.before place.here));
+  others = other_rows es row.class i x d place class;
+}
 
 -- the entry written again has the same tokens
 pub rows_kept : (es : List ClassRows) (c : List ℕ) (i : ℕ) (x d : ClassRows) → IsPlace es c i → x.class ≡ (get_or es i d).class → x.rows.items ≡ (get_or es i d).rows.items → (q : List ℕ) → rows_in (set es i x) q ≡ rows_in es q

@@ -9,3 +9,8 @@ pub mod Once
 pub mod Words
 pub mod Children
 pub mod Lookups
+pub mod Without
+pub mod Below
+pub mod Unlisted
+pub mod Withdrawn
+pub mod Shed

@@ -16,7 +16,7 @@ use Rattle.occ_tree.specs.declared.classes.ClassRows.{ClassRows}
 use Rattle.occ_tree.specs.Classes.{rows_in, TakesToken}
 
 -- the row of a node stands there
-spot_is : (x : ℕ) (m : Member) (row : TokenRow Spot) → token_row x m ≡ Some row → row.spot ≡ Node x
+pub spot_is : (x : ℕ) (m : Member) (row : TokenRow Spot) → token_row x m ≡ Some row → row.spot ≡ Node x
 spot_is x m row e = by m.class e
   where
     by : (o : Option (List ℕ)) → option_map (λ class. record { spot = Node x; end = option_map Declared m.end; fact = m.what; class = class }) o ≡ Some row → row.spot ≡ Node x
@@ -24,6 +24,16 @@ spot_is x m row e = by m.class e
     by (Some class) e =
         let same : ◌≡◌ {A = TokenRow Spot} (record { spot = Node x; end = option_map Declared m.end; fact = m.what; class = class }) row = cc in
         ap (λ (k : TokenRow Spot). k.spot) (sym same)
+
+-- and is of its class
+pub class_is : (x : ℕ) (m : Member) (row : TokenRow Spot) → token_row x m ≡ Some row → m.class ≡ Some row.class
+class_is x m row e = by m.class refl e
+  where
+    by : (o : Option (List ℕ)) → m.class ≡ o → option_map (λ class. record { spot = Node x; end = option_map Declared m.end; fact = m.what; class = class }) o ≡ Some row → m.class ≡ Some row.class
+    by None is e = cc
+    by (Some class) is e =
+        let same : ◌≡◌ {A = TokenRow Spot} (record { spot = Node x; end = option_map Declared m.end; fact = m.what; class = class }) row = cc in
+        is ∙ ap (λ (k : TokenRow Spot). Some k.class) same
 
 AreApart-push : (rows : List (TokenRow Spot)) (row : TokenRow Spot) → AreApart rows → ((r : TokenRow Spot) → In r rows → r.spot ≢ row.spot) → AreApart (rows ++ row ∷ [])
 AreApart-push [] row apart new = (All-from_contains (λ (o : TokenRow Spot). o.spot ≢ row.spot) [] (λ o at. absurd (In-from_Contains [] o at)), tt)

@@ -3,3 +3,4 @@ pub mod Classes
 pub mod Nodes
 pub mod TreeInside
 pub mod Rows
+pub mod Leaving

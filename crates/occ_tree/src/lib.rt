@@ -3,11 +3,12 @@
 //!
 //! A `Tree` is seen as the node of each number. With a network of distances it answers the tightest
 //! distance of two spots, the earliest date of a node and the order of nodes; `Order` is that order
-//! for `clipping`. Where the nodes and the network are those of a standing list, these are the
+//! for `clipping`. `withdraw` takes a node out with all below it. Where the nodes and the network are those of a standing list, these are the
 //! distances, dates and order of the list's occurrences.
 #![tactic(auto)]
 
 mod classes;
+mod leaving;
 mod links;
 mod node;
 mod order;

@@ -37,17 +37,24 @@ pub struct NodeRow {
     pub what: Name,
     /// The class of a token's fact.
     pub class: Option<Name>,
+    /// Whether it is an event, a persistence or a span.
     pub shape: Shape,
 }
 
 /// An occurrence, and where it stands in the tree.
 #[derive(Drop)]
 pub(crate) struct Node {
+    /// The name of its root.
     pub root: Name,
+    /// The rules that lead to it, the one on the root first.
     pub links: Vec<Link>,
+    /// The number of the root's point.
     pub begin: u16,
+    /// The number of a span's end.
     pub end: Option<u16>,
+    /// The kind of an event, or the fact of a token.
     pub what: Name,
+    /// The class of a token's fact.
     pub class: Option<Name>,
     pub shape: Shape,
     /// The occurrence as it is printed: its root and its rules, parted by `/`.
@@ -56,8 +63,11 @@ pub(crate) struct Node {
     pub low: i64,
     /// The sum of the most delays.
     pub high: Bound,
+    /// The node of its root.
     pub root_node: u32,
+    /// The node of the event whose effect it is, none for a root.
     pub parent: Option<u32>,
+    /// The nodes of what rules lead to from it, in the order in which they came.
     pub children: Vec<u32>,
 }
 

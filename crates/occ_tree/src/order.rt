@@ -100,7 +100,9 @@ struct Place<'a> {
 /// earliest dates and then by their words, and behind them declared points by their numbers.
 #[derive(Drop)]
 pub struct Order<'a> {
+    /// The occurrences.
     pub tree: &'a Tree,
+    /// The declared points and their distances.
     pub net: &'a DistNet,
 }
 

@@ -1,4 +1,5 @@
-//! A tree of one event and of the token that a rule leads to from it.
+//! A tree of one event and of the token that a rule leads to from it, and a tree that an event leaves
+//! with its effect.
 use super::*;
 use std::test::Fail;
 use tmm_model::{Bound, Name, Seq, Shape};
@@ -41,5 +42,30 @@ fn a_rule_leads_on(rt: HostRuntime) -> Result<(), Fail> {
     assert_eq!(rt; row.parent, Some(press));
     assert_eq!(rt; tree.tokens(name("lamp")).len(), 1);
     assert_eq!(rt; tree.first_child(press), Some(lit));
+    Ok(())
+}
+
+#[test]
+fn an_event_leaves_with_its_effect(rt: HostRuntime) -> Result<(), Fail> {
+    let alloc = rt.alloc();
+    let mut tree = Tree::make(alloc);
+    let push = name("push");
+    let press = tree.insert_root(alloc, name("press"), 1, None, push, None, Shape::Event)?;
+    let rule = name("ring");
+    let once = Bound::Finite(1);
+    let bell = tree.insert_child(alloc, press, rule, 1, once, push, None, Shape::Event)?;
+    let lamp = name("lamp");
+    let shape = Shape::Persistence;
+    let lit = tree.insert_child(alloc, bell, rule, 1, once, push, Some(lamp), shape)?;
+    let bell_occ = tree.occ_of(alloc, bell)?;
+    let lit_occ = tree.occ_of(alloc, lit)?;
+    tree.withdraw(alloc, bell)?;
+    assert_eq!(rt; tree.find(&bell_occ), None);
+    assert_eq!(rt; tree.find(&lit_occ), None);
+    assert_eq!(rt; tree.tokens(lamp).len(), 0);
+    assert_eq!(rt; tree.first_child(press), None);
+    let again = tree.insert_child(alloc, press, rule, 1, once, push, None, Shape::Event)?;
+    assert_eq!(rt; tree.find(&bell_occ), Some(again));
+    assert_eq!(rt; again, lit);
     Ok(())
 }

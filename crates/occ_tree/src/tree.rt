@@ -4,15 +4,17 @@ ghost use Rattle.tmm_model.specs.Lines.{IsNumber, IsBound, IsRange};
 ghost use Rattle.tmm_model.specs.Moments.{At, After, moment_of, printed};
 ghost use Rattle.tmm_model.specs.declared.point.PointName.TheVariants.{Begin};
 ghost use Rattle.std.specs.List.{Contains};
-ghost use Rattle.spots.specs.Forest.{Member, member, IsLive, IsOnce, moment_at, Enters, root_member, child_member, IsNoRoot, HasClass, HasEnd, IsTrigger, IsFound, last_name as last_name_of};
+ghost use Rattle.spots.specs.Forest.{Member, member, IsLive, IsOnce, moment_at, Enters, root_member, child_member, IsNoRoot, HasClass, HasEnd, IsTrigger, Withdraws, IsFound, last_name as last_name_of};
 ghost use Rattle.occ_tree.specs.Rows.{IsRowOf, IsFirstChild, IsNextChild};
 ghost use Rattle.spots.specs.Spots.{AreTokens, token_row};
 ghost use Rattle.occ_tree.specs.Classes.{rows_in, TakesToken};
 ghost use Rattle.slab.specs.Slab.{get, Updates};
+ghost use Rattle.occ_tree.specs.Leaving.{ListsBelow};
 ghost use Rattle.occ_tree.specs.Nodes.{member_of, IsKept, IsChild, AreChildren, IsWayTo};
 ghost use Rattle.tmm_model.specs.declared.bound.Bound.TheVariants.{Finite};
 
-use crate::classes::{ClassRows, add_row, rows_of};
+use crate::classes::{ClassRows, add_row, drop_gone, rows_of};
+use crate::leaving::{classes_of, remove_all, unlist};
 use crate::node::{Node, NodeRow, effect, last_name, push_child, reserve_child, token_of};
 use slab::Slab;
 use spots::{Link, Spot};
@@ -128,6 +130,21 @@ impl Tree {
         Ok(x)
     }
 
+    /// Takes a node out with all below it. The numbers are free again. Without memory nothing has changed.
+    pub fn withdraw(&mut self, alloc: Global, x: u32) -> Result<(), NoMemory>
+        requires live { IsLive self.old x }
+        ensures ok { OnOk result ((m : Member) → member self.old x ≡ Some m → Withdraws self.old self.new m) }
+        ensures err { OnErr result (self.new ≡ self.old) }
+    {
+        let gone = self.below(alloc, x)?;
+        let touched = classes_of(alloc, &self.nodes, gone.as_slice())?;
+        let parent = self.nodes[x as usize].parent;
+        unlist(&mut self.nodes, &mut self.roots, parent, x);
+        remove_all(&mut self.nodes, gone.as_slice());
+        drop_gone(&mut self.classes, touched.as_slice(), &self.nodes);
+        Ok(())
+    }
+
     /// The occurrence of a node.
     pub fn occ_of(&self, alloc: Global, x: u32) -> Result<Occ, NoMemory>
         requires { IsLive self.now x }
@@ -241,6 +258,22 @@ impl Tree {
         let siblings = self.children(parent);
         let place = place_in(siblings, x)?;
         number_at(siblings, place + 1)
+    }
+
+    // The numbers of a node and of all below it.
+    fn below(&self, alloc: Global, x: u32) -> Result<Vec<u32>, NoMemory>
+        requires { IsLive self.now x }
+        ensures { IfOk result (λ found. (m : Member) → member self.now x ≡ Some m → ListsBelow self.now m found.items) }
+    {
+        let mut found = Vec::from_slice(alloc, &[x])?;
+        let mut next = 0;
+        // what is found grows by the children of each in turn
+        while next < found.len() {
+            let node = &self.nodes[found[next] as usize];
+            found.extend_from_slice(node.children.as_slice())?;
+            next += 1;
+        }
+        Ok(found)
     }
 
     // The node of a root.
