@@ -21,10 +21,11 @@ use tmm_model::{ListRow, NoMemory, Occ, Seq};
 /// A believed occurrence.
 #[derive(Clone, Copy, PartialEq, Eq, Debug)]
 pub struct BeliefRow {
+    /// The node of the occurrence.
     pub node: u32,
     /// Its earliest date, in whole time units.
     pub early: i64,
-    /// The node of what clips it.
+    /// The node of the first token that clips it, none where no token does.
     pub clip: Option<u32>,
 }
 
@@ -36,7 +37,7 @@ struct Place<'a> {
     node: u32,
 }
 
-/// The believed occurrences, in order.
+/// The believed occurrences, in order, each with its earliest date and its clip.
 pub fn listed(
     alloc: Global,
     standing: &Standing,

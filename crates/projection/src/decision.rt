@@ -45,12 +45,14 @@ impl Model for Counter {
 }
 
 impl Counter {
+    /// A counter of no decisions.
     pub fn zero() -> Counter
         ensures { result ≡ 0 }
     {
         Counter { count: 0 }
     }
 
+    /// How many decisions were counted, at most 2^64 - 1.
     pub fn value(&self) -> u64
         ensures { result ≡ self.now }
     {
@@ -58,7 +60,8 @@ impl Counter {
     }
 
     fn raise(&mut self)
-        ensures { self.new ≡ min (self.old + 1) 18446744073709551615 }
+        ensures counted { self.new ≡ min (self.old + 1) 18446744073709551615 }
+        ensures kept { self.old ≤ self.new }
     {
         self.count = self.count.saturating_add(1);
     }
@@ -80,6 +83,7 @@ pub fn decide(
     ensures outcome { (b : List Moment) → Holds b tree.now → outcome_at tree.now result ≡ outcome standing.now.present (far_in standing.now.present.premises) b (moment_at tree.now trigger) rule }
     ensures live { AreLive tree.now result }
     ensures counted { counter.new ≡ min (counter.old + 1) 18446744073709551615 }
+    ensures kept { counter.old ≤ counter.new }
 {
     counter.raise();
     if due_of(tree, net, standing, trigger, rule).is_none() {

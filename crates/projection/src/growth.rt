@@ -176,6 +176,7 @@ fn settle(
     ensures after { OnOk result (IsGrowing standing.now.present net.now.present growing.new.tree growing.new.queue growing.new.size) }
     ensures nearer { OnOk result (left growing.new.queue growing.new.size ≤ left growing.old.queue growing.old.size) }
     ensures stops { IfErr result (IsTooLarge (size (built standing.now.present))) }
+    ensures counted { counter.old ≤ counter.new }
 {
     let decision = decide(
         &growing.tree,
@@ -220,7 +221,8 @@ fn bring_about(
 }
 
 /// The tree of the believed occurrences, and the size of the map. Where that would be more than
-/// 100,000 it is refused, at the first date at which it is.
+/// 100,000 it is refused, at the first date at which it is. The decisions that are made are counted on
+/// from those before.
 pub fn rebuild(
     alloc: Global,
     standing: &Standing,
@@ -233,6 +235,7 @@ pub fn rebuild(
     ensures size { IfOk result (λ projected. projected.size ≡ size (built standing.now.present)) }
     ensures small { IfOk result (λ projected. projected.size ≤ most_size) }
     ensures stops { IfErr result (IsTooLarge (size (built standing.now.present))) }
+    ensures counted { counter.old ≤ counter.new }
 {
     let Ok(rules) = RulesByKind::of(alloc, standing) else {
         return Err(Stop::NoMemory);

@@ -4,7 +4,7 @@
 //! `decide` tells the outcome of a rule at an event among the nodes of a tree. `roots` makes the tree
 //! of declared events, tokens and spans, and `rebuild` the tree of the believed occurrences, by
 //! deciding each rule at each event in the order of dates; it answers also the size of the map, and
-//! refuses exactly a list whose map is too large.
+//! refuses exactly a list whose map is too large. Without memory a call answers that.
 #![tactic(auto)]
 
 mod decision;

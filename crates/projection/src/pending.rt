@@ -12,8 +12,11 @@ use tmm_model::{Name, NoMemory};
 /// A rule at the event of a node, to be decided at the date at which its effect would begin.
 #[derive(Clone, Copy, PartialEq, Eq, PartialOrd, Ord)]
 pub(crate) struct Pending {
+    /// The earliest date of the effect, reversed so that the queue gives the earliest first.
     pub due: Reverse<u32>,
+    /// The node of the event.
     pub trigger: u32,
+    /// The name of the rule.
     pub rule: Name,
 }
 
@@ -45,6 +48,7 @@ impl Queue {
         }
     }
 
+    /// Adds a decision.
     pub fn push(&mut self, pending: Pending) -> Result<(), NoMemory>
         ensures { OnOk result (IsPermutation (pending ∷ self.old) self.new) }
     {

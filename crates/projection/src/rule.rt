@@ -17,7 +17,9 @@ use tmm_model::{Name, Premise};
 /// What a rule says of when its effect begins, in whole time units, and its antecedents.
 #[derive(Drop)]
 pub(crate) struct RuleText<'a> {
+    /// Its least delay.
     pub lo: i64,
+    /// The facts that are to hold at the event.
     pub given: &'a [Name],
 }
 

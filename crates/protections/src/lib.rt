@@ -3,7 +3,8 @@
 //!
 //! `report` answers the broken protections of the standing list, in the order of premises, each with
 //! what is found of its fact. `delta` compares the reports before an edit with those after it, and
-//! tells which are newly broken and which are broken no longer.
+//! tells which are newly broken and which are broken no longer. Without memory a call answers
+//! `NoMemory`.
 #![tactic(auto)]
 
 mod comparing;

@@ -18,7 +18,8 @@ use spots::Spot;
 use std::alloc::Global;
 use tmm_model::{Occ, PointName, QueryPoint, Refusal, Stop};
 
-/// The spot of a point that a question names. A declared point asks for no memory.
+/// The spot of a point that a question names, or the cause against its word. Memory is asked for only
+/// for the word of an occurrence that is not believed.
 pub fn resolve(
     alloc: Global,
     standing: &Standing,
@@ -46,8 +47,8 @@ pub fn resolve(
     }
 }
 
-/// The node of an occurrence whose reasons are asked for. A declared event, token or span asks for no
-/// memory.
+/// The node of an occurrence whose reasons are asked for, or the cause against its word. Memory is
+/// asked for only for the word of an occurrence that is not believed.
 pub fn resolve_why(alloc: Global, standing: &Standing, tree: &Tree, occ: &Occ) -> Result<u32, Stop>
     requires seen { (net : Net) × IsSeen standing.now.present net tree.now }
     requires holds { Holds (built standing.now.present).believed tree.now }

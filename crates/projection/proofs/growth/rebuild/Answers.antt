@@ -16,9 +16,11 @@ pub loop-pending-init : goal.loop-pending-init
 loop-pending-init c =
     let s = c.args.standing.now.present in
     let net = c.args.net.now.present in
-    let g = c.loop-place.growing in
-    growing_first s net g.tree g.queue g.size
-    (subst (λ ps. IsStarted s net ps g.tree g.queue g.size) (take_all c.loop-place.place s.premises (omega arith)) c.loop-place.invariant)
+    let g = c.loop-place.growing in (
+      growing_first s net g.tree g.queue g.size
+          (subst (λ ps. IsStarted s net ps g.tree g.queue g.size) (take_all c.loop-place.place s.premises (omega arith)) c.loop-place.invariant),
+      omega arith,
+    )
 
 pub loop-pending-smaller : goal.loop-pending-smaller
 loop-pending-smaller c =
@@ -31,7 +33,7 @@ returns-clause-holds c =
     let net = c.args.net.now.present in
     let g = c.loop-pending.growing in
     let none : c.loop-pending.growing.queue ≡ [] = c.in_default-pop.ensures in
-    holds_at_end s net g.tree g.size (subst (λ q. IsGrowing s net g.tree q g.size) none c.loop-pending.invariant)
+    holds_at_end s net g.tree g.size (subst (λ q. IsGrowing s net g.tree q g.size) none c.loop-pending.invariant.0)
 
 pub returns-clause-size : goal.returns-clause-size
 returns-clause-size c =
@@ -39,4 +41,4 @@ returns-clause-size c =
     let net = c.args.net.now.present in
     let g = c.loop-pending.growing in
     let none : c.loop-pending.growing.queue ≡ [] = c.in_default-pop.ensures in
-    size_at_end s net g.tree g.size (subst (λ q. IsGrowing s net g.tree q g.size) none c.loop-pending.invariant)
+    size_at_end s net g.tree g.size (subst (λ q. IsGrowing s net g.tree q g.size) none c.loop-pending.invariant.0)

@@ -31,4 +31,5 @@ returns-in_default c =
           (in_time_is s net f c.requires.before.queue n growing p rest c.requires.before.next));
       nearer = omega arith;
       stops = tt;
+      counted = c.decide-decision.ensures.kept;
     }
