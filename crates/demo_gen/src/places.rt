@@ -3,12 +3,14 @@ ghost use Rattle.std.specs.Prelude.{◌≡◌, ◌≤◌, ◌<◌, ◌+◌, leng
 ghost use Rattle.tmm_model.specs.Generator.{event_lines};
 ghost use Rattle.demo_gen.specs.Blocks as spec;
 
-// From this event on, each first erases the one that came so many before it.
+/// From this event on, each first erases the one that came so many before it.
 pub const KEPT: u32 = 60;
 
 /// A line of an event: which one of its lines, from 0.
 pub struct Place {
+    /// The event, from 0.
     pub event: u32,
+    /// Which of its lines, from 0.
     pub line: u32,
 }
 

@@ -8,12 +8,13 @@ use crate::places::{KEPT, Place};
 use arrayvec::ArrayVec;
 use itoa::Buffer;
 
-// The script begins with so many fixed lines.
+/// The script begins with so many fixed lines.
 pub const FIRST: u32 = 8;
 
 // The longest line has 22 bytes and four numbers of at most ten digits each.
 type Text = ArrayVec<u8, 64>;
 
+/// A line with these bytes.
 pub fn text_of(bytes: &[u8]) -> Text
     requires { length bytes.now ≤ 64 }
     ensures { result.items ≡ bytes.now }

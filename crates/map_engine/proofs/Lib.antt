@@ -1,4 +1,2 @@
 mod NextLists
 mod Told
-mod Walked
-mod Bases

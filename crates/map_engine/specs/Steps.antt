@@ -3,7 +3,7 @@ use Rattle.std.specs.Prelude.{◌≡◌, ℕ, ◌≤◌, ◌<◌, Bool, true, fa
 use Rattle.tmm_model.specs.declared.line.Line.{Line}
 use Rattle.tmm_model.specs.declared.line.Line.TheVariants.{Silent, Question}
 use Rattle.tmm_model.specs.declared.line.Query.{Query}
-use Rattle.tmm_model.specs.declared.line.Query.TheVariants.{Why, Audit}
+use Rattle.tmm_model.specs.declared.line.Query.TheVariants.{Audit}
 use Rattle.tmm_model.specs.declared.refusal.Refusal.TheVariants.{LimitLine, Form}
 use Rattle.tmm_model.specs.declared.turn.Turn.{Turn}
 use Rattle.tmm_model.specs.declared.turn.Turn.TheVariants.{Silent as NoReply, Reply as ReplyOf, Memory}
@@ -12,10 +12,9 @@ use Rattle.tmm_model.specs.Replies.{Reply, Refused, text_of, is_refusal}
 use Rattle.tmm_model.specs.Standing.{Standing}
 use Rattle.tmm_model.specs.Transcript.{AnswersLine, most_bytes}
 
--- ---- the lines that the program answers so far: all but these
+-- ---- the lines that the program answers so far: all but this
 
 abbrev pub is_built_query : Query → Bool
-is_built_query (Why o) = false
 is_built_query Audit = false
 is_built_query query = true
 

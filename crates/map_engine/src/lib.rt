@@ -1,7 +1,10 @@
 //! The map: a standing list with its distances, its beliefs and its broken protections, of which one
-//! edit may be pending. It knows all layers below and is known to the program alone. `MapCore` is its
-//! contract: every answer is that of the map which is built of the list from scratch, an edit is
-//! accepted exactly where the definitions say so, and a refusal changes nothing.
+//! edit may be pending. It stands on `list_net`, `projection`, `belief_list`,
+//! `protections`, `tt_query` and `justify`, and is known to the program alone.
+//!
+//! `MapCore` is its contract: every answer is that of the map which is built of the list from scratch,
+//! an edit is accepted exactly where the definitions say so, and a refusal or want of memory changes
+//! nothing. `PlainMap` meets it by making beliefs anew at each edit.
 #![tactic(auto)]
 
 mod beliefs;

@@ -8,9 +8,10 @@ ghost use Rattle.tmm_model.specs.Edits.{next_list};
 ghost use Rattle.tmm_model.specs.Kept.{IsAccepted};
 ghost use Rattle.tmm_model.specs.Lines.{IsWellFormedEdit, IsWellFormedQuery};
 ghost use Rattle.tmm_model.specs.Maps.{built, gap};
-ghost use Rattle.tmm_model.specs.Moments.{moment_of_point};
+ghost use Rattle.tmm_model.specs.Moments.{moment_of, moment_of_point};
 ghost use Rattle.tmm_model.specs.Paths.{GivesPath};
 ghost use Rattle.tmm_model.specs.Questions.{query_cause};
+ghost use Rattle.tmm_model.specs.Reasons.{IsWhy, reason_of};
 ghost use Rattle.tmm_model.specs.Standing.{Standing as List};
 ghost use Rattle.map_engine.specs.Stops.{StopsEdit, StopsQuery};
 
@@ -18,13 +19,14 @@ use premise_list::Standing;
 use projection::Counter;
 use std::alloc::Global;
 use tmm_model::{
-    Answer, Bound, Changes, Edit, ListRow, Name, NoMemory, Query, QueryPoint, Report, Seq, Stop,
-    WalkStep,
+    Answer, Bound, Changes, Edit, ListRow, Name, NoMemory, Occ, Query, QueryPoint, Report, Seq,
+    Stop, WalkStep, WhyLine,
 };
 
 /// An edit that is made and not yet committed, and what it changed.
 #[derive(Drop)]
 pub struct Pending {
+    /// What the edit changed, the map before compared with the map after.
     pub changes: Changes,
 }
 
@@ -61,7 +63,8 @@ pub trait MapCore {
         ensures list { list self.new ≡ list self.old }
         ensures idle { pending self.new ≡ None };
 
-    /// The lower and the upper bound on the date of the second point less that of the first.
+    /// The lower and the upper bound on the date of the second point less that of the first, in whole
+    /// time units. A word with a cause against it is refused.
     fn bounds(&self, alloc: Global, p: &QueryPoint, q: &QueryPoint) -> Result<(Bound, Bound), Stop>
         requires idle { pending self.now ≡ None }
         requires well_formed { IsWellFormedQuery (Query.Bounds p.now q.now) }
@@ -71,7 +74,8 @@ pub trait MapCore {
         ensures stops { IfErr result (StopsQuery (list self.now) (Query.Bounds p.now q.now)) };
 
     /// The upper bound on the date of the second point less that of the first, and where there is one,
-    /// the constraints of a walk between their declared points that gives the bound on these.
+    /// the constraints of a walk between their declared points that gives the bound on these, in whole
+    /// time units. A word with a cause against it is refused.
     fn path(
         &self,
         alloc: Global,
@@ -84,13 +88,21 @@ pub trait MapCore {
         ensures gives { IfOk result (λ found. GivesPath (built (list self.now)) (moment_of_point p.now) (moment_of_point q.now) found.0 found.1.items) }
         ensures stops { IfErr result (StopsQuery (list self.now) (Query.Path p.now q.now)) };
 
-    /// Whether a fact holds from one point to another.
+    /// Whether a fact holds from one point to another. A word with a cause against it is refused.
     fn ask(&self, alloc: Global, fact: Name, p: &QueryPoint, q: &QueryPoint) -> Result<Answer, Stop>
         requires idle { pending self.now ≡ None }
         requires well_formed { IsWellFormedQuery (Query.Ask fact p.now q.now) }
         ensures known { IfOk result (λ answer. query_cause (built (list self.now)) (Query.Ask fact p.now q.now) ≡ None) }
         ensures answer { IfOk result (λ answer. finding_of answer ≡ ask (built (list self.now)) fact (moment_of_point p.now) (moment_of_point q.now)) }
         ensures stops { IfErr result (StopsQuery (list self.now) (Query.Ask fact p.now q.now)) };
+
+    /// The reasons of a declared or derived occurrence: all that it rests on, each before what rests on it.
+    fn why(&self, alloc: Global, occ: &Occ) -> Result<Seq<WhyLine>, Stop>
+        requires idle { pending self.now ≡ None }
+        requires well_formed { IsWellFormedQuery (Query.Why occ.now) }
+        ensures known { IfOk result (λ lines. query_cause (built (list self.now)) (Query.Why occ.now) ≡ None) }
+        ensures reasons { IfOk result (λ lines. IsWhy (built (list self.now)) (moment_of occ.now) (map reason_of lines.items)) }
+        ensures stops { IfErr result (StopsQuery (list self.now) (Query.Why occ.now)) };
 
     /// The broken protections, in the order of premises.
     fn check(&self, alloc: Global) -> Result<Seq<Report>, NoMemory>

@@ -13,7 +13,7 @@ ghost use Rattle.projection.specs.Queues.{IsTooLarge};
 use crate::beliefs::{Beliefs, believe, changes_to};
 use crate::edited::edited;
 use crate::map_core::{MapCore, Pending};
-use crate::questions::{ask_between, bounds_between, path_between};
+use crate::questions::{ask_between, bounds_between, path_between, why_of};
 use belief_list::list_rows;
 use dist_net::DistNet;
 use premise_list::Standing;
@@ -22,7 +22,8 @@ use protections::copied;
 use std::alloc::Global;
 use std::marker::Model;
 use tmm_model::{
-    Answer, Bound, Changes, Edit, ListRow, Name, NoMemory, QueryPoint, Report, Seq, Stop, WalkStep,
+    Answer, Bound, Changes, Edit, ListRow, Name, NoMemory, Occ, QueryPoint, Report, Seq, Stop,
+    WalkStep, WhyLine,
 };
 
 /// A map that keeps the standing list, its distances and its beliefs. Those before a pending edit are
@@ -184,6 +185,10 @@ impl MapCore for PlainMap {
             p,
             q,
         )
+    }
+
+    fn why(&self, alloc: Global, occ: &Occ) -> Result<Seq<WhyLine>, Stop> {
+        why_of(alloc, &self.standing, &self.beliefs.tree, &self.net, occ)
     }
 
     fn check(&self, alloc: Global) -> Result<Seq<Report>, NoMemory> {

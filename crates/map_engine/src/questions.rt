@@ -1,25 +1,26 @@
-// Questions between two points.
-ghost use Rattle.std.specs.Prelude.{◌≡◌, None, IfOk, IfErr};
-ghost use Rattle.tmm_model.specs.declared.line.Query.TheVariants.{Bounds as BoundsLine, Path as PathLine, Ask as AskLine};
+// Questions of points, and of an occurrence.
+ghost use Rattle.std.specs.Prelude.{◌≡◌, None, map, IfOk, IfErr};
+ghost use Rattle.tmm_model.specs.declared.line.Query.TheVariants.{Bounds as BoundsLine, Path as PathLine, Ask as AskLine, Why as WhyQuery};
 ghost use Rattle.tmm_model.specs.Answers.{ask, finding_of};
 ghost use Rattle.tmm_model.specs.Bounds.{bound_negated};
-ghost use Rattle.tmm_model.specs.Lines.{IsWellFormedQueryPoint};
+ghost use Rattle.tmm_model.specs.Lines.{IsWellFormedQueryPoint, IsWellFormedOcc};
 ghost use Rattle.tmm_model.specs.Maps.{built, gap};
-ghost use Rattle.tmm_model.specs.Moments.{moment_of_point};
-ghost use Rattle.tmm_model.specs.Paths.{GivesPath, WalksIf};
+ghost use Rattle.tmm_model.specs.Moments.{moment_of, moment_of_point};
+ghost use Rattle.tmm_model.specs.Paths.{GivesPath};
 ghost use Rattle.tmm_model.specs.Questions.{query_cause};
+ghost use Rattle.tmm_model.specs.Reasons.{IsWhy, reason_of};
 ghost use Rattle.spots.specs.Seen.{IsSeen, Holds};
-ghost use Rattle.spots.specs.Spots.{IsSpot, spot_moment, base_of};
+ghost use Rattle.spots.specs.Spots.{IsSpot, spot_moment};
 ghost use Rattle.map_engine.specs.Questions.{points_cause, StopsPoints};
 ghost use Rattle.map_engine.specs.Stops.{StopsQuery};
 
 use dist_net::DistNet;
-use neg_cycle::walk;
+use justify::{steps_between, why};
 use occ_tree::Tree;
 use premise_list::Standing;
 use spots::Spot;
 use std::alloc::Global;
-use tmm_model::{Answer, Bound, Name, NoMemory, QueryPoint, Seq, Stop, WalkStep};
+use tmm_model::{Answer, Bound, Name, NoMemory, Occ, QueryPoint, Seq, Stop, WalkStep, WhyLine};
 use tt_query::{ask, bounds, resolve};
 
 // The spots of two points, the first cause from the left.
@@ -121,42 +122,20 @@ pub(crate) fn path_between(
     }
 }
 
-// Where there is a bound, the constraints of a least walk between the declared points of two spots.
-fn steps_between(
+/// The reasons of an occurrence.
+pub(crate) fn why_of(
     alloc: Global,
     standing: &Standing,
     tree: &Tree,
     net: &DistNet,
-    from: Spot,
-    to: Spot,
-    far: Bound,
-) -> Result<Seq<WalkStep>, NoMemory>
+    occ: &Occ,
+) -> Result<Seq<WhyLine>, Stop>
     requires seen { IsSeen standing.now.present net.now.present tree.now }
-    requires from { IsSpot net.now.present.names tree.now from }
-    requires to { IsSpot net.now.present.names tree.now to }
-    requires far { far ≡ gap (built standing.now.present) (spot_moment net.now.present.names tree.now from) (spot_moment net.now.present.names tree.now to) }
-    ensures { IfOk result (λ steps. WalksIf (built standing.now.present) (spot_moment net.now.present.names tree.now from) (spot_moment net.now.present.names tree.now to) far steps.items) }
+    requires holds { Holds (built standing.now.present).believed tree.now }
+    requires well_formed { IsWellFormedOcc occ.now }
+    ensures known { IfOk result (λ lines. query_cause (built standing.now.present) (WhyQuery occ.now) ≡ None) }
+    ensures reasons { IfOk result (λ lines. IsWhy (built standing.now.present) (moment_of occ.now) (map reason_of lines.items)) }
+    ensures stops { IfErr result (StopsQuery standing.now.present (WhyQuery occ.now)) }
 {
-    match far {
-        Bound::Free => Ok(Seq::make(alloc)),
-        Bound::Finite(_) => {
-            let a = base_point(tree, net, from);
-            let b = base_point(tree, net, to);
-            match walk(alloc, net, a, b)? {
-                Some(steps) => Ok(steps),
-                None => Ok(Seq::make(alloc)),
-            }
-        }
-    }
-}
-
-// The number of the declared point from which rules lead to a spot.
-fn base_point(tree: &Tree, net: &DistNet, spot: Spot) -> u16
-    requires { IsSpot net.now.present.names tree.now spot }
-    ensures { result ≡ base_of tree.now spot }
-{
-    match spot {
-        Spot::Declared(p) => p,
-        Spot::Node(x) => tree.row(x).begin,
-    }
+    why(alloc, standing, net, tree, occ)
 }

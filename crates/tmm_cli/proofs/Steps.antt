@@ -65,7 +65,7 @@ Consumes-none a b c taken count buf first second none =
 -- ---- turns
 
 -- a whole text is told as one of three
-told_as_three : (P : Status → Type 0) → P Clean → P SomeRefused → P SomeMemory → (memory refused : Bool)
+pub told_as_three : (P : Status → Type 0) → P Clean → P SomeRefused → P SomeMemory → (memory refused : Bool)
     → P (if memory then SomeMemory else (if refused then SomeRefused else Clean))
 told_as_three P clean refused memory true b = memory
 told_as_three P clean refused memory false true = refused

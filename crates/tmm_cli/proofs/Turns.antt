@@ -1,4 +1,4 @@
--- What a session's turns tell.
+-- What a session tells.
 use Rattle.std.proofs.lemmas.Bool.Decides.{leb_tells}
 use Rattle.std.proofs.Common.{◌≡◌, inl, inr, ℕ, List, ◌≤◌, ◌<◌, ◌↔◌, length, false, IsTrue, Result, Ok, Err, MatchResult, IfOk, refl, sym, ap, ◌∙◌, subst, arith}
 use Rattle.tmm_model.specs.declared.line.Line.{Line}
@@ -12,10 +12,9 @@ use Rattle.tmm_model.specs.declared.refusal.Refusal.TheVariants.{LimitLine, Form
 use Rattle.tmm_model.specs.declared.refusal.Stop.{Stop}
 use Rattle.tmm_model.specs.declared.refusal.Stop.TheVariants.{Refused as Stopped, NoMemory as OutOfMemory}
 use Rattle.tmm_model.specs.declared.seq.Seq.{Seq}
-use Rattle.tmm_model.specs.declared.turn.Turn.{Turn}
-use Rattle.tmm_model.specs.declared.turn.Turn.TheVariants.{Silent, Reply as ReplyOf, Memory}
 use Rattle.tmm_model.specs.Lines.{words, ReadsLine, bare_query, bare_line, ReadingIsOne}
-use Rattle.tmm_model.specs.Replies.{Reply, Refused, text_of, is_refusal}
+use Rattle.tmm_model.specs.declared.answer.Answer.TheVariants.{Yes, No, Unordered}
+use Rattle.tmm_model.specs.Replies.{Reply, Accepted, Refused, BoundsAre, PathIs, Answered, Reasons, BrokenAre, Believed, DumpIs, AuditYes, SizeIs, text_of, is_refusal}
 use Rattle.tmm_model.specs.Standing.{Standing}
 use Rattle.tmm_model.specs.Maps.{built}
 use Rattle.tmm_model.specs.Questions.{query_cause}
@@ -23,52 +22,55 @@ use Rattle.tmm_model.specs.Transcript.{RefusesEdit, AnswersLine}
 use Rattle.map_engine.specs.Steps.{Says, is_built, is_built_query, AnswersTo, by_length, by_form, by_meaning, Step}
 use Rattle.tmm_model.specs.Verdicts.{Tells as TellsCause}
 use Rattle.tmm_script.specs.Given.{IsReadingOf}
-use Rattle.tmm_cli.specs.Sessions.{Tells, TellsMeaning}
+use Rattle.tmm_cli.specs.declared.told.Told.{Told}
+use Rattle.tmm_cli.specs.declared.told.Told.TheVariants.{Silent, Reply as ReplyOf, Memory}
+use Rattle.tmm_cli.specs.Kinds.{kind_of, is_refusing, turn_of}
+use Rattle.tmm_cli.specs.Sessions.{Tells, TellsMeaning, TellsLine}
 use Rattle.tmm_cli.specs.Stopping.{StopsReading}
 
 -- bytes that are the text of a reply, or want of memory
-pub Tells-reply : (k : ℕ) (replied : Reply → Type 0) (kept : Type 0) (bytes : Result (Seq ℕ) NoMemory) (reply : Reply) (turn : Turn)
+pub Tells-reply : (k : ℕ) (replied : Reply → Type 0) (kept : Type 0) (bytes : Result (Seq ℕ) NoMemory) (reply : Reply) (t : Told)
     → IfOk bytes (λ text. text.items ≡ text_of k reply) → replied reply → kept
-    → MatchResult bytes (λ text. turn ≡ ReplyOf text (is_refusal reply)) (λ _. turn ≡ Memory) → Tells k replied kept turn
-Tells-reply k replied kept (Ok text) reply turn is_text answers same told = subst (Tells k replied kept) (sym told) (reply, answers, is_text, refl)
-Tells-reply k replied kept (Err failed) reply turn is_text answers same told = subst (Tells k replied kept) (sym told) same
+    → MatchResult bytes (λ text. t ≡ ReplyOf text (kind_of reply)) (λ _. t ≡ Memory) → Tells k replied kept t
+Tells-reply k replied kept (Ok text) reply t is_text answers same told = subst (Tells k replied kept) (sym told) (reply, answers, is_text, refl)
+Tells-reply k replied kept (Err failed) reply t is_text answers same told = subst (Tells k replied kept) (sym told) same
 
 -- a weaker condition on the reply
-pub Tells-so : (k : ℕ) (replied also : Reply → Type 0) (kept keeps : Type 0) → ((reply : Reply) → replied reply → also reply) → (kept → keeps) → (turn : Turn)
-    → Tells k replied kept turn → Tells k also keeps turn
+pub Tells-so : (k : ℕ) (replied also : Reply → Type 0) (kept keeps : Type 0) → ((reply : Reply) → replied reply → also reply) → (kept → keeps) → (t : Told)
+    → Tells k replied kept t → Tells k also keeps t
 Tells-so k replied also kept keeps so stays Silent told = absurd told
 Tells-so k replied also kept keeps so stays Memory told = stays told
-Tells-so k replied also kept keeps so stays (ReplyOf bytes refused) told = (told.0, so told.0 told.1, told.2, told.3)
+Tells-so k replied also kept keeps so stays (ReplyOf bytes kind) told = (told.0, so told.0 told.1, told.2, told.3)
 
 -- ---- what a map answers
 
-pub TellsMeaning-refused_edit : (old new : Standing) (k : ℕ) (edit : Edit) (refusal : Refusal) (turn : Turn) → RefusesEdit old edit refusal → new ≡ old
-    → Tells k (λ reply. reply ≡ Refused refusal) (Unit {0}) turn → TellsMeaning old k (Change edit) turn new
-TellsMeaning-refused_edit old new k edit refusal turn refused kept told =
+pub TellsMeaning-refused_edit : (old new : Standing) (k : ℕ) (edit : Edit) (refusal : Refusal) (t : Told) → RefusesEdit old edit refusal → new ≡ old
+    → Tells k (λ reply. reply ≡ Refused refusal) (Unit {0}) t → TellsMeaning old k (Change edit) t new
+TellsMeaning-refused_edit old new k edit refusal t refused kept told =
     Tells-so k (λ reply. reply ≡ Refused refusal) (λ reply. AnswersLine old (Change edit) reply new) (Unit {0}) (new ≡ old)
-    (λ reply e. subst (λ r. AnswersLine old (Change edit) r new) (sym e) (refused, kept)) (λ _. kept) turn told
+    (λ reply e. subst (λ r. AnswersLine old (Change edit) r new) (sym e) (refused, kept)) (λ _. kept) t told
 
-pub TellsMeaning-refused_query : (old : Standing) (k : ℕ) (query : Query) (refusal : Refusal) (turn : Turn) → TellsCause refusal (query_cause (built old) query)
-    → Tells k (λ reply. reply ≡ Refused refusal) (Unit {0}) turn → TellsMeaning old k (Question query) turn old
-TellsMeaning-refused_query old k query refusal turn refused told =
+pub TellsMeaning-refused_query : (old : Standing) (k : ℕ) (query : Query) (refusal : Refusal) (t : Told) → TellsCause refusal (query_cause (built old) query)
+    → Tells k (λ reply. reply ≡ Refused refusal) (Unit {0}) t → TellsMeaning old k (Question query) t old
+TellsMeaning-refused_query old k query refusal t refused told =
     Tells-so k (λ reply. reply ≡ Refused refusal) (λ reply. AnswersLine old (Question query) reply old) (Unit {0}) (old ≡ old)
-    (λ reply e. subst (λ r. AnswersLine old (Question query) r old) (sym e) (refused, refl)) (λ _. refl) turn told
+    (λ reply e. subst (λ r. AnswersLine old (Question query) r old) (sym e) (refused, refl)) (λ _. refl) t told
 
 -- ---- what a line is answered
 
 -- a line is answered as what it says
-pub Step-meaning : (old new : Standing) (k : ℕ) (line : List ℕ) (meaning : Line) (turn : Turn) → Says line meaning → (Says line Blank → ⊥)
-    → TellsMeaning old k meaning turn new → Step old k line turn new
-Step-meaning old new k line meaning Silent says other told = absurd told
-Step-meaning old new k line meaning Memory says other told = (other, told)
-Step-meaning old new k line meaning (ReplyOf bytes refused) says other told = (told.0, by_meaning meaning says told.1, told.2, told.3)
+pub TellsLine-meaning : (old new : Standing) (k : ℕ) (line : List ℕ) (meaning : Line) (t : Told) → Says line meaning → (Says line Blank → ⊥)
+    → TellsMeaning old k meaning t new → TellsLine old k line t new
+TellsLine-meaning old new k line meaning Silent says other told = absurd told
+TellsLine-meaning old new k line meaning Memory says other told = (other, told)
+TellsLine-meaning old new k line meaning (ReplyOf bytes kind) says other told = (told.0, by_meaning meaning says told.1, told.2, told.3)
 
 -- a line is refused for its length or its form
-pub Step-refused : (old : Standing) (k : ℕ) (line : List ℕ) (refusal : Refusal) (turn : Turn) → ((reply : Reply) → reply ≡ Refused refusal → AnswersTo old line reply old)
-    → (Says line Blank → ⊥) → Tells k (λ reply. reply ≡ Refused refusal) (Unit {0}) turn → Step old k line turn old
-Step-refused old k line refusal Silent answers other told = absurd told
-Step-refused old k line refusal Memory answers other told = (other, refl)
-Step-refused old k line refusal (ReplyOf bytes refused) answers other told = (told.0, answers told.0 told.1, told.2, told.3)
+pub TellsLine-refused : (old : Standing) (k : ℕ) (line : List ℕ) (refusal : Refusal) (t : Told) → ((reply : Reply) → reply ≡ Refused refusal → AnswersTo old line reply old)
+    → (Says line Blank → ⊥) → Tells k (λ reply. reply ≡ Refused refusal) (Unit {0}) t → TellsLine old k line t old
+TellsLine-refused old k line refusal Silent answers other told = absurd told
+TellsLine-refused old k line refusal Memory answers other told = (other, refl)
+TellsLine-refused old k line refusal (ReplyOf bytes kind) answers other told = (told.0, answers told.0 told.1, told.2, told.3)
 
 -- ---- a line says one thing
 
@@ -104,26 +106,26 @@ question_is_not_silent one line query reads says =
     let same : bare_line (Question query) ≡ bare_line Blank = one (words line) (Question query) Blank reads says.reads in cc same
 
 -- a line is refused as it is read
-pub Step-stopped : (old : Standing) (k : ℕ) (line : List ℕ) (refusal : Refusal) (turn : Turn) → StopsReading line refusal
-    → Tells k (λ reply. reply ≡ Refused refusal) (Unit {0}) turn → Step old k line turn old
-Step-stopped old k line LimitLine turn long told =
-    Step-refused old k line LimitLine turn (λ reply e. by_length long e refl) (λ says. omega (arith, says.short)) told
-Step-stopped old k line Form turn formless told =
-    Step-refused old k line Form turn (λ reply e. by_form formless.0 (λ meaning says. formless.1 meaning says.reads) e refl) (λ says. formless.1 Blank says.reads) told
-Step-stopped old k line (Taken word) turn never told = absurd never
-Step-stopped old k line (Unknown word) turn never told = absurd never
-Step-stopped old k line (Sort word) turn never told = absurd never
-Step-stopped old k line LimitPremises turn never told = absurd never
-Step-stopped old k line LimitPoints turn never told = absurd never
-Step-stopped old k line (Cycle sum steps) turn never told = absurd never
-Step-stopped old k line LimitSize turn never told = absurd never
+pub TellsLine-stopped : (old : Standing) (k : ℕ) (line : List ℕ) (refusal : Refusal) (t : Told) → StopsReading line refusal
+    → Tells k (λ reply. reply ≡ Refused refusal) (Unit {0}) t → TellsLine old k line t old
+TellsLine-stopped old k line LimitLine t long told =
+    TellsLine-refused old k line LimitLine t (λ reply e. by_length long e refl) (λ says. omega (arith, says.short)) told
+TellsLine-stopped old k line Form t formless told =
+    TellsLine-refused old k line Form t (λ reply e. by_form formless.0 (λ meaning says. formless.1 meaning says.reads) e refl) (λ says. formless.1 Blank says.reads) told
+TellsLine-stopped old k line (Taken word) t never told = absurd never
+TellsLine-stopped old k line (Unknown word) t never told = absurd never
+TellsLine-stopped old k line (Sort word) t never told = absurd never
+TellsLine-stopped old k line LimitPremises t never told = absurd never
+TellsLine-stopped old k line LimitPoints t never told = absurd never
+TellsLine-stopped old k line (Cycle sum steps) t never told = absurd never
+TellsLine-stopped old k line LimitSize t never told = absurd never
 
 -- a line that is not answered is refused for its form
-pub Step-unanswered : ReadingIsOne → (old : Standing) (k : ℕ) (line : List ℕ) (meaning : Line) (turn : Turn) → length line ≤ 400 → ReadsLine line meaning → is_built meaning ≡ false
-    → Tells k (λ reply. reply ≡ Refused Form) (Unit {0}) turn → Step old k line turn old
-Step-unanswered one old k line meaning turn short reads unbuilt told =
+pub TellsLine-unanswered : ReadingIsOne → (old : Standing) (k : ℕ) (line : List ℕ) (meaning : Line) (t : Told) → length line ≤ 400 → ReadsLine line meaning → is_built meaning ≡ false
+    → Tells k (λ reply. reply ≡ Refused Form) (Unit {0}) t → TellsLine old k line t old
+TellsLine-unanswered one old k line meaning t short reads unbuilt told =
     let nothing : (other : Line) → Says line other → ⊥ = says_nothing one line meaning reads unbuilt in
-    Step-refused old k line Form turn (λ reply e. by_form short nothing e refl) (nothing Blank) told
+    TellsLine-refused old k line Form t (λ reply e. by_form short nothing e refl) (nothing Blank) told
 
 -- ---- what reading a line gives
 
@@ -159,3 +161,27 @@ stops_reading line refusal result is too_long read = elim (leb_tells (length lin
 pub no_memory_is_not_silent : (line : List ℕ) (result : Result Line Stop) → result ≡ Err OutOfMemory
     → (length line ≤ 400 → ReadsLine line Blank → result ≡ Ok Blank) → Says line Blank → ⊥
 no_memory_is_not_silent line result is silent says = let e : Err OutOfMemory ≡ Ok Blank = sym is ∙ silent says.short says.reads in cc e
+
+-- ---- what its turn tells
+
+-- the kind of a reply tells whether it is a refusal
+pub kind-refusal : (reply : Reply) → is_refusing (kind_of reply) ≡ is_refusal reply
+kind-refusal (Accepted changes) = refl
+kind-refusal (Refused refusal) = refl
+kind-refusal (BoundsAre lo hi) = refl
+kind-refusal (PathIs far steps) = refl
+kind-refusal (Answered (Yes by)) = refl
+kind-refusal (Answered (No blames more)) = refl
+kind-refusal (Answered Unordered) = refl
+kind-refusal (Reasons lines) = refl
+kind-refusal (BrokenAre broken) = refl
+kind-refusal (Believed found) = refl
+kind-refusal (DumpIs horizon lines) = refl
+kind-refusal AuditYes = refl
+kind-refusal (SizeIs n) = refl
+
+-- what a session tells of a line is a step of a script
+pub Step-told : (old new : Standing) (k : ℕ) (line : List ℕ) (t : Told) → TellsLine old k line t new → Step old k line (turn_of t) new
+Step-told old new k line Silent told = told
+Step-told old new k line Memory told = told
+Step-told old new k line (ReplyOf bytes kind) told = (told.0, told.1, told.2, ap is_refusing told.3 ∙ kind-refusal told.0)

@@ -1,27 +1,30 @@
 -- What the program may leave, for the words of its command line.
-use Rattle.std.specs.Prelude.{ℕ, ◌≡◌, List, [], ◌∷◌, codes, take}
+use Rattle.std.specs.Prelude.{ℕ, ◌≡◌, ◌≢◌, List, [], codes, take}
 use Rattle.std.specs.declared.alloc.Global.{Global}
 use Rattle.std.specs.declared.string.String.{String}
-use Rattle.tmm_model.specs.declared.turn.Turn.{Turn}
+use Rattle.tmm_model.specs.Standing.{empty_list}
+use Rattle.map_engine.specs.Steps.{Step}
 use Rattle.tmm_cli.specs.declared.status.Status.{Status}
 use Rattle.tmm_cli.specs.declared.status.Status.TheVariants.{Words, WriteFault, NoMemory}
+use Rattle.tmm_cli.specs.Demo.{IsDemo, DemoEnds}
 use Rattle.tmm_cli.specs.Endings.{Ends}
 
 abbrev pub usage : List ℕ
 usage = codes "usage: tmm [demo N], N from 1 to 1000\n"
 
 -- with words that are none of the program's: the usage line, or for a write fault a first part of it
-abbrev pub UsageEnds : List ℕ → List ℕ → Status → Type 0
-UsageEnds taken output Words = (taken ≡ []) × (output ≡ usage)
-UsageEnds taken output WriteFault = (taken ≡ []) × (part : ℕ) × (output ≡ take part usage)
-UsageEnds taken output status = ⊥
+abbrev pub UsageEnds : List ℕ → Status → Type 0
+UsageEnds output Words = output ≡ usage
+UsageEnds output WriteFault = (part : ℕ) × (output ≡ take part usage)
+UsageEnds output status = ⊥
 
-module _ {S : Type 0} (step : S → ℕ → List ℕ → Turn → S → Type 0) (start : S) where
-  -- without words: a script from the start, or no memory before any byte is read
-  abbrev pub ScriptEnds : Type 0 → List ℕ → List ℕ → Status → Type 0
-  ScriptEnds at_end taken output NoMemory = (taken ≡ []) × (output ≡ [])
-  ScriptEnds at_end taken output status = Ends step start at_end taken output status
+-- without words: a script from the empty list, or no memory before any byte is read
+abbrev pub ScriptEnds : Type 0 → List ℕ → List ℕ → Status → Type 0
+ScriptEnds at_end taken output NoMemory = (taken ≡ []) × (output ≡ [])
+ScriptEnds at_end taken output status = Ends Step empty_list at_end taken output status
 
-  abbrev pub ProgramEnds : List (String Global) → Type 0 → List ℕ → List ℕ → Status → Type 0
-  ProgramEnds [] at_end taken output status = ScriptEnds at_end taken output status
-  ProgramEnds (word ∷ words) at_end taken output status = UsageEnds taken output status
+-- **What the program may leave**: the bytes that it takes and writes, and its status. With words it takes no byte.
+pub data ProgramEnds (words : List (String Global)) (at_end : Type 0) (taken output : List ℕ) (status : Status) : Type 0 where
+  a_script : words ≡ [] → ScriptEnds at_end taken output status → ProgramEnds words at_end taken output status
+  a_demo : (n : ℕ) → IsDemo words n → taken ≡ [] → DemoEnds empty_list n output status → ProgramEnds words at_end taken output status
+  other_words : words ≢ [] → ((n : ℕ) → IsDemo words n → ⊥) → taken ≡ [] → UsageEnds output status → ProgramEnds words at_end taken output status

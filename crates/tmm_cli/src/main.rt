@@ -1,9 +1,10 @@
 //! `tmm`: a script of lines in, a reply for each line out. It stands on all other crates: `drive` cuts
 //! a source into lines and writes replies, `Session` answers a line over a map, and `run` is the whole
-//! program. The contract of `run` says what its words, the bytes taken, the bytes written and its
-//! status have to do with each other.
+//! program; with the words `demo N` it answers the lines of `demo_gen` instead. The contract of `run`
+//! says what its words, the bytes taken, the bytes written and its status have to do with each other.
 #![tactic(auto)]
 
+mod demo;
 mod drive;
 mod lines;
 mod run;
@@ -12,6 +13,7 @@ mod status;
 mod tally;
 #[cfg(test)]
 mod tests;
+mod told;
 
 use crate::run::run;
 use std::env;

@@ -3,9 +3,10 @@ ghost use Rattle.std.specs.Prelude.{[], IfOk, ◌≡◌, ◌≢◌, ◌<◌, ◌
 ghost use Rattle.std.specs.Io.KnownBytes.{Appends, Consumes, IsAtEnd};
 ghost use Rattle.tmm_io.specs.Causes.{Rose};
 ghost use Rattle.tmm_model.specs.Standing.{empty_list};
-ghost use Rattle.map_engine.specs.Steps.{Step};
+ghost use Rattle.tmm_cli.specs.Demo.{DemoEnds};
 ghost use Rattle.tmm_cli.specs.Program.{ProgramEnds};
 
+use crate::demo::{demo, demo_number};
 use crate::drive::drive;
 use crate::session::Session;
 use crate::status::Status;
@@ -15,7 +16,8 @@ use tmm_io::{Sink, Source};
 use tmm_model::{NoMemory, Seq};
 
 /// All that the program does. Without words it reads a script from the source and writes a reply for
-/// each line to the sink; with any words it writes how it is used.
+/// each line to the sink. With the words `demo N` it answers a generated script, and writes one line
+/// that tells of the replies; with any other words it writes how it is used.
 pub fn run<S: Source, K: Sink>(
     alloc: Global,
     words: &[String],
@@ -25,13 +27,16 @@ pub fn run<S: Source, K: Sink>(
     ensures ends { (taken output : List ℕ)
         × Consumes (S.left source.old) (S.left source.new) taken
         × Appends (K.written sink.old) (K.written sink.new) output
-        × ProgramEnds Step empty_list words.now (IsAtEnd (S.left source.new)) taken output result }
+        × ProgramEnds words.now (IsAtEnd (S.left source.new)) taken output result }
 
     ensures read_fault { result ≡ Status.ReadFault → Rose (S.faults source.old) (S.faults source.new) }
     ensures write_fault { result ≡ Status.WriteFault → Rose (K.faults sink.old) (K.faults sink.new) }
     ensures source_faults { result ≢ Status.ReadFault → S.faults source.new ≡ S.faults source.old }
     ensures sink_faults { result ≢ Status.WriteFault → K.faults sink.new ≡ K.faults sink.old }
 {
+    if let Some(n) = demo_number(words) {
+        return run_demo(alloc, n, sink);
+    }
     if !words.is_empty() {
         return match sink.write_all(b"usage: tmm [demo N], N from 1 to 1000\n") {
             Ok(()) => Status::Words,
@@ -46,6 +51,22 @@ pub fn run<S: Source, K: Sink>(
     };
     let mut session = Session::make(core);
     drive(alloc, &mut session, &mut buffer, source, sink)
+}
+
+// Answers a generated script over the empty map.
+fn run_demo<K: Sink>(alloc: Global, n: u32, sink: &mut K) -> Status
+    requires { n ≤ 1000 }
+    ensures ends { (output : List ℕ)
+        × Appends (K.written sink.old) (K.written sink.new) output
+        × DemoEnds empty_list n output result }
+    ensures write_fault { result ≡ Status.WriteFault → Rose (K.faults sink.old) (K.faults sink.new) }
+    ensures sink_faults { result ≢ Status.WriteFault → K.faults sink.new ≡ K.faults sink.old }
+{
+    let Ok(core) = PlainMap::make(alloc) else {
+        return Status::NoMemory;
+    };
+    let mut session = Session::make(core);
+    demo(alloc, n, &mut session, sink)
 }
 
 // Room for the part of a line that is kept.

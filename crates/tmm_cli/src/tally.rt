@@ -18,6 +18,7 @@ pub struct Tally {
 impl Tally {
     ghost use Rattle.tmm_cli.specs.Reading.{counted};
 
+    /// No line yet.
     pub fn new() -> Tally
         ensures { result ≡ record { lines = 0; refused = false; memory = false } }
     {
@@ -28,6 +29,7 @@ impl Tally {
         }
     }
 
+    /// Counts one more line, with its turn.
     pub fn count(&mut self, turn: &Turn)
         requires { self.old.lines < 2 ^ 64 - 1 }
         ensures { self.new ≡ counted self.old turn.now }
@@ -40,6 +42,7 @@ impl Tally {
         }
     }
 
+    /// The status of a script that was read to its end, where all replies were written.
     pub fn status(&self) -> Status
         ensures no_fault { (result ≢ Status.ReadFault) × (result ≢ Status.WriteFault) }
         ensures told { result ≡ (if self.now.memory then Status.SomeMemory else (if self.now.refused then Status.SomeRefused else Status.Clean)) }

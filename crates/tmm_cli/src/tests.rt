@@ -6,7 +6,7 @@ use crate::status::Status;
 use std::alloc::Global;
 use std::process::Abort;
 use std::test::Fail;
-use tmm_io::{MemSink, MemSource, SteadySource};
+use tmm_io::{MemSink, MemSource, Source, SteadySource};
 use tmm_model::{Seq, Turn};
 
 /// Runs a script in pieces of this many bytes, and compares its replies and its status.
@@ -113,17 +113,91 @@ fn faults_end_the_run(rt: HostRuntime) -> Result<(), Fail> {
     Ok(())
 }
 
+/// Runs with these words, and compares what is written and the status. The source keeps its bytes.
+fn expect_with(
+    rt: &impl Abort,
+    alloc: Global,
+    words: &[&str],
+    line: &[u8],
+    status: Status,
+) -> Result<(), Fail> {
+    let mut given = Vec::new(alloc);
+    for word in words {
+        given.push(String::from_str(alloc, word)?)?;
+    }
+    let mut source = SteadySource::make(alloc, FIRST, 4096)?;
+    let mut sink = MemSink::make(alloc, 1 << 12, &[])?;
+    let ended = run(alloc, given.as_slice(), &mut source, &mut sink);
+    assert_eq!(rt; sink.bytes(), line);
+    assert_eq!(rt; ended, status);
+    let mut piece = [0u8; 8];
+    let count = source.read(&mut piece)?;
+    assert_eq!(rt; &piece[..count], b"point a\n".as_slice());
+    Ok(())
+}
+
 #[test]
 fn other_words_get_the_usage_line(rt: HostRuntime) -> Result<(), Fail> {
     let alloc = rt.alloc();
-    let words = [String::from_str(alloc, "x")?];
+    let wrong: [&[&str]; 8] = [
+        &["x"],
+        &["demo"],
+        &["demo", "0"],
+        &["demo", "01"],
+        &["demo", "1001"],
+        &["demo", "-1"],
+        &["demo", ""],
+        &["demo", "1", "1"],
+    ];
+    for words in wrong {
+        expect_with(
+            &rt,
+            alloc,
+            words,
+            b"usage: tmm [demo N], N from 1 to 1000\n",
+            Status::Words,
+        )?;
+    }
+    Ok(())
+}
+
+#[test]
+fn generated_scripts_are_summarized(rt: HostRuntime) -> Result<(), Fail> {
+    let alloc = rt.alloc();
+    let lines: [(&str, &[u8]); 3] = [
+        (
+            "1",
+            b"demo 1 lines 12 ok 10 yes 1 no 0 refused 0 memory 0 size 12\n",
+        ),
+        (
+            "2",
+            b"demo 2 lines 15 ok 12 yes 2 no 0 refused 0 memory 0 size 23\n",
+        ),
+        (
+            "60",
+            b"demo 60 lines 189 ok 128 yes 60 no 0 refused 0 memory 0 size 661\n",
+        ),
+    ];
+    for (n, line) in lines {
+        expect_with(&rt, alloc, &["demo", n], line, Status::Clean)?;
+    }
+    Ok(())
+}
+
+#[test]
+fn a_summary_may_break_off(rt: HostRuntime) -> Result<(), Fail> {
+    let alloc = rt.alloc();
+    let words = [
+        String::from_str(alloc, "demo")?,
+        String::from_str(alloc, "1")?,
+    ];
     let mut source = SteadySource::make(alloc, FIRST, 4096)?;
-    let mut sink = MemSink::make(alloc, 1 << 20, &[])?;
-    assert_eq!(rt; run(alloc, &words, &mut source, &mut sink), Status::Words);
+    let mut sink = MemSink::make(alloc, 1 << 12, &[(1, 6)])?;
     assert_eq!(rt;
-        sink.bytes(),
-        b"usage: tmm [demo N], N from 1 to 1000\n".as_slice()
+        run(alloc, &words, &mut source, &mut sink),
+        Status::WriteFault
     );
+    assert_eq!(rt; sink.bytes(), b"demo 1".as_slice());
     Ok(())
 }
 
@@ -221,8 +295,8 @@ const ROWS: &[(&[u8], &[u8], Status)] = &[
     ),
     // sorts and unknown names
     (
-        b"class c f g\nkind f\ntoken f h\ntoken t h\ntoken t c\nclass d g2 g2\nerase f\ndist d f x 0 1\nbounds start e/r\nask f start t\n",
-        b"1 ok\n2 no taken f\n3 no taken f\n4 no unknown h\n5 no sort c\n6 no taken g2\n7 no sort f\n8 no sort f\n9 no unknown e/r\n10 no unknown t\n",
+        b"class c f g\nkind f\ntoken f h\ntoken t h\ntoken t c\nclass d g2 g2\nerase f\ndist d f x 0 1\nbounds start e/r\nwhy c\nask f start t\n",
+        b"1 ok\n2 no taken f\n3 no taken f\n4 no unknown h\n5 no sort c\n6 no taken g2\n7 no sort f\n8 no sort f\n9 no unknown e/r\n10 no sort c\n11 no unknown t\n",
         Status::SomeRefused,
     ),
     // protections
@@ -248,6 +322,12 @@ const ROWS: &[(&[u8], &[u8], Status)] = &[
         b"class door open shut\nkind push\nrule r push 1 2 shut if open\ntoken k open\ndist z start k 0 0\nevent e push\ndist x start e 10 10\nbounds e e/r\nerase r\n",
         b"1 ok\n2 ok\n3 ok\n4 ok\n5 ok\n6 ok\n  in e/r\n  clip k by e/r\n7 ok\n8 bounds 1 2\n9 ok\n  erased r\n  out e/r\n  loose k\n",
         Status::Clean,
+    ),
+    // the reasons of an effect
+    (
+        b"class door open shut\nkind push\nrule r push 1 2 shut if open\ntoken k open\ndist z start k 0 0\nevent e push\ndist x start e 10 10\nwhy e/r\nerase r\nwhy e/r\n",
+        b"1 ok\n2 ok\n3 ok\n4 ok\n5 ok\n6 ok\n  in e/r\n  clip k by e/r\n7 ok\n8 why\n  premise k\n  premise e\n  order k e -10\n    x lo e start -10\n    z hi start k 0\n  e/r by r on e with k\n9 ok\n  erased r\n  out e/r\n  loose k\n10 no unknown e/r\n",
+        Status::SomeRefused,
     ),
     // siblings
     (

@@ -3,7 +3,7 @@ use Rattle.tmm_model.specs.declared.line.Line.TheVariants.{Question}
 use Rattle.tmm_model.specs.declared.line.Query.{Query}
 use Rattle.tmm_model.specs.declared.line.Query.TheVariants.{Dump}
 use Rattle.tmm_model.specs.Lines.{shown_text}
-use Rattle.tmm_model.specs.Replies.{SizeIs, DumpIs}
+use Rattle.tmm_model.specs.Replies.{DumpIs}
 use Rattle.tmm_model.specs.Standing.{Standing}
 use Rattle.tmm_model.specs.Transcript.{AnswersLine}
 use Rattle.tmm_cli.specs.Sessions.{TellsMeaning}
@@ -18,9 +18,3 @@ returns-in-Dump g c =
     subst (λ (query : Query). TellsMeaning list c.args.line (Question query) c.reply.result list) (sym c.in-Dump.is)
     (Tells-reply _ _ _ c.reply_dump.result (DumpIs c.standing.result.now.present.horizon (map shown_text c.standing.result.now.present.premises)) _ c.reply_dump.ensures
     (answers c.standing.result.now.present c.standing.ensures) refl c.reply.ensures)
-
-pub returns-in-Size : goal.returns-in-Size
-returns-in-Size g c =
-    let list = g.M.MapCore.list c.args.core.now in
-    subst (λ (query : Query). TellsMeaning list c.args.line (Question query) c.reply-in-Size.result list) (sym c.in-Size.is)
-    (Tells-reply _ _ _ c.reply_number.result (SizeIs c.size.result) _ c.reply_number.ensures ((refl, c.size.ensures), refl) refl c.reply-in-Size.ensures)

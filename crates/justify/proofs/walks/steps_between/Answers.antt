@@ -3,8 +3,8 @@ use Rattle.list_net.specs.Represents.{IsNumberOf}
 use Rattle.spots.specs.Spots.{spot_moment}
 use Rattle.spots.proofs.Nodes.{point_is}
 use Rattle.tmm_model.specs.Moments.{base}
-use Rattle.map_engine.proofs.Walked.{walks, has_walk}
-use Rattle.map_engine.proofs.questions.steps_between.Goals as goal
+use Rattle.justify.proofs.Walked.{walks, has_walk}
+use Rattle.justify.proofs.walks.steps_between.Goals as goal
 
 pub returns-in-Some : goal.returns-in-Some
 returns-in-Some c =

@@ -1,8 +1,8 @@
 use Rattle.std.proofs.Common.{◌∙◌, ap, sym, subst}
 use Rattle.spots.specs.declared.spot.Spot.{Spot}
 use Rattle.spots.specs.Spots.{IsSpot, base_of}
-use Rattle.map_engine.proofs.Bases.{begin_is}
-use Rattle.map_engine.proofs.questions.base_point.Goals as goal
+use Rattle.justify.proofs.Bases.{begin_is}
+use Rattle.justify.proofs.walks.base_point.Goals as goal
 
 pub returns-in-Node : goal.returns-in-Node
 returns-in-Node c =

@@ -1,0 +1,9 @@
+pub mod Origins
+pub mod Antecedents
+pub mod Supported
+pub mod Reached
+pub mod Rising
+pub mod Told
+pub mod AllTold
+mod Bases
+pub mod Walked

@@ -1,0 +1,21 @@
+use Rattle.std.proofs.Common.{◌∙◌, List, map, ap, subst}
+use Rattle.std.specs.List.{All, Contains}
+use Rattle.tmm_model.specs.Maps.{built}
+use Rattle.tmm_model.specs.Moments.{Moment}
+use Rattle.tmm_model.specs.Reasons.{pairs_of}
+use Rattle.tmm_model.proofs.Members.{All-from_contains, Contains-map}
+use Rattle.spots.specs.Forest.{moment_at}
+use Rattle.justify.specs.Lines.{IsInOrder}
+use Rattle.justify.proofs.Supported.{supports_in_order}
+use Rattle.justify.proofs.lines.add_reasons.Goals as goal
+
+pub add_orders-requires-clause-in_order : goal.add_orders-requires-clause-in_order
+add_orders-requires-clause-in_order c =
+    let s = c.args.standing.now.present in
+    let f = c.args.tree.now in
+    let t = moment_at f c.in-Effect.event in
+    let nodes = c.as_slice-nodes.result.now in
+    All-from_contains (λ x. All (IsInOrder (built s)) (pairs_of (built s) t (moment_at f x))) nodes
+    (λ x at.
+    supports_in_order s t c.in-Effect.rule (moment_at f x)
+    (subst (λ (l : List Moment). Contains l (moment_at f x)) (ap (map (moment_at f)) c.as_slice-nodes.ensures.value ∙ c.supports_at-supports.ensures.first) (Contains-map (moment_at f) nodes x at)))

@@ -1,0 +1,4 @@
+pub mod Stops
+pub mod Grounds
+pub mod Places
+pub mod Lines

@@ -1,0 +1,101 @@
+// What brings a node about, and what it rests on directly.
+ghost use Rattle.std.specs.Prelude.{◌≡◌, ◌≤◌, map, length, IsSome};
+ghost use Rattle.std.specs.List.{All, Contains, filter_map};
+ghost use Rattle.tmm_model.specs.Beliefs.{rules_at};
+ghost use Rattle.tmm_model.specs.Maps.{built};
+ghost use Rattle.tmm_model.specs.Moments.{rule_of};
+ghost use Rattle.tmm_model.specs.Reasons.{supports_at};
+ghost use Rattle.tmm_model.specs.Sorts.{class_in};
+ghost use Rattle.spots.specs.Forest.{IsLive, moment_at};
+ghost use Rattle.spots.specs.Seen.{IsSeen, Holds};
+ghost use Rattle.justify.specs.Grounds.{IsOrigin, IsRuleOf, supporters_for};
+
+use arrayvec::ArrayVec;
+use dist_net::DistNet;
+use occ_tree::Tree;
+use premise_list::Standing;
+use spots::Spot;
+use supports::supporter;
+use tmm_model::{Name, Premise};
+
+/// What brings a node about.
+#[derive(Clone, Copy)]
+pub(crate) enum Origin {
+    /// The premise of this name declares it.
+    Declared(Name),
+    /// It is the effect of a rule on the event at a node.
+    Effect { event: u32, rule: Name },
+}
+
+// What brings a node about.
+pub(crate) fn origin_of(tree: &Tree, x: u32) -> Origin
+    requires { IsLive tree.now x }
+    ensures { IsOrigin tree.now x result }
+{
+    let row = tree.row(x);
+    match row.parent {
+        None => Origin::Declared(row.name),
+        Some(event) => Origin::Effect {
+            event,
+            rule: row.name,
+        },
+    }
+}
+
+// The first supporters of a rule's antecedents at an event.
+pub(crate) fn supports_at(
+    standing: &Standing,
+    tree: &Tree,
+    net: &DistNet,
+    event: u32,
+    rule: Name,
+) -> ArrayVec<u32, 4>
+    requires seen { IsSeen standing.now.present net.now.present tree.now }
+    requires holds { Holds (built standing.now.present).believed tree.now }
+    requires event { IsLive tree.now event }
+    requires rule { Contains (rules_at standing.now.present (moment_at tree.now event)) rule }
+    ensures live { All (IsLive tree.now) result.items }
+    ensures first { map (moment_at tree.now) result.items ≡ supports_at (built standing.now.present) (moment_at tree.now event) rule }
+{
+    let given = antecedents(standing, rule);
+    supporters(standing, tree, net, event, given)
+}
+
+// The antecedents of a rule.
+fn antecedents(standing: &Standing, rule: Name) -> &[Name]
+    requires { IsRuleOf standing.now.present rule }
+    ensures given { result.now ≡ (rule_of standing.now.present rule).given }
+    ensures few { length result.now ≤ 4 }
+{
+    match standing.get(rule) {
+        Some(Premise::Rule { given, .. }) => given.as_slice(),
+        _ => unreachable!(),
+    }
+}
+
+// The first supporters of the facts at an event.
+fn supporters(
+    standing: &Standing,
+    tree: &Tree,
+    net: &DistNet,
+    event: u32,
+    facts: &[Name],
+) -> ArrayVec<u32, 4>
+    requires seen { IsSeen standing.now.present net.now.present tree.now }
+    requires holds { Holds (built standing.now.present).believed tree.now }
+    requires event { IsLive tree.now event }
+    requires facts { All (λ fact. IsSome (class_in standing.now.present.premises fact)) facts.now }
+    requires few { length facts.now ≤ 4 }
+    ensures live { All (IsLive tree.now) result.items }
+    ensures first { map (moment_at tree.now) result.items ≡ filter_map (λ k. k) (supporters_for (built standing.now.present) (moment_at tree.now event) facts.now) }
+{
+    let at = Spot::Node(event);
+    let mut found = ArrayVec::new();
+    for fact in facts {
+        match supporter(standing, tree, net, *fact, at, at) {
+            Some(x) => found.push(x),
+            None => {}
+        }
+    }
+    found
+}

@@ -1,0 +1,18 @@
+//! The reasons of a belief: the lines of an occurrence and of all that it rests on, each before what
+//! rests on it, and before a derived one the orders in time that its supporters need. It stands on
+//! `tt_query`.
+//!
+//! `why` takes the standing list with its network and the tree of the believed occurrences, and
+//! answers as the map of that list does. `steps_between` gives the constraints of a least walk between
+//! two spots.
+#![tactic(auto)]
+
+mod grounds;
+mod lines;
+mod places;
+mod reasons;
+mod upholders;
+mod walks;
+
+pub use reasons::why;
+pub use walks::steps_between;

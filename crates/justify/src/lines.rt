@@ -1,0 +1,223 @@
+// The lines of occurrences.
+ghost use Rattle.std.specs.Prelude.{◌≡◌, [], ◌∷◌, ◌++◌, map, IfOk, OnOk};
+ghost use Rattle.std.specs.List.{All, flat_map};
+ghost use Rattle.tmm_model.specs.Maps.{built};
+ghost use Rattle.tmm_model.specs.Moments.{moment_of, moment_of_point};
+ghost use Rattle.tmm_model.specs.Reasons.{AreReasons, IsOrderLine, by_rule, pairs_of, reason_of};
+ghost use Rattle.spots.specs.Forest.{IsLive, moment_at};
+ghost use Rattle.spots.specs.Seen.{IsSeen, Holds};
+ghost use Rattle.spots.specs.Spots.{IsSpot, spot_moment};
+ghost use Rattle.justify.specs.Lines.{IsInOrder, AddsOrders, AddsReasons};
+ghost use Rattle.justify.specs.Places.{nodes_of};
+
+use crate::grounds::{Origin, origin_of, supports_at};
+use crate::places::Place;
+use crate::walks::steps_between;
+use dist_net::DistNet;
+use occ_tree::Tree;
+use premise_list::Standing;
+use spots::Spot;
+use std::alloc::Global;
+use tmm_model::{Bound, Name, NoMemory, Occ, PointName, QueryPoint, Seq, WhyLine};
+
+// The lines of the nodes, one after the other: the orders that each needs, and then its own line.
+pub(crate) fn lines_of(
+    alloc: Global,
+    standing: &Standing,
+    tree: &Tree,
+    net: &DistNet,
+    places: &[Place<'_>],
+) -> Result<Seq<WhyLine>, NoMemory>
+    requires seen { IsSeen standing.now.present net.now.present tree.now }
+    requires holds { Holds (built standing.now.present).believed tree.now }
+    requires live { All (IsLive tree.now) (nodes_of places.now) }
+    ensures { IfOk result (λ lines. AreReasons (built standing.now.present) (map (moment_at tree.now) (nodes_of places.now)) (map reason_of lines.items)) }
+{
+    let mut lines = Seq::make(alloc);
+    for place in places {
+        add_reasons(alloc, standing, tree, net, place.node, &mut lines)?;
+    }
+    Ok(lines)
+}
+
+// Appends the lines of a node.
+fn add_reasons(
+    alloc: Global,
+    standing: &Standing,
+    tree: &Tree,
+    net: &DistNet,
+    x: u32,
+    lines: &mut Seq<WhyLine>,
+) -> Result<(), NoMemory>
+    requires seen { IsSeen standing.now.present net.now.present tree.now }
+    requires holds { Holds (built standing.now.present).believed tree.now }
+    requires live { IsLive tree.now x }
+    ensures { OnOk result (AddsReasons (built standing.now.present) (moment_at tree.now x) lines.old.items lines.new.items) }
+{
+    match origin_of(tree, x) {
+        Origin::Declared(name) => push(lines, WhyLine::Premise(name)),
+        Origin::Effect { event, rule } => {
+            let supports = supports_at(standing, tree, net, event, rule);
+            let nodes = supports.as_slice();
+            add_orders(alloc, standing, tree, net, event, nodes, lines)?;
+            push(lines, derived_line(alloc, tree, x, rule, event, nodes)?)
+        }
+    }
+}
+
+// The line of the effect of a rule on an event, with what supports its antecedents.
+fn derived_line(
+    alloc: Global,
+    tree: &Tree,
+    x: u32,
+    rule: Name,
+    event: u32,
+    supports: &[u32],
+) -> Result<WhyLine, NoMemory>
+    requires live { IsLive tree.now x }
+    requires event { IsLive tree.now event }
+    requires supports { All (IsLive tree.now) supports.now }
+    ensures { IfOk result (λ line. reason_of line ≡ by_rule (moment_at tree.now x) rule (moment_at tree.now event) (map (moment_at tree.now) supports.now)) }
+{
+    Ok(WhyLine::Derived {
+        occ: tree.occ_of(alloc, x)?,
+        rule,
+        trigger: tree.occ_of(alloc, event)?,
+        supports: occs_of(alloc, tree, supports)?,
+    })
+}
+
+// The occurrences of nodes.
+fn occs_of(alloc: Global, tree: &Tree, nodes: &[u32]) -> Result<Seq<Occ>, NoMemory>
+    requires { All (IsLive tree.now) nodes.now }
+    ensures { IfOk result (λ occs. map moment_of occs.items ≡ map (moment_at tree.now) nodes.now) }
+{
+    let mut occs = Seq::make(alloc);
+    for x in nodes {
+        match occs.push(tree.occ_of(alloc, *x)?) {
+            Ok(()) => {}
+            Err(_) => return Err(NoMemory),
+        }
+    }
+    Ok(occs)
+}
+
+// Appends the orders that the supporters at an event need.
+fn add_orders(
+    alloc: Global,
+    standing: &Standing,
+    tree: &Tree,
+    net: &DistNet,
+    event: u32,
+    supports: &[u32],
+    lines: &mut Seq<WhyLine>,
+) -> Result<(), NoMemory>
+    requires seen { IsSeen standing.now.present net.now.present tree.now }
+    requires event { IsLive tree.now event }
+    requires supports { All (IsLive tree.now) supports.now }
+    requires in_order { All (λ x. All (IsInOrder (built standing.now.present)) (pairs_of (built standing.now.present) (moment_at tree.now event) (moment_at tree.now x))) supports.now }
+    ensures { OnOk result (AddsOrders (built standing.now.present) (flat_map (pairs_of (built standing.now.present) (moment_at tree.now event)) (map (moment_at tree.now) supports.now)) lines.old.items lines.new.items) }
+{
+    for x in supports {
+        add_orders_of(alloc, standing, tree, net, event, *x, lines)?;
+    }
+    Ok(())
+}
+
+// Appends the orders that a supporter at an event needs: it begins surely at or before the event, and
+// where it is a span the event is surely at or before its end.
+fn add_orders_of(
+    alloc: Global,
+    standing: &Standing,
+    tree: &Tree,
+    net: &DistNet,
+    event: u32,
+    x: u32,
+    lines: &mut Seq<WhyLine>,
+) -> Result<(), NoMemory>
+    requires seen { IsSeen standing.now.present net.now.present tree.now }
+    requires event { IsLive tree.now event }
+    requires live { IsLive tree.now x }
+    requires in_order { All (IsInOrder (built standing.now.present)) (pairs_of (built standing.now.present) (moment_at tree.now event) (moment_at tree.now x)) }
+    ensures { OnOk result (AddsOrders (built standing.now.present) (pairs_of (built standing.now.present) (moment_at tree.now event) (moment_at tree.now x)) lines.old.items lines.new.items) }
+{
+    let at = Spot::Node(event);
+    add_order(alloc, standing, tree, net, Spot::Node(x), at, lines)?;
+    match tree.row(x).end {
+        Some(end) => add_order(alloc, standing, tree, net, at, Spot::Declared(end), lines),
+        None => Ok(()),
+    }
+}
+
+// Appends the line that one spot is surely at or before another.
+fn add_order(
+    alloc: Global,
+    standing: &Standing,
+    tree: &Tree,
+    net: &DistNet,
+    first: Spot,
+    second: Spot,
+    lines: &mut Seq<WhyLine>,
+) -> Result<(), NoMemory>
+    requires seen { IsSeen standing.now.present net.now.present tree.now }
+    requires first { IsSpot net.now.present.names tree.now first }
+    requires second { IsSpot net.now.present.names tree.now second }
+    requires in_order { IsInOrder (built standing.now.present) (spot_moment net.now.present.names tree.now first, spot_moment net.now.present.names tree.now second) }
+    ensures { OnOk result (AddsOrders (built standing.now.present) ((spot_moment net.now.present.names tree.now first, spot_moment net.now.present.names tree.now second) ∷ []) lines.old.items lines.new.items) }
+{
+    push(
+        lines,
+        order_line(alloc, standing, tree, net, first, second)?,
+    )
+}
+
+// The line that one spot is surely at or before another: the distance back, and constraints that give it.
+fn order_line(
+    alloc: Global,
+    standing: &Standing,
+    tree: &Tree,
+    net: &DistNet,
+    first: Spot,
+    second: Spot,
+) -> Result<WhyLine, NoMemory>
+    requires seen { IsSeen standing.now.present net.now.present tree.now }
+    requires first { IsSpot net.now.present.names tree.now first }
+    requires second { IsSpot net.now.present.names tree.now second }
+    requires in_order { IsInOrder (built standing.now.present) (spot_moment net.now.present.names tree.now first, spot_moment net.now.present.names tree.now second) }
+    ensures { IfOk result (λ line. IsOrderLine (built standing.now.present) (spot_moment net.now.present.names tree.now first, spot_moment net.now.present.names tree.now second) (reason_of line)) }
+{
+    let bound = tree.far(net, second, first);
+    let steps = steps_between(alloc, standing, tree, net, second, first, bound)?;
+    match bound {
+        Bound::Finite(far) => Ok(WhyLine::Order {
+            first: point_at(alloc, tree, net, first)?,
+            second: point_at(alloc, tree, net, second)?,
+            far,
+            steps,
+        }),
+        Bound::Free => unreachable!(),
+    }
+}
+
+// A spot as a question names it.
+fn point_at(alloc: Global, tree: &Tree, net: &DistNet, spot: Spot) -> Result<QueryPoint, NoMemory>
+    requires { IsSpot net.now.present.names tree.now spot }
+    ensures { IfOk result (λ point. moment_of_point point ≡ spot_moment net.now.present.names tree.now spot) }
+{
+    match spot {
+        Spot::Declared(p) => Ok(QueryPoint::Declared(net.name_of(p).unwrap_or(PointName::Start))),
+        Spot::Node(x) => match origin_of(tree, x) {
+            Origin::Declared(name) => Ok(QueryPoint::Declared(PointName::Begin(name))),
+            Origin::Effect { .. } => Ok(QueryPoint::Derived(tree.occ_of(alloc, x)?)),
+        },
+    }
+}
+
+fn push(lines: &mut Seq<WhyLine>, line: WhyLine) -> Result<(), NoMemory>
+    ensures { OnOk result (lines.new.items ≡ lines.old.items ++ line ∷ []) }
+{
+    match lines.push(line) {
+        Ok(()) => Ok(()),
+        Err(_) => Err(NoMemory),
+    }
+}
