@@ -1,14 +1,31 @@
 #!/usr/bin/env bash
-# The scripts that the documents show, through the built program: each has its replies beside it.
+# The scripts that the documents show, through the built program: those of examples/ have their replies
+# beside them, those of the reference behind them.
 set -u
 cd "$(dirname "$0")/.." || exit 1
 failed=0
 
-while read -r script; do
-  if ! diff <(./tmm < "$script") "${script%.tmm}.out" >&2; then
-    echo "checks: $script: other replies than are beside it" >&2
+# compare SCRIPT REPLIES NAME
+compare() {
+  if ! diff <(./tmm < "$1") "$2" >&2; then
+    echo "checks: $3: other replies than are written down" >&2
     failed=1
   fi
+}
+
+while read -r script; do
+  compare "$script" "${script%.tmm}.out" "$script"
 done < <(find examples -name '*.tmm' | sort)
+
+shown=$(mktemp -d) || exit 1
+awk -v dir="$shown" '
+  $0 == "```script" { file = dir "/line-" NR ".tmm"; next }
+  $0 == "```replies" { sub(/tmm$/, "out", last); file = last; next }
+  $0 == "```" { last = file; file = ""; next }
+  file { print > file }' docs/SCRIPT.md
+for script in "$shown"/*.tmm; do
+  compare "$script" "${script%.tmm}.out" "docs/SCRIPT.md, $(basename "$script" .tmm)"
+done
+rm -rf "$shown"
 
 exit "$failed"
