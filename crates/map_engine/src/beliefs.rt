@@ -1,5 +1,5 @@
 // What the map keeps of a list beside its distances.
-ghost use Rattle.std.specs.Prelude.{◌≡◌, map, IfOk, IfErr};
+ghost use Rattle.std.specs.Prelude.{◌≡◌, ◌≤◌, map, IfOk, IfErr};
 ghost use Rattle.tmm_model.specs.Answers.{rows, reports, report_of, size};
 ghost use Rattle.tmm_model.specs.Maps.{built};
 ghost use Rattle.belief_list.specs.Rows.{row_at, IsListing};
@@ -40,6 +40,7 @@ pub(crate) fn believe(
     requires network { IsNetOf standing.now.present net.now.present }
     ensures beliefs { IfOk result (AreBeliefs standing.now.present net.now.present) }
     ensures stops { IfErr result (IsTooLarge (size (built standing.now.present))) }
+    ensures counted { counter.old ≤ counter.new }
 {
     let Projected { tree, size } = rebuild(alloc, standing, net, counter)?;
     match survey(alloc, standing, net, &tree) {

@@ -1,5 +1,5 @@
 // What the program asks of a map.
-ghost use Rattle.std.specs.Prelude.{◌≡◌, None, Some, map, IfOk, IfErr, OnErr};
+ghost use Rattle.std.specs.Prelude.{◌≡◌, ◌≤◌, None, Some, map, IfOk, IfErr, OnErr};
 ghost use Rattle.std.specs.declared.option.Option.{Option};
 ghost use Rattle.tmm_model.specs.Answers.{ask, finding_of, reports, report_of, rows, row_of, size};
 ghost use Rattle.tmm_model.specs.Bounds.{bound_negated};
@@ -40,7 +40,8 @@ pub trait MapCore {
     ghost pending: { Self → Option List };
 
     /// Makes an edit, and leaves it pending. A refusal is the first cause that holds. A refused edit,
-    /// or one for which there is no memory, changes nothing. `counter` counts decisions.
+    /// or one for which there is no memory, changes nothing. The decisions that are made on the way are
+    /// counted on from those before.
     fn apply(&mut self, alloc: Global, edit: &Edit, counter: &mut Counter) -> Result<Pending, Stop>
         requires idle { pending self.old ≡ None }
         requires well_formed { IsWellFormedEdit edit.now }
@@ -49,7 +50,8 @@ pub trait MapCore {
         ensures pending { IfOk result (λ made. pending self.new ≡ Some (next_list (list self.old) edit.now)) }
         ensures stops { IfErr result (StopsEdit (list self.old) edit.now) }
         ensures idle { OnErr result (pending self.new ≡ None) }
-        ensures kept { list self.new ≡ list self.old };
+        ensures kept { list self.new ≡ list self.old }
+        ensures counted { counter.old ≤ counter.new };
 
     /// Keeps the pending edit. It takes no memory.
     fn commit(&mut self)

@@ -1,5 +1,5 @@
 // The plain map: distances are kept current, and beliefs are made afresh at each edit.
-ghost use Rattle.std.specs.Prelude.{◌≡◌, None, IfOk, IfErr};
+ghost use Rattle.std.specs.Prelude.{◌≡◌, ◌≤◌, None, IfOk, IfErr};
 ghost use Rattle.tmm_model.specs.Answers.{size};
 ghost use Rattle.tmm_model.specs.Changes.{changes, delta_of};
 ghost use Rattle.tmm_model.specs.Maps.{built};
@@ -87,6 +87,7 @@ fn drawn(
     ensures changes { (list : List) (old_net : Net) → AreBeliefs list old_net old.now → IsLeftOut list standing.now.present erased.items
         → IfOk result (λ made. delta_of made.1 ≡ changes list standing.now.present) }
     ensures stops { IfErr result (IsTooLarge (size (built standing.now.present))) }
+    ensures counted { counter.old ≤ counter.new }
 {
     let next = believe(alloc, standing, net, counter)?;
     match changes_to(alloc, erased, old, &next, standing) {
