@@ -3,15 +3,18 @@ ghost use Rattle.std.specs.Prelude.{◌≡◌, ◌+◌, ◌-◌, ◌<◌, ◌≤
 ghost use Rattle.std.specs.List.{list_all};
 ghost use Rattle.std.specs.Ordering.{nat_cmp, as_partial_cmp};
 ghost use Rattle.std.specs.Cmp.{partial_equiv_from_equiv, partial_order_from_agreeing_total, unsigned_ties};
+ghost use Rattle.std.specs.Cmp.Rules.{hashing};
+ghost use Rattle.std.proofs.Common.{rules};
 ghost use Rattle.std.specs.Cmp.Lexicographic.{slice_cmp, pointwise, nat_list_cmp_total, nat_list_eq_equiv, lists_ties};
 ghost use Rattle.tmm_model.specs.Names.{is_letter, is_name_byte, is_name as is_name_of};
 
 use std::cmp::Ordering;
+use std::hash::{Hash, Hasher};
 use std::marker::Model;
 
 /// A name: 1 to 24 bytes, a letter first, then letters, digits, `_` or `-`. Names are ordered by
 /// their bytes.
-#[derive(Clone, Copy, Hash, Debug)]
+#[derive(Clone, Copy, Debug)]
 pub struct Name {
     // the bytes, and zeros behind them
     bytes: [u8; 24],
@@ -139,5 +142,16 @@ impl Ord for Name {
 
     fn cmp(&self, other: &Name) -> Ordering {
         self.bytes().cmp(other.bytes())
+    }
+}
+
+/// The bytes are fed to the hash at once.
+impl Hash for Name {
+    ghost hash_input = { λ name. name ∷ [] };
+
+    ghost respects_eq = { Prim.search (hashing, rules) };
+
+    fn hash<H: Hasher>(&self, state: &mut H) {
+        state.write(self.bytes());
     }
 }

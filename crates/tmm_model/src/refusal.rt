@@ -1,5 +1,4 @@
 // Why a line is refused.
-use crate::memory::NoMemory;
 use crate::point::QueryPoint;
 use crate::seq::Seq;
 use crate::walk::WalkStep;
@@ -35,10 +34,4 @@ pub enum Stop {
     Refused(Refusal),
     /// There was no memory.
     NoMemory,
-}
-
-impl From<NoMemory> for Stop {
-    fn from(_: NoMemory) -> Stop {
-        Stop::NoMemory
-    }
 }
