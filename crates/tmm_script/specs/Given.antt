@@ -20,3 +20,9 @@ abbrev pub Gives : {X Y : Type 0} → (X → Y) → Result X Misread → Option 
 Gives view (Ok x) read = read ≡ Some (view x)
 Gives view (Err misreads.Form) read = read ≡ None
 Gives view (Err misreads.Memory) read = Unit {0}
+
+-- where memory ran out, this holds
+abbrev pub OnMemory : {X : Type 0} → Result X Misread → Type 0 → Type 0
+OnMemory (Ok x) Holds = Unit {0}
+OnMemory (Err misreads.Form) Holds = Unit {0}
+OnMemory (Err misreads.Memory) Holds = Holds

@@ -1,9 +1,11 @@
 // The words at the front of a line, read one after the other. Each function takes the first word off
 // and gives its value.
-ghost use Rattle.std.specs.Prelude.{◌≡◌, ◌∷◌, [], ℕ, List, length, option_map, IsSome, ◌↔◌};
+ghost use Rattle.std.specs.Prelude.{◌≡◌, ◌∷◌, [], ℕ, List, length, take, option_map, IsSome, IsTrue, ◌↔◌};
 ghost use Rattle.tmm_model.specs.Lines.{words, bare_occ, bare_point};
 ghost use Rattle.tmm_model.specs.Reading.{front, name_of, names_of, number_of, bound_of, point_of, horizon_of, horizon_from, occ_of, query_point_of};
-ghost use Rattle.tmm_script.specs.Given.{Gives};
+ghost use Rattle.tmm_words.specs.Spelling.{begins_derived};
+ghost use Rattle.tmm_script.specs.Derived.{some_derived};
+ghost use Rattle.tmm_script.specs.Given.{Gives, OnMemory};
 ghost use Rattle.tmm_script.specs.declared.fields.Misread.TheVariants.{Memory};
 
 use arrayvec::ArrayVec;
@@ -117,7 +119,8 @@ pub fn all_names<const N: usize>(line: &[u8]) -> Option<ArrayVec<Name, N>>
 
 /// Takes the next word, where it names a point of a question.
 pub fn take_query_point(alloc: Global, rest: &mut &[u8]) -> Result<QueryPoint, Misread>
-    ensures { Gives (λ x. (bare_point x, words rest.new.now)) result (front query_point_of (words rest.old.now)) }
+    ensures read { Gives (λ x. (bare_point x, words rest.new.now)) result (front query_point_of (words rest.old.now)) }
+    ensures memory { OnMemory result (IsTrue (some_derived (take 1 (words rest.old.now)))) }
 {
     let Some((word, behind)) = split_word(*rest) else {
         return Err(Misread::Form);
@@ -128,7 +131,8 @@ pub fn take_query_point(alloc: Global, rest: &mut &[u8]) -> Result<QueryPoint, M
 
 /// Takes the next word, where it names an occurrence.
 pub fn take_occ(alloc: Global, rest: &mut &[u8]) -> Result<Occ, Misread>
-    ensures { Gives (λ x. (bare_occ x, words rest.new.now)) result (front occ_of (words rest.old.now)) }
+    ensures read { Gives (λ x. (bare_occ x, words rest.new.now)) result (front occ_of (words rest.old.now)) }
+    ensures memory { OnMemory result (IsTrue (some_derived (take 1 (words rest.old.now)))) }
 {
     let Some((word, behind)) = split_word(*rest) else {
         return Err(Misread::Form);
@@ -140,7 +144,8 @@ pub fn take_occ(alloc: Global, rest: &mut &[u8]) -> Result<Occ, Misread>
 // A word with a `/` names an occurrence, and any other word a declared point.
 #[tactic(auto, unfolding(tmm_model::specs::Reading::query_point_of))]
 fn query_point(alloc: Global, word: &[u8]) -> Result<QueryPoint, Misread>
-    ensures { Gives bare_point result (query_point_of word.now) }
+    ensures read { Gives bare_point result (query_point_of word.now) }
+    ensures memory { OnMemory result (IsTrue (begins_derived word.now)) }
 {
     if word.contains(&b'/') {
         Ok(QueryPoint::Derived(occurrence(alloc, word)?))
@@ -153,7 +158,8 @@ fn query_point(alloc: Global, word: &[u8]) -> Result<QueryPoint, Misread>
 }
 
 fn occurrence(alloc: Global, word: &[u8]) -> Result<Occ, Misread>
-    ensures { Gives bare_occ result (occ_of word.now) }
+    ensures read { Gives bare_occ result (occ_of word.now) }
+    ensures memory { OnMemory result (IsTrue (begins_derived word.now)) }
 {
     match occ(alloc, word)? {
         Some(occ) => Ok(occ),

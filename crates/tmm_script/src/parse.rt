@@ -6,7 +6,8 @@ ghost use Rattle.tmm_model.specs.declared.refusal.Refusal.TheVariants.{LimitLine
 ghost use Rattle.tmm_model.specs.declared.refusal.Stop.TheVariants.{Refused, NoMemory};
 ghost use Rattle.tmm_model.specs.Lines.{words, is_comment, bare_line, IsSilent, Reads, ReadsLine};
 ghost use Rattle.tmm_model.specs.Reading.{line_of};
-ghost use Rattle.tmm_script.specs.Given.{IsReadingOf, Gives};
+ghost use Rattle.tmm_script.specs.Derived.{asks_derived};
+ghost use Rattle.tmm_script.specs.Given.{IsReadingOf, Gives, OnMemory};
 ghost use Rattle.tmm_script.specs.declared.fields.Misread.TheVariants.{Memory};
 
 use crate::edits::edit;
@@ -21,12 +22,14 @@ pub const LONGEST_LINE: usize = 400;
 
 /// What a line of a script, without its line break, says. A line of more than `LONGEST_LINE` bytes
 /// is refused as `LimitLine`, and one that is in no form of the grammar as `Form`. A silent line and
-/// a change take no memory.
+/// a change take no memory. Any other line takes some only where it asks of a point or an occurrence
+/// whose word begins with a name, a `/` and a further name.
 pub fn parse_line(alloc: Global, line: &[u8]) -> Result<Line, Stop>
     ensures too_long { (result ≡ Err (Refused LimitLine)) ↔ (400 < length line.now) }
     ensures read { length line.now ≤ 400 → IsReadingOf line.now result }
     ensures silent { length line.now ≤ 400 → IsSilent (words line.now) → result ≡ Ok Silent }
     ensures no_memory { result ≡ Err NoMemory → (length line.now ≤ 400) × ((e : Edits) → ReadsLine line.now (Change e) → ⊥) }
+    ensures memory { result ≡ Err NoMemory → IsTrue (asks_derived (words line.now)) }
 {
     if line.len() > LONGEST_LINE {
         return Err(Stop::Refused(Refusal::LimitLine));
@@ -53,6 +56,7 @@ fn read(alloc: Global, line: &[u8]) -> Result<Line, Misread>
     ensures value { Gives bare_line result (line_of (words line.now)) }
     ensures silent { IsSilent (words line.now) → result ≡ Ok Silent }
     ensures memory { result ≡ Err Memory → (e : Edits) → Reads (words line.now) (Change e) → ⊥ }
+    ensures derived { OnMemory result (IsTrue (asks_derived (words line.now))) }
 {
     let Some((word, rest)) = split_word(line) else {
         return Ok(Line::Silent);

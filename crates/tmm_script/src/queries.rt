@@ -1,9 +1,10 @@
 // Lines that ask a question. Each function reads the words behind a line's first one.
-ghost use Rattle.std.specs.Prelude.{◌≡◌, option_map};
+ghost use Rattle.std.specs.Prelude.{◌≡◌, drop, take, option_map, IsTrue};
 ghost use Rattle.tmm_model.specs.Lines.{words, bare_point, bare_query};
 ghost use Rattle.tmm_model.specs.Reading.{alone as alone_of, ended, occ_of, two_points_of, ask_of, query_of};
 ghost use Rattle.tmm_model.specs.declared.line.Query.TheVariants.{Why};
-ghost use Rattle.tmm_script.specs.Given.{Gives};
+ghost use Rattle.tmm_script.specs.Derived.{asked_of, some_derived};
+ghost use Rattle.tmm_script.specs.Given.{Gives, OnMemory};
 
 use crate::fields::{Misread, at_end, take_name, take_occ, take_query_point};
 use std::alloc::Global;
@@ -12,7 +13,8 @@ use tmm_model::{Query, QueryPoint};
 /// The question that a line with this first word asks.
 #[tactic(auto, unfolding(tmm_model::specs::Reading::query_of))]
 pub fn query(alloc: Global, word: &[u8], rest: &[u8]) -> Result<Query, Misread>
-    ensures { Gives bare_query result (query_of word.now (words rest.now)) }
+    ensures read { Gives bare_query result (query_of word.now (words rest.now)) }
+    ensures memory { OnMemory result (IsTrue (some_derived (asked_of word.now (words rest.now)))) }
 {
     if word == b"ask".as_slice() {
         return ask(alloc, rest);
@@ -48,7 +50,8 @@ pub fn query(alloc: Global, word: &[u8], rest: &[u8]) -> Result<Query, Misread>
 
 // The question, where no word is left.
 fn alone(rest: &[u8], query: Query) -> Result<Query, Misread>
-    ensures { Gives (λ q. q) result (ended query (words rest.now)) }
+    ensures read { Gives (λ q. q) result (ended query (words rest.now)) }
+    ensures memory { OnMemory result ⊥ }
 {
     match at_end(rest) {
         Some(()) => Ok(query),
@@ -58,7 +61,8 @@ fn alone(rest: &[u8], query: Query) -> Result<Query, Misread>
 
 #[tactic(auto, unfolding(tmm_model::specs::Reading::two_points_of))]
 fn two_points(alloc: Global, line: &[u8]) -> Result<(QueryPoint, QueryPoint), Misread>
-    ensures { Gives (λ p. (bare_point p.0, bare_point p.1)) result (two_points_of (words line.now)) }
+    ensures read { Gives (λ p. (bare_point p.0, bare_point p.1)) result (two_points_of (words line.now)) }
+    ensures memory { OnMemory result (IsTrue (some_derived (take 2 (words line.now)))) }
 {
     let mut rest = line;
     let from = take_query_point(alloc, &mut rest)?;
@@ -71,7 +75,8 @@ fn two_points(alloc: Global, line: &[u8]) -> Result<(QueryPoint, QueryPoint), Mi
 
 #[tactic(auto, unfolding(tmm_model::specs::Reading::ask_of))]
 fn ask(alloc: Global, line: &[u8]) -> Result<Query, Misread>
-    ensures { Gives bare_query result (ask_of (words line.now)) }
+    ensures read { Gives bare_query result (ask_of (words line.now)) }
+    ensures memory { OnMemory result (IsTrue (some_derived (take 2 (drop 1 (words line.now))))) }
 {
     let mut rest = line;
     let Some(fact) = take_name(&mut rest) else {
@@ -82,7 +87,8 @@ fn ask(alloc: Global, line: &[u8]) -> Result<Query, Misread>
 }
 
 fn why(alloc: Global, line: &[u8]) -> Result<Query, Misread>
-    ensures { Gives bare_query result (option_map Why (alone_of occ_of (words line.now))) }
+    ensures read { Gives bare_query result (option_map Why (alone_of occ_of (words line.now))) }
+    ensures memory { OnMemory result (IsTrue (some_derived (take 1 (words line.now)))) }
 {
     let mut rest = line;
     let occ = take_occ(alloc, &mut rest)?;

@@ -8,10 +8,10 @@ use Rattle.std.proofs.lemmas.List.Folds.{list_all-append}
 use Rattle.tmm_model.specs.declared.point.Occ.{Occ}
 use Rattle.tmm_model.specs.Names.{is_name}
 use Rattle.tmm_model.specs.Points.{slashed, occ_word}
-use Rattle.tmm_model.specs.Lines.{IsName, IsWellFormedOcc}
+use Rattle.tmm_model.specs.Lines.{IsName, AreNames, IsWellFormedOcc}
 use Rattle.tmm_model.specs.Reading.{parts, parts_behind}
 use Rattle.tmm_model.proofs.LinePoints.{parts-occ, parts-first, at_slash, word-parts}
-use Rattle.tmm_words.specs.Spelling.{HasRules}
+use Rattle.tmm_words.specs.Spelling.{HasRules, begins_derived}
 use Rattle.tmm_words.proofs.Places.{fails_at, prefix-passes, prefix-stops}
 
 slash_stops : (xs : List ℕ) → fails_at (λ b. not (b == 47)) xs ≡ true → at_slash xs ≡ true
@@ -65,3 +65,8 @@ some_rules w root rules rest some e a ok is none =
     let k : a.root ∷ a.rules.items ≡ root ∷ (rules ++ parts_behind rest) = sym (parts-occ a.root a.rules.items ok.0 ok.1) ∙ ap parts (sym is) ∙ e in
     let all : rules ++ parts_behind rest ≡ [] = cc (k, none) in
     some_part (drop 1 rest) (sym (behind_first rest some) ∙ none_behind rules (parts_behind rest) all)
+
+-- a word with a name behind its root and any rules begins as a derived occurrence's does
+pub begins-rules : (w root : List ℕ) (rules : List (List ℕ)) (part : List ℕ) (more : List (List ℕ)) → parts w ≡ root ∷ (rules ++ (part ∷ more)) → IsName root → AreNames rules → IsName part → begins_derived w ≡ true
+begins-rules w root [] part more e first names next = rw e (and_from _ _ first next)
+begins-rules w root (rule ∷ rules) part more e first names next = rw e (and_from _ _ first (and_parts (is_name rule) (list_all is_name rules) names).0)

@@ -1,9 +1,9 @@
 // Points and occurrences.
-ghost use Rattle.std.specs.Prelude.{◌≡◌, ◌==◌, ◌∷◌, ◌<◌, ◌≤◌, length, position, IfSome, IfOk, OnErr};
+ghost use Rattle.std.specs.Prelude.{◌≡◌, ◌==◌, ◌∷◌, ◌<◌, ◌≤◌, length, position, IfSome, IfOk, OnErr, IsTrue};
 ghost use Rattle.tmm_model.specs.Points.{point_word, occ_word};
 ghost use Rattle.tmm_model.specs.Lines.{IsWellFormedPoint, IsWellFormedOcc};
 ghost use Rattle.tmm_model.specs.Reading.{parts, parts_behind};
-ghost use Rattle.tmm_words.specs.Spelling.{IsSpelling, HasRules};
+ghost use Rattle.tmm_words.specs.Spelling.{IsSpelling, HasRules, begins_derived};
 
 use std::alloc::Global;
 use tmm_model::{Name, NoMemory, Occ, PointName, Seq};
@@ -26,6 +26,7 @@ pub fn point_name(word: &[u8]) -> Option<PointName>
 pub fn occ(alloc: Global, word: &[u8]) -> Result<Option<Occ>, NoMemory>
     ensures read { IfOk result (IsSpelling occ_word IsWellFormedOcc word.now) }
     ensures memory { OnErr result (HasRules word.now) }
+    ensures derived { OnErr result (IsTrue (begins_derived word.now)) }
 {
     let (first, mut rest) = split_part(word);
     let Some(root) = Name::of(first) else {

@@ -14,7 +14,7 @@ pub returns-in_err-query-in-None-clause-value : goal.returns-in_err-query-in-Non
 returns-in_err-query-in-None-clause-value c =
     let p = err_from_is_err_and c.from_residual.result c.from_residual.ensures.1 in
     rw (p.1, p.2)
-    (line_failed (words c.args.line.now) c.in-Some.word.now (words c.in-Some.rest.now) c.in-Some.ensures (sym c.comment.ensures ∙ c.if-comment.false) c.in_err-query-in-None.field-0.0 (sym c.in-None.ensures) c.in_err-query-in-None.ensures)
+    (line_failed (words c.args.line.now) c.in-Some.word.now (words c.in-Some.rest.now) c.in-Some.ensures (sym c.comment.ensures ∙ c.if-comment.false) c.in_err-query-in-None.field-0.0 (sym c.in-None.ensures) c.in_err-query-in-None.ensures.read)
 
 pub returns-in_err-query-in-None-clause-memory : goal.returns-in_err-query-in-None-clause-memory
 returns-in_err-query-in-None-clause-memory c = λ _. no_change (words c.args.line.now) c.in-Some.word.now (words c.in-Some.rest.now) c.in-Some.ensures (sym c.comment.ensures ∙ c.if-comment.false) (sym c.in-None.ensures)
@@ -25,4 +25,4 @@ returns-in-Some-edit-clause-value c =
 
 pub returns-in_ok-query-in-None-clause-value : goal.returns-in_ok-query-in-None-clause-value
 returns-in_ok-query-in-None-clause-value c =
-    line_question (words c.args.line.now) c.in-Some.word.now (words c.in-Some.rest.now) c.in-Some.ensures (sym c.comment.ensures ∙ c.if-comment.false) c.in_ok-query-in-None.field-0 (sym c.in-None.ensures) c.in_ok-query-in-None.ensures
+    line_question (words c.args.line.now) c.in-Some.word.now (words c.in-Some.rest.now) c.in-Some.ensures (sym c.comment.ensures ∙ c.if-comment.false) c.in_ok-query-in-None.field-0 (sym c.in-None.ensures) c.in_ok-query-in-None.ensures.read
