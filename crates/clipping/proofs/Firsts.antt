@@ -1,7 +1,7 @@
 -- One more element at a search for the first.
 use Rattle.std.proofs.Common.{◌≡◌, ℕ, ◌+◌, ◌<◌, Bool, true, false, List, length, IsTrue, refl, sym, ◌∙◌, subst, ap, below_more, arith}
-use Rattle.std.proofs.lemmas.List.{get_or_default, get_or_read}
-use Rattle.std.specs.Prelude.{Option, Some, None, slice_index_or, if◌then◌else◌}
+use Rattle.std.proofs.lemmas.List.{get_or_read}
+use Rattle.std.specs.Prelude.{Option, Some, None, slice_index_or}
 use Rattle.std.specs.List.{All}
 use Rattle.std.specs.declared.cmp.Ordering.{Ordering}
 use Rattle.std.specs.declared.cmp.Ordering.TheVariants.{Less, Equal, Greater}
@@ -9,7 +9,7 @@ use Rattle.std.specs.Ordering.{is_gt, ordering_reverse, on}
 use Rattle.tmm_model.specs.declared.token.TokenRow.{TokenRow}
 use Rattle.tmm_model.specs.Tokens.{IsOrderOn, IsFirstAmong, IsFirstPlaceAmong}
 use Rattle.clipping.specs.Live.{IsLive}
-use Rattle.clipping.specs.Earlier.{IsEarlierPlace}
+use Rattle.clipping.specs.Ahead.{IsAhead}
 
 module _ {P : Type 0} {live : P → Type 0} {order : P → P → Ordering} (law : IsOrderOn live order) where
   -- not after, one after the other
@@ -62,47 +62,29 @@ module _ {P : Type 0} {live : P → Type 0} {order : P → P → Ordering} (law 
           least = λ j d. below_more (λ k. IsTrue (test (slice_index_or xs k d)) → is_gt (cmp (slice_index_or xs i d) (slice_index_or xs k d)) ≡ false) i (λ k. least k d) (λ t. itself (slice_index_or xs i d).spot (all i d lt).begin) j;
         }
 
-    pub first_taken : (x : TokenRow P) (i : ℕ) (best : Option ℕ) (r : ℕ) → i < length xs → IsFirstPlaceAmong cmp test xs i best → ((d : TokenRow P) → IsTrue (test (slice_index_or xs i d))) → IsEarlierPlace cmp xs best i r → IsFirstPlaceAmong cmp test xs (i + 1) (Some r)
-    first_taken x i None r lt h sure e =
-        subst (λ r. IsFirstAmong cmp test xs (i + 1) r) (sym e)
-        (now_first i lt sure (λ k d below t. let o : test (slice_index_or xs k d) ≡ false = h k d below in cc))
-    first_taken x i (Some b) r lt h sure e = by (is_gt (cmp (slice_index_or xs b x) (slice_index_or xs i x))) refl (e x)
-      where
-        before : b < length xs
-        before = let below : b < i = h.within in omega arith
+    -- one that passes and is before the best place takes it
+    first_taken : (i : ℕ) (best : Option ℕ) → i < length xs → IsFirstPlaceAmong cmp test xs i best → ((d : TokenRow P) → IsTrue (test (slice_index_or xs i d))) → IsAhead cmp xs best i true → IsFirstAmong cmp test xs (i + 1) i
+    first_taken i None lt h sure e =
+        now_first i lt sure (λ k d below t. let o : test (slice_index_or xs k d) ≡ false = h k d below in cc)
+    first_taken i (Some b) lt h sure e =
+        let below : b < i = h.within in
+        let before : b < length xs = omega arith in
+        now_first i lt sure (λ k d lower t. upto (slice_index_or xs i d).spot (slice_index_or xs b d).spot (slice_index_or xs k d).spot (all i d lt).begin (all b d before).begin (all k d (omega arith)).begin (turned (slice_index_or xs b d).spot (slice_index_or xs i d).spot (all b d before).begin (all i d lt).begin (sym (e d))) (h.least k d lower t))
 
-        moved : (d : TokenRow P) → is_gt (cmp (slice_index_or xs b d) (slice_index_or xs i d)) ≡ is_gt (cmp (slice_index_or xs b x) (slice_index_or xs i x))
-        moved d = λ t. is_gt (cmp (get_or_default xs b d x before t) (get_or_default xs i d x lt t))
-
-        by : (g : Bool) → is_gt (cmp (slice_index_or xs b x) (slice_index_or xs i x)) ≡ g → r ≡ (if g then i else b) → IsFirstAmong cmp test xs (i + 1) r
-        by true f q =
-            subst (λ r. IsFirstAmong cmp test xs (i + 1) r) (sym q)
-            (now_first i lt sure (λ k d below t. upto (slice_index_or xs i d).spot (slice_index_or xs b d).spot (slice_index_or xs k d).spot (all i d lt).begin (all b d before).begin (all k d (omega arith)).begin (turned (slice_index_or xs b d).spot (slice_index_or xs i d).spot (all b d before).begin (all i d lt).begin (moved d ∙ f)) (h.least k d below t)))
-        by false f q =
-            subst (λ r. IsFirstAmong cmp test xs (i + 1) r) (sym q)
-            (record {
-              within = let below : b < i = h.within in omega arith;
-              passes = h.passes;
-              least = λ j d. below_more (λ k. IsTrue (test (slice_index_or xs k d)) → is_gt (cmp (slice_index_or xs b d) (slice_index_or xs k d)) ≡ false) i (λ k. h.least k d) (λ t. moved d ∙ f) j;
-            })
-
-    -- the same for the element x that the loop reads at i
+    -- the same for the element x that is read at i
     pub first_skip : (x : TokenRow P) (i : ℕ) (best : Option ℕ) → i < length xs → x ≡ slice_index_or xs i x → IsFirstPlaceAmong cmp test xs i best → test x ≡ false → IsFirstPlaceAmong cmp test xs (i + 1) best
     first_skip x i best lt is h out = first_skipped i best h (λ d. subst (λ y. test y ≡ false) (get_or_read xs i x lt is d) out)
 
-    pub first_take : (x : TokenRow P) (i : ℕ) (best : Option ℕ) (r : ℕ) → i < length xs → x ≡ slice_index_or xs i x → IsFirstPlaceAmong cmp test xs i best → test x ≡ true → IsEarlierPlace cmp xs best i r → IsFirstPlaceAmong cmp test xs (i + 1) (Some r)
-    first_take x i best r lt is h sure e = first_taken x i best r lt h (λ d. subst (λ y. IsTrue (test y)) (get_or_read xs i x lt is d) sure) e
+    pub first_take : (x : TokenRow P) (i : ℕ) (best : Option ℕ) → i < length xs → x ≡ slice_index_or xs i x → IsFirstPlaceAmong cmp test xs i best → test x ≡ true → IsAhead cmp xs best i true → IsFirstPlaceAmong cmp test xs (i + 1) (Some i)
+    first_take x i best lt is h sure e = first_taken i best lt h (λ d. subst (λ y. IsTrue (test y)) (get_or_read xs i x lt is d) sure) e
 
     -- what is not before the best place leaves it as it is, whether it passes or not
-    pub first_kept : (x : TokenRow P) (i : ℕ) (best : Option ℕ) (r : ℕ) → i < length xs → IsFirstPlaceAmong cmp test xs i best → IsEarlierPlace cmp xs best i r → (r ≡ i → ⊥) → IsFirstPlaceAmong cmp test xs (i + 1) best
-    first_kept x i None r lt h e other = absurd (other e)
-    first_kept x i (Some b) r lt h e other = by (test (slice_index_or xs i x)) refl (is_gt (cmp (slice_index_or xs b x) (slice_index_or xs i x))) refl (e x)
-      where
-        read : (d : TokenRow P) → slice_index_or xs i x ≡ slice_index_or xs i d
-        read d = get_or_default xs i x d lt
-
-        by : (t : Bool) → test (slice_index_or xs i x) ≡ t → (g : Bool) → is_gt (cmp (slice_index_or xs b x) (slice_index_or xs i x)) ≡ g → r ≡ (if g then i else b) → IsFirstAmong cmp test xs (i + 1) b
-        by t f true k q = absurd (other q)
-        by false f false k q = first_skipped i (Some b) h (λ d. subst (λ y. test y ≡ false) (read d) f)
-        by true f false k q =
-            subst (λ z. IsFirstAmong cmp test xs (i + 1) z) q (first_taken x i (Some b) r lt h (λ d. subst (λ y. IsTrue (test y)) (read d) f) e)
+    pub first_kept : (i : ℕ) (best : Option ℕ) → IsFirstPlaceAmong cmp test xs i best → IsAhead cmp xs best i false → IsFirstPlaceAmong cmp test xs (i + 1) best
+    first_kept i None h e = cc
+    first_kept i (Some b) h e =
+        let lt : b < i = h.within in
+        record {
+          within = omega arith;
+          passes = h.passes;
+          least = λ j d. below_more (λ k. IsTrue (test (slice_index_or xs k d)) → is_gt (cmp (slice_index_or xs b d) (slice_index_or xs k d)) ≡ false) i (λ k. h.least k d) (λ t. sym (e d)) j;
+        }

@@ -12,10 +12,9 @@ ghost use Rattle.std.specs.Ordering.{on};
 ghost use Rattle.tmm_model.specs.Tokens.{of_one_class, supports, cuts, clips, lasts_to, IsFirstPlace, IsFirstPlaceAmong};
 ghost use Rattle.std.specs.Option.{ForSome};
 ghost use Rattle.clipping.specs.Live.{IsLive};
-ghost use Rattle.clipping.specs.Earlier.{IsEarlierPlace};
+ghost use Rattle.clipping.specs.Ahead.{IsAhead};
 ghost use Rattle.clipping.specs.Faults.{IsClipPlace, IsFault};
 
-use std::cmp::Ordering;
 use tmm_model::{Name, Sure, TokenRow};
 
 // Whether `c` contradicts `k`, and surely begins after it and at or before `q`.
@@ -25,7 +24,11 @@ fn cuts_before<S: Sure>(order: &S, k: &TokenRow<S::Spot>, c: &TokenRow<S::Spot>,
     requires q_live { S.live order.now q }
     ensures { result ≡ cuts of_one_class (S.distance order.now) k.now q c.now }
 {
-    clips_after(order, k, c) && order.at_most(q, c.spot, 0)
+    // most tokens at the back begin after `q`, and the class refuses least
+    k.fact != c.fact
+        && order.at_most(q, c.spot, 0)
+        && order.at_most(c.spot, k.spot, -1)
+        && k.class == c.class
 }
 
 // Whether `c` contradicts `k`, and surely begins after it.
@@ -34,7 +37,8 @@ fn clips_after<S: Sure>(order: &S, k: &TokenRow<S::Spot>, c: &TokenRow<S::Spot>)
     requires c_live { S.live order.now c.now.spot }
     ensures { result ≡ clips of_one_class (S.distance order.now) k.now c.now }
 {
-    k.fact != c.fact && k.class == c.class && order.at_most(c.spot, k.spot, -1)
+    // the class refuses least: callers mostly hand tokens of one
+    k.fact != c.fact && order.at_most(c.spot, k.spot, -1) && k.class == c.class
 }
 
 // Whether `k` lasts up to `q` among the tokens.
@@ -43,6 +47,7 @@ fn lasts<S: Sure>(
     tokens: &[TokenRow<S::Spot>],
     k: &TokenRow<S::Spot>,
     q: S::Spot,
+    last_cut: &mut usize,
 ) -> bool
     requires all_live { All (IsLive (S.live order.now)) tokens.now }
     requires k_live { IsLive (S.live order.now) k.now }
@@ -51,25 +56,50 @@ fn lasts<S: Sure>(
 {
     match k.end {
         Some(end) => order.at_most(end, q, -1),
-        None => !is_cut(order, tokens, k, q),
+        None => !is_cut(order, tokens, k, q, last_cut),
     }
 }
 
-// Whether a token cuts `k` before `q`.
+// Whether the token at this place cuts `k` before `q`.
+fn is_cut_at<S: Sure>(
+    order: &S,
+    tokens: &[TokenRow<S::Spot>],
+    k: &TokenRow<S::Spot>,
+    q: S::Spot,
+    place: usize,
+) -> bool
+    requires all_live { All (IsLive (S.live order.now)) tokens.now }
+    requires k_live { S.live order.now k.now.spot }
+    requires q_live { S.live order.now q }
+    ensures { IsTrue result → list_any (cuts of_one_class (S.distance order.now) k.now q) tokens.now ≡ true }
+{
+    match tokens.get(place) {
+        Some(c) => cuts_before(order, k, c, q),
+        None => false,
+    }
+}
+
+// Whether a token cuts `k` before `q`. The place of one that cuts is kept, which is looked at first:
+// what cuts one token mostly cuts the next as well.
 fn is_cut<S: Sure>(
     order: &S,
     tokens: &[TokenRow<S::Spot>],
     k: &TokenRow<S::Spot>,
     q: S::Spot,
+    last_cut: &mut usize,
 ) -> bool
     requires all_live { All (IsLive (S.live order.now)) tokens.now }
     requires k_live { S.live order.now k.now.spot }
     requires q_live { S.live order.now q }
     ensures { result ≡ list_any (cuts of_one_class (S.distance order.now) k.now q) tokens.now }
 {
+    if is_cut_at(order, tokens, k, q, *last_cut) {
+        return true;
+    }
     // tokens mostly enter in the order of their dates, and what cuts is found among the last
     for i in (0..tokens.len()).rev() {
         if cuts_before(order, k, &tokens[i], q) {
+            *last_cut = i;
             return true;
         }
     }
@@ -81,32 +111,30 @@ fn is_supporter<S: Sure>(
     order: &S,
     tokens: &[TokenRow<S::Spot>],
     k: &TokenRow<S::Spot>,
-    fact: Name,
+    fact: &Name,
     p: S::Spot,
     q: S::Spot,
+    last_cut: &mut usize,
 ) -> bool
     requires all_live { All (IsLive (S.live order.now)) tokens.now }
     requires k_live { IsLive (S.live order.now) k.now }
     requires p_live { S.live order.now p }
     requires q_live { S.live order.now q }
-    ensures { result ≡ supports of_one_class (S.distance order.now) tokens.now fact p q k.now }
+    ensures { result ≡ supports of_one_class (S.distance order.now) tokens.now fact.now p q k.now }
 {
-    k.fact == fact && order.at_most(p, k.spot, 0) && lasts(order, tokens, k, q)
+    k.fact == *fact && order.at_most(p, k.spot, 0) && lasts(order, tokens, k, q, last_cut)
 }
 
-// The earlier of the best place so far and of `i`.
-fn earlier<S: Sure>(order: &S, tokens: &[TokenRow<S::Spot>], best: Option<usize>, i: usize) -> usize
+// Whether the token at `i` is before the best so far, as it is where there is none.
+fn is_ahead<S: Sure>(order: &S, tokens: &[TokenRow<S::Spot>], best: Option<usize>, i: usize) -> bool
     requires all_live { All (IsLive (S.live order.now)) tokens.now }
     requires best_within { ForSome best (λ b. b < length tokens.now) }
     requires within { i < length tokens.now }
-    ensures { IsEarlierPlace (on (λ k. k.spot) (S.order order.now)) tokens.now best i result }
+    ensures { IsAhead (on (λ k. k.spot) (S.order order.now)) tokens.now best i result }
 {
     match best {
-        None => i,
-        Some(b) => match order.rank(tokens[b].spot, tokens[i].spot) {
-            Ordering::Greater => i,
-            _ => b,
-        },
+        None => true,
+        Some(b) => order.rank(tokens[b].spot, tokens[i].spot).is_gt(),
     }
 }
 
@@ -117,25 +145,26 @@ fn better<S: Sure>(
     tokens: &[TokenRow<S::Spot>],
     best: Option<usize>,
     i: usize,
-    fact: Name,
+    fact: &Name,
     p: S::Spot,
     q: S::Spot,
+    last_cut: &mut usize,
 ) -> Option<usize>
     requires all_live { All (IsLive (S.live order.now)) tokens.now }
     requires p_live { S.live order.now p }
     requires q_live { S.live order.now q }
     requires within { i < length tokens.now }
-    requires best { IsFirstPlaceAmong (on (λ k. k.spot) (S.order order.now)) (supports of_one_class (S.distance order.now) tokens.now fact p q) tokens.now i best }
-    ensures { IsFirstPlaceAmong (on (λ k. k.spot) (S.order order.now)) (supports of_one_class (S.distance order.now) tokens.now fact p q) tokens.now (i + 1) result }
+    requires best { IsFirstPlaceAmong (on (λ k. k.spot) (S.order order.now)) (supports of_one_class (S.distance order.now) tokens.now fact.now p q) tokens.now i best }
+    ensures { IsFirstPlaceAmong (on (λ k. k.spot) (S.order order.now)) (supports of_one_class (S.distance order.now) tokens.now fact.now p q) tokens.now (i + 1) result }
 {
     let k = &tokens[i];
-    if k.fact != fact {
+    if k.fact != *fact {
         return best;
     }
-    if earlier(order, tokens, best, i) != i {
+    if !is_ahead(order, tokens, best, i) {
         return best;
     }
-    if is_supporter(order, tokens, k, fact, p, q) {
+    if is_supporter(order, tokens, k, fact, p, q, last_cut) {
         Some(i)
     } else {
         best
@@ -157,10 +186,40 @@ pub fn holder<S: Sure>(
     ensures { IsFirstPlace (on (λ k. k.spot) (S.order order.now)) (supports of_one_class (S.distance order.now) tokens.now fact p q) tokens.now result }
 {
     let mut best = None;
+    let mut last_cut = 0;
     for i in 0..tokens.len() {
-        best = better(order, tokens, best, i, fact, p, q);
+        best = better(order, tokens, best, i, &fact, p, q, &mut last_cut);
     }
     best
+}
+
+// The first place that clips `k` so far, one more token being looked at: the one at `i`. One of the
+// same fact, or behind the best so far, is not tested whether it clips.
+fn better_clip<S: Sure>(
+    order: &S,
+    tokens: &[TokenRow<S::Spot>],
+    best: Option<usize>,
+    i: usize,
+    k: &TokenRow<S::Spot>,
+) -> Option<usize>
+    requires all_live { All (IsLive (S.live order.now)) tokens.now }
+    requires k_live { S.live order.now k.now.spot }
+    requires within { i < length tokens.now }
+    requires best { IsFirstPlaceAmong (on (λ k. k.spot) (S.order order.now)) (clips of_one_class (S.distance order.now) k.now) tokens.now i best }
+    ensures { IsFirstPlaceAmong (on (λ k. k.spot) (S.order order.now)) (clips of_one_class (S.distance order.now) k.now) tokens.now (i + 1) result }
+{
+    let c = &tokens[i];
+    if k.fact == c.fact {
+        return best;
+    }
+    if !is_ahead(order, tokens, best, i) {
+        return best;
+    }
+    if clips_after(order, k, c) {
+        Some(i)
+    } else {
+        best
+    }
 }
 
 // The place of the first token that clips `k`.
@@ -174,12 +233,41 @@ fn first_clip<S: Sure>(
     ensures { IsFirstPlace (on (λ k. k.spot) (S.order order.now)) (clips of_one_class (S.distance order.now) k.now) tokens.now result }
 {
     let mut clip = None;
-    for (i, c) in tokens.iter().enumerate() {
-        if clips_after(order, k, c) {
-            clip = Some(earlier(order, tokens, clip, i));
-        }
+    for i in 0..tokens.len() {
+        clip = better_clip(order, tokens, clip, i, k);
     }
     clip
+}
+
+// The first place that clips `k` at or before `q` so far, one more token being looked at: the one at
+// `i`. One of the same fact, or behind the best so far, is not tested whether it clips.
+fn better_cut<S: Sure>(
+    order: &S,
+    tokens: &[TokenRow<S::Spot>],
+    best: Option<usize>,
+    i: usize,
+    k: &TokenRow<S::Spot>,
+    q: S::Spot,
+) -> Option<usize>
+    requires all_live { All (IsLive (S.live order.now)) tokens.now }
+    requires k_live { S.live order.now k.now.spot }
+    requires q_live { S.live order.now q }
+    requires within { i < length tokens.now }
+    requires best { IsFirstPlaceAmong (on (λ k. k.spot) (S.order order.now)) (cuts of_one_class (S.distance order.now) k.now q) tokens.now i best }
+    ensures { IsFirstPlaceAmong (on (λ k. k.spot) (S.order order.now)) (cuts of_one_class (S.distance order.now) k.now q) tokens.now (i + 1) result }
+{
+    let c = &tokens[i];
+    if k.fact == c.fact {
+        return best;
+    }
+    if !is_ahead(order, tokens, best, i) {
+        return best;
+    }
+    if cuts_before(order, k, c, q) {
+        Some(i)
+    } else {
+        best
+    }
 }
 
 // The place of the first token that clips `k` at or before `q`.
@@ -195,10 +283,8 @@ fn first_cut<S: Sure>(
     ensures { IsFirstPlace (on (λ k. k.spot) (S.order order.now)) (cuts of_one_class (S.distance order.now) k.now q) tokens.now result }
 {
     let mut cut = None;
-    for (i, c) in tokens.iter().enumerate() {
-        if cuts_before(order, k, c, q) {
-            cut = Some(earlier(order, tokens, cut, i));
-        }
+    for i in 0..tokens.len() {
+        cut = better_cut(order, tokens, cut, i, k, q);
     }
     cut
 }

@@ -2,6 +2,7 @@
 ghost use Rattle.clipping.specs.Dates.{date_far, date_cmp, itself, triangle, ordered};
 
 use super::*;
+use std::cmp::Ordering;
 use std::test::Fail;
 
 // Lines of time that nothing relates. A spot is its line, its date and its place.
@@ -59,7 +60,7 @@ fn clipper_of(tokens: &[TokenRow<(u8, i32, usize)>], k: usize) -> Option<usize> 
 fn fault_of(tokens: &[TokenRow<(u8, i32, usize)>], k: usize, p: i32, q: i32) -> Option<Fault> {
     let token = tokens.get(k)?;
     let (p, q) = ((0, p, 8), (0, q, 8));
-    if is_supporter(&Dates, tokens, token, token.fact, p, q) {
+    if is_supporter(&Dates, tokens, token, &token.fact, p, q, &mut 0) {
         None
     } else {
         Some(blame(&Dates, tokens, k, p, q))
