@@ -15,7 +15,8 @@ use Rattle.occ_tree.specs.declared.node.Node.{Node}
 use Rattle.occ_tree.specs.Nodes.{Slots, node_at, member_of, forest_in, AreOnce, IsNode, IsBetween}
 use Rattle.occ_tree.specs.Leaving.{ListsBelow}
 use Rattle.occ_tree.proofs.NodeLists.{seen, unseen}
-use Rattle.occ_tree.proofs.Lookups.{rules-push, same_moment, parent_of}
+use Rattle.occ_tree.proofs.Lookups.{rules-push, same_moment}
+use Rattle.occ_tree.proofs.Ways.{empty_or, empty_from_length, parent_of}
 use Rattle.occ_tree.proofs.Without.{AreOnce-append}
 
 -- k is n, or below it
@@ -30,14 +31,6 @@ last_of (x ∷ xs) = by (last_of xs)
     by : (xs ≡ []) ⊎ ((front : List (List ℕ)) × (last : List ℕ) × (xs ≡ front ++ last ∷ [])) → (x ∷ xs ≡ []) ⊎ ((front : List (List ℕ)) × (last : List ℕ) × (x ∷ xs ≡ front ++ last ∷ []))
     by (inl e) = inr ([], x, ap (λ (l : List (List ℕ)). x ∷ l) e)
     by (inr (front, last, e)) = inr (x ∷ front, last, ap (λ (l : List (List ℕ)). x ∷ l) e)
-
-empty_or : (ls : List Link) → (ls ≡ []) ⊎ (ls ≡ [] → ⊥)
-empty_or [] = inl refl
-empty_or (l ∷ ls) = inr (λ e. cc)
-
-empty_from_length : (ls : List Link) → length ls ≤ 0 → ls ≡ []
-empty_from_length [] short = refl
-empty_from_length (l ∷ ls) short = absurd (omega (arith, short))
 
 none_of_append : (xs ys : List (List ℕ)) → xs ++ ys ≡ [] → xs ≡ []
 none_of_append [] ys e = refl

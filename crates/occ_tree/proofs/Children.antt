@@ -40,9 +40,10 @@ module _ (old new : Slab Node) (x : ℕ) (more : List ℕ) (r : Rewrites old new
       subst (IsSame r.was) (sym r.is)
       (record {
         member = refl;
-        own = λ h. record { light = h.light; low = h.low; high = h.high; word = h.word; class = h.class };
+        own = λ h. record { light = h.light; sums = h.sums; word = h.word; class = h.class };
         root_node = refl;
         parent = refl;
+        way = refl;
         kept = λ z h. subst (λ (l : List ℕ). Contains l z) (sym listed) (Contains-from_In _ z (In-left r.was.children.items more z (In-from_Contains _ z h)));
       })
 
@@ -113,7 +114,7 @@ AreOnce-push (y ∷ ys) x (apart, once) new = (
 pub apart_from : (first room : Slab Node) (parent x : ℕ) → Rewrites first room parent [] → node_at room.slots x ≡ None → parent ≢ x
 apart_from first room parent x made free e = let no : None ≡ Some made.now = sym (ap (node_at room.slots) e ∙ free) ∙ written first room parent [] made in cc
 
-module _ (first room entered last : Slab Node) (parent x : ℕ) (m n : Node) (link : Link) (what : List ℕ) (class : Option (List ℕ)) (shape : Shape) (at : node_at first.slots parent ≡ Some m) (node : IsNode first.slots parent m) (effect : IsEffect m parent link what class shape n)
+module _ (first room entered last : Slab Node) (parent x : ℕ) (m n : Node) (link : Link) (what : List ℕ) (class : Option (List ℕ)) (shape : Shape) (at : node_at first.slots parent ≡ Some m) (node : IsNode first.slots parent m) (effect : IsEffect x m parent link what class shape n)
     (made : Rewrites first room parent []) (free : node_at room.slots x ≡ None) (updates : Updates room entered x (Some n)) (told : Rewrites entered last parent (x ∷ [])) where
   apart : parent ≢ x
   apart = apart_from first room parent x made free
@@ -181,6 +182,13 @@ module _ (first room entered last : Slab Node) (parent x : ℕ) (m n : Node) (li
   effect_root : n.root ≡ m.root
   effect_root = ap (λ (a : Member). a.root) effect.is
 
+  event_way : told.now.way.items ≡ m.way.items
+  event_way =
+      (IsSame-written entered last parent (x ∷ []) told).way ∙ ap (λ (a : Node). a.way.items) was_made ∙ (IsSame-written first room parent [] made).way ∙ ap (λ (a : Node). a.way.items) made_is
+
+  has_links : n.links.items ≡ [] → ⊥
+  has_links e = let n : length n.links.items ≡ length m.links.items + 1 = ap length effect.links ∙ length_push m.links.items link in let z = ap length e in omega arith
+
   node_child : ((y : ℕ) (k : Node) → node_at first.slots y ≡ Some k → (q : Node) × (node_at last.slots y ≡ Some q) × (member_of q ≡ member_of k)) → IsNode last.slots x n
   node_child goes =
       let (r, r_at, r_root, r_links) = node.root in
@@ -195,9 +203,11 @@ module _ (first room entered last : Slab Node) (parent x : ℕ) (m n : Node) (li
             root = ap (λ (a : Member). a.root) event_same ∙ sym effect_root;
             link = link;
             links = effect.links ∙ sym (ap (λ (a : Member). a.links ++ link ∷ []) event_same);
+            way = effect.way ∙ ap (λ (w : List ℕ). w ++ x ∷ []) (sym event_way);
             listed = subst (λ (l : List ℕ). Contains l x) (sym told.children) (Contains-from_In _ x (In-right told.was.children.items (x ∷ []) x (inl refl)));
           },
         );
+        start = λ none. absurd (has_links none);
         children = λ y h. absurd (subst (λ (l : List ℕ). Contains l y → ⊥) (sym effect.children) (λ h. omega (arith, h.1)) h);
         once = subst AreOnce (sym effect.children) tt;
       }
@@ -215,9 +225,6 @@ module _ (first room entered last : Slab Node) (parent x : ℕ) (m n : Node) (li
   unlike : IsTrigger (forest_in first.slots) (member_of m) link.rule → (y : ℕ) (k : Member) → member (forest_in room.slots) y ≡ Some k → moment k ≢ moment (member_of n)
   unlike trigger y k here same =
       trigger.new y k (sym (ap (λ (f : Forest). member f y) (forest_written first room parent [] made)) ∙ here) (same_root k (member_of n) same ∙ effect_root) (same_rules k (member_of n) same ∙ effect_rules)
-
-  has_links : n.links.items ≡ [] → ⊥
-  has_links e = let n : length n.links.items ≡ length m.links.items + 1 = ap length effect.links ∙ length_push m.links.items link in let z = ap length e in omega arith
 
   -- the event of a trigger is the node
   trigger_of : (f : Forest) → forest_in first.slots ≡ f → (k : Member) × (member f parent ≡ Some k) × IsTrigger f k link.rule → IsTrigger (forest_in first.slots) (member_of m) link.rule

@@ -25,6 +25,7 @@ pub record IsSame (m k : Node) : Type 0 where
   pub own : IsSummed m → IsSummed k
   pub root_node : k.root_node ≡ m.root_node
   pub parent : k.parent ≡ m.parent
+  pub way : k.way.items ≡ m.way.items
   pub kept : (z : ℕ) → Contains m.children.items z → Contains k.children.items z
 
 -- the children of k are those of m, and new ones
@@ -103,6 +104,7 @@ module _ (old new : Slots) (IsNew : ℕ → Node → Type 0) (moves : Moves old 
         own = same.own is.own;
         root = (q, ap (node_at new) same.root_node ∙ q_at, ap (λ (a : Member). a.root) q_same.member ∙ r_root ∙ sym (ap (λ (a : Member). a.root) same.member), ap (λ (a : Member). a.links) q_same.member ∙ r_links);
         parent = subst (λ (o : Option ℕ). Parented o) (sym same.parent) (parented m.parent is.parent);
+        start = λ none. same.way ∙ is.start (sym (ap (λ (a : Member). a.links) same.member) ∙ none);
         children = λ z h. elim (back.each z h) [
           | inl was ↦
               let (d, d_at, d_parent) = is.children z was in
@@ -126,6 +128,7 @@ module _ (old new : Slots) (IsNew : ℕ → Node → Type 0) (moves : Moves old 
               root = ap (λ (a : Member). a.root) q_same.member ∙ between.root ∙ sym (ap (λ (a : Member). a.root) same.member);
               link = between.link;
               links = ap (λ (a : Member). a.links) same.member ∙ between.links ∙ sym (ap (λ (a : Member). a.links ++ between.link ∷ []) q_same.member);
+              way = same.way ∙ between.way ∙ ap (λ (w : List ℕ). w ++ y ∷ []) (sym q_same.way);
               listed = q_same.kept y between.listed;
             },
           )

@@ -8,7 +8,9 @@ pub mod Roots
 pub mod Once
 pub mod Words
 pub mod Children
+pub mod Ways
 pub mod Lookups
+pub mod Parting
 pub mod Without
 pub mod Below
 pub mod Unlisted

@@ -12,6 +12,7 @@ use Rattle.spots.specs.Forest.{Forest, Member, member, moment, moment_at, rules_
 use Rattle.occ_tree.specs.declared.node.Node.{Node}
 use Rattle.occ_tree.specs.Nodes.{Slots, node_at, member_of, forest_in, IsNode, IsBetween, IsChild, AreChildren, IsKept}
 use Rattle.occ_tree.proofs.NodeLists.{seen, unseen}
+use Rattle.occ_tree.proofs.Ways.{parent_of, IsWay-listed}
 use Rattle.tmm_model.proofs.Moments.{base-along, rules-along}
 use Rattle.occ_tree.proofs.Words.{along-push, along-append, way_on, way_whole}
 
@@ -37,21 +38,13 @@ pub same_moment : (m n : Member) → m.root ≡ n.root → rules_of m ≡ rules_
 same_moment m n root rules = λ i. along (At (Begin (root i))) (rules i)
 
 module _ (slots : Slots) (nodes : (x : ℕ) (n : Node) → node_at slots x ≡ Some n → IsNode slots x n) where
-  -- the event of an effect
-  pub parent_of : (x : ℕ) (n : Node) → node_at slots x ≡ Some n → (n.links.items ≡ [] → ⊥) → (y : ℕ) × (m : Node) × (n.parent ≡ Some y) × (node_at slots y ≡ Some m) × IsBetween m n x
-  parent_of x n at derived = by n.parent refl (nodes x n at).parent
-    where
-      by : (o : Option ℕ) → n.parent ≡ o → MatchOption o (n.links.items ≡ []) (λ y. (m : Node) × (node_at slots y ≡ Some m) × IsBetween m n x) → (y : ℕ) × (m : Node) × (n.parent ≡ Some y) × (node_at slots y ≡ Some m) × IsBetween m n x
-      by None e none = absurd (derived none)
-      by (Some y) e (m, m_at, between) = (y, m, e, m_at, between)
-
   -- each front of the rules leads to a node
   pub ancestor : (d k x : ℕ) (n : Node) → node_at slots x ≡ Some n → length (rules_of (member_of n)) ≡ k + d → (y : ℕ) × (q : Node) × (node_at slots y ≡ Some q) × (q.root ≡ n.root) × (rules_of (member_of q) ≡ take k (rules_of (member_of n)))
   ancestor zero k x n at count = (x, n, at, refl, sym (take_all k (rules_of (member_of n)) (omega arith)))
   ancestor (suc d) k x n at count =
       let count_links = length-map n.links.items (λ (l : Link). l.rule) in
       let derived : n.links.items ≡ [] → ⊥ = λ e. let none = ap length e in omega (arith, none, count_links, count) in
-      let (y, m, parent, m_at, between) = parent_of x n at derived in
+      let (y, m, parent, m_at, between) = parent_of slots nodes x n at derived in
       let more = rules-push (member_of m) (member_of n) between.link between.links in
       let longer : length (rules_of (member_of n)) ≡ length (rules_of (member_of m)) + 1 = ap length more ∙ length_push (rules_of (member_of m)) between.link.rule in
       let (z, q, q_at, root, front) = ancestor d k y m m_at (omega (arith, longer, count)) in
@@ -106,7 +99,7 @@ module _ (slots : Slots) (nodes : (x : ℕ) (n : Node) → node_at slots x ≡ S
           let event_is : member_of n ≡ is.event = cc in
           let links : m.links.items ≡ is.event.links ++ is.rule ∷ [] = ap (λ (a : Member). a.links) m_is ∙ is.links in
           let derived : m.links.items ≡ [] → ⊥ = λ e. let c : length (is.event.links ++ is.rule ∷ []) ≡ 0 = ap length (sym links ∙ e) in let d = length_push is.event.links is.rule in omega (arith, c, d) in
-          let (z, p, parent, p_at, between) = parent_of y m m_at derived in
+          let (z, p, parent, p_at, between) = parent_of slots nodes y m m_at derived in
           let (fronts, _) = same_from_push p.links.items is.event.links between.link is.rule (sym between.links ∙ links) in
           let same : moment (member_of p) ≡ moment (member_of n) = same_moment (member_of p) (member_of n) (between.root ∙ ap (λ (a : Member). a.root) m_is ∙ is.root ∙ sym (ap (λ (a : Member). a.root) event_is)) (ap (map (λ (l : Link). l.rule)) (fronts ∙ sym (ap (λ (a : Member). a.links) event_is))) in
           let z_is : z ≡ x = once z x (member_of p) (member_of n) (seen slots z p p_at) (seen slots x n at) same in
@@ -124,6 +117,7 @@ module _ (slots : Slots) (nodes : (x : ℕ) (n : Node) → node_at slots x ≡ S
         own = is.own;
         root = (member_of r, seen slots n.root_node r r_at, r_root, r_links);
         parent = by n.parent is.parent;
+        way = IsWay-listed slots nodes x n at;
         children = AreChildren-listed x n at once;
       }
     where
@@ -160,7 +154,7 @@ module _ (slots : Slots) (nodes : (x : ℕ) (n : Node) → node_at slots x ≡ S
       let c : length (rules_of (member_of n) ++ rule ∷ []) ≡ 0 = ap length (sym path ∙ sym (ap rules_of is) ∙ ap (map (λ (l : Link). l.rule)) e) in
       let d = length_push (rules_of (member_of n)) rule in
       omega (arith, c, d) in
-      let (z, p, parent, p_at, between) = parent_of y k k_at derived in
+      let (z, p, parent, p_at, between) = parent_of slots nodes y k k_at derived in
       let (fronts, last) = same_from_push (rules_of (member_of p)) (rules_of (member_of n)) between.link.rule rule (sym (rules-push (member_of p) (member_of k) between.link between.links) ∙ ap rules_of is ∙ path) in
       let same_event : moment (member_of p) ≡ moment (member_of n) = same_moment (member_of p) (member_of n) (between.root ∙ ap (λ (a : Member). a.root) is ∙ root) fronts in
       let z_is : z ≡ x = once z x (member_of p) (member_of n) (seen slots z p p_at) (seen slots x n at) same_event in

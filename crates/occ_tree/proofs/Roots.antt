@@ -1,21 +1,21 @@
 -- A tree after a root has entered.
-use Rattle.std.proofs.Common.{◌≡◌, ℕ, ◌<◌, ◌≤◌, pos, List, [], ◌∷◌, ◌++◌, map, refl, sym, ap, ◌∙◌, subst, inl, inr, arith}
+use Rattle.std.proofs.Common.{◌≡◌, ℕ, ◌<◌, ◌≤◌, List, [], ◌∷◌, ◌++◌, map, refl, sym, ap, ◌∙◌, subst, inl, inr, arith}
 use Rattle.std.specs.Prelude.{Option, Some, None, MatchOption}
 use Rattle.std.specs.List.{Contains}
 use Rattle.std.proofs.lemmas.List.Elements.{All-nil}
 use Rattle.slab.specs.Slab.{Slab, Updates}
-use Rattle.tmm_model.specs.declared.bound.Bound.TheVariants.{Finite}
 use Rattle.tmm_model.specs.declared.point.PointName.TheVariants.{Begin}
 use Rattle.tmm_model.specs.Moments.{At, along, base, rules, printed}
 use Rattle.tmm_model.proofs.Elements.{In-from_Contains, Contains-from_In, In-left, In-right, In-cases}
 use Rattle.tmm_model.proofs.Moments.{base-along, rules-along}
 use Rattle.spots.specs.declared.link.Link.{Link}
 use Rattle.spots.specs.Forest.{Member, moment, rules_of, Enters, IsNoRoot, HasClass}
-use Rattle.spots.specs.Spots.{links_low, links_high, token_row}
+use Rattle.spots.specs.Spots.{token_row}
 use Rattle.occ_tree.specs.declared.classes.ClassRows.{ClassRows}
 use Rattle.occ_tree.specs.declared.node.Node.{Node}
 use Rattle.occ_tree.specs.Classes.{TakesToken}
 use Rattle.occ_tree.specs.Light.{IsLight, AreLight}
+use Rattle.occ_tree.specs.Sums.{AreSums}
 use Rattle.occ_tree.specs.Nodes.{node_at, member_of, forest_in, AreOnce, IsSummed, IsNode, IsBetween}
 use Rattle.occ_tree.specs.TreeInside.{AreRight}
 use Rattle.occ_tree.proofs.Entering.{IsSame, Grows, HasMore-itself, AreRight-grown, Enters-grown}
@@ -29,7 +29,7 @@ pub same_rules : (m n : Member) → moment m ≡ moment n → rules_of m ≡ rul
 same_rules m n h = sym (rules-along (At (Begin m.root)) (rules_of m)) ∙ ap rules h ∙ rules-along (At (Begin n.root)) (rules_of n)
 
 pub IsSame-itself : (m : Node) → IsSame m m
-IsSame-itself m = record { member = refl; own = λ h. h; root_node = refl; parent = refl; kept = λ z h. h }
+IsSame-itself m = record { member = refl; own = λ h. h; root_node = refl; parent = refl; way = refl; kept = λ z h. h }
 
 -- a node enters and no other changes
 Grows-beside : (old new : Slab Node) (x : ℕ) (n : Node) → node_at old.slots x ≡ None → Updates old new x (Some n) → Grows old.slots new.slots x n
@@ -43,8 +43,8 @@ Grows-beside old new x n free updates = record {
 -- what a root keeps
 pub record IsRootNode (x : ℕ) (n : Node) : Type 0 where
   pub links : n.links.items ≡ []
-  pub low : n.low ≡ pos 0
-  pub high : n.high ≡ Finite (pos 0)
+  pub way : n.way.items ≡ x ∷ []
+  pub sums : AreSums n.sums []
   pub word : n.word.items ≡ n.root
   pub class : HasClass n.class n.shape
   pub root_node : n.root_node ≡ x
@@ -59,8 +59,7 @@ module _ (old new : Slab Node) (x : ℕ) (n : Node) (is : IsRootNode x n) (free 
   own : IsSummed n
   own = record {
     light = subst AreLight (sym is.links) (record { few = omega arith; each = All-nil IsLight });
-    low = is.low ∙ ap links_low (sym is.links);
-    high = is.high ∙ ap links_high (sym is.links);
+    sums = subst (AreSums n.sums) (sym is.links) is.sums;
     word = is.word ∙ ap (λ (ls : List Link). printed (along (At (Begin n.root)) (map (λ l. l.rule) ls))) (sym is.links);
     class = is.class;
   }
@@ -70,6 +69,7 @@ module _ (old new : Slab Node) (x : ℕ) (n : Node) (is : IsRootNode x n) (free 
     own = own;
     root = (n, ap (node_at new.slots) is.root_node ∙ updates.changed, refl, is.links);
     parent = subst (λ (o : Option ℕ). Parented o) (sym is.parent) is.links;
+    start = λ none. is.way;
     children = λ y h. absurd (subst (λ (l : List ℕ). Contains l y → ⊥) (sym is.children) (λ h. omega (arith, h.1)) h);
     once = subst AreOnce (sym is.children) tt;
   }

@@ -22,7 +22,7 @@ pub same_member : (x : ℕ) (m k : Node) → IsLeft x m k → member_of k ≡ me
 same_member x m k left = ap member_of left.is
 
 pub same_own : (x : ℕ) (m k : Node) → IsLeft x m k → IsSummed m → IsSummed k
-same_own x m k left h = subst IsSummed (sym left.is) (record { light = h.light; low = h.low; high = h.high; word = h.word; class = h.class })
+same_own x m k left h = subst IsSummed (sym left.is) (record { light = h.light; sums = h.sums; word = h.word; class = h.class })
 
 -- all nodes stay, and x is no child of any
 pub record Unlists (old new : Slots) (x : ℕ) : Type 0 where

@@ -113,6 +113,7 @@ module _ (old new : Slots) (x : ℕ) (n : Node) (at : node_at old x ≡ Some n) 
           own = same_own x m k left is.own;
           root = (q, ap (λ (a : Node). node_at new a.root_node) left.is ∙ q_at, ap (λ (a : Member). a.root) q_same ∙ r_root ∙ sym (ap (λ (a : Member). a.root) same), ap (λ (a : Member). a.links) q_same ∙ r_links);
           parent = subst Parented (sym (ap (λ (a : Node). a.parent) left.is)) (parented m.parent is.parent);
+          start = λ none. ap (λ (a : Node). a.way.items) left.is ∙ is.start (sym (ap (λ (a : Member). a.links) same) ∙ none);
           children = λ z h. child z (Contains-without x m.children.items z (subst (λ (l : List ℕ). Contains l z) left.children h));
           once = subst AreOnce (sym left.children) (AreOnce-without x m.children.items is.once);
         }
@@ -134,6 +135,7 @@ module _ (old new : Slots) (x : ℕ) (n : Node) (at : node_at old x ≡ Some n) 
                 root = ap (λ (a : Member). a.root) q_same ∙ between.root ∙ sym (ap (λ (a : Member). a.root) same_as);
                 link = between.link;
                 links = ap (λ (a : Member). a.links) same_as ∙ between.links ∙ sym (ap (λ (a : Member). a.links ++ between.link ∷ []) q_same);
+                way = ap (λ (a : Node). a.way.items) left.is ∙ between.way ∙ ap (λ (w : List ℕ). w ++ y ∷ []) (sym (ap (λ (a : Node). a.way.items) q_left.is));
                 listed = subst (λ (l : List ℕ). Contains l y) (sym q_left.children) (without-Contains x p.children.items y between.listed (other_number y m m_at apart));
               },
             )

@@ -1,4 +1,6 @@
 pub mod Light
+pub mod Sums
+pub mod Ways
 pub mod Classes
 pub mod Nodes
 pub mod TreeInside

@@ -9,9 +9,10 @@ use Rattle.spots.specs.declared.link.Link.{Link}
 use Rattle.spots.specs.declared.spot.Spot.{Spot}
 use Rattle.spots.specs.declared.spot.Spot.TheVariants.{Declared, Node as OfNode}
 use Rattle.spots.specs.Forest.{Forest, Member, member, IsLive, moment, child_member, IsParent, HasClass}
-use Rattle.spots.specs.Spots.{links_low, links_high}
 use Rattle.occ_tree.specs.declared.node.Node.{Node}
 use Rattle.occ_tree.specs.Light.{AreLight}
+use Rattle.occ_tree.specs.Sums.{AreSums}
+use Rattle.occ_tree.specs.Ways.{IsWay}
 
 abbrev pub Slots : Type 0
 Slots = List (Option Node)
@@ -33,8 +34,7 @@ AreOnce (x ∷ xs) = (Contains xs x → ⊥) × AreOnce xs
 -- what a node tells of its own occurrence
 pub record IsSummed (n : Node) : Type 0 where
   pub light : AreLight n.links.items
-  pub low : n.low ≡ links_low n.links.items
-  pub high : n.high ≡ links_high n.links.items
+  pub sums : AreSums n.sums n.links.items
   pub word : n.word.items ≡ printed (moment (member_of n))
   pub class : HasClass n.class n.shape
 
@@ -43,6 +43,7 @@ pub record IsBetween (m n : Node) (x : ℕ) : Type 0 where
   pub root : m.root ≡ n.root
   pub link : Link
   pub links : n.links.items ≡ m.links.items ++ link ∷ []
+  pub way : n.way.items ≡ m.way.items ++ x ∷ []
   pub listed : Contains m.children.items x
 
 -- what the node of number x keeps, for what it stands and where it is in the tree
@@ -50,6 +51,7 @@ pub record IsNode (slots : Slots) (x : ℕ) (n : Node) : Type 0 where
   pub own : IsSummed n
   pub root : (r : Node) × (node_at slots n.root_node ≡ Some r) × (r.root ≡ n.root) × (r.links.items ≡ [])
   pub parent : MatchOption n.parent (n.links.items ≡ []) (λ y. (m : Node) × (node_at slots y ≡ Some m) × IsBetween m n x)
+  pub start : n.links.items ≡ [] → n.way.items ≡ x ∷ []
   pub children : (y : ℕ) → Contains n.children.items y → (m : Node) × (node_at slots y ≡ Some m) × (m.parent ≡ Some x)
   pub once : AreOnce n.children.items
 
@@ -74,21 +76,27 @@ pub record IsKept (f : Forest) (x : ℕ) (n : Node) : Type 0 where
   pub own : IsSummed n
   pub root : (r : Member) × (member f n.root_node ≡ Some r) × (r.root ≡ n.root) × (r.links ≡ [])
   pub parent : IsParent f (member_of n) n.parent
+  pub way : IsWay f (member_of n) n.way.items
   pub children : AreChildren f x n.children.items
+
+-- the number is that of the node at this moment
+abbrev pub IsNodeOf : Forest → Moment → ℕ → Type 0
+IsNodeOf f k x = (m : Member) × (member f x ≡ Some m) × (moment m ≡ k)
 
 -- The number of the node at this moment. Where there is none, no node is at a moment that rules lead to from it.
 abbrev pub IsWayTo : Forest → Moment → Option ℕ → Type 0
 IsWayTo f k found =
-    MatchOption found ((rest : List (List ℕ)) (x : ℕ) (m : Member) → member f x ≡ Some m → moment m ≢ along k rest) (λ x. (m : Member) × (member f x ≡ Some m) × (moment m ≡ k))
+    MatchOption found ((rest : List (List ℕ)) (x : ℕ) (m : Member) → member f x ≡ Some m → moment m ≢ along k rest) (IsNodeOf f k)
 
 -- the spot is a declared point or a node
 abbrev pub IsThere : Forest → Spot → Type 0
 IsThere f (Declared p) = Unit {0}
 IsThere f (OfNode x) = IsLive f x
 
--- n is the effect of a rule on the event that m is, whose number is the parent
-pub record IsEffect (m : Node) (parent : ℕ) (link : Link) (what : List ℕ) (class : Option (List ℕ)) (shape : Shape) (n : Node) : Type 0 where
+-- n, of number x, is the effect of a rule on the event that m is, whose number is the parent
+pub record IsEffect (x : ℕ) (m : Node) (parent : ℕ) (link : Link) (what : List ℕ) (class : Option (List ℕ)) (shape : Shape) (n : Node) : Type 0 where
   pub links : n.links.items ≡ m.links.items ++ link ∷ []
+  pub way : n.way.items ≡ m.way.items ++ x ∷ []
   pub is : member_of n ≡ record (child_member (member_of m) link what class shape) { links = n.links.items }
   pub own : IsSummed n
   pub root_node : n.root_node ≡ m.root_node

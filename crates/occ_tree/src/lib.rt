@@ -13,6 +13,7 @@ mod links;
 mod node;
 mod order;
 mod tree;
+mod way;
 
 pub use node::NodeRow;
 pub use order::Order;

@@ -1,58 +1,90 @@
 // Sums over the rules on the way to an occurrence.
-ghost use Rattle.std.specs.Prelude.{◌≡◌, ◌≤◌, length, drop, pos, ◌≤ℤ◌};
-ghost use Rattle.spots.specs.Spots.{links_low, links_high, links_apart};
-ghost use Rattle.occ_tree.specs.Light.{AreLight};
+ghost use Rattle.std.specs.Prelude.{◌≡◌, List, [], ◌∷◌, ◌++◌};
+ghost use Rattle.spots.specs.declared.link.Link.{Link as ALink};
+ghost use Rattle.occ_tree.specs.Light.{IsLight};
+ghost use Rattle.occ_tree.specs.Sums.{AreSums, HasRoom, IsFrontOf, ArePartedBy, HaveParted, high_of};
+ghost use Rattle.spots.specs.Spots.{links_apart};
 ghost use Rattle.tmm_model.specs.Bounds.{bound_plus, bound_less, IfFinite, IsWithin};
 
 use spots::Link;
 use tmm_model::Bound;
 
-// From where some rules lead to where others lead, from one point.
-pub(crate) fn apart(from: &[Link], to: &[Link]) -> Bound
-    requires from { AreLight from.now }
-    requires to { AreLight to.now }
-    ensures exact { result ≡ links_apart from.now to.now }
+/// Sums of the delays of some rules, in whole time units.
+#[derive(Clone, Copy)]
+pub(crate) struct Sums {
+    /// The least delays.
+    pub low: i64,
+    /// The most delays, of the rules that have one.
+    pub bounded: i64,
+    /// How many rules have none.
+    pub unbounded: u32,
+}
+
+impl Sums {
+    // Those of no rules.
+    pub(crate) fn of_none() -> Sums
+        ensures { AreSums result [] }
+    {
+        Sums {
+            low: 0,
+            bounded: 0,
+            unbounded: 0,
+        }
+    }
+
+    // Those with one rule more.
+    pub(crate) fn with(self, link: &Link) -> Sums
+        requires room { HasRoom self }
+        requires light { IsLight link.now }
+        ensures { (links : List ALink) → AreSums self links → AreSums result (links ++ link.now ∷ []) }
+    {
+        let low = self.low + link.lo;
+        match link.hi {
+            Bound::Finite(hi) => Sums {
+                low,
+                bounded: self.bounded + hi,
+                unbounded: self.unbounded,
+            },
+            Bound::Free => Sums {
+                low,
+                bounded: self.bounded,
+                unbounded: self.unbounded + 1,
+            },
+        }
+    }
+
+    // Those of the rules behind the first ones, whose sums are given.
+    pub(crate) fn behind(self, first: Sums) -> Sums
+        requires { IsFrontOf first self }
+        ensures { (u v : List ALink) → AreSums first u → AreSums self (u ++ v) → AreSums result v }
+    {
+        Sums {
+            low: self.low - first.low,
+            bounded: self.bounded - first.bounded,
+            unbounded: self.unbounded - first.unbounded,
+        }
+    }
+
+    // The most time that the rules take, none where one of them has no bound.
+    pub(crate) fn high(self) -> Bound
+        ensures { result ≡ high_of self.bounded self.unbounded }
+    {
+        if self.unbounded == 0 {
+            Bound::Finite(self.bounded)
+        } else {
+            Bound::Free
+        }
+    }
+}
+
+// From where some rules lead to where others lead, from one point, by the sums of those, of the others,
+// and of the rules that both begin with.
+pub(crate) fn between(from: Sums, to: Sums, shared: Sums) -> Bound
+    requires { HaveParted from to shared }
+    ensures exact { (u v : List ALink) → ArePartedBy shared u v → AreSums from u → AreSums to v → result ≡ links_apart u v }
     ensures small { IfFinite result (IsWithin 200000000000000) }
 {
-    let shared = shared(from, to);
-    less(high(&to[shared..]), low(&from[shared..]))
-}
-
-// How many rules both begin with.
-fn shared(from: &[Link], to: &[Link]) -> usize
-    ensures from { result ≤ length from.now }
-    ensures to { result ≤ length to.now }
-    ensures apart { links_apart from.now to.now ≡ bound_less (links_high (drop result to.now)) (links_low (drop result from.now)) }
-{
-    let mut shared = 0;
-    while shared < from.len() && shared < to.len() && from[shared].rule == to[shared].rule {
-        shared += 1;
-    }
-    shared
-}
-
-// The least time that the rules take, one after the other.
-fn low(links: &[Link]) -> i64
-    requires { AreLight links.now }
-    ensures { result ≡ links_low links.now }
-{
-    let mut sum = 0;
-    for link in links {
-        sum += link.lo;
-    }
-    sum
-}
-
-// The most time that they take, none where one of them has no bound.
-fn high(links: &[Link]) -> Bound
-    requires { AreLight links.now }
-    ensures { result ≡ links_high links.now }
-{
-    let mut sum = Bound::Finite(0);
-    for link in links {
-        sum = plus(sum, link.hi);
-    }
-    sum
+    less(to.behind(shared).high(), from.behind(shared).low)
 }
 
 // One bound and then another, none where a part is none.

@@ -8,7 +8,7 @@ ghost use Rattle.spots.specs.Spots.{token_row};
 ghost use Rattle.occ_tree.specs.Light.{IsLight};
 ghost use Rattle.occ_tree.specs.Nodes.{member_of, IsSummed, IsEffect, Rewrites, HasChildRoom};
 
-use crate::links::plus;
+use crate::links::Sums;
 use slab::Slab;
 use spots::{Link, Spot};
 use std::alloc::Global;
@@ -48,6 +48,11 @@ pub(crate) struct Node {
     pub root: Name,
     /// The rules that lead to it, the one on the root first.
     pub links: Vec<Link>,
+    /// The numbers of the nodes on the way to it, that of its root first and its own last.
+    pub way: Vec<u32>,
+    /// Where it stood among its siblings when it came. In a tree of nearly the same occurrences the same
+    /// one stands there or next to it, so it is looked for there first.
+    pub place: usize,
     /// The number of the root's point.
     pub begin: u16,
     /// The number of a span's end.
@@ -59,10 +64,8 @@ pub(crate) struct Node {
     pub shape: Shape,
     /// The occurrence as it is printed: its root and its rules, parted by `/`.
     pub word: Vec<u8>,
-    /// The sum of the least delays.
-    pub low: i64,
-    /// The sum of the most delays.
-    pub high: Bound,
+    /// The sums of the delays.
+    pub sums: Sums,
     /// The node of its root.
     pub root_node: u32,
     /// The node of the event whose effect it is, none for a root.
@@ -72,11 +75,11 @@ pub(crate) struct Node {
 }
 
 // The last of the names of a root and its rules.
-pub(crate) fn last_name(root: Name, links: &[Link]) -> Name
-    ensures { result ≡ last_name_of root links.now }
+pub(crate) fn last_name<'a>(root: &'a Name, links: &'a [Link]) -> &'a Name
+    ensures { result.now ≡ last_name_of root.now links.now }
 {
     match links.last() {
-        Some(link) => link.rule,
+        Some(link) => &link.rule,
         None => root,
     }
 }
@@ -106,9 +109,10 @@ fn end_of(node: &Node) -> Option<Spot>
     }
 }
 
-// The effect of a rule on an event.
+// The effect of a rule on an event, as the node of number x.
 pub(crate) fn effect(
     alloc: Global,
+    x: u32,
     event: &Node,
     parent: u32,
     link: &Link,
@@ -120,21 +124,23 @@ pub(crate) fn effect(
     requires room { length event.now.links.items < 100000 }
     requires light { IsLight link.now }
     requires class { HasClass class shape }
-    ensures { IfOk result (IsEffect event.now parent link.now what class shape) }
+    ensures { IfOk result (IsEffect x event.now parent link.now what class shape) }
 {
     let links = longer(alloc, event.links.as_slice(), link)?;
+    let way = longer_way(alloc, event.way.as_slice(), x)?;
     let word = longer_word(alloc, event.word.as_slice(), &link.rule)?;
     Ok(Node {
         root: event.root,
         links,
+        way,
+        place: event.children.len(),
         begin: event.begin,
         end: None,
         what,
         class,
         shape,
         word,
-        low: event.low + link.lo,
-        high: plus(event.high, link.hi),
+        sums: event.sums.with(link),
         root_node: event.root_node,
         parent: Some(parent),
         children: Vec::new(alloc),
@@ -148,6 +154,16 @@ fn longer(alloc: Global, links: &[Link], link: &Link) -> Result<Vec<Link>, NoMem
     let mut more = Vec::from_slice(alloc, links)?;
     more.reserve(1)?;
     more.push_reserved(*link);
+    Ok(more)
+}
+
+// The way and one more node.
+fn longer_way(alloc: Global, way: &[u32], x: u32) -> Result<Vec<u32>, NoMemory>
+    ensures { IfOk result (λ more. more.items ≡ way.now ++ x ∷ []) }
+{
+    let mut more = Vec::from_slice(alloc, way)?;
+    more.reserve(1)?;
+    more.push_reserved(x);
     Ok(more)
 }
 

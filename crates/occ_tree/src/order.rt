@@ -3,15 +3,19 @@ ghost use Rattle.std.specs.Prelude.{◌≡◌, ◌≢◌};
 ghost use Rattle.dist_net.specs.Net.{IsInUse};
 ghost use Rattle.spots.specs.Forest.{IsLive};
 ghost use Rattle.spots.specs.Seen.{HasList};
-ghost use Rattle.spots.specs.Spots.{IsSpot, base_of, links_of, links_low, links_high, spot_distance, node_early, node_cmp, spot_cmp};
+ghost use Rattle.std.specs.List.{All};
+ghost use Rattle.spots.specs.Spots.{IsSpot, base_of, links_of, spot_distance, node_early, node_cmp, spot_cmp};
 ghost use Rattle.tmm_model.specs.Bounds.{IfFinite, IsWithin};
 ghost use Rattle.occ_tree.specs.Light.{AreLight};
 ghost use Rattle.occ_tree.specs.Nodes.{IsThere};
+ghost use Rattle.occ_tree.specs.Sums.{AreSums};
+ghost use Rattle.occ_tree.specs.Ways.{IsWayOf, AreShared};
 
-use crate::links::{apart, less, plus};
+use crate::links::{Sums, between, less, plus};
 use crate::tree::Tree;
+use crate::way::shared;
 use dist_net::DistNet;
-use spots::{Link, Spot};
+use spots::Spot;
 use std::cmp::Ordering;
 use tmm_model::{Bound, Sure};
 
@@ -27,9 +31,13 @@ impl Tree {
         let start = self.place(from);
         let end = self.place(to);
         if start.base == end.base {
-            apart(start.links, end.links)
+            let shared = self.shared_sums(start.way, end.way);
+            between(start.sums, end.sums, shared)
         } else {
-            less(plus(net.far(start.base, end.base), end.high), start.low)
+            less(
+                plus(net.far(start.base, end.base), end.sums.high()),
+                start.sums.low,
+            )
         }
     }
 
@@ -58,42 +66,49 @@ impl Tree {
         }
     }
 
+    // The sums of the rules that two ways both begin with.
+    fn shared_sums(&self, from: &[u32], to: &[u32]) -> Sums
+        requires { All (IsLive self.now) from.now }
+        ensures { AreShared self.now from.now to.now result }
+    {
+        match shared(from, to) {
+            0 => Sums::of_none(),
+            count => self.node(from[count - 1]).sums,
+        }
+    }
+
     // Where a spot is.
     fn place(&self, spot: Spot) -> Place<'_>
         requires { IsThere self.now spot }
         ensures base { result.base ≡ base_of self.now spot }
-        ensures links { result.links.now ≡ links_of self.now spot }
-        ensures low { result.low ≡ links_low (links_of self.now spot) }
-        ensures high { result.high ≡ links_high (links_of self.now spot) }
+        ensures way { IsWayOf self.now spot result.way.now }
+        ensures sums { AreSums result.sums (links_of self.now spot) }
         ensures light { AreLight (links_of self.now spot) }
     {
         match spot {
             Spot::Declared(base) => Place {
                 base,
-                links: &[],
-                low: 0,
-                high: Bound::Finite(0),
+                way: &[],
+                sums: Sums::of_none(),
             },
             Spot::Node(x) => {
                 let node = self.node(x);
                 Place {
                     base: node.begin,
-                    links: node.links.as_slice(),
-                    low: node.low,
-                    high: node.high,
+                    way: node.way.as_slice(),
+                    sums: node.sums,
                 }
             }
         }
     }
 }
 
-// Where a spot is: the declared point from which rules lead to it, the rules, and their sums.
+// Where a spot is: the declared point from which rules lead to it, the nodes on the way, and the sums of the rules.
 #[derive(Clone, Copy)]
 struct Place<'a> {
     base: u16,
-    links: &'a [Link],
-    low: i64,
-    high: Bound,
+    way: &'a [u32],
+    sums: Sums,
 }
 
 /// The spots of a tree in a network, with their tightest distances and their order: nodes by their

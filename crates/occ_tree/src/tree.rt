@@ -10,11 +10,12 @@ ghost use Rattle.spots.specs.Spots.{AreTokens, token_row};
 ghost use Rattle.occ_tree.specs.Classes.{rows_in, TakesToken};
 ghost use Rattle.slab.specs.Slab.{get, Updates};
 ghost use Rattle.occ_tree.specs.Leaving.{ListsBelow};
-ghost use Rattle.occ_tree.specs.Nodes.{member_of, IsKept, IsChild, AreChildren, IsWayTo};
+ghost use Rattle.occ_tree.specs.Nodes.{member_of, IsKept, IsChild, AreChildren, IsWayTo, IsNodeOf};
 ghost use Rattle.tmm_model.specs.declared.bound.Bound.TheVariants.{Finite};
 
 use crate::classes::{ClassRows, add_row, drop_gone, rows_of};
 use crate::leaving::{classes_of, remove_all, unlist};
+use crate::links::Sums;
 use crate::node::{Node, NodeRow, effect, last_name, push_child, reserve_child, token_of};
 use slab::Slab;
 use spots::{Link, Spot};
@@ -77,18 +78,20 @@ impl Tree {
         ensures err { OnErr result (self.new ≡ self.old) }
     {
         let x = next_number(&self.nodes)?;
+        let way = Vec::from_slice(alloc, &[x])?;
         self.roots.reserve(1)?;
         let node = Node {
             root: name,
             links: Vec::new(alloc),
+            way,
+            place: self.roots.len(),
             begin,
             end,
             what,
             class,
             shape,
             word: copied(alloc, name.bytes())?,
-            low: 0,
-            high: Bound::Finite(0),
+            sums: Sums::of_none(),
             root_node: x,
             parent: None,
             children: Vec::new(alloc),
@@ -122,7 +125,7 @@ impl Tree {
         let link = Link { rule, lo, hi };
         let x = next_number(&self.nodes)?;
         let event = &self.nodes[parent as usize];
-        let node = effect(alloc, event, parent, &link, what, class, shape)?;
+        let node = effect(alloc, x, event, parent, &link, what, class, shape)?;
         reserve_child(&mut self.nodes, parent)?;
         enter(alloc, &mut self.nodes, &mut self.classes, x, node)?;
         push_child(&mut self.nodes, parent, x);
@@ -188,11 +191,11 @@ impl Tree {
         let node = self.node(x);
         NodeRow {
             parent: node.parent,
-            name: last_name(node.root, node.links.as_slice()),
+            name: *last_name(&node.root, node.links.as_slice()),
             root: node.root_node,
             rules: node.links.len() as u32,
-            low: node.low,
-            high: node.high,
+            low: node.sums.low,
+            high: node.sums.high(),
             begin: node.begin,
             end: node.end,
             what: node.what,
@@ -226,9 +229,11 @@ impl Tree {
         ensures { IsFound self.now (moment_at other.now x) result }
     {
         let node = other.node(x);
-        let mut same = self.root_of(&node.root)?;
+        let mut depth: usize = 0;
+        let mut same = self.root_near(&node.root, other.place_on(node, depth))?;
         for link in &node.links {
-            same = self.effect_of(same, &link.rule)?;
+            depth = depth.saturating_add(1);
+            same = self.effect_near(same, &link.rule, other.place_on(node, depth))?;
         }
         Some(same)
     }
@@ -288,6 +293,76 @@ impl Tree {
         None
     }
 
+    // The place among its siblings of the node at this depth of the way to another.
+    fn place_on(&self, node: &Node, depth: usize) -> usize {
+        match node.way.get(depth) {
+            Some(x) => match self.nodes.get(*x as usize) {
+                Some(on_way) => on_way.place,
+                None => 0,
+            },
+            None => 0,
+        }
+    }
+
+    // The node of a root, if it stands at this place.
+    fn root_at(&self, name: &Name, place: usize) -> Option<u32>
+        ensures { IfSome result (IsNodeOf self.now (At (Begin name.now))) }
+    {
+        let x = listed_at(self.roots.as_slice(), place)?;
+        if self.nodes[x as usize].root == *name {
+            Some(x)
+        } else {
+            None
+        }
+    }
+
+    // The node of a root, looked for first at this place and next to it.
+    fn root_near(&self, name: &Name, place: usize) -> Option<u32>
+        ensures { IsWayTo self.now (At (Begin name.now)) result }
+    {
+        if let Some(x) = self.root_at(name, place) {
+            return Some(x);
+        }
+        if let Some(x) = self.root_at(name, place.saturating_add(1)) {
+            return Some(x);
+        }
+        if let Some(x) = self.root_at(name, place.saturating_sub(1)) {
+            return Some(x);
+        }
+        self.root_of(name)
+    }
+
+    // The node of what a rule leads to from a node, if it stands at this place of the children.
+    fn effect_at(&self, x: u32, rule: &Name, place: usize) -> Option<u32>
+        requires { IsLive self.now x }
+        ensures { IfSome result (IsNodeOf self.now (After (moment_at self.now x) rule.now)) }
+    {
+        let child = listed_at(self.nodes[x as usize].children.as_slice(), place)?;
+        if is_by(&self.nodes[child as usize], rule) {
+            Some(child)
+        } else {
+            None
+        }
+    }
+
+    // The node of what a rule leads to from a node, looked for first at this place of the children and
+    // next to it.
+    fn effect_near(&self, x: u32, rule: &Name, place: usize) -> Option<u32>
+        requires { IsLive self.now x }
+        ensures { IsWayTo self.now (After (moment_at self.now x) rule.now) result }
+    {
+        if let Some(child) = self.effect_at(x, rule, place) {
+            return Some(child);
+        }
+        if let Some(child) = self.effect_at(x, rule, place.saturating_add(1)) {
+            return Some(child);
+        }
+        if let Some(child) = self.effect_at(x, rule, place.saturating_sub(1)) {
+            return Some(child);
+        }
+        self.effect_of(x, rule)
+    }
+
     // The node of what a rule leads to from a node.
     fn effect_of(&self, x: u32, rule: &Name) -> Option<u32>
         requires { IsLive self.now x }
@@ -322,7 +397,7 @@ impl Tree {
 fn is_by(node: &Node, rule: &Name) -> bool
     ensures { IsTrue result ↔ (last_name_of node.now.root node.now.links.items ≡ rule.now) }
 {
-    last_name(node.root, node.links.as_slice()) == *rule
+    *last_name(&node.root, node.links.as_slice()) == *rule
 }
 
 // The place of a number in a list.
@@ -336,6 +411,17 @@ fn place_in(numbers: &[u32], x: u32) -> Option<usize>
         }
     }
     None
+}
+
+// The number at a place of a list, where there is one.
+fn listed_at(numbers: &[u32], k: usize) -> Option<u32>
+    ensures { IfSome result (Contains numbers.now) }
+{
+    if k < numbers.len() {
+        Some(numbers[k])
+    } else {
+        None
+    }
 }
 
 // The number at a place of a list.

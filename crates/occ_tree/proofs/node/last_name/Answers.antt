@@ -9,4 +9,4 @@ returns-in-Some c =
     let ls = c.args.links.now in
     let at : slice_get ls (length ls - 1) ≡ Some c.in-Some.link.now = sym c.in-Some.ensures.value in
     let within : length ls - 1 < length ls = slice_get_within ls (length ls - 1) c.in-Some.link.now at in
-    sym (last_name_is c.args.root ls (length ls - 1) c.in-Some.link.now (omega arith) at)
+    sym (last_name_is c.args.root.now ls (length ls - 1) c.in-Some.link.now (omega arith) at)

@@ -50,7 +50,7 @@ pub invariant_of-self-2 : goal.invariant_of-self-2
 invariant_of-self-2 c =
     let limit = c.max-self-inside.ensures in
     let fits : FitsSigned w64 c.args.lo = search rules in
-    let effect = subst (λ (z : ℤ). IsEffect c.index-event.result.now c.args.parent (record { rule = c.args.rule; lo = z; hi = c.args.hi }) c.args.what c.args.class c.args.shape c.in_ok-node.node) (to_z-of_z w64 c.args.lo fits) c.in_ok-node.ensures in
+    let effect = subst (λ (z : ℤ). IsEffect c.in_ok-x.x c.index-event.result.now c.args.parent (record { rule = c.args.rule; lo = z; hi = c.args.hi }) c.args.what c.args.class c.args.shape c.in_ok-node.node) (to_z-of_z w64 c.args.lo fits) c.in_ok-node.ensures in
     AreRight-child c.self.inside.nodes c.reserve_child.new.nodes c.enter.new.nodes c.push_child.new.nodes c.args.parent c.in_ok-x.x c.index-event.result.now c.in_ok-node.node
     (record { rule = c.args.rule; lo = c.args.lo; hi = c.args.hi }) c.args.what c.args.class c.args.shape c.index-event.ensures (c.self.invariant.nodes c.args.parent c.index-event.result.now c.index-event.ensures) effect c.in_ok-reserve_child.ensures.kept c.in_ok-enter.ensures.free
     c.in_ok-enter.ensures.entered c.push_child.ensures c.self.inside.roots.items c.self.inside.classes.items c.enter.new.classes.items c.self.inside.limit c.max-self-inside.result c.self.invariant
@@ -62,7 +62,7 @@ returns-clause-ok c m at =
     let e : Some (member_of c.index-event.result.now) ≡ Some m = sym (seen c.self.inside.nodes.slots c.args.parent c.index-event.result.now c.index-event.ensures) ∙ ap (λ (f : Forest). member f c.args.parent) c.self.view_is ∙ at in
     let is : member_of c.index-event.result.now ≡ m = cc in
     let fits : FitsSigned w64 c.args.lo = search rules in
-    let effect = subst (λ (z : ℤ). IsEffect c.index-event.result.now c.args.parent (record { rule = c.args.rule; lo = z; hi = c.args.hi }) c.args.what c.args.class c.args.shape c.in_ok-node.node) (to_z-of_z w64 c.args.lo fits) c.in_ok-node.ensures in
+    let effect = subst (λ (z : ℤ). IsEffect c.in_ok-x.x c.index-event.result.now c.args.parent (record { rule = c.args.rule; lo = z; hi = c.args.hi }) c.args.what c.args.class c.args.shape c.in_ok-node.node) (to_z-of_z w64 c.args.lo fits) c.in_ok-node.ensures in
     let enters = Enters-child c.self.inside.nodes c.reserve_child.new.nodes c.enter.new.nodes c.push_child.new.nodes c.args.parent c.in_ok-x.x c.index-event.result.now c.in_ok-node.node
     link c.args.what c.args.class c.args.shape c.index-event.ensures (c.self.invariant.nodes c.args.parent c.index-event.result.now c.index-event.ensures) effect c.in_ok-reserve_child.ensures.kept c.in_ok-enter.ensures.free
     c.in_ok-enter.ensures.entered c.push_child.ensures in

@@ -1,6 +1,5 @@
-use Rattle.std.proofs.Common.{◌∙◌, pos, ℕ, List, [], ◌∷◌, ◌++◌, refl, ap, sym, subst, arith}
+use Rattle.std.proofs.Common.{◌∙◌, ℕ, List, [], ◌∷◌, ◌++◌, refl, ap, sym, subst, arith}
 use Rattle.std.specs.Prelude.{None}
-use Rattle.tmm_model.specs.declared.bound.Bound.TheVariants.{Finite}
 use Rattle.spots.specs.declared.link.Link.{Link}
 use Rattle.spots.specs.Forest.{Forest, IsNoRoot, Enters}
 use Rattle.occ_tree.specs.declared.node.Node.{Node}
@@ -20,22 +19,23 @@ invariant_of-self-2 c =
     let n : Node = record {
       root = c.args.name;
       links = c.new.result;
+      way = c.in_ok-way.way;
+      place = c.len.result;
       begin = c.args.begin;
       «end» = c.args.end;
       what = c.args.what;
       class = c.args.class;
       shape = c.args.shape;
       word = c.in_ok-copied.field-0;
-      low = pos 0;
-      high = Finite (pos 0);
+      sums = c.of_none.result;
       root_node = x;
       parent = None;
       children = c.new-2.result;
     } in
     let is : IsRootNode x n = record {
       links = c.new.ensures.items;
-      low = refl;
-      high = refl;
+      way = c.in_ok-way.ensures.items;
+      sums = c.of_none.ensures;
       word = c.in_ok-copied.ensures ∙ c.bytes.ensures.value;
       class = c.requires.class;
       root_node = refl;
@@ -54,14 +54,15 @@ returns-clause-ok c =
     let n : Node = record {
       root = c.args.name;
       links = c.new.result;
+      way = c.in_ok-way.way;
+      place = c.len.result;
       begin = c.args.begin;
       «end» = c.args.end;
       what = c.args.what;
       class = c.args.class;
       shape = c.args.shape;
       word = c.in_ok-copied.field-0;
-      low = pos 0;
-      high = Finite (pos 0);
+      sums = c.of_none.result;
       root_node = x;
       parent = None;
       children = c.new-2.result;
