@@ -1,15 +1,11 @@
 -- What nodes rest on.
-use Rattle.std.specs.Prelude.{◌≡◌, ◌↔◌, ℕ, List, map, nat_eq, Option, Some}
+use Rattle.std.specs.Prelude.{◌≡◌, ◌↔◌, ℕ, List, map, nat_eq, Option}
 use Rattle.std.specs.List.{All, Contains, IsDistinct}
 use Rattle.tmm_model.specs.declared.point.PointName.TheVariants.{Begin}
-use Rattle.tmm_model.specs.declared.premise.Premise.{Premise}
-use Rattle.tmm_model.specs.declared.premise.Premise.TheVariants.{Rule}
 use Rattle.tmm_model.specs.Beliefs.{holder}
 use Rattle.tmm_model.specs.Maps.{TimeMap}
 use Rattle.tmm_model.specs.Moments.{Moment, At, After}
 use Rattle.tmm_model.specs.Reasons.{Upholds, rests_on}
-use Rattle.tmm_model.specs.Standing.{Standing}
-use Rattle.tmm_model.specs.WellNamed.{premise_in}
 use Rattle.indexmap.specs.IndexSet.{insert_all}
 use Rattle.spots.specs.Forest.{Forest, IsLive, moment_at}
 use Rattle.justify.specs.declared.grounds.Origin.{Origin}
@@ -19,15 +15,6 @@ use Rattle.justify.specs.declared.grounds.Origin.TheVariants.{Declared, Effect}
 abbrev pub IsOrigin : Forest → ℕ → Origin → Type 0
 IsOrigin f x (Declared name) = moment_at f x ≡ At (Begin name)
 IsOrigin f x (Effect event rule) = IsLive f event × (moment_at f x ≡ After (moment_at f event) rule)
-
--- the premise is a rule
-abbrev pub IsRule : Premise → Type 0
-IsRule (Rule name trigger lo hi effect given) = Unit {0}
-IsRule _ = ⊥
-
--- the premise of this name is a rule
-abbrev pub IsRuleOf : Standing → List ℕ → Type 0
-IsRuleOf s r = (p : Premise) × (premise_in s.premises r ≡ Some p) × IsRule p
 
 -- the first supporter at t of each of the facts
 abbrev pub supporters_for : TimeMap → Moment → List (List ℕ) → List (Option Moment)

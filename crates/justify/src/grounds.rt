@@ -3,20 +3,19 @@ ghost use Rattle.std.specs.Prelude.{◌≡◌, ◌≤◌, map, length, IsSome};
 ghost use Rattle.std.specs.List.{All, Contains, filter_map};
 ghost use Rattle.tmm_model.specs.Beliefs.{rules_at};
 ghost use Rattle.tmm_model.specs.Maps.{built};
-ghost use Rattle.tmm_model.specs.Moments.{rule_of};
 ghost use Rattle.tmm_model.specs.Reasons.{supports_at};
 ghost use Rattle.tmm_model.specs.Sorts.{class_in};
 ghost use Rattle.spots.specs.Forest.{IsLive, moment_at};
 ghost use Rattle.spots.specs.Seen.{IsSeen, Holds};
-ghost use Rattle.justify.specs.Grounds.{IsOrigin, IsRuleOf, supporters_for};
+ghost use Rattle.justify.specs.Grounds.{IsOrigin, supporters_for};
 
 use arrayvec::ArrayVec;
 use dist_net::DistNet;
 use occ_tree::Tree;
 use premise_list::Standing;
 use spots::Spot;
-use supports::supporter;
-use tmm_model::{Name, Premise};
+use supports::{rule_text, supporter};
+use tmm_model::Name;
 
 /// What brings a node about.
 #[derive(Clone, Copy)]
@@ -57,20 +56,8 @@ pub(crate) fn supports_at(
     ensures live { All (IsLive tree.now) result.items }
     ensures first { map (moment_at tree.now) result.items ≡ supports_at (built standing.now.present) (moment_at tree.now event) rule }
 {
-    let given = antecedents(standing, rule);
-    supporters(standing, tree, net, event, given)
-}
-
-// The antecedents of a rule.
-fn antecedents(standing: &Standing, rule: Name) -> &[Name]
-    requires { IsRuleOf standing.now.present rule }
-    ensures given { result.now ≡ (rule_of standing.now.present rule).given }
-    ensures few { length result.now ≤ 4 }
-{
-    match standing.get(rule) {
-        Some(Premise::Rule { given, .. }) => given.as_slice(),
-        _ => unreachable!(),
-    }
+    let text = rule_text(standing, rule);
+    supporters(standing, tree, net, event, text.given)
 }
 
 // The first supporters of the facts at an event.

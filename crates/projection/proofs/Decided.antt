@@ -4,8 +4,8 @@ use Rattle.std.proofs.lemmas.Int.{ints}
 use Rattle.std.specs.Prelude.{ℤ, pos, ◌+ℤ◌, ◌≤ℤ◌, sum_by}
 use Rattle.std.specs.List.{Contains}
 use Rattle.std.proofs.lemmas.List.Elements.{All-contains}
-use Rattle.std.proofs.lemmas.List.Sums.{sum_by-cons}
-use Rattle.std.proofs.lemmas.List.Sorted.{IsPermutation-sym}
+use Rattle.std.proofs.lemmas.List.Sums.{sum_by-cons, count_by-le-length}
+use Rattle.std.proofs.lemmas.List.Sorted.{IsPermutation-sym, length_permutation}
 use Rattle.tmm_model.specs.Answers.{weight, size, most_size}
 use Rattle.tmm_model.specs.Beliefs.{due, is_free, outcome, fires, rules_at}
 use Rattle.tmm_model.specs.Maps.{built}
@@ -21,16 +21,18 @@ use Rattle.tmm_model.proofs.SoundBeliefs.{sound_timed, map_is_right, believed_ri
 use Rattle.dist_net.specs.Net.{Net}
 use Rattle.spots.specs.Forest.{Forest, moment, moment_at}
 use Rattle.spots.specs.Seen.{Holds}
+use Rattle.spots.proofs.Nodes.{node_at, moment_at-is}
 use Rattle.projection.specs.declared.decision.Decision.{Decision}
 use Rattle.projection.specs.declared.decision.Decision.TheVariants.{Fires, Blocked, Beyond}
 use Rattle.projection.specs.declared.pending.Pending.{Pending}
+use Rattle.projection.specs.Counted.{is_due, due_rules, decisions_due}
 use Rattle.projection.specs.Decisions.{outcome_at}
 use Rattle.projection.specs.Growing.{Adds, MayEnter}
 use Rattle.projection.specs.Projecting.{IsEntry, Pends, IsGrown, IsGrowing, IsFirstOf, left}
 use Rattle.projection.specs.Queues.{Queues, weight_at}
-use Rattle.projection.proofs.OneEach.{beliefs_distinct}
-use Rattle.projection.proofs.OnKinds.{live_node, node_moment, node_rules}
-use Rattle.projection.proofs.Steps.{push_cases, too_large, pends_kept, pends_new, pends_cases, grown_more}
+use Rattle.spots.proofs.Believed.{believed_once}
+use Rattle.projection.proofs.OnKinds.{node_rules}
+use Rattle.projection.proofs.Steps.{push_cases, too_large, pends_kept, pends_new, pends_cases, waits_more, grown_more}
 use Rattle.projection.proofs.Waiting.{In-permutation, taken_once, rest_once}
 
 -- ---- what a decision tells
@@ -57,7 +59,7 @@ weight_in s [] y at = absurd at
 weight_in s (z ∷ b) y (inl same) = let one : weight (built s) z ≡ weight (built s) y = ap (weight (built s)) same in omega (arith, one, sum_by-cons (weight (built s)) z b)
 weight_in s (z ∷ b) y (inr at) = omega (arith, weight_in s b y at, sum_by-cons (weight (built s)) z b)
 
-module _ (s : Standing) (net : Net) (f : Forest) (queue : List Pending) (n : ℕ) (growing : IsGrowing s net f queue n) (p : Pending) (rest : List Pending) (next : IsFirstOf queue p rest) where
+module _ (s : Standing) (net : Net) (f : Forest) (queue : List Pending) (n : ℕ) {made : ℕ} (growing : IsGrowing s net f queue n made) (p : Pending) (rest : List Pending) (next : IsFirstOf queue p rest) where
   abbrev k : Moment
   k = After (moment_at f p.trigger) p.rule
 
@@ -71,6 +73,10 @@ module _ (s : Standing) (net : Net) (f : Forest) (queue : List Pending) (n : ℕ
   rest_in : (o : Pending) → In o rest → In o queue
   rest_in o at = In-permutation (p ∷ rest) queue (IsPermutation-sym queue (p ∷ rest) next.taken) o (inr at)
 
+  -- one waits less
+  taken_one : length queue ≡ 1 + length rest
+  taken_one = omega (arith, length_permutation queue (p ∷ rest) next.taken)
+
   pub entry : IsEntry s f p
   entry = growing.grown.entries p p_in
 
@@ -82,8 +88,8 @@ module _ (s : Standing) (net : Net) (f : Forest) (queue : List Pending) (n : ℕ
 
   believed : Contains growing.entered (moment_at f p.trigger)
   believed =
-      let (m, at) = live_node f p.trigger entry.live in
-      subst (Contains growing.entered) (sym (node_moment f p.trigger m at)) (growing.grown.holds.own p.trigger m at)
+      let (m, at) = node_at f p.trigger entry.live in
+      subst (Contains growing.entered) (sym (moment_at-is f p.trigger m at)) (growing.grown.holds.own p.trigger m at)
 
   up : growing.date ≤ p.due.0
   up = by (due s (far_in s.premises) (moment_at f p.trigger) p.rule) growing.date p.due.0 entry.date (growing.settling.pend_later (moment_at f p.trigger) p.rule (p, p_in, refl, refl))
@@ -119,7 +125,7 @@ module _ (s : Standing) (net : Net) (f : Forest) (queue : List Pending) (n : ℕ
   }
 
   -- the rule doesn't fire
-  pub decided_blocked : is_free s (far_in s.premises) growing.entered (moment_at f p.trigger) p.rule ≡ false → IsGrowing s net f rest n
+  pub decided_blocked : is_free s (far_in s.premises) growing.entered (moment_at f p.trigger) p.rule ≡ false → IsGrowing s net f rest n (made + 1)
   decided_blocked blocked = record {
     entered = growing.entered;
     date = p.due.0;
@@ -128,6 +134,7 @@ module _ (s : Standing) (net : Net) (f : Forest) (queue : List Pending) (n : ℕ
     settling =
         skip s (far_in s.premises) (sound_timed s growing.sound) s.horizon growing.date p.due.0 growing.entered growing.entered (Pends f queue) (Pends f rest) growing.settling up (moment_at f p.trigger) p.rule
         believed entry.stands entry.date rest_pends rest_later blocked;
+    each = omega (arith, growing.each, taken_one);
   }
 
   -- ---- the rule fires
@@ -198,9 +205,9 @@ module _ (s : Standing) (net : Net) (f : Forest) (queue : List Pending) (n : ℕ
         other o at same =
             let one : moment_at f o.trigger ≡ moment_at f p.trigger = cc in
             let two : o.rule ≡ p.rule = cc in
-            let (m, at_o) = live_node f o.trigger (growing.grown.entries o (rest_in o at)).live in
-            let (q, at_p) = live_node f p.trigger entry.live in
-            let node : o.trigger ≡ p.trigger = growing.grown.holds.once o.trigger p.trigger m q at_o at_p (sym (node_moment f o.trigger m at_o) ∙ one ∙ node_moment f p.trigger q at_p) in
+            let (m, at_o) = node_at f o.trigger (growing.grown.entries o (rest_in o at)).live in
+            let (q, at_p) = node_at f p.trigger entry.live in
+            let node : o.trigger ≡ p.trigger = growing.grown.holds.once o.trigger p.trigger m q at_o at_p (sym (moment_at-is f o.trigger m at_o) ∙ one ∙ moment_at-is f p.trigger q at_p) in
             taken_once queue rest p growing.grown.once next.taken o at node two
 
         leaf : (q : List ℕ) → In (After (After (moment_at f p.trigger) p.rule) q) growing.entered → ⊥
@@ -220,23 +227,24 @@ module _ (s : Standing) (net : Net) (f : Forest) (queue : List Pending) (n : ℕ
         ]
 
         -- its effect has entered
-        pub decided_fires : IsGrowing s net new queue2 (n + weight_at s new x)
+        pub decided_fires : IsGrowing s net new queue2 (n + weight_at s new x) (made + 1)
         decided_fires = record {
           entered = growing.entered ++ After (moment_at f p.trigger) p.rule ∷ [];
           date = p.due.0;
           sound = growing.sound;
           grown = grown_more s net f new x (After (moment_at f p.trigger) p.rule) adds growing.entered rest queue2 n grown_rest apart queues other leaf small;
           settling = with_effect (Pends new queue2) keeps later_still (pends_new s net f new x (After (moment_at f p.trigger) p.rule) adds growing.entered rest queue2 n grown_rest apart queues);
+          each = omega (arith, growing.each, taken_one, waits_more s net f new x (After (moment_at f p.trigger) p.rule) adds growing.entered rest queue2 n grown_rest apart queues);
         }
 
         pub left_less : left queue2 (n + weight_at s new x) ≤ left rest n
         left_less =
             let counted : weight_at s new x ≡ 1 + length (rules (moment_at new x)) + length (rules_at s (moment_at new x)) = refl in
-            omega (arith, queues.count, counted, small)
+            omega (arith, queues.count, count_by-le-length (is_due s (moment_at new x)) (rules_at s (moment_at new x)), counted, small)
 
 -- ---- at the end
 
-module _ (s : Standing) (net : Net) (f : Forest) (n : ℕ) (growing : IsGrowing s net f [] n) where
+module _ (s : Standing) (net : Net) (f : Forest) (n : ℕ) {made : ℕ} (growing : IsGrowing s net f [] n made) where
   right : IsRightTo s (far_in s.premises) s.horizon growing.entered
   right = right_at_end s (far_in s.premises) (sound_timed s growing.sound) s.horizon growing.date growing.entered (record {
     has_roots = growing.settling.has_roots;
@@ -256,10 +264,16 @@ module _ (s : Standing) (net : Net) (f : Forest) (n : ℕ) (growing : IsGrowing 
         once = growing.grown.holds.once;
       }
 
-  pub size_at_end : n ≡ size (built s)
-  size_at_end =
+  -- over what has entered is summed what is over what is believed
+  sum_at_end : (h : Moment → ℕ) → sum_by h growing.entered ≡ sum_by h (built s).believed
+  sum_at_end h =
       let same = (map_is_right s growing.sound).1 growing.entered right in
-      let believed = (built s).believed in
-      let no_more = sum_inside (weight (built s)) growing.entered (built s).believed growing.grown.distinct (λ y at. In-from_Contains (built s).believed y ((same y).0 (Contains-from_In growing.entered y at))) in
-      let no_less = sum_inside (weight (built s)) (built s).believed growing.entered (beliefs_distinct s growing.sound) (λ y at. In-from_Contains growing.entered y ((same y).1 (Contains-from_In (built s).believed y at))) in
-      omega (arith, growing.grown.sized, no_more, no_less)
+      let no_more = sum_inside h growing.entered (built s).believed growing.grown.distinct (λ y at. In-from_Contains (built s).believed y ((same y).0 (Contains-from_In growing.entered y at))) in
+      let no_less = sum_inside h (built s).believed growing.entered (believed_once s growing.sound) (λ y at. In-from_Contains growing.entered y ((same y).1 (Contains-from_In (built s).believed y at))) in
+      omega (arith, no_more, no_less)
+
+  pub size_at_end : n ≡ size (built s)
+  size_at_end = growing.grown.sized ∙ sum_at_end (weight (built s))
+
+  pub made_at_end : made ≡ decisions_due s
+  made_at_end = omega (arith, growing.each, sum_at_end (due_rules s))

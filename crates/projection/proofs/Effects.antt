@@ -3,7 +3,7 @@ use Rattle.std.proofs.Common.{◌≡◌, ◌≢◌, ◌∙◌, inl, inr, ℕ, Li
 use Rattle.std.specs.Prelude.{Option, Some, None, IsSome, ℤ, pos, ◌≤ℤ◌}
 use Rattle.std.specs.List.{Contains}
 use Rattle.std.proofs.lemmas.List.{map-append}
-use Rattle.std.proofs.lemmas.List.Elements.{All-contains}
+use Rattle.std.proofs.lemmas.List.Elements.{All-contains, All-push}
 use Rattle.tmm_model.specs.declared.bound.Bound.{Bound}
 use Rattle.tmm_model.specs.declared.bound.Bound.TheVariants.{Finite}
 use Rattle.tmm_model.specs.declared.point.PointName.TheVariants.{Begin}
@@ -23,11 +23,11 @@ use Rattle.dist_net.specs.Net.{Net}
 use Rattle.spots.specs.declared.link.Link.{Link}
 use Rattle.spots.specs.Forest.{Forest, Member, member, moment, moment_at, rules_of, Enters, IsTrigger, child_member}
 use Rattle.spots.specs.Seen.{IsLinkOf, class_for, IsSeen}
+use Rattle.spots.proofs.Nodes.{moment_at-is}
 use Rattle.projection.specs.Growing.{Adds, effect_shape, MayEnter}
 use Rattle.projection.proofs.Facts.{effect_is}
 use Rattle.projection.proofs.Grown.{class_is}
-use Rattle.projection.proofs.OnKinds.{node_moment, event_of_rules}
-use Rattle.projection.proofs.Tried.{all_push}
+use Rattle.projection.proofs.OnKinds.{event_of_rules}
 
 along-push : (t : Moment) (rs : List (List ℕ)) (r : List ℕ) → along t (rs ++ r ∷ []) ≡ After (along t rs) r
 along-push t [] r = refl
@@ -53,7 +53,7 @@ module _ (s : Standing) (net : Net) (f : Forest) (seen : IsSeen s net f) (x : �
       by n root links =
           (λ i. along (At (Begin (root i))) (links i))
           ∙ along-push (At (Begin m.root)) (rules_of m) r
-          ∙ ap (λ t. After t r) (sym (node_moment f x m at))
+          ∙ ap (λ t. After t r) (sym (moment_at-is f x m at))
 
   module _ (name trigger : List ℕ) (lo : ℤ) (hi : Bound) (effect : List ℕ) (given : _) (there : premise_in s.premises r ≡ Some (Rule name trigger lo hi effect given)) where
     stands : In (Rule name trigger lo hi effect given) s.premises
@@ -78,14 +78,14 @@ module _ (s : Standing) (net : Net) (f : Forest) (seen : IsSeen s net f) (x : �
       node = child_member m (record { rule = r; lo = lo; hi = hi }) effect (class_in s.premises effect) (effect_shape (class_in s.premises effect));
       enters = enters;
       own = record {
-        occurs = subst (Occurs s) (sym is) ((seen.members x m at).occurs, subst (λ t. Contains (rules_at s t) r) (node_moment f x m at) may.stands);
+        occurs = subst (Occurs s) (sym is) ((seen.members x m at).occurs, subst (λ t. Contains (rules_at s t) r) (moment_at-is f x m at) may.stands);
         begin = (seen.members x m at).begin;
         «end» = no_span (class_in s.premises effect);
-        links = all_push (IsLinkOf s) m.links (record { rule = r; lo = lo; hi = hi }) (seen.members x m at).links (record { lo = ap (λ o. (as_rule o).lo) there; hi = ap (λ o. (as_rule o).hi) there });
+        links = All-push (IsLinkOf s) m.links (record { rule = r; lo = lo; hi = hi }) (seen.members x m at).links (record { lo = ap (λ o. (as_rule o).lo) there; hi = ap (λ o. (as_rule o).hi) there });
         is = ap (is_of s) is ∙ ap (λ o. Some (as_effect (as_rule o).effect (sort_in s.premises (as_rule o).effect))) there ∙ ap Some made;
         class = class_for_effect (class_in s.premises effect) refl;
       };
-      is = is ∙ ap (λ t. After t r) (sym (node_moment f x m at));
+      is = is ∙ ap (λ t. After t r) (sym (moment_at-is f x m at));
     }
       where
         is : moment (child_member m (record { rule = r; lo = lo; hi = hi }) effect (class_in s.premises effect) (effect_shape (class_in s.premises effect))) ≡ After (moment m) r

@@ -1,11 +1,8 @@
--- What a well-named list says of the facts that it uses, of the points that it declares, and of its rules.
-use Rattle.std.proofs.Common.{◌≡◌, ◌∙◌, inl, inr, Bool, true, false, ◌||◌, cond, ℕ, List, [], ◌∷◌, ◌++◌, map, refl, sym, ap, subst, append_assoc}
+-- What a well-named list says of the points that it declares, and of what its rules bring about.
+use Rattle.std.proofs.Common.{◌≡◌, ◌∙◌, inr, Bool, true, false, ◌||◌, cond, ℕ, List, [], ◌∷◌, ◌++◌, map, refl, sym, ap}
 use Rattle.std.specs.Prelude.{Option, Some, None, IsSome}
 use Rattle.std.specs.List.{Contains, list_any}
-use Rattle.std.specs.Map.{lookup}
-use Rattle.std.specs.Option.{option_or}
 use Rattle.std.specs.Cmp.Lexicographic.{bytes_decides}
-use Rattle.std.proofs.lemmas.Grind.{flat_map-append}
 use Rattle.std.proofs.lemmas.List.Folds.{list_any-append}
 use Rattle.std.proofs.Math.Bool.{or-true}
 use Rattle.tmm_model.specs.declared.point.PointName.{PointName}
@@ -14,14 +11,15 @@ use Rattle.tmm_model.specs.declared.premise.Premise.TheVariants.{Class, Kind, Po
 use Rattle.tmm_model.specs.declared.token.Shape.TheVariants.{Persistence}
 use Rattle.tmm_model.specs.Beliefs.{as_effect}
 use Rattle.tmm_model.specs.Points.{same_name}
-use Rattle.tmm_model.specs.Sorts.{Sort, a_class, a_fact, a_kind, a_point, an_event, a_token, a_span, a_dist, a_rule, a_protection, is_fact, is_effect, fact_declaration, declarations_of, declarations_in, declared_by, sort_in, class_in, Use, a_name, fact_use, uses_of}
+use Rattle.tmm_model.specs.Sorts.{Sort, a_class, a_fact, a_kind, a_point, an_event, a_token, a_span, a_dist, a_rule, a_protection, is_effect, fact_declaration, declared_by, sort_in, class_in, a_name, uses_of}
 use Rattle.tmm_model.specs.Standing.{name_of, points_of, points_in}
-use Rattle.tmm_model.specs.Verdicts.{Cause, unknown, ill_sorted, name_cause, use_cause, uses_cause, first_taken, words_known}
+use Rattle.tmm_model.specs.Verdicts.{first_taken, words_known}
 use Rattle.tmm_model.specs.WellNamed.{AllFollow, IsWellNamed}
 use Rattle.tmm_model.proofs.Elements.{In, flat_map-In, Contains-from_In}
-use Rattle.tmm_model.proofs.WellNamed.{IsNewThen, first_taken-none, words_known-push, lookup-append}
+use Rattle.tmm_model.proofs.WellNamed.{IsNewThen, first_taken-none, words_known-push}
 use Rattle.premise_list.specs.Words.{facts_of, own_sort}
 use Rattle.premise_list.proofs.Lookups.{declarations_parted}
+use Rattle.supports.proofs.Facts.{class_in-cons, sort_in-cons, fact-class, used_after}
 use Rattle.projection.specs.Growing.{effect_shape}
 
 -- ---- points
@@ -29,128 +27,6 @@ use Rattle.projection.specs.Growing.{effect_shape}
 -- a point that a premise declares is one of the list's
 pub point_there : (premises : List Premise) (p : Premise) (q : PointName) → In p premises → In q (points_of p) → Contains (points_in premises) q
 point_there premises p q at own = Contains-from_In (points_in premises) q (inr (flat_map-In points_of premises p q at own))
-
--- ---- the class that declares a fact
-
--- the first premise declares the fact, or the class is that of the others
-class_in-cons : (n : List ℕ) (p : Premise) (ps : List Premise) → class_in (p ∷ ps) n ≡ cond (list_any (same_name n) (facts_of p)) (Some (name_of p)) (class_in ps n)
-class_in-cons n (Class name facts) ps = by (list_any (same_name n) facts.items)
-  where
-    by : (b : Bool) → elim b as (λ _. Option (List ℕ)) [ true ↦ Some name | false ↦ class_in ps n ] ≡ cond b (Some name) (class_in ps n)
-    by true = refl
-    by false = refl
-class_in-cons n (Kind name) ps = refl
-class_in-cons n (Point name) ps = refl
-class_in-cons n (Event name kind) ps = refl
-class_in-cons n (Token name fact) ps = refl
-class_in-cons n (Span name fact) ps = refl
-class_in-cons n (Dist name from to lo hi) ps = refl
-class_in-cons n (Rule name trigger lo hi effect given) ps = refl
-class_in-cons n (Protect name fact from to) ps = refl
-
-lookup-facts : (n : List ℕ) (fs : List (List ℕ)) (rest : List (List ℕ × Sort)) → lookup (same_name n) (map fact_declaration fs ++ rest) ≡ cond (list_any (same_name n) fs) (Some a_fact) (lookup (same_name n) rest)
-lookup-facts n [] rest = refl
-lookup-facts n (f ∷ fs) rest = by (same_name n f) (lookup-facts n fs rest)
-  where
-    by : (b : Bool) → lookup (same_name n) (map fact_declaration fs ++ rest) ≡ cond (list_any (same_name n) fs) (Some a_fact) (lookup (same_name n) rest)
-        → cond b (Some a_fact) (lookup (same_name n) (map fact_declaration fs ++ rest)) ≡ cond (b || list_any (same_name n) fs) (Some a_fact) (lookup (same_name n) rest)
-    by true e = refl
-    by false e = e
-
--- the sort of a name, parted by the first premise's name, its facts, and the others
-sort_in-cons : (n : List ℕ) (p : Premise) (ps : List Premise)
-    → sort_in (p ∷ ps) n ≡ cond (same_name n (name_of p)) (Some (own_sort p)) (cond (list_any (same_name n) (facts_of p)) (Some a_fact) (sort_in ps n))
-sort_in-cons n p ps =
-    ap (λ ds. lookup (same_name n) (ds ++ declarations_in ps)) (declarations_parted p)
-    ∙ ap (λ o. cond (same_name n (name_of p)) (Some (own_sort p)) o) (lookup-facts n (facts_of p) (declarations_in ps))
-
-own_sort_other : (p : Premise) → own_sort p ≡ a_fact → ⊥
-own_sort_other (Class name facts) e = cc
-own_sort_other (Kind name) e = cc
-own_sort_other (Point name) e = cc
-own_sort_other (Event name kind) e = cc
-own_sort_other (Token name fact) e = cc
-own_sort_other (Span name fact) e = cc
-own_sort_other (Dist name from to lo hi) e = cc
-own_sort_other (Rule name trigger lo hi effect given) e = cc
-own_sort_other (Protect name fact from to) e = cc
-
--- what is declared as a fact has a class
-pub fact-class : (n : List ℕ) (ps : List Premise) → sort_in ps n ≡ Some a_fact → IsSome (class_in ps n)
-fact-class n [] h = cc
-fact-class n (p ∷ ps) h =
-    subst IsSome (sym (class_in-cons n p ps)) (by (same_name n (name_of p)) (list_any (same_name n) (facts_of p)) (fact-class n ps) (sym (sort_in-cons n p ps) ∙ h))
-  where
-    by : (a b : Bool) → (sort_in ps n ≡ Some a_fact → IsSome (class_in ps n))
-        → cond a (Some (own_sort p)) (cond b (Some a_fact) (sort_in ps n)) ≡ Some a_fact → IsSome (cond b (Some (name_of p)) (class_in ps n))
-    by true b again e = let own : own_sort p ≡ a_fact = cc in absurd (own_sort_other p own)
-    by false true again e = refl
-    by false false again e = again e
-
--- ---- uses
-
-one_use : (premises : List Premise) (u : Use) (us : List Use) → uses_cause premises (u ∷ us) ≡ None → (use_cause premises u ≡ None) × (uses_cause premises us ≡ None)
-one_use premises u us e = by (use_cause premises u) refl e
-  where
-    by : (x : Option Cause) → use_cause premises u ≡ x → elim x as (λ _. Option Cause) [ Some cause ↦ Some cause | None ↦ uses_cause premises us ] ≡ None → (use_cause premises u ≡ None) × (uses_cause premises us ≡ None)
-    by None f e = (f, e)
-    by (Some x) f e = cc
-
-each_use : (premises : List Premise) (us : List Use) → uses_cause premises us ≡ None → (u : Use) → In u us → use_cause premises u ≡ None
-each_use premises [] e u at = absurd at
-each_use premises (v ∷ us) e u (inl is) = subst (λ w. use_cause premises w ≡ None) is (one_use premises v us e).0
-each_use premises (v ∷ us) e u (inr at) = each_use premises us (one_use premises v us e).1 u at
-
--- what a name is declared as, where that is as wanted
-wanted_sort : (premises : List Premise) (n : List ℕ) (wanted : Sort → Bool) → use_cause premises (a_name n wanted) ≡ None → (sort : Sort) × (sort_in premises n ≡ Some sort) × (wanted sort ≡ true)
-wanted_sort premises n wanted e = by (sort_in premises n) refl e
-  where
-    by : (o : Option Sort) → sort_in premises n ≡ o → name_cause o n wanted ≡ None → (sort : Sort) × (sort_in premises n ≡ Some sort) × (wanted sort ≡ true)
-    by None f e = absurd (none (same_name n _) e)
-      where
-        none : (b : Bool) → elim b as (λ _. Option Cause) [ true ↦ Some (ill_sorted n) | false ↦ Some (unknown n) ] ≡ None → ⊥
-        none true e = cc
-        none false e = cc
-    by (Some sort) f e = (sort, f, passes (wanted sort) e)
-      where
-        passes : (b : Bool) → elim b as (λ _. Option Cause) [ true ↦ None | false ↦ Some (ill_sorted n) ] ≡ None → b ≡ true
-        passes true e = refl
-        passes false e = cc
-
-only_fact : (sort : Sort) → is_fact sort ≡ true → sort ≡ a_fact
-only_fact a_class e = cc
-only_fact a_fact e = refl
-only_fact a_kind e = cc
-only_fact a_point e = cc
-only_fact an_event e = cc
-only_fact a_token e = cc
-only_fact a_span e = cc
-only_fact a_dist e = cc
-only_fact a_rule e = cc
-only_fact a_protection e = cc
-
--- a sort of a list is the sort in a longer one
-sort-more : (n : List ℕ) (sort : Sort) (ps qs : List Premise) → sort_in ps n ≡ Some sort → sort_in (ps ++ qs) n ≡ Some sort
-sort-more n sort ps qs e =
-    ap (lookup (same_name n)) (flat_map-append declarations_of ps qs)
-    ∙ lookup-append (same_name n) (declarations_in ps) (declarations_in qs)
-    ∙ ap (λ o. option_or o (lookup (same_name n) (declarations_in qs))) e
-
-used_after : (earlier premises : List Premise) → AllFollow earlier premises → (p : Premise) → In p premises → (n : List ℕ) (wanted : Sort → Bool) → In (a_name n wanted) (uses_of p)
-    → (sort : Sort) × (sort_in (earlier ++ premises) n ≡ Some sort) × (wanted sort ≡ true)
-used_after earlier [] h p at n wanted use_ = absurd at
-used_after earlier (o ∷ premises) h p (inl is) n wanted use_ =
-    let known : use_cause earlier (a_name n wanted) ≡ None = each_use earlier (uses_of o) h.0.known (a_name n wanted) (subst (λ z. In (a_name n wanted) (uses_of z)) (sym is) use_) in
-    let (sort, declared, as_wanted) = wanted_sort earlier n wanted known in
-    (sort, sort-more n sort earlier (o ∷ premises) declared, as_wanted)
-used_after earlier (o ∷ premises) h p (inr at) n wanted use_ =
-    subst (λ l. (sort : Sort) × (sort_in l n ≡ Some sort) × (wanted sort ≡ true)) (append_assoc earlier (o ∷ []) premises) (used_after (earlier ++ o ∷ []) premises h.1 p at n wanted use_)
-
--- **A fact that a premise of a well-named list uses has a class.**
-pub fact_known : (premises : List Premise) → IsWellNamed premises → (p : Premise) → In p premises → (fact : List ℕ) → In (fact_use fact) (uses_of p) → IsSome (class_in premises fact)
-fact_known premises h p at fact use_ =
-    let (sort, declared, as_fact) = used_after [] premises h p at fact is_fact use_ in
-    fact-class fact premises (declared ∙ ap Some (only_fact sort as_fact))
 
 -- ---- kinds
 

@@ -1,9 +1,9 @@
 -- How what a tree holds grows with an occurrence that enters.
-use Rattle.std.proofs.Common.{◌≡◌, ◌≢◌, ◌∙◌, ◌⊎◌, inl, inr, ℕ, zero, suc, ◌<◌, true, List, [], ◌∷◌, ◌++◌, take, drop, length, refl, sym, ap, subst, arith, append-nil}
+use Rattle.std.proofs.Common.{◌≡◌, ◌≢◌, ◌∙◌, ◌⊎◌, inl, inr, ℕ, zero, suc, ◌<◌, true, List, [], ◌∷◌, ◌++◌, take, drop, length, refl, sym, ap, subst, arith}
 use Rattle.std.specs.Prelude.{Option, Some, None, IsSome, slice_get}
-use Rattle.std.specs.List.{Contains, filter_map, cons_option}
+use Rattle.std.specs.List.{Contains, filter_map}
 use Rattle.std.proofs.lemmas.Bool.Decides.{eqb_tells}
-use Rattle.std.proofs.lemmas.List.Elements.{Contains-append_left, Contains-append_cases, filter_map-append}
+use Rattle.std.proofs.lemmas.List.Elements.{Contains-append_left, Contains-append_cases}
 use Rattle.tmm_model.specs.declared.point.PointName.{PointName}
 use Rattle.tmm_model.specs.declared.point.PointName.TheVariants.{Begin, End}
 use Rattle.tmm_model.specs.declared.premise.Premise.{Premise}
@@ -27,7 +27,8 @@ use Rattle.list_net.specs.Represents.{IsNumberOf}
 use Rattle.spots.specs.Forest.{Forest, Member, member, moment, rules_of, Enters, IsNoRoot, IsOnce, root_member}
 use Rattle.spots.specs.Seen.{IsMemberOf, IsSeen, Holds}
 use Rattle.projection.specs.Growing.{Adds, AddsRootAt, AddsRoot}
-use Rattle.projection.proofs.Facts.{point_there, fact_known}
+use Rattle.supports.proofs.Facts.{fact_known}
+use Rattle.projection.proofs.Facts.{point_there}
 
 -- ---- an element of a list, and what is before it
 
@@ -165,15 +166,6 @@ module _ (s : Standing) (sound : IsSound s) (front : List Premise) (p : Premise)
       by (Some k) e None adds = absurd adds
       by None e (Some x) adds = absurd adds
       by None e None same = subst (IsSeen s net) (sym same) seen
-
-  pub root_holds : (net : Net) (old new : Forest) (x : Option ℕ) → Holds (filter_map root_of front) old → AddsRoot s net.names p old new x → Holds (filter_map root_of (front ++ p ∷ [])) new
-  root_holds net old new x holds adds = subst (λ b. Holds b new) (sym (filter_map-append root_of front (p ∷ []))) (by (root_of p) refl x adds)
-    where
-      by : (o : Option Moment) → root_of p ≡ o → (x : Option ℕ) → AddsRootAt s net.names o old new x → Holds (filter_map root_of front ++ cons_option o []) new
-      by (Some k) e (Some x) adds = adds_holds s net old new x k adds (filter_map root_of front) holds (new_root k e)
-      by (Some k) e None adds = absurd adds
-      by None e (Some x) adds = absurd adds
-      by None e None same = subst (λ b. Holds b new) (sym (append-nil (filter_map root_of front))) (subst (Holds (filter_map root_of front)) (sym same) holds)
 
 -- ---- the nodes of roots
 

@@ -5,7 +5,6 @@ pub mod Dates
 pub mod OnKinds
 pub mod Waiting
 pub mod Effects
-pub mod OneEach
 pub mod Steps
 pub mod Settled
 pub mod Decided

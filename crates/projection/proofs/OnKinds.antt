@@ -1,21 +1,20 @@
 -- The rules on a kind, as they are kept and as they stand at an event.
 use Rattle.std.proofs.Common.{◌≡◌, ◌∙◌, ℕ, ◌+◌, ◌≤◌, Bool, true, false, cond, List, [], ◌∷◌, ◌++◌, length, refl, sym, ap, subst, arith}
-use Rattle.std.specs.Prelude.{Option, Some, None, IsSome}
+use Rattle.std.specs.Prelude.{Option, Some, None}
 use Rattle.std.specs.List.{Contains, filter_map, cons_option}
 use Rattle.std.specs.Option.{option_map_or}
 use Rattle.std.proofs.lemmas.List.{length-map}
 use Rattle.std.specs.Cmp.Lexicographic.{nat_list_eq_equiv}
-use Rattle.tmm_model.specs.declared.point.PointName.TheVariants.{Start, Begin}
 use Rattle.tmm_model.specs.declared.token.Shape.{Shape}
 use Rattle.tmm_model.specs.declared.token.Shape.TheVariants.{Event, Persistence, Span}
 use Rattle.tmm_model.specs.Beliefs.{rules_on, rules_for, rules_at}
-use Rattle.tmm_model.specs.Moments.{At, rules}
+use Rattle.tmm_model.specs.Moments.{rules}
 use Rattle.tmm_model.specs.Points.{same_name}
 use Rattle.tmm_model.specs.Standing.{Standing}
-use Rattle.tmm_model.proofs.Moments.{rules-along}
 use Rattle.dist_net.specs.Net.{Net}
-use Rattle.spots.specs.Forest.{Forest, Member, member, moment, moment_at, rules_of, IsLive}
+use Rattle.spots.specs.Forest.{Forest, Member, member, moment, moment_at}
 use Rattle.spots.specs.Seen.{IsSeen}
+use Rattle.spots.proofs.Nodes.{moment_at-is, rules-moment}
 use Rattle.projection.specs.Kinds.{names_on, AddsName}
 use Rattle.projection.specs.Queues.{weight_at}
 use Rattle.projection.specs.declared.kinds.RulesByKind.{RulesByKind}
@@ -42,22 +41,9 @@ length-filter_map-le h (x ∷ xs) = by (h x) (length-filter_map-le h xs)
 
 -- ---- nodes
 
-pub live_node : (f : Forest) (x : ℕ) → IsLive f x → (m : Member) × (member f x ≡ Some m)
-live_node f x live = by (member f x) live
-  where
-    by : (o : Option Member) → IsSome o → (m : Member) × (o ≡ Some m)
-    by (Some m) h = (m, refl)
-    by None h = absurd (cc (h))
-
-pub node_live : (f : Forest) (x : ℕ) (m : Member) → member f x ≡ Some m → IsLive f x
-node_live f x m at = subst IsSome (sym at) refl
-
-pub node_moment : (f : Forest) (x : ℕ) (m : Member) → member f x ≡ Some m → moment_at f x ≡ moment m
-node_moment f x m at = ap (λ o. option_map_or moment o (At Start)) at
-
 module _ (s : Standing) (net : Net) (f : Forest) (seen : IsSeen s net f) (x : ℕ) (m : Member) (at : member f x ≡ Some m) where
   rules_is : rules_at s (moment_at f x) ≡ rules_for s (Some (m.shape, m.what))
-  rules_is = ap (rules_at s) (node_moment f x m at) ∙ ap (rules_for s) (seen.members x m at).is
+  rules_is = ap (rules_at s) (moment_at-is f x m at) ∙ ap (rules_for s) (seen.members x m at).is
 
   -- at an event stand the rules on its kind
   pub rules_of_event : m.shape ≡ Event → rules_at s (moment_at f x) ≡ rules_on s m.what
@@ -75,7 +61,7 @@ module _ (s : Standing) (net : Net) (f : Forest) (seen : IsSeen s net f) (x : �
 -- ---- sizes
 
 pub node_rules : (m : Member) → length (rules (moment m)) ≡ length m.links
-node_rules m = ap length (rules-along (At (Begin m.root)) (rules_of m)) ∙ length-map m.links (λ l. l.rule)
+node_rules m = ap length (rules-moment m) ∙ length-map m.links (λ l. l.rule)
 
 pub node_weight : (s : Standing) (f : Forest) (x : ℕ) (m : Member) → member f x ≡ Some m → 1 + length m.links + length (rules_at s (moment_at f x)) ≡ weight_at s f x
-node_weight s f x m at = ap (λ n. 1 + n + length (rules_at s (moment_at f x))) (sym (node_rules m) ∙ ap (λ k. length (rules k)) (sym (node_moment f x m at)))
+node_weight s f x m at = ap (λ n. 1 + n + length (rules_at s (moment_at f x))) (sym (node_rules m) ∙ ap (λ k. length (rules k)) (sym (moment_at-is f x m at)))

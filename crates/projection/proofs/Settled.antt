@@ -1,5 +1,5 @@
 -- A projection that grows, decision by decision, and what it is at its end.
-use Rattle.std.proofs.Common.{◌≡◌, ◌∙◌, inl, inr, ℕ, ◌+◌, ◌<◌, ◌≤◌, List, [], ◌∷◌, ◌++◌, refl, sym, ap, subst, arith, append-nil}
+use Rattle.std.proofs.Common.{◌≡◌, ◌∙◌, inl, inr, ℕ, ◌+◌, ◌<◌, ◌≤◌, List, [], ◌∷◌, ◌++◌, length, refl, sym, ap, subst, arith, append-nil}
 use Rattle.std.proofs.lemmas.Int.{ints}
 use Rattle.std.specs.Prelude.{Option, Some, None, ℤ, pos, ◌≤ℤ◌, sum_by}
 use Rattle.std.specs.List.{Contains, filter_map, cons_option}
@@ -20,11 +20,12 @@ use Rattle.dist_net.specs.Net.{Net}
 use Rattle.spots.specs.Forest.{Forest, moment_at}
 use Rattle.spots.specs.Seen.{IsSeen, Holds}
 use Rattle.projection.specs.declared.pending.Pending.{Pending}
+use Rattle.projection.specs.Counted.{due_rules}
 use Rattle.projection.specs.Growing.{Adds, AddsRoot, AddsRootAt}
 use Rattle.projection.specs.Projecting.{Pends, IsGrown, IsStarted, IsGrowing}
 use Rattle.projection.specs.Queues.{is_for, Queues, weight_at, IsTooLarge}
 use Rattle.projection.proofs.Grown.{new_root, root_name}
-use Rattle.projection.proofs.Steps.{push_cases, too_large, pends_kept, pends_new, grown_more, root_no_effect, root_believed}
+use Rattle.projection.proofs.Steps.{push_cases, too_large, pends_kept, pends_new, waits_more, grown_more, root_no_effect, root_believed}
 
 -- ---- what is declared
 
@@ -42,12 +43,13 @@ module _ (s : Standing) (net : Net) (f : Forest) (queue : List Pending) (n : ℕ
       undecided = λ p at. absurd (subst (In p) none at);
     };
     queued = λ t r at. absurd at;
+    waiting = ap length none;
   }
 
   module _ (front : List Premise) (p : Premise) (back : List Premise) (whole : front ++ p ∷ back ≡ s.premises) (started : IsStarted s net front f queue n) where
     -- a premise that declares nothing
     pub started_none : root_of p ≡ None → IsStarted s net (front ++ p ∷ []) f queue n
-    started_none none = record { grown = subst (λ b. IsGrown s net b f queue n) same started.grown; queued = λ t r at. started.queued t r (subst (In t) (sym same) at) }
+    started_none none = record { grown = subst (λ b. IsGrown s net b f queue n) same started.grown; queued = λ t r at. started.queued t r (subst (In t) (sym same) at); waiting = started.waiting ∙ ap (sum_by (due_rules s)) same }
       where
         same : filter_map root_of front ≡ filter_map root_of (front ++ p ∷ [])
         same =
@@ -78,7 +80,7 @@ module _ (s : Standing) (net : Net) (f : Forest) (queue : List Pending) (n : ℕ
 
       pub started_more : (queue2 : List Pending) → Queues s new x (rules_at s (moment_at new x)) queue queue2 → n + weight_at s new x ≤ most_size
           → IsStarted s net (front ++ p ∷ []) new queue2 (n + weight_at s new x)
-      started_more queue2 queues small = record { grown = subst (λ b. IsGrown s net b new queue2 (n + weight_at s new x)) same_roots grown; queued = λ t r at. queued t r (subst (In t) (sym same_roots) at) }
+      started_more queue2 queues small = record { grown = subst (λ b. IsGrown s net b new queue2 (n + weight_at s new x)) same_roots grown; queued = λ t r at. queued t r (subst (In t) (sym same_roots) at); waiting = waiting ∙ ap (sum_by (due_rules s)) same_roots }
         where
           at_root : k ≡ At (Begin (name_of p))
           at_root = root_name p k made
@@ -88,6 +90,9 @@ module _ (s : Standing) (net : Net) (f : Forest) (queue : List Pending) (n : ℕ
 
           grown : IsGrown s net (filter_map root_of front ++ k ∷ []) new queue2 (n + weight_at s new x)
           grown = grown_more s net f new x k adds (filter_map root_of front) queue queue2 n started.grown apart queues (λ o at. no_effect (moment_at f o.trigger) o.rule) (λ r. root_no_effect front k r) small
+
+          waiting : length queue2 ≡ sum_by (due_rules s) (filter_map root_of front ++ k ∷ [])
+          waiting = omega (arith, started.waiting, waits_more s net f new x k adds (filter_map root_of front) queue queue2 n started.grown apart queues)
 
           queued : (t : Moment) (r : List ℕ) → In t (filter_map root_of front ++ k ∷ []) → Contains (rules_at s t) r → due s (far_in s.premises) t r ≤ℤ pos s.horizon → Pends new queue2 t r
           queued t r at on in_time = elim (push_cases (filter_map root_of front) k t at) [
@@ -99,7 +104,7 @@ module _ (s : Standing) (net : Net) (f : Forest) (queue : List Pending) (n : ℕ
           ]
 
   -- with all that is declared, the first decisions wait
-  pub growing_first : IsStarted s net s.premises f queue n → IsGrowing s net f queue n
+  pub growing_first : IsStarted s net s.premises f queue n → IsGrowing s net f queue n 0
   growing_first started = record {
     entered = roots s;
     date = 0;
@@ -113,6 +118,7 @@ module _ (s : Standing) (net : Net) (f : Forest) (queue : List Pending) (n : ℕ
       settled = λ t r at on in_time. inl (started.queued t r (In-from_Contains (roots s) t at) on in_time);
       pend_later = later;
     };
+    each = omega (arith, started.waiting);
   }
     where
       occurs : (y : Moment) → Contains (roots s) y → Occurs s y

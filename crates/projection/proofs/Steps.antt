@@ -3,7 +3,7 @@ use Rattle.std.proofs.Common.{◌≡◌, ◌∙◌, ◌⊎◌, inl, inr, ℕ, �
 use Rattle.std.specs.Prelude.{Some, None, pos, ◌≤ℤ◌, sum_by}
 use Rattle.std.specs.List.{Contains, filter_map}
 use Rattle.std.proofs.lemmas.List.{length-append}
-use Rattle.std.proofs.lemmas.List.Sums.{sum_by-cons, sum_by-append}
+use Rattle.std.proofs.lemmas.List.Sums.{sum_by_push}
 use Rattle.tmm_model.specs.declared.point.PointName.TheVariants.{Begin}
 use Rattle.tmm_model.specs.declared.premise.Premise.{Premise}
 use Rattle.tmm_model.specs.Answers.{weight, size, most_size}
@@ -17,13 +17,14 @@ use Rattle.tmm_model.proofs.Elements.{In, In-from_Contains, Contains-from_In, In
 use Rattle.tmm_model.proofs.SoundBeliefs.{believed_right}
 use Rattle.dist_net.specs.Net.{Net}
 use Rattle.spots.specs.Forest.{Forest, member, moment_at, IsLive}
+use Rattle.spots.proofs.Nodes.{node_at, live_at, moment_at-is}
 use Rattle.projection.specs.declared.pending.Pending.{Pending}
+use Rattle.projection.specs.Counted.{due_rules}
 use Rattle.projection.specs.Growing.{Adds}
 use Rattle.projection.specs.Projecting.{IsEntry, Pends, IsGrown}
 use Rattle.projection.specs.Queues.{IsDue, Queues, weight_at}
 use Rattle.projection.proofs.Grown.{held_apart, adds_seen, adds_holds, node_kept, root_name}
-use Rattle.projection.proofs.OneEach.{rules_distinct}
-use Rattle.projection.proofs.OnKinds.{live_node, node_live, node_moment}
+use Rattle.spots.proofs.Believed.{rules_once}
 use Rattle.projection.proofs.Waiting.{queued_once}
 
 -- an effect is not its own event
@@ -42,28 +43,22 @@ push_cases b k y at = elim (In-cases b (k ∷ []) y at) [ inl before ↦ inl bef
 pub inside_size : (s : Standing) → IsSound s → (c : List Moment) → Distinct c → ((y : Moment) → In y c → In y (built s).believed) → sum_by (weight (built s)) c ≤ size (built s)
 inside_size s sound c distinct inside = sum_inside (weight (built s)) c (built s).believed distinct inside
 
-pub sum_push : (s : Standing) (b : List Moment) (k : Moment) → sum_by (weight (built s)) (b ++ k ∷ []) ≡ sum_by (weight (built s)) b + weight (built s) k
-sum_push s b k =
-    let one = sum_by-cons (weight (built s)) k [] in
-    let both = sum_by-append (weight (built s)) b (k ∷ []) in
-    omega (arith, one, both)
-
 module _ (s : Standing) (net : Net) (f new : Forest) (x : ℕ) (k : Moment) (adds : Adds s net.names f new x k) where
   pub at_new : moment_at new x ≡ k
-  at_new = node_moment new x adds.node adds.enters.entered ∙ adds.is
+  at_new = moment_at-is new x adds.node adds.enters.entered ∙ adds.is
 
   pub new_live : IsLive new x
-  new_live = node_live new x adds.node adds.enters.entered
+  new_live = live_at new x adds.node adds.enters.entered
 
   pub kept_live : (y : ℕ) → IsLive f y → IsLive new y
-  kept_live y live = let (m, at) = live_node f y live in node_live new y m (node_kept s net f new x k adds y m at)
+  kept_live y live = let (m, at) = node_at f y live in live_at new y m (node_kept s net f new x k adds y m at)
 
   pub kept_moment : (y : ℕ) → IsLive f y → moment_at new y ≡ moment_at f y
-  kept_moment y live = let (m, at) = live_node f y live in node_moment new y m (node_kept s net f new x k adds y m at) ∙ sym (node_moment f y m at)
+  kept_moment y live = let (m, at) = node_at f y live in moment_at-is new y m (node_kept s net f new x k adds y m at) ∙ sym (moment_at-is f y m at)
 
   not_new : (y : ℕ) → IsLive f y → y ≡ x → ⊥
   not_new y live same =
-      let (m, at) = live_node f y live in
+      let (m, at) = node_at f y live in
       let never : None ≡ Some m = sym adds.enters.free ∙ ap (member f) (sym same) ∙ at in
       cc
 
@@ -73,7 +68,7 @@ module _ (s : Standing) (net : Net) (f new : Forest) (x : ℕ) (k : Moment) (add
   module _ (b : List Moment) (queue queue2 : List Pending) (n : ℕ) (grown : IsGrown s net b f queue n) (apart : In k b → ⊥) where
     -- what counts with the occurrence
     pub size_is : n + weight_at s new x ≡ sum_by (weight (built s)) (b ++ k ∷ [])
-    size_is = (λ i. grown.sized i + weight_is i) ∙ sym (sum_push s b k)
+    size_is = (λ i. grown.sized i + weight_is i) ∙ sym (sum_by_push (weight (built s)) b k)
 
     -- where all that has entered is believed, a size that is too large is that of a map that is too large
     pub too_large : ((y : Moment) → In y (b ++ k ∷ []) → In y (built s).believed) → most_size < n + weight_at s new x → most_size < size (built s)
@@ -91,6 +86,10 @@ module _ (s : Standing) (net : Net) (f new : Forest) (x : ℕ) (k : Moment) (add
           queues.all r (In-from_Contains (rules_at s (moment_at new x)) r (subst (λ t. Contains (rules_at s t) r) (sym at_new) stands))
           (subst (λ t. due s (far_in s.premises) t r ≤ℤ pos s.horizon) (sym at_new) in_time) in
           (p, at, ap (moment_at new) trigger ∙ at_new, named)
+
+      -- so many more wait
+      pub waits_more : length queue2 + sum_by (due_rules s) b ≡ length queue + sum_by (due_rules s) (b ++ k ∷ [])
+      waits_more = omega (arith, queues.count, ap (due_rules s) at_new, sum_by_push (due_rules s) b k)
 
       -- what waits now waited, or is due for a rule on the occurrence
       pub pends_cases : (t : Moment) (r : List ℕ) → Pends new queue2 t r
@@ -112,7 +111,7 @@ module _ (s : Standing) (net : Net) (f new : Forest) (x : ℕ) (k : Moment) (add
           sized = size_is;
           small = small;
           entries = entries;
-          once = queued_once s new x (rules_at s (moment_at new x)) queue queue2 queues (rules_distinct s grown.seen.network.sound (moment_at new x)) grown.once
+          once = queued_once s new x (rules_at s (moment_at new x)) queue queue2 queues (rules_once s grown.seen.network.sound (moment_at new x)) grown.once
               (λ p at. not_new p.trigger (grown.entries p at).live);
           undecided = undecided;
         }

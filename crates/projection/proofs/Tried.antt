@@ -1,26 +1,14 @@
 -- The outcome of a decision, found antecedent by antecedent.
-use Rattle.std.proofs.Common.{◌≡◌, ◌∙◌, ℕ, suc, ◌+◌, ◌<◌, Bool, true, false, List, [], ◌∷◌, ◌++◌, map, take, drop, length, get_or, refl, sym, ap, subst, arith, add-one, inl, inr}
+use Rattle.std.proofs.Common.{◌≡◌, ◌∙◌, ℕ, suc, ◌+◌, ◌<◌, Bool, true, false, List, [], ◌∷◌, ◌++◌, map, take, drop, length, get_or, refl, sym, ap, arith, add-one}
 use Rattle.std.proofs.lemmas.Int.{ints}
-use Rattle.std.specs.Prelude.{Option, Some, None, IsSome, ℤ, pos, ◌≤ℤ◌, int_le}
-use Rattle.std.specs.List.{All, Contains, filter_map}
+use Rattle.std.specs.Prelude.{Option, Some, None, ℤ, pos, ◌≤ℤ◌, ◌<ℤ◌, int_le}
+use Rattle.std.specs.List.{filter_map}
 use Rattle.std.specs.Option.{option_map}
 use Rattle.std.proofs.Math.Seq.{take-suc, drop-cons}
-use Rattle.std.proofs.lemmas.List.Elements.{All-contains, Contains-append_cases}
 use Rattle.std.proofs.lemmas.List.{map-append, take-append-drop}
-use Rattle.tmm_model.specs.declared.premise.Premise.{Premise}
-use Rattle.tmm_model.specs.declared.premise.Premise.TheVariants.{Class, Kind, Point, Event, Token, Span, Dist, Rule, Protect}
-use Rattle.tmm_model.specs.Beliefs.{Outcome, fires, blocked, beyond, first_without, tried, rules_at, on_kind, due, outcome, holder}
-use Rattle.tmm_model.specs.Moments.{Moment, Distances, as_rule, rule_of}
-use Rattle.tmm_model.specs.Right.{IsSound}
-use Rattle.tmm_model.specs.Sorts.{class_in, fact_use}
+use Rattle.tmm_model.specs.Beliefs.{Outcome, fires, blocked, beyond, first_without, tried, due, outcome, holder}
+use Rattle.tmm_model.specs.Moments.{Moment, Distances, rule_of}
 use Rattle.tmm_model.specs.Standing.{Standing}
-use Rattle.tmm_model.specs.WellNamed.{premise_in}
-use Rattle.tmm_model.proofs.Elements.{In, In-from_Contains, map-In}
-use Rattle.tmm_model.proofs.KnownNames.{found, finds}
-use Rattle.tmm_model.proofs.Members.{All-from_contains}
-use Rattle.tmm_model.proofs.Sound.{rule_stands}
-use Rattle.projection.specs.Decisions.{IsRule, IsRuleOf}
-use Rattle.projection.proofs.Facts.{fact_known}
 
 -- ---- lists, element by element
 
@@ -77,41 +65,6 @@ module _ {A X : Type 0} (g : X → Moment) (h : A → Option Moment) where
       by None e = cc
       by (Some place) e = (let same : place ≡ i = cc in ap blocked same)
 
--- ---- the rule
-
-rule_on : (p : Premise) (kind r : List ℕ) → on_kind kind p ≡ Some r → IsRule p
-rule_on (Rule name trigger lo hi effect given) kind r e = tt
-rule_on (Class name facts) kind r e = cc
-rule_on (Kind name) kind r e = cc
-rule_on (Point name) kind r e = cc
-rule_on (Event name kind_) kind r e = cc
-rule_on (Token name fact) kind r e = cc
-rule_on (Span name fact) kind r e = cc
-rule_on (Dist name from to lo hi) kind r e = cc
-rule_on (Protect name fact from to) kind r e = cc
-
--- a rule that stands at a moment is a premise of the list
-pub rule_there : (s : Standing) → IsSound s → (t : Moment) (r : List ℕ) → Contains (rules_at s t) r → IsRuleOf s r
-rule_there s sound t r at =
-    let (p, there, named, kind, is) = rule_stands s t r at in
-    (p, subst (λ n. premise_in s.premises n ≡ Some p) named (found s.premises sound.well_named p there), rule_on p kind r is)
-
--- each antecedent has a class
-pub facts_known : (s : Standing) → IsSound s → (r : List ℕ) → IsRuleOf s r → All (λ fact. IsSome (class_in s.premises fact)) (rule_of s r).given
-facts_known s sound r (p, there, is) = subst (λ o. All (λ fact. IsSome (class_in s.premises fact)) (as_rule o).given) (sym there) (All-from_contains (λ fact. IsSome (class_in s.premises fact)) (as_rule (Some p)).given
-    (λ fact at. by p (finds s.premises r p there).0 fact (In-from_Contains (as_rule (Some p)).given fact at)))
-  where
-    by : (p : Premise) → In p s.premises → (fact : List ℕ) → In fact (as_rule (Some p)).given → IsSome (class_in s.premises fact)
-    by (Rule name trigger lo hi effect given) stands fact at = fact_known s.premises sound.well_named (Rule name trigger lo hi effect given) stands fact (inr (inr (map-In fact_use given.items fact at)))
-    by (Class name facts) stands fact at = absurd at
-    by (Kind name) stands fact at = absurd at
-    by (Point name) stands fact at = absurd at
-    by (Event name kind) stands fact at = absurd at
-    by (Token name fact_) stands fact at = absurd at
-    by (Span name fact_) stands fact at = absurd at
-    by (Dist name from to lo hi) stands fact at = absurd at
-    by (Protect name fact_ from to) stands fact at = absurd at
-
 -- ---- dates
 
 -- it is due in time
@@ -126,9 +79,13 @@ is_tried s far b t r in_time = by (int_le (due s far t r) (pos s.horizon)) (le (
     by true e = refl
     by false e = cc
 
--- one element more of which P holds
-pub all_push : {X : Type 0} (P : X → Type 0) (xs : List X) (x : X) → All P xs → P x → All P (xs ++ x ∷ [])
-all_push P xs x all here = All-from_contains P (xs ++ x ∷ []) (λ y at. elim (Contains-append_cases xs (x ∷ []) y at) [
-  | inl before ↦ All-contains P xs y all before
-  | inr is ↦ elim (In-from_Contains (x ∷ []) y is) [ inl same ↦ subst P same here | inr never ↦ absurd never ]
-])
+-- it is due after the horizon
+pub is_beyond : (s : Standing) (far : Distances) (b : List Moment) (t : Moment) (r : List ℕ) → pos s.horizon <ℤ due s far t r → beyond ≡ outcome s far b t r
+is_beyond s far b t r late = by (int_le (due s far t r) (pos s.horizon)) (gt (due s far t r) s.horizon late)
+  where
+    gt : (z : ℤ) (h : ℕ) → pos h <ℤ z → int_le z (pos h) ≡ false
+    gt z h l = grind (arith, ints)
+
+    by : (v : Bool) → v ≡ false → beyond ≡ elim v as (λ _. Outcome) [ false ↦ beyond | true ↦ tried (map (λ fact. holder s far b fact t t) (rule_of s r).given) ]
+    by false e = refl
+    by true e = cc

@@ -1,11 +1,11 @@
 -- Decisions that wait, entry by entry.
 use Rattle.std.proofs.Common.{◌≡◌, ◌∙◌, ◌⊎◌, inl, inr, ℕ, ◌+◌, ◌≤◌, Bool, true, false, cond, ◌&&◌, ◌==◌, List, [], ◌∷◌, ◌++◌, refl, sym, ap, subst, arith}
 use Rattle.std.proofs.lemmas.Int.{ints}
-use Rattle.std.specs.Prelude.{ℤ, pos, ◌≤ℤ◌, ◌<ℤ◌, sum_by}
+use Rattle.std.specs.Prelude.{ℤ, pos, ◌≤ℤ◌, ◌<ℤ◌, int_le, sum_by}
+use Rattle.std.specs.List.{count_by}
 use Rattle.std.specs.List.Sorted.{IsPermutation}
 use Rattle.std.proofs.lemmas.Bool.{eqb-true, eq-eqb}
-use Rattle.std.proofs.lemmas.List.{length-append}
-use Rattle.std.proofs.lemmas.List.Sums.{sum_by-cons, sum_by-append}
+use Rattle.std.proofs.lemmas.List.Sums.{sum_by-cons, sum_by-append, sum_by_push}
 use Rattle.std.proofs.lemmas.List.Sorted.{IsPermutation-sym, Contains-permutation, length_permutation, sum_by_pushed, sum_by_popped}
 use Rattle.std.specs.Cmp.Lexicographic.{bytes_decides, nat_list_eq_equiv}
 use Rattle.tmm_model.specs.Beliefs.{due}
@@ -15,6 +15,7 @@ use Rattle.tmm_model.proofs.Distinct.{Distinct}
 use Rattle.tmm_model.proofs.Elements.{In, In-from_Contains, Contains-from_In, In-left, In-right, In-cases}
 use Rattle.spots.specs.Forest.{Forest, moment_at}
 use Rattle.projection.specs.declared.pending.Pending.{Pending}
+use Rattle.projection.specs.Counted.{is_due}
 use Rattle.projection.specs.Queues.{is_for, is_name, IsDue, Queues}
 
 -- ---- members of a queue
@@ -28,6 +29,10 @@ module _ (s : Standing) (f : Forest) (x : ℕ) where
   more_due : (names : List (List ℕ)) (rule : List ℕ) (p : Pending) → IsDue s f x names p → IsDue s f x (names ++ rule ∷ []) p
   more_due names rule p is = record { trigger = is.trigger; rule = In-left names (rule ∷ []) p.rule is.rule; date = is.date; in_time = is.in_time }
 
+  -- how many are due with the next rule
+  one_more : (names : List (List ℕ)) (rule : List ℕ) → count_by (is_due s (moment_at f x)) (names ++ rule ∷ []) ≡ count_by (is_due s (moment_at f x)) names + cond (is_due s (moment_at f x) rule) 1 0
+  one_more names rule = sum_by_push (λ r. cond (is_due s (moment_at f x) r) 1 0) names rule
+
   -- the next rule is due after the horizon
   pub queues_late : (names : List (List ℕ)) (rule : List ℕ) (old new : List Pending) → Queues s f x names old new → pos s.horizon <ℤ due s (far_in s.premises) (moment_at f x) rule
       → Queues s f x (names ++ rule ∷ []) old new
@@ -35,11 +40,17 @@ module _ (s : Standing) (f : Forest) (x : ℕ) where
     kept = q.kept;
     own = λ p at. elim (q.own p at) [ inl before ↦ inl before | inr is ↦ inr (more_due names rule p is) ];
     all = all;
-    count = omega (arith, q.count, length-append names (rule ∷ []));
+    count = omega (arith, q.count, one_more names rule, not_due late);
     once = λ y r. by (x == y) (sum_by (is_for y r) new) (sum_by (is_for y r) old) (sum_by (is_name r) names) (sum_by (is_name r) (names ++ rule ∷ [])) (sum_by (is_name r) (rule ∷ [])) (q.once y r)
         (sum_by-append (is_name r) names (rule ∷ []));
   }
     where
+      not_due : pos s.horizon <ℤ due s (far_in s.premises) (moment_at f x) rule → ◌≡◌ {A = ℕ} (cond (is_due s (moment_at f x) rule) 1 0) 0
+      not_due above = ap (λ b. cond b 1 0) (is_not (due s (far_in s.premises) (moment_at f x) rule) s.horizon above)
+        where
+          is_not : (z : ℤ) (h : ℕ) → pos h <ℤ z → int_le z (pos h) ≡ false
+          is_not z h l = grind (arith, ints)
+
       never : (z w : ℤ) (h : ℕ) → z ≡ w → pos h <ℤ z → w ≤ℤ pos h → ⊥
       never z w h e a b = omega (arith, ints)
 
@@ -63,10 +74,16 @@ module _ (s : Standing) (f : Forest) (x : ℕ) where
     kept = λ o at. In-permutation (p ∷ mid) new pushed o (inr (q.kept o at));
     own = own;
     all = all;
-    count = omega (arith, q.count, length-append names (rule ∷ []), length_permutation (p ∷ mid) new pushed);
+    count = omega (arith, q.count, one_more names rule, is_one, length_permutation (p ∷ mid) new pushed);
     once = once;
   }
     where
+      is_one : ◌≡◌ {A = ℕ} (cond (is_due s (moment_at f x) rule) 1 0) 1
+      is_one = ap (λ b. cond b 1 0) (is_in_time (due s (far_in s.premises) (moment_at f x) rule) p.due.0 s.horizon date in_time)
+        where
+          is_in_time : (z : ℤ) (d h : ℕ) → z ≡ pos d → d ≤ h → int_le z (pos h) ≡ true
+          is_in_time z d h e le = grind (arith, ints)
+
       back : (o : Pending) → In o new → In o (p ∷ mid)
       back = In-permutation new (p ∷ mid) (IsPermutation-sym (p ∷ mid) new pushed)
 

@@ -1,12 +1,9 @@
 -- What the code's decision says of a rule at an event.
-use Rattle.std.specs.Prelude.{◌≡◌, ℕ, ◌≤◌, ℤ, pos, ◌<ℤ◌, List, map, Option, Some, MatchOption}
+use Rattle.std.specs.Prelude.{◌≡◌, ℕ, ◌≤◌, ℤ, pos, ◌<ℤ◌, List, map, Option, MatchOption}
 use Rattle.std.specs.List.{All}
-use Rattle.tmm_model.specs.declared.premise.Premise.{Premise}
-use Rattle.tmm_model.specs.declared.premise.Premise.TheVariants.{Rule}
 use Rattle.tmm_model.specs.Beliefs.{Outcome, fires, blocked, beyond, tried, holder}
 use Rattle.tmm_model.specs.Moments.{Moment}
 use Rattle.tmm_model.specs.Standing.{Standing, far_in}
-use Rattle.tmm_model.specs.WellNamed.{premise_in}
 use Rattle.spots.specs.Forest.{Forest, IsLive, moment_at}
 use Rattle.projection.specs.declared.decision.Decision.{Decision}
 use Rattle.projection.specs.declared.decision.Decision.TheVariants.{Fires, Blocked, Beyond}
@@ -25,17 +22,6 @@ AreLive f _ = Unit {0}
 -- what becomes of a rule in time, of which these facts are the antecedents
 abbrev pub tried_at : Standing → List Moment → Moment → List (List ℕ) → Outcome
 tried_at s b t facts = tried (map (λ fact. holder s (far_in s.premises) b fact t t) facts)
-
--- ---- rules
-
--- the premise is a rule
-abbrev pub IsRule : Premise → Type 0
-IsRule (Rule name trigger lo hi effect given) = Unit {0}
-IsRule _ = ⊥
-
--- the premise of this name is a rule
-abbrev pub IsRuleOf : Standing → List ℕ → Type 0
-IsRuleOf s r = (p : Premise) × (premise_in s.premises r ≡ Some p) × IsRule p
 
 -- the date, none where it is after the horizon
 abbrev pub IsDueBy : ℕ → ℤ → Option ℕ → Type 0

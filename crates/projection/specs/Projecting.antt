@@ -16,7 +16,9 @@ use Rattle.tmm_model.proofs.SoundBeliefs.{sound_timed}
 use Rattle.dist_net.specs.Net.{Net}
 use Rattle.spots.specs.Forest.{Forest, IsLive, moment_at}
 use Rattle.spots.specs.Seen.{IsSeen, Holds}
+use Rattle.projection.specs.declared.growth.Growing.{Growing}
 use Rattle.projection.specs.declared.pending.Pending.{Pending}
+use Rattle.projection.specs.Counted.{due_rules}
 use Rattle.projection.specs.Queues.{is_for}
 
 -- the entry is of a standing rule at an event, with the date at which its effect begins
@@ -41,18 +43,20 @@ pub record IsGrown (s : Standing) (net : Net) (b : List Moment) (f : Forest) (qu
   pub once : (x : ℕ) (r : List ℕ) → sum_by (is_for x r) queue ≤ 1
   pub undecided : (p : Pending) → In p queue → In (After (moment_at f p.trigger) p.rule) b → ⊥
 
--- what these premises declare has entered, and all rules on it that are due by the horizon wait
+-- what these premises declare has entered, and all rules on it that are due by the horizon wait, each once
 pub record IsStarted (s : Standing) (net : Net) (front : List Premise) (f : Forest) (queue : List Pending) (size : ℕ) : Type 0 where
   pub grown : IsGrown s net (filter_map root_of front) f queue size
   pub queued : (t : Moment) (r : List ℕ) → In t (filter_map root_of front) → Contains (rules_at s t) r → due s (far_in s.premises) t r ≤ℤ pos s.horizon → Pends f queue t r
+  pub waiting : length queue ≡ sum_by (due_rules s) (filter_map root_of front)
 
--- all that is due before what waits is decided, up to some date
-pub record IsGrowing (s : Standing) (net : Net) (f : Forest) (queue : List Pending) (size : ℕ) : Type 0 where
+-- all that is due before what waits is decided, up to some date; so many decisions have been made
+pub record IsGrowing (s : Standing) (net : Net) (f : Forest) (queue : List Pending) (size made : ℕ) : Type 0 where
   pub entered : List Moment
   pub date : ℕ
   pub sound : IsSound s
   pub grown : IsGrown s net entered f queue size
   pub settling : Settling s (far_in s.premises) (sound_timed s sound) s.horizon date entered (Pends f queue)
+  pub each : made + length queue ≡ sum_by (due_rules s) entered
 
 -- of what waits, this is due first, and the rest goes on waiting
 pub record IsFirstOf (queue : List Pending) (p : Pending) (rest : List Pending) : Type 0 where
@@ -60,10 +64,14 @@ pub record IsFirstOf (queue : List Pending) (p : Pending) (rest : List Pending) 
   pub first : All (λ q. p.due.0 ≤ q.due.0) rest
 
 -- so it stands where p has been taken out
-pub record IsGrowingWith (s : Standing) (net : Net) (f : Forest) (p : Pending) (rest : List Pending) (size : ℕ) : Type 0 where
+pub record IsGrowingWith (s : Standing) (net : Net) (f : Forest) (p : Pending) (rest : List Pending) (size made : ℕ) : Type 0 where
   pub queue : List Pending
   pub next : IsFirstOf queue p rest
-  pub growing : IsGrowing s net f queue size
+  pub growing : IsGrowing s net f queue size made
+
+-- with the decision p made, one more has been made than before
+abbrev pub Settles : Standing → Net → Growing → Pending → Growing → Type 0
+Settles s net old p new = (made : ℕ) → IsGrowingWith s net old.tree p old.queue old.size made → IsGrowing s net new.tree new.queue new.size (made + 1)
 
 -- among the occurrences that the nodes are, each antecedent of the rule that waits has a supporter
 abbrev pub FiresAmong : Standing → Forest → Pending → Type 0

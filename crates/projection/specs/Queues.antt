@@ -1,5 +1,6 @@
 -- Decisions that wait for their dates, and how many occurrences with their rules a map may have.
 use Rattle.std.specs.Prelude.{◌≡◌, ◌⊎◌, ℕ, ◌+◌, ◌<◌, ◌≤◌, pos, ◌≤ℤ◌, cond, ◌&&◌, ◌==◌, List, length, sum_by}
+use Rattle.std.specs.List.{count_by}
 use Rattle.tmm_model.specs.declared.refusal.Refusal.TheVariants.{LimitSize}
 use Rattle.tmm_model.specs.declared.refusal.Stop.{Stop}
 use Rattle.tmm_model.specs.declared.refusal.Stop.TheVariants.{Refused, NoMemory}
@@ -11,6 +12,7 @@ use Rattle.tmm_model.specs.Standing.{Standing, far_in}
 use Rattle.tmm_model.proofs.Elements.{In}
 use Rattle.spots.specs.Forest.{Forest, moment_at}
 use Rattle.projection.specs.declared.pending.Pending.{Pending}
+use Rattle.projection.specs.Counted.{is_due}
 
 -- how often the rule at the node waits in an entry: once or not
 abbrev pub is_for : ℕ → List ℕ → Pending → ℕ
@@ -31,7 +33,7 @@ pub record Queues (s : Standing) (f : Forest) (x : ℕ) (names : List (List ℕ)
   pub kept : (p : Pending) → In p old → In p new
   pub own : (p : Pending) → In p new → In p old ⊎ IsDue s f x names p
   pub all : (r : List ℕ) → In r names → due s (far_in s.premises) (moment_at f x) r ≤ℤ pos s.horizon → (p : Pending) × In p new × (p.trigger ≡ x) × (p.rule ≡ r)
-  pub count : length new ≤ length old + length names
+  pub count : length new ≡ length old + count_by (is_due s (moment_at f x)) names
   pub once : (y : ℕ) (r : List ℕ) → sum_by (is_for y r) new ≤ sum_by (is_for y r) old + cond (x == y) (sum_by (is_name r) names) 0
 
 -- what the occurrence at a node counts

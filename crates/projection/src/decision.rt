@@ -9,14 +9,14 @@ ghost use Rattle.spots.specs.Forest.{IsLive, moment_at};
 ghost use Rattle.spots.specs.Seen.{IsSeen, Holds};
 ghost use Rattle.projection.specs.Decisions.{outcome_at, AreLive, tried_at};
 
-use crate::rule::{due_of, text_of};
+use crate::rule::due_by;
 use arrayvec::ArrayVec;
 use dist_net::DistNet;
 use occ_tree::Tree;
 use premise_list::Standing;
 use spots::Spot;
 use std::marker::Model;
-use supports::supporter;
+use supports::{rule_text, supporter};
 use tmm_model::Name;
 
 /// What becomes of a rule at an event.
@@ -86,10 +86,11 @@ pub fn decide(
     ensures kept { counter.old ≤ counter.new }
 {
     counter.raise();
-    if due_of(tree, net, standing, trigger, rule).is_none() {
+    let early = tree.early(net, trigger);
+    let text = rule_text(standing, rule);
+    if due_by(standing.horizon(), early, text.lo).is_none() {
         return Decision::Beyond;
     }
-    let text = text_of(standing, rule);
     try_given(tree, net, standing, trigger, text.given)
 }
 

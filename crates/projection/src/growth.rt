@@ -1,5 +1,5 @@
 // What is believed, decision by decision in the order of their dates.
-ghost use Rattle.std.specs.Prelude.{◌≡◌, ◌+◌, ◌<◌, ◌≤◌, length, take, IfOk, IfErr, OnOk};
+ghost use Rattle.std.specs.Prelude.{◌≡◌, ℕ, ◌+◌, ◌<◌, ◌≤◌, min, length, take, IfOk, IfErr, OnOk};
 ghost use Rattle.tmm_model.specs.Answers.{size, most_size};
 ghost use Rattle.tmm_model.specs.Beliefs.{rules_at};
 ghost use Rattle.tmm_model.specs.Maps.{built};
@@ -8,22 +8,24 @@ ghost use Rattle.dist_net.specs.Net.{Net};
 ghost use Rattle.list_net.specs.Fits.{IsNetOf};
 ghost use Rattle.spots.specs.Forest.{IsLive, moment_at};
 ghost use Rattle.spots.specs.Seen.{IsSeen, Holds};
-ghost use Rattle.projection.specs.Decisions.{IsRuleOf};
+ghost use Rattle.supports.specs.Rules.{IsRuleOf};
+ghost use Rattle.projection.specs.Counted.{decisions_due};
 ghost use Rattle.projection.specs.Growing.{Adds, effect_shape, MayEnter};
 ghost use Rattle.projection.specs.Kinds.{AreRules};
-ghost use Rattle.projection.specs.Projecting.{IsStarted, IsGrowing, IsGrowingWith, FiresAmong, left};
+ghost use Rattle.projection.specs.Projecting.{IsStarted, IsGrowingWith, Settles, FiresAmong, left};
 ghost use Rattle.projection.specs.Queues.{Queues, weight_at, IsTooLarge};
 
 use crate::decision::{Counter, Decision, decide};
 use crate::kinds::RulesByKind;
 use crate::pending::{Pending, Queue};
 use crate::root::add_root;
-use crate::rule::due_of;
+use crate::rule::due_by;
 use dist_net::DistNet;
 use occ_tree::Tree;
 use premise_list::Standing;
 use std::alloc::Global;
 use std::cmp::Reverse;
+use supports::rule_text;
 use tmm_model::{Name, NoMemory, Premise, Refusal, Shape, Stop};
 
 /// The most that the occurrences of a map with their rules may count.
@@ -82,13 +84,18 @@ fn wait_for(
     requires seen { IsSeen standing.now.present net.now.present tree.now }
     requires live { IsLive tree.now x }
     requires rules { rules.now ≡ rules_at standing.now.present (moment_at tree.now x) }
+    requires few { length rules.now ≤ 2000 }
     ensures { OnOk result (Queues standing.now.present tree.now x rules.now queue.old queue.new) }
 {
-    for rule in rules {
-        if let Some(due) = due_of(tree, net, standing, x, *rule) {
+    let horizon = standing.horizon();
+    let early = tree.early(net, x);
+    for (turn, rule) in rules.iter().enumerate() {
+        let text = rule_text(standing, *rule);
+        if let Some(due) = due_by(horizon, early, text.lo) {
             queue.push(Pending {
                 due: Reverse(due),
                 trigger: x,
+                turn: turn as u32,
                 rule: *rule,
             })?;
         }
@@ -172,11 +179,12 @@ fn settle(
     counter: &mut Counter,
 ) -> Result<(), Stop>
     requires rules { AreRules standing.now.present rules.now }
-    requires before { IsGrowingWith standing.now.present net.now.present growing.old.tree pending.now growing.old.queue growing.old.size }
-    ensures after { OnOk result (IsGrowing standing.now.present net.now.present growing.new.tree growing.new.queue growing.new.size) }
+    requires before { (made : ℕ) × IsGrowingWith standing.now.present net.now.present growing.old.tree pending.now growing.old.queue growing.old.size made }
+    ensures after { OnOk result (Settles standing.now.present net.now.present growing.old pending.now growing.new) }
     ensures nearer { OnOk result (left growing.new.queue growing.new.size ≤ left growing.old.queue growing.old.size) }
     ensures stops { IfErr result (IsTooLarge (size (built standing.now.present))) }
-    ensures counted { counter.old ≤ counter.new }
+    ensures counted { counter.new ≡ min (counter.old + 1) 18446744073709551615 }
+    ensures kept { counter.old ≤ counter.new }
 {
     let decision = decide(
         &growing.tree,
@@ -202,9 +210,9 @@ fn bring_about(
     pending: &Pending,
 ) -> Result<(), Stop>
     requires rules { AreRules standing.now.present rules.now }
-    requires before { IsGrowingWith standing.now.present net.now.present growing.old.tree pending.now growing.old.queue growing.old.size }
+    requires before { (made : ℕ) × IsGrowingWith standing.now.present net.now.present growing.old.tree pending.now growing.old.queue growing.old.size made }
     requires fires { FiresAmong standing.now.present growing.old.tree pending.now }
-    ensures after { OnOk result (IsGrowing standing.now.present net.now.present growing.new.tree growing.new.queue growing.new.size) }
+    ensures after { OnOk result (Settles standing.now.present net.now.present growing.old pending.now growing.new) }
     ensures nearer { OnOk result (left growing.new.queue growing.new.size ≤ left growing.old.queue growing.old.size) }
     ensures stops { IfErr result (IsTooLarge (size (built standing.now.present))) }
 {
@@ -221,8 +229,8 @@ fn bring_about(
 }
 
 /// The tree of the believed occurrences, and the size of the map. Where that would be more than
-/// 100,000 it is refused, at the first date at which it is. The decisions that are made are counted on
-/// from those before.
+/// 100,000 it is refused, at the first date at which it is. Each decision that is due by the horizon is
+/// made once, and counted on from those before.
 pub fn rebuild(
     alloc: Global,
     standing: &Standing,
@@ -235,8 +243,11 @@ pub fn rebuild(
     ensures size { IfOk result (λ projected. projected.size ≡ size (built standing.now.present)) }
     ensures small { IfOk result (λ projected. projected.size ≤ most_size) }
     ensures stops { IfErr result (IsTooLarge (size (built standing.now.present))) }
-    ensures counted { counter.old ≤ counter.new }
+    ensures counted { OnOk result (counter.new ≡ min (counter.old + decisions_due standing.now.present) 18446744073709551615) }
+    ensures kept { counter.old ≤ counter.new }
 {
+    // It tells the proof that no count is above the greatest.
+    let _ = counter.value();
     let Ok(rules) = RulesByKind::of(alloc, standing) else {
         return Err(Stop::NoMemory);
     };

@@ -1,10 +1,10 @@
-//! What a standing list projects: what becomes of a rule at an event, the tree of what is declared,
-//! and the tree of all that is believed. It stands on `occ_tree` and `supports`.
+//! What a standing list projects: what becomes of a rule at an event, and the tree of all that is
+//! believed. It stands on `occ_tree` and `supports`.
 //!
-//! `decide` tells the outcome of a rule at an event among the nodes of a tree. `roots` makes the tree
-//! of declared events, tokens and spans, and `rebuild` the tree of the believed occurrences, by
-//! deciding each rule at each event in the order of dates; it answers also the size of the map, and
-//! refuses exactly a list whose map is too large. Without memory a call answers that.
+//! `decide` tells the outcome of a rule at an event among the nodes of a tree. `rebuild` makes the
+//! tree of the believed occurrences, from what is declared, by deciding each rule at each event once,
+//! in the order of dates; it answers also the size of the map, and refuses exactly a list whose map is
+//! too large. Without memory a call answers that.
 #![tactic(auto)]
 
 mod decision;
@@ -18,4 +18,3 @@ mod tests;
 
 pub use decision::{Counter, Decision, decide};
 pub use growth::{Projected, rebuild};
-pub use root::roots;

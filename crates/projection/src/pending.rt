@@ -16,6 +16,8 @@ pub(crate) struct Pending {
     pub due: Reverse<u32>,
     /// The node of the event.
     pub trigger: u32,
+    /// Which of the rules at its event it is, from 0; so names are not compared.
+    pub turn: u32,
     /// The name of the rule.
     pub rule: Name,
 }

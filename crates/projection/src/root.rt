@@ -1,10 +1,8 @@
 // The declared events, tokens and spans.
-ghost use Rattle.std.specs.Prelude.{◌≡◌, IfOk, OnOk};
-ghost use Rattle.tmm_model.specs.Beliefs.{roots};
+ghost use Rattle.std.specs.Prelude.{IfOk};
 ghost use Rattle.tmm_model.specs.Standing.{name_of};
 ghost use Rattle.tmm_model.proofs.Elements.{In};
 ghost use Rattle.spots.specs.Forest.{IsNoRoot};
-ghost use Rattle.spots.specs.Seen.{IsSeen, Holds};
 ghost use Rattle.list_net.specs.Fits.{IsNetOf};
 ghost use Rattle.projection.specs.Growing.{AddsRoot};
 
@@ -14,21 +12,6 @@ use occ_tree::Tree;
 use premise_list::Standing;
 use std::alloc::Global;
 use tmm_model::{Name, NoMemory, PointName, Premise, Shape};
-
-/// The tree of the declared events, tokens and spans.
-pub fn roots(alloc: Global, standing: &Standing, net: &DistNet) -> Result<Tree, NoMemory>
-    requires network { IsNetOf standing.now.present net.now.present }
-    ensures seen { IfOk result (λ tree. IsSeen standing.now.present net.now.present tree) }
-    ensures holds { IfOk result (λ tree. Holds (roots standing.now.present) tree) }
-{
-    let mut tree = Tree::make(alloc);
-    for place in 0..standing.len() {
-        if let Some(premise) = standing.at(place) {
-            add_root(alloc, standing, net, &mut tree, premise)?;
-        }
-    }
-    Ok(tree)
-}
 
 // Adds what the premise declares to occur, and answers its number, none where it declares nothing.
 pub(crate) fn add_root(

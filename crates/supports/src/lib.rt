@@ -1,6 +1,7 @@
 //! Which believed token supports a fact, what clips a token, and why a token is no supporter: what
-//! `clipping` answers over the tokens of a tree, told of the occurrences of the standing list. It
-//! stands on `occ_tree` and `clipping`.
+//! `clipping` answers over the tokens of a tree, told of the occurrences of the standing list; and
+//! what a standing rule says, whose antecedents want supporters. It stands on `occ_tree` and
+//! `clipping`.
 //!
 //! Each call answers the definition for the list, over the occurrences that the nodes are. No call
 //! takes memory.
@@ -22,10 +23,13 @@ ghost use Rattle.spots.specs.Spots.{IsSpot, spot_moment};
 ghost use Rattle.supports.specs.Faults.{fault_at};
 ghost use Rattle.supports.specs.Nodes.{IsOfNode, HasNode};
 
+mod rule;
+
 use clipping::{Fault, first_clipper, holder};
 use dist_net::DistNet;
 use occ_tree::{Order, Tree};
 use premise_list::Standing;
+pub use rule::{RuleText, rule_text};
 use spots::Spot;
 use tmm_model::{Name, TokenRow};
 

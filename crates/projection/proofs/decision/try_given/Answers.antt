@@ -1,10 +1,11 @@
 use Rattle.std.proofs.Common.{◌∙◌, ◌+◌, ◌∷◌, [], map, length, sym, subst, ap, Some, arith}
 use Rattle.std.specs.List.{All}
 use Rattle.std.proofs.lemmas.List.{take_all, length-append}
+use Rattle.std.proofs.lemmas.List.Elements.{All-push}
 use Rattle.tmm_model.specs.Beliefs.{holder}
 use Rattle.tmm_model.specs.Standing.{far_in}
 use Rattle.spots.specs.Forest.{IsLive, moment_at}
-use Rattle.projection.proofs.Tried.{found_more, tried_fires, tried_blocked, all_push}
+use Rattle.projection.proofs.Tried.{found_more, tried_fires, tried_blocked}
 use Rattle.projection.proofs.decision.try_given.Goals as goal
 
 pub returns-in-None-clause-outcome : goal.returns-in-None-clause-outcome
@@ -24,7 +25,7 @@ loop-antecedent-preserved c =
     let pushed = c.push.ensures.items in
     record {
       count = ap length pushed ∙ length-append old (c.in-Some.x ∷ []) ∙ ap (λ n. n + 1) c.loop-antecedent.invariant.count;
-      live = subst (All (IsLive f)) (sym pushed) (all_push (IsLive f) old c.in-Some.x c.loop-antecedent.invariant.live c.in-Some.ensures.live);
+      live = subst (All (IsLive f)) (sym pushed) (All-push (IsLive f) old c.in-Some.x c.loop-antecedent.invariant.live c.in-Some.ensures.live);
       found = λ b holds.
           (ap (map (λ x. Some (moment_at f x))) pushed
           ∙ found_more (moment_at f) (λ fact. holder s (far_in s.premises) b fact t t) old c.args.given.now c.loop-antecedent.antecedent c.in-Some.x c.index-given-antecedent.result

@@ -10,9 +10,9 @@ use Rattle.tmm_model.specs.WellNamed.{premise_in}
 use Rattle.dist_net.specs.Net.{Net}
 use Rattle.spots.specs.Forest.{Member, member, Enters, child_member, moment_at}
 use Rattle.spots.specs.Seen.{IsSeen}
+use Rattle.spots.proofs.Nodes.{node_at}
 use Rattle.projection.specs.Growing.{Adds, effect_shape}
 use Rattle.projection.proofs.Effects.{is_trigger, delay_is, effect_adds}
-use Rattle.projection.proofs.OnKinds.{live_node}
 use Rattle.projection.proofs.growth.add_effect.Goals as goal
 
 ok_kept : {T E : Type 0} (P Q : T → Type 0) (r : Result T E) → ((x : T) → P x → Q x) → IfOk r P → IfOk r Q
@@ -33,7 +33,7 @@ returns c =
     let shape = c.effect_shape-shape.result in
     let fits : FitsSigned w64 c.in-Some-Rule.lo = search rules in
     let there : premise_in s.premises r ≡ Some (Rule c.in-Some-Rule.field-0-0 c.in-Some-Rule.field-0-1 lo hi effect c.in-Some-Rule.field-0-5) = sym c.in-Some-Rule.ensures ∙ ap Some c.in-Some-Rule.field-0-is in
-    let (m, at) = live_node f t c.requires.trigger in
+    let (m, at) = node_at f t c.requires.trigger in
     let same_shape : shape ≡ effect_shape (class_in s.premises effect) = c.effect_shape-shape.ensures ∙ ap effect_shape c.class_of-class.ensures in
     ok_kept (λ x. (n : Member) → member f t ≡ Some n → Enters f new x (child_member n (record { rule = r; lo = to_z w64 (of_z w64 lo); hi = hi }) effect class shape))
     (λ x. (net : Net) → IsSeen s net f → Adds s net.names f new x (After (moment_at f t) r)) c.insert_child.result
@@ -47,7 +47,7 @@ pub insert_child-requires-clause-trigger : goal.insert_child-requires-clause-tri
 insert_child-requires-clause-trigger c =
     let s = c.args.standing.now.present in
     let f = c.args.tree.now in
-    let (m, at) = live_node f c.args.trigger c.requires.trigger in
+    let (m, at) = node_at f c.args.trigger c.requires.trigger in
     (m, at, is_trigger s c.requires.seen.0 f c.requires.seen.1 c.args.trigger m at c.args.rule c.requires.enters)
 
 pub insert_child-requires-clause-delay : goal.insert_child-requires-clause-delay
@@ -58,6 +58,6 @@ insert_child-requires-clause-delay c =
     let fits : FitsSigned w64 c.in-Some-Rule.lo = search rules in
     let there : premise_in s.premises c.args.rule ≡ Some (Rule c.in-Some-Rule.field-0-0 c.in-Some-Rule.field-0-1 lo c.in-Some-Rule.hi c.in-Some-Rule.effect c.in-Some-Rule.field-0-5) =
     sym c.in-Some-Rule.ensures ∙ ap Some c.in-Some-Rule.field-0-is in
-    let (m, at) = live_node f c.args.trigger c.requires.trigger in
+    let (m, at) = node_at f c.args.trigger c.requires.trigger in
     subst (λ z. IsNumber z × IsBound c.in-Some-Rule.hi × (pos 1 ≤ℤ z) × IsRange (Finite z) c.in-Some-Rule.hi) (sym (to_z-of_z w64 lo fits))
     (delay_is s c.requires.seen.0 f c.requires.seen.1 c.args.trigger m at c.args.rule c.requires.enters c.in-Some-Rule.field-0-0 c.in-Some-Rule.field-0-1 lo c.in-Some-Rule.hi c.in-Some-Rule.effect c.in-Some-Rule.field-0-5 there)

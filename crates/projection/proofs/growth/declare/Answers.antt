@@ -40,8 +40,8 @@ count_in-requires-clause-live c =
     let (k, made, adds) = root_added s net c.in-Some.premise.now f c.add_root.new.tree c.in-Ok-Some.x (rw c.in-Ok-Some.field-0-is at c.in-Ok-Some.ensures) in
     new_live s net f c.add_root.new.tree c.in-Ok-Some.x k adds
 
-pub returns-in-Ok-Some-clause-after : goal.returns-in-Ok-Some-clause-after
-returns-in-Ok-Some-clause-after c =
+pub returns-in-Ok-Some : goal.returns-in-Ok-Some
+returns-in-Ok-Some c =
     let s = c.args.standing.now.present in
     let net = c.args.net.now.present in
     let i = c.args.place in
@@ -51,33 +51,24 @@ returns-in-Ok-Some-clause-after c =
     let x = c.in-Ok-Some.x in
     let n = c.args.growing.now.size in
     let queue = c.args.growing.now.queue in
-    let queue2 = c.count_in.new.growing.queue in
+    let grown = c.count_in.new.growing in
     let at : slice_get s.premises i ≡ Some p = sym c.in-Some.ensures in
+    let whole = parted s.premises i p at in
     let more : take i s.premises ++ p ∷ [] ≡ take (i + 1) s.premises = sym (taken s.premises i p at) ∙ ap (λ k. take k s.premises) (sym (add-one i)) in
     let (k, made, adds) = root_added s net p f new x (rw c.in-Ok-Some.field-0-is at c.in-Ok-Some.ensures) in
-    ok_four c.count_in.result (c.count_in.new.growing.tree ≡ new) (c.count_in.new.growing.size ≡ n + weight_at s new x) (n + weight_at s new x ≤ most_size)
-    (Queues s new x (rules_at s (moment_at new x)) queue queue2) (IsStarted s net (take (i + 1) s.premises) c.count_in.new.growing.tree queue2 c.count_in.new.growing.size)
-    c.count_in.ensures.tree c.count_in.ensures.size c.count_in.ensures.small c.count_in.ensures.queued
-    (λ same counted small queues.
-    subst (λ front. IsStarted s net front c.count_in.new.growing.tree queue2 c.count_in.new.growing.size) more
-    (subst (λ g. IsStarted s net (take i s.premises ++ p ∷ []) g queue2 c.count_in.new.growing.size) (sym same)
-    (subst (IsStarted s net (take i s.premises ++ p ∷ []) new queue2) (sym counted)
-    (started_more s net f queue n (take i s.premises) p (drop (suc i) s.premises) (parted s.premises i p at) c.requires.before new x k made adds queue2 queues small))))
-
-pub returns-in-Ok-Some-clause-stops : goal.returns-in-Ok-Some-clause-stops
-returns-in-Ok-Some-clause-stops c =
-    let s = c.args.standing.now.present in
-    let net = c.args.net.now.present in
-    let i = c.args.place in
-    let p = c.in-Some.premise.now in
-    let f = c.args.growing.now.tree in
-    let new = c.add_root.new.tree in
-    let x = c.in-Ok-Some.x in
-    let n = c.args.growing.now.size in
-    let (k, made, adds) = root_added s net p f new x (rw c.in-Ok-Some.field-0-is at c.in-Ok-Some.ensures) in
-    err_kept c.count_in.result (IsTooLarge (n + weight_at s new x)) (IsTooLarge (size (built s))) c.count_in.ensures.stops
-    (λ stop. larger (n + weight_at s new x) (size (built s)) stop
-    (root_too_large s net f c.args.growing.now.queue n (take i s.premises) p (drop (suc i) s.premises) (parted s.premises i p (sym c.in-Some.ensures)) c.requires.before new x k made adds))
+    record {
+      after =
+          ok_four c.count_in.result (grown.tree ≡ new) (grown.size ≡ n + weight_at s new x) (n + weight_at s new x ≤ most_size) (Queues s new x (rules_at s (moment_at new x)) queue grown.queue)
+          (IsStarted s net (take (i + 1) s.premises) grown.tree grown.queue grown.size) c.count_in.ensures.tree c.count_in.ensures.size c.count_in.ensures.small c.count_in.ensures.queued
+          (λ same counted small queues.
+          subst (λ front. IsStarted s net front grown.tree grown.queue grown.size) more
+          (subst (λ g. IsStarted s net (take i s.premises ++ p ∷ []) g grown.queue grown.size) (sym same)
+          (subst (IsStarted s net (take i s.premises ++ p ∷ []) new grown.queue) (sym counted)
+          (started_more s net f queue n (take i s.premises) p (drop (suc i) s.premises) whole c.requires.before new x k made adds grown.queue queues small))));
+      stops =
+          err_kept c.count_in.result (IsTooLarge (n + weight_at s new x)) (IsTooLarge (size (built s))) c.count_in.ensures.stops
+          (λ stop. larger (n + weight_at s new x) (size (built s)) stop (root_too_large s net f queue n (take i s.premises) p (drop (suc i) s.premises) whole c.requires.before new x k made adds));
+    }
 
 pub returns-in-Ok-None-clause-after : goal.returns-in-Ok-None-clause-after
 returns-in-Ok-None-clause-after c =

@@ -1,8 +1,8 @@
-use Rattle.std.proofs.Common.{◌≡◌, [], ◌∷◌, refl, subst, arith}
+use Rattle.std.proofs.Common.{◌≡◌, ◌∙◌, ◌+◌, min, [], ◌∷◌, refl, ap, subst, arith}
 use Rattle.std.proofs.lemmas.List.{take_all}
 use Rattle.std.proofs.lemmas.List.Sorted.{length_permutation}
-use Rattle.projection.specs.Projecting.{IsStarted, IsGrowing}
-use Rattle.projection.proofs.Decided.{holds_at_end, size_at_end}
+use Rattle.projection.specs.Projecting.{IsStarted, IsGrowing, IsGrowingWith}
+use Rattle.projection.proofs.Decided.{holds_at_end, size_at_end, made_at_end}
 use Rattle.projection.proofs.Grown.{seen_first, holds_first}
 use Rattle.projection.proofs.Settled.{started_first, growing_first}
 use Rattle.projection.proofs.growth.rebuild.Goals as goal
@@ -17,8 +17,10 @@ loop-pending-init c =
     let s = c.args.standing.now.present in
     let net = c.args.net.now.present in
     let g = c.loop-place.growing in (
+      0,
       growing_first s net g.tree g.queue g.size
           (subst (λ ps. IsStarted s net ps g.tree g.queue g.size) (take_all c.loop-place.place s.premises (omega arith)) c.loop-place.invariant),
+      omega (arith, c.value.ensures),
       omega arith,
     )
 
@@ -27,18 +29,34 @@ loop-pending-smaller c =
     let nearer = c.in_ok-settle.ensures.nearer in
     omega (arith, nearer, length_permutation c.loop-pending.growing.queue (c.in-Some.pending ∷ c.pop.new.self) c.in-Some.ensures.0)
 
-pub returns-clause-holds : goal.returns-clause-holds
-returns-clause-holds c =
+pub returns : goal.returns
+returns c =
     let s = c.args.standing.now.present in
     let net = c.args.net.now.present in
     let g = c.loop-pending.growing in
-    let none : c.loop-pending.growing.queue ≡ [] = c.in_default-pop.ensures in
-    holds_at_end s net g.tree g.size (subst (λ q. IsGrowing s net g.tree q g.size) none c.loop-pending.invariant.0)
+    let none : g.queue ≡ [] = c.in_default-pop.ensures in
+    let (made, growing, counted, kept) = c.loop-pending.invariant in
+    let last : IsGrowing s net g.tree [] g.size made = subst (λ q. IsGrowing s net g.tree q g.size made) none growing in
+    record {
+      seen = growing.grown.seen;
+      holds = holds_at_end s net g.tree g.size last;
+      size = size_at_end s net g.tree g.size last;
+      small = growing.grown.small;
+      stops = tt;
+      counted = counted ∙ ap (λ n. min (c.args.counter.now + n) 18446744073709551615) (made_at_end s net g.tree g.size last);
+      kept = kept;
+    }
 
-pub returns-clause-size : goal.returns-clause-size
-returns-clause-size c =
+pub loop-pending-preserved : goal.loop-pending-preserved
+loop-pending-preserved c =
     let s = c.args.standing.now.present in
     let net = c.args.net.now.present in
     let g = c.loop-pending.growing in
-    let none : c.loop-pending.growing.queue ≡ [] = c.in_default-pop.ensures in
-    size_at_end s net g.tree g.size (subst (λ q. IsGrowing s net g.tree q g.size) none c.loop-pending.invariant.0)
+    let (made, growing, counted, kept) = c.loop-pending.invariant in
+    let before : IsGrowingWith s net g.tree c.in-Some.pending c.pop.new.self g.size made =
+    record {
+      queue = g.queue;
+      next = record { taken = c.in-Some.ensures.0; first = c.in-Some.ensures.1 };
+      growing = growing;
+    } in
+    (made + 1, c.in_ok-settle.ensures.after made before, omega (arith, counted, c.settle.ensures.counted), omega (arith, kept, c.settle.ensures.kept))

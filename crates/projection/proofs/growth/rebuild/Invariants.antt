@@ -1,4 +1,4 @@
-use Rattle.std.proofs.Common.{◌≤◌, take}
+use Rattle.std.proofs.Common.{◌≡◌, ℕ, ◌+◌, ◌≤◌, min, take}
 use Rattle.projection.specs.Projecting.{IsStarted, IsGrowing, left}
 use Rattle.projection.proofs.growth.rebuild.Given as goal
 
@@ -6,7 +6,7 @@ abbrev pub invariant-loop-place : goal.invariant-loop-place
 invariant-loop-place l = IsStarted l.standing.present l.net.present (take l.place l.standing.present.premises) l.growing.tree l.growing.queue l.growing.size
 
 abbrev pub invariant-loop-pending : goal.invariant-loop-pending
-invariant-loop-pending l = IsGrowing l.standing.present l.net.present l.growing.tree l.growing.queue l.growing.size × (l.fn.counter ≤ l.counter)
+invariant-loop-pending l = (made : ℕ) × IsGrowing l.standing.present l.net.present l.growing.tree l.growing.queue l.growing.size made × (l.counter ≡ min (l.fn.counter + made) 18446744073709551615) × (l.fn.counter ≤ l.counter)
 
 abbrev pub decreases-loop-pending : goal.decreases-loop-pending
 decreases-loop-pending l = left l.growing.queue l.growing.size

@@ -5,11 +5,11 @@ use Rattle.projection.proofs.growth.settle.Goals as goal
 
 pub decide-decision-requires-clause-trigger : goal.decide-decision-requires-clause-trigger
 decide-decision-requires-clause-trigger c =
-    (entry c.args.standing.now.present c.args.net.now.present c.args.growing.now.tree c.requires.before.queue c.args.growing.now.size c.requires.before.growing c.args.pending.now c.args.growing.now.queue c.requires.before.next).live
+    (entry c.args.standing.now.present c.args.net.now.present c.args.growing.now.tree c.requires.before.1.queue c.args.growing.now.size c.requires.before.1.growing c.args.pending.now c.args.growing.now.queue c.requires.before.1.next).live
 
 pub decide-decision-requires-clause-rule : goal.decide-decision-requires-clause-rule
 decide-decision-requires-clause-rule c =
-    (entry c.args.standing.now.present c.args.net.now.present c.args.growing.now.tree c.requires.before.queue c.args.growing.now.size c.requires.before.growing c.args.pending.now c.args.growing.now.queue c.requires.before.next).stands
+    (entry c.args.standing.now.present c.args.net.now.present c.args.growing.now.tree c.requires.before.1.queue c.args.growing.now.size c.requires.before.1.growing c.args.pending.now c.args.growing.now.queue c.requires.before.1.next).stands
 
 pub bring_about-requires-clause-fires : goal.bring_about-requires-clause-fires
 bring_about-requires-clause-fires c b holds =
@@ -24,12 +24,13 @@ returns-in_default c =
     let n = c.args.growing.now.size in
     let p = c.args.pending.now in
     let rest = c.args.growing.now.queue in
-    let growing = c.requires.before.growing in
     record {
-      after = decided_blocked s net f c.requires.before.queue n growing p rest c.requires.before.next
-          (blocked_told s f growing.entered (moment_at f p.trigger) p.rule c.decide-decision.result c.in_default.not-Fires (c.decide-decision.ensures.outcome growing.entered growing.grown.holds)
-          (in_time_is s net f c.requires.before.queue n growing p rest c.requires.before.next));
+      after = λ made before.
+          decided_blocked s net f before.queue n before.growing p rest before.next
+          (blocked_told s f before.growing.entered (moment_at f p.trigger) p.rule c.decide-decision.result c.in_default.not-Fires (c.decide-decision.ensures.outcome before.growing.entered before.growing.grown.holds)
+          (in_time_is s net f before.queue n before.growing p rest before.next));
       nearer = omega arith;
       stops = tt;
-      counted = c.decide-decision.ensures.kept;
+      counted = c.decide-decision.ensures.counted;
+      kept = c.decide-decision.ensures.kept;
     }

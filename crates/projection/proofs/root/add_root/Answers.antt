@@ -6,7 +6,7 @@ use Rattle.tmm_model.specs.declared.token.Shape.TheVariants.{Persistence as APer
 use Rattle.tmm_model.proofs.Elements.{In}
 use Rattle.spots.specs.Forest.{Enters, root_member}
 use Rattle.projection.specs.Growing.{AddsRoot}
-use Rattle.projection.proofs.Facts.{fact_known}
+use Rattle.supports.proofs.Facts.{fact_known}
 use Rattle.projection.proofs.Grown.{number_there, event_adds, token_adds, span_adds}
 use Rattle.projection.proofs.root.add_root.Goals as goal
 

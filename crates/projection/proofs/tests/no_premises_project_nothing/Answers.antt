@@ -1,7 +1,5 @@
-use Rattle.std.proofs.Common.{◌≡◌, ℕ, List, [], sym, subst, arith}
-use Rattle.std.specs.List.{All}
+use Rattle.std.proofs.Common.{◌≡◌, [], sym, subst, arith}
 use Rattle.tmm_model.specs.declared.point.PointName.TheVariants.{Start}
-use Rattle.tmm_model.specs.Lines.{IsWellFormedPremise}
 use Rattle.tmm_model.specs.Right.{IsSound}
 use Rattle.tmm_model.specs.Standing.{Standing, empty_list, points_in, arcs_in}
 use Rattle.tmm_model.specs.Walks.{HasDates}
@@ -28,9 +26,6 @@ at_start list net empty alone distinct start in_use dates =
       in_use = in_use;
       dates = dates;
     }
-
-pub roots-requires : goal.roots-requires
-roots-requires g c = record { network = at_start c.make-standing.result.present c.in_ok-net.net.present c.make-standing.ensures.present c.in_ok-net.ensures.present c.edges.ensures.distinct c.edges.ensures.start c.edges.ensures.in_use c.edges.ensures.dates }
 
 pub rebuild-requires : goal.rebuild-requires
 rebuild-requires g c = record { network = at_start c.make-standing.result.present c.in_ok-net.net.present c.make-standing.ensures.present c.in_ok-net.ensures.present c.edges.ensures.distinct c.edges.ensures.start c.edges.ensures.in_use c.edges.ensures.dates }

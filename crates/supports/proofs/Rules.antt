@@ -1,0 +1,51 @@
+-- The rules that stand at an event, and their antecedents.
+use Rattle.std.proofs.Common.{◌≡◌, ℕ, List, sym, subst, inr}
+use Rattle.std.specs.Prelude.{Some, IsSome}
+use Rattle.std.specs.List.{All, Contains}
+use Rattle.tmm_model.specs.declared.premise.Premise.{Premise}
+use Rattle.tmm_model.specs.declared.premise.Premise.TheVariants.{Class, Kind, Point, Event, Token, Span, Dist, Rule, Protect}
+use Rattle.tmm_model.specs.Beliefs.{rules_at, on_kind}
+use Rattle.tmm_model.specs.Moments.{Moment, as_rule, rule_of}
+use Rattle.tmm_model.specs.Right.{IsSound}
+use Rattle.tmm_model.specs.Sorts.{class_in, fact_use}
+use Rattle.tmm_model.specs.Standing.{Standing}
+use Rattle.tmm_model.specs.WellNamed.{premise_in}
+use Rattle.tmm_model.proofs.Elements.{In, In-from_Contains, map-In}
+use Rattle.tmm_model.proofs.KnownNames.{found, finds}
+use Rattle.tmm_model.proofs.Members.{All-from_contains}
+use Rattle.tmm_model.proofs.Sound.{rule_stands}
+use Rattle.supports.specs.Rules.{IsRule, IsRuleOf}
+use Rattle.supports.proofs.Facts.{fact_known}
+
+rule_on : (p : Premise) (kind r : List ℕ) → on_kind kind p ≡ Some r → IsRule p
+rule_on (Rule name trigger lo hi effect given) kind r e = tt
+rule_on (Class name facts) kind r e = cc
+rule_on (Kind name) kind r e = cc
+rule_on (Point name) kind r e = cc
+rule_on (Event name kind_) kind r e = cc
+rule_on (Token name fact) kind r e = cc
+rule_on (Span name fact) kind r e = cc
+rule_on (Dist name from to lo hi) kind r e = cc
+rule_on (Protect name fact from to) kind r e = cc
+
+-- a rule that stands at a moment is a premise of the list
+pub rule_there : (s : Standing) → IsSound s → (t : Moment) (r : List ℕ) → Contains (rules_at s t) r → IsRuleOf s r
+rule_there s sound t r at =
+    let (p, there, named, kind, is) = rule_stands s t r at in
+    (p, subst (λ n. premise_in s.premises n ≡ Some p) named (found s.premises sound.well_named p there), rule_on p kind r is)
+
+-- each antecedent has a class
+pub facts_known : (s : Standing) → IsSound s → (r : List ℕ) → IsRuleOf s r → All (λ fact. IsSome (class_in s.premises fact)) (rule_of s r).given
+facts_known s sound r (p, there, is) = subst (λ o. All (λ fact. IsSome (class_in s.premises fact)) (as_rule o).given) (sym there) (All-from_contains (λ fact. IsSome (class_in s.premises fact)) (as_rule (Some p)).given
+    (λ fact at. by p (finds s.premises r p there).0 fact (In-from_Contains (as_rule (Some p)).given fact at)))
+  where
+    by : (p : Premise) → In p s.premises → (fact : List ℕ) → In fact (as_rule (Some p)).given → IsSome (class_in s.premises fact)
+    by (Rule name trigger lo hi effect given) stands fact at = fact_known s.premises sound.well_named (Rule name trigger lo hi effect given) stands fact (inr (inr (map-In fact_use given.items fact at)))
+    by (Class name facts) stands fact at = absurd at
+    by (Kind name) stands fact at = absurd at
+    by (Point name) stands fact at = absurd at
+    by (Event name kind) stands fact at = absurd at
+    by (Token name fact_) stands fact at = absurd at
+    by (Span name fact_) stands fact at = absurd at
+    by (Dist name from to lo hi) stands fact at = absurd at
+    by (Protect name fact_ from to) stands fact at = absurd at
