@@ -5,6 +5,7 @@ use Rattle.std.specs.List.{Contains, list_any}
 use Rattle.std.specs.Map.{lookup}
 use Rattle.std.specs.Option.{option_or}
 use Rattle.std.specs.Cmp.Lexicographic.{bytes_decides, nat_list_eq_equiv}
+use Rattle.std.proofs.lemmas.Grind.{flat_map-append}
 use Rattle.std.proofs.lemmas.List.Folds.{list_any-append}
 use Rattle.tmm_model.specs.declared.point.PointName.TheVariants.{Begin}
 use Rattle.tmm_model.specs.declared.premise.Premise.{Premise}
@@ -17,7 +18,8 @@ use Rattle.tmm_model.specs.Sorts.{Sort, a_class, a_fact, a_kind, a_point, an_eve
 use Rattle.tmm_model.specs.Standing.{Standing, name_of}
 use Rattle.tmm_model.specs.Verdicts.{Cause, ill_sorted, unknown, first_taken, words_known, name_cause, use_cause}
 use Rattle.tmm_model.specs.WellNamed.{Follows, AllFollow, IsWellNamed}
-use Rattle.tmm_model.proofs.Elements.{In, In-left, In-from_Contains, Contains-from_In, In-filter_map, filter_map-In, In-flat_map, In-map, In-list_any}
+use Rattle.tmm_model.proofs.Elements.{In, In-from_Contains, Contains-from_In, In-filter_map, filter_map-In, In-flat_map, In-map}
+use Rattle.supports.proofs.Facts.{fact-class}
 use Rattle.tmm_model.proofs.WellNamed.{first_taken-none, lookup-append, lookup-unknown, words_known-push}
 
 same_name_is : (a b : List ℕ) → same_name a b ≡ true → a ≡ b
@@ -35,50 +37,9 @@ lookup-In {K} {X} test (d ∷ ds) x e = by (test d.0) refl (lookup-In test ds x)
 
 -- ---- facts
 
--- a fact among what a class declares
-fact_in : (name : List ℕ) (facts : List (List ℕ)) (fact : List ℕ) → In (fact, a_fact) ((name, a_class) ∷ map fact_declaration facts) → In fact facts
-fact_in name facts fact (inl e) = let wrong : a_class ≡ a_fact = ap (λ d. d.1) e in cc
-fact_in name facts fact (inr at) = let (g, there, e) = In-map fact_declaration facts (fact, a_fact) at in subst (λ z. In z facts) (ap (λ d. d.0) e) there
-
 only : (d : List ℕ × Sort) (name : List ℕ) (sort : Sort) → In (name, sort) (d ∷ []) → (d.0 ≡ name) × (d.1 ≡ sort)
 only d name sort (inl e) = (ap (λ x. x.0) e, ap (λ x. x.1) e)
 only d name sort (inr at) = absurd at
-
--- a fact that a premise declares is one of a class
-class_here : (p : Premise) (ps : List Premise) (fact : List ℕ) → In (fact, a_fact) (declarations_of p) → IsSome (class_in (p ∷ ps) fact)
-class_here (Class name facts) ps fact at = by (list_any (same_name fact) facts.items) (In-list_any (same_name fact) facts.items fact (fact_in name facts.items fact at) (nat_list_eq_equiv.refl fact))
-  where
-    by : (b : Bool) → b ≡ true → IsSome (elim b as (λ _. Option (List ℕ)) [ true ↦ Some name | false ↦ class_in ps fact ])
-    by true e = refl
-    by false e = cc
-class_here (Kind name) ps fact at = let w : a_kind ≡ a_fact = (only (name, a_kind) fact a_fact at).1 in cc
-class_here (Point name) ps fact at = let w : a_point ≡ a_fact = (only (name, a_point) fact a_fact at).1 in cc
-class_here (Event name kind) ps fact at = let w : an_event ≡ a_fact = (only (name, an_event) fact a_fact at).1 in cc
-class_here (Token name g) ps fact at = let w : a_token ≡ a_fact = (only (name, a_token) fact a_fact at).1 in cc
-class_here (Span name g) ps fact at = let w : a_span ≡ a_fact = (only (name, a_span) fact a_fact at).1 in cc
-class_here (Dist name from to lo hi) ps fact at = let w : a_dist ≡ a_fact = (only (name, a_dist) fact a_fact at).1 in cc
-class_here (Rule name trigger lo hi effect given) ps fact at = let w : a_rule ≡ a_fact = (only (name, a_rule) fact a_fact at).1 in cc
-class_here (Protect name g from to) ps fact at = let w : a_protection ≡ a_fact = (only (name, a_protection) fact a_fact at).1 in cc
-
-class_later : (p : Premise) (ps : List Premise) (fact : List ℕ) → IsSome (class_in ps fact) → IsSome (class_in (p ∷ ps) fact)
-class_later (Class name facts) ps fact h = by (list_any (same_name fact) facts.items)
-  where
-    by : (b : Bool) → IsSome (elim b as (λ _. Option (List ℕ)) [ true ↦ Some name | false ↦ class_in ps fact ])
-    by true = refl
-    by false = h
-class_later (Kind name) ps fact h = h
-class_later (Point name) ps fact h = h
-class_later (Event name kind) ps fact h = h
-class_later (Token name g) ps fact h = h
-class_later (Span name g) ps fact h = h
-class_later (Dist name from to lo hi) ps fact h = h
-class_later (Rule name trigger lo hi effect given) ps fact h = h
-class_later (Protect name g from to) ps fact h = h
-
-class_of_declared : (ps : List Premise) (p : Premise) (fact : List ℕ) → In p ps → In (fact, a_fact) (declarations_of p) → IsSome (class_in ps fact)
-class_of_declared [] p fact at here = absurd at
-class_of_declared (o ∷ ps) p fact (inl e) here = class_here o ps fact (subst (λ z. In (fact, a_fact) (declarations_of z)) (sym e) here)
-class_of_declared (o ∷ ps) p fact (inr at) here = class_later o ps fact (class_of_declared ps p fact at here)
 
 a_fact_is : (o : Option Sort) (word : List ℕ) → name_cause o word is_fact ≡ None → o ≡ Some a_fact
 a_fact_is None word e = by (same_name word (codes "start")) e
@@ -100,9 +61,10 @@ a_fact_is (Some a_protection) word e = cc
 -- **A fact that may be named is one of a class**, in the list and in each that goes on from it.
 pub fact_known : (before after : List Premise) (fact : List ℕ) → use_cause before (fact_use fact) ≡ None → IsSome (class_in (before ++ after) fact)
 fact_known before after fact e =
-    let (word, at, is) = lookup-In (same_name fact) (declarations_in before) a_fact (a_fact_is (sort_in before fact) fact e) in
-    let (p, there, here) = In-flat_map declarations_of before (word, a_fact) at in
-    subst (λ w. IsSome (class_in (before ++ after) w)) (sym (same_name_is fact word is)) (class_of_declared (before ++ after) p word (In-left before after p there) here)
+    fact-class fact (before ++ after)
+    (ap (lookup (same_name fact)) (flat_map-append declarations_of before after)
+    ∙ lookup-append (same_name fact) (declarations_in before) (declarations_in after)
+    ∙ ap (λ o. option_or o (lookup (same_name fact) (declarations_in after))) (a_fact_is (sort_in before fact) fact e))
 
 -- ---- roots
 
