@@ -66,7 +66,8 @@ pub trait MapCore {
         ensures idle { pending self.new ≡ None };
 
     /// The lower and the upper bound on the date of the second point less that of the first, in whole
-    /// time units. A word with a cause against it is refused.
+    /// time units. A word with a cause against it is refused. Memory is asked for only for the word of a
+    /// derived occurrence that is not believed.
     fn bounds(&self, alloc: Global, p: &QueryPoint, q: &QueryPoint) -> Result<(Bound, Bound), Stop>
         requires idle { pending self.now ≡ None }
         requires well_formed { IsWellFormedQuery (Query.Bounds p.now q.now) }
