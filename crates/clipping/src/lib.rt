@@ -2,8 +2,8 @@
 //! distances and order of spots.
 //!
 //! It stands on `tmm_model` alone. Each call answers exactly as the definitions of support and clip
-//! say: the first token by the order of spots, and none exactly where no token is such. No call
-//! takes memory.
+//! say: the first token by the order of spots (`last_clipper`: the last as they stand), and none exactly
+//! where no token is such. No call takes memory.
 #![tactic(auto)]
 
 ghost use Rattle.std.specs.Prelude.{◌≡◌, ◌<◌, ◌≤◌, ◌↔◌, ◌+◌, ℕ, length, IsTrue, Bool, true, false, MatchOption, slice_index_or, slice_get, IfSome};
@@ -13,6 +13,8 @@ ghost use Rattle.tmm_model.specs.Tokens.{of_one_class, supports, cuts, clips, la
 ghost use Rattle.std.specs.Option.{ForSome};
 ghost use Rattle.clipping.specs.Live.{IsLive};
 ghost use Rattle.clipping.specs.Ahead.{IsAhead};
+ghost use Rattle.clipping.specs.Cutters.{BeginsBy, clips_until};
+ghost use Rattle.clipping.specs.Lasts.{IsLastPlace};
 ghost use Rattle.clipping.specs.Faults.{IsClipPlace, IsFault};
 
 use tmm_model::{Name, Sure, TokenRow};
@@ -47,66 +49,66 @@ fn lasts<S: Sure>(
     tokens: &[TokenRow<S::Spot>],
     k: &TokenRow<S::Spot>,
     q: S::Spot,
-    last_cut: &mut usize,
+    cutter: &mut Option<usize>,
 ) -> bool
     requires all_live { All (IsLive (S.live order.now)) tokens.now }
     requires k_live { IsLive (S.live order.now) k.now }
     requires q_live { S.live order.now q }
-    ensures { result ≡ lasts_to of_one_class (S.distance order.now) tokens.now k.now q k.now.end }
+    ensures lasts { result ≡ lasts_to of_one_class (S.distance order.now) tokens.now k.now q k.now.end }
+    ensures cutter { BeginsBy (S.distance order.now) tokens.now q cutter.old → BeginsBy (S.distance order.now) tokens.now q cutter.new }
 {
     match k.end {
         Some(end) => order.at_most(end, q, -1),
-        None => !is_cut(order, tokens, k, q, last_cut),
+        None => !is_cut(order, tokens, k, q, cutter),
     }
 }
 
-// Whether the token at this place cuts `k` before `q`.
-fn is_cut_at<S: Sure>(
-    order: &S,
-    tokens: &[TokenRow<S::Spot>],
-    k: &TokenRow<S::Spot>,
-    q: S::Spot,
-    place: usize,
-) -> bool
-    requires all_live { All (IsLive (S.live order.now)) tokens.now }
-    requires k_live { S.live order.now k.now.spot }
-    requires q_live { S.live order.now q }
-    ensures { IsTrue result → list_any (cuts of_one_class (S.distance order.now) k.now q) tokens.now ≡ true }
-{
-    match tokens.get(place) {
-        Some(c) => cuts_before(order, k, c, q),
-        None => false,
-    }
-}
-
-// Whether a token cuts `k` before `q`. The place of one that cuts is kept, which is looked at first:
-// what cuts one token mostly cuts the next as well.
+// Whether a token cuts `k` before `q`. The place of one that cuts is kept.
 fn is_cut<S: Sure>(
     order: &S,
     tokens: &[TokenRow<S::Spot>],
     k: &TokenRow<S::Spot>,
     q: S::Spot,
-    last_cut: &mut usize,
+    cutter: &mut Option<usize>,
 ) -> bool
     requires all_live { All (IsLive (S.live order.now)) tokens.now }
     requires k_live { S.live order.now k.now.spot }
     requires q_live { S.live order.now q }
-    ensures { result ≡ list_any (cuts of_one_class (S.distance order.now) k.now q) tokens.now }
+    ensures cut { result ≡ list_any (cuts of_one_class (S.distance order.now) k.now q) tokens.now }
+    ensures cutter { BeginsBy (S.distance order.now) tokens.now q cutter.old → BeginsBy (S.distance order.now) tokens.now q cutter.new }
 {
-    if is_cut_at(order, tokens, k, q, *last_cut) {
-        return true;
-    }
     // tokens mostly enter in the order of their dates, and what cuts is found among the last
     for i in (0..tokens.len()).rev() {
         if cuts_before(order, k, &tokens[i], q) {
-            *last_cut = i;
+            *cutter = Some(i);
             return true;
         }
     }
     false
 }
 
-// Whether `k` supports the fact throughout `p` to `q` among the tokens.
+// Whether `k` is a persistence that is cut by the token at this place, which surely begins at or before
+// `q`.
+fn is_cut_by<S: Sure>(
+    order: &S,
+    tokens: &[TokenRow<S::Spot>],
+    k: &TokenRow<S::Spot>,
+    q: S::Spot,
+    cutter: Option<usize>,
+) -> bool
+    requires all_live { All (IsLive (S.live order.now)) tokens.now }
+    requires k_live { S.live order.now k.now.spot }
+    requires begins { BeginsBy (S.distance order.now) tokens.now q cutter }
+    ensures { IsTrue result → lasts_to of_one_class (S.distance order.now) tokens.now k.now q k.now.end ≡ false }
+{
+    match cutter {
+        Some(c) => k.end.is_none() && clips_after(order, k, &tokens[c]),
+        None => false,
+    }
+}
+
+// Whether `k` supports the fact throughout `p` to `q` among the tokens. What cut a token before mostly
+// cuts this one as well, so that is asked first.
 fn is_supporter<S: Sure>(
     order: &S,
     tokens: &[TokenRow<S::Spot>],
@@ -114,15 +116,43 @@ fn is_supporter<S: Sure>(
     fact: &Name,
     p: S::Spot,
     q: S::Spot,
-    last_cut: &mut usize,
+    cutter: &mut Option<usize>,
 ) -> bool
     requires all_live { All (IsLive (S.live order.now)) tokens.now }
     requires k_live { IsLive (S.live order.now) k.now }
     requires p_live { S.live order.now p }
     requires q_live { S.live order.now q }
-    ensures { result ≡ supports of_one_class (S.distance order.now) tokens.now fact.now p q k.now }
+    requires begins { BeginsBy (S.distance order.now) tokens.now q cutter.old }
+    ensures supports { result ≡ supports of_one_class (S.distance order.now) tokens.now fact.now p q k.now }
+    ensures begins { BeginsBy (S.distance order.now) tokens.now q cutter.new }
 {
-    k.fact == *fact && order.at_most(p, k.spot, 0) && lasts(order, tokens, k, q, last_cut)
+    if k.fact != *fact || is_cut_by(order, tokens, k, q, *cutter) {
+        return false;
+    }
+    order.at_most(p, k.spot, 0) && lasts(order, tokens, k, q, cutter)
+}
+
+/// Whether a token supports the fact throughout `p` to `q`.
+pub fn is_held<S: Sure>(
+    order: &S,
+    tokens: &[TokenRow<S::Spot>],
+    fact: Name,
+    p: S::Spot,
+    q: S::Spot,
+) -> bool
+    requires all_live { All (IsLive (S.live order.now)) tokens.now }
+    requires p_live { S.live order.now p }
+    requires q_live { S.live order.now q }
+    ensures { result ≡ list_any (supports of_one_class (S.distance order.now) tokens.now fact p q) tokens.now }
+{
+    let mut cutter = None;
+    // what supports now is mostly among the last that entered
+    for i in (0..tokens.len()).rev() {
+        if is_supporter(order, tokens, &tokens[i], &fact, p, q, &mut cutter) {
+            return true;
+        }
+    }
+    false
 }
 
 // Whether the token at `i` is before the best so far, as it is where there is none.
@@ -148,14 +178,16 @@ fn better<S: Sure>(
     fact: &Name,
     p: S::Spot,
     q: S::Spot,
-    last_cut: &mut usize,
+    cutter: &mut Option<usize>,
 ) -> Option<usize>
     requires all_live { All (IsLive (S.live order.now)) tokens.now }
     requires p_live { S.live order.now p }
     requires q_live { S.live order.now q }
     requires within { i < length tokens.now }
+    requires begins { BeginsBy (S.distance order.now) tokens.now q cutter.old }
     requires best { IsFirstPlaceAmong (on (λ k. k.spot) (S.order order.now)) (supports of_one_class (S.distance order.now) tokens.now fact.now p q) tokens.now i best }
-    ensures { IsFirstPlaceAmong (on (λ k. k.spot) (S.order order.now)) (supports of_one_class (S.distance order.now) tokens.now fact.now p q) tokens.now (i + 1) result }
+    ensures best { IsFirstPlaceAmong (on (λ k. k.spot) (S.order order.now)) (supports of_one_class (S.distance order.now) tokens.now fact.now p q) tokens.now (i + 1) result }
+    ensures begins { BeginsBy (S.distance order.now) tokens.now q cutter.new }
 {
     let k = &tokens[i];
     if k.fact != *fact {
@@ -164,7 +196,7 @@ fn better<S: Sure>(
     if !is_ahead(order, tokens, best, i) {
         return best;
     }
-    if is_supporter(order, tokens, k, fact, p, q, last_cut) {
+    if is_supporter(order, tokens, k, fact, p, q, cutter) {
         Some(i)
     } else {
         best
@@ -186,27 +218,47 @@ pub fn holder<S: Sure>(
     ensures { IsFirstPlace (on (λ k. k.spot) (S.order order.now)) (supports of_one_class (S.distance order.now) tokens.now fact p q) tokens.now result }
 {
     let mut best = None;
-    let mut last_cut = 0;
+    let mut cutter = None;
     for i in 0..tokens.len() {
-        best = better(order, tokens, best, i, &fact, p, q, &mut last_cut);
+        best = better(order, tokens, best, i, &fact, p, q, &mut cutter);
     }
     best
 }
 
-// The first place that clips `k` so far, one more token being looked at: the one at `i`. One of the
-// same fact, or behind the best so far, is not tested whether it clips.
+// Whether `c` clips `k`, and begins surely at or before a point where one is given.
+fn clips_until<S: Sure>(
+    order: &S,
+    k: &TokenRow<S::Spot>,
+    c: &TokenRow<S::Spot>,
+    until: Option<S::Spot>,
+) -> bool
+    requires k_live { S.live order.now k.now.spot }
+    requires c_live { S.live order.now c.now.spot }
+    requires until_live { ForSome until (λ q. S.live order.now q) }
+    ensures { result ≡ clips_until of_one_class (S.distance order.now) k.now until c.now }
+{
+    match until {
+        None => clips_after(order, k, c),
+        Some(q) => cuts_before(order, k, c, q),
+    }
+}
+
+// The first place that clips `k` until a point so far, one more token being looked at: the one at `i`. One
+// of the same fact, or behind the best so far, is not tested whether it clips.
 fn better_clip<S: Sure>(
     order: &S,
     tokens: &[TokenRow<S::Spot>],
     best: Option<usize>,
     i: usize,
     k: &TokenRow<S::Spot>,
+    until: Option<S::Spot>,
 ) -> Option<usize>
     requires all_live { All (IsLive (S.live order.now)) tokens.now }
     requires k_live { S.live order.now k.now.spot }
+    requires until_live { ForSome until (λ q. S.live order.now q) }
     requires within { i < length tokens.now }
-    requires best { IsFirstPlaceAmong (on (λ k. k.spot) (S.order order.now)) (clips of_one_class (S.distance order.now) k.now) tokens.now i best }
-    ensures { IsFirstPlaceAmong (on (λ k. k.spot) (S.order order.now)) (clips of_one_class (S.distance order.now) k.now) tokens.now (i + 1) result }
+    requires best { IsFirstPlaceAmong (on (λ k. k.spot) (S.order order.now)) (clips_until of_one_class (S.distance order.now) k.now until) tokens.now i best }
+    ensures { IsFirstPlaceAmong (on (λ k. k.spot) (S.order order.now)) (clips_until of_one_class (S.distance order.now) k.now until) tokens.now (i + 1) result }
 {
     let c = &tokens[i];
     if k.fact == c.fact {
@@ -215,78 +267,30 @@ fn better_clip<S: Sure>(
     if !is_ahead(order, tokens, best, i) {
         return best;
     }
-    if clips_after(order, k, c) {
+    if clips_until(order, k, c, until) {
         Some(i)
     } else {
         best
     }
 }
 
-// The place of the first token that clips `k`.
+// The place of the first token that clips `k`, and begins surely at or before a point where one is given.
 fn first_clip<S: Sure>(
     order: &S,
     tokens: &[TokenRow<S::Spot>],
     k: &TokenRow<S::Spot>,
+    until: Option<S::Spot>,
 ) -> Option<usize>
     requires all_live { All (IsLive (S.live order.now)) tokens.now }
     requires k_live { S.live order.now k.now.spot }
-    ensures { IsFirstPlace (on (λ k. k.spot) (S.order order.now)) (clips of_one_class (S.distance order.now) k.now) tokens.now result }
+    requires until_live { ForSome until (λ q. S.live order.now q) }
+    ensures { IsFirstPlace (on (λ k. k.spot) (S.order order.now)) (clips_until of_one_class (S.distance order.now) k.now until) tokens.now result }
 {
     let mut clip = None;
     for i in 0..tokens.len() {
-        clip = better_clip(order, tokens, clip, i, k);
+        clip = better_clip(order, tokens, clip, i, k, until);
     }
     clip
-}
-
-// The first place that clips `k` at or before `q` so far, one more token being looked at: the one at
-// `i`. One of the same fact, or behind the best so far, is not tested whether it clips.
-fn better_cut<S: Sure>(
-    order: &S,
-    tokens: &[TokenRow<S::Spot>],
-    best: Option<usize>,
-    i: usize,
-    k: &TokenRow<S::Spot>,
-    q: S::Spot,
-) -> Option<usize>
-    requires all_live { All (IsLive (S.live order.now)) tokens.now }
-    requires k_live { S.live order.now k.now.spot }
-    requires q_live { S.live order.now q }
-    requires within { i < length tokens.now }
-    requires best { IsFirstPlaceAmong (on (λ k. k.spot) (S.order order.now)) (cuts of_one_class (S.distance order.now) k.now q) tokens.now i best }
-    ensures { IsFirstPlaceAmong (on (λ k. k.spot) (S.order order.now)) (cuts of_one_class (S.distance order.now) k.now q) tokens.now (i + 1) result }
-{
-    let c = &tokens[i];
-    if k.fact == c.fact {
-        return best;
-    }
-    if !is_ahead(order, tokens, best, i) {
-        return best;
-    }
-    if cuts_before(order, k, c, q) {
-        Some(i)
-    } else {
-        best
-    }
-}
-
-// The place of the first token that clips `k` at or before `q`.
-fn first_cut<S: Sure>(
-    order: &S,
-    tokens: &[TokenRow<S::Spot>],
-    k: &TokenRow<S::Spot>,
-    q: S::Spot,
-) -> Option<usize>
-    requires all_live { All (IsLive (S.live order.now)) tokens.now }
-    requires k_live { S.live order.now k.now.spot }
-    requires q_live { S.live order.now q }
-    ensures { IsFirstPlace (on (λ k. k.spot) (S.order order.now)) (cuts of_one_class (S.distance order.now) k.now q) tokens.now result }
-{
-    let mut cut = None;
-    for i in 0..tokens.len() {
-        cut = better_cut(order, tokens, cut, i, k, q);
-    }
-    cut
 }
 
 /// The place of the first token that clips the one at `k`, none exactly where no token does. A span
@@ -299,8 +303,26 @@ pub fn first_clipper<S: Sure>(order: &S, tokens: &[TokenRow<S::Spot>], k: usize)
     let row = &tokens[k];
     match row.end {
         Some(_) => None,
-        None => first_clip(order, tokens, row),
+        None => first_clip(order, tokens, row, None),
     }
+}
+
+/// The place of the last of the tokens that clips `k`, none exactly where no token does.
+pub fn last_clipper<S: Sure>(
+    order: &S,
+    tokens: &[TokenRow<S::Spot>],
+    k: &TokenRow<S::Spot>,
+) -> Option<usize>
+    requires all_live { All (IsLive (S.live order.now)) tokens.now }
+    requires k_live { S.live order.now k.now.spot }
+    ensures { IsLastPlace (clips of_one_class (S.distance order.now) k.now) tokens.now result }
+{
+    for i in (0..tokens.len()).rev() {
+        if clips_after(order, k, &tokens[i]) {
+            return Some(i);
+        }
+    }
+    None
 }
 
 /// Why a token does not support its fact.
@@ -335,7 +357,7 @@ pub fn blame<S: Sure>(
     }
     match row.end {
         Some(_) => Fault::Ends,
-        None => match first_cut(order, tokens, row, q) {
+        None => match first_clip(order, tokens, row, Some(q)) {
             Some(c) => Fault::Clipped(c),
             None => Fault::Ends,
         },

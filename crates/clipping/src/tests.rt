@@ -60,7 +60,7 @@ fn clipper_of(tokens: &[TokenRow<(u8, i32, usize)>], k: usize) -> Option<usize> 
 fn fault_of(tokens: &[TokenRow<(u8, i32, usize)>], k: usize, p: i32, q: i32) -> Option<Fault> {
     let token = tokens.get(k)?;
     let (p, q) = ((0, p, 8), (0, q, 8));
-    if is_supporter(&Dates, tokens, token, &token.fact, p, q, &mut 0) {
+    if is_supporter(&Dates, tokens, token, &token.fact, p, q, &mut None) {
         None
     } else {
         Some(blame(&Dates, tokens, k, p, q))
@@ -88,14 +88,34 @@ fn tokens_of_a_door(rt: HostRuntime) -> Result<(), Fail> {
         (4, 5, None),
         (-1, -1, None),
     ] {
-        assert_eq!(rt; holder(&Dates, &tokens, open, (0, p, 8), (0, q, 8)), found);
+        let (p, q) = ((0, p, 8), (0, q, 8));
+        assert_eq!(rt; holder(&Dates, &tokens, open, p, q), found);
+        assert_eq!(rt; is_held(&Dates, &tokens, open, p, q), found.is_some());
     }
     let spans = [span(7, 12, 5, open, door)];
     for (p, q, found) in [(7, 11, Some(0)), (7, 12, None), (6, 11, None)] {
-        assert_eq!(rt; holder(&Dates, &spans, open, (0, p, 8), (0, q, 8)), found);
+        let (p, q) = ((0, p, 8), (0, q, 8));
+        assert_eq!(rt; holder(&Dates, &spans, open, p, q), found);
+        assert_eq!(rt; is_held(&Dates, &spans, open, p, q), found.is_some());
     }
     for (k, found) in [(0, Some(5)), (2, Some(1)), (3, None), (4, None), (5, None)] {
         assert_eq!(rt; clipper_of(&tokens, k), found);
+    }
+    for (line, date, fact, last) in [
+        // by those that are open at 5 and at 7, of which the span stands last
+        (0, 4, shut, Some(5)),
+        // by both that are shut at 5: the first by their places stands last
+        (0, 0, open, Some(1)),
+        // a `shut` at its own date clips nothing
+        (0, 5, open, None),
+        // by the `shut` of its own line alone
+        (1, 0, open, Some(4)),
+        (1, 0, shut, None),
+    ] {
+        assert_eq!(rt;
+            last_clipper(&Dates, &tokens, &token(line, date, 7, fact, door)),
+            last
+        );
     }
     for (k, p, q, fault) in [
         (2, -1, -1, Fault::Late),

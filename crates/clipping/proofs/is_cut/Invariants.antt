@@ -4,4 +4,8 @@ use Rattle.tmm_model.specs.Tokens.{of_one_class, cuts}
 use Rattle.clipping.proofs.is_cut.Given as goal
 
 abbrev pub invariant-loop-i : goal.invariant-loop-i
-invariant-loop-i g l = list_any (cuts of_one_class (g.S.Sure.distance l.order) l.k l.q) (drop l.i l.tokens) ≡ false
+invariant-loop-i g l =
+    record {
+      uncut : list_any (cuts of_one_class (g.S.Sure.distance l.order) l.k l.q) (drop l.i l.tokens) ≡ false;
+      kept : l.cutter ≡ l.initial.cutter;
+    }
