@@ -16,3 +16,5 @@ pub mod Below
 pub mod Unlisted
 pub mod Withdrawn
 pub mod Shed
+pub mod Ordered
+pub mod Numbers

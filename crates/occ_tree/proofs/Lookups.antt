@@ -1,9 +1,10 @@
 -- Nodes by their moments.
 use Rattle.std.proofs.Common.{◌≡◌, ◌≢◌, ℕ, zero, suc, ◌+◌, ◌<◌, ◌≤◌, List, [], ◌∷◌, ◌++◌, map, take, drop, get_or, length, refl, sym, ap, ◌∙◌, subst, arith}
-use Rattle.std.specs.Prelude.{Option, Some, None, MatchOption}
+use Rattle.std.specs.Prelude.{Option, Some, None, MatchOption, slice_get}
 use Rattle.std.specs.Option.{option_map_or}
 use Rattle.std.specs.List.{All, Contains}
-use Rattle.std.proofs.lemmas.List.Elements.{All-contains}
+use Rattle.std.proofs.lemmas.List.Elements.{All-contains, Contains-get_or}
+use Rattle.std.proofs.lemmas.Option.{slice_get_within, get_or_from_slice_get}
 use Rattle.std.proofs.lemmas.List.{map_push, length_push, length-map, take_all, take-append-le, length-append, same_from_push}
 use Rattle.tmm_model.specs.declared.point.PointName.TheVariants.{Start, Begin}
 use Rattle.tmm_model.specs.Moments.{Moment, At, After, along, base, rules}
@@ -15,6 +16,10 @@ use Rattle.occ_tree.proofs.NodeLists.{seen, unseen}
 use Rattle.occ_tree.proofs.Ways.{parent_of, IsWay-listed}
 use Rattle.tmm_model.proofs.Moments.{base-along, rules-along}
 use Rattle.occ_tree.proofs.Words.{along-push, along-append, way_on, way_whole}
+
+-- what stands at a place is contained
+pub contains_at : (numbers : List ℕ) (k x : ℕ) → slice_get numbers k ≡ Some x → Contains numbers x
+contains_at numbers k x at = subst (Contains numbers) (get_or_from_slice_get numbers k x 0 at) (Contains-get_or numbers k 0 (slice_get_within numbers k x at))
 
 -- one rule more in the moment
 pub moment-push : (m n : Member) (link : Link) → n.root ≡ m.root → n.links ≡ m.links ++ link ∷ [] → moment n ≡ After (moment m) link.rule

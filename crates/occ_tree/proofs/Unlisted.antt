@@ -9,14 +9,14 @@ use Rattle.slab.proofs.SlabLemmas.{ContainsKey-within}
 use Rattle.occ_tree.specs.declared.classes.ClassRows.{ClassRows}
 use Rattle.occ_tree.specs.declared.node.Node.{Node}
 use Rattle.occ_tree.specs.Nodes.{Slots, node_at, member_of, IsSummed, IsBetween}
-use Rattle.occ_tree.specs.Leaving.{without, LosesChild}
+use Rattle.occ_tree.specs.Leaving.{LosesNumber, LosesChild}
 use Rattle.occ_tree.specs.TreeInside.{AreRight}
 use Rattle.occ_tree.proofs.Without.{without-none}
 
 -- k is the same node as m, but that x is none of its children
 pub record IsLeft (x : ℕ) (m k : Node) : Type 0 where
   pub is : k ≡ record m { children = k.children }
-  pub children : k.children.items ≡ without x m.children.items
+  pub children : LosesNumber m.children.items k.children.items x
 
 pub same_member : (x : ℕ) (m k : Node) → IsLeft x m k → member_of k ≡ member_of m
 same_member x m k left = ap member_of left.is
@@ -34,7 +34,7 @@ abbrev pub LosesNode : Option ℕ → Slab Node → Slab Node → ℕ → Type 0
 LosesNode parent old new x = MatchOption parent (new ≡ old) (λ y. LosesChild old new y x)
 
 abbrev pub LosesRoot : Option ℕ → List ℕ → List ℕ → ℕ → Type 0
-LosesRoot parent old new x = MatchOption parent (new ≡ without x old) (λ y. new ≡ old)
+LosesRoot parent old new x = MatchOption parent (LosesNumber old new x) (λ y. new ≡ old)
 
 module _ (old : Slab Node) (listed : List ℕ) (classes : List ClassRows) (limit : ℕ) (right : AreRight old.slots listed classes limit) (x : ℕ) (n : Node) (at : node_at old.slots x ≡ Some n) where
   -- a node that is not the parent does not list x
@@ -91,7 +91,7 @@ module _ (old : Slab Node) (listed : List ℕ) (classes : List ClassRows) (limit
       apart y other e = let both : Some z ≡ Some y = sym parent ∙ e in let same : z ≡ y = cc in other (sym same)
 
   -- and it is none of the roots
-  pub unlisted_root : (new : List ℕ) (parent : Option ℕ) → n.parent ≡ parent → LosesRoot parent listed new x → new ≡ without x listed
+  pub unlisted_root : (new : List ℕ) (parent : Option ℕ) → n.parent ≡ parent → LosesRoot parent listed new x → LosesNumber listed new x
   unlisted_root new None root loses = loses
   unlisted_root new (Some z) parent same = same ∙ sym (without-none x listed no_root)
     where

@@ -16,7 +16,7 @@ use Rattle.occ_tree.specs.declared.classes.ClassRows.{ClassRows}
 use Rattle.occ_tree.specs.declared.node.Node.{Node}
 use Rattle.occ_tree.specs.Classes.{rows_in}
 use Rattle.occ_tree.specs.Nodes.{Slots, node_at, member_of, forest_in, AreOnce, IsNode, IsBetween}
-use Rattle.occ_tree.specs.Leaving.{ListsBelow, without, HasClassIn, there, rows_there, ShedsAny}
+use Rattle.occ_tree.specs.Leaving.{ListsBelow, LosesNumber, HasClassIn, there, rows_there, ShedsAny}
 use Rattle.occ_tree.specs.TreeInside.{AreRight}
 use Rattle.occ_tree.proofs.NodeLists.{seen, unseen, member_at, no_node}
 use Rattle.occ_tree.proofs.Once.{spot_is, class_is}
@@ -211,7 +211,7 @@ module _ (old new : Slots) (x : ℕ) (n : Node) (at : node_at old x ≡ Some n) 
         seen old y m m_at ∙ ap Some (sym (same_member x m k left) ∙ is)
 
     -- **The tree is right without the node and all below it.**
-    pub AreRight-left : (listed_old listed : List ℕ) (limit : ℕ) → AreRight old listed_old classes_old limit → listed ≡ without x listed_old → AreRight new listed classes limit
+    pub AreRight-left : (listed_old listed : List ℕ) (limit : ℕ) → AreRight old listed_old classes_old limit → LosesNumber listed_old listed x → AreRight new listed classes limit
     AreRight-left listed_old listed limit right is = record {
       nodes = λ y k k_at. let (m, m_at, apart, left) = leaves.back y k k_at in IsNode-left right.once right.nodes y m k m_at apart left;
       once = λ y z a b a_at b_at same. right.once y z a b (was_member y a a_at) (was_member z b b_at) same;

@@ -19,13 +19,17 @@ pub record ListsBelow (f : Forest) (x : Member) (numbers : List ℕ) : Type 0 wh
 abbrev pub without : ℕ → List ℕ → List ℕ
 without x numbers = filter (λ y. not (y == x)) numbers
 
+-- the list has lost x, and the others stay in their order
+abbrev pub LosesNumber : List ℕ → List ℕ → ℕ → Type 0
+LosesNumber old new x = new ≡ without x old
+
 -- the node of the number parent has lost the child x, and nothing else has changed
 pub record LosesChild (old new : Slab Node) (parent x : ℕ) : Type 0 where
   pub was : Node
   pub now : Node
   pub at : node_at old.slots parent ≡ Some was
   pub is : now ≡ record was { children = now.children }
-  pub children : now.children.items ≡ without x was.children.items
+  pub children : LosesNumber was.children.items now.children.items x
   pub slots : new.slots ≡ slice_set old.slots parent (Some now)
 
 -- ---- tokens

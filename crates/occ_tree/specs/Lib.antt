@@ -6,3 +6,4 @@ pub mod Nodes
 pub mod TreeInside
 pub mod Rows
 pub mod Leaving
+pub mod Ranks

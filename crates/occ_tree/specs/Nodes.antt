@@ -83,7 +83,8 @@ pub record IsKept (f : Forest) (x : ℕ) (n : Node) : Type 0 where
 abbrev pub IsNodeOf : Forest → Moment → ℕ → Type 0
 IsNodeOf f k x = (m : Member) × (member f x ≡ Some m) × (moment m ≡ k)
 
--- The number of the node at this moment. Where there is none, no node is at a moment that rules lead to from it.
+-- The number of the node at this moment. Where there is none, no node is at a moment that rules lead to
+-- from it.
 abbrev pub IsWayTo : Forest → Moment → Option ℕ → Type 0
 IsWayTo f k found =
     MatchOption found ((rest : List (List ℕ)) (x : ℕ) (m : Member) → member f x ≡ Some m → moment m ≢ along k rest) (IsNodeOf f k)

@@ -12,7 +12,8 @@ use Rattle.occ_tree.specs.Nodes.{Slots, node_at, forest_in, IsNode}
 abbrev pub forest_of : Inside → Forest
 forest_of t = forest_in t.nodes.slots
 
--- each node is as it says, each occurrence has one, the roots are listed, and so are the tokens of each class
+-- Each node is as it says, each occurrence has one, the roots are listed, and so are the tokens of each
+-- class.
 pub record AreRight (slots : Slots) (listed : List ℕ) (classes : List ClassRows) (limit : ℕ) : Type 0 where
   pub nodes : (x : ℕ) (n : Node) → node_at slots x ≡ Some n → IsNode slots x n
   pub once : IsOnce (forest_in slots)

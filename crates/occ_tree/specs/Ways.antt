@@ -29,8 +29,9 @@ abbrev pub IsWayOf : Forest → Spot → List ℕ → Type 0
 IsWayOf f (Declared p) way = way ≡ []
 IsWayOf f (OfNode x) way = (m : Member) × (member f x ≡ Some m) × IsWay f m way
 
--- The count is a place where two ways part: the numbers before it are the same, and those at it differ, where neither ends.
--- Two ways that have parted stay apart, so they begin with just so many numbers in common.
+-- The count is a place where two ways part: the numbers before it are the same, and those at it differ,
+-- where neither ends. Two ways that have parted stay apart, so they begin with just so many numbers in
+-- common.
 pub record IsShared (u v : List ℕ) (count : ℕ) : Type 0 where
   pub in_first : count ≤ length u
   pub in_second : count ≤ length v

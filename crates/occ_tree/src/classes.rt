@@ -1,9 +1,10 @@
 // The tokens of each class.
-ghost use Rattle.std.specs.Prelude.{◌≡◌, ◌≢◌, ℕ, List, [], ◌∷◌, ◌++◌, OnOk, OnErr, MatchOption};
+ghost use Rattle.std.specs.Prelude.{◌≡◌, ◌≢◌, ℕ, List, OnOk, OnErr, MatchOption};
 ghost use Rattle.std.specs.List.{All, Contains};
 ghost use Rattle.occ_tree.specs.Classes.{rows_in, IsOther, IsPlace, AddsRow};
 ghost use Rattle.occ_tree.specs.Leaving.{there, rows_there, ShedsAny};
 
+use crate::lists::push;
 use crate::node::Node;
 use slab::Slab;
 use spots::Spot;
@@ -52,11 +53,10 @@ pub(crate) fn add_row(
 {
     let class = row.class;
     match place_of(classes, &class) {
-        Some(i) => push_row(&mut classes[i].rows, row),
+        Some(i) => push(&mut classes[i].rows, row),
         None => {
-            let mut rows = Vec::new(alloc);
-            push_row(&mut rows, row)?;
-            push_class(classes, ClassRows { class, rows })
+            let rows = Vec::from_slice(alloc, &[row])?;
+            push(classes, ClassRows { class, rows })
         }
     }
 }
@@ -95,27 +95,5 @@ fn is_there(nodes: &Slab<Node>, spot: Spot) -> bool
     match spot {
         Spot::Declared(_) => true,
         Spot::Node(x) => nodes.contains(x as usize),
-    }
-}
-
-// Appends a token. Without memory nothing has changed.
-fn push_row(rows: &mut Vec<TokenRow<Spot>>, row: TokenRow<Spot>) -> Result<(), NoMemory>
-    ensures ok { OnOk result (rows.new.items ≡ rows.old.items ++ row ∷ []) }
-    ensures err { OnErr result (rows.new.items ≡ rows.old.items) }
-{
-    match rows.push(row) {
-        Ok(()) => Ok(()),
-        Err(_) => Err(NoMemory),
-    }
-}
-
-// Appends a class. Without memory nothing has changed.
-fn push_class(classes: &mut Vec<ClassRows>, class: ClassRows) -> Result<(), NoMemory>
-    ensures ok { OnOk result (classes.new.items ≡ classes.old.items ++ class ∷ []) }
-    ensures err { OnErr result (classes.new.items ≡ classes.old.items) }
-{
-    match classes.push(class) {
-        Ok(()) => Ok(()),
-        Err(_) => Err(NoMemory),
     }
 }

@@ -2,8 +2,9 @@
 ghost use Rattle.std.specs.Prelude.{◌≡◌, ℕ, List, IfSome, IfOk, OnOk, MatchOption, Some};
 ghost use Rattle.std.specs.List.{All, Contains};
 ghost use Rattle.slab.specs.Slab.{get, ContainsKey};
-ghost use Rattle.occ_tree.specs.Leaving.{without, HasClassIn, LosesChild};
+ghost use Rattle.occ_tree.specs.Leaving.{HasClassIn, LosesNumber, LosesChild};
 
+use crate::lists::push;
 use crate::node::Node;
 use slab::Slab;
 use std::alloc::Global;
@@ -30,22 +31,17 @@ fn add_class(classes: &mut Vec<Name>, class: Option<Name>) -> Result<(), NoMemor
     ensures added { OnOk result (IfSome class (Contains classes.new.items)) }
     ensures kept { OnOk result ((c : List ℕ) → Contains classes.old.items c → Contains classes.new.items c) }
 {
-    let Some(class) = class else {
-        return Ok(());
-    };
-    if classes.contains(&class) {
-        return Ok(());
+    match class {
+        Some(class) if !classes.contains(&class) => push(classes, class),
+        _ => Ok(()),
     }
-    classes.reserve(1)?;
-    classes.push_reserved(class);
-    Ok(())
 }
 
 // Takes a node out of the children of its parent, or out of the roots.
 pub(crate) fn unlist(nodes: &mut Slab<Node>, roots: &mut Vec<u32>, parent: Option<u32>, x: u32)
     requires { IfSome parent (ContainsKey nodes.old) }
     ensures nodes { MatchOption parent (nodes.new ≡ nodes.old) (λ y. LosesChild nodes.old nodes.new y x) }
-    ensures roots { MatchOption parent (roots.new.items ≡ without x roots.old.items) (λ y. roots.new.items ≡ roots.old.items) }
+    ensures roots { MatchOption parent (LosesNumber roots.old.items roots.new.items x) (λ y. roots.new.items ≡ roots.old.items) }
 {
     match parent {
         Some(parent) => drop_child(nodes, parent, x),
@@ -58,13 +54,12 @@ fn drop_child(nodes: &mut Slab<Node>, parent: u32, x: u32)
     requires { ContainsKey nodes.old parent }
     ensures { LosesChild nodes.old nodes.new parent x }
 {
-    let node = &mut nodes[parent as usize];
-    drop_number(&mut node.children, x);
+    drop_number(&mut nodes[parent as usize].children, x);
 }
 
 // Takes a number out. The others stay in their order.
 fn drop_number(numbers: &mut Vec<u32>, x: u32)
-    ensures { numbers.new.items ≡ without x numbers.old.items }
+    ensures { LosesNumber numbers.old.items numbers.new.items x }
 {
     numbers.retain(|y| *y != x);
 }

@@ -43,12 +43,12 @@ impl Sums {
             Bound::Finite(hi) => Sums {
                 low,
                 bounded: self.bounded + hi,
-                unbounded: self.unbounded,
+                ..self
             },
             Bound::Free => Sums {
                 low,
-                bounded: self.bounded,
                 unbounded: self.unbounded + 1,
+                ..self
             },
         }
     }
@@ -93,12 +93,9 @@ pub(crate) fn plus(first: Bound, second: Bound) -> Bound
     requires second { IfFinite second (IsWithin 1000000000000000) }
     ensures { result ≡ bound_plus first second }
 {
-    match first {
-        Bound::Finite(x) => match second {
-            Bound::Finite(y) => Bound::Finite(x + y),
-            Bound::Free => Bound::Free,
-        },
-        Bound::Free => Bound::Free,
+    match (first, second) {
+        (Bound::Finite(x), Bound::Finite(y)) => Bound::Finite(x + y),
+        _ => Bound::Free,
     }
 }
 

@@ -1,14 +1,13 @@
 // What a node keeps, and what is told of it.
 ghost use Rattle.std.specs.Prelude.{◌≡◌, ◌<◌, [], ◌∷◌, ◌++◌, length, IfOk, OnOk};
 ghost use Rattle.slab.specs.Slab.{ContainsKey};
-ghost use Rattle.std.specs.Option.{option_map};
-ghost use Rattle.spots.specs.declared.spot.Spot.TheVariants.{Declared};
 ghost use Rattle.spots.specs.Forest.{last_name as last_name_of, HasClass};
 ghost use Rattle.spots.specs.Spots.{token_row};
 ghost use Rattle.occ_tree.specs.Light.{IsLight};
 ghost use Rattle.occ_tree.specs.Nodes.{member_of, IsSummed, IsEffect, Rewrites, HasChildRoom};
 
 use crate::links::Sums;
+use crate::lists::longer;
 use slab::Slab;
 use spots::{Link, Spot};
 use std::alloc::Global;
@@ -88,25 +87,13 @@ pub(crate) fn last_name<'a>(root: &'a Name, links: &'a [Link]) -> &'a Name
 pub(crate) fn token_of(x: u32, node: &Node) -> Option<TokenRow<Spot>>
     ensures { result ≡ token_row x (member_of node.now) }
 {
-    match node.class {
-        Some(class) => Some(TokenRow {
-            spot: Spot::Node(x),
-            end: end_of(node),
-            fact: node.what,
-            class,
-        }),
-        None => None,
-    }
-}
-
-// The end of a span.
-fn end_of(node: &Node) -> Option<Spot>
-    ensures { result ≡ option_map Declared node.now.end }
-{
-    match node.end {
-        Some(end) => Some(Spot::Declared(end)),
-        None => None,
-    }
+    let class = node.class?;
+    Some(TokenRow {
+        spot: Spot::Node(x),
+        end: node.end.map(Spot::Declared),
+        fact: node.what,
+        class,
+    })
 }
 
 // The effect of a rule on an event, as the node of number x.
@@ -126,8 +113,8 @@ pub(crate) fn effect(
     requires class { HasClass class shape }
     ensures { IfOk result (IsEffect x event.now parent link.now what class shape) }
 {
-    let links = longer(alloc, event.links.as_slice(), link)?;
-    let way = longer_way(alloc, event.way.as_slice(), x)?;
+    let links = longer(alloc, event.links.as_slice(), *link)?;
+    let way = longer(alloc, event.way.as_slice(), x)?;
     let word = longer_word(alloc, event.word.as_slice(), &link.rule)?;
     Ok(Node {
         root: event.root,
@@ -147,33 +134,11 @@ pub(crate) fn effect(
     })
 }
 
-// The rules and one more.
-fn longer(alloc: Global, links: &[Link], link: &Link) -> Result<Vec<Link>, NoMemory>
-    ensures { IfOk result (λ more. more.items ≡ links.now ++ link.now ∷ []) }
-{
-    let mut more = Vec::from_slice(alloc, links)?;
-    more.reserve(1)?;
-    more.push_reserved(*link);
-    Ok(more)
-}
-
-// The way and one more node.
-fn longer_way(alloc: Global, way: &[u32], x: u32) -> Result<Vec<u32>, NoMemory>
-    ensures { IfOk result (λ more. more.items ≡ way.now ++ x ∷ []) }
-{
-    let mut more = Vec::from_slice(alloc, way)?;
-    more.reserve(1)?;
-    more.push_reserved(x);
-    Ok(more)
-}
-
 // The word with a rule behind it.
 fn longer_word(alloc: Global, word: &[u8], rule: &Name) -> Result<Vec<u8>, NoMemory>
     ensures { IfOk result (λ more. more.items ≡ word.now ++ 47 ∷ rule.now) }
 {
-    let mut more = Vec::from_slice(alloc, word)?;
-    more.reserve(1)?;
-    more.push_reserved(b'/');
+    let mut more = longer(alloc, word, b'/')?;
     more.extend_from_slice(rule.bytes())?;
     Ok(more)
 }
@@ -184,8 +149,7 @@ pub(crate) fn reserve_child(nodes: &mut Slab<Node>, parent: u32) -> Result<(), N
     ensures kept { Rewrites nodes.old nodes.new parent [] }
     ensures room { OnOk result (HasChildRoom nodes.new parent) }
 {
-    let node = &mut nodes[parent as usize];
-    node.children.reserve(1)?;
+    nodes[parent as usize].children.reserve(1)?;
     Ok(())
 }
 
@@ -195,6 +159,5 @@ pub(crate) fn push_child(nodes: &mut Slab<Node>, parent: u32, x: u32)
     requires room { HasChildRoom nodes.old parent }
     ensures { Rewrites nodes.old nodes.new parent (x ∷ []) }
 {
-    let node = &mut nodes[parent as usize];
-    node.children.push_reserved(x);
+    nodes[parent as usize].children.push_reserved(x);
 }

@@ -1,6 +1,5 @@
 // The order of the nodes of a tree, with the distances of a network.
-ghost use Rattle.std.specs.Prelude.{◌≡◌, ◌≢◌};
-ghost use Rattle.dist_net.specs.Net.{IsInUse};
+ghost use Rattle.std.specs.Prelude.{◌≡◌};
 ghost use Rattle.spots.specs.Forest.{IsLive};
 ghost use Rattle.spots.specs.Seen.{HasList};
 ghost use Rattle.std.specs.List.{All};
@@ -47,8 +46,9 @@ impl Tree {
         requires live { IsLive self.now x }
         ensures { result ≡ node_early net.now.present self.now x }
     {
-        match self.far(net, Spot::Node(x), Spot::Declared(0)) {
-            Bound::Finite(far) => -far,
+        let node = self.node(x);
+        match net.far(node.begin, 0) {
+            Bound::Finite(far) => node.sums.low - far,
             Bound::Free => 0,
         }
     }
@@ -103,7 +103,8 @@ impl Tree {
     }
 }
 
-// Where a spot is: the declared point from which rules lead to it, the nodes on the way, and the sums of the rules.
+// Where a spot is: the declared point from which rules lead to it, the nodes on the way, and the sums of
+// the rules.
 #[derive(Clone, Copy)]
 struct Place<'a> {
     base: u16,

@@ -1,9 +1,9 @@
 // The tree of occurrences.
-ghost use Rattle.std.specs.Prelude.{◌≡◌, ◌≢◌, ℕ, List, map, slice_get, IfSome, IfNone, ◌<◌, ◌≤◌, pos, ◌≤ℤ◌, ◌++◌, length, None, Some, IfOk, OnOk, OnErr, IsSome, IsTrue, ◌↔◌};
+ghost use Rattle.std.specs.Prelude.{◌≡◌, ◌≢◌, ℕ, nat_eq, List, map, slice_get, IfSome, IfNone, ◌<◌, ◌≤◌, pos, ◌≤ℤ◌, ◌++◌, length, None, Some, IfOk, OnOk, OnErr, IsSome, IsTrue, ◌↔◌};
 ghost use Rattle.tmm_model.specs.Lines.{IsNumber, IsBound, IsRange};
 ghost use Rattle.tmm_model.specs.Moments.{At, After, moment_of, printed};
 ghost use Rattle.tmm_model.specs.declared.point.PointName.TheVariants.{Begin};
-ghost use Rattle.std.specs.List.{Contains};
+ghost use Rattle.std.specs.List.{All, Contains, IsDistinct};
 ghost use Rattle.spots.specs.Forest.{Member, member, IsLive, IsOnce, moment_at, Enters, root_member, child_member, IsNoRoot, HasClass, HasEnd, IsTrigger, Withdraws, IsFound, last_name as last_name_of};
 ghost use Rattle.occ_tree.specs.Rows.{IsRowOf, IsFirstChild, IsNextChild};
 ghost use Rattle.spots.specs.Spots.{AreTokens, token_row};
@@ -90,7 +90,7 @@ impl Tree {
             what,
             class,
             shape,
-            word: copied(alloc, name.bytes())?,
+            word: Vec::from_slice(alloc, name.bytes())?,
             sums: Sums::of_none(),
             root_node: x,
             parent: None,
@@ -174,6 +174,22 @@ impl Tree {
         ensures { (x : ℕ) → IsLive self.now x → x < result }
     {
         self.limit
+    }
+
+    /// The numbers of all nodes, each once.
+    pub fn numbers(&self, alloc: Global) -> Result<Vec<u32>, NoMemory>
+        ensures live { IfOk result (λ numbers. All (IsLive self.now) numbers.items) }
+        ensures all { IfOk result (λ numbers. (x : ℕ) → IsLive self.now x → Contains numbers.items x) }
+        ensures once { IfOk result (λ numbers. IsDistinct nat_eq numbers.items) }
+    {
+        let mut numbers = Vec::new(alloc);
+        for x in 0..self.limit {
+            if self.is_live(x) {
+                numbers.reserve(1)?;
+                numbers.push_reserved(x);
+            }
+        }
+        Ok(numbers)
     }
 
     /// Whether the number is of a node.
@@ -295,20 +311,18 @@ impl Tree {
 
     // The place among its siblings of the node at this depth of the way to another.
     fn place_on(&self, node: &Node, depth: usize) -> usize {
-        match node.way.get(depth) {
-            Some(x) => match self.nodes.get(*x as usize) {
-                Some(on_way) => on_way.place,
-                None => 0,
-            },
-            None => 0,
-        }
+        let on_way = node
+            .way
+            .get(depth)
+            .and_then(|x| self.nodes.get(*x as usize));
+        on_way.map_or(0, |node| node.place)
     }
 
     // The node of a root, if it stands at this place.
     fn root_at(&self, name: &Name, place: usize) -> Option<u32>
         ensures { IfSome result (IsNodeOf self.now (At (Begin name.now))) }
     {
-        let x = listed_at(self.roots.as_slice(), place)?;
+        let x = number_at(self.roots.as_slice(), place)?;
         if self.nodes[x as usize].root == *name {
             Some(x)
         } else {
@@ -320,14 +334,10 @@ impl Tree {
     fn root_near(&self, name: &Name, place: usize) -> Option<u32>
         ensures { IsWayTo self.now (At (Begin name.now)) result }
     {
-        if let Some(x) = self.root_at(name, place) {
-            return Some(x);
-        }
-        if let Some(x) = self.root_at(name, place.saturating_add(1)) {
-            return Some(x);
-        }
-        if let Some(x) = self.root_at(name, place.saturating_sub(1)) {
-            return Some(x);
+        for k in [place, place.saturating_add(1), place.saturating_sub(1)] {
+            if let Some(x) = self.root_at(name, k) {
+                return Some(x);
+            }
         }
         self.root_of(name)
     }
@@ -337,7 +347,7 @@ impl Tree {
         requires { IsLive self.now x }
         ensures { IfSome result (IsNodeOf self.now (After (moment_at self.now x) rule.now)) }
     {
-        let child = listed_at(self.nodes[x as usize].children.as_slice(), place)?;
+        let child = number_at(self.nodes[x as usize].children.as_slice(), place)?;
         if is_by(&self.nodes[child as usize], rule) {
             Some(child)
         } else {
@@ -351,14 +361,10 @@ impl Tree {
         requires { IsLive self.now x }
         ensures { IsWayTo self.now (After (moment_at self.now x) rule.now) result }
     {
-        if let Some(child) = self.effect_at(x, rule, place) {
-            return Some(child);
-        }
-        if let Some(child) = self.effect_at(x, rule, place.saturating_add(1)) {
-            return Some(child);
-        }
-        if let Some(child) = self.effect_at(x, rule, place.saturating_sub(1)) {
-            return Some(child);
+        for k in [place, place.saturating_add(1), place.saturating_sub(1)] {
+            if let Some(child) = self.effect_at(x, rule, k) {
+                return Some(child);
+            }
         }
         self.effect_of(x, rule)
     }
@@ -413,18 +419,7 @@ fn place_in(numbers: &[u32], x: u32) -> Option<usize>
     None
 }
 
-// The number at a place of a list, where there is one.
-fn listed_at(numbers: &[u32], k: usize) -> Option<u32>
-    ensures { IfSome result (Contains numbers.now) }
-{
-    if k < numbers.len() {
-        Some(numbers[k])
-    } else {
-        None
-    }
-}
-
-// The number at a place of a list.
+// The number at a place of a list, none behind its end.
 fn number_at(numbers: &[u32], k: usize) -> Option<u32>
     ensures { result ≡ slice_get numbers.now k }
 {
@@ -462,13 +457,6 @@ fn enter(
     add_token(alloc, classes, x, &node)?;
     nodes.insert_reserved(node);
     Ok(())
-}
-
-// The bytes once more.
-fn copied(alloc: Global, bytes: &[u8]) -> Result<Vec<u8>, NoMemory>
-    ensures { IfOk result (λ word. word.items ≡ bytes.now) }
-{
-    Ok(Vec::from_slice(alloc, bytes)?)
 }
 
 // The names of the rules.

@@ -7,19 +7,19 @@ use Rattle.tmm_model.specs.Moments.{At}
 use Rattle.spots.specs.Forest.{Forest}
 use Rattle.occ_tree.specs.declared.node.Node.{Node}
 use Rattle.occ_tree.specs.Nodes.{IsNodeOf}
-use Rattle.occ_tree.proofs.Lookups.{root_found}
+use Rattle.occ_tree.proofs.Lookups.{contains_at, root_found}
 use Rattle.occ_tree.proofs.tree.Tree.root_at.Goals as goal
 
 pub index-requires : goal.index-requires
 index-requires c =
-    let listed : Contains c.self.inside.roots.items c.in_ok-x.x = subst (λ (l : List ℕ). Contains l c.in_ok-x.x) c.as_slice.ensures.value c.in_ok-x.ensures in
+    let listed : Contains c.self.inside.roots.items c.in_ok-x.x = subst (λ (l : List ℕ). Contains l c.in_ok-x.x) c.as_slice.ensures.value (contains_at c.as_slice.result.now c.args.place c.in_ok-x.x (sym c.in_ok-x.ensures)) in
     let (n, at, none) = c.self.invariant.are_roots c.in_ok-x.x listed in
     ap is_some at
 
 pub returns-then-eq : goal.returns-then-eq
 returns-then-eq c =
     let x = c.in_ok-x.x in
-    let listed : Contains c.self.inside.roots.items x = subst (λ (l : List ℕ). Contains l x) c.as_slice.ensures.value c.in_ok-x.ensures in
+    let listed : Contains c.self.inside.roots.items x = subst (λ (l : List ℕ). Contains l x) c.as_slice.ensures.value (contains_at c.as_slice.result.now c.args.place c.in_ok-x.x (sym c.in_ok-x.ensures)) in
     let (n, at, none) = c.self.invariant.are_roots x listed in
     let e : Some n ≡ Some c.index.result.now = sym at ∙ c.index.ensures in
     let is : n ≡ c.index.result.now = cc in
