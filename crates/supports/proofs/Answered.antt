@@ -9,7 +9,7 @@ use Rattle.std.specs.declared.cmp.Ordering.{Ordering}
 use Rattle.tmm_model.specs.declared.bound.Bound.{Bound}
 use Rattle.tmm_model.specs.declared.token.TokenRow.{TokenRow}
 use Rattle.tmm_model.specs.Answers.{Fault, clip, clip_of, fault, first_believed, late, clipped, ends}
-use Rattle.tmm_model.specs.Beliefs.{tokens, token_of, class_of, contradicts_in, first_token, holder}
+use Rattle.tmm_model.specs.Beliefs.{tokens, token_of, class_of, contradicts_in, first_token, has_support, holder}
 use Rattle.tmm_model.specs.Moments.{Moment, distance, occ_cmp}
 use Rattle.tmm_model.specs.Points.{same_name}
 use Rattle.tmm_model.specs.Sorts.{class_in}
@@ -32,7 +32,7 @@ use Rattle.spots.specs.declared.spot.Spot.TheVariants.{Declared, Node}
 use Rattle.spots.specs.Forest.{Forest, Member, member, moment_at}
 use Rattle.spots.specs.Seen.{IsSeen, Holds, map_of}
 use Rattle.spots.specs.Spots.{IsSpot, spot_moment, spot_distance, spot_cmp, AreTokens, row_moment}
-use Rattle.supports.proofs.FirstRows.{first_of_rows}
+use Rattle.supports.proofs.FirstRows.{IsSame, first_of_rows, some_of_rows}
 use Rattle.supports.proofs.Moved.{by_alike, clips_alike, cuts_alike, supports_alike}
 use Rattle.supports.proofs.TokenRows.{no_row, node_of, spots_there, at_place, fact_is, row_there, row_of, row_token, tokens_spelt}
 
@@ -74,20 +74,22 @@ module _ {s : Standing} {net : Net} {f : Forest} (seen : IsSeen s net f) {class 
       let end_spot = other.spot in
       (λ i. order (spot i) (end_spot i)) ∙ order_is s net f seen x y (live_at f x m one.here) (live_at f y n other.here) ∙ sym (λ i. moment_order (mom (spot i)) (mom (end_spot i)))
 
-  -- the place of the first row that passes is that of the first token, where tokens that pass are of this class
-  first_is : (test : TokenRow Spot → Bool) (passes : TokenRow Moment → Bool)
-      → ((a : TokenRow Spot) → In a rows → test a ≡ passes (go a))
-      → ((k : TokenRow Moment) → In k (tokens s b) → passes k ≡ true → k.class ≡ class)
-      → (place : Option ℕ) → IsFirstPlace (on (λ k. k.spot) order) test rows place
-      → (d : TokenRow Spot) → option_map (λ i. mom (slice_index_or rows i d).spot) place ≡ first_token s (far_in s.premises) b passes
-  first_is test passes tested own place h d =
-      sym (first_of_rows order moment_order go rows (tokens s b) test passes (ordered s (far_in s.premises)) (tokens_spelt seen holds)
-      (record {
-        ranked = ranked;
-        tested = tested;
-        there = row_there seen are holds;
-        own = λ k at passed. row_of seen are holds k at (own k at passed);
-      }) place h d)
+  module _ (test : TokenRow Spot → Bool) (passes : TokenRow Moment → Bool) (tested : (a : TokenRow Spot) → In a rows → test a ≡ passes (go a))
+      (own : (k : TokenRow Moment) → In k (tokens s b) → passes k ≡ true → k.class ≡ class) where
+    -- the tokens that pass are those of the rows that pass, where tokens that pass are of this class
+    same_rows : IsSame order moment_order go rows (tokens s b) test passes
+    same_rows = record {
+      ranked = ranked;
+      tested = tested;
+      there = row_there seen are holds;
+      own = λ k at passed. row_of seen are holds k at (own k at passed);
+    }
+
+    -- then the place of the first row that passes is that of the first token
+    first_is : (place : Option ℕ) → IsFirstPlace (on (λ k. k.spot) order) test rows place
+        → (d : TokenRow Spot) → option_map (λ i. mom (slice_index_or rows i d).spot) place ≡ first_token s (far_in s.premises) b passes
+    first_is place h d =
+        sym (first_of_rows order moment_order go rows (tokens s b) test passes (ordered s (far_in s.premises)) (tokens_spelt seen holds) same_rows place h d)
 
   -- ---- support
 
@@ -98,21 +100,26 @@ module _ {s : Standing} {net : Net} {f : Forest} (seen : IsSeen s net f) {class 
       supports_alike mom far gap IsThere same_far rows (λ c there. (spots_there seen are c there).begin) fact p q at_p at_q a (spots_there seen are a at)
       ∙ support_alike gap class (tokens s b) (map go rows) (tokens_are s net f seen b holds class rows are) fact (mom p) (mom q) (go a) (class_is a at)
 
-  -- **The first row that supports a fact** is its first supporter.
-  pub holder_is : (fact : List ℕ) → class_in s.premises fact ≡ Some class → (p q : Spot) → IsThere p → IsThere q
-      → (place : Option ℕ) → IsFirstPlace (on (λ k. k.spot) order) (supports of_one_class far rows fact p q) rows place
-      → (d : TokenRow Spot) → option_map (λ i. mom (slice_index_or rows i d).spot) place ≡ holder s (far_in s.premises) b fact (mom p) (mom q)
-  holder_is fact in_class p q at_p at_q place h d =
-      first_is (supports of_one_class far rows fact p q) (supports (contradicts_in s) gap (tokens s b) fact (mom p) (mom q))
-      (supports_same fact p q at_p at_q) own place h d
-    where
-      own : (k : TokenRow Moment) → In k (tokens s b) → supports (contradicts_in s) gap (tokens s b) fact (mom p) (mom q) k ≡ true → k.class ≡ class
-      own k at passed =
-          let begins = (both (same_name k.fact fact && is_by gap k.spot (mom p)) (lasts_to (contradicts_in s) gap (tokens s b) k (mom q) k.end) passed).0 in
-          let same = (both (same_name k.fact fact) (is_by gap k.spot (mom p)) begins).0 in
-          let one : class_of s fact ≡ class = rw (in_class, class_of) refl in
-          let (y, _, is) = In-filter_map (token_of s) b k at in
-          class-token_of s y k is ∙ ap (class_of s) (same-is k.fact fact same) ∙ one
+  module _ (fact : List ℕ) (in_class : class_in s.premises fact ≡ Some class) (p q : Spot) (at_p : IsThere p) (at_q : IsThere q) where
+    -- what supports a fact is of its class
+    support_class : (k : TokenRow Moment) → In k (tokens s b) → supports (contradicts_in s) gap (tokens s b) fact (mom p) (mom q) k ≡ true → k.class ≡ class
+    support_class k at passed =
+        let begins = (both (same_name k.fact fact && is_by gap k.spot (mom p)) (lasts_to (contradicts_in s) gap (tokens s b) k (mom q) k.end) passed).0 in
+        let same = (both (same_name k.fact fact) (is_by gap k.spot (mom p)) begins).0 in
+        let one : class_of s fact ≡ class = rw (in_class, class_of) refl in
+        let (y, _, is) = In-filter_map (token_of s) b k at in
+        class-token_of s y k is ∙ ap (class_of s) (same-is k.fact fact same) ∙ one
+
+    -- **The first row that supports a fact** is its first supporter.
+    pub holder_is : (place : Option ℕ) → IsFirstPlace (on (λ k. k.spot) order) (supports of_one_class far rows fact p q) rows place
+        → (d : TokenRow Spot) → option_map (λ i. mom (slice_index_or rows i d).spot) place ≡ holder s (far_in s.premises) b fact (mom p) (mom q)
+    holder_is = first_is (supports of_one_class far rows fact p q) (supports (contradicts_in s) gap (tokens s b) fact (mom p) (mom q)) (supports_same fact p q at_p at_q) support_class
+
+    -- **Some row supports a fact** exactly where some token does.
+    pub support_is : list_any (supports of_one_class far rows fact p q) rows ≡ has_support s (far_in s.premises) b fact (mom p) (mom q)
+    support_is =
+        some_of_rows order moment_order go rows (tokens s b) (supports of_one_class far rows fact p q) (supports (contradicts_in s) gap (tokens s b) fact (mom p) (mom q))
+        (same_rows (supports of_one_class far rows fact p q) (supports (contradicts_in s) gap (tokens s b) fact (mom p) (mom q)) (supports_same fact p q at_p at_q) support_class)
 
   -- where no token of its fact supports it, a row is no supporter
   pub no_support : (row : TokenRow Spot) → In row rows → (p q : Spot) → IsThere p → IsThere q

@@ -1,6 +1,7 @@
--- The first of some rows is the first of all tokens, where the tokens that pass are those of rows.
+-- Where the tokens that pass are those of rows: some token passes exactly where some row does, and the first of the rows is the first of the tokens.
 use Rattle.std.proofs.Common.{◌≡◌, ℕ, Bool, true, false, List, [], ◌∷◌, refl, sym, ◌∙◌, ap, subst, inl}
 use Rattle.std.specs.Prelude.{Option, Some, None, IsTrue, filter, slice_index_or}
+use Rattle.std.specs.List.{list_any}
 use Rattle.std.specs.Option.{option_map}
 use Rattle.std.specs.declared.cmp.Ordering.{Ordering}
 use Rattle.std.specs.Ordering.{is_gt, on}
@@ -9,7 +10,7 @@ use Rattle.std.proofs.lemmas.List.Elements.{Contains-get_or}
 use Rattle.tmm_model.specs.declared.token.TokenRow.{TokenRow}
 use Rattle.tmm_model.specs.Firsts.{earliest, first}
 use Rattle.tmm_model.specs.Tokens.{IsOrderOn, IsFirstPlace}
-use Rattle.tmm_model.proofs.Elements.{In, In-from_Contains, Contains-from_In, In-filter, filter-In}
+use Rattle.tmm_model.proofs.Elements.{In, In-from_Contains, Contains-from_In, In-filter, filter-In, list_any-In, In-list_any}
 use Rattle.tmm_model.proofs.Firsts.{least_is, one_spot}
 
 module _ {P Q : Type 0} (cmp : P → P → Ordering) (order : Q → Q → Ordering) (go : TokenRow P → TokenRow Q) (rows : List (TokenRow P)) (ks : List (TokenRow Q))
@@ -20,6 +21,23 @@ module _ {P Q : Type 0} (cmp : P → P → Ordering) (order : Q → Q → Orderi
     pub tested : (a : TokenRow P) → In a rows → test a ≡ passes (go a)
     pub there : (a : TokenRow P) → In a rows → In (go a) ks
     pub own : (k : TokenRow Q) → In k ks → passes k ≡ true → (a : TokenRow P) × In a rows × (go a ≡ k)
+
+  -- some row passes exactly where some token does
+  pub some_of_rows : IsSame → list_any test rows ≡ list_any passes ks
+  some_of_rows same = by (list_any test rows) (list_any passes ks) refl refl
+    where
+      by : (u v : Bool) → list_any test rows ≡ u → list_any passes ks ≡ v → list_any test rows ≡ list_any passes ks
+      by true true e g = e ∙ sym g
+      by false false e g = e ∙ sym g
+      by true false e g =
+          let (a, at, passing) = list_any-In test rows e in
+          let some : list_any passes ks ≡ true = In-list_any passes ks (go a) (same.there a at) (sym (same.tested a at) ∙ passing) in
+          cc
+      by false true e g =
+          let (k, at, passed) = list_any-In passes ks g in
+          let (a, there, is) = same.own k at passed in
+          let some : list_any test rows ≡ true = In-list_any test rows a there (same.tested a there ∙ ap passes is ∙ passed) in
+          cc
 
   abbrev by_order : TokenRow Q → TokenRow Q → Ordering
   by_order = on (λ k. k.spot) order

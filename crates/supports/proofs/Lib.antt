@@ -1,6 +1,11 @@
+pub mod Taken
 pub mod Moved
 pub mod FirstRows
 pub mod TokenRows
+pub mod Later
+pub mod Falling
+pub mod Behind
 pub mod Answered
+pub mod Nearest
 pub mod Facts
 pub mod Rules

@@ -29,13 +29,16 @@ use Rattle.supports.specs.Nodes.{IsOfNode, HasNode}
 abbrev pub no_row : TokenRow Spot
 no_row = record { spot = Node 0; end = None; fact = []; class = [] }
 
--- the token of a node begins at it
-token_row_spot : (x : ℕ) (m : Member) (row : TokenRow Spot) → token_row x m ≡ Some row → row.spot ≡ Node x
-token_row_spot x m row e = by m.class e
+-- the token of a node begins at it, and ends where it does
+pub token_row_spots : (x : ℕ) (m : Member) (row : TokenRow Spot) → token_row x m ≡ Some row → (row.spot ≡ Node x) × (row.end ≡ option_map Declared m.end)
+token_row_spots x m row e = by m.class e
   where
-    by : (o : Option (List ℕ)) → option_map (λ class. record { spot = Node x; end = option_map Declared m.end; fact = m.what; class = class }) o ≡ Some row → row.spot ≡ Node x
+    by : (o : Option (List ℕ)) → option_map (λ class. record { spot = Node x; end = option_map Declared m.end; fact = m.what; class = class }) o ≡ Some row → (row.spot ≡ Node x) × (row.end ≡ option_map Declared m.end)
     by None e = cc
-    by (Some class) e = let same : Some row.spot ≡ Some (Node x) = ap (option_map (λ k. k.spot)) (sym e) in cc
+    by (Some class) e =
+        let begins : Some row.spot ≡ Some (Node x) = ap (option_map (λ k. k.spot)) (sym e) in
+        let ends : Some row.end ≡ Some (option_map Declared m.end) = ap (option_map (λ k. k.end)) (sym e) in
+        (cc, cc)
 
 module _ {s : Standing} {net : Net} {f : Forest} (seen : IsSeen s net f) {class : List ℕ} {rows : List (TokenRow Spot)} (are : AreTokens f class rows) where
   -- ---- nodes of rows
@@ -92,7 +95,7 @@ module _ {s : Standing} {net : Net} {f : Forest} (seen : IsSeen s net f) {class 
   pub row_token : (x : ℕ) (row : TokenRow Spot) → In row rows → row.spot ≡ Node x → token_of s (moment_at f x) ≡ Some (row_moment net.names f row)
   row_token x row at spot =
       let (y, m, here, made, _) = are.own row (Contains-from_In rows row at) in
-      let begins : Node y ≡ Node x = sym (token_row_spot y m row made) ∙ spot in
+      let begins : Node y ≡ Node x = sym (token_row_spots y m row made).0 ∙ spot in
       let one : y ≡ x = cc in
       ap (token_of s) (ap (moment_at f) (sym one) ∙ moment_at-is f y m here) ∙ token_is s net f seen y m here ∙ ap (option_map (row_moment net.names f)) made
 

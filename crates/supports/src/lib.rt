@@ -1,10 +1,10 @@
 //! Which believed token supports a fact, what clips a token, and why a token is no supporter: what
 //! `clipping` answers over the tokens of a tree, told of the occurrences of the standing list; and
-//! what a standing rule says, whose antecedents want supporters. It stands on `occ_tree` and
-//! `clipping`.
+//! what a standing rule says, whose antecedents want supporters. It stands on `occ_tree`, `clipping`
+//! and `name_lists`.
 //!
-//! Each call answers the definition for the list, over the occurrences that the nodes are. No call
-//! takes memory.
+//! Each call answers the definition for the list, over the occurrences that the nodes are. `clips`
+//! alone takes memory.
 #![tactic(auto)]
 
 ghost use Rattle.std.specs.Prelude.{◌≡◌, ◌<◌, ℕ, List, length, None, Some, IsSome, IfSome, slice_index_or};
@@ -12,7 +12,7 @@ ghost use Rattle.std.specs.List.{All};
 ghost use Rattle.std.specs.Option.{option_map};
 ghost use Rattle.tmm_model.specs.declared.token.TokenRow.{TokenRow};
 ghost use Rattle.tmm_model.specs.Answers.{clip, fault};
-ghost use Rattle.tmm_model.specs.Beliefs.{holder, token_of};
+ghost use Rattle.tmm_model.specs.Beliefs.{has_support, holder, token_of};
 ghost use Rattle.tmm_model.specs.Moments.{Moment};
 ghost use Rattle.tmm_model.specs.Sorts.{class_in};
 ghost use Rattle.tmm_model.specs.Standing.{far_in};
@@ -23,9 +23,11 @@ ghost use Rattle.spots.specs.Spots.{IsSpot, spot_moment};
 ghost use Rattle.supports.specs.Faults.{fault_at};
 ghost use Rattle.supports.specs.Nodes.{IsOfNode, HasNode};
 
+mod all_clips;
 mod rule;
 
-use clipping::{Fault, first_clipper, holder};
+pub use all_clips::clips;
+use clipping::{Fault, first_clipper, holder, is_held};
 use dist_net::DistNet;
 use occ_tree::{Order, Tree};
 use premise_list::Standing;
@@ -82,6 +84,27 @@ pub fn supporter(
     let rows = tree.tokens(class);
     let place = holder(&Order { tree, net }, rows, fact, p, q)?;
     Some(node_at(rows, place))
+}
+
+/// Whether a token supports the fact throughout `p` to `q`. That is found sooner than which is the first.
+pub fn is_supported(
+    standing: &Standing,
+    tree: &Tree,
+    net: &DistNet,
+    fact: Name,
+    p: Spot,
+    q: Spot,
+) -> bool
+    requires seen { IsSeen standing.now.present net.now.present tree.now }
+    requires fact { IsSome (class_in standing.now.present.premises fact) }
+    requires p { IsSpot net.now.present.names tree.now p }
+    requires q { IsSpot net.now.present.names tree.now q }
+    ensures { (b : List Moment) → Holds b tree.now → result ≡ has_support standing.now.present (far_in standing.now.present.premises) b fact (spot_moment net.now.present.names tree.now p) (spot_moment net.now.present.names tree.now q) }
+{
+    let Some(class) = standing.class_of(fact) else {
+        unreachable!()
+    };
+    is_held(&Order { tree, net }, tree.tokens(class), fact, p, q)
 }
 
 /// The node of the first token that clips the one at `x`, none exactly where no token does. A span

@@ -1,0 +1,13 @@
+use Rattle.std.proofs.Common.{◌∙◌, sym}
+use Rattle.supports.proofs.Answered.{support_is}
+use Rattle.supports.proofs.TokenRows.{rows_live}
+use Rattle.supports.proofs.is_supported.Goals as goal
+
+pub is_held-requires-clause-all_live : goal.is_held-requires-clause-all_live
+is_held-requires-clause-all_live c = rows_live c.requires.seen c.tokens.ensures.rows
+
+pub returns : goal.returns
+returns c b holds =
+    c.is_held.ensures
+    ∙ support_is c.requires.seen c.tokens.ensures.rows holds
+    c.args.fact (sym c.class_of.ensures ∙ c.in-Some.is) c.args.p c.args.q c.requires.p c.requires.q

@@ -1,0 +1,113 @@
+// What clips the tokens of a tree, all of them at once.
+ghost use Rattle.std.specs.Prelude.{◌≡◌, ◌<◌, ◌+◌, ℕ, List, map, length, drop, IfOk, IfSome, IsNone, MatchOption, OnOk, slice_index_or};
+ghost use Rattle.std.specs.List.{All, Contains};
+ghost use Rattle.std.specs.List.Sorted.{IsStrictlySortedBy};
+ghost use Rattle.std.specs.Option.{option_map, ForSome};
+ghost use Rattle.tmm_model.specs.Answers.{clip};
+ghost use Rattle.tmm_model.specs.Moments.{Moment};
+ghost use Rattle.tmm_model.specs.Standing.{Standing};
+ghost use Rattle.tmm_model.specs.Tokens.{of_one_class, clips};
+ghost use Rattle.name_lists.specs.Lists.{list_of};
+ghost use Rattle.occ_tree.specs.Ranks.{nodes_of};
+ghost use Rattle.spots.specs.Forest.{IsLive, moment_at};
+ghost use Rattle.spots.specs.Seen.{IsSeen, HasList, Holds, map_of};
+ghost use Rattle.spots.specs.Spots.{IsSpot, spot_distance, node_cmp};
+ghost use Rattle.supports.specs.Behind.{AreBehind, IsClip, IsLastNode, token_at};
+ghost use Rattle.supports.specs.Nodes.{IsOfNode};
+
+use crate::node_at;
+use clipping::last_clipper;
+use dist_net::DistNet;
+use name_lists::NameLists;
+use occ_tree::{Order, Ranked, Tree};
+use spots::Spot;
+use std::alloc::Global;
+use tmm_model::{NoMemory, TokenRow};
+
+/// What clips each node, given all nodes in their order: the node of the first token that does, none
+/// exactly where no token does. A span and an event have none.
+pub fn clips(
+    alloc: Global,
+    tree: &Tree,
+    net: &DistNet,
+    ranked: &[Ranked<'_>],
+) -> Result<Vec<Option<u32>>, NoMemory>
+    requires list { HasList net.now.present tree.now }
+    requires live { All (IsLive tree.now) (nodes_of ranked.now) }
+    requires all { (x : ℕ) → IsLive tree.now x → Contains (nodes_of ranked.now) x }
+    requires in_order { IsStrictlySortedBy (node_cmp net.now.present tree.now) (nodes_of ranked.now) }
+    ensures live { IfOk result (λ clips. All (λ clip. IfSome clip (IsLive tree.now)) clips.items) }
+    ensures first { IfOk result (λ clips. (s : Standing) (b : List Moment) → IsSeen s net.now.present tree.now → Holds b tree.now → map (option_map (moment_at tree.now)) clips.items ≡ map (λ x. clip (map_of s b) (moment_at tree.now x)) (nodes_of ranked.now)) }
+{
+    let mut clips = Vec::from_elem(alloc, None, ranked.len())?;
+    // the tokens behind by their classes: in each class the nearest one stands last
+    let mut behind = NameLists::make(alloc);
+    for i in (0..ranked.len()).rev() {
+        clips[i] = clip_at(alloc, tree, net, ranked, i, &mut behind)?;
+    }
+    Ok(clips)
+}
+
+// What clips the node at a place, given the tokens behind it by their classes, to which its own is added.
+// What clips a token begins after it, so it is the nearest behind it that does.
+fn clip_at(
+    alloc: Global,
+    tree: &Tree,
+    net: &DistNet,
+    ranked: &[Ranked<'_>],
+    i: usize,
+    behind: &mut NameLists<TokenRow<Spot>>,
+) -> Result<Option<u32>, NoMemory>
+    requires list { HasList net.now.present tree.now }
+    requires live { All (IsLive tree.now) (nodes_of ranked.now) }
+    requires all { (x : ℕ) → IsLive tree.now x → Contains (nodes_of ranked.now) x }
+    requires in_order { IsStrictlySortedBy (node_cmp net.now.present tree.now) (nodes_of ranked.now) }
+    requires within { i < length ranked.now }
+    requires behind { AreBehind tree.now (drop (i + 1) (nodes_of ranked.now)) (list_of behind.old) }
+    ensures live { IfOk result (λ clip. IfSome clip (IsLive tree.now)) }
+    ensures clip { IfOk result (IsClip net.now.present tree.now (slice_index_or (nodes_of ranked.now) i 0)) }
+    ensures behind { OnOk result (AreBehind tree.now (drop i (nodes_of ranked.now)) (list_of behind.new)) }
+{
+    let Some(token) = token_at(tree, ranked[i].node) else {
+        return Ok(None);
+    };
+    let clip = next_clip(tree, net, behind.of(&token.class), &token);
+    behind.push(alloc, token.class, token)?;
+    Ok(clip)
+}
+
+// The token that a node is, none for an event.
+fn token_at(tree: &Tree, x: u32) -> Option<TokenRow<Spot>>
+    requires { IsLive tree.now x }
+    ensures { result ≡ token_at tree.now x }
+{
+    let row = tree.row(x);
+    let class = row.class?;
+    Some(TokenRow {
+        spot: Spot::Node(x),
+        end: row.end.map(Spot::Declared),
+        fact: row.what,
+        class,
+    })
+}
+
+// The node of the last of the tokens that clips `k`. A span has none.
+fn next_clip(
+    tree: &Tree,
+    net: &DistNet,
+    behind: &[TokenRow<Spot>],
+    k: &TokenRow<Spot>,
+) -> Option<u32>
+    requires list { HasList net.now.present tree.now }
+    requires nodes { All IsOfNode behind.now }
+    requires live { All (λ row. IsSpot net.now.present.names tree.now row.spot × ForSome row.end (IsSpot net.now.present.names tree.now)) behind.now }
+    requires k_live { IsSpot net.now.present.names tree.now k.now.spot }
+    ensures live { IfSome result (IsLive tree.now) }
+    ensures last { MatchOption k.now.end (IsLastNode (clips of_one_class (spot_distance net.now.present tree.now) k.now) behind.now result) (λ _. IsNone result) }
+{
+    if k.end.is_some() {
+        return None;
+    }
+    let place = last_clipper(&Order { tree, net }, behind, k)?;
+    Some(node_at(behind, place))
+}
