@@ -10,7 +10,7 @@ use Rattle.spots.specs.Forest.{Forest, IsLive, moment_at}
 use Rattle.spots.specs.Seen.{IsSeen}
 use Rattle.spots.specs.Spots.{node_cmp}
 use Rattle.justify.specs.Grounds.{AreUpholders}
-use Rattle.justify.proofs.Rising.{moments_in_order}
+use Rattle.occ_tree.proofs.Ordered.{moments_in_order}
 
 pub reasons_are : (s : Standing) (net : Net) (f : Forest) → IsSeen s net f → (x : ℕ) (found nodes : List ℕ) → AreUpholders (built s) f x found
     → IsPermutation found nodes → IsStrictlySortedBy (node_cmp net f) nodes

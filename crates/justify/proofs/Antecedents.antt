@@ -1,12 +1,12 @@
 -- The first supporters of antecedents, one after the other.
-use Rattle.std.proofs.Common.{◌≡◌, ◌∙◌, ℕ, ◌+◌, ◌<◌, List, [], ◌∷◌, ◌++◌, map, take, length, get_or, refl, sym, ap, add-one}
+use Rattle.std.proofs.Common.{◌≡◌, ◌∙◌, ℕ, ◌+◌, ◌<◌, List, [], ◌∷◌, ◌++◌, map, take, length, get_or, refl, sym, ap}
 use Rattle.std.specs.Prelude.{Option, Some, None}
 use Rattle.std.specs.List.{filter_map, cons_option}
 use Rattle.std.specs.Option.{option_map, option_to_list}
-use Rattle.std.proofs.Math.Seq.{take-suc}
 use Rattle.std.proofs.lemmas.List.{map-append}
 use Rattle.std.proofs.lemmas.List.Elements.{filter_map-append}
 use Rattle.tmm_model.specs.Moments.{Moment}
+use Rattle.supports.proofs.Taken.{next_taken}
 
 module _ {A X : Type 0} (g : X → Moment) (h : A → Option Moment) where
   listed : (o : Option X) → map g (option_to_list o) ≡ cons_option (option_map g o) []
@@ -20,7 +20,4 @@ module _ {A X : Type 0} (g : X → Moment) (h : A → Option Moment) where
       ∙ map-append g xs (option_to_list o)
       ∙ (λ j. before j ++ (listed o ∙ ap (λ k. cons_option k []) one) j)
       ∙ sym (filter_map-append (λ k. k) (map h (take i facts)) (h fact ∷ []))
-      ∙ ap (filter_map (λ k. k)) (sym (map-append h (take i facts) (fact ∷ [])) ∙ ap (map h) (sym next))
-    where
-      next : take (i + 1) facts ≡ take i facts ++ fact ∷ []
-      next = ap (λ n. take n facts) (add-one i) ∙ take-suc facts i fact below ∙ ap (λ y. take i facts ++ y ∷ []) (sym is)
+      ∙ ap (filter_map (λ k. k)) (sym (map-append h (take i facts) (fact ∷ [])) ∙ ap (map h) (sym (next_taken facts i fact below is)))

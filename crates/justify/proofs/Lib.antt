@@ -2,7 +2,6 @@ pub mod Origins
 pub mod Antecedents
 pub mod Supported
 pub mod Reached
-pub mod Rising
 pub mod Told
 pub mod AllTold
 mod Bases

@@ -27,9 +27,9 @@ use Rattle.spots.specs.Seen.{IsSeen, class_for}
 use Rattle.spots.specs.Spots.{spot_moment, row_moment}
 use Rattle.spots.proofs.Nodes.{moment_at-is}
 use Rattle.spots.proofs.Rows.{token_is}
-use Rattle.justify.specs.declared.places.Place.{Place}
+use Rattle.occ_tree.specs.declared.ranks.Ranked.{Ranked}
 use Rattle.justify.specs.Lines.{AddsOrders, AddsReasons}
-use Rattle.justify.specs.Places.{nodes_of}
+use Rattle.occ_tree.specs.Ranks.{nodes_of}
 
 AllZip-append : {A B : Type 0} (R : A → B → Type 0) (xs : List A) (us : List B) (ys : List A) (vs : List B) → AllZip R xs us → AllZip R ys vs → AllZip R (xs ++ ys) (us ++ vs)
 AllZip-append R [] [] ys vs h g = g
@@ -90,21 +90,21 @@ flat_more g h xs i d below =
     ∙ flat_map-append h (map g (take i xs)) (g (get_or xs i d) ∷ [])
     ∙ ap (λ l. flat_map h (map g (take i xs)) ++ l) (append-nil (h (g (get_or xs i d))))
 
-module _ (m : TimeMap) (f : Forest) (ps : List Place) (i : ℕ) (d : Place) (below : i < length ps) where
-  pub live_place : All (IsLive f) (nodes_of ps) → IsLive f (get_or ps i d).node
-  live_place live = All-contains (IsLive f) (nodes_of ps) (get_or ps i d).node live (Contains-map (λ (p : Place). p.node) ps (get_or ps i d) (Contains-get_or ps i d below))
+module _ (m : TimeMap) (f : Forest) (ps : List Ranked) (i : ℕ) (d : Ranked) (below : i < length ps) where
+  pub live_rank : All (IsLive f) (nodes_of ps) → IsLive f (get_or ps i d).node
+  live_rank live = All-contains (IsLive f) (nodes_of ps) (get_or ps i d).node live (Contains-map (λ (p : Ranked). p.node) ps (get_or ps i d) (Contains-get_or ps i d below))
 
   -- the lines of the nodes up to one more
-  pub more_places : (lines new : List WhyLine) → AreReasons m (map (moment_at f) (nodes_of (take i ps))) (map reason_of lines) → AddsReasons m (moment_at f (get_or ps i d).node) lines new
+  pub more_ranked : (lines new : List WhyLine) → AreReasons m (map (moment_at f) (nodes_of (take i ps))) (map reason_of lines) → AddsReasons m (moment_at f (get_or ps i d).node) lines new
       → AreReasons m (map (moment_at f) (nodes_of (take (i + 1) ps))) (map reason_of new)
-  more_places lines new are adds =
+  more_ranked lines new are adds =
       subst (λ (xs : List Moment). AreReasons m xs (map reason_of new)) (sym next)
       (more_reasons m (map (moment_at f) (nodes_of (take i ps))) (moment_at f (get_or ps i d).node) lines new are adds)
     where
       next : map (moment_at f) (nodes_of (take (i + 1) ps)) ≡ map (moment_at f) (nodes_of (take i ps)) ++ moment_at f (get_or ps i d).node ∷ []
       next =
           ap (λ l. map (moment_at f) (nodes_of l)) (taken ps i d below)
-          ∙ ap (map (moment_at f)) (map_push (λ (p : Place). p.node) (take i ps) (get_or ps i d))
+          ∙ ap (map (moment_at f)) (map_push (λ (p : Ranked). p.node) (take i ps) (get_or ps i d))
           ∙ map_push (moment_at f) (nodes_of (take i ps)) (get_or ps i d).node
 
 -- ---- the end of what stands at a node

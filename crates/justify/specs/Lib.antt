@@ -1,4 +1,3 @@
 pub mod Stops
 pub mod Grounds
-pub mod Places
 pub mod Lines

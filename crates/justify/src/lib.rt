@@ -9,7 +9,6 @@
 
 mod grounds;
 mod lines;
-mod places;
 mod reasons;
 mod upholders;
 mod walks;

@@ -8,13 +8,12 @@ ghost use Rattle.spots.specs.Forest.{IsLive, moment_at};
 ghost use Rattle.spots.specs.Seen.{IsSeen, Holds};
 ghost use Rattle.spots.specs.Spots.{IsSpot, spot_moment};
 ghost use Rattle.justify.specs.Lines.{IsInOrder, AddsOrders, AddsReasons};
-ghost use Rattle.justify.specs.Places.{nodes_of};
+ghost use Rattle.occ_tree.specs.Ranks.{nodes_of};
 
 use crate::grounds::{Origin, origin_of, supports_at};
-use crate::places::Place;
 use crate::walks::steps_between;
 use dist_net::DistNet;
-use occ_tree::Tree;
+use occ_tree::{Ranked, Tree};
 use premise_list::Standing;
 use spots::Spot;
 use std::alloc::Global;
@@ -26,16 +25,16 @@ pub(crate) fn lines_of(
     standing: &Standing,
     tree: &Tree,
     net: &DistNet,
-    places: &[Place<'_>],
+    ranked: &[Ranked<'_>],
 ) -> Result<Seq<WhyLine>, NoMemory>
     requires seen { IsSeen standing.now.present net.now.present tree.now }
     requires holds { Holds (built standing.now.present).believed tree.now }
-    requires live { All (IsLive tree.now) (nodes_of places.now) }
-    ensures { IfOk result (λ lines. AreReasons (built standing.now.present) (map (moment_at tree.now) (nodes_of places.now)) (map reason_of lines.items)) }
+    requires live { All (IsLive tree.now) (nodes_of ranked.now) }
+    ensures { IfOk result (λ lines. AreReasons (built standing.now.present) (map (moment_at tree.now) (nodes_of ranked.now)) (map reason_of lines.items)) }
 {
     let mut lines = Seq::make(alloc);
-    for place in places {
-        add_reasons(alloc, standing, tree, net, place.node, &mut lines)?;
+    for rank in ranked {
+        add_reasons(alloc, standing, tree, net, rank.node, &mut lines)?;
     }
     Ok(lines)
 }

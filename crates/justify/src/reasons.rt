@@ -10,10 +10,9 @@ ghost use Rattle.spots.specs.Seen.{IsSeen, Holds};
 ghost use Rattle.justify.specs.Stops.{StopsReasons};
 
 use crate::lines::lines_of;
-use crate::places::in_order;
 use crate::upholders::upholders;
 use dist_net::DistNet;
-use occ_tree::Tree;
+use occ_tree::{Tree, in_order};
 use premise_list::Standing;
 use std::alloc::Global;
 use tmm_model::{NoMemory, Occ, Seq, Stop, WhyLine};
@@ -56,6 +55,6 @@ fn reasons_of(
     ensures { IfOk result (λ lines. IsWhy (built standing.now.present) (moment_at tree.now x) (map reason_of lines.items)) }
 {
     let found = upholders(alloc, standing, tree, net, x)?;
-    let places = in_order(alloc, tree, net, found.as_slice())?;
-    lines_of(alloc, standing, tree, net, places.as_slice())
+    let ranked = in_order(alloc, tree, net, found.as_slice())?;
+    lines_of(alloc, standing, tree, net, ranked.as_slice())
 }

@@ -6,8 +6,8 @@ use Rattle.std.proofs.lemmas.Result.{IfOk-weaker}
 use Rattle.tmm_model.specs.Maps.{built}
 use Rattle.tmm_model.specs.Reasons.{AreReasons, IsWhy, reason_of}
 use Rattle.spots.specs.Forest.{IsLive, moment_at}
-use Rattle.justify.specs.declared.places.Place.{Place}
-use Rattle.justify.specs.Places.{nodes_of}
+use Rattle.occ_tree.specs.declared.ranks.Ranked.{Ranked}
+use Rattle.occ_tree.specs.Ranks.{nodes_of}
 use Rattle.justify.proofs.AllTold.{reasons_are}
 use Rattle.justify.proofs.reasons.reasons_of.Goals as goal
 
@@ -15,22 +15,22 @@ pub lines_of-requires-clause-live : goal.lines_of-requires-clause-live
 lines_of-requires-clause-live c =
     let f = c.args.tree.now in
     let keys = c.in_ok-found.found.keys in
-    let places = c.in_ok-places.places.items in
-    subst (λ (ps : List Place). All (IsLive f) (nodes_of ps)) (sym c.as_slice-2.ensures.value)
-    (All-permutation (IsLive f) keys (nodes_of places) (subst (λ (l : List ℕ). IsPermutation l (nodes_of places)) c.as_slice.ensures.keys c.in_ok-places.ensures.same) c.in_ok-found.ensures.live)
+    let ranked = c.in_ok-ranked.ranked.items in
+    subst (λ (ps : List Ranked). All (IsLive f) (nodes_of ps)) (sym c.as_slice-2.ensures.value)
+    (All-permutation (IsLive f) keys (nodes_of ranked) (subst (λ (l : List ℕ). IsPermutation l (nodes_of ranked)) c.as_slice.ensures.keys c.in_ok-ranked.ensures.same) c.in_ok-found.ensures.live)
 
 pub returns : goal.returns
 returns c =
     let s = c.args.standing.now.present in
     let f = c.args.tree.now in
     let keys = c.in_ok-found.found.keys in
-    let places = c.in_ok-places.places.items in
+    let ranked = c.in_ok-ranked.ranked.items in
     IfOk-weaker c.lines_of.result
     (λ lines. AreReasons (built s) (map (moment_at f) (nodes_of c.as_slice-2.result.now)) (map reason_of lines.items))
     (λ lines. IsWhy (built s) (moment_at f c.args.x) (map reason_of lines.items))
     (λ lines told.
-    reasons_are s c.args.net.now.present f c.requires.seen c.args.x keys (nodes_of places) c.in_ok-found.ensures
-    (subst (λ (l : List ℕ). IsPermutation l (nodes_of places)) c.as_slice.ensures.keys c.in_ok-places.ensures.same) c.in_ok-places.ensures.in_order
+    reasons_are s c.args.net.now.present f c.requires.seen c.args.x keys (nodes_of ranked) c.in_ok-found.ensures
+    (subst (λ (l : List ℕ). IsPermutation l (nodes_of ranked)) c.as_slice.ensures.keys c.in_ok-ranked.ensures.same) c.in_ok-ranked.ensures.in_order
     (map reason_of lines.items)
-    (subst (λ (ps : List Place). AreReasons (built s) (map (moment_at f) (nodes_of ps)) (map reason_of lines.items)) c.as_slice-2.ensures.value told))
+    (subst (λ (ps : List Ranked). AreReasons (built s) (map (moment_at f) (nodes_of ps)) (map reason_of lines.items)) c.as_slice-2.ensures.value told))
     c.lines_of.ensures
