@@ -1,14 +1,19 @@
 -- Rows of believed occurrences, by their nodes.
-use Rattle.std.specs.Prelude.{◌≡◌, ℕ, List, [], IfSome}
+use Rattle.std.specs.Prelude.{◌≡◌, ℕ, List, [], Option, IfSome}
 use Rattle.std.specs.List.{All, Contains}
 use Rattle.std.specs.Option.{option_map, option_map_or}
 use Rattle.tmm_model.specs.Answers.{Row}
 use Rattle.spots.specs.Forest.{Forest, member, IsLive, moment_at, IsOnce}
+use Rattle.occ_tree.specs.declared.ranks.Ranked.{Ranked}
 use Rattle.belief_list.specs.declared.list.BeliefRow.{BeliefRow}
 
 -- the kind or fact of a node
 abbrev pub what_at : Forest → ℕ → List ℕ
 what_at f x = option_map_or (λ m. m.what) (member f x) []
+
+-- the row of a node with what clips it
+abbrev pub belief_row : Ranked × Option ℕ → BeliefRow
+belief_row (r, clip) = record { node = r.node; early = r.early; clip = clip }
 
 -- the row of a node, told of its occurrence
 abbrev pub row_at : Forest → BeliefRow → Row

@@ -1,21 +1,19 @@
 // The believed occurrences in order.
-ghost use Rattle.std.specs.Prelude.{◌≡◌, ◌++◌, ◌∷◌, [], map, IfOk, OnOk};
-ghost use Rattle.std.specs.List.{All};
-ghost use Rattle.std.specs.List.Sorted.{IsSorted};
+ghost use Rattle.std.specs.Prelude.{◌≡◌, map, length, IfOk};
+ghost use Rattle.std.specs.List.{All, zip};
 ghost use Rattle.std.specs.Option.{option_map};
-ghost use Rattle.tmm_model.specs.Answers.{row, row_of, rows};
+ghost use Rattle.tmm_model.specs.Answers.{row_of, rows};
 ghost use Rattle.tmm_model.specs.Maps.{built};
 ghost use Rattle.tmm_model.specs.Moments.{moment_of};
 ghost use Rattle.spots.specs.Forest.{IsLive, moment_at};
-ghost use Rattle.spots.specs.Seen.{IsSeen, Holds, HasList};
-ghost use Rattle.belief_list.specs.Rows.{row_at, IsLiveRow, IsListing};
-ghost use Rattle.belief_list.specs.Places.{IsPlace, ArePlaces, place_cmp};
+ghost use Rattle.spots.specs.Seen.{IsSeen, Holds};
+ghost use Rattle.belief_list.specs.Rows.{belief_row, row_at, IsLiveRow, IsListing};
 
 use dist_net::DistNet;
-use occ_tree::Tree;
+use occ_tree::{Ranked, Tree, in_order};
 use premise_list::Standing;
 use std::alloc::Global;
-use supports::clip;
+use supports::clips;
 use tmm_model::{ListRow, NoMemory, Occ, Seq};
 
 /// A believed occurrence.
@@ -27,14 +25,6 @@ pub struct BeliefRow {
     pub early: i64,
     /// The node of the first token that clips it, none where no token does.
     pub clip: Option<u32>,
-}
-
-// What an occurrence is ordered by: its earliest date, and then its word.
-#[derive(Clone, Copy, PartialEq, Eq, PartialOrd, Ord)]
-struct Place<'a> {
-    early: i64,
-    word: &'a [u8],
-    node: u32,
 }
 
 /// The believed occurrences, in order, each with its earliest date and its clip.
@@ -49,79 +39,34 @@ pub fn listed(
     ensures rows { IfOk result (λ list. map (row_at tree.now) list.items ≡ rows (built standing.now.present)) }
     ensures listing { IfOk result (λ list. IsListing tree.now list.items) }
 {
-    let mut places = places(alloc, tree, net)?;
-    places.sort()?;
-    with_clips(alloc, standing, tree, net, places.as_slice())
+    let nodes = tree.numbers(alloc)?;
+    let ranked = in_order(alloc, tree, net, nodes.as_slice())?;
+    let clips = clips(alloc, tree, net, ranked.as_slice())?;
+    rows_of(alloc, ranked.as_slice(), clips.as_slice())
 }
 
-// What each node is ordered by.
-fn places<'a>(alloc: Global, tree: &'a Tree, net: &DistNet) -> Result<Vec<Place<'a>>, NoMemory>
-    requires { HasList net.now.present tree.now }
-    ensures { IfOk result (λ places. ArePlaces net.now.present tree.now places.items) }
-{
-    let mut places = Vec::new(alloc);
-    for node in 0..tree.limit() {
-        if tree.is_live(node) {
-            match places.push(place_of(tree, net, node)) {
-                Ok(()) => {}
-                Err(_) => return Err(NoMemory),
-            }
-        }
-    }
-    Ok(places)
-}
-
-fn place_of<'a>(tree: &'a Tree, net: &DistNet, node: u32) -> Place<'a>
-    requires list { HasList net.now.present tree.now }
-    requires live { IsLive tree.now node }
-    ensures place { IsPlace net.now.present tree.now result }
-    ensures node { result.node ≡ node }
-{
-    Place {
-        early: tree.early(net, node),
-        word: tree.word(node),
-        node,
-    }
-}
-
-// The row of each place.
-fn with_clips(
+// The row of each node.
+fn rows_of(
     alloc: Global,
-    standing: &Standing,
-    tree: &Tree,
-    net: &DistNet,
-    places: &[Place<'_>],
+    ranked: &[Ranked<'_>],
+    clips: &[Option<u32>],
 ) -> Result<Seq<BeliefRow>, NoMemory>
-    requires seen { IsSeen standing.now.present net.now.present tree.now }
-    requires holds { Holds (built standing.now.present).believed tree.now }
-    requires places { ArePlaces net.now.present tree.now places.now }
-    requires sorted { IsSorted place_cmp places.now }
-    ensures rows { IfOk result (λ list. map (row_at tree.now) list.items ≡ rows (built standing.now.present)) }
-    ensures listing { IfOk result (λ list. IsListing tree.now list.items) }
+    requires { length clips.now ≡ length ranked.now }
+    ensures { IfOk result (λ list. list.items ≡ map belief_row (zip ranked.now clips.now)) }
 {
     let mut list = Seq::make(alloc);
-    for place in places {
-        match list.push(with_clip(standing, tree, net, place)) {
+    for i in 0..ranked.len() {
+        let row = BeliefRow {
+            node: ranked[i].node,
+            early: ranked[i].early,
+            clip: clips[i],
+        };
+        match list.push(row) {
             Ok(()) => {}
             Err(_) => return Err(NoMemory),
         }
     }
     Ok(list)
-}
-
-fn with_clip(standing: &Standing, tree: &Tree, net: &DistNet, place: &Place<'_>) -> BeliefRow
-    requires seen { IsSeen standing.now.present net.now.present tree.now }
-    requires holds { Holds (built standing.now.present).believed tree.now }
-    requires place { IsPlace net.now.present tree.now place.now }
-    ensures row { row_at tree.now result ≡ row (built standing.now.present) (moment_at tree.now place.now.node) }
-    ensures node { result.node ≡ place.now.node }
-    ensures live { IsLiveRow tree.now result }
-{
-    BeliefRow {
-        node: place.node,
-        early: place.early,
-        clip: clip(standing, tree, net, place.node),
-    }
 }
 
 /// The rows as a reply has them.
