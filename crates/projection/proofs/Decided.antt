@@ -1,5 +1,5 @@
 -- What is due first is decided, and what has entered when nothing waits.
-use Rattle.std.proofs.Common.{◌≡◌, ◌∙◌, ◌⊎◌, inl, inr, ℕ, ◌+◌, ◌<◌, ◌≤◌, true, false, Bool, List, [], ◌∷◌, ◌++◌, length, refl, sym, ap, subst, arith}
+use Rattle.std.proofs.Common.{◌≡◌, ◌∙◌, ◌⊎◌, inl, inr, ℕ, ◌+◌, ◌<◌, ◌≤◌, true, false, List, [], ◌∷◌, ◌++◌, length, refl, sym, ap, subst, arith}
 use Rattle.std.proofs.lemmas.Int.{ints}
 use Rattle.std.specs.Prelude.{ℤ, pos, ◌+ℤ◌, ◌≤ℤ◌, sum_by}
 use Rattle.std.specs.List.{Contains}
@@ -7,7 +7,7 @@ use Rattle.std.proofs.lemmas.List.Elements.{All-contains}
 use Rattle.std.proofs.lemmas.List.Sums.{sum_by-cons, count_by-le-length}
 use Rattle.std.proofs.lemmas.List.Sorted.{IsPermutation-sym, length_permutation}
 use Rattle.tmm_model.specs.Answers.{weight, size, most_size}
-use Rattle.tmm_model.specs.Beliefs.{due, is_free, outcome, fires, rules_at}
+use Rattle.tmm_model.specs.Beliefs.{due, is_free, rules_at}
 use Rattle.tmm_model.specs.Maps.{built}
 use Rattle.tmm_model.specs.Moments.{Moment, After, early, rule_of, rules}
 use Rattle.tmm_model.specs.Right.{IsRightTo}
@@ -15,43 +15,22 @@ use Rattle.tmm_model.specs.Standing.{Standing, far_in}
 use Rattle.tmm_model.proofs.Distinct.{sum_inside}
 use Rattle.tmm_model.proofs.Elements.{In, In-from_Contains, Contains-from_In, In-left, In-right}
 use Rattle.tmm_model.proofs.Inside.{inside}
-use Rattle.tmm_model.proofs.Outcomes.{fires_exactly}
 use Rattle.tmm_model.proofs.Settling.{Settling, skip, enter, right_at_end}
 use Rattle.tmm_model.proofs.SoundBeliefs.{sound_timed, map_is_right, believed_right}
 use Rattle.dist_net.specs.Net.{Net}
 use Rattle.spots.specs.Forest.{Forest, moment, moment_at}
 use Rattle.spots.specs.Seen.{Holds}
 use Rattle.spots.proofs.Nodes.{node_at, moment_at-is}
-use Rattle.projection.specs.declared.decision.Decision.{Decision}
-use Rattle.projection.specs.declared.decision.Decision.TheVariants.{Fires, Blocked, Beyond}
 use Rattle.projection.specs.declared.pending.Pending.{Pending}
 use Rattle.projection.specs.Counted.{is_due, due_rules, decisions_due}
-use Rattle.projection.specs.Decisions.{outcome_at}
 use Rattle.projection.specs.Growing.{Adds, MayEnter}
+use Rattle.projection.specs.Places.{rule_at}
 use Rattle.projection.specs.Projecting.{IsEntry, Pends, IsGrown, IsGrowing, IsFirstOf, left}
 use Rattle.projection.specs.Queues.{Queues, weight_at}
 use Rattle.spots.proofs.Believed.{believed_once}
 use Rattle.projection.proofs.OnKinds.{node_rules}
 use Rattle.projection.proofs.Steps.{push_cases, too_large, pends_kept, pends_new, pends_cases, waits_more, grown_more}
 use Rattle.projection.proofs.Waiting.{In-permutation, taken_once, rest_once}
-
--- ---- what a decision tells
-
-pub fires_told : (s : Standing) (f : Forest) (b : List Moment) (t : Moment) (r : List ℕ) (ks : List Moment) → fires ks ≡ outcome s (far_in s.premises) b t r → is_free s (far_in s.premises) b t r ≡ true
-fires_told s f b t r ks e = ((fires_exactly s (far_in s.premises) b t r).0 (ks, sym e)).1
-
-other_told : (f : Forest) (decision : Decision) (ks : List Moment) → ((supports : _) → decision ≡ Fires supports → ⊥) → outcome_at f decision ≡ fires ks → ⊥
-other_told f (Fires supports) ks none e = none supports refl
-other_told f (Blocked antecedent) ks none e = cc
-other_told f Beyond ks none e = cc
-
-pub blocked_told : (s : Standing) (f : Forest) (b : List Moment) (t : Moment) (r : List ℕ) (decision : Decision) → ((supports : _) → decision ≡ Fires supports → ⊥)
-    → outcome_at f decision ≡ outcome s (far_in s.premises) b t r → due s (far_in s.premises) t r ≤ℤ pos s.horizon → is_free s (far_in s.premises) b t r ≡ false
-blocked_told s f b t r decision none e in_time = by (is_free s (far_in s.premises) b t r) refl
-  where
-    by : (v : Bool) → is_free s (far_in s.premises) b t r ≡ v → is_free s (far_in s.premises) b t r ≡ false
-    by false is = is
-    by true is = let (ks, told) = (fires_exactly s (far_in s.premises) b t r).1 (in_time, is) in absurd (other_told f decision ks none (e ∙ told))
 
 -- an occurrence that has entered counts no more than all
 weight_in : (s : Standing) (b : List Moment) (y : Moment) → In y b → weight (built s) y ≤ sum_by (weight (built s)) b
@@ -61,11 +40,11 @@ weight_in s (z ∷ b) y (inr at) = omega (arith, weight_in s b y at, sum_by-cons
 
 module _ (s : Standing) (net : Net) (f : Forest) (queue : List Pending) (n : ℕ) {made : ℕ} (growing : IsGrowing s net f queue n made) (p : Pending) (rest : List Pending) (next : IsFirstOf queue p rest) where
   abbrev k : Moment
-  k = After (moment_at f p.trigger) p.rule
+  k = After (moment_at f p.trigger) (rule_at s p)
 
   -- what waits beside the rules on the effect
   abbrev still : Moment → List ℕ → Type 0
-  still u q = Pends f rest u q ⊎ ((u ≡ After (moment_at f p.trigger) p.rule) × Contains (rules_at s (After (moment_at f p.trigger) p.rule)) q)
+  still u q = Pends s f rest u q ⊎ ((u ≡ After (moment_at f p.trigger) (rule_at s p)) × Contains (rules_at s (After (moment_at f p.trigger) (rule_at s p))) q)
 
   p_in : In p queue
   p_in = In-permutation (p ∷ rest) queue (IsPermutation-sym queue (p ∷ rest) next.taken) p (inl refl)
@@ -80,30 +59,24 @@ module _ (s : Standing) (net : Net) (f : Forest) (queue : List Pending) (n : ℕ
   pub entry : IsEntry s f p
   entry = growing.grown.entries p p_in
 
-  pub in_time_is : due s (far_in s.premises) (moment_at f p.trigger) p.rule ≤ℤ pos s.horizon
-  in_time_is = by (due s (far_in s.premises) (moment_at f p.trigger) p.rule) p.due.0 s.horizon entry.date entry.in_time
-    where
-      by : (z : ℤ) (d h : ℕ) → z ≡ pos d → d ≤ h → z ≤ℤ pos h
-      by z d h e le = omega (arith, ints)
-
   believed : Contains growing.entered (moment_at f p.trigger)
   believed =
       let (m, at) = node_at f p.trigger entry.live in
       subst (Contains growing.entered) (sym (moment_at-is f p.trigger m at)) (growing.grown.holds.own p.trigger m at)
 
   up : growing.date ≤ p.due.0
-  up = by (due s (far_in s.premises) (moment_at f p.trigger) p.rule) growing.date p.due.0 entry.date (growing.settling.pend_later (moment_at f p.trigger) p.rule (p, p_in, refl, refl))
+  up = by (due s (far_in s.premises) (moment_at f p.trigger) (rule_at s p)) growing.date p.due.0 entry.date (growing.settling.pend_later (moment_at f p.trigger) (rule_at s p) (p, p_in, refl, refl))
     where
       by : (z : ℤ) (d e : ℕ) → z ≡ pos e → pos d ≤ℤ z → d ≤ e
       by z d e is le = omega (arith, ints)
 
-  rest_pends : (u : Moment) (q : List ℕ) → Pends f queue u q → Pends f rest u q ⊎ ((u ≡ moment_at f p.trigger) × (q ≡ p.rule))
+  rest_pends : (u : Moment) (q : List ℕ) → Pends s f queue u q → Pends s f rest u q ⊎ ((u ≡ moment_at f p.trigger) × (q ≡ rule_at s p))
   rest_pends u q (o, at, here, named) = elim (In-permutation queue (p ∷ rest) next.taken o at) [
-    | inl same ↦ inr (sym here ∙ ap (λ z. moment_at f z.trigger) (sym same), sym named ∙ ap (λ z. z.rule) (sym same))
+    | inl same ↦ inr (sym here ∙ ap (λ z. moment_at f z.trigger) (sym same), sym named ∙ ap (rule_at s) (sym same))
     | inr there ↦ inl (o, there, here, named)
   ]
 
-  rest_later : (u : Moment) (q : List ℕ) → Pends f rest u q → pos p.due.0 ≤ℤ due s (far_in s.premises) u q
+  rest_later : (u : Moment) (q : List ℕ) → Pends s f rest u q → pos p.due.0 ≤ℤ due s (far_in s.premises) u q
   rest_later u q (o, at, here, named) =
       by (due s (far_in s.premises) u q) p.due.0 o.due.0
       ((λ i. due s (far_in s.premises) (sym here i) (sym named i)) ∙ (growing.grown.entries o (rest_in o at)).date)
@@ -120,29 +93,29 @@ module _ (s : Standing) (net : Net) (f : Forest) (queue : List Pending) (n : ℕ
     sized = growing.grown.sized;
     small = growing.grown.small;
     entries = λ o at. growing.grown.entries o (rest_in o at);
-    once = rest_once queue rest p growing.grown.once next.taken;
+    once = rest_once s queue rest p growing.grown.once next.taken;
     undecided = λ o at. growing.grown.undecided o (rest_in o at);
   }
 
   -- the rule doesn't fire
-  pub decided_blocked : is_free s (far_in s.premises) growing.entered (moment_at f p.trigger) p.rule ≡ false → IsGrowing s net f rest n (made + 1)
+  pub decided_blocked : is_free s (far_in s.premises) growing.entered (moment_at f p.trigger) (rule_at s p) ≡ false → IsGrowing s net f rest n (made + 1)
   decided_blocked blocked = record {
     entered = growing.entered;
     date = p.due.0;
     sound = growing.sound;
     grown = grown_rest;
     settling =
-        skip s (far_in s.premises) (sound_timed s growing.sound) s.horizon growing.date p.due.0 growing.entered growing.entered (Pends f queue) (Pends f rest) growing.settling up (moment_at f p.trigger) p.rule
+        skip s (far_in s.premises) (sound_timed s growing.sound) s.horizon growing.date p.due.0 growing.entered growing.entered (Pends s f queue) (Pends s f rest) growing.settling up (moment_at f p.trigger) (rule_at s p)
         believed entry.stands entry.date rest_pends rest_later blocked;
     each = omega (arith, growing.each, taken_one);
   }
 
   -- ---- the rule fires
 
-  apart : In (After (moment_at f p.trigger) p.rule) growing.entered → ⊥
+  apart : In (After (moment_at f p.trigger) (rule_at s p)) growing.entered → ⊥
   apart = growing.grown.undecided p p_in
 
-  pub may_enter : MayEnter s f p.trigger p.rule
+  pub may_enter : MayEnter s f p.trigger (rule_at s p)
   may_enter = record {
     stands = entry.stands;
     room = λ m at.
@@ -152,15 +125,15 @@ module _ (s : Standing) (net : Net) (f : Forest) (queue : List Pending) (n : ℕ
     new = λ y m at same. apart (subst (λ o. In o growing.entered) same (In-from_Contains growing.entered (moment m) (growing.grown.holds.own y m at)));
   }
 
-  module _ (free : is_free s (far_in s.premises) growing.entered (moment_at f p.trigger) p.rule ≡ true) where
+  module _ (free : is_free s (far_in s.premises) growing.entered (moment_at f p.trigger) (rule_at s p) ≡ true) where
     with_effect : (pends : Moment → List ℕ → Type 0)
-        → ((u : Moment) (q : List ℕ) → Pends f queue u q → pends u q ⊎ ((u ≡ moment_at f p.trigger) × (q ≡ p.rule)))
+        → ((u : Moment) (q : List ℕ) → Pends s f queue u q → pends u q ⊎ ((u ≡ moment_at f p.trigger) × (q ≡ rule_at s p)))
         → ((u : Moment) (q : List ℕ) → pends u q → pos p.due.0 ≤ℤ due s (far_in s.premises) u q)
-        → ((q : List ℕ) → Contains (rules_at s (After (moment_at f p.trigger) p.rule)) q → due s (far_in s.premises) (After (moment_at f p.trigger) p.rule) q ≤ℤ pos s.horizon → pends (After (moment_at f p.trigger) p.rule) q)
-        → Settling s (far_in s.premises) (sound_timed s growing.sound) s.horizon p.due.0 (growing.entered ++ After (moment_at f p.trigger) p.rule ∷ []) pends
+        → ((q : List ℕ) → Contains (rules_at s (After (moment_at f p.trigger) (rule_at s p))) q → due s (far_in s.premises) (After (moment_at f p.trigger) (rule_at s p)) q ≤ℤ pos s.horizon → pends (After (moment_at f p.trigger) (rule_at s p)) q)
+        → Settling s (far_in s.premises) (sound_timed s growing.sound) s.horizon p.due.0 (growing.entered ++ After (moment_at f p.trigger) (rule_at s p) ∷ []) pends
     with_effect pends keeps later_ new_pend =
-        enter s (far_in s.premises) (sound_timed s growing.sound) s.horizon growing.date p.due.0 growing.entered (growing.entered ++ After (moment_at f p.trigger) p.rule ∷ []) (Pends f queue) pends growing.settling up
-        (moment_at f p.trigger) p.rule believed entry.stands entry.date keeps later_ free (by p.due.0 s.horizon entry.in_time)
+        enter s (far_in s.premises) (sound_timed s growing.sound) s.horizon growing.date p.due.0 growing.entered (growing.entered ++ After (moment_at f p.trigger) (rule_at s p) ∷ []) (Pends s f queue) pends growing.settling up
+        (moment_at f p.trigger) (rule_at s p) believed entry.stands entry.date keeps later_ free (by p.due.0 s.horizon entry.in_time)
         (λ y at. Contains-from_In (growing.entered ++ k ∷ []) y (In-left growing.entered (k ∷ []) y (In-from_Contains growing.entered y at)))
         (Contains-from_In (growing.entered ++ k ∷ []) k (In-right growing.entered (k ∷ []) k (inl refl)))
         (λ y at. elim (push_cases growing.entered k y (In-from_Contains (growing.entered ++ k ∷ []) y at)) [ inl before ↦ inl (Contains-from_In growing.entered y before) | inr is ↦ inr is ])
@@ -170,30 +143,30 @@ module _ (s : Standing) (net : Net) (f : Forest) (queue : List Pending) (n : ℕ
         by d h le = omega (arith, ints)
 
     -- the rules on the effect are due later
-    effect_later : (q : List ℕ) → Contains (rules_at s (After (moment_at f p.trigger) p.rule)) q → pos p.due.0 ≤ℤ due s (far_in s.premises) (After (moment_at f p.trigger) p.rule) q
+    effect_later : (q : List ℕ) → Contains (rules_at s (After (moment_at f p.trigger) (rule_at s p))) q → pos p.due.0 ≤ℤ due s (far_in s.premises) (After (moment_at f p.trigger) (rule_at s p)) q
     effect_later q on =
         let timed = sound_timed s growing.sound in
         let occurs_t = growing.settling.member_occurs (moment_at f p.trigger) believed in
-        by (early s (far_in s.premises) (After (moment_at f p.trigger) p.rule)) (rule_of s q).lo p.due.0
-        (timed.due_is (moment_at f p.trigger) p.rule occurs_t entry.stands ∙ entry.date)
-        (timed.delayed (After (moment_at f p.trigger) p.rule) q on)
+        by (early s (far_in s.premises) (After (moment_at f p.trigger) (rule_at s p))) (rule_of s q).lo p.due.0
+        (timed.due_is (moment_at f p.trigger) (rule_at s p) occurs_t entry.stands ∙ entry.date)
+        (timed.delayed (After (moment_at f p.trigger) (rule_at s p)) q on)
       where
         by : (z lo : ℤ) (d : ℕ) → z ≡ pos d → pos 1 ≤ℤ lo → pos d ≤ℤ (z +ℤ lo)
         by z lo d e le = omega (arith, ints)
 
-    module _ (new : Forest) (x : ℕ) (adds : Adds s net.names f new x (After (moment_at f p.trigger) p.rule)) where
+    module _ (new : Forest) (x : ℕ) (adds : Adds s net.names f new x (After (moment_at f p.trigger) (rule_at s p))) where
       -- where the size is too large with the effect, that of the map is
       pub effect_too_large : most_size < n + weight_at s new x → most_size < size (built s)
-      effect_too_large = too_large s net f new x (After (moment_at f p.trigger) p.rule) adds growing.entered rest rest n grown_rest apart in_map
+      effect_too_large = too_large s net f new x (After (moment_at f p.trigger) (rule_at s p)) adds growing.entered rest rest n grown_rest apart in_map
         where
-          in_map : (y : Moment) → In y (growing.entered ++ After (moment_at f p.trigger) p.rule ∷ []) → In y (built s).believed
+          in_map : (y : Moment) → In y (growing.entered ++ After (moment_at f p.trigger) (rule_at s p) ∷ []) → In y (built s).believed
           in_map y at =
               let st = with_effect still keeps_it later_ (λ q on in_time. inr (refl, on)) in
               In-from_Contains (built s).believed y
-              (inside s (far_in s.premises) (sound_timed s growing.sound) s.horizon p.due.0 (growing.entered ++ After (moment_at f p.trigger) p.rule ∷ []) (built s).believed still st (believed_right s growing.sound) y
-              (Contains-from_In (growing.entered ++ After (moment_at f p.trigger) p.rule ∷ []) y at))
+              (inside s (far_in s.premises) (sound_timed s growing.sound) s.horizon p.due.0 (growing.entered ++ After (moment_at f p.trigger) (rule_at s p) ∷ []) (built s).believed still st (believed_right s growing.sound) y
+              (Contains-from_In (growing.entered ++ After (moment_at f p.trigger) (rule_at s p) ∷ []) y at))
             where
-              keeps_it : (u : Moment) (q : List ℕ) → Pends f queue u q → still u q ⊎ ((u ≡ moment_at f p.trigger) × (q ≡ p.rule))
+              keeps_it : (u : Moment) (q : List ℕ) → Pends s f queue u q → still u q ⊎ ((u ≡ moment_at f p.trigger) × (q ≡ rule_at s p))
               keeps_it u q pending = elim (rest_pends u q pending) [ inl waits ↦ inl (inl waits) | inr is ↦ inr is ]
 
               later_ : (u : Moment) (q : List ℕ) → still u q → pos p.due.0 ≤ℤ due s (far_in s.premises) u q
@@ -201,27 +174,27 @@ module _ (s : Standing) (net : Net) (f : Forest) (queue : List Pending) (n : ℕ
               later_ u q (inr is) = subst (λ v. pos p.due.0 ≤ℤ due s (far_in s.premises) v q) (sym is.0) (effect_later q is.1)
 
       module _ (queue2 : List Pending) (queues : Queues s new x (rules_at s (moment_at new x)) rest queue2) (small : n + weight_at s new x ≤ most_size) where
-        other : (o : Pending) → In o rest → After (moment_at f o.trigger) o.rule ≡ After (moment_at f p.trigger) p.rule → ⊥
+        other : (o : Pending) → In o rest → After (moment_at f o.trigger) (rule_at s o) ≡ After (moment_at f p.trigger) (rule_at s p) → ⊥
         other o at same =
             let one : moment_at f o.trigger ≡ moment_at f p.trigger = cc in
-            let two : o.rule ≡ p.rule = cc in
+            let two : rule_at s o ≡ rule_at s p = cc in
             let (m, at_o) = node_at f o.trigger (growing.grown.entries o (rest_in o at)).live in
             let (q, at_p) = node_at f p.trigger entry.live in
             let node : o.trigger ≡ p.trigger = growing.grown.holds.once o.trigger p.trigger m q at_o at_p (sym (moment_at-is f o.trigger m at_o) ∙ one ∙ moment_at-is f p.trigger q at_p) in
-            taken_once queue rest p growing.grown.once next.taken o at node two
+            taken_once s queue rest p growing.grown.once next.taken o at node two
 
-        leaf : (q : List ℕ) → In (After (After (moment_at f p.trigger) p.rule) q) growing.entered → ⊥
+        leaf : (q : List ℕ) → In (After (After (moment_at f p.trigger) (rule_at s p)) q) growing.entered → ⊥
         leaf q at =
-            apart (In-from_Contains growing.entered (After (moment_at f p.trigger) p.rule) (growing.settling.fires (After (moment_at f p.trigger) p.rule) q (Contains-from_In growing.entered (After (After (moment_at f p.trigger) p.rule) q) at)).believed)
+            apart (In-from_Contains growing.entered (After (moment_at f p.trigger) (rule_at s p)) (growing.settling.fires (After (moment_at f p.trigger) (rule_at s p)) q (Contains-from_In growing.entered (After (After (moment_at f p.trigger) (rule_at s p)) q) at)).believed)
 
-        keeps : (u : Moment) (q : List ℕ) → Pends f queue u q → Pends new queue2 u q ⊎ ((u ≡ moment_at f p.trigger) × (q ≡ p.rule))
+        keeps : (u : Moment) (q : List ℕ) → Pends s f queue u q → Pends s new queue2 u q ⊎ ((u ≡ moment_at f p.trigger) × (q ≡ rule_at s p))
         keeps u q pending = elim (rest_pends u q pending) [
-          | inl waits ↦ inl (pends_kept s net f new x (After (moment_at f p.trigger) p.rule) adds growing.entered rest queue2 n grown_rest apart queues u q waits)
+          | inl waits ↦ inl (pends_kept s net f new x (After (moment_at f p.trigger) (rule_at s p)) adds growing.entered rest queue2 n grown_rest apart queues u q waits)
           | inr is ↦ inr is
         ]
 
-        later_still : (u : Moment) (q : List ℕ) → Pends new queue2 u q → pos p.due.0 ≤ℤ due s (far_in s.premises) u q
-        later_still u q pending = elim (pends_cases s net f new x (After (moment_at f p.trigger) p.rule) adds growing.entered rest queue2 n grown_rest apart queues u q pending) [
+        later_still : (u : Moment) (q : List ℕ) → Pends s new queue2 u q → pos p.due.0 ≤ℤ due s (far_in s.premises) u q
+        later_still u q pending = elim (pends_cases s net f new x (After (moment_at f p.trigger) (rule_at s p)) adds growing.entered rest queue2 n grown_rest apart queues u q pending) [
           | inl waits ↦ rest_later u q waits
           | inr is ↦ subst (λ v. pos p.due.0 ≤ℤ due s (far_in s.premises) v q) (sym is.0) (effect_later q is.1)
         ]
@@ -229,12 +202,12 @@ module _ (s : Standing) (net : Net) (f : Forest) (queue : List Pending) (n : ℕ
         -- its effect has entered
         pub decided_fires : IsGrowing s net new queue2 (n + weight_at s new x) (made + 1)
         decided_fires = record {
-          entered = growing.entered ++ After (moment_at f p.trigger) p.rule ∷ [];
+          entered = growing.entered ++ After (moment_at f p.trigger) (rule_at s p) ∷ [];
           date = p.due.0;
           sound = growing.sound;
-          grown = grown_more s net f new x (After (moment_at f p.trigger) p.rule) adds growing.entered rest queue2 n grown_rest apart queues other leaf small;
-          settling = with_effect (Pends new queue2) keeps later_still (pends_new s net f new x (After (moment_at f p.trigger) p.rule) adds growing.entered rest queue2 n grown_rest apart queues);
-          each = omega (arith, growing.each, taken_one, waits_more s net f new x (After (moment_at f p.trigger) p.rule) adds growing.entered rest queue2 n grown_rest apart queues);
+          grown = grown_more s net f new x (After (moment_at f p.trigger) (rule_at s p)) adds growing.entered rest queue2 n grown_rest apart queues other leaf small;
+          settling = with_effect (Pends s new queue2) keeps later_still (pends_new s net f new x (After (moment_at f p.trigger) (rule_at s p)) adds growing.entered rest queue2 n grown_rest apart queues);
+          each = omega (arith, growing.each, taken_one, waits_more s net f new x (After (moment_at f p.trigger) (rule_at s p)) adds growing.entered rest queue2 n grown_rest apart queues);
         }
 
         pub left_less : left queue2 (n + weight_at s new x) ≤ left rest n

@@ -1,5 +1,6 @@
 pub mod Facts
 pub mod Grown
+pub mod AtPlaces
 pub mod Tried
 pub mod Dates
 pub mod OnKinds
@@ -9,3 +10,4 @@ pub mod Steps
 pub mod Settled
 pub mod Decided
 pub mod Ends
+pub mod Networks

@@ -1,35 +1,18 @@
--- The rules on a kind, as they are kept and as they stand at an event.
-use Rattle.std.proofs.Common.{◌≡◌, ◌∙◌, ℕ, ◌+◌, ◌≤◌, Bool, true, false, cond, List, [], ◌∷◌, ◌++◌, length, refl, sym, ap, subst, arith}
+-- The rules on a kind, as they stand at an event.
+use Rattle.std.proofs.Common.{◌≡◌, ◌∙◌, ℕ, ◌+◌, ◌≤◌, List, [], ◌∷◌, length, refl, sym, ap, subst, arith}
 use Rattle.std.specs.Prelude.{Option, Some, None}
 use Rattle.std.specs.List.{Contains, filter_map, cons_option}
-use Rattle.std.specs.Option.{option_map_or}
 use Rattle.std.proofs.lemmas.List.{length-map}
-use Rattle.std.specs.Cmp.Lexicographic.{nat_list_eq_equiv}
 use Rattle.tmm_model.specs.declared.token.Shape.{Shape}
 use Rattle.tmm_model.specs.declared.token.Shape.TheVariants.{Event, Persistence, Span}
 use Rattle.tmm_model.specs.Beliefs.{rules_on, rules_for, rules_at}
 use Rattle.tmm_model.specs.Moments.{rules}
-use Rattle.tmm_model.specs.Points.{same_name}
 use Rattle.tmm_model.specs.Standing.{Standing}
 use Rattle.dist_net.specs.Net.{Net}
 use Rattle.spots.specs.Forest.{Forest, Member, member, moment, moment_at}
 use Rattle.spots.specs.Seen.{IsSeen}
 use Rattle.spots.proofs.Nodes.{moment_at-is, rules-moment}
-use Rattle.projection.specs.Kinds.{names_on, AddsName}
 use Rattle.projection.specs.Queues.{weight_at}
-use Rattle.projection.specs.declared.kinds.RulesByKind.{RulesByKind}
-
-pub over_cond : {V : Type 0} (f : V → List (List ℕ)) (b : Bool) (v : V) (o : Option V) → option_map_or f (cond b (Some v) o) [] ≡ cond b (f v) (option_map_or f o [])
-over_cond f true v o = refl
-over_cond f false v o = refl
-
--- the rule stands behind the others of its kind
-pub adds_name : (old new : RulesByKind) (kind rule : List ℕ) (names : List (List ℕ)) → ((q : List ℕ) → names_on new q ≡ cond (same_name kind q) names (names_on old q))
-    → names ≡ names_on old kind ++ rule ∷ [] → AddsName old new kind rule
-adds_name old new kind rule names updates is = (
-  updates kind ∙ ap (λ b. cond b names (names_on old kind)) (nat_list_eq_equiv.refl kind) ∙ is,
-  λ other apart. updates other ∙ ap (λ b. cond b names (names_on old other)) (nat_list_eq_equiv.symm kind other ∙ apart),
-)
 
 pub length-filter_map-le : {X Y : Type 0} (h : X → Option Y) (xs : List X) → length (filter_map h xs) ≤ length xs
 length-filter_map-le h [] = omega arith

@@ -22,6 +22,7 @@ use Rattle.spots.specs.Seen.{IsSeen, Holds}
 use Rattle.projection.specs.declared.pending.Pending.{Pending}
 use Rattle.projection.specs.Counted.{due_rules}
 use Rattle.projection.specs.Growing.{Adds, AddsRoot, AddsRootAt}
+use Rattle.projection.specs.Places.{rule_at}
 use Rattle.projection.specs.Projecting.{Pends, IsGrown, IsStarted, IsGrowing}
 use Rattle.projection.specs.Queues.{is_for, Queues, weight_at, IsTooLarge}
 use Rattle.projection.proofs.Grown.{new_root, root_name}
@@ -39,7 +40,7 @@ module _ (s : Standing) (net : Net) (f : Forest) (queue : List Pending) (n : ℕ
       sized = zero_;
       small = omega (arith, zero_);
       entries = λ p at. absurd (subst (In p) none at);
-      once = λ x r. subst (λ q. sum_by (is_for x r) q ≤ 1) (sym none) (omega arith);
+      once = λ x r. subst (λ q. sum_by (is_for s x r) q ≤ 1) (sym none) (omega arith);
       undecided = λ p at. absurd (subst (In p) none at);
     };
     queued = λ t r at. absurd at;
@@ -89,16 +90,16 @@ module _ (s : Standing) (net : Net) (f : Forest) (queue : List Pending) (n : ℕ
           no_effect t r e = let never : After t r ≡ At (Begin (name_of p)) = e ∙ at_root in cc
 
           grown : IsGrown s net (filter_map root_of front ++ k ∷ []) new queue2 (n + weight_at s new x)
-          grown = grown_more s net f new x k adds (filter_map root_of front) queue queue2 n started.grown apart queues (λ o at. no_effect (moment_at f o.trigger) o.rule) (λ r. root_no_effect front k r) small
+          grown = grown_more s net f new x k adds (filter_map root_of front) queue queue2 n started.grown apart queues (λ o at. no_effect (moment_at f o.trigger) (rule_at s o)) (λ r. root_no_effect front k r) small
 
           waiting : length queue2 ≡ sum_by (due_rules s) (filter_map root_of front ++ k ∷ [])
           waiting = omega (arith, started.waiting, waits_more s net f new x k adds (filter_map root_of front) queue queue2 n started.grown apart queues)
 
-          queued : (t : Moment) (r : List ℕ) → In t (filter_map root_of front ++ k ∷ []) → Contains (rules_at s t) r → due s (far_in s.premises) t r ≤ℤ pos s.horizon → Pends new queue2 t r
+          queued : (t : Moment) (r : List ℕ) → In t (filter_map root_of front ++ k ∷ []) → Contains (rules_at s t) r → due s (far_in s.premises) t r ≤ℤ pos s.horizon → Pends s new queue2 t r
           queued t r at on in_time = elim (push_cases (filter_map root_of front) k t at) [
             | inl before ↦ pends_kept s net f new x k adds (filter_map root_of front) queue queue2 n started.grown apart queues t r (started.queued t r before on in_time)
             | inr is ↦
-                subst (λ u. Pends new queue2 u r) (sym is)
+                subst (λ u. Pends s new queue2 u r) (sym is)
                 (pends_new s net f new x k adds (filter_map root_of front) queue queue2 n started.grown apart queues r (subst (λ u. Contains (rules_at s u) r) is on)
                 (subst (λ u. due s (far_in s.premises) u r ≤ℤ pos s.horizon) is in_time))
           ]
@@ -125,7 +126,7 @@ module _ (s : Standing) (net : Net) (f : Forest) (queue : List Pending) (n : ℕ
       occurs (At p) at = at
       occurs (After t r) at = absurd (root_no_effect s.premises t r (In-from_Contains (roots s) (After t r) at))
 
-      later : (t : Moment) (r : List ℕ) → Pends f queue t r → pos 0 ≤ℤ due s (far_in s.premises) t r
+      later : (t : Moment) (r : List ℕ) → Pends s f queue t r → pos 0 ≤ℤ due s (far_in s.premises) t r
       later t r (p, at, here, named) =
           let date : due s (far_in s.premises) t r ≡ pos p.due.0 = (λ i. due s (far_in s.premises) (sym here i) (sym named i)) ∙ (started.grown.entries p at).date in
           not_before (due s (far_in s.premises) t r) p.due.0 date

@@ -21,6 +21,7 @@ use Rattle.spots.proofs.Nodes.{node_at, live_at, moment_at-is}
 use Rattle.projection.specs.declared.pending.Pending.{Pending}
 use Rattle.projection.specs.Counted.{due_rules}
 use Rattle.projection.specs.Growing.{Adds}
+use Rattle.projection.specs.Places.{rule_at}
 use Rattle.projection.specs.Projecting.{IsEntry, Pends, IsGrown}
 use Rattle.projection.specs.Queues.{IsDue, Queues, weight_at}
 use Rattle.projection.proofs.Grown.{held_apart, adds_seen, adds_holds, node_kept, root_name}
@@ -76,11 +77,11 @@ module _ (s : Standing) (net : Net) (f new : Forest) (x : ℕ) (k : Moment) (add
 
     module _ (queues : Queues s new x (rules_at s (moment_at new x)) queue queue2) where
       -- what waited waits still
-      pub pends_kept : (t : Moment) (r : List ℕ) → Pends f queue t r → Pends new queue2 t r
+      pub pends_kept : (t : Moment) (r : List ℕ) → Pends s f queue t r → Pends s new queue2 t r
       pends_kept t r (p, at, here, named) = (p, queues.kept p at, kept_moment p.trigger (grown.entries p at).live ∙ here, named)
 
       -- and so do the rules on the occurrence that are due by the horizon
-      pub pends_new : (r : List ℕ) → Contains (rules_at s k) r → due s (far_in s.premises) k r ≤ℤ pos s.horizon → Pends new queue2 k r
+      pub pends_new : (r : List ℕ) → Contains (rules_at s k) r → due s (far_in s.premises) k r ≤ℤ pos s.horizon → Pends s new queue2 k r
       pends_new r stands in_time =
           let (p, at, trigger, named) =
           queues.all r (In-from_Contains (rules_at s (moment_at new x)) r (subst (λ t. Contains (rules_at s t) r) (sym at_new) stands))
@@ -92,17 +93,17 @@ module _ (s : Standing) (net : Net) (f new : Forest) (x : ℕ) (k : Moment) (add
       waits_more = omega (arith, queues.count, ap (due_rules s) at_new, sum_by_push (due_rules s) b k)
 
       -- what waits now waited, or is due for a rule on the occurrence
-      pub pends_cases : (t : Moment) (r : List ℕ) → Pends new queue2 t r
-          → Pends f queue t r ⊎ ((t ≡ k) × Contains (rules_at s k) r)
+      pub pends_cases : (t : Moment) (r : List ℕ) → Pends s new queue2 t r
+          → Pends s f queue t r ⊎ ((t ≡ k) × Contains (rules_at s k) r)
       pends_cases t r (p, at, here, named) = elim (queues.own p at) [
         | inl before ↦ inl (p, before, sym (kept_moment p.trigger (grown.entries p before).live) ∙ here, named)
         | inr is ↦ inr (
           sym here ∙ ap (moment_at new) is.trigger ∙ at_new,
-          subst (λ z. Contains (rules_at s k) z) named (subst (λ u. Contains (rules_at s u) p.rule) at_new (Contains-from_In (rules_at s (moment_at new x)) p.rule is.rule)),
+          subst (λ z. Contains (rules_at s k) z) named (subst (λ u. Contains (rules_at s u) (rule_at s p)) at_new (Contains-from_In (rules_at s (moment_at new x)) (rule_at s p) is.rule)),
         )
       ]
 
-      module _ (other : (p : Pending) → In p queue → After (moment_at f p.trigger) p.rule ≡ k → ⊥) (leaf : (r : List ℕ) → In (After k r) b → ⊥) (small : n + weight_at s new x ≤ most_size) where
+      module _ (other : (p : Pending) → In p queue → After (moment_at f p.trigger) (rule_at s p) ≡ k → ⊥) (leaf : (r : List ℕ) → In (After k r) b → ⊥) (small : n + weight_at s new x ≤ most_size) where
         pub grown_more : IsGrown s net (b ++ k ∷ []) new queue2 (n + weight_at s new x)
         grown_more = record {
           seen = adds_seen s net f new x k adds (held_apart s net f new x k adds b grown.holds apart) grown.seen;
@@ -121,35 +122,37 @@ module _ (s : Standing) (net : Net) (f new : Forest) (x : ℕ) (k : Moment) (add
                 let same = kept_moment p.trigger e.live in
                 record {
                   live = kept_live p.trigger e.live;
-                  stands = subst (λ t. Contains (rules_at s t) p.rule) (sym same) e.stands;
-                  date = ap (λ t. due s (far_in s.premises) t p.rule) same ∙ e.date;
+                  place = e.place;
+                  stands = subst (λ t. Contains (rules_at s t) (rule_at s p)) (sym same) e.stands;
+                  date = ap (λ t. due s (far_in s.premises) t (rule_at s p)) same ∙ e.date;
                   in_time = e.in_time;
                 }
 
             new_entry : (p : Pending) → IsDue s new x (rules_at s (moment_at new x)) p → IsEntry s new p
             new_entry p is = record {
               live = subst (IsLive new) (sym is.trigger) new_live;
-              stands = subst (λ y. Contains (rules_at s (moment_at new y)) p.rule) (sym is.trigger) (Contains-from_In (rules_at s (moment_at new x)) p.rule is.rule);
-              date = ap (λ y. due s (far_in s.premises) (moment_at new y) p.rule) is.trigger ∙ is.date;
+              place = is.place;
+              stands = subst (λ y. Contains (rules_at s (moment_at new y)) (rule_at s p)) (sym is.trigger) (Contains-from_In (rules_at s (moment_at new x)) (rule_at s p) is.rule);
+              date = ap (λ y. due s (far_in s.premises) (moment_at new y) (rule_at s p)) is.trigger ∙ is.date;
               in_time = is.in_time;
             }
 
             entries : (p : Pending) → In p queue2 → IsEntry s new p
             entries p at = elim (queues.own p at) [ inl before ↦ old_entry p (grown.entries p before) | inr is ↦ new_entry p is ]
 
-            undecided : (p : Pending) → In p queue2 → In (After (moment_at new p.trigger) p.rule) (b ++ k ∷ []) → ⊥
+            undecided : (p : Pending) → In p queue2 → In (After (moment_at new p.trigger) (rule_at s p)) (b ++ k ∷ []) → ⊥
             undecided p at decided = elim (queues.own p at) [
               | inl before ↦
-                  let same : After (moment_at new p.trigger) p.rule ≡ After (moment_at f p.trigger) p.rule = ap (λ t. After t p.rule) (kept_moment p.trigger (grown.entries p before).live) in
-                  elim (push_cases b k (After (moment_at new p.trigger) p.rule) decided) [
+                  let same : After (moment_at new p.trigger) (rule_at s p) ≡ After (moment_at f p.trigger) (rule_at s p) = ap (λ t. After t (rule_at s p)) (kept_moment p.trigger (grown.entries p before).live) in
+                  elim (push_cases b k (After (moment_at new p.trigger) (rule_at s p)) decided) [
                     | inl there ↦ grown.undecided p before (subst (λ o. In o b) same there)
                     | inr is ↦ other p before (sym same ∙ is)
                   ]
               | inr is ↦
-                  let same : After (moment_at new p.trigger) p.rule ≡ After k p.rule = ap (λ t. After t p.rule) (ap (moment_at new) is.trigger ∙ at_new) in
-                  elim (push_cases b k (After (moment_at new p.trigger) p.rule) decided) [
-                    | inl there ↦ leaf p.rule (subst (λ o. In o b) same there)
-                    | inr itself ↦ not_itself k p.rule (sym same ∙ itself)
+                  let same : After (moment_at new p.trigger) (rule_at s p) ≡ After k (rule_at s p) = ap (λ t. After t (rule_at s p)) (ap (moment_at new) is.trigger ∙ at_new) in
+                  elim (push_cases b k (After (moment_at new p.trigger) (rule_at s p)) decided) [
+                    | inl there ↦ leaf (rule_at s p) (subst (λ o. In o b) same there)
+                    | inr itself ↦ not_itself k (rule_at s p) (sym same ∙ itself)
                   ]
             ]
 

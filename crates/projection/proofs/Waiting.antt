@@ -16,6 +16,7 @@ use Rattle.tmm_model.proofs.Elements.{In, In-from_Contains, Contains-from_In, In
 use Rattle.spots.specs.Forest.{Forest, moment_at}
 use Rattle.projection.specs.declared.pending.Pending.{Pending}
 use Rattle.projection.specs.Counted.{is_due}
+use Rattle.projection.specs.Places.{IsRuleAt, rule_at}
 use Rattle.projection.specs.Queues.{is_for, is_name, IsDue, Queues}
 
 -- ---- members of a queue
@@ -27,7 +28,7 @@ In-permutation xs ys p x at = In-from_Contains ys x (Contains-permutation xs ys 
 
 module _ (s : Standing) (f : Forest) (x : ℕ) where
   more_due : (names : List (List ℕ)) (rule : List ℕ) (p : Pending) → IsDue s f x names p → IsDue s f x (names ++ rule ∷ []) p
-  more_due names rule p is = record { trigger = is.trigger; rule = In-left names (rule ∷ []) p.rule is.rule; date = is.date; in_time = is.in_time }
+  more_due names rule p is = record { trigger = is.trigger; place = is.place; rule = In-left names (rule ∷ []) (rule_at s p) is.rule; date = is.date; in_time = is.in_time }
 
   -- how many are due with the next rule
   one_more : (names : List (List ℕ)) (rule : List ℕ) → count_by (is_due s (moment_at f x)) (names ++ rule ∷ []) ≡ count_by (is_due s (moment_at f x)) names + cond (is_due s (moment_at f x) rule) 1 0
@@ -41,7 +42,7 @@ module _ (s : Standing) (f : Forest) (x : ℕ) where
     own = λ p at. elim (q.own p at) [ inl before ↦ inl before | inr is ↦ inr (more_due names rule p is) ];
     all = all;
     count = omega (arith, q.count, one_more names rule, not_due late);
-    once = λ y r. by (x == y) (sum_by (is_for y r) new) (sum_by (is_for y r) old) (sum_by (is_name r) names) (sum_by (is_name r) (names ++ rule ∷ [])) (sum_by (is_name r) (rule ∷ [])) (q.once y r)
+    once = λ y r. by (x == y) (sum_by (is_for s y r) new) (sum_by (is_for s y r) old) (sum_by (is_name r) names) (sum_by (is_name r) (names ++ rule ∷ [])) (sum_by (is_name r) (rule ∷ [])) (q.once y r)
         (sum_by-append (is_name r) names (rule ∷ []));
   }
     where
@@ -54,7 +55,7 @@ module _ (s : Standing) (f : Forest) (x : ℕ) where
       never : (z w : ℤ) (h : ℕ) → z ≡ w → pos h <ℤ z → w ≤ℤ pos h → ⊥
       never z w h e a b = omega (arith, ints)
 
-      all : (r : List ℕ) → In r (names ++ rule ∷ []) → due s (far_in s.premises) (moment_at f x) r ≤ℤ pos s.horizon → (p : Pending) × In p new × (p.trigger ≡ x) × (p.rule ≡ r)
+      all : (r : List ℕ) → In r (names ++ rule ∷ []) → due s (far_in s.premises) (moment_at f x) r ≤ℤ pos s.horizon → (p : Pending) × In p new × (p.trigger ≡ x) × (rule_at s p ≡ r)
       all r at in_time = elim (In-cases names (rule ∷ []) r at) [
         | inl before ↦ q.all r before in_time
         | inr is ↦ elim is [
@@ -68,9 +69,9 @@ module _ (s : Standing) (f : Forest) (x : ℕ) where
       by false n m k j i h e = h
 
   -- the next rule waits
-  pub queues_more : (names : List (List ℕ)) (rule : List ℕ) (old mid new : List Pending) (p : Pending) → Queues s f x names old mid → p.trigger ≡ x → p.rule ≡ rule
+  pub queues_more : (names : List (List ℕ)) (rule : List ℕ) (old mid new : List Pending) (p : Pending) → Queues s f x names old mid → p.trigger ≡ x → IsRuleAt s p.rule → rule_at s p ≡ rule
       → due s (far_in s.premises) (moment_at f x) rule ≡ pos p.due.0 → p.due.0 ≤ s.horizon → IsPermutation (p ∷ mid) new → Queues s f x (names ++ rule ∷ []) old new
-  queues_more names rule old mid new p q trigger named date in_time pushed = record {
+  queues_more names rule old mid new p q trigger place named date in_time pushed = record {
     kept = λ o at. In-permutation (p ∷ mid) new pushed o (inr (q.kept o at));
     own = own;
     all = all;
@@ -90,7 +91,8 @@ module _ (s : Standing) (f : Forest) (x : ℕ) where
       here : IsDue s f x (names ++ rule ∷ []) p
       here = record {
         trigger = trigger;
-        rule = In-right names (rule ∷ []) p.rule (inl (sym named));
+        place = place;
+        rule = In-right names (rule ∷ []) (rule_at s p) (inl (sym named));
         date = ap (due s (far_in s.premises) (moment_at f x)) named ∙ date;
         in_time = in_time;
       }
@@ -101,7 +103,7 @@ module _ (s : Standing) (f : Forest) (x : ℕ) where
         | inr before ↦ elim (q.own o before) [ inl older ↦ inl older | inr is ↦ inr (more_due names rule o is) ]
       ]
 
-      all : (r : List ℕ) → In r (names ++ rule ∷ []) → due s (far_in s.premises) (moment_at f x) r ≤ℤ pos s.horizon → (o : Pending) × In o new × (o.trigger ≡ x) × (o.rule ≡ r)
+      all : (r : List ℕ) → In r (names ++ rule ∷ []) → due s (far_in s.premises) (moment_at f x) r ≤ℤ pos s.horizon → (o : Pending) × In o new × (o.trigger ≡ x) × (rule_at s o ≡ r)
       all r at due_r = elim (In-cases names (rule ∷ []) r at) [
         | inl before ↦ let (o, there, one, two) = q.all r before due_r in (o, In-permutation (p ∷ mid) new pushed o (inr there), one, two)
         | inr is ↦ elim is [
@@ -115,54 +117,54 @@ module _ (s : Standing) (f : Forest) (x : ℕ) where
       by true false n m k j i l h e g a = omega (arith, h, e, g, a)
       by false c n m k j i l h e g a = omega (arith, h, e)
 
-      once : (y : ℕ) (r : List ℕ) → sum_by (is_for y r) new ≤ sum_by (is_for y r) old + cond (x == y) (sum_by (is_name r) (names ++ rule ∷ [])) 0
-      once y r = by (x == y) (same_name rule r) (sum_by (is_for y r) new) (sum_by (is_for y r) mid) (sum_by (is_name r) names) (sum_by (is_name r) (names ++ rule ∷ [])) (sum_by (is_for y r) old) (sum_by (is_name r) (rule ∷ []))
+      once : (y : ℕ) (r : List ℕ) → sum_by (is_for s y r) new ≤ sum_by (is_for s y r) old + cond (x == y) (sum_by (is_name r) (names ++ rule ∷ [])) 0
+      once y r = by (x == y) (same_name rule r) (sum_by (is_for s y r) new) (sum_by (is_for s y r) mid) (sum_by (is_name r) names) (sum_by (is_name r) (names ++ rule ∷ [])) (sum_by (is_for s y r) old) (sum_by (is_name r) (rule ∷ []))
           (q.once y r)
-          (sum_by_pushed (is_for y r) p mid new pushed ∙ (λ i. cond ((trigger i == y) && same_name (named i) r) 1 0 + sum_by (is_for y r) mid))
+          (sum_by_pushed (is_for s y r) p mid new pushed ∙ (λ i. cond ((trigger i == y) && same_name (named i) r) 1 0 + sum_by (is_for s y r) mid))
           (sum_by-cons (is_name r) rule []) (sum_by-append (is_name r) names (rule ∷ []))
 
 -- ---- how often
 
-no_time : (xs : List Pending) (y : ℕ) (r : List ℕ) → ((p : Pending) → In p xs → p.trigger ≡ y → p.rule ≡ r → ⊥) → sum_by (is_for y r) xs ≡ 0
-no_time [] y r none = refl
-no_time (p ∷ xs) y r none =
-    sum_by-cons (is_for y r) p xs
-    ∙ (λ i. first i + no_time xs y r (λ o at. none o (inr at)) i)
+no_time : (s : Standing) (xs : List Pending) (y : ℕ) (r : List ℕ) → ((p : Pending) → In p xs → p.trigger ≡ y → rule_at s p ≡ r → ⊥) → sum_by (is_for s y r) xs ≡ 0
+no_time s [] y r none = refl
+no_time s (p ∷ xs) y r none =
+    sum_by-cons (is_for s y r) p xs
+    ∙ (λ i. first i + no_time s xs y r (λ o at. none o (inr at)) i)
   where
     by : (b c : Bool) → (b ≡ true → c ≡ true → ⊥) → ◌≡◌ {A = ℕ} (cond (b && c) 1 0) 0
     by true true h = absurd (h refl refl)
     by true false h = refl
     by false c h = refl
 
-    first : is_for y r p ≡ 0
-    first = by (p.trigger == y) (same_name p.rule r) (λ one two. none p (inl refl) (eqb-true p.trigger y one) ((bytes_decides p.rule r).0 two))
+    first : is_for s y r p ≡ 0
+    first = by (p.trigger == y) (same_name (rule_at s p) r) (λ one two. none p (inl refl) (eqb-true p.trigger y one) ((bytes_decides (rule_at s p) r).0 two))
 
 -- none waits for a node that no entry is for
-pub not_for : (xs : List Pending) (y : ℕ) → ((p : Pending) → In p xs → p.trigger ≡ y → ⊥) → (r : List ℕ) → sum_by (is_for y r) xs ≡ 0
-not_for xs y none r = no_time xs y r (λ p at is _. none p at is)
+pub not_for : (s : Standing) (xs : List Pending) (y : ℕ) → ((p : Pending) → In p xs → p.trigger ≡ y → ⊥) → (r : List ℕ) → sum_by (is_for s y r) xs ≡ 0
+not_for s xs y none r = no_time s xs y r (λ p at is _. none p at is)
 
-some_time : (xs : List Pending) (p : Pending) → In p xs → 1 ≤ sum_by (is_for p.trigger p.rule) xs
-some_time [] p at = absurd at
-some_time (o ∷ xs) p (inl same) = omega (arith, sum_by-cons (is_for p.trigger p.rule) o xs, one)
+some_time : (s : Standing) (xs : List Pending) (p : Pending) → In p xs → 1 ≤ sum_by (is_for s p.trigger (rule_at s p)) xs
+some_time s [] p at = absurd at
+some_time s (o ∷ xs) p (inl same) = omega (arith, sum_by-cons (is_for s p.trigger (rule_at s p)) o xs, one)
   where
-    one : is_for p.trigger p.rule o ≡ 1
+    one : is_for s p.trigger (rule_at s p) o ≡ 1
     one =
-        ap (is_for p.trigger p.rule) same
-        ∙ (λ i. cond (eq-eqb p.trigger p.trigger refl i && nat_list_eq_equiv.refl p.rule i) 1 0)
-some_time (o ∷ xs) p (inr at) = omega (arith, sum_by-cons (is_for p.trigger p.rule) o xs, some_time xs p at)
+        ap (is_for s p.trigger (rule_at s p)) same
+        ∙ (λ i. cond (eq-eqb p.trigger p.trigger refl i && nat_list_eq_equiv.refl (rule_at s p) i) 1 0)
+some_time s (o ∷ xs) p (inr at) = omega (arith, sum_by-cons (is_for s p.trigger (rule_at s p)) o xs, some_time s xs p at)
 
 -- the decision that is taken out doesn't wait again
-pub taken_once : (xs rest : List Pending) (p : Pending) → ((y : ℕ) (r : List ℕ) → sum_by (is_for y r) xs ≤ 1) → IsPermutation xs (p ∷ rest)
-    → (o : Pending) → In o rest → o.trigger ≡ p.trigger → o.rule ≡ p.rule → ⊥
-taken_once xs rest p once popped o at one two =
-    let first : 1 ≤ sum_by (is_for p.trigger p.rule) rest = subst (λ y. 1 ≤ sum_by (is_for y p.rule) rest) one (subst (λ r. 1 ≤ sum_by (is_for o.trigger r) rest) two (some_time rest o at)) in
-    omega (arith, once p.trigger p.rule, sum_by_popped (is_for p.trigger p.rule) p xs rest popped, first, own)
+pub taken_once : (s : Standing) (xs rest : List Pending) (p : Pending) → ((y : ℕ) (r : List ℕ) → sum_by (is_for s y r) xs ≤ 1) → IsPermutation xs (p ∷ rest)
+    → (o : Pending) → In o rest → o.trigger ≡ p.trigger → rule_at s o ≡ rule_at s p → ⊥
+taken_once s xs rest p once popped o at one two =
+    let first : 1 ≤ sum_by (is_for s p.trigger (rule_at s p)) rest = subst (λ y. 1 ≤ sum_by (is_for s y (rule_at s p)) rest) one (subst (λ r. 1 ≤ sum_by (is_for s o.trigger r) rest) two (some_time s rest o at)) in
+    omega (arith, once p.trigger (rule_at s p), sum_by_popped (is_for s p.trigger (rule_at s p)) p xs rest popped, first, own)
   where
-    own : is_for p.trigger p.rule p ≡ 1
-    own = (λ i. cond (eq-eqb p.trigger p.trigger refl i && nat_list_eq_equiv.refl p.rule i) 1 0)
+    own : is_for s p.trigger (rule_at s p) p ≡ 1
+    own = (λ i. cond (eq-eqb p.trigger p.trigger refl i && nat_list_eq_equiv.refl (rule_at s p) i) 1 0)
 
-pub rest_once : (xs rest : List Pending) (p : Pending) → ((y : ℕ) (r : List ℕ) → sum_by (is_for y r) xs ≤ 1) → IsPermutation xs (p ∷ rest) → (y : ℕ) (r : List ℕ) → sum_by (is_for y r) rest ≤ 1
-rest_once xs rest p once popped y r = omega (arith, once y r, sum_by_popped (is_for y r) p xs rest popped)
+pub rest_once : (s : Standing) (xs rest : List Pending) (p : Pending) → ((y : ℕ) (r : List ℕ) → sum_by (is_for s y r) xs ≤ 1) → IsPermutation xs (p ∷ rest) → (y : ℕ) (r : List ℕ) → sum_by (is_for s y r) rest ≤ 1
+rest_once s xs rest p once popped y r = omega (arith, once y r, sum_by_popped (is_for s y r) p xs rest popped)
 
 -- names that are distinct stand once
 not_named : (xs : List (List ℕ)) (r : List ℕ) → (In r xs → ⊥) → sum_by (is_name r) xs ≡ 0
@@ -191,9 +193,9 @@ names_once (n ∷ names) d r = by (same_name n r) refl (names_once names d.1 r)
 
 -- with the rules of a node that no entry was for, each decision waits once still
 pub queued_once : (s : Standing) (f : Forest) (x : ℕ) (names : List (List ℕ)) (old new : List Pending) → Queues s f x names old new → Distinct names
-    → ((y : ℕ) (r : List ℕ) → sum_by (is_for y r) old ≤ 1) → ((p : Pending) → In p old → p.trigger ≡ x → ⊥) → (y : ℕ) (r : List ℕ) → sum_by (is_for y r) new ≤ 1
+    → ((y : ℕ) (r : List ℕ) → sum_by (is_for s y r) old ≤ 1) → ((p : Pending) → In p old → p.trigger ≡ x → ⊥) → (y : ℕ) (r : List ℕ) → sum_by (is_for s y r) new ≤ 1
 queued_once s f x names old new q distinct once none y r = by (x == y) refl (q.once y r)
   where
-    by : (b : Bool) → (x == y) ≡ b → sum_by (is_for y r) new ≤ sum_by (is_for y r) old + cond b (sum_by (is_name r) names) 0 → sum_by (is_for y r) new ≤ 1
-    by true e h = omega (arith, names_once names distinct r, not_for old y (λ p at is. none p at (is ∙ sym (eqb-true x y e))) r, h)
+    by : (b : Bool) → (x == y) ≡ b → sum_by (is_for s y r) new ≤ sum_by (is_for s y r) old + cond b (sum_by (is_name r) names) 0 → sum_by (is_for s y r) new ≤ 1
+    by true e h = omega (arith, names_once names distinct r, not_for s old y (λ p at is. none p at (is ∙ sym (eqb-true x y e))) r, h)
     by false e h = omega (arith, once y r, h)

@@ -1,26 +1,18 @@
 -- The standing rules by the kind that triggers them.
-use Rattle.std.specs.Prelude.{◌≡◌, ℕ, false, List, [], ◌∷◌, ◌++◌}
-use Rattle.std.specs.List.{filter_map}
-use Rattle.std.specs.Option.{option_map_or}
-use Rattle.std.specs.Map.{lookup}
+use Rattle.std.specs.Prelude.{◌≡◌, ℕ, List, [], ◌∷◌, ◌++◌, map}
+use Rattle.std.specs.List.{All, filter_map}
 use Rattle.tmm_model.specs.declared.premise.Premise.{Premise}
 use Rattle.tmm_model.specs.Beliefs.{on_kind, rules_on}
-use Rattle.tmm_model.specs.Points.{same_name}
 use Rattle.tmm_model.specs.Standing.{Standing}
+use Rattle.name_lists.specs.Lists.{list_of}
 use Rattle.projection.specs.declared.kinds.RulesByKind.{RulesByKind}
+use Rattle.projection.specs.Places.{name_at, IsRuleAt}
 
--- the names under a kind
-abbrev pub names_on : RulesByKind → List ℕ → List (List ℕ)
-names_on m kind = option_map_or (λ v. v.items) (lookup (same_name kind) m.rules.entries) []
+-- where the premise is a rule, its place stands behind the others of its kind, and all else stays
+abbrev pub AddsPremise : RulesByKind → RulesByKind → Premise → ℕ → Type 0
+AddsPremise old new premise place = (kind : List ℕ) → list_of new.rules kind ≡ list_of old.rules kind ++ map (λ name. place) (filter_map (on_kind kind) (premise ∷ []))
 
--- under its kind stands the rule behind the others, and all else stays
-abbrev pub AddsName : RulesByKind → RulesByKind → List ℕ → List ℕ → Type 0
-AddsName old new kind rule = (names_on new kind ≡ names_on old kind ++ rule ∷ []) × ((other : List ℕ) → same_name other kind ≡ false → names_on new other ≡ names_on old other)
-
--- where the premise is a rule, it stands under its kind
-abbrev pub AddsPremise : RulesByKind → RulesByKind → Premise → Type 0
-AddsPremise old new premise = (kind : List ℕ) → names_on new kind ≡ names_on old kind ++ filter_map (on_kind kind) (premise ∷ [])
-
--- under each kind stand the standing rules on it
-abbrev pub AreRules : Standing → RulesByKind → Type 0
-AreRules s m = (kind : List ℕ) → names_on m kind ≡ rules_on s kind
+-- under each kind stand the places of the standing rules on it
+pub record AreRules (s : Standing) (m : RulesByKind) : Type 0 where
+  pub named : (kind : List ℕ) → map (name_at s) (list_of m.rules kind) ≡ rules_on s kind
+  pub places : (kind : List ℕ) → All (IsRuleAt s) (list_of m.rules kind)

@@ -1,5 +1,6 @@
 pub mod Decisions
 pub mod Growing
+pub mod Places
 pub mod Kinds
 pub mod Counted
 pub mod Queues

@@ -19,18 +19,20 @@ use Rattle.spots.specs.Seen.{IsSeen, Holds}
 use Rattle.projection.specs.declared.growth.Growing.{Growing}
 use Rattle.projection.specs.declared.pending.Pending.{Pending}
 use Rattle.projection.specs.Counted.{due_rules}
+use Rattle.projection.specs.Places.{IsRuleAt, rule_at}
 use Rattle.projection.specs.Queues.{is_for}
 
 -- the entry is of a standing rule at an event, with the date at which its effect begins
 pub record IsEntry (s : Standing) (f : Forest) (p : Pending) : Type 0 where
   pub live : IsLive f p.trigger
-  pub stands : Contains (rules_at s (moment_at f p.trigger)) p.rule
-  pub date : due s (far_in s.premises) (moment_at f p.trigger) p.rule ≡ pos p.due.0
+  pub place : IsRuleAt s p.rule
+  pub stands : Contains (rules_at s (moment_at f p.trigger)) (rule_at s p)
+  pub date : due s (far_in s.premises) (moment_at f p.trigger) (rule_at s p) ≡ pos p.due.0
   pub in_time : p.due.0 ≤ s.horizon
 
 -- the rule at the event waits
-abbrev pub Pends : Forest → List Pending → Moment → List ℕ → Type 0
-Pends f queue t r = (p : Pending) × In p queue × (moment_at f p.trigger ≡ t) × (p.rule ≡ r)
+abbrev pub Pends : Standing → Forest → List Pending → Moment → List ℕ → Type 0
+Pends s f queue t r = (p : Pending) × In p queue × (moment_at f p.trigger ≡ t) × (rule_at s p ≡ r)
 
 -- the occurrences b have entered, each once, and the rules that wait are undecided
 pub record IsGrown (s : Standing) (net : Net) (b : List Moment) (f : Forest) (queue : List Pending) (size : ℕ) : Type 0 where
@@ -40,13 +42,13 @@ pub record IsGrown (s : Standing) (net : Net) (b : List Moment) (f : Forest) (qu
   pub sized : size ≡ sum_by (weight (built s)) b
   pub small : size ≤ most_size
   pub entries : (p : Pending) → In p queue → IsEntry s f p
-  pub once : (x : ℕ) (r : List ℕ) → sum_by (is_for x r) queue ≤ 1
-  pub undecided : (p : Pending) → In p queue → In (After (moment_at f p.trigger) p.rule) b → ⊥
+  pub once : (x : ℕ) (r : List ℕ) → sum_by (is_for s x r) queue ≤ 1
+  pub undecided : (p : Pending) → In p queue → In (After (moment_at f p.trigger) (rule_at s p)) b → ⊥
 
 -- what these premises declare has entered, and all rules on it that are due by the horizon wait, each once
 pub record IsStarted (s : Standing) (net : Net) (front : List Premise) (f : Forest) (queue : List Pending) (size : ℕ) : Type 0 where
   pub grown : IsGrown s net (filter_map root_of front) f queue size
-  pub queued : (t : Moment) (r : List ℕ) → In t (filter_map root_of front) → Contains (rules_at s t) r → due s (far_in s.premises) t r ≤ℤ pos s.horizon → Pends f queue t r
+  pub queued : (t : Moment) (r : List ℕ) → In t (filter_map root_of front) → Contains (rules_at s t) r → due s (far_in s.premises) t r ≤ℤ pos s.horizon → Pends s f queue t r
   pub waiting : length queue ≡ sum_by (due_rules s) (filter_map root_of front)
 
 -- all that is due before what waits is decided, up to some date; so many decisions have been made
@@ -55,7 +57,7 @@ pub record IsGrowing (s : Standing) (net : Net) (f : Forest) (queue : List Pendi
   pub date : ℕ
   pub sound : IsSound s
   pub grown : IsGrown s net entered f queue size
-  pub settling : Settling s (far_in s.premises) (sound_timed s sound) s.horizon date entered (Pends f queue)
+  pub settling : Settling s (far_in s.premises) (sound_timed s sound) s.horizon date entered (Pends s f queue)
   pub each : made + length queue ≡ sum_by (due_rules s) entered
 
 -- of what waits, this is due first, and the rest goes on waiting
@@ -75,7 +77,7 @@ Settles s net old p new = (made : ℕ) → IsGrowingWith s net old.tree p old.qu
 
 -- among the occurrences that the nodes are, each antecedent of the rule that waits has a supporter
 abbrev pub FiresAmong : Standing → Forest → Pending → Type 0
-FiresAmong s f p = (b : List Moment) → Holds b f → IsTrue (is_free s (far_in s.premises) b (moment_at f p.trigger) p.rule)
+FiresAmong s f p = (b : List Moment) → Holds b f → IsTrue (is_free s (far_in s.premises) b (moment_at f p.trigger) (rule_at s p))
 
 -- how much there is left to do at most
 abbrev pub left : List Pending → ℕ → ℕ

@@ -1,22 +1,23 @@
 // What becomes of a rule at an event.
 ghost use Rattle.std.specs.Prelude.{◌≡◌, ◌≤◌, min, ◌+◌, List, length, IsSome};
 ghost use Rattle.std.specs.List.{All, Contains};
-ghost use Rattle.tmm_model.specs.Beliefs.{outcome, rules_at, tried, holder};
+ghost use Rattle.tmm_model.specs.Beliefs.{outcome, rules_at, tried, holder, is_free};
 ghost use Rattle.tmm_model.specs.Moments.{Moment};
 ghost use Rattle.tmm_model.specs.Sorts.{class_in};
 ghost use Rattle.tmm_model.specs.Standing.{far_in};
 ghost use Rattle.spots.specs.Forest.{IsLive, moment_at};
 ghost use Rattle.spots.specs.Seen.{IsSeen, Holds};
 ghost use Rattle.projection.specs.Decisions.{outcome_at, AreLive, tried_at};
+ghost use Rattle.projection.specs.Places.{name_at, IsRuleAt};
 
-use crate::rule::due_by;
+use crate::rule::{due_by, text_at};
 use arrayvec::ArrayVec;
 use dist_net::DistNet;
 use occ_tree::Tree;
 use premise_list::Standing;
 use spots::Spot;
 use std::marker::Model;
-use supports::{rule_text, supporter};
+use supports::{is_supported, rule_text, supporter};
 use tmm_model::Name;
 
 /// What becomes of a rule at an event.
@@ -59,7 +60,8 @@ impl Counter {
         self.count
     }
 
-    fn raise(&mut self)
+    // Counts one decision more.
+    pub(crate) fn raise(&mut self)
         ensures counted { self.new ≡ min (self.old + 1) 18446744073709551615 }
         ensures kept { self.old ≤ self.new }
     {
@@ -118,4 +120,29 @@ fn try_given(
         }
     }
     Decision::Fires { supports }
+}
+
+// Whether the rule at this place of the list fires on the event at the node `trigger`, where its effect is
+// due: each of its antecedents has a supporter there, whichever that is.
+pub(crate) fn is_free(
+    tree: &Tree,
+    net: &DistNet,
+    standing: &Standing,
+    trigger: u32,
+    place: u32,
+) -> bool
+    requires seen { IsSeen standing.now.present net.now.present tree.now }
+    requires trigger { IsLive tree.now trigger }
+    requires place { IsRuleAt standing.now.present place }
+    requires rule { Contains (rules_at standing.now.present (moment_at tree.now trigger)) (name_at standing.now.present place) }
+    ensures { (b : List Moment) → Holds b tree.now → result ≡ is_free standing.now.present (far_in standing.now.present.premises) b (moment_at tree.now trigger) (name_at standing.now.present place) }
+{
+    let at = Spot::Node(trigger);
+    let given = text_at(standing, place).given;
+    for fact in given {
+        if !is_supported(standing, tree, net, *fact, at, at) {
+            return false;
+        }
+    }
+    true
 }

@@ -1,5 +1,6 @@
 // What is believed, decision by decision in the order of their dates.
-ghost use Rattle.std.specs.Prelude.{◌≡◌, ℕ, ◌+◌, ◌<◌, ◌≤◌, min, length, take, IfOk, IfErr, OnOk};
+ghost use Rattle.std.specs.Prelude.{◌≡◌, ℕ, ◌+◌, ◌<◌, ◌≤◌, min, length, take, map, IfOk, IfErr, OnOk};
+ghost use Rattle.std.specs.List.{All};
 ghost use Rattle.tmm_model.specs.Answers.{size, most_size};
 ghost use Rattle.tmm_model.specs.Beliefs.{rules_at};
 ghost use Rattle.tmm_model.specs.Maps.{built};
@@ -8,24 +9,23 @@ ghost use Rattle.dist_net.specs.Net.{Net};
 ghost use Rattle.list_net.specs.Fits.{IsNetOf};
 ghost use Rattle.spots.specs.Forest.{IsLive, moment_at};
 ghost use Rattle.spots.specs.Seen.{IsSeen, Holds};
-ghost use Rattle.supports.specs.Rules.{IsRuleOf};
 ghost use Rattle.projection.specs.Counted.{decisions_due};
 ghost use Rattle.projection.specs.Growing.{Adds, effect_shape, MayEnter};
 ghost use Rattle.projection.specs.Kinds.{AreRules};
+ghost use Rattle.projection.specs.Places.{name_at, IsRuleAt};
 ghost use Rattle.projection.specs.Projecting.{IsStarted, IsGrowingWith, Settles, FiresAmong, left};
 ghost use Rattle.projection.specs.Queues.{Queues, weight_at, IsTooLarge};
 
-use crate::decision::{Counter, Decision, decide};
+use crate::decision::{Counter, is_free};
 use crate::kinds::RulesByKind;
 use crate::pending::{Pending, Queue};
 use crate::root::add_root;
-use crate::rule::due_by;
+use crate::rule::{due_by, text_at};
 use dist_net::DistNet;
 use occ_tree::Tree;
 use premise_list::Standing;
 use std::alloc::Global;
 use std::cmp::Reverse;
-use supports::rule_text;
 use tmm_model::{Name, NoMemory, Premise, Refusal, Shape, Stop};
 
 /// The most that the occurrences of a map with their rules may count.
@@ -50,53 +50,63 @@ fn effect_shape(class: &Option<Name>) -> Shape
     }
 }
 
-// Adds what the rule brings about at the event of a node, and answers its number.
+// Adds what the rule at this place of the list brings about at the event of a node, and answers its number.
 fn add_effect(
     alloc: Global,
     standing: &Standing,
     tree: &mut Tree,
     trigger: u32,
-    rule: Name,
+    place: u32,
 ) -> Result<u32, NoMemory>
     requires seen { (net : Net) × IsSeen standing.now.present net tree.old }
     requires trigger { IsLive tree.old trigger }
-    requires rule { IsRuleOf standing.now.present rule }
-    requires enters { MayEnter standing.now.present tree.old trigger rule }
-    ensures { IfOk result (λ x. (net : Net) → IsSeen standing.now.present net tree.old → Adds standing.now.present net.names tree.old tree.new x (After (moment_at tree.old trigger) rule)) }
+    requires place { IsRuleAt standing.now.present place }
+    requires enters { MayEnter standing.now.present tree.old trigger (name_at standing.now.present place) }
+    ensures { IfOk result (λ x. (net : Net) → IsSeen standing.now.present net tree.old → Adds standing.now.present net.names tree.old tree.new x (After (moment_at tree.old trigger) (name_at standing.now.present place))) }
 {
-    let Some(Premise::Rule { lo, hi, effect, .. }) = standing.get(rule) else {
+    // It tells the proof that names are distinct.
+    let _ = standing.len();
+    let Some(
+        Premise::Rule {
+            name,
+            lo,
+            hi,
+            effect,
+            ..
+        },
+    ) = standing.at(place as usize)
+    else {
         unreachable!()
     };
     let class = standing.class_of(*effect);
     let shape = effect_shape(&class);
-    tree.insert_child(alloc, trigger, rule, *lo, *hi, *effect, class, shape)
+    tree.insert_child(alloc, trigger, *name, *lo, *hi, *effect, class, shape)
 }
 
-// Lets the rules at a node wait for their dates.
+// Lets the rules at a node wait for their dates; these are their places in the list.
 fn wait_for(
     tree: &Tree,
     net: &DistNet,
     standing: &Standing,
-    rules: &[Name],
+    places: &[u32],
     queue: &mut Queue,
     x: u32,
 ) -> Result<(), NoMemory>
     requires seen { IsSeen standing.now.present net.now.present tree.now }
     requires live { IsLive tree.now x }
-    requires rules { rules.now ≡ rules_at standing.now.present (moment_at tree.now x) }
-    requires few { length rules.now ≤ 2000 }
-    ensures { OnOk result (Queues standing.now.present tree.now x rules.now queue.old queue.new) }
+    requires rules { map (name_at standing.now.present) places.now ≡ rules_at standing.now.present (moment_at tree.now x) }
+    requires places { All (IsRuleAt standing.now.present) places.now }
+    ensures { OnOk result (Queues standing.now.present tree.now x (rules_at standing.now.present (moment_at tree.now x)) queue.old queue.new) }
 {
     let horizon = standing.horizon();
     let early = tree.early(net, x);
-    for (turn, rule) in rules.iter().enumerate() {
-        let text = rule_text(standing, *rule);
+    for place in places {
+        let text = text_at(standing, *place);
         if let Some(due) = due_by(horizon, early, text.lo) {
             queue.push(Pending {
                 due: Reverse(due),
                 trigger: x,
-                turn: turn as u32,
-                rule: *rule,
+                rule: *place,
             })?;
         }
     }
@@ -129,14 +139,14 @@ fn count_in(
     ensures queued { OnOk result (Queues standing.now.present growing.old.tree x (rules_at standing.now.present (moment_at growing.old.tree x)) growing.old.queue growing.new.queue) }
     ensures stops { IfErr result (IsTooLarge (growing.old.size + weight_at standing.now.present growing.old.tree x)) }
 {
-    let names = rules.at(standing, &growing.tree, x);
+    let places = rules.at(standing, &growing.tree, x);
     let row = growing.tree.row(x);
-    let size = growing.size + (1 + u64::from(row.rules) + names.len() as u64);
+    let size = growing.size + (1 + u64::from(row.rules) + places.len() as u64);
     if size > MOST_SIZE {
         return Err(Stop::Refused(Refusal::LimitSize));
     }
     growing.size = size;
-    match wait_for(&growing.tree, net, standing, names, &mut growing.queue, x) {
+    match wait_for(&growing.tree, net, standing, places, &mut growing.queue, x) {
         Ok(()) => Ok(()),
         Err(_) => Err(Stop::NoMemory),
     }
@@ -186,17 +196,11 @@ fn settle(
     ensures counted { counter.new ≡ min (counter.old + 1) 18446744073709551615 }
     ensures kept { counter.old ≤ counter.new }
 {
-    let decision = decide(
-        &growing.tree,
-        net,
-        standing,
-        pending.trigger,
-        pending.rule,
-        counter,
-    );
-    match decision {
-        Decision::Fires { .. } => bring_about(alloc, standing, net, rules, growing, pending),
-        _ => Ok(()),
+    counter.raise();
+    if is_free(&growing.tree, net, standing, pending.trigger, pending.rule) {
+        bring_about(alloc, standing, net, rules, growing, pending)
+    } else {
+        Ok(())
     }
 }
 

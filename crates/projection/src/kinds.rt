@@ -1,21 +1,23 @@
 // The standing rules by the kind that triggers them.
-ghost use Rattle.std.specs.Prelude.{◌≡◌, ◌≤◌, length, IfOk, OnOk};
+ghost use Rattle.std.specs.Prelude.{◌≡◌, ◌≤◌, length, map, IfOk, OnOk};
+ghost use Rattle.std.specs.List.{All};
 ghost use Rattle.tmm_model.specs.Beliefs.{rules_at};
 ghost use Rattle.spots.specs.Forest.{IsLive, moment_at};
 ghost use Rattle.spots.specs.Seen.{IsSeen};
 ghost use Rattle.dist_net.specs.Net.{Net};
-ghost use Rattle.projection.specs.Kinds.{AreRules, AddsName, AddsPremise, names_on};
+ghost use Rattle.projection.specs.Kinds.{AreRules, AddsPremise};
+ghost use Rattle.projection.specs.Places.{name_at, IsRuleAt};
 
-use indexmap::IndexMap;
+use name_lists::NameLists;
 use occ_tree::Tree;
 use premise_list::Standing;
 use std::alloc::Global;
-use tmm_model::{Name, NoMemory, Premise, Shape};
+use tmm_model::{NoMemory, Premise, Shape};
 
-/// The names of the rules on each kind, in the order of the list.
+/// The places of the rules on each kind in the standing list, in its order.
 #[derive(Drop)]
 pub(crate) struct RulesByKind {
-    rules: IndexMap<Name, Vec<Name>>,
+    rules: NameLists<u32>,
 }
 
 impl RulesByKind {
@@ -24,63 +26,39 @@ impl RulesByKind {
         ensures { IfOk result (AreRules standing.now.present) }
     {
         let mut rules = RulesByKind {
-            rules: IndexMap::new(alloc),
+            rules: NameLists::make(alloc),
         };
         for place in 0..standing.len() {
             if let Some(premise) = standing.at(place) {
-                rules.add(alloc, premise)?;
+                rules.add(alloc, premise, place as u32)?;
             }
         }
         Ok(rules)
     }
 
-    // Adds the premise where it is a rule.
-    fn add(&mut self, alloc: Global, premise: &Premise) -> Result<(), NoMemory>
-        ensures { OnOk result (AddsPremise self.old self.new premise.now) }
+    // Adds the place of the premise where that is a rule.
+    fn add(&mut self, alloc: Global, premise: &Premise, place: u32) -> Result<(), NoMemory>
+        ensures { OnOk result (AddsPremise self.old self.new premise.now place) }
     {
         match premise {
-            Premise::Rule { name, trigger, .. } => self.push(alloc, *trigger, *name),
+            Premise::Rule { trigger, .. } => self.rules.push(alloc, *trigger, place),
             _ => Ok(()),
         }
     }
 
-    fn push(&mut self, alloc: Global, kind: Name, rule: Name) -> Result<(), NoMemory>
-        ensures { OnOk result (AddsName self.old self.new kind rule) }
-    {
-        if let Some(names) = self.rules.get_mut(&kind) {
-            return match names.push(rule) {
-                Ok(()) => Ok(()),
-                Err(_) => Err(NoMemory),
-            };
-        }
-        let names = Vec::from_slice(alloc, &[rule])?;
-        match self.rules.insert(kind, names) {
-            Ok(_) => Ok(()),
-            Err(_) => Err(NoMemory),
-        }
-    }
-
-    fn on(&self, kind: Name) -> &[Name]
-        ensures { result.now ≡ names_on self.now kind }
-    {
-        match self.rules.get(&kind) {
-            Some(names) => names.as_slice(),
-            None => &[],
-        }
-    }
-
-    /// The rules on the kind of the event at a node, none where it is no event.
-    pub fn at(&self, standing: &Standing, tree: &Tree, x: u32) -> &[Name]
+    /// The places of the rules on the kind of the event at a node, none where it is no event.
+    pub fn at(&self, standing: &Standing, tree: &Tree, x: u32) -> &[u32]
         requires rules { AreRules standing.now.present self.now }
         requires members { (net : Net) × IsSeen standing.now.present net tree.now }
         requires live { IsLive tree.now x }
-        ensures value { result.now ≡ rules_at standing.now.present (moment_at tree.now x) }
+        ensures value { map (name_at standing.now.present) result.now ≡ rules_at standing.now.present (moment_at tree.now x) }
+        ensures places { All (IsRuleAt standing.now.present) result.now }
         ensures few { length result.now ≤ 2000 }
     {
         let _ = standing.len();
         let row = tree.row(x);
         match row.shape {
-            Shape::Event => self.on(row.what),
+            Shape::Event => self.rules.of(&row.what),
             _ => &[],
         }
     }

@@ -7,7 +7,7 @@ use std::alloc::Global;
 use std::cmp::Reverse;
 use std::collections::BinaryHeap;
 use std::marker::Model;
-use tmm_model::{Name, NoMemory};
+use tmm_model::NoMemory;
 
 /// A rule at the event of a node, to be decided at the date at which its effect would begin.
 #[derive(Clone, Copy, PartialEq, Eq, PartialOrd, Ord)]
@@ -16,10 +16,8 @@ pub(crate) struct Pending {
     pub due: Reverse<u32>,
     /// The node of the event.
     pub trigger: u32,
-    /// Which of the rules at its event it is, from 0; so names are not compared.
-    pub turn: u32,
-    /// The name of the rule.
-    pub rule: Name,
+    /// The place of the rule in the standing list.
+    pub rule: u32,
 }
 
 /// Decisions, of which those come first that are due first.

@@ -1,6 +1,30 @@
-// When the effect of a rule begins.
-ghost use Rattle.std.specs.Prelude.{pos, ◌+ℤ◌, ◌≤ℤ◌};
+// What a standing rule says, and when its effect begins.
+ghost use Rattle.std.specs.Prelude.{◌≡◌, ◌≤◌, length, pos, ◌+ℤ◌, ◌≤ℤ◌};
+ghost use Rattle.tmm_model.specs.Moments.{rule_of};
 ghost use Rattle.projection.specs.Decisions.{IsDueBy};
+ghost use Rattle.projection.specs.Places.{name_at, IsRuleAt};
+
+use premise_list::Standing;
+use supports::RuleText;
+use tmm_model::Premise;
+
+// What the rule at this place of the standing list says. Its name is not looked up.
+pub(crate) fn text_at(standing: &Standing, place: u32) -> RuleText<'_>
+    requires { IsRuleAt standing.now.present place }
+    ensures lo { result.lo ≡ (rule_of standing.now.present (name_at standing.now.present place)).lo }
+    ensures given { result.given.now ≡ (rule_of standing.now.present (name_at standing.now.present place)).given }
+    ensures few { length result.given.now ≤ 4 }
+{
+    // It tells the proof that names are distinct.
+    let _ = standing.len();
+    match standing.at(place as usize) {
+        Some(Premise::Rule { lo, given, .. }) => RuleText {
+            lo: *lo,
+            given: given.as_slice(),
+        },
+        _ => unreachable!(),
+    }
+}
 
 // The date at which the effect of a rule with this least delay begins, on an event of this earliest
 // date; none where that is after the horizon.

@@ -1,6 +1,6 @@
 use Rattle.std.proofs.Common.{◌≡◌, ◌∙◌, sym, ap, subst, rules, w64, to_z, of_z}
 use Rattle.std.proofs.lemmas.Int.{to_z-of_z}
-use Rattle.std.specs.Prelude.{Some, Result, Ok, Err, IfOk, pos, ◌≤ℤ◌, FitsSigned}
+use Rattle.std.specs.Prelude.{Some, slice_get, Result, Ok, Err, IfOk, pos, ◌≤ℤ◌, FitsSigned}
 use Rattle.tmm_model.specs.declared.bound.Bound.TheVariants.{Finite}
 use Rattle.tmm_model.specs.declared.premise.Premise.TheVariants.{Rule}
 use Rattle.tmm_model.specs.Lines.{IsNumber, IsBound, IsRange}
@@ -8,10 +8,12 @@ use Rattle.tmm_model.specs.Moments.{After}
 use Rattle.tmm_model.specs.Sorts.{class_in}
 use Rattle.tmm_model.specs.WellNamed.{premise_in}
 use Rattle.dist_net.specs.Net.{Net}
-use Rattle.spots.specs.Forest.{Member, member, Enters, child_member, moment_at}
+use Rattle.spots.specs.Forest.{Member, member, Enters, child_member, moment_at, IsTrigger}
 use Rattle.spots.specs.Seen.{IsSeen}
 use Rattle.spots.proofs.Nodes.{node_at}
 use Rattle.projection.specs.Growing.{Adds, effect_shape}
+use Rattle.projection.specs.Places.{name_at}
+use Rattle.projection.proofs.AtPlaces.{named_at, found_at}
 use Rattle.projection.proofs.Effects.{is_trigger, delay_is, effect_adds}
 use Rattle.projection.proofs.growth.add_effect.Goals as goal
 
@@ -25,30 +27,37 @@ returns c =
     let f = c.args.tree.now in
     let new = c.insert_child.new.self in
     let t = c.args.trigger in
-    let r = c.args.rule in
+    let r = name_at s c.args.place in
     let lo = c.in-Some-Rule.lo in
     let hi = c.in-Some-Rule.hi in
     let effect = c.in-Some-Rule.effect in
     let class = c.class_of-class.result in
     let shape = c.effect_shape-shape.result in
     let fits : FitsSigned w64 c.in-Some-Rule.lo = search rules in
-    let there : premise_in s.premises r ≡ Some (Rule c.in-Some-Rule.field-0-0 c.in-Some-Rule.field-0-1 lo hi effect c.in-Some-Rule.field-0-5) = sym c.in-Some-Rule.ensures ∙ ap Some c.in-Some-Rule.field-0-is in
+    let name = c.in-Some-Rule.name in
+    let rule = Rule name c.in-Some-Rule.field-0-1 lo hi effect c.in-Some-Rule.field-0-5 in
+    let at_place : slice_get s.premises c.args.place ≡ Some rule = sym c.in-Some-Rule.ensures ∙ ap Some c.in-Some-Rule.field-0-is in
+    let there : premise_in s.premises r ≡ Some rule = found_at s c.len.ensures.well_named c.args.place rule at_place in
+    let named : name ≡ r = sym (named_at s c.args.place rule at_place) in
     let (m, at) = node_at f t c.requires.trigger in
     let same_shape : shape ≡ effect_shape (class_in s.premises effect) = c.effect_shape-shape.ensures ∙ ap effect_shape c.class_of-class.ensures in
-    ok_kept (λ x. (n : Member) → member f t ≡ Some n → Enters f new x (child_member n (record { rule = r; lo = to_z w64 (of_z w64 lo); hi = hi }) effect class shape))
+    ok_kept (λ x. (n : Member) → member f t ≡ Some n → Enters f new x (child_member n (record { rule = name; lo = to_z w64 (of_z w64 lo); hi = hi }) effect class shape))
     (λ x. (net : Net) → IsSeen s net f → Adds s net.names f new x (After (moment_at f t) r)) c.insert_child.result
-    (λ x enters net seen. effect_adds s net f seen t m at r c.requires.enters c.in-Some-Rule.field-0-0 c.in-Some-Rule.field-0-1 lo hi effect c.in-Some-Rule.field-0-5 there new x
+    (λ x enters net seen. effect_adds s net f seen t m at r c.requires.enters name c.in-Some-Rule.field-0-1 lo hi effect c.in-Some-Rule.field-0-5 there new x
     (subst (λ z. Enters f new x (child_member m (record { rule = r; lo = z; hi = hi }) effect (class_in s.premises effect) (effect_shape (class_in s.premises effect)))) (to_z-of_z w64 lo fits)
     (subst (λ o. Enters f new x (child_member m (record { rule = r; lo = to_z w64 (of_z w64 lo); hi = hi }) effect o (effect_shape (class_in s.premises effect)))) c.class_of-class.ensures
-    (subst (λ k. Enters f new x (child_member m (record { rule = r; lo = to_z w64 (of_z w64 lo); hi = hi }) effect class k)) same_shape (enters m at)))))
+    (subst (λ k. Enters f new x (child_member m (record { rule = r; lo = to_z w64 (of_z w64 lo); hi = hi }) effect class k)) same_shape
+    (subst (λ n. Enters f new x (child_member m (record { rule = n; lo = to_z w64 (of_z w64 lo); hi = hi }) effect class shape)) named (enters m at))))))
     c.insert_child.ensures.ok
 
 pub insert_child-requires-clause-trigger : goal.insert_child-requires-clause-trigger
 insert_child-requires-clause-trigger c =
     let s = c.args.standing.now.present in
     let f = c.args.tree.now in
+    let rule = Rule c.in-Some-Rule.name c.in-Some-Rule.field-0-1 c.in-Some-Rule.lo c.in-Some-Rule.hi c.in-Some-Rule.effect c.in-Some-Rule.field-0-5 in
+    let at_place : slice_get s.premises c.args.place ≡ Some rule = sym c.in-Some-Rule.ensures ∙ ap Some c.in-Some-Rule.field-0-is in
     let (m, at) = node_at f c.args.trigger c.requires.trigger in
-    (m, at, is_trigger s c.requires.seen.0 f c.requires.seen.1 c.args.trigger m at c.args.rule c.requires.enters)
+    (m, at, subst (IsTrigger f m) (named_at s c.args.place rule at_place) (is_trigger s c.requires.seen.0 f c.requires.seen.1 c.args.trigger m at (name_at s c.args.place) c.requires.enters))
 
 pub insert_child-requires-clause-delay : goal.insert_child-requires-clause-delay
 insert_child-requires-clause-delay c =
@@ -56,8 +65,9 @@ insert_child-requires-clause-delay c =
     let f = c.args.tree.now in
     let lo = c.in-Some-Rule.lo in
     let fits : FitsSigned w64 c.in-Some-Rule.lo = search rules in
-    let there : premise_in s.premises c.args.rule ≡ Some (Rule c.in-Some-Rule.field-0-0 c.in-Some-Rule.field-0-1 lo c.in-Some-Rule.hi c.in-Some-Rule.effect c.in-Some-Rule.field-0-5) =
-    sym c.in-Some-Rule.ensures ∙ ap Some c.in-Some-Rule.field-0-is in
+    let rule = Rule c.in-Some-Rule.name c.in-Some-Rule.field-0-1 lo c.in-Some-Rule.hi c.in-Some-Rule.effect c.in-Some-Rule.field-0-5 in
+    let at_place : slice_get s.premises c.args.place ≡ Some rule = sym c.in-Some-Rule.ensures ∙ ap Some c.in-Some-Rule.field-0-is in
+    let there = found_at s c.len.ensures.well_named c.args.place rule at_place in
     let (m, at) = node_at f c.args.trigger c.requires.trigger in
     subst (λ z. IsNumber z × IsBound c.in-Some-Rule.hi × (pos 1 ≤ℤ z) × IsRange (Finite z) c.in-Some-Rule.hi) (sym (to_z-of_z w64 lo fits))
-    (delay_is s c.requires.seen.0 f c.requires.seen.1 c.args.trigger m at c.args.rule c.requires.enters c.in-Some-Rule.field-0-0 c.in-Some-Rule.field-0-1 lo c.in-Some-Rule.hi c.in-Some-Rule.effect c.in-Some-Rule.field-0-5 there)
+    (delay_is s c.requires.seen.0 f c.requires.seen.1 c.args.trigger m at (name_at s c.args.place) c.requires.enters c.in-Some-Rule.name c.in-Some-Rule.field-0-1 lo c.in-Some-Rule.hi c.in-Some-Rule.effect c.in-Some-Rule.field-0-5 there)

@@ -4,6 +4,7 @@ use Rattle.tmm_model.specs.Beliefs.{rules_at}
 use Rattle.tmm_model.specs.Maps.{built}
 use Rattle.tmm_model.specs.Moments.{After}
 use Rattle.spots.specs.Forest.{moment_at}
+use Rattle.projection.specs.Places.{rule_at}
 use Rattle.projection.specs.Projecting.{IsGrowing, Settles, left}
 use Rattle.projection.specs.Queues.{Queues, weight_at, IsTooLarge}
 use Rattle.projection.proofs.Decided.{entry, may_enter, decided_fires, left_less, effect_too_large}
@@ -11,19 +12,15 @@ use Rattle.projection.proofs.Ends.{ok_four, err_kept}
 use Rattle.projection.proofs.Grown.{adds_seen}
 use Rattle.projection.proofs.Settled.{larger}
 use Rattle.projection.proofs.Steps.{new_live}
-use Rattle.supports.proofs.Rules.{rule_there}
 use Rattle.projection.proofs.growth.bring_about.Goals as goal
 
 pub add_effect-requires-clause-trigger : goal.add_effect-requires-clause-trigger
 add_effect-requires-clause-trigger c =
     (entry c.args.standing.now.present c.args.net.now.present c.args.growing.now.tree c.requires.before.1.queue c.args.growing.now.size c.requires.before.1.growing c.args.pending.now c.args.growing.now.queue c.requires.before.1.next).live
 
-pub add_effect-requires-clause-rule : goal.add_effect-requires-clause-rule
-add_effect-requires-clause-rule c =
-    let s = c.args.standing.now.present in
-    let f = c.args.growing.now.tree in
-    let e = entry s c.args.net.now.present f c.requires.before.1.queue c.args.growing.now.size c.requires.before.1.growing c.args.pending.now c.args.growing.now.queue c.requires.before.1.next in
-    rule_there s c.requires.before.1.growing.grown.seen.network.sound (moment_at f c.args.pending.now.trigger) c.args.pending.now.rule e.stands
+pub add_effect-requires-clause-place : goal.add_effect-requires-clause-place
+add_effect-requires-clause-place c =
+    (entry c.args.standing.now.present c.args.net.now.present c.args.growing.now.tree c.requires.before.1.queue c.args.growing.now.size c.requires.before.1.growing c.args.pending.now c.args.growing.now.queue c.requires.before.1.next).place
 
 pub add_effect-requires-clause-enters : goal.add_effect-requires-clause-enters
 add_effect-requires-clause-enters c =
@@ -36,7 +33,7 @@ count_in-requires-clause-seen c =
     let f = c.args.growing.now.tree in
     let seen = c.requires.before.1.growing.grown.seen in
     let may = may_enter s net f c.requires.before.1.queue c.args.growing.now.size c.requires.before.1.growing c.args.pending.now c.args.growing.now.queue c.requires.before.1.next in
-    adds_seen s net f c.add_effect.new.tree c.in-Ok.x (After (moment_at f c.args.pending.now.trigger) c.args.pending.now.rule) (c.in-Ok.ensures net seen) may.new seen
+    adds_seen s net f c.add_effect.new.tree c.in-Ok.x (After (moment_at f c.args.pending.now.trigger) (rule_at c.args.standing.now.present c.args.pending.now)) (c.in-Ok.ensures net seen) may.new seen
 
 pub count_in-requires-clause-live : goal.count_in-requires-clause-live
 count_in-requires-clause-live c =
@@ -44,7 +41,7 @@ count_in-requires-clause-live c =
     let net = c.args.net.now.present in
     let f = c.args.growing.now.tree in
     let seen = c.requires.before.1.growing.grown.seen in
-    new_live s net f c.add_effect.new.tree c.in-Ok.x (After (moment_at f c.args.pending.now.trigger) c.args.pending.now.rule) (c.in-Ok.ensures net seen)
+    new_live s net f c.add_effect.new.tree c.in-Ok.x (After (moment_at f c.args.pending.now.trigger) (rule_at c.args.standing.now.present c.args.pending.now)) (c.in-Ok.ensures net seen)
 
 pub returns-in-Ok : goal.returns-in-Ok
 returns-in-Ok c =

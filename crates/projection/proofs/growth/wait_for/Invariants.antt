@@ -1,6 +1,7 @@
-use Rattle.std.proofs.Common.{take}
+use Rattle.std.proofs.Common.{map, take}
+use Rattle.projection.specs.Places.{name_at}
 use Rattle.projection.specs.Queues.{Queues}
 use Rattle.projection.proofs.growth.wait_for.Given as goal
 
-abbrev pub invariant-loop-turn : goal.invariant-loop-turn
-invariant-loop-turn l = Queues l.standing.present l.tree l.x (take l.turn l.rules) l.initial.queue l.queue
+abbrev pub invariant-loop-place : goal.invariant-loop-place
+invariant-loop-place l = Queues l.standing.present l.tree l.x (map (name_at l.standing.present) (take l.place-index l.places)) l.initial.queue l.queue

@@ -1,8 +1,12 @@
-use Rattle.std.proofs.Common.{◌≡◌, ℕ, List, take}
-use Rattle.std.specs.List.{filter_map}
+use Rattle.std.proofs.Common.{◌≡◌, ℕ, List, map, take}
+use Rattle.std.specs.List.{All, filter_map}
 use Rattle.tmm_model.specs.Beliefs.{on_kind}
-use Rattle.projection.specs.Kinds.{names_on}
+use Rattle.name_lists.specs.Lists.{list_of}
+use Rattle.projection.specs.Places.{name_at, IsRuleAt}
 use Rattle.projection.proofs.kinds.RulesByKind.of.Given as goal
 
 abbrev pub invariant-loop-place : goal.invariant-loop-place
-invariant-loop-place l = (kind : List ℕ) → names_on l.rules kind ≡ filter_map (on_kind kind) (take l.place l.standing.present.premises)
+invariant-loop-place l = record {
+  named : (kind : List ℕ) → map (name_at l.standing.present) (list_of l.rules.rules kind) ≡ filter_map (on_kind kind) (take l.place l.standing.present.premises);
+  places : (kind : List ℕ) → All (IsRuleAt l.standing.present) (list_of l.rules.rules kind);
+}

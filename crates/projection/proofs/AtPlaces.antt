@@ -1,0 +1,75 @@
+-- The rules of a list, told by their places.
+use Rattle.std.proofs.Common.{◌≡◌, ◌∙◌, ℕ, ◌<◌, Bool, true, false, List, [], ◌∷◌, ◌++◌, map, length, get_or, refl, sym, ap, subst, append-nil}
+use Rattle.std.specs.Prelude.{Option, Some, None, slice_get}
+use Rattle.std.specs.List.{All, Contains, filter_map, cons_option}
+use Rattle.std.specs.Option.{option_map_or}
+use Rattle.std.proofs.lemmas.List.{get_or_default, map-append, length-map}
+use Rattle.std.proofs.lemmas.List.Elements.{All-push, filter_map-append}
+use Rattle.tmm_model.specs.declared.premise.Premise.{Premise}
+use Rattle.tmm_model.specs.declared.premise.Premise.TheVariants.{Class, Kind, Point, Event, Token, Span, Dist, Rule, Protect}
+use Rattle.tmm_model.specs.Beliefs.{on_kind}
+use Rattle.tmm_model.specs.Points.{same_name}
+use Rattle.tmm_model.specs.Standing.{Standing, name_of}
+use Rattle.tmm_model.specs.WellNamed.{IsWellNamed, premise_in}
+use Rattle.tmm_model.proofs.Elements.{In, In-from_Contains, Contains-from_In, map-In}
+use Rattle.tmm_model.proofs.KnownNames.{found}
+use Rattle.supports.specs.Rules.{IsRule}
+use Rattle.projection.specs.Places.{name_at, IsRuleAt}
+use Rattle.projection.proofs.Grown.{stands}
+
+pub named_at : (s : Standing) (place : ℕ) (p : Premise) → slice_get s.premises place ≡ Some p → name_at s place ≡ name_of p
+named_at s place p at = ap (λ o. option_map_or name_of o []) at
+
+-- the premise of the name at a place is the one at the place
+pub found_at : (s : Standing) → IsWellNamed s.premises → (place : ℕ) (p : Premise) → slice_get s.premises place ≡ Some p → premise_in s.premises (name_at s place) ≡ Some p
+found_at s named place p at = ap (premise_in s.premises) (named_at s place p at) ∙ found s.premises named p (stands s.premises place p at)
+
+-- there are as many places as names at them
+pub placed : (s : Standing) (places : List ℕ) (names : List (List ℕ)) → map (name_at s) places ≡ names → length places ≡ length names
+placed s places names is = sym (length-map places (name_at s)) ∙ ap length is
+
+-- the name at one of the places is one of theirs
+pub named_there : (s : Standing) (places : List ℕ) (names : List (List ℕ)) → map (name_at s) places ≡ names → (i : ℕ) → i < length places → Contains names (name_at s (get_or places i 0))
+named_there s places names is i below =
+    let place = get_or places i 0 in
+    let at : In place places = In-from_Contains places place (i, below, get_or_default places i place 0 below) in
+    subst (λ l. Contains l (name_at s place)) is (Contains-from_In (map (name_at s) places) (name_at s place) (map-In (name_at s) places place at))
+
+-- ---- one premise more
+
+rule_on : (kind : List ℕ) (p : Premise) (r : List ℕ) → on_kind kind p ≡ Some r → (name_of p ≡ r) × IsRule p
+rule_on kind (Rule name trigger lo hi effect given) r e = (which (same_name trigger kind) e, tt)
+  where
+    which : (b : Bool) → elim b as (λ _. Option (List ℕ)) [ true ↦ Some name | false ↦ None ] ≡ Some r → name ≡ r
+    which true e = cc
+    which false e = cc
+rule_on kind (Class name facts) r e = cc
+rule_on kind (Kind name) r e = cc
+rule_on kind (Point name) r e = cc
+rule_on kind (Event name other) r e = cc
+rule_on kind (Token name fact) r e = cc
+rule_on kind (Span name fact) r e = cc
+rule_on kind (Dist name from to lo hi) r e = cc
+rule_on kind (Protect name fact from to) r e = cc
+
+module _ (s : Standing) (kind : List ℕ) (i : ℕ) (p : Premise) (at : slice_get s.premises i ≡ Some p) where
+  own_name : map (name_at s) (map (λ name. i) (filter_map (on_kind kind) (p ∷ []))) ≡ filter_map (on_kind kind) (p ∷ [])
+  own_name = by (on_kind kind p) refl
+    where
+      by : (o : Option (List ℕ)) → on_kind kind p ≡ o → map (name_at s) (map (λ name. i) (cons_option o [])) ≡ cons_option o []
+      by None e = refl
+      by (Some r) e = ap (λ n. n ∷ []) (named_at s i p at ∙ (rule_on kind p r e).0)
+
+  pub next_named : (places : List ℕ) (front : List Premise) → map (name_at s) places ≡ filter_map (on_kind kind) front
+      → map (name_at s) (places ++ map (λ name. i) (filter_map (on_kind kind) (p ∷ []))) ≡ filter_map (on_kind kind) (front ++ p ∷ [])
+  next_named places front before =
+      map-append (name_at s) places (map (λ name. i) (filter_map (on_kind kind) (p ∷ [])))
+      ∙ (λ j. before j ++ own_name j)
+      ∙ sym (filter_map-append (on_kind kind) front (p ∷ []))
+
+  pub next_places : (places : List ℕ) → All (IsRuleAt s) places → All (IsRuleAt s) (places ++ map (λ name. i) (filter_map (on_kind kind) (p ∷ [])))
+  next_places places before = by (on_kind kind p) refl
+    where
+      by : (o : Option (List ℕ)) → on_kind kind p ≡ o → All (IsRuleAt s) (places ++ map (λ name. i) (cons_option o []))
+      by None e = subst (All (IsRuleAt s)) (sym (append-nil places)) before
+      by (Some r) e = All-push (IsRuleAt s) places i before (p, at, (rule_on kind p r e).1)

@@ -1,0 +1,23 @@
+use Rattle.std.proofs.Common.{◌≡◌, ◌∙◌, sym, ap, rules, w64}
+use Rattle.std.proofs.lemmas.Int.{to_z-of_z}
+use Rattle.std.specs.Prelude.{Some, slice_get, FitsSigned}
+use Rattle.tmm_model.specs.declared.premise.Premise.TheVariants.{Rule}
+use Rattle.tmm_model.specs.Moments.{as_rule}
+use Rattle.projection.proofs.AtPlaces.{found_at}
+use Rattle.projection.proofs.rule.text_at.Goals as goal
+
+pub returns-clause-lo : goal.returns-clause-lo
+returns-clause-lo c =
+    let s = c.args.standing.now.present in
+    let lo = c.in-Some-Rule.lo in
+    let fits : FitsSigned w64 c.in-Some-Rule.lo = search rules in
+    let rule = Rule c.in-Some-Rule.field-0-0 c.in-Some-Rule.field-0-1 lo c.in-Some-Rule.field-0-3 c.in-Some-Rule.field-0-4 c.in-Some-Rule.given in
+    let at_place : slice_get s.premises c.args.place ≡ Some rule = sym c.in-Some-Rule.ensures ∙ ap Some c.in-Some-Rule.field-0-is in
+    to_z-of_z w64 lo fits ∙ ap (λ o. (as_rule o).lo) (sym (found_at s c.len.ensures.well_named c.args.place rule at_place))
+
+pub returns-clause-given : goal.returns-clause-given
+returns-clause-given c =
+    let s = c.args.standing.now.present in
+    let rule = Rule c.in-Some-Rule.field-0-0 c.in-Some-Rule.field-0-1 c.in-Some-Rule.lo c.in-Some-Rule.field-0-3 c.in-Some-Rule.field-0-4 c.in-Some-Rule.given in
+    let at_place : slice_get s.premises c.args.place ≡ Some rule = sym c.in-Some-Rule.ensures ∙ ap Some c.in-Some-Rule.field-0-is in
+    c.as_slice.ensures.value ∙ ap (λ o. (as_rule o).given) (sym (found_at s c.len.ensures.well_named c.args.place rule at_place))
