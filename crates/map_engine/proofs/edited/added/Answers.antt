@@ -4,7 +4,8 @@ use Rattle.tmm_model.specs.WellNamed.{IsWellNamed}
 use Rattle.tmm_model.proofs.Elements.{In-left}
 use Rattle.tmm_model.proofs.Erased.{none_gone}
 use Rattle.premise_list.specs.States.{States}
-use Rattle.map_engine.proofs.NextLists.{net_of, well_formed_with}
+use Rattle.map_engine.proofs.NextLists.{well_formed_with}
+use Rattle.projection.proofs.Networks.{net_of}
 use Rattle.map_engine.proofs.edited.added.Goals as goal
 
 pub returns-clause-erased : goal.returns-clause-erased

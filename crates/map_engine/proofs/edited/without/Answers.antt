@@ -3,7 +3,8 @@ use Rattle.tmm_model.specs.Lines.{IsWellFormedPremise}
 use Rattle.tmm_model.specs.Standing.{IsConsistent}
 use Rattle.tmm_model.proofs.Erased.{gone_by_erasure}
 use Rattle.premise_list.specs.States.{States}
-use Rattle.map_engine.proofs.NextLists.{consistent, net_of, well_formed_without}
+use Rattle.map_engine.proofs.NextLists.{well_formed_without}
+use Rattle.projection.proofs.Networks.{consistent, net_of}
 use Rattle.map_engine.proofs.edited.without.Goals as goal
 
 pub returns-clause-network : goal.returns-clause-network
