@@ -24,7 +24,7 @@ slice_get_behind (x ∷ xs) ys zero i h = absurd (omega arith)
 slice_get_behind (x ∷ xs) ys (suc k) i h = slice_get_behind xs ys k i (omega arith)
 
 -- the lines of every event
-abbrev last_three : ℕ → List (List ℕ)
+abbrev pub last_three : ℕ → List (List ℕ)
 last_three j =
     spaced (codes "event" ∷ numbered (codes "e") j ∷ codes "go" ∷ [])
     ∷ spaced (codes "dist" ∷ numbered (codes "a") j ∷ codes "start" ∷ numbered (codes "e") j ∷ decimal (date_of j) ∷ decimal (date_of j) ∷ [])

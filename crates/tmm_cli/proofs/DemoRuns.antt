@@ -1,6 +1,6 @@
 -- What becomes of the lines of a generated script.
 use Rattle.std.proofs.Common.{◌≡◌, ◌∙◌, ℕ, zero, suc, ◌+◌, ◌-◌, ◌*◌, ◌≤◌, ◌||◌, ◌==◌, nat_lt, Bool, true, false, List, [], ◌∷◌, ◌++◌, length, take, Option, Some, None, refl, sym, ap, subst, cond, arith}
-use Rattle.std.specs.Prelude.{codes, decimal, IsTrue, nat_le}
+use Rattle.std.specs.Prelude.{codes, IsTrue, nat_le}
 use Rattle.std.specs.List.{count_by, list_any, onto_first, slice_get}
 use Rattle.std.proofs.lemmas.Bool.{lt-ltb}
 use Rattle.std.proofs.lemmas.List.{length-append, take_more}
@@ -9,12 +9,13 @@ use Rattle.std.proofs.lemmas.Option.{get_or_from_slice_get, slice_get_within}
 use Rattle.tmm_model.specs.declared.line.Line.TheVariants.{Silent as Blank}
 use Rattle.tmm_model.specs.declared.turn.Turn.{Turn}
 use Rattle.tmm_model.specs.declared.turn.Turn.TheVariants.{Silent, Reply as ReplyOf, Memory}
-use Rattle.tmm_model.specs.Generator.{date_of, numbered, first_lines, erase_lines, event_lines, events_below, script_of, is_want, is_refused as is_no_or_fault}
+use Rattle.tmm_model.specs.Generator.{numbered, first_lines, erase_lines, event_lines, events_below, script_of, is_want, is_refused as is_no_or_fault}
 use Rattle.tmm_model.specs.Lines.{words, goes_on, is_blank, spaced, IsSilent}
 use Rattle.tmm_model.specs.Replies.{Reply}
 use Rattle.tmm_model.specs.Runs.{Run, is_refused, is_memory}
 use Rattle.tmm_model.specs.Standing.{Standing}
 use Rattle.map_engine.specs.Steps.{Says, Step}
+use Rattle.demo_gen.proofs.Blocks.{last_three}
 use Rattle.tmm_cli.specs.Demo.{Replied, RunReplied}
 
 -- ---- no line of the script is silent
@@ -55,14 +56,6 @@ AllSpeak-at (first ∷ lines) (suc i) line speak at = AllSpeak-at lines i line s
 erase_lines-speak : (b : Bool) (j : ℕ) → AllSpeak (elim b [ true ↦ spaced (codes "erase" ∷ numbered (codes "e") j ∷ []) ∷ [] | false ↦ [] ])
 erase_lines-speak true j = ((refl, refl), tt)
 erase_lines-speak false j = tt
-
--- the lines of every event
-abbrev last_three : ℕ → List (List ℕ)
-last_three j =
-    spaced (codes "event" ∷ numbered (codes "e") j ∷ codes "go" ∷ [])
-    ∷ spaced (codes "dist" ∷ numbered (codes "a") j ∷ codes "start" ∷ numbered (codes "e") j ∷ decimal (date_of j) ∷ decimal (date_of j) ∷ [])
-    ∷ spaced (codes "ask" ∷ codes "idle" ∷ numbered (codes "e") j ∷ numbered (codes "e") j ∷ [])
-    ∷ []
 
 event_lines-speak : (j : ℕ) → AllSpeak (event_lines j)
 event_lines-speak j =
