@@ -33,8 +33,9 @@ expect 3 "a closed input"
 status=$?
 expect 3 "a folder as input"
 
-{ cat examples/first.tmm; yes 'point a'; } | head -n 100000 | { ./tmm; echo $? > checks/out; } | head -n 1 > /dev/null
-status=$(cat checks/out)
+kept=$(mktemp) || exit 1
+{ cat examples/first.tmm; yes 'point a'; } | head -n 100000 | { ./tmm; echo $? > "$kept"; } | head -n 1 > /dev/null
+status=$(cat "$kept")
 expect 4 "a pipe that is closed"
 
 comment=$(printf '# %0300d' 0)
@@ -46,5 +47,5 @@ yes "$comment" | head -c $(((1 << 30) + 1)) | ./tmm
 status=$?
 expect 6 "2^30 bytes and one more"
 
-rm -f checks/out
+rm -f "$kept"
 exit $failed

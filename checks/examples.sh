@@ -28,4 +28,10 @@ for script in "$shown"/*.tmm; do
 done
 rm -rf "$shown"
 
+demo=$(sed -n 's/^    \(demo 120 lines .*\)$/\1/p' docs/SCRIPT.md)
+if [ -z "$demo" ] || [ "$(./tmm demo 120)" != "$demo" ]; then
+  echo "checks: docs/SCRIPT.md: demo 120 writes another line than is shown" >&2
+  failed=1
+fi
+
 exit "$failed"

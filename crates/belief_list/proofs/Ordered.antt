@@ -2,7 +2,7 @@
 use Rattle.std.proofs.Common.{◌≡◌, ℕ, zero, suc, ◌+◌, ◌<◌, true, false, List, [], ◌∷◌, ◌++◌, map, length, take, get_or, add-one, arith, refl, sym, ◌∙◌, ap, subst, inl, inr}
 use Rattle.std.specs.Prelude.{ℤ, Option, nat_eq, IfSome}
 use Rattle.std.specs.Option.{option_map, option_map_or}
-use Rattle.std.specs.List.{All, AllByRecursion, Contains, IsDistinct, zip}
+use Rattle.std.specs.List.{All, Contains, IsDistinct, zip}
 use Rattle.std.specs.List.Sorted.{IsStrictlySortedBy}
 use Rattle.std.specs.declared.cmp.Ordering.{Ordering}
 use Rattle.std.specs.declared.cmp.Ordering.TheVariants.{Less, Greater}
@@ -18,7 +18,7 @@ use Rattle.tmm_model.specs.Maps.{built, order}
 use Rattle.tmm_model.specs.Moments.{Moment}
 use Rattle.tmm_model.specs.Standing.{Standing, far_in}
 use Rattle.tmm_model.proofs.Distinct.{Rising, one_order}
-use Rattle.tmm_model.proofs.Elements.{In, In-map, map-In, In-from_Contains, Contains-from_In}
+use Rattle.tmm_model.proofs.Elements.{In, In-map, map-In, In-from_Contains, Contains-from_In, each_in}
 use Rattle.tmm_model.proofs.Order.{IsSpelt, ordered, total}
 use Rattle.tmm_model.proofs.Sorts.{sorted_in, sorted_rising}
 use Rattle.tmm_model.proofs.Spelt.{spelt}
@@ -34,15 +34,10 @@ use Rattle.occ_tree.proofs.Ordered.{moments_in_order}
 use Rattle.belief_list.specs.declared.list.BeliefRow.{BeliefRow}
 use Rattle.belief_list.specs.Rows.{belief_row, row_at, what_at, IsLiveRow, IsListing}
 
-every : {X : Type 0} (P : X → Type 0) (xs : List X) → AllByRecursion P xs → (x : X) → In x xs → P x
-every P [] h x at = absurd at
-every P (y ∷ ys) h x (inl is) = subst P is h.0
-every P (y ∷ ys) h x (inr at) = every P ys h.1 x at
-
 rising : {X : Type 0} (cmp : X → X → Ordering) (xs : List X) → IsStrictlySortedBy cmp xs → Rising cmp xs
 unfolding IsStrictlySortedBy
 rising cmp [] up = tt
-rising cmp (x ∷ xs) up = (every (λ y. cmp x y ≡ Less) xs up.0, rising cmp xs up.1)
+rising cmp (x ∷ xs) up = (each_in (λ y. cmp x y ≡ Less) xs up.0, rising cmp xs up.1)
 
 -- ---- rows of ranked nodes, each with a clip
 
@@ -85,7 +80,7 @@ rows_once (x ∷ list) once r q at_r at_q one = by at_r at_q (rows_once list (Is
     no_other : (z : BeliefRow) → In z list → x.node ≡ z.node → ⊥
     no_other z at same =
         let f : nat_eq x.node z.node ≡ false =
-        every (λ y. nat_eq x.node y ≡ false) (map (λ r. r.node) list) (IsDistinct-head nat_eq x.node (map (λ r. r.node) list) once) z.node (map-In (λ (r : BeliefRow). r.node) list z at) in
+        each_in (λ y. nat_eq x.node y ≡ false) (map (λ r. r.node) list) (IsDistinct-head nat_eq x.node (map (λ r. r.node) list) once) z.node (map-In (λ (r : BeliefRow). r.node) list z at) in
         let t : nat_eq x.node z.node ≡ true = (Decides-eqb x.node z.node).1 same in
         cc
 

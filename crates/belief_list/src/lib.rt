@@ -3,7 +3,7 @@
 //!
 //! `listed` answers the rows of the map of a standing list; `compare` answers what of belief changed
 //! from one list of rows to another, as it is defined for their maps; `list_rows` tells the rows for a
-//! reply. Where there is no memory nothing has changed.
+//! reply. Without memory a call answers `NoMemory`.
 #![tactic(auto)]
 
 mod changes;

@@ -10,19 +10,9 @@ use Rattle.tmm_model.specs.declared.token.TokenRow.{TokenRow}
 use Rattle.tmm_model.specs.Tokens.{IsOrderOn, IsFirstAmong, IsFirstPlaceAmong}
 use Rattle.clipping.specs.Live.{IsLive}
 use Rattle.clipping.specs.Ahead.{IsAhead}
+use Rattle.tmm_model.proofs.Firsts.{upto, itself}
 
 module _ {P : Type 0} {live : P → Type 0} {order : P → P → Ordering} (law : IsOrderOn live order) where
-  -- not after, one after the other
-  pub upto : (x y z : P) → live x → live y → live z → is_gt (order x y) ≡ false → is_gt (order y z) ≡ false → is_gt (order x z) ≡ false
-  upto x y z lx ly lz h g = by (order x y) refl (order y z) refl
-    where
-      by : (r : Ordering) → order x y ≡ r → (s : Ordering) → order y z ≡ s → is_gt (order x z) ≡ false
-      by Less e Less f = ap is_gt (law.trans x y z lx ly lz e f)
-      by Less e Equal f = subst (λ w. is_gt (order x w) ≡ false) (law.strict y z ly lz f) h
-      by Less e Greater f = cc
-      by Equal e s f = subst (λ w. is_gt (order w z) ≡ false) (sym (law.strict x y lx ly e)) g
-      by Greater e s f = cc
-
   pub turned : (x y : P) → live x → live y → is_gt (order x y) ≡ true → is_gt (order y x) ≡ false
   turned x y lx ly h = ap is_gt (law.antisymm y x ly lx) ∙ by (order x y) h
     where
@@ -30,14 +20,6 @@ module _ {P : Type 0} {live : P → Type 0} {order : P → P → Ordering} (law 
       by Less e = cc
       by Equal e = cc
       by Greater e = refl
-
-  pub itself : (x : P) → live x → is_gt (order x x) ≡ false
-  itself x lx = by (order x x) refl
-    where
-      by : (r : Ordering) → order x x ≡ r → is_gt (order x x) ≡ false
-      by Less e = ap is_gt e
-      by Equal e = ap is_gt e
-      by Greater e = let t : is_gt (order x x) ≡ true → is_gt (order x x) ≡ false = turned x x lx lx in t (ap is_gt e)
 
   module _ (test : TokenRow P → Bool) (xs : List (TokenRow P)) (all : All (IsLive live) xs) where
     abbrev cmp : TokenRow P → TokenRow P → Ordering
@@ -59,7 +41,7 @@ module _ {P : Type 0} {live : P → Type 0} {order : P → P → Ordering} (law 
         record {
           within = omega arith;
           passes = sure;
-          least = λ j d. below_more (λ k. IsTrue (test (slice_index_or xs k d)) → is_gt (cmp (slice_index_or xs i d) (slice_index_or xs k d)) ≡ false) i (λ k. least k d) (λ t. itself (slice_index_or xs i d).spot (all i d lt).begin) j;
+          least = λ j d. below_more (λ k. IsTrue (test (slice_index_or xs k d)) → is_gt (cmp (slice_index_or xs i d) (slice_index_or xs k d)) ≡ false) i (λ k. least k d) (λ t. itself law (slice_index_or xs i d).spot (all i d lt).begin) j;
         }
 
     -- one that passes and is before the best place takes it
@@ -69,7 +51,7 @@ module _ {P : Type 0} {live : P → Type 0} {order : P → P → Ordering} (law 
     first_taken i (Some b) lt h sure e =
         let below : b < i = h.within in
         let before : b < length xs = omega arith in
-        now_first i lt sure (λ k d lower t. upto (slice_index_or xs i d).spot (slice_index_or xs b d).spot (slice_index_or xs k d).spot (all i d lt).begin (all b d before).begin (all k d (omega arith)).begin (turned (slice_index_or xs b d).spot (slice_index_or xs i d).spot (all b d before).begin (all i d lt).begin (sym (e d))) (h.least k d lower t))
+        now_first i lt sure (λ k d lower t. upto law (slice_index_or xs i d).spot (slice_index_or xs b d).spot (slice_index_or xs k d).spot (all i d lt).begin (all b d before).begin (all k d (omega arith)).begin (turned (slice_index_or xs b d).spot (slice_index_or xs i d).spot (all b d before).begin (all i d lt).begin (sym (e d))) (h.least k d lower t))
 
     -- the same for the element x that is read at i
     pub first_skip : (x : TokenRow P) (i : ℕ) (best : Option ℕ) → i < length xs → x ≡ slice_index_or xs i x → IsFirstPlaceAmong cmp test xs i best → test x ≡ false → IsFirstPlaceAmong cmp test xs (i + 1) best

@@ -1,5 +1,6 @@
 //! Which token supports a fact, what clips a token, and why a token is no supporter, over any
-//! distances and order of spots.
+//! distances and order of spots. Facts persist by default until they are clipped (Dean and McDermott
+//! 1987); the exact rules are this project's own.
 //!
 //! It stands on `tmm_model` alone. Each call answers exactly as the definitions of support and clip
 //! say: the first token by the order of spots (`last_clipper`: the last as they stand), and none exactly
@@ -336,7 +337,8 @@ pub enum Fault {
     Ends,
 }
 
-/// Why the token at `k` does not support its fact throughout `p` to `q`, which the caller knows.
+/// Why the token at `k` does not support its fact throughout `p` to `q`. The caller knows that it does
+/// not.
 pub fn blame<S: Sure>(
     order: &S,
     tokens: &[TokenRow<S::Spot>],

@@ -1,3 +1,4 @@
+//! Lines of the generated script.
 use super::*;
 use std::test::Fail;
 

@@ -1,4 +1,4 @@
-//! The distances of a simple temporal network: named points, constraints between them that dates
+//! The distances of a simple temporal network (Dechter, Meiri and Pearl 1991): named points, constraints between them that dates
 //! satisfy, and the tightest distance of each pair, kept in a table. It stands on `tmm_model`.
 //!
 //! A `DistNet` is seen as its points and edges, now and at the last `commit`, and a draft: a table
@@ -21,7 +21,7 @@ use tmm_model::{Bound, Name, NoMemory, PointName, Side};
 /// The most points. Each has a number below it.
 pub const POINTS: usize = 256;
 
-/// The most edges.
+/// The most edges: two for each of 2,000 premises.
 pub const EDGES: usize = 4000;
 
 // How many bounds a table has.
@@ -142,7 +142,7 @@ impl DistNet {
         self.present.edges()
     }
 
-    /// The tightest distance: the least sum over all walks from `a` to `b`.
+    /// The tightest distance, in whole time units: the least sum over all walks from `a` to `b`.
     pub fn far(&self, a: u16, b: u16) -> Bound
         requires from { IsInUse self.now.present.names a }
         requires to { IsInUse self.now.present.names b }
@@ -153,7 +153,7 @@ impl DistNet {
         self.present.far(a, b)
     }
 
-    /// The tightest distance at the last `commit`.
+    /// The tightest distance at the last `commit`, in whole time units.
     pub fn was(&self, a: u16, b: u16) -> Bound
         requires from { IsInUse self.now.committed.names a }
         requires to { IsInUse self.now.committed.names b }
@@ -209,7 +209,7 @@ impl DistNet {
         self.present.add_edges(edges, &mut self.changed);
     }
 
-    /// The draft's bound for a pair of numbers below 256.
+    /// The draft's bound for a pair of numbers below 256, in whole time units.
     pub fn draft(&self, a: u16, b: u16) -> Bound
         requires from { a < POINTS }
         requires to { b < POINTS }

@@ -1,5 +1,5 @@
 -- The edges that are left without one.
-use Rattle.std.proofs.Common.{◌≡◌, ◌≢◌, ◌∙◌, inl, inr, ℕ, suc, ◌+◌, ◌-◌, ◌<◌, ◌≤◌, List, [], ◌∷◌, length, take, drop, set, get_or, ap, sym, subst, arith, length-set}
+use Rattle.std.proofs.Common.{◌≡◌, ◌≢◌, ◌∙◌, inl, inr, ℕ, suc, ◌+◌, ◌-◌, ◌<◌, ◌≤◌, List, length, take, drop, set, get_or, ap, sym, subst, arith}
 use Rattle.std.specs.List.{Contains, remove, swap_remove}
 use Rattle.std.specs.Option.{is_some}
 use Rattle.std.proofs.lemmas.Bool.{cases_lt, cases_eq}
@@ -16,6 +16,7 @@ use Rattle.tmm_model.proofs.Walks.{IsWalk-kept}
 use Rattle.dist_net.specs.declared.Edge.{Edge}
 use Rattle.dist_net.specs.Net.{Net, arc_of, arcs_of, IsInUse, AreInUse}
 use Rattle.dist_net.proofs.Names.{ends_of, numbers_from, length-numbers_from, Contains-in_use}
+use Rattle.dist_net.proofs.Tied.{length-swap_remove}
 use Rattle.dist_repair.specs.Rows.{rest_of}
 
 -- ---- places
@@ -45,10 +46,6 @@ left_from xs place x m =
 pub left_sub : (xs : List (Arc ℕ)) (place : ℕ) (x : Arc ℕ) → Contains (remove xs place) x → Contains xs x
 left_sub xs place x m = let l : (j : ℕ) × (j < length xs) × (j ≢ place) × (get_or xs j x ≡ x) = left_from xs place x m in (l.0, l.1, l.3)
 
-pub edge_at : (edges : List Edge) (j : ℕ) → j < length edges → (e : Edge) × ((d : Edge) → get_or edges j d ≡ e)
-edge_at [] j lt = absurd (omega arith)
-edge_at (e ∷ edges) j lt = (get_or (e ∷ edges) j e, λ d. get_or_default (e ∷ edges) j d e lt)
-
 pub Adds-remove : (edges : List Edge) (place : ℕ) (d : Edge) → place < length edges → Adds (remove (arcs_of edges) place) (arc_of (get_or edges place d)) (arcs_of edges)
 Adds-remove edges place d lt =
     Adds-from_permutation (arcs_of edges) (remove (arcs_of edges) place) (arc_of (get_or edges place d))
@@ -56,9 +53,6 @@ Adds-remove edges place d lt =
     (sym (get_or-map arc_of edges place d (arc_of (get_or edges place d)) lt)))
 
 -- ---- the same where the last edge takes the place
-
-length-taken : (edges : List Edge) (place : ℕ) (d : Edge) → length (swap_remove edges place d) ≡ length edges - 1
-length-taken edges place d = simp (length-take, length-set) (omega arith)
 
 taken_at : (edges : List Edge) (place k : ℕ) (d y : Edge) → k + 1 < length edges → (k ≡ place → ⊥) → get_or (swap_remove edges place d) k y ≡ get_or edges k y
 taken_at edges place k d y lt ne =
@@ -75,8 +69,8 @@ arc_at edges k d x lt = get_or-map arc_of edges k d x lt
 
 pub left_from_taken : (edges : List Edge) (place : ℕ) (d : Edge) (x : Arc ℕ) → place < length edges → Contains (arcs_of (swap_remove edges place d)) x → Contains (remove (arcs_of edges) place) x
 left_from_taken edges place d x lt m =
-    let short : m.0 < length edges - 1 = omega (arith, m.1, length-map (swap_remove edges place d) arc_of, length-taken edges place d) in
-    let at : arc_of (get_or (swap_remove edges place d) m.0 d) ≡ x = sym (arc_at (swap_remove edges place d) m.0 d x (omega (arith, short, length-taken edges place d))) ∙ m.2 in
+    let short : m.0 < length edges - 1 = omega (arith, m.1, length-map (swap_remove edges place d) arc_of, length-swap_remove edges place d) in
+    let at : arc_of (get_or (swap_remove edges place d) m.0 d) ≡ x = sym (arc_at (swap_remove edges place d) m.0 d x (omega (arith, short, length-swap_remove edges place d))) ∙ m.2 in
     elim (cases_eq m.0 place) [
       | inl same ↦ (let j : ℕ = length edges - 1 in
           let is : get_or (arcs_of edges) j x ≡ x =
@@ -94,14 +88,14 @@ taken_from_left edges place d x lt m =
     elim (cases_lt (l.0 + 1) (length edges)) [
       | inl short ↦ (
         l.0,
-        omega (arith, short, length-map (swap_remove edges place d) arc_of, length-taken edges place d),
-        arc_at (swap_remove edges place d) l.0 d x (omega (arith, short, length-taken edges place d)) ∙ (ap arc_of (taken_at edges place l.0 d d short l.2) ∙ at),
+        omega (arith, short, length-map (swap_remove edges place d) arc_of, length-swap_remove edges place d),
+        arc_at (swap_remove edges place d) l.0 d x (omega (arith, short, length-swap_remove edges place d)) ∙ (ap arc_of (taken_at edges place l.0 d d short l.2) ∙ at),
       )
       | inr last ↦ (let is_last : l.0 ≡ length edges - 1 = omega (arith, last, in_edges) in
           let short : place + 1 < length edges = omega (arith, is_last, l.2, lt) in (
             place,
-            omega (arith, short, length-map (swap_remove edges place d) arc_of, length-taken edges place d),
-            arc_at (swap_remove edges place d) place d x (omega (arith, short, length-taken edges place d))
+            omega (arith, short, length-map (swap_remove edges place d) arc_of, length-swap_remove edges place d),
+            arc_at (swap_remove edges place d) place d x (omega (arith, short, length-swap_remove edges place d))
                 ∙ (ap arc_of (taken_at_place edges place d d short ∙ ap (λ (k : ℕ). get_or edges k d) (sym is_last)) ∙ at),
           ))
     ]

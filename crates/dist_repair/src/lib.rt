@@ -28,6 +28,7 @@ pub fn erase_edge(net: &mut DistNet, place: usize)
     ensures present { (d : Edge) → net.new.present ≡ record net.old.present { edges = swap_remove net.old.present.edges place d } }
     ensures committed { net.new.committed ≡ net.old.committed }
 {
+    // it tells the proof what holds of the network
     let _ = net.edges();
     let limit = net.limit();
     for a in 0..limit {
@@ -73,6 +74,7 @@ fn start_row(net: &mut DistNet, place: usize, a: u16, affected: bool)
     ensures started { IsStartedRow net.old.present place a (entry net.new.draft a) }
     ensures changes { ChangesRow a net.old net.new }
 {
+    // it tells the proof what holds of the network
     let _ = net.edges();
     let limit = net.limit();
     for b in 0..limit {
@@ -91,6 +93,7 @@ fn started(net: &DistNet, place: usize, a: u16, b: u16, affected: bool) -> Bound
     requires safe { IsFalse affected → IsSafeRow net.now.present place a }
     ensures { (d : Edge) → IsStarted (arcs_of net.now.present.edges) (arc_of (slice_index_or net.now.present.edges place d)) (rest_of net.now.present place) a b result }
 {
+    // it tells the proof what holds of the network
     let _ = net.edges();
     if !affected || !is_suspect(net, place, a, b) {
         return net.far(a, b);
@@ -129,6 +132,7 @@ fn relax(net: &mut DistNet, place: usize, a: u16)
     ensures far { IsFarRow net.old.present place a (entry net.new.draft a) }
     ensures changes { ChangesRow a net.old net.new }
 {
+    // it tells the proof what holds of the network
     let _ = net.edges();
     let count = net.points();
     for k in 1..count {

@@ -1,12 +1,12 @@
 -- What brings a node about, by its row.
-use Rattle.std.proofs.Common.{◌≡◌, ◌∙◌, ℕ, List, [], ◌∷◌, ◌++◌, map, Some, refl, sym, ap}
+use Rattle.std.proofs.Common.{◌≡◌, ◌∙◌, ℕ, List, [], ◌∷◌, ◌++◌, map, Some, sym, ap}
 use Rattle.std.proofs.lemmas.List.{map_push}
 use Rattle.tmm_model.specs.declared.point.PointName.TheVariants.{Begin}
 use Rattle.tmm_model.specs.Moments.{At, After, along}
 use Rattle.spots.specs.declared.link.Link.{Link}
 use Rattle.spots.specs.Forest.{Forest, Member, member, moment_at, rules_of, last_name}
-use Rattle.spots.proofs.Nodes.{moment_at-is}
-use Rattle.occ_tree.proofs.Words.{along-push}
+use Rattle.spots.proofs.Nodes.{moment_at-is, last_name-push}
+use Rattle.tmm_model.proofs.Moments.{along-push}
 
 -- a node without rules is declared under its name
 pub declared_at : (f : Forest) (x : ℕ) (m : Member) → member f x ≡ Some m → m.links ≡ [] → (name : List ℕ) → name ≡ last_name m.root m.links → moment_at f x ≡ At (Begin name)
@@ -14,10 +14,6 @@ declared_at f x m here none name named =
     moment_at-is f x m here
     ∙ ap (λ (ls : List Link). along (At (Begin m.root)) (map (λ l. l.rule) ls)) none
     ∙ ap (λ (n : List ℕ). At (Begin n)) (sym (named ∙ ap (last_name m.root) none))
-
-last_name-push : (name : List ℕ) (links : List Link) (link : Link) → last_name name (links ++ link ∷ []) ≡ link.rule
-last_name-push name [] link = refl
-last_name-push name (l ∷ links) link = last_name-push l.rule links link
 
 -- a node with the rules of another and one more is the effect of that rule
 pub effect_at : (f : Forest) (x y : ℕ) (m n : Member) (link : Link) → member f x ≡ Some m → member f y ≡ Some n → n.root ≡ m.root → m.links ≡ n.links ++ link ∷ []

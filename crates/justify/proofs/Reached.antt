@@ -13,6 +13,7 @@ use Rattle.tmm_model.specs.Moments.{Moment}
 use Rattle.tmm_model.specs.Reasons.{rests_on, Upholds, itself, through}
 use Rattle.tmm_model.proofs.Elements.{In, In-left, In-right, In-cases, In-map, map-In, list_any-In, In-from_Contains, Contains-from_In}
 use Rattle.tmm_model.proofs.Members.{All-from_contains}
+use Rattle.tmm_model.proofs.Upholding.{further}
 use Rattle.indexmap.specs.IndexSet.{insert_key, insert_all}
 use Rattle.spots.specs.Forest.{Forest, IsLive, moment_at}
 use Rattle.justify.specs.Grounds.{AddsGrounds, AreUpholders}
@@ -91,10 +92,6 @@ below_places (o ∷ f) zero live = omega arith
 below_places (o ∷ f) (suc x) live = let low = below_places f x live in omega arith
 
 -- ---- the walk
-
-further : (m : TimeMap) (o y x : Moment) → Upholds m o y → Contains (rests_on m y) x → Upholds m o x
-further m o y x itself step = through step itself
-further m o y x (through first rest) step = through first (further m _ y x rest step)
 
 stays : (m : TimeMap) (occs : List Moment) → ((y k : Moment) → In y occs → Contains (rests_on m y) k → In k occs) → (o x : Moment) → Upholds m o x → In o occs → In x occs
 stays m occs closed o x itself at = at

@@ -1,10 +1,10 @@
 //! The reasons of a belief: the lines of an occurrence and of all that it rests on, each before what
 //! rests on it, and before a derived one the orders in time that its supporters need. It stands on
-//! `tt_query`.
+//! `tt_query` and `neg_cycle`.
 //!
 //! `why` takes the standing list with its network and the tree of the believed occurrences, and
 //! answers as the map of that list does. `steps_between` gives the constraints of a least walk between
-//! two spots.
+//! two spots. Without memory a call answers that.
 #![tactic(auto)]
 
 mod grounds;

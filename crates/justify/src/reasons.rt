@@ -19,7 +19,8 @@ use tmm_model::{NoMemory, Occ, Seq, Stop, WhyLine};
 use tt_query::resolve_why;
 
 /// The reasons of an occurrence: the lines of it and of all that it rests on, each once, in the order
-/// of occurrences, and before that of a derived one the orders that it needs.
+/// of occurrences, and before that of a derived one the orders that it needs. A word with a cause against
+/// it is refused; without memory it answers that.
 pub fn why(
     alloc: Global,
     standing: &Standing,

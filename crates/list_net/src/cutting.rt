@@ -8,8 +8,8 @@ use dist_repair::erase_edge;
 use premise_list::Standing;
 use tmm_model::{Name, PointName};
 
-/// Takes out each edge whose premise does not stand, and repairs the distances. It goes from the
-/// last edge to the first, so that what takes an edge's place has been looked at.
+// Takes out each edge whose premise does not stand, and repairs the distances. It goes from the
+// last edge to the first, so that what takes an edge's place has been looked at.
 pub(crate) fn drop_edges(net: &mut DistNet, standing: &Standing)
     ensures edges { IsPermutation (filter (λ e. stands_in standing.now.present.premises e.owner) net.old.present.edges) net.new.present.edges }
     ensures others { net.new.present ≡ record net.old.present { edges = net.new.present.edges } }
@@ -24,13 +24,14 @@ pub(crate) fn drop_edges(net: &mut DistNet, standing: &Standing)
     }
 }
 
-/// Drops each point whose premise does not stand, where no edge is at one. All others keep their
-/// numbers.
+// Drops each point whose premise does not stand, where no edge is at one. All others keep their
+// numbers.
 pub(crate) fn drop_points(net: &mut DistNet, standing: &Standing)
     requires left { AreLeft standing.now.present.premises net.old.present.names net.old.present.edges }
     ensures names { net.new.present.names ≡ map (name_left standing.now.present.premises) net.old.present.names }
     ensures others { net.new ≡ record net.old { present = record net.old.present { names = net.new.present.names } } }
 {
+    // it tells the proof what holds of the network
     let _ = net.edges();
     let limit = net.limit();
     for number in 1..limit {
@@ -40,7 +41,7 @@ pub(crate) fn drop_points(net: &mut DistNet, standing: &Standing)
     }
 }
 
-/// Whether the number is of a point whose premise does not stand.
+// Whether the number is of a point whose premise does not stand.
 fn is_fallen(net: &DistNet, standing: &Standing, number: u16) -> bool
     ensures { result ≡ is_fallen standing.now.present.premises (slice_index_or net.now.present.names number None) }
 {
@@ -50,7 +51,7 @@ fn is_fallen(net: &DistNet, standing: &Standing, number: u16) -> bool
     }
 }
 
-/// Whether the premise of a point stands. `start` has none, and stays.
+// Whether the premise of a point stands. `start` has none, and stays.
 fn point_stands(standing: &Standing, point: PointName) -> bool
     ensures { result ≡ point_stands standing.now.present.premises point }
 {
@@ -60,7 +61,7 @@ fn point_stands(standing: &Standing, point: PointName) -> bool
     }
 }
 
-/// Whether the premise of this name stands.
+// Whether the premise of this name stands.
 fn stands(standing: &Standing, name: Name) -> bool
     ensures { result ≡ stands_in standing.now.present.premises name }
 {

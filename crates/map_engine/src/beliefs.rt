@@ -20,17 +20,20 @@ use protections::{delta, report};
 use std::alloc::Global;
 use tmm_model::{Changes, Name, NoMemory, Report, Seq, Stop};
 
-/// The beliefs of a list: the tree of the believed occurrences and its size, the occurrences in
-/// their order with their clips, and the broken protections.
+// What is believed of a list, as it is kept.
 #[derive(Drop)]
 pub(crate) struct Beliefs {
+    // The believed occurrences.
     pub tree: Tree,
+    // The size of the map.
     pub size: u64,
+    // The occurrences in their order, with their clips.
     pub rows: Seq<BeliefRow>,
+    // The broken protections.
     pub reports: Seq<Report>,
 }
 
-/// The beliefs of a list, from scratch. A map that is too large is refused.
+// The beliefs of a list, from scratch. A map that is too large is refused.
 pub(crate) fn believe(
     alloc: Global,
     standing: &Standing,
@@ -72,7 +75,7 @@ fn survey(
     Ok((rows, reports))
 }
 
-/// What changes from the beliefs of one list to those of another, from which these premises are gone.
+// What changes from the beliefs of one list to those of another, from which these premises are gone.
 pub(crate) fn changes_to(
     alloc: Global,
     erased: Seq<Name>,

@@ -14,8 +14,8 @@ use premise_list::Standing;
 use std::alloc::Global;
 use tmm_model::{Edit, Name, NoMemory, Premise, Seq, Stop};
 
-/// Makes an edit that names and counts let through, and answers the names of the premises that it
-/// retracts. Where it is refused, or there is no memory, all is as before.
+// Makes an edit that names and counts let through, and answers the names of the premises that it
+// retracts. Where it is refused, or there is no memory, all is as before.
 pub(crate) fn edited(
     alloc: Global,
     standing: &mut Standing,
@@ -42,6 +42,7 @@ pub(crate) fn edited(
             Err(NoMemory) => Err(Stop::NoMemory),
         },
         Edit::Horizon(n) => {
+            // it tells the proof what holds of the list
             let _ = standing.len();
             standing.set_horizon(*n);
             let _ = net.edges();
@@ -70,6 +71,7 @@ fn added(
     ensures committed { net.new.committed ≡ net.old.committed }
 {
     add_premise(alloc, standing, net, premise)?;
+    // it tells the proof what holds of the list and the network
     let _ = standing.len();
     let _ = net.edges();
     Ok(Seq::make(alloc))
@@ -95,6 +97,7 @@ fn without(
         Ok(names) => names,
         Err(NoMemory) => return Err(NoMemory),
     };
+    // it tells the proof what holds of the list and the network
     let _ = standing.len();
     let _ = net.edges();
     Ok(names)

@@ -1,4 +1,4 @@
-//! The map: a standing list with its distances, its beliefs and its broken protections, of which one
+//! The time map (after Dean and McDermott 1987): a standing list with its distances, its beliefs and its broken protections, of which one
 //! edit may be pending. It stands on `list_net`, `projection`, `belief_list`,
 //! `protections`, `tt_query` and `justify`, and is known to the program alone.
 //!

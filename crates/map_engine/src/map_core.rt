@@ -91,7 +91,8 @@ pub trait MapCore {
         ensures gives { IfOk result (λ found. GivesPath (built (list self.now)) (moment_of_point p.now) (moment_of_point q.now) found.0 found.1.items) }
         ensures stops { IfErr result (StopsQuery (list self.now) (Query.Path p.now q.now)) };
 
-    /// Whether a fact holds from one point to another. A word with a cause against it is refused.
+    /// Whether a fact holds from one point to another. A word with a cause against it is refused; without
+    /// memory it answers that.
     fn ask(&self, alloc: Global, fact: Name, p: &QueryPoint, q: &QueryPoint) -> Result<Answer, Stop>
         requires idle { pending self.now ≡ None }
         requires well_formed { IsWellFormedQuery (Query.Ask fact p.now q.now) }
@@ -100,6 +101,7 @@ pub trait MapCore {
         ensures stops { IfErr result (StopsQuery (list self.now) (Query.Ask fact p.now q.now)) };
 
     /// The reasons of a declared or derived occurrence: all that it rests on, each before what rests on it.
+    /// A word with a cause against it is refused; without memory it answers that.
     fn why(&self, alloc: Global, occ: &Occ) -> Result<Seq<WhyLine>, Stop>
         requires idle { pending self.now ≡ None }
         requires well_formed { IsWellFormedQuery (Query.Why occ.now) }
@@ -107,12 +109,12 @@ pub trait MapCore {
         ensures reasons { IfOk result (λ lines. IsWhy (built (list self.now)) (moment_of occ.now) (map reason_of lines.items)) }
         ensures stops { IfErr result (StopsQuery (list self.now) (Query.Why occ.now)) };
 
-    /// The broken protections, in the order of premises.
+    /// The broken protections, in the order of premises. Without memory it answers that.
     fn check(&self, alloc: Global) -> Result<Seq<Report>, NoMemory>
         requires idle { pending self.now ≡ None }
         ensures { IfOk result (λ found. map report_of found.items ≡ reports (built (list self.now))) };
 
-    /// The believed occurrences, in their order.
+    /// The believed occurrences, in their order. Without memory it answers that.
     fn list(&self, alloc: Global) -> Result<Seq<ListRow>, NoMemory>
         requires idle { pending self.now ≡ None }
         ensures { IfOk result (λ found. map row_of found.items ≡ rows (built (list self.now))) };
@@ -122,7 +124,7 @@ pub trait MapCore {
         requires idle { pending self.now ≡ None }
         ensures { result.now.present ≡ list self.now };
 
-    /// The size of the map.
+    /// The size of the map: for each believed occurrence one, and its rules, and the rules on it.
     fn size(&self) -> u64
         requires idle { pending self.now ≡ None }
         ensures { result ≡ size (built (list self.now)) };

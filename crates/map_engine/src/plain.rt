@@ -57,6 +57,7 @@ impl PlainMap {
     {
         let standing = Standing::make(alloc);
         let net = DistNet::make(alloc)?;
+        // it tells the proof what holds of the network
         let _ = net.edges();
         let mut counter = Counter::zero();
         match believe(alloc, &standing, &net, &mut counter) {

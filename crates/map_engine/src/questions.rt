@@ -46,7 +46,7 @@ fn resolve_both(
     Ok((from, to))
 }
 
-/// The lower and the upper bound on the date of the second point less that of the first.
+// The lower and the upper bound on the date of the second point less that of the first.
 pub(crate) fn bounds_between(
     alloc: Global,
     standing: &Standing,
@@ -68,7 +68,7 @@ pub(crate) fn bounds_between(
     Ok(bounds(tree, net, from, to))
 }
 
-/// Whether a fact holds from one point to another.
+// Whether a fact holds from one point to another.
 pub(crate) fn ask_between(
     alloc: Global,
     standing: &Standing,
@@ -96,8 +96,8 @@ pub(crate) fn ask_between(
     }
 }
 
-/// The upper bound on the date of the second point less that of the first, and where there is one,
-/// the constraints of a walk between their declared points.
+// The upper bound on the date of the second point less that of the first, and where there is one,
+// the constraints of a walk between their declared points.
 pub(crate) fn path_between(
     alloc: Global,
     standing: &Standing,
@@ -122,7 +122,7 @@ pub(crate) fn path_between(
     }
 }
 
-/// The reasons of an occurrence.
+// The reasons of an occurrence.
 pub(crate) fn why_of(
     alloc: Global,
     standing: &Standing,

@@ -5,7 +5,7 @@ use Rattle.std.specs.Option.{option_map_or}
 use Rattle.std.specs.Map.{lookup}
 use Rattle.std.specs.Cmp.Lexicographic.{nat_list_eq_equiv}
 use Rattle.tmm_model.specs.Points.{same_name}
-use Rattle.tmm_model.proofs.LinePoints.{differ, same-is}
+use Rattle.tmm_model.proofs.Points.{names_differ, same_name-is}
 use Rattle.name_lists.specs.Lists.{list_of, Appends}
 use Rattle.name_lists.specs.declared.NameLists.{NameLists}
 
@@ -28,7 +28,7 @@ module _
     pub appends : (element : T) → list.items ≡ list_of old name ++ element ∷ [] → Appends (list_of old) (list_of new) name element
     appends element is = record {
       own = lists_are name ∙ ap (λ b. cond b list.items (list_of old name)) (nat_list_eq_equiv.refl name) ∙ is;
-      others = λ other apart. lists_are other ∙ ap (λ b. cond b list.items (list_of old other)) (differ name other (λ same. apart (sym same)));
+      others = λ other apart. lists_are other ∙ ap (λ b. cond b list.items (list_of old other)) (names_differ name other (λ same. apart (sym same)));
     }
 
     -- where it is the one that was there
@@ -36,5 +36,5 @@ module _
     unchanged is other = lists_are other ∙ by (same_name name other) refl
       where
         by : (b : Bool) → same_name name other ≡ b → cond b list.items (list_of old other) ≡ list_of old other
-        by true same = is ∙ ap (list_of old) (same-is name other same)
+        by true same = is ∙ ap (list_of old) (same_name-is name other same)
         by false same = refl

@@ -11,16 +11,13 @@ use Rattle.tmm_model.specs.Moments.{Moment, At, After, RuleText, base, rules, al
 use Rattle.tmm_model.specs.Points.{same_name, same_point}
 use Rattle.tmm_model.specs.Standing.{Standing}
 use Rattle.neg_cycle.specs.TimingLaw.{IsDelay, AreDelays}
+use Rattle.tmm_model.proofs.Moments.{along-push}
 
 -- ---- the moment that rules lead to
 
-along-append : (t : Moment) (u : List (List ℕ)) (r : List ℕ) → along t (u ++ r ∷ []) ≡ After (along t u) r
-along-append t [] r = refl
-along-append t (q ∷ u) r = along-append (After t q) u r
-
 pub along-rules : (x : Moment) → along (At (base x)) (rules x) ≡ x
 along-rules (At p) = refl
-along-rules (After t r) = along-append (At (base t)) (rules t) r ∙ ap (λ m. After m r) (along-rules t)
+along-rules (After t r) = along-push (At (base t)) (rules t) r ∙ ap (λ m. After m r) (along-rules t)
 
 -- ---- what delays sum up to
 
@@ -68,11 +65,14 @@ module _ (s : Standing) (time : Moment → ℤ) where
           (again (subst (λ w. AreDelays s time (along (After t w) v)) (sym same) k))
       by false e again = parted_kept t (r ∷ u) (q ∷ v) h k
 
+turned : (m : ℤ) → (m +ℤ pos 0) ≡ (pos 0 +ℤ m)
+turned m = omega (arith, ints)
+
+shifted : (a b c : ℤ) → (b -ℤ c) ≡ ((a +ℤ b) -ℤ (a +ℤ c))
+shifted a b c = omega (arith, ints)
+
 pub low-append : (s : Standing) (u : List (List ℕ)) (r : List ℕ) → low s (u ++ r ∷ []) ≡ (low s u +ℤ (rule_of s r).lo)
 low-append s [] r = turned (rule_of s r).lo
-  where
-    turned : (m : ℤ) → (m +ℤ pos 0) ≡ (pos 0 +ℤ m)
-    turned m = omega (arith, ints)
 low-append s (q ∷ u) r = by (rule_of s q).lo (low s u) (rule_of s r).lo (low s (u ++ r ∷ [])) (low-append s u r)
   where
     by : (a b c d : ℤ) → d ≡ (b +ℤ c) → (a +ℤ d) ≡ ((a +ℤ b) +ℤ c)
@@ -114,9 +114,6 @@ one_more a m b e = omega (arith, ints)
 module _ (s : Standing) (n : ℤ) (le : pos 0 ≤ℤ n) (sound : (r : List ℕ) → IsTighter (Finite (rule_of s r).lo) (rule_of s r).hi) where
   longest-append : (v : List (List ℕ)) (r : List ℕ) → longest s n (v ++ r ∷ []) ≡ (longest s n v +ℤ most_of n (rule_of s r))
   longest-append [] r = turned (most_of n (rule_of s r))
-    where
-      turned : (m : ℤ) → (m +ℤ pos 0) ≡ (pos 0 +ℤ m)
-      turned m = omega (arith, ints)
   longest-append (q ∷ v) r = by (most_of n (rule_of s q)) (longest s n v) (most_of n (rule_of s r)) (longest s n (v ++ r ∷ [])) (longest-append v r)
     where
       by : (a b c d : ℤ) → d ≡ (b +ℤ c) → (a +ℤ d) ≡ ((a +ℤ b) +ℤ c)
@@ -154,12 +151,9 @@ module _ (s : Standing) (n : ℤ) (le : pos 0 ≤ℤ n) (sound : (r : List ℕ) 
       by false = longest_delay [] r
   spent_delay (w ∷ u) (q ∷ v) r = by (same_name w q) (spent_delay u v r)
     where
-      same : (a b c : ℤ) → (b -ℤ c) ≡ ((a +ℤ b) -ℤ (a +ℤ c))
-      same a b c = omega (arith, ints)
-
       by : (b : Bool) → IsDelay (rule_of s r) (spent s n u (v ++ r ∷ []) -ℤ spent s n u v)
           → IsDelay (rule_of s r) (elim b [ true ↦ (rule_of s q).lo +ℤ spent s n u (v ++ r ∷ []) | false ↦ longest s n (q ∷ v ++ r ∷ []) ] -ℤ elim b [ true ↦ (rule_of s q).lo +ℤ spent s n u v | false ↦ longest s n (q ∷ v) ])
-      by true again = subst (IsDelay (rule_of s r)) (same (rule_of s q).lo (spent s n u (v ++ r ∷ [])) (spent s n u v)) again
+      by true again = subst (IsDelay (rule_of s r)) (shifted (rule_of s q).lo (spent s n u (v ++ r ∷ [])) (spent s n u v)) again
       by false again = longest_delay (q ∷ v) r
 
   -- so do all rules on the way to any moment
@@ -170,9 +164,6 @@ module _ (s : Standing) (n : ℤ) (le : pos 0 ≤ℤ n) (sound : (r : List ℕ) 
         timed_delays d p u t,
         subst (IsDelay (rule_of s r)) (shifted (d (base t)) (spent s n w (rules t ++ r ∷ [])) (spent s n w (rules t))) (spent_delay w (rules t) r),
       )
-    where
-      shifted : (a b c : ℤ) → (b -ℤ c) ≡ ((a +ℤ b) -ℤ (a +ℤ c))
-      shifted a b c = omega (arith, ints)
 
   -- ---- how far apart the chosen delays lead
 

@@ -7,7 +7,7 @@ use Rattle.std.proofs.lemmas.Bool.{eqb-true, eq-eqb, ne_eqb, cases_lt, or_cases,
 use Rattle.std.proofs.lemmas.Bool.Decides.{eqb_tells, Decides-eqb}
 use Rattle.std.proofs.lemmas.Map.Keys.{IsDistinct-cons, IsDistinct-push}
 use Rattle.std.proofs.lemmas.Int.{ints}
-use Rattle.std.proofs.lemmas.List.{map-append, get_or-map, length-map, get_or_default, get_or-replicate, get_or_past, length-replicate}
+use Rattle.std.proofs.lemmas.List.{map-append, get_or-map, length-map, get_or-replicate, get_or_past, length-replicate}
 use Rattle.std.proofs.lemmas.List.Elements.{All-push}
 use Rattle.std.proofs.lemmas.List.Sums.{count_by-le-length}
 use Rattle.tmm_model.specs.declared.bound.Bound.{Bound}
@@ -20,13 +20,10 @@ use Rattle.tmm_model.proofs.Sizes.{Fits-round}
 use Rattle.tmm_model.proofs.Walks.{IsWalk-append, total-append}
 use Rattle.dist_net.specs.declared.Edge.{Edge}
 use Rattle.dist_net.specs.Net.{arc_of, arcs_of, same_number, IsInUse, AreInUse}
+use Rattle.dist_net.proofs.Ends.{edge_at}
 use Rattle.dist_net.proofs.Names.{ends_of, numbers_from, length-numbers_from, Contains-in_use}
 use Rattle.neg_cycle.specs.Ranks.{HasFar, IsNext, AreRankedWithin, IsLeastPath}
 use Rattle.neg_cycle.proofs.Ranked.{IsTightArc, IsSpreading, tight_first, least_tail}
-
-edge_at : (edges : List Edge) (j : ℕ) → j < length edges → (e : Edge) × ((d : Edge) → get_or edges j d ≡ e)
-edge_at [] j lt = absurd (omega arith)
-edge_at (e ∷ edges) j lt = (get_or (e ∷ edges) j e, λ d. get_or_default (e ∷ edges) j d e lt)
 
 -- a round ranks the points one edge further away
 pub AreRankedWithin-suc : (edges : List Edge) (b k j : ℕ) (start now : List ℕ) → IsSpreading edges b k (length edges) start now → AreRankedWithin edges b j start → AreRankedWithin edges b (j + 1) now

@@ -2,13 +2,13 @@
 use Rattle.std.proofs.Common.{◌≡◌, ◌≢◌, ℕ, zero, suc, ◌<◌, Bool, true, false, List, [], ◌∷◌, ◌++◌, length, take, set, get_or, refl, sym, ap, ◌∙◌, subst, arith}
 use Rattle.std.specs.List.{All, HoldsAt}
 use Rattle.std.specs.Cmp.Lexicographic.{bytes_decides}
-use Rattle.std.proofs.lemmas.Bool.{false_from_ne_true}
 use Rattle.std.proofs.lemmas.List.Elements.{All-head, All-tail}
 use Rattle.tmm_model.specs.declared.token.TokenRow.{TokenRow}
 use Rattle.tmm_model.specs.Points.{same_name}
 use Rattle.spots.specs.declared.spot.Spot.{Spot}
 use Rattle.occ_tree.specs.declared.classes.ClassRows.{ClassRows}
 use Rattle.occ_tree.specs.Classes.{rows_in, IsOther, IsPlace, AddsRow}
+use Rattle.tmm_model.proofs.Points.{names_differ}
 
 rows_own : (c : List ℕ) (e : ClassRows) (es : List ClassRows) → same_name c e.class ≡ true → rows_in (e ∷ es) c ≡ e.rows.items
 rows_own c e es h = subst (λ (b : Bool). (elim b [ true ↦ e.rows.items | false ↦ rows_in es c ]) ≡ e.rows.items) (sym h) refl
@@ -18,9 +18,6 @@ rows_later c e es h = subst (λ (b : Bool). (elim b [ true ↦ e.rows.items | fa
 
 rows_rest : (c : List ℕ) (e : ClassRows) (es fs : List ClassRows) → rows_in es c ≡ rows_in fs c → rows_in (e ∷ es) c ≡ rows_in (e ∷ fs) c
 rows_rest c e es fs h = ap (λ (r : List (TokenRow Spot)). elim (same_name c e.class) [ true ↦ e.rows.items | false ↦ r ]) h
-
-differs : (c d : List ℕ) → c ≢ d → same_name c d ≡ false
-differs c d h = false_from_ne_true (same_name c d) (λ e. h ((bytes_decides c d).0 e))
 
 -- no entry is of the class
 pub rows_none : (c : List ℕ) (es : List ClassRows) → All (IsOther c) es → rows_in es c ≡ []
@@ -66,8 +63,8 @@ pub other_rows : (es : List ClassRows) (c : List ℕ) (i : ℕ) (x d : ClassRows
 other_rows es c i x d place class q other =
     let is : c ≡ (get_or es i d).class = (bytes_decides c (get_or es i d).class).0 (place.here d) in
     other_written q es i x place.within
-    (λ e. differs q (get_or es i e).class (λ f. other (f ∙ sym ((bytes_decides c (get_or es i e).class).0 (place.here e)))))
-    (differs q x.class (λ f. other (f ∙ class ∙ sym is)))
+    (λ e. names_differ q (get_or es i e).class (λ f. other (f ∙ sym ((bytes_decides c (get_or es i e).class).0 (place.here e)))))
+    (names_differ q x.class (λ f. other (f ∙ class ∙ sym is)))
 
 -- a token is added to the entry of its class
 pub AddsRow-written : (es : List ClassRows) (row : TokenRow Spot) (i : ℕ) (x d : ClassRows) → IsPlace es row.class i → x.class ≡ (get_or es i d).class → x.rows.items ≡ (get_or es i d).rows.items ++ row ∷ [] → AddsRow es (set es i x) row
@@ -90,15 +87,15 @@ rows_kept es c i x d place class rows q = by (same_name q c) refl
     by false e =
         let other : q ≢ c = λ f. let t : true ≡ false = sym ((bytes_decides q c).1 f) ∙ e in cc in
         other_written q es i x place.within
-        (λ y. differs q (get_or es i y).class (λ f. other (f ∙ sym ((bytes_decides c (get_or es i y).class).0 (place.here y)))))
-        (differs q x.class (λ f. other (f ∙ class ∙ sym is)))
+        (λ y. names_differ q (get_or es i y).class (λ f. other (f ∙ sym ((bytes_decides c (get_or es i y).class).0 (place.here y)))))
+        (names_differ q x.class (λ f. other (f ∙ class ∙ sym is)))
 
 -- a token is the first of its class
 pub AddsRow-pushed : (es : List ClassRows) (row : TokenRow Spot) (x : ClassRows) → All (IsOther row.class) es → x.class ≡ row.class → x.rows.items ≡ row ∷ [] → AddsRow es (es ++ x ∷ []) row
 AddsRow-pushed es row x none class rows = record {
   own = own_pushed row.class es x none (same row.class x.class (sym class)) ∙ rows ∙ ap (λ r. r ++ row ∷ []) (sym (rows_none row.class es none));
-  others = λ q other. other_pushed q es x (differs q x.class (λ f. other (f ∙ class)));
+  others = λ q other. other_pushed q es x (names_differ q x.class (λ f. other (f ∙ class)));
 }
 
 pub other_from : (c : List ℕ) (e : ClassRows) → same_name e.class c ≡ false → IsOther c e
-other_from c e h = differs c e.class (λ f. let t : true ≡ false = sym ((bytes_decides e.class c).1 (sym f)) ∙ h in cc)
+other_from c e h = names_differ c e.class (λ f. let t : true ≡ false = sym ((bytes_decides e.class c).1 (sym f)) ∙ h in cc)

@@ -1,25 +1,29 @@
 -- Nodes by their moments.
 use Rattle.std.proofs.Common.{◌≡◌, ◌≢◌, ℕ, zero, suc, ◌+◌, ◌<◌, ◌≤◌, List, [], ◌∷◌, ◌++◌, map, take, drop, get_or, length, refl, sym, ap, ◌∙◌, subst, arith}
 use Rattle.std.specs.Prelude.{Option, Some, None, MatchOption, slice_get}
-use Rattle.std.specs.Option.{option_map_or}
 use Rattle.std.specs.List.{All, Contains}
 use Rattle.std.proofs.lemmas.List.Elements.{All-contains, Contains-get_or}
 use Rattle.std.proofs.lemmas.Option.{slice_get_within, get_or_from_slice_get}
 use Rattle.std.proofs.lemmas.List.{map_push, length_push, length-map, take_all, take-append-le, length-append, same_from_push}
-use Rattle.tmm_model.specs.declared.point.PointName.TheVariants.{Start, Begin}
+use Rattle.tmm_model.specs.declared.point.PointName.TheVariants.{Begin}
 use Rattle.tmm_model.specs.Moments.{Moment, At, After, along, base, rules}
 use Rattle.spots.specs.declared.link.Link.{Link}
-use Rattle.spots.specs.Forest.{Forest, Member, member, moment, moment_at, rules_of, last_name, IsOnce, IsParent}
+use Rattle.spots.specs.Forest.{Forest, Member, member, moment, rules_of, last_name, IsOnce, IsParent}
 use Rattle.occ_tree.specs.declared.node.Node.{Node}
 use Rattle.occ_tree.specs.Nodes.{Slots, node_at, member_of, forest_in, IsNode, IsBetween, IsChild, AreChildren, IsKept}
 use Rattle.occ_tree.proofs.NodeLists.{seen, unseen}
 use Rattle.occ_tree.proofs.Ways.{parent_of, IsWay-listed}
-use Rattle.tmm_model.proofs.Moments.{base-along, rules-along}
-use Rattle.occ_tree.proofs.Words.{along-push, along-append, way_on, way_whole}
+use Rattle.tmm_model.proofs.Moments.{base-along, rules-along, along-push, along-append}
+use Rattle.occ_tree.proofs.Words.{way_on, way_whole}
+use Rattle.spots.proofs.Nodes.{last_name-push}
 
 -- what stands at a place is contained
 pub contains_at : (numbers : List ℕ) (k x : ℕ) → slice_get numbers k ≡ Some x → Contains numbers x
 contains_at numbers k x at = subst (Contains numbers) (get_or_from_slice_get numbers k x 0 at) (Contains-get_or numbers k 0 (slice_get_within numbers k x at))
+
+-- what is read of the same numbers is contained
+pub number_read : (items numbers : List ℕ) (i : ℕ) → items ≡ numbers → i < length items → Contains numbers (get_or items i 0)
+number_read items numbers i same within = subst (λ l. Contains l (get_or items i 0)) same (Contains-get_or items i 0 within)
 
 -- one rule more in the moment
 pub moment-push : (m n : Member) (link : Link) → n.root ≡ m.root → n.links ≡ m.links ++ link ∷ [] → moment n ≡ After (moment m) link.rule
@@ -29,14 +33,6 @@ moment-push m n link root links =
 
 pub rules-push : (m n : Member) (link : Link) → n.links ≡ m.links ++ link ∷ [] → rules_of n ≡ rules_of m ++ link.rule ∷ []
 rules-push m n link links = ap (map (λ (l : Link). l.rule)) links ∙ map_push (λ (l : Link). l.rule) m.links link
-
-pub last_name-push : (name : List ℕ) (ls : List Link) (l : Link) → last_name name (ls ++ l ∷ []) ≡ l.rule
-last_name-push name [] l = refl
-last_name-push name (k ∷ ls) l = last_name-push k.rule ls l
-
--- the moment of a node
-pub moment_is : (f : Forest) (x : ℕ) (m : Member) → member f x ≡ Some m → moment_at f x ≡ moment m
-moment_is f x m at = ap (λ (o : Option Member). option_map_or moment o (At Start)) at
 
 -- the same root and rules
 pub same_moment : (m n : Member) → m.root ≡ n.root → rules_of m ≡ rules_of n → moment m ≡ moment n

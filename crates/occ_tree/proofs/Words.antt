@@ -1,17 +1,10 @@
 -- Moments and words with one rule more.
-use Rattle.std.proofs.Common.{◌≡◌, ℕ, ◌+◌, ◌<◌, List, [], ◌∷◌, ◌++◌, map, take, drop, length, get_or, refl, sym, ap, ◌∙◌}
+use Rattle.std.proofs.Common.{◌≡◌, ℕ, ◌+◌, ◌<◌, List, [], ◌∷◌, ◌++◌, map, take, drop, length, get_or, sym, ap, ◌∙◌}
 use Rattle.std.proofs.lemmas.List.{map_push, take_more, take-append-drop}
 use Rattle.tmm_model.specs.declared.point.PointName.TheVariants.{Begin}
 use Rattle.tmm_model.specs.Moments.{Moment, At, After, along, printed}
 use Rattle.spots.specs.declared.link.Link.{Link}
-
-pub along-push : (t : Moment) (rs : List (List ℕ)) (r : List ℕ) → along t (rs ++ r ∷ []) ≡ After (along t rs) r
-along-push t [] r = refl
-along-push t (q ∷ rs) r = along-push (After t q) rs r
-
-pub along-append : (t : Moment) (rs qs : List (List ℕ)) → along t (rs ++ qs) ≡ along (along t rs) qs
-along-append t [] qs = refl
-along-append t (r ∷ rs) qs = along-append (After t r) rs qs
+use Rattle.tmm_model.proofs.Moments.{along-push, along-append}
 
 -- the word of what a rule leads to
 pub printed-push : (name : List ℕ) (ls : List Link) (l : Link) → printed (along (At (Begin name)) (map (λ l. l.rule) (ls ++ l ∷ []))) ≡ printed (along (At (Begin name)) (map (λ l. l.rule) ls)) ++ 47 ∷ l.rule

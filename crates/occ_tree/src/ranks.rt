@@ -22,7 +22,8 @@ pub struct Ranked<'a> {
     pub node: u32,
 }
 
-/// The nodes in the order of their occurrences, by their earliest dates and then by their words.
+/// The nodes in the order of their occurrences, by their earliest dates and then by their words. Without
+/// memory it answers that.
 pub fn in_order<'a>(
     alloc: Global,
     tree: &'a Tree,

@@ -60,7 +60,9 @@ impl Tree {
         }
     }
 
-    /// Adds a declared event, token or span, and returns its number. Without memory nothing has changed.
+    /// Adds a declared event, token or span, and returns its number: `begin` and `end` are the numbers of
+    /// its points, `what` is its kind or fact, `class` the class of a fact. Without memory nothing has
+    /// changed.
     pub fn insert_root(
         &mut self,
         alloc: Global,
@@ -148,7 +150,7 @@ impl Tree {
         Ok(())
     }
 
-    /// The occurrence of a node.
+    /// The occurrence of a node. Without memory it answers that.
     pub fn occ_of(&self, alloc: Global, x: u32) -> Result<Occ, NoMemory>
         requires { IsLive self.now x }
         ensures { IfOk result (λ occ. moment_of occ ≡ moment_at self.now x) }
@@ -176,7 +178,7 @@ impl Tree {
         self.limit
     }
 
-    /// The numbers of all nodes, each once.
+    /// The numbers of all nodes, each once. Without memory it answers that.
     pub fn numbers(&self, alloc: Global) -> Result<Vec<u32>, NoMemory>
         ensures live { IfOk result (λ numbers. All (IsLive self.now) numbers.items) }
         ensures all { IfOk result (λ numbers. (x : ℕ) → IsLive self.now x → Contains numbers.items x) }

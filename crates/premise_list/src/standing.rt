@@ -114,7 +114,7 @@ impl Standing {
         Ok(fall.names)
     }
 
-    /// Sets the last date at which an effect is projected.
+    /// Sets the last date at which an effect is projected, in whole time units.
     pub fn set_horizon(&mut self, n: u32)
         requires { n ≤ 100000 }
         ensures { self.new ≡ record self.old { present = list_until self.old.present n } }
@@ -122,7 +122,7 @@ impl Standing {
         self.horizon = n;
     }
 
-    /// The last date at which an effect is projected.
+    /// The last date at which an effect is projected, in whole time units.
     pub fn horizon(&self) -> u32
         ensures { result ≡ self.now.present.horizon }
     {

@@ -1,5 +1,5 @@
 -- The rules of a list, told by their places.
-use Rattle.std.proofs.Common.{◌≡◌, ◌∙◌, ℕ, ◌<◌, Bool, true, false, List, [], ◌∷◌, ◌++◌, map, length, get_or, refl, sym, ap, subst, append-nil}
+use Rattle.std.proofs.Common.{◌≡◌, ◌∙◌, ℕ, ◌<◌, List, [], ◌∷◌, ◌++◌, map, length, get_or, refl, sym, ap, subst, append-nil}
 use Rattle.std.specs.Prelude.{Option, Some, None, slice_get}
 use Rattle.std.specs.List.{All, Contains, filter_map, cons_option}
 use Rattle.std.specs.Option.{option_map_or}
@@ -8,11 +8,11 @@ use Rattle.std.proofs.lemmas.List.Elements.{All-push, filter_map-append}
 use Rattle.tmm_model.specs.declared.premise.Premise.{Premise}
 use Rattle.tmm_model.specs.declared.premise.Premise.TheVariants.{Class, Kind, Point, Event, Token, Span, Dist, Rule, Protect}
 use Rattle.tmm_model.specs.Beliefs.{on_kind}
-use Rattle.tmm_model.specs.Points.{same_name}
 use Rattle.tmm_model.specs.Standing.{Standing, name_of}
 use Rattle.tmm_model.specs.WellNamed.{IsWellNamed, premise_in}
 use Rattle.tmm_model.proofs.Elements.{In, In-from_Contains, Contains-from_In, map-In}
 use Rattle.tmm_model.proofs.KnownNames.{found}
+use Rattle.tmm_model.proofs.Sound.{named_rule}
 use Rattle.supports.specs.Rules.{IsRule}
 use Rattle.projection.specs.Places.{name_at, IsRuleAt}
 use Rattle.projection.proofs.Grown.{stands}
@@ -38,19 +38,18 @@ named_there s places names is i below =
 -- ---- one premise more
 
 rule_on : (kind : List ℕ) (p : Premise) (r : List ℕ) → on_kind kind p ≡ Some r → (name_of p ≡ r) × IsRule p
-rule_on kind (Rule name trigger lo hi effect given) r e = (which (same_name trigger kind) e, tt)
+rule_on kind p r e = (named_rule kind p r e, is_rule p e)
   where
-    which : (b : Bool) → elim b as (λ _. Option (List ℕ)) [ true ↦ Some name | false ↦ None ] ≡ Some r → name ≡ r
-    which true e = cc
-    which false e = cc
-rule_on kind (Class name facts) r e = cc
-rule_on kind (Kind name) r e = cc
-rule_on kind (Point name) r e = cc
-rule_on kind (Event name other) r e = cc
-rule_on kind (Token name fact) r e = cc
-rule_on kind (Span name fact) r e = cc
-rule_on kind (Dist name from to lo hi) r e = cc
-rule_on kind (Protect name fact from to) r e = cc
+    is_rule : (p : Premise) → on_kind kind p ≡ Some r → IsRule p
+    is_rule (Rule name trigger lo hi effect given) e = tt
+    is_rule (Class name facts) e = cc
+    is_rule (Kind name) e = cc
+    is_rule (Point name) e = cc
+    is_rule (Event name other) e = cc
+    is_rule (Token name fact) e = cc
+    is_rule (Span name fact) e = cc
+    is_rule (Dist name from to lo hi) e = cc
+    is_rule (Protect name fact from to) e = cc
 
 module _ (s : Standing) (kind : List ℕ) (i : ℕ) (p : Premise) (at : slice_get s.premises i ≡ Some p) where
   own_name : map (name_at s) (map (λ name. i) (filter_map (on_kind kind) (p ∷ []))) ≡ filter_map (on_kind kind) (p ∷ [])

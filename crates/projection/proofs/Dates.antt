@@ -1,7 +1,7 @@
 -- Dates of effects, as the code works them out.
 use Rattle.std.proofs.Common.{◌≡◌, ◌∙◌, ℕ, true, false, sym, subst, arith}
 use Rattle.std.proofs.lemmas.Int.{ints, to_z-of_z}
-use Rattle.std.specs.Prelude.{Option, Some, None, is_none, ℤ, pos, ◌+ℤ◌, ◌≤ℤ◌, ◌<ℤ◌, FitsSigned, List}
+use Rattle.std.specs.Prelude.{Option, Some, None, is_none, ℤ, pos, ◌+ℤ◌, ◌≤ℤ◌, ◌<ℤ◌, int_le, FitsSigned, List}
 use Rattle.std.proofs.Common.{w64, to_z, of_z}
 use Rattle.std.specs.List.{Contains}
 use Rattle.tmm_model.specs.Beliefs.{due, rules_at}
@@ -37,6 +37,9 @@ told_in_time h z (Some d) is e = subst (λ w. w ≤ℤ pos h) (sym is.0) (omega 
 pub untold_late : (h : ℕ) (z : ℤ) (o : Option ℕ) → IsDueBy h z o → is_none o ≡ true → pos h <ℤ z
 untold_late h z None is e = is
 untold_late h z (Some d) is e = cc
+
+pub past_horizon : (h : ℕ) (z : ℤ) → pos h <ℤ z → int_le z (pos h) ≡ false
+past_horizon h z late = grind (arith, ints)
 
 -- ---- as the code has them
 

@@ -12,13 +12,14 @@ use Rattle.tmm_model.specs.declared.token.Shape.{Shape}
 use Rattle.tmm_model.specs.declared.token.Shape.TheVariants.{Span}
 use Rattle.tmm_model.specs.Beliefs.{is_of, as_effect, rules_at}
 use Rattle.tmm_model.specs.Lines.{IsWellFormedPremise, IsNumber, IsBound, IsRange}
-use Rattle.tmm_model.specs.Moments.{Moment, At, After, along, as_rule}
+use Rattle.tmm_model.specs.Moments.{At, After, along, as_rule}
 use Rattle.tmm_model.specs.Right.{Occurs}
 use Rattle.tmm_model.specs.Sorts.{sort_in, class_in}
 use Rattle.tmm_model.specs.Standing.{Standing}
 use Rattle.tmm_model.specs.WellNamed.{premise_in}
 use Rattle.tmm_model.proofs.Elements.{In, Contains-from_In}
 use Rattle.tmm_model.proofs.KnownNames.{finds}
+use Rattle.tmm_model.proofs.Moments.{along-push}
 use Rattle.dist_net.specs.Net.{Net}
 use Rattle.spots.specs.declared.link.Link.{Link}
 use Rattle.spots.specs.Forest.{Forest, Member, member, moment, moment_at, rules_of, Enters, IsTrigger, child_member}
@@ -28,10 +29,6 @@ use Rattle.projection.specs.Growing.{Adds, effect_shape, MayEnter}
 use Rattle.projection.proofs.Facts.{effect_is}
 use Rattle.projection.proofs.Grown.{class_is}
 use Rattle.projection.proofs.OnKinds.{event_of_rules}
-
-along-push : (t : Moment) (rs : List (List ℕ)) (r : List ℕ) → along t (rs ++ r ∷ []) ≡ After (along t rs) r
-along-push t [] r = refl
-along-push t (q ∷ rs) r = along-push (After t q) rs r
 
 -- what a rule leads to begins after the event
 child_moment : (m : Member) (link : Link) (what : List ℕ) (class : Option (List ℕ)) (shape : Shape) → moment (child_member m link what class shape) ≡ After (moment m) link.rule

@@ -10,6 +10,7 @@ use Rattle.tmm_model.specs.Beliefs.{Outcome, fires, blocked, beyond, first_witho
 use Rattle.tmm_model.specs.Moments.{Moment, Distances, rule_of}
 use Rattle.tmm_model.specs.Standing.{Standing}
 use Rattle.supports.proofs.Taken.{next_taken}
+use Rattle.projection.proofs.Dates.{past_horizon}
 
 -- ---- what is found so far
 
@@ -77,11 +78,8 @@ is_tried s far b t r in_time = by (int_le (due s far t r) (pos s.horizon)) (le (
 
 -- it is due after the horizon
 pub is_beyond : (s : Standing) (far : Distances) (b : List Moment) (t : Moment) (r : List ℕ) → pos s.horizon <ℤ due s far t r → beyond ≡ outcome s far b t r
-is_beyond s far b t r late = by (int_le (due s far t r) (pos s.horizon)) (gt (due s far t r) s.horizon late)
+is_beyond s far b t r late = by (int_le (due s far t r) (pos s.horizon)) (past_horizon s.horizon (due s far t r) late)
   where
-    gt : (z : ℤ) (h : ℕ) → pos h <ℤ z → int_le z (pos h) ≡ false
-    gt z h l = grind (arith, ints)
-
     by : (v : Bool) → v ≡ false → beyond ≡ elim v as (λ _. Outcome) [ false ↦ beyond | true ↦ tried (map (λ fact. holder s far b fact t t) (rule_of s r).given) ]
     by false e = refl
     by true e = cc

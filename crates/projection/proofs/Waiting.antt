@@ -18,6 +18,7 @@ use Rattle.projection.specs.declared.pending.Pending.{Pending}
 use Rattle.projection.specs.Counted.{is_due}
 use Rattle.projection.specs.Places.{IsRuleAt, rule_at}
 use Rattle.projection.specs.Queues.{is_for, is_name, IsDue, Queues}
+use Rattle.projection.proofs.Dates.{past_horizon}
 
 -- ---- members of a queue
 
@@ -47,10 +48,7 @@ module _ (s : Standing) (f : Forest) (x : ℕ) where
   }
     where
       not_due : pos s.horizon <ℤ due s (far_in s.premises) (moment_at f x) rule → ◌≡◌ {A = ℕ} (cond (is_due s (moment_at f x) rule) 1 0) 0
-      not_due above = ap (λ b. cond b 1 0) (is_not (due s (far_in s.premises) (moment_at f x) rule) s.horizon above)
-        where
-          is_not : (z : ℤ) (h : ℕ) → pos h <ℤ z → int_le z (pos h) ≡ false
-          is_not z h l = grind (arith, ints)
+      not_due above = ap (λ b. cond b 1 0) (past_horizon s.horizon (due s (far_in s.premises) (moment_at f x) rule) above)
 
       never : (z w : ℤ) (h : ℕ) → z ≡ w → pos h <ℤ z → w ≤ℤ pos h → ⊥
       never z w h e a b = omega (arith, ints)

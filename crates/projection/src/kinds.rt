@@ -55,6 +55,7 @@ impl RulesByKind {
         ensures places { All (IsRuleAt standing.now.present) result.now }
         ensures few { length result.now ≤ 2000 }
     {
+        // it tells the proof what holds of the list
         let _ = standing.len();
         let row = tree.row(x);
         match row.shape {

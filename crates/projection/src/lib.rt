@@ -1,5 +1,5 @@
-//! What a standing list projects: what becomes of a rule at an event, and the tree of all that is
-//! believed. It stands on `occ_tree` and `supports`.
+//! What a standing list projects (as in Dean and McDermott 1987): what becomes of a rule at an event, and
+//! the tree of all that is believed. It stands on `supports` and `name_lists`.
 //!
 //! `decide` tells the outcome of a rule at an event among the nodes of a tree. `rebuild` makes the
 //! tree of the believed occurrences, from what is declared, by deciding each rule at each event once,

@@ -10,10 +10,11 @@ use crate::kinds::RulesByKind;
 use arrayvec::ArrayVec;
 use dist_net::DistNet;
 use list_net::add_premise;
-use occ_tree::Tree;
+use occ_tree::{Tree, in_order};
 use premise_list::Standing;
 use std::alloc::Global;
 use std::test::Fail;
+use supports::clips;
 use tmm_model::{Bound, Edit, Name, NoMemory, Premise, Stop};
 
 #[test]
@@ -223,5 +224,39 @@ fn decisions_are_those_of_what_is_believed(rt: HostRuntime) -> Result<(), Fail> 
     assert_eq!(rt; deciding.value(), projecting.value());
     assert_eq!(rt; deciding.value(), 4);
     assert_eq!(rt; projected.size, 12);
+    Ok(())
+}
+
+#[test]
+fn a_token_is_clipped_by_the_next_of_another_fact(rt: HostRuntime) -> Result<(), Fail> {
+    let alloc = rt.alloc();
+    let (standing, net) = match premises(alloc) {
+        Ok(made) => made,
+        Err(Stop::NoMemory) => return Err(Fail::from(NoMemory)),
+        Err(Stop::Refused(_)) => panic!(rt; "the premises are refused"),
+    };
+    let mut counter = Counter::zero();
+    let projected = match rebuild(alloc, &standing, &net, &mut counter) {
+        Ok(projected) => projected,
+        Err(Stop::NoMemory) => return Err(Fail::from(NoMemory)),
+        Err(Stop::Refused(_)) => panic!(rt; "the map is refused"),
+    };
+    let tree = &projected.tree;
+    let nodes = tree.numbers(alloc)?;
+    let ranked = in_order(alloc, tree, &net, nodes.as_slice())?;
+    let clips = clips(alloc, tree, &net, ranked.as_slice())?;
+    // the event, the lamp on, the ring, the lamp off
+    for (date, (row, clip)) in (0..).zip(ranked.iter().zip(clips.iter())) {
+        assert_eq!(rt; row.early, date);
+        match clip {
+            Some(by) => {
+                assert_eq!(rt; tree.row(row.node).what, name(b"on"));
+                assert_eq!(rt; tree.row(*by).what, name(b"off"));
+            }
+            None => assert_ne!(rt; date, 1),
+        }
+    }
+    assert_eq!(rt; ranked.len(), 4);
+    assert_eq!(rt; clips.len(), 4);
     Ok(())
 }

@@ -1,16 +1,17 @@
 -- What a standing protection names is there.
 use Rattle.std.proofs.Common.{◌≡◌, ◌∙◌, ℕ, List, [], ◌∷◌, ◌++◌, refl, sym, subst, inl, inr, append_assoc}
-use Rattle.std.specs.Prelude.{Option, Some, None, IsSome}
+use Rattle.std.specs.Prelude.{None, IsSome}
 use Rattle.std.specs.List.{Contains, flat_map}
 use Rattle.std.proofs.lemmas.Grind.{flat_map-append}
 use Rattle.tmm_model.specs.declared.point.PointName.{PointName}
 use Rattle.tmm_model.specs.declared.point.PointName.TheVariants.{Start}
 use Rattle.tmm_model.specs.declared.premise.Premise.{Premise}
 use Rattle.tmm_model.specs.declared.premise.Premise.TheVariants.{Protect}
-use Rattle.tmm_model.specs.Sorts.{Use, a_place, fact_use, class_in}
+use Rattle.tmm_model.specs.Sorts.{a_place, fact_use, class_in}
 use Rattle.tmm_model.specs.Standing.{Standing, points_of, points_in}
-use Rattle.tmm_model.specs.Verdicts.{Cause, use_cause, uses_cause, place_cause}
+use Rattle.tmm_model.specs.Verdicts.{place_cause}
 use Rattle.tmm_model.specs.WellNamed.{Follows, AllFollow}
+use Rattle.tmm_model.proofs.Adding.{uses_none}
 use Rattle.tmm_model.proofs.Elements.{In, In-left, In-from_Contains, Contains-from_In}
 use Rattle.tmm_model.proofs.Places.{place_known}
 use Rattle.dist_net.specs.Net.{Net}
@@ -25,14 +26,6 @@ follows_at earlier (o ∷ ps) h p (inl is) = (earlier, o ∷ ps, refl, subst (Fo
 follows_at earlier (o ∷ ps) h p (inr at) =
     let (known, rest, e, f) = follows_at (earlier ++ o ∷ []) ps h.1 p at in
     (known, rest, sym (append_assoc earlier (o ∷ []) ps) ∙ e, f)
-
--- the first use has no cause, nor have the others
-no_cause : (known : List Premise) (u : Use) (us : List Use) → uses_cause known (u ∷ us) ≡ None → (use_cause known u ≡ None) × (uses_cause known us ≡ None)
-no_cause known u us e = by (use_cause known u) refl e
-  where
-    by : (o : Option Cause) → use_cause known u ≡ o → elim o as (λ _. Option Cause) [ Some cause ↦ Some cause | None ↦ uses_cause known us ] ≡ None → (use_cause known u ≡ None) × (uses_cause known us ≡ None)
-    by None is e = (is, e)
-    by (Some cause) is e = cc
 
 points_more : (known rest : List Premise) (p : PointName) → Contains (points_in known) p → Contains (points_in (known ++ rest)) p
 points_more known rest p at =
@@ -49,9 +42,9 @@ pub record IsGrounded (s : Standing) (net : Net) (fact : List ℕ) (from to : Po
 pub grounded : (s : Standing) (net : Net) → IsNetOf s net → (name fact : List ℕ) (from to : PointName) → Contains s.premises (Protect name fact from to) → IsGrounded s net fact from to
 grounded s net is name fact from to at =
     let (known, rest, e, follows) = follows_at [] s.premises is.sound.well_named (Protect name fact from to) (In-from_Contains s.premises (Protect name fact from to) at) in
-    let (of_fact, others) = no_cause known (fact_use fact) (a_place from ∷ a_place to ∷ []) follows.known in
-    let (of_from, last) = no_cause known (a_place from) (a_place to ∷ []) others in
-    let (of_to, _) = no_cause known (a_place to) [] last in
+    let (of_fact, others) = uses_none known (fact_use fact) (a_place from ∷ a_place to ∷ []) follows.known in
+    let (of_from, last) = uses_none known (a_place from) (a_place to ∷ []) others in
+    let (of_to, _) = uses_none known (a_place to) [] last in
     let there : (p : PointName) → place_cause known p ≡ None → IsThere net.names p =
     λ p none. is.fits.stands.numbered p (subst (λ l. Contains (points_in l) p) (sym e) (points_more known rest p (place_known known p none))) in
     record {

@@ -4,7 +4,7 @@ ghost use Rattle.std.specs.List.{cons_option};
 
 use tmm_model::{NoMemory, Seq};
 
-/// Appends an item.
+// Appends an item.
 pub(crate) fn push<T: Drop>(list: &mut Seq<T>, item: T) -> Result<(), NoMemory>
     ensures { OnOk result (list.new.items ≡ list.old.items ++ item ∷ []) }
 {
@@ -14,7 +14,7 @@ pub(crate) fn push<T: Drop>(list: &mut Seq<T>, item: T) -> Result<(), NoMemory>
     }
 }
 
-/// Appends the item that there is.
+// Appends the item that there is.
 pub(crate) fn push_some<T: Drop>(list: &mut Seq<T>, item: Option<T>) -> Result<(), NoMemory>
     ensures { OnOk result (list.new.items ≡ list.old.items ++ cons_option item []) }
 {

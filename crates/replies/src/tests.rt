@@ -1,3 +1,4 @@
+//! The bytes of replies.
 use super::*;
 use premise_list::Standing;
 use std::alloc::Global;

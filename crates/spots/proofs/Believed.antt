@@ -1,5 +1,5 @@
 -- No occurrence is believed twice.
-use Rattle.std.proofs.Common.{◌≡◌, ◌∙◌, ℕ, Bool, true, false, List, [], ◌∷◌, ◌++◌, Option, Some, None, refl, sym, ap, inl}
+use Rattle.std.proofs.Common.{◌≡◌, ◌∙◌, ℕ, List, [], ◌∷◌, ◌++◌, Option, Some, None, refl, sym, ap, inl}
 use Rattle.std.specs.Option.{option_map_or}
 use Rattle.std.specs.List.{filter_map, cons_option}
 use Rattle.std.specs.Cmp.Lexicographic.{bytes_decides}
@@ -11,7 +11,6 @@ use Rattle.tmm_model.specs.declared.token.Shape.TheVariants.{Event as AnEvent, P
 use Rattle.tmm_model.specs.Beliefs.{root_of, roots, is_of, on_kind, rules_for, rules_at}
 use Rattle.tmm_model.specs.Maps.{built}
 use Rattle.tmm_model.specs.Moments.{Moment, At, After}
-use Rattle.tmm_model.specs.Points.{same_name}
 use Rattle.tmm_model.specs.Right.{IsSound}
 use Rattle.tmm_model.specs.Standing.{Standing, name_of, far_in}
 use Rattle.tmm_model.specs.WellNamed.{AllFollow}
@@ -19,6 +18,7 @@ use Rattle.tmm_model.proofs.Distinct.{Distinct}
 use Rattle.tmm_model.proofs.Elements.{In-filter_map, In-right}
 use Rattle.tmm_model.proofs.KnownNames.{fresh}
 use Rattle.tmm_model.proofs.LevelDistinct.{level_distinct}
+use Rattle.tmm_model.proofs.Sound.{named_rule}
 use Rattle.tmm_model.proofs.SoundBeliefs.{sound_timed}
 
 -- what is told of a premise stands once, where it tells the premise's name
@@ -54,21 +54,6 @@ named_root (Point name) y e = cc
 named_root (Dist name from to lo hi) y e = cc
 named_root (Rule name trigger lo hi effect given) y e = cc
 named_root (Protect name fact from to) y e = cc
-
-named_rule : (kind : List ℕ) (p : Premise) (r : List ℕ) → on_kind kind p ≡ Some r → name_of p ≡ r
-named_rule kind (Rule name trigger lo hi effect given) r e = which (same_name trigger kind) e
-  where
-    which : (b : Bool) → elim b as (λ _. Option (List ℕ)) [ true ↦ Some name | false ↦ None ] ≡ Some r → name ≡ r
-    which true e = cc
-    which false e = cc
-named_rule kind (Class name facts) r e = cc
-named_rule kind (Kind name) r e = cc
-named_rule kind (Point name) r e = cc
-named_rule kind (Event name other) r e = cc
-named_rule kind (Token name fact) r e = cc
-named_rule kind (Span name fact) r e = cc
-named_rule kind (Dist name from to lo hi) r e = cc
-named_rule kind (Protect name fact from to) r e = cc
 
 -- no root stands twice
 pub roots_once : (s : Standing) → IsSound s → Distinct (roots s)

@@ -1,5 +1,5 @@
 -- What a spot is of a list: its point with its number and name, its rules, and its moment.
-use Rattle.std.proofs.Common.{◌≡◌, ℕ, [], Option, Some, None, ap, refl, sym, subst}
+use Rattle.std.proofs.Common.{◌≡◌, ℕ, List, [], ◌∷◌, ◌++◌, Option, Some, None, ap, refl, sym, subst}
 use Rattle.std.specs.Prelude.{IsSome, is_some}
 use Rattle.std.specs.Option.{option_map_or}
 use Rattle.std.specs.List.{All}
@@ -13,9 +13,10 @@ use Rattle.dist_net.specs.Net.{Net}
 use Rattle.list_net.specs.Represents.{IsNumberOf}
 use Rattle.list_net.proofs.Named.{name_at-is}
 use Rattle.list_net.proofs.Nets.{is_used}
+use Rattle.spots.specs.declared.link.Link.{Link}
 use Rattle.spots.specs.declared.spot.Spot.{Spot}
 use Rattle.spots.specs.declared.spot.Spot.TheVariants.{Declared, Node}
-use Rattle.spots.specs.Forest.{Forest, Member, member, IsLive, rules_of, moment, moment_at}
+use Rattle.spots.specs.Forest.{Forest, Member, member, IsLive, rules_of, moment, moment_at, last_name}
 use Rattle.spots.specs.Spots.{IsSpot, spot_moment, base_of, links_of}
 use Rattle.spots.specs.Seen.{IsSeen, IsLinkOf}
 use Rattle.spots.proofs.Links.{rules_in}
@@ -33,6 +34,10 @@ live_at f x m here = ap (λ (o : Option Member). is_some o) here
 
 pub moment_at-is : (f : Forest) (x : ℕ) (m : Member) → member f x ≡ Some m → moment_at f x ≡ moment m
 moment_at-is f x m here = ap (λ (o : Option Member). option_map_or moment o (At Start)) here
+
+pub last_name-push : (name : List ℕ) (links : List Link) (link : Link) → last_name name (links ++ link ∷ []) ≡ link.rule
+last_name-push name [] link = refl
+last_name-push name (l ∷ links) link = last_name-push l.rule links link
 
 pub rules-moment : (m : Member) → rules (moment m) ≡ rules_of m
 rules-moment m = rules-along (At (Begin m.root)) (rules_of m)

@@ -17,9 +17,9 @@ use Rattle.tmm_model.specs.Standing.{Standing, far_in}
 use Rattle.tmm_model.specs.Tokens.{of_one_class, supports, clips, cuts, is_by, is_before, lasts_to, IsFirstPlace, IsFirstAmong}
 use Rattle.tmm_model.proofs.ClassTokens.{support_alike}
 use Rattle.tmm_model.proofs.Elements.{In, both, In-list_any, In-filter_map}
-use Rattle.tmm_model.proofs.LinePoints.{same-is}
 use Rattle.tmm_model.proofs.Order.{ordered}
 use Rattle.tmm_model.proofs.Outcomes.{no_first_token}
+use Rattle.tmm_model.proofs.Points.{same_name-is}
 use Rattle.tmm_model.proofs.Watched.{class-token_of}
 use Rattle.clipping.specs.Faults.{IsClipPlace, IsFault}
 use Rattle.clipping.specs.declared.Fault.{Fault as PlaceFault}
@@ -108,7 +108,7 @@ module _ {s : Standing} {net : Net} {f : Forest} (seen : IsSeen s net f) {class 
         let same = (both (same_name k.fact fact) (is_by gap k.spot (mom p)) begins).0 in
         let one : class_of s fact ≡ class = rw (in_class, class_of) refl in
         let (y, _, is) = In-filter_map (token_of s) b k at in
-        class-token_of s y k is ∙ ap (class_of s) (same-is k.fact fact same) ∙ one
+        class-token_of s y k is ∙ ap (class_of s) (same_name-is k.fact fact same) ∙ one
 
     -- **The first row that supports a fact** is its first supporter.
     pub holder_is : (place : Option ℕ) → IsFirstPlace (on (λ k. k.spot) order) (supports of_one_class far rows fact p q) rows place
@@ -144,7 +144,7 @@ module _ {s : Standing} {net : Net} {f : Forest} (seen : IsSeen s net f) {class 
     clip_class k clip =
         let differ = (both (of_one_class (go row) k) (is_before gap (go row).spot k.spot) clip).0 in
         let same = (both (same_name row.class k.class) (not (same_name row.fact k.fact)) differ).0 in
-        sym (same-is row.class k.class same) ∙ class_is row at
+        sym (same_name-is row.class k.class same) ∙ class_is row at
 
     -- **The first row that clips a row** is its clip.
     pub clip_is : (x : ℕ) → row.spot ≡ Node x → (place : Option ℕ) → IsClipPlace of_one_class far order rows row place

@@ -14,8 +14,8 @@ use Rattle.tmm_model.specs.declared.token.TokenRow.{TokenRow}
 use Rattle.tmm_model.specs.Points.{same_name}
 use Rattle.tmm_model.specs.Standing.{Standing}
 use Rattle.tmm_model.proofs.Elements.{In, In-from_Contains, In-left, In-right, In-cases}
-use Rattle.tmm_model.proofs.LinePoints.{same-is}
 use Rattle.tmm_model.proofs.Members.{All-from_contains}
+use Rattle.tmm_model.proofs.Points.{same_name-is}
 use Rattle.dist_net.specs.Net.{Net}
 use Rattle.name_lists.specs.Lists.{Appends}
 use Rattle.occ_tree.specs.Ranks.{nodes_of}
@@ -63,7 +63,7 @@ module _ (f : Forest) (class : List ℕ) where
   In-of_class (Some k) row at = by (same_name class k.class) refl at
     where
       by : (v : Bool) → same_name class k.class ≡ v → In row (elim v [ true ↦ k ∷ [] | false ↦ [] ]) → (Some k ≡ Some row) × (row.class ≡ class)
-      by true e (inl is) = (ap Some is, ap (λ z. z.class) (sym is) ∙ sym (same-is class k.class e))
+      by true e (inl is) = (ap Some is, ap (λ z. z.class) (sym is) ∙ sym (same_name-is class k.class e))
       by true e (inr at) = absurd at
       by false e at = absurd at
 
@@ -154,7 +154,7 @@ module _ (f : Forest) (nodes : List ℕ) (i : ℕ) (lt : i < length nodes) where
       ∙ ap (rows_behind f class) (sym from_here)
     where
       by : (v : Bool) → same_name class row.class ≡ v → new class ≡ rows_behind f class (drop (i + 1) nodes) ++ elim v [ true ↦ row ∷ [] | false ↦ [] ]
-      by true e = let same : class ≡ row.class = same-is class row.class e in ap new same ∙ appends.own ∙ ap (λ c. old c ++ row ∷ []) (sym same) ∙ ap (λ l. l ++ row ∷ []) (are class)
+      by true e = let same : class ≡ row.class = same_name-is class row.class e in ap new same ∙ appends.own ∙ ap (λ c. old c ++ row ∷ []) (sym same) ∙ ap (λ l. l ++ row ∷ []) (are class)
       by false e =
           let other : class ≢ row.class = λ same. (let t : same_name class row.class ≡ true = subst (λ z. same_name class z ≡ true) same (nat_list_eq_equiv.refl class) in cc) in
           appends.others class other ∙ are class ∙ sym (append-nil (rows_behind f class (drop (i + 1) nodes)))

@@ -12,6 +12,7 @@ use Rattle.tmm_model.specs.Sorts.{Sort, a_class, a_fact, a_kind, a_point, an_eve
 use Rattle.tmm_model.specs.Standing.{name_of}
 use Rattle.tmm_model.specs.Verdicts.{Cause, unknown, ill_sorted, name_cause, use_cause, uses_cause}
 use Rattle.tmm_model.specs.WellNamed.{AllFollow, IsWellNamed}
+use Rattle.tmm_model.proofs.Adding.{uses_none}
 use Rattle.tmm_model.proofs.Elements.{In}
 use Rattle.tmm_model.proofs.WellNamed.{lookup-append}
 use Rattle.premise_list.specs.Words.{facts_of, own_sort}
@@ -76,17 +77,10 @@ fact-class n (p ∷ ps) h =
 
 -- ---- uses
 
-one_use : (premises : List Premise) (u : Use) (us : List Use) → uses_cause premises (u ∷ us) ≡ None → (use_cause premises u ≡ None) × (uses_cause premises us ≡ None)
-one_use premises u us e = by (use_cause premises u) refl e
-  where
-    by : (x : Option Cause) → use_cause premises u ≡ x → elim x as (λ _. Option Cause) [ Some cause ↦ Some cause | None ↦ uses_cause premises us ] ≡ None → (use_cause premises u ≡ None) × (uses_cause premises us ≡ None)
-    by None f e = (f, e)
-    by (Some x) f e = cc
-
 each_use : (premises : List Premise) (us : List Use) → uses_cause premises us ≡ None → (u : Use) → In u us → use_cause premises u ≡ None
 each_use premises [] e u at = absurd at
-each_use premises (v ∷ us) e u (inl is) = subst (λ w. use_cause premises w ≡ None) is (one_use premises v us e).0
-each_use premises (v ∷ us) e u (inr at) = each_use premises us (one_use premises v us e).1 u at
+each_use premises (v ∷ us) e u (inl is) = subst (λ w. use_cause premises w ≡ None) is (uses_none premises v us e).0
+each_use premises (v ∷ us) e u (inr at) = each_use premises us (uses_none premises v us e).1 u at
 
 -- what a name is declared as, where that is as wanted
 wanted_sort : (premises : List Premise) (n : List ℕ) (wanted : Sort → Bool) → use_cause premises (a_name n wanted) ≡ None → (sort : Sort) × (sort_in premises n ≡ Some sort) × (wanted sort ≡ true)

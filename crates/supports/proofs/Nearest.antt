@@ -17,8 +17,8 @@ use Rattle.tmm_model.specs.Points.{same_name}
 use Rattle.tmm_model.specs.Standing.{Standing, far_in}
 use Rattle.tmm_model.specs.Tokens.{of_one_class, clips, is_before}
 use Rattle.tmm_model.proofs.Elements.{In, both, In-from_Contains, Contains-from_In, In-filter_map, filter_map-In}
-use Rattle.tmm_model.proofs.LinePoints.{same-is}
 use Rattle.tmm_model.proofs.Order.{ordered, total}
+use Rattle.tmm_model.proofs.Points.{same_name-is}
 use Rattle.clipping.specs.Lasts.{IsLastPlace}
 use Rattle.dist_net.specs.Net.{Net}
 use Rattle.spots.specs.declared.spot.Spot.{Spot}
@@ -159,7 +159,7 @@ module _ {s : Standing} {net : Net} {f : Forest} (seen : IsSeen s net f) {b : Li
         own k at passed =
             let (y, a, is_a, same) = node_there k at in
             let (differ, before) = both (of_one_class (go row) (go a)) (is_before gap (go row).spot (go a).spot) (subst (λ z. clips of_one_class gap (go row) z ≡ true) (sym same) passed) in
-            let one = same-is row.class a.class (both (same_name row.class a.class) (not (same_name row.fact a.fact)) differ).0 in
+            let one = same_name-is row.class a.class (both (same_name row.class a.class) (not (same_name row.fact a.fact)) differ).0 in
             (a, behind-In f row.class back y a (clips_behind y a is_a before) is_a (sym one), same)
 
     nearest : (found : Option ℕ) → MatchOption row.end (IsLastNode (clips of_one_class far row) rows found) (λ _. IsNone found)

@@ -25,7 +25,7 @@ use std::alloc::Global;
 use tmm_model::{NoMemory, TokenRow};
 
 /// What clips each node, given all nodes in their order: the node of the first token that does, none
-/// exactly where no token does. A span and an event have none.
+/// exactly where no token does. A span and an event have none. Without memory it answers that.
 pub fn clips(
     alloc: Global,
     tree: &Tree,

@@ -90,11 +90,17 @@ fn answer_script<M: MapCore + Drop>(alloc: Global, n: u32, session: &mut Session
 /// How many replies there were, and how many of them of each kind.
 #[derive(Clone, Copy)]
 pub struct Counts {
+    /// The replies of any kind.
     pub lines: u64,
+    /// Edits that were made.
     pub ok: u64,
+    /// Questions whether a fact holds, or what is broken, that were answered `yes`.
     pub yes: u64,
+    /// Such questions that were answered `no` with its blames.
     pub no: u64,
+    /// Lines that were refused.
     pub refused: u64,
+    /// Lines for which there was no memory.
     pub memory: u64,
     /// The size that the last reply told, where it told one.
     pub size: Option<u64>,

@@ -7,9 +7,10 @@ use tmm_model::Turn;
 
 /// What answers the lines of a script, one after the other.
 pub trait Lines {
-    /// What the lines so far have left, as contracts see it.
+    /// Of what the lines so far have left, as contracts see it.
     ghost State: { Type 0 };
 
+    /// What the lines so far have left.
     ghost state: { Self → State };
 
     /// How many lines were given.

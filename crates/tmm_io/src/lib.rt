@@ -2,7 +2,7 @@
 //!
 //! Two traits, `Source` and `Sink`, with the ends in memory and over std's readers and writers. It
 //! stands on `tmm_model`. A source gives its bytes in order and a sink keeps bytes in order; either
-//! answers `Failed` only where its count of faults rose in that call.
+//! answers `Failed` only where its count of faults rose in that call, or stands at its last value.
 #![tactic(auto)]
 
 mod ends;

@@ -1,3 +1,4 @@
+//! Sources and sinks, in memory and over streams, with faults.
 use super::*;
 use std::test::Fail;
 

@@ -52,7 +52,8 @@ may_be_added ps p none =
     let c = option_or-none (premises_cause ps) (points_cause (ps ++ p ∷ [])) b.1 in
     record { names = a.0; uses = b.0; few = few_premises ps c.0; room = few_points (ps ++ p ∷ []) c.1 }
 
-uses_none : (ps : List Premise) (use_ : Use) (uses : List Use) → uses_cause ps (use_ ∷ uses) ≡ None → (use_cause ps use_ ≡ None) × (uses_cause ps uses ≡ None)
+-- the first use has no cause, nor have the others
+pub uses_none : (ps : List Premise) (use_ : Use) (uses : List Use) → uses_cause ps (use_ ∷ uses) ≡ None → (use_cause ps use_ ≡ None) × (uses_cause ps uses ≡ None)
 uses_none ps use_ uses none = by (use_cause ps use_) refl none
   where
     by : (o : Option Cause) → use_cause ps use_ ≡ o → elim o as (λ _. Option Cause) [ Some cause ↦ Some cause | None ↦ uses_cause ps uses ] ≡ None → (use_cause ps use_ ≡ None) × (uses_cause ps uses ≡ None)

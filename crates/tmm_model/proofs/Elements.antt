@@ -1,7 +1,7 @@
 -- Members of lists, by recursion.
 use Rattle.std.proofs.Common.{◌≡◌, zero, suc, Bool, true, false, ◌&&◌, ◌||◌, List, [], ◌∷◌, ◌++◌, refl, sym, ◌∙◌, ap, subst, inl, inr, arith}
 use Rattle.std.specs.Prelude.{Option, Some, None, ◌⊎◌, filter, map, cond}
-use Rattle.std.specs.List.{Contains, list_any, filter_map, cons_option, flat_map}
+use Rattle.std.specs.List.{Contains, AllByRecursion, list_any, list_all, filter_map, cons_option, flat_map}
 
 -- x is in the list
 abbrev pub In : {X : Type 0} → X → List X → Type 0
@@ -41,6 +41,17 @@ In-list_any p (y ∷ ys) x (inr h) e = or_right (p y) (In-list_any p ys x h e)
     or_right : (a : Bool) {c : Bool} → c ≡ true → (a || c) ≡ true
     or_right true h = refl
     or_right false h = h
+
+pub list_all-In : {X : Type 0} (p : X → Bool) (xs : List X) → list_all p xs ≡ true → (x : X) → In x xs → p x ≡ true
+list_all-In p [] h x at = absurd at
+list_all-In p (y ∷ ys) h x (inl is) = subst (λ z. p z ≡ true) is (both (p y) (list_all p ys) h).0
+list_all-In p (y ∷ ys) h x (inr at) = list_all-In p ys (both (p y) (list_all p ys) h).1 x at
+
+-- what holds of all holds of a member
+pub each_in : {X : Type 0} (P : X → Type 0) (xs : List X) → AllByRecursion P xs → (x : X) → In x xs → P x
+each_in P [] h x at = absurd at
+each_in P (y ∷ ys) h x (inl is) = subst P is h.0
+each_in P (y ∷ ys) h x (inr at) = each_in P ys h.1 x at
 
 -- what a filter_map has comes of a member, and the other way round
 pub In-filter_map : {X Y : Type 0} (h : X → Option Y) (xs : List X) (y : Y) → In y (filter_map h xs) → (x : X) × In x xs × (h x ≡ Some y)

@@ -1,6 +1,7 @@
 -- What an erasure leaves.
 use Rattle.std.proofs.Common.{◌≡◌, ℕ, Bool, true, false, ◌||◌, List, [], ◌∷◌, ◌++◌, refl, sym, ◌∙◌, ap}
 use Rattle.std.specs.Prelude.{Option, Some, None}
+use Rattle.std.proofs.lemmas.Bool.{or_parts}
 use Rattle.std.specs.List.{flat_map, list_any}
 use Rattle.std.specs.Map.{lookup}
 use Rattle.std.specs.Option.{option_or}
@@ -72,10 +73,6 @@ module _ (erased : List ℕ) where
 pub record IsPart (gone : List (List ℕ)) (earlier kept : List Premise) : Type 0 where
   pub fewer : (v : List ℕ) → is_among (words_known kept) v ≡ true → is_among (words_known earlier) v ≡ true
   pub sorts : (v : List ℕ) → is_among gone v ≡ false → sort_in kept v ≡ sort_in earlier v
-
-or_parts : (a b : Bool) → (a || b) ≡ false → (a ≡ false) × (b ≡ false)
-or_parts true b h = cc
-or_parts false b h = (refl, h)
 
 or_left : (a b c : Bool) → (a ≡ true → b ≡ true) → (a || c) ≡ true → (b || c) ≡ true
 or_left true b c f h = let e : b ≡ true = f refl in ap (λ x. x || c) e

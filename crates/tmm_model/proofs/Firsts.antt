@@ -20,7 +20,7 @@ module _ {P : Type 0} {live : P → Type 0} {order : P → P → Ordering} (law 
   Live xs = (k : TokenRow P) → In k xs → live k.spot
 
   -- not after, one after the other
-  upto : (x y z : P) → live x → live y → live z → is_gt (order x y) ≡ false → is_gt (order y z) ≡ false → is_gt (order x z) ≡ false
+  pub upto : (x y z : P) → live x → live y → live z → is_gt (order x y) ≡ false → is_gt (order y z) ≡ false → is_gt (order x z) ≡ false
   upto x y z lx ly lz h g = by (order x y) refl (order y z) refl
     where
       by : (r : Ordering) → order x y ≡ r → (s : Ordering) → order y z ≡ s → is_gt (order x z) ≡ false
@@ -30,7 +30,7 @@ module _ {P : Type 0} {live : P → Type 0} {order : P → P → Ordering} (law 
       by Equal e s f = subst (λ w. is_gt (order w z) ≡ false) (sym (law.strict x y lx ly e)) g
       by Greater e s f = cc
 
-  itself : (x : P) → live x → is_gt (order x x) ≡ false
+  pub itself : (x : P) → live x → is_gt (order x x) ≡ false
   itself x lx = by (order x x) refl (law.antisymm x x lx lx)
     where
       by : (r : Ordering) → order x x ≡ r → order x x ≡ ordering_reverse (order x x) → is_gt (order x x) ≡ false

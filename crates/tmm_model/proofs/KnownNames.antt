@@ -1,8 +1,8 @@
 -- What a well-named list finds under a name, and which points its constraints are between.
 use Rattle.std.proofs.Common.{◌≡◌, ℕ, Bool, true, false, List, [], ◌∷◌, ◌++◌, refl, sym, ◌∙◌, ap, subst, inl, inr, append_assoc, cond}
-use Rattle.std.specs.Prelude.{Option, Some, None}
+use Rattle.std.specs.Prelude.{Some, None}
 use Rattle.std.specs.List.{flat_map, list_any, Contains}
-use Rattle.std.specs.Cmp.Lexicographic.{bytes_decides, nat_list_eq_equiv}
+use Rattle.std.specs.Cmp.Lexicographic.{bytes_decides}
 use Rattle.tmm_model.specs.declared.bound.Bound.{Bound}
 use Rattle.tmm_model.specs.declared.bound.Bound.TheVariants.{Finite, Free}
 use Rattle.tmm_model.specs.declared.point.PointName.{PointName}
@@ -11,18 +11,17 @@ use Rattle.tmm_model.specs.declared.premise.Premise.{Premise}
 use Rattle.tmm_model.specs.declared.premise.Premise.TheVariants.{Class, Kind, Point, Event, Token, Span, Dist, Rule, Protect}
 use Rattle.tmm_model.specs.declared.walk.WalkStep.{WalkStep}
 use Rattle.tmm_model.specs.Points.{same_name}
-use Rattle.tmm_model.specs.Sorts.{declarations_of, declarations_in, declared_by, Use, a_place}
+use Rattle.tmm_model.specs.Sorts.{declarations_of, declarations_in, declared_by, a_place}
 use Rattle.tmm_model.specs.Standing.{name_of, points_of, points_in, base_step, length_step, steps_of, hi_steps, lo_steps, arc_of, arcs_of, arcs_in}
-use Rattle.tmm_model.specs.Verdicts.{Cause, first_taken, use_cause, uses_cause, place_cause, words_known}
+use Rattle.tmm_model.specs.Verdicts.{first_taken, place_cause, words_known}
 use Rattle.tmm_model.specs.Walks.{Arc, AreAmong}
 use Rattle.tmm_model.specs.WellNamed.{Follows, AllFollow, IsWellNamed, premise_in}
+use Rattle.tmm_model.proofs.Adding.{uses_none}
 use Rattle.tmm_model.proofs.Elements.{In, In-list_any, In-left, In-right, In-cases, In-flat_map, flat_map-In, In-map, map-In, Contains-from_In, In-from_Contains}
 use Rattle.tmm_model.proofs.Members.{All-from_contains}
 use Rattle.tmm_model.proofs.Places.{place_known, first_declared}
+use Rattle.tmm_model.proofs.Points.{same_name-self}
 use Rattle.tmm_model.proofs.WellNamed.{first_taken-none}
-
-same_name_itself : (n : List ℕ) → same_name n n ≡ true
-same_name_itself n = nat_list_eq_equiv.refl n
 
 -- ---- names
 
@@ -39,7 +38,7 @@ own_name (Rule name trigger lo hi effect given) = inl refl
 own_name (Protect name fact from to) = inl refl
 
 -- the own name of a premise that follows was not known
-own_new : (earlier : List Premise) (p : Premise) → Follows earlier p → list_any (same_name (name_of p)) (words_known earlier) ≡ false
+pub own_new : (earlier : List Premise) (p : Premise) → Follows earlier p → list_any (same_name (name_of p)) (words_known earlier) ≡ false
 own_new earlier p f =
     let (ws, e) = first_declared p in
     (first_taken-none (words_known earlier) (name_of p) ws (subst (λ l. first_taken (words_known earlier) l ≡ None) e f.new)).new
@@ -62,7 +61,7 @@ fresh earlier (o ∷ premises) h p (inr at) q before e = fresh (earlier ++ o ∷
 -- **A premise of a well-named list is the one found under its name.**
 found_after : (earlier premises : List Premise) → AllFollow earlier premises → (p : Premise) → In p premises → premise_in premises (name_of p) ≡ Some p
 found_after earlier [] h p at = absurd at
-found_after earlier (o ∷ premises) h p (inl is) = by (same_name (name_of p) (name_of o)) (ap (same_name (name_of p)) (ap name_of is) ∙ same_name_itself (name_of p))
+found_after earlier (o ∷ premises) h p (inl is) = by (same_name (name_of p) (name_of o)) (ap (same_name (name_of p)) (ap name_of is) ∙ same_name-self (name_of p))
   where
     by : (b : Bool) → b ≡ true → cond b (Some o) (premise_in premises (name_of p)) ≡ Some p
     by true e = ap Some is
@@ -103,13 +102,6 @@ sides_known known name from to lo hi f t e at = elim (In-cases (hi_steps name fr
 
 known_place : (premises : List Premise) (p : PointName) → place_cause premises p ≡ None → In p (points_in premises)
 known_place premises p e = In-from_Contains (points_in premises) p (place_known premises p e)
-
-uses_none : (premises : List Premise) (u : Use) (us : List Use) → uses_cause premises (u ∷ us) ≡ None → (use_cause premises u ≡ None) × (uses_cause premises us ≡ None)
-uses_none premises u us e = by (use_cause premises u) refl e
-  where
-    by : (x : Option Cause) → use_cause premises u ≡ x → elim x as (λ _. Option Cause) [ Some cause ↦ Some cause | None ↦ uses_cause premises us ] ≡ None → (use_cause premises u ≡ None) × (uses_cause premises us ≡ None)
-    by None f e = (f, e)
-    by (Some x) f e = cc
 
 points_more : (xs ys : List Premise) (q : PointName) → In q (points_in xs) → In q (points_in (xs ++ ys))
 points_more xs ys q (inl is) = inl is

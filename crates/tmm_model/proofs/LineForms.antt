@@ -25,7 +25,8 @@ use Rattle.tmm_model.specs.Lines.{IsName, AreNames, number_word, bound_word, IsN
 use Rattle.tmm_model.specs.Reading.{◌>>=◌, passing, ended, alone, both, name_of, names_of, number_of, bound_of, point_of, occ_of, horizon_of, is_range, class_of, dist_of, given_of, rule_of, protect_of, name_alone_of, two_names_of, two_points_of, ask_of, premise_of, edit_of, query_of, line_of}
 use Rattle.tmm_model.proofs.LineReaders.{chosen, bind_some, map_some, passing_some, ended_some, IsReader, alone_reader, both_reader}
 use Rattle.tmm_model.proofs.LineNumbers.{number_reader}
-use Rattle.tmm_model.proofs.LinePoints.{same-is, name_reader, bound_reader, point_reader, IsBareOcc, occ_reader, IsBarePoint, query_point_reader, horizon_reader}
+use Rattle.tmm_model.proofs.LinePoints.{name_reader, bound_reader, point_reader, IsBareOcc, occ_reader, IsBarePoint, query_point_reader, horizon_reader}
+use Rattle.tmm_model.proofs.Points.{same_name-is}
 
 -- the words declare the premise
 abbrev pub Declares : List (List ℕ) → Premise → Type 0
@@ -113,7 +114,7 @@ given-sound (w ∷ ws) fs e =
           let c = passing_some (nat_le 1 (length a.0)) a.0 fs a.2 in
           let r = (names_reader 4).sound ws a.0 a.1 in
           let k : ws ≡ fs = r.1 ∙ c.1 in
-          (subst (λ (x : List (List ℕ)). AreNames x × (length x ≤ 4)) c.1 r.0, (λ i. same-is w (codes "if") p.0 i ∷ k i) ∙ if_words fs (subst (λ (x : List (List ℕ)). 1 ≤ length x) c.1 (leb-true 1 (length a.0) c.0)))
+          (subst (λ (x : List (List ℕ)). AreNames x × (length x ≤ 4)) c.1 r.0, (λ i. same_name-is w (codes "if") p.0 i ∷ k i) ∙ if_words fs (subst (λ (x : List (List ℕ)). 1 ≤ length x) c.1 (leb-true 1 (length a.0) c.0)))
       | inr p ↦ absurd cc
     ]
   where
@@ -190,7 +191,7 @@ two_names = both_reader name_reader (alone_reader name_reader)
 keyed : {A : Type 0} (w k : List ℕ) (x y : Option A) (p : A) (P : List ℕ → Type 0) → cond (same_name w k) x y ≡ Some p → (x ≡ Some p → P k) → (y ≡ Some p → P w) → P w
 keyed w k x y p P e here else =
     elim (chosen (same_name w k) x y (Some p) e) [
-      | inl q ↦ subst P (sym (same-is w k q.0)) (here q.1)
+      | inl q ↦ subst P (sym (same_name-is w k q.0)) (here q.1)
       | inr q ↦ else q.1
     ]
 

@@ -6,7 +6,6 @@ use Rattle.std.proofs.lemmas.Bool.{and_parts, and_from, leb-true, le-leb, eqb-tr
 use Rattle.std.proofs.lemmas.Int.{ints}
 use Rattle.std.proofs.lemmas.List.{append-nil, take_at, drop_at, take-append-drop, length-append}
 use Rattle.std.proofs.lemmas.List.Folds.{list_all-append, list_any-append}
-use Rattle.std.proofs.lemmas.Slice.Eq.{bytes_eq-Decides}
 use Rattle.tmm_model.specs.declared.bound.Bound.{Bound}
 use Rattle.tmm_model.specs.declared.bound.Bound.TheVariants.{Finite, Free}
 use Rattle.tmm_model.specs.declared.point.PointName.{PointName}
@@ -20,18 +19,7 @@ use Rattle.tmm_model.specs.Lines.{is_blank, IsName, AreNames, number_word, bound
 use Rattle.tmm_model.specs.Reading.{name_of, digits_on, natural_of, number_of, bound_of, end_of, point_of, parts, parts_behind, bare, occ_from, occ_of, query_point_of, horizon_from, horizon_of}
 use Rattle.tmm_model.proofs.LineReaders.{chosen, bind_some, map_some, passing_some, IsReader}
 use Rattle.tmm_model.proofs.LineNumbers.{number_reader}
-
-pub same-is : (a b : List ℕ) → same_name a b ≡ true → a ≡ b
-same-is a b = (bytes_eq-Decides a b).0
-
-pub same-refl : (a : List ℕ) → same_name a a ≡ true
-same-refl a = (bytes_eq-Decides a a).1 refl
-
-pub differ : (a b : List ℕ) → a ≢ b → same_name a b ≡ false
-differ a b other = false_from_ne_true (same_name a b) (λ e. other (same-is a b e))
-
-pub apart : (a b : List ℕ) → same_name a b ≡ false → a ≢ b
-apart a b f e = both_ways (same_name a b) f ((bytes_eq-Decides a b).1 e)
+use Rattle.tmm_model.proofs.Points.{same_name-is, names_differ, names_apart}
 
 -- ---- names
 
@@ -57,7 +45,7 @@ bound_of-sound w b e =
     elim (chosen (same_name w (codes "*")) (Some Free) (option_map Finite (number_of w)) (Some b) e) [
       | inl p ↦
           let k : Free ≡ b = cc in
-          (subst IsBound k tt, same-is w (codes "*") p.0 ∙ ap bound_word k)
+          (subst IsBound k tt, same_name-is w (codes "*") p.0 ∙ ap bound_word k)
       | inr p ↦
           let q = map_some Finite (number_of w) b p.1 in
           let r = number_reader.sound w q.0 q.1 in
@@ -72,7 +60,7 @@ pub bound_of-complete : (b : Bound) → IsBound b → bound_of (bound_word b) �
 unfolding bound_of
 bound_of-complete (Finite z) h =
     let k = number_reader.complete z h in
-    let f : same_name (number_word z) (codes "*") ≡ false = differ _ _ (λ e. no_star z (ap number_of (sym e) ∙ k)) in
+    let f : same_name (number_word z) (codes "*") ≡ false = names_differ _ _ (λ e. no_star z (ap number_of (sym e) ∙ k)) in
     rw (f, k) refl
 bound_of-complete Free h = refl
 
@@ -93,7 +81,7 @@ end_of-sound w p e =
       | inl q ↦
           let r = map_some End (name_of (take (length w - 4) w)) p q.1 in
           let s = name_reader.sound (take (length w - 4) w) r.0 r.1 in
-          (subst IsWellFormedPoint r.2 s.0, sym (take-append-drop (length w - 4) w) ∙ ap (λ (t : List ℕ). t ++ drop (length w - 4) w) s.1 ∙ ap (λ (t : List ℕ). r.0 ++ t) (same-is _ _ q.0) ∙ ap point_word r.2)
+          (subst IsWellFormedPoint r.2 s.0, sym (take-append-drop (length w - 4) w) ∙ ap (λ (t : List ℕ). t ++ drop (length w - 4) w) s.1 ∙ ap (λ (t : List ℕ). r.0 ++ t) (same_name-is _ _ q.0) ∙ ap point_word r.2)
       | inr q ↦ absurd cc
     ]
 
@@ -108,12 +96,12 @@ point_of-sound w p e =
     elim (chosen (same_name w (codes "start")) (Some Start) (cond (is_name w) (Some (Begin w)) (end_of w)) (Some p) e) [
       | inl q ↦
           let k : Start ≡ p = cc in
-          (subst IsWellFormedPoint k tt, same-is w (codes "start") q.0 ∙ ap point_word k)
+          (subst IsWellFormedPoint k tt, same_name-is w (codes "start") q.0 ∙ ap point_word k)
       | inr q ↦
           elim (chosen (is_name w) (Some (Begin w)) (end_of w) (Some p) q.1) [
             | inl r ↦
                 let k : Begin w ≡ p = cc in
-                (subst IsWellFormedPoint k (r.0, apart w (codes "start") q.0), ap point_word k)
+                (subst IsWellFormedPoint k (r.0, names_apart w (codes "start") q.0), ap point_word k)
             | inr r ↦ end_of-sound w p r.1
           ]
     ]
@@ -121,9 +109,9 @@ point_of-sound w p e =
 pub point_of-complete : (p : PointName) → IsWellFormedPoint p → point_of (point_word p) ≡ Some p
 unfolding point_of
 point_of-complete Start h = refl
-point_of-complete (Begin k) h = rw (differ k (codes "start") h.1, h.0) refl
+point_of-complete (Begin k) h = rw (names_differ k (codes "start") h.1, h.0) refl
 point_of-complete (End k) h =
-    let f : same_name (k ++ codes ".end") (codes "start") ≡ false = differ (k ++ codes ".end") (codes "start") (λ e. true≢false (sym (ap is_name e) ∙ no_dot k)) in
+    let f : same_name (k ++ codes ".end") (codes "start") ≡ false = names_differ (k ++ codes ".end") (codes "start") (λ e. true≢false (sym (ap is_name e) ∙ no_dot k)) in
     rw (f, no_dot k) (end_of-complete k h)
 
 pub point_reader : IsReader point_word IsWellFormedPoint point_of

@@ -41,7 +41,14 @@ pub printed-moment_of_point : (p : QueryPoint) → printed (moment_of_point p) �
 printed-moment_of_point (Declared p) = refl
 printed-moment_of_point (Derived o) = printed-moment_of o
 
--- ---- the rules of the moment that rules lead to
+-- ---- the moment that rules lead to
+
+pub along-append : (t : Moment) (rs qs : List (List ℕ)) → along t (rs ++ qs) ≡ along (along t rs) qs
+along-append t [] qs = refl
+along-append t (r ∷ rs) qs = along-append (After t r) rs qs
+
+pub along-push : (t : Moment) (rs : List (List ℕ)) (r : List ℕ) → along t (rs ++ r ∷ []) ≡ After (along t rs) r
+along-push t rs r = along-append t rs (r ∷ [])
 
 pub rules-along : (t : Moment) (rs : List (List ℕ)) → rules (along t rs) ≡ rules t ++ rs
 rules-along t [] = sym (append-nil (rules t))

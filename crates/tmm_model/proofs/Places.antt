@@ -19,7 +19,7 @@ use Rattle.tmm_model.specs.Standing.{name_of, points_of, points_in, arcs_of, arc
 use Rattle.tmm_model.specs.Sorts.{Sort, a_class, a_fact, a_kind, a_point, an_event, a_token, a_span, a_dist, a_rule, a_protection, is_place, fact_declaration, declarations_of, declarations_in, sort_in, declared_by}
 use Rattle.tmm_model.specs.Verdicts.{Cause, unknown, ill_sorted, place_cause, name_cause, end_cause, first_taken, words_known}
 use Rattle.tmm_model.proofs.Members.{Contains-cons, Contains-cons_first, Contains-cons_cases}
-use Rattle.tmm_model.proofs.Points.{Decides-same_point}
+use Rattle.tmm_model.proofs.Points.{same_name-is, same_name-self}
 use Rattle.tmm_model.proofs.WellNamed.{first_taken-none}
 
 -- ---- one premise more
@@ -50,12 +50,6 @@ length-arcs_in-le [] = omega arith
 length-arcs_in-le (p ∷ ps) = omega (arith, length-append (arcs_of p) (arcs_in ps), length-arcs_of-le p, length-arcs_in-le ps)
 
 -- ---- points and the names that they are declared by
-
-same_name-is : (a b : List ℕ) → same_name a b ≡ true → a ≡ b
-same_name-is a b same = let e : Begin a ≡ Begin b = (Decides-same_point (Begin a) (Begin b)).0 same in cc
-
-same_name-self : (a : List ℕ) → same_name a a ≡ true
-same_name-self a = (Decides-same_point (Begin a) (Begin a)).1 refl
 
 -- the name of a declared point
 abbrev pub base_name : PointName → List ℕ

@@ -46,7 +46,7 @@ module _ {P : Type 0} (same : P → P → Bool) (decides : (x y : P) → Decides
 
 -- ---- a way through a constraint that closes no negative cycle, and back, gains nothing
 
-int_min-left : (x y : ℤ) → x ≤ℤ y → int_min x y ≡ x
+pub int_min-left : (x y : ℤ) → x ≤ℤ y → int_min x y ≡ x
 int_min-left x y h = omega (arith, ints, clamps)
 
 pub lesser-past_cycle_left : (x : Bound) (w : ℤ) (y : Bound) → Fits w x → lesser y (through x w y) ≡ y

@@ -134,6 +134,22 @@ sound_rule (Span name fact) h = omega (arith, ints)
 sound_rule (Dist name from to lo hi) h = omega (arith, ints)
 sound_rule (Protect name fact from to) h = omega (arith, ints)
 
+-- the rule on a kind is known by its name
+pub named_rule : (kind : List ℕ) (p : Premise) (r : List ℕ) → on_kind kind p ≡ Some r → name_of p ≡ r
+named_rule kind (Rule name trigger lo hi effect given) r e = which (same_name trigger kind) e
+  where
+    which : (b : Bool) → elim b as (λ _. Option (List ℕ)) [ true ↦ Some name | false ↦ None ] ≡ Some r → name ≡ r
+    which true e = cc
+    which false e = cc
+named_rule kind (Class name facts) r e = cc
+named_rule kind (Kind name) r e = cc
+named_rule kind (Point name) r e = cc
+named_rule kind (Event name other) r e = cc
+named_rule kind (Token name fact) r e = cc
+named_rule kind (Span name fact) r e = cc
+named_rule kind (Dist name from to lo hi) r e = cc
+named_rule kind (Protect name fact from to) r e = cc
+
 -- a rule that stands at a moment is the one found under its name
 pub rule_stands : (s : Standing) (t : Moment) (r : List ℕ) → Contains (rules_at s t) r → (p : Premise) × In p s.premises × (name_of p ≡ r) × (kind : List ℕ) × (on_kind kind p ≡ Some r)
 rule_stands s t r at = by (is_of s t) at
@@ -141,22 +157,7 @@ rule_stands s t r at = by (is_of s t) at
     on : (kind : List ℕ) → Contains (rules_on s kind) r → (p : Premise) × In p s.premises × (name_of p ≡ r) × (kind : List ℕ) × (on_kind kind p ≡ Some r)
     on kind at =
         let (p, there, is) = In-filter_map (on_kind kind) s.premises r (In-from_Contains (rules_on s kind) r at) in
-        (p, there, named p is, kind, is)
-      where
-        named : (p : Premise) → on_kind kind p ≡ Some r → name_of p ≡ r
-        named (Rule name trigger lo hi effect given) e = which (same_name trigger kind) e
-          where
-            which : (b : Bool) → elim b as (λ _. Option (List ℕ)) [ true ↦ Some name | false ↦ None ] ≡ Some r → name ≡ r
-            which true e = cc
-            which false e = cc
-        named (Class name facts) e = cc
-        named (Kind name) e = cc
-        named (Point name) e = cc
-        named (Event name kind_) e = cc
-        named (Token name fact) e = cc
-        named (Span name fact) e = cc
-        named (Dist name from to lo hi) e = cc
-        named (Protect name fact from to) e = cc
+        (p, there, named_rule kind p r is, kind, is)
 
     by : (o : Option (Shape × List ℕ)) → Contains (rules_for s o) r → (p : Premise) × In p s.premises × (name_of p ≡ r) × (kind : List ℕ) × (on_kind kind p ≡ Some r)
     by (Some (AnEvent, kind)) at = on kind at

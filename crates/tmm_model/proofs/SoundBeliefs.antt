@@ -2,7 +2,7 @@
 use Rattle.std.proofs.Common.{◌≡◌, ◌∙◌, ℕ, true, ◌&&◌, List, [], ◌∷◌, ◌++◌, map, refl, sym, ap, subst, inl, inr, arith}
 use Rattle.std.proofs.lemmas.Int.{ints}
 use Rattle.std.specs.Prelude.{◌↔◌, Some, ℤ, ◌≤ℤ◌, ◌<ℤ◌}
-use Rattle.std.specs.List.{AllByRecursion, Contains}
+use Rattle.std.specs.List.{Contains}
 use Rattle.std.specs.List.Sorted.{IsStrictlySortedBy}
 use Rattle.std.specs.Cmp.{int_cmp_is}
 use Rattle.std.specs.Cmp.Lexicographic.{slice_cmp}
@@ -10,20 +10,21 @@ use Rattle.std.specs.Ordering.{nat_cmp, ordering_then, ordering_reverse}
 use Rattle.std.specs.declared.cmp.Ordering.{Ordering}
 use Rattle.std.specs.declared.cmp.Ordering.TheVariants.{Less, Greater}
 use Rattle.tmm_model.specs.Beliefs.{rules_at, token_of, tokens, contradicts_in, holder, outcome, fires}
-use Rattle.tmm_model.specs.Maps.{TimeMap, built, order}
+use Rattle.tmm_model.specs.Maps.{built, order}
 use Rattle.tmm_model.specs.Moments.{Moment, At, After, Distances, distance, early, occ_cmp, printed, rule_of}
 use Rattle.tmm_model.specs.Points.{same_name}
 use Rattle.tmm_model.specs.Reasons.{rests_on, Upholds, itself, through, IsWhy, Reason}
 use Rattle.tmm_model.specs.Right.{Occurs, IsSound, IsTimed, IsRight}
 use Rattle.tmm_model.specs.Standing.{Standing, far_in}
 use Rattle.tmm_model.specs.Tokens.{is_by, lasts_to, supports}
-use Rattle.tmm_model.proofs.Elements.{In, both, In-from_Contains, Contains-from_In, In-filter_map, In-map, In-cases, In-right}
+use Rattle.tmm_model.proofs.Elements.{In, both, In-from_Contains, Contains-from_In, In-filter_map, In-map, In-cases, In-right, each_in}
 use Rattle.tmm_model.proofs.LevelRight.{beliefs_right}
 use Rattle.tmm_model.proofs.OneRight.{one_right, occurs, later, spot-token_of}
 use Rattle.tmm_model.proofs.Order.{total}
 use Rattle.tmm_model.proofs.Outcomes.{fires_exactly, first_token_in}
 use Rattle.tmm_model.proofs.Sound.{shortest, sound_rules}
 use Rattle.tmm_model.proofs.Timed.{timed}
+use Rattle.tmm_model.proofs.Upholding.{further}
 
 pub sound_timed : (s : Standing) → IsSound s → IsTimed s (far_in s.premises)
 sound_timed s sound = timed s (far_in s.premises) (shortest s sound) (sound_rules s sound)
@@ -87,25 +88,16 @@ upholder : (s : Standing) → IsSound s → (o x : Moment) → Upholds (built s)
 upholder s sound o x itself at = at
 upholder s sound o x (through {y = y} step rest) at = upholder s sound y x rest (earlier s sound o y at step).0
 
-further : (m : TimeMap) (o y x : Moment) → Upholds m o y → Contains (rests_on m y) x → Upholds m o x
-further m o y x itself step = through step itself
-further m o y x (through first rest) step = through first (further m _ y x rest step)
-
 -- ---- order
 
 -- what has an earlier date is before
 before : (s : Standing) (far : Distances) (x y : Moment) → early s far x <ℤ early s far y → occ_cmp s far x y ≡ Less
 before s far x y h = ap (λ r. ordering_then r (slice_cmp nat_cmp (printed x) (printed y))) (sym (int_cmp_is (early s far x) (early s far y) Less h))
 
-each : {X : Type 0} (P : X → Type 0) (xs : List X) → AllByRecursion P xs → (x : X) → In x xs → P x
-each P [] h x at = absurd at
-each P (y ∷ ys) h x (inl is) = subst P is h.0
-each P (y ∷ ys) h x (inr at) = each P ys h.1 x at
-
 -- in a rising list what stands behind is not before
 behind : (cmp : Moment → Moment → Ordering) (front : List Moment) (y : Moment) (back : List Moment) → IsStrictlySortedBy cmp (front ++ y ∷ back) → (x : Moment) → In x back → cmp y x ≡ Less
 unfolding IsStrictlySortedBy
-behind cmp [] y back h x at = each (λ z. cmp y z ≡ Less) back h.0 x at
+behind cmp [] y back h x at = each_in (λ z. cmp y z ≡ Less) back h.0 x at
 behind cmp (z ∷ front) y back h x at = behind cmp front y back h.1 x at
 
 pub cited_before : (s : Standing) → IsSound s → (o : Moment) (lines : List Reason) → Contains (built s).believed o → (why : IsWhy (built s) o lines)

@@ -17,14 +17,8 @@ use Rattle.tmm_model.specs.Tokens.{is_by}
 use Rattle.tmm_model.specs.Beliefs.{root_of, roots, rules_at, due}
 use Rattle.tmm_model.specs.Right.{Occurs, IsTimed, IsShortest, HasSoundRules}
 use Rattle.tmm_model.proofs.Elements.{In-from_Contains, In-filter_map}
-use Rattle.tmm_model.proofs.Points.{Decides-same_point}
+use Rattle.tmm_model.proofs.Points.{same_point-is, same_point-self}
 use Rattle.tmm_model.proofs.Triangle.{T_left, T_right, B_same, low_high, low_apart, high_apart, apart_most, apart_triangle, same_path}
-
-same_point_is : (p q : PointName) → same_point p q ≡ true → p ≡ q
-same_point_is p q = (Decides-same_point p q).0
-
-same_point_itself : (p : PointName) → same_point p p ≡ true
-same_point_itself p = (Decides-same_point p p).1 refl
 
 T_far : (lu lv : ℤ) (x f13 f12 f23 hv hw : Bound) → IsTighter x (bound_less (bound_plus f13 hw) lu) → IsTighter f13 (bound_plus f12 f23) → IsTighter (Finite lv) hv → IsTighter x (bound_plus (bound_less (bound_plus f12 hv) lu) (bound_less (bound_plus f23 hw) lv))
 T_far lu lv x f13 Free f23 hv hw p q r = tt
@@ -52,7 +46,7 @@ module _ (s : Standing) (far : Distances) (short : IsShortest s far) (rule_laws 
       by : (b : Bool) → same_point (base x) (base y) ≡ b → IsTighter (elim b [ true ↦ apart s (rules x) (rules y) | false ↦ bound_less (bound_plus (far (base x) (base y)) (high s (rules y))) (low s (rules x)) ]) (bound_less (bound_plus (far (base x) (base y)) (high s (rules y))) (low s (rules x)))
       by true e =
           own_zero (low s (rules x)) (apart s (rules x) (rules y)) (far (base x) (base y)) (high s (rules y))
-          (subst (λ p. far (base x) p ≡ Finite (pos 0)) (same_point_is (base x) (base y) e) (short.itself (base x)))
+          (subst (λ p. far (base x) p ≡ Finite (pos 0)) (same_point-is (base x) (base y) e) (short.itself (base x)))
           (apart_most s rule_laws.sound (rules x) (rules y))
       by false e = itself_most (bound_less (bound_plus (far (base x) (base y)) (high s (rules y))) (low s (rules x)))
         where
@@ -61,7 +55,7 @@ module _ (s : Standing) (far : Distances) (short : IsShortest s far) (rule_laws 
           itself_most (Finite a) = omega (arith, ints)
 
   pub distance_itself : (x : Moment) → distance s far x x ≡ Finite (pos 0)
-  distance_itself x = subst (λ b. (elim b [ true ↦ apart s (rules x) (rules x) | false ↦ bound_less (bound_plus (far (base x) (base x)) (high s (rules x))) (low s (rules x)) ]) ≡ Finite (pos 0)) (sym (same_point_itself (base x))) (same_path s rule_laws.sound (rules x))
+  distance_itself x = subst (λ b. (elim b [ true ↦ apart s (rules x) (rules x) | false ↦ bound_less (bound_plus (far (base x) (base x)) (high s (rules x))) (low s (rules x)) ]) ≡ Finite (pos 0)) (sym (same_point-self (base x))) (same_path s rule_laws.sound (rules x))
 
   pub distance_triangle : (x y z : Moment) → IsTighter (distance s far x z) (bound_plus (distance s far x y) (distance s far y z))
   distance_triangle x y z = by (same_point (base x) (base y)) refl (same_point (base y) (base z)) refl (distance_most x z)
@@ -72,18 +66,18 @@ module _ (s : Standing) (far : Distances) (short : IsShortest s far) (rule_laws 
           (bound_plus (elim b [ true ↦ apart s (rules x) (rules y) | false ↦ bound_less (bound_plus (far (base x) (base y)) (high s (rules y))) (low s (rules x)) ])
           (elim c [ true ↦ apart s (rules y) (rules z) | false ↦ bound_less (bound_plus (far (base y) (base z)) (high s (rules z))) (low s (rules y)) ]))
       by true e true f most =
-          let g : same_point (base x) (base z) ≡ true = subst (λ p. same_point p (base z) ≡ true) (sym (same_point_is (base x) (base y) e)) f in
+          let g : same_point (base x) (base z) ≡ true = subst (λ p. same_point p (base z) ≡ true) (sym (same_point-is (base x) (base y) e)) f in
           subst (λ b. IsTighter (elim b [ true ↦ apart s (rules x) (rules z) | false ↦ bound_less (bound_plus (far (base x) (base z)) (high s (rules z))) (low s (rules x)) ]) (bound_plus (apart s (rules x) (rules y)) (apart s (rules y) (rules z)))) (sym g)
           (apart_triangle s rule_laws.sound (rules x) (rules y) (rules z))
       by true e false f most =
-          let g : same_point (base x) (base z) ≡ false = subst (λ p. same_point p (base z) ≡ false) (sym (same_point_is (base x) (base y) e)) f in
+          let g : same_point (base x) (base z) ≡ false = subst (λ p. same_point p (base z) ≡ false) (sym (same_point-is (base x) (base y) e)) f in
           subst (λ b. IsTighter (elim b [ true ↦ apart s (rules x) (rules z) | false ↦ bound_less (bound_plus (far (base x) (base z)) (high s (rules z))) (low s (rules x)) ]) (bound_plus (apart s (rules x) (rules y)) (bound_less (bound_plus (far (base y) (base z)) (high s (rules z))) (low s (rules y))))) (sym g)
-          (subst (λ p. IsTighter (bound_less (bound_plus (far (base x) (base z)) (high s (rules z))) (low s (rules x))) (bound_plus (apart s (rules x) (rules y)) (bound_less (bound_plus (far p (base z)) (high s (rules z))) (low s (rules y))))) (same_point_is (base x) (base y) e)
+          (subst (λ p. IsTighter (bound_less (bound_plus (far (base x) (base z)) (high s (rules z))) (low s (rules x))) (bound_plus (apart s (rules x) (rules y)) (bound_less (bound_plus (far p (base z)) (high s (rules z))) (low s (rules y))))) (same_point-is (base x) (base y) e)
           (T_right (low s (rules x)) (low s (rules y)) (apart s (rules x) (rules y)) (bound_plus (far (base x) (base z)) (high s (rules z))) (low_apart s rule_laws.sound (rules x) (rules y))))
       by false e true f most =
-          let g : same_point (base x) (base z) ≡ false = subst (λ p. same_point (base x) p ≡ false) (same_point_is (base y) (base z) f) e in
+          let g : same_point (base x) (base z) ≡ false = subst (λ p. same_point (base x) p ≡ false) (same_point-is (base y) (base z) f) e in
           subst (λ b. IsTighter (elim b [ true ↦ apart s (rules x) (rules z) | false ↦ bound_less (bound_plus (far (base x) (base z)) (high s (rules z))) (low s (rules x)) ]) (bound_plus (bound_less (bound_plus (far (base x) (base y)) (high s (rules y))) (low s (rules x))) (apart s (rules y) (rules z)))) (sym g)
-          (subst (λ p. IsTighter (bound_less (bound_plus (far (base x) p) (high s (rules z))) (low s (rules x))) (bound_plus (bound_less (bound_plus (far (base x) (base y)) (high s (rules y))) (low s (rules x))) (apart s (rules y) (rules z)))) (same_point_is (base y) (base z) f)
+          (subst (λ p. IsTighter (bound_less (bound_plus (far (base x) p) (high s (rules z))) (low s (rules x))) (bound_plus (bound_less (bound_plus (far (base x) (base y)) (high s (rules y))) (low s (rules x))) (apart s (rules y) (rules z)))) (same_point-is (base y) (base z) f)
           (T_left (low s (rules x)) (bound_plus (far (base x) (base y)) (high s (rules y))) (bound_plus (far (base x) (base y)) (high s (rules z))) (apart s (rules y) (rules z))
           (B_same (far (base x) (base y)) (high s (rules y)) (high s (rules z)) (apart s (rules y) (rules z)) (high_apart s rule_laws.sound (rules y) (rules z)))))
       by false e false f most =

@@ -2,13 +2,14 @@
 use Rattle.std.proofs.Common.{◌≡◌, ℕ, Bool, true, false, List, [], ◌∷◌, refl, sym, subst, arith}
 use Rattle.std.proofs.lemmas.Int.{ints}
 use Rattle.std.specs.Prelude.{ℤ, pos, ◌+ℤ◌}
-use Rattle.std.specs.Cmp.Lexicographic.{bytes_decides, nat_list_eq_equiv}
+use Rattle.std.specs.Cmp.Lexicographic.{nat_list_eq_equiv}
 use Rattle.tmm_model.specs.declared.bound.Bound.{Bound}
 use Rattle.tmm_model.specs.declared.bound.Bound.TheVariants.{Finite, Free}
 use Rattle.tmm_model.specs.Bounds.{bound_plus, bound_less, IsTighter}
 use Rattle.tmm_model.specs.Moments.{rule_of, low, high, apart}
 use Rattle.tmm_model.specs.Points.{same_name}
 use Rattle.tmm_model.specs.Standing.{Standing}
+use Rattle.tmm_model.proofs.Points.{same_name-is}
 
 -- ---- bounds
 
@@ -70,9 +71,6 @@ self (Finite a) = omega (arith, ints)
 
 -- ---- paths of rules
 
-same_head : (r q : List ℕ) → same_name r q ≡ true → r ≡ q
-same_head r q e = (bytes_decides r q).0 e
-
 module _ (s : Standing) (sound : (r : List ℕ) → IsTighter (Finite (rule_of s r).lo) (rule_of s r).hi) where
   pub low_high : (u : List (List ℕ)) → IsTighter (Finite (low s u)) (high s u)
   low_high [] = omega (arith, ints)
@@ -83,7 +81,7 @@ module _ (s : Standing) (sound : (r : List ℕ) → IsTighter (Finite (rule_of s
   low_apart (r ∷ u) (q ∷ v) = by (low_apart u v) (same_name r q) refl
     where
       by : IsTighter (Finite (low s v)) (bound_plus (Finite (low s u)) (apart s u v)) → (b : Bool) → same_name r q ≡ b → IsTighter (Finite (low s (q ∷ v))) (bound_plus (Finite (low s (r ∷ u))) (elim b [ true ↦ apart s u v | false ↦ bound_less (high s (q ∷ v)) (low s (r ∷ u)) ]))
-      by again true e = subst (λ w. IsTighter (Finite (low s (w ∷ v))) (bound_plus (Finite (low s (r ∷ u))) (apart s u v))) (same_head r q e) (A_same (rule_of s r).lo (low s u) (low s v) (apart s u v) again)
+      by again true e = subst (λ w. IsTighter (Finite (low s (w ∷ v))) (bound_plus (Finite (low s (r ∷ u))) (apart s u v))) (same_name-is r q e) (A_same (rule_of s r).lo (low s u) (low s v) (apart s u v) again)
       by again false e = A_other (low s (r ∷ u)) (low s (q ∷ v)) (high s (q ∷ v)) (low_high (q ∷ v))
   low_apart (r ∷ u) [] = A_other (low s (r ∷ u)) (low s []) (high s []) (low_high [])
   low_apart [] v = A_other (low s []) (low s v) (high s v) (low_high v)
@@ -92,7 +90,7 @@ module _ (s : Standing) (sound : (r : List ℕ) → IsTighter (Finite (rule_of s
   high_apart (r ∷ u) (q ∷ v) = by (high_apart u v) (same_name r q) refl
     where
       by : IsTighter (high s v) (bound_plus (high s u) (apart s u v)) → (b : Bool) → same_name r q ≡ b → IsTighter (high s (q ∷ v)) (bound_plus (high s (r ∷ u)) (elim b [ true ↦ apart s u v | false ↦ bound_less (high s (q ∷ v)) (low s (r ∷ u)) ]))
-      by again true e = subst (λ w. IsTighter (high s (w ∷ v)) (bound_plus (high s (r ∷ u)) (apart s u v))) (same_head r q e) (B_same (rule_of s r).hi (high s u) (high s v) (apart s u v) again)
+      by again true e = subst (λ w. IsTighter (high s (w ∷ v)) (bound_plus (high s (r ∷ u)) (apart s u v))) (same_name-is r q e) (B_same (rule_of s r).hi (high s u) (high s v) (apart s u v) again)
       by again false e = B_other (low s (r ∷ u)) (high s (r ∷ u)) (high s (q ∷ v)) (low_high (r ∷ u))
   high_apart (r ∷ u) [] = B_other (low s (r ∷ u)) (high s (r ∷ u)) (high s []) (low_high (r ∷ u))
   high_apart [] v = B_other (low s []) (high s []) (high s v) (low_high [])
@@ -101,7 +99,7 @@ module _ (s : Standing) (sound : (r : List ℕ) → IsTighter (Finite (rule_of s
   apart_most (r ∷ u) (q ∷ v) = by (apart_most u v) (same_name r q) refl
     where
       by : IsTighter (apart s u v) (bound_less (high s v) (low s u)) → (b : Bool) → same_name r q ≡ b → IsTighter (elim b [ true ↦ apart s u v | false ↦ bound_less (high s (q ∷ v)) (low s (r ∷ u)) ]) (bound_less (high s (q ∷ v)) (low s (r ∷ u)))
-      by again true e = subst (λ w. IsTighter (apart s u v) (bound_less (high s (w ∷ v)) (low s (r ∷ u)))) (same_head r q e) (K_same (rule_of s r).lo (low s u) (rule_of s r).hi (high s v) (apart s u v) (sound r) again)
+      by again true e = subst (λ w. IsTighter (apart s u v) (bound_less (high s (w ∷ v)) (low s (r ∷ u)))) (same_name-is r q e) (K_same (rule_of s r).lo (low s u) (rule_of s r).hi (high s v) (apart s u v) (sound r) again)
       by again false e = K_other (low s (r ∷ u)) (high s (q ∷ v))
   apart_most (r ∷ u) [] = K_other (low s (r ∷ u)) (high s [])
   apart_most [] v = K_other (low s []) (high s v)
@@ -122,18 +120,18 @@ module _ (s : Standing) (sound : (r : List ℕ) → IsTighter (Finite (rule_of s
           (bound_plus (elim b [ true ↦ apart s u v | false ↦ bound_less (high s (q ∷ v)) (low s (r ∷ u)) ])
           (elim c [ true ↦ apart s v w | false ↦ bound_less (high s (p ∷ w)) (low s (q ∷ v)) ]))
       by again true e true f true g = again
-      by again true e true f false g = let h : same_name r p ≡ true = subst (λ z. same_name z p ≡ true) (sym (same_head r q e)) f in cc
-      by again true e false f true g = let h : same_name q p ≡ true = subst (λ z. same_name z p ≡ true) (same_head r q e) g in cc
+      by again true e true f false g = let h : same_name r p ≡ true = subst (λ z. same_name z p ≡ true) (sym (same_name-is r q e)) f in cc
+      by again true e false f true g = let h : same_name q p ≡ true = subst (λ z. same_name z p ≡ true) (same_name-is r q e) g in cc
       by again true e false f false g =
           T_right (low s (r ∷ u)) (low s (q ∷ v)) (apart s u v) (high s (p ∷ w))
-          (subst (λ z. IsTighter (Finite (low s (z ∷ v))) (bound_plus (Finite (low s (r ∷ u))) (apart s u v))) (same_head r q e) (A_same (rule_of s r).lo (low s u) (low s v) (apart s u v) (low_apart u v)))
-      by again false e true f true g = let h : same_name r q ≡ true = subst (λ z. same_name r z ≡ true) (sym (same_head q p f)) g in cc
+          (subst (λ z. IsTighter (Finite (low s (z ∷ v))) (bound_plus (Finite (low s (r ∷ u))) (apart s u v))) (same_name-is r q e) (A_same (rule_of s r).lo (low s u) (low s v) (apart s u v) (low_apart u v)))
+      by again false e true f true g = let h : same_name r q ≡ true = subst (λ z. same_name r z ≡ true) (sym (same_name-is q p f)) g in cc
       by again false e true f false g =
           T_left (low s (r ∷ u)) (high s (q ∷ v)) (high s (p ∷ w)) (apart s v w)
-          (subst (λ z. IsTighter (high s (z ∷ w)) (bound_plus (high s (q ∷ v)) (apart s v w))) (same_head q p f) (B_same (rule_of s q).hi (high s v) (high s w) (apart s v w) (high_apart v w)))
+          (subst (λ z. IsTighter (high s (z ∷ w)) (bound_plus (high s (q ∷ v)) (apart s v w))) (same_name-is q p f) (B_same (rule_of s q).hi (high s v) (high s w) (apart s v w) (high_apart v w)))
       by again false e false f true g =
           T_mid (low s (r ∷ u)) (low s (q ∷ v)) (apart s u w) (high s (q ∷ v)) (high s (p ∷ w))
-          (subst (λ z. IsTighter (apart s u w) (bound_less (high s (z ∷ w)) (low s (r ∷ u)))) (same_head r p g) (K_same (rule_of s r).lo (low s u) (rule_of s r).hi (high s w) (apart s u w) (sound r) (apart_most u w)))
+          (subst (λ z. IsTighter (apart s u w) (bound_less (high s (z ∷ w)) (low s (r ∷ u)))) (same_name-is r p g) (K_same (rule_of s r).lo (low s u) (rule_of s r).hi (high s w) (apart s u w) (sound r) (apart_most u w)))
           (low_high (q ∷ v))
       by again false e false f false g =
           T_mid (low s (r ∷ u)) (low s (q ∷ v)) (bound_less (high s (p ∷ w)) (low s (r ∷ u))) (high s (q ∷ v)) (high s (p ∷ w)) (K_other (low s (r ∷ u)) (high s (p ∷ w))) (low_high (q ∷ v))

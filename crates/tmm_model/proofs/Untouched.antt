@@ -20,7 +20,7 @@ use Rattle.tmm_model.specs.Moments.{Moment, At, RuleText, same_moment, rule_of, 
 use Rattle.tmm_model.specs.Points.{same_name}
 use Rattle.tmm_model.specs.Tokens.{is_by, is_before, clips, cuts, lasts_to, supports}
 use Rattle.tmm_model.specs.Touched.{same_bound, same_token, are_within, same_tokens, watched, watched_points, same_gaps, is_decision, is_touched}
-use Rattle.tmm_model.proofs.Elements.{In, both, Contains-from_In, list_any-In, In-list_any, In-filter, filter-In, In-filter_map, filter_map-In, In-map, map-In, In-left, In-right, In-cases, In-flat_map}
+use Rattle.tmm_model.proofs.Elements.{In, both, Contains-from_In, list_any-In, In-list_any, In-filter, filter-In, In-filter_map, filter_map-In, In-map, map-In, In-left, In-right, In-cases, In-flat_map, list_all-In}
 use Rattle.tmm_model.proofs.Firsts.{least_is, one_spot}
 use Rattle.tmm_model.proofs.Moments.{Decides-same_moment}
 use Rattle.tmm_model.proofs.Order.{IsSpelt, ordered}
@@ -225,14 +225,9 @@ same_token_is k c e =
     let classes = (bytes_decides k.class c.class).0 one.1 in
     λ i. record { spot = spots i; end = ends i; fact = facts i; class = classes i }
 
-each : {X : Type 0} (p : X → Bool) (xs : List X) → list_all p xs ≡ true → (x : X) → In x xs → p x ≡ true
-each p [] h x at = absurd at
-each p (y ∷ ys) h x (inl is) = subst (λ z. p z ≡ true) is (both (p y) (list_all p ys) h).0
-each p (y ∷ ys) h x (inr at) = each p ys (both (p y) (list_all p ys) h).1 x at
-
 within : (xs ys : List (TokenRow Moment)) → are_within xs ys ≡ true → (k : TokenRow Moment) → In k xs → In k ys
 within xs ys h k at =
-    let (c, there, same) = list_any-In (same_token k) ys (each (λ k. list_any (same_token k) ys) xs h k at) in
+    let (c, there, same) = list_any-In (same_token k) ys (list_all-In (λ k. list_any (same_token k) ys) xs h k at) in
     subst (λ z. In z ys) (sym (same_token_is k c same)) there
 
 none_of : (a b c d : Bool) → (not a || not b || not c || not d) ≡ false → (a ≡ true) × (b ≡ true) × (c ≡ true) × (d ≡ true)
@@ -268,8 +263,8 @@ untouched_alike m n t r text h =
       back = within (watched n r) (watched m r) members.1;
       gaps = λ p q at_p at_q.
           same_bound_is (gap m p q) (gap n p q)
-          (each (λ q. same_bound (gap m p q) (gap n p q)) (watched_points n t r)
-          (each (λ p. list_all (λ q. same_bound (gap m p q) (gap n p q)) (watched_points n t r)) (watched_points n t r) tests.3 p (among_more t (watched m r) (watched n r) into p at_p))
+          (list_all-In (λ q. same_bound (gap m p q) (gap n p q)) (watched_points n t r)
+          (list_all-In (λ p. list_all (λ q. same_bound (gap m p q) (gap n p q)) (watched_points n t r)) (watched_points n t r) tests.3 p (among_more t (watched m r) (watched n r) into p at_p))
           q (among_more t (watched m r) (watched n r) into q at_q));
     }
 

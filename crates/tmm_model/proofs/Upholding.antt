@@ -1,11 +1,11 @@
 -- What an occurrence rests on, found by tests.
-use Rattle.std.proofs.Common.{◌≡◌, ℕ, zero, suc, Bool, true, false, ◌||◌, List, [], ◌∷◌, refl, sym, subst, inl, inr, Contains}
+use Rattle.std.proofs.Common.{◌≡◌, ℕ, zero, suc, Bool, true, false, ◌||◌, List, refl, sym, subst, inl, inr, Contains}
 use Rattle.std.specs.Prelude.{◌↔◌, ◌⊎◌}
 use Rattle.std.specs.List.{list_any, list_all}
 use Rattle.tmm_model.specs.Maps.{TimeMap, is_among}
 use Rattle.tmm_model.specs.Moments.{Moment, same_moment}
 use Rattle.tmm_model.specs.Reasons.{rests_on, Upholds, itself, through}
-use Rattle.tmm_model.proofs.Elements.{In, both, In-from_Contains, Contains-from_In, list_any-In, In-list_any}
+use Rattle.tmm_model.proofs.Elements.{In-from_Contains, Contains-from_In, list_any-In, In-list_any, list_all-In}
 use Rattle.tmm_model.proofs.Moments.{Decides-same_moment}
 
 -- x is o, or what it rests on by at most n steps
@@ -25,11 +25,6 @@ among xs x e =
 pub is_among-Contains : (xs : List Moment) (x : Moment) → Contains xs x → is_among xs x ≡ true
 is_among-Contains xs x at = In-list_any (same_moment x) xs x (In-from_Contains xs x at) ((Decides-same_moment x x).1 refl)
 
-each : {X : Type 0} (p : X → Bool) (xs : List X) → list_all p xs ≡ true → (x : X) → In x xs → p x ≡ true
-each p [] h x at = absurd at
-each p (y ∷ ys) h x (inl is) = subst (λ z. p z ≡ true) is (both (p y) (list_all p ys) h).0
-each p (y ∷ ys) h x (inr at) = each p ys (both (p y) (list_all p ys) h).1 x at
-
 either : (a b : Bool) → (a || b) ≡ true → (a ≡ true) ⊎ (b ≡ true)
 either true b h = inl refl
 either false b h = inr h
@@ -42,15 +37,20 @@ upheld m (suc n) o x e = by (λ y. upheld m n y x) (either (same_moment o x) (li
     by again (inl is) = subst (Upholds m o) ((Decides-same_moment o x).0 is) itself
     by again (inr h) = let (y, at, r) = list_any-In (λ y. reaches m n y x) (rests_on m o) h in through (Contains-from_In (rests_on m o) y at) (again y r)
 
+-- what an upholder rests on upholds as well
+pub further : (m : TimeMap) (o y x : Moment) → Upholds m o y → Contains (rests_on m y) x → Upholds m o x
+further m o y x itself step = through step itself
+further m o y x (through first rest) step = through first (further m _ y x rest step)
+
 stays : (m : TimeMap) (occs : List Moment) → is_closed m occs ≡ true → (o x : Moment) → Upholds m o x → Contains occs o → Contains occs x
 stays m occs closed o x itself at = at
 stays m occs closed o x (through {y = y} step rest) at =
-    let inside : list_all (is_among occs) (rests_on m o) ≡ true = each (λ y. list_all (is_among occs) (rests_on m y)) occs closed o (In-from_Contains occs o at) in
-    stays m occs closed y x rest (among occs y (each (is_among occs) (rests_on m o) inside y (In-from_Contains (rests_on m o) y step)))
+    let inside : list_all (is_among occs) (rests_on m o) ≡ true = list_all-In (λ y. list_all (is_among occs) (rests_on m y)) occs closed o (In-from_Contains occs o at) in
+    stays m occs closed y x rest (among occs y (list_all-In (is_among occs) (rests_on m o) inside y (In-from_Contains (rests_on m o) y step)))
 
 -- **A list with o, all that its members rest on, and nothing else.**
 pub all_upheld : (m : TimeMap) (n : ℕ) (o : Moment) (occs : List Moment) → is_among occs o ≡ true → is_closed m occs ≡ true → list_all (reaches m n o) occs ≡ true → (x : Moment) → Contains occs x ↔ Upholds m o x
 all_upheld m n o occs has closed reached x = (
-  (λ at. upheld m n o x (each (reaches m n o) occs reached x (In-from_Contains occs x at))),
+  (λ at. upheld m n o x (list_all-In (reaches m n o) occs reached x (In-from_Contains occs x at))),
   (λ h. stays m occs closed o x h (among occs o has)),
 )

@@ -8,7 +8,8 @@ use crate::seq::Seq;
 pub enum Cause {
     /// It does not surely begin at or before the first point.
     Late,
-    /// This token contradicts it, and surely begins after it and at or before the last point.
+    /// It is a persistence. This token is the first that contradicts it, and surely begins after it and at
+    /// or before the last point.
     Clipped(Occ),
     /// It is a span that does not surely end after the last point.
     Ends,

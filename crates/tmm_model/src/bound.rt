@@ -1,10 +1,13 @@
+// Upper bounds on distances.
 ghost use Rattle.std.specs.Prelude.{◌≡◌, ℕ, ◌+◌, ◌-◌, ◌<◌, ◌≤◌, length, IsTrue, ◌↔◌};
 ghost use Rattle.tmm_model.specs.Bounds.{lesser, through, bound_negated, IsSmall, IsWithin};
 
 /// An upper bound on the distance from one point to another, in whole time units: a number, or none.
 #[derive(Clone, Copy, PartialEq, Eq, Debug)]
 pub enum Bound {
+    /// The distance is at most this number.
     Finite(i64),
+    /// There is no bound; shown as `*`.
     Free,
 }
 

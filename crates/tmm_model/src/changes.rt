@@ -39,7 +39,7 @@ pub enum WhyLine {
     /// The premise of this name declares the occurrence.
     Premise(Name),
     /// The first point is surely at or before the second: `far` is the upper bound on the first
-    /// minus the second, and the steps are constraints that give it.
+    /// minus the second, in whole time units, and the steps are constraints that give it.
     Order {
         first: QueryPoint,
         second: QueryPoint,

@@ -1,6 +1,7 @@
 //! The plain types that the layers of the time map share, and the definitions that their contracts
 //! cite: names, points and premises, distances over constraints, what tokens support, what is believed
 //! and why, and what each line of a script is answered. It stands on no other crate of this repository.
+//! The outline is that of Dean and McDermott (1987) over Dechter, Meiri and Pearl (1991).
 //!
 //! Its functions with empty bodies are laws of the definitions: each ensures one.
 #![tactic(auto)]

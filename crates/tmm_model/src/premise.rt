@@ -21,7 +21,7 @@ pub enum Premise {
     Kind {
         name: Name,
     },
-    /// A reference point.
+    /// A point in time.
     Point {
         name: Name,
     },
@@ -48,8 +48,8 @@ pub enum Premise {
         lo: Bound,
         hi: Bound,
     },
-    /// On an event of the kind `trigger`, `effect` begins `lo` to `hi` time units after it, where
-    /// the facts `given` are believed at the event.
+    /// On an event of the kind `trigger`, `effect` begins `lo` to `hi` whole time units after it,
+    /// where the facts `given` hold at the event.
     Rule {
         name: Name,
         trigger: Name,

@@ -17,11 +17,11 @@ pub enum Refusal {
     Unknown(QueryPoint),
     /// This word is declared as something else than is wanted here.
     Sort(QueryPoint),
-    /// 2,000 premises stand.
+    /// 2,000 premises stand, and one more is declared.
     LimitPremises,
     /// There would be more than 256 points.
     LimitPoints,
-    /// No dates satisfy the constraint: it closes this walk, whose sum is negative.
+    /// No dates satisfy the constraint: it closes this walk, whose sum is negative, in whole time units.
     Cycle { sum: i64, steps: Seq<WalkStep> },
     /// The size of the map would be above 100,000.
     LimitSize,

@@ -15,14 +15,16 @@ pub enum Side {
     Length,
 }
 
-/// A constraint of a premise: the date of `to` is at most `weight` time units after that of `from`.
+/// A constraint of a premise: the date of `to` is at most `weight` whole time units after that of `from`.
 #[derive(Clone, Copy, PartialEq, Eq, Debug)]
 pub struct WalkStep {
     /// The name of the premise.
     pub premise: Name,
     /// Which of its constraints it is.
     pub side: Side,
+    /// The point from which it leads.
     pub from: PointName,
+    /// The point to which it leads.
     pub to: PointName,
     /// In whole time units.
     pub weight: i64,

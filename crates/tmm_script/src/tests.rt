@@ -1,3 +1,4 @@
+//! Lines as they are read and written.
 mod data;
 
 use super::*;

@@ -7,7 +7,8 @@ use Rattle.tmm_model.specs.Names.{is_name}
 use Rattle.tmm_model.specs.Points.{same_name, point_word}
 use Rattle.tmm_model.specs.Lines.{IsWellFormedPoint}
 use Rattle.tmm_model.specs.Reading.{end_of, point_of}
-use Rattle.tmm_model.proofs.LinePoints.{same-is, no_dot, point_reader}
+use Rattle.tmm_model.proofs.LinePoints.{no_dot, point_reader}
+use Rattle.tmm_model.proofs.Points.{same_name-is}
 use Rattle.tmm_words.proofs.Spelled.{spelling_from}
 
 point_none : (w : List ℕ) → same_name w (codes "start") ≡ false → is_name w ≡ false → end_of w ≡ None → None ≡ point_of w
@@ -23,7 +24,7 @@ module _ (w span end : List ℕ) (is : end ≡ codes ".end") (ends : same_name (
   head = front ∙ ap (λ (t : List ℕ). take (length w - length t) w) is
 
   pub end_found : w ≡ span ++ codes ".end"
-  end_found = sym (take-append-drop (length w - 4) w) ∙ (λ i. sym head i ++ same-is (drop (length w - 4) w) (codes ".end") tail i)
+  end_found = sym (take-append-drop (length w - 4) w) ∙ (λ i. sym head i ++ same_name-is (drop (length w - 4) w) (codes ".end") tail i)
 
   pub no_end : same_name w (codes "start") ≡ false → is_name span ≡ false → (p : PointName) → IsWellFormedPoint p → w ≡ point_word p → ⊥
   no_end other bad =

@@ -12,15 +12,11 @@ use Rattle.tmm_model.specs.Lines.{IsName, AreNames, IsWellFormedOcc}
 use Rattle.tmm_model.specs.Reading.{parts, parts_behind}
 use Rattle.tmm_model.proofs.LinePoints.{parts-occ, parts-first, at_slash, word-parts}
 use Rattle.tmm_words.specs.Spelling.{HasRules, begins_derived}
-use Rattle.tmm_words.proofs.Places.{fails_at, prefix-passes, prefix-stops}
+use Rattle.tmm_words.proofs.Places.{fails_at, not_twice, prefix-passes, prefix-stops}
 
 slash_stops : (xs : List ℕ) → fails_at (λ b. not (b == 47)) xs ≡ true → at_slash xs ≡ true
 slash_stops [] h = refl
 slash_stops (b ∷ xs) h = not_twice (b == 47) h
-  where
-    not_twice : (t : Bool) → not (not t) ≡ true → t ≡ true
-    not_twice true h = refl
-    not_twice false h = h
 
 -- the first part ends at the first `/`
 pub part_first : (w : List ℕ) (n : ℕ) → n ≡ position_or_len (λ b. b == 47) w → parts w ≡ take n w ∷ parts_behind (drop n w)

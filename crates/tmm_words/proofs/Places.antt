@@ -55,7 +55,7 @@ all_so : (p q : ℕ → Bool) → ((x : ℕ) → p x ≡ true → q x ≡ true) 
 all_so p q f [] h = refl
 all_so p q f (x ∷ xs) h = let k = and_parts (p x) (list_all p xs) h in and_from _ _ (f x k.0) (all_so p q f xs k.1)
 
-not_twice : (t : Bool) → not (not t) ≡ true → t ≡ true
+pub not_twice : (t : Bool) → not (not t) ≡ true → t ≡ true
 not_twice true h = refl
 not_twice false h = h
 

@@ -1,3 +1,4 @@
+//! Words as they are found and read.
 use super::*;
 use std::test::Fail;
 

@@ -1,10 +1,11 @@
 -- What declared names are, in a well-named list: facts have a class, and events, tokens and spans are roots.
-use Rattle.std.proofs.Common.{◌≡◌, ◌∙◌, ℕ, Bool, true, false, ◌||◌, sym, ap, subst, refl, inl, inr, cond}
-use Rattle.std.specs.Prelude.{Option, Some, None, IsSome, List, [], ◌∷◌, ◌++◌, map, codes}
+use Rattle.std.proofs.Common.{◌≡◌, ◌∙◌, ℕ, Bool, true, false, sym, ap, subst, refl, inl, inr, cond}
+use Rattle.std.specs.Prelude.{Option, Some, None, IsSome, List, [], ◌∷◌, ◌++◌, codes}
 use Rattle.std.specs.List.{Contains, list_any}
 use Rattle.std.specs.Map.{lookup}
 use Rattle.std.specs.Option.{option_or}
-use Rattle.std.specs.Cmp.Lexicographic.{bytes_decides, nat_list_eq_equiv}
+use Rattle.std.specs.Cmp.Lexicographic.{nat_list_eq_equiv}
+use Rattle.std.proofs.lemmas.Bool.{or_parts}
 use Rattle.std.proofs.lemmas.Grind.{flat_map-append}
 use Rattle.std.proofs.lemmas.List.Folds.{list_any-append}
 use Rattle.tmm_model.specs.declared.point.PointName.TheVariants.{Begin}
@@ -16,14 +17,13 @@ use Rattle.tmm_model.specs.Points.{same_name}
 use Rattle.tmm_model.specs.Questions.{is_root}
 use Rattle.tmm_model.specs.Sorts.{Sort, a_class, a_fact, a_kind, a_point, an_event, a_token, a_span, a_dist, a_rule, a_protection, is_fact, is_place, declarations_of, declarations_in, declared_by, fact_declaration, sort_in, class_in, fact_use}
 use Rattle.tmm_model.specs.Standing.{Standing, name_of}
-use Rattle.tmm_model.specs.Verdicts.{Cause, ill_sorted, unknown, first_taken, words_known, name_cause, use_cause}
+use Rattle.tmm_model.specs.Verdicts.{Cause, ill_sorted, unknown, words_known, name_cause, use_cause}
 use Rattle.tmm_model.specs.WellNamed.{Follows, AllFollow, IsWellNamed}
 use Rattle.tmm_model.proofs.Elements.{In, In-from_Contains, Contains-from_In, In-filter_map, filter_map-In, In-flat_map, In-map}
+use Rattle.tmm_model.proofs.KnownNames.{own_new}
+use Rattle.tmm_model.proofs.Points.{same_name-is}
 use Rattle.supports.proofs.Facts.{fact-class}
-use Rattle.tmm_model.proofs.WellNamed.{first_taken-none, lookup-append, lookup-unknown, words_known-push}
-
-same_name_is : (a b : List ℕ) → same_name a b ≡ true → a ≡ b
-same_name_is a b e = (bytes_decides a b).0 e
+use Rattle.tmm_model.proofs.WellNamed.{lookup-append, lookup-unknown, words_known-push}
 
 -- ---- look-ups
 
@@ -88,7 +88,7 @@ pub root_of_sort : (s : Standing) (name : List ℕ) (sort : Sort) → sort_in s.
 root_of_sort s name sort is e =
     let (word, at, same) = lookup-In (same_name name) (declarations_in s.premises) sort is in
     let (p, there, here) = In-flat_map declarations_of s.premises (word, sort) at in
-    subst (λ w. Contains (roots s) (At (Begin w))) (sym (same_name_is name word same))
+    subst (λ w. Contains (roots s) (At (Begin w))) (sym (same_name-is name word same))
     (Contains-from_In (roots s) (At (Begin word)) (filter_map-In root_of s.premises p (At (Begin word)) there (root_here p word sort here e)))
 
 -- the premise declares its own name first, as this
@@ -106,21 +106,12 @@ sort_of_root (Rule k trigger lo hi effect given) name e = cc
 sort_of_root (Protect k g from to) name e = cc
 sort_of_root (Class k facts) name e = cc
 
-own_new : (earlier : List Premise) (p : Premise) (sort : Sort) → IsOwnSort p sort → Follows earlier p → list_any (same_name (name_of p)) (words_known earlier) ≡ false
-own_new earlier p sort (rest, e) f =
-    (first_taken-none (words_known earlier) (name_of p) (map (λ d. d.0) rest) (subst (λ ds. first_taken (words_known earlier) (map (λ d. d.0) ds) ≡ None) e f.new)).new
-
-neither : (a b : Bool) → (a || b) ≡ false → (a ≡ false) × (b ≡ false)
-neither false false e = (refl, refl)
-neither true b e = cc
-neither false true e = cc
-
 -- the own name of a premise is not known before it
 not_before : (earlier ps : List Premise) → AllFollow earlier ps → (p : Premise) (sort : Sort) → IsOwnSort p sort → In p ps → list_any (same_name (name_of p)) (words_known earlier) ≡ false
 not_before earlier [] h p sort own at = absurd at
-not_before earlier (o ∷ ps) h p sort own (inl e) = own_new earlier p sort own (subst (Follows earlier) e h.0)
+not_before earlier (o ∷ ps) h p sort own (inl e) = own_new earlier p (subst (Follows earlier) e h.0)
 not_before earlier (o ∷ ps) h p sort own (inr at) =
-    (neither (list_any (same_name (name_of p)) (words_known earlier)) (list_any (same_name (name_of p)) (declared_by o))
+    (or_parts (list_any (same_name (name_of p)) (words_known earlier)) (list_any (same_name (name_of p)) (declared_by o))
     (sym (list_any-append (same_name (name_of p)) (words_known earlier) (declared_by o)) ∙ ap (list_any (same_name (name_of p))) (sym (words_known-push earlier o)) ∙ not_before (earlier ++ o ∷ []) ps h.1 p sort own at)).0
 
 -- **A premise of a well-named list gives its name its sort.**
@@ -135,7 +126,7 @@ own_sort_after earlier (o ∷ ps) h p sort (rest, own) (inl e) =
     by false e = cc
 own_sort_after earlier (o ∷ ps) h p sort own (inr at) =
     let unknown_here : list_any (same_name (name_of p)) (declared_by o) ≡ false =
-    (neither (list_any (same_name (name_of p)) (words_known earlier)) (list_any (same_name (name_of p)) (declared_by o))
+    (or_parts (list_any (same_name (name_of p)) (words_known earlier)) (list_any (same_name (name_of p)) (declared_by o))
     (sym (list_any-append (same_name (name_of p)) (words_known earlier) (declared_by o)) ∙ ap (list_any (same_name (name_of p))) (sym (words_known-push earlier o)) ∙ not_before (earlier ++ o ∷ []) ps h.1 p sort own at)).1 in
     lookup-append (same_name (name_of p)) (declarations_of o) (declarations_in ps)
     ∙ ap (λ x. option_or x (lookup (same_name (name_of p)) (declarations_in ps))) (lookup-unknown (same_name (name_of p)) (declarations_of o) unknown_here)

@@ -20,7 +20,9 @@ pub(crate) const BLAMES: usize = 8;
 /// The first nodes of a fact's tokens in the order of occurrences, and the number of all of them.
 #[derive(Drop)]
 pub(crate) struct Firsts {
+    // Their nodes, in order.
     pub nodes: ArrayVec<u32, BLAMES>,
+    // How many there are of the fact, also those beyond.
     pub count: usize,
 }
 

@@ -1,9 +1,10 @@
 use Rattle.std.proofs.Common.{◌≡◌, ◌∙◌, get_or, ap, sym, subst, arith}
 use Rattle.dist_net.specs.declared.Edge.{Edge}
 use Rattle.dist_net.specs.Net.{Net, Nets, entry, IsFarWithout}
-use Rattle.dist_repair.proofs.Left.{IsFar-taken, edge_at}
+use Rattle.dist_repair.proofs.Left.{IsFar-taken}
 use Rattle.dist_repair.proofs.Starts.{below_limit}
 use Rattle.dist_repair.proofs.erase_edge.Goals as goal
+use Rattle.dist_net.proofs.Ends.{edge_at}
 
 pub take_edge-requires-clause-draft : goal.take_edge-requires-clause-draft
 take_edge-requires-clause-draft c =

@@ -6,8 +6,9 @@ use Rattle.tmm_model.specs.Moments.{Moment, At, along}
 use Rattle.spots.specs.declared.link.Link.{Link}
 use Rattle.spots.specs.Forest.{Member, member, moment, moment_at}
 use Rattle.occ_tree.specs.Nodes.{member_of}
-use Rattle.occ_tree.proofs.Lookups.{moment_is, way_none, way_found}
+use Rattle.occ_tree.proofs.Lookups.{way_none, way_found}
 use Rattle.occ_tree.proofs.tree.Tree.find_same.Goals as goal
+use Rattle.spots.proofs.Nodes.{moment_at-is}
 
 names : List Link → List (List ℕ)
 names ls = map (λ (k : Link). k.rule) ls
@@ -31,8 +32,8 @@ returns-in_err-same-2 c =
     let i = c.loop-link.link-index in
     let l = c.link-item.result in
     let (m, m_at, here) = c.loop-link.invariant.here in
-    let none = way_none f t (names ls) i l.rule (within_names ls i l c.loop-link-test.true) (at_name ls i l c.link-item.is) (moment_at f c.loop-link.same) (moment_is f c.loop-link.same m m_at ∙ here n c.node-node.ensures.is) c.in_err-same-2.ensures in
-    let whole : along t (names ls) ≡ moment_at c.args.other.now c.args.x = ap (λ (ks : List Link). along t (names ks)) (c.loop-link.invariant.items n c.node-node.ensures.is) ∙ sym (moment_is c.args.other.now c.args.x n c.node-node.ensures.is) in
+    let none = way_none f t (names ls) i l.rule (within_names ls i l c.loop-link-test.true) (at_name ls i l c.link-item.is) (moment_at f c.loop-link.same) (moment_at-is f c.loop-link.same m m_at ∙ here n c.node-node.ensures.is) c.in_err-same-2.ensures in
+    let whole : along t (names ls) ≡ moment_at c.args.other.now c.args.x = ap (λ (ks : List Link). along t (names ks)) (c.loop-link.invariant.items n c.node-node.ensures.is) ∙ sym (moment_at-is c.args.other.now c.args.x n c.node-node.ensures.is) in
     rw c.from_residual-in_err-same-2.ensures (subst (λ (u : Moment). (x : ℕ) (m : Member) → member f x ≡ Some m → moment m ≢ u) whole none)
 
 pub loop-link-preserved : goal.loop-link-preserved
@@ -49,7 +50,7 @@ loop-link-preserved c =
       here = (
         k,
         k_at,
-        λ n n_at. way_found f (At (Begin n.root)) (names ls) i l.rule (within_names ls i l c.loop-link-test.true) (at_name ls i l c.link-item.is) (moment_at f c.loop-link.same) (moment_is f c.loop-link.same m m_at ∙ here n n_at) k after,
+        λ n n_at. way_found f (At (Begin n.root)) (names ls) i l.rule (within_names ls i l c.loop-link-test.true) (at_name ls i l c.link-item.is) (moment_at f c.loop-link.same) (moment_at-is f c.loop-link.same m m_at ∙ here n n_at) k after,
       );
     }
 
@@ -61,5 +62,5 @@ returns c =
     let ls = c.deref-link-items.result.now in
     let (m, m_at, here) = c.loop-link.invariant.here in
     let all : take c.loop-link.link-index (names ls) ≡ names ls = take_all c.loop-link.link-index (names ls) (let n = length-map ls (λ (k : Link). k.rule) in let past = c.loop-link-test.false in omega arith) in
-    let whole : along t (names ls) ≡ moment_at c.args.other.now c.args.x = ap (λ (ks : List Link). along t (names ks)) (c.loop-link.invariant.items n c.node-node.ensures.is) ∙ sym (moment_is c.args.other.now c.args.x n c.node-node.ensures.is) in
+    let whole : along t (names ls) ≡ moment_at c.args.other.now c.args.x = ap (λ (ks : List Link). along t (names ks)) (c.loop-link.invariant.items n c.node-node.ensures.is) ∙ sym (moment_at-is c.args.other.now c.args.x n c.node-node.ensures.is) in
     (m, m_at, here n c.node-node.ensures.is ∙ ap (along t) all ∙ whole)

@@ -1,30 +1,26 @@
-use Rattle.std.proofs.Common.{◌≡◌, ◌≢◌, ◌∙◌, ◌<◌, ℕ, List, [], length, Some, get_or, ap, sym, subst, refl, true, false}
+use Rattle.std.proofs.Common.{◌≡◌, ◌≢◌, ◌∙◌, ℕ, List, [], Some, get_or, ap, sym, subst, refl, true, false}
 use Rattle.std.specs.Prelude.{is_some}
-use Rattle.std.specs.List.{All, Contains}
+use Rattle.std.specs.List.{All}
 use Rattle.std.specs.Cmp.Lexicographic.{bytes_decides}
-use Rattle.std.proofs.lemmas.List.{take_all, get_or_default}
+use Rattle.std.proofs.lemmas.List.{take_all}
 use Rattle.std.proofs.lemmas.List.Elements.{All-more}
 use Rattle.spots.specs.Forest.{Forest, Member, member, moment}
 use Rattle.tmm_model.specs.declared.point.PointName.TheVariants.{Begin}
 use Rattle.tmm_model.specs.Moments.{At, along}
 use Rattle.occ_tree.specs.declared.node.Node.{Node}
 use Rattle.occ_tree.specs.Nodes.{node_at}
-use Rattle.occ_tree.proofs.Lookups.{none_below, root_none, root_found}
+use Rattle.occ_tree.proofs.Lookups.{none_below, root_none, root_found, number_read}
 use Rattle.occ_tree.proofs.tree.Tree.root_of.Goals as goal
-
--- the number is that of a root
-a_root : (items roots : List ℕ) (i : ℕ) → items ≡ roots → i < length items → Contains roots (get_or items i 0)
-a_root items roots i same within = (i, subst (λ (l : List ℕ). i < length l) same within, ap (λ (l : List ℕ). get_or l i (get_or items i 0)) (sym same) ∙ get_or_default items i (get_or items i 0) 0 within)
 
 pub index-requires : goal.index-requires
 index-requires c =
-    let (n, at, none) = c.self.invariant.are_roots _ (a_root c.deref-x-items.result.now c.self.inside.roots.items c.loop-x.x-index c.loop-x.invariant.items c.loop-x-test.true) in
+    let (n, at, none) = c.self.invariant.are_roots _ (number_read c.deref-x-items.result.now c.self.inside.roots.items c.loop-x.x-index c.loop-x.invariant.items c.loop-x-test.true) in
     ap is_some at
 
 pub returns-then-eq : goal.returns-then-eq
 returns-then-eq c =
     let x = get_or c.deref-x-items.result.now c.loop-x.x-index 0 in
-    let (n, at, none) = c.self.invariant.are_roots x (a_root c.deref-x-items.result.now c.self.inside.roots.items c.loop-x.x-index c.loop-x.invariant.items c.loop-x-test.true) in
+    let (n, at, none) = c.self.invariant.are_roots x (number_read c.deref-x-items.result.now c.self.inside.roots.items c.loop-x.x-index c.loop-x.invariant.items c.loop-x-test.true) in
     let e : Some n ≡ Some c.index.result.now = sym at ∙ c.index.ensures in
     let is : n ≡ c.index.result.now = cc in
     let root = (bytes_decides c.index.result.now.root c.args.name.now).0 (sym c.eq.ensures ∙ c.if-eq.true) in
