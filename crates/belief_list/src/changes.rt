@@ -47,7 +47,11 @@ pub fn compare(
 ) -> Result<BeliefChanges, NoMemory>
     requires old { IsListing old_tree.now old.now }
     requires new { IsListing new_tree.now new.now }
-    ensures { IfOk result (λ changes. (m_old m_new : TimeMap) → map (row_at old_tree.now) old.now ≡ rows m_old → map (row_at new_tree.now) new.now ≡ rows m_new → AreChanges m_old m_new changes) }
+    ensures left { IfOk result (λ changes. map moment_of changes.left.items ≡ filter_map (gone_row new_tree.now) (map (row_at old_tree.now) old.now)) }
+    ensures entered { IfOk result (λ changes. map moment_of changes.entered.items ≡ filter_map (gone_row old_tree.now) (map (row_at new_tree.now) new.now)) }
+    ensures loose { IfOk result (λ changes. map moment_of changes.loose.items ≡ filter_map (loose_row (map (row_at old_tree.now) old.now)) (map (row_at new_tree.now) new.now)) }
+    ensures clips { IfOk result (λ changes. map clip_pair changes.clips.items ≡ filter_map (clip_row (map (row_at old_tree.now) old.now)) (map (row_at new_tree.now) new.now)) }
+    ensures delta { IfOk result (λ changes. (m_old m_new : TimeMap) → map (row_at old_tree.now) old.now ≡ rows m_old → map (row_at new_tree.now) new.now ≡ rows m_new → AreChanges m_old m_new changes) }
 {
     let places = places_by_node(alloc, old_tree, old)?;
     let before = Before {

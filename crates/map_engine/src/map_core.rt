@@ -40,8 +40,8 @@ pub trait MapCore {
     ghost pending: { Self → Option List };
 
     /// Makes an edit, and leaves it pending. A refusal is the first cause that holds. A refused edit,
-    /// or one for which there is no memory, changes nothing. The decisions that are made on the way are
-    /// counted on from those before.
+    /// or one for which there is no memory, changes nothing. The count of decisions does not
+    /// fall: a map may count those that it makes.
     fn apply(&mut self, alloc: Global, edit: &Edit, counter: &mut Counter) -> Result<Pending, Stop>
         requires idle { pending self.old ≡ None }
         requires well_formed { IsWellFormedEdit edit.now }

@@ -41,7 +41,7 @@ fn a_rule_leads_on(rt: HostRuntime) -> Result<(), Fail> {
     assert_eq!(rt; row.low, 2);
     assert_eq!(rt; row.parent, Some(press));
     assert_eq!(rt; tree.tokens(name("lamp")).len(), 1);
-    assert_eq!(rt; tree.first_child(press), Some(lit));
+    assert_eq!(rt; tree.children(press), [lit].as_slice());
     Ok(())
 }
 
@@ -63,7 +63,7 @@ fn an_event_leaves_with_its_effect(rt: HostRuntime) -> Result<(), Fail> {
     assert_eq!(rt; tree.find(&bell_occ), None);
     assert_eq!(rt; tree.find(&lit_occ), None);
     assert_eq!(rt; tree.tokens(lamp).len(), 0);
-    assert_eq!(rt; tree.first_child(press), None);
+    assert_eq!(rt; tree.children(press).len(), 0);
     let again = tree.insert_child(alloc, press, rule, 1, once, push, None, Shape::Event)?;
     assert_eq!(rt; tree.find(&bell_occ), Some(again));
     assert_eq!(rt; again, lit);

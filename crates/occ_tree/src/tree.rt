@@ -5,7 +5,7 @@ ghost use Rattle.tmm_model.specs.Moments.{At, After, moment_of, printed};
 ghost use Rattle.tmm_model.specs.declared.point.PointName.TheVariants.{Begin};
 ghost use Rattle.std.specs.List.{All, Contains, IsDistinct};
 ghost use Rattle.spots.specs.Forest.{Member, member, IsLive, IsOnce, moment_at, Enters, root_member, child_member, IsNoRoot, HasClass, HasEnd, IsTrigger, Withdraws, IsFound, last_name as last_name_of};
-ghost use Rattle.occ_tree.specs.Rows.{IsRowOf, IsFirstChild, IsNextChild};
+ghost use Rattle.occ_tree.specs.Rows.{IsRowOf};
 ghost use Rattle.spots.specs.Spots.{AreTokens, token_row};
 ghost use Rattle.occ_tree.specs.Classes.{rows_in, TakesToken};
 ghost use Rattle.slab.specs.Slab.{get, Updates};
@@ -163,10 +163,11 @@ impl Tree {
         })
     }
 
-    /// Appends the word of a node. Without memory a prefix of it may stand.
+    /// Appends the word of a node. Without memory nothing has changed.
     pub fn name_into(&self, _alloc: Global, x: u32, out: &mut Seq<u8>) -> Result<(), NoMemory>
         requires { IsLive self.now x }
-        ensures { OnOk result (out.new.items ≡ out.old.items ++ printed (moment_at self.now x)) }
+        ensures appended { OnOk result (out.new.items ≡ out.old.items ++ printed (moment_at self.now x)) }
+        ensures kept { OnErr result (out.new.items ≡ out.old.items) }
     {
         out.extend(self.word(x))
     }
@@ -256,31 +257,12 @@ impl Tree {
         Some(same)
     }
 
-    /// What rules lead to from a node, in the order in which it came.
+    /// What rules lead to from a node by one more, each once.
     pub fn children(&self, x: u32) -> &[u32]
         requires { IsLive self.now x }
         ensures { AreChildren self.now x result.now }
     {
         self.node(x).children.as_slice()
-    }
-
-    /// The first of the children of a node, none exactly where it has none.
-    pub fn first_child(&self, x: u32) -> Option<u32>
-        requires { IsLive self.now x }
-        ensures { IsFirstChild self.now x result }
-    {
-        self.children(x).first().copied()
-    }
-
-    /// The child of the same parent that came after this one, none exactly for the last.
-    pub fn next_child(&self, x: u32) -> Option<u32>
-        requires { (parent : ℕ) × IsChild self.now parent x }
-        ensures { IsNextChild self.now x result }
-    {
-        let parent = self.node(x).parent?;
-        let siblings = self.children(parent);
-        let place = place_in(siblings, x)?;
-        number_at(siblings, place + 1)
     }
 
     // The numbers of a node and of all below it.
@@ -406,19 +388,6 @@ fn is_by(node: &Node, rule: &Name) -> bool
     ensures { IsTrue result ↔ (last_name_of node.now.root node.now.links.items ≡ rule.now) }
 {
     *last_name(&node.root, node.links.as_slice()) == *rule
-}
-
-// The place of a number in a list.
-fn place_in(numbers: &[u32], x: u32) -> Option<usize>
-    ensures some { IfSome result (λ k. slice_get numbers.now k ≡ Some x) }
-    ensures none { IfNone result (Contains numbers.now x → ⊥) }
-{
-    for (k, y) in numbers.iter().enumerate() {
-        if *y == x {
-            return Some(k);
-        }
-    }
-    None
 }
 
 // The number at a place of a list, none behind its end.

@@ -233,8 +233,7 @@ fn bring_about(
 }
 
 /// The tree of the believed occurrences, and the size of the map. Where that would be more than
-/// 100,000 it is refused, at the first date at which it is. Each decision that is due by the horizon is
-/// made once, and counted on from those before.
+/// 100,000 it is refused. As many decisions are counted, on from those before, as are due by the horizon.
 pub fn rebuild(
     alloc: Global,
     standing: &Standing,

@@ -2,8 +2,8 @@
 //! the tree of all that is believed. It stands on `supports` and `name_lists`.
 //!
 //! `decide` tells the outcome of a rule at an event among the nodes of a tree. `rebuild` makes the
-//! tree of the believed occurrences, from what is declared, by deciding each rule at each event once,
-//! in the order of dates; it answers also the size of the map, and refuses exactly a list whose map is
+//! tree of the believed occurrences, from what is declared, by deciding each rule that is due at an
+//! event once, in the order of dates; it answers also the size of the map, and refuses exactly a list whose map is
 //! too large. Without memory a call answers that.
 #![tactic(auto)]
 

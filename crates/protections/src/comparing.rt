@@ -22,7 +22,9 @@ pub fn delta(
     after: &[Report],
     standing: &Standing,
 ) -> Result<(Seq<Report>, Seq<Name>), NoMemory>
-    ensures { (old new : TimeMap) → map report_of before.now ≡ reports old → map report_of after.now ≡ reports new → new.list ≡ standing.now.present
+    ensures broken { IfOk result (λ found. map report_of found.0.items ≡ newly_broken (map report_of before.now) (map report_of after.now)) }
+    ensures mended { IfOk result (λ found. found.1.items ≡ mended (map report_of before.now) (map report_of after.now) standing.now.present.premises) }
+    ensures delta { (old new : TimeMap) → map report_of before.now ≡ reports old → map report_of after.now ≡ reports new → new.list ≡ standing.now.present
         → IfOk result (λ found. (map report_of found.0.items ≡ (delta old new).broken) × (found.1.items ≡ (delta old new).mended)) }
 {
     let broken = newly_broken(alloc, before, after)?;

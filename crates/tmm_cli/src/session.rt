@@ -29,7 +29,7 @@ pub struct Session<M: MapCore + Drop> {
     pub core: M,
     /// How many lines were given.
     pub lines: u64,
-    /// The decisions that were made.
+    /// The decisions that the map counts.
     pub counter: Counter,
 }
 

@@ -1,4 +1,5 @@
--- Which decisions an edit touches: those for which it may matter. Their number bounds the work of an edit.
+-- Which decisions an edit touches: those for which it may matter. A map that keeps its beliefs current needs
+-- to make no others again.
 use Rattle.std.specs.Prelude.{ℕ, Bool, true, false, not, ◌&&◌, ◌||◌, ◌==◌, List, ◌∷◌, ◌++◌, map, filter, count_by}
 use Rattle.std.specs.List.{list_any, list_all, filter_map}
 use Rattle.std.specs.Option.{option_eq}

@@ -6,8 +6,8 @@ use Rattle.occ_tree.proofs.tests.a_rule_leads_on.Goals as goal
 pub occ_of-requires : goal.occ_of-requires
 occ_of-requires g c = ap is_some (c.in_ok-lit.ensures.ok _ c.in_ok-press.ensures.ok.entered).entered
 
-pub first_child-requires : goal.first_child-requires
-first_child-requires g c =
+pub children-requires : goal.children-requires
+children-requires g c =
     let press = c.in_ok-press.press in
     let at = c.in_ok-press.ensures.ok.entered in
     let enters = c.in_ok-lit.ensures.ok _ at in

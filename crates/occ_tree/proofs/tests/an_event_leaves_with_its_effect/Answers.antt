@@ -80,8 +80,8 @@ withdraw-requires g c =
     let bell = c.in_ok-bell.ensures.ok _ c.in_ok-press.ensures.ok.entered in
     record { live = ap is_some (stays c.insert_child.new.self c.insert_child-2.new.self c.in_ok-lit.lit _ (c.in_ok-lit.ensures.ok _ bell.entered) c.in_ok-bell.bell _ bell.entered) }
 
-pub first_child-requires : goal.first_child-requires
-first_child-requires g c =
+pub children-requires : goal.children-requires
+children-requires g c =
     let press = c.in_ok-press.ensures.ok in
     let bell = c.in_ok-bell.ensures.ok _ press.entered in
     let lit = c.in_ok-lit.ensures.ok _ bell.entered in
