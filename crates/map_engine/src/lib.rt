@@ -4,8 +4,8 @@
 //!
 //! `MapCore` is its contract: every answer is that of the map which is built of the list from scratch,
 //! an edit is accepted exactly where the definitions say so, and a refusal or want of memory changes
-//! nothing. `PlainMap` meets it by making beliefs anew at each edit. The law is that a run of a script
-//! leaves lists within all limits alone, so what the laws of sound lists say is said of all of them.
+//! nothing. `PlainMap` meets it by making beliefs anew at each edit. The law says that each list
+//! which a run of a script leaves is sound and within all limits.
 #![tactic(auto)]
 
 mod beliefs;
