@@ -1,2 +1,2 @@
-mod NextLists
+mod KeptRuns
 mod Told

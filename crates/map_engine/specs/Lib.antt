@@ -3,3 +3,4 @@ pub mod Stops
 pub mod Beliefs
 pub mod Plain
 pub mod Questions
+pub mod KeptRuns

@@ -46,16 +46,6 @@ found_at n i (p ∷ ps) s k h =
           },
         )
 
--- no more stay than there are
-pub kept_after-fewer : (n : List ℕ) (gone : List (List ℕ)) (ps : List Premise) → length (kept_after n gone ps) ≤ length ps
-kept_after-fewer n gone [] = omega arith
-kept_after-fewer n gone (p ∷ ps) = by (kept_after-fewer n (declared_by p ++ gone) ps) (kept_after-fewer n gone ps) (falls n gone p)
-  where
-    by : length (kept_after n (declared_by p ++ gone) ps) ≤ length ps → length (kept_after n gone ps) ≤ length ps → (b : Bool)
-        → length (elim b as (λ _. List Premise) [ true ↦ kept_after n (declared_by p ++ gone) ps | false ↦ p ∷ kept_after n gone ps ]) ≤ length (p ∷ ps)
-    by one two true = omega arith
-    by one two false = omega arith
-
 -- those that stay follow the premises before the erased one
 pub follow_before : (n : List ℕ) (ps : List Premise) (j : ℕ) → IsFoundAt n ps j → IsWellNamed ps → AllFollow (take j ps) (kept_without n (drop j ps))
 follow_before n ps j found h = (AllFollow-append [] (take j ps) (kept_without n (drop j ps)) (subst IsWellNamed found.kept (kept_without-IsWellNamed n ps h))).1

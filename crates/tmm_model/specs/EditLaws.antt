@@ -9,7 +9,7 @@ use Rattle.tmm_model.specs.Answers.{size, most_size}
 use Rattle.tmm_model.specs.Beliefs.{rules_at, outcome}
 use Rattle.tmm_model.specs.Edits.{next_list}
 use Rattle.tmm_model.specs.Kept.{IsKept, IsAccepted}
-use Rattle.tmm_model.specs.Lines.{edit_words, spaced, ReadsLine}
+use Rattle.tmm_model.specs.Lines.{IsWellFormedEdit, edit_words, spaced, ReadsLine}
 use Rattle.tmm_model.specs.Maps.{built}
 use Rattle.tmm_model.specs.Moments.{Moment}
 use Rattle.tmm_model.specs.Right.{IsSound}
@@ -26,6 +26,14 @@ UntouchedKeepOutcome =
     → is_touched (built old) (built (next_list old edit)) (t, r) ≡ false
     → outcome old (built old).far (built old).believed t r
     ≡ outcome (next_list old edit) (built (next_list old edit)).far (built (next_list old edit)).believed t r
+
+-- ---- lists that are kept
+
+-- the empty list is kept, and an accepted edit leaves a kept list where there was one
+abbrev pub ListsStayKept : Type 0
+ListsStayKept =
+    IsKept empty_list
+    × ((s : Standing) (edit : Edit) → IsKept s → IsWellFormedEdit edit → IsAccepted s edit → IsKept (next_list s edit))
 
 -- ---- dumping and reading again
 

@@ -1,6 +1,6 @@
 // Laws of distances, of belief and of edits.
 ghost use Rattle.tmm_model.specs.Right.{SoundListsAreShortest, PointsTimeOccurrences, DistancesAreShortest, OneRightSet, BeliefsAreRight, MapsAreRight, FiresWhereBelieved};
-ghost use Rattle.tmm_model.specs.EditLaws.{UntouchedKeepOutcome, DumpReloads};
+ghost use Rattle.tmm_model.specs.EditLaws.{UntouchedKeepOutcome, ListsStayKept, DumpReloads};
 ghost use Rattle.tmm_model.specs.Reasons.{ReasonsAreEarlier, CitedStandBefore};
 
 /// Where some dates satisfy a well-formed list, its distances are shortest and its rules are sound.
@@ -48,6 +48,11 @@ pub fn reasons_are_earlier()
 /// A decision that an edit does not touch keeps its outcome.
 pub fn untouched_decisions_keep_outcomes()
     ensures { UntouchedKeepOutcome }
+{}
+
+/// The empty list is kept, and so is what an accepted edit leaves of a kept list.
+pub fn lists_stay_kept()
+    ensures { ListsStayKept }
 {}
 
 /// The lines of a dump, read from the empty list on, are accepted and leave the dumped list, if at

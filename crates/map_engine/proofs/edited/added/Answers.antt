@@ -1,10 +1,10 @@
 use Rattle.std.proofs.Common.{◌∙◌, ◌++◌, ◌∷◌, [], All, ap, sym, subst}
+use Rattle.std.proofs.lemmas.List.Elements.{All-push}
 use Rattle.tmm_model.specs.Lines.{IsWellFormedPremise}
 use Rattle.tmm_model.specs.WellNamed.{IsWellNamed}
 use Rattle.tmm_model.proofs.Elements.{In-left}
 use Rattle.tmm_model.proofs.Erased.{none_gone}
 use Rattle.premise_list.specs.States.{States}
-use Rattle.map_engine.proofs.NextLists.{well_formed_with}
 use Rattle.projection.proofs.Networks.{net_of}
 use Rattle.map_engine.proofs.edited.added.Goals as goal
 
@@ -20,5 +20,5 @@ returns-clause-network c =
     let ps = c.args.standing.now.present.premises in
     let new = ap (λ (s : States). s.present.premises) c.in_ok-add_premise.ensures.list in
     net_of c.add_premise.new.standing.present c.add_premise.new.net.present
-    (subst (All IsWellFormedPremise) (sym new) (well_formed_with ps c.args.premise.now c.requires.network.sound.well_formed c.requires.well_formed))
+    (subst (All IsWellFormedPremise) (sym new) (All-push IsWellFormedPremise ps c.args.premise.now c.requires.network.sound.well_formed c.requires.well_formed))
     c.len.ensures.well_named c.in_ok-add_premise.ensures.fits c.edges.ensures.distinct c.edges.ensures.start c.edges.ensures.in_use c.edges.ensures.dates
