@@ -63,3 +63,4 @@ pub mod Erased
 pub mod Adding
 pub mod Erasure
 pub mod Cycles
+mod CycleSums
