@@ -7,7 +7,7 @@ use Rattle.tmm_model.specs.declared.point.PointName.{PointName}
 use Rattle.tmm_model.specs.declared.point.PointName.TheVariants.{Start}
 use Rattle.tmm_model.specs.declared.premise.Premise.{Premise}
 use Rattle.tmm_model.specs.declared.walk.WalkStep.{WalkStep}
-use Rattle.tmm_model.specs.Cycles.{IsNegativeCycle}
+use Rattle.tmm_model.specs.Cycles.{IsNegativeCycle, IsCycleOf}
 use Rattle.tmm_model.specs.Points.{same_point}
 use Rattle.tmm_model.specs.Standing.{arcs_in, points_in, far_in, IsConsistent}
 use Rattle.tmm_model.specs.WellNamed.{IsWellNamed}
@@ -34,3 +34,7 @@ ListDistancesAreTightest =
 -- where steps are a negative cycle, no dates satisfy the premises with the refused one
 abbrev pub CyclesRefuse : Type 0
 CyclesRefuse = (premises : List Premise) (refused : Premise) (steps : List WalkStep) → IsNegativeCycle premises refused steps → IsConsistent (premises ++ refused ∷ []) → ⊥
+
+-- the cycle that is shown for a refused premise is a negative cycle
+abbrev pub CyclesAreNegative : Type 0
+CyclesAreNegative = (premises : List Premise) (refused : Premise) (sum : ℤ) (steps : List WalkStep) → IsCycleOf premises refused sum steps → IsNegativeCycle premises refused steps

@@ -1,5 +1,5 @@
 // Laws of distances, of timings and of negative cycles.
-ghost use Rattle.neg_cycle.specs.DistanceLaw.{DistancesAreTightest, ListDistancesAreTightest, CyclesRefuse};
+ghost use Rattle.neg_cycle.specs.DistanceLaw.{DistancesAreTightest, ListDistancesAreTightest, CyclesRefuse, CyclesAreNegative};
 ghost use Rattle.neg_cycle.specs.TimingLaw.{TimingsAreTightest, SureInEveryTiming, EarlyDatesAreEarliest};
 
 /// The tightest distance of two points is exactly what the dates allow: a number is kept by all
@@ -18,6 +18,8 @@ pub fn timings_are_tightest()
 {}
 
 /// A negative cycle is a certificate: no dates satisfy the premises together with the refused one.
+/// The cycle that a refusal shows is one.
 pub fn cycles_refuse()
-    ensures { CyclesRefuse }
+    ensures refuses { CyclesRefuse }
+    ensures shown { CyclesAreNegative }
 {}

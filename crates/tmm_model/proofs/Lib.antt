@@ -10,6 +10,7 @@ pub mod Renaming
 pub mod Sizes
 pub mod Walks
 pub mod Within
+mod Padded
 mod WorkedReplies
 pub mod FarTables
 pub mod WorkedScripts
@@ -64,3 +65,4 @@ pub mod Adding
 pub mod Erasure
 pub mod Cycles
 pub mod StayKept
+mod CycleSums

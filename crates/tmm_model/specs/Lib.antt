@@ -31,4 +31,5 @@ pub mod Kept
 pub mod Generator
 pub mod Transcript
 pub mod Cycles
+pub mod CycleLaw
 pub mod EditLaws

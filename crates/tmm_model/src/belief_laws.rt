@@ -1,5 +1,6 @@
 // Laws of distances, of belief and of edits.
 ghost use Rattle.tmm_model.specs.Right.{SoundListsAreShortest, PointsTimeOccurrences, DistancesAreShortest, OneRightSet, BeliefsAreRight, MapsAreRight, FiresWhereBelieved};
+ghost use Rattle.tmm_model.specs.CycleLaw.{CycleSumsAreOne, CyclesTellTheSum};
 ghost use Rattle.tmm_model.specs.EditLaws.{UntouchedKeepOutcome, ListsStayKept, DumpReloads};
 ghost use Rattle.tmm_model.specs.Reasons.{ReasonsAreEarlier, CitedStandBefore};
 
@@ -59,4 +60,10 @@ pub fn lists_stay_kept()
 /// no time the map is too large.
 pub fn dump_reloads()
     ensures { DumpReloads }
+{}
+
+/// The sum that a refusal for a negative cycle tells is fixed by the list and the premise.
+pub fn cycle_sums_are_one()
+    ensures one { CycleSumsAreOne }
+    ensures told { CyclesTellTheSum }
 {}

@@ -26,9 +26,9 @@ mod walk;
 
 pub use answer::{Answer, Blame, Cause, Report};
 pub use belief_laws::{
-    beliefs_are_right, decisions_fire_where_believed, distances_are_shortest, dump_reloads,
-    lists_stay_kept, maps_are_right, one_right_set, points_time_occurrences, reasons_are_earlier,
-    sound_lists_are_shortest, untouched_decisions_keep_outcomes,
+    beliefs_are_right, cycle_sums_are_one, decisions_fire_where_believed, distances_are_shortest,
+    dump_reloads, lists_stay_kept, maps_are_right, one_right_set, points_time_occurrences,
+    reasons_are_earlier, sound_lists_are_shortest, untouched_decisions_keep_outcomes,
 };
 pub use bound::Bound;
 pub use changes::{Changes, Clip, ListRow, WhyLine};

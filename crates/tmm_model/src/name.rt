@@ -113,7 +113,8 @@ impl PartialEq for Name {
     ghost laws = { partial_equiv_from_equiv nat_list_eq_equiv };
 
     fn eq(&self, other: &Name) -> bool {
-        self.bytes() == other.bytes()
+        // whole arrays are compared without a call
+        self.len == other.len && self.bytes == other.bytes
     }
 }
 

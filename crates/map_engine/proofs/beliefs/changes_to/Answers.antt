@@ -16,8 +16,8 @@ returns c = λ list old_net net old new left_out.
     let new_rows = ap (λ (l : List BeliefRow). map (row_at c.args.new.now.tree) l) c.items-2.ensures ∙ new.listing in
     let old_broken = ap (λ (l : List Report). map report_of l) c.items-3.ensures ∙ old.broken in
     let new_broken = ap (λ (l : List Report). map report_of l) c.items-4.ensures ∙ new.broken in
-    let between : AreChanges m n c.in_ok-left.field-0 = c.in_ok-left.ensures m n old_rows new_rows in
-    let reported = c.in_ok-broken.ensures m n old_broken new_broken refl in
+    let between : AreChanges m n c.in_ok-left.field-0 = c.in_ok-left.ensures.delta m n old_rows new_rows in
+    let reported = c.in_ok-broken.ensures.delta m n old_broken new_broken refl in
     told list c.args.standing.now.present
     (record {
       erased = c.args.erased;
