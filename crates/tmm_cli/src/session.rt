@@ -34,11 +34,12 @@ pub struct Session<M: MapCore + Drop> {
 }
 
 impl<M: MapCore + Drop> Session<M> {
-    /// A session over a map in which nothing is pending, with no line given.
+    /// A session over a map in which nothing is pending, with no line given and no decision counted.
     pub fn make(core: M) -> Session<M>
         requires { M.pending core ≡ None }
         ensures core { result.core ≡ core }
         ensures lines { result.lines ≡ 0 }
+        ensures counter { result.counter ≡ 0 }
     {
         Session {
             core,
