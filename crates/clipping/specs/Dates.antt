@@ -14,6 +14,7 @@ use Rattle.std.proofs.lemmas.Bool.{eqb-true}
 use Rattle.std.proofs.lemmas.Int.{ints}
 use Rattle.std.proofs.lemmas.Cmp.{then_total, on_total, int_cmp_total, nat_cmp_total, int_ranked, ranked}
 
+-- a line of time, a date on it, and a place that tells spots of one date apart
 abbrev pub Date : Type 0
 Date = ℕ × ℤ × ℕ
 

@@ -14,10 +14,12 @@ use Rattle.tmm_model.specs.Transcript.{AnswersLine, most_bytes}
 
 -- ---- the lines that the program answers so far: all but this
 
+-- whether the program answers the question
 abbrev pub is_built_query : Query → Bool
 is_built_query Audit = false
 is_built_query query = true
 
+-- whether it answers what a line says
 abbrev pub is_built : Line → Bool
 is_built (Question query) = is_built_query query
 is_built line = true

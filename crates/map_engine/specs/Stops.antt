@@ -13,6 +13,7 @@ use Rattle.tmm_model.specs.Standing.{Standing}
 use Rattle.tmm_model.specs.Transcript.{RefusesEdit}
 use Rattle.tmm_model.specs.Verdicts.{Tells}
 
+-- why an edit is not made: a refusal has its cause, and there may be no memory
 abbrev pub StopsEdit : Standing → Edit → Stop → Type 0
 StopsEdit list edit (Refused refusal) = RefusesEdit list edit refusal
 StopsEdit list edit NoMemory = Unit {0}
@@ -28,6 +29,7 @@ abbrev pub WantsMemory : TimeMap → Query → Type 0
 WantsMemory m (Bounds p q) = IsUnbelieved m p ⊎ IsUnbelieved m q
 WantsMemory m _ = Unit {0}
 
+-- why a question is not answered: a refusal tells its cause, and only some questions want memory
 abbrev pub StopsQuery : Standing → Query → Stop → Type 0
 StopsQuery list query (Refused refusal) = Tells refusal (query_cause (built list) query)
 StopsQuery list query NoMemory = WantsMemory (built list) query

@@ -14,15 +14,19 @@ use Rattle.occ_tree.specs.Light.{AreLight}
 use Rattle.occ_tree.specs.Sums.{AreSums}
 use Rattle.occ_tree.specs.Ways.{IsWay}
 
+-- the places of the slab
 abbrev pub Slots : Type 0
 Slots = List (Option Node)
 
+-- the node of a number, none where it is of none
 abbrev pub node_at : Slots → ℕ → Option Node
 node_at slots x = slice_index_or slots x None
 
+-- what the node says of its occurrence
 abbrev pub member_of : Node → Member
 member_of n = record { root = n.root; links = n.links.items; begin = n.begin; end = n.end; what = n.what; class = n.class; shape = n.shape }
 
+-- the nodes as occurrences, by their numbers
 abbrev pub forest_in : Slots → Forest
 forest_in slots = map (option_map member_of) slots
 

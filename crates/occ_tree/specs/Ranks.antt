@@ -12,5 +12,6 @@ pub record IsRanked (net : Net) (f : Forest) (r : Ranked) : Type 0 where
   pub early : r.early ≡ node_early net f r.node
   pub word : r.word.now ≡ printed (moment_at f r.node)
 
+-- the numbers of ranked nodes
 abbrev pub nodes_of : List Ranked → List ℕ
 nodes_of ranked = map (λ r. r.node) ranked

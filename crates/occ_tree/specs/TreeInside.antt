@@ -9,6 +9,7 @@ use Rattle.occ_tree.specs.declared.tree.Tree.TheInside.{Inside}
 use Rattle.occ_tree.specs.Classes.{rows_in}
 use Rattle.occ_tree.specs.Nodes.{Slots, node_at, forest_in, IsNode}
 
+-- the nodes of a tree as occurrences
 abbrev pub forest_of : Inside → Forest
 forest_of t = forest_in t.nodes.slots
 
@@ -22,5 +23,6 @@ pub record AreRight (slots : Slots) (listed : List ℕ) (classes : List ClassRow
   pub are_roots : (x : ℕ) → Contains listed x → (n : Node) × (node_at slots x ≡ Some n) × (n.links.items ≡ [])
   pub tokens : (c : List ℕ) → AreTokens (forest_in slots) c (rows_in classes c)
 
+-- the fields of a tree agree with each other
 abbrev pub IsTree : Inside → Type 0
 IsTree t = AreRight t.nodes.slots t.roots.items t.classes.items t.limit

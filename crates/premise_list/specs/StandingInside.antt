@@ -5,12 +5,14 @@ use Rattle.tmm_model.specs.WellNamed.{IsWellNamed}
 use Rattle.premise_list.specs.declared.standing.Standing.TheInside.{Inside}
 use Rattle.premise_list.specs.States.{States}
 
+-- the present list, and that of the last commit
 abbrev pub states_of : Inside → States
 states_of s = record {
   present = record { horizon = s.horizon; premises = s.table.premises };
   committed = record { horizon = s.committed_horizon; premises = s.committed.items };
 }
 
+-- The lists agree as far as they are shared, and each has room to become the other.
 pub record IsStanding (s : Inside) : Type 0 where
   -- the first premises of both lists are the same
   pub alike : take s.shared s.table.premises ≡ take s.shared s.committed.items

@@ -25,6 +25,7 @@ placed place (premise ∷ premises) = map (at_place place) (declarations_of prem
 abbrev pub word_seen : Word → Sort × ℕ
 word_seen word = (sort_seen word.sort, word.place)
 
+-- an entry of the index: a word, and what it stands for
 abbrev pub entry_seen : List ℕ × Word → List ℕ × (Sort × ℕ)
 entry_seen e = (e.0, word_seen e.1)
 

@@ -24,6 +24,7 @@ AddsRootAt s names (Some k) old new (Some x) = Adds s names old new x k
 AddsRootAt s names None old new None = new ≡ old
 AddsRootAt s names _ old new _ = ⊥
 
+-- what this premise declares to occur enters
 abbrev pub AddsRoot : Standing → Names → Premise → Forest → Forest → Option ℕ → Type 0
 AddsRoot s names premise = AddsRootAt s names (root_of premise)
 

@@ -19,6 +19,7 @@ use Rattle.projection.specs.Places.{IsRuleAt, rule_at}
 abbrev pub is_for : Standing → ℕ → List ℕ → Pending → ℕ
 is_for s x r p = cond ((p.trigger == x) && same_name (rule_at s p) r) 1 0
 
+-- one where the names are the same, else nothing
 abbrev pub is_name : List ℕ → List ℕ → ℕ
 is_name r name = cond (same_name name r) 1 0
 

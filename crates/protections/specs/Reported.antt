@@ -6,6 +6,7 @@ use Rattle.tmm_model.specs.Answers.{Finding}
 use Rattle.tmm_model.specs.Changes.{protection_name}
 use Rattle.tmm_model.specs.Points.{same_name}
 
+-- reported protections: their names, and what was found
 abbrev pub Reports : Type 0
 Reports = List (List ℕ × Finding)
 
@@ -22,6 +23,7 @@ module _ (before : Reports) where
   abbrev pub newly_broken : Reports → Reports
   newly_broken after = filter (λ r. not (is_reported before r.0)) after
 
+-- the name where a test holds
 abbrev pub name_if : Bool → List ℕ → Option (List ℕ)
 name_if true name = Some name
 name_if false name = None
@@ -31,6 +33,7 @@ module _ (before after : Reports) where
   abbrev pub is_mended : List ℕ → Bool
   is_mended name = is_reported before name && not (is_reported after name)
 
+  -- the name where it is that of a mended protection
   abbrev pub if_mended : Option (List ℕ) → Option (List ℕ)
   if_mended None = None
   if_mended (Some name) = name_if (is_mended name) name

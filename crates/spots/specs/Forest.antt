@@ -23,12 +23,15 @@ pub record Member : Type 0 where
 abbrev pub Forest : Type 0
 Forest = List (Option Member)
 
+-- the node of a number, none where the number is of no node
 abbrev pub member : Forest → ℕ → Option Member
 member f x = slice_index_or f x None
 
+-- the number is of a node
 abbrev pub IsLive : Forest → ℕ → Type 0
 IsLive f x = IsSome (member f x)
 
+-- the rules that lead to the node, the first one first
 abbrev pub rules_of : Member → List (List ℕ)
 rules_of m = map (λ l. l.rule) m.links
 
@@ -36,6 +39,7 @@ rules_of m = map (λ l. l.rule) m.links
 abbrev pub moment : Member → Moment
 moment m = along (At (Begin m.root)) (rules_of m)
 
+-- the moment of the node of a number
 abbrev pub moment_at : Forest → ℕ → Moment
 moment_at f x = option_map_or moment (member f x) (At Start)
 
@@ -55,6 +59,7 @@ pub record Enters (old new : Forest) (x : ℕ) (m : Member) : Type 0 where
 abbrev pub SameMembers : Forest → Forest → Type 0
 SameMembers old new = (x : ℕ) → member new x ≡ member old x
 
+-- a declared event, token or span
 abbrev pub root_member : List ℕ → ℕ → Option ℕ → List ℕ → Option (List ℕ) → Shape → Member
 root_member name begin «end» what class shape = record { root = name; links = []; begin = begin; end = «end»; what = what; class = class; shape = shape }
 

@@ -9,6 +9,7 @@ use Rattle.tmm_cli.specs.declared.status.Status.TheVariants.{Words, WriteFault, 
 use Rattle.tmm_cli.specs.Demo.{IsDemo, DemoEnds}
 use Rattle.tmm_cli.specs.Endings.{Ends}
 
+-- what is written for words that are none of the program's
 abbrev pub usage : List ℕ
 usage = codes "usage: tmm [demo N], N from 1 to 1000\n"
 

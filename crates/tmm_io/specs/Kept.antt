@@ -2,6 +2,8 @@
 use Rattle.std.specs.Prelude.{ℕ, ◌-◌, min, Bool, true, not, nat_le, nat_eq, cond, List, [], ◌∷◌, ◌++◌, take, length, Option, Some, None}
 use Rattle.tmm_io.specs.Causes.{raised}
 
+-- The bytes so far and how many more fit, how many calls there were, which of them fail and after how many
+-- bytes, and the count of faults.
 pub record Kept : Type 0 where
   pub bytes : List ℕ
   pub room : ℕ

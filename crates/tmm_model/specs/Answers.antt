@@ -38,6 +38,7 @@ pub data Finding : Type 0 where
   -- p is not surely at or before q
   unordered : Finding
 
+-- whether it was found that the fact holds
 abbrev pub does_hold : Finding → Bool
 does_hold (holds k) = true
 does_hold _ = false
@@ -49,9 +50,11 @@ pub record Row : Type 0 where
   pub what : List ℕ
   pub clip : Option Moment
 
+-- so many tokens are blamed at most
 abbrev pub most_blames : ℕ
 most_blames = 8
 
+-- the limit on the size of a map
 abbrev pub most_size : ℕ
 most_size = 100000
 
@@ -67,6 +70,7 @@ module _ (m : TimeMap) where
   abbrev pub clip_of : TokenRow Moment → Option Moment
   clip_of k = elim k.end [ Some e ↦ None | None ↦ first_believed (clips (contradicts_in m.list) (gap m) k) ]
 
+  -- the clip of an occurrence; none where it is no token
   abbrev pub clip : Moment → Option Moment
   clip x = option_and_then clip_of (token_of m.list x)
 
@@ -85,6 +89,7 @@ module _ (m : TimeMap) where
   abbrev pub tokens_for : List ℕ → List (TokenRow Moment)
   tokens_for fact = sorted (on (λ k. k.spot) (order m)) (filter (λ k. same_name k.fact fact) (believed_tokens m))
 
+  -- the fact does not hold: its first tokens, each with its fault, and how many there are beside them
   abbrev pub failing : Moment → Moment → List (TokenRow Moment) → Finding
   failing p q ks = fails (map (λ k. (k.spot, fault p q k)) (take most_blames ks)) (length ks - most_blames)
 
@@ -101,6 +106,7 @@ module _ (m : TimeMap) where
 
   -- ---- protections
 
+  -- the name and what was found, unless the fact holds
   abbrev pub as_broken : List ℕ → Finding → Option (List ℕ × Finding)
   as_broken name found = elim (does_hold found) [ true ↦ None | false ↦ Some (name, found) ]
 
@@ -115,6 +121,7 @@ module _ (m : TimeMap) where
 
   -- ---- the believed occurrences
 
+  -- a believed occurrence as it is listed
   abbrev pub row : Moment → Row
   row x = record { date = early m.list m.far x; occ = x; what = option_map_or (λ y. y.1) (is_of m.list x) []; clip = clip x }
 
@@ -132,21 +139,26 @@ module _ (m : TimeMap) where
 
 -- ---- the values of the code, as these definitions have them
 
+-- why a token is no supporter
 abbrev pub fault_of : Cause → Fault
 fault_of Late = late
 fault_of (Clipped c) = clipped (moment_of c)
 fault_of Ends = ends
 
+-- a token and its fault
 abbrev pub blame_of : Blame → Moment × Fault
 blame_of b = (moment_of b.token, fault_of b.cause)
 
+-- an answer whether a fact holds
 abbrev pub finding_of : Answer → Finding
 finding_of (Yes k) = holds (moment_of k)
 finding_of (No blames more) = fails (map blame_of blames.items) more
 finding_of Unordered = unordered
 
+-- a broken protection
 abbrev pub report_of : Report → List ℕ × Finding
 report_of r = (r.name, finding_of r.answer)
 
+-- a listed occurrence
 abbrev pub row_of : ListRow → Row
 row_of r = record { date = r.early; occ = moment_of r.occ; what = r.what; clip = option_map moment_of r.clip }

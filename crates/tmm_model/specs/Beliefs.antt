@@ -37,6 +37,7 @@ is_of s (At (Begin k)) = as_root (premise_in s.premises k)
 is_of s (At _) = None
 is_of s (After t r) = Some (as_effect (rule_of s r).effect (sort_in s.premises (rule_of s r).effect))
 
+-- what a premise declares to occur: an event, a token or a span
 abbrev pub root_of : Premise → Option Moment
 root_of (Event name kind) = Some (At (Begin name))
 root_of (Token name fact) = Some (At (Begin name))
@@ -53,6 +54,7 @@ roots s = filter_map root_of s.premises
 abbrev pub class_of : Standing → List ℕ → List ℕ
 class_of s fact = elim (class_in s.premises fact) [ Some class ↦ class | None ↦ [] ]
 
+-- the end of a span that begins at the point
 abbrev pub end_of : Moment → Moment
 end_of (At (Begin k)) = At (End k)
 end_of x = x
@@ -63,6 +65,7 @@ token_at s k (AnEvent, kind) = None
 token_at s k (APersistence, fact) = Some (record { spot = k; end = None; fact = fact; class = class_of s fact })
 token_at s k (ASpan, fact) = Some (record { spot = k; end = Some (end_of k); fact = fact; class = class_of s fact })
 
+-- the token that an occurrence is; none for an event
 abbrev pub token_of : Standing → Moment → Option (TokenRow Moment)
 token_of s k = elim (is_of s k) [ None ↦ None | Some x ↦ token_at s k x ]
 
@@ -76,6 +79,7 @@ contradicts_in s = of_one_class
 
 -- ---- rules at an event
 
+-- the name of a rule on this kind
 abbrev pub on_kind : List ℕ → Premise → Option (List ℕ)
 on_kind kind (Rule name trigger lo hi effect given) = elim (same_name trigger kind) [ true ↦ Some name | false ↦ None ]
 on_kind kind _ = None
@@ -84,6 +88,7 @@ on_kind kind _ = None
 abbrev pub rules_on : Standing → List ℕ → List (List ℕ)
 rules_on s kind = filter_map (on_kind kind) s.premises
 
+-- the rules on an event of a kind, none on a token
 abbrev pub rules_for : Standing → Option (Shape × List ℕ) → List (List ℕ)
 rules_for s (Some (AnEvent, kind)) = rules_on s kind
 rules_for s _ = []
@@ -115,6 +120,7 @@ module _ (s : Standing) (far : Distances) where
   abbrev pub enters : List Moment → ℕ → Moment → List ℕ → Bool
   enters b n t r = elim (int_eq (due t r) (pos n)) [ true ↦ is_free b t r | false ↦ false ]
 
+  -- what by the occurrences b the rules on t bring about at date n
   abbrev pub effects : List Moment → ℕ → Moment → List Moment
   effects b n t = map (After t) (filter (enters b n t) (rules_at s t))
 

@@ -37,6 +37,7 @@ bound_plus (Finite x) (Finite y) = Finite (x +ℤ y)
 bound_plus (Finite x) Free = Free
 bound_plus Free y = Free
 
+-- the bound, less a number
 abbrev pub bound_less : Bound → ℤ → Bound
 bound_less (Finite x) w = Finite (x -ℤ w)
 bound_less Free w = Free

@@ -39,6 +39,7 @@ in_order m = sorted (order m) m.believed
 abbrev pub is_broken : TimeMap → List ℕ → Bool
 is_broken m name = list_any (λ r. same_name r.0 name) (reports m)
 
+-- the name of a protection
 abbrev pub protection_name : Premise → Option (List ℕ)
 protection_name (Protect name fact from to) = Some name
 protection_name _ = None
@@ -69,6 +70,7 @@ changes old new = delta (built old) (built new)
 abbrev pub clip_pair : Clip → Moment × Moment
 clip_pair c = (moment_of c.token, moment_of c.by)
 
+-- the changes that the code tells, as this definition has them
 abbrev pub delta_of : CodeChanges → Delta
 delta_of c = record {
   erased = c.erased.items;

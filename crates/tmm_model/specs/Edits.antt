@@ -6,12 +6,15 @@ use Rattle.tmm_model.specs.declared.premise.Edit.TheVariants.{Add, Erase, Horizo
 use Rattle.tmm_model.specs.Standing.{Standing}
 use Rattle.tmm_model.specs.Erasure.{kept_without}
 
+-- the list with the premise last
 abbrev pub list_with : Standing → Premise → Standing
 list_with s premise = record { horizon = s.horizon; premises = s.premises ++ premise ∷ [] }
 
+-- the list without what is retracted with the premise of this name
 abbrev pub list_without : Standing → List ℕ → Standing
 list_without s name = record { horizon = s.horizon; premises = kept_without name s.premises }
 
+-- the list with this horizon
 abbrev pub list_until : Standing → ℕ → Standing
 list_until s n = record { horizon = n; premises = s.premises }
 

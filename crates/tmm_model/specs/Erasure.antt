@@ -24,6 +24,7 @@ names_used (a_premise word) = word ∷ []
 abbrev pub mentioned_by : Premise → List (List ℕ)
 mentioned_by premise = flat_map names_used (uses_of premise)
 
+-- whether the name is one of these
 abbrev pub is_among : List (List ℕ) → List ℕ → Bool
 is_among names name = list_any (same_name name) names
 

@@ -12,6 +12,7 @@ numbered letter j = letter ++ decimal j
 abbrev pub date_of : ℕ → ℕ
 date_of j = 10 * (j % 60) + 10
 
+-- what the script begins with: the classes, kinds and rules of a machine, and its first fact
 abbrev pub first_lines : List (List ℕ)
 first_lines =
     codes "class m idle busy"
@@ -48,22 +49,27 @@ script_of n = first_lines ++ events_below n ++ codes "size" ∷ []
 
 -- ---- the summary of what its lines were answered; none is want of memory
 
+-- an edit that was made
 abbrev pub is_ok : Option Reply → Bool
 is_ok (Some (Accepted changes)) = true
 is_ok _ = false
 
+-- a fact that holds
 abbrev pub is_yes : Option Reply → Bool
 is_yes (Some (Answered (Yes by))) = true
 is_yes _ = false
 
+-- a fact that does not hold, with its blames
 abbrev pub is_no : Option Reply → Bool
 is_no (Some (Answered (No blames more))) = true
 is_no _ = false
 
+-- a line that was refused
 abbrev pub is_refused : Option Reply → Bool
 is_refused (Some reply) = is_refusal reply
 is_refused None = false
 
+-- a line for which there was no memory
 abbrev pub is_want : Option Reply → Bool
 is_want (Some reply) = false
 is_want None = true
@@ -73,6 +79,7 @@ abbrev pub size_word : Option Reply → List ℕ
 size_word (Some (SizeIs n)) = decimal n
 size_word _ = codes "*"
 
+-- the number that the last reply tells
 abbrev pub last_word : List (Option Reply) → List ℕ
 last_word [] = codes "*"
 last_word (reply ∷ []) = size_word reply

@@ -8,6 +8,7 @@ use Rattle.tmm_model.specs.Right.{IsSound}
 use Rattle.tmm_model.specs.Standing.{Standing, points_in, IsConsistent}
 use Rattle.tmm_model.specs.Verdicts.{most_premises, most_points, list_cause}
 
+-- the greatest horizon
 abbrev pub last_horizon : ℕ
 last_horizon = 100000
 

@@ -35,6 +35,7 @@ unfoldable pub words : List ℕ → List (List ℕ)
 words [] = []
 words (b ∷ line) = cond (is_blank b) (words line) (cond (goes_on line) (onto_first b (words line)) ((b ∷ []) ∷ words line))
 
+-- bytes that part words
 abbrev pub AreBlanks : List ℕ → Type 0
 AreBlanks gap = IsTrue (list_all is_blank gap)
 
@@ -47,9 +48,11 @@ abbrev pub AreWords : List ℕ → List (List ℕ) → Type 0
 AreWords line [] = AreBlanks line
 AreWords line (w ∷ ws) = (gap : List ℕ) × (rest : List ℕ) × (line ≡ gap ++ w ++ rest) × AreBlanks gap × IsWord w × (goes_on rest ≡ false) × AreWords rest ws
 
+-- the word is a name
 abbrev pub IsName : List ℕ → Type 0
 IsName w = IsTrue (is_name w)
 
+-- each word is a name
 abbrev pub AreNames : List (List ℕ) → Type 0
 AreNames ws = IsTrue (list_all is_name ws)
 
@@ -62,9 +65,11 @@ abbrev pub bound_word : Bound → List ℕ
 bound_word (Finite z) = number_word z
 bound_word Free = codes "*"
 
+-- a number that a line can have: from -1,000,000,000 to 1,000,000,000
 abbrev pub IsNumber : ℤ → Type 0
 IsNumber z = IsWithin 1000000000 z
 
+-- such a number, or none
 abbrev pub IsBound : Bound → Type 0
 IsBound b = IfFinite b IsNumber
 
@@ -74,6 +79,7 @@ IsWellFormedPoint Start = Unit {0}
 IsWellFormedPoint (Begin k) = IsName k × (k ≢ codes "start")
 IsWellFormedPoint (End k) = IsName k
 
+-- its root and its rules are names
 abbrev pub IsWellFormedOcc : Occ → Type 0
 IsWellFormedOcc o = IsName o.root × AreNames o.rules.items
 
@@ -88,6 +94,7 @@ IsRange (Finite lo) (Finite hi) = lo ≤ℤ hi
 IsRange Free Free = ⊥
 IsRange _ _ = Unit {0}
 
+-- what a premise can say
 abbrev pub IsWellFormedPremise : Premise → Type 0
 IsWellFormedPremise (Class name facts) = IsName name × AreNames facts.items × (1 ≤ length facts.items) × (length facts.items ≤ 8)
 IsWellFormedPremise (Kind name) = IsName name
@@ -100,11 +107,13 @@ IsWellFormedPremise (Rule name trigger lo hi effect given) =
     IsName name × IsName trigger × IsNumber lo × IsBound hi × (pos 1 ≤ℤ lo) × IsRange (Finite lo) hi × IsName effect × AreNames given.items × (length given.items ≤ 4)
 IsWellFormedPremise (Protect name fact from to) = IsName name × IsName fact × IsWellFormedPoint from × IsWellFormedPoint to
 
+-- what an edit can say
 abbrev pub IsWellFormedEdit : Edit → Type 0
 IsWellFormedEdit (Add premise) = IsWellFormedPremise premise
 IsWellFormedEdit (Erase name) = IsName name
 IsWellFormedEdit (Horizon n) = n ≤ 100000
 
+-- what a question can say
 abbrev pub IsWellFormedQuery : Query → Type 0
 IsWellFormedQuery (Bounds p q) = IsWellFormedQueryPoint p × IsWellFormedQueryPoint q
 IsWellFormedQuery (Path p q) = IsWellFormedQueryPoint p × IsWellFormedQueryPoint q
@@ -163,6 +172,7 @@ Reads ws Silent = IsSilent ws
 Reads ws (Change edit) = (ws ≡ edit_words edit) × IsWellFormedEdit edit
 Reads ws (Question query) = (ws ≡ query_words query) × IsWellFormedQuery query
 
+-- the words of the line read as what it says
 abbrev pub ReadsLine : List ℕ → Line → Type 0
 ReadsLine line l = Reads (words line) l
 
@@ -184,10 +194,12 @@ shown_text premise = spaced (shown premise)
 abbrev pub bare_occ : Occ → Occ
 bare_occ o = record { root = o.root; rules = record { items = o.rules.items; room = 0 } }
 
+-- a point but for the room of its list
 abbrev pub bare_point : QueryPoint → QueryPoint
 bare_point (Declared p) = Declared p
 bare_point (Derived o) = Derived (bare_occ o)
 
+-- a question but for the room of its lists
 abbrev pub bare_query : Query → Query
 bare_query (Bounds p q) = Bounds (bare_point p) (bare_point q)
 bare_query (Path p q) = Path (bare_point p) (bare_point q)
@@ -195,6 +207,7 @@ bare_query (Ask fact p q) = Ask fact (bare_point p) (bare_point q)
 bare_query (Why o) = Why (bare_occ o)
 bare_query query = query
 
+-- a line but for the room of its lists
 abbrev pub bare_line : Line → Line
 bare_line (Question query) = Question (bare_query query)
 bare_line l = l

@@ -26,14 +26,18 @@ built s = map_with s (far_in s.premises)
 abbrev pub gap : TimeMap → Moment → Moment → Bound
 gap m = distance m.list m.far
 
+-- by the earliest date, and then by the bytes of the word
 abbrev pub order : TimeMap → Moment → Moment → Ordering
 order m = occ_cmp m.list m.far
 
+-- the tokens among the believed occurrences
 abbrev pub believed_tokens : TimeMap → List (TokenRow Moment)
 believed_tokens m = tokens m.list m.believed
 
+-- whether the moment is one of these
 abbrev pub is_among : List Moment → Moment → Bool
 is_among xs x = list_any (same_moment x) xs
 
+-- whether an occurrence is believed
 abbrev pub is_believed : TimeMap → Moment → Bool
 is_believed m x = is_among m.believed x

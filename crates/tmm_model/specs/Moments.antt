@@ -24,6 +24,7 @@ pub data Moment : Type 0 where
   At : PointName → Moment
   After : Moment → List ℕ → Moment
 
+-- whether two moments are the same
 abbrev pub same_moment : Moment → Moment → Bool
 same_moment (At p) (At q) = same_point p q
 same_moment (After t r) (After u q) = same_name r q && same_moment t u
@@ -34,10 +35,12 @@ abbrev pub base : Moment → PointName
 base (At p) = p
 base (After t r) = base t
 
+-- the rules that lead on from its declared point, the first one first
 abbrev pub rules : Moment → List (List ℕ)
 rules (At p) = []
 rules (After t r) = rules t ++ r ∷ []
 
+-- whether it is what a rule brings about
 abbrev pub is_derived : Moment → Bool
 is_derived (At p) = false
 is_derived (After t r) = true
@@ -49,9 +52,11 @@ abbrev pub along : Moment → List (List ℕ) → Moment
 along t [] = t
 along t (r ∷ rs) = along (After t r) rs
 
+-- the moment of an occurrence as the script writes it
 abbrev pub moment_of : Occ → Moment
 moment_of o = along (At (Begin o.root)) o.rules.items
 
+-- the moment of a point of a question
 abbrev pub moment_of_point : QueryPoint → Moment
 moment_of_point (Declared p) = At p
 moment_of_point (Derived o) = moment_of o
@@ -63,6 +68,7 @@ printed (After t r) = printed t ++ 47 ∷ r
 
 -- ---- what rules say
 
+-- the kind of its events, the bounds on its delay, its effect and its antecedents
 pub record RuleText : Type 0 where
   pub trigger : List ℕ
   pub lo : ℤ

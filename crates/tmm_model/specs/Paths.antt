@@ -14,6 +14,7 @@ pub record IsLeastWalk (m : TimeMap) (a b : PointName) (steps : List WalkStep) :
   pub path : IsPath (steps_in m.list.premises) a b steps
   pub least : m.far a b ≡ Finite (sum_of steps)
 
+-- a least walk between the declared points where there is a bound, and no step where there is none
 abbrev pub WalksIf : TimeMap → Moment → Moment → Bound → List WalkStep → Type 0
 WalksIf m x y Free steps = steps ≡ []
 WalksIf m x y (Finite d) steps = IsLeastWalk m (base x) (base y) steps

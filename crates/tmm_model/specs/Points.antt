@@ -7,9 +7,11 @@ use Rattle.tmm_model.specs.declared.point.Occ.{Occ}
 use Rattle.tmm_model.specs.declared.point.QueryPoint.{QueryPoint}
 use Rattle.tmm_model.specs.declared.point.QueryPoint.TheVariants.{Declared, Derived}
 
+-- whether two names have the same bytes
 abbrev pub same_name : List ℕ → List ℕ → Bool
 same_name a b = pointwise nat_eq a b
 
+-- whether two declared points are the same
 abbrev pub same_point : PointName → PointName → Bool
 same_point Start Start = true
 same_point (Begin a) (Begin b) = same_name a b

@@ -30,10 +30,12 @@ module _ (m : TimeMap) where
   abbrev pub derived_cause : Occ → Option Cause
   derived_cause o = elim (is_believed m (moment_of o)) [ true ↦ None | false ↦ Some (unknown (occ_word o)) ]
 
+  -- the cause against a point of a question
   abbrev pub point_cause : QueryPoint → Option Cause
   point_cause (Declared p) = place_cause m.list.premises p
   point_cause (Derived o) = derived_cause o
 
+  -- the cause against an occurrence whose reasons are asked for; without a rule it is wanted as a root
   abbrev pub why_cause : Occ → List (List ℕ) → Option Cause
   why_cause o [] = name_cause (sort_in m.list.premises o.root) o.root is_root
   why_cause o (r ∷ rules) = derived_cause o

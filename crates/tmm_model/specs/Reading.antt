@@ -23,6 +23,7 @@ use Rattle.tmm_model.specs.Points.{same_name}
 use Rattle.tmm_model.specs.Lines.{is_comment}
 
 infixl 10 ◌>>=◌
+-- what is read next, where something was read
 abbrev pub ◌>>=◌ : {A B : Type 0} → Option A → (A → Option B) → Option B
 (Some x) >>= f = f x
 None >>= f = None
@@ -52,6 +53,7 @@ both read rest ws = front read ws >>= λ x. rest x.1 >>= λ y. Some (x.0, y)
 
 -- ---- words
 
+-- a name
 abbrev pub name_of : List ℕ → Option (List ℕ)
 name_of w = passing (is_name w) w
 
@@ -59,6 +61,7 @@ name_of w = passing (is_name w) w
 abbrev pub names_of : ℕ → List (List ℕ) → Option (List (List ℕ))
 names_of n ws = passing (list_all is_name ws && nat_le (length ws) n) ws
 
+-- 0 to 9
 abbrev pub is_digit : ℕ → Bool
 is_digit b = nat_le 48 b && nat_le b 57
 
@@ -72,14 +75,17 @@ unfoldable pub natural_of : List ℕ → Option ℕ
 natural_of [] = None
 natural_of (b ∷ bs) = cond (b == 48) (ended 0 bs) (digits_on 0 (b ∷ bs))
 
+-- a number behind a `-`, which is not 0
 abbrev pub negative : ℕ → Option ℤ
 negative zero = None
 negative (suc n) = Some (negsuc n)
 
+-- a number, behind a `-` where it is below zero
 unfoldable pub number_of : List ℕ → Option ℤ
 number_of [] = None
 number_of (b ∷ bs) = cond (b == 45) (natural_of bs >>= negative) (option_map pos (natural_of (b ∷ bs)))
 
+-- a number, or `*` for none
 unfoldable pub bound_of : List ℕ → Option Bound
 bound_of w = cond (same_name w (codes "*")) (Some Free) (option_map Finite (number_of w))
 
@@ -87,6 +93,7 @@ bound_of w = cond (same_name w (codes "*")) (Some Free) (option_map Finite (numb
 abbrev pub end_of : List ℕ → Option PointName
 end_of w = cond (same_name (drop (length w - 4) w) (codes ".end")) (option_map End (name_of (take (length w - 4) w))) None
 
+-- `start`, the point of a name, or the end of a span
 unfoldable pub point_of : List ℕ → Option PointName
 point_of w = cond (same_name w (codes "start")) (Some Start) (cond (is_name w) (Some (Begin w)) (end_of w))
 
@@ -99,23 +106,29 @@ abbrev pub parts_behind : List ℕ → List (List ℕ)
 parts_behind [] = []
 parts_behind (_ ∷ w) = parts w
 
+-- an occurrence of a root and rules
 abbrev pub bare : List ℕ → List (List ℕ) → Occ
 bare root rules = record { root = root; rules = record { items = rules; room = 0 } }
 
+-- an occurrence by its parts, which are names
 abbrev pub occ_from : List (List ℕ) → Option Occ
 occ_from [] = None
 occ_from (root ∷ rules) = passing (list_all is_name (root ∷ rules)) (bare root rules)
 
+-- an occurrence: a root and rules, parted by `/`
 unfoldable pub occ_of : List ℕ → Option Occ
 occ_of w = occ_from (parts w)
 
+-- a point of a question: a word with a `/` is an occurrence
 unfoldable pub query_point_of : List ℕ → Option QueryPoint
 query_point_of w = cond (list_any (λ b. b == 47) w) (option_map Derived (occ_of w)) (option_map Declared (point_of w))
 
+-- a number that may be a horizon
 abbrev pub horizon_from : ℤ → Option ℕ
 horizon_from (pos n) = passing (nat_le n 100000) n
 horizon_from (negsuc _) = None
 
+-- a horizon
 unfoldable pub horizon_of : List ℕ → Option ℕ
 horizon_of w = number_of w >>= horizon_from
 

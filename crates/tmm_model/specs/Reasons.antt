@@ -48,6 +48,7 @@ module _ (m : TimeMap) where
   belief_line (At p) = by_premise (point_word p)
   belief_line (After t r) = by_rule (After t r) r t (supports_at m t r)
 
+  -- t and the end of its supporter, where that is a span
   abbrev pub end_pair : Moment → Option Moment → List (Moment × Moment)
   end_pair t None = []
   end_pair t (Some e) = (t, e) ∷ []
@@ -56,6 +57,7 @@ module _ (m : TimeMap) where
   abbrev pub pairs_of : Moment → Moment → List (Moment × Moment)
   pairs_of t k = (k, t) ∷ end_pair t (option_and_then (λ row. row.end) (token_of m.list k))
 
+  -- all that has to be in order for what a rule brings about
   abbrev pub pairs : Moment → List (Moment × Moment)
   pairs (At p) = []
   pairs (After t r) = flat_map (pairs_of t) (supports_at m t r)

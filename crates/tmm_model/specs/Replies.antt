@@ -67,6 +67,7 @@ head_line k words = line_of [] (decimal k ∷ words)
 abbrev pub two : List ℕ
 two = codes "  "
 
+-- what belongs to a detail
 abbrev pub four : List ℕ
 four = codes "    "
 
@@ -75,6 +76,7 @@ abbrev pub bound_word : Bound → List ℕ
 bound_word (Finite x) = signed_decimal x
 bound_word Free = codes "*"
 
+-- which of its premise's constraints a step is
 abbrev pub side_word : Side → List ℕ
 side_word Hi = codes "hi"
 side_word Lo = codes "lo"
@@ -85,6 +87,7 @@ side_word Length = codes "length"
 abbrev pub step_line : List ℕ → WalkStep → List ℕ
 step_line indent s = line_of indent (s.premise ∷ side_word s.side ∷ point_word s.from ∷ point_word s.to ∷ signed_decimal s.weight ∷ [])
 
+-- the steps of a walk, one a line
 abbrev pub step_lines : List ℕ → List WalkStep → List ℕ
 step_lines indent steps = flat_map (step_line indent) steps
 
@@ -94,6 +97,7 @@ cause_words Late = codes "late" ∷ []
 cause_words (Clipped by) = codes "clipped" ∷ occ_word by ∷ []
 cause_words Ends = codes "ends" ∷ []
 
+-- a token, and why it is no supporter
 abbrev pub blame_line : List ℕ → Blame → List ℕ
 blame_line indent b = line_of indent (occ_word b.token ∷ cause_words b.cause)
 
@@ -107,6 +111,7 @@ abbrev pub blame_lines : List ℕ → Answer → List ℕ
 blame_lines indent (No blames more) = flat_map (blame_line indent) blames.items ++ more_line indent more
 blame_lines indent _ = []
 
+-- whether a fact holds, and by which token
 abbrev pub answer_words : Answer → List (List ℕ)
 answer_words (Yes by) = codes "yes" ∷ occ_word by ∷ []
 answer_words (No _ _) = codes "no" ∷ []
@@ -125,6 +130,7 @@ report_lines r = line_of two (codes "broken" ∷ r.name ∷ unordered_words r.an
 abbrev pub name_line : List ℕ → List ℕ → List ℕ
 name_line word name = line_of two (word ∷ name ∷ [])
 
+-- a word and an occurrence
 abbrev pub occ_line : List ℕ → Occ → List ℕ
 occ_line word o = name_line word (occ_word o)
 
@@ -165,11 +171,13 @@ abbrev pub with_words : List Occ → List (List ℕ)
 with_words [] = []
 with_words supports = codes "with" ∷ map occ_word supports
 
+-- a reason of a belief, with the steps of an order
 abbrev pub why_lines : WhyLine → List ℕ
 why_lines (Premise name) = name_line (codes "premise") name
 why_lines (Order first second far steps) = line_of two (codes "order" ∷ query_word first ∷ query_word second ∷ signed_decimal far ∷ []) ++ step_lines four steps.items
 why_lines (Derived occ rule trigger supports) = line_of two (occ_word occ ∷ codes "by" ∷ rule ∷ codes "on" ∷ occ_word trigger ∷ with_words supports.items)
 
+-- what clips it, where something does
 abbrev pub clip_words : Option Occ → List (List ℕ)
 clip_words None = []
 clip_words (Some by) = codes "clip" ∷ occ_word by ∷ []

@@ -10,16 +10,19 @@ turn_text number Silent = []
 turn_text number (Reply bytes refused) = bytes.items
 turn_text number Memory = memory_text number
 
+-- the line has a reply
 abbrev pub is_reply : Turn → Bool
 is_reply Silent = false
 is_reply (Reply bytes refused) = true
 is_reply Memory = true
 
+-- it is a refusal
 abbrev pub is_refused : Turn → Bool
 is_refused Silent = false
 is_refused (Reply bytes refused) = refused
 is_refused Memory = false
 
+-- it says that there was no memory
 abbrev pub is_memory : Turn → Bool
 is_memory Silent = false
 is_memory (Reply bytes refused) = false

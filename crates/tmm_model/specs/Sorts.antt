@@ -24,6 +24,7 @@ pub data Sort : Type 0 where
 abbrev pub is_reserved : List ℕ → Bool
 is_reserved word = same_name word (codes "start") || same_name word (codes "if") || same_name word (codes "unless")
 
+-- a fact of a class that is declared
 abbrev pub fact_declaration : List ℕ → List ℕ × Sort
 fact_declaration fact = (fact, a_fact)
 
@@ -39,9 +40,11 @@ declarations_of (Dist name from to lo hi) = (name, a_dist) ∷ []
 declarations_of (Rule name trigger lo hi effect given) = (name, a_rule) ∷ []
 declarations_of (Protect name fact from to) = (name, a_protection) ∷ []
 
+-- the names alone
 abbrev pub declared_by : Premise → List (List ℕ)
 declared_by premise = map (λ d. d.0) (declarations_of premise)
 
+-- all that the premises declare, in order
 abbrev pub declarations_in : List Premise → List (List ℕ × Sort)
 declarations_in premises = flat_map declarations_of premises
 
@@ -49,10 +52,12 @@ declarations_in premises = flat_map declarations_of premises
 abbrev pub sort_in : List Premise → List ℕ → Option Sort
 sort_in premises name = lookup (same_name name) (declarations_in premises)
 
+-- a fact is wanted
 abbrev pub is_fact : Sort → Bool
 is_fact a_fact = true
 is_fact _ = false
 
+-- a kind is wanted
 abbrev pub is_kind : Sort → Bool
 is_kind a_kind = true
 is_kind _ = false
@@ -71,6 +76,7 @@ is_place a_token = true
 is_place a_span = true
 is_place _ = false
 
+-- what has an end
 abbrev pub is_span : Sort → Bool
 is_span a_span = true
 is_span _ = false
@@ -86,6 +92,7 @@ pub data Use : Type 0 where
   a_place : PointName → Use
   a_premise : List ℕ → Use
 
+-- a word for which a fact is wanted
 abbrev pub fact_use : List ℕ → Use
 fact_use fact = a_name fact is_fact
 

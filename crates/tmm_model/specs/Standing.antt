@@ -17,6 +17,7 @@ pub record Standing : Type 0 where
   pub horizon : ℕ
   pub premises : List Premise
 
+-- what a script begins with: no premise, and the horizon 1000
 abbrev pub empty_list : Standing
 empty_list = record { horizon = 1000; premises = [] }
 
@@ -67,9 +68,11 @@ steps_of (Span name fact) = base_step name ∷ length_step name ∷ []
 steps_of (Dist name from to lo hi) = hi_steps name from to hi ++ lo_steps name from to lo
 steps_of _ = []
 
+-- the constraint of a step
 abbrev pub arc_of : WalkStep → Arc PointName
 arc_of step = record { from = step.from; to = step.to; weight = step.weight }
 
+-- the constraints of a premise
 abbrev pub arcs_of : Premise → List (Arc PointName)
 arcs_of premise = map arc_of (steps_of premise)
 

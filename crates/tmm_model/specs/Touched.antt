@@ -14,14 +14,17 @@ use Rattle.tmm_model.specs.Moments.{Moment, At, same_moment, rule_of}
 use Rattle.tmm_model.specs.Points.{same_name}
 use Rattle.tmm_model.specs.Standing.{Standing}
 
+-- whether two bounds are the same
 abbrev pub same_bound : Bound → Bound → Bool
 same_bound (Finite x) (Finite y) = int_eq x y
 same_bound Free Free = true
 same_bound _ _ = false
 
+-- whether two tokens are the same in all
 abbrev pub same_token : TokenRow Moment → TokenRow Moment → Bool
 same_token k c = same_moment k.spot c.spot && option_eq same_moment k.end c.end && same_name k.fact c.fact && same_name k.class c.class
 
+-- whether all tokens are among the others
 abbrev pub are_within : List (TokenRow Moment) → List (TokenRow Moment) → Bool
 are_within xs ys = list_all (λ k. list_any (same_token k) ys) xs
 
@@ -37,9 +40,11 @@ watched m r = filter (λ k. list_any (λ fact. same_name (class_of m.list fact) 
 abbrev pub watched_points : TimeMap → Moment → List ℕ → List Moment
 watched_points m t r = At Start ∷ t ∷ map (λ k. k.spot) (watched m r) ++ filter_map (λ k. k.end) (watched m r)
 
+-- whether these points are as far apart in both maps
 abbrev pub same_gaps : TimeMap → TimeMap → List Moment → Bool
 same_gaps old new points = list_all (λ p. list_all (λ q. same_bound (gap old p q) (gap new p q)) points) points
 
+-- whether the rule is one on a believed event
 abbrev pub is_decision : TimeMap → Moment × List ℕ → Bool
 is_decision m d = list_any (λ e. same_moment e.0 d.0 && same_name e.1 d.1) (decisions m.list m.believed)
 
@@ -53,6 +58,7 @@ module _ (old new : TimeMap) where
       || not (same_tokens (watched old d.1) (watched new d.1))
       || not (same_gaps old new (watched_points new d.0 d.1))
 
+  -- how many of the new map's decisions are touched
   abbrev pub touched_decisions : ℕ
   touched_decisions = count_by is_touched (decisions new.list new.believed)
 

@@ -16,9 +16,11 @@ use Rattle.tmm_model.specs.Walks.{Arc}
 use Rattle.tmm_model.specs.Standing.{points_in, arcs_of, far_in}
 use Rattle.tmm_model.specs.Sorts.{Sort, a_span, is_reserved, declared_by, declarations_in, sort_in, is_place, is_premise, Use, a_name, a_place, a_premise, uses_of}
 
+-- the limit on premises
 abbrev pub most_premises : ℕ
 most_premises = 2000
 
+-- the limit on points, `start` among them
 abbrev pub most_points : ℕ
 most_points = 256
 
@@ -47,6 +49,7 @@ end_cause None word = Some (unknown word)
 end_cause (Some a_span) word = None
 end_cause (Some _) word = Some (ill_sorted word)
 
+-- a word for which a declared point is wanted
 abbrev pub place_cause : List Premise → PointName → Option Cause
 place_cause premises Start = None
 place_cause premises (Begin name) = name_cause (sort_in premises name) name is_place
@@ -57,6 +60,7 @@ abbrev pub premise_cause : Option Sort → List ℕ → Option Cause
 premise_cause None word = Some (unknown word)
 premise_cause (Some sort) word = elim (is_premise sort) [ true ↦ None | false ↦ Some (ill_sorted word) ]
 
+-- the cause against a word, by what is wanted there
 abbrev pub use_cause : List Premise → Use → Option Cause
 use_cause premises (a_name word wanted) = name_cause (sort_in premises word) word wanted
 use_cause premises (a_place point) = place_cause premises point
@@ -71,9 +75,11 @@ uses_cause premises (use_ ∷ uses) = elim (use_cause premises use_) [ Some caus
 abbrev pub premises_cause : List Premise → Option Cause
 premises_cause premises = elim (nat_le most_premises (length premises)) [ true ↦ Some too_many_premises | false ↦ None ]
 
+-- more points than may stand
 abbrev pub points_cause : List Premise → Option Cause
 points_cause premises = elim (nat_le (length (points_in premises)) most_points) [ true ↦ None | false ↦ Some too_many_points ]
 
+-- the names that are declared
 abbrev pub words_known : List Premise → List (List ℕ)
 words_known premises = map (λ d. d.0) (declarations_in premises)
 

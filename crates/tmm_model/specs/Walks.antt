@@ -22,6 +22,7 @@ module _ {P : Type 0} where
     pub at_start : date start ≡ pos 0
     pub met : All (λ e. (date e.to -ℤ date e.from) ≤ℤ e.weight) arcs
 
+  -- some dates satisfy every constraint
   abbrev pub HasDates : P → List (Arc P) → Type 0
   HasDates start arcs = (date : P → ℤ) × IsDates start arcs date
 

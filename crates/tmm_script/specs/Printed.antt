@@ -7,15 +7,18 @@ use Rattle.tmm_model.specs.Lines.{number_word, bound_word, given_words, shown}
 use Rattle.tmm_script.specs.declared.print.Field.{Field}
 use Rattle.tmm_script.specs.declared.print.Field.TheVariants.{Name, Point, Bound}
 
+-- the word of a field
 abbrev pub field_word : Field → List ℕ
 field_word (Name n) = n
 field_word (Point p) = point_word p
 field_word (Bound b) = bound_word b
 
+-- all words but the first
 abbrev pub other_words : List (List ℕ) → List (List ℕ)
 other_words [] = []
 other_words (_ ∷ ws) = ws
 
+-- the first word
 abbrev pub first_word : List (List ℕ) → List ℕ
 first_word [] = []
 first_word (w ∷ _) = w

@@ -16,6 +16,7 @@ StopsPoint m point (Refused refusal) = Tells refusal (point_cause m point)
 StopsPoint m (Declared p) NoMemory = ⊥
 StopsPoint m (Derived o) NoMemory = IsSome (derived_cause m o)
 
+-- the same where reasons of an occurrence with these rules are asked for
 abbrev pub StopsFor : TimeMap → Occ → List (List ℕ) → Stop → Type 0
 StopsFor m o rules (Refused refusal) = Tells refusal (why_cause m o rules)
 StopsFor m o [] NoMemory = ⊥
