@@ -144,6 +144,7 @@ is_range _ _ = true
 unfoldable pub class_of : List (List ℕ) → Option Premise
 class_of ws = both name_of (names_of 8) ws >>= λ t. passing (nat_le 1 (length t.1)) (Class t.0 (record { items = t.1 }))
 
+-- a name, two points and two bounds that are a range
 unfoldable pub dist_of : List (List ℕ) → Option Premise
 dist_of ws = both name_of (both point_of (both point_of (both bound_of (alone bound_of)))) ws
     >>= λ t. passing (is_range t.1.1.1.0 t.1.1.1.1) (Dist t.0 t.1.0 t.1.1.0 t.1.1.1.0 t.1.1.1.1)
@@ -153,27 +154,34 @@ unfoldable pub given_of : List (List ℕ) → Option (List (List ℕ))
 given_of [] = Some []
 given_of (w ∷ ws) = cond (same_name w (codes "if")) (names_of 4 ws >>= λ facts. passing (nat_le 1 (length facts)) facts) None
 
+-- a name, a kind, a delay of at least 1 and a bound that is no less, an effect, and antecedents
 unfoldable pub rule_of : List (List ℕ) → Option Premise
 rule_of ws = both name_of (both name_of (both number_of (both bound_of (both name_of given_of)))) ws
     >>= λ t. passing (int_le (pos 1) t.1.1.0 && is_range (Finite t.1.1.0) t.1.1.1.0) (Rule t.0 t.1.0 t.1.1.0 t.1.1.1.0 t.1.1.1.1.0 (record { items = t.1.1.1.1.1 }))
 
+-- a name, a fact and two points
 unfoldable pub protect_of : List (List ℕ) → Option Premise
 protect_of ws = option_map (λ t. Protect t.0 t.1.0 t.1.1.0 t.1.1.1) (both name_of (both name_of (both point_of (alone point_of))) ws)
 
+-- one name
 unfoldable pub name_alone_of : List (List ℕ) → Option (List ℕ)
 name_alone_of = alone name_of
 
+-- two names
 unfoldable pub two_names_of : List (List ℕ) → Option (List ℕ × List ℕ)
 two_names_of = both name_of (alone name_of)
 
+-- two points of a question
 unfoldable pub two_points_of : List (List ℕ) → Option (QueryPoint × QueryPoint)
 two_points_of = both query_point_of (alone query_point_of)
 
+-- a fact and two points of a question
 unfoldable pub ask_of : List (List ℕ) → Option Query
 ask_of ws = option_map (λ t. Ask t.0 t.1.0 t.1.1) (both name_of two_points_of ws)
 
 -- ---- the first word and the words behind it
 
+-- a premise by its first word
 unfoldable pub premise_of : List ℕ → List (List ℕ) → Option Premise
 premise_of w ws =
     cond (same_name w (codes "class")) (class_of ws)
@@ -186,12 +194,14 @@ premise_of w ws =
     (cond (same_name w (codes "rule")) (rule_of ws)
     (cond (same_name w (codes "protect")) (protect_of ws) None))))))))
 
+-- an edit by its first word
 unfoldable pub edit_of : List ℕ → List (List ℕ) → Option Edit
 edit_of w ws =
     cond (same_name w (codes "erase")) (option_map Erase (name_alone_of ws))
     (cond (same_name w (codes "horizon")) (option_map Horizon (alone horizon_of ws))
     (option_map Add (premise_of w ws)))
 
+-- a question by its first word
 unfoldable pub query_of : List ℕ → List (List ℕ) → Option Query
 query_of w ws =
     cond (same_name w (codes "ask")) (ask_of ws)
@@ -204,6 +214,7 @@ query_of w ws =
     (cond (same_name w (codes "audit")) (ended Audit ws)
     (cond (same_name w (codes "size")) (ended Size ws) None))))))))
 
+-- nothing, a comment, an edit or a question
 unfoldable pub line_of : List (List ℕ) → Option Line
 line_of [] = Some Silent
 line_of (w ∷ ws) = cond (is_comment w) (Some Silent) (option_or (option_map Change (edit_of w ws)) (option_map Question (query_of w ws)))
