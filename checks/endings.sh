@@ -39,13 +39,15 @@ status=$(cat "$kept")
 expect 4 "a pipe that is closed"
 
 coproc map { ./tmm; }
+running=$map_PID
 echo 'point a' >&"${map[1]}"
+reply=
 IFS= read -r -t 60 reply <&"${map[0]}"
 [ "$reply" == '1 ok' ]
 status=$?
 expect 0 "a reply before the next line is given"
-kill "$map_PID"
-wait "$map_PID" 2> /dev/null
+kill "$running" 2> /dev/null
+wait "$running" 2> /dev/null
 
 comment=$(printf '# %0300d' 0)
 yes "$comment" | head -c $((1 << 30)) | ./tmm
