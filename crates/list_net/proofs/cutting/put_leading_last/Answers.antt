@@ -1,0 +1,11 @@
+use Rattle.std.proofs.Common.{◌≡◌, ◌≤◌, ◌+◌, ◌-◌, ℕ, arith, subst}
+use Rattle.list_net.proofs.Dropping.{IsArranging, IsArranging-moved}
+use Rattle.list_net.proofs.cutting.put_leading_last.Goals as goal
+
+pub loop-place-preserved-then-not-is_fallen : goal.loop-place-preserved-then-not-is_fallen
+loop-place-preserved-then-not-is_fallen c =
+    let place = c.loop-place.place - 1 in
+    let next : c.loop-place.place ≡ place + 1 = omega (arith, c.loop-place-test.true) in
+    let from : c.args.left ≤ place = omega (arith, c.loop-place-test.true) in
+    IsArranging-moved c.args.net.now c.args.left place c.loop-place.last c.loop-place.net c.swap_edges.new.self from
+    (subst (λ (k : ℕ). IsArranging c.args.net.now c.args.left k c.loop-place.last c.loop-place.net) next c.loop-place.invariant) c.swap_edges.ensures
