@@ -1,6 +1,5 @@
 -- Row after row is repaired.
-use Rattle.std.proofs.Common.{◌≡◌, ◌≢◌, ◌⊎◌, ◌∙◌, inl, inr, ℕ, ◌+◌, ◌<◌, ◌≤◌, List, length, get_or, sym, subst, arith}
-use Rattle.std.specs.List.{Contains}
+use Rattle.std.proofs.Common.{◌≡◌, ◌≢◌, ◌∙◌, inl, inr, ℕ, ◌+◌, ◌<◌, ◌≤◌, List, length, get_or, sym, subst, arith}
 use Rattle.std.proofs.lemmas.Bool.{cases_eq}
 use Rattle.std.proofs.lemmas.List.Elements.{All-contains, Contains-get_or}
 use Rattle.tmm_model.specs.declared.bound.Bound.{Bound}
@@ -8,7 +7,7 @@ use Rattle.tmm_model.specs.Walks.{IsFar}
 use Rattle.dist_net.specs.declared.Edge.{Edge}
 use Rattle.dist_net.specs.Net.{Net, Nets, IsInUse, entry, arcs_of}
 use Rattle.dist_net.proofs.Ends.{in_places, ends_in_use}
-use Rattle.dist_repair.specs.Rows.{rest_of, IsFarRow, IsFirstRow, IsPresentBeside, IsPresentRow, AreChosen, IsSafeRow, IsFrom, ChangesRow}
+use Rattle.dist_repair.specs.Rows.{rest_of, IsFarRow, IsFirstRow, IsPresentRow, AreChosen, IsSafeRow, IsFrom, ChangesRow}
 use Rattle.dist_repair.proofs.Left.{IsNet}
 use Rattle.dist_repair.proofs.Starts.{IsFarRow-safe, IsFar-held}
 

@@ -1,4 +1,4 @@
-use Rattle.std.proofs.Common.{◌≡◌, ◌+◌, ◌<◌, ℕ, get_or, length, ap, sym, subst, arith, refl}
+use Rattle.std.proofs.Common.{◌≡◌, ◌+◌, ℕ, get_or, ap, sym, subst, refl}
 use Rattle.std.proofs.lemmas.List.{get_or_default}
 use Rattle.dist_net.specs.Net.{Net, Nets, IsInUse, entry}
 use Rattle.dist_net.proofs.Ends.{in_places}

@@ -1,4 +1,4 @@
-use Rattle.std.proofs.Common.{◌≡◌, ◌∙◌, ◌+◌, List, ℕ, ap, sym, subst, arith, refl}
+use Rattle.std.proofs.Common.{◌∙◌, ◌+◌, List, ℕ, ap, sym, subst, arith, refl}
 use Rattle.std.specs.Option.{is_some}
 use Rattle.dist_net.specs.Net.{entry}
 use Rattle.dist_repair.proofs.Columns.{IsCollecting, IsCollecting-more, IsCollecting-skip}
