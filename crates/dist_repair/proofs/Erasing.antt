@@ -88,3 +88,15 @@ pub IsFarRow-all : (net : Net) (place u : ℕ) (table : ℕ → ℕ → Bound) �
     ((a : ℕ) → IsInUse net.names a → IsPresentRow net a (table a)) → (a : ℕ) → IsInUse net.names a → IsFarRow net place a (table a)
 IsFarRow-all net place u table known lt from safe in_u present a in_a q in_q =
     IsFar-held net place known lt u a q (table a q) (table u q) from (present u in_u q in_q) (IsFarRow-safe net place known lt u (table u) (present u in_u) safe q in_q) (present a in_a q in_q)
+
+-- and so they do where no column changes
+pub IsFarRow-kept : (net : Net) (place u : ℕ) (columns : List ℕ) (table : ℕ → ℕ → Bound) → IsNet net → place < length net.edges → IsFirstRow net place u columns (table u) → length columns ≡ 0 →
+    ((a : ℕ) → IsInUse net.names a → a ≢ u → IsPresentRow net a (table a)) → (a : ℕ) → IsInUse net.names a → IsFarRow net place a (table a)
+IsFarRow-kept net place u columns table known lt first none present a in_a q in_q =
+    elim (cases_eq a u) [
+      | inl same ↦ (let P : ℕ → Type 0 = λ p. IsFar (rest_of net place) p q (table p q) in subst P (sym same) (first.far q in_q))
+      | inr other ↦ elim (first.beside q in_q) [
+        | inl m ↦ absurd (omega (arith, m.1, none))
+        | inr far ↦ IsFar-held net place known lt u a q (table a q) (table u q) first.from far (first.far q in_q) (present a in_a other q in_q)
+      ]
+    ]
