@@ -1,5 +1,5 @@
 // The plain map: distances are kept current, and beliefs are made afresh at each edit.
-ghost use Rattle.std.specs.Prelude.{◌≡◌, ◌≤◌, None, IfOk, IfErr};
+ghost use Rattle.std.specs.Prelude.{◌≡◌, ◌≤◌, [], None, IfOk, IfErr};
 ghost use Rattle.tmm_model.specs.Answers.{size};
 ghost use Rattle.tmm_model.specs.Changes.{changes, delta_of};
 ghost use Rattle.tmm_model.specs.Maps.{built};
@@ -100,7 +100,7 @@ fn drawn(
 // Makes the list and its network those of the last commit.
 fn roll_back(standing: &mut Standing, net: &mut DistNet)
     ensures list { standing.new ≡ record standing.old { present = standing.old.committed } }
-    ensures net { net.new ≡ record net.old { present = net.old.committed } }
+    ensures net { net.new ≡ record net.old { present = net.old.committed; moved = [] } }
 {
     standing.rollback();
     net.rollback();

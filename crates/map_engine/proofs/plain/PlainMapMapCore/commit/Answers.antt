@@ -1,4 +1,4 @@
-use Rattle.std.proofs.Common.{◌≡◌, Option, Some, None, sym, subst, refl, ◌∙◌}
+use Rattle.std.proofs.Common.{◌≡◌, [], Option, Some, None, sym, subst, refl, ◌∙◌}
 use Rattle.dist_net.specs.Net.{Nets}
 use Rattle.premise_list.specs.States.{States}
 use Rattle.map_engine.specs.declared.beliefs.Beliefs.{Beliefs}
@@ -7,12 +7,12 @@ use Rattle.map_engine.proofs.plain.PlainMapMapCore.commit.Goals as goal
 
 -- the pending state is the committed one now
 kept : (lists new_lists : States) (nets new_nets : Nets) (beliefs next : Beliefs) (left : Option Beliefs) → IsPlain lists nets beliefs (Some next)
-    → new_lists ≡ record { present = lists.present; committed = lists.present } → new_nets ≡ record { present = nets.present; committed = nets.present; draft = nets.draft } → left ≡ None
+    → new_lists ≡ record { present = lists.present; committed = lists.present } → new_nets ≡ record { present = nets.present; committed = nets.present; draft = nets.draft; moved = [] } → left ≡ None
     → IsPlain new_lists new_nets next left
 kept lists new_lists nets new_nets beliefs next left is are hold none =
     subst (λ (l : States). IsPlain l new_nets next left) (sym are)
     (subst (λ (n : Nets). IsPlain (record { present = lists.present; committed = lists.present }) n next left) (sym hold)
-    (subst (λ (o : Option Beliefs). IsPlain (record { present = lists.present; committed = lists.present }) (record { present = nets.present; committed = nets.present; draft = nets.draft }) next o) (sym none)
+    (subst (λ (o : Option Beliefs). IsPlain (record { present = lists.present; committed = lists.present }) (record { present = nets.present; committed = nets.present; draft = nets.draft; moved = [] }) next o) (sym none)
     (record {
       network = is.next_network;
       believed = is.next_beliefs next refl;

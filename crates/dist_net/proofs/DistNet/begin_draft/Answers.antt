@@ -1,0 +1,18 @@
+use Rattle.std.proofs.Common.{◌≡◌, ◌∙◌, ◌⊎◌, ◌+◌, ◌*◌, ◌++◌, ◌<◌, ◌≤◌, ℕ, ℤ, List, [], length, take, drop, get_or, set, length-set, true, false, ap, sym, subst, arith, rules, refl, w64, vec_capacity}
+use Rattle.tmm_model.specs.declared.bound.Bound.{Bound}
+use Rattle.dist_net.specs.Table.{AreTied}
+use Rattle.dist_net.specs.Changes.{Listed}
+use Rattle.dist_net.proofs.Adding.{refilled}
+use Rattle.dist_net.proofs.Tied.{AreTied-begun}
+use Rattle.dist_net.proofs.DistNet.begin_draft.Goals as goal
+
+pub invariant_of-self : goal.invariant_of-self
+invariant_of-self c =
+    let inside = c.self.inside in
+    let new : List Bound = c.copy_table.new.draft in
+    let filled : take inside.draft.len (new ++ drop (length new) inside.draft.items) ≡ new =
+    refilled inside.draft.items new inside.draft.len inside.draft.ok.0 (c.copy_table.ensures.places ∙ sym c.self.invariant.0) in
+    let tied : AreTied inside.committed inside.present new c.clear_draft.new.self inside.kept =
+    subst (λ (t : Listed). AreTied inside.committed inside.present new t inside.kept) (sym c.clear_draft.ensures)
+    (AreTied-begun inside.committed inside.present inside.draft.items new inside.changes inside.kept c.self.invariant.1 c.copy_table.ensures.copied) in
+    (ap length filled ∙ c.copy_table.ensures.places, subst (λ (t : List Bound). AreTied inside.committed inside.present t c.clear_draft.new.self inside.kept) (sym filled) tied, c.self.invariant.2, c.self.invariant.3)

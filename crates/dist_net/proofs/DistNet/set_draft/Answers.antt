@@ -1,0 +1,16 @@
+use Rattle.std.proofs.Common.{◌≡◌, ◌∙◌, ◌⊎◌, ◌+◌, ◌*◌, ◌++◌, ◌<◌, ◌≤◌, ℕ, ℤ, List, [], length, take, drop, get_or, set, length-set, true, false, ap, sym, subst, arith, rules, refl, w64, vec_capacity}
+use Rattle.dist_net.specs.Table.{AreTied}
+use Rattle.dist_net.specs.Changes.{Listed}
+use Rattle.dist_net.proofs.Tied.{AreTied-drafted}
+use Rattle.dist_net.proofs.DistNet.set_draft.Goals as goal
+
+pub invariant_of-self : goal.invariant_of-self
+invariant_of-self c =
+    let inside = c.self.inside in
+    let place : ℕ = c.args.a * 256 + c.args.b in (
+      length-set inside.draft.items place c.args.far ∙ c.self.invariant.0,
+      subst (λ (t : Listed). AreTied inside.committed inside.present (set inside.draft.items place c.args.far) t inside.kept) (sym c.note_draft.ensures.kept)
+          (AreTied-drafted inside.committed inside.present inside.draft.items inside.changes inside.kept place c.args.far c.note_draft.new.self.drafted c.self.invariant.1 c.note_draft.ensures.drafted),
+      c.self.invariant.2,
+      c.self.invariant.3,
+    )

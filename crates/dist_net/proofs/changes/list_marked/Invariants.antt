@@ -1,0 +1,6 @@
+use Rattle.std.proofs.Common.{◌≡◌, ◌∙◌, ◌⊎◌, ◌+◌, ◌*◌, ◌++◌, ◌<◌, ◌≤◌, ℕ, ℤ, List, [], length, take, drop, get_or, set, length-set, true, false, ap, sym, subst, arith, rules, refl, w64, vec_capacity}
+use Rattle.dist_net.specs.Changes.{AreMarksListed}
+use Rattle.dist_net.proofs.changes.list_marked.Given as goal
+
+abbrev pub invariant-loop-p : goal.invariant-loop-p
+invariant-loop-p l = AreMarksListed l.marks l.fn.moved.items l.p l.moved.items × (vec_capacity l.moved ≡ 256)

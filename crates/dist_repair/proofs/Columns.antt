@@ -1,0 +1,201 @@
+-- The columns that change, and the edges that lead to them.
+use Rattle.std.proofs.Common.{◌≡◌, ◌≢◌, ◌⊎◌, ◌∙◌, inl, inr, ℕ, ◌+◌, ◌<◌, ◌≤◌, ◌++◌, List, [], ◌∷◌, length, get_or, sym, subst, ap, arith, refl}
+use Rattle.std.specs.List.{All, Contains}
+use Rattle.std.proofs.lemmas.Bool.{cases_eq}
+use Rattle.std.proofs.lemmas.List.{length-append, get_or_default}
+use Rattle.std.proofs.lemmas.List.Elements.{All-push, Contains-append_left, Contains-append_right, Contains-push_cases, Contains-get_or}
+use Rattle.tmm_model.specs.declared.bound.Bound.{Bound}
+use Rattle.tmm_model.specs.Walks.{IsFar}
+use Rattle.dist_net.specs.declared.Edge.{Edge}
+use Rattle.dist_net.specs.Net.{Net, Nets, IsInUse, entry, arcs_of, arc_of}
+use Rattle.dist_net.proofs.Ends.{in_places, edge_at, ends_in_use}
+use Rattle.dist_repair.specs.Rows.{rest_of, IsFirstRow, IsPresentBeside, IsPresentRow, ArePlaces, AreChosen, IsStarted, IsSafe, ChangesRow}
+use Rattle.dist_repair.proofs.Left.{IsNet}
+use Rattle.dist_repair.proofs.Starts.{IsStarted-far, IsFar-safe, IsFar-held, ChangesRow-none}
+
+-- the last of a list stands in it
+pub Contains-last : (xs : List ℕ) (x : ℕ) → Contains (xs ++ x ∷ []) x
+Contains-last xs x = Contains-append_right xs (x ∷ []) x (0, omega arith, refl)
+
+-- ---- the columns
+
+-- the points below b are looked at
+pub record IsCollecting (net : Net) (u : ℕ) (row : ℕ → Bound) (b : ℕ) (columns : List ℕ) : Type 0 where
+  pub few : length columns ≤ b
+  pub used : All (IsInUse net.names) columns
+  pub beside : (q : ℕ) → q < b → IsInUse net.names q → Contains columns q ⊎ IsFar (arcs_of net.edges) u q (row q)
+  pub differs : (q : ℕ) → Contains columns q → IsFar (arcs_of net.edges) u q (row q) → ⊥
+
+module _ (net : Net) (u : ℕ) (row : ℕ → Bound) where
+  pub IsCollecting-none : IsCollecting net u row 0 []
+  IsCollecting-none = record {
+    few = omega arith;
+    used = λ k d lt. absurd (omega (arith, lt));
+    beside = λ q below in_q. absurd (omega (arith, below));
+    differs = λ q m far. absurd (omega (arith, m.1));
+  }
+
+  pub IsCollecting-more : (b : ℕ) (columns : List ℕ) → IsCollecting net u row b columns → IsInUse net.names b → (IsFar (arcs_of net.edges) u b (row b) → ⊥) → IsCollecting net u row (b + 1) (columns ++ b ∷ [])
+  IsCollecting-more b columns is in_b other = record {
+    few = omega (arith, is.few, length-append columns (b ∷ []));
+    used = All-push (IsInUse net.names) columns b is.used in_b;
+    beside = λ q below in_q.
+        elim (cases_eq q b) [
+          | inl same ↦ inl (subst (Contains (columns ++ b ∷ [])) (sym same) (Contains-last columns b))
+          | inr differ ↦ elim (is.beside q (omega (arith, below, differ)) in_q) [
+            | inl m ↦ inl (Contains-append_left columns (b ∷ []) q m)
+            | inr far ↦ inr far
+          ]
+        ];
+    differs = λ q m far.
+        elim (Contains-push_cases columns b q m) [
+          | inl k ↦ is.differs q k far
+          | inr same ↦ other (subst (λ (p : ℕ). IsFar (arcs_of net.edges) u p (row p)) (sym same) far)
+        ];
+  }
+
+  pub IsCollecting-skip : (b : ℕ) (columns : List ℕ) → IsCollecting net u row b columns → (IsInUse net.names b → IsFar (arcs_of net.edges) u b (row b)) → IsCollecting net u row (b + 1) columns
+  IsCollecting-skip b columns is far_b = record {
+    few = omega (arith, is.few);
+    used = is.used;
+    beside = λ q below in_q.
+        elim (cases_eq q b) [
+          | inl same ↦ (let P : ℕ → Type 0 = λ p. IsFar (arcs_of net.edges) u p (row p) in inr (subst P (sym same) (far_b (subst (IsInUse net.names) same in_q))))
+          | inr differ ↦ is.beside q (omega (arith, below, differ)) in_q
+        ];
+    differs = is.differs;
+  }
+
+-- ---- the edges
+
+-- the first j edges are looked at
+pub record IsChoosing (net : Net) (place a : ℕ) (row : ℕ → Bound) (j : ℕ) (list : List ℕ) : Type 0 where
+  pub few : length list ≤ j
+  pub places : ArePlaces net place list
+  pub chosen : AreChosen net place j list a row
+
+module _ (net : Net) (place a : ℕ) (row : ℕ → Bound) where
+  pub IsChoosing-none : IsChoosing net place a row 0 []
+  IsChoosing-none = record { few = omega arith; places = λ k d lt. absurd (omega (arith, lt)); chosen = λ j d below ne. absurd (omega (arith, below)) }
+
+  pub IsChoosing-more : (j : ℕ) (list : List ℕ) → IsChoosing net place a row j list → j < length net.edges → j ≢ place → IsChoosing net place a row (j + 1) (list ++ j ∷ [])
+  IsChoosing-more j list is lt ne = record {
+    few = omega (arith, is.few, length-append list (j ∷ []));
+    places = All-push (λ (i : ℕ). (i < length net.edges) × (i ≢ place)) list j is.places (lt, ne);
+    chosen = λ k d below other.
+        elim (cases_eq k j) [
+          | inl same ↦ inl (subst (Contains (list ++ j ∷ [])) (sym same) (Contains-last list j))
+          | inr differ ↦ elim (is.chosen k d (omega (arith, below, differ)) other) [
+            | inl m ↦ inl (Contains-append_left list (j ∷ []) k m)
+            | inr far ↦ inr far
+          ]
+        ];
+  }
+
+  pub IsChoosing-skip : (j : ℕ) (list : List ℕ) → IsChoosing net place a row j list → ((d : Edge) → j ≢ place → IsFar (arcs_of net.edges) a (get_or net.edges j d).to (row (get_or net.edges j d).to)) → IsChoosing net place a row (j + 1) list
+  IsChoosing-skip j list is far_j = record {
+    few = omega (arith, is.few);
+    places = is.places;
+    chosen = λ k d below other.
+        elim (cases_eq k j) [
+          | inl same ↦ (let P : ℕ → Type 0 = λ i. (i ≢ place) → IsFar (arcs_of net.edges) a (get_or net.edges i d).to (row (get_or net.edges i d).to) in inr (subst P (sym same) (far_j d) other))
+          | inr differ ↦ is.chosen k d (omega (arith, below, differ)) other
+        ];
+  }
+
+-- ---- the row of another point
+
+-- q stands in the columns, at k or later
+abbrev pub StandsFrom : List ℕ → ℕ → ℕ → Type 0
+StandsFrom columns k q = (i : ℕ) × (k ≤ i) × (i < length columns) × (get_or columns i q ≡ q)
+
+later : (columns : List ℕ) (k b q : ℕ) → b ≡ get_or columns k b → (q ≢ b) → StandsFrom columns k q → StandsFrom columns (k + 1) q
+later columns k b q at ne s =
+    let differ : s.0 ≢ k = λ same. ne (sym s.3 ∙ (get_or_default columns s.0 q b s.2 ∙ (ap (λ (i : ℕ). get_or columns i b) same ∙ sym at))) in
+    (s.0, omega (arith, s.1, differ), s.2, s.3)
+
+-- the first k columns are bounded
+pub record IsBounding (old : Nets) (place : ℕ) (columns : List ℕ) (a k : ℕ) (now : Nets) : Type 0 where
+  pub begun : (q : ℕ) → IsInUse old.present.names q → IsStarted (rest_of old.present place) a q (entry now.draft a q) ⊎ (StandsFrom columns k q × IsFar (arcs_of old.present.edges) a q (entry now.draft a q))
+  pub beside : IsPresentBeside old.present columns a (entry now.draft a)
+  pub changes : ChangesRow a old now
+
+pub IsBounding-start : (old : Nets) (place u : ℕ) (columns : List ℕ) (a : ℕ) → IsNet old.present → place < length old.present.edges → IsFirstRow old.present place u columns (entry old.draft u) → IsPresentRow old.present a (entry old.draft a) → IsBounding old place columns a 0 old
+IsBounding-start old place u columns a known lt first present = record {
+  begun = λ q in_q.
+      elim (first.beside q in_q) [
+        | inl m ↦ inr ((m.0, omega arith, m.1, m.2), present q in_q)
+        | inr far ↦ inl (IsStarted-far old.present place known a q in_q (entry old.draft a q)
+            (IsFar-held old.present place known lt u a q (entry old.draft a q) (entry old.draft u q) first.from far (first.far q in_q) (present q in_q)))
+      ];
+  beside = λ q in_q. inr (present q in_q);
+  changes = ChangesRow-none a old;
+}
+
+module _ (old now : Nets) (place : ℕ) (columns : List ℕ) (a k b : ℕ) (known : IsNet old.present) (is : IsBounding old place columns a k now) (lt : k < length columns) (at : b ≡ get_or columns k b) where
+  pub IsBounding-more : (next : Nets) (value : Bound) → a < 256 → IsStarted (rest_of now.present place) a b value →
+      entry next.draft a b ≡ value → ((p q : ℕ) → p < 256 → q < 256 → (p ≢ a) ⊎ (q ≢ b) → entry next.draft p q ≡ entry now.draft p q) →
+      next.present ≡ now.present → next.committed ≡ now.committed → IsBounding old place columns a (k + 1) next
+  IsBounding-more next value in_a started written others present committed =
+      let same_at : (q : ℕ) → IsInUse old.present.names q → (q ≢ b) → entry next.draft a q ≡ entry now.draft a q = λ q in_q ne. others a q in_a (in_places old.present.names known.places q in_q) (inr ne) in
+      record {
+        begun = λ q in_q.
+            elim (cases_eq q b) [
+              | inl same ↦ (let P : ℕ → Type 0 = λ r. IsStarted (rest_of old.present place) a r (entry next.draft a r) in
+                  inl (subst P (sym same) (subst (λ (x : Bound). IsStarted (rest_of old.present place) a b x) (sym written)
+                  (subst (λ (n : Net). IsStarted (rest_of n place) a b value) is.changes.present started))))
+              | inr other ↦ elim (is.begun q in_q) [
+                | inl s ↦ inl (subst (λ (x : Bound). IsStarted (rest_of old.present place) a q x) (sym (same_at q in_q other)) s)
+                | inr s ↦ inr (later columns k b q at other s.0, subst (λ (x : Bound). IsFar (arcs_of old.present.edges) a q x) (sym (same_at q in_q other)) s.1)
+              ]
+            ];
+        beside = λ q in_q.
+            elim (cases_eq q b) [
+              | inl same ↦ inl (subst (Contains columns) (sym same) (k, lt, sym at))
+              | inr other ↦ elim (is.beside q in_q) [
+                | inl m ↦ inl m
+                | inr far ↦ inr (subst (λ (x : Bound). IsFar (arcs_of old.present.edges) a q x) (sym (same_at q in_q other)) far)
+              ]
+            ];
+        changes = record {
+          others = λ p q in_p in_q ne. others p q in_p in_q (inl ne) ∙ is.changes.others p q in_p in_q ne;
+          present = present ∙ is.changes.present;
+          committed = committed ∙ is.changes.committed;
+        };
+      }
+
+  -- a pair that is no suspect keeps its distance
+  pub IsBounding-skip : place < length old.present.edges → ((d : Edge) → IsSafe (arcs_of now.present.edges) (arc_of (get_or now.present.edges place d)) a b) → IsBounding old place columns a (k + 1) now
+  IsBounding-skip in_edges safe =
+      let safe_ : (d : Edge) → IsSafe (arcs_of old.present.edges) (arc_of (get_or old.present.edges place d)) a b =
+      subst (λ (n : Net). (d : Edge) → IsSafe (arcs_of n.edges) (arc_of (get_or n.edges place d)) a b) is.changes.present safe in
+      let d : Edge = (edge_at old.present.edges place in_edges).0 in
+      record {
+        begun = λ q in_q.
+            elim (is.begun q in_q) [
+              | inl s ↦ inl s
+              | inr s ↦ elim (cases_eq q b) [
+                | inl same ↦ (let P : ℕ → Type 0 = λ r. IsSafe (arcs_of old.present.edges) (arc_of (get_or old.present.edges place d)) a r in
+                    inl (IsStarted-far old.present place known a q in_q (entry now.draft a q)
+                    (IsFar-safe old.present place known in_edges a q d (entry now.draft a q) s.1 (subst P (sym same) (safe_ d)))))
+                | inr other ↦ inr (later columns k b q at other s.0, s.1)
+              ]
+            ];
+        beside = is.beside;
+        changes = is.changes;
+      }
+
+pub IsStarted-bounded : (old now : Nets) (place : ℕ) (columns : List ℕ) (a k : ℕ) → IsBounding old place columns a k now → length columns ≤ k → (q : ℕ) → IsInUse old.present.names q → IsStarted (rest_of old.present place) a q (entry now.draft a q)
+IsStarted-bounded old now place columns a k is all q in_q =
+    elim (is.begun q in_q) [ inl s ↦ s | inr s ↦ absurd (omega (arith, s.0.1, s.0.2, all)) ]
+
+-- an edge that is not chosen by the row of u leads to a point that is none of the columns
+pub AreChosen-beside : (net : Net) (place u a : ℕ) (columns list : List ℕ) (first_row row : ℕ → Bound) → IsNet net → IsFirstRow net place u columns first_row →
+    AreChosen net place (length net.edges) list u first_row → IsPresentBeside net columns a row → AreChosen net place (length net.edges) list a row
+AreChosen-beside net place u a columns list first_row row known first chosen beside j d below ne =
+    let f : Edge = get_or net.edges j d in
+    let in_to : IsInUse net.names f.to = (ends_in_use net.names net.edges f known.used (Contains-get_or net.edges j d below)).1 in
+    elim (chosen j d below ne) [
+      | inl m ↦ inl m
+      | inr far ↦ elim (beside f.to in_to) [ inl k ↦ absurd (first.differs f.to k far) | inr here ↦ inr here ]
+    ]
