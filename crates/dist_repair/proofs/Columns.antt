@@ -1,21 +1,27 @@
--- The columns that change, and the edges that lead to them.
+-- The columns that change, the suspects among them, and the edges that lead to them.
 use Rattle.std.proofs.Common.{◌≡◌, ◌≢◌, ◌⊎◌, ◌∙◌, inl, inr, ℕ, ◌+◌, ◌<◌, ◌≤◌, ◌++◌, List, [], ◌∷◌, length, get_or, sym, subst, ap, arith, refl}
 use Rattle.std.specs.List.{All, Contains}
 use Rattle.std.proofs.lemmas.Bool.{cases_eq}
-use Rattle.std.proofs.lemmas.List.{length-append, get_or_default}
+use Rattle.std.proofs.lemmas.List.{length-append, length-map, get_or-map, get_or_default}
 use Rattle.std.proofs.lemmas.List.Elements.{All-push, Contains-append_left, Contains-append_right, Contains-push_cases, Contains-get_or}
 use Rattle.tmm_model.specs.declared.bound.Bound.{Bound}
 use Rattle.tmm_model.specs.Walks.{IsFar}
 use Rattle.dist_net.specs.declared.Edge.{Edge}
 use Rattle.dist_net.specs.Net.{Net, Nets, IsInUse, entry, arcs_of, arc_of}
 use Rattle.dist_net.proofs.Ends.{in_places, edge_at, ends_in_use}
-use Rattle.dist_repair.specs.Rows.{rest_of, IsFirstRow, IsPresentBeside, IsPresentRow, ArePlaces, AreChosen, IsStarted, IsSafe, ChangesRow}
-use Rattle.dist_repair.proofs.Left.{IsNet}
+use Rattle.dist_repair.specs.Rows.{rest_of, IsFirstRow, IsPresentBeside, IsPresentRow, ArePlaces, AreChosen, HasEach, tos_of, IsStarted, IsStartedRow, IsFarRow, IsSafe, ChangesRow}
+use Rattle.dist_repair.specs.Ends.{number_at}
+use Rattle.dist_repair.proofs.Detours.{IsFar-among}
+use Rattle.dist_repair.proofs.Left.{IsNet, left_sub}
 use Rattle.dist_repair.proofs.Starts.{IsStarted-far, IsFar-safe, IsFar-held, ChangesRow-none}
 
 -- the last of a list stands in it
 pub Contains-last : (xs : List ℕ) (x : ℕ) → Contains (xs ++ x ∷ []) x
 Contains-last xs x = Contains-append_right xs (x ∷ []) x (0, omega arith, refl)
+
+-- what holds of two values holds of equal ones
+pub of_equal : (P : List ℕ → Nets → Type 0) → {l m : List ℕ} {x y : Nets} → l ≡ m → x ≡ y → P m y → P l x
+of_equal P {l} {m} {x} {y} same_list same_net h = subst (λ (n : Nets). P l n) (sym same_net) (subst (λ (k : List ℕ). P k y) (sym same_list) h)
 
 -- ---- the columns
 
@@ -115,13 +121,17 @@ later columns k b q at ne s =
     (s.0, omega (arith, s.1, differ), s.2, s.3)
 
 -- the first k columns are bounded
-pub record IsBounding (old : Nets) (place : ℕ) (columns : List ℕ) (a k : ℕ) (now : Nets) : Type 0 where
+pub record IsBounding (old : Nets) (place : ℕ) (columns : List ℕ) (a k : ℕ) (suspects : List ℕ) (now : Nets) : Type 0 where
+  pub few : length suspects ≤ k
+  pub used : All (IsInUse old.present.names) suspects
   pub begun : (q : ℕ) → IsInUse old.present.names q → IsStarted (rest_of old.present place) a q (entry now.draft a q) ⊎ (StandsFrom columns k q × IsFar (arcs_of old.present.edges) a q (entry now.draft a q))
-  pub beside : IsPresentBeside old.present columns a (entry now.draft a)
+  pub beside : IsPresentBeside old.present suspects a (entry now.draft a)
   pub changes : ChangesRow a old now
 
-pub IsBounding-start : (old : Nets) (place u : ℕ) (columns : List ℕ) (a : ℕ) → IsNet old.present → place < length old.present.edges → IsFirstRow old.present place u columns (entry old.draft u) → IsPresentRow old.present a (entry old.draft a) → IsBounding old place columns a 0 old
+pub IsBounding-start : (old : Nets) (place u : ℕ) (columns : List ℕ) (a : ℕ) → IsNet old.present → place < length old.present.edges → IsFirstRow old.present place u columns (entry old.draft u) → IsPresentRow old.present a (entry old.draft a) → IsBounding old place columns a 0 [] old
 IsBounding-start old place u columns a known lt first present = record {
+  few = omega arith;
+  used = λ k d below. absurd (omega (arith, below));
   begun = λ q in_q.
       elim (first.beside q in_q) [
         | inl m ↦ inr ((m.0, omega arith, m.1, m.2), present q in_q)
@@ -132,13 +142,15 @@ IsBounding-start old place u columns a known lt first present = record {
   changes = ChangesRow-none a old;
 }
 
-module _ (old now : Nets) (place : ℕ) (columns : List ℕ) (a k b : ℕ) (known : IsNet old.present) (is : IsBounding old place columns a k now) (lt : k < length columns) (at : b ≡ get_or columns k b) where
-  pub IsBounding-more : (next : Nets) (value : Bound) → a < 256 → IsStarted (rest_of now.present place) a b value →
+module _ (old now : Nets) (place : ℕ) (columns suspects : List ℕ) (a k b : ℕ) (known : IsNet old.present) (is : IsBounding old place columns a k suspects now) (lt : k < length columns) (at : b ≡ get_or columns k b) where
+  pub IsBounding-more : (next : Nets) (value : Bound) → a < 256 → IsInUse old.present.names b → IsStarted (rest_of now.present place) a b value →
       entry next.draft a b ≡ value → ((p q : ℕ) → p < 256 → q < 256 → (p ≢ a) ⊎ (q ≢ b) → entry next.draft p q ≡ entry now.draft p q) →
-      next.present ≡ now.present → next.committed ≡ now.committed → IsBounding old place columns a (k + 1) next
-  IsBounding-more next value in_a started written others present committed =
+      next.present ≡ now.present → next.committed ≡ now.committed → IsBounding old place columns a (k + 1) (suspects ++ b ∷ []) next
+  IsBounding-more next value in_a in_b started written others present committed =
       let same_at : (q : ℕ) → IsInUse old.present.names q → (q ≢ b) → entry next.draft a q ≡ entry now.draft a q = λ q in_q ne. others a q in_a (in_places old.present.names known.places q in_q) (inr ne) in
       record {
+        few = omega (arith, is.few, length-append suspects (b ∷ []));
+        used = All-push (IsInUse old.present.names) suspects b is.used in_b;
         begun = λ q in_q.
             elim (cases_eq q b) [
               | inl same ↦ (let P : ℕ → Type 0 = λ r. IsStarted (rest_of old.present place) a r (entry next.draft a r) in
@@ -151,9 +163,9 @@ module _ (old now : Nets) (place : ℕ) (columns : List ℕ) (a k b : ℕ) (know
             ];
         beside = λ q in_q.
             elim (cases_eq q b) [
-              | inl same ↦ inl (subst (Contains columns) (sym same) (k, lt, sym at))
+              | inl same ↦ inl (subst (Contains (suspects ++ b ∷ [])) (sym same) (Contains-last suspects b))
               | inr other ↦ elim (is.beside q in_q) [
-                | inl m ↦ inl m
+                | inl m ↦ inl (Contains-append_left suspects (b ∷ []) q m)
                 | inr far ↦ inr (subst (λ (x : Bound). IsFar (arcs_of old.present.edges) a q x) (sym (same_at q in_q other)) far)
               ]
             ];
@@ -165,12 +177,14 @@ module _ (old now : Nets) (place : ℕ) (columns : List ℕ) (a k b : ℕ) (know
       }
 
   -- a pair that is no suspect keeps its distance
-  pub IsBounding-skip : place < length old.present.edges → ((d : Edge) → IsSafe (arcs_of now.present.edges) (arc_of (get_or now.present.edges place d)) a b) → IsBounding old place columns a (k + 1) now
+  pub IsBounding-skip : place < length old.present.edges → ((d : Edge) → IsSafe (arcs_of now.present.edges) (arc_of (get_or now.present.edges place d)) a b) → IsBounding old place columns a (k + 1) suspects now
   IsBounding-skip in_edges safe =
       let safe_ : (d : Edge) → IsSafe (arcs_of old.present.edges) (arc_of (get_or old.present.edges place d)) a b =
       subst (λ (n : Net). (d : Edge) → IsSafe (arcs_of n.edges) (arc_of (get_or n.edges place d)) a b) is.changes.present safe in
       let d : Edge = (edge_at old.present.edges place in_edges).0 in
       record {
+        few = omega (arith, is.few);
+        used = is.used;
         begun = λ q in_q.
             elim (is.begun q in_q) [
               | inl s ↦ inl s
@@ -185,17 +199,28 @@ module _ (old now : Nets) (place : ℕ) (columns : List ℕ) (a k b : ℕ) (know
         changes = is.changes;
       }
 
-pub IsStarted-bounded : (old now : Nets) (place : ℕ) (columns : List ℕ) (a k : ℕ) → IsBounding old place columns a k now → length columns ≤ k → (q : ℕ) → IsInUse old.present.names q → IsStarted (rest_of old.present place) a q (entry now.draft a q)
-IsStarted-bounded old now place columns a k is all q in_q =
+pub IsStarted-bounded : (old now : Nets) (place : ℕ) (columns suspects : List ℕ) (a k : ℕ) → IsBounding old place columns a k suspects now → length columns ≤ k → (q : ℕ) → IsInUse old.present.names q → IsStarted (rest_of old.present place) a q (entry now.draft a q)
+IsStarted-bounded old now place columns suspects a k is all q in_q =
     elim (is.begun q in_q) [ inl s ↦ s | inr s ↦ absurd (omega (arith, s.0.1, s.0.2, all)) ]
 
--- an edge that is not chosen by the row of u leads to a point that is none of the columns
-pub AreChosen-beside : (net : Net) (place u a : ℕ) (columns list : List ℕ) (first_row row : ℕ → Bound) → IsNet net → IsFirstRow net place u columns first_row →
-    AreChosen net place (length net.edges) list u first_row → IsPresentBeside net columns a row → AreChosen net place (length net.edges) list a row
-AreChosen-beside net place u a columns list first_row row known first chosen beside j d below ne =
-    let f : Edge = get_or net.edges j d in
-    let in_to : IsInUse net.names f.to = (ends_in_use net.names net.edges f known.used (Contains-get_or net.edges j d below)).1 in
-    elim (chosen j d below ne) [
-      | inl m ↦ inl m
-      | inr far ↦ elim (beside f.to in_to) [ inl k ↦ absurd (first.differs f.to k far) | inr here ↦ inr here ]
+-- ---- the edges that lead to the suspects of a row
+
+module _ (net : Net) (place a : ℕ) (points list : List ℕ) where
+  -- an edge that is not in the list leads to no suspect
+  pub AreChosen-each : (row : ℕ → Bound) → IsNet net → HasEach (tos_of net.edges) place points list → IsPresentBeside net points a row → AreChosen net place (length net.edges) list a row
+  AreChosen-each row known each beside j d below ne =
+      let f : Edge = get_or net.edges j d in
+      let in_to : IsInUse net.names f.to = (ends_in_use net.names net.edges f known.used (Contains-get_or net.edges j d below)).1 in
+      let at : number_at (tos_of net.edges) j ≡ f.to = get_or-map (λ (e : Edge). e.to) net.edges j d 256 below in
+      elim (beside f.to in_to) [
+        | inl m ↦ inl (each j (omega (arith, below, length-map net.edges (λ (e : Edge). e.to))) ne (subst (Contains points) (sym at) m))
+        | inr far ↦ inr far
+      ]
+
+-- a row without suspects has the distances
+pub IsFarRow-begun : (net : Net) (place a : ℕ) (points : List ℕ) (row : ℕ → Bound) → length points ≡ 0 → IsStartedRow net place a row → IsPresentBeside net points a row → IsFarRow net place a row
+IsFarRow-begun net place a points row none started beside q in_q =
+    elim (beside q in_q) [
+      | inl m ↦ absurd (omega (arith, m.1, none))
+      | inr far ↦ IsFar-among (arcs_of net.edges) (rest_of net place) (left_sub (arcs_of net.edges) place) a q (row q) far (started q in_q).reached
     ]

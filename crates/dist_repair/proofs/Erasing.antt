@@ -1,13 +1,12 @@
 -- Row after row is repaired.
-use Rattle.std.proofs.Common.{◌≡◌, ◌≢◌, ◌∙◌, inl, inr, ℕ, ◌+◌, ◌<◌, ◌≤◌, List, length, get_or, sym, subst, arith}
+use Rattle.std.proofs.Common.{◌≡◌, ◌≢◌, ◌∙◌, inl, inr, ℕ, ◌+◌, ◌<◌, ◌≤◌, List, length, sym, subst, arith}
 use Rattle.std.proofs.lemmas.Bool.{cases_eq}
-use Rattle.std.proofs.lemmas.List.Elements.{All-contains, Contains-get_or}
+use Rattle.std.proofs.lemmas.List.Elements.{All-contains}
 use Rattle.tmm_model.specs.declared.bound.Bound.{Bound}
 use Rattle.tmm_model.specs.Walks.{IsFar}
-use Rattle.dist_net.specs.declared.Edge.{Edge}
 use Rattle.dist_net.specs.Net.{Net, Nets, IsInUse, entry, arcs_of}
-use Rattle.dist_net.proofs.Ends.{in_places, ends_in_use}
-use Rattle.dist_repair.specs.Rows.{rest_of, IsFarRow, IsFirstRow, IsPresentRow, AreChosen, IsSafeRow, IsFrom, ChangesRow}
+use Rattle.dist_net.proofs.Ends.{in_places}
+use Rattle.dist_repair.specs.Rows.{rest_of, IsFarRow, IsFirstRow, IsPresentRow, IsSafeRow, IsFrom, ChangesRow}
 use Rattle.dist_repair.proofs.Left.{IsNet}
 use Rattle.dist_repair.proofs.Starts.{IsFarRow-safe, IsFar-held}
 
@@ -20,15 +19,10 @@ module _ (net : Net) (a : ℕ) (old new : ℕ → Bound) (same : (q : ℕ) → I
   pub IsFarRow-same : (place : ℕ) → IsFarRow net place a old → IsFarRow net place a new
   IsFarRow-same place h q in_q = subst (λ (x : Bound). IsFar (rest_of net place) a q x) (sym (same q in_q)) (h q in_q)
 
-  pub AreChosen-same : (place : ℕ) (list : List ℕ) → IsNet net → AreChosen net place (length net.edges) list a old → AreChosen net place (length net.edges) list a new
-  AreChosen-same place list known h j d below ne =
-      let f : Edge = get_or net.edges j d in
-      let in_to : IsInUse net.names f.to = (ends_in_use net.names net.edges f known.used (Contains-get_or net.edges j d below)).1 in
-      elim (h j d below ne) [ inl m ↦ inl m | inr far ↦ inr (subst (λ (x : Bound). IsFar (arcs_of net.edges) a f.to x) (sym (same f.to in_to)) far) ]
-
   pub IsFirstRow-same : (place : ℕ) (columns : List ℕ) → IsFirstRow net place a columns old → IsFirstRow net place a columns new
   IsFirstRow-same place columns h = record {
     from = h.from;
+    few = h.few;
     far = IsFarRow-same place h.far;
     used = h.used;
     beside = λ q in_q. elim (h.beside q in_q) [ inl m ↦ inl m | inr far ↦ inr (subst (λ (x : Bound). IsFar (arcs_of net.edges) a q x) (sym (same q in_q)) far) ];
@@ -38,16 +32,15 @@ module _ (net : Net) (a : ℕ) (old new : ℕ → Bound) (same : (q : ℕ) → I
 -- ---- the rows
 
 -- the first `done` rows are repaired, the others are as the draft began, and that of the edge's beginning u stays
-pub record IsErasing (old : Nets) (place u : ℕ) (columns list : List ℕ) (done : ℕ) (now : Nets) : Type 0 where
+pub record IsErasing (old : Nets) (place u : ℕ) (columns : List ℕ) (done : ℕ) (now : Nets) : Type 0 where
   pub far : (p : ℕ) → p < done → IsInUse old.present.names p → IsFarRow old.present place p (entry now.draft p)
   pub draft : (p : ℕ) → done ≤ p → IsInUse old.present.names p → p ≢ u → IsPresentRow old.present p (entry now.draft p)
   pub first : IsFirstRow old.present place u columns (entry now.draft u)
-  pub chosen : AreChosen old.present place (length old.present.edges) list u (entry now.draft u)
   pub present : now.present ≡ old.present
   pub committed : now.committed ≡ old.committed
 
-module _ (old now : Nets) (place u : ℕ) (columns list : List ℕ) (a : ℕ) (is : IsErasing old place u columns list a now) (known : IsNet old.present) where
-  pub IsErasing-more : (next : Nets) → IsInUse old.present.names u → a ≢ u → IsFarRow now.present place a (entry next.draft a) → ChangesRow a now next → IsErasing old place u columns list (a + 1) next
+module _ (old now : Nets) (place u : ℕ) (columns : List ℕ) (a : ℕ) (is : IsErasing old place u columns a now) (known : IsNet old.present) where
+  pub IsErasing-more : (next : Nets) → IsInUse old.present.names u → a ≢ u → IsFarRow now.present place a (entry next.draft a) → ChangesRow a now next → IsErasing old place u columns (a + 1) next
   IsErasing-more next in_u ne here changes =
       let same : (p : ℕ) → IsInUse old.present.names p → p ≢ a → (q : ℕ) → IsInUse old.present.names q → entry next.draft p q ≡ entry now.draft p q =
       λ p in_p other q in_q. changes.others p q (in_places old.present.names known.places p in_p) (in_places old.present.names known.places q in_q) other in
@@ -62,13 +55,12 @@ module _ (old now : Nets) (place u : ℕ) (columns list : List ℕ) (a : ℕ) (i
         draft = λ p above in_p p_ne.
             IsPresentRow-same old.present p (entry now.draft p) (entry next.draft p) (same p in_p (λ e. omega (arith, above, e))) (is.draft p (omega (arith, above)) in_p p_ne);
         first = IsFirstRow-same old.present u (entry now.draft u) (entry next.draft u) u_same place columns is.first;
-        chosen = AreChosen-same old.present u (entry now.draft u) (entry next.draft u) u_same place list known is.chosen;
         present = changes.present ∙ is.present;
         committed = changes.committed ∙ is.committed;
       }
 
   -- the row of u is repaired already, and a number that is not in use has no row
-  pub IsErasing-skip : (IsInUse old.present.names a → a ≡ u) → IsErasing old place u columns list (a + 1) now
+  pub IsErasing-skip : (IsInUse old.present.names a → a ≡ u) → IsErasing old place u columns (a + 1) now
   IsErasing-skip is_first = record {
     far = λ p below in_p.
         elim (cases_eq p a) [
@@ -78,7 +70,6 @@ module _ (old now : Nets) (place u : ℕ) (columns list : List ℕ) (a : ℕ) (i
         ];
     draft = λ p above. is.draft p (omega (arith, above));
     first = is.first;
-    chosen = is.chosen;
     present = is.present;
     committed = is.committed;
   }

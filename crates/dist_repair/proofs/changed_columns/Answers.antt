@@ -23,6 +23,7 @@ loop-b-preserved c =
 pub returns : goal.returns
 returns c = record {
   from = c.requires.from;
+  few = omega (arith, c.loop-b.invariant.few);
   far = c.requires.far;
   used = c.loop-b.invariant.used;
   beside = λ q in_q. c.loop-b.invariant.beside q (omega (arith, below_limit c.args.net.now.present.names c.limit-limit.result c.limit-limit.ensures.above q in_q, c.loop-b-test.false)) in_q;

@@ -1,6 +1,6 @@
-use Rattle.std.proofs.Common.{◌+◌, length, ap, sym, subst, arith, refl}
-use Rattle.dist_net.specs.Net.{Net, Nets, entry}
-use Rattle.dist_repair.specs.Rows.{AreChosen}
+use Rattle.std.proofs.Common.{◌∙◌, ◌+◌, ap, sym, subst, arith, refl}
+use Rattle.dist_net.specs.Net.{Net, Nets}
+use Rattle.dist_repair.specs.Rows.{tos_of}
 use Rattle.dist_repair.proofs.Left.{IsNet}
 use Rattle.dist_repair.proofs.Erasing.{IsErasing, IsErasing-more, IsErasing-skip}
 use Rattle.dist_repair.proofs.Starts.{below_limit, unnamed}
@@ -12,27 +12,25 @@ loop-a-init c = record {
   far = λ p below. absurd (omega (arith, below));
   draft = λ p above in_p ne. c.requires.draft p in_p ne;
   first = c.requires.first;
-  chosen = c.requires.chosen;
   present = refl;
   committed = refl;
 }
 
-pub repair_row-requires-clause-chosen : goal.repair_row-requires-clause-chosen
-repair_row-requires-clause-chosen c =
-    subst (λ (n : Net). AreChosen n c.args.place (length n.edges) c.args.list.now c.args.from (entry c.loop-a.net.draft c.args.from)) (sym c.loop-a.invariant.present) c.loop-a.invariant.chosen
+pub repair_row-requires-clause-ends : goal.repair_row-requires-clause-ends
+repair_row-requires-clause-ends c = c.requires.ends ∙ sym (ap (λ (n : Net). tos_of n.edges) c.loop-a.invariant.present)
 
 pub loop-a-preserved : goal.loop-a-preserved
 loop-a-preserved c =
     let known : IsNet c.args.net.now.present = record { places = c.edges.ensures.names; used = c.edges.ensures.in_use; light = c.edges.ensures.light; dates = c.edges.ensures.dates } in
-    let P : Nets → Type 0 = IsErasing c.args.net.now c.args.place c.args.from c.args.columns.now c.args.list.now (c.loop-a.a + 1) in
+    let P : Nets → Type 0 = IsErasing c.args.net.now c.args.place c.args.from c.args.columns.now (c.loop-a.a + 1) in
     elim c.if-is_some.branch [
       | then-is_some+then-a-from+in-Some w ↦ subst P (sym w.net-is)
-          (IsErasing-more c.args.net.now c.loop-a.net c.args.place c.args.from c.args.columns.now c.args.list.now c.loop-a.a c.loop-a.invariant known w.repair_row.new.net c.requires.row w.if-a-from.true
+          (IsErasing-more c.args.net.now c.loop-a.net c.args.place c.args.from c.args.columns.now c.loop-a.a c.loop-a.invariant known w.repair_row.new.net c.requires.row w.if-a-from.true
           (w.in-Some.ensures.far refl) w.repair_row.ensures.changes)
       | then-is_some+else-a-from w ↦ subst P (sym w.net-is)
-          (IsErasing-skip c.args.net.now c.loop-a.net c.args.place c.args.from c.args.columns.now c.args.list.now c.loop-a.a c.loop-a.invariant known (λ _. w.if-a-from.false))
+          (IsErasing-skip c.args.net.now c.loop-a.net c.args.place c.args.from c.args.columns.now c.loop-a.a c.loop-a.invariant known (λ _. w.if-a-from.false))
       | else-is_some w ↦ subst P (sym w.net-is)
-          (IsErasing-skip c.args.net.now c.loop-a.net c.args.place c.args.from c.args.columns.now c.args.list.now c.loop-a.a c.loop-a.invariant known
+          (IsErasing-skip c.args.net.now c.loop-a.net c.args.place c.args.from c.args.columns.now c.loop-a.a c.loop-a.invariant known
           (λ used. absurd (unnamed c.loop-a.net.present.names c.args.net.now.present.names c.loop-a.a c.name_of.result (ap (λ (n : Net). n.names) c.loop-a.invariant.present) c.name_of.ensures w.if-is_some.ensures used)))
     ]
 
