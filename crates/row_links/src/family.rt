@@ -2,7 +2,7 @@
 ghost use Rattle.std.specs.Prelude.{◌≡◌, ℕ, ◌<◌, ◌≤◌, [], ◌∷◌, ◌++◌, length, None, IfSome, IfOk, OnOk, replicate};
 ghost use Rattle.row_links.specs.Lists.{Lists, IsOn, IsOnNone, Grows, list_of, with_list, without, row_before, row_after, first_or, last_or, after_gap, put_after, AreOnce};
 
-use crate::place::{Ends, Gap, Place, set_after, set_before};
+use crate::place::{Ends, Gap, Link, Place, set_after, set_before};
 use std::alloc::Global;
 use std::marker::Model;
 use tmm_model::NoMemory;
@@ -21,11 +21,11 @@ impl Model for Family {
 
     ghost Value = { Lists };
 
-    ghost use Rattle.row_links.specs.FamilyInside.{lists_in, IsFamily};
+    ghost use Rattle.row_links.specs.FamilyInside.{lists_in, IsSound};
 
     ghost view = { λ f. lists_in f.places.items f.ends.items };
 
-    ghost invariant = { λ f. IsFamily f.places.items f.ends.items };
+    ghost invariant = { λ f. IsSound f.places.items f.ends.items };
 }
 
 impl Family {
@@ -44,17 +44,8 @@ impl Family {
         ensures ok { OnOk result ((rows ≤ self.new.rows) × (heads ≤ length self.new.lists)) }
         ensures kept { Grows self.old self.new }
     {
-        let nowhere = Place {
-            head: 0,
-            before: None,
-            after: None,
-        };
-        let none = Ends {
-            first: None,
-            last: None,
-        };
-        lengthen(&mut self.places, rows as usize, nowhere)?;
-        lengthen(&mut self.ends, heads as usize, none)
+        lengthen(&mut self.places, rows as usize, Place::nowhere())?;
+        lengthen(&mut self.ends, heads as usize, Ends::of_none())
     }
 
     /// Puts a row that is on no list behind all others of a list.
@@ -88,7 +79,7 @@ impl Family {
         set_before(places, ends, place.head, place.after, place.before);
         Gap {
             head: place.head,
-            before: place.before,
+            before: place.before.row(),
         }
     }
 
@@ -101,20 +92,15 @@ impl Family {
         ensures { self.new ≡ with_list self.old gap.head (put_after gap.before row (list_of self.old gap.head)) }
     {
         let after = self.after(gap);
-        let place = Place {
-            head: gap.head,
-            before: gap.before,
+        let (places, ends) = (&mut self.places, &mut self.ends);
+        let (head, before, own) = (gap.head, Link::of(gap.before), Link::to(row));
+        places[row as usize] = Place {
+            head,
+            before,
             after,
         };
-        self.places[row as usize] = place;
-        set_after(
-            &mut self.places,
-            &mut self.ends,
-            gap.head,
-            gap.before,
-            Some(row),
-        );
-        set_before(&mut self.places, &mut self.ends, gap.head, after, Some(row));
+        set_after(places, ends, head, before, own);
+        set_before(places, ends, head, after, own);
     }
 
     /// The same lists, for changes of their own. It takes memory.
@@ -132,7 +118,7 @@ impl Family {
         ensures first { result ≡ first_or None (list_of self.now head) }
         ensures once { AreOnce (list_of self.now head) }
     {
-        self.ends.get(head as usize)?.first
+        self.ends.get(head as usize)?.first.row()
     }
 
     /// The row directly behind one of a list.
@@ -140,11 +126,11 @@ impl Family {
         requires { (h : ℕ) × IsOn (list_of self.now h) row }
         ensures { (h : ℕ) → IsOn (list_of self.now h) row → result ≡ row_after row (list_of self.now h) }
     {
-        self.places[row as usize].after
+        self.places[row as usize].after.row()
     }
 
     // The row directly behind a place of a list.
-    fn after(&self, gap: Gap) -> Option<u32>
+    fn after(&self, gap: Gap) -> Link
         requires head { gap.head < length self.now.lists }
         requires before { IfSome gap.before (IsOn (list_of self.now gap.head)) }
         ensures { result ≡ after_gap gap.before (list_of self.now gap.head) }
@@ -161,7 +147,7 @@ impl Family {
         ensures last { result ≡ last_or None (list_of self.now head) }
         ensures once { AreOnce (list_of self.now head) }
     {
-        self.ends[head as usize].last
+        self.ends[head as usize].last.row()
     }
 }
 
@@ -169,6 +155,7 @@ impl Family {
 fn lengthen<T: Copy>(items: &mut Vec<T>, n: usize, item: T) -> Result<(), NoMemory>
     ensures ok { OnOk result (n ≤ length items.new.items) }
     ensures more { (k : ℕ) × (items.new.items ≡ items.old.items ++ replicate k item) }
+    ensures few { (m : ℕ) → n ≤ m → length items.old.items ≤ m → length items.new.items ≤ m }
 {
     if items.len() < n {
         items.resize(n, item)?;
