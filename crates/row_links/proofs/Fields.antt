@@ -1,13 +1,13 @@
 -- The fields of a family, after its places and ends have been written.
-use Rattle.std.proofs.Common.{◌≡◌, ℕ, ◌+◌, ◌<◌, ◌≤◌, List, ◌++◌, length, Option, Some, None, IfSome, sym, ap, ap₂, ◌∙◌, subst, subst₂, arith, set, get_or, length-set, replicate, le_trans, lt_of_lt_of_le}
+use Rattle.std.proofs.Common.{◌≡◌, ℕ, ◌<◌, ◌≤◌, List, ◌++◌, length, Option, Some, None, IfSome, sym, ap, ap₂, ◌∙◌, subst, subst₂, arith, set, get_or, length-set, replicate, lt_of_lt_of_le}
 use Rattle.std.proofs.lemmas.List.{get_or_read, length-map}
 use Rattle.row_links.specs.declared.place.Place.{Place}
 use Rattle.row_links.specs.declared.place.Ends.{Ends}
 use Rattle.row_links.specs.RowNumbers.{no_row}
 use Rattle.row_links.specs.Lists.{Lists, IsOn, IsOnNone, list_of, with_list, put_after, after_gap, Grows}
-use Rattle.row_links.specs.Threads.{nowhere, no_ends, place_at, places_after, places_before, ends_after, ends_before}
+use Rattle.row_links.specs.Threads.{nowhere, no_ends, places_after, places_before, ends_after, ends_before}
 use Rattle.row_links.specs.FamilyInside.{rows_between, lists_in, IsFamily, IsSound}
-use Rattle.row_links.proofs.Families.{Unlinks, Unlinked, Relinks, row_within, unlinks_known, unlinked_fields, relinks, grows_by, if_some, places_with, ends_with, length-places_with}
+use Rattle.row_links.proofs.Families.{Unlinks, Unlinked, Relinks, row_within, unlinks_known, unlinked_fields, relinks, grows_by, places_with, ends_with, length-places_with}
 
 -- ---- a row on a list
 

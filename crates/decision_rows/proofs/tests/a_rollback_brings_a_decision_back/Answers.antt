@@ -1,4 +1,4 @@
-use Rattle.std.proofs.Common.{ℕ, IsSome, sym, refl, subst, ◌∙◌, cond, eqb, eq-eqb}
+use Rattle.std.proofs.Common.{IsSome, sym, refl, subst, ◌∙◌, eqb, eq-eqb}
 use Rattle.std.proofs.lemmas.Bool.{cond-true}
 use Rattle.decision_rows.specs.Tables.{Table}
 use Rattle.decision_rows.proofs.tests.a_rollback_brings_a_decision_back.Goals as goal
