@@ -1,6 +1,6 @@
 use Rattle.std.proofs.Common.{◌≡◌, ◌∙◌, ◌⊎◌, ◌+◌, ◌*◌, ◌++◌, ◌<◌, ◌≤◌, ℕ, ℤ, List, [], length, take, drop, get_or, set, length-set, true, false, ap, sym, subst, arith, rules, refl, w64, vec_capacity}
 use Rattle.dist_net.proofs.Listing.{IsMarking-start}
-use Rattle.dist_net.proofs.table.copy_bound.Goals as goal
+use Rattle.dist_net.proofs.table.put.Goals as goal
 
 pub returns-else-not-is-clause-marking : goal.returns-else-not-is-clause-marking
 returns-else-not-is-clause-marking c = IsMarking-start c.args.changes.now c.args.table.now
