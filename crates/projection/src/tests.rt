@@ -115,59 +115,44 @@ fn add(
 
 // An event lights the lamp and rings. At the ring the rule that wants the lamp on fires, and the one that
 // wants it off is blocked.
-fn premises(alloc: Global) -> Result<(Standing, DistNet), Stop>
-    ensures { IfOk result (λ made. IsNetOf made.0.present made.1.present) }
+fn add_all(alloc: Global, standing: &mut Standing, net: &mut DistNet) -> Result<(), Stop>
+    requires network { IsNetOf standing.old.present net.old.present }
+    requires settled { IsSettled standing.old net.old }
+    ensures { OnOk result (IsNetOf standing.new.present net.new.present) }
 {
     let press = name(b"press");
     let ring = name(b"ring");
     let on = name(b"on");
     let off = name(b"off");
+    let first = Premise::Event {
+        name: name(b"first"),
+        kind: press,
+    };
+    let lights = rule(name(b"lights"), press, 1, on, None);
+    let rings = rule(name(b"rings"), press, 2, ring, None);
+    let darkens = rule(name(b"darkens"), ring, 1, off, Some(on));
+    let stays = rule(name(b"stays"), ring, 1, on, Some(off));
+    add(alloc, standing, net, lamp())?;
+    add(alloc, standing, net, Premise::Kind { name: press })?;
+    add(alloc, standing, net, Premise::Kind { name: ring })?;
+    add(alloc, standing, net, first)?;
+    add(alloc, standing, net, lights)?;
+    add(alloc, standing, net, rings)?;
+    add(alloc, standing, net, darkens)?;
+    add(alloc, standing, net, stays)?;
+    Ok(())
+}
+
+// A list of these premises, and its network.
+fn premises(alloc: Global) -> Result<(Standing, DistNet), Stop>
+    ensures { IfOk result (λ made. IsNetOf made.0.present made.1.present) }
+{
     let mut standing = Standing::make(alloc);
     let Ok(mut net) = DistNet::make(alloc) else {
         return Err(Stop::NoMemory);
     };
     let _ = net.edges();
-    add(alloc, &mut standing, &mut net, lamp())?;
-    add(
-        alloc,
-        &mut standing,
-        &mut net,
-        Premise::Kind { name: press },
-    )?;
-    add(alloc, &mut standing, &mut net, Premise::Kind { name: ring })?;
-    add(
-        alloc,
-        &mut standing,
-        &mut net,
-        Premise::Event {
-            name: name(b"first"),
-            kind: press,
-        },
-    )?;
-    add(
-        alloc,
-        &mut standing,
-        &mut net,
-        rule(name(b"lights"), press, 1, on, None),
-    )?;
-    add(
-        alloc,
-        &mut standing,
-        &mut net,
-        rule(name(b"rings"), press, 2, ring, None),
-    )?;
-    add(
-        alloc,
-        &mut standing,
-        &mut net,
-        rule(name(b"darkens"), ring, 1, off, Some(on)),
-    )?;
-    add(
-        alloc,
-        &mut standing,
-        &mut net,
-        rule(name(b"stays"), ring, 1, on, Some(off)),
-    )?;
+    add_all(alloc, &mut standing, &mut net)?;
     Ok((standing, net))
 }
 
