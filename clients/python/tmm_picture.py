@@ -320,20 +320,29 @@ def run_lines(time_map: tmm.TimeMap, lines: Iterable[str]) -> None:
             print(f"there was no memory for line {number}", file=sys.stderr)
 
 
-def main(words: Sequence[str]) -> int:
-    if len(words) != 2:
-        print("usage: tmm_picture.py SCRIPT PICTURE", file=sys.stderr)
-        return 2
-    script, picture = words
+def draw_script(script: str, picture: str) -> None:
+    """Runs the script of this name, and writes the picture of what it leaves."""
     with tmm.TimeMap() as time_map:
         if script == "-":
             run_lines(time_map, sys.stdin)
         else:
+            # Lines end at byte 10 alone, and comments may hold any bytes.
             with open(script, encoding="utf-8", errors="surrogateescape", newline="\n") as lines:
                 run_lines(time_map, lines)
         drawn = draw(rows_of(time_map))
     with open(picture, "w", encoding="utf-8") as file:
         file.write(drawn)
+
+
+def main(words: Sequence[str]) -> int:
+    if len(words) != 2:
+        print("usage: tmm_picture.py SCRIPT PICTURE", file=sys.stderr)
+        return 2
+    try:
+        draw_script(*words)
+    except (OSError, tmm.TmmError) as error:
+        print(f"tmm_picture.py: {error}", file=sys.stderr)
+        return 1
     return 0
 
 
