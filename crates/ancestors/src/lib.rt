@@ -34,6 +34,21 @@ pub trait Ancestry {
     ghost ends: { (s : Self) (x : ℕ) → IsNode (way s) x → EndsWith (way s x) x };
 }
 
+/// The node to which a new node right below another is to jump.
+pub fn jump_below<A: Ancestry>(tree: &A, parent: u32) -> u32
+    requires { IsNode (A.way tree.now) parent }
+    ensures { (d : ℕ) → length (A.way tree.now parent) ≡ d + 1 → A.way tree.now result ≡ take (jump_depth (d + 1) + 1) (A.way tree.now parent) }
+{
+    let first = tree.jump(parent);
+    let second = tree.jump(first);
+    let depth = tree.depth(first);
+    if tree.depth(parent) - depth == depth - tree.depth(second) {
+        second
+    } else {
+        parent
+    }
+}
+
 /// The node of this depth on the way to another.
 pub fn ancestor_at<A: Ancestry>(tree: &A, x: u32, depth: u32) -> u32
     requires node { depth < length (A.way tree.now x) }
@@ -83,3 +98,6 @@ pub fn lowest_common<A: Ancestry>(tree: &A, x: u32, y: u32) -> Option<u32>
     }
     Some(first)
 }
+
+#[cfg(test)]
+mod tests;

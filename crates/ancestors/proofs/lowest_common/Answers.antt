@@ -46,9 +46,9 @@ jumps g c =
     let way = g.A.Ancestry.way c.args.tree.now in
     let level = c.loop-first.invariant.level in
     both_jumped way (g.met.A.Ancestry.ends c.args.tree.now) c.loop-first.first c.loop-first.second c.jump.result c.jump-in-loop-first.result c.loop-first.invariant.node level
-        (jumped (way c.loop-first.first) (way c.jump.result) c.loop-first.invariant.node c.jump.ensures)
-        (jumped (way c.loop-first.second) (way c.jump-in-loop-first.result) (omega (arith, level, c.loop-first.invariant.node)) c.jump-in-loop-first.ensures)
-        c.if-both.false
+    (jumped (way c.loop-first.first) (way c.jump.result) c.loop-first.invariant.node c.jump.ensures)
+    (jumped (way c.loop-first.second) (way c.jump-in-loop-first.result) (omega (arith, level, c.loop-first.invariant.node)) c.jump-in-loop-first.ensures)
+    c.if-both.false
 
 pub loop-first-smaller : goal.loop-first-smaller
 loop-first-smaller g c =
