@@ -16,6 +16,26 @@ places_to at = elim at [ None ↦ 0 | Some i ↦ i + 1 ]
 abbrev pub IsAt : List ℕ → ℕ → Option ℕ → Type 0
 IsAt numbers p at = MatchOption at (Unit {0}) (λ i. (i < length numbers) × (number_at numbers i ≡ p))
 
+-- the last place of p among the first n is one of p
+pub IsAt-last : (numbers : List ℕ) (p n : ℕ) (at : Option ℕ) → n ≤ length numbers → IsLastOf numbers p n at → IsAt numbers p at
+IsAt-last numbers p n None short is = tt
+IsAt-last numbers p n (Some i) short is = (omega (arith, is.before, short), is.number)
+
+-- the next place is one of p, and is before this one
+module _ (numbers : List ℕ) (p i : ℕ) (here : IsAt numbers p (Some i)) (next : Option ℕ) (before : IsLastOf numbers (number_at numbers i) i next) where
+  pub before_this : IsLastOf numbers p i next
+  before_this = subst (λ (q : ℕ). IsLastOf numbers q i next) here.1 before
+
+  pub IsAt-before : IsAt numbers p next
+  IsAt-before = IsAt-last numbers p i next (omega (arith, here.0)) before_this
+
+  pub places_to-before : places_to next < places_to (Some i)
+  places_to-before = smaller next before_this
+    where
+      smaller : (at : Option ℕ) → IsLastOf numbers p i at → places_to at < i + 1
+      smaller None is_last = omega arith
+      smaller (Some k) is_last = omega (arith, is_last.before)
+
 -- the places of p behind the present one are in the list
 pub record IsListing (numbers : List ℕ) (place p : ℕ) (old : List ℕ) (at : Option ℕ) (list : List ℕ) : Type 0 where
   pub places : ArePlacesIn numbers place list
@@ -24,11 +44,6 @@ pub record IsListing (numbers : List ℕ) (place p : ℕ) (old : List ℕ) (at :
   pub here : IsAt numbers p at
 
 module _ (numbers : List ℕ) (place p : ℕ) where
-  -- the last place of p among the first n
-  IsAt-last : (n : ℕ) (at : Option ℕ) → n ≤ length numbers → IsLastOf numbers p n at → IsAt numbers p at
-  IsAt-last n None short is = tt
-  IsAt-last n (Some i) short is = (omega (arith, is.before, short), is.number)
-
   not_behind : (n : ℕ) (at : Option ℕ) (j : ℕ) → IsLastOf numbers p n at → j < n → number_at numbers j ≡ p → j < places_to at
   not_behind n None j is below same = absurd (is j below same)
   not_behind n (Some i) j is below same = elim (cases_lt i j) [ inl behind ↦ absurd (is.last j behind below same) | inr not_after ↦ omega (arith, not_after) ]
@@ -38,15 +53,15 @@ module _ (numbers : List ℕ) (place p : ℕ) where
     places = places;
     kept = λ j m. m;
     each = λ j below ne same. inr (not_behind (length numbers) at j is below same);
-    here = IsAt-last (length numbers) at (omega arith) is;
+    here = IsAt-last numbers p (length numbers) at (omega arith) is;
   }
 
   module _ (old list : List ℕ) (i : ℕ) (is : IsListing numbers place p old (Some i) list) (next : Option ℕ) (before : IsLastOf numbers (number_at numbers i) i next) where
     before_p : IsLastOf numbers p i next
-    before_p = subst (λ (q : ℕ). IsLastOf numbers q i next) is.here.1 before
+    before_p = before_this numbers p i is.here next before
 
     here_next : IsAt numbers p next
-    here_next = IsAt-last i next (omega (arith, is.here.0)) before_p
+    here_next = IsAt-before numbers p i is.here next before
 
     -- the place is added
     pub IsListing-more : i ≢ place → IsListing numbers place p old next (list ++ i ∷ [])
@@ -76,14 +91,6 @@ module _ (numbers : List ℕ) (place p : ℕ) where
           ];
       here = here_next;
     }
-
-    -- the next place is before this one
-    pub places_to-next : places_to next < places_to (Some i)
-    places_to-next = smaller next before_p
-      where
-        smaller : (at : Option ℕ) → IsLastOf numbers p i at → places_to at < i + 1
-        smaller None is_last = omega arith
-        smaller (Some k) is_last = omega (arith, is_last.before)
 
   none_to : (at : Option ℕ) → ((i : ℕ) → at ≡ Some i → ⊥) → places_to at ≡ 0
   none_to None none = refl

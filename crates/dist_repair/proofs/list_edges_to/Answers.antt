@@ -1,5 +1,5 @@
 use Rattle.std.proofs.Common.{◌∙◌, ◌<◌, ℕ, List, Option, Some, ap, sym, subst}
-use Rattle.dist_repair.proofs.Listing.{IsListing, IsListing-start, IsListing-more, IsListing-skip, HasEach-listed, places_to, places_to-next}
+use Rattle.dist_repair.proofs.Listing.{IsListing, IsListing-start, IsListing-more, IsListing-skip, HasEach-listed, places_to, places_to-before}
 use Rattle.dist_repair.proofs.list_edges_to.Goals as goal
 use Rattle.dist_repair.proofs.list_edges_to.Goals.{then-i-place+else-is_full, else-i-place}
 
@@ -17,7 +17,7 @@ places-smaller c =
     let is : IsListing c.args.ends.now c.args.place c.args.point c.args.list.now.items (Some c.in-Some.i) c.places.list.items =
     subst (λ (o : Option ℕ). IsListing c.args.ends.now c.args.place c.args.point c.args.list.now.items o c.places.list.items) c.in-Some.is c.places.invariant in
     subst (λ (o : Option ℕ). places_to c.before-at.result < places_to o) (sym c.in-Some.is)
-    (places_to-next c.args.ends.now c.args.place c.args.point c.args.list.now.items c.places.list.items c.in-Some.i is c.before-at.result c.before-at.ensures)
+    (places_to-before c.args.ends.now c.args.point c.in-Some.i is.here c.before-at.result c.before-at.ensures)
 
 pub places-preserved : goal.places-preserved
 places-preserved c =
