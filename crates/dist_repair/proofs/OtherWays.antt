@@ -1,5 +1,5 @@
 -- Rows that stay without an edge, since no least walk needs it.
-use Rattle.std.proofs.Common.{◌≡◌, ◌≢◌, ◌∙◌, ℕ, ◌<◌, ◌++◌, List, [], ◌∷◌, length, get_or, ℤ, pos, ◌+ℤ◌, ◌-ℤ◌, ◌≤ℤ◌, ap, sym, subst, arith, refl}
+use Rattle.std.proofs.Common.{◌≡◌, ◌≢◌, ◌∙◌, ℕ, ◌<◌, ◌++◌, List, [], ◌∷◌, length, get_or, ℤ, pos, ◌+ℤ◌, ◌-ℤ◌, ◌≤ℤ◌, ap, sym, subst, arith, refl, inl, inr}
 use Rattle.std.specs.List.{Contains}
 use Rattle.std.proofs.lemmas.Bool.Decides.{Decides-eqb}
 use Rattle.std.proofs.lemmas.Int.{ints}
@@ -17,9 +17,9 @@ use Rattle.tmm_model.proofs.Walks.{IsWalk-append, IsWalk-kept, total-append}
 use Rattle.dist_net.specs.declared.Edge.{Edge}
 use Rattle.dist_net.specs.Net.{Net, arc_of, arcs_of, same_number}
 use Rattle.dist_net.proofs.Ends.{edge_at}
-use Rattle.dist_repair.specs.Rows.{rest_of, IsSafe, IsTight, IsTightArc, IsOtherWay, KeepsRow, IsPresentRow, IsFarRow, tos_of}
+use Rattle.dist_repair.specs.Rows.{rest_of, IsSafe, IsTight, IsTightArc, IsOtherWay, StaysNear, KeepsRow, IsPresentRow, IsFarRow, tos_of}
 use Rattle.dist_repair.specs.Ends.{number_at}
-use Rattle.dist_repair.proofs.Detours.{IsFar-onward}
+use Rattle.dist_repair.proofs.Detours.{IsFar-onward, IsFar-to_beginning}
 use Rattle.dist_repair.proofs.Left.{IsNet, Adds-remove, left_at}
 use Rattle.dist_repair.proofs.Starts.{IsFar-safe}
 use Rattle.dist_repair.proofs.Suspects.{IsSafe-all}
@@ -28,7 +28,7 @@ same_finite : {u v : ℤ} → Finite u ≡ Finite v → u ≡ v
 same_finite h = cc
 
 -- f leads to where e does, and no least walk from there ends with it
-module _ (old new : List (Arc ℕ)) (e f : Arc ℕ) (adds : Adds new e old) (dates : HasDates 0 old) (m : Contains new f) (same_end : f.to ≡ e.to) (no_round : IsTightArc old f e.to → ⊥) where
+module _ (old new : List (Arc ℕ)) (e f : Arc ℕ) (adds : Adds new e old) (dates : HasDates 0 old) (m : Contains new f) (same_end : f.to ≡ e.to) where
   own : IsFar old e.to f.to (Finite (pos 0))
   own = subst (λ (p : ℕ). IsFar old e.to p (Finite (pos 0))) (sym same_end) (record {
     reached = ([], refl, refl);
@@ -36,8 +36,8 @@ module _ (old new : List (Arc ℕ)) (e f : Arc ℕ) (adds : Adds new e old) (dat
   })
 
   -- where a least walk from a ends with f, none from a to the beginning of f goes through e: it would close a walk of sum 0
-  IsSafe-before : (a : ℕ) → IsTightArc old f a → IsSafe old e a f.from
-  IsSafe-before a t x y z s far_x far_y far_z is_s through_is = by y z far_y far_z through_is
+  IsSafe-before : (IsTightArc old f e.to → ⊥) → (a : ℕ) → IsTightArc old f a → IsSafe old e a f.from
+  IsSafe-before no_round a t x y z s far_x far_y far_z is_s through_is = by y z far_y far_z through_is
     where
       by : (y z : Bound) → IsFar old a e.from y → IsFar old e.to f.from z → through y e.weight z ≡ Finite s → ⊥
       by (Finite p) (Finite q) far_p far_q whole =
@@ -93,22 +93,27 @@ module _ (net : Net) (place : ℕ) (known : IsNet net) (lt : place < length net.
       let adds : Adds (rest_of net place) (arc_of (get_or net.edges place e)) arcs = Adds-remove net.edges place e lt in
       let same_end : f.to ≡ (get_or net.edges place e).to = ap (λ (g : Edge). g.to) (sym (there.1 e)) ∙ other.same_end e in
       let t : IsTightArc arcs (arc_of f) a = subst (λ (g : Edge). IsTightArc arcs (arc_of g) a) (there.1 e) (tight e) in
-      let no_round : IsTightArc arcs (arc_of f) (get_or net.edges place e).to → ⊥ =
-      λ round. other.no_round e (λ d. subst (λ (g : Edge). IsTightArc arcs (arc_of g) (get_or net.edges place e).to) (sym (there.1 d)) round) in
       let at : get_or arcs j (arc_of f) ≡ arc_of f = get_or-map arc_of net.edges j e (arc_of f) other.below ∙ ap arc_of (there.1 e) in
       let m : Contains (rest_of net place) (arc_of f) = subst (Contains (rest_of net place)) at (left_at arcs place j (arc_of f) (omega (arith, other.below, length-map net.edges arc_of)) other.other) in
-      let near : IsFar (rest_of net place) a f.from (Finite t.0) =
-      IsFar-safe net place known lt a f.from e (Finite t.0) t.1 (IsSafe-before arcs (rest_of net place) (arc_of (get_or net.edges place e)) (arc_of f) adds known.dates m same_end no_round a t) in
-      IsFar-other_way arcs (rest_of net place) (arc_of (get_or net.edges place e)) (arc_of f) adds known.dates m same_end no_round a t near q x far
+      let near : IsFar (rest_of net place) a f.from (Finite t.0) = elim (other.near e) [
+        | inl same ↦
+            let from : f.from ≡ (get_or net.edges place e).from = ap (λ (g : Edge). g.from) (sym (there.1 e)) ∙ same in
+            let P : List (Arc ℕ) → ℕ → Type 0 = λ l p. IsFar l a p (Finite t.0) in
+            subst (P (rest_of net place)) (sym from) (IsFar-to_beginning arcs (rest_of net place) (arc_of (get_or net.edges place e)) adds 0 known.dates a (Finite t.0) (subst (P arcs) from t.1))
+        | inr loose ↦
+            let no_round : IsTightArc arcs (arc_of f) (get_or net.edges place e).to → ⊥ =
+            λ round. loose (λ d. subst (λ (g : Edge). IsTightArc arcs (arc_of g) (get_or net.edges place e).to) (sym (there.1 d)) round) in
+            IsFar-safe net place known lt a f.from e (Finite t.0) t.1 (IsSafe-before arcs (rest_of net place) (arc_of (get_or net.edges place e)) (arc_of f) adds known.dates m same_end no_round a t)
+      ] in
+      IsFar-other_way arcs (rest_of net place) (arc_of (get_or net.edges place e)) (arc_of f) adds known.dates m same_end a t near q x far
 
 -- one of the edges to the end of that at the place
-pub IsOtherWay-from : (net : Net) (place j to : ℕ) → place < length net.edges → j < length net.edges → j ≢ place → ((d : Edge) → (get_or net.edges place d).to ≡ to) → number_at (tos_of net.edges) j ≡ to →
-    (IsTight net j to → ⊥) → IsOtherWay net place j
-IsOtherWay-from net place j to lt below other end there loose = record {
+pub IsOtherWay-from : (net : Net) (place j to : ℕ) → j < length net.edges → j ≢ place → ((d : Edge) → (get_or net.edges place d).to ≡ to) → number_at (tos_of net.edges) j ≡ to → StaysNear net place j → IsOtherWay net place j
+IsOtherWay-from net place j to below other end there near = record {
   below = below;
   other = other;
   same_end = λ d. sym (get_or-map (λ (e : Edge). e.to) net.edges j d 256 below) ∙ (there ∙ sym (end d));
-  no_round = λ d tight. loose (subst (IsTight net j) (end d) tight);
+  near = near;
 }
 
 -- a row that stays has the distances
