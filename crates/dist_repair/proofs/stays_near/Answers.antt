@@ -1,4 +1,4 @@
-use Rattle.std.proofs.Common.{◌≡◌, ◌∙◌, ℕ, List, Bool, true, false, not, get_or, ap, sym, subst, inr}
+use Rattle.std.proofs.Common.{◌≡◌, ◌∙◌, List, Bool, true, false, not, get_or, ap, sym, subst, inr}
 use Rattle.std.specs.Prelude.{IsTrue}
 use Rattle.std.proofs.lemmas.Bool.{false≢true}
 use Rattle.std.proofs.lemmas.List.{get_or_default}

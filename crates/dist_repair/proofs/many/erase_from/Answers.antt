@@ -1,5 +1,5 @@
-use Rattle.std.proofs.Common.{◌≡◌, ◌+◌, ◌-◌, ◌∙◌, ℕ, take, arith, ap, subst}
-use Rattle.dist_repair.proofs.Last.{IsErasingLast, IsErasingLast-more, IsErasingLast-end}
+use Rattle.std.proofs.Common.{◌≡◌, ◌+◌, ◌-◌, ℕ, arith, subst}
+use Rattle.dist_repair.proofs.Last.{IsErasingLast, IsErasingLast-more}
 use Rattle.dist_repair.proofs.many.erase_from.Goals as goal
 
 pub loop-place-preserved : goal.loop-place-preserved
