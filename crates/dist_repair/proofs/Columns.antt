@@ -2,15 +2,14 @@
 use Rattle.std.proofs.Common.{◌≡◌, ◌≢◌, ◌⊎◌, ◌∙◌, inl, inr, ℕ, ◌+◌, ◌<◌, ◌≤◌, ◌++◌, List, [], ◌∷◌, length, get_or, sym, subst, ap, arith, refl}
 use Rattle.std.specs.List.{All, Contains}
 use Rattle.std.proofs.lemmas.Bool.{cases_eq}
-use Rattle.std.proofs.lemmas.List.{length-append, length-map, get_or-map, get_or_default}
-use Rattle.std.proofs.lemmas.List.Elements.{All-push, Contains-append_left, Contains-append_right, Contains-push_cases, Contains-get_or}
+use Rattle.std.proofs.lemmas.List.{length-append, get_or_default}
+use Rattle.std.proofs.lemmas.List.Elements.{All-push, Contains-append_left, Contains-append_right, Contains-push_cases}
 use Rattle.tmm_model.specs.declared.bound.Bound.{Bound}
 use Rattle.tmm_model.specs.Walks.{IsFar}
 use Rattle.dist_net.specs.declared.Edge.{Edge}
 use Rattle.dist_net.specs.Net.{Net, Nets, IsInUse, entry, arcs_of, arc_of}
-use Rattle.dist_net.proofs.Ends.{in_places, edge_at, ends_in_use}
-use Rattle.dist_repair.specs.Rows.{rest_of, IsFirstRow, IsPresentBeside, IsPresentRow, AreChosen, HasEach, tos_of, IsStarted, IsSafe, ChangesRow}
-use Rattle.dist_repair.specs.Ends.{number_at}
+use Rattle.dist_net.proofs.Ends.{in_places, edge_at}
+use Rattle.dist_repair.specs.Rows.{rest_of, IsFirstRow, IsPresentBeside, IsPresentRow, IsStarted, IsSafe, ChangesRow}
 use Rattle.dist_repair.proofs.Left.{IsNet}
 use Rattle.dist_repair.proofs.Starts.{IsStarted-far, IsFar-safe, IsFar-held, ChangesRow-none}
 
@@ -192,17 +191,3 @@ pub IsStarted-bounded : (old now : Nets) (place : ℕ) (waits : ℕ → Type 0) 
     ((q : ℕ) → IsInUse old.present.names q → waits q → ⊥) → (q : ℕ) → IsInUse old.present.names q → IsStarted (rest_of old.present place) a q (entry now.draft a q)
 IsStarted-bounded old now place waits suspects a k is none q in_q =
     elim (is.begun q in_q) [ inl s ↦ s | inr s ↦ absurd (none q in_q s.0) ]
-
--- ---- the edges that lead to the suspects of a row
-
-module _ (net : Net) (place a : ℕ) (points list : List ℕ) where
-  -- an edge that is not in the list leads to no suspect
-  pub AreChosen-each : (row : ℕ → Bound) → IsNet net → HasEach (tos_of net.edges) place points list → IsPresentBeside net points a row → AreChosen net place (length net.edges) list a row
-  AreChosen-each row known each beside j d below ne =
-      let f : Edge = get_or net.edges j d in
-      let in_to : IsInUse net.names f.to = (ends_in_use net.names net.edges f known.used (Contains-get_or net.edges j d below)).1 in
-      let at : number_at (tos_of net.edges) j ≡ f.to = get_or-map (λ (e : Edge). e.to) net.edges j d 256 below in
-      elim (beside f.to in_to) [
-        | inl m ↦ inl (each j (omega (arith, below, length-map net.edges (λ (e : Edge). e.to))) ne (subst (Contains points) (sym at) m))
-        | inr far ↦ inr far
-      ]
