@@ -1,14 +1,15 @@
 -- The first look at the edges that lead to the suspects of a row.
-use Rattle.std.proofs.Common.{◌≡◌, ◌≢◌, ◌∙◌, ◌⊎◌, inl, inr, ℕ, ◌+◌, ◌<◌, ◌≤◌, List, [], Option, Some, length, get_or, sym, subst, ap, arith, pos}
+use Rattle.std.proofs.Common.{◌≡◌, ◌≢◌, ◌∙◌, ◌⊎◌, inl, inr, ℕ, ◌+◌, ◌<◌, ◌≤◌, ◌≤ℤ◌, ◌+ℤ◌, List, [], Option, Some, length, get_or, sym, subst, ap, arith, ℤ, pos}
 use Rattle.std.specs.List.{Contains}
 use Rattle.std.proofs.lemmas.Bool.{cases_eq}
 use Rattle.std.proofs.lemmas.Int.{ints}
 use Rattle.std.proofs.lemmas.List.{get_or-map, length-map}
 use Rattle.std.proofs.lemmas.List.Elements.{Contains-get_or}
 use Rattle.tmm_model.specs.declared.bound.Bound.{Bound}
-use Rattle.tmm_model.specs.declared.bound.Bound.TheVariants.{Finite}
+use Rattle.tmm_model.specs.declared.bound.Bound.TheVariants.{Finite, Free}
 use Rattle.tmm_model.specs.Bounds.{AtMost}
-use Rattle.tmm_model.specs.Walks.{Arc, IsFar}
+use Rattle.tmm_model.specs.Walks.{Arc, IsFar, total}
+use Rattle.tmm_model.proofs.Walks.{IsWalk-kept}
 use Rattle.dist_net.specs.declared.Edge.{Edge}
 use Rattle.dist_net.specs.Net.{Net, Nets, IsInUse, entry, arc_of, arcs_of}
 use Rattle.dist_net.proofs.Ends.{edge_at, ends_in_use}
@@ -31,6 +32,17 @@ IsDone-end rest a e row m far s walk small = AtMost-after_walk rest a e (Finite 
 -- a constraint to whose beginning the row had the distance when it was relaxed
 pub IsDone-beginning : (rest : List (Arc ℕ)) (a : ℕ) (e : Edge) (old new : ℕ → Bound) → IsFar rest a e.from (old e.from) → IsRelaxed old e new → IsDone rest a (arc_of e) new
 IsDone-beginning rest a e old new far relaxed s walk small = relaxed s (subst (AtMost (old e.from)) walk.2 (far.least walk.0 walk.1)) small
+
+-- a constraint that would not lower the row even by the distance over more constraints
+pub IsDone-idle : (arcs rest : List (Arc ℕ)) → ((x : Arc ℕ) → Contains rest x → Contains arcs x) → (a : ℕ) (e : Arc ℕ) (row : ℕ → Bound) (first last : ℤ) → IsFar arcs a e.from (Finite first) → Finite last ≡ row e.to → last ≤ℤ (first +ℤ e.weight) → IsDone rest a e row
+IsDone-idle arcs rest sub a e row first last far at le s walk small =
+    let near : first ≤ℤ total walk.0 = far.least walk.0 (IsWalk-kept rest arcs sub a e.from walk.0 walk.1) in
+    let low : last ≤ℤ (s +ℤ e.weight) = omega (arith, ints, near, walk.2) in
+    subst (λ (x : Bound). AtMost x (s +ℤ e.weight)) at low
+
+-- and one to whose beginning there is no walk
+pub IsDone-unreached : (arcs rest : List (Arc ℕ)) → ((x : Arc ℕ) → Contains rest x → Contains arcs x) → (a : ℕ) (e : Arc ℕ) (row : ℕ → Bound) → IsFar arcs a e.from Free → IsDone rest a e row
+IsDone-unreached arcs rest sub a e row far s walk small = absurd (far.least walk.0 (IsWalk-kept rest arcs sub a e.from walk.0 walk.1))
 
 -- a present distance that a row over the edges that are left has is that over these
 pub IsFar-held_by : (net : Net) (place a q : ℕ) (row : ℕ → Bound) → IsSound net.names (rest_of net place) a row → IsInUse net.names q → IsFar (arcs_of net.edges) a q (row q) → IsFar (rest_of net place) a q (row q)

@@ -9,7 +9,7 @@ use Rattle.dist_net.specs.Net.{Net, IsInUse, entry, arcs_of}
 use Rattle.dist_net.proofs.Ends.{ends_in_use}
 use Rattle.dist_repair.specs.Rows.{rest_of}
 use Rattle.dist_repair.proofs.Columns.{Contains-last}
-use Rattle.dist_repair.proofs.Looking.{IsDone-beginning, IsFar-held_by}
+use Rattle.dist_repair.proofs.Looking.{IsDone-beginning, IsFar-held_by, IsLooked-none}
 use Rattle.dist_repair.proofs.look_at.Goals as goal
 use Rattle.dist_repair.proofs.look_at.Goals.{then-is_changed+else-is_full, else-is_changed}
 
@@ -28,3 +28,9 @@ returns-clause-done c answer d =
           inr (IsDone-beginning (rest_of net c.args.place) c.args.a f row (entry c.visit.new.net.draft c.args.a)
           (IsFar-held_by net c.args.place c.args.a f.from row c.requires.sound in_from far) (c.visit.ensures.relaxed d)))
     ]
+
+pub returns-then-is_idle-clause-done : goal.returns-then-is_idle-clause-done
+returns-then-is_idle-clause-done c answer d = inr (c.if-is_idle.ensures refl d)
+
+pub returns-then-is_idle-clause-looked : goal.returns-then-is_idle-clause-looked
+returns-then-is_idle-clause-looked c = IsLooked-none c.args.net.now c.args.place c.args.a c.args.again.now.items c.requires.sound c.requires.places
