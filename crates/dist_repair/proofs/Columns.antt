@@ -2,17 +2,15 @@
 use Rattle.std.proofs.Common.{◌≡◌, ◌≢◌, ◌⊎◌, ◌∙◌, inl, inr, ℕ, ◌+◌, ◌<◌, ◌≤◌, ◌++◌, List, [], ◌∷◌, length, get_or, sym, subst, ap, arith, refl}
 use Rattle.std.specs.List.{All, Contains}
 use Rattle.std.proofs.lemmas.Bool.{cases_eq}
-use Rattle.std.proofs.lemmas.List.{length-append, length-map, get_or-map, get_or_default}
-use Rattle.std.proofs.lemmas.List.Elements.{All-push, Contains-append_left, Contains-append_right, Contains-push_cases, Contains-get_or}
+use Rattle.std.proofs.lemmas.List.{length-append, get_or_default}
+use Rattle.std.proofs.lemmas.List.Elements.{All-push, Contains-append_left, Contains-append_right, Contains-push_cases}
 use Rattle.tmm_model.specs.declared.bound.Bound.{Bound}
 use Rattle.tmm_model.specs.Walks.{IsFar}
 use Rattle.dist_net.specs.declared.Edge.{Edge}
 use Rattle.dist_net.specs.Net.{Net, Nets, IsInUse, entry, arcs_of, arc_of}
-use Rattle.dist_net.proofs.Ends.{in_places, edge_at, ends_in_use}
-use Rattle.dist_repair.specs.Rows.{rest_of, IsFirstRow, IsPresentBeside, IsPresentRow, ArePlaces, AreChosen, HasEach, tos_of, IsStarted, IsStartedRow, IsFarRow, IsSafe, ChangesRow}
-use Rattle.dist_repair.specs.Ends.{number_at}
-use Rattle.dist_repair.proofs.Detours.{IsFar-among}
-use Rattle.dist_repair.proofs.Left.{IsNet, left_sub}
+use Rattle.dist_net.proofs.Ends.{in_places, edge_at}
+use Rattle.dist_repair.specs.Rows.{rest_of, IsFirstRow, IsPresentBeside, IsPresentRow, IsStarted, IsSafe, ChangesRow}
+use Rattle.dist_repair.proofs.Left.{IsNet}
 use Rattle.dist_repair.proofs.Starts.{IsStarted-far, IsFar-safe, IsFar-held, ChangesRow-none}
 
 -- the last of a list stands in it
@@ -72,64 +70,38 @@ module _ (net : Net) (u : ℕ) (row : ℕ → Bound) where
     differs = is.differs;
   }
 
--- ---- the edges
-
--- the first j edges are looked at
-pub record IsChoosing (net : Net) (place a : ℕ) (row : ℕ → Bound) (j : ℕ) (list : List ℕ) : Type 0 where
-  pub few : length list ≤ j
-  pub places : ArePlaces net place list
-  pub chosen : AreChosen net place j list a row
-
-module _ (net : Net) (place a : ℕ) (row : ℕ → Bound) where
-  pub IsChoosing-none : IsChoosing net place a row 0 []
-  IsChoosing-none = record { few = omega arith; places = λ k d lt. absurd (omega (arith, lt)); chosen = λ j d below ne. absurd (omega (arith, below)) }
-
-  pub IsChoosing-more : (j : ℕ) (list : List ℕ) → IsChoosing net place a row j list → j < length net.edges → j ≢ place → IsChoosing net place a row (j + 1) (list ++ j ∷ [])
-  IsChoosing-more j list is lt ne = record {
-    few = omega (arith, is.few, length-append list (j ∷ []));
-    places = All-push (λ (i : ℕ). (i < length net.edges) × (i ≢ place)) list j is.places (lt, ne);
-    chosen = λ k d below other.
-        elim (cases_eq k j) [
-          | inl same ↦ inl (subst (Contains (list ++ j ∷ [])) (sym same) (Contains-last list j))
-          | inr differ ↦ elim (is.chosen k d (omega (arith, below, differ)) other) [
-            | inl m ↦ inl (Contains-append_left list (j ∷ []) k m)
-            | inr far ↦ inr far
-          ]
-        ];
-  }
-
-  pub IsChoosing-skip : (j : ℕ) (list : List ℕ) → IsChoosing net place a row j list → ((d : Edge) → j ≢ place → IsFar (arcs_of net.edges) a (get_or net.edges j d).to (row (get_or net.edges j d).to)) → IsChoosing net place a row (j + 1) list
-  IsChoosing-skip j list is far_j = record {
-    few = omega (arith, is.few);
-    places = is.places;
-    chosen = λ k d below other.
-        elim (cases_eq k j) [
-          | inl same ↦ (let P : ℕ → Type 0 = λ i. (i ≢ place) → IsFar (arcs_of net.edges) a (get_or net.edges i d).to (row (get_or net.edges i d).to) in inr (subst P (sym same) (far_j d) other))
-          | inr differ ↦ is.chosen k d (omega (arith, below, differ)) other
-        ];
-  }
-
--- ---- the row of another point
+-- ---- a row that begins
 
 -- q stands in the columns, at k or later
 abbrev pub StandsFrom : List ℕ → ℕ → ℕ → Type 0
 StandsFrom columns k q = (i : ℕ) × (k ≤ i) × (i < length columns) × (get_or columns i q ≡ q)
 
-later : (columns : List ℕ) (k b q : ℕ) → b ≡ get_or columns k b → (q ≢ b) → StandsFrom columns k q → StandsFrom columns (k + 1) q
+pub later : (columns : List ℕ) (k b q : ℕ) → b ≡ get_or columns k b → (q ≢ b) → StandsFrom columns k q → StandsFrom columns (k + 1) q
 later columns k b q at ne s =
     let differ : s.0 ≢ k = λ same. ne (sym s.3 ∙ (get_or_default columns s.0 q b s.2 ∙ (ap (λ (i : ℕ). get_or columns i b) same ∙ sym at))) in
     (s.0, omega (arith, s.1, differ), s.2, s.3)
 
--- the first k columns are bounded
-pub record IsBounding (old : Nets) (place : ℕ) (columns : List ℕ) (a k : ℕ) (suspects : List ℕ) (now : Nets) : Type 0 where
+-- at most k points are suspects so far, and those that wait have their present distances
+pub record IsBounding (old : Nets) (place : ℕ) (waits : ℕ → Type 0) (a k : ℕ) (suspects : List ℕ) (now : Nets) : Type 0 where
   pub few : length suspects ≤ k
   pub used : All (IsInUse old.present.names) suspects
-  pub begun : (q : ℕ) → IsInUse old.present.names q → IsStarted (rest_of old.present place) a q (entry now.draft a q) ⊎ (StandsFrom columns k q × IsFar (arcs_of old.present.edges) a q (entry now.draft a q))
+  pub begun : (q : ℕ) → IsInUse old.present.names q → IsStarted (rest_of old.present place) a q (entry now.draft a q) ⊎ (waits q × IsFar (arcs_of old.present.edges) a q (entry now.draft a q))
   pub beside : IsPresentBeside old.present suspects a (entry now.draft a)
   pub changes : ChangesRow a old now
 
-pub IsBounding-start : (old : Nets) (place u : ℕ) (columns : List ℕ) (a : ℕ) → IsNet old.present → place < length old.present.edges → IsFirstRow old.present place u columns (entry old.draft u) → IsPresentRow old.present a (entry old.draft a) → IsBounding old place columns a 0 [] old
-IsBounding-start old place u columns a known lt first present = record {
+-- all points wait
+pub IsBounding-all : (old : Nets) (place a : ℕ) → IsPresentRow old.present a (entry old.draft a) → IsBounding old place (λ q. 0 ≤ q) a 0 [] old
+IsBounding-all old place a present = record {
+  few = omega arith;
+  used = λ k d below. absurd (omega (arith, below));
+  begun = λ q in_q. inr (omega arith, present q in_q);
+  beside = λ q in_q. inr (present q in_q);
+  changes = ChangesRow-none a old;
+}
+
+-- the columns wait, and the others keep their distances
+pub IsBounding-columns : (old : Nets) (place u : ℕ) (columns : List ℕ) (a : ℕ) → IsNet old.present → place < length old.present.edges → IsFirstRow old.present place u columns (entry old.draft u) → IsPresentRow old.present a (entry old.draft a) → IsBounding old place (StandsFrom columns 0) a 0 [] old
+IsBounding-columns old place u columns a known lt first present = record {
   few = omega arith;
   used = λ k d below. absurd (omega (arith, below));
   begun = λ q in_q.
@@ -142,10 +114,11 @@ IsBounding-start old place u columns a known lt first present = record {
   changes = ChangesRow-none a old;
 }
 
-module _ (old now : Nets) (place : ℕ) (columns suspects : List ℕ) (a k b : ℕ) (known : IsNet old.present) (is : IsBounding old place columns a k suspects now) (lt : k < length columns) (at : b ≡ get_or columns k b) where
+module _ (old now : Nets) (place : ℕ) (waits still : ℕ → Type 0) (suspects : List ℕ) (a k b : ℕ) (known : IsNet old.present) (is : IsBounding old place waits a k suspects now)
+    (step : (q : ℕ) → IsInUse old.present.names q → q ≢ b → waits q → still q) where
   pub IsBounding-more : (next : Nets) (value : Bound) → a < 256 → IsInUse old.present.names b → IsStarted (rest_of now.present place) a b value →
       entry next.draft a b ≡ value → ((p q : ℕ) → p < 256 → q < 256 → (p ≢ a) ⊎ (q ≢ b) → entry next.draft p q ≡ entry now.draft p q) →
-      next.present ≡ now.present → next.committed ≡ now.committed → IsBounding old place columns a (k + 1) (suspects ++ b ∷ []) next
+      next.present ≡ now.present → next.committed ≡ now.committed → IsBounding old place still a (k + 1) (suspects ++ b ∷ []) next
   IsBounding-more next value in_a in_b started written others present committed =
       let same_at : (q : ℕ) → IsInUse old.present.names q → (q ≢ b) → entry next.draft a q ≡ entry now.draft a q = λ q in_q ne. others a q in_a (in_places old.present.names known.places q in_q) (inr ne) in
       record {
@@ -158,7 +131,7 @@ module _ (old now : Nets) (place : ℕ) (columns suspects : List ℕ) (a k b : �
                   (subst (λ (n : Net). IsStarted (rest_of n place) a b value) is.changes.present started))))
               | inr other ↦ elim (is.begun q in_q) [
                 | inl s ↦ inl (subst (λ (x : Bound). IsStarted (rest_of old.present place) a q x) (sym (same_at q in_q other)) s)
-                | inr s ↦ inr (later columns k b q at other s.0, subst (λ (x : Bound). IsFar (arcs_of old.present.edges) a q x) (sym (same_at q in_q other)) s.1)
+                | inr s ↦ inr (step q in_q other s.0, subst (λ (x : Bound). IsFar (arcs_of old.present.edges) a q x) (sym (same_at q in_q other)) s.1)
               ]
             ];
         beside = λ q in_q.
@@ -177,7 +150,7 @@ module _ (old now : Nets) (place : ℕ) (columns suspects : List ℕ) (a k b : �
       }
 
   -- a pair that is no suspect keeps its distance
-  pub IsBounding-skip : place < length old.present.edges → ((d : Edge) → IsSafe (arcs_of now.present.edges) (arc_of (get_or now.present.edges place d)) a b) → IsBounding old place columns a (k + 1) suspects now
+  pub IsBounding-skip : place < length old.present.edges → ((d : Edge) → IsSafe (arcs_of now.present.edges) (arc_of (get_or now.present.edges place d)) a b) → IsBounding old place still a (k + 1) suspects now
   IsBounding-skip in_edges safe =
       let safe_ : (d : Edge) → IsSafe (arcs_of old.present.edges) (arc_of (get_or old.present.edges place d)) a b =
       subst (λ (n : Net). (d : Edge) → IsSafe (arcs_of n.edges) (arc_of (get_or n.edges place d)) a b) is.changes.present safe in
@@ -192,35 +165,29 @@ module _ (old now : Nets) (place : ℕ) (columns suspects : List ℕ) (a k b : �
                 | inl same ↦ (let P : ℕ → Type 0 = λ r. IsSafe (arcs_of old.present.edges) (arc_of (get_or old.present.edges place d)) a r in
                     inl (IsStarted-far old.present place known a q in_q (entry now.draft a q)
                     (IsFar-safe old.present place known in_edges a q d (entry now.draft a q) s.1 (subst P (sym same) (safe_ d)))))
-                | inr other ↦ inr (later columns k b q at other s.0, s.1)
+                | inr other ↦ inr (step q in_q other s.0, s.1)
               ]
             ];
         beside = is.beside;
         changes = is.changes;
       }
 
-pub IsStarted-bounded : (old now : Nets) (place : ℕ) (columns suspects : List ℕ) (a k : ℕ) → IsBounding old place columns a k suspects now → length columns ≤ k → (q : ℕ) → IsInUse old.present.names q → IsStarted (rest_of old.present place) a q (entry now.draft a q)
-IsStarted-bounded old now place columns suspects a k is all q in_q =
-    elim (is.begun q in_q) [ inl s ↦ s | inr s ↦ absurd (omega (arith, s.0.1, s.0.2, all)) ]
+  -- a number that is not in use is passed over
+  pub IsBounding-unused : (IsInUse old.present.names b → ⊥) → IsBounding old place still a (k + 1) suspects now
+  IsBounding-unused none = record {
+    few = omega (arith, is.few);
+    used = is.used;
+    begun = λ q in_q.
+        elim (is.begun q in_q) [
+          | inl s ↦ inl s
+          | inr s ↦ (let other : q ≢ b = λ same. none (subst (IsInUse old.present.names) same in_q) in inr (step q in_q other s.0, s.1))
+        ];
+    beside = is.beside;
+    changes = is.changes;
+  }
 
--- ---- the edges that lead to the suspects of a row
-
-module _ (net : Net) (place a : ℕ) (points list : List ℕ) where
-  -- an edge that is not in the list leads to no suspect
-  pub AreChosen-each : (row : ℕ → Bound) → IsNet net → HasEach (tos_of net.edges) place points list → IsPresentBeside net points a row → AreChosen net place (length net.edges) list a row
-  AreChosen-each row known each beside j d below ne =
-      let f : Edge = get_or net.edges j d in
-      let in_to : IsInUse net.names f.to = (ends_in_use net.names net.edges f known.used (Contains-get_or net.edges j d below)).1 in
-      let at : number_at (tos_of net.edges) j ≡ f.to = get_or-map (λ (e : Edge). e.to) net.edges j d 256 below in
-      elim (beside f.to in_to) [
-        | inl m ↦ inl (each j (omega (arith, below, length-map net.edges (λ (e : Edge). e.to))) ne (subst (Contains points) (sym at) m))
-        | inr far ↦ inr far
-      ]
-
--- a row without suspects has the distances
-pub IsFarRow-begun : (net : Net) (place a : ℕ) (points : List ℕ) (row : ℕ → Bound) → length points ≡ 0 → IsStartedRow net place a row → IsPresentBeside net points a row → IsFarRow net place a row
-IsFarRow-begun net place a points row none started beside q in_q =
-    elim (beside q in_q) [
-      | inl m ↦ absurd (omega (arith, m.1, none))
-      | inr far ↦ IsFar-among (arcs_of net.edges) (rest_of net place) (left_sub (arcs_of net.edges) place) a q (row q) far (started q in_q).reached
-    ]
+-- none waits any more
+pub IsStarted-bounded : (old now : Nets) (place : ℕ) (waits : ℕ → Type 0) (suspects : List ℕ) (a k : ℕ) → IsBounding old place waits a k suspects now →
+    ((q : ℕ) → IsInUse old.present.names q → waits q → ⊥) → (q : ℕ) → IsInUse old.present.names q → IsStarted (rest_of old.present place) a q (entry now.draft a q)
+IsStarted-bounded old now place waits suspects a k is none q in_q =
+    elim (is.begun q in_q) [ inl s ↦ s | inr s ↦ absurd (none q in_q s.0) ]

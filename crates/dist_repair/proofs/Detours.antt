@@ -1,5 +1,5 @@
 -- Walks that do without a constraint, and the distances that stay without it.
-use Rattle.std.proofs.Common.{◌≡◌, ◌∙◌, inl, inr, ◌++◌, List, [], ◌∷◌, ℤ, ◌+ℤ◌, ◌-ℤ◌, ◌≤ℤ◌, ap, sym, subst, arith, refl}
+use Rattle.std.proofs.Common.{◌≡◌, ◌∙◌, inl, inr, ◌++◌, List, [], ◌∷◌, ℤ, ◌+ℤ◌, ◌-ℤ◌, ◌≤ℤ◌, ap, sym, subst, arith, refl, pos}
 use Rattle.std.specs.List.{Contains}
 use Rattle.std.proofs.lemmas.Int.{ints}
 use Rattle.tmm_model.specs.declared.bound.Bound.{Bound}
@@ -48,28 +48,51 @@ module _ {P : Type 0} (old new : List (Arc P)) (e : Arc P) (adds : Adds new e ol
             subst F (sym at) (there (x ∷ walk) (subst (λ (p : P). IsWalk old p b (x ∷ walk)) at h)))
       ]
 
-  far_around : (a b : P) (x : Bound) → ((walk : List (Arc P)) → IsWalk old e.from b walk → (w : List (Arc P)) × IsWalk new e.from b w × (total w ≤ℤ total walk)) → IsFar old a b x → IsFar new a b x
-  far_around a b (Finite s) there far =
+  -- Where each walk from a to the end of e can be no shorter than one over new, each walk from a can.
+  onward : (a b : P) → ((walk : List (Arc P)) → IsWalk old a e.to walk → (w : List (Arc P)) × IsWalk new a e.to w × (total w ≤ℤ total walk)) →
+      (c : P) (front walk : List (Arc P)) → IsWalk new a c front → IsWalk old c b walk → (w : List (Arc P)) × IsWalk new a b w × (total w ≤ℤ (total front +ℤ total walk))
+  onward a b there c front [] h k = (front, subst (λ (p : P). IsWalk new a p front) k h, omega (arith, ints))
+  onward a b there c front (x ∷ walk) h k =
+      elim (adds.only x k.0) [
+        | inl m ↦ (let r : (w : List (Arc P)) × IsWalk new a b w × (total w ≤ℤ (total (front ++ x ∷ []) +ℤ total walk)) =
+            onward a b there x.to (front ++ x ∷ []) walk (IsWalk-append new a c x.to front (x ∷ []) h (m, k.1, refl)) k.2 in
+            (r.0, r.1, omega (arith, ints, r.2, total-append front (x ∷ []))))
+        | inr same ↦ (let at : x.to ≡ e.to = ap (λ (y : Arc P). y.to) same in
+            let through : IsWalk old a x.to (front ++ x ∷ []) = IsWalk-append old a c x.to front (x ∷ []) (IsWalk-kept new old adds.kept a c front h) (k.0, k.1, refl) in
+            let w : (w : List (Arc P)) × IsWalk new a e.to w × (total w ≤ℤ total (front ++ x ∷ [])) = there (front ++ x ∷ []) (subst (λ (p : P). IsWalk old a p (front ++ x ∷ [])) at through) in
+            let r : (v : List (Arc P)) × IsWalk new a b v × (total v ≤ℤ (total w.0 +ℤ total walk)) = onward a b there x.to w.0 walk (subst (λ (p : P). IsWalk new a p w.0) (sym at) w.1) k.2 in
+            (r.0, r.1, omega (arith, ints, r.2, w.2, total-append front (x ∷ []))))
+      ]
+
+  far_by : (a b : P) (x : Bound) → ((walk : List (Arc P)) → IsWalk old a b walk → (w : List (Arc P)) × IsWalk new a b w × (total w ≤ℤ total walk)) → IsFar old a b x → IsFar new a b x
+  far_by a b (Finite s) by far =
       let r : HasWalk old a b s = far.reached in
-      let w : (w : List (Arc P)) × IsWalk new a b w × (total w ≤ℤ total r.0) = around b there a r.0 r.1 in
+      let w : (w : List (Arc P)) × IsWalk new a b w × (total w ≤ℤ total r.0) = by r.0 r.1 in
       let low : s ≤ℤ total w.0 = far.least w.0 (IsWalk-kept new old adds.kept a b w.0 w.1) in
       record { reached = (w.0, w.1, omega (arith, ints, r.2, w.2, low)); least = λ walk h. far.least walk (IsWalk-kept new old adds.kept a b walk h) }
-  far_around a b Free there far = record { reached = tt; least = λ walk h. far.least walk (IsWalk-kept new old adds.kept a b walk h) }
+  far_by a b Free by far = record { reached = tt; least = λ walk h. far.least walk (IsWalk-kept new old adds.kept a b walk h) }
 
-  from_beginning : (b : P) (y : Bound) → IsFar old e.from b y → IsFar new e.from b y → (walk : List (Arc P)) → IsWalk old e.from b walk → (w : List (Arc P)) × IsWalk new e.from b w × (total w ≤ℤ total walk)
-  from_beginning b (Finite t) far_old far_new walk h =
-      let r : HasWalk new e.from b t = far_new.reached in
+  no_shorter : (a b : P) (y : Bound) → IsFar old a b y → IsFar new a b y → (walk : List (Arc P)) → IsWalk old a b walk → (w : List (Arc P)) × IsWalk new a b w × (total w ≤ℤ total walk)
+  no_shorter a b (Finite t) far_old far_new walk h =
+      let r : HasWalk new a b t = far_new.reached in
       let low : t ≤ℤ total walk = far_old.least walk h in
       (r.0, r.1, omega (arith, ints, r.2, low))
-  from_beginning b Free far_old far_new walk h = absurd (far_old.least walk h)
+  no_shorter a b Free far_old far_new walk h = absurd (far_old.least walk h)
 
   -- **A distance to b stays where that from the beginning of the constraint to b does.**
   pub IsFar-around : (a b : P) (x y : Bound) → IsFar old e.from b y → IsFar new e.from b y → IsFar old a b x → IsFar new a b x
-  IsFar-around a b x y far_old far_new far = far_around a b x (from_beginning b y far_old far_new) far
+  IsFar-around a b x y far_old far_new far = far_by a b x (λ walk h. around b (no_shorter e.from b y far_old far_new) a walk h) far
+
+  -- **A distance from a stays where that from a to the end of the constraint does.**
+  pub IsFar-onward : (a b : P) (x y : Bound) → IsFar old a e.to y → IsFar new a e.to y → IsFar old a b x → IsFar new a b x
+  IsFar-onward a b x y far_old far_new far =
+      far_by a b x
+      (λ walk h. (let w : (w : List (Arc P)) × IsWalk new a b w × (total w ≤ℤ (pos 0 +ℤ total walk)) = onward a b (no_shorter a e.to y far_old far_new) a [] walk refl h in (w.0, w.1, omega (arith, ints, w.2))))
+      far
 
   -- **A distance to the beginning of the constraint stays**: back to it leads no walk of a negative sum.
   pub IsFar-to_beginning : (start : P) → HasDates start old → (a : P) (x : Bound) → IsFar old a e.from x → IsFar new a e.from x
   IsFar-to_beginning start dates a x far =
-      far_around a e.from x
-      (λ walk h. ([], refl, (let low : (dates.0 e.from -ℤ dates.0 e.from) ≤ℤ total walk = difference-le_total start old dates.0 dates.1 e.from e.from walk h in omega (arith, ints, low))))
+      far_by a e.from x
+      (λ walk h. around e.from (λ walk h. ([], refl, (let low : (dates.0 e.from -ℤ dates.0 e.from) ≤ℤ total walk = difference-le_total start old dates.0 dates.1 e.from e.from walk h in omega (arith, ints, low)))) a walk h)
       far

@@ -4,11 +4,12 @@ use Rattle.std.proofs.lemmas.Bool.{cases_eq}
 use Rattle.std.proofs.lemmas.List.Elements.{All-contains}
 use Rattle.tmm_model.specs.declared.bound.Bound.{Bound}
 use Rattle.tmm_model.specs.Walks.{IsFar}
-use Rattle.dist_net.specs.Net.{Net, Nets, IsInUse, entry, arcs_of}
+use Rattle.dist_net.specs.Net.{Net, Nets, IsInUse, IsFarWithout, entry, arcs_of}
 use Rattle.dist_net.proofs.Ends.{in_places}
-use Rattle.dist_repair.specs.Rows.{rest_of, IsFarRow, IsFirstRow, IsPresentRow, IsSafeRow, IsFrom, ChangesRow}
-use Rattle.dist_repair.proofs.Left.{IsNet}
-use Rattle.dist_repair.proofs.Starts.{IsFarRow-safe, IsFar-held}
+use Rattle.dist_repair.specs.Rows.{rest_of, IsFarRow, IsFirstRow, IsPresentRow, KeepsRow, IsFrom, ChangesRow}
+use Rattle.dist_repair.proofs.Left.{IsNet, IsFar-taken}
+use Rattle.dist_repair.proofs.Starts.{IsFar-held}
+use Rattle.dist_repair.proofs.OtherWays.{IsFarRow-keeps}
 
 -- ---- rows with the same bounds
 
@@ -59,6 +60,21 @@ module _ (old now : Nets) (place u : ℕ) (columns : List ℕ) (a : ℕ) (is : I
         committed = changes.committed ∙ is.committed;
       }
 
+  -- a row that keeps its distances
+  pub IsErasing-keeps : IsInUse old.present.names a → a ≢ u → KeepsRow now.present place a → IsErasing old place u columns (a + 1) now
+  IsErasing-keeps in_a ne keeps = record {
+    far = λ p below in_p.
+        elim (cases_eq p a) [
+          | inl e ↦ (let P : ℕ → Type 0 = λ r. IsFarRow old.present place r (entry now.draft r) in
+              subst P (sym e) (IsFarRow-keeps old.present place a (entry now.draft a) (is.draft a (omega arith) in_a ne) (subst (λ (n : Net). KeepsRow n place a) is.present keeps)))
+          | inr other ↦ is.far p (omega (arith, below, other)) in_p
+        ];
+    draft = λ p above. is.draft p (omega (arith, above));
+    first = is.first;
+    present = is.present;
+    committed = is.committed;
+  }
+
   -- the row of u is repaired already, and a number that is not in use has no row
   pub IsErasing-skip : (IsInUse old.present.names a → a ≡ u) → IsErasing old place u columns (a + 1) now
   IsErasing-skip is_first = record {
@@ -74,20 +90,9 @@ module _ (old now : Nets) (place u : ℕ) (columns : List ℕ) (a : ℕ) (is : I
     committed = is.committed;
   }
 
--- where no least walk from the edge's beginning goes through it, all distances stay
-pub IsFarRow-all : (net : Net) (place u : ℕ) (table : ℕ → ℕ → Bound) → IsNet net → place < length net.edges → IsFrom net place u → IsSafeRow net place u → IsInUse net.names u →
-    ((a : ℕ) → IsInUse net.names a → IsPresentRow net a (table a)) → (a : ℕ) → IsInUse net.names a → IsFarRow net place a (table a)
-IsFarRow-all net place u table known lt from safe in_u present a in_a q in_q =
-    IsFar-held net place known lt u a q (table a q) (table u q) from (present u in_u q in_q) (IsFarRow-safe net place known lt u (table u) (present u in_u) safe q in_q) (present a in_a q in_q)
-
--- and so they do where no column changes
-pub IsFarRow-kept : (net : Net) (place u : ℕ) (columns : List ℕ) (table : ℕ → ℕ → Bound) → IsNet net → place < length net.edges → IsFirstRow net place u columns (table u) → length columns ≡ 0 →
-    ((a : ℕ) → IsInUse net.names a → a ≢ u → IsPresentRow net a (table a)) → (a : ℕ) → IsInUse net.names a → IsFarRow net place a (table a)
-IsFarRow-kept net place u columns table known lt first none present a in_a q in_q =
-    elim (cases_eq a u) [
-      | inl same ↦ (let P : ℕ → Type 0 = λ p. IsFar (rest_of net place) p q (table p q) in subst P (sym same) (first.far q in_q))
-      | inr other ↦ elim (first.beside q in_q) [
-        | inl m ↦ absurd (omega (arith, m.1, none))
-        | inr far ↦ IsFar-held net place known lt u a q (table a q) (table u q) first.from far (first.far q in_q) (present a in_a other q in_q)
-      ]
-    ]
+-- where all distances from the edge's beginning stay, all others do
+pub IsFarWithout-kept : (net : Net) (place u : ℕ) (table : List Bound) → IsNet net → place < length net.edges → IsFrom net place u → KeepsRow net place u → IsInUse net.names u →
+    ((a : ℕ) → IsInUse net.names a → IsPresentRow net a (entry table a)) → IsFarWithout net place table
+IsFarWithout-kept net place u table known lt from keeps in_u present d a b in_a in_b =
+    IsFar-taken net.edges place d lt a b (entry table a b)
+    (IsFar-held net place known lt u a b (entry table a b) (entry table u b) from (present u in_u b in_b) (keeps b (entry table u b) (present u in_u b in_b)) (present a in_a b in_b))

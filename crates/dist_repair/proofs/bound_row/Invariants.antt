@@ -1,5 +1,5 @@
-use Rattle.dist_repair.proofs.Columns.{IsBounding}
+use Rattle.dist_repair.proofs.Columns.{IsBounding, StandsFrom}
 use Rattle.dist_repair.proofs.bound_row.Given as goal
 
 abbrev pub invariant-loop-i : goal.invariant-loop-i
-invariant-loop-i l = IsBounding l.fn.net l.place l.columns l.a l.i l.suspects.items l.net
+invariant-loop-i l = IsBounding l.fn.net l.place (StandsFrom l.columns l.i) l.a l.i l.suspects.items l.net

@@ -1,11 +1,12 @@
 use Rattle.std.proofs.Common.{◌∙◌, ◌+◌, ap, sym, subst, arith, refl}
-use Rattle.dist_net.specs.Net.{Net, Nets}
+use Rattle.std.specs.Option.{is_some}
+use Rattle.dist_net.specs.Net.{Net, Nets, IsInUse}
 use Rattle.dist_repair.specs.Rows.{tos_of}
 use Rattle.dist_repair.proofs.Left.{IsNet}
-use Rattle.dist_repair.proofs.Erasing.{IsErasing, IsErasing-more, IsErasing-skip}
+use Rattle.dist_repair.proofs.Erasing.{IsErasing, IsErasing-keeps, IsErasing-more, IsErasing-skip}
 use Rattle.dist_repair.proofs.Starts.{below_limit, unnamed}
 use Rattle.dist_repair.proofs.repair_others.Goals as goal
-use Rattle.dist_repair.proofs.repair_others.Goals.{then-is_some+then-a-from+in-Some, then-is_some+else-a-from, else-is_some}
+use Rattle.dist_repair.proofs.repair_others.Goals.{then-is_some+then-a-from+then-not-keeps_row+else-not-repair_row, then-is_some+then-a-from+else-not-keeps_row, then-is_some+else-a-from, else-is_some}
 
 pub loop-a-init : goal.loop-a-init
 loop-a-init c = record {
@@ -24,9 +25,12 @@ loop-a-preserved c =
     let known : IsNet c.args.net.now.present = record { places = c.edges.ensures.names; used = c.edges.ensures.in_use; light = c.edges.ensures.light; dates = c.edges.ensures.dates } in
     let P : Nets → Type 0 = IsErasing c.args.net.now c.args.place c.args.from c.args.columns.now (c.loop-a.a + 1) in
     elim c.if-is_some.branch [
-      | then-is_some+then-a-from+in-Some w ↦ subst P (sym w.net-is)
+      | then-is_some+then-a-from+then-not-keeps_row+else-not-repair_row w ↦ subst P (sym w.net-is)
           (IsErasing-more c.args.net.now c.loop-a.net c.args.place c.args.from c.args.columns.now c.loop-a.a c.loop-a.invariant known w.repair_row.new.net c.requires.row w.if-a-from.true
-          (w.in-Some.ensures.far refl) w.repair_row.ensures.changes)
+          (w.if-not-repair_row.ensures.far refl) w.repair_row.ensures.changes)
+      | then-is_some+then-a-from+else-not-keeps_row w ↦ subst P (sym w.net-is)
+          (IsErasing-keeps c.args.net.now c.loop-a.net c.args.place c.args.from c.args.columns.now c.loop-a.a c.loop-a.invariant known
+          (subst (λ (n : Net). IsInUse n.names c.loop-a.a) c.loop-a.invariant.present (sym (w.if-is_some.ensures ∙ ap is_some c.name_of.ensures))) w.if-a-from.true (w.if-not-keeps_row.ensures refl))
       | then-is_some+else-a-from w ↦ subst P (sym w.net-is)
           (IsErasing-skip c.args.net.now c.loop-a.net c.args.place c.args.from c.args.columns.now c.loop-a.a c.loop-a.invariant known (λ _. w.if-a-from.false))
       | else-is_some w ↦ subst P (sym w.net-is)

@@ -1,0 +1,9 @@
+use Rattle.dist_repair.proofs.Listing.{places_to}
+use Rattle.dist_repair.proofs.Looking.{IsLooking}
+use Rattle.dist_repair.proofs.look_to.Given as goal
+
+abbrev pub invariant-places : goal.invariant-places
+invariant-places l = IsLooking l.fn.net l.place l.a l.point l.ends l.fn.again.items l.at l.net l.again.items
+
+abbrev pub decreases-places : goal.decreases-places
+decreases-places l = places_to l.at

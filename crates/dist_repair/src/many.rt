@@ -1,0 +1,49 @@
+// The way to take many edges out.
+ghost use Rattle.std.specs.Prelude.{◌≡◌, ◌<◌, ◌≤◌, length, take};
+
+use crate::{ends_of, erase_edge, is_tight, keeps_row, other_ways};
+use dist_net::DistNet;
+
+// Up to so many edges are taken out one by one: those of a premise, or of a point with a few
+// constraints, mostly leave most distances as they are.
+const FEW: usize = 16;
+
+// Of more, so many that distances may change without are taken out one by one, and then all distances
+// are found from nothing.
+const SOME: usize = 2;
+
+/// Takes out the edges from the place on, the last first. An edge without which all distances stay
+/// costs little. Where many others are left, all distances are found from nothing, once.
+pub fn erase_from(net: &mut DistNet, first: usize)
+    requires { first ≤ length net.old.present.edges }
+    ensures present { net.new.present ≡ record net.old.present { edges = take first net.old.present.edges } }
+    ensures committed { net.new.committed ≡ net.old.committed }
+{
+    let count = net.edges().len();
+    let mut few = if count - first > FEW { SOME } else { FEW };
+    for place in (first..count).rev() {
+        if !is_needless(net, place) {
+            if few == 0 {
+                net.keep_edges(first);
+                return;
+            }
+            few -= 1;
+        }
+        erase_edge(net, place);
+    }
+}
+
+// Whether all distances surely stay without the edge. Where it says no they may stay as well.
+fn is_needless(net: &DistNet, place: usize) -> bool
+    requires { place < length net.now.present.edges }
+{
+    // it tells the proof what holds of the network
+    let _ = net.edges();
+    let from = net.edges()[place].from;
+    if !is_tight(net, place, from) {
+        return true;
+    }
+    let ends = ends_of(net);
+    let others = other_ways(net, place, &ends);
+    keeps_row(net, place, from, others.as_slice())
+}
