@@ -1,16 +1,10 @@
 -- Lists by number.
-use Rattle.std.specs.Prelude.{◌≡◌, ℕ, cond, eqb, ◌≤◌, List, [], slice_index_or, insert, remove, refl}
-use Rattle.std.specs.Coded.{Coded, code_by, coded×, coded_list, coded_ℕ}
+use Rattle.std.specs.Prelude.{◌≡◌, ℕ, cond, eqb, ◌≤◌, List, [], slice_index_or, insert, remove}
 
 -- the items of a list, and for how many there is room
 pub record ListRoom (T : Type 0) : Type 0 where
   pub items : List T
   pub room : ℕ
-
--- such lists told by numbers, where their items are
-abbrev pub list_room_code : {T : Type 0} → Coded T → Coded (ListRoom T)
-list_room_code {T} code =
-    code_by (List T × ℕ) (coded× (coded_list code) coded_ℕ) (λ l. (l.items, l.room)) (λ p. record { items = p.0; room = p.1 }) (λ _. refl)
 
 -- the list of a number, without items and room where there is none
 abbrev pub list_at : {T : Type 0} → List (ListRoom T) → ℕ → ListRoom T

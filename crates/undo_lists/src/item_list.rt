@@ -13,11 +13,9 @@ pub(crate) struct ItemList<T> {
 
 impl<T> Model for ItemList<T> {
     ghost use Rattle.std.specs.Prelude.{vec_capacity};
-    ghost use Rattle.undo_lists.specs.Rooms.{ListRoom, list_room_code};
+    ghost use Rattle.undo_lists.specs.Rooms.{ListRoom};
 
     ghost Value = { ListRoom T };
-
-    ghost coded = { list_room_code T.code };
 
     ghost view = { λ l. record { items = l.items.items; room = vec_capacity l.items } };
 }
