@@ -1,6 +1,4 @@
-// One row.
-ghost use Rattle.std.specs.Prelude.{◌≡◌};
-ghost use Rattle.decision_rows.specs.Tables.{head_of};
+// What a row keeps.
 
 /// How many families of lists there are: of triggers, of rules, and of the class of each antecedent.
 pub(crate) const FAMILIES: usize = 6;
@@ -20,29 +18,11 @@ pub enum Decision {
 
 /// A pair of a trigger and a rule, with what was decided of it.
 #[derive(Clone, Copy)]
-pub struct Row {
+pub struct Pair {
     /// The node of the event.
     pub trigger: u32,
     /// The number of the rule.
     pub rule: u32,
-    /// The classes of the antecedents, in order.
-    pub classes: [Option<u32>; 4],
     /// What was decided last.
     pub decision: Decision,
-    /// Whether it was removed since the last commit.
-    pub gone: bool,
-}
-
-impl Row {
-    /// The head under which the row stands in a family.
-    pub fn head(&self, family: usize) -> Option<u32>
-        ensures { result ≡ head_of self.now family }
-    {
-        match family {
-            0 => Some(self.trigger),
-            1 => Some(self.rule),
-            2..FAMILIES => self.classes[family - 2],
-            _ => None,
-        }
-    }
 }

@@ -1,5 +1,5 @@
 use Rattle.std.proofs.Common.{length}
-use Rattle.decision_rows.specs.Changes.{present}
+use Rattle.undo_rows.specs.Changes.{present}
 use Rattle.decision_rows.proofs.tests.drained.Given as goal
 
 abbrev pub decreases-loop-x : goal.decreases-loop-x

@@ -1,5 +1,5 @@
-use Rattle.decision_rows.specs.Changes.{present}
-use Rattle.decision_rows.proofs.First.{first_is_on}
+use Rattle.undo_rows.specs.Changes.{present}
+use Rattle.undo_rows.proofs.First.{first_is_on}
 use Rattle.decision_rows.proofs.tests.second.Goals as goal
 
 pub next-requires : goal.next-requires
