@@ -1,5 +1,5 @@
--- One list written.
-use Rattle.std.proofs.Common.{◌≡◌, ◌≢◌, ℕ, zero, suc, eqb, ◌+◌, ◌<◌, ◌≤◌, List, [], ◌∷◌, ◌++◌, length, take, refl, sym, ap, ◌∙◌, subst, inl, inr, arith, slice_index_or, slice_set, get_or-set_same, get_or-set_other, le_refl, le_trans, eq-eqb, ne_eqb, insert, remove}
+-- One list read and written, and lists copied.
+use Rattle.std.proofs.Common.{◌≡◌, ◌≢◌, ℕ, zero, suc, eqb, ◌+◌, ◌<◌, ◌≤◌, List, [], ◌∷◌, ◌++◌, length, take, refl, sym, ap, ◌∙◌, subst, inl, inr, arith, slice_index_or, slice_set, get_or-set_same, get_or-set_other, le_refl, eq-eqb, ne_eqb, insert, remove}
 use Rattle.std.proofs.lemmas.Bool.{cases_eq, cases_lt, cond-true, cond-false}
 use Rattle.std.proofs.lemmas.List.{get_or_past, length-take-le, take_more}
 use Rattle.undo_lists.specs.Rooms.{ListRoom, list_at, items_in, rooms_in, with_list, with_item, without_item, HaveGrown}
@@ -63,23 +63,15 @@ module _ {T : Type 0} where
         (ap (λ (q : ListRoom T). q.items) (get_or-set_same lists n l (record { items = []; room = 0 }) within))
         (λ m other. ap (λ (q : ListRoom T). q.items) (get_or-set_other lists n m l (record { items = []; room = 0 }) other))
 
-    -- what each list's room is to what it was
-    room-set : (R : ℕ → ℕ → Type 0) → ((k : ℕ) → R k k) → R (rooms_in lists n) l.room → (m : ℕ) → R (rooms_in lists m) (rooms_in (slice_set lists n l) m)
-    room-set R same own m =
-        elim (cases_eq m n) [
-          | inl is ↦ subst (λ z. R (rooms_in lists z) (rooms_in (slice_set lists n l) z)) (sym is)
-              (subst (λ (q : ListRoom T). R (rooms_in lists n) q.room) (sym (get_or-set_same lists n l (record { items = []; room = 0 }) within)) own)
-          | inr other ↦ subst (λ (q : ListRoom T). R (rooms_in lists m) q.room) (sym (get_or-set_other lists n m l (record { items = []; room = 0 }) other)) (same (rooms_in lists m))
-        ]
-
     rooms-set : l.room ≡ rooms_in lists n → rooms_in (slice_set lists n l) ≡ rooms_in lists
-    rooms-set is = λ i m. room-set (λ old new. new ≡ old) (λ k. refl) is m i
-
-    pub HaveGrown-set : l.items ≡ items_in lists n → rooms_in lists n ≤ l.room → HaveGrown lists (slice_set lists n l)
-    HaveGrown-set same more = record {
-      items = items-set ∙ sym (list_by (items_in lists) (items_in lists) n l.items (sym same) (λ m other. refl));
-      rooms = room-set (λ old new. old ≤ new) le_refl more;
-    }
+    rooms-set is = λ i m. at m i
+      where
+        at : (m : ℕ) → rooms_in (slice_set lists n l) m ≡ rooms_in lists m
+        at m =
+            elim (cases_eq m n) [
+              | inl same ↦ subst (λ z. rooms_in (slice_set lists n l) z ≡ rooms_in lists z) (sym same) (ap (λ (q : ListRoom T). q.room) (get_or-set_same lists n l (record { items = []; room = 0 }) within) ∙ is)
+              | inr other ↦ ap (λ (q : ListRoom T). q.room) (get_or-set_other lists n m l (record { items = []; room = 0 }) other)
+            ]
 
   -- ---- an item in or out
 
@@ -108,24 +100,7 @@ module _ {T : Type 0} where
           rooms = rooms-set lists n l within (room ∙ ap (λ (q : ListRoom T). q.room) it);
         }
 
-  -- ---- more lists
-
-  items_more : (lists : List (ListRoom T)) (l : ListRoom T) → l.items ≡ [] → (n : ℕ) → items_in (lists ++ l ∷ []) n ≡ items_in lists n
-  items_more [] l none zero = none
-  items_more [] l none (suc n) = refl
-  items_more (first ∷ lists) l none zero = refl
-  items_more (first ∷ lists) l none (suc n) = items_more lists l none n
-
-  rooms_more : (lists : List (ListRoom T)) (l : ListRoom T) (n : ℕ) → rooms_in lists n ≤ rooms_in (lists ++ l ∷ []) n
-  rooms_more [] l n = omega arith
-  rooms_more (first ∷ lists) l zero = le_refl first.room
-  rooms_more (first ∷ lists) l (suc n) = rooms_more lists l n
-
-  pub HaveGrown-push : (lists : List (ListRoom T)) (l : ListRoom T) → l.items ≡ [] → HaveGrown lists (lists ++ l ∷ [])
-  HaveGrown-push lists l none = record { items = λ i n. items_more lists l none n i; rooms = rooms_more lists l }
-
-  pub HaveGrown-then : (first second third : List (ListRoom T)) → HaveGrown first second → HaveGrown second third → HaveGrown first third
-  HaveGrown-then first second third one two = record { items = two.items ∙ one.items; rooms = λ n. le_trans (one.rooms n) (two.rooms n) }
+  -- ---- copies of the lists
 
   items_alike : (lists copies : List (ListRoom T)) (l m : ListRoom T) → length copies ≡ length lists → items_in copies ≡ items_in lists → m.items ≡ l.items → (n : ℕ) → items_in (copies ++ m ∷ []) n ≡ items_in (lists ++ l ∷ []) n
   items_alike [] [] l m long same is zero = is
