@@ -1,6 +1,6 @@
 #!/usr/bin/env bash
 # The scripts that the documents show, through the built program: those of examples/ have their replies
-# beside them, those of the reference behind them.
+# beside them, those of the README and of the reference behind them.
 set -u
 cd "$(dirname "$0")/.." || exit 1
 failed=0
@@ -18,15 +18,18 @@ while read -r script; do
 done < <(find examples -name '*.tmm' | sort)
 
 shown=$(mktemp -d) || exit 1
-awk -v dir="$shown" '
-  $0 == "```script" { file = dir "/line-" NR ".tmm"; next }
-  $0 == "```replies" { sub(/tmm$/, "out", last); file = last; next }
-  $0 == "```" { last = file; file = ""; next }
-  file { print > file }' docs/SCRIPT.md
-for script in "$shown"/*.tmm; do
-  compare "$script" "${script%.tmm}.out" "docs/SCRIPT.md, $(basename "$script" .tmm)"
+for page in README.md docs/SCRIPT.md; do
+  awk -v dir="$shown" '
+    $0 == "```script" { file = dir "/line-" NR ".tmm"; next }
+    $0 == "```replies" { sub(/tmm$/, "out", last); file = last; next }
+    $0 == "```" { last = file; file = ""; next }
+    file { print > file }' "$page"
+  for script in "$shown"/*.tmm; do
+    compare "$script" "${script%.tmm}.out" "$page, $(basename "$script" .tmm)"
+  done
+  rm "$shown"/*
 done
-rm -rf "$shown"
+rmdir "$shown"
 
 demo=$(sed -n 's/^    \(demo 120 lines .*\)$/\1/p' docs/SCRIPT.md)
 if [ -z "$demo" ] || [ "$(./tmm demo 120)" != "$demo" ]; then
