@@ -10,7 +10,11 @@ const FEW: usize = 16;
 
 // Of more, so many that distances may change without are taken out one by one, and then all distances
 // are found from nothing.
-const SOME: usize = 2;
+const SOME: usize = 4;
+
+// Where more fall than this, looking at each of them takes longer than finding all distances from
+// nothing.
+const MANY: usize = 256;
 
 /// Takes out the edges from the place on, the last first. An edge without which all distances stay
 /// costs little. Where many others are left, all distances are found from nothing, once.
@@ -20,6 +24,10 @@ pub fn erase_from(net: &mut DistNet, first: usize)
     ensures committed { net.new.committed ≡ net.old.committed }
 {
     let count = net.edges().len();
+    if count - first > MANY {
+        net.keep_edges(first);
+        return;
+    }
     let mut few = if count - first > FEW { SOME } else { FEW };
     for place in (first..count).rev() {
         if !is_needless(net, place) {
