@@ -1,7 +1,7 @@
 -- What two ways begin with.
 use Rattle.std.proofs.Common.{◌≡◌, ◌≢◌, ℕ, zero, suc, cond, eqb, true, false, Bool, ◌≤◌, List, [], ◌∷◌, ◌++◌, length, take, refl, sym, ap, ◌∙◌, inl, inr, arith, eq-eqb}
 use Rattle.std.proofs.lemmas.Bool.{eqb-true, cases_lt}
-use Rattle.std.proofs.lemmas.List.{take_all, length_push}
+use Rattle.std.proofs.lemmas.List.{take_all}
 use Rattle.ancestors.specs.Ways.{EndsWith, shared_front}
 
 pub shared_front-itself : (u : List ℕ) → shared_front u u ≡ u
@@ -77,19 +77,3 @@ shared_front-jumped n u v x y ends ends_other other =
       | inl below ↦ shared_front-cut n u v (omega (arith, below))
       | inr above ↦ absurd (other (ends_alike (take n u) (take n v) x y ends ends_other (shared_front-alike n u v (omega (arith, above)))))
     ]
-
--- different roots share nothing
-pub shared_front-roots : (u v : List ℕ) (x y : ℕ) → EndsWith u x → EndsWith v y → length u ≡ 1 → length v ≡ 1 → x ≢ y → shared_front u v ≡ []
-shared_front-roots u v x y (front, is) (other, is_other) one one_other apart =
-    (λ i. shared_front (is i) (is_other i)) ∙ shared_front-push front other x y (omega (arith, length_push front x, length_push other y, ap length is, ap length is_other, one, one_other)) apart
-    ∙ ap (λ w. shared_front w other) (none front (omega (arith, length_push front x, ap length is, one)))
-  where
-    none : (w : List ℕ) → length w ≤ 0 → w ≡ []
-    none [] short = refl
-    none (z ∷ w) short = absurd (omega (arith, short))
-
-pub take-take : (n m : ℕ) (u : List ℕ) → n ≤ m → take n (take m u) ≡ take n u
-take-take zero m u within = refl
-take-take (suc n) zero u within = absurd (omega (arith, within))
-take-take (suc n) (suc m) [] within = refl
-take-take (suc n) (suc m) (x ∷ u) within = ap (λ w. x ∷ w) (take-take n m u (omega (arith, within)))

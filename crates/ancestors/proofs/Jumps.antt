@@ -1,10 +1,10 @@
 -- Jumps lead up.
 use Rattle.std.proofs.Common.{◌≡◌, ◌≢◌, ◌⊎◌, inl, inr, refl, ℕ, zero, suc, cond, eqb, Bool, true, false, ◌+◌, ◌-◌, ◌<◌, ◌≤◌, List, [], ◌∷◌, ◌++◌, length, take, sym, ap, ◌∙◌, subst, arith, eq-eqb}
-use Rattle.std.proofs.lemmas.List.{length-take-le, length_push, get_or_push, take_all}
+use Rattle.std.proofs.lemmas.List.{length-take-le, length_push, get_or_push, take_all, take-take}
 use Rattle.std.proofs.Math.ListN.{get_or-append}
 use Rattle.std.proofs.lemmas.Bool.{cases_lt, eqb-true}
 use Rattle.ancestors.specs.Ways.{IsNode, EndsWith, shared_front}
-use Rattle.ancestors.proofs.Fronts.{shared_front-jumped, take-take}
+use Rattle.ancestors.proofs.Fronts.{shared_front-jumped}
 use Rattle.ancestors.specs.Jumps.{depth_at, next_jump, jump_depths, jump_depth}
 
 pushed : (xs : List ℕ) (y most : ℕ) → ((k : ℕ) → depth_at xs k ≤ most) → y ≤ most → (k : ℕ) → depth_at (xs ++ y ∷ []) k ≤ most
