@@ -639,30 +639,17 @@ class OtherProgramTest(unittest.TestCase):
         with tmm.TimeMap(program) as time_map:
             self.assertEqual(time_map.list(), (tmm.Row(2, "held", "open"),))
 
-    def test_the_number_of_another_line(self) -> None:
-        with tmm.TimeMap(python_program("next(lines); say('3 ok\\n2 bounds 0 0\\n')")) as time_map:
-            with self.assertRaises(tmm.ProtocolError):
-                time_map.point("a")
-
-    def test_two_replies_to_one_line(self) -> None:
-        with tmm.TimeMap(python_program("next(lines); say('1 ok\\n1 ok\\n2 bounds 0 0\\n')")) as time_map:
-            with self.assertRaises(tmm.ProtocolError):
-                time_map.point("a")
-
-    def test_a_reply_of_another_kind(self) -> None:
-        with tmm.TimeMap(python_program("next(lines); say('1 size 4\\n2 bounds 0 0\\n')")) as time_map:
-            with self.assertRaises(tmm.ProtocolError):
-                time_map.point("a")
-
-    def test_no_reply_to_a_premise(self) -> None:
-        with tmm.TimeMap(python_program("next(lines); say('2 bounds 0 0\\n')")) as time_map:
-            with self.assertRaises(tmm.ProtocolError):
-                time_map.point("a")
-
-    def test_a_program_that_writes_something_else(self) -> None:
-        with tmm.TimeMap(python_program("next(lines); say('hello\\n2 bounds 0 0\\n')")) as time_map:
-            with self.assertRaises(tmm.ProtocolError):
-                time_map.point("a")
+    def test_answers_that_are_no_reply_to_the_line(self) -> None:
+        for what, text in (
+            ("the number of another line", "3 ok\\n2 bounds 0 0\\n"),
+            ("two replies to one line", "1 ok\\n1 ok\\n2 bounds 0 0\\n"),
+            ("a reply of another kind", "1 size 4\\n2 bounds 0 0\\n"),
+            ("no reply to a premise", "2 bounds 0 0\\n"),
+            ("something else", "hello\\n2 bounds 0 0\\n"),
+        ):
+            with self.subTest(what), tmm.TimeMap(python_program(f"next(lines); say('{text}')")) as time_map:
+                with self.assertRaises(tmm.ProtocolError):
+                    time_map.point("a")
 
 
 class BatchTest(unittest.TestCase):
