@@ -10,6 +10,10 @@ use Rattle.tmm_model.proofs.Bounds.{AtMost-weaker}
 use Rattle.tmm_model.proofs.Dates.{difference-le_total}
 use Rattle.tmm_model.proofs.Walks.{IsWalk-append, IsWalk-kept, total-append}
 
+-- bounds that are one have one number
+pub same_finite : {u v : ℤ} → Finite u ≡ Finite v → u ≡ v
+same_finite h = cc
+
 module _ {P : Type 0} where
   -- a constraint after a walk
   pub AtMost-after_walk : (arcs : List (Arc P)) (a : P) (e : Arc P) (near far : Bound) (s : ℤ) → Contains arcs e → IfFinite near (HasWalk arcs a e.from) → IsFar arcs a e.to far → AtMost near s → AtMost far (s +ℤ e.weight)
@@ -22,10 +26,7 @@ module _ {P : Type 0} where
   -- one walk after another
   pub IfFinite-plus : (arcs : List (Arc P)) (a c b : P) (x y : Bound) (s : ℤ) → IfFinite x (HasWalk arcs a c) → IfFinite y (HasWalk arcs c b) → bound_plus x y ≡ Finite s → HasWalk arcs a b s
   IfFinite-plus arcs a c b (Finite x) (Finite y) s h k is =
-      (h.0 ++ k.0, IsWalk-append arcs a c b h.0 k.0 h.1 k.1, total-append h.0 k.0 ∙ (ap (λ (z : ℤ). z +ℤ total k.0) h.2 ∙ (ap (λ (z : ℤ). x +ℤ z) k.2 ∙ number (x +ℤ y) s is)))
-    where
-      number : (u v : ℤ) → Finite u ≡ Finite v → u ≡ v
-      number u v e = cc
+      (h.0 ++ k.0, IsWalk-append arcs a c b h.0 k.0 h.1 k.1, total-append h.0 k.0 ∙ (ap (λ (z : ℤ). z +ℤ total k.0) h.2 ∙ (ap (λ (z : ℤ). x +ℤ z) k.2 ∙ same_finite is)))
   IfFinite-plus arcs a c b (Finite x) Free s h k is = cc
   IfFinite-plus arcs a c b Free y s h k is = cc
 

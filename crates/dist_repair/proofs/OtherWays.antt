@@ -19,13 +19,10 @@ use Rattle.dist_net.specs.Net.{Net, arc_of, arcs_of, same_number}
 use Rattle.dist_net.proofs.Ends.{edge_at}
 use Rattle.dist_repair.specs.Rows.{rest_of, IsSafe, IsTight, IsTightArc, IsOtherWay, StaysNear, KeepsRow, IsPresentRow, IsFarRow, tos_of}
 use Rattle.dist_repair.specs.Ends.{number_at}
-use Rattle.dist_repair.proofs.Detours.{IsFar-onward, IsFar-to_beginning}
+use Rattle.dist_repair.proofs.Detours.{IsFar-onward, IsFar-to_beginning, same_finite}
 use Rattle.dist_repair.proofs.Left.{IsNet, Adds-remove, left_at}
 use Rattle.dist_repair.proofs.Starts.{IsFar-safe}
 use Rattle.dist_repair.proofs.Suspects.{IsSafe-all}
-
-same_finite : {u v : ℤ} → Finite u ≡ Finite v → u ≡ v
-same_finite h = cc
 
 -- f leads to where e does, and no least walk from there ends with it
 module _ (old new : List (Arc ℕ)) (e f : Arc ℕ) (adds : Adds new e old) (dates : HasDates 0 old) (m : Contains new f) (same_end : f.to ≡ e.to) where
