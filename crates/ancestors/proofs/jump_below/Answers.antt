@@ -43,11 +43,11 @@ returns-then-depth g c d deep =
     let way = g.A.Ancestry.way c.args.tree.now in
     let jumps = twice (way c.args.parent) (way c.jump-first.result) (way c.jump-second.result) c.requires c.jump-first.ensures c.jump-second.ensures in
     two_at_once (way c.args.parent) (way c.jump-first.result) (way c.jump-second.result) jumps.first jumps.second d deep
-        (omega (arith, c.if-depth.true, c.depth.ensures, c.depth-depth.ensures, c.depth-2.ensures, jumps.first.within, jumps.second.within))
+    (omega (arith, c.if-depth.true, c.depth.ensures, c.depth-depth.ensures, c.depth-2.ensures, jumps.first.within, jumps.second.within))
 
 pub returns-else-depth : goal.returns-else-depth
 returns-else-depth g c d deep =
     let way = g.A.Ancestry.way c.args.tree.now in
     let jumps = twice (way c.args.parent) (way c.jump-first.result) (way c.jump-second.result) c.requires c.jump-first.ensures c.jump-second.ensures in
     one_step (way c.args.parent) (way c.jump-first.result) (way c.jump-second.result) jumps.first jumps.second d deep
-        (λ equal. c.if-depth.false (omega (arith, equal, c.depth.ensures, c.depth-depth.ensures, c.depth-2.ensures, jumps.first.within, jumps.second.within)))
+    (λ equal. c.if-depth.false (omega (arith, equal, c.depth.ensures, c.depth-depth.ensures, c.depth-2.ensures, jumps.first.within, jumps.second.within)))
