@@ -1,0 +1,16 @@
+pub mod Same
+pub mod Agreeing
+pub mod Counting
+pub mod Turning
+pub mod Seeding
+pub mod Telling
+pub mod Names
+pub mod Tokens
+pub mod Locality
+pub mod Lawful
+pub mod Bounds
+pub mod SeedsRight
+pub mod Marking
+pub mod Whole
+pub mod Clips
+pub mod Standing

@@ -1,0 +1,11 @@
+pub mod Revisions
+pub mod Keeping
+pub mod Steps
+pub mod Seeds
+pub mod Laws
+pub mod Maps
+pub mod Counted
+pub mod Marks
+pub mod Whole
+pub mod Clips
+pub mod Standing

@@ -1,0 +1,78 @@
+// Laws of how beliefs are kept current.
+ghost use Rattle.revisions.specs.Laws.{NodesAreFinal, EndIsBelieved, MadeAreTouched, ChangedWereMade, TurnsKeep, SeedsKeep, ToldIsChanged};
+ghost use Rattle.revisions.specs.Maps.{EditsAreLawful};
+ghost use Rattle.revisions.specs.Standing.{StandingOccur};
+ghost use Rattle.revisions.specs.Clips.{ClipsStay};
+ghost use Rattle.revisions.specs.Whole.{RevisionsAreRight};
+ghost use Rattle.revisions.specs.Marks.{MarksMake};
+ghost use Rattle.revisions.specs.Counted.{EditsAreCounted, SeedsAreRight};
+
+/// Up to the date from which all decisions wait, the nodes are those that are believed in the end.
+pub fn nodes_are_final()
+    ensures { NodesAreFinal }
+{}
+
+/// Where no decision waits, the nodes are those that are believed, and the rows have their outcomes.
+pub fn end_is_believed()
+    ensures { EndIsBelieved }
+{}
+
+/// No more decisions are made than are touched.
+pub fn made_are_touched()
+    ensures { MadeAreTouched }
+{}
+
+/// All decisions that are new or have another outcome are made.
+pub fn changed_were_made()
+    ensures { ChangedWereMade }
+{}
+
+/// A turn keeps what the loop keeps.
+pub fn turns_keep()
+    ensures { TurnsKeep }
+{}
+
+/// The loop begins with what it keeps.
+pub fn seeds_keep()
+    ensures { SeedsKeep }
+{}
+
+/// What is told at the end is what newly or no longer is believed.
+pub fn told_is_changed()
+    ensures { ToldIsChanged }
+{}
+
+/// The revision that an edit asks for is lawful.
+pub fn edits_are_lawful()
+    ensures { EditsAreLawful }
+{}
+
+/// No more decisions are made than an edit touches, and all that it changes.
+pub fn edits_are_counted()
+    ensures { EditsAreCounted }
+{}
+
+/// With what an edit touches at the beginning the loop begins rightly.
+pub fn seeds_are_right()
+    ensures { SeedsAreRight }
+{}
+
+/// Where the decisions that read what moved are marked, a turn keeps what the loop keeps.
+pub fn marks_make()
+    ensures { MarksMake }
+{}
+
+/// A whole revision, from the seeds until no decision waits, is right.
+pub fn revisions_are_right()
+    ensures { RevisionsAreRight }
+{}
+
+/// A token keeps its clip where the tokens of its class are the same, as far apart.
+pub fn clips_stay()
+    ensures { ClipsStay }
+{}
+
+/// What occurred still occurs exactly where its root and its rules stand.
+pub fn standing_occur()
+    ensures { StandingOccur }
+{}

@@ -1,0 +1,13 @@
+//! How beliefs are kept current when the list changes: the mathematics, over plain lists.
+//!
+//! A revision begins with what still occurs of the old beliefs and with the new roots; decisions that an edit touches
+//! wait, and are made again, earliest first. Its functions have empty bodies: each ensures a law of the definitions.
+#![tactic(auto)]
+
+mod laws;
+
+pub use laws::{
+    changed_were_made, clips_stay, edits_are_counted, edits_are_lawful, end_is_believed,
+    made_are_touched, marks_make, nodes_are_final, revisions_are_right, seeds_are_right,
+    seeds_keep, standing_occur, told_is_changed, turns_keep,
+};
