@@ -1,0 +1,2 @@
+pub mod DumpRuns
+pub mod OneText
