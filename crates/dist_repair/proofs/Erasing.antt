@@ -9,7 +9,7 @@ use Rattle.dist_net.proofs.Ends.{in_places}
 use Rattle.dist_repair.specs.Rows.{rest_of, IsFarRow, IsFirstRow, IsPresentRow, KeepsRow, IsFrom, ChangesRow}
 use Rattle.dist_repair.proofs.Left.{IsNet, IsFar-taken}
 use Rattle.dist_repair.proofs.Starts.{IsFar-held}
-use Rattle.dist_repair.proofs.OtherWays.{IsFarRow-keeps}
+use Rattle.dist_repair.proofs.Keeping.{IsFarRow-keeps}
 
 -- ---- rows with the same bounds
 

@@ -1,7 +1,7 @@
 // The way to take many edges out.
 ghost use Rattle.std.specs.Prelude.{◌≡◌, ◌<◌, ◌≤◌, length, take};
 
-use crate::{ends_of, erase_edge, is_tight, keeps_row, other_ways};
+use crate::{ends_of, erase_edge, hold, is_tight, keeps_row};
 use dist_net::DistNet;
 
 // Up to so many edges are taken out one by one: those of a premise, or of a point with a few
@@ -28,14 +28,15 @@ pub fn erase_from(net: &mut DistNet, first: usize)
         net.keep_edges(first);
         return;
     }
-    let mut few = if count - first > FEW { SOME } else { FEW };
+    let few = count - first <= FEW;
+    let mut left = SOME;
     for place in (first..count).rev() {
-        if !is_needless(net, place) {
-            if few == 0 {
+        if !few && !is_needless(net, place) {
+            if left == 0 {
                 net.keep_edges(first);
                 return;
             }
-            few -= 1;
+            left -= 1;
         }
         erase_edge(net, place);
     }
@@ -52,6 +53,6 @@ fn is_needless(net: &DistNet, place: usize) -> bool
         return true;
     }
     let ends = ends_of(net);
-    let others = other_ways(net, place, &ends);
-    keeps_row(net, place, from, others.as_slice())
+    let held = hold(net, place, from, &ends);
+    keeps_row(net, place, from, &held)
 }

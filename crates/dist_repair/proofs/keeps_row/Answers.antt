@@ -1,16 +1,20 @@
-use Rattle.std.proofs.Common.{get_or, refl}
 use Rattle.std.proofs.lemmas.Bool.{false≢true}
+use Rattle.std.proofs.Common.{Bool, true, false, not, refl, ◌∙◌, sym, ap}
+use Rattle.std.specs.Prelude.{IsTrue}
+use Rattle.std.proofs.lemmas.List.Elements.{All-contains}
+use Rattle.dist_repair.specs.Rows.{IsHeld}
 use Rattle.dist_repair.proofs.Left.{IsNet}
-use Rattle.dist_repair.proofs.OtherWays.{KeepsRow-loose, KeepsRow-other}
+use Rattle.dist_repair.proofs.Keeping.{KeepsRow-loose}
 use Rattle.dist_repair.proofs.keeps_row.Goals as goal
 
-pub returns-then-not-is_tight : goal.returns-then-not-is_tight
-returns-then-not-is_tight c answer =
-    let known : IsNet c.args.net.now.present = record { places = c.edges.ensures.names; used = c.edges.ensures.in_use; light = c.edges.ensures.light; dates = c.edges.ensures.dates } in
-    KeepsRow-loose c.args.net.now.present c.args.place known c.requires.place c.args.a (λ tight. false≢true (c.if-not-is_tight.ensures.1 tight))
+either : (b : Bool) → IsTrue (not b) → IsTrue b → ⊥
+either true loose tight = false≢true loose
+either false loose tight = false≢true tight
 
-pub returns-then-is_tight : goal.returns-then-is_tight
-returns-then-is_tight c answer =
+pub returns-then-has : goal.returns-then-has
+returns-then-has c answer = (All-contains (IsHeld c.args.net.now.present c.args.place) c.args.held.now c.args.a c.requires.held (c.if-has.ensures refl)).1
+
+pub returns : goal.returns
+returns c answer =
     let known : IsNet c.args.net.now.present = record { places = c.edges.ensures.names; used = c.edges.ensures.in_use; light = c.edges.ensures.light; dates = c.edges.ensures.dates } in
-    KeepsRow-other c.args.net.now.present c.args.place known c.requires.place c.args.a (get_or c.args.others.now c.loop-i.i 0)
-    (c.requires.others c.loop-i.i 0 c.loop-i-test.true) (c.if-is_tight.ensures.0 refl)
+    KeepsRow-loose c.args.net.now.present c.args.place known c.requires.place c.args.a (λ tight. either c.is_tight.result answer (c.is_tight.ensures.1 tight))
