@@ -22,7 +22,7 @@ use Rattle.tmm_model.proofs.Elements.{In, both, In-filter, filter-In}
 use Rattle.tmm_model.proofs.Firsts.{least_is, one_spot}
 use Rattle.tmm_model.proofs.Order.{IsSpelt, ordered}
 use Rattle.revisions.specs.Clips.{SameClass}
-use Rattle.revisions.proofs.SeedsRight.{all_spelt}
+use Rattle.tmm_model.proofs.NextLists.{all_spelt}
 
 abbrev by_begin : TimeMap → TokenRow Moment → TokenRow Moment → Ordering
 by_begin m = on (λ k. k.spot) (order m)

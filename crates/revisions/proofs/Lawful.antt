@@ -14,13 +14,13 @@ use Rattle.tmm_model.specs.Right.{Occurs, IsSound}
 use Rattle.tmm_model.specs.Standing.{Standing, far_in}
 use Rattle.tmm_model.specs.Touched.{same_tokens, watched, watched_points, same_gaps, is_decision}
 use Rattle.tmm_model.proofs.Elements.{In, In-from_Contains, Contains-from_In, In-filter, filter-In, In-filter_map, filter_map-In, flat_map-In, map-In, In-list_any, list_any-In, both, In-flat_map, In-map}
-use Rattle.tmm_model.proofs.EditLaws.{one_way}
+use Rattle.tmm_model.proofs.NextLists.{one_way, found_within}
 use Rattle.tmm_model.proofs.Moments.{Decides-same_moment}
 use Rattle.tmm_model.proofs.OneRight.{later, spot-token_of}
 use Rattle.tmm_model.proofs.Outcomes.{fires_exactly}
 use Rattle.tmm_model.proofs.SoundBeliefs.{sound_timed, believed_right, believed_occurs}
 use Rattle.tmm_model.proofs.Spelt.{spelt}
-use Rattle.tmm_model.proofs.Untouched.{untouched_alike, untouched_stood}
+use Rattle.tmm_model.proofs.Untouched.{was_decision, untouched_alike, untouched_stood}
 use Rattle.revisions.specs.Maps.{is_watched, watches, revision}
 use Rattle.revisions.specs.Revisions.{Revision, is_firing, IsOf, AreOf, AgreeFor, Belongs, IsNew, IsLost, IsLawful}
 use Rattle.tmm_model.specs.Tokens.{is_by}
@@ -28,7 +28,6 @@ use Rattle.tmm_model.proofs.Order.{IsSpelt}
 use Rattle.tmm_model.specs.WellNamed.{premise_in}
 use Rattle.tmm_model.proofs.KnownNames.{found}
 use Rattle.tmm_model.proofs.Sound.{rule_stands}
-use Rattle.revisions.proofs.Names.{AreWithin}
 use Rattle.revisions.proofs.Tokens.{tokens_stay, classes_stay}
 use Rattle.revisions.proofs.Locality.{Sees, AllSpelt, outcome_local}
 
@@ -47,14 +46,6 @@ watched_token s r x h = by (token_of s x) refl h
 
 token_watched : (s : Standing) (r : List ℕ) (x : Moment) (k : TokenRow Moment) → token_of s x ≡ Some k → is_watched s r k ≡ true → watches s r x ≡ true
 token_watched s r x k e h = ap (λ (o : Option (TokenRow Moment)). elim o as (λ _. Bool) [ None ↦ false | Some k ↦ is_watched s r k ]) e ∙ h
-
--- a rule says the same in more premises
-found_within : (s t : Standing) → IsSound s → IsSound t → AreWithin s.premises t.premises → (u : Moment) (r : List ℕ) → Contains (rules_at s u) r → rule_of s r ≡ rule_of t r
-found_within s t sound_s sound_t within u r at =
-    let (p, here, named, _, _) = rule_stands s u r at in
-    let one : premise_in s.premises r ≡ Some p = subst (λ n. premise_in s.premises n ≡ Some p) named (found s.premises sound_s.well_named p here) in
-    let two : premise_in t.premises r ≡ Some p = subst (λ n. premise_in t.premises n ≡ Some p) named (found t.premises sound_t.well_named p (within p here)) in
-    ap as_rule (one ∙ sym two)
 
 module _ (old : Standing) (edit : Edit) (sound_old : IsSound old) (sound_new : IsSound (next_list old edit)) where
   abbrev new : Standing
@@ -132,16 +123,7 @@ module _ (old : Standing) (edit : Edit) (sound_old : IsSound old) (sound_new : I
   was_in t r = Contains (built old).believed t × Contains (rules_at old t) r
 
   was : (t : Moment) (r : List ℕ) → g.was t r ≡ true → was_in t r
-  was t r e =
-      let (d, at, same) = list_any-In (λ (e : Moment × List ℕ). same_moment e.0 t && same_name e.1 r) (decisions old (built old).believed) e in
-      let (u, in_b, here) = In-flat_map (λ t. map (λ r. (t, r)) (rules_at old t)) (built old).believed d at in
-      let (q, stands, is) = In-map (λ r. (u, r)) (rules_at old u) d here in
-      let tests = both (same_moment d.0 t) (same_name d.1 r) same in
-      let one : u ≡ t = ap (λ x. x.0) is ∙ (Decides-same_moment d.0 t).0 tests.0 in
-      let two : q ≡ r = ap (λ x. x.1) is ∙ (bytes_decides d.1 r).0 tests.1 in (
-        subst (Contains (built old).believed) one (Contains-from_In (built old).believed u in_b),
-        subst (λ z. Contains (rules_at old z) r) one (subst (Contains (rules_at old u)) two (Contains-from_In (rules_at old u) q stands)),
-      )
+  was t r e = was_decision (built old) t r e
 
   was_right : (t : Moment) (r : List ℕ) → Contains g.before (After t r) ↔ ((g.was t r ≡ true) × (is_firing (g.was_outcome t r) ≡ true))
   was_right t r =
@@ -154,8 +136,8 @@ module _ (old : Standing) (edit : Edit) (sound_old : IsSound old) (sound_new : I
   pub text : (t : Moment) (r : List ℕ) → Contains (rules_at old t) r → Contains (rules_at new t) r → rule_of old r ≡ rule_of new r
   text t r before now =
       elim (one_way old edit) [
-        | inl more ↦ found_within old new sound_old sound_new more t r before
-        | inr fewer ↦ sym (found_within new old sound_new sound_old fewer t r now)
+        | inl more ↦ found_within old new sound_new more t r sound_old before
+        | inr fewer ↦ sym (found_within new old sound_old fewer t r sound_new now)
       ]
 
   -- a token that the rule watches by the new list it watches by the old one

@@ -10,6 +10,7 @@ use Rattle.tmm_model.specs.Standing.{name_of}
 use Rattle.tmm_model.specs.Verdicts.{first_taken, words_known}
 use Rattle.tmm_model.specs.WellNamed.{AllFollow, IsWellNamed}
 use Rattle.tmm_model.proofs.Elements.{In, In-list_any, list_any-In, In-left, In-right, map-In, flat_map-In, In-map}
+use Rattle.tmm_model.proofs.NextLists.{AreWithin}
 use Rattle.tmm_model.proofs.WellNamed.{first_taken-none}
 use Rattle.premise_list.specs.Words.{facts_of, own_sort}
 use Rattle.premise_list.proofs.Lookups.{declarations_parted}
@@ -108,9 +109,6 @@ sort_after earlier (o ∷ premises) h p (inr at) n x d =
     ∙ ap (λ b. cond b (Some (own_sort o)) (cond (list_any (same_name n) (facts_of o)) (Some a_fact) (sort_in premises n))) others.0
     ∙ ap (λ b. cond b (Some a_fact) (sort_in premises n)) others.1
     ∙ sort_after (earlier ++ o ∷ []) premises h.1 p at n x d
-
-abbrev pub AreWithin : List Premise → List Premise → Type 0
-AreWithin ps qs = (p : Premise) → In p ps → In p qs
 
 -- **A name is declared alike in more premises.**
 pub sorts_within : (ps qs : List Premise) → AreWithin ps qs → IsWellNamed qs → (n : List ℕ) (x : Sort) → sort_in ps n ≡ Some x → sort_in qs n ≡ Some x

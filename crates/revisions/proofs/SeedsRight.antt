@@ -24,6 +24,7 @@ use Rattle.tmm_model.proofs.OneRight.{spot-token_of}
 use Rattle.tmm_model.proofs.Order.{IsSpelt}
 use Rattle.tmm_model.proofs.SoundBeliefs.{believed_right, believed_occurs}
 use Rattle.tmm_model.proofs.Spelt.{spelt}
+use Rattle.tmm_model.proofs.NextLists.{all_spelt}
 use Rattle.tmm_model.proofs.Untouched.{Alike, untouched_alike, untouched_stood, outcome_alike}
 use Rattle.spots.specs.Seen.{map_of}
 use Rattle.revisions.specs.Counted.{AreSeeds}
@@ -81,11 +82,6 @@ among_more t ks ls sub p (inr (inr at)) =
       | inl h ↦ let (k, there, is) = In-map (λ k. k.spot) ks p h in inr (inr (In-left (map (λ k. k.spot) ls) (filter_map (λ k. k.end) ls) p (subst (λ z. In z (map (λ k. k.spot) ls)) is (map-In (λ k. k.spot) ls k (sub k there)))))
       | inr h ↦ let (k, there, is) = In-filter_map (λ k. k.end) ks p h in inr (inr (In-right (map (λ k. k.spot) ls) (filter_map (λ k. k.end) ls) p (filter_map-In (λ k. k.end) ls k p (sub k there) is)))
     ]
-
-pub all_spelt : (s : Standing) → IsSound s → (k : TokenRow Moment) → In k (believed_tokens (built s)) → IsSpelt k.spot
-all_spelt s sound k at =
-    let (x, in_b, e) = In-filter_map (token_of s) (built s).believed k at in
-    subst IsSpelt (sym (spot-token_of s x k e)) (spelt s sound.well_formed x (believed_occurs s sound x (Contains-from_In (built s).believed x in_b)))
 
 module _ (old : Standing) (edit : Edit) (sound_old : IsSound old) (sound_new : IsSound (next_list old edit)) (b : List Moment) (seeds : AreSeeds old (next_list old edit) b) where
   abbrev new : Standing

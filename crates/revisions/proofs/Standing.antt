@@ -14,7 +14,7 @@ use Rattle.tmm_model.specs.Moments.{Moment, At, After}
 use Rattle.tmm_model.specs.Right.{IsSound, Occurs}
 use Rattle.tmm_model.specs.Standing.{Standing, name_of}
 use Rattle.tmm_model.specs.WellNamed.{premise_in}
-use Rattle.tmm_model.proofs.EditLaws.{one_way}
+use Rattle.tmm_model.proofs.NextLists.{one_way}
 use Rattle.tmm_model.proofs.Elements.{In, In-from_Contains, Contains-from_In, In-filter_map, filter_map-In}
 use Rattle.tmm_model.proofs.KnownNames.{found, finds}
 use Rattle.tmm_model.proofs.Sound.{named_rule}

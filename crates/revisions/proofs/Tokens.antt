@@ -17,7 +17,7 @@ use Rattle.tmm_model.specs.Right.{Occurs, IsSound}
 use Rattle.tmm_model.specs.Sorts.{Sort, a_class, a_fact, a_kind, a_point, an_event, a_token, a_span, a_dist, a_rule, a_protection, is_effect, sort_in, class_in}
 use Rattle.tmm_model.specs.Standing.{Standing, name_of}
 use Rattle.tmm_model.specs.WellNamed.{premise_in}
-use Rattle.tmm_model.proofs.EditLaws.{one_way}
+use Rattle.tmm_model.proofs.NextLists.{AreWithin, one_way}
 use Rattle.tmm_model.proofs.Elements.{In, In-from_Contains, Contains-from_In, In-filter_map}
 use Rattle.tmm_model.proofs.KnownNames.{found}
 use Rattle.tmm_model.proofs.Sound.{rule_stands}
@@ -25,7 +25,7 @@ use Rattle.supports.proofs.Facts.{used_after, fact_known, fact-class}
 use Rattle.supports.proofs.Rules.{rule_there, facts_known}
 use Rattle.spots.specs.Seen.{class_for}
 use Rattle.revisions.specs.Maps.{TokensStay, ClassesStay}
-use Rattle.revisions.proofs.Names.{AreWithin, sorts_within, classes_within}
+use Rattle.revisions.proofs.Names.{sorts_within, classes_within}
 
 -- a name of a class
 class_named : (s : Standing) (f : List ℕ) → IsSome (class_in s.premises f) → (c : List ℕ) × (class_in s.premises f ≡ Some c)

@@ -1,4 +1,4 @@
--- A decision that an edit does not touch keeps its outcome; a dumped list is read again.
+-- A dumped list is read again.
 use Rattle.std.proofs.Common.{◌≡◌, ◌∙◌, ℕ, suc, ◌+◌, ◌≤◌, ◌<◌, Bool, true, false, List, [], ◌∷◌, ◌++◌, map, length, refl, sym, ap, subst, inl, inr, arith, append_assoc, append-nil}
 use Rattle.std.specs.Prelude.{pos, codes, decimal, ◌⊎◌, Option, Some, None, nat_le}
 use Rattle.std.proofs.lemmas.Int.{ints}
@@ -39,55 +39,6 @@ use Rattle.tmm_model.proofs.SoundBeliefs.{believed_occurs}
 use Rattle.tmm_model.proofs.Spelt.{spelt}
 use Rattle.tmm_model.proofs.Untouched.{outcome_alike, untouched_alike, untouched_stood}
 use Rattle.tmm_model.proofs.WellNamed.{AllFollow-append}
-
--- ---- rules under edits
-
-pub kept_before : (erased : List ℕ) (gone : List (List ℕ)) (ps : List Premise) (p : Premise) → In p (kept_after erased gone ps) → In p ps
-kept_before erased gone [] p at = absurd at
-kept_before erased gone (q ∷ ps) p at = by (falls erased gone q) (kept_before erased (declared_by q ++ gone) ps p) (kept_before erased gone ps p) at
-  where
-    by : (b : Bool) → (In p (kept_after erased (declared_by q ++ gone) ps) → In p ps) → (In p (kept_after erased gone ps) → In p ps)
-        → In p (elim b as (λ _. List Premise) [ true ↦ kept_after erased (declared_by q ++ gone) ps | false ↦ q ∷ kept_after erased gone ps ]) → In p (q ∷ ps)
-    by true one two at = inr (one at)
-    by false one two (inl is) = inl is
-    by false one two (inr at) = inr (two at)
-
-abbrev AreWithin : List Premise → List Premise → Type 0
-AreWithin ps qs = (p : Premise) → In p ps → In p qs
-
--- an edit adds premises, or takes some away
-pub one_way : (s : Standing) (edit : Edit) → AreWithin s.premises (next_list s edit).premises ⊎ AreWithin (next_list s edit).premises s.premises
-one_way s (Add p) = inl (λ q at. In-left s.premises (p ∷ []) q at)
-one_way s (Erase name) = inr (kept_before name [] s.premises)
-one_way s (Horizon n) = inl (λ q at. at)
-
--- what is found in fewer premises is found in more
-found_within : (s t : Standing) → IsSound t → AreWithin s.premises t.premises → (u : Moment) (r : List ℕ) → IsSound s → Contains (rules_at s u) r → rule_of s r ≡ rule_of t r
-found_within s t sound_t within u r sound_s at =
-    let (p, here, named, _, _) = rule_stands s u r at in
-    let one : premise_in s.premises r ≡ Some p = subst (λ n. premise_in s.premises n ≡ Some p) named (found s.premises sound_s.well_named p here) in
-    let two : premise_in t.premises r ≡ Some p = subst (λ n. premise_in t.premises n ≡ Some p) named (found t.premises sound_t.well_named p (within p here)) in
-    ap as_rule (one ∙ sym two)
-
-all_spelt : (s : Standing) → IsSound s → (k : TokenRow Moment) → In k (believed_tokens (built s)) → IsSpelt k.spot
-all_spelt s sound k at =
-    let (x, in_b, e) = In-filter_map (token_of s) (built s).believed k at in
-    subst IsSpelt (sym (spot-token_of s x k e)) (spelt s sound.well_formed x (believed_occurs s sound x (Contains-from_In (built s).believed x in_b)))
-
-pub untouched : (old : Standing) (edit : Edit) → IsSound old → IsSound (next_list old edit)
-    → (t : Moment) (r : List ℕ) → Contains (rules_at (next_list old edit) t) r
-    → is_touched (built old) (built (next_list old edit)) (t, r) ≡ false
-    → outcome old (built old).far (built old).believed t r
-    ≡ outcome (next_list old edit) (built (next_list old edit)).far (built (next_list old edit)).believed t r
-untouched old edit sound_old sound_new t r stands h =
-    let new = next_list old edit in
-    let stood = untouched_stood (built old) (built new) t r h in
-    let text : rule_of old r ≡ rule_of new r =
-    elim (one_way old edit) [
-      | inl more ↦ found_within old new sound_new more t r sound_old stood.1
-      | inr fewer ↦ sym (found_within new old sound_old fewer t r sound_new stands)
-    ] in
-    outcome_alike (built old) (built new) t r (untouched_alike (built old) (built new) t r text h) (all_spelt old sound_old) (all_spelt new sound_new)
 
 -- ---- a dump, read again
 

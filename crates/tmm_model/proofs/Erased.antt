@@ -10,7 +10,7 @@ use Rattle.tmm_model.specs.Sorts.{declared_by}
 use Rattle.tmm_model.specs.Standing.{name_of}
 use Rattle.tmm_model.specs.WellNamed.{AllFollow, IsWellNamed, premise_in}
 use Rattle.tmm_model.proofs.Elements.{In, In-right, In-map}
-use Rattle.tmm_model.proofs.EditLaws.{kept_before}
+use Rattle.tmm_model.proofs.NextLists.{kept_before}
 use Rattle.tmm_model.proofs.KnownNames.{fresh, found}
 
 -- the names that no premise of the list has

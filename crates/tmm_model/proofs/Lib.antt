@@ -59,6 +59,7 @@ pub mod Sound
 pub mod SoundBeliefs
 pub mod Spelt
 pub mod Untouched
+pub mod NextLists
 pub mod EditLaws
 pub mod Erased
 pub mod Adding

@@ -17,7 +17,7 @@ use Rattle.tmm_model.specs.Sorts.{declared_by}
 use Rattle.tmm_model.specs.Standing.{Standing, empty_list, points_of}
 use Rattle.tmm_model.proofs.Adding.{may_be_added}
 use Rattle.tmm_model.proofs.Dates.{HasDates-nil}
-use Rattle.tmm_model.proofs.EditLaws.{kept_before}
+use Rattle.tmm_model.proofs.NextLists.{kept_before}
 use Rattle.tmm_model.proofs.Elements.{In-from_Contains, Contains-from_In}
 use Rattle.tmm_model.proofs.Erasure.{kept_without-IsWellNamed}
 use Rattle.tmm_model.proofs.Members.{All-from_contains}

@@ -238,7 +238,7 @@ none_of true false c d h = cc
 none_of false b c d h = cc
 
 -- a decision of the old map
-was_decision : (m : TimeMap) (t : Moment) (r : List ℕ) → is_decision m (t, r) ≡ true → Contains m.believed t × Contains (rules_at m.list t) r
+pub was_decision : (m : TimeMap) (t : Moment) (r : List ℕ) → is_decision m (t, r) ≡ true → Contains m.believed t × Contains (rules_at m.list t) r
 was_decision m t r h =
     let (d, at, same) = list_any-In (λ e. same_moment e.0 t && same_name e.1 r) (decisions m.list m.believed) h in
     let (u, in_b, here) = In-flat_map (λ t. map (λ r. (t, r)) (rules_at m.list t)) m.believed d at in

@@ -1,4 +1,4 @@
-use Rattle.tmm_model.proofs.EditLaws.{untouched}
+use Rattle.tmm_model.proofs.NextLists.{untouched}
 use Rattle.tmm_model.proofs.belief_laws.untouched_decisions_keep_outcomes.Goals as goal
 
 pub returns : goal.returns
