@@ -12,18 +12,18 @@ use Rattle.tmm_model.specs.Replies.{Reply, Accepted, Refused, BoundsAre, PathIs,
 use Rattle.tmm_model.specs.Runs.{is_memory, is_refused as is_refused_turn}
 use Rattle.tmm_model.specs.Standing.{Standing}
 use Rattle.tmm_cli.specs.declared.demo.Counts.{Counts}
-use Rattle.tmm_cli.specs.declared.status.Status.{Status}
-use Rattle.tmm_cli.specs.declared.status.Status.TheVariants.{Clean, SomeRefused, SomeMemory}
-use Rattle.tmm_cli.specs.declared.told.Told.{Told}
-use Rattle.tmm_cli.specs.declared.told.Told.TheVariants.{Silent, Reply as ReplyOf, Memory}
+use Rattle.tmm_drive.specs.declared.status.Status.{Status}
+use Rattle.tmm_drive.specs.declared.status.Status.TheVariants.{Clean, SomeRefused, SomeMemory}
+use Rattle.tmm_session.specs.declared.told.Told.{Told}
+use Rattle.tmm_session.specs.declared.told.Told.TheVariants.{Silent, Reply as ReplyOf, Memory}
 use Rattle.tmm_cli.specs.Counts.{number_word, AreCounts, HaveRoom, with_kind, counted, counts_text}
 use Rattle.tmm_cli.specs.Demo.{Replied, RunReplied, Summarizes, DemoEnds}
-use Rattle.tmm_cli.specs.Kinds.{kind_of, is_refusing, turn_of}
-use Rattle.tmm_cli.specs.Sessions.{TellsLine}
-use Rattle.tmm_cli.specs.Statuses.{status_of}
+use Rattle.tmm_session.specs.Kinds.{kind_of, is_refusing, turn_of}
+use Rattle.tmm_session.specs.Sessions.{TellsLine}
+use Rattle.tmm_drive.specs.Statuses.{status_of}
 use Rattle.tmm_cli.proofs.DemoRuns.{Speaks, speaks_not_silent, RunReplied-push, RunReplied-run, line_speaks, one_line_more}
-use Rattle.tmm_cli.proofs.Steps.{told_as_three}
-use Rattle.tmm_cli.proofs.Turns.{kind-refusal}
+use Rattle.tmm_drive.proofs.Steps.{told_as_three}
+use Rattle.tmm_session.proofs.Turns.{kind-refusal}
 
 last_word-push : (replies : List (Option Reply)) (reply : Option Reply) → last_word (replies ++ reply ∷ []) ≡ size_word reply
 last_word-push [] reply = refl

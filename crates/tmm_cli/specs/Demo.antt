@@ -10,9 +10,9 @@ use Rattle.tmm_model.specs.Replies.{Reply, text_of, is_refusal}
 use Rattle.tmm_model.specs.Runs.{Run}
 use Rattle.tmm_model.specs.Standing.{Standing}
 use Rattle.map_engine.specs.Steps.{AnswersTo, Step}
-use Rattle.tmm_cli.specs.declared.status.Status.{Status}
-use Rattle.tmm_cli.specs.declared.status.Status.TheVariants.{Clean, SomeRefused, WriteFault, NoMemory, SomeMemory}
-use Rattle.tmm_cli.specs.Statuses.{status_of}
+use Rattle.tmm_drive.specs.declared.status.Status.{Status}
+use Rattle.tmm_drive.specs.declared.status.Status.TheVariants.{Clean, SomeRefused, WriteFault, NoMemory, SomeMemory}
+use Rattle.tmm_drive.specs.Statuses.{status_of}
 
 -- the words are `demo`, and n in decimal
 abbrev pub IsDemo : List (String Global) → ℕ → Type 0

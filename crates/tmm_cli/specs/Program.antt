@@ -4,10 +4,10 @@ use Rattle.std.specs.declared.alloc.Global.{Global}
 use Rattle.std.specs.declared.string.String.{String}
 use Rattle.tmm_model.specs.Standing.{empty_list}
 use Rattle.map_engine.specs.Steps.{Step}
-use Rattle.tmm_cli.specs.declared.status.Status.{Status}
-use Rattle.tmm_cli.specs.declared.status.Status.TheVariants.{Words, WriteFault, NoMemory}
+use Rattle.tmm_drive.specs.declared.status.Status.{Status}
+use Rattle.tmm_drive.specs.declared.status.Status.TheVariants.{Words, WriteFault, NoMemory}
 use Rattle.tmm_cli.specs.Demo.{IsDemo, DemoEnds}
-use Rattle.tmm_cli.specs.Endings.{Ends}
+use Rattle.tmm_drive.specs.Endings.{Ends}
 
 -- what is written for words that are none of the program's
 abbrev pub usage : List ℕ

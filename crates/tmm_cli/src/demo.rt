@@ -10,15 +10,14 @@ ghost use Rattle.tmm_model.specs.Standing.{Standing};
 ghost use Rattle.tmm_cli.specs.Counts.{AreCounts, counts_text, number_word};
 ghost use Rattle.tmm_cli.specs.Demo.{IsDemo, RunReplied, DemoEnds};
 
-use crate::session::Session;
-use crate::status::Status;
-use crate::told::{Kind, Told};
 use arrayvec::ArrayVec;
 use demo_gen::line_of;
 use itoa::Buffer;
 use map_engine::MapCore;
 use std::alloc::Global;
+use tmm_drive::Status;
 use tmm_io::Sink;
+use tmm_session::{Kind, Session, Told};
 use tmm_words::number;
 
 /// The greatest N.

@@ -7,13 +7,12 @@ ghost use Rattle.tmm_cli.specs.Demo.{DemoEnds};
 ghost use Rattle.tmm_cli.specs.Program.{ProgramEnds};
 
 use crate::demo::{demo, demo_number};
-use crate::drive::drive;
-use crate::session::Session;
-use crate::status::Status;
 use map_engine::PlainMap;
 use std::alloc::Global;
+use tmm_drive::{Status, drive};
 use tmm_io::{Sink, Source};
 use tmm_model::{NoMemory, Seq};
+use tmm_session::Session;
 
 /// All that the program does. Without words it reads a script from the source and writes a reply for
 /// each line to the sink. With the words `demo N` it answers a generated script, and writes one line

@@ -6,9 +6,9 @@ use Rattle.std.specs.declared.string.String.{String}
 use Rattle.tmm_model.specs.Standing.{Standing, empty_list}
 use Rattle.map_engine.specs.Plain.{MapState}
 use Rattle.map_engine.specs.Steps.{Step}
-use Rattle.tmm_cli.specs.declared.status.Status.{Status}
-use Rattle.tmm_cli.specs.declared.status.Status.TheVariants.{Clean, SomeRefused, Words, ReadFault, WriteFault, NoMemory, TooLong, SomeMemory}
-use Rattle.tmm_cli.specs.Endings.{Ends}
+use Rattle.tmm_drive.specs.declared.status.Status.{Status}
+use Rattle.tmm_drive.specs.declared.status.Status.TheVariants.{Clean, SomeRefused, Words, ReadFault, WriteFault, NoMemory, TooLong, SomeMemory}
+use Rattle.tmm_drive.specs.Endings.{Ends}
 use Rattle.tmm_cli.specs.Program.{ScriptEnds, a_script, a_demo, other_words}
 use Rattle.tmm_cli.proofs.run.run.Goals as goal
 

@@ -1,0 +1,4 @@
+pub mod Kinds
+pub mod Sessions
+pub mod LongLines
+pub mod Stopping
