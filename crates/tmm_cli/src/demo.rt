@@ -73,7 +73,7 @@ fn answer_script<M: MapCore + Drop>(alloc: Global, n: u32, session: &mut Session
     requires first { session.old.lines ≡ 0 }
     requires idle { M.pending session.old.core ≡ None }
     ensures { (turns : List Turn) × (replies : List (Option Reply)) × (end : Standing)
-        × RunReplied (M.list session.old.core) 0 (script_of n) turns replies end
+        × RunReplied (M.list session.old.core) (script_of n) turns replies end
         × AreCounts result replies }
 {
     let mut counts = Counts::new();

@@ -2,9 +2,7 @@
 ghost use Rattle.std.specs.Prelude.{[], IfOk, ◌≡◌, ◌≢◌, ◌<◌, ◌≤◌, List, ℕ, None};
 ghost use Rattle.std.specs.Io.KnownBytes.{Appends, Consumes, IsAtEnd};
 ghost use Rattle.tmm_io.specs.Causes.{Rose};
-ghost use Rattle.tmm_model.specs.Standing.{empty_list};
-ghost use Rattle.tmm_cli.specs.Demo.{DemoEnds};
-ghost use Rattle.tmm_cli.specs.Program.{ProgramEnds};
+ghost use Rattle.tmm_cli.specs.Program.{ProgramEnds, SummaryEnds};
 
 use crate::demo::{demo, demo_number};
 use map_engine::PlainMap;
@@ -57,7 +55,7 @@ fn run_demo<K: Sink>(alloc: Global, n: u32, sink: &mut K) -> Status
     requires { n ≤ 1000 }
     ensures ends { (output : List ℕ)
         × Appends (K.written sink.old) (K.written sink.new) output
-        × DemoEnds empty_list n output result }
+        × SummaryEnds n output result }
     ensures write_fault { result ≡ Status.WriteFault → Rose (K.faults sink.old) (K.faults sink.new) }
     ensures sink_faults { result ≢ Status.WriteFault → K.faults sink.new ≡ K.faults sink.old }
 {

@@ -1,4 +1,3 @@
 pub mod Kinds
 pub mod Sessions
 pub mod LongLines
-pub mod Stopping

@@ -1,12 +1,12 @@
 // One line to one reply.
-ghost use Rattle.std.specs.Prelude.{◌≡◌, ◌+◌, ◌-◌, ◌^◌, ◌<◌, None, IsTrue, MatchResult};
+ghost use Rattle.std.specs.Prelude.{◌≡◌, ◌+◌, ◌-◌, ◌^◌, ◌<◌, None, MatchResult};
 ghost use Rattle.tmm_model.specs.Lines.{IsWellFormedEdit, IsWellFormedQuery};
 ghost use Rattle.tmm_model.specs.Replies.{Refused, Answered};
 ghost use Rattle.tmm_model.specs.Standing.{Standing};
-ghost use Rattle.map_engine.specs.Steps.{is_built, is_built_query, Step};
+ghost use Rattle.tmm_model.specs.Transcript.{WholeStep};
 ghost use Rattle.tmm_session.specs.Kinds.{kind_of};
 ghost use Rattle.tmm_session.specs.Sessions.{Tells, TellsLine, TellsMeaning};
-ghost use Rattle.tmm_session.specs.LongLines.{Step-long};
+ghost use Rattle.tmm_session.specs.LongLines.{WholeStep-long};
 
 use crate::told::{Kind, Told};
 use map_engine::MapCore;
@@ -74,9 +74,9 @@ impl<M: MapCore + Drop> Lines for Session<M> {
 
     ghost ready = { λ s. M.pending s.core ≡ None };
 
-    ghost step = { Step };
+    ghost step = { WholeStep };
 
-    ghost long_lines = { Step-long };
+    ghost long_lines = { WholeStep-long };
 
     fn line(&mut self, alloc: Global, bytes: &[u8]) -> Turn {
         self.tell(alloc, bytes).turn()
@@ -102,21 +102,11 @@ fn said<M: MapCore>(
         Err(Stop::Refused(refusal)) => return refuse(alloc, line, &refusal),
         Err(Stop::NoMemory) => return Told::Memory,
     };
-    if !is_answered(&meaning) {
-        return refuse(alloc, line, &Refusal::Form);
-    }
     match meaning {
         Line::Silent => Told::Silent,
         Line::Change(edit) => change(alloc, line, &edit, core, counter),
         Line::Question(query) => answer(alloc, line, &query, core),
     }
-}
-
-// Whether the program answers such a line so far.
-fn is_answered(meaning: &Line) -> bool
-    ensures { result ≡ is_built meaning.now }
-{
-    !matches!(meaning, Line::Question(Query::Audit))
 }
 
 // The reply that these bytes are, where there was memory for them.
@@ -172,7 +162,6 @@ fn change<M: MapCore>(
 pub fn answer<M: MapCore>(alloc: Global, line: u64, query: &Query, core: &M) -> Told
     requires idle { M.pending core.now ≡ None }
     requires well_formed { IsWellFormedQuery query.now }
-    requires built { IsTrue (is_built_query query.now) }
     ensures { TellsMeaning (M.list core.now) line (Line.Question query.now) result (M.list core.now) }
 {
     match query {
@@ -184,7 +173,7 @@ pub fn answer<M: MapCore>(alloc: Global, line: u64, query: &Query, core: &M) -> 
         Query::List => answer_list(alloc, line, core),
         Query::Dump => reply(reply_dump(alloc, line, core.standing()), Kind::Other),
         Query::Size => answer_size(alloc, line, core),
-        Query::Audit => unreachable!(),
+        Query::Audit => answer_audit(alloc, line, core),
     }
 }
 
@@ -288,6 +277,20 @@ fn answer_list<M: MapCore>(alloc: Global, line: u64, core: &M) -> Told
 {
     match core.list(alloc) {
         Ok(rows) => reply(reply_list(alloc, line, rows.items()), Kind::Other),
+        Err(NoMemory) => Told::Memory,
+    }
+}
+
+// What is kept is right, so the only answer is yes.
+fn answer_audit<M: MapCore>(alloc: Global, line: u64, core: &M) -> Told
+    requires idle { M.pending core.now ≡ None }
+    ensures { TellsMeaning (M.list core.now) line (Line.Question Query.Audit) result (M.list core.now) }
+{
+    match core.audit(alloc) {
+        Ok(right) => reply(
+            reply_number(alloc, line, Word::Audit, u64::from(right)),
+            Kind::Other,
+        ),
         Err(NoMemory) => Told::Memory,
     }
 }
