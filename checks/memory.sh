@@ -3,7 +3,7 @@
 # at a time. Either there was no memory to begin with, and nothing is read (status 5, or 8 for the words); or
 # exactly one line is answered `memory`, with status 7, and every other line as if that one were a
 # comment, so that nothing has changed. Scripts are those of the words, or else those of examples/ and of
-# docs/SCRIPT.md, which together have every kind of line that is answered.
+# docs/SCRIPT.md, which together have every kind of line.
 set -u
 cd "$(dirname "$0")/.." || exit 1
 work=$(mktemp -d) || exit 1

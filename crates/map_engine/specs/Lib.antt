@@ -1,4 +1,3 @@
-pub mod Steps
 pub mod Stops
 pub mod Beliefs
 pub mod Plain

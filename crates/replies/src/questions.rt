@@ -98,7 +98,7 @@ pub fn reply_list(alloc: Global, line: u64, rows: &[ListRow]) -> Result<Seq<u8>,
 pub enum Word {
     /// The size of the map.
     Size,
-    /// The kept beliefs are right; the number is 1. No line is answered so yet.
+    /// The kept beliefs are right; the number is 1.
     Audit,
 }
 

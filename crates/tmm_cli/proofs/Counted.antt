@@ -2,6 +2,7 @@
 use Rattle.std.proofs.Common.{◌≡◌, ◌∙◌, inl, inr, take, ℕ, ◌+◌, ◌≤◌, Bool, true, false, List, [], ◌∷◌, ◌++◌, length, Option, Some, None, refl, sym, ap, subst, cond, arith, if◌then◌else◌, append_assoc, nat_lt}
 use Rattle.std.specs.List.{count_by, list_any, slice_get}
 use Rattle.std.proofs.lemmas.List.{length-append, take_all, length-take-le}
+use Rattle.std.proofs.lemmas.List.Elements.{All-nil}
 use Rattle.std.proofs.lemmas.List.Sums.{count_by-le-length, sum_by_push}
 use Rattle.std.proofs.lemmas.Option.{slice_get_cases}
 use Rattle.tmm_model.specs.declared.answer.Answer.TheVariants.{Yes, No, Unordered}
@@ -9,21 +10,20 @@ use Rattle.tmm_model.specs.declared.turn.Turn.{Turn}
 use Rattle.tmm_model.specs.Generator.{script_of, is_ok, is_yes, is_no, is_refused, is_want, size_word, last_word, summary}
 use Rattle.tmm_model.specs.Lines.{spaced, behind_spaces}
 use Rattle.tmm_model.specs.Replies.{Reply, Accepted, Refused, BoundsAre, PathIs, Answered, Reasons, BrokenAre, Believed, DumpIs, AuditYes, SizeIs}
-use Rattle.tmm_model.specs.Runs.{is_memory, is_refused as is_refused_turn}
+use Rattle.tmm_model.specs.Runs.{is_reply, is_memory, is_refused as is_refused_turn}
 use Rattle.tmm_model.specs.Standing.{Standing}
 use Rattle.tmm_cli.specs.declared.demo.Counts.{Counts}
-use Rattle.tmm_cli.specs.declared.status.Status.{Status}
-use Rattle.tmm_cli.specs.declared.status.Status.TheVariants.{Clean, SomeRefused, SomeMemory}
-use Rattle.tmm_cli.specs.declared.told.Told.{Told}
-use Rattle.tmm_cli.specs.declared.told.Told.TheVariants.{Silent, Reply as ReplyOf, Memory}
+use Rattle.tmm_drive.specs.declared.status.Status.{Status}
+use Rattle.tmm_drive.specs.declared.status.Status.TheVariants.{Clean, SomeRefused, SomeMemory}
+use Rattle.tmm_session.specs.declared.told.Told.{Told}
+use Rattle.tmm_session.specs.declared.told.Told.TheVariants.{Silent, Reply as ReplyOf, Memory}
 use Rattle.tmm_cli.specs.Counts.{number_word, AreCounts, HaveRoom, with_kind, counted, counts_text}
-use Rattle.tmm_cli.specs.Demo.{Replied, RunReplied, Summarizes, DemoEnds}
-use Rattle.tmm_cli.specs.Kinds.{kind_of, is_refusing, turn_of}
-use Rattle.tmm_cli.specs.Sessions.{TellsLine}
-use Rattle.tmm_cli.specs.Statuses.{status_of}
-use Rattle.tmm_cli.proofs.DemoRuns.{Speaks, speaks_not_silent, RunReplied-push, RunReplied-run, line_speaks, one_line_more}
-use Rattle.tmm_cli.proofs.Steps.{told_as_three}
-use Rattle.tmm_cli.proofs.Turns.{kind-refusal}
+use Rattle.tmm_cli.specs.Demo.{RunReplied, Summarizes, DemoEnds}
+use Rattle.tmm_session.specs.Kinds.{kind_of, turn_of}
+use Rattle.tmm_session.specs.Sessions.{TellsLine, reply_told}
+use Rattle.tmm_drive.specs.Statuses.{status_of}
+use Rattle.tmm_cli.proofs.DemoRuns.{Speaks, speaks_not_silent, RunReplied-push, RunReplied-counted, line_speaks, one_line_more}
+use Rattle.tmm_drive.proofs.Steps.{told_as_three}
 
 last_word-push : (replies : List (Option Reply)) (reply : Option Reply) → last_word (replies ++ reply ∷ []) ≡ size_word reply
 last_word-push [] reply = refl
@@ -82,15 +82,17 @@ AreCounts-kind c replies AuditYes are = AreCounts-plus c (with_kind c (kind_of A
 AreCounts-kind c replies (SizeIs n) are = AreCounts-plus c (with_kind c (kind_of (SizeIs n))) replies (Some (SizeIs n)) (Some n) are refl refl
 
 -- a line that is not silent has a reply, by which it is counted
-pub tells_reply : (old new : Standing) (k : ℕ) (line : List ℕ) (t : Told) (c : Counts) (replies : List (Option Reply)) → Speaks line → TellsLine old k line t new → AreCounts c replies
-    → (reply : Option Reply) × Replied old k line (turn_of t) reply new × AreCounts (counted c t) (replies ++ reply ∷ [])
-tells_reply old new k line Silent c replies speaks told are = absurd (speaks_not_silent line speaks told.0)
-tells_reply old new k line Memory c replies speaks told are = (None, told, AreCounts-plus c (counted c Memory) replies None None are refl refl)
-tells_reply old new k line (ReplyOf bytes kind) c replies speaks told are = (
-  Some told.0,
-  (told.1, told.2, ap is_refusing told.3 ∙ kind-refusal told.0),
-  subst (λ k. AreCounts (with_kind c k) (replies ++ Some told.0 ∷ [])) (sym told.3) (AreCounts-kind c replies told.0 are),
-)
+has_reply : (old new : Standing) (k : ℕ) (line : List ℕ) (t : Told) → Speaks line → TellsLine old k line t new → is_reply (turn_of t) ≡ true
+has_reply old new k line Silent speaks told = absurd (speaks_not_silent line speaks told.0.0)
+has_reply old new k line Memory speaks told = refl
+has_reply old new k line (ReplyOf bytes kind) speaks told = refl
+
+counted_reply : (old new : Standing) (k : ℕ) (line : List ℕ) (t : Told) (c : Counts) (replies : List (Option Reply)) → Speaks line → (told : TellsLine old k line t new)
+    → AreCounts c replies → AreCounts (counted c t) (replies ++ reply_told old k line (turn_of t) new told.0 ∷ [])
+counted_reply old new k line Silent c replies speaks told are = absurd (speaks_not_silent line speaks told.0.0)
+counted_reply old new k line Memory c replies speaks told are = AreCounts-plus c (counted c Memory) replies None None are refl refl
+counted_reply old new k line (ReplyOf bytes kind) c replies speaks told are =
+    subst (λ k. AreCounts (with_kind c k) (replies ++ Some told.0.0 ∷ [])) (sym told.1) (AreCounts-kind c replies told.0.0 are)
 
 AreCounts-room : (c : Counts) (replies : List (Option Reply)) → AreCounts c replies → length replies ≤ 4009 → HaveRoom c
 AreCounts-room c replies are few = record {
@@ -104,15 +106,18 @@ AreCounts-room c replies are few = record {
 
 -- The first lines of a script have run, and their replies are counted.
 abbrev pub HasRun : Standing → List (List ℕ) → Counts → Standing → Type 0
-HasRun start lines c now = (turns : List Turn) × (replies : List (Option Reply)) × RunReplied start 0 lines turns replies now × AreCounts c replies
+HasRun start lines c now = (turns : List Turn) × (replies : List (Option Reply)) × RunReplied start lines turns replies now × AreCounts c replies
 
 -- one line more
 pub HasRun-next : (start now next : Standing) (lines : List (List ℕ)) (i : ℕ) (line : List ℕ) (t : Told) (c : Counts) → length lines ≡ i → Speaks line → HasRun start lines c now
     → TellsLine now (i + 1) line t next → HasRun start (lines ++ line ∷ []) (counted c t) next
 HasRun-next start now next lines i line t c long speaks has told =
-    let one = tells_reply now next (i + 1) line t c has.1 speaks told has.3 in
-    let at : Replied now (0 + length lines + 1) line (turn_of t) one.0 next = subst (λ (k : ℕ). Replied now k line (turn_of t) one.0 next) (let e : i + 1 ≡ 0 + length lines + 1 = omega (arith, long) in e) one.1 in
-    (has.0 ++ turn_of t ∷ [], has.1 ++ one.0 ∷ [], RunReplied-push start 0 lines has.0 has.1 now line (turn_of t) one.0 next has.2 at, one.2)
+    let number : i + 1 ≡ length lines + 1 = omega (arith, long) in (
+      has.0 ++ turn_of t ∷ [],
+      has.1 ++ reply_told now (i + 1) line (turn_of t) next told.0 ∷ [],
+      RunReplied-push start lines has.0 has.1 now (i + 1) line (turn_of t) next has.2 number (has_reply now next (i + 1) line t speaks told) told.0,
+      counted_reply now next (i + 1) line t c has.1 speaks told has.3,
+    )
 
 -- the next line of the generated script
 pub HasRun-line : (start now next : Standing) (n i k : ℕ) (line bytes : List ℕ) (t : Told) (c d : Counts) → slice_get (script_of n) i ≡ Some line → i ≤ length (script_of n) → k ≡ i → bytes ≡ line
@@ -126,10 +131,10 @@ HasRun-line start now next n i k line bytes t c d at within number same counts h
     (subst (λ (lines : List (List ℕ)). HasRun start lines (counted c t) next) (sym (one_line_more n i line at)) more)
 
 pub HasRun-room : (start now : Standing) (lines : List (List ℕ)) (c : Counts) → HasRun start lines c now → length lines ≤ 4009 → HaveRoom c
-HasRun-room start now lines c has few = AreCounts-room c has.1 has.3 (omega (arith, (RunReplied-run start 0 lines has.0 has.1 now has.2).long))
+HasRun-room start now lines c has few = AreCounts-room c has.1 has.3 (omega (arith, (RunReplied-counted start lines has.0 has.1 now has.2).long))
 
 pub HasRun-none : (start : Standing) (c : Counts) → AreCounts c [] → HasRun start [] c start
-HasRun-none start c are = ([], [], refl, are)
+HasRun-none start c are = ([], [], record { run = refl; each = All-nil (λ turn. is_reply turn ≡ true); replies_are = refl }, are)
 
 -- the script has no more lines
 pub none_left : (script : List (List ℕ)) (i : ℕ) → slice_get script i ≡ None → i ≤ length script → take i script ≡ script
@@ -161,11 +166,11 @@ pub put_on : (text old front digits : List ℕ) (more : List ℕ) → text ≡ o
 put_on text old front digits more is = ap (λ l. l ++ more) is ∙ append_assoc (old ++ front) digits more ∙ append_assoc old front (digits ++ more)
 
 -- their status is that of the run
-pub status_of_counts : (old : Standing) (k : ℕ) (lines : List (List ℕ)) (turns : List Turn) (replies : List (Option Reply)) (new : Standing) (c : Counts)
-    → RunReplied old k lines turns replies new → AreCounts c replies
+pub status_of_counts : (start : Standing) (lines : List (List ℕ)) (turns : List Turn) (replies : List (Option Reply)) (end : Standing) (c : Counts)
+    → RunReplied start lines turns replies end → AreCounts c replies
     → (if nat_lt 0 c.memory then SomeMemory else (if nat_lt 0 c.refused then SomeRefused else Clean)) ≡ status_of turns
-status_of_counts old k lines turns replies new c run are =
-    let is = RunReplied-run old k lines turns replies new run in
+status_of_counts start lines turns replies end c run are =
+    let is = RunReplied-counted start lines turns replies end run in
     let memory : nat_lt 0 c.memory ≡ list_any is_memory turns = ap (nat_lt 0) are.memory ∙ sym is.memory in
     let refused : nat_lt 0 c.refused ≡ list_any is_refused_turn turns = ap (nat_lt 0) are.refused ∙ sym is.refused in
     ap (λ b. if b then SomeMemory else (if nat_lt 0 c.refused then SomeRefused else Clean)) memory
@@ -173,16 +178,15 @@ status_of_counts old k lines turns replies new c run are =
 
 -- the line and the status of the counts are what the words may leave
 pub demo_ends : (start : Standing) (n : ℕ) (turns : List Turn) (replies : List (Option Reply)) (end : Standing) (c : Counts) (line : List ℕ) (status : Status)
-    → RunReplied start 0 (script_of n) turns replies end → AreCounts c replies → line ≡ counts_text n c
+    → RunReplied start (script_of n) turns replies end → AreCounts c replies → line ≡ counts_text n c
     → status ≡ (if nat_lt 0 c.memory then SomeMemory else (if nat_lt 0 c.refused then SomeRefused else Clean))
     → Summarizes start n line status × DemoEnds start n line status
 demo_ends start n turns replies end c line status run are is told =
-    let told_is : status ≡ status_of turns = told ∙ status_of_counts start 0 (script_of n) turns replies end c run are in
+    let told_is : status ≡ status_of turns = told ∙ status_of_counts start (script_of n) turns replies end c run are in
     let of : Summarizes start n line status = record {
       turns = turns;
       replies = replies;
       end = end;
-      run = (RunReplied-run start 0 (script_of n) turns replies end run).run;
       replied = run;
       line_is = is ∙ summary_of_counts n c replies are;
       status_is = told_is;

@@ -1,9 +1,10 @@
 -- What becomes of the lines of a generated script.
-use Rattle.std.proofs.Common.{◌≡◌, ◌∙◌, ℕ, zero, suc, ◌+◌, ◌-◌, ◌*◌, ◌≤◌, ◌||◌, ◌==◌, nat_lt, Bool, true, false, List, [], ◌∷◌, ◌++◌, length, take, Option, Some, None, refl, sym, ap, subst, cond, arith}
-use Rattle.std.specs.Prelude.{codes, IsTrue, nat_le}
+use Rattle.std.proofs.Common.{◌≡◌, ◌∙◌, ℕ, zero, suc, ◌+◌, ◌-◌, ◌*◌, ◌≤◌, ◌||◌, ◌==◌, nat_lt, Bool, true, false, List, [], ◌∷◌, ◌++◌, length, take, Option, Some, refl, sym, ap, subst, cond, arith}
+use Rattle.std.specs.Prelude.{codes, IsTrue, nat_le, All}
 use Rattle.std.specs.List.{count_by, list_any, onto_first, slice_get}
 use Rattle.std.proofs.lemmas.Bool.{lt-ltb}
 use Rattle.std.proofs.lemmas.List.{length-append, take_more}
+use Rattle.std.proofs.lemmas.List.Elements.{All-head, All-tail, All-push}
 use Rattle.std.proofs.lemmas.List.Sums.{sum_by-cons}
 use Rattle.std.proofs.lemmas.Option.{get_or_from_slice_get, slice_get_within}
 use Rattle.tmm_model.specs.declared.line.Line.TheVariants.{Silent as Blank}
@@ -11,12 +12,13 @@ use Rattle.tmm_model.specs.declared.turn.Turn.{Turn}
 use Rattle.tmm_model.specs.declared.turn.Turn.TheVariants.{Silent, Reply as ReplyOf, Memory}
 use Rattle.tmm_model.specs.Generator.{numbered, first_lines, erase_lines, event_lines, events_below, script_of, is_want, is_refused as is_no_or_fault}
 use Rattle.tmm_model.specs.Lines.{words, goes_on, is_blank, spaced, IsSilent}
-use Rattle.tmm_model.specs.Replies.{Reply}
-use Rattle.tmm_model.specs.Runs.{Run, is_refused, is_memory}
+use Rattle.tmm_model.specs.Replies.{Reply, text_of}
+use Rattle.tmm_model.specs.Runs.{Run, is_reply, is_refused, is_memory}
 use Rattle.tmm_model.specs.Standing.{Standing}
-use Rattle.map_engine.specs.Steps.{Says, Step}
+use Rattle.tmm_model.specs.Transcript.{IsReadAs, LineAnswers, WholeStep}
 use Rattle.demo_gen.proofs.Blocks.{last_three}
-use Rattle.tmm_cli.specs.Demo.{Replied, RunReplied}
+use Rattle.tmm_session.specs.Sessions.{reply_told}
+use Rattle.tmm_cli.specs.Demo.{replies_told, RunReplied}
 
 -- ---- no line of the script is silent
 
@@ -33,12 +35,12 @@ first_word : (on : Bool) (b : ℕ) (ws : List (List ℕ)) → (b == 35) ≡ fals
 first_word true b ws other silent = begun_word b ws other silent
 first_word false b ws other silent = let never : IsTrue false = subst (λ x. IsTrue x) other silent in cc never
 
-pub speaks_not_silent : (line : List ℕ) → Speaks line → Says line Blank → ⊥
+pub speaks_not_silent : (line : List ℕ) → Speaks line → IsReadAs line Blank → ⊥
 unfolding words
-speaks_not_silent [] speaks says = absurd speaks
-speaks_not_silent (b ∷ line) speaks says =
+speaks_not_silent [] speaks read = absurd speaks
+speaks_not_silent (b ∷ line) speaks read =
     first_word (goes_on line) b (words line) speaks.1
-    (subst (λ blank. IsSilent (cond blank (words line) (cond (goes_on line) (onto_first b (words line)) ((b ∷ []) ∷ words line)))) speaks.0 says.reads)
+    (subst (λ blank. IsSilent (cond blank (words line) (cond (goes_on line) (onto_first b (words line)) ((b ∷ []) ∷ words line)))) speaks.0 read.reads)
 
 abbrev AllSpeak : List (List ℕ) → Type 0
 AllSpeak [] = Unit {0}
@@ -99,44 +101,67 @@ one_line_more n i line at =
 
 -- ---- runs with replies
 
-pub RunReplied-push : (old : Standing) (k : ℕ) (lines : List (List ℕ)) (turns : List Turn) (replies : List (Option Reply)) (mid : Standing)
-    (line : List ℕ) (turn : Turn) (reply : Option Reply) (new : Standing)
-    → RunReplied old k lines turns replies mid → Replied mid (k + length lines + 1) line turn reply new
-    → RunReplied old k (lines ++ line ∷ []) (turns ++ turn ∷ []) (replies ++ reply ∷ []) new
-RunReplied-push old k [] [] [] mid line turn reply new run replied =
+-- a step from the same list, of a line of the same number, tells the same reply
+step_moved : (now old : Standing) (j k : ℕ) (line : List ℕ) (turn : Turn) (new : Standing) → now ≡ old → j ≡ k → (step : WholeStep now j line turn new)
+    → (moved : WholeStep old k line turn new) × (reply_told old k line turn new moved ≡ reply_told now j line turn new step)
+step_moved now old j k line Silent new is same step = ((step.0, subst (λ (s : Standing). new ≡ s) is step.1), refl)
+step_moved now old j k line Memory new is same step = ((step.0, subst (λ (s : Standing). new ≡ s) is step.1), refl)
+step_moved now old j k line (ReplyOf bytes refused) new is same step = (
+  (
+    step.0,
+    subst (λ (s : Standing). LineAnswers s line step.0 new) is step.1,
+    subst (λ (n : ℕ). bytes.items ≡ text_of n step.0) same step.2,
+    step.3,
+  ),
+  refl,
+)
+
+-- a run with one step more tells one reply more
+run_with : (old : Standing) (k : ℕ) (lines : List (List ℕ)) (turns : List Turn) (mid : Standing) (run : Run WholeStep old k lines turns mid)
+    (line : List ℕ) (turn : Turn) (new : Standing) (step : WholeStep mid (k + length lines + 1) line turn new)
+    → (longer : Run WholeStep old k (lines ++ line ∷ []) (turns ++ turn ∷ []) new)
+    × (replies_told old k (lines ++ line ∷ []) (turns ++ turn ∷ []) new longer
+    ≡ replies_told old k lines turns mid run ++ reply_told mid (k + length lines + 1) line turn new step ∷ [])
+run_with old k [] [] mid run line turn new step =
     let e : k + length {A = List ℕ} [] + 1 ≡ k + 1 = omega arith in
-    let at_old : Replied old (k + length {A = List ℕ} [] + 1) line turn reply new = subst (λ (s : Standing). Replied s (k + length {A = List ℕ} [] + 1) line turn reply new) run replied in
-    (new, subst (λ (n : ℕ). Replied old n line turn reply new) e at_old, refl)
-RunReplied-push old k (first ∷ lines) (earlier ∷ turns) (told ∷ replies) mid line turn reply new run replied =
+    let moved = step_moved mid old (k + length {A = List ℕ} [] + 1) (k + 1) line turn new run e step in
+    ((new, moved.0, refl), ap (λ r. r ∷ []) moved.1)
+run_with old k (first ∷ lines) (earlier ∷ turns) mid run line turn new step =
     let e : k + length (first ∷ lines) + 1 ≡ (k + 1) + length lines + 1 = omega arith in
-    (run.0, run.1, RunReplied-push run.0 (k + 1) lines turns replies mid line turn reply new run.2 (subst (λ (n : ℕ). Replied mid n line turn reply new) e replied))
-RunReplied-push old k [] [] (told ∷ replies) mid line turn reply new run replied = absurd run
-RunReplied-push old k [] (earlier ∷ turns) [] mid line turn reply new run replied = absurd run
-RunReplied-push old k [] (earlier ∷ turns) (told ∷ replies) mid line turn reply new run replied = absurd run
-RunReplied-push old k (first ∷ lines) [] [] mid line turn reply new run replied = absurd run
-RunReplied-push old k (first ∷ lines) [] (told ∷ replies) mid line turn reply new run replied = absurd run
-RunReplied-push old k (first ∷ lines) (earlier ∷ turns) [] mid line turn reply new run replied = absurd run
+    let moved = step_moved mid mid (k + length (first ∷ lines) + 1) ((k + 1) + length lines + 1) line turn new refl e step in
+    let rest = run_with run.0 (k + 1) lines turns mid run.2 line turn new moved.0 in (
+      (run.0, run.1, rest.0),
+      ap (λ l. reply_told old (k + 1) first earlier run.0 run.1 ∷ l) (rest.1 ∙ ap (λ r. replies_told run.0 (k + 1) lines turns mid run.2 ++ r ∷ []) moved.1),
+    )
+run_with old k [] (earlier ∷ turns) mid run line turn new step = absurd run
+run_with old k (first ∷ lines) [] mid run line turn new step = absurd run
 
--- a step with its reply is a step of a script, and what it counts for is what its turn tells
-record IsStepOf (old : Standing) (k : ℕ) (line : List ℕ) (turn : Turn) (reply : Option Reply) (new : Standing) : Type 0 where
-  pub step : Step old k line turn new
-  pub memory : is_memory turn ≡ is_want reply
-  pub refused : is_refused turn ≡ is_no_or_fault reply
+pub RunReplied-push : (start : Standing) (lines : List (List ℕ)) (turns : List Turn) (replies : List (Option Reply)) (mid : Standing)
+    (k : ℕ) (line : List ℕ) (turn : Turn) (new : Standing) → RunReplied start lines turns replies mid → k ≡ length lines + 1 → is_reply turn ≡ true
+    → (step : WholeStep mid k line turn new)
+    → RunReplied start (lines ++ line ∷ []) (turns ++ turn ∷ []) (replies ++ reply_told mid k line turn new step ∷ []) new
+RunReplied-push start lines turns replies mid k line turn new replied number has_reply step =
+    let e : k ≡ 0 + length lines + 1 = omega (arith, number) in
+    let moved = step_moved mid mid k (0 + length lines + 1) line turn new refl e step in
+    let longer = run_with start 0 lines turns mid replied.run line turn new moved.0 in record {
+      run = longer.0;
+      each = All-push (λ t. is_reply t ≡ true) turns turn replied.each has_reply;
+      replies_are = ap (λ l. l ++ reply_told mid k line turn new step ∷ []) replied.replies_are
+          ∙ ap (λ r. replies_told start 0 lines turns mid replied.run ++ r ∷ []) (sym moved.1) ∙ sym longer.1;
+    }
 
-Replied-step : (old : Standing) (k : ℕ) (line : List ℕ) (turn : Turn) (reply : Option Reply) (new : Standing) → Replied old k line turn reply new → IsStepOf old k line turn reply new
-Replied-step old k line (ReplyOf bytes refused) (Some reply) new replied = record { step = (reply, replied.0, replied.1, replied.2); memory = refl; refused = replied.2 }
-Replied-step old k line Memory None new replied = record { step = replied; memory = refl; refused = refl }
-Replied-step old k line Silent None new replied = absurd replied
-Replied-step old k line Silent (Some reply) new replied = absurd replied
-Replied-step old k line (ReplyOf bytes refused) None new replied = absurd replied
-Replied-step old k line Memory (Some reply) new replied = absurd replied
+-- what a reply counts for is what its turn tells
+counts_memory : (old : Standing) (k : ℕ) (line : List ℕ) (turn : Turn) (new : Standing) (step : WholeStep old k line turn new) → is_reply turn ≡ true
+    → is_memory turn ≡ is_want (reply_told old k line turn new step)
+counts_memory old k line Silent new step has_reply = absurd (cc has_reply)
+counts_memory old k line Memory new step has_reply = refl
+counts_memory old k line (ReplyOf bytes refused) new step has_reply = refl
 
--- a run with its replies is a run of a script, with as many replies as lines, and they are counted as its turns tell
-pub record IsRunOf (old : Standing) (k : ℕ) (lines : List (List ℕ)) (turns : List Turn) (replies : List (Option Reply)) (new : Standing) : Type 0 where
-  pub run : Run Step old k lines turns new
-  pub long : length replies ≡ length lines
-  pub memory : list_any is_memory turns ≡ nat_lt 0 (count_by is_want replies)
-  pub refused : list_any is_refused turns ≡ nat_lt 0 (count_by is_no_or_fault replies)
+counts_refused : (old : Standing) (k : ℕ) (line : List ℕ) (turn : Turn) (new : Standing) (step : WholeStep old k line turn new) → is_reply turn ≡ true
+    → is_refused turn ≡ is_no_or_fault (reply_told old k line turn new step)
+counts_refused old k line Silent new step has_reply = absurd (cc has_reply)
+counts_refused old k line Memory new step has_reply = refl
+counts_refused old k line (ReplyOf bytes refused) new step has_reply = step.3
 
 above_zero : (n : ℕ) → true ≡ nat_lt 0 (suc n)
 above_zero n = sym (lt-ltb 0 (suc n) (omega arith))
@@ -147,23 +172,31 @@ some_counted false false rest n m same counted more = counted ∙ ap (nat_lt 0) 
 some_counted true false rest n m same counted more = absurd (cc same)
 some_counted false true rest n m same counted more = absurd (cc same)
 
-pub RunReplied-run : (old : Standing) (k : ℕ) (lines : List (List ℕ)) (turns : List Turn) (replies : List (Option Reply)) (new : Standing)
-    → RunReplied old k lines turns replies new → IsRunOf old k lines turns replies new
-RunReplied-run old k [] [] [] new run = record { run = run; long = refl; memory = refl; refused = refl }
-RunReplied-run old k (line ∷ lines) (turn ∷ turns) (reply ∷ replies) new run =
-    let step = Replied-step old (k + 1) line turn reply run.0 run.1 in
-    let rest = RunReplied-run run.0 (k + 1) lines turns replies new run.2 in
+-- there are as many replies as lines, and they are counted as the turns tell
+pub record AreCounted (lines : List (List ℕ)) (turns : List Turn) (replies : List (Option Reply)) : Type 0 where
+  pub long : length replies ≡ length lines
+  pub memory : list_any is_memory turns ≡ nat_lt 0 (count_by is_want replies)
+  pub refused : list_any is_refused turns ≡ nat_lt 0 (count_by is_no_or_fault replies)
+
+run_counted : (old : Standing) (k : ℕ) (lines : List (List ℕ)) (turns : List Turn) (new : Standing) (run : Run WholeStep old k lines turns new)
+    → All (λ turn. is_reply turn ≡ true) turns → AreCounted lines turns (replies_told old k lines turns new run)
+run_counted old k [] [] new run each = record { long = refl; memory = refl; refused = refl }
+run_counted old k (line ∷ lines) (turn ∷ turns) new run each =
+    let reply = reply_told old (k + 1) line turn run.0 run.1 in
+    let replies = replies_told run.0 (k + 1) lines turns new run.2 in
+    let has_reply : is_reply turn ≡ true = All-head (λ t. is_reply t ≡ true) turn turns each in
+    let rest = run_counted run.0 (k + 1) lines turns new run.2 (All-tail (λ t. is_reply t ≡ true) turn turns each) in
     record {
-      run = (run.0, step.step, rest.run);
       long = omega (arith, rest.long);
-      memory = some_counted (is_memory turn) (is_want reply) (list_any is_memory turns) (count_by is_want replies) (count_by is_want (reply ∷ replies)) step.memory rest.memory
-          (sum_by-cons (λ r. cond (is_want r) 1 0) reply replies);
-      refused = some_counted (is_refused turn) (is_no_or_fault reply) (list_any is_refused turns) (count_by is_no_or_fault replies) (count_by is_no_or_fault (reply ∷ replies)) step.refused rest.refused
-          (sum_by-cons (λ r. cond (is_no_or_fault r) 1 0) reply replies);
+      memory = some_counted (is_memory turn) (is_want reply) (list_any is_memory turns) (count_by is_want replies) (count_by is_want (reply ∷ replies))
+          (counts_memory old (k + 1) line turn run.0 run.1 has_reply) rest.memory (sum_by-cons (λ r. cond (is_want r) 1 0) reply replies);
+      refused = some_counted (is_refused turn) (is_no_or_fault reply) (list_any is_refused turns) (count_by is_no_or_fault replies) (count_by is_no_or_fault (reply ∷ replies))
+          (counts_refused old (k + 1) line turn run.0 run.1 has_reply) rest.refused (sum_by-cons (λ r. cond (is_no_or_fault r) 1 0) reply replies);
     }
-RunReplied-run old k [] [] (reply ∷ replies) new run = absurd run
-RunReplied-run old k [] (turn ∷ turns) [] new run = absurd run
-RunReplied-run old k [] (turn ∷ turns) (reply ∷ replies) new run = absurd run
-RunReplied-run old k (line ∷ lines) [] [] new run = absurd run
-RunReplied-run old k (line ∷ lines) [] (reply ∷ replies) new run = absurd run
-RunReplied-run old k (line ∷ lines) (turn ∷ turns) [] new run = absurd run
+run_counted old k [] (turn ∷ turns) new run each = absurd run
+run_counted old k (line ∷ lines) [] new run each = absurd run
+
+pub RunReplied-counted : (start : Standing) (lines : List (List ℕ)) (turns : List Turn) (replies : List (Option Reply)) (end : Standing)
+    → RunReplied start lines turns replies end → AreCounted lines turns replies
+RunReplied-counted start lines turns replies end replied =
+    subst (λ (l : List (Option Reply)). AreCounted lines turns l) (sym replied.replies_are) (run_counted start 0 lines turns end replied.run replied.each)

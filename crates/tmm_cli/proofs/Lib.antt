@@ -1,5 +1,3 @@
-pub mod Steps
-pub mod Turns
 pub mod DemoRuns
 pub mod Counted
 pub mod DemoWords

@@ -4,10 +4,10 @@ use Rattle.tmm_model.specs.Generator.{is_ok, is_yes, is_no, is_refused, is_want,
 use Rattle.tmm_model.specs.Lines.{spaced}
 use Rattle.tmm_model.specs.Replies.{Reply}
 use Rattle.tmm_cli.specs.declared.demo.Counts.{Counts}
-use Rattle.tmm_cli.specs.declared.told.Kind.{Kind}
-use Rattle.tmm_cli.specs.declared.told.Kind.TheVariants.{Accepted, Yes, No, Refused, Size, Other}
-use Rattle.tmm_cli.specs.declared.told.Told.{Told}
-use Rattle.tmm_cli.specs.declared.told.Told.TheVariants.{Silent, Reply as ReplyOf, Memory}
+use Rattle.tmm_session.specs.declared.told.Kind.{Kind}
+use Rattle.tmm_session.specs.declared.told.Kind.TheVariants.{Accepted, Yes, No, Refused, Size, Other}
+use Rattle.tmm_session.specs.declared.told.Told.{Told}
+use Rattle.tmm_session.specs.declared.told.Told.TheVariants.{Silent, Reply as ReplyOf, Memory}
 
 -- the number that a reply told, and `*` for none
 abbrev pub number_word : Option ℕ → List ℕ

@@ -1,10 +1,3 @@
-pub mod Statuses
-pub mod Endings
-pub mod Reading
-pub mod Kinds
-pub mod Sessions
-pub mod LongLines
 pub mod Demo
 pub mod Counts
 pub mod Program
-pub mod Stopping

@@ -3,11 +3,11 @@ use Rattle.std.specs.Prelude.{ℕ, ◌≡◌, ◌≢◌, List, [], codes, take}
 use Rattle.std.specs.declared.alloc.Global.{Global}
 use Rattle.std.specs.declared.string.String.{String}
 use Rattle.tmm_model.specs.Standing.{empty_list}
-use Rattle.map_engine.specs.Steps.{Step}
-use Rattle.tmm_cli.specs.declared.status.Status.{Status}
-use Rattle.tmm_cli.specs.declared.status.Status.TheVariants.{Words, WriteFault, NoMemory}
+use Rattle.tmm_model.specs.Transcript.{WholeStep}
+use Rattle.tmm_drive.specs.declared.status.Status.{Status}
+use Rattle.tmm_drive.specs.declared.status.Status.TheVariants.{Words, WriteFault, NoMemory}
 use Rattle.tmm_cli.specs.Demo.{IsDemo, DemoEnds}
-use Rattle.tmm_cli.specs.Endings.{Ends}
+use Rattle.tmm_drive.specs.Endings.{Ends}
 
 -- what is written for words that are none of the program's
 abbrev pub usage : List ℕ
@@ -22,10 +22,15 @@ UsageEnds output status = ⊥
 -- without words: a script from the empty list, or no memory before any byte is read
 abbrev pub ScriptEnds : Type 0 → List ℕ → List ℕ → Status → Type 0
 ScriptEnds at_end taken output NoMemory = (taken ≡ []) × (output ≡ [])
-ScriptEnds at_end taken output status = Ends Step empty_list at_end taken output status
+ScriptEnds at_end taken output status = Ends WholeStep empty_list at_end taken output status
+
+-- with the words `demo n`: what its lines from the empty list on leave, or no memory before the first of them
+abbrev pub SummaryEnds : ℕ → List ℕ → Status → Type 0
+SummaryEnds n output NoMemory = output ≡ []
+SummaryEnds n output status = DemoEnds empty_list n output status
 
 -- **What the program may leave**: the bytes that it takes and writes, and its status. With words it takes no byte.
 pub data ProgramEnds (words : List (String Global)) (at_end : Type 0) (taken output : List ℕ) (status : Status) : Type 0 where
   a_script : words ≡ [] → ScriptEnds at_end taken output status → ProgramEnds words at_end taken output status
-  a_demo : (n : ℕ) → IsDemo words n → taken ≡ [] → DemoEnds empty_list n output status → ProgramEnds words at_end taken output status
+  a_demo : (n : ℕ) → IsDemo words n → taken ≡ [] → SummaryEnds n output status → ProgramEnds words at_end taken output status
   other_words : words ≢ [] → ((n : ℕ) → IsDemo words n → ⊥) → taken ≡ [] → UsageEnds output status → ProgramEnds words at_end taken output status

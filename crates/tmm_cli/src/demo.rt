@@ -10,15 +10,14 @@ ghost use Rattle.tmm_model.specs.Standing.{Standing};
 ghost use Rattle.tmm_cli.specs.Counts.{AreCounts, counts_text, number_word};
 ghost use Rattle.tmm_cli.specs.Demo.{IsDemo, RunReplied, DemoEnds};
 
-use crate::session::Session;
-use crate::status::Status;
-use crate::told::{Kind, Told};
 use arrayvec::ArrayVec;
 use demo_gen::line_of;
 use itoa::Buffer;
 use map_engine::MapCore;
 use std::alloc::Global;
+use tmm_drive::Status;
 use tmm_io::Sink;
+use tmm_session::{Kind, Session, Told};
 use tmm_words::number;
 
 /// The greatest N.
@@ -74,7 +73,7 @@ fn answer_script<M: MapCore + Drop>(alloc: Global, n: u32, session: &mut Session
     requires first { session.old.lines ≡ 0 }
     requires idle { M.pending session.old.core ≡ None }
     ensures { (turns : List Turn) × (replies : List (Option Reply)) × (end : Standing)
-        × RunReplied (M.list session.old.core) 0 (script_of n) turns replies end
+        × RunReplied (M.list session.old.core) (script_of n) turns replies end
         × AreCounts result replies }
 {
     let mut counts = Counts::new();

@@ -1,19 +1,13 @@
-//! `tmm`: a script of lines in, a reply for each line out. It stands on all other crates: `drive` cuts
-//! a source into lines and writes replies, `Session` answers a line over a map, and `run` is the whole
+//! `tmm`: a script of lines in, a reply for each line out. It stands on all other crates: `tmm_drive` cuts
+//! a source into lines and writes replies, `tmm_session` answers a line over a map, and `run` is the whole
 //! program; with the words `demo N` it answers the lines of `demo_gen` instead. The contract of `run`
 //! says what its words, the bytes taken, the bytes written and its status have to do with each other.
 #![tactic(auto)]
 
 mod demo;
-mod drive;
-mod lines;
 mod run;
-mod session;
-mod status;
-mod tally;
 #[cfg(test)]
 mod tests;
-mod told;
 
 use crate::run::run;
 use std::env;

@@ -2,18 +2,15 @@
 ghost use Rattle.std.specs.Prelude.{[], IfOk, ◌≡◌, ◌≢◌, ◌<◌, ◌≤◌, List, ℕ, None};
 ghost use Rattle.std.specs.Io.KnownBytes.{Appends, Consumes, IsAtEnd};
 ghost use Rattle.tmm_io.specs.Causes.{Rose};
-ghost use Rattle.tmm_model.specs.Standing.{empty_list};
-ghost use Rattle.tmm_cli.specs.Demo.{DemoEnds};
-ghost use Rattle.tmm_cli.specs.Program.{ProgramEnds};
+ghost use Rattle.tmm_cli.specs.Program.{ProgramEnds, SummaryEnds};
 
 use crate::demo::{demo, demo_number};
-use crate::drive::drive;
-use crate::session::Session;
-use crate::status::Status;
 use map_engine::PlainMap;
 use std::alloc::Global;
+use tmm_drive::{Status, drive};
 use tmm_io::{Sink, Source};
 use tmm_model::{NoMemory, Seq};
+use tmm_session::Session;
 
 /// All that the program does. Without words it reads a script from the source and writes a reply for
 /// each line to the sink. With the words `demo N` it answers a generated script, and writes one line
@@ -58,7 +55,7 @@ fn run_demo<K: Sink>(alloc: Global, n: u32, sink: &mut K) -> Status
     requires { n ≤ 1000 }
     ensures ends { (output : List ℕ)
         × Appends (K.written sink.old) (K.written sink.new) output
-        × DemoEnds empty_list n output result }
+        × SummaryEnds n output result }
     ensures write_fault { result ≡ Status.WriteFault → Rose (K.faults sink.old) (K.faults sink.new) }
     ensures sink_faults { result ≢ Status.WriteFault → K.faults sink.new ≡ K.faults sink.old }
 {

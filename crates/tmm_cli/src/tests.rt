@@ -1,13 +1,10 @@
 //! What no clause says: the text of whole scripts, that calls succeed, and what faults leave.
-use crate::drive::drive;
-use crate::lines::Lines;
 use crate::run::run;
-use crate::status::Status;
 use std::alloc::Global;
 use std::process::Abort;
 use std::test::Fail;
+use tmm_drive::Status;
 use tmm_io::{MemSink, MemSource, Source, SteadySource};
-use tmm_model::{Seq, Turn};
 
 /// Runs a script in pieces of this many bytes, and compares its replies and its status.
 fn expect(
@@ -29,36 +26,18 @@ fn expect(
 const FIRST: &[u8] = b"point a\npoint b\ndist d a b 3 7\nbounds a b\n";
 
 #[test]
-fn scripts_are_answered(rt: HostRuntime) -> Result<(), Fail> {
-    let alloc = rt.alloc();
-    expect(&rt, alloc, b"", 4096, b"", Status::Clean)?;
+fn scripts_come_in_pieces(rt: HostRuntime) -> Result<(), Fail> {
     for piece in [1, 8, 4096] {
         expect(
             &rt,
-            alloc,
+            rt.alloc(),
             FIRST,
             piece,
             b"1 ok\n2 ok\n3 ok\n4 bounds 3 7\n",
             Status::Clean,
         )?;
     }
-    expect(
-        &rt,
-        alloc,
-        b"point a\npoint b\ndist d a b 3 7\nbounds a b\npoint c\ndist e b c 2 4\nbounds a c\nbounds start a\ndist x c a 0 *\nbounds a c",
-        4096,
-        b"1 ok\n2 ok\n3 ok\n4 bounds 3 7\n5 ok\n6 ok\n7 bounds 5 11\n8 bounds 0 *\n9 no cycle -5\n  x lo a c 0\n  e lo c b -2\n  d lo b a -3\n10 bounds 5 11\n",
-        Status::SomeRefused,
-    )?;
-    expect(&rt, alloc, b"  point   a\r", 4096, b"1 ok\n", Status::Clean)?;
-    expect(
-        &rt,
-        alloc,
-        b"point a\ndist d a a 1 2\ndist e a a 0 5\n",
-        4096,
-        b"1 ok\n2 no cycle -1\n  d lo a a -1\n3 ok\n",
-        Status::SomeRefused,
-    )
+    Ok(())
 }
 
 #[test]
@@ -99,17 +78,31 @@ fn premises_are_erased(rt: HostRuntime) -> Result<(), Fail> {
     )
 }
 
+/// Calls of the source that fail, where it gives pieces of 8 bytes, and what is written then.
+const READ_FAULTS: [(u64, &[u8]); 2] = [(1, b""), (3, b"1 ok\n2 ok\n")];
+
+/// Calls of the sink that fail, how many bytes each keeps, and what is written then.
+const WRITE_FAULTS: [(u64, usize, &[u8]); 3] = [
+    (1, 0, b""),
+    (3, 2, b"1 ok\n2 ok\n3 "),
+    (4, 13, b"1 ok\n2 ok\n3 ok\n4 bounds 3 7\n"),
+];
+
 #[test]
 fn faults_end_the_run(rt: HostRuntime) -> Result<(), Fail> {
     let alloc = rt.alloc();
-    let mut source = MemSource::make(alloc, FIRST, 8, &[3])?;
-    let mut sink = MemSink::make(alloc, 1 << 20, &[])?;
-    assert_eq!(rt; run(alloc, &[], &mut source, &mut sink), Status::ReadFault);
-    assert_eq!(rt; sink.bytes(), b"1 ok\n2 ok\n".as_slice());
-    let mut source = SteadySource::make(alloc, FIRST, 4096)?;
-    let mut sink = MemSink::make(alloc, 1 << 20, &[(3, 2)])?;
-    assert_eq!(rt; run(alloc, &[], &mut source, &mut sink), Status::WriteFault);
-    assert_eq!(rt; sink.bytes(), b"1 ok\n2 ok\n3 ".as_slice());
+    for (call, replies) in READ_FAULTS {
+        let mut source = MemSource::make(alloc, FIRST, 8, &[call])?;
+        let mut sink = MemSink::make(alloc, 1 << 10, &[])?;
+        assert_eq!(rt; run(alloc, &[], &mut source, &mut sink), Status::ReadFault);
+        assert_eq!(rt; sink.bytes(), replies);
+    }
+    for (call, kept, replies) in WRITE_FAULTS {
+        let mut source = SteadySource::make(alloc, FIRST, 4096)?;
+        let mut sink = MemSink::make(alloc, 1 << 10, &[(call, kept)])?;
+        assert_eq!(rt; run(alloc, &[], &mut source, &mut sink), Status::WriteFault);
+        assert_eq!(rt; sink.bytes(), replies);
+    }
     Ok(())
 }
 
@@ -201,56 +194,30 @@ fn a_summary_may_break_off(rt: HostRuntime) -> Result<(), Fail> {
     Ok(())
 }
 
-/// Answers each line as one for which there is no memory.
-#[derive(Drop)]
-struct Forgetful {
-    lines: u64,
-}
-
-impl Lines for Forgetful {
-    ghost use Rattle.std.specs.Prelude.{◌≡◌, ℕ};
-    ghost use Rattle.tmm_model.specs.declared.turn.Turn.TheVariants.{Memory};
-
-    ghost State = { ℕ };
-
-    ghost state = { λ s. s.lines };
-
-    ghost number = { λ s. s.lines };
-
-    ghost ready = { λ s. Unit {0} };
-
-    ghost step = { λ old k line turn new. (turn ≡ Memory) × (new ≡ k) };
-
-    ghost long_lines = { λ old new k a b turn long_a long_b is. is };
-
-    fn line(&mut self, _alloc: Global, _bytes: &[u8]) -> Turn {
-        self.lines += 1;
-        Turn::Memory
-    }
-}
-
-// The loop knows nothing of maps.
-#[test]
-fn any_lines_are_driven(rt: HostRuntime) -> Result<(), Fail> {
-    let alloc = rt.alloc();
-    for piece in [1, 5, 4096] {
-        let mut source = MemSource::make(alloc, b"a\n\n# b\nc", piece, &[])?;
-        let mut sink = MemSink::make(alloc, 1 << 20, &[])?;
-        let mut buffer = Seq::make(alloc);
-        buffer.reserve(401)?;
-        let mut lines = Forgetful { lines: 0 };
-        let ended = drive(alloc, &mut lines, &mut buffer, &mut source, &mut sink);
-        assert_eq!(rt;
-            sink.bytes(),
-            b"1 memory\n2 memory\n3 memory\n4 memory\n".as_slice()
-        );
-        assert_eq!(rt; ended, Status::SomeMemory);
-    }
-    Ok(())
-}
-
 /// Scripts of facts, events and rules, with their replies and their statuses.
 const ROWS: &[(&[u8], &[u8], Status)] = &[
+    // no line at all
+    (b"", b"", Status::Clean),
+    // a line without its end
+    (b"  point   a\r", b"1 ok\n", Status::Clean),
+    // bounds, and a constraint that closes a cycle
+    (
+        b"point a\npoint b\ndist d a b 3 7\nbounds a b\npoint c\ndist e b c 2 4\nbounds a c\nbounds start a\ndist x c a 0 *\nbounds a c",
+        b"1 ok\n2 ok\n3 ok\n4 bounds 3 7\n5 ok\n6 ok\n7 bounds 5 11\n8 bounds 0 *\n9 no cycle -5\n  x lo a c 0\n  e lo c b -2\n  d lo b a -3\n10 bounds 5 11\n",
+        Status::SomeRefused,
+    ),
+    // a constraint of a point with itself
+    (
+        b"point a\ndist d a a 1 2\ndist e a a 0 5\n",
+        b"1 ok\n2 no cycle -1\n  d lo a a -1\n3 ok\n",
+        Status::SomeRefused,
+    ),
+    // all that is kept, and its check
+    (
+        b"class door open shut\ntoken k open\ntoken m shut\ndist d k m 5 5\ndump\naudit\nsize\naudit x\n",
+        b"1 ok\n2 ok\n3 ok\n4 ok\n  clip k by m\n5 dump 4\n  horizon 1000\n  class door open shut\n  token k open\n  token m shut\n  dist d k m 5 5\n6 audit yes\n7 size 2\n8 no form\n",
+        Status::SomeRefused,
+    ),
     // a premise that others hang on
     (
         b"point a\npoint b\ndist d a b 3 7\nbounds a b\npoint c\ndist w c b 0 0\nerase a\nbounds c b\n",

@@ -1,5 +1,5 @@
 use Rattle.std.proofs.Common.{◌≡◌, ◌∙◌, take, nat_lt, if◌then◌else◌, refl}
-use Rattle.tmm_cli.specs.declared.status.Status.TheVariants.{Clean, SomeRefused, SomeMemory}
+use Rattle.tmm_drive.specs.declared.status.Status.TheVariants.{Clean, SomeRefused, SomeMemory}
 use Rattle.tmm_cli.proofs.Counted.{demo_ends}
 use Rattle.tmm_cli.proofs.demo.demo.Goals as goal
 

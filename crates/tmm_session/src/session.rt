@@ -1,0 +1,307 @@
+// One line to one reply.
+ghost use Rattle.std.specs.Prelude.{◌≡◌, ◌+◌, ◌-◌, ◌^◌, ◌<◌, None, MatchResult};
+ghost use Rattle.tmm_model.specs.Lines.{IsWellFormedEdit, IsWellFormedQuery};
+ghost use Rattle.tmm_model.specs.Replies.{Refused, Answered};
+ghost use Rattle.tmm_model.specs.Standing.{Standing};
+ghost use Rattle.tmm_model.specs.Transcript.{WholeStep};
+ghost use Rattle.tmm_session.specs.Kinds.{kind_of};
+ghost use Rattle.tmm_session.specs.Sessions.{Tells, TellsLine, TellsMeaning};
+ghost use Rattle.tmm_session.specs.LongLines.{WholeStep-long};
+
+use crate::told::{Kind, Told};
+use map_engine::MapCore;
+use projection::Counter;
+use replies::{
+    Word, reply_answer, reply_bounds, reply_check, reply_dump, reply_list, reply_no, reply_number,
+    reply_ok, reply_path, reply_why,
+};
+use std::alloc::Global;
+use tmm_drive::Lines;
+use tmm_model::{
+    Answer, Edit, Line, Name, NoMemory, Occ, Query, QueryPoint, Refusal, Seq, Stop, Turn,
+};
+use tmm_script::{LONGEST_LINE, is_silent, parse_line};
+
+/// Answers the lines of a script over a map.
+#[derive(Drop)]
+pub struct Session<M: MapCore + Drop> {
+    /// The map.
+    pub core: M,
+    /// How many lines were given.
+    pub lines: u64,
+    /// The decisions that the map counts.
+    pub counter: Counter,
+}
+
+impl<M: MapCore + Drop> Session<M> {
+    /// A session over a map in which nothing is pending, with no line given and no decision counted.
+    pub fn make(core: M) -> Session<M>
+        requires { M.pending core ≡ None }
+        ensures core { result.core ≡ core }
+        ensures lines { result.lines ≡ 0 }
+        ensures counter { result.counter ≡ 0 }
+    {
+        Session {
+            core,
+            lines: 0,
+            counter: Counter::zero(),
+        }
+    }
+
+    /// Answers the next line, given without its end, and tells of which kind the reply is.
+    pub fn tell(&mut self, alloc: Global, bytes: &[u8]) -> Told
+        requires idle { M.pending self.old.core ≡ None }
+        requires few { self.old.lines < 2 ^ 64 - 1 }
+        ensures tells { TellsLine (M.list self.old.core) (self.old.lines + 1) bytes.now result (M.list self.new.core) }
+        ensures number { self.new.lines ≡ self.old.lines + 1 }
+        ensures idle { M.pending self.new.core ≡ None }
+    {
+        self.lines += 1;
+        // Most of a long script may be comments: they are passed over before a `Line` is made.
+        if bytes.len() <= LONGEST_LINE && is_silent(bytes) {
+            return Told::Silent;
+        }
+        said(alloc, self.lines, bytes, &mut self.core, &mut self.counter)
+    }
+}
+
+impl<M: MapCore + Drop> Lines for Session<M> {
+    ghost State = { Standing };
+
+    ghost state = { λ s. M.list s.core };
+
+    ghost number = { λ s. s.lines };
+
+    ghost ready = { λ s. M.pending s.core ≡ None };
+
+    ghost step = { WholeStep };
+
+    ghost long_lines = { WholeStep-long };
+
+    fn line(&mut self, alloc: Global, bytes: &[u8]) -> Turn {
+        self.tell(alloc, bytes).turn()
+    }
+}
+
+// Answers a line by what it says. What it says may be large, so this is kept apart from the way that
+// silent lines take.
+#[inline(never)]
+fn said<M: MapCore>(
+    alloc: Global,
+    line: u64,
+    bytes: &[u8],
+    core: &mut M,
+    counter: &mut Counter,
+) -> Told
+    requires idle { M.pending core.old ≡ None }
+    ensures tells { TellsLine (M.list core.old) line bytes.now result (M.list core.new) }
+    ensures idle { M.pending core.new ≡ None }
+{
+    let meaning = match parse_line(alloc, bytes) {
+        Ok(meaning) => meaning,
+        Err(Stop::Refused(refusal)) => return refuse(alloc, line, &refusal),
+        Err(Stop::NoMemory) => return Told::Memory,
+    };
+    match meaning {
+        Line::Silent => Told::Silent,
+        Line::Change(edit) => change(alloc, line, &edit, core, counter),
+        Line::Question(query) => answer(alloc, line, &query, core),
+    }
+}
+
+// The reply that these bytes are, where there was memory for them.
+fn reply(bytes: Result<Seq<u8>, NoMemory>, kind: Kind) -> Told
+    ensures { MatchResult bytes (λ text. result ≡ Told.Reply text kind) (λ _. result ≡ Told.Memory) }
+{
+    match bytes {
+        Ok(bytes) => Told::Reply { bytes, kind },
+        Err(NoMemory) => Told::Memory,
+    }
+}
+
+// Refuses a line.
+fn refuse(alloc: Global, line: u64, refusal: &Refusal) -> Told
+    ensures { Tells line (λ reply. reply ≡ Refused refusal.now) (Unit {0}) result }
+{
+    reply(reply_no(alloc, line, refusal), Kind::Refused)
+}
+
+// Makes an edit, and keeps it once there is a reply.
+fn change<M: MapCore>(
+    alloc: Global,
+    line: u64,
+    edit: &Edit,
+    core: &mut M,
+    counter: &mut Counter,
+) -> Told
+    requires idle { M.pending core.old ≡ None }
+    requires well_formed { IsWellFormedEdit edit.now }
+    ensures tells { TellsMeaning (M.list core.old) line (Line.Change edit.now) result (M.list core.new) }
+    ensures idle { M.pending core.new ≡ None }
+{
+    match core.apply(alloc, edit, counter) {
+        Ok(made) => match reply_ok(alloc, line, &made.changes) {
+            Ok(bytes) => {
+                core.commit();
+                Told::Reply {
+                    bytes,
+                    kind: Kind::Accepted,
+                }
+            }
+            Err(NoMemory) => {
+                core.rollback();
+                Told::Memory
+            }
+        },
+        Err(Stop::Refused(refusal)) => refuse(alloc, line, &refusal),
+        Err(Stop::NoMemory) => Told::Memory,
+    }
+}
+
+// Answers a question about the map's list, under this line number.
+pub fn answer<M: MapCore>(alloc: Global, line: u64, query: &Query, core: &M) -> Told
+    requires idle { M.pending core.now ≡ None }
+    requires well_formed { IsWellFormedQuery query.now }
+    ensures { TellsMeaning (M.list core.now) line (Line.Question query.now) result (M.list core.now) }
+{
+    match query {
+        Query::Bounds(p, q) => answer_bounds(alloc, line, p, q, core),
+        Query::Path(p, q) => answer_path(alloc, line, p, q, core),
+        Query::Ask(fact, p, q) => answer_ask(alloc, line, *fact, p, q, core),
+        Query::Why(occ) => answer_why(alloc, line, occ, core),
+        Query::Check => answer_check(alloc, line, core),
+        Query::List => answer_list(alloc, line, core),
+        Query::Dump => reply(reply_dump(alloc, line, core.standing()), Kind::Other),
+        Query::Size => answer_size(alloc, line, core),
+        Query::Audit => answer_audit(alloc, line, core),
+    }
+}
+
+fn answer_bounds<M: MapCore>(
+    alloc: Global,
+    line: u64,
+    p: &QueryPoint,
+    q: &QueryPoint,
+    core: &M,
+) -> Told
+    requires idle { M.pending core.now ≡ None }
+    requires well_formed { IsWellFormedQuery (Query.Bounds p.now q.now) }
+    ensures { TellsMeaning (M.list core.now) line (Line.Question (Query.Bounds p.now q.now)) result (M.list core.now) }
+{
+    match core.bounds(alloc, p, q) {
+        Ok((lo, hi)) => reply(reply_bounds(alloc, line, lo, hi), Kind::Other),
+        Err(Stop::Refused(refusal)) => refuse(alloc, line, &refusal),
+        Err(Stop::NoMemory) => Told::Memory,
+    }
+}
+
+fn answer_path<M: MapCore>(
+    alloc: Global,
+    line: u64,
+    p: &QueryPoint,
+    q: &QueryPoint,
+    core: &M,
+) -> Told
+    requires idle { M.pending core.now ≡ None }
+    requires well_formed { IsWellFormedQuery (Query.Path p.now q.now) }
+    ensures { TellsMeaning (M.list core.now) line (Line.Question (Query.Path p.now q.now)) result (M.list core.now) }
+{
+    match core.path(alloc, p, q) {
+        Ok((far, steps)) => reply(reply_path(alloc, line, far, steps.items()), Kind::Other),
+        Err(Stop::Refused(refusal)) => refuse(alloc, line, &refusal),
+        Err(Stop::NoMemory) => Told::Memory,
+    }
+}
+
+fn answer_ask<M: MapCore>(
+    alloc: Global,
+    line: u64,
+    fact: Name,
+    p: &QueryPoint,
+    q: &QueryPoint,
+    core: &M,
+) -> Told
+    requires idle { M.pending core.now ≡ None }
+    requires well_formed { IsWellFormedQuery (Query.Ask fact p.now q.now) }
+    ensures { TellsMeaning (M.list core.now) line (Line.Question (Query.Ask fact p.now q.now)) result (M.list core.now) }
+{
+    match core.ask(alloc, fact, p, q) {
+        Ok(answer) => tell_answer(alloc, line, &answer),
+        Err(Stop::Refused(refusal)) => refuse(alloc, line, &refusal),
+        Err(Stop::NoMemory) => Told::Memory,
+    }
+}
+
+// Tells an answer; that the points are in no order is a refusal.
+fn tell_answer(alloc: Global, line: u64, answer: &Answer) -> Told
+    ensures { Tells line (λ reply. reply ≡ Answered answer.now) (Unit {0}) result }
+{
+    reply(reply_answer(alloc, line, answer), answer_kind(answer))
+}
+
+fn answer_kind(answer: &Answer) -> Kind
+    ensures { result ≡ kind_of (Answered answer.now) }
+{
+    match answer {
+        Answer::Yes(_) => Kind::Yes,
+        Answer::No { .. } => Kind::No,
+        Answer::Unordered => Kind::Refused,
+    }
+}
+
+fn answer_why<M: MapCore>(alloc: Global, line: u64, occ: &Occ, core: &M) -> Told
+    requires idle { M.pending core.now ≡ None }
+    requires well_formed { IsWellFormedQuery (Query.Why occ.now) }
+    ensures { TellsMeaning (M.list core.now) line (Line.Question (Query.Why occ.now)) result (M.list core.now) }
+{
+    match core.why(alloc, occ) {
+        Ok(lines) => reply(reply_why(alloc, line, lines.items()), Kind::Other),
+        Err(Stop::Refused(refusal)) => refuse(alloc, line, &refusal),
+        Err(Stop::NoMemory) => Told::Memory,
+    }
+}
+
+fn answer_check<M: MapCore>(alloc: Global, line: u64, core: &M) -> Told
+    requires idle { M.pending core.now ≡ None }
+    ensures { TellsMeaning (M.list core.now) line (Line.Question Query.Check) result (M.list core.now) }
+{
+    match core.check(alloc) {
+        Ok(reports) => reply(reply_check(alloc, line, reports.items()), Kind::Other),
+        Err(NoMemory) => Told::Memory,
+    }
+}
+
+fn answer_list<M: MapCore>(alloc: Global, line: u64, core: &M) -> Told
+    requires idle { M.pending core.now ≡ None }
+    ensures { TellsMeaning (M.list core.now) line (Line.Question Query.List) result (M.list core.now) }
+{
+    match core.list(alloc) {
+        Ok(rows) => reply(reply_list(alloc, line, rows.items()), Kind::Other),
+        Err(NoMemory) => Told::Memory,
+    }
+}
+
+// What is kept is right, so the only answer is yes.
+fn answer_audit<M: MapCore>(alloc: Global, line: u64, core: &M) -> Told
+    requires idle { M.pending core.now ≡ None }
+    ensures { TellsMeaning (M.list core.now) line (Line.Question Query.Audit) result (M.list core.now) }
+{
+    match core.audit(alloc) {
+        Ok(right) => reply(
+            reply_number(alloc, line, Word::Audit, u64::from(right)),
+            Kind::Other,
+        ),
+        Err(NoMemory) => Told::Memory,
+    }
+}
+
+fn answer_size<M: MapCore>(alloc: Global, line: u64, core: &M) -> Told
+    requires idle { M.pending core.now ≡ None }
+    ensures { TellsMeaning (M.list core.now) line (Line.Question Query.Size) result (M.list core.now) }
+{
+    let size = core.size();
+    reply(
+        reply_number(alloc, line, Word::Size, size),
+        Kind::Size(size),
+    )
+}
