@@ -15,7 +15,7 @@ use Rattle.tmm_model.proofs.KnownNames.{found}
 use Rattle.tmm_model.proofs.Sound.{named_rule}
 use Rattle.supports.specs.Rules.{IsRule}
 use Rattle.projection.specs.Places.{name_at, IsRuleAt}
-use Rattle.projection.proofs.Grown.{stands}
+use Rattle.supports.proofs.Grown.{stands}
 
 pub named_at : (s : Standing) (place : ℕ) (p : Premise) → slice_get s.premises place ≡ Some p → name_at s place ≡ name_of p
 named_at s place p at = ap (λ o. option_map_or name_of o []) at

@@ -1,11 +1,8 @@
-pub mod Facts
-pub mod Grown
 pub mod AtPlaces
 pub mod Tried
 pub mod Dates
 pub mod OnKinds
 pub mod Waiting
-pub mod Effects
 pub mod Steps
 pub mod Settled
 pub mod Decided

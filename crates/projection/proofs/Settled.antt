@@ -21,11 +21,11 @@ use Rattle.spots.specs.Forest.{Forest, moment_at}
 use Rattle.spots.specs.Seen.{IsSeen, Holds}
 use Rattle.projection.specs.declared.pending.Pending.{Pending}
 use Rattle.projection.specs.Counted.{due_rules}
-use Rattle.projection.specs.Growing.{Adds, AddsRoot, AddsRootAt}
+use Rattle.supports.specs.Growing.{Adds}
 use Rattle.projection.specs.Places.{rule_at}
 use Rattle.projection.specs.Projecting.{Pends, IsGrown, IsStarted, IsGrowing}
 use Rattle.projection.specs.Queues.{is_for, Queues, weight_at, IsTooLarge}
-use Rattle.projection.proofs.Grown.{new_root, root_name}
+use Rattle.supports.proofs.Grown.{new_root, root_name}
 use Rattle.projection.proofs.Steps.{push_cases, too_large, pends_kept, pends_new, waits_more, grown_more, root_no_effect, root_believed}
 
 -- ---- what is declared
@@ -134,21 +134,7 @@ module _ (s : Standing) (net : Net) (f : Forest) (queue : List Pending) (n : ℕ
           not_before : (z : ℤ) (d : ℕ) → z ≡ pos d → pos 0 ≤ℤ z
           not_before z d e = omega (arith, ints)
 
--- ---- what an addition says of a premise
-
-pub root_added : (s : Standing) (net : Net) (p : Premise) (f new : Forest) (x : ℕ) → AddsRoot s net.names p f new (Some x) → (k : Moment) × (root_of p ≡ Some k) × Adds s net.names f new x k
-root_added s net p f new x = by (root_of p) refl
-  where
-    by : (o : Option Moment) → root_of p ≡ o → AddsRootAt s net.names o f new (Some x) → (k : Moment) × (root_of p ≡ Some k) × Adds s net.names f new x k
-    by (Some k) e adds = (k, e, adds)
-    by None e never = absurd never
-
-pub root_skipped : (s : Standing) (net : Net) (p : Premise) (f new : Forest) → AddsRoot s net.names p f new None → (root_of p ≡ None) × (new ≡ f)
-root_skipped s net p f new = by (root_of p) refl
-  where
-    by : (o : Option Moment) → root_of p ≡ o → AddsRootAt s net.names o f new None → (root_of p ≡ None) × (new ≡ f)
-    by None e same = (e, same)
-    by (Some k) e never = absurd never
+-- ---- sizes
 
 -- a size that is too large, where a larger one is
 pub larger : (m n : ℕ) (stop : Stop) → (most_size < m → most_size < n) → IsTooLarge m stop → IsTooLarge n stop

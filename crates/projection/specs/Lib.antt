@@ -1,5 +1,4 @@
 pub mod Decisions
-pub mod Growing
 pub mod Places
 pub mod Kinds
 pub mod Counted

@@ -10,7 +10,7 @@ ghost use Rattle.list_net.specs.Fits.{IsNetOf};
 ghost use Rattle.spots.specs.Forest.{IsLive, moment_at};
 ghost use Rattle.spots.specs.Seen.{IsSeen, Holds};
 ghost use Rattle.projection.specs.Counted.{decisions_due};
-ghost use Rattle.projection.specs.Growing.{Adds, effect_shape, MayEnter};
+ghost use Rattle.supports.specs.Growing.{Adds, effect_shape, MayEnter};
 ghost use Rattle.projection.specs.Kinds.{AreRules};
 ghost use Rattle.projection.specs.Places.{name_at, IsRuleAt};
 ghost use Rattle.projection.specs.Projecting.{IsStarted, IsGrowingWith, Settles, FiresAmong, left};
@@ -19,13 +19,13 @@ ghost use Rattle.projection.specs.Queues.{Queues, weight_at, IsTooLarge};
 use crate::decision::{Counter, is_free};
 use crate::kinds::RulesByKind;
 use crate::pending::{Pending, Queue};
-use crate::root::add_root;
 use crate::rule::{due_by, text_at};
 use dist_net::DistNet;
 use occ_tree::Tree;
 use premise_list::Standing;
 use std::alloc::Global;
 use std::cmp::Reverse;
+use supports::add_root;
 use tmm_model::{Name, NoMemory, Premise, Refusal, Shape, Stop};
 
 /// The most that the occurrences of a map with their rules may count.

@@ -11,7 +11,6 @@ mod decision;
 mod growth;
 mod kinds;
 mod pending;
-mod root;
 mod rule;
 #[cfg(test)]
 mod tests;

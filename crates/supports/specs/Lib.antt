@@ -2,3 +2,4 @@ pub mod Behind
 pub mod Faults
 pub mod Nodes
 pub mod Rules
+pub mod Growing

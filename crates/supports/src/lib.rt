@@ -1,10 +1,10 @@
 //! Which believed token supports a fact, what clips a token, and why a token is no supporter: what
-//! `clipping` answers over the tokens of a tree, told of the occurrences of the standing list; and
-//! what a standing rule says, whose antecedents want supporters. It stands on `occ_tree`, `clipping`
-//! and `name_lists`.
+//! `clipping` answers over the tokens of a tree, told of the occurrences of the standing list; what a
+//! standing rule says, whose antecedents want supporters; and what a premise declares to occur, as a
+//! node of a tree. It stands on `occ_tree`, `clipping` and `name_lists`.
 //!
-//! Each call answers the definition for the list, over the occurrences that the nodes are. `clips`
-//! alone takes memory.
+//! Each call answers the definition for the list, over the occurrences that the nodes are. `clips` and
+//! `add_root` alone take memory.
 #![tactic(auto)]
 
 ghost use Rattle.std.specs.Prelude.{◌≡◌, ◌<◌, ℕ, List, length, None, Some, IsSome, IfSome, slice_index_or};
@@ -24,6 +24,7 @@ ghost use Rattle.supports.specs.Faults.{fault_at};
 ghost use Rattle.supports.specs.Nodes.{IsOfNode, HasNode};
 
 mod all_clips;
+mod root;
 mod rule;
 
 pub use all_clips::clips;
@@ -31,6 +32,7 @@ use clipping::{Fault, first_clipper, holder, is_held};
 use dist_net::DistNet;
 use occ_tree::{Order, Tree};
 use premise_list::Standing;
+pub use root::add_root;
 pub use rule::{RuleText, rule_text};
 use spots::Spot;
 use tmm_model::{Name, TokenRow};

@@ -11,10 +11,10 @@ use Rattle.dist_net.specs.Net.{Net}
 use Rattle.spots.specs.Forest.{Member, member, Enters, child_member, moment_at, IsTrigger}
 use Rattle.spots.specs.Seen.{IsSeen}
 use Rattle.spots.proofs.Nodes.{node_at}
-use Rattle.projection.specs.Growing.{Adds, effect_shape}
+use Rattle.supports.specs.Growing.{Adds, effect_shape}
 use Rattle.projection.specs.Places.{name_at}
 use Rattle.projection.proofs.AtPlaces.{named_at, found_at}
-use Rattle.projection.proofs.Effects.{is_trigger, delay_is, effect_adds}
+use Rattle.supports.proofs.Entering.{is_trigger, delay_is, effect_adds}
 use Rattle.projection.proofs.growth.add_effect.Goals as goal
 
 ok_kept : {T E : Type 0} (P Q : T → Type 0) (r : Result T E) → ((x : T) → P x → Q x) → IfOk r P → IfOk r Q

@@ -7,8 +7,8 @@ use Rattle.tmm_model.specs.Beliefs.{rules_at}
 use Rattle.tmm_model.specs.Maps.{built}
 use Rattle.spots.specs.Forest.{moment_at}
 use Rattle.projection.proofs.Ends.{ok_four, err_kept}
-use Rattle.projection.proofs.Grown.{taken, parted, stands, no_root, root_seen}
-use Rattle.projection.proofs.Settled.{root_added, root_skipped, started_none, started_more, root_too_large, larger}
+use Rattle.supports.proofs.Grown.{taken, parted, stands, no_root, root_seen, root_added, root_skipped}
+use Rattle.projection.proofs.Settled.{started_none, started_more, root_too_large, larger}
 use Rattle.projection.proofs.Steps.{new_live}
 use Rattle.projection.proofs.growth.declare.Goals as goal
 

@@ -4,7 +4,8 @@ use Rattle.tmm_model.specs.Beliefs.{on_kind, rules_on}
 use Rattle.spots.proofs.Nodes.{node_at}
 use Rattle.projection.specs.Places.{name_at, IsRuleAt}
 use Rattle.projection.proofs.AtPlaces.{placed}
-use Rattle.projection.proofs.OnKinds.{rules_of_event, length-filter_map-le}
+use Rattle.supports.proofs.OnKinds.{rules_of_event}
+use Rattle.projection.proofs.OnKinds.{length-filter_map-le}
 use Rattle.projection.proofs.kinds.RulesByKind.at.Goals as goal
 
 pub returns-in-Event-clause-value : goal.returns-in-Event-clause-value

@@ -25,10 +25,10 @@ use Rattle.spots.specs.declared.link.Link.{Link}
 use Rattle.spots.specs.Forest.{Forest, Member, member, moment, moment_at, rules_of, Enters, IsTrigger, child_member}
 use Rattle.spots.specs.Seen.{IsLinkOf, class_for, IsSeen}
 use Rattle.spots.proofs.Nodes.{moment_at-is}
-use Rattle.projection.specs.Growing.{Adds, effect_shape, MayEnter}
-use Rattle.projection.proofs.Facts.{effect_is}
-use Rattle.projection.proofs.Grown.{class_is}
-use Rattle.projection.proofs.OnKinds.{event_of_rules}
+use Rattle.supports.specs.Growing.{Adds, effect_shape, MayEnter}
+use Rattle.supports.proofs.Effects.{effect_is}
+use Rattle.supports.proofs.Grown.{class_is}
+use Rattle.supports.proofs.OnKinds.{event_of_rules}
 
 -- what a rule leads to begins after the event
 child_moment : (m : Member) (link : Link) (what : List ℕ) (class : Option (List ℕ)) (shape : Shape) → moment (child_member m link what class shape) ≡ After (moment m) link.rule

@@ -4,7 +4,7 @@ ghost use Rattle.tmm_model.specs.Standing.{name_of};
 ghost use Rattle.tmm_model.proofs.Elements.{In};
 ghost use Rattle.spots.specs.Forest.{IsNoRoot};
 ghost use Rattle.list_net.specs.Fits.{IsNetOf};
-ghost use Rattle.projection.specs.Growing.{AddsRoot};
+ghost use Rattle.supports.specs.Growing.{AddsRoot};
 
 use dist_net::DistNet;
 use list_net::number_of;
@@ -13,8 +13,9 @@ use premise_list::Standing;
 use std::alloc::Global;
 use tmm_model::{Name, NoMemory, PointName, Premise, Shape};
 
-// Adds what the premise declares to occur, and answers its number, none where it declares nothing.
-pub(crate) fn add_root(
+/// Adds what a standing premise declares to occur, and answers its number, none where it declares
+/// nothing. Without memory nothing is answered.
+pub fn add_root(
     alloc: Global,
     standing: &Standing,
     net: &DistNet,

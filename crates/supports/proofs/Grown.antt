@@ -26,9 +26,9 @@ use Rattle.list_net.specs.Fits.{IsNetOf}
 use Rattle.list_net.specs.Represents.{IsNumberOf}
 use Rattle.spots.specs.Forest.{Forest, Member, member, moment, rules_of, Enters, IsNoRoot, IsOnce, root_member}
 use Rattle.spots.specs.Seen.{IsMemberOf, IsSeen, Holds}
-use Rattle.projection.specs.Growing.{Adds, AddsRootAt, AddsRoot}
+use Rattle.supports.specs.Growing.{Adds, AddsRootAt, AddsRoot}
 use Rattle.supports.proofs.Facts.{fact_known}
-use Rattle.projection.proofs.Facts.{point_there}
+use Rattle.supports.proofs.Effects.{point_there}
 
 -- ---- an element of a list, and what is before it
 
@@ -184,7 +184,7 @@ module _ (s : Standing) (sound : IsSound s) (net : Net) (network : IsNetOf s net
   root_is : (p : Premise) → In p s.premises → as_root (Rattle.tmm_model.specs.WellNamed.premise_in s.premises (name_of p)) ≡ as_root (Some p)
   root_is p at = ap as_root (found s.premises sound.well_named p at)
 
-  occurs_root : (p : Premise) (k : Moment) → In p s.premises → root_of p ≡ Some k → Contains (roots s) k
+  pub occurs_root : (p : Premise) (k : Moment) → In p s.premises → root_of p ≡ Some k → Contains (roots s) k
   occurs_root p k at is = Contains-from_In (roots s) k (filter_map-In root_of s.premises p k at is)
 
   pub event_adds : (name kind : List ℕ) → In (Event name kind) s.premises → (begin : ℕ) → IsNumberOf net.names begin (Begin name)
@@ -234,3 +234,19 @@ module _ (s : Standing) (sound : IsSound s) (net : Net) (network : IsNetOf s net
     };
     is = refl;
   }
+
+-- ---- what an addition says of a premise
+
+pub root_added : (s : Standing) (net : Net) (p : Premise) (f new : Forest) (x : ℕ) → AddsRoot s net.names p f new (Some x) → (k : Moment) × (root_of p ≡ Some k) × Adds s net.names f new x k
+root_added s net p f new x = by (root_of p) refl
+  where
+    by : (o : Option Moment) → root_of p ≡ o → AddsRootAt s net.names o f new (Some x) → (k : Moment) × (root_of p ≡ Some k) × Adds s net.names f new x k
+    by (Some k) e adds = (k, e, adds)
+    by None e never = absurd never
+
+pub root_skipped : (s : Standing) (net : Net) (p : Premise) (f new : Forest) → AddsRoot s net.names p f new None → (root_of p ≡ None) × (new ≡ f)
+root_skipped s net p f new = by (root_of p) refl
+  where
+    by : (o : Option Moment) → root_of p ≡ o → AddsRootAt s net.names o f new None → (root_of p ≡ None) × (new ≡ f)
+    by None e same = (e, same)
+    by (Some k) e never = absurd never

@@ -5,10 +5,10 @@ use Rattle.tmm_model.specs.declared.premise.Premise.TheVariants.{Event, Token, S
 use Rattle.tmm_model.specs.declared.token.Shape.TheVariants.{Persistence as APersistence, Span as ASpan}
 use Rattle.tmm_model.proofs.Elements.{In}
 use Rattle.spots.specs.Forest.{Enters, root_member}
-use Rattle.projection.specs.Growing.{AddsRoot}
+use Rattle.supports.specs.Growing.{AddsRoot}
 use Rattle.supports.proofs.Facts.{fact_known}
-use Rattle.projection.proofs.Grown.{number_there, event_adds, token_adds, span_adds}
-use Rattle.projection.proofs.root.add_root.Goals as goal
+use Rattle.supports.proofs.Grown.{number_there, event_adds, token_adds, span_adds}
+use Rattle.supports.proofs.root.add_root.Goals as goal
 
 pub number_of-begin-requires : goal.number_of-begin-requires
 number_of-begin-requires c =

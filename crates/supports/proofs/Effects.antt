@@ -20,7 +20,7 @@ use Rattle.tmm_model.proofs.WellNamed.{IsNewThen, first_taken-none, words_known-
 use Rattle.premise_list.specs.Words.{facts_of, own_sort}
 use Rattle.premise_list.proofs.Lookups.{declarations_parted}
 use Rattle.supports.proofs.Facts.{class_in-cons, sort_in-cons, fact-class, used_after}
-use Rattle.projection.specs.Growing.{effect_shape}
+use Rattle.supports.specs.Growing.{effect_shape}
 
 -- ---- points
 

@@ -1,0 +1,126 @@
+-- What may enter a tree of rows: what joins the occurrences that its nodes are.
+use Rattle.std.proofs.Common.{◌≡◌, ◌∙◌, ℕ, ◌+◌, ◌-◌, ◌<◌, true, false, List, take, get_or, length, refl, sym, ap, subst, arith}
+use Rattle.std.proofs.lemmas.List.{take_all}
+use Rattle.std.specs.Prelude.{Option, Some, None, is_some}
+use Rattle.std.specs.List.{Contains}
+use Rattle.tmm_model.specs.declared.point.PointName.TheVariants.{Begin}
+use Rattle.tmm_model.specs.declared.premise.Premise.{Premise}
+use Rattle.tmm_model.specs.Beliefs.{root_of, roots}
+use Rattle.tmm_model.specs.Moments.{Moment, At, After, along, base}
+use Rattle.tmm_model.specs.Right.{IsSound}
+use Rattle.tmm_model.specs.Standing.{Standing, name_of}
+use Rattle.tmm_model.specs.WellNamed.{premise_in}
+use Rattle.tmm_model.proofs.Elements.{In, In-from_Contains, Contains-from_In, In-filter_map}
+use Rattle.tmm_model.proofs.KnownNames.{found, finds}
+use Rattle.tmm_model.proofs.Moments.{along-push}
+use Rattle.dist_net.specs.Net.{Net}
+use Rattle.spots.specs.Forest.{Forest, moment, moment_at, IsLive, IsNoRoot, IsFound}
+use Rattle.spots.specs.Seen.{Holds}
+use Rattle.spots.proofs.Nodes.{node_at, moment_at-is, base-moment}
+use Rattle.supports.specs.Growing.{Adds, AddsRoot, AddsRootAt}
+use Rattle.supports.proofs.Taken.{next_taken}
+use Rattle.supports.proofs.Grown.{root_name, occurs_root}
+use Rattle.just_check.specs.Audited.{IsNode}
+use Rattle.just_check.specs.Checking.{FiresIn, Joins, AreFirst, AreSoFar, IsNoNode, EntersAs}
+
+-- ---- nodes and occurrences
+
+-- what is no node is none of the occurrences
+pub none_of : (f : Forest) (b : List Moment) (k : Moment) → Holds b f → IsNoNode f k → In k b → ⊥
+none_of f b k holds none at = let (x, m, here, is) = holds.all k (Contains-from_In b k at) in none x m here is
+
+-- a node is one of the occurrences
+pub one_of : (f : Forest) (b : List Moment) (x : ℕ) → Holds b f → IsLive f x → In (moment_at f x) b
+one_of f b x holds live =
+    let (m, here) = node_at f x live in
+    subst (λ k. In k b) (sym (moment_at-is f x m here)) (In-from_Contains b (moment m) (holds.own x m here))
+
+-- the root of each of first ones is one of them
+pub root_first : (s : Standing) (b : List Moment) → AreFirst s b → (k : Moment) → In k b → In (At (base k)) b
+root_first s b first (At p) at = at
+root_first s b first (After t r) at = root_first s b first t (In-from_Contains b t (first.fires t r at).believed)
+
+-- so where a root is no node, no node is of that root
+pub no_root_of : (s : Standing) (net : Net) (f : Forest) (b : List Moment) → AreSoFar s net f b → (name : List ℕ) → IsNoNode f (At (Begin name)) → IsNoRoot f name
+no_root_of s net f b so_far name none x m here named =
+    none_of f b (At (Begin name)) so_far.holds none
+    (subst (λ p. In (At p) b) (base-moment m ∙ ap Begin named) (root_first s b so_far.first (moment m) (In-from_Contains b (moment m) (so_far.holds.own x m here))))
+
+-- ---- what a premise declares
+
+same_begin : (a b : List ℕ) → At (Begin a) ≡ At (Begin b) → a ≡ b
+same_begin a b e = let same : Begin a ≡ Begin b = cc in cc
+
+-- a root of the list is what the premise of its name declares
+pub declares : (s : Standing) → IsSound s → (name : List ℕ) → Contains (roots s) (At (Begin name)) → (p : Premise) × (premise_in s.premises name ≡ Some p) × (root_of p ≡ Some (At (Begin name)))
+declares s sound name at =
+    let (p, there, is) = In-filter_map root_of s.premises (At (Begin name)) (In-from_Contains (roots s) (At (Begin name)) at) in
+    let named : name_of p ≡ name = same_begin (name_of p) name (sym (root_name p (At (Begin name)) is)) in
+    (p, subst (λ n. premise_in s.premises n ≡ Some p) named (found s.premises sound.well_named p there), is)
+
+module _ (s : Standing) (net : Net) (f new : Forest) (b : List Moment) (so_far : AreSoFar s net f b) (name : List ℕ) (none : IsNoNode f (At (Begin name))) where
+  sound : IsSound s
+  sound = so_far.seen.network.sound
+
+  -- without a premise of this name there is no such root
+  pub no_premise : premise_in s.premises name ≡ None → Joins s b (At (Begin name)) → ⊥
+  no_premise e joins = let (p, there, is) = declares s sound name joins.belongs in let never : None ≡ Some p = sym e ∙ there in cc
+
+  module _ (p : Premise) (here : premise_in s.premises name ≡ Some p) where
+    pub premise_stands : In p s.premises
+    premise_stands = (finds s.premises name p here).0
+
+    pub no_root_for : IsNoRoot f (name_of p)
+    no_root_for = subst (IsNoRoot f) (sym (finds s.premises name p here).1) (no_root_of s net f b so_far name none)
+
+    -- what the premise declares enters, or it declares nothing
+    pub root_enters : (x : Option ℕ) → AddsRoot s net.names p f new x → EntersAs s net.names b (At (Begin name)) f new x
+    root_enters x = by (root_of p) refl x
+      where
+        by : (o : Option Moment) → root_of p ≡ o → (x : Option ℕ) → AddsRootAt s net.names o f new x → EntersAs s net.names b (At (Begin name)) f new x
+        by (Some k) e (Some x) adds =
+            let same : k ≡ At (Begin name) = root_name p k e ∙ ap (λ n. At (Begin n)) (finds s.premises name p here).1 in (
+              subst (Adds s net.names f new x) same adds,
+              record {
+                belongs = occurs_root s sound net so_far.seen.network p (At (Begin name)) premise_stands (e ∙ ap Some same);
+                new = none_of f b (At (Begin name)) so_far.holds none;
+              },
+            )
+        by (Some k) e None adds = absurd adds
+        by None e (Some x) adds = absurd adds
+        by None e None adds = λ joins.
+            let (q, there, is) = declares s sound name joins.belongs in
+            let same : p ≡ q = (let g : Some p ≡ Some q = sym here ∙ there in cc) in
+            let never : None ≡ Some (At (Begin name)) = sym e ∙ ap root_of same ∙ is in
+            cc
+
+-- ---- what a rule brings about
+
+module _ (s : Standing) (net : Net) (f : Forest) (b : List Moment) (so_far : AreSoFar s net f b) (x : ℕ) (live : IsLive f x) (r : List ℕ) where
+  -- where the rule fires its effect joins the occurrences, if it is no node
+  pub effect_joins : IsNoNode f (After (moment_at f x) r) → (believed : Contains b (moment_at f x) → FiresIn s b (moment_at f x) r) → Joins s b (After (moment_at f x) r)
+  effect_joins none fires = record { belongs = fires (Contains-from_In b (moment_at f x) (one_of f b x so_far.holds live)); new = none_of f b (After (moment_at f x) r) so_far.holds none }
+
+-- ---- what is looked for
+
+pub found_none : (f : Forest) (k : Moment) (o : Option ℕ) → IsFound f k o → is_some o ≡ false → IsNoNode f k
+found_none f k None h e = h
+found_none f k (Some x) h e = cc
+
+pub found_some : (f : Forest) (k : Moment) (o : Option ℕ) → IsFound f k o → is_some o ≡ true → IsNode f k
+found_some f k None h e = cc
+found_some f k (Some x) h e = (x, h.0, h.1, h.2)
+
+pub node_in : (f : Forest) (b : List Moment) (k : Moment) → Holds b f → IsNode f k → In k b
+node_in f b k holds (x, m, here, is) = subst (λ y. In y b) is (In-from_Contains b (moment m) (holds.own x m here))
+
+pub node_of : (f : Forest) (b : List Moment) (k : Moment) → Holds b f → In k b → IsNode f k
+node_of f b k holds at = holds.all k (Contains-from_In b k at)
+
+-- ---- a row with rules
+
+-- the row is what its last rule brings about at what the others lead to
+pub last_rule : (root : List ℕ) (rs : List (List ℕ)) (r : List ℕ) → 0 < length rs → r ≡ get_or rs (length rs - 1) r → along (At (Begin root)) rs ≡ After (along (At (Begin root)) (take (length rs - 1) rs)) r
+last_rule root rs r some is =
+    ap (along (At (Begin root))) (sym (take_all (length rs - 1 + 1) rs (omega arith)) ∙ next_taken rs (length rs - 1) r (omega arith) is)
+    ∙ along-push (At (Begin root)) (take (length rs - 1) rs) r

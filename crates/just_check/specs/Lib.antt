@@ -1,0 +1,4 @@
+pub mod Believed
+pub mod Kinds
+pub mod Checking
+pub mod Audited

@@ -1,0 +1,142 @@
+// A row that is to stand behind others.
+ghost use Rattle.std.specs.Prelude.{◌≡◌, List, IfOk};
+ghost use Rattle.std.specs.List.{Contains};
+ghost use Rattle.tmm_model.specs.Beliefs.{rules_at};
+ghost use Rattle.tmm_model.specs.Moments.{Moment, At, After, along, moment_of};
+ghost use Rattle.tmm_model.specs.declared.point.PointName.TheVariants.{Begin};
+ghost use Rattle.dist_net.specs.Net.{Net};
+ghost use Rattle.spots.specs.Forest.{IsLive, moment_at};
+ghost use Rattle.spots.specs.Seen.{IsSeen};
+ghost use Rattle.supports.specs.Growing.{Adds, effect_shape};
+ghost use Rattle.just_check.specs.Checking.{AreSoFar, EntersAs, IsNoNode};
+
+use crate::rules::{does_fire, is_rule_at};
+use dist_net::DistNet;
+use occ_tree::Tree;
+use premise_list::Standing;
+use std::alloc::Global;
+use supports::add_root;
+use tmm_model::{Name, NoMemory, Occ, Premise, Seq, Shape};
+
+// Enters a row into the tree of those before it, and answers its number; none where it may not stand
+// behind them.
+pub(crate) fn enter(
+    alloc: Global,
+    standing: &Standing,
+    net: &DistNet,
+    tree: &mut Tree,
+    row: &Occ,
+) -> Result<Option<u32>, NoMemory>
+    requires before { (b : List Moment) × AreSoFar standing.now.present net.now.present tree.old b }
+    ensures { IfOk result (λ x. (b : List Moment) → AreSoFar standing.now.present net.now.present tree.old b → EntersAs standing.now.present net.now.present.names b (moment_of row.now) tree.old tree.new x) }
+{
+    if tree.find(row).is_some() {
+        return Ok(None);
+    }
+    let rules = row.rules.items();
+    match rules.len() {
+        0 => enter_root(alloc, standing, net, tree, row.root),
+        n => {
+            let trigger = occurrence(alloc, row.root, &rules[..n - 1])?;
+            match tree.find(&trigger) {
+                Some(x) => enter_effect(alloc, standing, net, tree, x, rules[n - 1]),
+                None => Ok(None),
+            }
+        }
+    }
+}
+
+// The occurrence to which these rules lead.
+fn occurrence(alloc: Global, root: Name, rules: &[Name]) -> Result<Occ, NoMemory>
+    ensures { IfOk result (λ occ. moment_of occ ≡ along (At (Begin root)) rules.now) }
+{
+    let mut copies = Seq::make(alloc);
+    copies.extend(rules)?;
+    Ok(Occ {
+        root,
+        rules: copies,
+    })
+}
+
+// Enters what the premise of this name declares to occur.
+fn enter_root(
+    alloc: Global,
+    standing: &Standing,
+    net: &DistNet,
+    tree: &mut Tree,
+    name: Name,
+) -> Result<Option<u32>, NoMemory>
+    requires before { (b : List Moment) × AreSoFar standing.now.present net.now.present tree.old b }
+    requires new { IsNoNode tree.old (At (Begin name)) }
+    ensures { IfOk result (λ x. (b : List Moment) → AreSoFar standing.now.present net.now.present tree.old b → EntersAs standing.now.present net.now.present.names b (At (Begin name)) tree.old tree.new x) }
+{
+    // it tells the proof that names are distinct
+    let _ = standing.len();
+    match standing.get(name) {
+        Some(premise) => add_root(alloc, standing, net, tree, premise),
+        None => Ok(None),
+    }
+}
+
+// Enters what the rule of this name brings about at the event of a node.
+fn enter_effect(
+    alloc: Global,
+    standing: &Standing,
+    net: &DistNet,
+    tree: &mut Tree,
+    x: u32,
+    rule: Name,
+) -> Result<Option<u32>, NoMemory>
+    requires before { (b : List Moment) × AreSoFar standing.now.present net.now.present tree.old b }
+    requires live { IsLive tree.old x }
+    requires new { IsNoNode tree.old (After (moment_at tree.old x) rule) }
+    ensures { IfOk result (λ y. (b : List Moment) → AreSoFar standing.now.present net.now.present tree.old b → EntersAs standing.now.present net.now.present.names b (After (moment_at tree.old x) rule) tree.old tree.new y) }
+{
+    if !is_rule_at(standing, tree, x, rule) {
+        return Ok(None);
+    }
+    if !does_fire(standing, net, tree, x, rule) {
+        return Ok(None);
+    }
+    Ok(Some(add_effect(alloc, standing, tree, x, rule)?))
+}
+
+// The most rules that a tree has on the way to a node. No horizon of a map leads so far.
+const MOST_RULES: u32 = 100_000;
+
+// Adds what the rule of this name brings about at the event of a node, and answers its number.
+fn add_effect(
+    alloc: Global,
+    standing: &Standing,
+    tree: &mut Tree,
+    x: u32,
+    rule: Name,
+) -> Result<u32, NoMemory>
+    requires seen { (net : Net) × IsSeen standing.now.present net tree.old }
+    requires live { IsLive tree.old x }
+    requires rule { Contains (rules_at standing.now.present (moment_at tree.old x)) rule }
+    requires new { IsNoNode tree.old (After (moment_at tree.old x) rule) }
+    ensures { IfOk result (λ y. (net : Net) → IsSeen standing.now.present net tree.old → Adds standing.now.present net.names tree.old tree.new y (After (moment_at tree.old x) rule)) }
+{
+    // it tells the proof that names are distinct
+    let _ = standing.len();
+    if tree.row(x).rules >= MOST_RULES {
+        return Err(NoMemory);
+    }
+    let Some(Premise::Rule { lo, hi, effect, .. }) = standing.get(rule) else {
+        unreachable!()
+    };
+    let class = standing.class_of(*effect);
+    let shape = effect_shape(&class);
+    tree.insert_child(alloc, x, rule, *lo, *hi, *effect, class, shape)
+}
+
+// What a rule brings about, by the class of its effect, which a kind hasn't.
+fn effect_shape(class: &Option<Name>) -> Shape
+    ensures { result ≡ effect_shape class.now }
+{
+    match class {
+        Some(_) => Shape::Persistence,
+        None => Shape::Event,
+    }
+}

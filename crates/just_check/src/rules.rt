@@ -1,0 +1,142 @@
+// The standing rules at an event, and whether they fire.
+ghost use Rattle.std.specs.Prelude.{◌≡◌, ◌↔◌, List, pos, ◌+ℤ◌, ◌≤ℤ◌, IsSome, IsTrue, IfOk, OnOk};
+ghost use Rattle.std.specs.List.{Contains};
+ghost use Rattle.tmm_model.specs.Beliefs.{on_kind, rules_at, due, is_free};
+ghost use Rattle.tmm_model.specs.Moments.{Moment, rule_of};
+ghost use Rattle.tmm_model.specs.Standing.{far_in};
+ghost use Rattle.dist_net.specs.Net.{Net};
+ghost use Rattle.spots.specs.Forest.{IsLive, moment_at};
+ghost use Rattle.spots.specs.Seen.{IsSeen, Holds};
+ghost use Rattle.just_check.specs.Kinds.{AreRules, AddsPremise};
+
+use dist_net::DistNet;
+use name_lists::NameLists;
+use occ_tree::Tree;
+use premise_list::Standing;
+use spots::Spot;
+use std::alloc::Global;
+use supports::{is_supported, rule_text};
+use tmm_model::{Name, NoMemory, Premise, Shape};
+
+/// The names of the standing rules on each kind, in the order of the list.
+#[derive(Drop)]
+pub(crate) struct RulesByKind {
+    rules: NameLists<Name>,
+}
+
+impl RulesByKind {
+    /// The standing rules.
+    pub fn of(alloc: Global, standing: &Standing) -> Result<RulesByKind, NoMemory>
+        ensures { IfOk result (AreRules standing.now.present) }
+    {
+        let mut rules = RulesByKind {
+            rules: NameLists::make(alloc),
+        };
+        for place in 0..standing.len() {
+            if let Some(premise) = standing.at(place) {
+                rules.add(alloc, premise)?;
+            }
+        }
+        Ok(rules)
+    }
+
+    // Adds the name of the premise where that is a rule.
+    fn add(&mut self, alloc: Global, premise: &Premise) -> Result<(), NoMemory>
+        ensures { OnOk result (AddsPremise self.old self.new premise.now) }
+    {
+        match premise {
+            Premise::Rule { name, trigger, .. } => self.rules.push(alloc, *trigger, *name),
+            _ => Ok(()),
+        }
+    }
+
+    /// The names of the rules on the kind of the event at a node, none where it is no event.
+    pub fn at(&self, standing: &Standing, tree: &Tree, x: u32) -> &[Name]
+        requires rules { AreRules standing.now.present self.now }
+        requires seen { (net : Net) × IsSeen standing.now.present net tree.now }
+        requires live { IsLive tree.now x }
+        ensures { result.now ≡ rules_at standing.now.present (moment_at tree.now x) }
+    {
+        // it tells the proof what holds of the list
+        let _ = standing.len();
+        let row = tree.row(x);
+        match row.shape {
+            Shape::Event => self.rules.of(&row.what),
+            _ => &[],
+        }
+    }
+}
+
+// Whether a premise is a rule on the kind of the event at a node.
+pub(crate) fn is_rule_at(standing: &Standing, tree: &Tree, x: u32, rule: Name) -> bool
+    requires seen { (net : Net) × IsSeen standing.now.present net tree.now }
+    requires live { IsLive tree.now x }
+    ensures { IsTrue result ↔ Contains (rules_at standing.now.present (moment_at tree.now x)) rule }
+{
+    // it tells the proof that names are distinct
+    let _ = standing.len();
+    let row = tree.row(x);
+    match standing.get(rule) {
+        Some(premise) => match row.shape {
+            Shape::Event => is_rule_on(premise, &row.what),
+            _ => false,
+        },
+        None => false,
+    }
+}
+
+// Whether the premise is a rule on this kind.
+fn is_rule_on(premise: &Premise, kind: &Name) -> bool
+    ensures { IsTrue result ↔ IsSome (on_kind kind.now premise.now) }
+{
+    match premise {
+        Premise::Rule { trigger, .. } => trigger == kind,
+        _ => false,
+    }
+}
+
+// Whether the rule fires at the event of a node: its effect begins by the horizon, and each antecedent has
+// a supporter there.
+pub(crate) fn does_fire(standing: &Standing, net: &DistNet, tree: &Tree, x: u32, rule: Name) -> bool
+    requires seen { IsSeen standing.now.present net.now.present tree.now }
+    requires live { IsLive tree.now x }
+    requires rule { Contains (rules_at standing.now.present (moment_at tree.now x)) rule }
+    ensures { (b : List Moment) → Holds b tree.now → IsTrue result ↔ ((due standing.now.present (far_in standing.now.present.premises) (moment_at tree.now x) rule ≤ℤ pos standing.now.present.horizon) × IsTrue (is_free standing.now.present (far_in standing.now.present.premises) b (moment_at tree.now x) rule)) }
+{
+    let text = rule_text(standing, rule);
+    is_in_time(standing.horizon(), tree.early(net, x), text.lo)
+        && is_free(standing, net, tree, x, rule, text.given)
+}
+
+// Whether what begins so long after this date begins by the horizon.
+fn is_in_time(horizon: u32, early: i64, delay: i64) -> bool
+    requires early { pos 0 ≤ℤ early }
+    requires delay { pos 1 ≤ℤ delay }
+    ensures { IsTrue result ↔ ((early +ℤ delay) ≤ℤ pos horizon) }
+{
+    early <= i64::from(horizon) - delay
+}
+
+// Whether each antecedent of the rule has a supporter at the event of a node; these are the facts.
+fn is_free(
+    standing: &Standing,
+    net: &DistNet,
+    tree: &Tree,
+    x: u32,
+    rule: Name,
+    given: &[Name],
+) -> bool
+    requires seen { IsSeen standing.now.present net.now.present tree.now }
+    requires live { IsLive tree.now x }
+    requires rule { Contains (rules_at standing.now.present (moment_at tree.now x)) rule }
+    requires given { given.now ≡ (rule_of standing.now.present rule).given }
+    ensures { (b : List Moment) → Holds b tree.now → result ≡ is_free standing.now.present (far_in standing.now.present.premises) b (moment_at tree.now x) rule }
+{
+    let at = Spot::Node(x);
+    for fact in given {
+        if !is_supported(standing, tree, net, *fact, at, at) {
+            return false;
+        }
+    }
+    true
+}
