@@ -8,11 +8,11 @@ use Rattle.tmm_model.specs.Answers.{Row, row, rows, clip}
 use Rattle.tmm_model.specs.Changes.{delta, in_order, new_clip}
 use Rattle.tmm_model.specs.Maps.{TimeMap, is_among, is_believed}
 use Rattle.tmm_model.specs.Moments.{Moment, same_moment, is_derived}
-use Rattle.tmm_model.proofs.Elements.{In, In-map, map-In, In-from_Contains, Contains-from_In}
-use Rattle.tmm_model.proofs.Moments.{Decides-same_moment}
-use Rattle.tmm_model.proofs.Order.{ordered}
-use Rattle.tmm_model.proofs.Sorts.{sorted_in}
-use Rattle.tmm_model.proofs.Upholding.{among, is_among-Contains}
+use Rattle.list_theory.proofs.Elements.{In, In-map, map-In, In-from_Contains, Contains-from_In}
+use Rattle.belief_theory.proofs.Moments.{Decides-same_moment}
+use Rattle.belief_theory.proofs.Order.{ordered}
+use Rattle.belief_theory.proofs.Sorts.{sorted_in}
+use Rattle.belief_theory.proofs.Upholding.{among, is_among-Contains}
 use Rattle.spots.specs.Forest.{Forest, moment_at, moments}
 use Rattle.spots.proofs.Nodes.{node_at, live_at, moment_at-is}
 use Rattle.spots.proofs.Held.{Holds-itself}

@@ -9,9 +9,9 @@ use Rattle.std.proofs.lemmas.List.{map_push}
 use Rattle.tmm_model.specs.Answers.{Row}
 use Rattle.tmm_model.specs.Maps.{is_among}
 use Rattle.tmm_model.specs.Moments.{Moment, At, After, same_moment, rules, is_derived}
-use Rattle.tmm_model.proofs.Elements.{In, In-map, map-In, Contains-from_In}
-use Rattle.tmm_model.proofs.Moments.{Decides-same_moment}
-use Rattle.tmm_model.proofs.Upholding.{among, is_among-Contains}
+use Rattle.list_theory.proofs.Elements.{In, In-map, map-In, Contains-from_In}
+use Rattle.belief_theory.proofs.Moments.{Decides-same_moment}
+use Rattle.belief_theory.proofs.Upholding.{among, is_among-Contains}
 use Rattle.spots.specs.Forest.{Forest, Member, member, IsLive, moment, moment_at, moments, rules_of, IsFound, IsOnce, IsParent}
 use Rattle.spots.specs.declared.link.Link.{Link}
 use Rattle.spots.proofs.Nodes.{node_at, moment_at-is, rules-moment}

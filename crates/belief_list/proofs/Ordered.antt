@@ -17,11 +17,11 @@ use Rattle.tmm_model.specs.Firsts.{sorted}
 use Rattle.tmm_model.specs.Maps.{built, order}
 use Rattle.tmm_model.specs.Moments.{Moment}
 use Rattle.tmm_model.specs.Standing.{Standing, far_in}
-use Rattle.tmm_model.proofs.Distinct.{Rising, one_order}
-use Rattle.tmm_model.proofs.Elements.{In, In-map, map-In, In-from_Contains, Contains-from_In, each_in}
-use Rattle.tmm_model.proofs.Order.{IsSpelt, ordered, total}
-use Rattle.tmm_model.proofs.Sorts.{sorted_in, sorted_rising}
-use Rattle.tmm_model.proofs.Spelt.{spelt}
+use Rattle.list_theory.proofs.Distinct.{Rising, one_order}
+use Rattle.list_theory.proofs.Elements.{In, In-map, map-In, In-from_Contains, Contains-from_In, each_in}
+use Rattle.belief_theory.proofs.Order.{IsSpelt, ordered, total}
+use Rattle.belief_theory.proofs.Sorts.{sorted_in, sorted_rising}
+use Rattle.belief_theory.proofs.Spelt.{spelt}
 use Rattle.dist_net.specs.Net.{Net}
 use Rattle.spots.specs.Forest.{Forest, Member, IsLive, IsOnce, moment, moment_at}
 use Rattle.spots.specs.Seen.{IsSeen, Holds}

@@ -7,10 +7,11 @@ use Rattle.std.specs.declared.cmp.Ordering.{Ordering}
 use Rattle.std.specs.declared.cmp.Ordering.TheVariants.{Less, Equal, Greater}
 use Rattle.std.specs.Ordering.{is_gt, ordering_reverse, on}
 use Rattle.tmm_model.specs.declared.token.TokenRow.{TokenRow}
-use Rattle.tmm_model.specs.Tokens.{IsOrderOn, IsFirstAmong, IsFirstPlaceAmong}
+use Rattle.tmm_model.specs.Types.{IsOrderOn}
+use Rattle.belief_theory.specs.FirstPlaces.{IsFirstAmong, IsFirstPlaceAmong}
 use Rattle.clipping.specs.Live.{IsLive}
 use Rattle.clipping.specs.Ahead.{IsAhead}
-use Rattle.tmm_model.proofs.Firsts.{upto, itself}
+use Rattle.belief_theory.proofs.Firsts.{upto, itself}
 
 module _ {P : Type 0} {live : P → Type 0} {order : P → P → Ordering} (law : IsOrderOn live order) where
   pub turned : (x y : P) → live x → live y → is_gt (order x y) ≡ true → is_gt (order y x) ≡ false

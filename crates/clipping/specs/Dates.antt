@@ -7,8 +7,8 @@ use Rattle.std.specs.Ordering.{on, then_cmp, int_cmp, nat_cmp, ordering_then}
 use Rattle.std.specs.Cmp.{IsTotalOrder}
 use Rattle.tmm_model.specs.declared.bound.Bound.{Bound}
 use Rattle.tmm_model.specs.declared.bound.Bound.TheVariants.{Finite, Free}
-use Rattle.tmm_model.specs.Bounds.{bound_plus, IsTighter}
-use Rattle.tmm_model.specs.Tokens.{IsOrderOn}
+use Rattle.tmm_model.specs.Bounds.{bound_plus}
+use Rattle.tmm_model.specs.Types.{IsTighter, IsOrderOn}
 use Rattle.std.proofs.Common.{arith, ap, sym, ◌∙◌, eq-eqb}
 use Rattle.std.proofs.lemmas.Bool.{eqb-true}
 use Rattle.std.proofs.lemmas.Int.{ints}

@@ -4,7 +4,8 @@ use Rattle.std.specs.declared.cmp.Ordering.{Ordering}
 use Rattle.std.specs.Ordering.{on}
 use Rattle.tmm_model.specs.declared.bound.Bound.{Bound}
 use Rattle.tmm_model.specs.declared.token.TokenRow.{TokenRow}
-use Rattle.tmm_model.specs.Tokens.{clips, cuts, is_by, IsFirstPlace, IsFirstAmong}
+use Rattle.tmm_model.specs.Tokens.{clips, cuts, is_by}
+use Rattle.belief_theory.specs.FirstPlaces.{IsFirstPlace, IsFirstAmong}
 use Rattle.clipping.specs.declared.Fault.{Fault}
 use Rattle.clipping.specs.declared.Fault.TheVariants.{Late, Clipped, Ends}
 

@@ -10,7 +10,8 @@
 ghost use Rattle.std.specs.Prelude.{◌≡◌, ◌<◌, ◌≤◌, ◌↔◌, ◌+◌, ℕ, length, IsTrue, Bool, true, false, MatchOption, slice_index_or, slice_get, IfSome};
 ghost use Rattle.std.specs.List.{list_any, All};
 ghost use Rattle.std.specs.Ordering.{on};
-ghost use Rattle.tmm_model.specs.Tokens.{of_one_class, supports, cuts, clips, lasts_to, IsFirstPlace, IsFirstPlaceAmong};
+ghost use Rattle.tmm_model.specs.Tokens.{of_one_class, supports, cuts, clips, lasts_to};
+ghost use Rattle.belief_theory.specs.FirstPlaces.{IsFirstPlace, IsFirstPlaceAmong};
 ghost use Rattle.std.specs.Option.{ForSome};
 ghost use Rattle.clipping.specs.Live.{IsLive};
 ghost use Rattle.clipping.specs.Ahead.{IsAhead};

@@ -7,7 +7,7 @@ use Rattle.std.proofs.lemmas.List.{get_or_past}
 use Rattle.tmm_model.specs.declared.point.PointName.{PointName}
 use Rattle.tmm_model.specs.declared.point.PointName.TheVariants.{Start, Begin, End}
 use Rattle.tmm_model.specs.Points.{same_point}
-use Rattle.tmm_model.proofs.Points.{Decides-same_point, tells, same_point-self}
+use Rattle.walk_theory.proofs.Points.{Decides-same_point, tells, same_point-self}
 use Rattle.tmm_model.specs.contracts.point.PointNamePartialEq.TheImpl as derived
 use Rattle.dist_net.specs.Index.{AreIndexed, IsIndexed, IsNoted}
 use Rattle.dist_net.specs.Net.{AreDistinct, start_alone}

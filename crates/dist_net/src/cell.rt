@@ -1,6 +1,7 @@
 // A bound in eight bytes.
 ghost use Rattle.std.specs.Prelude.{◌≡◌, IsTrue, ◌↔◌};
-ghost use Rattle.tmm_model.specs.Bounds.{IsSmall, lesser};
+ghost use Rattle.tmm_model.specs.Types.{IsSmall};
+ghost use Rattle.tmm_model.specs.Bounds.{lesser};
 ghost use Rattle.dist_net.specs.Cells.{addend_of, number_of, seen};
 
 use std::marker::Model;

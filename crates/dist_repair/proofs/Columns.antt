@@ -5,7 +5,7 @@ use Rattle.std.proofs.lemmas.Bool.{cases_eq}
 use Rattle.std.proofs.lemmas.List.{length-append, get_or_default}
 use Rattle.std.proofs.lemmas.List.Elements.{All-push, Contains-append_left, Contains-append_right, Contains-push_cases}
 use Rattle.tmm_model.specs.declared.bound.Bound.{Bound}
-use Rattle.tmm_model.specs.Walks.{IsFar}
+use Rattle.walk_theory.specs.LeastWalks.{IsFar}
 use Rattle.dist_net.specs.declared.Edge.{Edge}
 use Rattle.dist_net.specs.Net.{Net, Nets, IsInUse, entry, arcs_of, arc_of}
 use Rattle.dist_net.proofs.Ends.{in_places, edge_at}

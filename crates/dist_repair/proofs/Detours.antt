@@ -4,11 +4,12 @@ use Rattle.std.specs.List.{Contains}
 use Rattle.std.proofs.lemmas.Int.{ints}
 use Rattle.tmm_model.specs.declared.bound.Bound.{Bound}
 use Rattle.tmm_model.specs.declared.bound.Bound.TheVariants.{Finite, Free}
-use Rattle.tmm_model.specs.Bounds.{IfFinite, AtMost, bound_plus}
-use Rattle.tmm_model.specs.Walks.{Arc, IsWalk, HasWalk, IsFar, HasDates, Adds, total}
-use Rattle.tmm_model.proofs.Bounds.{AtMost-weaker}
-use Rattle.tmm_model.proofs.Dates.{difference-le_total}
-use Rattle.tmm_model.proofs.Walks.{IsWalk-append, IsWalk-kept, total-append}
+use Rattle.tmm_model.specs.Bounds.{IfFinite, bound_plus}
+use Rattle.walk_theory.specs.LeastWalks.{AtMost, IsWalk, HasWalk, IsFar, Adds}
+use Rattle.tmm_model.specs.Walks.{Arc, HasDates, total}
+use Rattle.walk_theory.proofs.Bounds.{AtMost-weaker}
+use Rattle.walk_theory.proofs.Dates.{difference-le_total}
+use Rattle.walk_theory.proofs.Walks.{IsWalk-append, IsWalk-kept, total-append}
 
 -- bounds that are one have one number
 pub same_finite : {u v : ℤ} → Finite u ≡ Finite v → u ≡ v

@@ -3,7 +3,7 @@ use Rattle.std.proofs.Common.{◌≡◌, ◌≢◌, ◌∙◌, inl, inr, ℕ, �
 use Rattle.std.proofs.lemmas.Bool.{cases_eq}
 use Rattle.std.proofs.lemmas.List.Elements.{All-contains}
 use Rattle.tmm_model.specs.declared.bound.Bound.{Bound}
-use Rattle.tmm_model.specs.Walks.{IsFar}
+use Rattle.walk_theory.specs.LeastWalks.{IsFar}
 use Rattle.dist_net.specs.Net.{Net, Nets, IsInUse, IsFarWithout, entry, arcs_of}
 use Rattle.dist_net.proofs.Ends.{in_places}
 use Rattle.dist_repair.specs.Rows.{rest_of, IsFarRow, IsFirstRow, IsPresentRow, KeepsRow, IsFrom, ChangesRow}

@@ -7,14 +7,15 @@ use Rattle.std.proofs.lemmas.List.{get_or-map, length-map}
 use Rattle.std.proofs.lemmas.List.Elements.{All-contains}
 use Rattle.tmm_model.specs.declared.bound.Bound.{Bound}
 use Rattle.tmm_model.specs.declared.bound.Bound.TheVariants.{Finite, Free}
-use Rattle.tmm_model.specs.Bounds.{through}
-use Rattle.tmm_model.specs.Walks.{Arc, HasWalk, IsFar, IsWalk, HasDates, Adds, total}
-use Rattle.tmm_model.proofs.Closing.{IsFar-last}
-use Rattle.tmm_model.proofs.Dates.{Solved, difference-le_total}
-use Rattle.tmm_model.proofs.Members.{All-from_contains, Contains-map}
-use Rattle.tmm_model.proofs.Paths.{IsFar-same}
-use Rattle.tmm_model.proofs.Reach.{solved}
-use Rattle.tmm_model.proofs.Walks.{IsWalk-kept}
+use Rattle.tmm_model.specs.Types.{through}
+use Rattle.tmm_model.specs.Walks.{Arc, HasDates, total}
+use Rattle.walk_theory.specs.LeastWalks.{HasWalk, IsFar, IsWalk, Adds}
+use Rattle.walk_theory.proofs.Closing.{IsFar-last}
+use Rattle.walk_theory.proofs.Dates.{Solved, difference-le_total}
+use Rattle.walk_theory.proofs.Members.{All-from_contains, Contains-map}
+use Rattle.walk_theory.proofs.Paths.{IsFar-same}
+use Rattle.walk_theory.proofs.Reach.{solved}
+use Rattle.walk_theory.proofs.Walks.{IsWalk-kept}
 use Rattle.dist_net.specs.declared.Edge.{Edge}
 use Rattle.dist_net.specs.Net.{Net, arc_of, arcs_of, same_number}
 use Rattle.dist_net.proofs.Ends.{edge_at}

@@ -7,9 +7,9 @@ use Rattle.std.proofs.lemmas.List.{get_or-map, length-map}
 use Rattle.std.proofs.lemmas.List.Elements.{Contains-get_or}
 use Rattle.tmm_model.specs.declared.bound.Bound.{Bound}
 use Rattle.tmm_model.specs.declared.bound.Bound.TheVariants.{Finite, Free}
-use Rattle.tmm_model.specs.Bounds.{AtMost}
-use Rattle.tmm_model.specs.Walks.{Arc, IsFar, total}
-use Rattle.tmm_model.proofs.Walks.{IsWalk-kept}
+use Rattle.walk_theory.specs.LeastWalks.{AtMost, IsFar}
+use Rattle.tmm_model.specs.Walks.{Arc, total}
+use Rattle.walk_theory.proofs.Walks.{IsWalk-kept}
 use Rattle.dist_net.specs.declared.Edge.{Edge}
 use Rattle.dist_net.specs.Net.{Net, Nets, IsInUse, entry, arc_of, arcs_of}
 use Rattle.dist_net.proofs.Ends.{edge_at, ends_in_use}

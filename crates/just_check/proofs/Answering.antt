@@ -3,9 +3,9 @@ use Rattle.std.proofs.Common.{◌≡◌, List, map, sym, subst}
 use Rattle.tmm_model.specs.declared.point.PointName.TheVariants.{Begin}
 use Rattle.tmm_model.specs.Beliefs.{root_of, roots}
 use Rattle.tmm_model.specs.Moments.{Moment, At, After, moment_of}
-use Rattle.tmm_model.specs.Right.{IsSound}
+use Rattle.list_theory.specs.WellNamed.{IsSound}
 use Rattle.tmm_model.specs.Standing.{Standing, name_of}
-use Rattle.tmm_model.proofs.Elements.{In, In-from_Contains, Contains-from_In, In-filter_map}
+use Rattle.list_theory.proofs.Elements.{In, In-from_Contains, Contains-from_In, In-filter_map}
 use Rattle.dist_net.specs.Net.{Net}
 use Rattle.supports.proofs.Grown.{root_name}
 use Rattle.just_check.specs.declared.auditing.Checked.{Checked}

@@ -9,12 +9,12 @@ use Rattle.std.specs.declared.cmp.Ordering.TheVariants.{Less}
 use Rattle.tmm_model.specs.Beliefs.{rules_at}
 use Rattle.tmm_model.specs.Maps.{built, order}
 use Rattle.tmm_model.specs.Moments.{Moment, After, moment_of}
-use Rattle.tmm_model.specs.Right.{IsSound}
+use Rattle.list_theory.specs.WellNamed.{IsSound}
 use Rattle.tmm_model.specs.Standing.{Standing, far_in}
-use Rattle.tmm_model.proofs.Distinct.{Rising}
-use Rattle.tmm_model.proofs.Elements.{In, In-cases, In-left, In-right, In-from_Contains, Contains-from_In}
-use Rattle.tmm_model.proofs.Members.{All-from_contains}
-use Rattle.tmm_model.proofs.Order.{total}
+use Rattle.list_theory.proofs.Distinct.{Rising}
+use Rattle.list_theory.proofs.Elements.{In, In-cases, In-left, In-right, In-from_Contains, Contains-from_In}
+use Rattle.walk_theory.proofs.Members.{All-from_contains}
+use Rattle.belief_theory.proofs.Order.{total}
 use Rattle.dist_net.specs.Net.{Net}
 use Rattle.spots.specs.Forest.{Forest, IsLive, moment_at}
 use Rattle.spots.specs.Seen.{IsSeen}

@@ -7,12 +7,11 @@ use Rattle.tmm_model.specs.declared.point.PointName.TheVariants.{Begin}
 use Rattle.tmm_model.specs.declared.premise.Premise.{Premise}
 use Rattle.tmm_model.specs.Beliefs.{root_of, roots}
 use Rattle.tmm_model.specs.Moments.{Moment, At, After, along, base}
-use Rattle.tmm_model.specs.Right.{IsSound}
-use Rattle.tmm_model.specs.Standing.{Standing, name_of}
-use Rattle.tmm_model.specs.WellNamed.{premise_in}
-use Rattle.tmm_model.proofs.Elements.{In, In-from_Contains, Contains-from_In, In-filter_map}
-use Rattle.tmm_model.proofs.KnownNames.{found, finds}
-use Rattle.tmm_model.proofs.Moments.{along-push}
+use Rattle.list_theory.specs.WellNamed.{IsSound}
+use Rattle.tmm_model.specs.Standing.{Standing, name_of, premise_in}
+use Rattle.list_theory.proofs.Elements.{In, In-from_Contains, Contains-from_In, In-filter_map}
+use Rattle.list_theory.proofs.KnownNames.{found, finds}
+use Rattle.belief_theory.proofs.Moments.{along-push}
 use Rattle.dist_net.specs.Net.{Net}
 use Rattle.spots.specs.Forest.{Forest, moment, moment_at, IsLive, IsNoRoot, IsFound}
 use Rattle.spots.specs.Seen.{Holds}

@@ -2,7 +2,7 @@
 use Rattle.std.proofs.Common.{◌≡◌, ◌∙◌, ◌⊎◌, inl, inr, ℕ, suc, ◌+◌, ◌<◌, List, [], ◌∷◌, ◌++◌, map, take, drop, get_or, length, sym, ap, subst}
 use Rattle.std.proofs.Math.Seq.{drop-cons}
 use Rattle.std.proofs.lemmas.List.{map-append, take-append-drop}
-use Rattle.tmm_model.proofs.Elements.{In, In-cases, In-from_Contains, map-In}
+use Rattle.list_theory.proofs.Elements.{In, In-cases, In-from_Contains, map-In}
 use Rattle.supports.proofs.Taken.{next_taken}
 
 module _ {X Y : Type 0} (h : X → Y) (xs : List X) (i : ℕ) (x : X) (below : i < length xs) (is : x ≡ get_or xs i x) where

@@ -11,16 +11,17 @@ use Rattle.std.specs.declared.cmp.Ordering.TheVariants.{Less, Equal, Greater}
 use Rattle.tmm_model.specs.Beliefs.{roots, rules_at, is_free}
 use Rattle.tmm_model.specs.Maps.{built, order}
 use Rattle.tmm_model.specs.Moments.{Moment, At, After, Distances, printed}
-use Rattle.tmm_model.specs.Right.{Occurs, Belongs, IsSound, IsRight, IsTimed}
+use Rattle.belief_theory.specs.Right.{Occurs, Belongs, IsRight, IsTimed}
+use Rattle.list_theory.specs.WellNamed.{IsSound}
 use Rattle.tmm_model.specs.Standing.{Standing, far_in}
 use Rattle.tmm_model.specs.declared.point.PointName.{PointName}
-use Rattle.tmm_model.proofs.Distinct.{Rising, one_order}
-use Rattle.tmm_model.proofs.Elements.{In, In-from_Contains, Contains-from_In, In-left, In-right, In-cases}
-use Rattle.tmm_model.proofs.OneRight.{later, free_same}
-use Rattle.tmm_model.proofs.Order.{IsSpelt, ordered, total}
-use Rattle.tmm_model.proofs.SoundBeliefs.{sound_timed, believed_right, map_is_right, believed_occurs}
-use Rattle.tmm_model.proofs.Sorts.{sorted_in, sorted_rising}
-use Rattle.tmm_model.proofs.Spelt.{spelt}
+use Rattle.list_theory.proofs.Distinct.{Rising, one_order}
+use Rattle.list_theory.proofs.Elements.{In, In-from_Contains, Contains-from_In, In-left, In-right, In-cases}
+use Rattle.belief_theory.proofs.OneRight.{later, free_same}
+use Rattle.belief_theory.proofs.Order.{IsSpelt, ordered, total}
+use Rattle.belief_theory.proofs.SoundBeliefs.{sound_timed, believed_right, map_is_right, believed_occurs}
+use Rattle.belief_theory.proofs.Sorts.{sorted_in, sorted_rising}
+use Rattle.belief_theory.proofs.Spelt.{spelt}
 use Rattle.spots.proofs.Seen.{believed_once}
 use Rattle.just_check.specs.Believed.{believed_in_order}
 use Rattle.just_check.specs.Checking.{FiresIn, Joins, AreFirst, Owes}

@@ -4,11 +4,11 @@ use Rattle.std.specs.Prelude.{◌↔◌, Option, Some, None, IsSome}
 use Rattle.std.specs.List.{Contains}
 use Rattle.tmm_model.specs.declared.premise.Premise.{Premise}
 use Rattle.tmm_model.specs.Beliefs.{on_kind, rules_on}
-use Rattle.tmm_model.specs.Standing.{Standing}
-use Rattle.tmm_model.specs.WellNamed.{IsWellNamed, premise_in}
-use Rattle.tmm_model.proofs.Elements.{In-from_Contains, Contains-from_In, In-filter_map, filter_map-In}
-use Rattle.tmm_model.proofs.KnownNames.{found, finds}
-use Rattle.tmm_model.proofs.Sound.{named_rule}
+use Rattle.tmm_model.specs.Standing.{Standing, premise_in}
+use Rattle.list_theory.specs.WellNamed.{IsWellNamed}
+use Rattle.list_theory.proofs.Elements.{In-from_Contains, Contains-from_In, In-filter_map, filter_map-In}
+use Rattle.list_theory.proofs.KnownNames.{found, finds}
+use Rattle.belief_theory.proofs.Sound.{named_rule}
 
 module _ (s : Standing) (named : IsWellNamed s.premises) (kind r : List ℕ) where
   -- a rule on the kind is the premise of its name

@@ -5,7 +5,7 @@ use Rattle.std.specs.declared.cmp.Ordering.TheVariants.{Less}
 use Rattle.tmm_model.specs.Maps.{built, order}
 use Rattle.tmm_model.specs.Moments.{Moment, early, moment_of}
 use Rattle.tmm_model.specs.Standing.{Standing, far_in}
-use Rattle.tmm_model.proofs.Elements.{In}
+use Rattle.list_theory.proofs.Elements.{In}
 use Rattle.dist_net.specs.Net.{Net}
 use Rattle.spots.specs.Forest.{Forest, Member, member, IsLive, moment, moment_at}
 use Rattle.spots.specs.Spots.{node_cmp}

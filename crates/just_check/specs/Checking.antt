@@ -2,10 +2,10 @@
 use Rattle.std.specs.Prelude.{◌≡◌, ◌≢◌, ◌⊎◌, ℕ, List, Option, Some, None}
 use Rattle.tmm_model.specs.Maps.{built, order}
 use Rattle.tmm_model.specs.Moments.{Moment, After}
-use Rattle.tmm_model.specs.Right.{Occurs, Fires, Belongs}
+use Rattle.belief_theory.specs.Right.{Occurs, Fires, Belongs}
 use Rattle.tmm_model.specs.Standing.{Standing, far_in}
-use Rattle.tmm_model.proofs.Distinct.{Rising}
-use Rattle.tmm_model.proofs.Elements.{In}
+use Rattle.list_theory.proofs.Distinct.{Rising}
+use Rattle.list_theory.proofs.Elements.{In}
 use Rattle.dist_net.specs.Net.{Net}
 use Rattle.list_net.specs.Represents.{Names}
 use Rattle.spots.specs.Forest.{Forest, Member, member, moment}

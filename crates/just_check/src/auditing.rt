@@ -5,7 +5,7 @@ ghost use Rattle.std.specs.Option.{option_map};
 ghost use Rattle.tmm_model.specs.Beliefs.{root_of, roots, rules_at};
 ghost use Rattle.tmm_model.specs.Moments.{Moment, At, After, moment_of};
 ghost use Rattle.tmm_model.specs.declared.point.PointName.TheVariants.{Begin};
-ghost use Rattle.tmm_model.proofs.Elements.{In};
+ghost use Rattle.list_theory.proofs.Elements.{In};
 ghost use Rattle.list_net.specs.Fits.{IsNetOf};
 ghost use Rattle.spots.specs.Forest.{IsLive, moment_at};
 ghost use Rattle.spots.specs.Seen.{IsSeen, HasList, Holds};

@@ -6,7 +6,7 @@ use Rattle.tmm_model.specs.Moments.{At, After, along}
 use Rattle.spots.specs.declared.link.Link.{Link}
 use Rattle.spots.specs.Forest.{Forest, Member, member, moment_at, rules_of, last_name}
 use Rattle.spots.proofs.Nodes.{moment_at-is, last_name-push}
-use Rattle.tmm_model.proofs.Moments.{along-push}
+use Rattle.belief_theory.proofs.Moments.{along-push}
 
 -- a node without rules is declared under its name
 pub declared_at : (f : Forest) (x : ℕ) (m : Member) → member f x ≡ Some m → m.links ≡ [] → (name : List ℕ) → name ≡ last_name m.root m.links → moment_at f x ≡ At (Begin name)

@@ -11,9 +11,9 @@ use Rattle.std.proofs.lemmas.Option.{slice_get_within}
 use Rattle.tmm_model.specs.Maps.{TimeMap}
 use Rattle.tmm_model.specs.Moments.{Moment}
 use Rattle.tmm_model.specs.Reasons.{rests_on, Upholds, itself, through}
-use Rattle.tmm_model.proofs.Elements.{In, In-left, In-right, In-cases, In-map, map-In, list_any-In, In-from_Contains, Contains-from_In}
-use Rattle.tmm_model.proofs.Members.{All-from_contains}
-use Rattle.tmm_model.proofs.Upholding.{further}
+use Rattle.list_theory.proofs.Elements.{In, In-left, In-right, In-cases, In-map, map-In, list_any-In, In-from_Contains, Contains-from_In}
+use Rattle.walk_theory.proofs.Members.{All-from_contains}
+use Rattle.belief_theory.proofs.Upholding.{further}
 use Rattle.indexmap.specs.IndexSet.{insert_key, insert_all}
 use Rattle.spots.specs.Forest.{Forest, IsLive, moment_at}
 use Rattle.justify.specs.Grounds.{AddsGrounds, AreUpholders}

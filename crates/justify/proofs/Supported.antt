@@ -16,9 +16,9 @@ use Rattle.tmm_model.specs.Points.{same_name}
 use Rattle.tmm_model.specs.Reasons.{supports_at, pairs_of, end_pair}
 use Rattle.tmm_model.specs.Standing.{Standing, far_in}
 use Rattle.tmm_model.specs.Tokens.{is_by, lasts_to, supports}
-use Rattle.tmm_model.proofs.Elements.{both, In-from_Contains, In-filter_map, In-map}
-use Rattle.tmm_model.proofs.OneRight.{spot-token_of}
-use Rattle.tmm_model.proofs.Outcomes.{first_token_in}
+use Rattle.list_theory.proofs.Elements.{both, In-from_Contains, In-filter_map, In-map}
+use Rattle.belief_theory.proofs.OneRight.{spot-token_of}
+use Rattle.belief_theory.proofs.Outcomes.{first_token_in}
 use Rattle.justify.specs.Lines.{IsInOrder}
 
 -- what is before is at or before

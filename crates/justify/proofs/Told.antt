@@ -17,7 +17,7 @@ use Rattle.tmm_model.specs.Maps.{TimeMap, built}
 use Rattle.tmm_model.specs.Moments.{Moment}
 use Rattle.tmm_model.specs.Reasons.{Reason, reason_of, belief_line, end_pair, pairs_of, pairs, IsOrderLine, AreReasons}
 use Rattle.tmm_model.specs.Standing.{Standing}
-use Rattle.tmm_model.proofs.Members.{Contains-map}
+use Rattle.walk_theory.proofs.Members.{Contains-map}
 use Rattle.dist_net.specs.Net.{Net}
 use Rattle.list_net.specs.Represents.{IsNumberOf}
 use Rattle.spots.specs.declared.spot.Spot.{Spot}

@@ -11,10 +11,10 @@ use Rattle.tmm_model.specs.Maps.{built, gap}
 use Rattle.tmm_model.specs.Moments.{Moment, base, rules, high, low, apart}
 use Rattle.tmm_model.specs.Paths.{WalksIf}
 use Rattle.tmm_model.specs.Points.{same_point}
-use Rattle.tmm_model.specs.Right.{IsSound}
+use Rattle.list_theory.specs.WellNamed.{IsSound}
 use Rattle.tmm_model.specs.Standing.{Standing, far_in}
-use Rattle.tmm_model.proofs.Points.{Decides-same_point}
-use Rattle.tmm_model.proofs.Sound.{shortest}
+use Rattle.walk_theory.proofs.Points.{Decides-same_point}
+use Rattle.belief_theory.proofs.Sound.{shortest}
 use Rattle.dist_net.specs.Net.{Net}
 use Rattle.neg_cycle.specs.Steps.{point_at, steps_in_net, far_in_net}
 use Rattle.list_net.specs.Fits.{IsNetOf}

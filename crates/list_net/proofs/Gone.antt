@@ -8,15 +8,16 @@ use Rattle.tmm_model.specs.declared.premise.Premise.{Premise}
 use Rattle.tmm_model.specs.declared.walk.WalkStep.{WalkStep}
 use Rattle.tmm_model.specs.Cycles.{steps_in}
 use Rattle.tmm_model.specs.Edits.{list_without}
-use Rattle.tmm_model.specs.Erasure.{kept_without, fallen_with}
+use Rattle.tmm_model.specs.Erasure.{kept_without}
+use Rattle.list_theory.specs.Fallen.{fallen_with}
 use Rattle.tmm_model.specs.Points.{same_name}
-use Rattle.tmm_model.specs.Standing.{Standing, name_of, steps_of}
-use Rattle.tmm_model.specs.WellNamed.{IsWellNamed, premise_in}
-use Rattle.tmm_model.proofs.Cycles.{names_own}
-use Rattle.tmm_model.proofs.Elements.{In, In-flat_map, In-from_Contains, Contains-from_In, In-filter, filter-In, In-list_any, list_any-In, map-In}
-use Rattle.tmm_model.proofs.Erased.{gone_by_erasure}
-use Rattle.tmm_model.proofs.Members.{All-from_contains, Contains-map}
-use Rattle.tmm_model.proofs.Points.{same_name-is, same_name-self}
+use Rattle.tmm_model.specs.Standing.{Standing, name_of, steps_of, premise_in}
+use Rattle.list_theory.specs.WellNamed.{IsWellNamed}
+use Rattle.list_theory.proofs.Cycles.{names_own}
+use Rattle.list_theory.proofs.Elements.{In, In-flat_map, In-from_Contains, Contains-from_In, In-filter, filter-In, In-list_any, list_any-In, map-In}
+use Rattle.list_theory.proofs.Erased.{gone_by_erasure}
+use Rattle.walk_theory.proofs.Members.{All-from_contains, Contains-map}
+use Rattle.walk_theory.proofs.Points.{same_name-is, same_name-self}
 use Rattle.dist_net.specs.declared.Edge.{Edge}
 use Rattle.dist_net.specs.Net.{Net}
 use Rattle.neg_cycle.specs.Steps.{step_of, steps_in_net}

@@ -1,2 +1,1 @@
-mod KeptRuns
 mod Told

@@ -3,8 +3,7 @@ use Rattle.std.specs.Prelude.{◌≡◌, ℕ, ◌≤◌, List, map, filter}
 use Rattle.std.specs.Option.{is_none}
 use Rattle.tmm_model.specs.Answers.{rows, reports, report_of, size, most_size}
 use Rattle.tmm_model.specs.Maps.{built}
-use Rattle.tmm_model.specs.Standing.{Standing, name_of}
-use Rattle.tmm_model.specs.WellNamed.{premise_in}
+use Rattle.tmm_model.specs.Standing.{Standing, name_of, premise_in}
 use Rattle.dist_net.specs.Net.{Net}
 use Rattle.spots.specs.Seen.{IsSeen, Holds}
 use Rattle.belief_list.specs.Rows.{row_at, IsListing}

@@ -2,4 +2,3 @@ pub mod Stops
 pub mod Beliefs
 pub mod Plain
 pub mod Questions
-pub mod KeptRuns

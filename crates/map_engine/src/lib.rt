@@ -4,17 +4,14 @@
 //!
 //! `MapCore` is its contract: every answer is that of the map which is built of the list from scratch,
 //! an edit is accepted exactly where the definitions say so, and a refusal or want of memory changes
-//! nothing. `PlainMap` meets it by making beliefs anew at each edit. The law says that each list
-//! which a run of a script leaves is sound and within all limits.
+//! nothing. `PlainMap` meets it by making beliefs anew at each edit.
 #![tactic(auto)]
 
 mod beliefs;
 mod edited;
-mod laws;
 mod map_core;
 mod plain;
 mod questions;
 
-pub use laws::runs_keep_lists;
 pub use map_core::{MapCore, Pending};
 pub use plain::PlainMap;

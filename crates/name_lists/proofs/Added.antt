@@ -5,7 +5,7 @@ use Rattle.std.specs.Option.{option_map_or}
 use Rattle.std.specs.Map.{lookup}
 use Rattle.std.specs.Cmp.Lexicographic.{nat_list_eq_equiv}
 use Rattle.tmm_model.specs.Points.{same_name}
-use Rattle.tmm_model.proofs.Points.{names_differ, same_name-is}
+use Rattle.walk_theory.proofs.Points.{names_differ, same_name-is}
 use Rattle.name_lists.specs.Lists.{list_of, Appends}
 use Rattle.name_lists.specs.declared.NameLists.{NameLists}
 

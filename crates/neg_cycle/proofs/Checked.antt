@@ -14,14 +14,14 @@ use Rattle.tmm_model.specs.declared.premise.Premise.{Premise}
 use Rattle.tmm_model.specs.declared.walk.WalkStep.{WalkStep}
 use Rattle.tmm_model.specs.Cycles.{steps_in, Leads, sum_of, begins}
 use Rattle.tmm_model.specs.Points.{same_point}
-use Rattle.tmm_model.specs.Standing.{arc_of, steps_of}
+use Rattle.tmm_model.specs.Standing.{arc_of, steps_of, premise_in}
 use Rattle.tmm_model.specs.Walks.{total}
-use Rattle.tmm_model.specs.WellNamed.{IsWellNamed, premise_in}
-use Rattle.tmm_model.proofs.Cycles.{names_own, Contains-flat_map, Contains-flat_map_from, steps_in-push}
-use Rattle.tmm_model.proofs.Elements.{Contains-from_In, In-from_Contains}
-use Rattle.tmm_model.proofs.KnownNames.{found, finds}
-use Rattle.tmm_model.proofs.Members.{Contains-cons_cases, Contains-cons_first}
-use Rattle.tmm_model.proofs.Walks.{total-append}
+use Rattle.list_theory.specs.WellNamed.{IsWellNamed}
+use Rattle.list_theory.proofs.Cycles.{names_own, Contains-flat_map, Contains-flat_map_from, steps_in-push}
+use Rattle.list_theory.proofs.Elements.{Contains-from_In, In-from_Contains}
+use Rattle.list_theory.proofs.KnownNames.{found, finds}
+use Rattle.walk_theory.proofs.Members.{Contains-cons_cases, Contains-cons_first}
+use Rattle.walk_theory.proofs.Walks.{total-append}
 
 -- ---- one member, and two lists
 

@@ -13,11 +13,12 @@ use Rattle.std.proofs.lemmas.List.Sums.{count_by-le-length}
 use Rattle.tmm_model.specs.declared.bound.Bound.{Bound}
 use Rattle.tmm_model.specs.declared.bound.Bound.TheVariants.{Finite, Free}
 use Rattle.tmm_model.specs.declared.point.PointName.{PointName}
-use Rattle.tmm_model.specs.Walks.{Arc, IsWalk, IsFar, HasWalk, HasDates, AreAmong, total, points}
-use Rattle.tmm_model.proofs.Members.{All-from_contains, Contains-map}
-use Rattle.tmm_model.proofs.Paths.{Path, shorten, closed_walks, length_lt_from_distinct, IsFar-same}
-use Rattle.tmm_model.proofs.Sizes.{Fits-round}
-use Rattle.tmm_model.proofs.Walks.{IsWalk-append, total-append}
+use Rattle.tmm_model.specs.Walks.{Arc, HasDates, total}
+use Rattle.walk_theory.specs.LeastWalks.{IsWalk, IsFar, HasWalk, AreAmong, points}
+use Rattle.walk_theory.proofs.Members.{All-from_contains, Contains-map}
+use Rattle.walk_theory.proofs.Paths.{Path, shorten, closed_walks, length_lt_from_distinct, IsFar-same}
+use Rattle.walk_theory.proofs.Sizes.{Fits-round}
+use Rattle.walk_theory.proofs.Walks.{IsWalk-append, total-append}
 use Rattle.dist_net.specs.declared.Edge.{Edge}
 use Rattle.dist_net.specs.Net.{arc_of, arcs_of, same_number, IsInUse, AreInUse}
 use Rattle.dist_net.proofs.Ends.{edge_at}

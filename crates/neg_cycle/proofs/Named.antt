@@ -14,11 +14,12 @@ use Rattle.tmm_model.specs.declared.walk.WalkStep.{WalkStep}
 use Rattle.tmm_model.specs.Cycles.{Leads, sum_of, begins, IsPath, IsCycleBy}
 use Rattle.tmm_model.specs.Bounds.{after}
 use Rattle.tmm_model.specs.Points.{same_point}
-use Rattle.tmm_model.specs.Walks.{Arc, IsWalk, IsFar, HasDates, total, points}
-use Rattle.tmm_model.proofs.Members.{All-from_contains, Contains-map, Contains-map_from}
-use Rattle.tmm_model.proofs.Dates.{Solved}
-use Rattle.tmm_model.proofs.Reach.{solved}
-use Rattle.tmm_model.proofs.Points.{Decides-same_point, tells}
+use Rattle.tmm_model.specs.Walks.{Arc, HasDates, total}
+use Rattle.walk_theory.specs.LeastWalks.{IsWalk, IsFar, points}
+use Rattle.walk_theory.proofs.Members.{All-from_contains, Contains-map, Contains-map_from}
+use Rattle.walk_theory.proofs.Dates.{Solved}
+use Rattle.walk_theory.proofs.Reach.{solved}
+use Rattle.walk_theory.proofs.Points.{Decides-same_point, tells}
 use Rattle.dist_net.specs.declared.Edge.{Edge}
 use Rattle.dist_net.specs.declared.Conflict.{Conflict}
 use Rattle.dist_net.specs.Net.{IsConflict, Net, arcs_of, same_number, IsInUse, AreInUse, AreDistinct}

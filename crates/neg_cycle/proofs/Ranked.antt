@@ -5,7 +5,8 @@ use Rattle.std.proofs.lemmas.Bool.{cases_eq}
 use Rattle.std.proofs.lemmas.Int.{ints}
 use Rattle.std.proofs.lemmas.List.{get_or-set_same, get_or-set_other}
 use Rattle.tmm_model.specs.declared.bound.Bound.TheVariants.{Finite}
-use Rattle.tmm_model.specs.Walks.{Arc, IsWalk, IsFar, total}
+use Rattle.tmm_model.specs.Walks.{Arc, total}
+use Rattle.walk_theory.specs.LeastWalks.{IsWalk, IsFar}
 use Rattle.dist_net.specs.declared.Edge.{Edge}
 use Rattle.neg_cycle.specs.Ranks.{IsTight, IsRanked, AreRankedWithin, AreAtMost, AreKept}
 

@@ -1,4 +1,2 @@
-pub mod DistanceLaw
 pub mod Ranks
 pub mod Steps
-pub mod TimingLaw

@@ -3,7 +3,8 @@ use Rattle.std.specs.Prelude.{◌≡◌, ◌⊎◌, ◌++◌, ℕ, ◌<◌, ◌�
 use Rattle.std.specs.List.{All, Contains, IsDistinct}
 use Rattle.tmm_model.specs.declared.bound.Bound.TheVariants.{Finite}
 use Rattle.tmm_model.specs.declared.walk.WalkStep.{WalkStep}
-use Rattle.tmm_model.specs.Walks.{Arc, IsWalk, IsFar, total, points}
+use Rattle.tmm_model.specs.Walks.{Arc, total}
+use Rattle.walk_theory.specs.LeastWalks.{IsWalk, IsFar, points}
 use Rattle.dist_net.specs.declared.Edge.{Edge}
 use Rattle.dist_net.specs.Net.{Net, arcs_of, same_number}
 use Rattle.neg_cycle.specs.Steps.{step_of}

@@ -2,7 +2,8 @@
 ghost use Rattle.std.specs.Prelude.{◌≡◌, [], ◌∷◌, ◌++◌, length, ℤ, pos, ◌<ℤ◌, Bool, IsTrue, ◌↔◌};
 ghost use Rattle.std.specs.List.{All, Contains, IsDistinct, list_any};
 ghost use Rattle.tmm_model.specs.declared.point.PointName.{PointName};
-ghost use Rattle.tmm_model.specs.Cycles.{Leads, steps_in, sum_of, begins, IsNegativeCycle};
+ghost use Rattle.tmm_model.specs.Cycles.{Leads, steps_in, sum_of, begins};
+ghost use Rattle.list_theory.specs.NegativeCycles.{IsNegativeCycle};
 ghost use Rattle.tmm_model.specs.Points.{same_point};
 ghost use Rattle.tmm_model.specs.Standing.{base_step, length_step, hi_steps, lo_steps, steps_of};
 

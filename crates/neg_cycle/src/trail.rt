@@ -3,7 +3,7 @@ ghost use Rattle.std.specs.Prelude.{◌≡◌, ◌≢◌, [], ◌∷◌, ◌++�
 ghost use Rattle.dist_net.specs.declared.Edge.{Edge};
 ghost use Rattle.dist_net.specs.Net.{IsInUse, AreInUse, IsConflict, arcs_of};
 ghost use Rattle.tmm_model.specs.Cycles.{sum_of, IsPath, IsCycleBy};
-ghost use Rattle.tmm_model.specs.Walks.{IsFar};
+ghost use Rattle.walk_theory.specs.LeastWalks.{IsFar};
 ghost use Rattle.neg_cycle.specs.Ranks.{HasFar, IsRanked, AppendsPath};
 ghost use Rattle.neg_cycle.specs.Steps.{point_at, step_of, steps_in_net, far_in_net};
 

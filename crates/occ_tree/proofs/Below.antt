@@ -7,8 +7,8 @@ use Rattle.std.proofs.lemmas.List.{append-nil, append_assoc, length-append, leng
 use Rattle.std.proofs.lemmas.List.Elements.{Contains-get_or, Contains-append_left, Contains-append_right, Contains-append_cases, Contains-push, Contains-push_cases, recursion_from_All}
 use Rattle.std.proofs.lemmas.Map.Keys.{IsDistinct-cons}
 use Rattle.std.proofs.lemmas.Map.Steps.{length-le_from_distinct_below}
-use Rattle.tmm_model.proofs.Elements.{list_any-In, Contains-from_In}
-use Rattle.tmm_model.proofs.Members.{All-from_contains}
+use Rattle.list_theory.proofs.Elements.{list_any-In, Contains-from_In}
+use Rattle.walk_theory.proofs.Members.{All-from_contains}
 use Rattle.spots.specs.declared.link.Link.{Link}
 use Rattle.spots.specs.Forest.{moment, rules_of, IsBelow, IsOnce}
 use Rattle.occ_tree.specs.declared.node.Node.{Node}

@@ -9,7 +9,7 @@ use Rattle.std.proofs.lemmas.List.{append-nil, get_or-set_same, get_or-set_other
 use Rattle.slab.specs.Slab.{Slab, Updates}
 use Rattle.slab.proofs.SlabLemmas.{ContainsKey-within}
 use Rattle.tmm_model.specs.declared.token.Shape.{Shape}
-use Rattle.tmm_model.proofs.Elements.{In-from_Contains, Contains-from_In, In-left, In-right, In-cases}
+use Rattle.list_theory.proofs.Elements.{In-from_Contains, Contains-from_In, In-left, In-right, In-cases}
 use Rattle.spots.specs.declared.link.Link.{Link}
 use Rattle.spots.specs.Forest.{Forest, Member, member, moment, rules_of, child_member, IsOnce, IsTrigger, Enters}
 use Rattle.spots.specs.Spots.{token_row, AreTokens}

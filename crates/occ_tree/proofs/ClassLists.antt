@@ -8,7 +8,7 @@ use Rattle.tmm_model.specs.Points.{same_name}
 use Rattle.spots.specs.declared.spot.Spot.{Spot}
 use Rattle.occ_tree.specs.declared.classes.ClassRows.{ClassRows}
 use Rattle.occ_tree.specs.Classes.{rows_in, IsOther, IsPlace, AddsRow}
-use Rattle.tmm_model.proofs.Points.{names_differ}
+use Rattle.walk_theory.proofs.Points.{names_differ}
 
 rows_own : (c : List ℕ) (e : ClassRows) (es : List ClassRows) → same_name c e.class ≡ true → rows_in (e ∷ es) c ≡ e.rows.items
 rows_own c e es h = subst (λ (b : Bool). (elim b [ true ↦ e.rows.items | false ↦ rows_in es c ]) ≡ e.rows.items) (sym h) refl

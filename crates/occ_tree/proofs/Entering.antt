@@ -7,7 +7,7 @@ use Rattle.std.proofs.lemmas.Bool.{cases_eq}
 use Rattle.std.specs.Cmp.Lexicographic.{bytes_decides}
 use Rattle.tmm_model.specs.declared.token.TokenRow.{TokenRow}
 use Rattle.tmm_model.specs.Points.{same_name}
-use Rattle.tmm_model.proofs.Elements.{In-from_Contains, Contains-from_In, In-left, In-right, In-cases}
+use Rattle.list_theory.proofs.Elements.{In-from_Contains, Contains-from_In, In-left, In-right, In-cases}
 use Rattle.spots.specs.declared.spot.Spot.{Spot}
 use Rattle.spots.specs.Forest.{Member, member, moment, Enters}
 use Rattle.spots.specs.Spots.{token_row, AreTokens}

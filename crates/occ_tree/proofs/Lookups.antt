@@ -13,7 +13,7 @@ use Rattle.occ_tree.specs.declared.node.Node.{Node}
 use Rattle.occ_tree.specs.Nodes.{Slots, node_at, member_of, forest_in, IsNode, IsBetween, IsChild, AreChildren, IsKept}
 use Rattle.occ_tree.proofs.NodeLists.{seen, unseen}
 use Rattle.occ_tree.proofs.Ways.{parent_of, IsWay-listed}
-use Rattle.tmm_model.proofs.Moments.{base-along, rules-along, along-push, along-append}
+use Rattle.belief_theory.proofs.Moments.{base-along, rules-along, along-push, along-append}
 use Rattle.occ_tree.proofs.Words.{way_on, way_whole}
 use Rattle.spots.proofs.Nodes.{last_name-push}
 

@@ -6,7 +6,7 @@ use Rattle.std.proofs.lemmas.Bool.Decides.{Decides-eqb}
 use Rattle.std.proofs.lemmas.Cmp.{nat_eq_equiv}
 use Rattle.std.proofs.lemmas.List.Elements.{All-contains, All-nil, All-push}
 use Rattle.std.proofs.lemmas.Map.Keys.{IsDistinct-push}
-use Rattle.tmm_model.proofs.Elements.{In-left, In-right, list_any-In, In-from_Contains, Contains-from_In}
+use Rattle.list_theory.proofs.Elements.{In-left, In-right, list_any-In, In-from_Contains, Contains-from_In}
 use Rattle.spots.specs.Forest.{Forest, IsLive}
 
 -- these are the nodes below n

@@ -6,8 +6,8 @@ use Rattle.std.specs.Cmp.Lexicographic.{bytes_decides}
 use Rattle.std.proofs.lemmas.List.Elements.{All-contains}
 use Rattle.tmm_model.specs.declared.token.TokenRow.{TokenRow}
 use Rattle.tmm_model.specs.Points.{same_name}
-use Rattle.tmm_model.proofs.Elements.{In, In-from_Contains, Contains-from_In, In-cases}
-use Rattle.tmm_model.proofs.Members.{All-from_contains}
+use Rattle.list_theory.proofs.Elements.{In, In-from_Contains, Contains-from_In, In-cases}
+use Rattle.walk_theory.proofs.Members.{All-from_contains}
 use Rattle.spots.specs.declared.spot.Spot.{Spot}
 use Rattle.spots.specs.declared.spot.Spot.TheVariants.{Declared, Node}
 use Rattle.spots.specs.Forest.{Forest, Member, member}

@@ -6,8 +6,8 @@ use Rattle.std.proofs.lemmas.List.Elements.{All-nil}
 use Rattle.slab.specs.Slab.{Slab, Updates}
 use Rattle.tmm_model.specs.declared.point.PointName.TheVariants.{Begin}
 use Rattle.tmm_model.specs.Moments.{At, along, base, rules, printed}
-use Rattle.tmm_model.proofs.Elements.{In-from_Contains, Contains-from_In, In-left, In-right, In-cases}
-use Rattle.tmm_model.proofs.Moments.{base-along, rules-along}
+use Rattle.list_theory.proofs.Elements.{In-from_Contains, Contains-from_In, In-left, In-right, In-cases}
+use Rattle.belief_theory.proofs.Moments.{base-along, rules-along}
 use Rattle.spots.specs.declared.link.Link.{Link}
 use Rattle.spots.specs.Forest.{Member, moment, rules_of, Enters, IsNoRoot, HasClass}
 use Rattle.spots.specs.Spots.{token_row}

@@ -7,7 +7,7 @@ use Rattle.std.proofs.lemmas.Bool.{both_ways}
 use Rattle.std.proofs.lemmas.List.Elements.{All-contains}
 use Rattle.slab.specs.Slab.{Slab, ContainsKey}
 use Rattle.tmm_model.specs.declared.token.TokenRow.{TokenRow}
-use Rattle.tmm_model.proofs.Members.{All-from_contains}
+use Rattle.walk_theory.proofs.Members.{All-from_contains}
 use Rattle.spots.specs.declared.spot.Spot.{Spot}
 use Rattle.spots.specs.declared.spot.Spot.TheVariants.{Node as OfNode}
 use Rattle.spots.specs.Forest.{Forest, Member, member, moment, IsBelow, IsOnce, Withdraws}

@@ -5,8 +5,8 @@ use Rattle.std.specs.List.{Contains}
 use Rattle.std.proofs.lemmas.Bool.{cond-true, not-true, not_from_false, eqb-false, ne_eqb}
 use Rattle.std.proofs.lemmas.List.Elements.{All-filter, Contains-append_cases}
 use Rattle.tmm_model.specs.declared.token.TokenRow.{TokenRow}
-use Rattle.tmm_model.proofs.Elements.{In-from_Contains, Contains-from_In, In-filter, filter-In}
-use Rattle.tmm_model.proofs.Members.{Contains-cons, Contains-cons_first}
+use Rattle.list_theory.proofs.Elements.{In-from_Contains, Contains-from_In, In-filter, filter-In}
+use Rattle.walk_theory.proofs.Members.{Contains-cons, Contains-cons_first}
 use Rattle.spots.specs.declared.spot.Spot.{Spot}
 use Rattle.spots.specs.Spots.{AreApart}
 use Rattle.occ_tree.specs.Nodes.{AreOnce}

@@ -4,7 +4,7 @@ use Rattle.std.proofs.lemmas.List.{map_push, take_more, take-append-drop}
 use Rattle.tmm_model.specs.declared.point.PointName.TheVariants.{Begin}
 use Rattle.tmm_model.specs.Moments.{Moment, At, After, along, printed}
 use Rattle.spots.specs.declared.link.Link.{Link}
-use Rattle.tmm_model.proofs.Moments.{along-push, along-append}
+use Rattle.belief_theory.proofs.Moments.{along-push, along-append}
 
 -- the word of what a rule leads to
 pub printed-push : (name : List ℕ) (ls : List Link) (l : Link) → printed (along (At (Begin name)) (map (λ l. l.rule) (ls ++ l ∷ []))) ≡ printed (along (At (Begin name)) (map (λ l. l.rule) ls)) ++ 47 ∷ l.rule

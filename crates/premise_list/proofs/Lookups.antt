@@ -7,14 +7,13 @@ use Rattle.std.specs.Option.{option_map, option_or}
 use Rattle.std.specs.Cmp.Lexicographic.{nat_list_eq_equiv, bytes_decides}
 use Rattle.std.proofs.lemmas.List.Elements.{Contains-append_left, Contains-append_right}
 use Rattle.std.proofs.lemmas.Map.Views.{lookup-from_Contains, Contains-from_any}
-use Rattle.tmm_model.proofs.Members.{Contains-map, Contains-cons, Contains-cons_first}
+use Rattle.walk_theory.proofs.Members.{Contains-map, Contains-cons, Contains-cons_first}
 use Rattle.tmm_model.specs.declared.premise.Premise.{Premise}
 use Rattle.tmm_model.specs.declared.premise.Premise.TheVariants.{Class, Kind, Point, Event, Token, Span, Dist, Rule, Protect}
 use Rattle.tmm_model.specs.Points.{same_name}
-use Rattle.tmm_model.specs.Standing.{name_of}
+use Rattle.tmm_model.specs.Standing.{name_of, premise_in}
 use Rattle.tmm_model.specs.Sorts.{Sort, a_fact, is_fact, fact_declaration, declarations_of, declarations_in, class_in}
-use Rattle.tmm_model.specs.WellNamed.{premise_in}
-use Rattle.tmm_model.proofs.WellNamed.{lookup-append}
+use Rattle.list_theory.proofs.WellNamed.{lookup-append}
 use Rattle.premise_list.specs.declared.premise.Sort.{Sort as Code}
 use Rattle.premise_list.specs.declared.premise.Sort.TheVariants as code
 use Rattle.premise_list.specs.Words.{facts_of, own_sort, sort_seen}

@@ -9,10 +9,11 @@ use Rattle.tmm_model.specs.declared.premise.Premise.{Premise}
 use Rattle.tmm_model.specs.Points.{same_name}
 use Rattle.tmm_model.specs.Standing.{name_of}
 use Rattle.tmm_model.specs.Sorts.{Sort, a_fact, fact_use, declared_by}
-use Rattle.tmm_model.specs.WellNamed.{AllFollow, IsWellNamed}
-use Rattle.tmm_model.specs.Erasure.{names_used, is_among, falls, kept_after, fallen_after, kept_without}
-use Rattle.tmm_model.proofs.WellNamed.{AllFollow-append}
-use Rattle.tmm_model.proofs.Erasure.{stays_before, kept_after-stays, kept_after-falls, kept_after-same, fallen_after-stays, fallen_after-falls, fallen_after-same, kept_without-IsWellNamed}
+use Rattle.list_theory.specs.WellNamed.{AllFollow, IsWellNamed}
+use Rattle.tmm_model.specs.Erasure.{names_used, is_among, falls, kept_after, kept_without}
+use Rattle.list_theory.specs.Fallen.{fallen_after}
+use Rattle.list_theory.proofs.WellNamed.{AllFollow-append}
+use Rattle.list_theory.proofs.Erasure.{stays_before, kept_after-stays, kept_after-falls, kept_after-same, fallen_after-stays, fallen_after-falls, fallen_after-same, kept_without-IsWellNamed}
 use Rattle.premise_list.specs.Words.{facts_of, own_sort}
 use Rattle.premise_list.specs.Table.{placed}
 use Rattle.premise_list.specs.Gone.{SameNames}

@@ -14,8 +14,8 @@ use Rattle.tmm_model.specs.Points.{same_name}
 use Rattle.tmm_model.specs.Standing.{name_of, points_of}
 use Rattle.tmm_model.specs.Sorts.{Sort, a_fact, declarations_of, declared_by, fact_declaration}
 use Rattle.tmm_model.specs.Verdicts.{words_known, first_taken}
-use Rattle.tmm_model.specs.WellNamed.{IsWellNamed}
-use Rattle.tmm_model.proofs.WellNamed.{words_known-append, AllFollow-append, IsNewThen, first_taken-none}
+use Rattle.list_theory.specs.WellNamed.{IsWellNamed}
+use Rattle.list_theory.proofs.WellNamed.{words_known-append, AllFollow-append, IsNewThen, first_taken-none}
 use Rattle.premise_list.specs.declared.table.Word.{Word}
 use Rattle.premise_list.specs.declared.table.Table.TheInside.{Inside}
 use Rattle.premise_list.specs.Words.{facts_of, own_sort, sort_seen}

@@ -1,7 +1,8 @@
 -- The place from which an erasure walks.
 use Rattle.std.specs.Prelude.{ℕ, ◌≡◌, ◌<◌, List, ◌++◌, length, take, drop}
 use Rattle.tmm_model.specs.declared.premise.Premise.{Premise}
-use Rattle.tmm_model.specs.Erasure.{kept_without, fallen_with}
+use Rattle.tmm_model.specs.Erasure.{kept_without}
+use Rattle.list_theory.specs.Fallen.{fallen_with}
 
 -- a place of the list before which every premise stays where this name is erased
 pub record IsFoundAt (name : List ℕ) (premises : List Premise) (place : ℕ) : Type 0 where

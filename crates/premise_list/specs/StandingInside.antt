@@ -1,7 +1,7 @@
 -- What holds of the fields of a `Standing`.
 use Rattle.std.specs.Prelude.{◌≡◌, ◌+◌, ◌≤◌, length, take, drop, vec_capacity}
 use Rattle.tmm_model.specs.Verdicts.{most_premises, words_known}
-use Rattle.tmm_model.specs.WellNamed.{IsWellNamed}
+use Rattle.list_theory.specs.WellNamed.{IsWellNamed}
 use Rattle.premise_list.specs.declared.standing.Standing.TheInside.{Inside}
 use Rattle.premise_list.specs.States.{States}
 

@@ -3,7 +3,7 @@ use Rattle.std.specs.Prelude.{◌≡◌, ◌-◌, ◌≤◌, length, map, vec_le
 use Rattle.indexmap.specs.IndexMap.{spare}
 use Rattle.tmm_model.specs.Standing.{points_in}
 use Rattle.tmm_model.specs.Verdicts.{most_premises}
-use Rattle.tmm_model.specs.WellNamed.{IsWellNamed}
+use Rattle.list_theory.specs.WellNamed.{IsWellNamed}
 use Rattle.premise_list.specs.declared.table.Table.TheInside.{Inside}
 use Rattle.premise_list.specs.Table.{Rows, placed, entry_seen}
 

@@ -3,7 +3,8 @@ ghost use Rattle.std.specs.Prelude.{◌≡◌, [], ◌∷◌, ◌++◌, ◌≤�
 ghost use Rattle.std.specs.List.{list_any};
 ghost use Rattle.tmm_model.specs.Standing.{name_of};
 ghost use Rattle.tmm_model.specs.Sorts.{declared_by};
-ghost use Rattle.tmm_model.specs.Erasure.{names_at, mentioned_by, is_among, falls, kept_after, fallen_after};
+ghost use Rattle.tmm_model.specs.Erasure.{names_at, mentioned_by, is_among, falls, kept_after};
+ghost use Rattle.list_theory.specs.Fallen.{fallen_after};
 ghost use Rattle.premise_list.specs.Gone.{SameNames};
 
 use crate::premise::{copy_of, facts_of, name_of};

@@ -1,11 +1,11 @@
 // The standing list, present and committed.
 ghost use Rattle.std.specs.Prelude.{◌≡◌, ◌≤◌, ◌↔◌, ◌++◌, None, length, map, slice_get, IsOk, IfOk, IfErr, OnOk, OnErr, vec_len, vec_capacity, ◌+◌};
 ghost use Rattle.std.specs.Option.{option_copied};
-ghost use Rattle.tmm_model.specs.Standing.{empty_list, name_of};
-ghost use Rattle.tmm_model.specs.Erasure.{fallen_with};
+ghost use Rattle.tmm_model.specs.Standing.{empty_list, name_of, premise_in};
+ghost use Rattle.list_theory.specs.Fallen.{fallen_with};
 ghost use Rattle.tmm_model.specs.Sorts.{class_in, fact_use};
 ghost use Rattle.tmm_model.specs.Verdicts.{list_cause, place_cause, use_cause, most_premises, Tells};
-ghost use Rattle.tmm_model.specs.WellNamed.{IsWellNamed, premise_in};
+ghost use Rattle.list_theory.specs.WellNamed.{IsWellNamed};
 ghost use Rattle.tmm_model.specs.Edits.{list_with, list_without, list_until};
 
 use crate::check::Wanted;

@@ -8,11 +8,11 @@ use Rattle.std.proofs.lemmas.List.Elements.{All-push, filter_map-append}
 use Rattle.tmm_model.specs.declared.premise.Premise.{Premise}
 use Rattle.tmm_model.specs.declared.premise.Premise.TheVariants.{Class, Kind, Point, Event, Token, Span, Dist, Rule, Protect}
 use Rattle.tmm_model.specs.Beliefs.{on_kind}
-use Rattle.tmm_model.specs.Standing.{Standing, name_of}
-use Rattle.tmm_model.specs.WellNamed.{IsWellNamed, premise_in}
-use Rattle.tmm_model.proofs.Elements.{In, In-from_Contains, Contains-from_In, map-In}
-use Rattle.tmm_model.proofs.KnownNames.{found}
-use Rattle.tmm_model.proofs.Sound.{named_rule}
+use Rattle.tmm_model.specs.Standing.{Standing, name_of, premise_in}
+use Rattle.list_theory.specs.WellNamed.{IsWellNamed}
+use Rattle.list_theory.proofs.Elements.{In, In-from_Contains, Contains-from_In, map-In}
+use Rattle.list_theory.proofs.KnownNames.{found}
+use Rattle.belief_theory.proofs.Sound.{named_rule}
 use Rattle.supports.specs.Rules.{IsRule}
 use Rattle.projection.specs.Places.{name_at, IsRuleAt}
 use Rattle.supports.proofs.Grown.{stands}

@@ -1,13 +1,12 @@
 -- Dates of effects, as the code works them out.
-use Rattle.std.proofs.Common.{◌≡◌, ◌∙◌, ℕ, true, false, sym, subst, arith}
+use Rattle.std.proofs.Common.{◌≡◌, ◌∙◌, ℕ, true, false, sym, subst, arith, w64, to_z, of_z}
 use Rattle.std.proofs.lemmas.Int.{ints, to_z-of_z}
 use Rattle.std.specs.Prelude.{Option, Some, None, is_none, ℤ, pos, ◌+ℤ◌, ◌≤ℤ◌, ◌<ℤ◌, int_le, FitsSigned, List}
-use Rattle.std.proofs.Common.{w64, to_z, of_z}
 use Rattle.std.specs.List.{Contains}
 use Rattle.tmm_model.specs.Beliefs.{due, rules_at}
 use Rattle.tmm_model.specs.Moments.{early, rule_of}
 use Rattle.tmm_model.specs.Standing.{Standing, far_in}
-use Rattle.tmm_model.proofs.SoundBeliefs.{sound_timed}
+use Rattle.belief_theory.proofs.SoundBeliefs.{sound_timed}
 use Rattle.dist_net.specs.Net.{Net}
 use Rattle.spots.specs.Forest.{Forest, IsLive, moment_at}
 use Rattle.spots.specs.Seen.{IsSeen}

@@ -10,13 +10,13 @@ use Rattle.tmm_model.specs.Answers.{weight, size, most_size}
 use Rattle.tmm_model.specs.Beliefs.{due, is_free, rules_at}
 use Rattle.tmm_model.specs.Maps.{built}
 use Rattle.tmm_model.specs.Moments.{Moment, After, early, rule_of, rules}
-use Rattle.tmm_model.specs.Right.{IsRightTo}
+use Rattle.belief_theory.specs.Right.{IsRightTo}
 use Rattle.tmm_model.specs.Standing.{Standing, far_in}
-use Rattle.tmm_model.proofs.Distinct.{sum_inside}
-use Rattle.tmm_model.proofs.Elements.{In, In-from_Contains, Contains-from_In, In-left, In-right}
-use Rattle.tmm_model.proofs.Inside.{inside}
-use Rattle.tmm_model.proofs.Settling.{Settling, skip, enter, right_at_end}
-use Rattle.tmm_model.proofs.SoundBeliefs.{sound_timed, map_is_right, believed_right}
+use Rattle.list_theory.proofs.Distinct.{sum_inside}
+use Rattle.list_theory.proofs.Elements.{In, In-from_Contains, Contains-from_In, In-left, In-right}
+use Rattle.belief_theory.proofs.Inside.{inside}
+use Rattle.belief_theory.proofs.Settling.{Settling, skip, enter, right_at_end}
+use Rattle.belief_theory.proofs.SoundBeliefs.{sound_timed, map_is_right, believed_right}
 use Rattle.dist_net.specs.Net.{Net}
 use Rattle.spots.specs.Forest.{Forest, moment, moment_at}
 use Rattle.spots.specs.Seen.{Holds}

@@ -6,10 +6,9 @@ use Rattle.tmm_model.specs.declared.point.PointName.TheVariants.{Start}
 use Rattle.tmm_model.specs.declared.premise.Premise.{Premise}
 use Rattle.tmm_model.specs.Edits.{list_with}
 use Rattle.tmm_model.specs.Lines.{IsWellFormedPremise}
-use Rattle.tmm_model.specs.Right.{IsSound}
+use Rattle.list_theory.specs.WellNamed.{IsSound, IsWellNamed}
 use Rattle.tmm_model.specs.Standing.{Standing, empty_list, points_in, arcs_in, IsConsistent}
 use Rattle.tmm_model.specs.Walks.{HasDates}
-use Rattle.tmm_model.specs.WellNamed.{IsWellNamed}
 use Rattle.dist_net.specs.Net.{Net, start_alone, arcs_of, AreInUse, AreDistinct}
 use Rattle.list_net.specs.Fits.{Fits, IsNetOf}
 use Rattle.list_net.specs.Represents.{IsNumberOf}

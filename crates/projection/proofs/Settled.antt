@@ -13,9 +13,9 @@ use Rattle.tmm_model.specs.Answers.{size, most_size}
 use Rattle.tmm_model.specs.Beliefs.{due, root_of, roots, rules_at}
 use Rattle.tmm_model.specs.Maps.{built}
 use Rattle.tmm_model.specs.Moments.{Moment, At, After}
-use Rattle.tmm_model.specs.Right.{Occurs}
+use Rattle.belief_theory.specs.Right.{Occurs}
 use Rattle.tmm_model.specs.Standing.{Standing, name_of, far_in}
-use Rattle.tmm_model.proofs.Elements.{In, In-from_Contains, In-left, In-right, In-filter_map}
+use Rattle.list_theory.proofs.Elements.{In, In-from_Contains, In-left, In-right, In-filter_map}
 use Rattle.dist_net.specs.Net.{Net}
 use Rattle.spots.specs.Forest.{Forest, moment_at}
 use Rattle.spots.specs.Seen.{IsSeen, Holds}

@@ -10,11 +10,11 @@ use Rattle.tmm_model.specs.Answers.{weight, size, most_size}
 use Rattle.tmm_model.specs.Beliefs.{due, root_of, roots, rules_at}
 use Rattle.tmm_model.specs.Maps.{built}
 use Rattle.tmm_model.specs.Moments.{Moment, At, After, rules}
-use Rattle.tmm_model.specs.Right.{IsSound}
+use Rattle.list_theory.specs.WellNamed.{IsSound}
 use Rattle.tmm_model.specs.Standing.{Standing, name_of, far_in}
-use Rattle.tmm_model.proofs.Distinct.{Distinct, Distinct-append, sum_inside}
-use Rattle.tmm_model.proofs.Elements.{In, In-from_Contains, Contains-from_In, In-cases, In-filter_map, filter_map-In}
-use Rattle.tmm_model.proofs.SoundBeliefs.{believed_right}
+use Rattle.list_theory.proofs.Distinct.{Distinct, Distinct-append, sum_inside}
+use Rattle.list_theory.proofs.Elements.{In, In-from_Contains, Contains-from_In, In-cases, In-filter_map, filter_map-In}
+use Rattle.belief_theory.proofs.SoundBeliefs.{believed_right}
 use Rattle.dist_net.specs.Net.{Net}
 use Rattle.spots.specs.Forest.{Forest, member, moment_at, IsLive}
 use Rattle.spots.proofs.Nodes.{node_at, live_at, moment_at-is}

@@ -6,7 +6,8 @@ use Rattle.std.specs.List.{filter_map}
 use Rattle.std.specs.Option.{option_map}
 use Rattle.std.proofs.Math.Seq.{drop-cons}
 use Rattle.std.proofs.lemmas.List.{map-append, take-append-drop}
-use Rattle.tmm_model.specs.Beliefs.{Outcome, fires, blocked, beyond, first_without, tried, due, outcome, holder}
+use Rattle.belief_theory.specs.Outcomes.{Outcome, fires, blocked, beyond, first_without, tried, outcome}
+use Rattle.tmm_model.specs.Beliefs.{due, holder}
 use Rattle.tmm_model.specs.Moments.{Moment, Distances, rule_of}
 use Rattle.tmm_model.specs.Standing.{Standing}
 use Rattle.supports.proofs.Taken.{next_taken}

@@ -11,8 +11,8 @@ use Rattle.std.specs.Cmp.Lexicographic.{bytes_decides, nat_list_eq_equiv}
 use Rattle.tmm_model.specs.Beliefs.{due}
 use Rattle.tmm_model.specs.Points.{same_name}
 use Rattle.tmm_model.specs.Standing.{Standing, far_in}
-use Rattle.tmm_model.proofs.Distinct.{Distinct}
-use Rattle.tmm_model.proofs.Elements.{In, In-from_Contains, Contains-from_In, In-left, In-right, In-cases}
+use Rattle.list_theory.proofs.Distinct.{Distinct}
+use Rattle.list_theory.proofs.Elements.{In, In-from_Contains, Contains-from_In, In-left, In-right, In-cases}
 use Rattle.spots.specs.Forest.{Forest, moment_at}
 use Rattle.projection.specs.declared.pending.Pending.{Pending}
 use Rattle.projection.specs.Counted.{is_due}

@@ -1,7 +1,8 @@
 -- What the code's decision says of a rule at an event.
 use Rattle.std.specs.Prelude.{◌≡◌, ℕ, ◌≤◌, ℤ, pos, ◌<ℤ◌, List, map, Option, MatchOption}
 use Rattle.std.specs.List.{All}
-use Rattle.tmm_model.specs.Beliefs.{Outcome, fires, blocked, beyond, tried, holder}
+use Rattle.belief_theory.specs.Outcomes.{Outcome, fires, blocked, beyond, tried}
+use Rattle.tmm_model.specs.Beliefs.{holder}
 use Rattle.tmm_model.specs.Moments.{Moment}
 use Rattle.tmm_model.specs.Standing.{Standing, far_in}
 use Rattle.spots.specs.Forest.{Forest, IsLive, moment_at}

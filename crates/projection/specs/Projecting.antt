@@ -6,13 +6,13 @@ use Rattle.tmm_model.specs.Answers.{weight, most_size}
 use Rattle.tmm_model.specs.Beliefs.{due, is_free, rules_at, root_of}
 use Rattle.tmm_model.specs.Maps.{built}
 use Rattle.tmm_model.specs.Moments.{Moment, After}
-use Rattle.tmm_model.specs.Right.{IsSound}
+use Rattle.list_theory.specs.WellNamed.{IsSound}
 use Rattle.tmm_model.specs.Standing.{Standing, far_in}
 use Rattle.tmm_model.specs.declared.premise.Premise.{Premise}
-use Rattle.tmm_model.proofs.Distinct.{Distinct}
-use Rattle.tmm_model.proofs.Elements.{In}
-use Rattle.tmm_model.proofs.Settling.{Settling}
-use Rattle.tmm_model.proofs.SoundBeliefs.{sound_timed}
+use Rattle.list_theory.proofs.Distinct.{Distinct}
+use Rattle.list_theory.proofs.Elements.{In}
+use Rattle.belief_theory.proofs.Settling.{Settling}
+use Rattle.belief_theory.proofs.SoundBeliefs.{sound_timed}
 use Rattle.dist_net.specs.Net.{Net}
 use Rattle.spots.specs.Forest.{Forest, IsLive, moment_at}
 use Rattle.spots.specs.Seen.{IsSeen, Holds}

@@ -9,7 +9,7 @@ use Rattle.tmm_model.specs.Beliefs.{due}
 use Rattle.tmm_model.specs.Maps.{built}
 use Rattle.tmm_model.specs.Points.{same_name}
 use Rattle.tmm_model.specs.Standing.{Standing, far_in}
-use Rattle.tmm_model.proofs.Elements.{In}
+use Rattle.list_theory.proofs.Elements.{In}
 use Rattle.spots.specs.Forest.{Forest, moment_at}
 use Rattle.projection.specs.declared.pending.Pending.{Pending}
 use Rattle.projection.specs.Counted.{is_due}

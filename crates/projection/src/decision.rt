@@ -1,7 +1,8 @@
 // What becomes of a rule at an event.
 ghost use Rattle.std.specs.Prelude.{◌≡◌, ◌≤◌, min, ◌+◌, List, length, IsSome};
 ghost use Rattle.std.specs.List.{All, Contains};
-ghost use Rattle.tmm_model.specs.Beliefs.{outcome, rules_at, tried, holder, is_free};
+ghost use Rattle.belief_theory.specs.Outcomes.{outcome, tried};
+ghost use Rattle.tmm_model.specs.Beliefs.{rules_at, holder, is_free};
 ghost use Rattle.tmm_model.specs.Moments.{Moment};
 ghost use Rattle.tmm_model.specs.Sorts.{class_in};
 ghost use Rattle.tmm_model.specs.Standing.{far_in};

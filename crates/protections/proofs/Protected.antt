@@ -10,10 +10,10 @@ use Rattle.tmm_model.specs.declared.premise.Premise.TheVariants.{Protect}
 use Rattle.tmm_model.specs.Sorts.{a_place, fact_use, class_in}
 use Rattle.tmm_model.specs.Standing.{Standing, points_of, points_in}
 use Rattle.tmm_model.specs.Verdicts.{place_cause}
-use Rattle.tmm_model.specs.WellNamed.{Follows, AllFollow}
-use Rattle.tmm_model.proofs.Adding.{uses_none}
-use Rattle.tmm_model.proofs.Elements.{In, In-left, In-from_Contains, Contains-from_In}
-use Rattle.tmm_model.proofs.Places.{place_known}
+use Rattle.list_theory.specs.WellNamed.{Follows, AllFollow}
+use Rattle.list_theory.proofs.Adding.{uses_none}
+use Rattle.list_theory.proofs.Elements.{In, In-left, In-from_Contains, Contains-from_In}
+use Rattle.list_theory.proofs.Places.{place_known}
 use Rattle.dist_net.specs.Net.{Net}
 use Rattle.list_net.specs.Fits.{IsNetOf}
 use Rattle.list_net.specs.Network.{IsThere}

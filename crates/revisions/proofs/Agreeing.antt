@@ -3,7 +3,7 @@ use Rattle.std.proofs.Common.{◌≡◌, ◌∙◌, ℕ, zero, suc, List, sym, a
 use Rattle.std.proofs.lemmas.Int.{ints}
 use Rattle.std.specs.Prelude.{◌↔◌, ℤ, pos, negsuc, ◌≤ℤ◌, ◌<ℤ◌}
 use Rattle.std.specs.List.{Contains}
-use Rattle.tmm_model.specs.Beliefs.{Outcome}
+use Rattle.belief_theory.specs.Outcomes.{Outcome}
 use Rattle.tmm_model.specs.Moments.{Moment, At, After}
 use Rattle.revisions.specs.Revisions.{Revision, is_firing, IsOf, IsLawful}
 use Rattle.revisions.specs.Keeping.{IsKeeping}

@@ -4,16 +4,17 @@ use Rattle.std.specs.Prelude.{◌↔◌, ℤ}
 use Rattle.std.specs.List.{Contains}
 use Rattle.std.proofs.lemmas.Bool.{eq-eqb}
 use Rattle.tmm_model.specs.declared.premise.Edit.{Edit}
-use Rattle.tmm_model.specs.Beliefs.{Outcome, fires, blocked, beyond, outcome, decisions, rules_at}
+use Rattle.belief_theory.specs.Outcomes.{Outcome, fires, blocked, beyond, outcome, decisions}
+use Rattle.tmm_model.specs.Beliefs.{rules_at}
 use Rattle.tmm_model.specs.Edits.{next_list}
 use Rattle.tmm_model.specs.Maps.{built}
 use Rattle.tmm_model.specs.Moments.{Moment}
-use Rattle.tmm_model.specs.Right.{IsSound}
+use Rattle.list_theory.specs.WellNamed.{IsSound}
 use Rattle.tmm_model.specs.Standing.{Standing}
-use Rattle.tmm_model.specs.Touched.{is_decision, touched}
-use Rattle.tmm_model.proofs.Distinct.{Distinct, Distinct-map, Distinct-flat_map}
-use Rattle.tmm_model.proofs.Elements.{In, In-from_Contains, Contains-from_In, In-flat_map, flat_map-In, In-map, map-In}
-use Rattle.tmm_model.proofs.Moments.{Decides-same_moment}
+use Rattle.belief_theory.specs.Touched.{is_decision, touched}
+use Rattle.list_theory.proofs.Distinct.{Distinct, Distinct-map, Distinct-flat_map}
+use Rattle.list_theory.proofs.Elements.{In, In-from_Contains, Contains-from_In, In-flat_map, flat_map-In, In-map, map-In}
+use Rattle.belief_theory.proofs.Moments.{Decides-same_moment}
 use Rattle.spots.proofs.Believed.{believed_once, rules_once}
 use Rattle.revisions.specs.Counted.{same_moments, same_outcome, is_changed, changed}
 use Rattle.revisions.specs.Keeping.{IsKeeping}

@@ -15,14 +15,14 @@ use Rattle.tmm_model.specs.Firsts.{earliest, first}
 use Rattle.tmm_model.specs.Maps.{TimeMap, built, gap, order, believed_tokens}
 use Rattle.tmm_model.specs.Moments.{Moment, negated, printed}
 use Rattle.tmm_model.specs.Points.{same_name}
-use Rattle.tmm_model.specs.Right.{IsSound}
+use Rattle.list_theory.specs.WellNamed.{IsSound}
 use Rattle.tmm_model.specs.Standing.{Standing}
 use Rattle.tmm_model.specs.Tokens.{is_before, clips}
-use Rattle.tmm_model.proofs.Elements.{In, both, In-filter, filter-In}
-use Rattle.tmm_model.proofs.Firsts.{least_is, one_spot}
-use Rattle.tmm_model.proofs.Order.{IsSpelt, ordered}
+use Rattle.list_theory.proofs.Elements.{In, both, In-filter, filter-In}
+use Rattle.belief_theory.proofs.Firsts.{least_is, one_spot}
+use Rattle.belief_theory.proofs.Order.{IsSpelt, ordered}
 use Rattle.revisions.specs.Clips.{SameClass}
-use Rattle.tmm_model.proofs.NextLists.{all_spelt}
+use Rattle.belief_theory.proofs.NextLists.{all_spelt}
 
 abbrev by_begin : TimeMap → TokenRow Moment → TokenRow Moment → Ordering
 by_begin m = on (λ k. k.spot) (order m)

@@ -3,10 +3,10 @@ use Rattle.std.proofs.Common.{◌≡◌, ◌∙◌, ℕ, ◌+◌, ◌≤◌, Boo
 use Rattle.std.specs.Prelude.{ℤ, filter, cond, sum_by}
 use Rattle.std.specs.List.{count_by}
 use Rattle.std.proofs.lemmas.List.Sums.{sum_by-cons}
-use Rattle.tmm_model.specs.Beliefs.{Outcome}
+use Rattle.belief_theory.specs.Outcomes.{Outcome}
 use Rattle.tmm_model.specs.Moments.{Moment}
-use Rattle.tmm_model.proofs.Elements.{In, In-filter}
-use Rattle.tmm_model.proofs.Distinct.{Distinct, Distinct-filter, sum_inside}
+use Rattle.list_theory.proofs.Elements.{In, In-filter}
+use Rattle.list_theory.proofs.Distinct.{Distinct, Distinct-filter, sum_inside}
 use Rattle.revisions.specs.Revisions.{Revision, IsLawful}
 use Rattle.revisions.specs.Keeping.{IsKeeping}
 use Rattle.revisions.specs.Laws.{AreDecisions, TellsChanged}

@@ -5,29 +5,30 @@ use Rattle.std.specs.List.{Contains}
 use Rattle.std.specs.Cmp.Lexicographic.{nat_list_eq_equiv, bytes_decides}
 use Rattle.tmm_model.specs.declared.premise.Edit.{Edit}
 use Rattle.tmm_model.specs.declared.token.TokenRow.{TokenRow}
-use Rattle.tmm_model.specs.Beliefs.{class_of, rules_at, token_of, decisions, outcome, Outcome, fires, blocked, beyond}
+use Rattle.tmm_model.specs.Beliefs.{class_of, rules_at, token_of}
+use Rattle.belief_theory.specs.Outcomes.{decisions, outcome, Outcome, fires, blocked, beyond}
 use Rattle.tmm_model.specs.Edits.{next_list}
 use Rattle.tmm_model.specs.Maps.{TimeMap, built, believed_tokens}
 use Rattle.tmm_model.specs.Moments.{Moment, At, After, RuleText, as_rule, distance, same_moment, rule_of}
 use Rattle.tmm_model.specs.Points.{same_name}
-use Rattle.tmm_model.specs.Right.{Occurs, IsSound}
-use Rattle.tmm_model.specs.Standing.{Standing, far_in}
-use Rattle.tmm_model.specs.Touched.{same_tokens, watched, watched_points, same_gaps, is_decision}
-use Rattle.tmm_model.proofs.Elements.{In, In-from_Contains, Contains-from_In, In-filter, filter-In, In-filter_map, filter_map-In, flat_map-In, map-In, In-list_any, list_any-In, both, In-flat_map, In-map}
-use Rattle.tmm_model.proofs.NextLists.{one_way, found_within}
-use Rattle.tmm_model.proofs.Moments.{Decides-same_moment}
-use Rattle.tmm_model.proofs.OneRight.{later, spot-token_of}
-use Rattle.tmm_model.proofs.Outcomes.{fires_exactly}
-use Rattle.tmm_model.proofs.SoundBeliefs.{sound_timed, believed_right, believed_occurs}
-use Rattle.tmm_model.proofs.Spelt.{spelt}
-use Rattle.tmm_model.proofs.Untouched.{was_decision, untouched_alike, untouched_stood}
+use Rattle.belief_theory.specs.Right.{Occurs}
+use Rattle.list_theory.specs.WellNamed.{IsSound}
+use Rattle.tmm_model.specs.Standing.{Standing, far_in, premise_in}
+use Rattle.belief_theory.specs.Touched.{same_tokens, watched, watched_points, same_gaps, is_decision}
+use Rattle.list_theory.proofs.Elements.{In, In-from_Contains, Contains-from_In, In-filter, filter-In, In-filter_map, filter_map-In, flat_map-In, map-In, In-list_any, list_any-In, both, In-flat_map, In-map}
+use Rattle.belief_theory.proofs.NextLists.{one_way, found_within}
+use Rattle.belief_theory.proofs.Moments.{Decides-same_moment}
+use Rattle.belief_theory.proofs.OneRight.{later, spot-token_of}
+use Rattle.belief_theory.proofs.Outcomes.{fires_exactly}
+use Rattle.belief_theory.proofs.SoundBeliefs.{sound_timed, believed_right, believed_occurs}
+use Rattle.belief_theory.proofs.Spelt.{spelt}
+use Rattle.belief_theory.proofs.Untouched.{was_decision, untouched_alike, untouched_stood}
 use Rattle.revisions.specs.Maps.{is_watched, watches, revision}
 use Rattle.revisions.specs.Revisions.{Revision, is_firing, IsOf, AreOf, AgreeFor, Belongs, IsNew, IsLost, IsLawful}
 use Rattle.tmm_model.specs.Tokens.{is_by}
-use Rattle.tmm_model.proofs.Order.{IsSpelt}
-use Rattle.tmm_model.specs.WellNamed.{premise_in}
-use Rattle.tmm_model.proofs.KnownNames.{found}
-use Rattle.tmm_model.proofs.Sound.{rule_stands}
+use Rattle.belief_theory.proofs.Order.{IsSpelt}
+use Rattle.list_theory.proofs.KnownNames.{found}
+use Rattle.belief_theory.proofs.Sound.{rule_stands}
 use Rattle.revisions.proofs.Tokens.{tokens_stay, classes_stay}
 use Rattle.revisions.proofs.Locality.{Sees, AllSpelt, outcome_local}
 

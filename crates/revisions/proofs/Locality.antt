@@ -9,16 +9,17 @@ use Rattle.std.specs.Cmp.Lexicographic.{bytes_decides, nat_list_eq_equiv}
 use Rattle.std.specs.declared.cmp.Ordering.{Ordering}
 use Rattle.tmm_model.specs.declared.bound.Bound.{Bound}
 use Rattle.tmm_model.specs.declared.token.TokenRow.{TokenRow}
-use Rattle.tmm_model.specs.Beliefs.{class_of, token_of, tokens, contradicts_in, due, Outcome, beyond, holder, supporters, tried, outcome}
+use Rattle.tmm_model.specs.Beliefs.{class_of, token_of, tokens, contradicts_in, due, holder, supporters}
+use Rattle.belief_theory.specs.Outcomes.{Outcome, beyond, tried, outcome}
 use Rattle.tmm_model.specs.Firsts.{earliest, first}
 use Rattle.tmm_model.specs.Moments.{Moment, Distances, distance, occ_cmp, rule_of}
 use Rattle.tmm_model.specs.Points.{same_name}
 use Rattle.tmm_model.specs.Standing.{Standing}
 use Rattle.tmm_model.specs.Tokens.{is_by, is_before, clips, cuts, lasts_to, supports}
-use Rattle.tmm_model.proofs.Elements.{In, both, list_any-In, In-list_any, In-filter, filter-In, In-filter_map}
-use Rattle.tmm_model.proofs.Firsts.{least_is, one_spot}
-use Rattle.tmm_model.proofs.Order.{IsSpelt, ordered}
-use Rattle.tmm_model.proofs.Watched.{class-token_of}
+use Rattle.list_theory.proofs.Elements.{In, both, list_any-In, In-list_any, In-filter, filter-In, In-filter_map}
+use Rattle.belief_theory.proofs.Firsts.{least_is, one_spot}
+use Rattle.belief_theory.proofs.Order.{IsSpelt, ordered}
+use Rattle.belief_theory.proofs.Watched.{class-token_of}
 use Rattle.revisions.specs.Maps.{is_watched}
 
 module _ (s : Standing) (far : Distances) (t : Moment) (r : List ℕ) where

@@ -3,7 +3,7 @@ use Rattle.std.proofs.Common.{◌≡◌, ℕ, Bool, true, false, List, refl, sym
 use Rattle.std.proofs.lemmas.Int.{ints}
 use Rattle.std.specs.Prelude.{◌⊎◌, ℤ, ◌≤ℤ◌, ◌<ℤ◌}
 use Rattle.std.specs.List.{Contains}
-use Rattle.tmm_model.specs.Beliefs.{Outcome}
+use Rattle.belief_theory.specs.Outcomes.{Outcome}
 use Rattle.tmm_model.specs.Moments.{Moment, After}
 use Rattle.revisions.specs.Revisions.{Revision, IsOf, AreOf, IsLawful, IsNew, IsLost}
 use Rattle.revisions.specs.Keeping.{IsKeeping, IsLeast, Waits}

@@ -8,10 +8,10 @@ use Rattle.tmm_model.specs.Points.{same_name}
 use Rattle.tmm_model.specs.Sorts.{Sort, a_fact, fact_declaration, declarations_of, declarations_in, declared_by, sort_in, class_in}
 use Rattle.tmm_model.specs.Standing.{name_of}
 use Rattle.tmm_model.specs.Verdicts.{first_taken, words_known}
-use Rattle.tmm_model.specs.WellNamed.{AllFollow, IsWellNamed}
-use Rattle.tmm_model.proofs.Elements.{In, In-list_any, list_any-In, In-left, In-right, map-In, flat_map-In, In-map}
-use Rattle.tmm_model.proofs.NextLists.{AreWithin}
-use Rattle.tmm_model.proofs.WellNamed.{first_taken-none}
+use Rattle.list_theory.specs.WellNamed.{AllFollow, IsWellNamed}
+use Rattle.list_theory.proofs.Elements.{In, In-list_any, list_any-In, In-left, In-right, map-In, flat_map-In, In-map}
+use Rattle.belief_theory.proofs.NextLists.{AreWithin}
+use Rattle.list_theory.proofs.WellNamed.{first_taken-none}
 use Rattle.premise_list.specs.Words.{facts_of, own_sort}
 use Rattle.premise_list.proofs.Lookups.{declarations_parted}
 use Rattle.supports.proofs.Facts.{class_in-cons, sort_in-cons}

@@ -4,8 +4,8 @@ use Rattle.std.specs.Prelude.{◌⊎◌}
 use Rattle.std.specs.Cmp.Lexicographic.{bytes_decides}
 use Rattle.tmm_model.specs.Moments.{Moment, same_moment}
 use Rattle.tmm_model.specs.Points.{same_name}
-use Rattle.tmm_model.proofs.Elements.{In, both}
-use Rattle.tmm_model.proofs.Moments.{Decides-same_moment}
+use Rattle.list_theory.proofs.Elements.{In, both}
+use Rattle.belief_theory.proofs.Moments.{Decides-same_moment}
 use Rattle.revisions.specs.Steps.{Differs}
 
 pub same_or : (t : Moment) (r : List ℕ) (u : Moment) (q : List ℕ) → ((u ≡ t) × (q ≡ r)) ⊎ Differs t r u q

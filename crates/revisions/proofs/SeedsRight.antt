@@ -11,21 +11,23 @@ use Rattle.tmm_model.specs.declared.bound.Bound.TheVariants.{Finite, Free}
 use Rattle.tmm_model.specs.declared.point.PointName.TheVariants.{Start}
 use Rattle.tmm_model.specs.declared.premise.Edit.{Edit}
 use Rattle.tmm_model.specs.declared.token.TokenRow.{TokenRow}
-use Rattle.tmm_model.specs.Beliefs.{rules_at, token_of, outcome}
+use Rattle.tmm_model.specs.Beliefs.{rules_at, token_of}
+use Rattle.belief_theory.specs.Outcomes.{outcome}
 use Rattle.tmm_model.specs.Edits.{next_list}
 use Rattle.tmm_model.specs.Maps.{TimeMap, built, gap, believed_tokens}
 use Rattle.tmm_model.specs.Moments.{Moment, At, After, same_moment, rule_of}
-use Rattle.tmm_model.specs.Right.{IsSound, Occurs}
+use Rattle.list_theory.specs.WellNamed.{IsSound}
+use Rattle.belief_theory.specs.Right.{Occurs}
 use Rattle.tmm_model.specs.Standing.{Standing, far_in}
-use Rattle.tmm_model.specs.Touched.{same_bound, same_token, are_within, same_tokens, watched, watched_points, same_gaps, is_decision, is_touched}
-use Rattle.tmm_model.proofs.Elements.{In, In-from_Contains, Contains-from_In, In-filter, filter-In, In-filter_map, filter_map-In, In-list_any, In-map, map-In, In-left, In-right, In-cases}
-use Rattle.tmm_model.proofs.Moments.{Decides-same_moment}
-use Rattle.tmm_model.proofs.OneRight.{spot-token_of}
-use Rattle.tmm_model.proofs.Order.{IsSpelt}
-use Rattle.tmm_model.proofs.SoundBeliefs.{believed_right, believed_occurs}
-use Rattle.tmm_model.proofs.Spelt.{spelt}
-use Rattle.tmm_model.proofs.NextLists.{all_spelt}
-use Rattle.tmm_model.proofs.Untouched.{Alike, untouched_alike, untouched_stood, outcome_alike}
+use Rattle.belief_theory.specs.Touched.{same_bound, same_token, are_within, same_tokens, watched, watched_points, same_gaps, is_decision, is_touched}
+use Rattle.list_theory.proofs.Elements.{In, In-from_Contains, Contains-from_In, In-filter, filter-In, In-filter_map, filter_map-In, In-list_any, In-map, map-In, In-left, In-right, In-cases}
+use Rattle.belief_theory.proofs.Moments.{Decides-same_moment}
+use Rattle.belief_theory.proofs.OneRight.{spot-token_of}
+use Rattle.belief_theory.proofs.Order.{IsSpelt}
+use Rattle.belief_theory.proofs.SoundBeliefs.{believed_right, believed_occurs}
+use Rattle.belief_theory.proofs.Spelt.{spelt}
+use Rattle.belief_theory.proofs.NextLists.{all_spelt}
+use Rattle.belief_theory.proofs.Untouched.{Alike, untouched_alike, untouched_stood, outcome_alike}
 use Rattle.spots.specs.Seen.{map_of}
 use Rattle.revisions.specs.Counted.{AreSeeds}
 use Rattle.revisions.specs.Maps.{is_watched}

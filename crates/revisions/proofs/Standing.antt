@@ -11,13 +11,13 @@ use Rattle.tmm_model.specs.declared.token.Shape.TheVariants.{Event as AnEvent, P
 use Rattle.tmm_model.specs.Beliefs.{is_of, root_of, roots, on_kind, rules_on, rules_for, rules_at}
 use Rattle.tmm_model.specs.Edits.{next_list}
 use Rattle.tmm_model.specs.Moments.{Moment, At, After}
-use Rattle.tmm_model.specs.Right.{IsSound, Occurs}
-use Rattle.tmm_model.specs.Standing.{Standing, name_of}
-use Rattle.tmm_model.specs.WellNamed.{premise_in}
-use Rattle.tmm_model.proofs.NextLists.{one_way}
-use Rattle.tmm_model.proofs.Elements.{In, In-from_Contains, Contains-from_In, In-filter_map, filter_map-In}
-use Rattle.tmm_model.proofs.KnownNames.{found, finds}
-use Rattle.tmm_model.proofs.Sound.{named_rule}
+use Rattle.list_theory.specs.WellNamed.{IsSound}
+use Rattle.belief_theory.specs.Right.{Occurs}
+use Rattle.tmm_model.specs.Standing.{Standing, name_of, premise_in}
+use Rattle.belief_theory.proofs.NextLists.{one_way}
+use Rattle.list_theory.proofs.Elements.{In, In-from_Contains, Contains-from_In, In-filter_map, filter_map-In}
+use Rattle.list_theory.proofs.KnownNames.{found, finds}
+use Rattle.belief_theory.proofs.Sound.{named_rule}
 use Rattle.supports.proofs.Rules.{rule_there}
 use Rattle.revisions.specs.Standing.{Stands}
 use Rattle.revisions.proofs.Tokens.{is_of_stays, root_named}

@@ -2,10 +2,10 @@
 use Rattle.std.proofs.Common.{◌≡◌, ◌∙◌, ℕ, true, false, List, ◌∷◌, ◌++◌, sym, subst, inl, inr}
 use Rattle.std.specs.Prelude.{◌↔◌, ℤ}
 use Rattle.std.specs.List.{Contains}
-use Rattle.tmm_model.specs.Beliefs.{Outcome}
+use Rattle.belief_theory.specs.Outcomes.{Outcome}
 use Rattle.tmm_model.specs.Moments.{Moment, After}
-use Rattle.tmm_model.proofs.Elements.{In, In-left, In-right, In-cases}
-use Rattle.tmm_model.proofs.Distinct.{Distinct-append}
+use Rattle.list_theory.proofs.Elements.{In, In-left, In-right, In-cases}
+use Rattle.list_theory.proofs.Distinct.{Distinct-append}
 use Rattle.revisions.specs.Revisions.{Revision, is_firing, IsLawful, IsNew, IsLost}
 use Rattle.revisions.specs.Keeping.{IsKeeping, IsLeast, IsTold}
 use Rattle.revisions.specs.Steps.{Stays, Enters, Withdraws, Goes}

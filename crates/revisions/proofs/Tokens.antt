@@ -13,14 +13,14 @@ use Rattle.tmm_model.specs.declared.token.TokenRow.{TokenRow}
 use Rattle.tmm_model.specs.Beliefs.{as_root, as_effect, is_of, root_of, roots, rules_at, class_of, token_at, token_of, end_of, on_kind}
 use Rattle.tmm_model.specs.Edits.{next_list}
 use Rattle.tmm_model.specs.Moments.{Moment, At, After, as_rule, rule_of}
-use Rattle.tmm_model.specs.Right.{Occurs, IsSound}
+use Rattle.belief_theory.specs.Right.{Occurs}
+use Rattle.list_theory.specs.WellNamed.{IsSound}
 use Rattle.tmm_model.specs.Sorts.{Sort, a_class, a_fact, a_kind, a_point, an_event, a_token, a_span, a_dist, a_rule, a_protection, is_effect, sort_in, class_in}
-use Rattle.tmm_model.specs.Standing.{Standing, name_of}
-use Rattle.tmm_model.specs.WellNamed.{premise_in}
-use Rattle.tmm_model.proofs.NextLists.{AreWithin, one_way}
-use Rattle.tmm_model.proofs.Elements.{In, In-from_Contains, Contains-from_In, In-filter_map}
-use Rattle.tmm_model.proofs.KnownNames.{found}
-use Rattle.tmm_model.proofs.Sound.{rule_stands}
+use Rattle.tmm_model.specs.Standing.{Standing, name_of, premise_in}
+use Rattle.belief_theory.proofs.NextLists.{AreWithin, one_way}
+use Rattle.list_theory.proofs.Elements.{In, In-from_Contains, Contains-from_In, In-filter_map}
+use Rattle.list_theory.proofs.KnownNames.{found}
+use Rattle.belief_theory.proofs.Sound.{rule_stands}
 use Rattle.supports.proofs.Facts.{used_after, fact_known, fact-class}
 use Rattle.supports.proofs.Rules.{rule_there, facts_known}
 use Rattle.spots.specs.Seen.{class_for}

@@ -4,9 +4,9 @@ use Rattle.std.proofs.lemmas.Int.{ints}
 use Rattle.std.specs.Prelude.{◌↔◌, ◌⊎◌, ℤ, ◌≤ℤ◌, ◌<ℤ◌}
 use Rattle.std.specs.List.{Contains}
 use Rattle.tmm_model.specs.declared.point.PointName.{PointName}
-use Rattle.tmm_model.specs.Beliefs.{Outcome, beyond}
+use Rattle.belief_theory.specs.Outcomes.{Outcome, beyond}
 use Rattle.tmm_model.specs.Moments.{Moment, At, After}
-use Rattle.tmm_model.proofs.Elements.{In}
+use Rattle.list_theory.proofs.Elements.{In}
 use Rattle.revisions.specs.Revisions.{Revision, is_firing, IsOf, IsLawful, IsNew, IsLost}
 use Rattle.revisions.specs.Keeping.{IsKeeping, IsLeast, IsUntaken, Waits, Made}
 use Rattle.revisions.specs.Steps.{IsUnder, Differs, Makes, Stays, Enters, Withdraws, Turns, staying, entering, withdrawing}

@@ -10,13 +10,14 @@ use Rattle.tmm_model.specs.Edits.{next_list}
 use Rattle.tmm_model.specs.Maps.{TimeMap, built}
 use Rattle.tmm_model.specs.Moments.{Moment, At, After, same_moment}
 use Rattle.tmm_model.specs.Points.{same_name}
-use Rattle.tmm_model.specs.Right.{IsSound, Occurs}
+use Rattle.list_theory.specs.WellNamed.{IsSound}
+use Rattle.belief_theory.specs.Right.{Occurs}
 use Rattle.tmm_model.specs.Standing.{Standing}
-use Rattle.tmm_model.specs.Touched.{same_tokens, watched, watched_points, same_gaps, is_decision, is_touched}
-use Rattle.tmm_model.proofs.Distinct.{sum_inside}
-use Rattle.tmm_model.proofs.Elements.{In, In-from_Contains, Contains-from_In, list_any-In, In-list_any}
-use Rattle.tmm_model.proofs.Moments.{Decides-same_moment}
-use Rattle.tmm_model.proofs.SoundBeliefs.{believed_occurs}
+use Rattle.belief_theory.specs.Touched.{same_tokens, watched, watched_points, same_gaps, is_decision, is_touched}
+use Rattle.list_theory.proofs.Distinct.{sum_inside}
+use Rattle.list_theory.proofs.Elements.{In, In-from_Contains, Contains-from_In, list_any-In, In-list_any}
+use Rattle.belief_theory.proofs.Moments.{Decides-same_moment}
+use Rattle.belief_theory.proofs.SoundBeliefs.{believed_occurs}
 use Rattle.spots.specs.Seen.{map_of}
 use Rattle.revisions.specs.Revisions.{Revision, IsLawful, IsNew, IsLost}
 use Rattle.revisions.specs.Keeping.{IsKeeping, IsTold}

@@ -8,9 +8,9 @@ use Rattle.tmm_model.specs.Beliefs.{token_of}
 use Rattle.tmm_model.specs.Edits.{next_list}
 use Rattle.tmm_model.specs.Maps.{TimeMap, built, gap, believed_tokens}
 use Rattle.tmm_model.specs.Moments.{Moment, At}
-use Rattle.tmm_model.specs.Right.{IsSound}
+use Rattle.list_theory.specs.WellNamed.{IsSound}
 use Rattle.tmm_model.specs.Standing.{Standing}
-use Rattle.tmm_model.proofs.Elements.{In}
+use Rattle.list_theory.proofs.Elements.{In}
 
 -- both maps believe the same tokens of the class, as far apart and as far from `start`
 pub record SameClass (m n : TimeMap) (class : List ℕ) : Type 0 where

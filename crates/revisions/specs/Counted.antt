@@ -3,14 +3,16 @@ use Rattle.std.specs.Prelude.{◌≡◌, ◌↔◌, ℕ, ◌≤◌, ℤ, Bool, t
 use Rattle.std.specs.List.{Contains, count_by}
 use Rattle.tmm_model.specs.declared.point.PointName.{PointName}
 use Rattle.tmm_model.specs.declared.premise.Edit.{Edit}
-use Rattle.tmm_model.specs.Beliefs.{Outcome, fires, blocked, beyond, outcome, decisions, roots, rules_at}
+use Rattle.belief_theory.specs.Outcomes.{Outcome, fires, blocked, beyond, outcome, decisions}
+use Rattle.tmm_model.specs.Beliefs.{roots, rules_at}
 use Rattle.tmm_model.specs.Edits.{next_list}
 use Rattle.tmm_model.specs.Maps.{TimeMap, built}
 use Rattle.tmm_model.specs.Moments.{Moment, At, After, same_moment}
-use Rattle.tmm_model.specs.Right.{IsSound, Occurs}
+use Rattle.list_theory.specs.WellNamed.{IsSound}
+use Rattle.belief_theory.specs.Right.{Occurs}
 use Rattle.tmm_model.specs.Standing.{Standing, far_in}
-use Rattle.tmm_model.specs.Touched.{is_decision, is_touched, touched}
-use Rattle.tmm_model.proofs.Elements.{In}
+use Rattle.belief_theory.specs.Touched.{is_decision, is_touched, touched}
+use Rattle.list_theory.proofs.Elements.{In}
 use Rattle.spots.specs.Seen.{map_of}
 use Rattle.revisions.specs.Keeping.{IsKeeping}
 use Rattle.revisions.specs.Maps.{revision}

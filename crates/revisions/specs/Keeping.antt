@@ -2,10 +2,10 @@
 use Rattle.std.specs.Prelude.{◌≡◌, ◌↔◌, ◌⊎◌, ℕ, ℤ, ◌≤ℤ◌, true, false, List}
 use Rattle.std.specs.List.{Contains}
 use Rattle.tmm_model.specs.declared.point.PointName.{PointName}
-use Rattle.tmm_model.specs.Beliefs.{Outcome, beyond}
+use Rattle.belief_theory.specs.Outcomes.{Outcome, beyond}
 use Rattle.tmm_model.specs.Moments.{Moment, At, After}
-use Rattle.tmm_model.proofs.Elements.{In}
-use Rattle.tmm_model.proofs.Distinct.{Distinct}
+use Rattle.list_theory.proofs.Elements.{In}
+use Rattle.list_theory.proofs.Distinct.{Distinct}
 use Rattle.revisions.specs.Revisions.{Revision, is_firing, IsNew, IsLost}
 
 -- a decision that waits: it is on a live event no earlier than d, and touched if that event is believed in the end

@@ -1,10 +1,10 @@
 -- What is proved of the loop, over any lawful revision.
 use Rattle.std.specs.Prelude.{◌≡◌, ◌↔◌, ℕ, ◌≤◌, ℤ, negsuc, ◌≤ℤ◌, Bool, true, false, List, [], ◌∷◌, length}
 use Rattle.std.specs.List.{Contains, count_by}
-use Rattle.tmm_model.specs.Beliefs.{Outcome}
+use Rattle.belief_theory.specs.Outcomes.{Outcome}
 use Rattle.tmm_model.specs.Moments.{Moment, After}
-use Rattle.tmm_model.proofs.Elements.{In}
-use Rattle.tmm_model.proofs.Distinct.{Distinct}
+use Rattle.list_theory.proofs.Elements.{In}
+use Rattle.list_theory.proofs.Distinct.{Distinct}
 use Rattle.revisions.specs.Revisions.{Revision, IsLawful, IsOf, IsNew, IsLost}
 use Rattle.revisions.specs.Keeping.{IsKeeping, IsLeast, IsTold}
 use Rattle.revisions.specs.Steps.{Makes, Turns}

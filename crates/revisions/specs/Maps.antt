@@ -3,15 +3,17 @@ use Rattle.std.specs.Prelude.{◌≡◌, ℕ, Bool, false, List, Some, None}
 use Rattle.std.specs.List.{Contains, list_any}
 use Rattle.tmm_model.specs.declared.premise.Edit.{Edit}
 use Rattle.tmm_model.specs.declared.token.TokenRow.{TokenRow}
-use Rattle.tmm_model.specs.Beliefs.{class_of, roots, rules_at, token_of, outcome}
+use Rattle.tmm_model.specs.Beliefs.{class_of, roots, rules_at, token_of}
+use Rattle.belief_theory.specs.Outcomes.{outcome}
 use Rattle.tmm_model.specs.Edits.{next_list}
 use Rattle.tmm_model.specs.Maps.{TimeMap, built}
 use Rattle.tmm_model.specs.Moments.{Moment, early, rule_of}
 use Rattle.tmm_model.specs.Points.{same_name}
-use Rattle.tmm_model.specs.Right.{IsSound, Occurs}
+use Rattle.list_theory.specs.WellNamed.{IsSound}
+use Rattle.belief_theory.specs.Right.{Occurs}
 use Rattle.tmm_model.specs.Standing.{Standing}
-use Rattle.tmm_model.specs.Touched.{is_decision, is_touched}
-use Rattle.tmm_model.proofs.Elements.{In}
+use Rattle.belief_theory.specs.Touched.{is_decision, is_touched}
+use Rattle.list_theory.proofs.Elements.{In}
 use Rattle.revisions.specs.Revisions.{Revision, IsLawful}
 
 -- the token is of the class of an antecedent of the rule

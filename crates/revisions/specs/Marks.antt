@@ -1,9 +1,9 @@
 -- Which decisions are marked where a token enters or tokens leave: those that read one of them, on events no earlier.
 use Rattle.std.specs.Prelude.{◌≡◌, ◌⊎◌, ℕ, ℤ, ◌≤ℤ◌, true, List}
 use Rattle.std.specs.List.{Contains}
-use Rattle.tmm_model.specs.Beliefs.{Outcome}
+use Rattle.belief_theory.specs.Outcomes.{Outcome}
 use Rattle.tmm_model.specs.Moments.{Moment, After}
-use Rattle.tmm_model.proofs.Elements.{In}
+use Rattle.list_theory.proofs.Elements.{In}
 use Rattle.revisions.specs.Revisions.{Revision, IsLawful}
 use Rattle.revisions.specs.Keeping.{IsKeeping, IsLeast}
 use Rattle.revisions.specs.Steps.{IsUnder, Differs, Makes, Enters, Withdraws, Stays, Turns}

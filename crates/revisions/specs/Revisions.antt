@@ -2,7 +2,7 @@
 -- Nothing here says what supports a fact.
 use Rattle.std.specs.Prelude.{◌≡◌, ◌↔◌, ◌⊎◌, ℕ, ℤ, pos, ◌≤ℤ◌, ◌<ℤ◌, Bool, true, false, List}
 use Rattle.std.specs.List.{Contains}
-use Rattle.tmm_model.specs.Beliefs.{Outcome, fires, blocked, beyond}
+use Rattle.belief_theory.specs.Outcomes.{Outcome, fires, blocked, beyond}
 use Rattle.tmm_model.specs.Moments.{Moment, At, After}
 
 -- whether the outcome is that the effect is believed

@@ -2,7 +2,7 @@
 use Rattle.std.specs.Prelude.{◌≡◌, ◌↔◌, ◌⊎◌, ℕ, true, false, List}
 use Rattle.std.specs.List.{Contains}
 use Rattle.tmm_model.specs.declared.point.PointName.{PointName}
-use Rattle.tmm_model.specs.Beliefs.{Outcome, beyond}
+use Rattle.belief_theory.specs.Outcomes.{Outcome, beyond}
 use Rattle.tmm_model.specs.Moments.{Moment, At, After}
 use Rattle.revisions.specs.Revisions.{Revision, IsOf}
 

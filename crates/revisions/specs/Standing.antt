@@ -4,9 +4,9 @@ use Rattle.tmm_model.specs.declared.point.PointName.TheVariants.{Begin}
 use Rattle.tmm_model.specs.declared.premise.Edit.{Edit}
 use Rattle.tmm_model.specs.Edits.{next_list}
 use Rattle.tmm_model.specs.Moments.{Moment, At, After}
-use Rattle.tmm_model.specs.Right.{IsSound, Occurs}
-use Rattle.tmm_model.specs.Standing.{Standing}
-use Rattle.tmm_model.specs.WellNamed.{premise_in}
+use Rattle.list_theory.specs.WellNamed.{IsSound}
+use Rattle.belief_theory.specs.Right.{Occurs}
+use Rattle.tmm_model.specs.Standing.{Standing, premise_in}
 
 -- the root and each rule on the way are premises of the list
 abbrev pub Stands : Standing → Moment → Type 0

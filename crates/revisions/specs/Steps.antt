@@ -1,10 +1,10 @@
 -- One turn of the loop: the earliest decision that waits is made.
 use Rattle.std.specs.Prelude.{◌≡◌, ◌↔◌, ◌⊎◌, ℕ, ◌<ℤ◌, true, false, List}
 use Rattle.std.specs.List.{Contains}
-use Rattle.tmm_model.specs.Beliefs.{Outcome, beyond}
+use Rattle.belief_theory.specs.Outcomes.{Outcome, beyond}
 use Rattle.tmm_model.specs.Moments.{Moment, At, After}
-use Rattle.tmm_model.proofs.Elements.{In}
-use Rattle.tmm_model.proofs.Distinct.{Distinct}
+use Rattle.list_theory.proofs.Elements.{In}
+use Rattle.list_theory.proofs.Distinct.{Distinct}
 use Rattle.revisions.specs.Revisions.{Revision, is_firing}
 
 -- x is y or stands below it

@@ -3,15 +3,17 @@ use Rattle.std.specs.Prelude.{◌≡◌, ◌↔◌, ◌⊎◌, ℕ, ◌≤◌, t
 use Rattle.std.specs.List.{Contains}
 use Rattle.tmm_model.specs.declared.premise.Edit.{Edit}
 use Rattle.tmm_model.specs.Answers.{weight, size}
-use Rattle.tmm_model.specs.Beliefs.{Outcome, beyond, outcome, rules_at}
+use Rattle.belief_theory.specs.Outcomes.{Outcome, beyond, outcome}
+use Rattle.tmm_model.specs.Beliefs.{rules_at}
 use Rattle.tmm_model.specs.Edits.{next_list}
 use Rattle.tmm_model.specs.Maps.{built}
 use Rattle.tmm_model.specs.Moments.{Moment, After}
-use Rattle.tmm_model.specs.Right.{IsSound, Occurs}
+use Rattle.list_theory.specs.WellNamed.{IsSound}
+use Rattle.belief_theory.specs.Right.{Occurs}
 use Rattle.tmm_model.specs.Standing.{Standing, far_in}
-use Rattle.tmm_model.specs.Touched.{is_decision, is_touched, touched}
-use Rattle.tmm_model.proofs.Elements.{In}
-use Rattle.tmm_model.proofs.Distinct.{Distinct}
+use Rattle.belief_theory.specs.Touched.{is_decision, is_touched, touched}
+use Rattle.list_theory.proofs.Elements.{In}
+use Rattle.list_theory.proofs.Distinct.{Distinct}
 use Rattle.spots.specs.Seen.{map_of}
 use Rattle.revisions.specs.Revisions.{Revision}
 use Rattle.revisions.specs.Keeping.{IsLeast}

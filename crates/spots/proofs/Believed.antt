@@ -11,15 +11,14 @@ use Rattle.tmm_model.specs.declared.token.Shape.TheVariants.{Event as AnEvent, P
 use Rattle.tmm_model.specs.Beliefs.{root_of, roots, is_of, on_kind, rules_for, rules_at}
 use Rattle.tmm_model.specs.Maps.{built}
 use Rattle.tmm_model.specs.Moments.{Moment, At, After}
-use Rattle.tmm_model.specs.Right.{IsSound}
+use Rattle.list_theory.specs.WellNamed.{IsSound, AllFollow}
 use Rattle.tmm_model.specs.Standing.{Standing, name_of, far_in}
-use Rattle.tmm_model.specs.WellNamed.{AllFollow}
-use Rattle.tmm_model.proofs.Distinct.{Distinct}
-use Rattle.tmm_model.proofs.Elements.{In-filter_map, In-right}
-use Rattle.tmm_model.proofs.KnownNames.{fresh}
-use Rattle.tmm_model.proofs.LevelDistinct.{level_distinct}
-use Rattle.tmm_model.proofs.Sound.{named_rule}
-use Rattle.tmm_model.proofs.SoundBeliefs.{sound_timed}
+use Rattle.list_theory.proofs.Distinct.{Distinct}
+use Rattle.list_theory.proofs.Elements.{In-filter_map, In-right}
+use Rattle.list_theory.proofs.KnownNames.{fresh}
+use Rattle.belief_theory.proofs.LevelDistinct.{level_distinct}
+use Rattle.belief_theory.proofs.Sound.{named_rule}
+use Rattle.belief_theory.proofs.SoundBeliefs.{sound_timed}
 
 -- what is told of a premise stands once, where it tells the premise's name
 module _ {Y : Type 0} (told : Premise → Option Y) (name : Y → List ℕ) (named : (p : Premise) (y : Y) → told p ≡ Some y → name_of p ≡ name y) where

@@ -3,7 +3,7 @@ use Rattle.std.proofs.Common.{◌≡◌, ℕ, zero, suc, List, [], ◌∷◌, Op
 use Rattle.std.specs.Option.{option_map}
 use Rattle.std.specs.List.{Contains}
 use Rattle.tmm_model.specs.Moments.{Moment}
-use Rattle.tmm_model.proofs.Elements.{In, In-from_Contains, Contains-from_In, In-filter_map, filter_map-In}
+use Rattle.list_theory.proofs.Elements.{In, In-from_Contains, Contains-from_In, In-filter_map, filter_map-In}
 use Rattle.spots.specs.Forest.{Forest, Member, member, moment, moments, IsOnce}
 use Rattle.spots.specs.Seen.{Holds}
 

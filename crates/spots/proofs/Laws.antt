@@ -6,14 +6,14 @@ use Rattle.std.specs.Cmp.{IsTotalOrder}
 use Rattle.std.specs.Cmp.Lexicographic.{nat_list_cmp_total}
 use Rattle.std.proofs.lemmas.Cmp.{then_total, on_total, int_cmp_total, nat_cmp_total, ranked}
 use Rattle.tmm_model.specs.declared.bound.Bound.TheVariants.{Finite}
-use Rattle.tmm_model.specs.Bounds.{bound_plus, IsTighter}
+use Rattle.tmm_model.specs.Bounds.{bound_plus}
+use Rattle.tmm_model.specs.Types.{IsTighter, IsOrderOn}
 use Rattle.tmm_model.specs.Moments.{printed}
 use Rattle.tmm_model.specs.Standing.{Standing, far_in}
-use Rattle.tmm_model.specs.Tokens.{IsOrderOn}
-use Rattle.tmm_model.proofs.Order.{ordered as moments_ordered}
-use Rattle.tmm_model.proofs.Sound.{shortest, sound_rules}
-use Rattle.tmm_model.proofs.Spelt.{spelt}
-use Rattle.tmm_model.proofs.Timed.{distance_itself, distance_triangle}
+use Rattle.belief_theory.proofs.Order.{ordered as moments_ordered}
+use Rattle.belief_theory.proofs.Sound.{shortest, sound_rules}
+use Rattle.belief_theory.proofs.Spelt.{spelt}
+use Rattle.belief_theory.proofs.Timed.{distance_itself, distance_triangle}
 use Rattle.dist_net.specs.Net.{Net}
 use Rattle.spots.specs.declared.spot.Spot.{Spot}
 use Rattle.spots.specs.declared.spot.Spot.TheVariants.{Declared, Node}

@@ -8,7 +8,7 @@ use Rattle.tmm_model.specs.declared.point.PointName.{PointName}
 use Rattle.tmm_model.specs.declared.point.PointName.TheVariants.{Start, Begin}
 use Rattle.tmm_model.specs.Moments.{At, base, rules}
 use Rattle.tmm_model.specs.Standing.{Standing}
-use Rattle.tmm_model.proofs.Moments.{rules-along, base-along}
+use Rattle.belief_theory.proofs.Moments.{rules-along, base-along}
 use Rattle.dist_net.specs.Net.{Net}
 use Rattle.list_net.specs.Represents.{IsNumberOf}
 use Rattle.list_net.proofs.Named.{name_at-is}

@@ -11,7 +11,7 @@ use Rattle.tmm_model.specs.Beliefs.{token_of, token_at, is_of, as_effect, class_
 use Rattle.tmm_model.specs.Moments.{Moment, At, After, base, rule_of}
 use Rattle.tmm_model.specs.Sorts.{Sort, is_kind, sort_in}
 use Rattle.tmm_model.specs.Standing.{Standing}
-use Rattle.tmm_model.proofs.Members.{All-from_contains}
+use Rattle.walk_theory.proofs.Members.{All-from_contains}
 use Rattle.dist_net.specs.Net.{Net}
 use Rattle.list_net.specs.Represents.{IsNumberOf}
 use Rattle.list_net.proofs.Named.{name_at-is}

@@ -11,9 +11,9 @@ use Rattle.tmm_model.specs.Beliefs.{tokens, token_of}
 use Rattle.tmm_model.specs.Bounds.{bound_plus, bound_less}
 use Rattle.tmm_model.specs.Moments.{Moment, At, distance, early, occ_cmp, negated, printed, base, low, high, apart}
 use Rattle.tmm_model.specs.Points.{same_name}
-use Rattle.tmm_model.specs.Right.{Occurs}
+use Rattle.belief_theory.specs.Right.{Occurs}
 use Rattle.tmm_model.specs.Standing.{Standing, far_in}
-use Rattle.tmm_model.proofs.Elements.{In, In-from_Contains, Contains-from_In, In-filter_map, filter_map-In, In-map, map-In}
+use Rattle.list_theory.proofs.Elements.{In, In-from_Contains, Contains-from_In, In-filter_map, filter_map-In, In-map, map-In}
 use Rattle.dist_net.specs.Net.{Net}
 use Rattle.list_net.proofs.Named.{name_at-is}
 use Rattle.list_net.proofs.Nets.{is_in_use}

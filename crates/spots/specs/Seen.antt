@@ -7,7 +7,7 @@ use Rattle.tmm_model.specs.declared.token.Shape.TheVariants.{Event, Persistence,
 use Rattle.tmm_model.specs.Beliefs.{is_of, class_of}
 use Rattle.tmm_model.specs.Maps.{TimeMap}
 use Rattle.tmm_model.specs.Moments.{Moment, rule_of}
-use Rattle.tmm_model.specs.Right.{Occurs}
+use Rattle.belief_theory.specs.Right.{Occurs}
 use Rattle.tmm_model.specs.Standing.{Standing, far_in}
 use Rattle.dist_net.specs.Net.{Net}
 use Rattle.list_net.specs.Fits.{IsNetOf}

@@ -14,13 +14,14 @@ use Rattle.tmm_model.specs.Moments.{Moment, distance, occ_cmp}
 use Rattle.tmm_model.specs.Points.{same_name}
 use Rattle.tmm_model.specs.Sorts.{class_in}
 use Rattle.tmm_model.specs.Standing.{Standing, far_in}
-use Rattle.tmm_model.specs.Tokens.{of_one_class, supports, clips, cuts, is_by, is_before, lasts_to, IsFirstPlace, IsFirstAmong}
-use Rattle.tmm_model.proofs.ClassTokens.{support_alike}
-use Rattle.tmm_model.proofs.Elements.{In, both, In-list_any, In-filter_map}
-use Rattle.tmm_model.proofs.Order.{ordered}
-use Rattle.tmm_model.proofs.Outcomes.{no_first_token}
-use Rattle.tmm_model.proofs.Points.{same_name-is}
-use Rattle.tmm_model.proofs.Watched.{class-token_of}
+use Rattle.tmm_model.specs.Tokens.{of_one_class, supports, clips, cuts, is_by, is_before, lasts_to}
+use Rattle.belief_theory.specs.FirstPlaces.{IsFirstPlace, IsFirstAmong}
+use Rattle.belief_theory.proofs.ClassTokens.{support_alike}
+use Rattle.list_theory.proofs.Elements.{In, both, In-list_any, In-filter_map}
+use Rattle.belief_theory.proofs.Order.{ordered}
+use Rattle.belief_theory.proofs.Outcomes.{no_first_token}
+use Rattle.walk_theory.proofs.Points.{same_name-is}
+use Rattle.belief_theory.proofs.Watched.{class-token_of}
 use Rattle.clipping.specs.Faults.{IsClipPlace, IsFault}
 use Rattle.clipping.specs.declared.Fault.{Fault as PlaceFault}
 use Rattle.clipping.specs.declared.Fault.TheVariants.{Late, Clipped, Ends}

@@ -13,9 +13,9 @@ use Rattle.std.proofs.lemmas.Map.Keys.{sorted_tail}
 use Rattle.tmm_model.specs.declared.token.TokenRow.{TokenRow}
 use Rattle.tmm_model.specs.Points.{same_name}
 use Rattle.tmm_model.specs.Standing.{Standing}
-use Rattle.tmm_model.proofs.Elements.{In, In-from_Contains, In-left, In-right, In-cases}
-use Rattle.tmm_model.proofs.Members.{All-from_contains}
-use Rattle.tmm_model.proofs.Points.{same_name-is}
+use Rattle.list_theory.proofs.Elements.{In, In-from_Contains, In-left, In-right, In-cases}
+use Rattle.walk_theory.proofs.Members.{All-from_contains}
+use Rattle.walk_theory.proofs.Points.{same_name-is}
 use Rattle.dist_net.specs.Net.{Net}
 use Rattle.name_lists.specs.Lists.{Appends}
 use Rattle.occ_tree.specs.Ranks.{nodes_of}

@@ -14,9 +14,9 @@ use Rattle.tmm_model.specs.Points.{same_name}
 use Rattle.tmm_model.specs.Sorts.{Sort, a_class, a_fact, a_kind, a_point, an_event, a_token, a_span, a_dist, a_rule, a_protection, is_effect, fact_declaration, declared_by, sort_in, class_in, a_name, uses_of}
 use Rattle.tmm_model.specs.Standing.{name_of, points_of, points_in}
 use Rattle.tmm_model.specs.Verdicts.{first_taken, words_known}
-use Rattle.tmm_model.specs.WellNamed.{AllFollow, IsWellNamed}
-use Rattle.tmm_model.proofs.Elements.{In, flat_map-In, Contains-from_In}
-use Rattle.tmm_model.proofs.WellNamed.{IsNewThen, first_taken-none, words_known-push}
+use Rattle.list_theory.specs.WellNamed.{AllFollow, IsWellNamed}
+use Rattle.list_theory.proofs.Elements.{In, flat_map-In, Contains-from_In}
+use Rattle.list_theory.proofs.WellNamed.{IsNewThen, first_taken-none, words_known-push}
 use Rattle.premise_list.specs.Words.{facts_of, own_sort}
 use Rattle.premise_list.proofs.Lookups.{declarations_parted}
 use Rattle.supports.proofs.Facts.{class_in-cons, sort_in-cons, fact-class, used_after}

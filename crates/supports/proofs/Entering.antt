@@ -13,13 +13,12 @@ use Rattle.tmm_model.specs.declared.token.Shape.TheVariants.{Span}
 use Rattle.tmm_model.specs.Beliefs.{is_of, as_effect, rules_at}
 use Rattle.tmm_model.specs.Lines.{IsWellFormedPremise, IsNumber, IsBound, IsRange}
 use Rattle.tmm_model.specs.Moments.{At, After, along, as_rule}
-use Rattle.tmm_model.specs.Right.{Occurs}
+use Rattle.belief_theory.specs.Right.{Occurs}
 use Rattle.tmm_model.specs.Sorts.{sort_in, class_in}
-use Rattle.tmm_model.specs.Standing.{Standing}
-use Rattle.tmm_model.specs.WellNamed.{premise_in}
-use Rattle.tmm_model.proofs.Elements.{In, Contains-from_In}
-use Rattle.tmm_model.proofs.KnownNames.{finds}
-use Rattle.tmm_model.proofs.Moments.{along-push}
+use Rattle.tmm_model.specs.Standing.{Standing, premise_in}
+use Rattle.list_theory.proofs.Elements.{In, Contains-from_In}
+use Rattle.list_theory.proofs.KnownNames.{finds}
+use Rattle.belief_theory.proofs.Moments.{along-push}
 use Rattle.dist_net.specs.Net.{Net}
 use Rattle.spots.specs.declared.link.Link.{Link}
 use Rattle.spots.specs.Forest.{Forest, Member, member, moment, moment_at, rules_of, Enters, IsTrigger, child_member}

@@ -11,10 +11,10 @@ use Rattle.tmm_model.specs.Points.{same_name}
 use Rattle.tmm_model.specs.Sorts.{Sort, a_class, a_fact, a_kind, a_point, an_event, a_token, a_span, a_dist, a_rule, a_protection, is_fact, fact_declaration, declarations_of, declarations_in, sort_in, class_in, Use, a_name, fact_use, uses_of}
 use Rattle.tmm_model.specs.Standing.{name_of}
 use Rattle.tmm_model.specs.Verdicts.{Cause, unknown, ill_sorted, name_cause, use_cause, uses_cause}
-use Rattle.tmm_model.specs.WellNamed.{AllFollow, IsWellNamed}
-use Rattle.tmm_model.proofs.Adding.{uses_none}
-use Rattle.tmm_model.proofs.Elements.{In}
-use Rattle.tmm_model.proofs.WellNamed.{lookup-append}
+use Rattle.list_theory.specs.WellNamed.{AllFollow, IsWellNamed}
+use Rattle.list_theory.proofs.Adding.{uses_none}
+use Rattle.list_theory.proofs.Elements.{In}
+use Rattle.list_theory.proofs.WellNamed.{lookup-append}
 use Rattle.premise_list.specs.Words.{facts_of, own_sort}
 use Rattle.premise_list.proofs.Lookups.{declarations_parted}
 

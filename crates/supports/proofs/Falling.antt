@@ -10,8 +10,8 @@ use Rattle.std.proofs.lemmas.List.{get_or_append_left, get_or_push, get_or-set_s
 use Rattle.std.proofs.lemmas.List.Elements.{All-contains, Contains-get_or}
 use Rattle.std.proofs.lemmas.Map.Keys.{sorted_tail}
 use Rattle.std.proofs.lemmas.Map.Views.{All-after_first}
-use Rattle.tmm_model.specs.Tokens.{IsFirstPlace}
-use Rattle.tmm_model.proofs.Elements.{In, In-from_Contains, Contains-from_In, In-right}
+use Rattle.belief_theory.specs.FirstPlaces.{IsFirstPlace}
+use Rattle.list_theory.proofs.Elements.{In, In-from_Contains, Contains-from_In, In-right}
 use Rattle.clipping.specs.Lasts.{IsLastPlace}
 
 -- ---- places in a rising list

@@ -9,9 +9,10 @@ use Rattle.std.proofs.lemmas.List.{get_or_default}
 use Rattle.std.proofs.lemmas.List.Elements.{Contains-get_or}
 use Rattle.tmm_model.specs.declared.token.TokenRow.{TokenRow}
 use Rattle.tmm_model.specs.Firsts.{earliest, first}
-use Rattle.tmm_model.specs.Tokens.{IsOrderOn, IsFirstPlace}
-use Rattle.tmm_model.proofs.Elements.{In, In-from_Contains, Contains-from_In, In-filter, filter-In, list_any-In, In-list_any}
-use Rattle.tmm_model.proofs.Firsts.{least_is, one_spot}
+use Rattle.tmm_model.specs.Types.{IsOrderOn}
+use Rattle.belief_theory.specs.FirstPlaces.{IsFirstPlace}
+use Rattle.list_theory.proofs.Elements.{In, In-from_Contains, Contains-from_In, In-filter, filter-In, list_any-In, In-list_any}
+use Rattle.belief_theory.proofs.Firsts.{least_is, one_spot}
 
 module _ {P Q : Type 0} (cmp : P → P → Ordering) (order : Q → Q → Ordering) (go : TokenRow P → TokenRow Q) (rows : List (TokenRow P)) (ks : List (TokenRow Q))
     (test : TokenRow P → Bool) (passes : TokenRow Q → Bool) where

@@ -12,14 +12,13 @@ use Rattle.tmm_model.specs.declared.token.Shape.TheVariants.{Event as AnEvent, P
 use Rattle.tmm_model.specs.Beliefs.{as_root, root_of, roots, class_of}
 use Rattle.tmm_model.specs.Moments.{Moment, At, base}
 use Rattle.tmm_model.specs.Points.{same_name}
-use Rattle.tmm_model.specs.Right.{IsSound}
+use Rattle.list_theory.specs.WellNamed.{IsSound, AllFollow}
 use Rattle.tmm_model.specs.Sorts.{class_in}
 use Rattle.tmm_model.specs.Standing.{Standing, name_of, points_of}
-use Rattle.tmm_model.specs.WellNamed.{AllFollow}
-use Rattle.tmm_model.proofs.Elements.{In, In-from_Contains, Contains-from_In, In-filter_map, filter_map-In, In-right}
-use Rattle.tmm_model.proofs.KnownNames.{found, fresh}
-use Rattle.tmm_model.proofs.Moments.{base-along}
-use Rattle.tmm_model.proofs.WellNamed.{AllFollow-append}
+use Rattle.list_theory.proofs.Elements.{In, In-from_Contains, Contains-from_In, In-filter_map, filter_map-In, In-right}
+use Rattle.list_theory.proofs.KnownNames.{found, fresh}
+use Rattle.belief_theory.proofs.Moments.{base-along}
+use Rattle.list_theory.proofs.WellNamed.{AllFollow-append}
 use Rattle.std.specs.Cmp.Lexicographic.{nat_list_eq_equiv}
 use Rattle.dist_net.specs.Net.{Net}
 use Rattle.list_net.specs.Fits.{IsNetOf}

@@ -11,14 +11,16 @@ use Rattle.tmm_model.specs.declared.bound.Bound.{Bound}
 use Rattle.tmm_model.specs.declared.bound.Bound.TheVariants.{Finite, Free}
 use Rattle.tmm_model.specs.declared.point.PointName.TheVariants.{Start, Begin}
 use Rattle.tmm_model.specs.Beliefs.{roots}
-use Rattle.tmm_model.specs.Bounds.{bound_at_most, bound_plus, bound_less, IsTighter}
+use Rattle.tmm_model.specs.Bounds.{bound_at_most, bound_plus, bound_less}
+use Rattle.tmm_model.specs.Types.{IsTighter}
 use Rattle.tmm_model.specs.Moments.{Moment, At, After, base, rules, low, apart, distance, early, occ_cmp, negated, printed}
 use Rattle.tmm_model.specs.Points.{same_point}
-use Rattle.tmm_model.specs.Right.{Occurs, IsSound}
+use Rattle.belief_theory.specs.Right.{Occurs}
+use Rattle.list_theory.specs.WellNamed.{IsSound}
 use Rattle.tmm_model.specs.Standing.{Standing, far_in}
 use Rattle.tmm_model.specs.Tokens.{is_before}
-use Rattle.tmm_model.proofs.Sound.{shortest, sound_rules}
-use Rattle.tmm_model.proofs.Timed.{distance_triangle}
+use Rattle.belief_theory.proofs.Sound.{shortest, sound_rules}
+use Rattle.belief_theory.proofs.Timed.{distance_triangle}
 
 root_of : (s : Standing) (x : Moment) → Occurs s x → Contains (roots s) (At (base x))
 root_of s (At p) h = h

@@ -8,7 +8,7 @@ use Rattle.tmm_model.specs.declared.token.TokenRow.{TokenRow}
 use Rattle.tmm_model.specs.Bounds.{bound_at_most}
 use Rattle.tmm_model.specs.Points.{same_name}
 use Rattle.tmm_model.specs.Tokens.{of_one_class, clips, cuts, is_by, is_before, lasts_to, supports}
-use Rattle.tmm_model.proofs.Elements.{In}
+use Rattle.list_theory.proofs.Elements.{In}
 use Rattle.clipping.specs.Live.{IsLive}
 
 module _ {P Q : Type 0} (go : P → Q) (far : P → P → Bound) (gap : Q → Q → Bound) (live : P → Type 0)

@@ -16,9 +16,9 @@ use Rattle.tmm_model.specs.Moments.{Moment, base, distance, occ_cmp}
 use Rattle.tmm_model.specs.Points.{same_name}
 use Rattle.tmm_model.specs.Standing.{Standing, far_in}
 use Rattle.tmm_model.specs.Tokens.{of_one_class, clips, is_before}
-use Rattle.tmm_model.proofs.Elements.{In, both, In-from_Contains, Contains-from_In, In-filter_map, filter_map-In}
-use Rattle.tmm_model.proofs.Order.{ordered, total}
-use Rattle.tmm_model.proofs.Points.{same_name-is}
+use Rattle.list_theory.proofs.Elements.{In, both, In-from_Contains, Contains-from_In, In-filter_map, filter_map-In}
+use Rattle.belief_theory.proofs.Order.{ordered, total}
+use Rattle.walk_theory.proofs.Points.{same_name-is}
 use Rattle.clipping.specs.Lasts.{IsLastPlace}
 use Rattle.dist_net.specs.Net.{Net}
 use Rattle.spots.specs.declared.spot.Spot.{Spot}

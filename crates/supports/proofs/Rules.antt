@@ -6,14 +6,13 @@ use Rattle.tmm_model.specs.declared.premise.Premise.{Premise}
 use Rattle.tmm_model.specs.declared.premise.Premise.TheVariants.{Class, Kind, Point, Event, Token, Span, Dist, Rule, Protect}
 use Rattle.tmm_model.specs.Beliefs.{rules_at, on_kind}
 use Rattle.tmm_model.specs.Moments.{Moment, as_rule, rule_of}
-use Rattle.tmm_model.specs.Right.{IsSound}
+use Rattle.list_theory.specs.WellNamed.{IsSound}
 use Rattle.tmm_model.specs.Sorts.{class_in, fact_use}
-use Rattle.tmm_model.specs.Standing.{Standing}
-use Rattle.tmm_model.specs.WellNamed.{premise_in}
-use Rattle.tmm_model.proofs.Elements.{In, In-from_Contains, map-In}
-use Rattle.tmm_model.proofs.KnownNames.{found, finds}
-use Rattle.tmm_model.proofs.Members.{All-from_contains}
-use Rattle.tmm_model.proofs.Sound.{rule_stands}
+use Rattle.tmm_model.specs.Standing.{Standing, premise_in}
+use Rattle.list_theory.proofs.Elements.{In, In-from_Contains, map-In}
+use Rattle.list_theory.proofs.KnownNames.{found, finds}
+use Rattle.walk_theory.proofs.Members.{All-from_contains}
+use Rattle.belief_theory.proofs.Sound.{rule_stands}
 use Rattle.supports.specs.Rules.{IsRule, IsRuleOf}
 use Rattle.supports.proofs.Facts.{fact_known}
 

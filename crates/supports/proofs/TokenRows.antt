@@ -10,10 +10,10 @@ use Rattle.tmm_model.specs.Beliefs.{token_of, tokens}
 use Rattle.tmm_model.specs.Moments.{Moment}
 use Rattle.tmm_model.specs.Points.{same_name}
 use Rattle.tmm_model.specs.Standing.{Standing}
-use Rattle.tmm_model.proofs.Elements.{In, In-from_Contains, Contains-from_In, In-filter_map, map-In, In-map}
-use Rattle.tmm_model.proofs.OneRight.{spot-token_of}
-use Rattle.tmm_model.proofs.Order.{IsSpelt}
-use Rattle.tmm_model.proofs.Spelt.{spelt}
+use Rattle.list_theory.proofs.Elements.{In, In-from_Contains, Contains-from_In, In-filter_map, map-In, In-map}
+use Rattle.belief_theory.proofs.OneRight.{spot-token_of}
+use Rattle.belief_theory.proofs.Order.{IsSpelt}
+use Rattle.belief_theory.proofs.Spelt.{spelt}
 use Rattle.clipping.specs.Live.{IsLive as HasLiveSpots}
 use Rattle.dist_net.specs.Net.{Net}
 use Rattle.spots.proofs.Nodes.{moment_at-is}

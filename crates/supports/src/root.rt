@@ -1,7 +1,7 @@
 // The declared events, tokens and spans.
 ghost use Rattle.std.specs.Prelude.{IfOk};
 ghost use Rattle.tmm_model.specs.Standing.{name_of};
-ghost use Rattle.tmm_model.proofs.Elements.{In};
+ghost use Rattle.list_theory.proofs.Elements.{In};
 ghost use Rattle.spots.specs.Forest.{IsNoRoot};
 ghost use Rattle.list_net.specs.Fits.{IsNetOf};
 ghost use Rattle.supports.specs.Growing.{AddsRoot};

@@ -15,7 +15,7 @@ use Rattle.tmm_model.specs.Lines.{words, goes_on, is_blank, spaced, IsSilent}
 use Rattle.tmm_model.specs.Replies.{Reply, text_of}
 use Rattle.tmm_model.specs.Runs.{Run, is_reply, is_refused, is_memory}
 use Rattle.tmm_model.specs.Standing.{Standing}
-use Rattle.tmm_model.specs.Transcript.{IsReadAs, LineAnswers, WholeStep}
+use Rattle.tmm_model.specs.Transcript.{IsReadAs, LineAnswers, Step}
 use Rattle.demo_gen.proofs.Blocks.{last_three}
 use Rattle.tmm_session.specs.Sessions.{reply_told}
 use Rattle.tmm_cli.specs.Demo.{replies_told, RunReplied}
@@ -102,8 +102,8 @@ one_line_more n i line at =
 -- ---- runs with replies
 
 -- a step from the same list, of a line of the same number, tells the same reply
-step_moved : (now old : Standing) (j k : ℕ) (line : List ℕ) (turn : Turn) (new : Standing) → now ≡ old → j ≡ k → (step : WholeStep now j line turn new)
-    → (moved : WholeStep old k line turn new) × (reply_told old k line turn new moved ≡ reply_told now j line turn new step)
+step_moved : (now old : Standing) (j k : ℕ) (line : List ℕ) (turn : Turn) (new : Standing) → now ≡ old → j ≡ k → (step : Step now j line turn new)
+    → (moved : Step old k line turn new) × (reply_told old k line turn new moved ≡ reply_told now j line turn new step)
 step_moved now old j k line Silent new is same step = ((step.0, subst (λ (s : Standing). new ≡ s) is step.1), refl)
 step_moved now old j k line Memory new is same step = ((step.0, subst (λ (s : Standing). new ≡ s) is step.1), refl)
 step_moved now old j k line (ReplyOf bytes refused) new is same step = (
@@ -117,9 +117,9 @@ step_moved now old j k line (ReplyOf bytes refused) new is same step = (
 )
 
 -- a run with one step more tells one reply more
-run_with : (old : Standing) (k : ℕ) (lines : List (List ℕ)) (turns : List Turn) (mid : Standing) (run : Run WholeStep old k lines turns mid)
-    (line : List ℕ) (turn : Turn) (new : Standing) (step : WholeStep mid (k + length lines + 1) line turn new)
-    → (longer : Run WholeStep old k (lines ++ line ∷ []) (turns ++ turn ∷ []) new)
+run_with : (old : Standing) (k : ℕ) (lines : List (List ℕ)) (turns : List Turn) (mid : Standing) (run : Run Step old k lines turns mid)
+    (line : List ℕ) (turn : Turn) (new : Standing) (step : Step mid (k + length lines + 1) line turn new)
+    → (longer : Run Step old k (lines ++ line ∷ []) (turns ++ turn ∷ []) new)
     × (replies_told old k (lines ++ line ∷ []) (turns ++ turn ∷ []) new longer
     ≡ replies_told old k lines turns mid run ++ reply_told mid (k + length lines + 1) line turn new step ∷ [])
 run_with old k [] [] mid run line turn new step =
@@ -138,7 +138,7 @@ run_with old k (first ∷ lines) [] mid run line turn new step = absurd run
 
 pub RunReplied-push : (start : Standing) (lines : List (List ℕ)) (turns : List Turn) (replies : List (Option Reply)) (mid : Standing)
     (k : ℕ) (line : List ℕ) (turn : Turn) (new : Standing) → RunReplied start lines turns replies mid → k ≡ length lines + 1 → is_reply turn ≡ true
-    → (step : WholeStep mid k line turn new)
+    → (step : Step mid k line turn new)
     → RunReplied start (lines ++ line ∷ []) (turns ++ turn ∷ []) (replies ++ reply_told mid k line turn new step ∷ []) new
 RunReplied-push start lines turns replies mid k line turn new replied number has_reply step =
     let e : k ≡ 0 + length lines + 1 = omega (arith, number) in
@@ -151,13 +151,13 @@ RunReplied-push start lines turns replies mid k line turn new replied number has
     }
 
 -- what a reply counts for is what its turn tells
-counts_memory : (old : Standing) (k : ℕ) (line : List ℕ) (turn : Turn) (new : Standing) (step : WholeStep old k line turn new) → is_reply turn ≡ true
+counts_memory : (old : Standing) (k : ℕ) (line : List ℕ) (turn : Turn) (new : Standing) (step : Step old k line turn new) → is_reply turn ≡ true
     → is_memory turn ≡ is_want (reply_told old k line turn new step)
 counts_memory old k line Silent new step has_reply = absurd (cc has_reply)
 counts_memory old k line Memory new step has_reply = refl
 counts_memory old k line (ReplyOf bytes refused) new step has_reply = refl
 
-counts_refused : (old : Standing) (k : ℕ) (line : List ℕ) (turn : Turn) (new : Standing) (step : WholeStep old k line turn new) → is_reply turn ≡ true
+counts_refused : (old : Standing) (k : ℕ) (line : List ℕ) (turn : Turn) (new : Standing) (step : Step old k line turn new) → is_reply turn ≡ true
     → is_refused turn ≡ is_no_or_fault (reply_told old k line turn new step)
 counts_refused old k line Silent new step has_reply = absurd (cc has_reply)
 counts_refused old k line Memory new step has_reply = refl
@@ -178,7 +178,7 @@ pub record AreCounted (lines : List (List ℕ)) (turns : List Turn) (replies : L
   pub memory : list_any is_memory turns ≡ nat_lt 0 (count_by is_want replies)
   pub refused : list_any is_refused turns ≡ nat_lt 0 (count_by is_no_or_fault replies)
 
-run_counted : (old : Standing) (k : ℕ) (lines : List (List ℕ)) (turns : List Turn) (new : Standing) (run : Run WholeStep old k lines turns new)
+run_counted : (old : Standing) (k : ℕ) (lines : List (List ℕ)) (turns : List Turn) (new : Standing) (run : Run Step old k lines turns new)
     → All (λ turn. is_reply turn ≡ true) turns → AreCounted lines turns (replies_told old k lines turns new run)
 run_counted old k [] [] new run each = record { long = refl; memory = refl; refused = refl }
 run_counted old k (line ∷ lines) (turn ∷ turns) new run each =

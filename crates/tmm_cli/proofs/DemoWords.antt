@@ -1,9 +1,9 @@
 -- The words `demo N`.
 use Rattle.std.proofs.Common.{◌≡◌, ◌∙◌, ℕ, ◌≤◌, ℤ, pos, List, Some, None, ap, arith}
 use Rattle.std.specs.Prelude.{decimal}
-use Rattle.tmm_model.proofs.LineNumbers.{number_of-complete}
+use Rattle.tmm_grammar.proofs.LineNumbers.{number_of-complete}
 use Rattle.tmm_model.specs.Lines.{number_word, IsNumber}
-use Rattle.tmm_model.specs.Reading.{number_of}
+use Rattle.tmm_grammar.specs.Reading.{number_of}
 use Rattle.tmm_words.specs.Spelling.{IsSpelling}
 
 -- a word that is no number is none from 1 to 1000

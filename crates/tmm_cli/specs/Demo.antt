@@ -8,7 +8,7 @@ use Rattle.tmm_model.specs.Generator.{script_of, summary}
 use Rattle.tmm_model.specs.Replies.{Reply}
 use Rattle.tmm_model.specs.Runs.{Run, is_reply}
 use Rattle.tmm_model.specs.Standing.{Standing}
-use Rattle.tmm_model.specs.Transcript.{WholeStep}
+use Rattle.tmm_model.specs.Transcript.{Step}
 use Rattle.tmm_drive.specs.declared.status.Status.{Status}
 use Rattle.tmm_drive.specs.declared.status.Status.TheVariants.{Clean, SomeRefused, WriteFault, SomeMemory}
 use Rattle.tmm_drive.specs.Statuses.{status_of}
@@ -20,14 +20,14 @@ IsDemo (first ∷ second ∷ []) n = (string_bytes first ≡ codes "demo") × (s
 IsDemo words n = ⊥
 
 -- the replies that a run tells, line by line; none is want of memory
-abbrev pub replies_told : (old : Standing) (k : ℕ) (lines : List (List ℕ)) (turns : List Turn) (new : Standing) → Run WholeStep old k lines turns new → List (Option Reply)
+abbrev pub replies_told : (old : Standing) (k : ℕ) (lines : List (List ℕ)) (turns : List Turn) (new : Standing) → Run Step old k lines turns new → List (Option Reply)
 replies_told old k (line ∷ lines) (turn ∷ turns) new run =
     reply_told old (k + 1) line turn run.0 run.1 ∷ replies_told run.0 (k + 1) lines turns new run.2
 replies_told old k lines turns new run = []
 
 -- a run of a script, in which each line has a reply, with what these are
 pub record RunReplied (start : Standing) (lines : List (List ℕ)) (turns : List Turn) (replies : List (Option Reply)) (end : Standing) : Type 0 where
-  pub run : Run WholeStep start 0 lines turns end
+  pub run : Run Step start 0 lines turns end
   pub each : All (λ turn. is_reply turn ≡ true) turns
   pub replies_are : replies ≡ replies_told start 0 lines turns end run
 

@@ -3,7 +3,7 @@ use Rattle.std.specs.Prelude.{ℕ, ◌≡◌, ◌≢◌, List, [], codes, take}
 use Rattle.std.specs.declared.alloc.Global.{Global}
 use Rattle.std.specs.declared.string.String.{String}
 use Rattle.tmm_model.specs.Standing.{empty_list}
-use Rattle.tmm_model.specs.Transcript.{WholeStep}
+use Rattle.tmm_model.specs.Transcript.{Step}
 use Rattle.tmm_drive.specs.declared.status.Status.{Status}
 use Rattle.tmm_drive.specs.declared.status.Status.TheVariants.{Words, WriteFault, NoMemory}
 use Rattle.tmm_cli.specs.Demo.{IsDemo, DemoEnds}
@@ -22,7 +22,7 @@ UsageEnds output status = ⊥
 -- without words: a script from the empty list, or no memory before any byte is read
 abbrev pub ScriptEnds : Type 0 → List ℕ → List ℕ → Status → Type 0
 ScriptEnds at_end taken output NoMemory = (taken ≡ []) × (output ≡ [])
-ScriptEnds at_end taken output status = Ends WholeStep empty_list at_end taken output status
+ScriptEnds at_end taken output status = Ends Step empty_list at_end taken output status
 
 -- with the words `demo n`: what its lines from the empty list on leave, or no memory before the first of them
 abbrev pub SummaryEnds : ℕ → List ℕ → Status → Type 0

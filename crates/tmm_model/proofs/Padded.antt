@@ -3,7 +3,7 @@ use Rattle.std.proofs.Common.{◌≡◌, ℕ, ◌-◌, List, ◌++◌, take, rep
 use Rattle.std.specs.Cmp.Lexicographic.{pointwise}
 use Rattle.std.proofs.lemmas.Bool.Decides.{same_from_decides}
 use Rattle.std.proofs.lemmas.Slice.Eq.{bytes_eq-Decides}
-use Rattle.tmm_model.specs.Names.{IsPadded, append-padded}
+use Rattle.tmm_model.specs.Types.{IsPadded, append-padded}
 
 -- where the lengths are one, the padded bytes are equal exactly where the names are
 pub equal_padded : (a b : List ℕ) (n m : ℕ) → IsPadded a n → IsPadded b m → n ≡ m → pointwise nat_eq a b ≡ pointwise nat_eq (take n a) (take m b)

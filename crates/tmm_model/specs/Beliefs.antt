@@ -1,5 +1,5 @@
 -- What is believed of a standing list: its events, tokens and spans, and what rules bring about.
-use Rattle.std.specs.Prelude.{ℕ, suc, zero, ℤ, pos, ◌+ℤ◌, Bool, true, false, List, [], ◌∷◌, ◌++◌, map, filter, Option, Some, None, int_le}
+use Rattle.std.specs.Prelude.{ℕ, suc, zero, ℤ, pos, ◌+ℤ◌, Bool, true, false, List, [], ◌++◌, map, filter, Option, Some, None}
 use Rattle.std.specs.List.{list_any, list_all, filter_map, flat_map}
 use Rattle.std.specs.Option.{option_map}
 use Rattle.std.specs.Ordering.{int_eq, on}
@@ -13,9 +13,8 @@ use Rattle.tmm_model.specs.Firsts.{first}
 use Rattle.tmm_model.specs.Moments.{Moment, At, After, Distances, distance, early, occ_cmp, rule_of}
 use Rattle.tmm_model.specs.Points.{same_name}
 use Rattle.tmm_model.specs.Sorts.{Sort, is_kind, sort_in, class_in}
-use Rattle.tmm_model.specs.Standing.{Standing}
+use Rattle.tmm_model.specs.Standing.{Standing, premise_in}
 use Rattle.tmm_model.specs.Tokens.{of_one_class, supports}
-use Rattle.tmm_model.specs.WellNamed.{premise_in}
 
 -- ---- what occurs
 
@@ -139,25 +138,6 @@ module _ (s : Standing) (far : Distances) where
 
 -- ---- decisions
 
--- What becomes of a rule at an event.
-pub data Outcome : Type 0 where
-  -- its effect is believed; these are the first supporters of its antecedents
-  fires : List Moment → Outcome
-  -- the antecedent at this place is the first without a supporter
-  blocked : ℕ → Outcome
-  -- its effect would begin after the horizon
-  beyond : Outcome
-
--- the place of the first that is none
-abbrev pub first_without : List (Option Moment) → Option ℕ
-first_without [] = None
-first_without (None ∷ found) = Some 0
-first_without (Some k ∷ found) = option_map suc (first_without found)
-
--- what becomes of a rule in time, by the first supporters of its antecedents
-abbrev pub tried : List (Option Moment) → Outcome
-tried found = elim (first_without found) [ Some place ↦ blocked place | None ↦ fires (filter_map (λ k. k) found) ]
-
 module _ (s : Standing) (far : Distances) where
   -- the first of the tokens among b that pass
   abbrev pub first_token : List Moment → (TokenRow Moment → Bool) → Option Moment
@@ -170,11 +150,3 @@ module _ (s : Standing) (far : Distances) where
   -- for each antecedent of r, its first supporter at t
   abbrev pub supporters : List Moment → Moment → List ℕ → List (Option Moment)
   supporters b t r = map (λ fact. holder b fact t t) (rule_of s r).given
-
-  -- the outcome of r at t, among the occurrences b
-  abbrev pub outcome : List Moment → Moment → List ℕ → Outcome
-  outcome b t r = elim (int_le (due s far t r) (pos s.horizon)) [ false ↦ beyond | true ↦ tried (supporters b t r) ]
-
--- the decisions among the occurrences b: each event, with each standing rule on its kind
-abbrev pub decisions : Standing → List Moment → List (Moment × List ℕ)
-decisions s b = flat_map (λ t. map (λ r. (t, r)) (rules_at s t)) b

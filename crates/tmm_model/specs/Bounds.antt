@@ -9,21 +9,10 @@ abbrev pub IfFinite : Bound → (ℤ → Type 0) → Type 0
 IfFinite (Finite x) P = P x
 IfFinite Free P = Unit {0}
 
--- the bound is a number that is at most s
-abbrev pub AtMost : Bound → ℤ → Type 0
-AtMost (Finite x) s = x ≤ℤ s
-AtMost Free s = ⊥
-
 -- the same as a test
 abbrev pub bound_at_most : Bound → ℤ → Bool
 bound_at_most (Finite x) s = int_le x s
 bound_at_most Free s = false
-
--- the first bound is at least as tight as the second
-abbrev pub IsTighter : Bound → Bound → Type 0
-IsTighter x Free = Unit {0}
-IsTighter Free (Finite y) = ⊥
-IsTighter (Finite x) (Finite y) = x ≤ℤ y
 
 -- the less of two bounds
 abbrev pub lesser : Bound → Bound → Bound
@@ -42,21 +31,10 @@ abbrev pub bound_less : Bound → ℤ → Bound
 bound_less (Finite x) w = Finite (x -ℤ w)
 bound_less Free w = Free
 
--- a bound, a step of weight w and another bound, one after the other
-abbrev pub through : Bound → ℤ → Bound → Bound
-through (Finite x) w (Finite y) = Finite (x +ℤ w +ℤ y)
-through (Finite x) w Free = Free
-through Free w y = Free
-
 -- a step of weight w and then the bound
 abbrev pub after : ℤ → Bound → Bound
 after w (Finite x) = Finite (w +ℤ x)
 after w Free = Free
-
--- a step of weight w before the bound closes no walk of negative sum
-abbrev pub Fits : ℤ → Bound → Type 0
-Fits w (Finite x) = pos 0 ≤ℤ (w +ℤ x)
-Fits w Free = Unit {0}
 
 -- the number with its sign turned, and none where there is none
 abbrev pub bound_negated : Bound → Bound
@@ -66,7 +44,3 @@ bound_negated Free = Free
 -- the number is at most m in absolute value
 abbrev pub IsWithin : ℕ → ℤ → Type 0
 IsWithin m x = (neg_ℤ (pos m) ≤ℤ x) × (x ≤ℤ pos m)
-
--- what a table of distances may hold: a number of at most 10^12 in absolute value, or none
-abbrev pub IsSmall : Bound → Type 0
-IsSmall x = IfFinite x (IsWithin 1000000000000)

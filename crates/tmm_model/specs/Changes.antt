@@ -11,8 +11,7 @@ use Rattle.tmm_model.specs.Firsts.{sorted}
 use Rattle.tmm_model.specs.Maps.{TimeMap, built, order, is_believed}
 use Rattle.tmm_model.specs.Moments.{Moment, same_moment, is_derived, moment_of}
 use Rattle.tmm_model.specs.Points.{same_name}
-use Rattle.tmm_model.specs.Standing.{Standing, name_of}
-use Rattle.tmm_model.specs.WellNamed.{premise_in}
+use Rattle.tmm_model.specs.Standing.{Standing, name_of, premise_in}
 
 -- the seven lists of what changed
 pub record Delta : Type 0 where

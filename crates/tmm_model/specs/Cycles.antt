@@ -1,4 +1,4 @@
--- Walks as steps between declared points, and closed walks of negative sum as certificates.
+-- Walks as steps between declared points, and the cycle that a refusal shows.
 use Rattle.std.specs.Prelude.{◌≡◌, List, [], ◌∷◌, ◌++◌, map, ℤ, pos, ◌<ℤ◌}
 use Rattle.std.specs.List.{All, Contains, IsDistinct, flat_map}
 use Rattle.tmm_model.specs.declared.bound.Bound.TheVariants.{Finite}
@@ -32,14 +32,6 @@ pub record IsPath (known : List WalkStep) (p q : PointName) (steps : List WalkSt
   pub own : All (Contains known) steps
   pub leads : Leads p q steps
   pub distinct : IsDistinct same_point (begins steps ++ q ∷ [])
-
--- **A negative cycle** of the premises and a refused one: their constraints lead from a point back to it,
--- no point is visited twice, and the sum is negative.
-pub record IsNegativeCycle (premises : List Premise) (refused : Premise) (steps : List WalkStep) : Type 0 where
-  pub own : All (Contains (steps_in (premises ++ refused ∷ []))) steps
-  pub closed : (p : PointName) × Leads p p steps
-  pub distinct : IsDistinct same_point (begins steps)
-  pub negative : sum_of steps <ℤ pos 0
 
 -- the step `first` and then known constraints that lead back, with this sum
 pub record IsCycleBy (known : List WalkStep) (first : WalkStep) (sum : ℤ) (steps : List WalkStep) : Type 0 where

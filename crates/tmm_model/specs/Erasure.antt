@@ -40,16 +40,6 @@ module _ (erased : List ℕ) where
   kept_after gone (premise ∷ premises) =
       elim (falls erased gone premise) [ true ↦ kept_after (declared_by premise ++ gone) premises | false ↦ premise ∷ kept_after gone premises ]
 
-  -- those that fall
-  abbrev pub fallen_after : List (List ℕ) → List Premise → List Premise
-  fallen_after gone [] = []
-  fallen_after gone (premise ∷ premises) =
-      elim (falls erased gone premise) [ true ↦ premise ∷ fallen_after (declared_by premise ++ gone) premises | false ↦ fallen_after gone premises ]
-
 -- the premises without the one of this name and all that mention, directly or through others, what is retracted
 abbrev pub kept_without : List ℕ → List Premise → List Premise
 kept_without erased premises = kept_after erased [] premises
-
--- the retracted premises
-abbrev pub fallen_with : List ℕ → List Premise → List Premise
-fallen_with erased premises = fallen_after erased [] premises

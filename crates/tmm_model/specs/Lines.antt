@@ -1,5 +1,5 @@
 -- The grammar of a script line, on the list of the line's words.
-use Rattle.std.specs.Prelude.{◌≡◌, ◌≢◌, ℕ, ◌≤◌, ℤ, pos, ◌≤ℤ◌, Bool, false, cond, not, ◌||◌, ◌==◌, List, [], ◌∷◌, ◌++◌, length, codes, decimal, IsTrue, ◌↔◌}
+use Rattle.std.specs.Prelude.{◌≡◌, ◌≢◌, ℕ, ◌≤◌, ℤ, pos, ◌≤ℤ◌, Bool, false, cond, not, ◌||◌, ◌==◌, List, [], ◌∷◌, ◌++◌, length, codes, decimal, IsTrue}
 use Rattle.std.specs.List.{list_all, onto_first}
 use Rattle.std.specs.Fmt.{signed_decimal}
 use Rattle.tmm_model.specs.declared.bound.Bound.{Bound}
@@ -34,19 +34,6 @@ goes_on (b ∷ _) = not (is_blank b)
 unfoldable pub words : List ℕ → List (List ℕ)
 words [] = []
 words (b ∷ line) = cond (is_blank b) (words line) (cond (goes_on line) (onto_first b (words line)) ((b ∷ []) ∷ words line))
-
--- bytes that part words
-abbrev pub AreBlanks : List ℕ → Type 0
-AreBlanks gap = IsTrue (list_all is_blank gap)
-
--- at least one byte, and no blank
-abbrev pub IsWord : List ℕ → Type 0
-IsWord w = (w ≢ []) × IsTrue (list_all (λ b. not (is_blank b)) w)
-
--- the same in other words: the line is blanks, a word that goes on no further, and so on, and blanks at the end
-abbrev pub AreWords : List ℕ → List (List ℕ) → Type 0
-AreWords line [] = AreBlanks line
-AreWords line (w ∷ ws) = (gap : List ℕ) × (rest : List ℕ) × (line ≡ gap ++ w ++ rest) × AreBlanks gap × IsWord w × (goes_on rest ≡ false) × AreWords rest ws
 
 -- the word is a name
 abbrev pub IsName : List ℕ → Type 0
@@ -189,41 +176,3 @@ spaced (w ∷ ws) = w ++ behind_spaces ws
 -- the line that declares a premise
 abbrev pub shown_text : Premise → List ℕ
 shown_text premise = spaced (shown premise)
-
--- an occurrence, point, question or line but for the room of its lists
-abbrev pub bare_occ : Occ → Occ
-bare_occ o = record { root = o.root; rules = record { items = o.rules.items; room = 0 } }
-
--- a point but for the room of its list
-abbrev pub bare_point : QueryPoint → QueryPoint
-bare_point (Declared p) = Declared p
-bare_point (Derived o) = Derived (bare_occ o)
-
--- a question but for the room of its lists
-abbrev pub bare_query : Query → Query
-bare_query (Bounds p q) = Bounds (bare_point p) (bare_point q)
-bare_query (Path p q) = Path (bare_point p) (bare_point q)
-bare_query (Ask fact p q) = Ask fact (bare_point p) (bare_point q)
-bare_query (Why o) = Why (bare_occ o)
-bare_query query = query
-
--- a line but for the room of its lists
-abbrev pub bare_line : Line → Line
-bare_line (Question query) = Question (bare_query query)
-bare_line l = l
-
--- the lines say the same
-abbrev pub SameLine : Line → Line → Type 0
-SameLine a b = bare_line a ≡ bare_line b
-
--- a line has one list of words
-abbrev pub WordsAreOne : Type 0
-WordsAreOne = (line : List ℕ) (ws : List (List ℕ)) → AreWords line ws ↔ (ws ≡ words line)
-
--- words read as at most one thing
-abbrev pub ReadingIsOne : Type 0
-ReadingIsOne = (ws : List (List ℕ)) (a b : Line) → Reads ws a → Reads ws b → SameLine a b
-
--- the line that shows a premise has at most 400 bytes and reads as the premise
-abbrev pub ShownReads : Type 0
-ShownReads = (premise : Premise) → IsWellFormedPremise premise → (length (shown_text premise) ≤ 400) × ReadsLine (shown_text premise) (Change (Add premise))

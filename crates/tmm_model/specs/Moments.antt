@@ -15,8 +15,7 @@ use Rattle.tmm_model.specs.declared.premise.Premise.{Premise}
 use Rattle.tmm_model.specs.declared.premise.Premise.TheVariants.{Rule}
 use Rattle.tmm_model.specs.Bounds.{bound_plus, bound_less}
 use Rattle.tmm_model.specs.Points.{same_name, same_point, point_word}
-use Rattle.tmm_model.specs.Standing.{Standing}
-use Rattle.tmm_model.specs.WellNamed.{premise_in}
+use Rattle.tmm_model.specs.Standing.{Standing, premise_in}
 
 -- A declared point, or the begin of the effect of a rule on the event at a moment. The occurrence that
 -- a script writes as `e/r/q` is `After (After (At (Begin e)) r) q`.

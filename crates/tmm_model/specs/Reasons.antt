@@ -1,5 +1,5 @@
 -- The reasons of a belief: all that it rests on, each before what rests on it.
-use Rattle.std.specs.Prelude.{◌≡◌, ◌↔◌, ℕ, ℤ, ◌<ℤ◌, List, [], ◌∷◌, ◌++◌, map, Option, Some, None}
+use Rattle.std.specs.Prelude.{◌≡◌, ◌↔◌, ℕ, ℤ, List, [], ◌∷◌, ◌++◌, map, Option, Some, None}
 use Rattle.std.specs.List.{AllZip, Contains, filter_map, flat_map}
 use Rattle.std.specs.List.Sorted.{IsStrictlySortedBy}
 use Rattle.std.specs.Option.{option_and_then}
@@ -8,12 +8,10 @@ use Rattle.tmm_model.specs.declared.changes.WhyLine.{WhyLine}
 use Rattle.tmm_model.specs.declared.changes.WhyLine.TheVariants.{Premise as PremiseLine, Order as OrderLine, Derived as DerivedLine}
 use Rattle.tmm_model.specs.declared.walk.WalkStep.{WalkStep}
 use Rattle.tmm_model.specs.Beliefs.{token_of, supporters}
-use Rattle.tmm_model.specs.Maps.{TimeMap, built, gap, order}
-use Rattle.tmm_model.specs.Moments.{Moment, At, After, base, early, moment_of, moment_of_point}
+use Rattle.tmm_model.specs.Maps.{TimeMap, gap, order}
+use Rattle.tmm_model.specs.Moments.{Moment, At, After, base, moment_of, moment_of_point}
 use Rattle.tmm_model.specs.Paths.{IsLeastWalk}
 use Rattle.tmm_model.specs.Points.{point_word}
-use Rattle.tmm_model.specs.Right.{IsSound}
-use Rattle.tmm_model.specs.Standing.{Standing, far_in}
 
 -- A line of reasons.
 pub data Reason : Type 0 where
@@ -92,19 +90,3 @@ abbrev pub reason_of : WhyLine → Reason
 reason_of (PremiseLine name) = by_premise name
 reason_of (OrderLine first second far steps) = by_order (moment_of_point first) (moment_of_point second) far steps.items
 reason_of (DerivedLine occ rule trigger supports) = by_rule (moment_of occ) rule (moment_of trigger) (map moment_of supports.items)
-
--- ---- laws
-
--- in the map of a sound list, what a believed occurrence rests on is believed, and has an earlier date
-abbrev pub ReasonsAreEarlier : Type 0
-ReasonsAreEarlier =
-    (s : Standing) → IsSound s → (o x : Moment)
-    → Contains (built s).believed o → Contains (rests_on (built s) o) x
-    → Contains (built s).believed x × (early s (far_in s.premises) x <ℤ early s (far_in s.premises) o)
-
--- and in its reasons, each occurrence that the line of another cites stands before that one
-abbrev pub CitedStandBefore : Type 0
-CitedStandBefore =
-    (s : Standing) → IsSound s → (o : Moment) (lines : List Reason) → Contains (built s).believed o → (why : IsWhy (built s) o lines)
-    → (front back : List Moment) (y : Moment) → why.occs ≡ front ++ y ∷ back
-    → (x : Moment) → Contains (rests_on (built s) y) x → Contains front x

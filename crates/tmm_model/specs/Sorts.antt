@@ -76,11 +76,6 @@ is_place a_token = true
 is_place a_span = true
 is_place _ = false
 
--- what has an end
-abbrev pub is_span : Sort → Bool
-is_span a_span = true
-is_span _ = false
-
 -- what a premise declares for itself
 abbrev pub is_premise : Sort → Bool
 is_premise a_fact = false

@@ -1,5 +1,5 @@
 -- The standing list: the premises that hold, their points and their constraints.
-use Rattle.std.specs.Prelude.{ℕ, List, [], ◌∷◌, ◌++◌, map, length, pos, negsuc, neg_ℤ}
+use Rattle.std.specs.Prelude.{ℕ, List, [], ◌∷◌, ◌++◌, map, length, pos, negsuc, neg_ℤ, Option, find}
 use Rattle.std.specs.List.{flat_map}
 use Rattle.tmm_model.specs.declared.bound.Bound.{Bound}
 use Rattle.tmm_model.specs.declared.bound.Bound.TheVariants.{Finite, Free}
@@ -9,7 +9,7 @@ use Rattle.tmm_model.specs.declared.premise.Premise.{Premise}
 use Rattle.tmm_model.specs.declared.premise.Premise.TheVariants.{Class, Kind, Point, Event, Token, Span, Dist, Rule, Protect}
 use Rattle.tmm_model.specs.declared.walk.Side.TheVariants.{Hi, Lo, Base, Length}
 use Rattle.tmm_model.specs.declared.walk.WalkStep.{WalkStep}
-use Rattle.tmm_model.specs.Points.{same_point}
+use Rattle.tmm_model.specs.Points.{same_point, same_name}
 use Rattle.tmm_model.specs.Walks.{Arc, HasDates, far}
 
 -- the last date at which an effect is projected, and the premises, oldest first
@@ -91,3 +91,7 @@ IsConsistent premises = HasDates Start (arcs_in premises)
 -- the tightest upper bound on the date of the second point less that of the first
 abbrev pub far_in : List Premise → PointName → PointName → Bound
 far_in premises a b = far same_point (arcs_in premises) (length (points_in premises)) a b
+
+-- the premise of this name
+abbrev pub premise_in : List Premise → List ℕ → Option Premise
+premise_in premises name = find (λ premise. same_name name (name_of premise)) premises

@@ -89,8 +89,8 @@ pub data LineAnswers (old : Standing) (line : List ℕ) (reply : Reply) (new : S
 
 -- **The step of the transcript.** From the list `old` the line of number k may have this turn, and leaves the
 -- list `new`. A silent line has no reply. Any other may be answered `memory`, and then nothing changes.
-abbrev pub WholeStep : Standing → ℕ → List ℕ → Turn → Standing → Type 0
-WholeStep old k line NoReply new = IsReadAs line Silent × (new ≡ old)
-WholeStep old k line Memory new = (IsReadAs line Silent → ⊥) × (new ≡ old)
-WholeStep old k line (ReplyOf bytes refused) new =
+abbrev pub Step : Standing → ℕ → List ℕ → Turn → Standing → Type 0
+Step old k line NoReply new = IsReadAs line Silent × (new ≡ old)
+Step old k line Memory new = (IsReadAs line Silent → ⊥) × (new ≡ old)
+Step old k line (ReplyOf bytes refused) new =
     (reply : Reply) × LineAnswers old line reply new × (bytes.items ≡ text_of k reply) × (refused ≡ is_refusal reply)

@@ -1,8 +1,7 @@
 -- Why an edit is refused: the first cause that holds, in the order of this file.
-use Rattle.std.specs.Prelude.{◌≡◌, ℕ, nat_le, Bool, true, false, ◌||◌, List, [], ◌∷◌, ◌++◌, map, length, codes, ℤ, pos, ◌<ℤ◌, Option, Some, None, IsSome}
-use Rattle.std.specs.List.{Contains, list_any}
+use Rattle.std.specs.Prelude.{◌≡◌, ℕ, nat_le, Bool, true, false, ◌||◌, List, [], ◌∷◌, ◌++◌, map, length, codes, Option, Some, None, IsSome}
+use Rattle.std.specs.List.{list_any}
 use Rattle.std.specs.Option.{option_or}
-use Rattle.tmm_model.specs.declared.bound.Bound.TheVariants.{Finite}
 use Rattle.tmm_model.specs.declared.point.PointName.{PointName}
 use Rattle.tmm_model.specs.declared.point.PointName.TheVariants.{Start, Begin, End}
 use Rattle.tmm_model.specs.declared.premise.Premise.{Premise}
@@ -11,9 +10,7 @@ use Rattle.tmm_model.specs.declared.premise.Edit.TheVariants.{Add, Erase, Horizo
 use Rattle.tmm_model.specs.declared.refusal.Refusal.{Refusal}
 use Rattle.tmm_model.specs.declared.refusal.Refusal.TheVariants.{Taken, Unknown, Sort as IllSorted, LimitPremises, LimitPoints}
 use Rattle.tmm_model.specs.Points.{same_name, point_word, query_word}
-use Rattle.tmm_model.specs.Bounds.{after}
-use Rattle.tmm_model.specs.Walks.{Arc}
-use Rattle.tmm_model.specs.Standing.{points_in, arcs_of, far_in}
+use Rattle.tmm_model.specs.Standing.{points_in}
 use Rattle.tmm_model.specs.Sorts.{Sort, a_span, is_reserved, declared_by, declarations_in, sort_in, is_place, is_premise, Use, a_name, a_place, a_premise, uses_of}
 
 -- the limit on premises
@@ -108,11 +105,3 @@ told_cause _ = None
 -- the refusal tells this cause
 abbrev pub Tells : Refusal → Option Cause → Type 0
 Tells refusal cause = IsSome cause × (told_cause refusal ≡ cause)
-
--- The sum of a closed walk that a refused premise makes: the weight of one of its constraints and the
--- tightest distance back. It is negative.
-pub record IsCycleSum (premises : List Premise) (refused : Premise) (sum : ℤ) : Type 0 where
-  pub first : Arc PointName
-  pub own : Contains (arcs_of refused) first
-  pub sums : after first.weight (far_in premises first.to first.from) ≡ Finite sum
-  pub negative : sum <ℤ pos 0

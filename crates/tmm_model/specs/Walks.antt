@@ -1,20 +1,16 @@
--- Constraints between points of any kind, dates that satisfy them, walks over them and the tightest
--- distances, as of a simple temporal problem (Dechter, Meiri and Pearl 1991).
-use Rattle.std.specs.Prelude.{◌≡◌, ℕ, zero, suc, ◌-◌, ◌≤◌, Bool, cond, List, [], ◌∷◌, length, ℤ, pos, ◌+ℤ◌, ◌-ℤ◌, ◌≤ℤ◌, ◌<ℤ◌, ◌⊎◌}
-use Rattle.std.specs.List.{All, Contains}
+-- Constraints between points of any kind, dates that satisfy them and the tightest distances, as
+-- of a simple temporal problem (Dechter, Meiri and Pearl 1991).
+use Rattle.std.specs.Prelude.{◌≡◌, ℕ, zero, suc, ◌-◌, Bool, cond, List, [], ◌∷◌, ℤ, pos, ◌+ℤ◌, ◌-ℤ◌, ◌≤ℤ◌}
+use Rattle.std.specs.List.{All}
 use Rattle.tmm_model.specs.declared.bound.Bound.{Bound}
 use Rattle.tmm_model.specs.declared.bound.Bound.TheVariants.{Finite, Free}
-use Rattle.tmm_model.specs.Bounds.{IfFinite, AtMost, lesser, after, through, IsWithin}
+use Rattle.tmm_model.specs.Bounds.{lesser, after}
 
 -- a constraint: the date of `to` is at most `weight` after the date of `from`
 pub record Arc (P : Type 0) : Type 0 where
   pub from : P
   pub to : P
   pub weight : ℤ
-
--- the constraint between the points that f gives its own
-abbrev pub renamed : {P Q : Type 0} → (P → Q) → Arc P → Arc Q
-renamed f e = record { from = f e.from; to = f e.to; weight = e.weight }
 
 module _ {P : Type 0} where
   -- the dates satisfy every constraint, and `start` is at 0
@@ -26,56 +22,10 @@ module _ {P : Type 0} where
   abbrev pub HasDates : P → List (Arc P) → Type 0
   HasDates start arcs = (date : P → ℤ) × IsDates start arcs date
 
-  -- the constraints of the walk stand in the list, and lead one after the other from a to b
-  abbrev pub IsWalk : List (Arc P) → P → P → List (Arc P) → Type 0
-  IsWalk arcs a b [] = a ≡ b
-  IsWalk arcs a b (e ∷ walk) = Contains arcs e × (e.from ≡ a) × IsWalk arcs e.to b walk
-
   -- the sum of a walk
   abbrev pub total : List (Arc P) → ℤ
   total [] = pos 0
   total (e ∷ walk) = e.weight +ℤ total walk
-
-  -- some walk from a to b has the sum s
-  abbrev pub HasWalk : List (Arc P) → P → P → ℤ → Type 0
-  HasWalk arcs a b s = (walk : List (Arc P)) × IsWalk arcs a b walk × (total walk ≡ s)
-
-  -- some closed walk has a negative sum
-  abbrev pub HasNegativeCycle : List (Arc P) → Type 0
-  HasNegativeCycle arcs = (a : P) × (walk : List (Arc P)) × IsWalk arcs a a walk × (total walk <ℤ pos 0)
-
-  -- the bound is the least sum over all walks from a to b, and none exactly where there is no walk
-  pub record IsFar (arcs : List (Arc P)) (a b : P) (far : Bound) : Type 0 where
-    pub reached : IfFinite far (HasWalk arcs a b)
-    pub least : (walk : List (Arc P)) → IsWalk arcs a b walk → AtMost far (total walk)
-
-  -- the bound is the least sum over the walks from a to b of at most k constraints
-  pub record IsFarWithin (arcs : List (Arc P)) (k : ℕ) (a b : P) (far : Bound) : Type 0 where
-    pub reached : IfFinite far (λ s. (walk : List (Arc P)) × IsWalk arcs a b walk × (length walk ≤ k) × (total walk ≡ s))
-    pub least : (walk : List (Arc P)) → IsWalk arcs a b walk → length walk ≤ k → AtMost far (total walk)
-
-  -- the points that a walk to b visits, b last
-  abbrev pub points : List (Arc P) → P → List P
-  points [] b = b ∷ []
-  points (e ∷ walk) b = e.from ∷ points walk b
-
-  -- every constraint is between two of the points
-  abbrev pub AreAmong : List P → List (Arc P) → Type 0
-  AreAmong known arcs = All (λ e. Contains known e.from × Contains known e.to) arcs
-
-  -- every weight is at most m in absolute value
-  abbrev pub AreLight : ℕ → List (Arc P) → Type 0
-  AreLight m arcs = All (λ e. IsWithin m e.weight) arcs
-
-  -- the constraints of new are those of old and e
-  pub record Adds (old : List (Arc P)) (e : Arc P) (new : List (Arc P)) : Type 0 where
-    pub kept : (x : Arc P) → Contains old x → Contains new x
-    pub added : Contains new e
-    pub only : (x : Arc P) → Contains new x → Contains old x ⊎ (x ≡ e)
-
-  -- the distances closed by the constraint e: the old one, or one through it
-  abbrev pub closed : (P → P → Bound) → Arc P → P → P → Bound
-  closed table e a b = lesser (table a b) (through (table a e.from) e.weight (table e.to b))
 
 -- what computes, where `same` tells whether two points are the same
 module _ {P : Type 0} (same : P → P → Bool) where

@@ -1,6 +1,7 @@
 // Upper bounds on distances.
 ghost use Rattle.std.specs.Prelude.{◌≡◌, ℕ, ◌+◌, ◌-◌, ◌<◌, ◌≤◌, length, IsTrue, ◌↔◌};
-ghost use Rattle.tmm_model.specs.Bounds.{lesser, through, bound_negated, IsSmall, IsWithin};
+ghost use Rattle.tmm_model.specs.Bounds.{lesser, bound_negated, IsWithin};
+ghost use Rattle.tmm_model.specs.Types.{through, IsSmall};
 
 /// An upper bound on the distance from one point to another, in whole time units: a number, or none.
 #[derive(Clone, Copy, PartialEq, Eq, Debug)]

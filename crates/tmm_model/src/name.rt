@@ -23,7 +23,7 @@ pub struct Name {
 
 impl Model for Name {
     ghost use Rattle.std.specs.Prelude.{ℕ, List, ◌++◌, ◌-◌, take, replicate, length};
-    ghost use Rattle.tmm_model.specs.Names.{IsPadded, append-padded, length-padded};
+    ghost use Rattle.tmm_model.specs.Types.{IsPadded, append-padded, length-padded};
 
     ghost Value = { List ℕ };
 

@@ -14,7 +14,7 @@ pub struct Seq<T> {
 
 impl<T> Model for Seq<T> {
     ghost use Rattle.std.specs.Prelude.{◌-◌, vec_len, vec_capacity};
-    ghost use Rattle.tmm_model.specs.Lists.{Listed, listed_code};
+    ghost use Rattle.tmm_model.specs.Types.{Listed, listed_code};
 
     ghost Value = { Listed T };
 

@@ -3,8 +3,8 @@ ghost use Rattle.std.specs.Prelude.{◌≡◌, Bool, ℤ, pos, ◌+ℤ◌, ◌�
 ghost use Rattle.std.specs.declared.cmp.Ordering.{Ordering as Order};
 ghost use Rattle.tmm_model.specs.declared.bound.Bound.{Bound};
 ghost use Rattle.tmm_model.specs.declared.bound.Bound.TheVariants.{Finite};
-ghost use Rattle.tmm_model.specs.Bounds.{bound_at_most, bound_plus, IsTighter};
-ghost use Rattle.tmm_model.specs.Tokens.{IsOrderOn};
+ghost use Rattle.tmm_model.specs.Bounds.{bound_at_most, bound_plus};
+ghost use Rattle.tmm_model.specs.Types.{IsTighter, IsOrderOn};
 
 use std::cmp::Ordering;
 

@@ -1,7 +1,7 @@
 -- The first word of a line, read.
 use Rattle.std.proofs.Common.{◌≡◌, ℕ, List, ◌∷◌, Option, Some, None, refl, ap, ◌∙◌}
 use Rattle.std.specs.Prelude.{option_map}
-use Rattle.tmm_model.specs.Reading.{◌>>=◌, front}
+use Rattle.tmm_grammar.specs.Reading.{◌>>=◌, front}
 
 same : {A B : Type 0} (f : A → B) (r : Option A) → option_map f r ≡ (r >>= λ x. Some (f x))
 same f None = refl

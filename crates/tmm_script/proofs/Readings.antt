@@ -5,10 +5,11 @@ use Rattle.tmm_model.specs.declared.premise.Edit.{Edit}
 use Rattle.tmm_model.specs.declared.line.Query.{Query}
 use Rattle.tmm_model.specs.declared.line.Line.{Line}
 use Rattle.tmm_model.specs.declared.line.Line.TheVariants.{Silent, Change, Question}
-use Rattle.tmm_model.specs.Lines.{is_comment, Reads, bare_line, bare_query}
-use Rattle.tmm_model.specs.Reading.{edit_of, query_of, line_of}
-use Rattle.tmm_model.proofs.LineReaders.{map_some}
-use Rattle.tmm_model.proofs.LineForms.{line_of-complete, line_of-none}
+use Rattle.tmm_model.specs.Lines.{is_comment, Reads}
+use Rattle.tmm_grammar.specs.Bare.{bare_line, bare_query}
+use Rattle.tmm_grammar.specs.Reading.{edit_of, query_of, line_of}
+use Rattle.tmm_grammar.proofs.LineReaders.{map_some}
+use Rattle.tmm_grammar.proofs.LineForms.{line_of-complete, line_of-none}
 use Rattle.tmm_script.specs.declared.fields.Misread.{Misread}
 use Rattle.tmm_script.specs.declared.fields.Misread.TheVariants as misreads
 use Rattle.tmm_script.specs.Given.{Gives}

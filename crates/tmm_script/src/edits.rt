@@ -1,7 +1,7 @@
 // Lines that change the standing premises. Each function reads the words behind a line's first one.
 ghost use Rattle.std.specs.Prelude.{◌≡◌, option_map};
 ghost use Rattle.tmm_model.specs.Lines.{words};
-ghost use Rattle.tmm_model.specs.Reading.{class_of, dist_of, rule_of, given_of, protect_of, name_alone_of, two_names_of, premise_of, edit_of, is_range as is_range_of};
+ghost use Rattle.tmm_grammar.specs.Reading.{class_of, dist_of, rule_of, given_of, protect_of, name_alone_of, two_names_of, premise_of, edit_of, is_range as is_range_of};
 
 use crate::fields::{
     all_names, at_end, take_bound, take_horizon, take_name, take_number, take_point,
@@ -11,7 +11,7 @@ use tmm_model::{Bound, Edit, Name, Premise};
 use tmm_words::split_word;
 
 /// The change that a line with this first word makes.
-#[tactic(auto, unfolding(tmm_model::specs::Reading::edit_of))]
+#[tactic(auto, unfolding(tmm_grammar::specs::Reading::edit_of))]
 pub fn edit(word: &[u8], rest: &[u8]) -> Option<Edit>
     ensures { result ≡ edit_of word.now (words rest.now) }
 {
@@ -27,7 +27,7 @@ pub fn edit(word: &[u8], rest: &[u8]) -> Option<Edit>
     Some(Edit::Add(premise(word, rest)?))
 }
 
-#[tactic(auto, unfolding(tmm_model::specs::Reading::premise_of))]
+#[tactic(auto, unfolding(tmm_grammar::specs::Reading::premise_of))]
 fn premise(word: &[u8], rest: &[u8]) -> Option<Premise>
     ensures { result ≡ premise_of word.now (words rest.now) }
 {
@@ -66,7 +66,7 @@ fn premise(word: &[u8], rest: &[u8]) -> Option<Premise>
     None
 }
 
-#[tactic(auto, unfolding(tmm_model::specs::Reading::name_alone_of))]
+#[tactic(auto, unfolding(tmm_grammar::specs::Reading::name_alone_of))]
 fn name_alone(line: &[u8]) -> Option<Name>
     ensures { result ≡ name_alone_of (words line.now) }
 {
@@ -76,7 +76,7 @@ fn name_alone(line: &[u8]) -> Option<Name>
     Some(name)
 }
 
-#[tactic(auto, unfolding(tmm_model::specs::Reading::two_names_of))]
+#[tactic(auto, unfolding(tmm_grammar::specs::Reading::two_names_of))]
 fn two_names(line: &[u8]) -> Option<(Name, Name)>
     ensures { result ≡ two_names_of (words line.now) }
 {
@@ -87,7 +87,7 @@ fn two_names(line: &[u8]) -> Option<(Name, Name)>
     Some((first, second))
 }
 
-#[tactic(auto, unfolding(tmm_model::specs::Reading::class_of))]
+#[tactic(auto, unfolding(tmm_grammar::specs::Reading::class_of))]
 fn class(line: &[u8]) -> Option<Premise>
     ensures { result ≡ class_of (words line.now) }
 {
@@ -100,7 +100,7 @@ fn class(line: &[u8]) -> Option<Premise>
     Some(Premise::Class { name, facts })
 }
 
-#[tactic(auto, unfolding(tmm_model::specs::Reading::dist_of))]
+#[tactic(auto, unfolding(tmm_grammar::specs::Reading::dist_of))]
 fn dist(line: &[u8]) -> Option<Premise>
     ensures { result ≡ dist_of (words line.now) }
 {
@@ -123,7 +123,7 @@ fn dist(line: &[u8]) -> Option<Premise>
     })
 }
 
-#[tactic(auto, unfolding(tmm_model::specs::Reading::rule_of))]
+#[tactic(auto, unfolding(tmm_grammar::specs::Reading::rule_of))]
 fn rule(line: &[u8]) -> Option<Premise>
     ensures { result ≡ rule_of (words line.now) }
 {
@@ -147,7 +147,7 @@ fn rule(line: &[u8]) -> Option<Premise>
     })
 }
 
-#[tactic(auto, unfolding(tmm_model::specs::Reading::given_of))]
+#[tactic(auto, unfolding(tmm_grammar::specs::Reading::given_of))]
 fn given(line: &[u8]) -> Option<ArrayVec<Name, 4>>
     ensures { option_map (λ facts. facts.items) result ≡ given_of (words line.now) }
 {
@@ -161,7 +161,7 @@ fn given(line: &[u8]) -> Option<ArrayVec<Name, 4>>
     if facts.is_empty() { None } else { Some(facts) }
 }
 
-#[tactic(auto, unfolding(tmm_model::specs::Reading::protect_of))]
+#[tactic(auto, unfolding(tmm_grammar::specs::Reading::protect_of))]
 fn protect(line: &[u8]) -> Option<Premise>
     ensures { result ≡ protect_of (words line.now) }
 {

@@ -1,8 +1,9 @@
 // The words at the front of a line, read one after the other. Each function takes the first word off
 // and gives its value.
 ghost use Rattle.std.specs.Prelude.{◌≡◌, ◌∷◌, [], ℕ, List, length, take, option_map, IsSome, IsTrue, ◌↔◌};
-ghost use Rattle.tmm_model.specs.Lines.{words, bare_occ, bare_point};
-ghost use Rattle.tmm_model.specs.Reading.{front, name_of, names_of, number_of, bound_of, point_of, horizon_of, horizon_from, occ_of, query_point_of};
+ghost use Rattle.tmm_model.specs.Lines.{words};
+ghost use Rattle.tmm_grammar.specs.Bare.{bare_occ, bare_point};
+ghost use Rattle.tmm_grammar.specs.Reading.{front, name_of, names_of, number_of, bound_of, point_of, horizon_of, horizon_from, occ_of, query_point_of};
 ghost use Rattle.tmm_words.specs.Spelling.{begins_derived};
 ghost use Rattle.tmm_script.specs.Derived.{some_derived};
 ghost use Rattle.tmm_script.specs.Given.{Gives, OnMemory};
@@ -142,7 +143,7 @@ pub fn take_occ(alloc: Global, rest: &mut &[u8]) -> Result<Occ, Misread>
 }
 
 // A word with a `/` names an occurrence, and any other word a declared point.
-#[tactic(auto, unfolding(tmm_model::specs::Reading::query_point_of))]
+#[tactic(auto, unfolding(tmm_grammar::specs::Reading::query_point_of))]
 fn query_point(alloc: Global, word: &[u8]) -> Result<QueryPoint, Misread>
     ensures read { Gives bare_point result (query_point_of word.now) }
     ensures memory { OnMemory result (IsTrue (begins_derived word.now)) }

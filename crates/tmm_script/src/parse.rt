@@ -4,8 +4,9 @@ ghost use Rattle.tmm_model.specs.declared.line.Line.TheVariants.{Silent, Change}
 ghost use Rattle.tmm_model.specs.declared.premise.Edit.{Edit as Edits};
 ghost use Rattle.tmm_model.specs.declared.refusal.Refusal.TheVariants.{LimitLine};
 ghost use Rattle.tmm_model.specs.declared.refusal.Stop.TheVariants.{Refused, NoMemory};
-ghost use Rattle.tmm_model.specs.Lines.{words, is_comment, bare_line, IsSilent, Reads, ReadsLine};
-ghost use Rattle.tmm_model.specs.Reading.{line_of};
+ghost use Rattle.tmm_model.specs.Lines.{words, is_comment, IsSilent, Reads, ReadsLine};
+ghost use Rattle.tmm_grammar.specs.Bare.{bare_line};
+ghost use Rattle.tmm_grammar.specs.Reading.{line_of};
 ghost use Rattle.tmm_script.specs.Derived.{asks_derived};
 ghost use Rattle.tmm_script.specs.Given.{IsReadingOf, Gives, OnMemory};
 ghost use Rattle.tmm_script.specs.declared.fields.Misread.TheVariants.{Memory};

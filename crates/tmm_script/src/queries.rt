@@ -1,7 +1,8 @@
 // Lines that ask a question. Each function reads the words behind a line's first one.
 ghost use Rattle.std.specs.Prelude.{◌≡◌, drop, take, option_map, IsTrue};
-ghost use Rattle.tmm_model.specs.Lines.{words, bare_point, bare_query};
-ghost use Rattle.tmm_model.specs.Reading.{alone as alone_of, ended, occ_of, two_points_of, ask_of, query_of};
+ghost use Rattle.tmm_model.specs.Lines.{words};
+ghost use Rattle.tmm_grammar.specs.Bare.{bare_point, bare_query};
+ghost use Rattle.tmm_grammar.specs.Reading.{alone as alone_of, ended, occ_of, two_points_of, ask_of, query_of};
 ghost use Rattle.tmm_model.specs.declared.line.Query.TheVariants.{Why};
 ghost use Rattle.tmm_script.specs.Derived.{asked_of, some_derived};
 ghost use Rattle.tmm_script.specs.Given.{Gives, OnMemory};
@@ -11,7 +12,7 @@ use std::alloc::Global;
 use tmm_model::{Query, QueryPoint};
 
 /// The question that a line with this first word asks.
-#[tactic(auto, unfolding(tmm_model::specs::Reading::query_of))]
+#[tactic(auto, unfolding(tmm_grammar::specs::Reading::query_of))]
 pub fn query(alloc: Global, word: &[u8], rest: &[u8]) -> Result<Query, Misread>
     ensures read { Gives bare_query result (query_of word.now (words rest.now)) }
     ensures memory { OnMemory result (IsTrue (some_derived (asked_of word.now (words rest.now)))) }
@@ -59,7 +60,7 @@ fn alone(rest: &[u8], query: Query) -> Result<Query, Misread>
     }
 }
 
-#[tactic(auto, unfolding(tmm_model::specs::Reading::two_points_of))]
+#[tactic(auto, unfolding(tmm_grammar::specs::Reading::two_points_of))]
 fn two_points(alloc: Global, line: &[u8]) -> Result<(QueryPoint, QueryPoint), Misread>
     ensures read { Gives (λ p. (bare_point p.0, bare_point p.1)) result (two_points_of (words line.now)) }
     ensures memory { OnMemory result (IsTrue (some_derived (take 2 (words line.now)))) }
@@ -73,7 +74,7 @@ fn two_points(alloc: Global, line: &[u8]) -> Result<(QueryPoint, QueryPoint), Mi
     }
 }
 
-#[tactic(auto, unfolding(tmm_model::specs::Reading::ask_of))]
+#[tactic(auto, unfolding(tmm_grammar::specs::Reading::ask_of))]
 fn ask(alloc: Global, line: &[u8]) -> Result<Query, Misread>
     ensures read { Gives bare_query result (ask_of (words line.now)) }
     ensures memory { OnMemory result (IsTrue (some_derived (take 2 (drop 1 (words line.now))))) }

@@ -11,13 +11,15 @@ use Rattle.tmm_model.specs.declared.refusal.Refusal.TheVariants.{LimitLine, Form
 use Rattle.tmm_model.specs.declared.refusal.Stop.{Stop}
 use Rattle.tmm_model.specs.declared.refusal.Stop.TheVariants.{Refused as Stopped, NoMemory as OutOfMemory}
 use Rattle.tmm_model.specs.declared.seq.Seq.{Seq}
-use Rattle.tmm_model.specs.Lines.{words, ReadsLine, bare_line, ReadingIsOne}
+use Rattle.tmm_model.specs.Lines.{words, ReadsLine}
+use Rattle.tmm_grammar.specs.Bare.{bare_line}
+use Rattle.tmm_grammar.specs.LineLaws.{ReadingIsOne}
 use Rattle.tmm_model.specs.declared.answer.Answer.TheVariants.{Yes, No, Unordered}
 use Rattle.tmm_model.specs.Replies.{Reply, Accepted, Refused, BoundsAre, PathIs, Answered, Reasons, BrokenAre, Believed, DumpIs, AuditYes, SizeIs, text_of, is_refusal}
 use Rattle.tmm_model.specs.Standing.{Standing}
 use Rattle.tmm_model.specs.Maps.{built}
 use Rattle.tmm_model.specs.Questions.{query_cause}
-use Rattle.tmm_model.specs.Transcript.{RefusesEdit, AnswersLine, IsReadAs, LineAnswers, for_length, for_form, for_meaning, WholeStep}
+use Rattle.tmm_model.specs.Transcript.{RefusesEdit, AnswersLine, IsReadAs, LineAnswers, for_length, for_form, for_meaning, Step}
 use Rattle.tmm_model.specs.Verdicts.{Tells as TellsCause}
 use Rattle.tmm_script.specs.Given.{IsReadingOf}
 use Rattle.tmm_session.specs.declared.told.Told.{Told}
@@ -88,8 +90,8 @@ TellsLine-refused old k line refusal (ReplyOf bytes kind) answers other told =
     ((told.0, answers told.0 told.1, told.2, ap is_refusing told.3 ∙ kind-refusal told.0), told.3)
 
 -- what a session tells of a line is a step of the transcript
-pub WholeStep-told : (old new : Standing) (k : ℕ) (line : List ℕ) (t : Told) → TellsLine old k line t new → WholeStep old k line (turn_of t) new
-WholeStep-told old new k line t told = told.0
+pub Step-told : (old new : Standing) (k : ℕ) (line : List ℕ) (t : Told) → TellsLine old k line t new → Step old k line (turn_of t) new
+Step-told old new k line t told = told.0
 
 -- ---- a line says one thing
 

@@ -5,7 +5,7 @@ use Rattle.tmm_model.specs.declared.turn.Turn.{Turn}
 use Rattle.tmm_model.specs.declared.turn.Turn.TheVariants.{Silent, Reply as ReplyOf, Memory}
 use Rattle.tmm_model.specs.Replies.{Reply}
 use Rattle.tmm_model.specs.Standing.{Standing}
-use Rattle.tmm_model.specs.Transcript.{WholeStep, LineAnswers, for_length, for_form, for_meaning}
+use Rattle.tmm_model.specs.Transcript.{Step, LineAnswers, for_length, for_form, for_meaning}
 
 LineAnswers-long : (old new : Standing) (a b : List ℕ) (reply : Reply) → 400 < length a → 400 < length b → LineAnswers old a reply new → LineAnswers old b reply new
 LineAnswers-long old new a b reply long_a long_b answers = elim answers [
@@ -14,8 +14,8 @@ LineAnswers-long old new a b reply long_a long_b answers = elim answers [
   | for_meaning meaning read as_meant ↦ absurd (omega (arith, read.short))
 ]
 
-pub WholeStep-long : (old new : Standing) (k : ℕ) (a b : List ℕ) (turn : Turn) → 400 < length a → 400 < length b → WholeStep old k a turn new → WholeStep old k b turn new
-WholeStep-long old new k a b Silent long_a long_b answers = absurd (omega (arith, answers.0.short))
-WholeStep-long old new k a b Memory long_a long_b answers = ((λ read. omega (arith, read.short)), answers.1)
-WholeStep-long old new k a b (ReplyOf bytes refused) long_a long_b answers =
+pub Step-long : (old new : Standing) (k : ℕ) (a b : List ℕ) (turn : Turn) → 400 < length a → 400 < length b → Step old k a turn new → Step old k b turn new
+Step-long old new k a b Silent long_a long_b answers = absurd (omega (arith, answers.0.short))
+Step-long old new k a b Memory long_a long_b answers = ((λ read. omega (arith, read.short)), answers.1)
+Step-long old new k a b (ReplyOf bytes refused) long_a long_b answers =
     (answers.0, LineAnswers-long old new a b answers.0 long_a long_b answers.1, answers.2, answers.3)

@@ -5,7 +5,7 @@ use Rattle.tmm_model.specs.declared.turn.Turn.{Turn}
 use Rattle.tmm_model.specs.declared.turn.Turn.TheVariants.{Reply as ReplyTurn}
 use Rattle.tmm_model.specs.Replies.{Reply, text_of}
 use Rattle.tmm_model.specs.Standing.{Standing}
-use Rattle.tmm_model.specs.Transcript.{AnswersLine, WholeStep}
+use Rattle.tmm_model.specs.Transcript.{AnswersLine, Step}
 use Rattle.tmm_session.specs.declared.told.Told.{Told}
 use Rattle.tmm_session.specs.declared.told.Told.TheVariants.{Silent, Reply as ReplyOf, Memory}
 use Rattle.tmm_session.specs.Kinds.{kind_of, turn_of}
@@ -21,7 +21,7 @@ abbrev pub TellsMeaning : Standing → ℕ → Line → Told → Standing → Ty
 TellsMeaning old k meaning told new = Tells k (λ reply. AnswersLine old meaning reply new) (new ≡ old) told
 
 -- the reply that a step of the transcript tells; none where there was no memory, or the line is silent
-abbrev pub reply_told : (old : Standing) (k : ℕ) (line : List ℕ) (turn : Turn) (new : Standing) → WholeStep old k line turn new → Option Reply
+abbrev pub reply_told : (old : Standing) (k : ℕ) (line : List ℕ) (turn : Turn) (new : Standing) → Step old k line turn new → Option Reply
 reply_told old k line (ReplyTurn bytes refused) new step = Some step.0
 reply_told old k line turn new step = None
 
@@ -32,4 +32,4 @@ HasKind told reply = Unit {0}
 
 -- a line is answered: the step of the transcript, with the kind of its reply
 abbrev pub TellsLine : Standing → ℕ → List ℕ → Told → Standing → Type 0
-TellsLine old k line told new = (step : WholeStep old k line (turn_of told) new) × HasKind told (reply_told old k line (turn_of told) new step)
+TellsLine old k line told new = (step : Step old k line (turn_of told) new) × HasKind told (reply_told old k line (turn_of told) new step)

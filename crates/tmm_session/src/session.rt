@@ -3,10 +3,10 @@ ghost use Rattle.std.specs.Prelude.{◌≡◌, ◌+◌, ◌-◌, ◌^◌, ◌<�
 ghost use Rattle.tmm_model.specs.Lines.{IsWellFormedEdit, IsWellFormedQuery};
 ghost use Rattle.tmm_model.specs.Replies.{Refused, Answered};
 ghost use Rattle.tmm_model.specs.Standing.{Standing};
-ghost use Rattle.tmm_model.specs.Transcript.{WholeStep};
+ghost use Rattle.tmm_model.specs.Transcript.{Step};
 ghost use Rattle.tmm_session.specs.Kinds.{kind_of};
 ghost use Rattle.tmm_session.specs.Sessions.{Tells, TellsLine, TellsMeaning};
-ghost use Rattle.tmm_session.specs.LongLines.{WholeStep-long};
+ghost use Rattle.tmm_session.specs.LongLines.{Step-long};
 
 use crate::told::{Kind, Told};
 use map_engine::MapCore;
@@ -74,9 +74,9 @@ impl<M: MapCore + Drop> Lines for Session<M> {
 
     ghost ready = { λ s. M.pending s.core ≡ None };
 
-    ghost step = { WholeStep };
+    ghost step = { Step };
 
-    ghost long_lines = { WholeStep-long };
+    ghost long_lines = { Step-long };
 
     fn line(&mut self, alloc: Global, bytes: &[u8]) -> Turn {
         self.tell(alloc, bytes).turn()

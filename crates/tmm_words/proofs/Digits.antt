@@ -4,7 +4,7 @@ use Rattle.std.specs.Prelude.{◌&&◌, nat_le}
 use Rattle.std.proofs.lemmas.Bool.{and_from, and_right, le-leb, lt-leb}
 use Rattle.std.proofs.lemmas.List.{drop_all}
 use Rattle.std.proofs.Math.Seq.{drop-cons}
-use Rattle.tmm_model.specs.Reading.{is_digit, digits_on}
+use Rattle.tmm_grammar.specs.Reading.{is_digit, digits_on}
 
 module _ (n i : ℕ) (ds : List ℕ) (total : Option ℕ) (left : digits_on n (drop i ds) ≡ total) where
   abbrev digit : ℕ

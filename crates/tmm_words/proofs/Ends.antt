@@ -6,9 +6,9 @@ use Rattle.tmm_model.specs.declared.point.PointName.{PointName}
 use Rattle.tmm_model.specs.Names.{is_name}
 use Rattle.tmm_model.specs.Points.{same_name, point_word}
 use Rattle.tmm_model.specs.Lines.{IsWellFormedPoint}
-use Rattle.tmm_model.specs.Reading.{end_of, point_of}
-use Rattle.tmm_model.proofs.LinePoints.{no_dot, point_reader}
-use Rattle.tmm_model.proofs.Points.{same_name-is}
+use Rattle.tmm_grammar.specs.Reading.{end_of, point_of}
+use Rattle.tmm_grammar.proofs.LinePoints.{no_dot, point_reader}
+use Rattle.walk_theory.proofs.Points.{same_name-is}
 use Rattle.tmm_words.proofs.Spelled.{spelling_from}
 
 point_none : (w : List ℕ) → same_name w (codes "start") ≡ false → is_name w ≡ false → end_of w ≡ None → None ≡ point_of w

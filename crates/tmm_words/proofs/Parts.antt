@@ -9,8 +9,8 @@ use Rattle.tmm_model.specs.declared.point.Occ.{Occ}
 use Rattle.tmm_model.specs.Names.{is_name}
 use Rattle.tmm_model.specs.Points.{slashed, occ_word}
 use Rattle.tmm_model.specs.Lines.{IsName, AreNames, IsWellFormedOcc}
-use Rattle.tmm_model.specs.Reading.{parts, parts_behind}
-use Rattle.tmm_model.proofs.LinePoints.{parts-occ, parts-first, at_slash, word-parts}
+use Rattle.tmm_grammar.specs.Reading.{parts, parts_behind}
+use Rattle.tmm_grammar.proofs.LinePoints.{parts-occ, parts-first, at_slash, word-parts}
 use Rattle.tmm_words.specs.Spelling.{HasRules, begins_derived}
 use Rattle.tmm_words.proofs.Places.{fails_at, not_twice, prefix-passes, prefix-stops}
 

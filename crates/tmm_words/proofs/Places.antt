@@ -7,8 +7,9 @@ use Rattle.std.proofs.lemmas.List.{append-nil, drop-drop, take-append-drop, leng
 use Rattle.std.proofs.lemmas.List.Folds.{list_all-append}
 use Rattle.std.proofs.lemmas.List.Sums.{prefix_len-le-length}
 use Rattle.std.proofs.lemmas.Option.{cond_some, none-some}
-use Rattle.tmm_model.specs.Lines.{is_blank, goes_on, AreBlanks, words}
-use Rattle.tmm_model.proofs.LineWords.{words-blanks, words-word}
+use Rattle.tmm_model.specs.Lines.{is_blank, goes_on, words}
+use Rattle.tmm_grammar.specs.LineCuts.{AreBlanks}
+use Rattle.tmm_grammar.proofs.LineWords.{words-blanks, words-word}
 use Rattle.tmm_words.specs.Places.{IsFirstWord}
 
 pub position_len : {X : Type 0} (p : X → Bool) (xs : List X) → unwrap_or (position p xs) (length xs) ≡ position_or_len p xs

@@ -4,10 +4,11 @@ use Rattle.std.proofs.lemmas.Option.{none-some}
 use Rattle.std.specs.Prelude.{option_map}
 use Rattle.tmm_model.specs.declared.point.Occ.{Occ}
 use Rattle.tmm_model.specs.Points.{occ_word}
-use Rattle.tmm_model.specs.Lines.{IsWellFormedOcc, bare_occ}
-use Rattle.tmm_model.specs.Reading.{occ_of}
-use Rattle.tmm_model.proofs.LinePoints.{occ_reader}
-use Rattle.tmm_model.proofs.LineReaders.{IsReader}
+use Rattle.tmm_model.specs.Lines.{IsWellFormedOcc}
+use Rattle.tmm_grammar.specs.Bare.{bare_occ}
+use Rattle.tmm_grammar.specs.Reading.{occ_of}
+use Rattle.tmm_grammar.proofs.LinePoints.{occ_reader}
+use Rattle.tmm_grammar.proofs.LineReaders.{IsReader}
 use Rattle.tmm_words.specs.Spelling.{IsSpelling}
 
 module _ {A : Type 0} {spell : A → List ℕ} {Ok : A → Type 0} {read : List ℕ → Option A} (reads : IsReader spell Ok read) where

@@ -1,6 +1,7 @@
 -- Where words stand in a line.
 use Rattle.std.specs.Prelude.{◌≡◌, ℕ, ◌≤◌, ◌<◌, false, List, length, drop, slice_range}
-use Rattle.tmm_model.specs.Lines.{goes_on, AreBlanks, IsWord}
+use Rattle.tmm_model.specs.Lines.{goes_on}
+use Rattle.tmm_grammar.specs.LineCuts.{AreBlanks, IsWord}
 
 -- from `begin` to `end` stands the first word at or after `from`: blanks before it, and it goes on no further
 pub record IsFirstWord (line : List ℕ) (from begin end : ℕ) : Type 0 where

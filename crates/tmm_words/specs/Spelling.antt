@@ -4,7 +4,7 @@ use Rattle.tmm_model.specs.declared.point.Occ.{Occ}
 use Rattle.tmm_model.specs.Names.{is_name}
 use Rattle.tmm_model.specs.Points.{occ_word}
 use Rattle.tmm_model.specs.Lines.{IsWellFormedOcc}
-use Rattle.tmm_model.specs.Reading.{parts}
+use Rattle.tmm_grammar.specs.Reading.{parts}
 
 -- The word is the spelling of the value, and there is no value exactly where the word is the spelling of none.
 abbrev pub IsSpelling : {A : Type 0} → (A → List ℕ) → (A → Type 0) → List ℕ → Option A → Type 0

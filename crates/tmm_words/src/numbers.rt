@@ -1,7 +1,7 @@
 // Numbers and bounds.
 ghost use Rattle.std.specs.Prelude.{◌≡◌};
 ghost use Rattle.tmm_model.specs.Lines.{number_word, bound_word, IsNumber, IsBound};
-ghost use Rattle.tmm_model.specs.Reading.{number_of, natural_of, digits_on, negative as negative_of};
+ghost use Rattle.tmm_grammar.specs.Reading.{number_of, natural_of, digits_on, negative as negative_of};
 ghost use Rattle.tmm_words.specs.Spelling.{IsSpelling};
 
 use tmm_model::Bound;
@@ -28,7 +28,7 @@ pub fn bound(word: &[u8]) -> Option<Bound>
     }
 }
 
-#[tactic(auto, unfolding(tmm_model::specs::Reading::number_of))]
+#[tactic(auto, unfolding(tmm_grammar::specs::Reading::number_of))]
 fn signed(word: &[u8]) -> Option<i64>
     ensures { result ≡ number_of word.now }
 {
@@ -45,7 +45,7 @@ fn negative(n: u32) -> Option<i64>
     if n == 0 { None } else { Some(-i64::from(n)) }
 }
 
-#[tactic(auto, unfolding(tmm_model::specs::Reading::natural_of))]
+#[tactic(auto, unfolding(tmm_grammar::specs::Reading::natural_of))]
 fn natural(word: &[u8]) -> Option<u32>
     ensures { result ≡ natural_of word.now }
 {

@@ -2,7 +2,7 @@
 ghost use Rattle.std.specs.Prelude.{◌≡◌, ◌==◌, ◌∷◌, ◌<◌, ◌≤◌, length, position, IfSome, IfOk, OnErr, IsTrue};
 ghost use Rattle.tmm_model.specs.Points.{point_word, occ_word};
 ghost use Rattle.tmm_model.specs.Lines.{IsWellFormedPoint, IsWellFormedOcc};
-ghost use Rattle.tmm_model.specs.Reading.{parts, parts_behind};
+ghost use Rattle.tmm_grammar.specs.Reading.{parts, parts_behind};
 ghost use Rattle.tmm_words.specs.Spelling.{IsSpelling, HasRules, begins_derived};
 
 use std::alloc::Global;

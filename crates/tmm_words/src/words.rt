@@ -1,6 +1,7 @@
 // The words of a line.
 ghost use Rattle.std.specs.Prelude.{◌≡◌, ◌∷◌, [], ◌≤◌, ◌<◌, drop, position, slice_range, length, not, IfSome, IsNone, ◌↔◌, MatchOption};
-ghost use Rattle.tmm_model.specs.Lines.{is_blank, words, AreBlanks};
+ghost use Rattle.tmm_model.specs.Lines.{is_blank, words};
+ghost use Rattle.tmm_grammar.specs.LineCuts.{AreBlanks};
 ghost use Rattle.tmm_words.specs.Places.{IsFirstWord};
 
 /// Where the first word of the line at or after a place begins and ends, none exactly where there is

@@ -14,8 +14,8 @@ use Rattle.tmm_model.specs.Questions.{derived_cause, why_cause, is_root}
 use Rattle.tmm_model.specs.Sorts.{sort_in}
 use Rattle.tmm_model.specs.Standing.{Standing}
 use Rattle.tmm_model.specs.Verdicts.{Cause, unknown, ill_sorted, name_cause, place_cause, Tells}
-use Rattle.tmm_model.proofs.SoundBeliefs.{believed_occurs, believed_right}
-use Rattle.tmm_model.proofs.Upholding.{among, is_among-Contains}
+use Rattle.belief_theory.proofs.SoundBeliefs.{believed_occurs, believed_right}
+use Rattle.belief_theory.proofs.Upholding.{among, is_among-Contains}
 use Rattle.dist_net.specs.Net.{Net}
 use Rattle.spots.specs.Forest.{Forest, Member, member, moment}
 use Rattle.spots.specs.Seen.{IsSeen, Holds}

@@ -18,12 +18,12 @@ use Rattle.tmm_model.specs.Questions.{is_root}
 use Rattle.tmm_model.specs.Sorts.{Sort, a_class, a_fact, a_kind, a_point, an_event, a_token, a_span, a_dist, a_rule, a_protection, is_fact, is_place, declarations_of, declarations_in, declared_by, fact_declaration, sort_in, class_in, fact_use}
 use Rattle.tmm_model.specs.Standing.{Standing, name_of}
 use Rattle.tmm_model.specs.Verdicts.{Cause, ill_sorted, unknown, words_known, name_cause, use_cause}
-use Rattle.tmm_model.specs.WellNamed.{Follows, AllFollow, IsWellNamed}
-use Rattle.tmm_model.proofs.Elements.{In, In-from_Contains, Contains-from_In, In-filter_map, filter_map-In, In-flat_map, In-map}
-use Rattle.tmm_model.proofs.KnownNames.{own_new}
-use Rattle.tmm_model.proofs.Points.{same_name-is}
+use Rattle.list_theory.specs.WellNamed.{Follows, AllFollow, IsWellNamed}
+use Rattle.list_theory.proofs.Elements.{In, In-from_Contains, Contains-from_In, In-filter_map, filter_map-In, In-flat_map, In-map}
+use Rattle.list_theory.proofs.KnownNames.{own_new}
+use Rattle.walk_theory.proofs.Points.{same_name-is}
 use Rattle.supports.proofs.Facts.{fact-class}
-use Rattle.tmm_model.proofs.WellNamed.{lookup-append, lookup-unknown, words_known-push}
+use Rattle.list_theory.proofs.WellNamed.{lookup-append, lookup-unknown, words_known-push}
 
 -- ---- look-ups
 

@@ -9,9 +9,9 @@ use Rattle.tmm_model.specs.declared.token.TokenRow.{TokenRow}
 use Rattle.tmm_model.specs.Answers.{most_blames}
 use Rattle.tmm_model.specs.Firsts.{placed, sorted}
 use Rattle.tmm_model.specs.Points.{same_name}
-use Rattle.tmm_model.proofs.Elements.{In, Contains-from_In, In-from_Contains}
-use Rattle.tmm_model.proofs.Distinct.{Distinct}
-use Rattle.tmm_model.proofs.Members.{All-from_contains}
+use Rattle.list_theory.proofs.Elements.{In, Contains-from_In, In-from_Contains}
+use Rattle.list_theory.proofs.Distinct.{Distinct}
+use Rattle.walk_theory.proofs.Members.{All-from_contains}
 use Rattle.spots.specs.declared.spot.Spot.{Spot}
 use Rattle.spots.specs.declared.spot.Spot.TheVariants.{Declared, Node}
 use Rattle.spots.specs.Forest.{Forest, Member, member, IsLive}

@@ -5,8 +5,8 @@ use Rattle.std.specs.List.{insert, filter_map, cons_option}
 use Rattle.std.specs.declared.cmp.Ordering.{Ordering}
 use Rattle.std.specs.Ordering.{is_gt}
 use Rattle.tmm_model.specs.Firsts.{placed, sorted}
-use Rattle.tmm_model.proofs.Elements.{In, In-filter_map, In-map}
-use Rattle.tmm_model.proofs.Distinct.{Distinct}
+use Rattle.list_theory.proofs.Elements.{In, In-filter_map, In-map}
+use Rattle.list_theory.proofs.Distinct.{Distinct}
 
 take_less : {X : Type 0} (k : ℕ) (ys : List X) → take k (take (suc k) ys) ≡ take k ys
 take_less zero ys = refl

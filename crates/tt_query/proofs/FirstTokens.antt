@@ -18,15 +18,15 @@ use Rattle.tmm_model.specs.Moments.{Moment, At, occ_cmp}
 use Rattle.tmm_model.specs.Points.{same_name}
 use Rattle.tmm_model.specs.Sorts.{class_in}
 use Rattle.tmm_model.specs.Standing.{Standing, far_in}
-use Rattle.tmm_model.specs.Tokens.{IsOrderOn}
-use Rattle.tmm_model.proofs.Distinct.{Distinct, Distinct-filter, one_order}
-use Rattle.tmm_model.proofs.Elements.{In, In-from_Contains, Contains-from_In, In-filter, filter-In, In-filter_map, filter_map-In, In-map, map-In}
-use Rattle.tmm_model.proofs.Members.{All-from_contains}
-use Rattle.tmm_model.proofs.OneRight.{spot-token_of}
-use Rattle.tmm_model.proofs.Order.{IsSpelt, ordered, total}
-use Rattle.tmm_model.proofs.Sorts.{sorted_in, sorted_rising}
-use Rattle.tmm_model.proofs.SoundBeliefs.{believed_occurs}
-use Rattle.tmm_model.proofs.Spelt.{spelt}
+use Rattle.tmm_model.specs.Types.{IsOrderOn}
+use Rattle.list_theory.proofs.Distinct.{Distinct, Distinct-filter, one_order}
+use Rattle.list_theory.proofs.Elements.{In, In-from_Contains, Contains-from_In, In-filter, filter-In, In-filter_map, filter_map-In, In-map, map-In}
+use Rattle.walk_theory.proofs.Members.{All-from_contains}
+use Rattle.belief_theory.proofs.OneRight.{spot-token_of}
+use Rattle.belief_theory.proofs.Order.{IsSpelt, ordered, total}
+use Rattle.belief_theory.proofs.Sorts.{sorted_in, sorted_rising}
+use Rattle.belief_theory.proofs.SoundBeliefs.{believed_occurs}
+use Rattle.belief_theory.proofs.Spelt.{spelt}
 use Rattle.dist_net.specs.Net.{Net}
 use Rattle.spots.specs.declared.spot.Spot.{Spot}
 use Rattle.spots.specs.declared.spot.Spot.TheVariants.{Declared, Node}

@@ -1,5 +1,6 @@
 use Rattle.std.specs.Ordering.{on}
-use Rattle.tmm_model.specs.Tokens.{of_one_class, IsFirstPlaceAmong}
+use Rattle.tmm_model.specs.Tokens.{of_one_class}
+use Rattle.belief_theory.specs.FirstPlaces.{IsFirstPlaceAmong}
 use Rattle.clipping.specs.Cutters.{clips_until}
 use Rattle.clipping.proofs.first_clip.Given as goal
 

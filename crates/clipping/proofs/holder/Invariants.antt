@@ -1,5 +1,6 @@
 use Rattle.std.specs.Ordering.{on}
-use Rattle.tmm_model.specs.Tokens.{of_one_class, supports, IsFirstPlaceAmong}
+use Rattle.tmm_model.specs.Tokens.{of_one_class, supports}
+use Rattle.belief_theory.specs.FirstPlaces.{IsFirstPlaceAmong}
 use Rattle.clipping.specs.Cutters.{BeginsBy}
 use Rattle.clipping.proofs.holder.Given as goal
 

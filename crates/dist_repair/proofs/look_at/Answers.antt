@@ -3,7 +3,7 @@ use Rattle.std.specs.List.{Contains}
 use Rattle.std.proofs.lemmas.List.{get_or_default}
 use Rattle.std.proofs.lemmas.List.Elements.{Contains-get_or}
 use Rattle.tmm_model.specs.declared.bound.Bound.{Bound}
-use Rattle.tmm_model.specs.Walks.{IsFar}
+use Rattle.walk_theory.specs.LeastWalks.{IsFar}
 use Rattle.dist_net.specs.declared.Edge.{Edge}
 use Rattle.dist_net.specs.Net.{Net, IsInUse, entry, arcs_of}
 use Rattle.dist_net.proofs.Ends.{ends_in_use}

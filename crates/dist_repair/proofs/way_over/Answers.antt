@@ -1,7 +1,7 @@
 use Rattle.std.proofs.Common.{sym, subst}
 use Rattle.tmm_model.specs.declared.bound.Bound.{Bound}
 use Rattle.tmm_model.specs.Bounds.{IfFinite, IsWithin}
-use Rattle.tmm_model.specs.Walks.{HasWalk}
+use Rattle.walk_theory.specs.LeastWalks.{HasWalk}
 use Rattle.dist_net.specs.Net.{entry}
 use Rattle.dist_repair.specs.Rows.{rest_of, IsStarted}
 use Rattle.dist_repair.proofs.Left.{IsNet}

@@ -1,6 +1,6 @@
 use Rattle.std.proofs.Common.{map, take}
 use Rattle.tmm_model.specs.Moments.{Moment, moment_of}
-use Rattle.tmm_model.proofs.Elements.{In}
+use Rattle.list_theory.proofs.Elements.{In}
 use Rattle.just_check.specs.Audited.{IsNode}
 use Rattle.just_check.proofs.auditing.are_there.Given as goal
 

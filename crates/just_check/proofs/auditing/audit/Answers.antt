@@ -2,7 +2,7 @@ use Rattle.std.proofs.Common.{◌≡◌, ◌∙◌, ◌∷◌, ◌++◌, suc, ma
 use Rattle.std.specs.Prelude.{◌↔◌, IsTrue}
 use Rattle.std.proofs.lemmas.List.{take_all}
 use Rattle.tmm_model.specs.Moments.{Moment, moment_of}
-use Rattle.tmm_model.proofs.Elements.{In}
+use Rattle.list_theory.proofs.Elements.{In}
 use Rattle.just_check.specs.Audited.{IsChecked, Takes, Decides, IsNode}
 use Rattle.just_check.specs.Believed.{believed_in_order}
 use Rattle.just_check.proofs.Answering.{is_list, owed_there, roots_there}

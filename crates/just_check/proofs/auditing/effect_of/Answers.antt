@@ -1,7 +1,7 @@
 use Rattle.std.proofs.Common.{◌∙◌, ap}
 use Rattle.tmm_model.specs.declared.point.PointName.TheVariants.{Begin}
 use Rattle.tmm_model.specs.Moments.{At, After, along}
-use Rattle.tmm_model.proofs.Moments.{along-push}
+use Rattle.belief_theory.proofs.Moments.{along-push}
 use Rattle.just_check.proofs.auditing.effect_of.Goals as goal
 
 pub returns-in-Ok : goal.returns-in-Ok

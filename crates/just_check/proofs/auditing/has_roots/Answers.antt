@@ -2,7 +2,7 @@ use Rattle.std.proofs.Common.{◌≡◌, ◌∙◌, ◌+◌, ◌∷◌, ◌++◌
 use Rattle.std.specs.Prelude.{slice_get, IsTrue}
 use Rattle.std.specs.Option.{option_copied}
 use Rattle.tmm_model.specs.Beliefs.{root_of}
-use Rattle.tmm_model.proofs.Elements.{In, In-cases, In-filter_map, filter_map-In}
+use Rattle.list_theory.proofs.Elements.{In, In-cases, In-filter_map, filter_map-In}
 use Rattle.supports.proofs.Grown.{taken, stands, not_none}
 use Rattle.just_check.proofs.auditing.has_roots.Goals as goal
 use Rattle.just_check.proofs.auditing.has_roots.Goals.{in-Some+else-not-has_root, in_default}

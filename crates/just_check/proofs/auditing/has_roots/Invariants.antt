@@ -2,7 +2,7 @@ use Rattle.std.proofs.Common.{take}
 use Rattle.std.specs.List.{filter_map}
 use Rattle.tmm_model.specs.Beliefs.{root_of}
 use Rattle.tmm_model.specs.Moments.{Moment}
-use Rattle.tmm_model.proofs.Elements.{In}
+use Rattle.list_theory.proofs.Elements.{In}
 use Rattle.just_check.specs.Audited.{IsNode}
 use Rattle.just_check.proofs.auditing.has_roots.Given as goal
 

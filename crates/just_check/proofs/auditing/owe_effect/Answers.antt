@@ -2,7 +2,7 @@ use Rattle.std.proofs.Common.{◌≡◌, ◌∙◌, ◌∷◌, ◌++◌, [], Lis
 use Rattle.std.proofs.lemmas.List.{map-append}
 use Rattle.std.proofs.lemmas.Result.{on_ok_weaker}
 use Rattle.tmm_model.specs.Moments.{Moment, After, moment_of}
-use Rattle.tmm_model.proofs.Elements.{Contains-from_In}
+use Rattle.list_theory.proofs.Elements.{Contains-from_In}
 use Rattle.spots.specs.Forest.{moment_at}
 use Rattle.spots.specs.Seen.{Holds}
 use Rattle.just_check.specs.Checking.{FiresIn, OwesMore}

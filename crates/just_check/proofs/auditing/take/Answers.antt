@@ -2,7 +2,7 @@ use Rattle.std.proofs.Common.{◌≡◌, ◌∙◌, ◌∷◌, ◌++◌, [], ref
 use Rattle.std.proofs.lemmas.Int.{to_z-of_z}
 use Rattle.std.specs.Prelude.{IsTrue, FitsSigned}
 use Rattle.tmm_model.specs.Moments.{moment_of}
-use Rattle.tmm_model.proofs.Elements.{In-right}
+use Rattle.list_theory.proofs.Elements.{In-right}
 use Rattle.spots.proofs.Seen.{early_is}
 use Rattle.just_check.specs.Audited.{ComesAfter, date_of}
 use Rattle.just_check.specs.Checking.{EntersAs}

@@ -7,7 +7,7 @@ use Rattle.tmm_model.specs.declared.premise.Premise.TheVariants.{Rule}
 use Rattle.tmm_model.specs.Lines.{IsNumber, IsBound, IsRange}
 use Rattle.tmm_model.specs.Moments.{After}
 use Rattle.tmm_model.specs.Sorts.{class_in}
-use Rattle.tmm_model.specs.WellNamed.{premise_in}
+use Rattle.tmm_model.specs.Standing.{premise_in}
 use Rattle.dist_net.specs.Net.{Net}
 use Rattle.spots.specs.Forest.{Member, member, Enters, child_member, moment_at}
 use Rattle.spots.specs.Seen.{IsSeen}

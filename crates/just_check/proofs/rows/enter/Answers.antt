@@ -3,7 +3,7 @@ use Rattle.std.specs.Prelude.{IfOk}
 use Rattle.std.proofs.lemmas.List.{get_or_default}
 use Rattle.tmm_model.specs.declared.point.PointName.TheVariants.{Begin}
 use Rattle.tmm_model.specs.Moments.{Moment, At, After, along, moment_of}
-use Rattle.tmm_model.proofs.Elements.{In-from_Contains}
+use Rattle.list_theory.proofs.Elements.{In-from_Contains}
 use Rattle.spots.specs.Forest.{moment_at}
 use Rattle.spots.proofs.Nodes.{moment_at-is}
 use Rattle.just_check.specs.Checking.{AreSoFar, EntersAs, Joins, IsNoNode}

@@ -2,7 +2,7 @@ use Rattle.std.proofs.Common.{◌≡◌, ◌∙◌, ℕ, true, false, sym, subst
 use Rattle.std.proofs.lemmas.Int.{ints, to_z-of_z}
 use Rattle.std.specs.Prelude.{ℤ, pos, ◌+ℤ◌, ◌≤ℤ◌, FitsSigned}
 use Rattle.tmm_model.specs.Moments.{rule_of}
-use Rattle.tmm_model.proofs.SoundBeliefs.{sound_timed}
+use Rattle.belief_theory.proofs.SoundBeliefs.{sound_timed}
 use Rattle.spots.specs.Forest.{moment_at}
 use Rattle.spots.proofs.Seen.{early_is, occurs_at}
 use Rattle.supports.proofs.Rules.{rule_there}

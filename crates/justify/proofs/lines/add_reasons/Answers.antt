@@ -3,7 +3,7 @@ use Rattle.std.specs.List.{All, Contains}
 use Rattle.tmm_model.specs.Maps.{built}
 use Rattle.tmm_model.specs.Moments.{Moment}
 use Rattle.tmm_model.specs.Reasons.{pairs_of}
-use Rattle.tmm_model.proofs.Members.{All-from_contains, Contains-map}
+use Rattle.walk_theory.proofs.Members.{All-from_contains, Contains-map}
 use Rattle.spots.specs.Forest.{moment_at}
 use Rattle.justify.specs.Lines.{IsInOrder}
 use Rattle.justify.proofs.Supported.{supports_in_order}

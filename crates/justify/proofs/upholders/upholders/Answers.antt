@@ -2,7 +2,7 @@ use Rattle.std.proofs.Common.{◌∙◌, ◌<◌, ◌≤◌, length, ap, subst, 
 use Rattle.std.specs.Prelude.{nat_eq}
 use Rattle.std.proofs.lemmas.List.Elements.{All-contains}
 use Rattle.tmm_model.specs.Maps.{built}
-use Rattle.tmm_model.proofs.Elements.{Contains-from_In}
+use Rattle.list_theory.proofs.Elements.{Contains-from_In}
 use Rattle.indexmap.specs.IndexSet.{insert_key}
 use Rattle.spots.specs.Forest.{IsLive}
 use Rattle.justify.proofs.Reached.{walked_first, live_next, walked_more, walked_all, walked_below}

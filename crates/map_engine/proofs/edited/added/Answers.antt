@@ -1,9 +1,9 @@
 use Rattle.std.proofs.Common.{◌∙◌, ◌++◌, ◌∷◌, [], All, ap, sym, subst}
 use Rattle.std.proofs.lemmas.List.Elements.{All-push}
 use Rattle.tmm_model.specs.Lines.{IsWellFormedPremise}
-use Rattle.tmm_model.specs.WellNamed.{IsWellNamed}
-use Rattle.tmm_model.proofs.Elements.{In-left}
-use Rattle.tmm_model.proofs.Erased.{none_gone}
+use Rattle.list_theory.specs.WellNamed.{IsWellNamed}
+use Rattle.list_theory.proofs.Elements.{In-left}
+use Rattle.list_theory.proofs.Erased.{none_gone}
 use Rattle.premise_list.specs.States.{States}
 use Rattle.projection.proofs.Networks.{net_of}
 use Rattle.map_engine.proofs.edited.added.Goals as goal

@@ -2,7 +2,7 @@ use Rattle.std.proofs.Common.{◌≡◌, ◌∙◌, ap, sym, subst}
 use Rattle.tmm_model.specs.declared.premise.Edit.{Edit}
 use Rattle.tmm_model.specs.Edits.{next_list, list_until}
 use Rattle.tmm_model.specs.Standing.{Standing, IsConsistent}
-use Rattle.tmm_model.proofs.Erased.{none_gone}
+use Rattle.list_theory.proofs.Erased.{none_gone}
 use Rattle.list_net.specs.Fits.{IsNetOf}
 use Rattle.premise_list.specs.States.{States}
 use Rattle.map_engine.specs.Beliefs.{IsLeftOut}

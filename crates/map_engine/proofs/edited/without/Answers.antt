@@ -1,8 +1,8 @@
 use Rattle.std.proofs.Common.{◌∙◌, All, ap, sym, subst}
 use Rattle.tmm_model.specs.Lines.{IsWellFormedPremise}
 use Rattle.tmm_model.specs.Standing.{IsConsistent}
-use Rattle.tmm_model.proofs.Erased.{gone_by_erasure}
-use Rattle.tmm_model.proofs.StayKept.{well_formed_without}
+use Rattle.list_theory.proofs.Erased.{gone_by_erasure}
+use Rattle.belief_theory.proofs.StayKept.{well_formed_without}
 use Rattle.premise_list.specs.States.{States}
 use Rattle.projection.proofs.Networks.{consistent, net_of}
 use Rattle.map_engine.proofs.edited.without.Goals as goal

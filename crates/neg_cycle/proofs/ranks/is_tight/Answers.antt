@@ -5,7 +5,7 @@ use Rattle.std.specs.Int.RustNames.{FitsSigned}
 use Rattle.tmm_model.specs.declared.bound.Bound.{Bound}
 use Rattle.tmm_model.specs.declared.bound.Bound.TheVariants.{Finite}
 use Rattle.tmm_model.specs.Bounds.{IsWithin}
-use Rattle.tmm_model.specs.Walks.{IsFar}
+use Rattle.walk_theory.specs.LeastWalks.{IsFar}
 use Rattle.dist_net.specs.declared.Edge.{Edge}
 use Rattle.dist_net.specs.Net.{arcs_of}
 use Rattle.dist_net.proofs.Premises.{weight_of}

@@ -1,7 +1,7 @@
 use Rattle.std.proofs.Common.{◌∙◌, sym}
 use Rattle.tmm_model.specs.declared.bound.Bound.TheVariants.{Finite}
 use Rattle.tmm_model.specs.Cycles.{sum_of}
-use Rattle.tmm_model.proofs.Paths.{IsFar-same}
+use Rattle.walk_theory.proofs.Paths.{IsFar-same}
 use Rattle.dist_net.specs.Net.{arcs_of}
 use Rattle.neg_cycle.proofs.Named.{IsFar-appended, IsPath-appended}
 use Rattle.neg_cycle.proofs.trail.walk.Goals as goal

@@ -2,7 +2,8 @@ use Rattle.std.proofs.Common.{◌≡◌, ◌≤◌, ◌+◌, true, false, vec_le
 use Rattle.std.proofs.Math.Seq.{drop-cons}
 use Rattle.tmm_model.specs.Standing.{name_of}
 use Rattle.tmm_model.specs.Sorts.{declared_by}
-use Rattle.tmm_model.specs.Erasure.{is_among, falls, kept_after, fallen_after}
+use Rattle.tmm_model.specs.Erasure.{is_among, falls, kept_after}
+use Rattle.list_theory.specs.Fallen.{fallen_after}
 use Rattle.premise_list.specs.Gone.{SameNames}
 use Rattle.premise_list.proofs.Parts.{names_fall, names_stay, kept_fall, kept_stay}
 use Rattle.premise_list.proofs.erase.fall_with.Goals as goal

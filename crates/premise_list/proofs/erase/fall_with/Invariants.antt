@@ -1,6 +1,7 @@
 use Rattle.std.proofs.Common.{◌≡◌, ◌≤◌, [], ◌++◌, length, map, drop, vec_len, vec_capacity}
 use Rattle.tmm_model.specs.Standing.{name_of}
-use Rattle.tmm_model.specs.Erasure.{kept_after, fallen_after}
+use Rattle.tmm_model.specs.Erasure.{kept_after}
+use Rattle.list_theory.specs.Fallen.{fallen_after}
 use Rattle.premise_list.proofs.erase.fall_with.Given as goal
 
 abbrev pub invariant-loop-premise : goal.invariant-loop-premise

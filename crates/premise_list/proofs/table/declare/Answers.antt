@@ -2,7 +2,7 @@ use Rattle.std.proofs.Common.{◌∙◌}
 use Rattle.std.specs.Prelude.{Result, Ok, Err, IsOk, OnOk}
 use Rattle.indexmap.proofs.CallerLemmas.{insert_entry-new}
 use Rattle.tmm_model.specs.Points.{same_name}
-use Rattle.tmm_model.proofs.WellNamed.{lookup-unknown}
+use Rattle.list_theory.proofs.WellNamed.{lookup-unknown}
 use Rattle.premise_list.proofs.table.declare.Goals as goal
 
 on_ok : {T E P : Type 0} (r : Result T E) → IsOk r → OnOk r P → P

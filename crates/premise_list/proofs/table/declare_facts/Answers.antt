@@ -5,7 +5,7 @@ use Rattle.std.proofs.lemmas.List.{take_more, map_push}
 use Rattle.std.specs.Map.{keys_of}
 use Rattle.indexmap.specs.IndexMap.{keys}
 use Rattle.tmm_model.specs.Verdicts.{first_taken}
-use Rattle.tmm_model.proofs.WellNamed.{first_taken-none, first_taken-turned}
+use Rattle.list_theory.proofs.WellNamed.{first_taken-none, first_taken-turned}
 use Rattle.tmm_model.specs.declared.name.Name.{Name}
 use Rattle.premise_list.specs.declared.table.Word.{Word}
 use Rattle.premise_list.specs.Table.{fact_entry}

@@ -1,6 +1,6 @@
 use Rattle.std.proofs.Common.{arith, take}
 use Rattle.std.proofs.lemmas.List.{length-take}
-use Rattle.tmm_model.proofs.WellNamed.{points_in-few, points_of-few}
+use Rattle.list_theory.proofs.WellNamed.{points_in-few, points_of-few}
 use Rattle.premise_list.proofs.table.points_count.Goals as goal
 
 pub overflow_add-count : goal.overflow_add-count

@@ -1,4 +1,4 @@
-use Rattle.tmm_model.proofs.Elements.{In}
+use Rattle.list_theory.proofs.Elements.{In}
 use Rattle.std.proofs.Common.{ℕ, List, []}
 use Rattle.tmm_model.specs.Moments.{Moment}
 use Rattle.revisions.proofs.Counting.{at_least}

@@ -1,4 +1,4 @@
-use Rattle.tmm_model.proofs.Elements.{In}
+use Rattle.list_theory.proofs.Elements.{In}
 use Rattle.revisions.proofs.Counting.{at_most}
 use Rattle.revisions.proofs.laws.made_are_touched.Goals as goal
 

@@ -1,4 +1,4 @@
-use Rattle.tmm_model.proofs.Elements.{In}
+use Rattle.list_theory.proofs.Elements.{In}
 use Rattle.revisions.proofs.Marking.{marked}
 use Rattle.revisions.proofs.Same.{in_or}
 use Rattle.revisions.proofs.laws.marks_make.Goals as goal

@@ -1,4 +1,4 @@
-use Rattle.tmm_model.proofs.Elements.{In}
+use Rattle.list_theory.proofs.Elements.{In}
 use Rattle.revisions.proofs.Agreeing.{final}
 use Rattle.revisions.proofs.laws.nodes_are_final.Goals as goal
 

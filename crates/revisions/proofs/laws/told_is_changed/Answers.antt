@@ -1,6 +1,6 @@
 use Rattle.std.proofs.Common.{ℕ, List, []}
 use Rattle.tmm_model.specs.Moments.{Moment}
-use Rattle.tmm_model.proofs.Elements.{In}
+use Rattle.list_theory.proofs.Elements.{In}
 use Rattle.revisions.proofs.Telling.{told_all}
 use Rattle.revisions.proofs.laws.told_is_changed.Goals as goal
 

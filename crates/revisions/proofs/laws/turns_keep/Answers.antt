@@ -1,4 +1,4 @@
-use Rattle.tmm_model.proofs.Elements.{In}
+use Rattle.list_theory.proofs.Elements.{In}
 use Rattle.revisions.proofs.Turning.{turned}
 use Rattle.revisions.proofs.laws.turns_keep.Goals as goal
 

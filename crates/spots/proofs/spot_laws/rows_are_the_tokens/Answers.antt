@@ -1,7 +1,7 @@
 use Rattle.std.proofs.Common.{map, sym}
 use Rattle.std.specs.Cmp.Lexicographic.{bytes_decides}
 use Rattle.tmm_model.specs.Beliefs.{tokens}
-use Rattle.tmm_model.proofs.Elements.{In-from_Contains, Contains-from_In}
+use Rattle.list_theory.proofs.Elements.{In-from_Contains, Contains-from_In}
 use Rattle.spots.specs.Spots.{row_moment}
 use Rattle.spots.proofs.Seen.{tokens_are}
 use Rattle.spots.proofs.spot_laws.rows_are_the_tokens.Goals as goal

@@ -3,7 +3,7 @@ use Rattle.std.specs.Prelude.{IsSome}
 use Rattle.tmm_model.specs.declared.point.PointName.TheVariants.{Begin, End}
 use Rattle.tmm_model.specs.declared.premise.Premise.TheVariants.{Event, Token, Span}
 use Rattle.tmm_model.specs.declared.token.Shape.TheVariants.{Persistence as APersistence, Span as ASpan}
-use Rattle.tmm_model.proofs.Elements.{In}
+use Rattle.list_theory.proofs.Elements.{In}
 use Rattle.spots.specs.Forest.{Enters, root_member}
 use Rattle.supports.specs.Growing.{AddsRoot}
 use Rattle.supports.proofs.Facts.{fact_known}

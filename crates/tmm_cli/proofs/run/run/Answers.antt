@@ -5,7 +5,7 @@ use Rattle.std.specs.declared.alloc.Global.{Global}
 use Rattle.std.specs.declared.string.String.{String}
 use Rattle.tmm_model.specs.Standing.{Standing, empty_list}
 use Rattle.map_engine.specs.Plain.{MapState}
-use Rattle.tmm_model.specs.Transcript.{WholeStep}
+use Rattle.tmm_model.specs.Transcript.{Step}
 use Rattle.tmm_drive.specs.declared.status.Status.{Status}
 use Rattle.tmm_drive.specs.declared.status.Status.TheVariants.{Clean, SomeRefused, Words, ReadFault, WriteFault, NoMemory, TooLong, SomeMemory}
 use Rattle.tmm_drive.specs.Endings.{Ends}
@@ -22,13 +22,13 @@ some_words (word ∷ words) some = λ none. absurd (cc none)
 
 -- what the script leaves is what the program leaves
 script_ends : (start : Standing) (at_end : Type 0) (taken output : List ℕ) (status : Status) → start ≡ empty_list
-    → Ends WholeStep start at_end taken output status → ScriptEnds at_end taken output status
-script_ends start at_end taken output Clean is ends = subst (λ (l : Standing). Ends WholeStep l at_end taken output Clean) is ends
-script_ends start at_end taken output SomeRefused is ends = subst (λ (l : Standing). Ends WholeStep l at_end taken output SomeRefused) is ends
-script_ends start at_end taken output SomeMemory is ends = subst (λ (l : Standing). Ends WholeStep l at_end taken output SomeMemory) is ends
-script_ends start at_end taken output ReadFault is ends = subst (λ (l : Standing). Ends WholeStep l at_end taken output ReadFault) is ends
-script_ends start at_end taken output WriteFault is ends = subst (λ (l : Standing). Ends WholeStep l at_end taken output WriteFault) is ends
-script_ends start at_end taken output TooLong is ends = subst (λ (l : Standing). Ends WholeStep l at_end taken output TooLong) is ends
+    → Ends Step start at_end taken output status → ScriptEnds at_end taken output status
+script_ends start at_end taken output Clean is ends = subst (λ (l : Standing). Ends Step l at_end taken output Clean) is ends
+script_ends start at_end taken output SomeRefused is ends = subst (λ (l : Standing). Ends Step l at_end taken output SomeRefused) is ends
+script_ends start at_end taken output SomeMemory is ends = subst (λ (l : Standing). Ends Step l at_end taken output SomeMemory) is ends
+script_ends start at_end taken output ReadFault is ends = subst (λ (l : Standing). Ends Step l at_end taken output ReadFault) is ends
+script_ends start at_end taken output WriteFault is ends = subst (λ (l : Standing). Ends Step l at_end taken output WriteFault) is ends
+script_ends start at_end taken output TooLong is ends = subst (λ (l : Standing). Ends Step l at_end taken output TooLong) is ends
 script_ends start at_end taken output Words is ends = absurd ends
 script_ends start at_end taken output NoMemory is ends = absurd ends
 

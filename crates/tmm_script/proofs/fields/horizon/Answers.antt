@@ -1,6 +1,6 @@
 use Rattle.std.proofs.Common.{rules, w64, FitsSigned, to_z-of_z, sym, ap, ◌∙◌}
-use Rattle.tmm_model.specs.Reading.{◌>>=◌, horizon_of, horizon_from}
-use Rattle.tmm_model.proofs.LineNumbers.{number_reader}
+use Rattle.tmm_grammar.specs.Reading.{◌>>=◌, horizon_of, horizon_from}
+use Rattle.tmm_grammar.proofs.LineNumbers.{number_reader}
 use Rattle.tmm_words.proofs.Spelled.{read_from}
 use Rattle.tmm_script.proofs.fields.horizon.Goals as goal
 

@@ -1,6 +1,6 @@
 use Rattle.std.proofs.Common.{sym, ap, ◌∙◌}
 use Rattle.std.specs.Prelude.{option_map}
-use Rattle.tmm_model.specs.Lines.{bare_occ}
+use Rattle.tmm_grammar.specs.Bare.{bare_occ}
 use Rattle.tmm_words.proofs.Spelled.{occ_seen}
 use Rattle.tmm_script.proofs.fields.occurrence.Goals as goal
 

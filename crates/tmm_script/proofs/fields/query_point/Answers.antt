@@ -1,6 +1,6 @@
 use Rattle.std.proofs.Common.{sym, refl, ◌∙◌}
-use Rattle.tmm_model.specs.Reading.{query_point_of}
-use Rattle.tmm_model.proofs.LinePoints.{point_reader}
+use Rattle.tmm_grammar.specs.Reading.{query_point_of}
+use Rattle.tmm_grammar.proofs.LinePoints.{point_reader}
 use Rattle.tmm_words.proofs.Spelled.{read_from}
 use Rattle.tmm_script.proofs.fields.query_point.Goals as goal
 

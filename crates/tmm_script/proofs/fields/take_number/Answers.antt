@@ -1,6 +1,6 @@
 use Rattle.tmm_model.specs.Lines.{words}
-use Rattle.tmm_model.specs.Reading.{number_of}
-use Rattle.tmm_model.proofs.LineNumbers.{number_reader}
+use Rattle.tmm_grammar.specs.Reading.{number_of}
+use Rattle.tmm_grammar.proofs.LineNumbers.{number_reader}
 use Rattle.tmm_words.proofs.Spelled.{read_from}
 use Rattle.tmm_script.proofs.Fronts.{front_is}
 use Rattle.tmm_script.proofs.fields.take_number.Goals as goal

@@ -1,5 +1,5 @@
 use Rattle.tmm_model.specs.Lines.{words}
-use Rattle.tmm_model.proofs.LineForms.{line_of-sound}
+use Rattle.tmm_grammar.proofs.LineForms.{line_of-sound}
 use Rattle.tmm_script.proofs.Readings.{no_form}
 use Rattle.tmm_script.proofs.parse.parse_line.Goals as goal
 

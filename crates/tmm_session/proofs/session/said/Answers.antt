@@ -1,5 +1,5 @@
 use Rattle.std.proofs.Common.{◌∙◌, refl, subst, ap, Err}
-use Rattle.tmm_model.proofs.LineForms.{one_reading}
+use Rattle.tmm_grammar.proofs.LineForms.{one_reading}
 use Rattle.tmm_model.specs.declared.line.Line.TheVariants.{Change, Question}
 use Rattle.tmm_model.specs.Transcript.{IsReadAs}
 use Rattle.tmm_session.proofs.Turns.{read_line, no_memory_is_not_silent, TellsLine-stopped, TellsLine-meaning, change_is_not_silent, question_is_not_silent}

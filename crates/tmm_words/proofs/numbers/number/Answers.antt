@@ -1,4 +1,4 @@
-use Rattle.tmm_model.proofs.LineNumbers.{number_reader}
+use Rattle.tmm_grammar.proofs.LineNumbers.{number_reader}
 use Rattle.tmm_words.proofs.Spelled.{spelling_from}
 use Rattle.tmm_words.proofs.numbers.number.Goals as goal
 

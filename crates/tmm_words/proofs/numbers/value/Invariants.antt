@@ -1,5 +1,5 @@
 use Rattle.std.proofs.Common.{◌≡◌, ◌≤◌, drop}
-use Rattle.tmm_model.specs.Reading.{digits_on}
+use Rattle.tmm_grammar.specs.Reading.{digits_on}
 use Rattle.tmm_words.proofs.numbers.value.Given as goal
 
 abbrev pub invariant-loop-b : goal.invariant-loop-b

@@ -1,6 +1,6 @@
 use Rattle.std.proofs.Common.{◌≡◌, ◌∷◌, [], ◌++◌, refl, ap, ◌∙◌}
 use Rattle.std.proofs.lemmas.List.{take_rest}
-use Rattle.tmm_model.specs.Reading.{parts_behind}
+use Rattle.tmm_grammar.specs.Reading.{parts_behind}
 use Rattle.tmm_words.proofs.Parts.{no_occ, not_name, behind_first, occ_whole, some_rules, begins-rules}
 use Rattle.tmm_words.proofs.points.occ.Goals as goal
 

@@ -1,6 +1,6 @@
 use Rattle.std.proofs.Common.{◌≡◌, ◌∷◌, ◌++◌, length}
 use Rattle.tmm_model.specs.Lines.{IsName, AreNames}
-use Rattle.tmm_model.specs.Reading.{parts, parts_behind}
+use Rattle.tmm_grammar.specs.Reading.{parts, parts_behind}
 use Rattle.tmm_words.proofs.points.occ.Given as goal
 
 abbrev pub invariant-loop-rest : goal.invariant-loop-rest

@@ -1,6 +1,6 @@
 use Rattle.std.proofs.Common.{[], refl, sym}
 use Rattle.std.proofs.lemmas.List.{take_rest}
-use Rattle.tmm_model.proofs.LineWords.{words-are}
+use Rattle.tmm_grammar.proofs.LineWords.{words-are}
 use Rattle.tmm_words.proofs.Places.{words-first}
 use Rattle.tmm_words.proofs.words.split_word.Goals as goal
 

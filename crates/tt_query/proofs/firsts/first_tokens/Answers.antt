@@ -1,7 +1,7 @@
 use Rattle.std.proofs.Common.{◌≡◌, ◌∙◌, ◌+◌, ◌∷◌, drop, sym, ap, subst, add-one}
 use Rattle.std.specs.Prelude.{Some}
 use Rattle.std.proofs.Math.Seq.{drop-cons}
-use Rattle.tmm_model.proofs.Elements.{In-from_Contains}
+use Rattle.list_theory.proofs.Elements.{In-from_Contains}
 use Rattle.tt_query.specs.Firsts.{node_for}
 use Rattle.tt_query.proofs.FirstNodes.{Meets, row_live, kept_live, meets_more, meets_same}
 use Rattle.tt_query.proofs.firsts.first_tokens.Goals as goal

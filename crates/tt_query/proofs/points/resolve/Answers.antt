@@ -2,7 +2,7 @@ use Rattle.std.proofs.Common.{refl, ◌∙◌, ap, sym, subst}
 use Rattle.tmm_model.specs.declared.point.QueryPoint.{QueryPoint}
 use Rattle.tmm_model.specs.Maps.{built}
 use Rattle.tmm_model.specs.Questions.{point_cause}
-use Rattle.tmm_model.proofs.Places.{place_known}
+use Rattle.list_theory.proofs.Places.{place_known}
 use Rattle.tt_query.specs.Stops.{StopsPoint}
 use Rattle.tt_query.proofs.Believed.{no_cause, a_cause, stops_derived}
 use Rattle.tt_query.proofs.points.resolve.Goals as goal

@@ -2,7 +2,7 @@ use Rattle.std.proofs.Common.{◌≡◌, sym, ◌∙◌, ap, subst}
 use Rattle.std.specs.Prelude.{Some, None, slice_index_or}
 use Rattle.std.specs.Option.{option_map}
 use Rattle.std.proofs.lemmas.List.Elements.{Contains-get_or}
-use Rattle.tmm_model.proofs.Elements.{In-from_Contains}
+use Rattle.list_theory.proofs.Elements.{In-from_Contains}
 use Rattle.spots.specs.Forest.{IsFound, moment_at}
 use Rattle.spots.proofs.Nodes.{live_at, moment_at-is}
 use Rattle.belief_list.specs.Rows.{row_at}

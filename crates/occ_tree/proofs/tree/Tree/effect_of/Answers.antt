@@ -11,7 +11,7 @@ use Rattle.occ_tree.specs.Nodes.{node_at, member_of, forest_in}
 use Rattle.occ_tree.proofs.NodeLists.{seen}
 use Rattle.occ_tree.proofs.Lookups.{none_below, effect_none, effect_found, number_read}
 use Rattle.occ_tree.proofs.tree.Tree.effect_of.Goals as goal
-use Rattle.tmm_model.proofs.Moments.{along-push}
+use Rattle.belief_theory.proofs.Moments.{along-push}
 use Rattle.spots.proofs.Nodes.{moment_at-is}
 
 pub index-requires-in-loop-child : goal.index-requires-in-loop-child

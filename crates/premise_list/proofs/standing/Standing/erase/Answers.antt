@@ -1,7 +1,7 @@
 use Rattle.std.proofs.Common.{◌≡◌, ◌+◌, ◌-◌, ◌<◌, ◌≤◌, ◌++◌, length, [], take, drop, ap, subst, sym, ◌∙◌, arith}
 use Rattle.std.proofs.lemmas.List.{length-append, length-drop, length-take-le}
 use Rattle.tmm_model.specs.Verdicts.{words_known}
-use Rattle.tmm_model.specs.WellNamed.{AllFollow}
+use Rattle.list_theory.specs.WellNamed.{AllFollow}
 use Rattle.tmm_model.specs.Erasure.{kept_after, kept_without}
 use Rattle.premise_list.proofs.TableFacts.{rest_of}
 use Rattle.premise_list.proofs.Parts.{follow_before, alike_before}

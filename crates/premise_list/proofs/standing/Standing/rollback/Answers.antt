@@ -1,7 +1,7 @@
 use Rattle.std.proofs.Common.{◌≡◌, ◌-◌, [], length, take, drop, subst, sym}
 use Rattle.std.proofs.lemmas.List.{take-append-drop}
-use Rattle.tmm_model.specs.WellNamed.{AllFollow, IsWellNamed}
-use Rattle.tmm_model.proofs.WellNamed.{AllFollow-append}
+use Rattle.list_theory.specs.WellNamed.{AllFollow, IsWellNamed}
+use Rattle.list_theory.proofs.WellNamed.{AllFollow-append}
 use Rattle.premise_list.proofs.TableFacts.{rest_of}
 use Rattle.premise_list.proofs.standing.Standing.rollback.Goals as goal
 

@@ -2,7 +2,7 @@ use Rattle.std.proofs.Common.{◌≡◌, ◌+◌, ◌++◌, ◌∷◌, [], lengt
 use Rattle.std.proofs.lemmas.List.{take_more, length-append}
 use Rattle.tmm_model.specs.Sorts.{declared_by}
 use Rattle.tmm_model.specs.Verdicts.{words_known}
-use Rattle.tmm_model.proofs.WellNamed.{words_known-push}
+use Rattle.list_theory.proofs.WellNamed.{words_known-push}
 use Rattle.premise_list.proofs.TableFacts.{words_parted}
 use Rattle.premise_list.proofs.table.Table.append.Goals as goal
 

@@ -1,6 +1,6 @@
 use Rattle.std.proofs.Common.{◌≡◌, ◌≤◌, ◌+◌, ◌++◌, length, take, drop}
 use Rattle.tmm_model.specs.Verdicts.{words_known}
-use Rattle.tmm_model.specs.WellNamed.{AllFollow}
+use Rattle.list_theory.specs.WellNamed.{AllFollow}
 use Rattle.premise_list.proofs.table.Table.append.Given as goal
 
 abbrev pub invariant-loop-premise : goal.invariant-loop-premise

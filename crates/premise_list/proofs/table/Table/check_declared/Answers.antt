@@ -6,7 +6,7 @@ use Rattle.std.proofs.lemmas.List.Folds.{list_any-append}
 use Rattle.tmm_model.specs.Points.{same_name}
 use Rattle.tmm_model.specs.Sorts.{is_reserved}
 use Rattle.tmm_model.specs.Verdicts.{first_taken, words_known}
-use Rattle.tmm_model.proofs.WellNamed.{first_taken-new, first_taken-same}
+use Rattle.list_theory.proofs.WellNamed.{first_taken-new, first_taken-same}
 use Rattle.premise_list.proofs.TableFacts.{declared_by_parted}
 use Rattle.premise_list.proofs.table.Table.check_declared.Goals as goal
 

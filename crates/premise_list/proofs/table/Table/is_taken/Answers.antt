@@ -5,7 +5,7 @@ use Rattle.std.specs.List.{list_any}
 use Rattle.tmm_model.specs.Points.{same_name}
 use Rattle.tmm_model.specs.Sorts.{is_reserved, declarations_in}
 use Rattle.tmm_model.specs.Verdicts.{words_known}
-use Rattle.tmm_model.proofs.WellNamed.{known-sort}
+use Rattle.list_theory.proofs.WellNamed.{known-sort}
 use Rattle.premise_list.specs.Words.{sort_seen}
 use Rattle.premise_list.proofs.table.Table.is_taken.Goals as goal
 

@@ -8,8 +8,8 @@ use Rattle.tmm_model.specs.Points.{same_name}
 use Rattle.tmm_model.specs.Standing.{name_of, points_of, points_in}
 use Rattle.tmm_model.specs.Sorts.{declared_by}
 use Rattle.tmm_model.specs.Verdicts.{first_taken}
-use Rattle.tmm_model.specs.WellNamed.{IsWellNamed, Follows}
-use Rattle.tmm_model.proofs.WellNamed.{IsNewThen, first_taken-turned, points_in-few, points_of-few, points_in-push, IsWellNamed-push}
+use Rattle.list_theory.specs.WellNamed.{IsWellNamed, Follows}
+use Rattle.list_theory.proofs.WellNamed.{IsNewThen, first_taken-turned, points_in-few, points_of-few, points_in-push, IsWellNamed-push}
 use Rattle.premise_list.specs.declared.table.Table.TheInside.{Inside}
 use Rattle.premise_list.specs.declared.table.Word.{Word}
 use Rattle.premise_list.specs.Words.{facts_of}

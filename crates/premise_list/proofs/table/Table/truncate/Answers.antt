@@ -3,7 +3,7 @@ use Rattle.std.specs.List.{flat_map}
 use Rattle.std.proofs.lemmas.List.{length-take}
 use Rattle.tmm_model.specs.Standing.{points_of}
 use Rattle.tmm_model.specs.Verdicts.{words_known}
-use Rattle.tmm_model.specs.WellNamed.{IsWellNamed}
+use Rattle.list_theory.specs.WellNamed.{IsWellNamed}
 use Rattle.premise_list.specs.Table.{placed, entry_seen}
 use Rattle.premise_list.proofs.TableFacts.{word_total, indexed_taken, words_parted, points_parted, well_named_taken, rest_of}
 use Rattle.premise_list.proofs.table.Table.truncate.Goals as goal

@@ -1,0 +1,145 @@
+-- The first of a list, and its place among tokens.
+use Rattle.std.proofs.Common.{◌≡◌, ℕ, Bool, true, false, List, [], ◌∷◌, refl, sym, ◌∙◌, ap, subst, inl, inr}
+use Rattle.std.specs.Prelude.{Option, Some, None, IsTrue, filter, slice_index_or}
+use Rattle.std.specs.Option.{option_map}
+use Rattle.std.specs.declared.cmp.Ordering.{Ordering}
+use Rattle.std.specs.declared.cmp.Ordering.TheVariants.{Less, Equal, Greater}
+use Rattle.std.specs.Ordering.{is_lt, is_gt, ordering_reverse, on}
+use Rattle.std.proofs.lemmas.List.{get_or_default}
+use Rattle.std.proofs.lemmas.List.Elements.{Contains-get_or}
+use Rattle.tmm_model.specs.declared.token.TokenRow.{TokenRow}
+use Rattle.tmm_model.specs.Firsts.{earliest, first}
+use Rattle.tmm_model.specs.Types.{IsOrderOn}
+use Rattle.belief_theory.specs.FirstPlaces.{IsFirstPlace}
+use Rattle.list_theory.proofs.Elements.{In, In-from_Contains, Contains-from_In, In-filter, filter-In}
+
+module _ {P : Type 0} {live : P → Type 0} {order : P → P → Ordering} (law : IsOrderOn live order) where
+  abbrev by_spot : TokenRow P → TokenRow P → Ordering
+  by_spot = on (λ k. k.spot) order
+
+  abbrev Live : List (TokenRow P) → Type 0
+  Live xs = (k : TokenRow P) → In k xs → live k.spot
+
+  -- not after, one after the other
+  pub upto : (x y z : P) → live x → live y → live z → is_gt (order x y) ≡ false → is_gt (order y z) ≡ false → is_gt (order x z) ≡ false
+  upto x y z lx ly lz h g = by (order x y) refl (order y z) refl
+    where
+      by : (r : Ordering) → order x y ≡ r → (s : Ordering) → order y z ≡ s → is_gt (order x z) ≡ false
+      by Less e Less f = ap is_gt (law.trans x y z lx ly lz e f)
+      by Less e Equal f = subst (λ w. is_gt (order x w) ≡ false) (law.strict y z ly lz f) h
+      by Less e Greater f = cc
+      by Equal e s f = subst (λ w. is_gt (order w z) ≡ false) (sym (law.strict x y lx ly e)) g
+      by Greater e s f = cc
+
+  pub itself : (x : P) → live x → is_gt (order x x) ≡ false
+  itself x lx = by (order x x) refl (law.antisymm x x lx lx)
+    where
+      by : (r : Ordering) → order x x ≡ r → order x x ≡ ordering_reverse (order x x) → is_gt (order x x) ≡ false
+      by Less e q = ap is_gt e
+      by Equal e q = ap is_gt e
+      by Greater e q = let t : Greater ≡ Less = sym e ∙ q ∙ ap ordering_reverse e in cc
+
+  not_less : (x y : P) → live x → live y → is_lt (order x y) ≡ false → is_gt (order y x) ≡ false
+  not_less x y lx ly h = ap is_gt (law.antisymm y x ly lx) ∙ by (order x y) h
+    where
+      by : (r : Ordering) → is_lt r ≡ false → is_gt (ordering_reverse r) ≡ false
+      by Less e = cc
+      by Equal e = refl
+      by Greater e = refl
+
+  less : (x y : P) → is_lt (order x y) ≡ true → is_gt (order x y) ≡ false
+  less x y h = by (order x y) h
+    where
+      by : (r : Ordering) → is_lt r ≡ true → is_gt r ≡ false
+      by Less e = refl
+      by Equal e = refl
+      by Greater e = cc
+
+  -- two of which neither is after the other
+  pub one_spot : (x y : P) → live x → live y → is_gt (order x y) ≡ false → is_gt (order y x) ≡ false → x ≡ y
+  one_spot x y lx ly h g = by (order x y) refl
+    where
+      by : (r : Ordering) → order x y ≡ r → x ≡ y
+      by Equal e = law.strict x y lx ly e
+      by Greater e = cc
+      by Less e = let t : order y x ≡ Greater = law.antisymm y x ly lx ∙ ap ordering_reverse e in cc
+
+  pub record IsLeast (k : TokenRow P) (xs : List (TokenRow P)) : Type 0 where
+    pub member : In k xs
+    pub below : (y : TokenRow P) → In y xs → is_gt (order k.spot y.spot) ≡ false
+
+  pub least_is : (x : TokenRow P) (xs : List (TokenRow P)) → Live (x ∷ xs) → IsLeast (earliest by_spot x xs) (x ∷ xs)
+  least_is x [] all = record { member = inl refl; below = λ y at. elim at [ inl e ↦ subst (λ z. is_gt (order x.spot z.spot) ≡ false) e (itself x.spot (all x (inl refl))) | inr n ↦ absurd n ] }
+  least_is x (y ∷ ys) all =
+      by (λ _. least_is y ys (λ k at. all k (inr at)))
+      (λ _. least_is x ys (λ k at. elim at [ inl e ↦ all k (inl e) | inr r ↦ all k (inr (inr r)) ]))
+      (is_lt (order y.spot x.spot)) refl
+    where
+      lx : live x.spot
+      lx = all x (inl refl)
+
+      ly : live y.spot
+      ly = all y (inr (inl refl))
+
+      by : (Unit {0} → IsLeast (earliest by_spot y ys) (y ∷ ys)) → (Unit {0} → IsLeast (earliest by_spot x ys) (x ∷ ys)) → (b : Bool) → is_lt (order y.spot x.spot) ≡ b
+          → IsLeast (elim b [ true ↦ earliest by_spot y ys | false ↦ earliest by_spot x ys ]) (x ∷ y ∷ ys)
+      by one two true e =
+          let i = one tt in
+          let m : TokenRow P = earliest by_spot y ys in
+          let lm = all m (inr i.member) in
+          record {
+            member = inr i.member;
+            below = λ z at. elim at [
+              | inl q ↦ subst (λ w. is_gt (order m.spot w.spot) ≡ false) q (upto m.spot y.spot x.spot lm ly lx (i.below y (inl refl)) (less y.spot x.spot e))
+              | inr r ↦ i.below z r
+            ];
+          }
+      by one two false e =
+          let i = two tt in
+          let m : TokenRow P = earliest by_spot x ys in
+          let member : In m (x ∷ y ∷ ys) = elim i.member [ inl q ↦ inl q | inr r ↦ inr (inr r) ] in
+          let lm = all m member in
+          record {
+            member = member;
+            below = λ z at. elim at [
+              | inl q ↦ i.below z (inl q)
+              | inr r ↦ elim r [
+                | inl q ↦ subst (λ w. is_gt (order m.spot w.spot) ≡ false) q (upto m.spot x.spot y.spot lm lx ly (i.below x (inl refl)) (not_less y.spot x.spot ly lx e))
+                | inr rr ↦ i.below z (inr rr)
+              ]
+            ];
+          }
+
+  -- what passes and is not after any other that passes is the first
+  pub first_by_place : (test : TokenRow P → Bool) (xs : List (TokenRow P)) → Live xs → (place : Option ℕ) → IsFirstPlace by_spot test xs place
+      → (d : TokenRow P) → option_map (λ k. k.spot) (first by_spot (filter test xs)) ≡ option_map (λ i. (slice_index_or xs i d).spot) place
+  first_by_place test xs all None h d = by (filter test xs) refl
+    where
+      by : (ys : List (TokenRow P)) → filter test xs ≡ ys → option_map (λ k. k.spot) (first by_spot ys) ≡ None
+      by [] e = refl
+      by (y ∷ ys) e =
+          let (at, passes) = In-filter test xs y (subst (In y) (sym e) (inl refl)) in
+          let (k, lt, is) = Contains-from_In xs y at in
+          let no : test y ≡ false = subst (λ z. test z ≡ false) is (h k y lt) in
+          cc
+  first_by_place test xs all (Some i) h d = by (filter test xs) refl
+    where
+      x : TokenRow P
+      x = slice_index_or xs i d
+
+      here : In x xs
+      here = In-from_Contains xs x (Contains-get_or xs i d h.within)
+
+      kept : In x (filter test xs)
+      kept = filter-In test xs x here (h.passes d)
+
+      by : (ys : List (TokenRow P)) → filter test xs ≡ ys → option_map (λ k. k.spot) (first by_spot ys) ≡ Some x.spot
+      by [] e = absurd (subst (In x) e kept)
+      by (y ∷ ys) e =
+          let l = least_is y ys (λ k at. all k (In-filter test xs k (subst (In k) (sym e) at)).0) in
+          let m : TokenRow P = earliest by_spot y ys in
+          let (there, passes) = In-filter test xs m (subst (In m) (sym e) l.member) in
+          let (k, lt, is) = Contains-from_In xs m there in
+          let is_d : slice_index_or xs k d ≡ m = get_or_default xs k d m lt ∙ is in
+          let not_before : is_gt (order x.spot m.spot) ≡ false = subst (λ z. is_gt (order x.spot z.spot) ≡ false) is_d (h.least k d lt (subst (λ z. IsTrue (test z)) (sym is_d) passes)) in
+          ap Some (one_spot m.spot x.spot (all m there) (all x here) (l.below x (subst (In x) e kept)) not_before)

@@ -1,0 +1,19 @@
+-- The standing lists that the program keeps.
+use Rattle.std.specs.Prelude.{ℕ, ◌≤◌, length}
+use Rattle.tmm_model.specs.Answers.{size, most_size}
+use Rattle.tmm_model.specs.Maps.{built}
+use Rattle.list_theory.specs.WellNamed.{IsSound}
+use Rattle.tmm_model.specs.Standing.{Standing, points_in}
+use Rattle.tmm_model.specs.Verdicts.{most_premises, most_points}
+
+-- the greatest horizon
+abbrev pub last_horizon : ℕ
+last_horizon = 100000
+
+-- well-formed and well-named premises that some dates satisfy, within all limits
+pub record IsKept (s : Standing) : Type 0 where
+  pub sound : IsSound s
+  pub horizon : s.horizon ≤ last_horizon
+  pub premises : length s.premises ≤ most_premises
+  pub points : length (points_in s.premises) ≤ most_points
+  pub small : size (built s) ≤ most_size

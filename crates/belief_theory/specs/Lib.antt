@@ -1,0 +1,5 @@
+pub mod FirstPlaces
+pub mod KeptLists
+pub mod Outcomes
+pub mod Right
+pub mod Touched

@@ -1,0 +1,9 @@
+pub mod Adding
+pub mod Cycles
+pub mod Distinct
+pub mod Elements
+pub mod Erased
+pub mod Erasure
+pub mod KnownNames
+pub mod Places
+pub mod WellNamed

@@ -1,0 +1,3 @@
+pub mod Fallen
+pub mod NegativeCycles
+pub mod WellNamed

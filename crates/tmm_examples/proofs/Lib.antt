@@ -1,0 +1,16 @@
+mod WorkedChanges
+mod WorkedClips
+mod WorkedDemo
+mod WorkedEffects
+mod WorkedGuide
+mod WorkedLists
+mod WorkedPaths
+mod WorkedQuestions
+mod WorkedReasons
+mod WorkedReplies
+mod WorkedScripts
+mod WorkedSizes
+mod WorkedSpans
+mod WorkedTouched
+mod WorkedTranscript
+mod WorkedWorkshop

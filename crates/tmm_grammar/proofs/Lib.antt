@@ -1,0 +1,6 @@
+pub mod LineForms
+pub mod LineNumbers
+pub mod LinePoints
+pub mod LineReaders
+pub mod LineShown
+pub mod LineWords

@@ -1,0 +1,4 @@
+pub mod Bare
+pub mod LineCuts
+pub mod LineLaws
+pub mod Reading

@@ -1,0 +1,21 @@
+-- The laws of reading and showing a line.
+use Rattle.std.specs.Prelude.{◌≡◌, ℕ, ◌≤◌, List, length, ◌↔◌}
+use Rattle.tmm_model.specs.declared.premise.Premise.{Premise}
+use Rattle.tmm_model.specs.declared.premise.Edit.TheVariants.{Add}
+use Rattle.tmm_model.specs.declared.line.Line.{Line}
+use Rattle.tmm_model.specs.declared.line.Line.TheVariants.{Change}
+use Rattle.tmm_model.specs.Lines.{words, IsWellFormedPremise, Reads, ReadsLine, shown_text}
+use Rattle.tmm_grammar.specs.LineCuts.{AreWords}
+use Rattle.tmm_grammar.specs.Bare.{SameLine}
+
+-- a line has one list of words
+abbrev pub WordsAreOne : Type 0
+WordsAreOne = (line : List ℕ) (ws : List (List ℕ)) → AreWords line ws ↔ (ws ≡ words line)
+
+-- words read as at most one thing
+abbrev pub ReadingIsOne : Type 0
+ReadingIsOne = (ws : List (List ℕ)) (a b : Line) → Reads ws a → Reads ws b → SameLine a b
+
+-- the line that shows a premise has at most 400 bytes and reads as the premise
+abbrev pub ShownReads : Type 0
+ShownReads = (premise : Premise) → IsWellFormedPremise premise → (length (shown_text premise) ≤ 400) × ReadsLine (shown_text premise) (Change (Add premise))

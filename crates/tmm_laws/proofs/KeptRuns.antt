@@ -1,0 +1,56 @@
+-- Each line of a run leaves a kept list where there was one.
+use Rattle.std.proofs.Common.{◌≡◌, ℕ, ◌+◌, List, [], ◌∷◌, sym, subst}
+use Rattle.tmm_model.specs.declared.line.Line.{Line}
+use Rattle.tmm_model.specs.declared.line.Line.TheVariants.{Silent, Change, Question}
+use Rattle.tmm_model.specs.declared.premise.Edit.{Edit}
+use Rattle.tmm_model.specs.declared.turn.Turn.{Turn}
+use Rattle.tmm_model.specs.declared.turn.Turn.TheVariants.{Silent as NoReply, Reply as ReplyOf, Memory}
+use Rattle.belief_theory.specs.KeptLists.{IsKept}
+use Rattle.tmm_model.specs.Lines.{IsWellFormedEdit, ReadsLine}
+use Rattle.tmm_model.specs.Replies.{Reply, Accepted, Refused, BoundsAre, PathIs, Answered, Reasons, BrokenAre, Believed, DumpIs, AuditYes, SizeIs}
+use Rattle.tmm_model.specs.Runs.{Run}
+use Rattle.tmm_model.specs.Standing.{Standing, empty_list}
+use Rattle.tmm_model.specs.Transcript.{AnswersEdit, AnswersLine, LineAnswers, for_length, for_form, for_meaning, Step}
+use Rattle.belief_theory.proofs.StayKept.{empty_is_kept, stays_kept}
+
+-- a list that is as it was
+unchanged : (old new : Standing) → IsKept old → new ≡ old → IsKept new
+unchanged old new kept same = subst IsKept (sym same) kept
+
+edit_keeps : (old new : Standing) (edit : Edit) (reply : Reply) → IsKept old → IsWellFormedEdit edit → AnswersEdit old edit reply new → IsKept new
+edit_keeps old new edit (Accepted told) kept formed (accepted, _, next) = subst IsKept (sym next) (stays_kept old edit kept formed accepted)
+edit_keeps old new edit (Refused refusal) kept formed (_, same) = unchanged old new kept same
+edit_keeps old new edit (BoundsAre lo hi) kept formed never = absurd never
+edit_keeps old new edit (PathIs hi steps) kept formed never = absurd never
+edit_keeps old new edit (Answered answer) kept formed never = absurd never
+edit_keeps old new edit (Reasons lines) kept formed never = absurd never
+edit_keeps old new edit (BrokenAre reports) kept formed never = absurd never
+edit_keeps old new edit (Believed rows) kept formed never = absurd never
+edit_keeps old new edit (DumpIs horizon premises) kept formed never = absurd never
+edit_keeps old new edit AuditYes kept formed never = absurd never
+edit_keeps old new edit (SizeIs n) kept formed never = absurd never
+
+meaning_keeps : (old new : Standing) (line : List ℕ) (meaning : Line) (reply : Reply) → IsKept old → ReadsLine line meaning → AnswersLine old meaning reply new → IsKept new
+meaning_keeps old new line Silent reply kept reads never = absurd never
+meaning_keeps old new line (Change edit) reply kept reads answers = edit_keeps old new edit reply kept reads.1 answers
+meaning_keeps old new line (Question query) reply kept reads answers = unchanged old new kept answers.1
+
+answer_keeps : (old new : Standing) (line : List ℕ) (reply : Reply) → IsKept old → LineAnswers old line reply new → IsKept new
+answer_keeps old new line reply kept (for_length long is same) = unchanged old new kept same
+answer_keeps old new line reply kept (for_form short nothing is same) = unchanged old new kept same
+answer_keeps old new line reply kept (for_meaning meaning read answers) = meaning_keeps old new line meaning reply kept read.reads answers
+
+step_keeps : (old new : Standing) (k : ℕ) (line : List ℕ) (turn : Turn) → IsKept old → Step old k line turn new → IsKept new
+step_keeps old new k line NoReply kept step = unchanged old new kept step.1
+step_keeps old new k line Memory kept step = unchanged old new kept step.1
+step_keeps old new k line (ReplyOf bytes refused) kept (reply, answers, _, _) = answer_keeps old new line reply kept answers
+
+-- so does a run, from any line number on
+run_keeps : (old : Standing) (k : ℕ) (lines : List (List ℕ)) (turns : List Turn) (new : Standing) → IsKept old → Run Step old k lines turns new → IsKept new
+run_keeps old k [] [] new kept run = unchanged old new kept run
+run_keeps old k (line ∷ lines) (turn ∷ turns) new kept (mid, step, rest) = run_keeps mid (k + 1) lines turns new (step_keeps old mid (k + 1) line turn kept step) rest
+run_keeps old k [] (turn ∷ turns) new kept never = absurd never
+run_keeps old k (line ∷ lines) [] new kept never = absurd never
+
+pub runs_keep : (lines : List (List ℕ)) (turns : List Turn) (end : Standing) → Run Step empty_list 0 lines turns end → IsKept end
+runs_keep lines turns end run = run_keeps empty_list 0 lines turns end empty_is_kept run

@@ -1,0 +1,9 @@
+mod CycleSums
+mod Delays
+mod DumpRuns
+mod Earliest
+mod EditLaws
+mod KeptRuns
+mod OneText
+mod Timings
+mod Updating

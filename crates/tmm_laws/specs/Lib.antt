@@ -1,0 +1,9 @@
+pub mod BeliefLaws
+pub mod CycleLaw
+pub mod DateLaw
+pub mod DistanceLaw
+pub mod DumpRuns
+pub mod EditLaws
+pub mod KeptRuns
+pub mod OneText
+pub mod TimingLaw

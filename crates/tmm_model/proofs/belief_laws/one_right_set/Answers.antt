@@ -1,5 +1,0 @@
-use Rattle.tmm_model.proofs.OneRight.{one_right}
-use Rattle.tmm_model.proofs.belief_laws.one_right_set.Goals as goal
-
-pub returns : goal.returns
-returns c = λ s far timed b c right_b right_c x. one_right s far timed s.horizon b c right_b right_c x

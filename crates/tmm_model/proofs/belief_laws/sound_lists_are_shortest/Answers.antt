@@ -1,5 +1,0 @@
-use Rattle.tmm_model.proofs.Sound.{shortest, sound_rules}
-use Rattle.tmm_model.proofs.belief_laws.sound_lists_are_shortest.Goals as goal
-
-pub returns : goal.returns
-returns c = λ s sound. (shortest s sound, sound_rules s sound)

@@ -1,2 +1,0 @@
-pub mod DumpRuns
-pub mod OneText
