@@ -1,2 +1,3 @@
 mod KeptRuns
 mod Told
+mod Rows
