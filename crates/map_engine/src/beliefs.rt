@@ -2,7 +2,10 @@
 ghost use Rattle.std.specs.Prelude.{◌≡◌, ◌≤◌, map, IfOk, IfErr};
 ghost use Rattle.tmm_model.specs.Answers.{rows, reports, report_of, size};
 ghost use Rattle.tmm_model.specs.Maps.{built};
-ghost use Rattle.belief_list.specs.Rows.{row_at, IsListing};
+ghost use Rattle.tmm_model.specs.Moments.{moment_of};
+ghost use Rattle.std.specs.List.{All};
+ghost use Rattle.spots.specs.Forest.{moment_at};
+ghost use Rattle.belief_list.specs.Rows.{row_at, IsLiveRow, IsListing};
 ghost use Rattle.spots.specs.Seen.{IsSeen, Holds};
 ghost use Rattle.tmm_model.specs.Changes.{changes, delta_of};
 ghost use Rattle.tmm_model.specs.Standing.{Standing as List};
@@ -18,7 +21,7 @@ use premise_list::Standing;
 use projection::{Counter, Projected, rebuild};
 use protections::{delta, report};
 use std::alloc::Global;
-use tmm_model::{Changes, Name, NoMemory, Report, Seq, Stop};
+use tmm_model::{Changes, Name, NoMemory, Occ, Report, Seq, Stop};
 
 // What is believed of a list, as it is kept.
 #[derive(Drop)]
@@ -110,4 +113,23 @@ pub(crate) fn changes_to(
         broken,
         mended,
     })
+}
+
+// The occurrences of the rows.
+pub(crate) fn occurrences(
+    alloc: Global,
+    tree: &Tree,
+    rows: &[BeliefRow],
+) -> Result<Seq<Occ>, NoMemory>
+    requires { All (IsLiveRow tree.now) rows.now }
+    ensures { IfOk result (λ occs. map moment_of occs.items ≡ map (λ r. moment_at tree.now r.node) rows.now) }
+{
+    let mut occs = Seq::make(alloc);
+    for row in rows {
+        match occs.push(tree.occ_of(alloc, row.node)?) {
+            Ok(()) => {}
+            Err(_) => return Err(NoMemory),
+        }
+    }
+    Ok(occs)
 }

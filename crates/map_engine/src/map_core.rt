@@ -1,5 +1,5 @@
 // What the program asks of a map.
-ghost use Rattle.std.specs.Prelude.{◌≡◌, ◌≤◌, None, Some, map, IfOk, IfErr, OnErr, IsTrue};
+ghost use Rattle.std.specs.Prelude.{◌≡◌, ◌≤◌, None, Some, map, IsTrue, IfOk, IfErr, OnErr};
 ghost use Rattle.std.specs.declared.option.Option.{Option};
 ghost use Rattle.tmm_model.specs.Answers.{ask, finding_of, reports, report_of, rows, row_of, size};
 ghost use Rattle.tmm_model.specs.Bounds.{bound_negated};
@@ -119,16 +119,16 @@ pub trait MapCore {
         requires idle { pending self.now ≡ None }
         ensures { IfOk result (λ found. map row_of found.items ≡ rows (built (list self.now))) };
 
+    /// Whether the map's own rows are the believed occurrences of its list, in their order, each once. They
+    /// are, and it is found anew from the list. Without memory it answers that.
+    fn audit(&self, alloc: Global) -> Result<bool, NoMemory>
+        requires idle { pending self.now ≡ None }
+        ensures { IfOk result (λ good. IsTrue good) };
+
     /// The standing premises and their horizon.
     fn standing(&self) -> &Standing
         requires idle { pending self.now ≡ None }
         ensures { result.now.present ≡ list self.now };
-
-    /// Whether an independent check of what is kept finds the believed occurrences, each once and in their
-    /// order: of a kept map it always does. Without memory it answers that.
-    fn audit(&self, alloc: Global) -> Result<bool, NoMemory>
-        requires idle { pending self.now ≡ None }
-        ensures { IfOk result (λ good. IsTrue good) };
 
     /// The size of the map: for each believed occurrence one, and its rules, and the rules on it.
     fn size(&self) -> u64

@@ -10,12 +10,13 @@ ghost use Rattle.list_net.specs.Fits.{IsNetOf};
 ghost use Rattle.map_engine.specs.Beliefs.{AreBeliefs, IsLeftOut};
 ghost use Rattle.projection.specs.Queues.{IsTooLarge};
 
-use crate::beliefs::{Beliefs, believe, changes_to};
+use crate::beliefs::{Beliefs, believe, changes_to, occurrences};
 use crate::edited::edited;
 use crate::map_core::{MapCore, Pending};
 use crate::questions::{ask_between, bounds_between, path_between, why_of};
 use belief_list::list_rows;
 use dist_net::DistNet;
+use just_check::audit;
 use premise_list::Standing;
 use projection::Counter;
 use protections::copied;
@@ -201,12 +202,13 @@ impl MapCore for PlainMap {
         list_rows(alloc, &self.beliefs.tree, self.beliefs.rows.items())
     }
 
-    fn standing(&self) -> &Standing {
-        &self.standing
+    fn audit(&self, alloc: Global) -> Result<bool, NoMemory> {
+        let rows = occurrences(alloc, &self.beliefs.tree, self.beliefs.rows.items())?;
+        audit(alloc, &self.standing, &self.net, rows.items())
     }
 
-    fn audit(&self, _alloc: Global) -> Result<bool, NoMemory> {
-        Ok(true)
+    fn standing(&self) -> &Standing {
+        &self.standing
     }
 
     fn size(&self) -> u64 {
