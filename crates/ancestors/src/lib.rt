@@ -6,7 +6,7 @@
 //! takes memory.
 #![tactic(auto)]
 
-ghost use Rattle.std.specs.Prelude.{◌≡◌, ℕ, List, ◌+◌, ◌<◌, ◌≤◌, [], ◌∷◌, ◌++◌, length, take, MatchOption};
+ghost use Rattle.std.specs.Prelude.{◌≡◌, ℕ, List, ◌+◌, ◌<◌, ◌≤◌, [], ◌∷◌, ◌++◌, length, take, MatchOption, IfSome};
 ghost use Rattle.ancestors.specs.Ways.{IsNode, EndsWith, shared_front};
 ghost use Rattle.ancestors.specs.Jumps.{jump_depth};
 
@@ -79,7 +79,8 @@ fn nearer<A: Ancestry>(tree: &A, x: u32, depth: u32) -> u32
 pub fn lowest_common<A: Ancestry>(tree: &A, x: u32, y: u32) -> Option<u32>
     requires x { IsNode (A.way tree.now) x }
     requires y { IsNode (A.way tree.now) y }
-    ensures { MatchOption result (shared_front (A.way tree.now x) (A.way tree.now y) ≡ []) (λ z. A.way tree.now z ≡ shared_front (A.way tree.now x) (A.way tree.now y)) }
+    ensures shared { MatchOption result (shared_front (A.way tree.now x) (A.way tree.now y) ≡ []) (λ z. A.way tree.now z ≡ shared_front (A.way tree.now x) (A.way tree.now y)) }
+    ensures node { IfSome result (IsNode (A.way tree.now)) }
 {
     let depth = tree.depth(x).min(tree.depth(y));
     let mut first = ancestor_at(tree, x, depth);

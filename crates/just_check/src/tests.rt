@@ -100,51 +100,40 @@ fn add(
     Ok(())
 }
 
-// A door is open, a lamp dark, and some time a door shuts.
-fn add_facts(alloc: Global, standing: &mut Standing, net: &mut DistNet) -> Result<(), Stop>
+// A token of a fact.
+fn token(word: Name, fact: Name) -> Premise
+    requires word { IsName word }
+    requires fact { IsName fact }
+    ensures { IsWellFormedPremise result }
+{
+    Premise::Token { name: word, fact }
+}
+
+// A door is open from 0 on, and shuts some time.
+fn add_door(alloc: Global, standing: &mut Standing, net: &mut DistNet) -> Result<(), Stop>
     requires network { IsNetOf standing.old.present net.old.present }
     requires settled { IsSettled standing.old net.old }
     ensures network { OnOk result (IsNetOf standing.new.present net.new.present) }
     ensures settled { OnOk result (IsSettled standing.new net.new) }
 {
-    let (open, shut, dark) = (name(b"open"), name(b"shut"), name(b"dark"));
-    let (k, n, m) = (name(b"k"), name(b"n"), name(b"m"));
+    let (open, shut, k) = (name(b"open"), name(b"shut"), name(b"k"));
     add(alloc, standing, net, class(name(b"door"), open, shut))?;
-    add(
-        alloc,
-        standing,
-        net,
-        class(name(b"lamp"), dark, name(b"lit")),
-    )?;
-    add(
-        alloc,
-        standing,
-        net,
-        Premise::Token {
-            name: k,
-            fact: open,
-        },
-    )?;
+    add(alloc, standing, net, token(k, open))?;
     add(alloc, standing, net, dated(name(b"z"), k, 0))?;
-    add(
-        alloc,
-        standing,
-        net,
-        Premise::Token {
-            name: n,
-            fact: dark,
-        },
-    )?;
-    add(alloc, standing, net, dated(name(b"y"), n, 0))?;
-    add(
-        alloc,
-        standing,
-        net,
-        Premise::Token {
-            name: m,
-            fact: shut,
-        },
-    )
+    add(alloc, standing, net, token(name(b"m"), shut))
+}
+
+// A lamp is dark from 0 on.
+fn add_lamp(alloc: Global, standing: &mut Standing, net: &mut DistNet) -> Result<(), Stop>
+    requires network { IsNetOf standing.old.present net.old.present }
+    requires settled { IsSettled standing.old net.old }
+    ensures network { OnOk result (IsNetOf standing.new.present net.new.present) }
+    ensures settled { OnOk result (IsSettled standing.new net.new) }
+{
+    let (dark, lit, n) = (name(b"dark"), name(b"lit"), name(b"n"));
+    add(alloc, standing, net, class(name(b"lamp"), dark, lit))?;
+    add(alloc, standing, net, token(n, dark))?;
+    add(alloc, standing, net, dated(name(b"y"), n, 0))
 }
 
 // A push lights the lamp where the door is open.
@@ -179,7 +168,8 @@ fn premises(alloc: Global) -> Result<(Standing, DistNet), Stop>
         return Err(Stop::NoMemory);
     };
     let _ = net.edges();
-    add_facts(alloc, &mut standing, &mut net)?;
+    add_door(alloc, &mut standing, &mut net)?;
+    add_lamp(alloc, &mut standing, &mut net)?;
     add_push(alloc, &mut standing, &mut net)?;
     Ok((standing, net))
 }

@@ -180,7 +180,7 @@ module _ (s : Standing) (sound : IsSound s) (net : Net) (network : IsNetOf s net
   pub number_there : (p : Premise) (q : PointName) → In p s.premises → In q (points_of p) → (n : ℕ) × IsNumberOf net.names n q
   number_there p q at own = network.fits.stands.numbered q (point_there s.premises p q at own)
 
-  root_is : (p : Premise) → In p s.premises → as_root (Rattle.tmm_model.specs.WellNamed.premise_in s.premises (name_of p)) ≡ as_root (Some p)
+  root_is : (p : Premise) → In p s.premises → as_root (Rattle.tmm_model.specs.Standing.premise_in s.premises (name_of p)) ≡ as_root (Some p)
   root_is p at = ap as_root (found s.premises sound.well_named p at)
 
   pub occurs_root : (p : Premise) (k : Moment) → In p s.premises → root_of p ≡ Some k → Contains (roots s) k

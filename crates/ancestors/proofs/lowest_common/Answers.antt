@@ -57,7 +57,7 @@ loop-first-smaller g c =
 pub loop-first-preserved : goal.loop-first-preserved
 loop-first-preserved g c = let next = jumps g c in record { node = next.node; level = next.level; shared = next.shared ∙ c.loop-first.invariant.shared }
 
-pub returns : goal.returns
-returns g c =
+pub returns-clause-shared : goal.returns-clause-shared
+returns-clause-shared g c =
     let way = g.A.Ancestry.way c.args.tree.now in
     sym (shared_front-itself (way c.loop-first.first)) ∙ ap (λ n. shared_front (way c.loop-first.first) (way n)) c.loop-first-test.false ∙ c.loop-first.invariant.shared

@@ -1,0 +1,12 @@
+pub mod Delays
+pub mod Ways
+pub mod Placing
+pub mod Grown
+pub mod Effects
+pub mod Entering
+pub mod Wording
+pub mod Pieces
+pub mod Ranking
+pub mod InOrder
+pub mod TokenLists
+pub mod Numbered

@@ -1,0 +1,11 @@
+pub mod Forest
+pub mod Spots
+pub mod Light
+pub mod Sums
+pub mod Nodes
+pub mod Standing
+pub mod Edits
+pub mod Ends
+pub mod Words
+pub mod Tokens
+pub mod Classes

@@ -1,0 +1,83 @@
+-- Nodes with the lists of their children, in tables that are undone.
+use Rattle.std.specs.Prelude.{◌≡◌, ℕ, ℤ, ◌+◌, ◌<◌, ◌≤◌, List, [], ◌∷◌, Option, Some, None}
+use Rattle.std.specs.Option.{option_map}
+use Rattle.row_links.specs.Lists.{IsOn}
+use Rattle.undo_rows.specs.declared.row.Row.{Row}
+use Rattle.undo_rows.specs.Tables.{Table}
+use Rattle.undo_rows.specs.Changes.{Logged}
+use Rattle.undo_rows.specs.Changes as changes
+use Rattle.kept_tree.specs.declared.node.Node.{Node}
+use Rattle.kept_tree.specs.Forest.{Forest}
+use Rattle.kept_tree.specs.Nodes.{Nodes, parent_of, forest_in, date_in, ArePlaced}
+
+-- the nodes of a table
+abbrev pub nodes_in : Table Node 1 → Nodes
+nodes_in t x = option_map (λ (r : Row Node 1). r.value) (t.row x)
+
+-- under which head those stand whose parent this is: the roots under 0, the children of x under x + 1
+abbrev pub head_for : Option ℕ → ℕ
+head_for None = 0
+head_for (Some x) = x + 1
+
+-- those whose parent this is, in the order in which they came; without one, the roots
+abbrev pub siblings_in : Table Node 1 → Option ℕ → List ℕ
+siblings_in t parent = t.list 0 (head_for parent)
+
+-- each node is under the head of its parent and stands where it says, and its number is below the limit
+pub record IsStanding (limit : ℕ) (t : Table Node 1) : Type 0 where
+  pub placed : ArePlaced (nodes_in t)
+  pub heads : (x : ℕ) (r : Row Node 1) → t.row x ≡ Some r → r.heads ≡ Some (head_for (parent_of r.value)) ∷ []
+  pub below : (x : ℕ) (r : Row Node 1) → t.row x ≡ Some r → x < limit
+
+-- the rows of nodes, and a number above all of theirs
+pub record Grove : Type 0 where
+  pub rows : Logged Node 1
+  pub limit : ℕ
+
+-- the nodes with their lists as they are
+abbrev pub present_rows : Grove → Table Node 1
+present_rows g = changes.present g.rows
+
+-- the nodes with their lists as they were at the last commit
+abbrev pub committed_rows : Grove → Table Node 1
+committed_rows g = changes.committed g.rows
+
+-- both stand right, and numbers are below 2 ^ 32 - 1
+pub record IsGrove (rows : Logged Node 1) (limit : ℕ) : Type 0 where
+  pub now : IsStanding limit (changes.present rows)
+  pub then_ : IsStanding limit (changes.committed rows)
+  pub few : limit ≤ 4294967295
+
+-- ---- what contracts see of a `Tree`
+
+-- the rows of nodes, with those of the last commit
+pub record Kept : Type 0 where
+  pub nodes : Grove
+
+-- the nodes with the lists of their children
+pub record State : Type 0 where
+  pub rows : Table Node 1
+
+-- the tree as it is
+abbrev pub present : Kept → State
+present k = record { rows = present_rows k.nodes }
+
+-- the tree as it was at the last commit
+abbrev pub committed : Kept → State
+committed k = record { rows = committed_rows k.nodes }
+
+-- the occurrences by their numbers
+abbrev pub forest : State → Forest
+forest s = forest_in (nodes_in s.rows)
+
+-- the earliest date of a node, 0 where there is none
+abbrev pub early : State → ℕ → ℤ
+early s = date_in (nodes_in s.rows)
+
+-- what rules lead to from a node by one more, in the order in which they came; without one, the roots
+abbrev pub below : State → Option ℕ → List ℕ
+below s parent = siblings_in s.rows parent
+
+-- x is on the list of what is below this parent
+abbrev pub IsChildOf : State → Option ℕ → ℕ → Type 0
+IsChildOf s parent x = IsOn (below s parent) x

@@ -1,0 +1,70 @@
+// Classes under small numbers.
+ghost use Rattle.std.specs.Prelude.{◌≡◌, ℕ, List, [], Some, None, IfOk};
+ghost use Rattle.kept_tree.specs.Classes.{place_in};
+
+use indexmap::IndexSet;
+use std::alloc::Global;
+use std::marker::Model;
+use tmm_model::{Name, NoMemory};
+
+/// The names of classes, each under the number of its place among them. A name stays.
+#[derive(Drop)]
+pub(crate) struct Classes {
+    names: IndexSet<Name>,
+}
+
+impl Model for Classes {
+    ghost use Rattle.std.specs.Prelude.{ℕ, List, ◌≤◌, length};
+
+    ghost Value = { List (List ℕ) };
+
+    ghost view = { λ c. c.names.keys };
+
+    ghost invariant = { λ c. length c.names.keys ≤ 4294967295 };
+}
+
+impl Classes {
+    // No classes. It takes no memory.
+    pub(crate) fn make(alloc: Global) -> Classes
+        ensures { result ≡ [] }
+    {
+        Classes {
+            names: IndexSet::new(alloc),
+        }
+    }
+
+    // The number of a class, none exactly where it has none.
+    pub(crate) fn find(&self, class: &Name) -> Option<u32>
+        ensures { result ≡ place_in self.now class.now }
+    {
+        Some(self.names.get_index_of(class)? as u32)
+    }
+
+    // The number of a class, which is new where it has none. Those of others stay, also without memory; it
+    // counts as want of memory that a number would be 2^32 - 1 or more.
+    pub(crate) fn enter(&mut self, class: Name) -> Result<u32, NoMemory>
+        ensures entered { IfOk result (λ k. place_in self.new class ≡ Some k) }
+        ensures kept { (other : List ℕ) (k : ℕ) → place_in self.old other ≡ Some k → place_in self.new other ≡ Some k }
+    {
+        match self.find(&class) {
+            Some(k) => Ok(k),
+            None => self.push(class),
+        }
+    }
+
+    // Gives a class that has none the next number.
+    fn push(&mut self, class: Name) -> Result<u32, NoMemory>
+        requires { place_in self.old class ≡ None }
+        ensures entered { IfOk result (λ k. place_in self.new class ≡ Some k) }
+        ensures kept { (other : List ℕ) (k : ℕ) → place_in self.old other ≡ Some k → place_in self.new other ≡ Some k }
+    {
+        let k = self.names.len();
+        if k >= u32::MAX as usize {
+            return Err(NoMemory);
+        }
+        match self.names.insert(class) {
+            Ok(_) => Ok(k as u32),
+            Err(_) => Err(NoMemory),
+        }
+    }
+}

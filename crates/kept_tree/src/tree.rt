@@ -1,0 +1,165 @@
+// The tree of occurrences.
+ghost use Rattle.std.specs.Prelude.{◌≡◌, ◌≢◌, ℕ, [], ◌<◌, Option, pos, ◌+ℤ◌, ◌≤ℤ◌, None, Some, IsSome, IfOk, OnOk, OnErr, IfSome, IsTrue, ◌↔◌};
+ghost use Rattle.row_links.specs.Lists.{first_or, row_after};
+ghost use Rattle.tmm_model.specs.Bounds.{IsWithin};
+ghost use Rattle.tmm_model.specs.Lines.{IsNumber, IsBound, IsRange};
+ghost use Rattle.tmm_model.specs.Names.{is_name};
+ghost use Rattle.tmm_model.specs.declared.bound.Bound.TheVariants.{Finite};
+ghost use Rattle.kept_tree.specs.Forest.{Member, IsLive, root_member, child_member, IsNoRoot, HasClass, HasEnd, IsTrigger};
+ghost use Rattle.kept_tree.specs.Standing.{present, committed, forest, early, below, IsChildOf};
+ghost use Rattle.kept_tree.specs.Edits.{Enters, Stays};
+
+use crate::nodes::Nodes;
+use crate::spot::Link;
+use std::alloc::Global;
+use std::marker::Model;
+use tmm_model::{Bound, Name, NoMemory, Shape};
+
+/// Occurrences under numbers, now and at the last commit.
+#[derive(Drop)]
+pub struct Tree {
+    nodes: Nodes,
+}
+
+impl Model for Tree {
+    ghost use Rattle.kept_tree.specs.Standing.{Kept};
+
+    ghost Value = { Kept };
+
+    ghost view = { λ t. record { nodes = t.nodes } };
+}
+
+impl Tree {
+    /// The tree without nodes. It takes no memory.
+    pub fn make(alloc: Global) -> Tree
+        ensures none { (x : ℕ) → forest (present result) x ≡ None }
+        ensures lists { (parent : Option ℕ) → below (present result) parent ≡ [] }
+        ensures committed { committed result ≡ present result }
+    {
+        Tree {
+            nodes: Nodes::make(alloc),
+        }
+    }
+
+    /// Adds a declared event, token or span behind all other roots, and answers its number: `begin` and
+    /// `end` are the numbers of its points, `what` is its kind or fact, `class` the class of a fact, and
+    /// `early` its earliest date in whole time units. Without memory nothing has changed; it counts as
+    /// want of memory that a number would be 2^32 - 1 or more.
+    pub fn insert_root(
+        &mut self,
+        alloc: Global,
+        name: Name,
+        begin: u16,
+        end: Option<u16>,
+        what: Name,
+        class: Option<Name>,
+        shape: Shape,
+        early: i64,
+    ) -> Result<u32, NoMemory>
+        requires new { IsNoRoot (forest (present self.old)) name }
+        requires word { IsTrue (is_name name) }
+        requires class { HasClass class shape }
+        requires span { HasEnd end shape }
+        requires date { IsWithin 1000000000000 early }
+        ensures ok { IfOk result (λ x. Enters self.old self.new x (root_member name begin end what class shape) None early) }
+        ensures err { OnErr result (Stays self.old self.new) }
+    {
+        let node = self
+            .nodes
+            .root(name, begin, end, what, class, None, shape, early);
+        let x = self.nodes.add(alloc, node)?;
+        Ok(x)
+    }
+
+    /// Adds what a rule leads to from an event behind all else that rules lead to from it, and answers its
+    /// number. The delays are in whole time units; its earliest date is that of the event and the least
+    /// delay. Without memory nothing has changed; it counts as want of memory that a number would be
+    /// 2^32 - 1 or more.
+    pub fn insert_child(
+        &mut self,
+        alloc: Global,
+        parent: u32,
+        rule: Name,
+        lo: i64,
+        hi: Bound,
+        what: Name,
+        class: Option<Name>,
+        shape: Shape,
+    ) -> Result<u32, NoMemory>
+        requires trigger { (m : Member) × (forest (present self.old) parent ≡ Some m) × IsTrigger (forest (present self.old)) m rule }
+        requires word { IsTrue (is_name rule) }
+        requires delay { IsNumber lo × IsBound hi × (pos 1 ≤ℤ lo) × IsRange (Finite lo) hi }
+        requires class { HasClass class shape }
+        requires no_span { shape ≢ Shape.Span }
+        ensures ok { IfOk result (λ x. (m : Member) → forest (present self.old) parent ≡ Some m → Enters self.old self.new x (child_member m (record { rule = rule; lo = lo; hi = hi }) what class shape) (Some parent) (early (present self.old) parent +ℤ lo)) }
+        ensures err { OnErr result (Stays self.old self.new) }
+    {
+        let link = Link { rule, lo, hi };
+        let node = self.nodes.effect(parent, &link, what, class, None, shape);
+        let x = self.nodes.add(alloc, node)?;
+        Ok(x)
+    }
+
+    /// Whether the number is of a node.
+    pub fn is_live(&self, x: u32) -> bool
+        ensures { IsTrue result ↔ IsLive (forest (present self.now)) x }
+    {
+        self.nodes.is_live(x)
+    }
+
+    /// Every number of a node is below it.
+    pub fn limit(&self) -> u32
+        ensures { (x : ℕ) → IsLive (forest (present self.now)) x → x < result }
+    {
+        self.nodes.limit()
+    }
+
+    /// The earliest date of a node, in whole time units.
+    pub fn early(&self, x: u32) -> i64
+        requires { IsLive (forest (present self.now)) x }
+        ensures { result ≡ early (present self.now) x }
+    {
+        self.nodes.get(x).early
+    }
+
+    /// The first root, none exactly where there is none.
+    pub fn first_root(&self) -> Option<u32>
+        ensures { result ≡ first_or None (below (present self.now) None) }
+    {
+        self.nodes.first(None)
+    }
+
+    /// The first of what rules lead to from a node by one more, none exactly where there is nothing.
+    pub fn first_child(&self, x: u32) -> Option<u32>
+        requires { IsLive (forest (present self.now)) x }
+        ensures { result ≡ first_or None (below (present self.now) (Some x)) }
+    {
+        self.nodes.first(Some(x))
+    }
+
+    /// The node directly behind one below the same event, or the root behind a root; none exactly for the
+    /// last.
+    pub fn next_child(&self, x: u32) -> Option<u32>
+        requires { IsLive (forest (present self.now)) x }
+        ensures { (parent : Option ℕ) → IsChildOf (present self.now) parent x → result ≡ row_after x (below (present self.now) parent) }
+    {
+        self.nodes.next(x)
+    }
+
+    /// Makes the tree that of the last commit. It takes no memory.
+    pub fn commit(&mut self)
+        ensures present { present self.new ≡ present self.old }
+        ensures committed { committed self.new ≡ present self.old }
+    {
+        self.nodes.commit();
+    }
+
+    /// Makes the tree, with the orders of what is below each node, that of the last commit again. It takes
+    /// no memory.
+    pub fn rollback(&mut self)
+        ensures present { present self.new ≡ committed self.old }
+        ensures committed { committed self.new ≡ committed self.old }
+    {
+        self.nodes.rollback();
+    }
+}
