@@ -61,6 +61,7 @@ impl<T: Copy, const F: usize> Rows<T, F> {
         value: T,
     ) -> Result<u32, NoMemory>
         ensures ok { IfOk result (λ x. Adds self.old self.new x (new_row heads.entry value)) }
+        ensures few { IfOk result (λ x. x < 4294967295) }
         ensures err { OnErr result (Stays self.old self.new) }
     {
         let x = next_number(self.stored.rows.vacant_key())?;
