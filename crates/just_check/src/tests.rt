@@ -1,5 +1,5 @@
 //! The audit of right and of wrong rows.
-ghost use Rattle.std.specs.Prelude.{◌≡◌, pos, ◌≤ℤ◌, IfOk, OnOk};
+ghost use Rattle.std.specs.Prelude.{◌≡◌, IfOk, OnOk};
 ghost use Rattle.tmm_model.specs.Lines.{IsName, IsWellFormedPremise};
 ghost use Rattle.list_net.specs.Fits.{IsNetOf, IsSettled};
 
@@ -55,20 +55,33 @@ fn rule(word: Name, trigger: Name, effect: Name, fact: Name) -> Premise
     }
 }
 
-// The date of what a premise of this name declares.
-fn dated(word: Name, point: Name, date: i64) -> Premise
+// What begins at a point begins at 0.
+fn at_0(word: Name, point: Name) -> Premise
     requires word { IsName word }
     requires point { IsName point }
-    requires least { pos 0 ≤ℤ date }
-    requires most { date ≤ℤ pos 10 }
     ensures { IsWellFormedPremise result }
 {
     Premise::Dist {
         name: word,
         from: PointName::Start,
         to: PointName::Begin(point),
-        lo: Bound::Finite(date),
-        hi: Bound::Finite(date),
+        lo: Bound::Free,
+        hi: Bound::Finite(0),
+    }
+}
+
+// What begins at a point begins at 10.
+fn at_10(word: Name, point: Name) -> Premise
+    requires word { IsName word }
+    requires point { IsName point }
+    ensures { IsWellFormedPremise result }
+{
+    Premise::Dist {
+        name: word,
+        from: PointName::Start,
+        to: PointName::Begin(point),
+        lo: Bound::Finite(10),
+        hi: Bound::Finite(10),
     }
 }
 
@@ -119,7 +132,7 @@ fn add_door(alloc: Global, standing: &mut Standing, net: &mut DistNet) -> Result
     let (open, shut, k) = (name(b"open"), name(b"shut"), name(b"k"));
     add(alloc, standing, net, class(name(b"door"), open, shut))?;
     add(alloc, standing, net, token(k, open))?;
-    add(alloc, standing, net, dated(name(b"z"), k, 0))?;
+    add(alloc, standing, net, at_0(name(b"z"), k))?;
     add(alloc, standing, net, token(name(b"m"), shut))
 }
 
@@ -133,7 +146,7 @@ fn add_lamp(alloc: Global, standing: &mut Standing, net: &mut DistNet) -> Result
     let (dark, lit, n) = (name(b"dark"), name(b"lit"), name(b"n"));
     add(alloc, standing, net, class(name(b"lamp"), dark, lit))?;
     add(alloc, standing, net, token(n, dark))?;
-    add(alloc, standing, net, dated(name(b"y"), n, 0))
+    add(alloc, standing, net, at_0(name(b"y"), n))
 }
 
 // A push lights the lamp where the door is open.
@@ -155,7 +168,7 @@ fn add_push(alloc: Global, standing: &mut Standing, net: &mut DistNet) -> Result
             kind: push,
         },
     )?;
-    add(alloc, standing, net, dated(name(b"w"), e, 10))?;
+    add(alloc, standing, net, at_10(name(b"w"), e))?;
     Ok(())
 }
 

@@ -7,4 +7,3 @@ pub mod Steps
 pub mod Settled
 pub mod Decided
 pub mod Ends
-pub mod Networks

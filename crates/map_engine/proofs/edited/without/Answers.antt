@@ -4,7 +4,7 @@ use Rattle.tmm_model.specs.Standing.{IsConsistent}
 use Rattle.list_theory.proofs.Erased.{gone_by_erasure}
 use Rattle.belief_theory.proofs.StayKept.{well_formed_without}
 use Rattle.premise_list.specs.States.{States}
-use Rattle.projection.proofs.Networks.{consistent, net_of}
+use Rattle.list_net.proofs.Networks.{consistent, net_of}
 use Rattle.map_engine.proofs.edited.without.Goals as goal
 
 pub returns-clause-network : goal.returns-clause-network

@@ -4,7 +4,7 @@ use Rattle.tmm_model.specs.Lines.{IsWellFormedPremise}
 use Rattle.tmm_model.specs.Standing.{Standing}
 use Rattle.dist_net.specs.Net.{Net}
 use Rattle.list_net.specs.Fits.{Fits}
-use Rattle.projection.proofs.Networks.{net_with}
+use Rattle.list_net.proofs.Networks.{net_with}
 use Rattle.projection.proofs.tests.add.Goals as goal
 
 pub returns-clause-network : goal.returns-clause-network

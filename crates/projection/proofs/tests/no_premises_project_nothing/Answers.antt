@@ -1,4 +1,4 @@
-use Rattle.projection.proofs.Networks.{at_start}
+use Rattle.list_net.proofs.Networks.{at_start}
 use Rattle.projection.proofs.tests.no_premises_project_nothing.Goals as goal
 
 pub rebuild-requires : goal.rebuild-requires

@@ -1,4 +1,4 @@
-use Rattle.projection.proofs.Networks.{at_start}
+use Rattle.list_net.proofs.Networks.{at_start}
 use Rattle.projection.proofs.tests.premises.Goals as goal
 
 pub add_all-requires-clause-network : goal.add_all-requires-clause-network

@@ -3,7 +3,7 @@ use Rattle.tmm_model.specs.Standing.{Standing}
 use Rattle.dist_net.specs.Net.{Net}
 use Rattle.list_net.specs.Fits.{IsNetOf}
 use Rattle.map_engine.specs.Beliefs.{AreBeliefs}
-use Rattle.projection.proofs.Networks.{at_start}
+use Rattle.list_net.proofs.Networks.{at_start}
 use Rattle.map_engine.proofs.plain.PlainMap.make.Goals as goal
 
 pub believe-requires : goal.believe-requires
