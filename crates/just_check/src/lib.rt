@@ -10,7 +10,5 @@
 mod auditing;
 mod rows;
 mod rules;
-#[cfg(test)]
-mod tests;
 
 pub use auditing::audit;
