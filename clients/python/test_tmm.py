@@ -196,6 +196,9 @@ class ParseTest(unittest.TestCase):
     def test_size(self) -> None:
         self.assertEqual(reply_of("9 size 5\n"), tmm.Size(5))
 
+    def test_audit(self) -> None:
+        self.assertEqual(reply_of("9 audit yes\n"), tmm.Audit())
+
     def test_dump(self) -> None:
         self.assertEqual(
             reply_of("10 dump 2\n  horizon 1000\n  class door open shut\n  dist h start held 0 *\n"),
@@ -268,6 +271,7 @@ class ParseTest(unittest.TestCase):
             "1 dump 1\n",
             "1 dump 1\n  horizon 1000\n",
             "1 size\n",
+            "1 audit no\n",
             "usage: tmm [demo N], N from 1 to 1000\n",
         ):
             with self.subTest(text=text), self.assertRaises(tmm.ProtocolError):
@@ -324,6 +328,7 @@ class TimeMapTest(unittest.TestCase):
             (tmm.Row(0, "held", "open", "e/shuts"), tmm.Row(10, "e", "push"), tmm.Row(11, "e/shuts", "shut")),
         )
         self.assertEqual(self.map.size(), 5)
+        self.assertIsNone(self.map.audit())
         self.assertEqual(
             self.map.dump(),
             tmm.Dump(

@@ -219,6 +219,11 @@ class Size:
     number: int
 
 
+@dataclass(frozen=True)
+class Audit:
+    """What is kept was found anew, and is right: there is no other answer."""
+
+
 class Cause(Enum):
     """Why a line is refused."""
 
@@ -252,7 +257,7 @@ class NoMemory:
     """There was no memory for a line, and nothing has changed."""
 
 
-Reply = Union[Changes, Bounds, Walk, Answer, Why, Check, Listing, Dump, Size, Refusal, NoMemory]
+Reply = Union[Changes, Bounds, Walk, Answer, Why, Check, Listing, Dump, Size, Audit, Refusal, NoMemory]
 
 
 # ---- what can go wrong
@@ -506,6 +511,12 @@ def _read_size(words: List[str], details: List[_Detail]) -> Size:
     return Size(int(number))
 
 
+def _read_audit(words: List[str], details: List[_Detail]) -> Audit:
+    if words != ["yes"]:
+        raise ValueError(words)
+    return Audit()
+
+
 def _read_memory(words: List[str], details: List[_Detail]) -> NoMemory:
     return NoMemory()
 
@@ -521,6 +532,7 @@ _READERS: Dict[str, Callable[[List[str], List[_Detail]], Reply]] = {
     "list": _read_listing,
     "dump": _read_dump,
     "size": _read_size,
+    "audit": _read_audit,
     "memory": _read_memory,
 }
 
@@ -562,7 +574,7 @@ def _bound_word(bound: Optional[int]) -> str:
 # its own: what comes before that is the whole reply to the line.
 _FENCE = b"bounds start start\n"
 
-ReplyKind = TypeVar("ReplyKind", Changes, Bounds, Walk, Answer, Why, Check, Listing, Dump, Size)
+ReplyKind = TypeVar("ReplyKind", Changes, Bounds, Walk, Answer, Why, Check, Listing, Dump, Size, Audit)
 
 
 class TimeMap:
@@ -747,6 +759,10 @@ class TimeMap:
     def size(self) -> int:
         """The size of the map."""
         return self._answer(Size, "size").number
+
+    def audit(self) -> None:
+        """Has what is believed found anew from the premises, and compared with what is kept."""
+        self._answer(Audit, "audit")
 
 
 # ---- a whole script at once
