@@ -10,5 +10,7 @@
 mod auditing;
 mod rows;
 mod rules;
+#[cfg(test)]
+mod tests;
 
 pub use auditing::audit;
