@@ -1,5 +1,6 @@
 -- The standing lists that the program keeps.
 use Rattle.std.specs.Prelude.{ℕ, ◌≤◌, length}
+use Rattle.tmm_model.specs.declared.limits.TheConstants.{LAST_HORIZON}
 use Rattle.tmm_model.specs.Answers.{size, most_size}
 use Rattle.tmm_model.specs.Maps.{built}
 use Rattle.list_theory.specs.WellNamed.{IsSound}
@@ -8,7 +9,7 @@ use Rattle.tmm_model.specs.Verdicts.{most_premises, most_points}
 
 -- the greatest horizon
 abbrev pub last_horizon : ℕ
-last_horizon = 100000
+last_horizon = LAST_HORIZON
 
 -- well-formed and well-named premises that some dates satisfy, within all limits
 pub record IsKept (s : Standing) : Type 0 where

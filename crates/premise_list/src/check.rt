@@ -10,12 +10,7 @@ ghost use Rattle.premise_list.specs.Judged.{Judges};
 
 use crate::premise::{Sort, facts_of, name_of, point_count};
 use crate::table::Table;
-use tmm_model::{Edit, Name, PointName, Premise, QueryPoint, Refusal};
-
-// The greatest number of premises, and of points.
-const MOST_PREMISES: usize = 2000;
-
-const MOST_POINTS: usize = 256;
+use tmm_model::{Edit, MOST_POINTS, MOST_PREMISES, Name, PointName, Premise, QueryPoint, Refusal};
 
 /// What is wanted of a name that an edit uses.
 #[derive(Clone, Copy)]

@@ -26,10 +26,7 @@ use premise_list::Standing;
 use std::alloc::Global;
 use std::cmp::Reverse;
 use supports::add_root;
-use tmm_model::{Name, NoMemory, Premise, Refusal, Shape, Stop};
-
-/// The most that the occurrences of a map with their rules may count.
-const MOST_SIZE: u64 = 100_000;
+use tmm_model::{MOST_SIZE, Name, NoMemory, Premise, Refusal, Shape, Stop};
 
 /// What is believed of a standing list.
 #[derive(Drop)]

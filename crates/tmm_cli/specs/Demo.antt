@@ -3,6 +3,7 @@ use Rattle.std.specs.Prelude.{ℕ, ◌+◌, ◌≤◌, ◌≡◌, true, List, []
 use Rattle.std.specs.String.{string_bytes}
 use Rattle.std.specs.declared.alloc.Global.{Global}
 use Rattle.std.specs.declared.string.String.{String}
+use Rattle.tmm_model.specs.declared.limits.TheConstants.{MOST_EVENTS}
 use Rattle.tmm_model.specs.declared.turn.Turn.{Turn}
 use Rattle.tmm_model.specs.Generator.{script_of, summary}
 use Rattle.tmm_model.specs.Replies.{Reply}
@@ -16,7 +17,7 @@ use Rattle.tmm_session.specs.Sessions.{reply_told}
 
 -- the words are `demo`, and n in decimal
 abbrev pub IsDemo : List (String Global) → ℕ → Type 0
-IsDemo (first ∷ second ∷ []) n = (string_bytes first ≡ codes "demo") × (string_bytes second ≡ decimal n) × (1 ≤ n) × (n ≤ 1000)
+IsDemo (first ∷ second ∷ []) n = (string_bytes first ≡ codes "demo") × (string_bytes second ≡ decimal n) × (1 ≤ n) × (n ≤ MOST_EVENTS)
 IsDemo words n = ⊥
 
 -- the replies that a run tells, line by line; none is want of memory

@@ -17,11 +17,12 @@ use map_engine::MapCore;
 use std::alloc::Global;
 use tmm_drive::Status;
 use tmm_io::Sink;
+use tmm_model::MOST_EVENTS;
 use tmm_session::{Kind, Session, Told};
 use tmm_words::number;
 
 /// The greatest N.
-const MOST: i64 = 1000;
+const MOST: i64 = MOST_EVENTS as i64;
 
 /// The N of the words `demo N`, from 1 to 1000 in decimal and with no zero before it.
 pub fn demo_number(words: &[String]) -> Option<u32>

@@ -1,5 +1,6 @@
 -- What a run of the program without words may leave, for each status.
-use Rattle.std.specs.Prelude.{ℕ, ◌+◌, ◌^◌, ◌<◌, ◌≤◌, ◌≡◌, ◌⊎◌, true, List, ◌++◌, All, length, take}
+use Rattle.std.specs.Prelude.{ℕ, ◌+◌, ◌<◌, ◌≤◌, ◌≡◌, ◌⊎◌, true, List, ◌++◌, All, length, take}
+use Rattle.tmm_model.specs.declared.limits.TheConstants.{LONGEST_SCRIPT}
 use Rattle.tmm_model.specs.declared.turn.Turn.{Turn}
 use Rattle.tmm_drive.specs.declared.status.Status.{Status}
 use Rattle.tmm_drive.specs.declared.status.Status.TheVariants.{Clean, SomeRefused, Words, ReadFault, WriteFault, NoMemory, TooLong, SomeMemory}
@@ -9,7 +10,7 @@ use Rattle.tmm_drive.specs.Statuses.{status_of}
 
 -- the most bytes that a script may have
 abbrev pub limit : ℕ
-limit = 2 ^ 30
+limit = LONGEST_SCRIPT
 
 module _ {S : Type 0} (step : S → ℕ → List ℕ → Turn → S → Type 0) (start : S) where
   -- the output is the replies of a run over the lines of the whole text, and the status tells of them

@@ -13,13 +13,13 @@ use memchr::memchr;
 use replies::memory_reply;
 use std::alloc::Global;
 use tmm_io::{Failed, Sink, Source};
-use tmm_model::{Seq, Turn};
+use tmm_model::{LONGEST_LINE, LONGEST_SCRIPT, Seq, Turn};
 
 /// The most bytes that are taken.
-const LIMIT: usize = 1 << 30;
+const LIMIT: usize = LONGEST_SCRIPT;
 
 /// How much of a line is kept: a longer one is refused whatever follows.
-const KEPT: usize = 401;
+const KEPT: usize = LONGEST_LINE + 1;
 
 /// How much is read at once.
 const PIECE: usize = 8192;

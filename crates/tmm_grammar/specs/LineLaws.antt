@@ -1,5 +1,6 @@
 -- The laws of reading and showing a line.
 use Rattle.std.specs.Prelude.{◌≡◌, ℕ, ◌≤◌, List, length, ◌↔◌}
+use Rattle.tmm_model.specs.declared.limits.TheConstants.{LONGEST_LINE}
 use Rattle.tmm_model.specs.declared.premise.Premise.{Premise}
 use Rattle.tmm_model.specs.declared.premise.Edit.TheVariants.{Add}
 use Rattle.tmm_model.specs.declared.line.Line.{Line}
@@ -18,4 +19,4 @@ ReadingIsOne = (ws : List (List ℕ)) (a b : Line) → Reads ws a → Reads ws b
 
 -- the line that shows a premise has at most 400 bytes and reads as the premise
 abbrev pub ShownReads : Type 0
-ShownReads = (premise : Premise) → IsWellFormedPremise premise → (length (shown_text premise) ≤ 400) × ReadsLine (shown_text premise) (Change (Add premise))
+ShownReads = (premise : Premise) → IsWellFormedPremise premise → (length (shown_text premise) ≤ LONGEST_LINE) × ReadsLine (shown_text premise) (Change (Add premise))

@@ -3,6 +3,7 @@
 use Rattle.std.specs.Prelude.{ℕ, zero, suc, ◌+◌, ◌-◌, ◌*◌, ℤ, pos, negsuc, int_le, Bool, true, false, cond, ◌&&◌, ◌==◌, nat_le, List, [], ◌∷◌, length, take, drop, Option, Some, None, option_map, codes}
 use Rattle.std.specs.List.{list_all, list_any, slice_split}
 use Rattle.std.specs.Option.{option_or}
+use Rattle.tmm_model.specs.declared.limits.TheConstants.{GREATEST_NUMBER, LAST_HORIZON}
 use Rattle.tmm_model.specs.declared.bound.Bound.{Bound}
 use Rattle.tmm_model.specs.declared.bound.Bound.TheVariants.{Finite, Free}
 use Rattle.tmm_model.specs.declared.point.PointName.{PointName}
@@ -68,7 +69,7 @@ is_digit b = nat_le 48 b && nat_le b 57
 -- the number that digits write behind those of n, where it is at most 1,000,000,000
 unfoldable pub digits_on : ℕ → List ℕ → Option ℕ
 digits_on n [] = Some n
-digits_on n (b ∷ bs) = cond (is_digit b && nat_le (n * 10 + (b - 48)) 1000000000) (digits_on (n * 10 + (b - 48)) bs) None
+digits_on n (b ∷ bs) = cond (is_digit b && nat_le (n * 10 + (b - 48)) GREATEST_NUMBER) (digits_on (n * 10 + (b - 48)) bs) None
 
 -- a number without a sign
 unfoldable pub natural_of : List ℕ → Option ℕ
@@ -125,7 +126,7 @@ query_point_of w = cond (list_any (λ b. b == 47) w) (option_map Derived (occ_of
 
 -- a number that may be a horizon
 abbrev pub horizon_from : ℤ → Option ℕ
-horizon_from (pos n) = passing (nat_le n 100000) n
+horizon_from (pos n) = passing (nat_le n LAST_HORIZON) n
 horizon_from (negsuc _) = None
 
 -- a horizon

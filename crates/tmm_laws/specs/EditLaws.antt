@@ -1,6 +1,7 @@
 -- Laws of edits.
 use Rattle.std.specs.Prelude.{◌≡◌, ℕ, ◌≤◌, false, List, [], ◌∷◌, ◌++◌, map, length, codes}
 use Rattle.std.specs.List.{AllByRecursion, Contains}
+use Rattle.tmm_model.specs.declared.limits.TheConstants.{LONGEST_LINE}
 use Rattle.tmm_model.specs.declared.line.Line.TheVariants.{Change}
 use Rattle.tmm_model.specs.declared.premise.Edit.{Edit}
 use Rattle.tmm_model.specs.declared.premise.Edit.TheVariants.{Add, Horizon}
@@ -58,7 +59,7 @@ GrowsSmall s = (front back : List Premise) → s.premises ≡ front ++ back → 
 
 -- the line is short enough, and reads as the edit
 abbrev pub ReadsBack : Edit → Type 0
-ReadsBack edit = (length (dumped_line edit) ≤ 400) × ReadsLine (dumped_line edit) (Change edit)
+ReadsBack edit = (length (dumped_line edit) ≤ LONGEST_LINE) × ReadsLine (dumped_line edit) (Change edit)
 
 -- the lines that a dump shows of a kept list tell its edits, and these are accepted from the empty list on,
 -- and leave the list

@@ -3,6 +3,7 @@ use Rattle.std.specs.Prelude.{ℕ, ◌+◌, ◌-◌, ℤ, Bool, true, false, Lis
 use Rattle.std.specs.List.{filter_map}
 use Rattle.std.specs.Option.{option_map, option_map_or, option_and_then}
 use Rattle.std.specs.Ordering.{on}
+use Rattle.tmm_model.specs.declared.limits.TheConstants.{MOST_SIZE, MOST_BLAMES}
 use Rattle.tmm_model.specs.declared.answer.Answer.{Answer}
 use Rattle.tmm_model.specs.declared.answer.Answer.TheVariants.{Yes, No, Unordered}
 use Rattle.tmm_model.specs.declared.answer.Blame.{Blame}
@@ -52,11 +53,11 @@ pub record Row : Type 0 where
 
 -- so many tokens are blamed at most
 abbrev pub most_blames : ℕ
-most_blames = 8
+most_blames = MOST_BLAMES
 
 -- the limit on the size of a map
 abbrev pub most_size : ℕ
-most_size = 100000
+most_size = MOST_SIZE
 
 module _ (m : TimeMap) where
   -- the first believed token that passes

@@ -2,6 +2,7 @@
 use Rattle.std.specs.Prelude.{◌≡◌, ◌≢◌, ℕ, ◌≤◌, ℤ, pos, ◌≤ℤ◌, Bool, false, cond, not, ◌||◌, ◌==◌, List, [], ◌∷◌, ◌++◌, length, codes, decimal, IsTrue}
 use Rattle.std.specs.List.{list_all, onto_first}
 use Rattle.std.specs.Fmt.{signed_decimal}
+use Rattle.tmm_model.specs.declared.limits.TheConstants.{GREATEST_NUMBER, MOST_FACTS, MOST_ANTECEDENTS, LAST_HORIZON}
 use Rattle.tmm_model.specs.declared.bound.Bound.{Bound}
 use Rattle.tmm_model.specs.declared.bound.Bound.TheVariants.{Finite, Free}
 use Rattle.tmm_model.specs.declared.point.PointName.{PointName}
@@ -54,7 +55,7 @@ bound_word Free = codes "*"
 
 -- a number that a line can have: from -1,000,000,000 to 1,000,000,000
 abbrev pub IsNumber : ℤ → Type 0
-IsNumber z = IsWithin 1000000000 z
+IsNumber z = IsWithin GREATEST_NUMBER z
 
 -- such a number, or none
 abbrev pub IsBound : Bound → Type 0
@@ -83,7 +84,7 @@ IsRange _ _ = Unit {0}
 
 -- what a premise can say
 abbrev pub IsWellFormedPremise : Premise → Type 0
-IsWellFormedPremise (Class name facts) = IsName name × AreNames facts.items × (1 ≤ length facts.items) × (length facts.items ≤ 8)
+IsWellFormedPremise (Class name facts) = IsName name × AreNames facts.items × (1 ≤ length facts.items) × (length facts.items ≤ MOST_FACTS)
 IsWellFormedPremise (Kind name) = IsName name
 IsWellFormedPremise (Point name) = IsName name
 IsWellFormedPremise (Event name kind) = IsName name × IsName kind
@@ -91,14 +92,14 @@ IsWellFormedPremise (Token name fact) = IsName name × IsName fact
 IsWellFormedPremise (Span name fact) = IsName name × IsName fact
 IsWellFormedPremise (Dist name from to lo hi) = IsName name × IsWellFormedPoint from × IsWellFormedPoint to × IsBound lo × IsBound hi × IsRange lo hi
 IsWellFormedPremise (Rule name trigger lo hi effect given) =
-    IsName name × IsName trigger × IsNumber lo × IsBound hi × (pos 1 ≤ℤ lo) × IsRange (Finite lo) hi × IsName effect × AreNames given.items × (length given.items ≤ 4)
+    IsName name × IsName trigger × IsNumber lo × IsBound hi × (pos 1 ≤ℤ lo) × IsRange (Finite lo) hi × IsName effect × AreNames given.items × (length given.items ≤ MOST_ANTECEDENTS)
 IsWellFormedPremise (Protect name fact from to) = IsName name × IsName fact × IsWellFormedPoint from × IsWellFormedPoint to
 
 -- what an edit can say
 abbrev pub IsWellFormedEdit : Edit → Type 0
 IsWellFormedEdit (Add premise) = IsWellFormedPremise premise
 IsWellFormedEdit (Erase name) = IsName name
-IsWellFormedEdit (Horizon n) = n ≤ 100000
+IsWellFormedEdit (Horizon n) = n ≤ LAST_HORIZON
 
 -- what a question can say
 abbrev pub IsWellFormedQuery : Query → Type 0

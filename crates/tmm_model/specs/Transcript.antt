@@ -1,5 +1,6 @@
 -- What every line of a script is answered, and what it leaves of the standing list.
 use Rattle.std.specs.Prelude.{◌≡◌, ℕ, ◌≤◌, ◌<◌, List, ℤ, None, length}
+use Rattle.tmm_model.specs.declared.limits.TheConstants.{LONGEST_LINE}
 use Rattle.tmm_model.specs.declared.line.Line.{Line}
 use Rattle.tmm_model.specs.declared.line.Line.TheVariants.{Silent, Change, Question}
 use Rattle.tmm_model.specs.declared.line.Query.{Query}
@@ -25,7 +26,7 @@ use Rattle.tmm_model.specs.Verdicts.{list_cause, Tells}
 
 -- a longer line is refused for its length
 abbrev pub most_bytes : ℕ
-most_bytes = 400
+most_bytes = LONGEST_LINE
 
 -- ---- edits
 

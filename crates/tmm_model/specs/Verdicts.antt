@@ -2,6 +2,7 @@
 use Rattle.std.specs.Prelude.{◌≡◌, ℕ, nat_le, Bool, true, false, ◌||◌, List, [], ◌∷◌, ◌++◌, map, length, codes, Option, Some, None, IsSome}
 use Rattle.std.specs.List.{list_any}
 use Rattle.std.specs.Option.{option_or}
+use Rattle.tmm_model.specs.declared.limits.TheConstants.{MOST_PREMISES, MOST_POINTS}
 use Rattle.tmm_model.specs.declared.point.PointName.{PointName}
 use Rattle.tmm_model.specs.declared.point.PointName.TheVariants.{Start, Begin, End}
 use Rattle.tmm_model.specs.declared.premise.Premise.{Premise}
@@ -15,11 +16,11 @@ use Rattle.tmm_model.specs.Sorts.{Sort, a_span, is_reserved, declared_by, declar
 
 -- the limit on premises
 abbrev pub most_premises : ℕ
-most_premises = 2000
+most_premises = MOST_PREMISES
 
 -- the limit on points, `start` among them
 abbrev pub most_points : ℕ
-most_points = 256
+most_points = MOST_POINTS
 
 -- a cause that the names of a list and its counts decide, with the word as it stands in the line
 pub data Cause : Type 0 where

@@ -12,6 +12,7 @@
 mod answer;
 mod bound;
 mod changes;
+mod limits;
 mod line;
 mod memory;
 mod name;
@@ -27,6 +28,10 @@ mod walk;
 pub use answer::{Answer, Blame, Cause, Report};
 pub use bound::Bound;
 pub use changes::{Changes, Clip, ListRow, WhyLine};
+pub use limits::{
+    GREATEST_NUMBER, LAST_HORIZON, LONGEST_LINE, LONGEST_NAME, LONGEST_SCRIPT, MOST_ANTECEDENTS,
+    MOST_BLAMES, MOST_EDGES, MOST_EVENTS, MOST_FACTS, MOST_POINTS, MOST_PREMISES, MOST_SIZE,
+};
 pub use line::{Line, Query};
 pub use memory::NoMemory;
 pub use name::Name;

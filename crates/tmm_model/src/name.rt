@@ -8,6 +8,7 @@ ghost use Rattle.std.proofs.Common.{rules};
 ghost use Rattle.std.specs.Cmp.Lexicographic.{slice_cmp, pointwise, nat_list_cmp_total, nat_list_eq_equiv, lists_ties};
 ghost use Rattle.tmm_model.specs.Names.{is_letter, is_name_byte, is_name as is_name_of};
 
+use crate::limits::LONGEST_NAME;
 use std::cmp::Ordering;
 use std::hash::{Hash, Hasher};
 use std::marker::Model;
@@ -17,7 +18,7 @@ use std::marker::Model;
 #[derive(Clone, Copy, Debug)]
 pub struct Name {
     // the bytes, and zeros behind them
-    bytes: [u8; 24],
+    bytes: [u8; LONGEST_NAME],
     len: u8,
 }
 
@@ -62,7 +63,7 @@ fn is_name(bytes: &[u8]) -> bool
 {
     match bytes {
         [] => false,
-        [first, rest @ ..] => letter(*first) && all_name_bytes(rest) && rest.len() <= 23,
+        [first, rest @ ..] => letter(*first) && all_name_bytes(rest) && rest.len() < LONGEST_NAME,
     }
 }
 
@@ -76,7 +77,7 @@ fn padded(bytes: &[u8]) -> Name
     requires { length bytes.now ≤ 24 }
     ensures { result ≡ bytes.now }
 {
-    let mut padded = [0; 24];
+    let mut padded = [0; LONGEST_NAME];
     padded[..bytes.len()].copy_from_slice(bytes);
     Name {
         bytes: padded,

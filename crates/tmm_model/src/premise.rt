@@ -4,6 +4,7 @@ ghost use Rattle.tmm_model.specs.Lines.{IsBound};
 ghost use Rattle.tmm_model.specs.Standing.{base_step, length_step, hi_steps, lo_steps};
 
 use crate::bound::Bound;
+use crate::limits::{MOST_ANTECEDENTS, MOST_FACTS};
 use crate::name::Name;
 use crate::point::PointName;
 use crate::walk::{Side, WalkStep};
@@ -15,7 +16,7 @@ pub enum Premise {
     /// A class of facts, any two of which contradict each other.
     Class {
         name: Name,
-        facts: ArrayVec<Name, 8>,
+        facts: ArrayVec<Name, MOST_FACTS>,
     },
     /// A kind of events.
     Kind {
@@ -56,7 +57,7 @@ pub enum Premise {
         lo: i64,
         hi: Bound,
         effect: Name,
-        given: ArrayVec<Name, 4>,
+        given: ArrayVec<Name, MOST_ANTECEDENTS>,
     },
     /// A fact is to hold from one point to another.
     Protect {

@@ -7,7 +7,7 @@ use crate::fields::{
     all_names, at_end, take_bound, take_horizon, take_name, take_number, take_point,
 };
 use arrayvec::ArrayVec;
-use tmm_model::{Bound, Edit, Name, Premise};
+use tmm_model::{Bound, Edit, MOST_ANTECEDENTS, Name, Premise};
 use tmm_words::split_word;
 
 /// The change that a line with this first word makes.
@@ -148,7 +148,7 @@ fn rule(line: &[u8]) -> Option<Premise>
 }
 
 #[tactic(auto, unfolding(tmm_grammar::specs::Reading::given_of))]
-fn given(line: &[u8]) -> Option<ArrayVec<Name, 4>>
+fn given(line: &[u8]) -> Option<ArrayVec<Name, MOST_ANTECEDENTS>>
     ensures { option_map (λ facts. facts.items) result ≡ given_of (words line.now) }
 {
     let Some((word, rest)) = split_word(line) else {

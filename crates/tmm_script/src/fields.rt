@@ -11,7 +11,7 @@ ghost use Rattle.tmm_script.specs.declared.fields.Misread.TheVariants.{Memory};
 
 use arrayvec::ArrayVec;
 use std::alloc::Global;
-use tmm_model::{Bound, Name, NoMemory, Occ, PointName, QueryPoint};
+use tmm_model::{Bound, LAST_HORIZON, Name, NoMemory, Occ, PointName, QueryPoint};
 use tmm_words::{bound, number, occ, point_name, split_word};
 
 /// Why words are not read.
@@ -85,7 +85,7 @@ fn horizon(word: &[u8]) -> Option<u32>
 fn within_horizons(n: i64) -> Option<u32>
     ensures { result ≡ horizon_from n }
 {
-    if 0 <= n && n <= 100_000 {
+    if 0 <= n && n <= i64::from(LAST_HORIZON) {
         Some(n as u32)
     } else {
         None

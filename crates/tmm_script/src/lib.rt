@@ -10,7 +10,7 @@ mod parse;
 mod print;
 mod queries;
 
-pub use parse::{LONGEST_LINE, is_silent, parse_line};
+pub use parse::{is_silent, parse_line};
 pub use print::print_premise;
 
 #[cfg(test)]

@@ -15,11 +15,8 @@ use crate::edits::edit;
 use crate::fields::Misread;
 use crate::queries::query;
 use std::alloc::Global;
-use tmm_model::{Line, Refusal, Stop};
+use tmm_model::{LONGEST_LINE, Line, Refusal, Stop};
 use tmm_words::split_word;
-
-/// The greatest number of bytes of a line.
-pub const LONGEST_LINE: usize = 400;
 
 /// What a line of a script, without its line break, says. A line of more than `LONGEST_LINE` bytes
 /// is refused as `LimitLine`, and one that is in no form of the grammar as `Form`. A silent line and

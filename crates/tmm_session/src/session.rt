@@ -18,9 +18,10 @@ use replies::{
 use std::alloc::Global;
 use tmm_drive::Lines;
 use tmm_model::{
-    Answer, Edit, Line, Name, NoMemory, Occ, Query, QueryPoint, Refusal, Seq, Stop, Turn,
+    Answer, Edit, LONGEST_LINE, Line, Name, NoMemory, Occ, Query, QueryPoint, Refusal, Seq, Stop,
+    Turn,
 };
-use tmm_script::{LONGEST_LINE, is_silent, parse_line};
+use tmm_script::{is_silent, parse_line};
 
 /// Answers the lines of a script over a map.
 #[derive(Drop)]

@@ -4,10 +4,7 @@ ghost use Rattle.tmm_model.specs.Lines.{number_word, bound_word, IsNumber, IsBou
 ghost use Rattle.tmm_grammar.specs.Reading.{number_of, natural_of, digits_on, negative as negative_of};
 ghost use Rattle.tmm_words.specs.Spelling.{IsSpelling};
 
-use tmm_model::Bound;
-
-// the greatest absolute value of a number
-const GREATEST: u32 = 1_000_000_000;
+use tmm_model::{Bound, GREATEST_NUMBER};
 
 /// The number that a word spells: `0`, or an optional `-` and digits whose first is not `0`, of at
 /// most 1,000,000,000 in absolute value.
@@ -66,7 +63,7 @@ fn value(digits: &[u8]) -> Option<u32>
             return None;
         }
         let next = value as u64 * 10 + u64::from(*b - b'0');
-        if next > GREATEST as u64 {
+        if next > GREATEST_NUMBER as u64 {
             return None;
         }
         value = next as u32;

@@ -12,10 +12,10 @@ use dist_net::DistNet;
 use occ_tree::Tree;
 use spots::Spot;
 use std::cmp::Ordering;
-use tmm_model::{Name, TokenRow};
+use tmm_model::{MOST_BLAMES, Name, TokenRow};
 
 /// The most tokens that are blamed.
-pub(crate) const BLAMES: usize = 8;
+pub(crate) const BLAMES: usize = MOST_BLAMES;
 
 /// The first nodes of a fact's tokens in the order of occurrences, and the number of all of them.
 #[derive(Drop)]
