@@ -98,3 +98,10 @@ impl Cell {
         }
     }
 }
+
+impl Default for Cell {
+    /// No bound.
+    fn default() -> Cell {
+        Cell::FREE
+    }
+}
