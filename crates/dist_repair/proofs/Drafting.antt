@@ -10,7 +10,7 @@ use Rattle.tmm_model.specs.Bounds.{IfFinite}
 use Rattle.tmm_model.specs.Walks.{Arc, total}
 use Rattle.walk_theory.specs.LeastWalks.{IsFar, HasWalk}
 use Rattle.walk_theory.proofs.Walks.{IsWalk-kept}
-use Rattle.dist_net.specs.Net.{Net, Nets, IsInUse, entry, arcs_of}
+use Rattle.dist_net.specs.Net.{Net, Nets, entry, arcs_of}
 use Rattle.dist_net.proofs.Ends.{in_places}
 use Rattle.dist_repair.specs.Rows.{rest_of, IsLowered, IsFarRow, IsPresentRow, IsPresentBeside, ChangesRow}
 use Rattle.dist_repair.proofs.Left.{left_sub}

@@ -1,5 +1,5 @@
 -- The first look at the edges that lead to the suspects of a row.
-use Rattle.std.proofs.Common.{◌≡◌, ◌≢◌, ◌∙◌, ◌⊎◌, inl, inr, ℕ, ◌+◌, ◌<◌, ◌≤◌, ◌≤ℤ◌, ◌+ℤ◌, List, [], Option, Some, length, get_or, sym, subst, ap, arith, ℤ, pos}
+use Rattle.std.proofs.Common.{◌≡◌, ◌≢◌, ◌∙◌, ◌⊎◌, inl, inr, ℕ, ◌+◌, ◌<◌, ◌≤◌, ◌≤ℤ◌, ◌+ℤ◌, List, [], Option, Some, length, get_or, sym, subst, ap, arith, pos}
 use Rattle.std.specs.List.{Contains}
 use Rattle.std.proofs.lemmas.Bool.{cases_eq}
 use Rattle.std.proofs.lemmas.Int.{ints}
@@ -16,7 +16,7 @@ use Rattle.dist_net.specs.declared.Edge.{Edge}
 use Rattle.dist_net.specs.Net.{Net, IsInUse, arc_of, arcs_of}
 use Rattle.dist_net.proofs.Ends.{edge_at, ends_in_use}
 use Rattle.dist_repair.specs.Ends.{number_at, IsLastOf}
-use Rattle.dist_repair.specs.Rows.{rest_of, tos_of, IsStartedRow, IsPresentBeside, ArePlaces, IsSound, IsLowered, IsRelaxed, IsDone, IsDoneAt, AreDone, IsLooked}
+use Rattle.dist_repair.specs.Rows.{rest_of, tos_of, IsStartedRow, IsPresentBeside, ArePlaces, IsSound, IsRelaxed, IsDone, IsDoneAt, AreDone, IsLooked}
 use Rattle.dist_repair.proofs.Columns.{StandsFrom, later}
 use Rattle.dist_repair.proofs.Detours.{AtMost-after_walk, IsFar-among}
 use Rattle.dist_repair.proofs.Left.{IsNet, left_sub}

@@ -2,7 +2,7 @@ use Rattle.std.proofs.Common.{ℕ, List, get_or, sym, subst, refl}
 use Rattle.std.proofs.lemmas.List.{get_or_default}
 use Rattle.dist_repair.specs.Rows.{row_of}
 use Rattle.dist_repair.proofs.Left.{IsNet}
-use Rattle.dist_repair.proofs.Looking.{IsSurveying, IsSurveying-start, IsSurveying-more, AreDone-surveyed, IsLooked-trans, IsStartedRow-looked}
+use Rattle.dist_repair.proofs.Looking.{IsSurveying, IsSurveying-start, IsSurveying-more, AreDone-surveyed}
 use Rattle.dist_repair.proofs.look_once.Goals as goal
 
 pub loop-i-init : goal.loop-i-init
