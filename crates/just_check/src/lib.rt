@@ -8,6 +8,7 @@
 #![tactic(auto)]
 
 mod auditing;
+mod expected;
 mod rows;
 mod rules;
 #[cfg(test)]

@@ -67,34 +67,6 @@ impl RulesByKind {
     }
 }
 
-// Whether a premise is a rule on the kind of the event at a node.
-pub(crate) fn is_rule_at(standing: &Standing, tree: &Tree, x: u32, rule: Name) -> bool
-    requires seen { (net : Net) × IsSeen standing.now.present net tree.now }
-    requires live { IsLive tree.now x }
-    ensures { IsTrue result ↔ Contains (rules_at standing.now.present (moment_at tree.now x)) rule }
-{
-    // it tells the proof that names are distinct
-    let _ = standing.len();
-    let row = tree.row(x);
-    match standing.get(rule) {
-        Some(premise) => match row.shape {
-            Shape::Event => is_rule_on(premise, &row.what),
-            _ => false,
-        },
-        None => false,
-    }
-}
-
-// Whether the premise is a rule on this kind.
-fn is_rule_on(premise: &Premise, kind: &Name) -> bool
-    ensures { IsTrue result ↔ IsSome (on_kind kind.now premise.now) }
-{
-    match premise {
-        Premise::Rule { trigger, .. } => trigger == kind,
-        _ => false,
-    }
-}
-
 // Whether the rule fires at the event of a node: its effect begins by the horizon, and each antecedent has
 // a supporter there.
 pub(crate) fn does_fire(standing: &Standing, net: &DistNet, tree: &Tree, x: u32, rule: Name) -> bool
