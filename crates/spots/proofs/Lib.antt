@@ -3,5 +3,6 @@ pub mod Nodes
 pub mod Rows
 pub mod Seen
 pub mod Laws
+pub mod Dates
 pub mod Believed
 pub mod Held
