@@ -1,10 +1,15 @@
-//! The same answers over the tokens of one class in the order of their earliest dates, for a map that
-//! keeps them so.
+//! The same answers over tokens in the order of their earliest dates, for a map that keeps those of each
+//! class so.
 //!
 //! The first supporter or clip in the list is the first by the order, so a search stops at the first that
 //! it finds. No search looks at a token whose date alone rules it out: what supports at a point has a date
 //! up to the point's, what clips a token has a later one than the token's, and what cuts it before a point
 //! has one up to that point's. The bounds of a search are found by halving. No call takes memory.
+//!
+//! `first_clipper` and `blame` cost what they pass over. `is_held` and `holder` cost, for each token of the
+//! fact that they pass over, the way from what cut the one before to what cuts this one: little where those
+//! that cut stand in the order of those that they cut. Where they stand in quite another order it comes to
+//! the square of the tokens up to the last point.
 ghost use Rattle.std.specs.Prelude.{◌≡◌, ◌<◌, ◌≤◌, ◌+◌, ◌↔◌, ◌≤ℤ◌, ℕ, length, IsTrue, false, IfSome, MatchOption, slice_get, slice_index_or};
 ghost use Rattle.std.specs.List.{All, list_any};
 ghost use Rattle.std.specs.Option.{ForSome};
@@ -274,8 +279,7 @@ fn is_supporter<S: Dated>(
 }
 
 /// Whether a token supports the fact throughout `p` to `q`. Those with a date up to that of `p` are asked,
-/// from the last back: what supports now is mostly among the last that began. What cuts one is looked for
-/// behind it up to the date of `q`, from the cutter of the one before on.
+/// from the last back to the first that does: what supports now is mostly among the last that began.
 pub fn is_held<S: Dated>(
     order: &S,
     tokens: &[TokenRow<S::Spot>],
@@ -301,7 +305,7 @@ pub fn is_held<S: Dated>(
 }
 
 /// The place of the first token that supports the fact throughout `p` to `q`, none exactly where no
-/// token does. Those with a date up to that of `p` are asked, from the first on, up to the first that does.
+/// token does. Those with a date up to that of `p` are asked, from the first on to the first that does.
 pub fn holder<S: Dated>(
     order: &S,
     tokens: &[TokenRow<S::Spot>],
@@ -346,7 +350,7 @@ fn first_clip<S: Dated>(
 }
 
 /// The place of the first token that clips the one at `k`, none exactly where no token does. A span
-/// has none. Those with a later date are asked, up to the first that does.
+/// has none. Those with a later date are asked, to the first that does.
 pub fn first_clipper<S: Dated>(order: &S, tokens: &[TokenRow<S::Spot>], k: usize) -> Option<usize>
     requires all_live { All (IsLive (S.live order.now)) tokens.now }
     requires by_date { IsByDate (S.date order.now) (S.order order.now) tokens.now }

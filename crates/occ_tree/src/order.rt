@@ -3,7 +3,7 @@ ghost use Rattle.std.specs.Prelude.{◌≡◌};
 ghost use Rattle.spots.specs.Forest.{IsLive};
 ghost use Rattle.spots.specs.Seen.{HasList};
 ghost use Rattle.std.specs.List.{All};
-ghost use Rattle.spots.specs.Spots.{IsSpot, base_of, links_of, spot_distance, node_early, node_cmp, spot_cmp};
+ghost use Rattle.spots.specs.Spots.{IsSpot, base_of, links_of, spot_distance, node_early, spot_early, node_cmp, spot_cmp};
 ghost use Rattle.tmm_model.specs.Bounds.{IfFinite, IsWithin};
 ghost use Rattle.occ_tree.specs.Light.{AreLight};
 ghost use Rattle.occ_tree.specs.Nodes.{IsThere};
@@ -13,6 +13,7 @@ ghost use Rattle.occ_tree.specs.Ways.{IsWayOf, AreShared};
 use crate::links::{Sums, between, less, plus};
 use crate::tree::Tree;
 use crate::way::shared;
+use clipping::Dated;
 use dist_net::DistNet;
 use spots::Spot;
 use std::cmp::Ordering;
@@ -50,6 +51,21 @@ impl Tree {
         match net.far(node.begin, 0) {
             Bound::Finite(far) => node.sums.low - far,
             Bound::Free => 0,
+        }
+    }
+
+    /// The earliest date of a spot, in whole time units.
+    pub fn date(&self, net: &DistNet, spot: Spot) -> i64
+        requires list { HasList net.now.present self.now }
+        requires live { IsSpot net.now.present.names self.now spot }
+        ensures { result ≡ spot_early net.now.present self.now spot }
+    {
+        match spot {
+            Spot::Node(x) => self.early(net, x),
+            Spot::Declared(_) => match self.far(net, spot, Spot::Declared(0)) {
+                Bound::Finite(far) => -far,
+                Bound::Free => 0,
+            },
         }
     }
 
@@ -158,4 +174,16 @@ impl Sure for Order<'_> {
     ghost triangle = { λ o p q r at_p at_q at_r. triangle o.net.now.present o.tree.now p q r at_p at_q at_r };
 
     ghost ordered = { λ o. ordered o.net.now.present o.tree.now };
+}
+
+impl Dated for Order<'_> {
+    ghost use Rattle.spots.proofs.Dates.{dates_met};
+
+    ghost date = { λ o p. spot_early o.net.now.present o.tree.now p };
+
+    fn date(&self, spot: Spot) -> i64 {
+        self.tree.date(self.net, spot)
+    }
+
+    ghost dated = { λ o. record { met = dates_met o.net.now.present o.tree.now } };
 }

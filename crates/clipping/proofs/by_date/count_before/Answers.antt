@@ -1,9 +1,8 @@
-use Rattle.std.proofs.Common.{◌≡◌, ◌≢◌, ◌∙◌, ◌+◌, ◌-◌, ◌<◌, length, sym, subst, ap, arith, rules}
-use Rattle.std.specs.Prelude.{◌/◌, slice_index_or}
-use Rattle.std.specs.Ordering.{is_lt}
+use Rattle.std.proofs.Common.{◌≡◌, ◌≢◌, ◌∙◌, ◌+◌, ◌-◌, ◌<◌, length, sym, subst, arith}
+use Rattle.std.specs.Prelude.{◌/◌}
 use Rattle.std.specs.declared.cmp.Ordering.TheVariants.{Less}
 use Rattle.std.proofs.lemmas.List.{get_or_default}
-use Rattle.clipping.proofs.ByDate.{is_less, no_less, before_more, behind_more}
+use Rattle.clipping.proofs.Halving.{is_less, no_less, before_more, behind_more}
 use Rattle.clipping.proofs.by_date.count_before.Goals as goal
 
 pub loop-low-preserved-then-is_lt : goal.loop-low-preserved-then-is_lt

@@ -1,8 +1,8 @@
-use Rattle.std.proofs.Common.{◌≡◌, ◌+◌, ◌-◌, ◌<◌, length, sym, subst, arith, ◌≤ℤ◌, ◌<ℤ◌, to_z, of_z, w64, FitsSigned, rules}
+use Rattle.std.proofs.Common.{◌+◌, ◌-◌, ◌<◌, length, subst, arith, ◌≤ℤ◌, ◌<ℤ◌, to_z, of_z, w64, FitsSigned, rules}
 use Rattle.std.specs.Prelude.{◌/◌, slice_index_or}
 use Rattle.std.proofs.lemmas.List.{get_or_default}
 use Rattle.std.proofs.lemmas.Int.{ints, to_z-of_z}
-use Rattle.clipping.proofs.ByDate.{first_more, rest_more}
+use Rattle.clipping.proofs.Halving.{first_more, rest_more}
 use Rattle.clipping.proofs.by_date.count_by_date.Goals as goal
 
 pub loop-low-preserved-then-date-until : goal.loop-low-preserved-then-date-until

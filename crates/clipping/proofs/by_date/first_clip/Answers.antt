@@ -1,5 +1,4 @@
-use Rattle.std.specs.Ordering.{on}
-use Rattle.clipping.proofs.ByDate.{first_clip_is}
+use Rattle.clipping.proofs.RuledOut.{first_clip_is}
 use Rattle.clipping.proofs.by_date.first_clip.Goals as goal
 
 pub returns : goal.returns

@@ -1,9 +1,7 @@
-use Rattle.std.proofs.Common.{◌≡◌, ◌+◌, ◌<◌, ◌∙◌, true, false, length, sym, arith, below_more}
-use Rattle.std.specs.Prelude.{slice_index_or}
-use Rattle.tmm_model.specs.declared.token.TokenRow.{TokenRow}
+use Rattle.std.proofs.Common.{◌<◌, ◌∙◌, length, sym, arith}
 use Rattle.tmm_model.specs.Tokens.{of_one_class, supports}
 use Rattle.clipping.specs.ByDate.{NonePass}
-use Rattle.clipping.proofs.ByDate.{first_is, all_fail, none_later, none_more}
+use Rattle.clipping.proofs.RuledOut.{first_is, all_fail, none_later, none_more}
 use Rattle.clipping.proofs.by_date.holder.Goals as goal
 
 pub returns-then-is_supporter : goal.returns-then-is_supporter

@@ -1,8 +1,8 @@
-use Rattle.std.proofs.Common.{◌≡◌, ◌∙◌, ◌-◌, ◌<◌, length, false, true, IsTrue, sym, arith, ◌≤ℤ◌}
+use Rattle.std.proofs.Common.{◌≡◌, ◌∙◌, ◌-◌, ◌<◌, length, sym, arith, ◌≤ℤ◌}
 use Rattle.std.specs.declared.cmp.Ordering.TheVariants.{Less}
 use Rattle.std.proofs.lemmas.Bool.{false≢true}
 use Rattle.tmm_model.specs.declared.token.TokenRow.{TokenRow}
-use Rattle.clipping.proofs.ByDate.{dates_on, before_on, pair_read}
+use Rattle.clipping.proofs.Rising.{dates_on, before_on, pair_read}
 use Rattle.clipping.proofs.by_date.is_by_date.Goals as goal
 
 pub returns-then-not-follows : goal.returns-then-not-follows

@@ -1,11 +1,10 @@
-use Rattle.std.proofs.Common.{◌≡◌, ◌+◌, true, false, length, subst, sym, arith}
-use Rattle.std.specs.Prelude.{slice_index_or}
+use Rattle.std.proofs.Common.{◌≡◌, ◌+◌, true, subst, sym}
 use Rattle.std.specs.List.{list_any}
 use Rattle.std.proofs.lemmas.List.{get_or_read}
 use Rattle.tmm_model.specs.declared.token.TokenRow.{TokenRow}
 use Rattle.tmm_model.specs.Tokens.{of_one_class, cuts}
 use Rattle.clipping.specs.ByDate.{NonePass}
-use Rattle.clipping.proofs.ByDate.{none_cuts, one_passes}
+use Rattle.clipping.proofs.RuledOut.{none_cuts, one_passes}
 use Rattle.clipping.proofs.by_date.is_cut.Goals as goal
 
 pub returns-in-On : goal.returns-in-On

@@ -1,10 +1,8 @@
-use Rattle.std.proofs.Common.{◌≡◌, ◌+◌, ◌-◌, ◌<◌, ◌∙◌, true, false, length, sym, arith}
-use Rattle.std.specs.Prelude.{slice_index_or}
+use Rattle.std.proofs.Common.{◌-◌, ◌∙◌, sym, arith}
 use Rattle.std.proofs.lemmas.List.Folds.{list_any_none}
-use Rattle.tmm_model.specs.declared.token.TokenRow.{TokenRow}
 use Rattle.tmm_model.specs.Tokens.{of_one_class, supports}
 use Rattle.clipping.specs.ByDate.{IsPlaceIn}
-use Rattle.clipping.proofs.ByDate.{none_later, none_less, one_passes}
+use Rattle.clipping.proofs.RuledOut.{none_later, none_less, one_passes}
 use Rattle.clipping.proofs.by_date.is_held.Goals as goal
 
 pub loop-i-init : goal.loop-i-init

@@ -2,7 +2,7 @@ use Rattle.std.proofs.Common.{◌≡◌, ◌≢◌, ◌∙◌, ◌<◌, sym, ap,
 use Rattle.std.specs.Prelude.{slice_index_or}
 use Rattle.std.specs.declared.cmp.Ordering.TheVariants.{Equal}
 use Rattle.tmm_model.specs.declared.token.TokenRow.{TokenRow}
-use Rattle.clipping.proofs.ByDate.{no_tie, not_there}
+use Rattle.clipping.proofs.Halving.{no_tie, not_there}
 use Rattle.clipping.proofs.by_date.place_of.Goals as goal
 
 pub returns-else-is_eq : goal.returns-else-is_eq

@@ -1,5 +1,5 @@
--- Tokens in the order of their dates: places that halving finds, and what dates rule out.
-use Rattle.std.proofs.Common.{◌≡◌, ◌≢◌, ◌∙◌, ℕ, ◌+◌, ◌-◌, ◌<◌, ◌≤◌, ◌⊎◌, inl, inr, Bool, true, false, List, [], ◌∷◌, length, IsTrue, refl, sym, subst, ap, arith}
+-- What dates rule out, and what is found among the rest.
+use Rattle.std.proofs.Common.{◌≡◌, ℕ, ◌+◌, ◌-◌, ◌<◌, ◌≤◌, inl, inr, Bool, true, false, List, [], ◌∷◌, length, IsTrue, refl, sym, subst, ap, arith}
 use Rattle.std.proofs.lemmas.Int.{ints}
 use Rattle.std.proofs.lemmas.Bool.{cases_order, cases_lt, and_left, and_right, both_ways, false_from_ne_true}
 use Rattle.std.specs.Option.{ForSome}
@@ -8,8 +8,7 @@ use Rattle.std.specs.List.{All, list_any}
 use Rattle.std.proofs.lemmas.List.{get_or_default}
 use Rattle.std.proofs.lemmas.List.Folds.{list_any_none, list_any_at}
 use Rattle.std.specs.declared.cmp.Ordering.{Ordering}
-use Rattle.std.specs.declared.cmp.Ordering.TheVariants.{Less, Equal, Greater}
-use Rattle.std.specs.Ordering.{is_lt, is_eq, is_gt, ordering_reverse, on}
+use Rattle.std.specs.Ordering.{is_gt, on}
 use Rattle.belief_theory.specs.FirstPlaces.{IsFirstAmong, IsFirstPlace}
 use Rattle.belief_theory.proofs.Firsts.{itself}
 use Rattle.tmm_model.specs.declared.token.TokenRow.{TokenRow}
@@ -20,87 +19,9 @@ use Rattle.tmm_model.specs.Points.{same_name}
 use Rattle.tmm_model.specs.Tokens.{of_one_class, is_by, is_before, clips, cuts, lasts_to, supports}
 use Rattle.tmm_model.specs.Types.{IsOrderOn}
 use Rattle.clipping.specs.Live.{IsLive}
-use Rattle.clipping.specs.ByDate.{AreDatesOn, IsByDate, AreUntil, AreBefore, NonePass, IsPlaceIn, IsFirstPlaceIn}
+use Rattle.clipping.specs.ByDate.{AreDatesOn, IsByDate, AreUntil, NonePass, IsPlaceIn, IsFirstPlaceIn}
 use Rattle.clipping.specs.Cutters.{clips_until}
-
-pub is_less : (r : Ordering) → is_lt r ≡ true → r ≡ Less
-is_less Less e = refl
-is_less Equal e = cc
-is_less Greater e = cc
-
-pub no_less : (r : Ordering) → is_lt r ≡ false → r ≢ Less
-no_less r e same = let less : is_lt r ≡ true = ap is_lt same in cc
-
-pub no_tie : (r : Ordering) → is_eq r ≡ false → r ≢ Equal
-no_tie r e same = let tie : is_eq r ≡ true = ap is_eq same in cc
-
-module _ {P : Type 0} {date : P → ℤ} {order : P → P → Ordering} (tokens : List (TokenRow P)) (sorted : IsByDate date order tokens) where
-  -- ---- by the date in the middle
-
-  pub first_more : (i : ℕ) (until : ℤ) → i < length tokens → ((d : TokenRow P) → date (slice_index_or tokens i d).spot ≤ℤ until)
-      → (j : ℕ) (d : TokenRow P) → j < i + 1 → date (slice_index_or tokens j d).spot ≤ℤ until
-  first_more i until within here j d lt = elim (cases_order j i) [
-    | inl same ↦ subst (λ k. date (slice_index_or tokens k d).spot ≤ℤ until) (sym same) (here d)
-    | inr other ↦ elim other [
-      | inl less ↦ let up = sorted.dates j i d less within in let at = here d in omega (arith, ints)
-      | inr more ↦ absurd (omega arith)
-    ]
-  ]
-
-  pub rest_more : (i : ℕ) (until : ℤ) → i < length tokens → ((d : TokenRow P) → until <ℤ date (slice_index_or tokens i d).spot)
-      → (j : ℕ) (d : TokenRow P) → i ≤ j → j < length tokens → until <ℤ date (slice_index_or tokens j d).spot
-  rest_more i until within here j d le lt = elim (cases_order j i) [
-    | inl same ↦ subst (λ k. until <ℤ date (slice_index_or tokens k d).spot) (sym same) (here d)
-    | inr other ↦ elim other [
-      | inl less ↦ absurd (omega arith)
-      | inr more ↦ let up = sorted.dates i j d more lt in let at = here d in omega (arith, ints)
-    ]
-  ]
-
-  -- ---- by the spot in the middle
-
-  module _ {live : P → Type 0} (law : IsOrderOn live order) (all : All (IsLive live) tokens) (spot : P) (there : live spot) where
-    pub before_more : (i : ℕ) → i < length tokens → ((d : TokenRow P) → order (slice_index_or tokens i d).spot spot ≡ Less)
-        → (j : ℕ) (d : TokenRow P) → j < i + 1 → order (slice_index_or tokens j d).spot spot ≡ Less
-    before_more i within here j d lt = elim (cases_order j i) [
-      | inl same ↦ subst (λ k. order (slice_index_or tokens k d).spot spot ≡ Less) (sym same) (here d)
-      | inr other ↦ elim other [
-        | inl less ↦ law.trans (slice_index_or tokens j d).spot (slice_index_or tokens i d).spot spot (all j d (omega arith)).begin (all i d within).begin there (sorted.before j i d less within) (here d)
-        | inr more ↦ absurd (omega arith)
-      ]
-    ]
-
-    pub behind_more : (i : ℕ) → i < length tokens → ((d : TokenRow P) → order (slice_index_or tokens i d).spot spot ≢ Less)
-        → (j : ℕ) (d : TokenRow P) → i ≤ j → j < length tokens → order (slice_index_or tokens j d).spot spot ≢ Less
-    behind_more i within here j d le lt less = elim (cases_order j i) [
-      | inl same ↦ here d (subst (λ k. order (slice_index_or tokens k d).spot spot ≡ Less) same less)
-      | inr other ↦ elim other [
-        | inl fewer ↦ absurd (omega arith)
-        | inr more ↦ here d (law.trans (slice_index_or tokens i d).spot (slice_index_or tokens j d).spot spot (all i d within).begin (all j d lt).begin there (sorted.before i j d more lt) less)
-      ]
-    ]
-
-    own_tie : (x : P) → live x → order x x ≡ Equal
-    own_tie x lx = by (order x x) refl (law.antisymm x x lx lx)
-      where
-        by : (r : Ordering) → order x x ≡ r → order x x ≡ ordering_reverse (order x x) → order x x ≡ Equal
-        by Less e q = let t : Less ≡ Greater = sym e ∙ q ∙ ap ordering_reverse e in cc
-        by Equal e q = e
-        by Greater e q = let t : Greater ≡ Less = sym e ∙ q ∙ ap ordering_reverse e in cc
-
-    -- where the first token that is not before the spot does not begin there, none does
-    pub not_there : (n : ℕ) → AreBefore order tokens spot n → (n < length tokens → (d : TokenRow P) → order (slice_index_or tokens n d).spot spot ≢ Equal)
-        → (i : ℕ) (d : TokenRow P) → i < length tokens → (slice_index_or tokens i d).spot ≢ spot
-    not_there n are apart i d within same = elim (cases_order i n) [
-      | inl here ↦ apart (omega arith) d (subst (λ k. order (slice_index_or tokens k d).spot spot ≡ Equal) here tied)
-      | inr other ↦ elim other [
-        | inl less ↦ let before : order (slice_index_or tokens i d).spot spot ≡ Less = are.first i d less in cc (tied)
-        | inr more ↦ are.rest n d (omega arith) (omega arith) (subst (λ x. order (slice_index_or tokens n d).spot x ≡ Less) same (sorted.before n i d more within))
-      ]
-    ]
-      where
-        tied : order (slice_index_or tokens i d).spot spot ≡ Equal
-        tied = subst (λ x. order x spot ≡ Equal) (sym same) (own_tie spot there)
+use Rattle.clipping.proofs.Halving.{first_more}
 
 -- ---- what dates rule out
 
@@ -236,38 +157,3 @@ first_clip_is {P} {live} {far} {date} {order} law dated tokens sorted all k at u
     ]
     by (Some i) (h, before) = first_is law tokens sorted all test i (omega (arith, short, h.before)) h.passes
         (λ j d from lt. elim (cases_lt j low) [ inl less ↦ front j d from less | inr more ↦ before j d more lt ])
-
--- ---- one token more in the order of dates
-
--- what is read does not hang on the default
-pub pair_read : {A : Type 0} (Q : A → A → Type 0) (xs : List A) (j k : ℕ) (a b d e : A) → j < length xs → k < length xs → Q (slice_index_or xs j a) (slice_index_or xs k b) → Q (slice_index_or xs j d) (slice_index_or xs k e)
-pair_read Q xs j k a b d e in_j in_k h =
-    subst (λ x. Q x (slice_index_or xs k e)) (get_or_default xs j a d in_j) (subst (λ y. Q (slice_index_or xs j a) y) (get_or_default xs k b e in_k) h)
-
-module _ {P : Type 0} {live : P → Type 0} (date : P → ℤ) {order : P → P → Ordering} (law : IsOrderOn live order) (tokens : List (TokenRow P)) (all : All (IsLive live) tokens) (i : ℕ) (some : 0 < i) (within : i < length tokens) where
-  pub dates_on : ((j k : ℕ) (d : TokenRow P) → j < k → k < i → k < length tokens → date (slice_index_or tokens j d).spot ≤ℤ date (slice_index_or tokens k d).spot)
-      → ((d : TokenRow P) → date (slice_index_or tokens (i - 1) d).spot ≤ℤ date (slice_index_or tokens i d).spot)
-      → (j k : ℕ) (d : TokenRow P) → j < k → k < i + 1 → k < length tokens → date (slice_index_or tokens j d).spot ≤ℤ date (slice_index_or tokens k d).spot
-  dates_on up last j k d lt below there = elim (cases_lt k i) [
-    | inl less ↦ up j k d lt less there
-    | inr more ↦ (let same : i ≡ k = omega arith in
-        let here = last d in
-        subst (λ n. date (slice_index_or tokens j d).spot ≤ℤ date (slice_index_or tokens n d).spot) same
-        (elim (cases_lt j (i - 1)) [
-          | inl front ↦ let first = up j (i - 1) d front (omega arith) (omega arith) in omega (arith, ints)
-          | inr next ↦ let one : i - 1 ≡ j = omega arith in subst (λ n. date (slice_index_or tokens n d).spot ≤ℤ date (slice_index_or tokens i d).spot) one here
-        ]))
-  ]
-
-  pub before_on : ((j k : ℕ) (d : TokenRow P) → j < k → k < i → k < length tokens → order (slice_index_or tokens j d).spot (slice_index_or tokens k d).spot ≡ Less)
-      → ((d : TokenRow P) → order (slice_index_or tokens (i - 1) d).spot (slice_index_or tokens i d).spot ≡ Less)
-      → (j k : ℕ) (d : TokenRow P) → j < k → k < i + 1 → k < length tokens → order (slice_index_or tokens j d).spot (slice_index_or tokens k d).spot ≡ Less
-  before_on up last j k d lt below there = elim (cases_lt k i) [
-    | inl less ↦ up j k d lt less there
-    | inr more ↦ (let same : i ≡ k = omega arith in
-        subst (λ n. order (slice_index_or tokens j d).spot (slice_index_or tokens n d).spot ≡ Less) same
-        (elim (cases_lt j (i - 1)) [
-          | inl front ↦ law.trans (slice_index_or tokens j d).spot (slice_index_or tokens (i - 1) d).spot (slice_index_or tokens i d).spot (all j d (omega arith)).begin (all (i - 1) d (omega arith)).begin (all i d within).begin (up j (i - 1) d front (omega arith) (omega arith)) (last d)
-          | inr next ↦ let one : i - 1 ≡ j = omega arith in subst (λ n. order (slice_index_or tokens n d).spot (slice_index_or tokens i d).spot ≡ Less) one (last d)
-        ]))
-  ]
