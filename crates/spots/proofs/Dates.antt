@@ -1,5 +1,5 @@
 -- The earliest dates of spots meet their distances.
-use Rattle.std.proofs.Common.{◌≡◌, ◌∙◌, ℕ, ℤ, pos, negsuc, Bool, true, false, List, [], ◌∷◌, refl, sym, ap, subst, inl, inr, arith, ◌+ℤ◌, ◌≤ℤ◌}
+use Rattle.std.proofs.Common.{◌≡◌, ◌∙◌, ℕ, ℤ, pos, negsuc, Bool, true, false, List, [], ◌∷◌, refl, sym, ap, inl, inr, arith, ◌+ℤ◌, ◌≤ℤ◌}
 use Rattle.std.proofs.lemmas.Int.{ints}
 use Rattle.std.specs.Prelude.{◌-ℤ◌}
 use Rattle.std.specs.List.{Contains}
@@ -14,9 +14,9 @@ use Rattle.tmm_model.specs.Moments.{negated, base}
 use Rattle.tmm_model.specs.Standing.{Standing, points_of, points_in, arcs_of, arcs_in, far_in}
 use Rattle.tmm_model.specs.Types.{IsTighter}
 use Rattle.tmm_model.specs.Walks.{Arc, total}
-use Rattle.walk_theory.specs.LeastWalks.{AtMost, IsWalk, IsFar}
+use Rattle.walk_theory.specs.LeastWalks.{AtMost, IsWalk}
 use Rattle.list_theory.proofs.Elements.{In, In-from_Contains, Contains-from_In, In-flat_map, flat_map-In}
-use Rattle.belief_theory.proofs.Sound.{shortest, far_in-IsFar}
+use Rattle.belief_theory.proofs.Sound.{far_in-IsFar}
 use Rattle.dist_net.specs.Net.{Net, same_number}
 use Rattle.list_net.specs.Represents.{IsNumberOf}
 use Rattle.list_net.proofs.Nets.{is_in_use}
@@ -49,9 +49,11 @@ walk_of premises q there p at = by q there at
     by (Span name fact) there (inl is) = one name (based name (Span name fact) there (inl refl)) is
     by (Span name fact) there (inr (inl is)) = (
       record { from = End name; to = Begin name; weight = negsuc 0 } ∷ record { from = Begin name; to = Start; weight = pos 0 } ∷ [],
-      (Contains-from_In (arcs_in premises) (record { from = End name; to = Begin name; weight = negsuc 0 }) (flat_map-In arcs_of premises (Span name fact) (record { from = End name; to = Begin name; weight = negsuc 0 }) there (inr (inl refl))),
-      is,
-      (based name (Span name fact) there (inl refl), refl, refl)),
+      (
+        Contains-from_In (arcs_in premises) (record { from = End name; to = Begin name; weight = negsuc 0 }) (flat_map-In arcs_of premises (Span name fact) (record { from = End name; to = Begin name; weight = negsuc 0 }) there (inr (inl refl))),
+        is,
+        (based name (Span name fact) there (inl refl), refl, refl),
+      ),
     )
     by (Point name) there (inr at) = absurd at
     by (Event name kind) there (inr at) = absurd at
