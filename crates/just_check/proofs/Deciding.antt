@@ -18,6 +18,7 @@ use Rattle.belief_theory.proofs.Order.{total}
 use Rattle.dist_net.specs.Net.{Net}
 use Rattle.spots.specs.Forest.{Forest, IsLive, moment_at}
 use Rattle.spots.specs.Seen.{IsSeen}
+use Rattle.occ_tree.specs.Places.{forest}
 use Rattle.spots.proofs.Nodes.{node_at, live_at, moment_at-is}
 use Rattle.spots.proofs.Seen.{order_is}
 use Rattle.supports.specs.Growing.{Adds}
@@ -79,27 +80,27 @@ module _ (s : Standing) (b : List Moment) (t : Moment) where
 -- ---- one event more is decided
 
 module _ (s : Standing) (net : Net) (b : List Moment) (old : Checked) (x : ℕ) (below : old.decided < length old.nodes.items) (is : x ≡ get_or old.nodes.items old.decided x) where
-  pub decided_node : IsTaken s net old b → IsLive old.tree x
-  decided_node taken = All-contains (IsLive old.tree) old.nodes.items x taken.live (Contains-from_In old.nodes.items x (element_in (moment_at old.tree) old.nodes.items old.decided x below is))
+  pub decided_node : IsTaken s net old b → IsLive (forest old.tree) x
+  decided_node taken = All-contains (IsLive (forest old.tree)) old.nodes.items x taken.live (Contains-from_In old.nodes.items x (element_in (moment_at (forest old.tree)) old.nodes.items old.decided x below is))
 
   module _ (new : Checked) (tree : new.tree ≡ old.tree) (nodes : new.nodes ≡ old.nodes) (next : new.decided ≡ old.decided + 1) where
-    pub decided_more : decided_in new ≡ decided_in old ++ moment_at old.tree x ∷ []
-    decided_more = (λ i. map (moment_at (tree i)) (take (next i) (nodes i).items)) ∙ mapped_more (moment_at old.tree) old.nodes.items old.decided x below is
+    pub decided_more : decided_in new ≡ decided_in old ++ moment_at (forest old.tree) x ∷ []
+    decided_more = (λ i. map (moment_at (forest (tree i))) (take (next i) (nodes i).items)) ∙ mapped_more (moment_at (forest old.tree)) old.nodes.items old.decided x below is
 
-    pub decides_next : OwesMore s b (moment_at old.tree x) (rules_at s (moment_at old.tree x)) (map moment_of old.owed.items) (map moment_of new.owed.items) → IsTaken s net old b → IsTaken s net new b
+    pub decides_next : OwesMore s b (moment_at (forest old.tree) x) (rules_at s (moment_at (forest old.tree) x)) (map moment_of old.owed.items) (map moment_of new.owed.items) → IsTaken s net old b → IsTaken s net new b
     decides_next more taken = record {
-      so_far = subst (λ f. AreSoFar s net f b) (sym tree) taken.so_far;
-      live = subst (λ f. All (IsLive f) new.nodes.items) (sym tree) (subst (λ ns. All (IsLive old.tree) ns.items) (sym nodes) taken.live);
-      nodes = (λ i. map (moment_at (tree i)) (nodes i).items) ∙ taken.nodes;
+      so_far = subst (λ t. AreSoFar s net (forest t) b) (sym tree) taken.so_far;
+      live = subst (λ t. All (IsLive (forest t)) new.nodes.items) (sym tree) (subst (λ ns. All (IsLive (forest old.tree)) ns.items) (sym nodes) taken.live);
+      nodes = (λ i. map (moment_at (forest (tree i))) (nodes i).items) ∙ taken.nodes;
       within = let same : length new.nodes.items ≡ length old.nodes.items = ap (λ ns. length ns.items) nodes in omega (arith, next, same);
-      owes = subst (λ events. Owes s b events (map moment_of new.owed.items)) (sym decided_more) (owes_more s b (moment_at old.tree x) (decided_in old) (map moment_of old.owed.items) (map moment_of new.owed.items) taken.owes more);
+      owes = subst (λ events. Owes s b events (map moment_of new.owed.items)) (sym decided_more) (owes_more s b (moment_at (forest old.tree) x) (decided_in old) (map moment_of old.owed.items) (map moment_of new.owed.items) taken.owes more);
     }
 
     -- it begins before some row
-    pub checks_next : (y : Moment) → In y b → date_of s (moment_at old.tree x) <ℤ date_of s y → IsTaken s net new b → IsChecked s net old b → IsChecked s net new b
+    pub checks_next : (y : Moment) → In y b → date_of s (moment_at (forest old.tree) x) <ℤ date_of s y → IsTaken s net new b → IsChecked s net old b → IsChecked s net new b
     checks_next y at less taken checked = record {
       taken = taken;
-      past = λ t decided. elim (In-cases (decided_in old) (moment_at old.tree x ∷ []) t (subst (In t) decided_more decided)) [
+      past = λ t decided. elim (In-cases (decided_in old) (moment_at (forest old.tree) x ∷ []) t (subst (In t) decided_more decided)) [
         | inl l ↦ checked.past t l
         | inr (inl is) ↦ (y, at, subst (λ z. date_of s z <ℤ date_of s y) is less)
         | inr (inr never) ↦ absurd never
@@ -131,15 +132,15 @@ In-take (suc n) [] x at = absurd at
 In-take (suc n) (y ∷ xs) x (inl is) = inl is
 In-take (suc n) (y ∷ xs) x (inr at) = inr (In-take n xs x at)
 
-module _ (s : Standing) (net : Net) (old : Checked) (b : List Moment) (checked : IsChecked s net old b) (k : Moment) (new : Forest) (x : ℕ) (adds : Adds s net.names old.tree new x k) (joins : Joins s b k) where
+module _ (s : Standing) (net : Net) (old : Checked) (b : List Moment) (checked : IsChecked s net old b) (k : Moment) (new : Forest) (x : ℕ) (adds : Adds s net.names (forest old.tree) new x k) (joins : Joins s b k) where
   sound : IsSound s
   sound = checked.taken.so_far.seen.network.sound
 
-  all_live : (y : ℕ) → In y old.nodes.items → IsLive old.tree y
-  all_live y at = All-contains (IsLive old.tree) old.nodes.items y checked.taken.live (Contains-from_In old.nodes.items y at)
+  all_live : (y : ℕ) → In y old.nodes.items → IsLive (forest old.tree) y
+  all_live y at = All-contains (IsLive (forest old.tree)) old.nodes.items y checked.taken.live (Contains-from_In old.nodes.items y at)
 
   pub new_seen : IsSeen s net new
-  new_seen = adds_seen s net old.tree new x k adds (held_apart s net old.tree new x k adds b checked.taken.so_far.holds joins.new) checked.taken.so_far.seen
+  new_seen = adds_seen s net (forest old.tree) new x k adds (held_apart s net (forest old.tree) new x k adds b checked.taken.so_far.holds joins.new) checked.taken.so_far.seen
 
   pub new_live : IsLive new x
   new_live = live_at new x adds.node adds.enters.entered
@@ -147,14 +148,14 @@ module _ (s : Standing) (net : Net) (old : Checked) (b : List Moment) (checked :
   pub new_is : moment_at new x ≡ k
   new_is = moment_at-is new x adds.node adds.enters.entered ∙ adds.is
 
-  still_live : (y : ℕ) → IsLive old.tree y → IsLive new y
-  still_live y live = let (m, here) = node_at old.tree y live in live_at new y m (node_kept s net old.tree new x k adds y m here)
+  still_live : (y : ℕ) → IsLive (forest old.tree) y → IsLive new y
+  still_live y live = let (m, here) = node_at (forest old.tree) y live in live_at new y m (node_kept s net (forest old.tree) new x k adds y m here)
 
   pub nodes_live : All (IsLive new) old.nodes.items
   nodes_live = All-from_contains (IsLive new) old.nodes.items (λ y at. still_live y (all_live y (In-from_Contains old.nodes.items y at)))
 
   same_moments : map (moment_at new) old.nodes.items ≡ b
-  same_moments = kept_moments s net old.tree new x k adds old.nodes.items all_live ∙ checked.taken.nodes
+  same_moments = kept_moments s net (forest old.tree) new x k adds old.nodes.items all_live ∙ checked.taken.nodes
 
   -- the last of b comes before k exactly where all of b do
   pub behind_last : ComesAfter net new old.nodes.items x → IsBehind s b k
@@ -178,19 +179,19 @@ module _ (s : Standing) (net : Net) (old : Checked) (b : List Moment) (checked :
       let at : In last old.nodes.items = subst (In last) (sym e) (In-right front (last ∷ []) last (inl refl)) in
       let live = all_live last at in
       order_is s net new new_seen last x (still_live last live) new_live
-      ∙ (λ i. order (built s) (kept_moment s net old.tree new x k adds last live i) (new_is i))
-      ∙ behind (moment_at old.tree last) (one_of old.tree b last checked.taken.so_far.holds live)
+      ∙ (λ i. order (built s) (kept_moment s net (forest old.tree) new x k adds last live i) (new_is i))
+      ∙ behind (moment_at (forest old.tree) last) (one_of (forest old.tree) b last checked.taken.so_far.holds live)
 
   module _ (behind : IsBehind s b k) where
     pub more_so_far : AreSoFar s net new (b ++ k ∷ [])
     more_so_far = record {
       seen = new_seen;
-      holds = adds_holds s net old.tree new x k adds b checked.taken.so_far.holds joins.new;
+      holds = adds_holds s net (forest old.tree) new x k adds b checked.taken.so_far.holds joins.new;
       first = push_first s sound b checked.taken.so_far.first k joins behind;
     }
 
     -- **The row is taken behind the others.**
-    pub takes : (c : Checked) → c.tree ≡ new → c.nodes.items ≡ old.nodes.items ++ x ∷ [] → c.decided ≡ old.decided → c.owed ≡ old.owed → IsChecked s net c (b ++ k ∷ [])
+    pub takes : (c : Checked) → forest c.tree ≡ new → c.nodes.items ≡ old.nodes.items ++ x ∷ [] → c.decided ≡ old.decided → c.owed ≡ old.owed → IsChecked s net c (b ++ k ∷ [])
     takes c tree nodes decided owed = record {
       taken = record {
         so_far = subst (λ f. AreSoFar s net f (b ++ k ∷ [])) (sym tree) more_so_far;
@@ -208,7 +209,7 @@ module _ (s : Standing) (net : Net) (old : Checked) (b : List Moment) (checked :
         same_events =
             (λ i. map (moment_at (tree i)) (take (decided i) (nodes i)))
             ∙ ap (map (moment_at new)) (take-append-le old.decided old.nodes.items (x ∷ []) checked.taken.within)
-            ∙ kept_moments s net old.tree new x k adds (take old.decided old.nodes.items) (λ y at. all_live y (In-take old.decided old.nodes.items y at))
+            ∙ kept_moments s net (forest old.tree) new x k adds (take old.decided old.nodes.items) (λ y at. all_live y (In-take old.decided old.nodes.items y at))
 
         before : (t : Moment) → In t (decided_in old) → date_of s t <ℤ date_of s k
         before t at = let (y, there, less) = checked.past t at in chain (date_of s t) (date_of s y) (date_of s k) less (no_later s sound y k (behind y there))

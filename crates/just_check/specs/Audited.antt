@@ -9,6 +9,7 @@ use Rattle.list_theory.proofs.Elements.{In}
 use Rattle.dist_net.specs.Net.{Net}
 use Rattle.spots.specs.Forest.{Forest, Member, member, IsLive, moment, moment_at}
 use Rattle.spots.specs.Spots.{node_cmp}
+use Rattle.occ_tree.specs.Places.{forest}
 use Rattle.just_check.specs.declared.auditing.Checked.{Checked}
 use Rattle.just_check.specs.Checking.{Joins, AreSoFar, Owes}
 
@@ -18,13 +19,13 @@ date_of s x = early s (far_in s.premises) x
 
 -- the events that are decided
 abbrev pub decided_in : Checked → List Moment
-decided_in c = map (moment_at c.tree) (take c.decided c.nodes.items)
+decided_in c = map (moment_at (forest c.tree)) (take c.decided c.nodes.items)
 
 -- the rows so far are these occurrences, and what is owed at the first of them is decided
 pub record IsTaken (s : Standing) (net : Net) (c : Checked) (b : List Moment) : Type 0 where
-  pub so_far : AreSoFar s net c.tree b
-  pub live : All (IsLive c.tree) c.nodes.items
-  pub nodes : map (moment_at c.tree) c.nodes.items ≡ b
+  pub so_far : AreSoFar s net (forest c.tree) b
+  pub live : All (IsLive (forest c.tree)) c.nodes.items
+  pub nodes : map (moment_at (forest c.tree)) c.nodes.items ≡ b
   pub within : c.decided ≤ length c.nodes.items
   pub owes : Owes s b (decided_in c) (map moment_of c.owed.items)
 
@@ -52,7 +53,7 @@ IsDated s b date = (y : Moment) × In y b × (date_of s y ≡ date)
 
 -- the rows are these occurrences, and what is owed at all of them
 pub record Decides (s : Standing) (net : Net) (c : Checked) (b : List Moment) : Type 0 where
-  pub so_far : AreSoFar s net c.tree b
+  pub so_far : AreSoFar s net (forest c.tree) b
   pub owes : Owes s b b (map moment_of c.owed.items)
 
 -- some node is of this occurrence

@@ -9,6 +9,7 @@ ghost use Rattle.list_theory.proofs.Elements.{In};
 ghost use Rattle.list_net.specs.Fits.{IsNetOf};
 ghost use Rattle.spots.specs.Forest.{IsLive, moment_at};
 ghost use Rattle.spots.specs.Seen.{IsSeen, HasList, Holds};
+ghost use Rattle.occ_tree.specs.Places.{forest};
 ghost use Rattle.just_check.specs.Audited.{IsTaken, IsChecked, IsDated, Takes, Decides, ComesAfter, IsNode};
 ghost use Rattle.just_check.specs.Believed.{believed_in_order};
 ghost use Rattle.just_check.specs.Checking.{OwesMore};
@@ -102,10 +103,10 @@ fn push(numbers: &mut Vec<u32>, x: u32) -> Result<(), NoMemory>
 
 // Whether a node comes after the last of these.
 fn comes_after(tree: &Tree, net: &DistNet, nodes: &[u32], x: u32) -> bool
-    requires list { HasList net.now.present tree.now }
-    requires nodes { All (IsLive tree.now) nodes.now }
-    requires live { IsLive tree.now x }
-    ensures { IsTrue result ↔ ComesAfter net.now.present tree.now nodes.now x }
+    requires list { HasList net.now.present (forest tree.now) }
+    requires nodes { All (IsLive (forest tree.now)) nodes.now }
+    requires live { IsLive (forest tree.now) x }
+    ensures { IsTrue result ↔ ComesAfter net.now.present (forest tree.now) nodes.now x }
 {
     match nodes.len() {
         0 => true,
@@ -194,9 +195,9 @@ fn owe(
     owed: &mut Vec<Occ>,
 ) -> Result<(), NoMemory>
     requires rules { AreRules standing.now.present rules.now }
-    requires seen { IsSeen standing.now.present net.now.present tree.now }
-    requires live { IsLive tree.now x }
-    ensures { OnOk result ((b : List Moment) → Holds b tree.now → OwesMore standing.now.present b (moment_at tree.now x) (rules_at standing.now.present (moment_at tree.now x)) (map moment_of owed.old.items) (map moment_of owed.new.items)) }
+    requires seen { IsSeen standing.now.present net.now.present (forest tree.now) }
+    requires live { IsLive (forest tree.now) x }
+    ensures { OnOk result ((b : List Moment) → Holds b (forest tree.now) → OwesMore standing.now.present b (moment_at (forest tree.now) x) (rules_at standing.now.present (moment_at (forest tree.now) x)) (map moment_of owed.old.items) (map moment_of owed.new.items)) }
 {
     for rule in rules.at(standing, tree, x) {
         owe_effect(alloc, standing, net, tree, x, *rule, owed)?;
@@ -214,10 +215,10 @@ fn owe_effect(
     rule: Name,
     owed: &mut Vec<Occ>,
 ) -> Result<(), NoMemory>
-    requires seen { IsSeen standing.now.present net.now.present tree.now }
-    requires live { IsLive tree.now x }
-    requires rule { Contains (rules_at standing.now.present (moment_at tree.now x)) rule }
-    ensures { OnOk result ((b : List Moment) → Holds b tree.now → OwesMore standing.now.present b (moment_at tree.now x) (rule ∷ []) (map moment_of owed.old.items) (map moment_of owed.new.items)) }
+    requires seen { IsSeen standing.now.present net.now.present (forest tree.now) }
+    requires live { IsLive (forest tree.now) x }
+    requires rule { Contains (rules_at standing.now.present (moment_at (forest tree.now) x)) rule }
+    ensures { OnOk result ((b : List Moment) → Holds b (forest tree.now) → OwesMore standing.now.present b (moment_at (forest tree.now) x) (rule ∷ []) (map moment_of owed.old.items) (map moment_of owed.new.items)) }
 {
     if !does_fire(standing, net, tree, x, rule) {
         return Ok(());
@@ -237,8 +238,8 @@ fn push_occ(owed: &mut Vec<Occ>, occ: Occ) -> Result<(), NoMemory>
 
 // What a rule brings about at the event of a node.
 fn effect_of(alloc: Global, tree: &Tree, x: u32, rule: Name) -> Result<Occ, NoMemory>
-    requires { IsLive tree.now x }
-    ensures { IfOk result (λ occ. moment_of occ ≡ After (moment_at tree.now x) rule) }
+    requires { IsLive (forest tree.now) x }
+    ensures { IfOk result (λ occ. moment_of occ ≡ After (moment_at (forest tree.now) x) rule) }
 {
     let mut effect = tree.occ_of(alloc, x)?;
     match effect.rules.push(rule) {
@@ -249,7 +250,7 @@ fn effect_of(alloc: Global, tree: &Tree, x: u32, rule: Name) -> Result<Occ, NoMe
 
 // Whether all these occurrences are nodes.
 fn are_there(tree: &Tree, owed: &[Occ]) -> bool
-    ensures { IsTrue result ↔ ((k : Moment) → In k (map moment_of owed.now) → IsNode tree.now k) }
+    ensures { IsTrue result ↔ ((k : Moment) → In k (map moment_of owed.now) → IsNode (forest tree.now) k) }
 {
     for occ in owed {
         if tree.find(occ).is_none() {
@@ -261,7 +262,7 @@ fn are_there(tree: &Tree, owed: &[Occ]) -> bool
 
 // Whether all that is declared to occur is a node.
 fn has_roots(alloc: Global, standing: &Standing, tree: &Tree) -> bool
-    ensures { IsTrue result ↔ ((k : Moment) → In k (roots standing.now.present) → IsNode tree.now k) }
+    ensures { IsTrue result ↔ ((k : Moment) → In k (roots standing.now.present) → IsNode (forest tree.now) k) }
 {
     for place in 0..standing.len() {
         if let Some(premise) = standing.at(place) {
@@ -275,7 +276,7 @@ fn has_roots(alloc: Global, standing: &Standing, tree: &Tree) -> bool
 
 // Whether what the premise declares to occur, if anything, is a node.
 fn has_root(alloc: Global, tree: &Tree, premise: &Premise) -> bool
-    ensures { IsTrue result ↔ ((k : Moment) → root_of premise.now ≡ Some k → IsNode tree.now k) }
+    ensures { IsTrue result ↔ ((k : Moment) → root_of premise.now ≡ Some k → IsNode (forest tree.now) k) }
 {
     match root_name(premise) {
         Some(root) => {

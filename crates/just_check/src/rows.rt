@@ -7,6 +7,7 @@ ghost use Rattle.tmm_model.specs.declared.point.PointName.TheVariants.{Begin};
 ghost use Rattle.dist_net.specs.Net.{Net};
 ghost use Rattle.spots.specs.Forest.{IsLive, moment_at};
 ghost use Rattle.spots.specs.Seen.{IsSeen};
+ghost use Rattle.occ_tree.specs.Places.{forest};
 ghost use Rattle.supports.specs.Growing.{Adds, effect_shape};
 ghost use Rattle.just_check.specs.Checking.{AreSoFar, EntersAs, IsNoNode};
 
@@ -27,8 +28,8 @@ pub(crate) fn enter(
     tree: &mut Tree,
     row: &Occ,
 ) -> Result<Option<u32>, NoMemory>
-    requires before { (b : List Moment) × AreSoFar standing.now.present net.now.present tree.old b }
-    ensures { IfOk result (λ x. (b : List Moment) → AreSoFar standing.now.present net.now.present tree.old b → EntersAs standing.now.present net.now.present.names b (moment_of row.now) tree.old tree.new x) }
+    requires before { (b : List Moment) × AreSoFar standing.now.present net.now.present (forest tree.old) b }
+    ensures { IfOk result (λ x. (b : List Moment) → AreSoFar standing.now.present net.now.present (forest tree.old) b → EntersAs standing.now.present net.now.present.names b (moment_of row.now) (forest tree.old) (forest tree.new) x) }
 {
     if tree.find(row).is_some() {
         return Ok(None);
@@ -66,9 +67,9 @@ fn enter_root(
     tree: &mut Tree,
     name: Name,
 ) -> Result<Option<u32>, NoMemory>
-    requires before { (b : List Moment) × AreSoFar standing.now.present net.now.present tree.old b }
-    requires new { IsNoNode tree.old (At (Begin name)) }
-    ensures { IfOk result (λ x. (b : List Moment) → AreSoFar standing.now.present net.now.present tree.old b → EntersAs standing.now.present net.now.present.names b (At (Begin name)) tree.old tree.new x) }
+    requires before { (b : List Moment) × AreSoFar standing.now.present net.now.present (forest tree.old) b }
+    requires new { IsNoNode (forest tree.old) (At (Begin name)) }
+    ensures { IfOk result (λ x. (b : List Moment) → AreSoFar standing.now.present net.now.present (forest tree.old) b → EntersAs standing.now.present net.now.present.names b (At (Begin name)) (forest tree.old) (forest tree.new) x) }
 {
     // it tells the proof that names are distinct
     let _ = standing.len();
@@ -87,10 +88,10 @@ fn enter_effect(
     x: u32,
     rule: Name,
 ) -> Result<Option<u32>, NoMemory>
-    requires before { (b : List Moment) × AreSoFar standing.now.present net.now.present tree.old b }
-    requires live { IsLive tree.old x }
-    requires new { IsNoNode tree.old (After (moment_at tree.old x) rule) }
-    ensures { IfOk result (λ y. (b : List Moment) → AreSoFar standing.now.present net.now.present tree.old b → EntersAs standing.now.present net.now.present.names b (After (moment_at tree.old x) rule) tree.old tree.new y) }
+    requires before { (b : List Moment) × AreSoFar standing.now.present net.now.present (forest tree.old) b }
+    requires live { IsLive (forest tree.old) x }
+    requires new { IsNoNode (forest tree.old) (After (moment_at (forest tree.old) x) rule) }
+    ensures { IfOk result (λ y. (b : List Moment) → AreSoFar standing.now.present net.now.present (forest tree.old) b → EntersAs standing.now.present net.now.present.names b (After (moment_at (forest tree.old) x) rule) (forest tree.old) (forest tree.new) y) }
 {
     if !is_rule_at(standing, tree, x, rule) {
         return Ok(None);
@@ -112,11 +113,11 @@ fn add_effect(
     x: u32,
     rule: Name,
 ) -> Result<u32, NoMemory>
-    requires seen { (net : Net) × IsSeen standing.now.present net tree.old }
-    requires live { IsLive tree.old x }
-    requires rule { Contains (rules_at standing.now.present (moment_at tree.old x)) rule }
-    requires new { IsNoNode tree.old (After (moment_at tree.old x) rule) }
-    ensures { IfOk result (λ y. (net : Net) → IsSeen standing.now.present net tree.old → Adds standing.now.present net.names tree.old tree.new y (After (moment_at tree.old x) rule)) }
+    requires seen { (net : Net) × IsSeen standing.now.present net (forest tree.old) }
+    requires live { IsLive (forest tree.old) x }
+    requires rule { Contains (rules_at standing.now.present (moment_at (forest tree.old) x)) rule }
+    requires new { IsNoNode (forest tree.old) (After (moment_at (forest tree.old) x) rule) }
+    ensures { IfOk result (λ y. (net : Net) → IsSeen standing.now.present net (forest tree.old) → Adds standing.now.present net.names (forest tree.old) (forest tree.new) y (After (moment_at (forest tree.old) x) rule)) }
 {
     // it tells the proof that names are distinct
     let _ = standing.len();

@@ -7,6 +7,7 @@ ghost use Rattle.std.specs.List.{All};
 ghost use Rattle.spots.specs.Forest.{moment_at};
 ghost use Rattle.belief_list.specs.Rows.{row_at, IsLiveRow, IsListing};
 ghost use Rattle.spots.specs.Seen.{IsSeen, Holds};
+ghost use Rattle.occ_tree.specs.Places.{forest};
 ghost use Rattle.tmm_model.specs.Changes.{changes, delta_of};
 ghost use Rattle.tmm_model.specs.Standing.{Standing as List};
 ghost use Rattle.projection.specs.Queues.{IsTooLarge};
@@ -67,10 +68,10 @@ fn survey(
     net: &DistNet,
     tree: &Tree,
 ) -> Result<(Seq<BeliefRow>, Seq<Report>), NoMemory>
-    requires seen { IsSeen standing.now.present net.now.present tree.now }
-    requires holds { Holds (built standing.now.present).believed tree.now }
-    ensures rows { IfOk result (λ found. map (row_at tree.now) found.0.items ≡ rows (built standing.now.present)) }
-    ensures listing { IfOk result (λ found. IsListing tree.now found.0.items) }
+    requires seen { IsSeen standing.now.present net.now.present (forest tree.now) }
+    requires holds { Holds (built standing.now.present).believed (forest tree.now) }
+    ensures rows { IfOk result (λ found. map (row_at (forest tree.now)) found.0.items ≡ rows (built standing.now.present)) }
+    ensures listing { IfOk result (λ found. IsListing (forest tree.now) found.0.items) }
     ensures reports { IfOk result (λ found. map report_of found.1.items ≡ reports (built standing.now.present)) }
 {
     let rows = listed(alloc, standing, tree, net)?;
@@ -86,8 +87,8 @@ pub(crate) fn changes_to(
     new: &Beliefs,
     standing: &Standing,
 ) -> Result<Changes, NoMemory>
-    requires old { IsListing old.now.tree old.now.rows.items }
-    requires new { IsListing new.now.tree new.now.rows.items }
+    requires old { IsListing (forest old.now.tree) old.now.rows.items }
+    requires new { IsListing (forest new.now.tree) new.now.rows.items }
     ensures { (list : List) (old_net net : Net) → AreBeliefs list old_net old.now → AreBeliefs standing.now.present net new.now → IsLeftOut list standing.now.present erased.items
         → IfOk result (λ told. delta_of told ≡ changes list standing.now.present) }
 {
@@ -121,8 +122,8 @@ pub(crate) fn occurrences(
     tree: &Tree,
     rows: &[BeliefRow],
 ) -> Result<Seq<Occ>, NoMemory>
-    requires { All (IsLiveRow tree.now) rows.now }
-    ensures { IfOk result (λ occs. map moment_of occs.items ≡ map (λ r. moment_at tree.now r.node) rows.now) }
+    requires { All (IsLiveRow (forest tree.now)) rows.now }
+    ensures { IfOk result (λ occs. map moment_of occs.items ≡ map (λ r. moment_at (forest tree.now) r.node) rows.now) }
 {
     let mut occs = Seq::make(alloc);
     for row in rows {

@@ -9,6 +9,7 @@ ghost use Rattle.belief_list.specs.Rows.{IsListing};
 ghost use Rattle.list_net.specs.Fits.{IsNetOf};
 ghost use Rattle.map_engine.specs.Beliefs.{AreBeliefs, IsLeftOut};
 ghost use Rattle.projection.specs.Queues.{IsTooLarge};
+ghost use Rattle.occ_tree.specs.Places.{forest};
 
 use crate::beliefs::{Beliefs, believe, changes_to, occurrences};
 use crate::edited::edited;
@@ -84,7 +85,7 @@ fn drawn(
     counter: &mut Counter,
 ) -> Result<(Beliefs, Changes), Stop>
     requires network { IsNetOf standing.now.present net.now.present }
-    requires old { IsListing old.now.tree old.now.rows.items }
+    requires old { IsListing (forest old.now.tree) old.now.rows.items }
     ensures beliefs { IfOk result (λ made. AreBeliefs standing.now.present net.now.present made.0) }
     ensures changes { (list : List) (old_net : Net) → AreBeliefs list old_net old.now → IsLeftOut list standing.now.present erased.items
         → IfOk result (λ made. delta_of made.1 ≡ changes list standing.now.present) }

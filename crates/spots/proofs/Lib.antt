@@ -4,4 +4,7 @@ pub mod Rows
 pub mod Seen
 pub mod Laws
 pub mod Believed
-pub mod Held
+pub mod Delays
+pub mod Apart
+pub mod InUse
+pub mod Distances

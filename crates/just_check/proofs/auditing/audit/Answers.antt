@@ -10,6 +10,7 @@ use Rattle.just_check.proofs.Places.{mapped_more, mapped_parts}
 use Rattle.just_check.proofs.Prefixes.{next_joins, next_behind}
 use Rattle.just_check.proofs.auditing.audit.Goals as goal
 use Rattle.just_check.proofs.auditing.audit.Goals.{then-are_there, else-are_there}
+use Rattle.occ_tree.specs.Places.{forest}
 
 pub returns-then-not-branch : goal.returns-then-not-branch
 returns-then-not-branch c = (
@@ -51,7 +52,7 @@ returns c =
     let all : map moment_of (take i rows) ≡ b = ap (map moment_of) (take_all i rows (omega arith)) in
     let decides : Decides s net new b = subst (Decides s net new) all (c.in_ok-decide_rest.ensures (map moment_of (take i rows)) c.loop-row.invariant.taken) in
     let owed_is = c.as_slice.ensures.value in
-    let are : IsTrue c.are_there.result ↔ ((k : Moment) → In k (map moment_of new.owed.items) → IsNode new.tree k) = subst (λ os. IsTrue c.are_there.result ↔ ((k : Moment) → In k (map moment_of os) → IsNode new.tree k)) owed_is c.are_there.ensures in
+    let are : IsTrue c.are_there.result ↔ ((k : Moment) → In k (map moment_of new.owed.items) → IsNode (forest new.tree) k) = subst (λ os. IsTrue c.are_there.result ↔ ((k : Moment) → In k (map moment_of os) → IsNode (forest new.tree) k)) owed_is c.are_there.ensures in
     elim c.if-are_there.branch [
       | then-are_there w ↦
           let result_is = w.result-is in (

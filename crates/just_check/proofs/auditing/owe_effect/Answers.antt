@@ -5,6 +5,7 @@ use Rattle.tmm_model.specs.Moments.{Moment, After, moment_of}
 use Rattle.list_theory.proofs.Elements.{Contains-from_In}
 use Rattle.spots.specs.Forest.{moment_at}
 use Rattle.spots.specs.Seen.{Holds}
+use Rattle.occ_tree.specs.Places.{forest}
 use Rattle.just_check.specs.Checking.{FiresIn, OwesMore}
 use Rattle.just_check.proofs.Deciding.{owes_one}
 use Rattle.just_check.proofs.Joining.{one_of}
@@ -13,7 +14,7 @@ use Rattle.just_check.proofs.auditing.owe_effect.Goals as goal
 pub returns : goal.returns
 returns c =
     let s = c.args.standing.now.present in
-    let f = c.args.tree.now in
+    let f = forest c.args.tree.now in
     let r = c.args.rule in
     let t = moment_at f c.args.x in
     let old = c.args.owed.now.items in

@@ -5,6 +5,7 @@ use Rattle.tmm_model.specs.declared.point.PointName.TheVariants.{Begin}
 use Rattle.tmm_model.specs.Moments.{Moment, At, After, along, moment_of}
 use Rattle.list_theory.proofs.Elements.{In-from_Contains}
 use Rattle.spots.specs.Forest.{moment_at}
+use Rattle.occ_tree.specs.Places.{forest}
 use Rattle.spots.proofs.Nodes.{moment_at-is}
 use Rattle.just_check.specs.Checking.{AreSoFar, EntersAs, Joins, IsNoNode}
 use Rattle.just_check.proofs.Joining.{found_none, found_some, node_in, none_of, last_rule}
@@ -13,11 +14,11 @@ use Rattle.just_check.proofs.rows.enter.Goals as goal
 pub returns-then-is_some : goal.returns-then-is_some
 returns-then-is_some c b so_far joins =
     let k = moment_of c.args.row.now in
-    joins.new (node_in c.args.tree.now b k so_far.holds (found_some c.args.tree.now k c.find.result c.find.ensures (sym c.is_some.ensures ∙ c.if-is_some.true)))
+    joins.new (node_in (forest c.args.tree.now) b k so_far.holds (found_some (forest c.args.tree.now) k c.find.result c.find.ensures (sym c.is_some.ensures ∙ c.if-is_some.true)))
 
 pub enter_effect-requires-clause-new : goal.enter_effect-requires-clause-new
 enter_effect-requires-clause-new c =
-    let f = c.args.tree.now in
+    let f = forest c.args.tree.now in
     let row = c.args.row.now in
     let rs = c.items-rules.result.now in
     let some : 0 < length rs = omega arith in
@@ -31,8 +32,8 @@ pub returns-in-Some : goal.returns-in-Some
 returns-in-Some c =
     let s = c.args.standing.now.present in
     let net = c.args.net.now.present in
-    let f = c.args.tree.now in
-    let new = c.enter_effect.new.tree in
+    let f = forest c.args.tree.now in
+    let new = forest c.enter_effect.new.tree in
     let row = c.args.row.now in
     let rs = c.items-rules.result.now in
     let some : 0 < length rs = omega arith in
@@ -44,7 +45,7 @@ returns-in-Some c =
 
 pub returns : goal.returns
 returns c b so_far joins =
-    let f = c.args.tree.now in
+    let f = forest c.args.tree.now in
     let row = c.args.row.now in
     let rs = c.items-rules.result.now in
     let some : 0 < length rs = omega arith in

@@ -5,12 +5,13 @@ use Rattle.tmm_model.specs.Beliefs.{rules_on}
 use Rattle.spots.proofs.Nodes.{node_at}
 use Rattle.supports.proofs.OnKinds.{rules_of_event, event_of_rules}
 use Rattle.just_check.proofs.RulesOn.{none_on, on_is}
+use Rattle.occ_tree.specs.Places.{forest}
 use Rattle.just_check.proofs.rules.is_rule_at.Goals as goal
 
 pub returns-in-Event : goal.returns-in-Event
 returns-in-Event c =
     let s = c.args.standing.now.present in
-    let f = c.args.tree.now in
+    let f = forest c.args.tree.now in
     let r = c.args.rule in
     let (m, here) = node_at f c.args.x c.requires.live in
     let row = c.row-row.ensures m here in
@@ -26,7 +27,7 @@ returns-in-None c = (
   (λ h. absurd (cc)),
   (λ at.
       let s = c.args.standing.now.present in
-      let f = c.args.tree.now in
+      let f = forest c.args.tree.now in
       let (m, here) = node_at f c.args.x c.requires.live in
       let event = event_of_rules s c.requires.seen.0 f c.requires.seen.1 c.args.x m here c.args.rule at in
       absurd (none_on s c.len.ensures.well_named m.what c.args.rule (sym c.get.ensures ∙ ap option_copied c.in-None.is)

@@ -4,6 +4,7 @@ use Rattle.std.specs.Option.{option_map}
 use Rattle.tmm_model.specs.Moments.{moment_of}
 use Rattle.tmm_model.specs.declared.point.Occ.{Occ}
 use Rattle.spots.specs.Forest.{moment_at}
+use Rattle.occ_tree.specs.Places.{forest}
 use Rattle.belief_list.specs.declared.list.BeliefRow.{BeliefRow}
 use Rattle.just_check.specs.Believed.{believed_in_order}
 use Rattle.map_engine.specs.Plain.{MapState}
@@ -19,7 +20,7 @@ pub returns : goal.returns
 returns c =
     let m = c.self.inside in
     let inv = c.self.invariant in
-    let tree = m.beliefs.tree in
+    let tree = forest m.beliefs.tree in
     let pending = ap (λ (v : MapState). v.pending) c.self.view_is ∙ c.requires.idle in
     let same = inv.settled (none_before (λ _. m.standing.present) m.next pending) in
     let is : map moment_of c.items-2.result.now ≡ believed_in_order m.standing.present =

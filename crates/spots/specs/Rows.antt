@@ -1,6 +1,6 @@
 -- What is told of a node.
 use Rattle.std.specs.Prelude.{◌≡◌, ℕ, [], length, Some}
-use Rattle.occ_tree.specs.declared.node.NodeRow.{NodeRow}
+use Rattle.spots.specs.declared.node_row.NodeRow.{NodeRow}
 use Rattle.spots.specs.Forest.{Forest, Member, member, IsParent, last_name}
 use Rattle.spots.specs.Spots.{links_low, links_high}
 

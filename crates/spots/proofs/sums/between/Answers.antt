@@ -1,7 +1,7 @@
 use Rattle.std.proofs.Common.{◌∙◌, sym, arith}
 use Rattle.tmm_model.specs.Bounds.{bound_less}
-use Rattle.occ_tree.proofs.Sums.{looser, looser_number, difference_small, high_second, low_first, front_first, front_second, high_second_small, low_first_small, low_first_seen}
-use Rattle.occ_tree.proofs.links.between.Goals as goal
+use Rattle.spots.proofs.Delays.{looser, looser_number, difference_small, high_second, low_first, front_first, front_second, high_second_small, low_first_small, low_first_seen}
+use Rattle.spots.proofs.sums.between.Goals as goal
 
 pub less-requires-clause-bound : goal.less-requires-clause-bound
 less-requires-clause-bound c =

@@ -5,8 +5,8 @@ use Rattle.tmm_model.specs.declared.bound.Bound.TheVariants.{Finite, Free}
 use Rattle.spots.specs.declared.link.Link.{Link}
 use Rattle.tmm_model.specs.Bounds.{bound_less}
 use Rattle.spots.specs.Spots.{links_low, links_high, links_apart}
-use Rattle.occ_tree.specs.declared.links.Sums.{Sums}
-use Rattle.occ_tree.specs.Light.{AreLight}
+use Rattle.spots.specs.declared.sums.Sums.{Sums}
+use Rattle.spots.specs.Light.{AreLight}
 
 -- the bound, 0 for none
 abbrev pub or_zero : Bound → ℤ

@@ -1,5 +1,5 @@
-use Rattle.occ_tree.proofs.Sums.{difference_fits, first_small, whole_small, fewer, low_behind, bounded_behind, unbounded_behind}
-use Rattle.occ_tree.proofs.links.Sums.behind.Goals as goal
+use Rattle.spots.proofs.Delays.{difference_fits, first_small, whole_small, fewer, low_behind, bounded_behind, unbounded_behind}
+use Rattle.spots.proofs.sums.Sums.behind.Goals as goal
 
 pub overflow_sub-result : goal.overflow_sub-result
 overflow_sub-result c = difference_fits c.args.self.low c.args.first.low (whole_small c.args.first c.args.self c.requires).0 (first_small c.args.first c.args.self c.requires).0

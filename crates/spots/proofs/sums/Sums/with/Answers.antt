@@ -2,8 +2,8 @@ use Rattle.std.proofs.Common.{ℕ, ◌+◌, ap, sym, ◌∙◌, ℤ, subst, arit
 use Rattle.std.specs.Prelude.{◌+ℤ◌, ◌≤ℤ◌, pos}
 use Rattle.tmm_model.specs.declared.bound.Bound.{Bound}
 use Rattle.tmm_model.specs.Bounds.{IfFinite}
-use Rattle.occ_tree.proofs.Sums.{both_fit, both_seen, low_seen, low_push, bounded-finite, unbounded-finite, bounded-free, unbounded-free, sums_small}
-use Rattle.occ_tree.proofs.links.Sums.with.Goals as goal
+use Rattle.spots.proofs.Delays.{both_fit, both_seen, low_seen, low_push, bounded-finite, unbounded-finite, bounded-free, unbounded-free, sums_small}
+use Rattle.spots.proofs.sums.Sums.with.Goals as goal
 
 pub overflow_add-low : goal.overflow_add-low
 overflow_add-low c =

@@ -12,9 +12,9 @@ use Rattle.tmm_model.specs.declared.bound.Bound.TheVariants.{Finite, Free}
 use Rattle.tmm_model.specs.Bounds.{IfFinite, IsWithin, bound_plus, bound_less}
 use Rattle.spots.specs.declared.link.Link.{Link}
 use Rattle.spots.specs.Spots.{links_low, links_high}
-use Rattle.occ_tree.specs.declared.links.Sums.{Sums}
-use Rattle.occ_tree.specs.Light.{IsLight, AreLight}
-use Rattle.occ_tree.specs.Sums.{or_zero, free_count, links_bounded, links_unbounded, high_of, AreSums, IsFrontOf, ArePartedBy, HaveParted}
+use Rattle.spots.specs.declared.sums.Sums.{Sums}
+use Rattle.spots.specs.Light.{IsLight, AreLight}
+use Rattle.spots.specs.Sums.{or_zero, free_count, links_bounded, links_unbounded, high_of, AreSums, IsFrontOf, ArePartedBy, HaveParted}
 
 -- ---- rules and others behind them
 
