@@ -1,6 +1,6 @@
 // What the map keeps of a list beside its distances.
-ghost use Rattle.std.specs.Prelude.{◌≡◌, ◌≤◌, map, IfOk, IfErr};
-ghost use Rattle.tmm_model.specs.Answers.{rows, reports, report_of, size};
+ghost use Rattle.std.specs.Prelude.{◌≡◌, ◌≤◌, map, IsTrue, IfOk, IfErr};
+ghost use Rattle.tmm_model.specs.Answers.{rows, row_of, reports, report_of, size};
 ghost use Rattle.tmm_model.specs.Maps.{built};
 ghost use Rattle.tmm_model.specs.Moments.{moment_of};
 ghost use Rattle.std.specs.List.{All};
@@ -14,14 +14,15 @@ ghost use Rattle.list_net.specs.Fits.{IsNetOf};
 ghost use Rattle.dist_net.specs.Net.{Net};
 ghost use Rattle.map_engine.specs.Beliefs.{AreBeliefs, IsLeftOut};
 
-use belief_list::{BeliefChanges, BeliefRow, compare, listed};
+use belief_list::{BeliefChanges, BeliefRow, compare, list_rows, listed};
 use dist_net::DistNet;
+use just_check::audit;
 use occ_tree::Tree;
 use premise_list::Standing;
 use projection::{Counter, Projected, rebuild};
 use protections::{delta, report};
 use std::alloc::Global;
-use tmm_model::{Changes, Name, NoMemory, Occ, Report, Seq, Stop};
+use tmm_model::{Changes, ListRow, Name, NoMemory, Occ, Report, Seq, Stop};
 
 // What is believed of a list, as it is kept.
 #[derive(Drop)]
@@ -78,8 +79,32 @@ fn survey(
     Ok((rows, reports))
 }
 
+// The beliefs of the list that an edit leaves, and what it changes.
+pub(crate) fn drawn(
+    alloc: Global,
+    standing: &Standing,
+    net: &DistNet,
+    old: &Beliefs,
+    erased: Seq<Name>,
+    counter: &mut Counter,
+) -> Result<(Beliefs, Changes), Stop>
+    requires network { IsNetOf standing.now.present net.now.present }
+    requires old { IsListing old.now.tree old.now.rows.items }
+    ensures beliefs { IfOk result (λ made. AreBeliefs standing.now.present net.now.present made.0) }
+    ensures changes { (list : List) (old_net : Net) → AreBeliefs list old_net old.now → IsLeftOut list standing.now.present erased.items
+        → IfOk result (λ made. delta_of made.1 ≡ changes list standing.now.present) }
+    ensures stops { IfErr result (IsTooLarge (size (built standing.now.present))) }
+    ensures counted { counter.old ≤ counter.new }
+{
+    let next = believe(alloc, standing, net, counter)?;
+    match changes_to(alloc, erased, old, &next, standing) {
+        Ok(changes) => Ok((next, changes)),
+        Err(NoMemory) => Err(Stop::NoMemory),
+    }
+}
+
 // What changes from the beliefs of one list to those of another, from which these premises are gone.
-pub(crate) fn changes_to(
+fn changes_to(
     alloc: Global,
     erased: Seq<Name>,
     old: &Beliefs,
@@ -116,11 +141,7 @@ pub(crate) fn changes_to(
 }
 
 // The occurrences of the rows.
-pub(crate) fn occurrences(
-    alloc: Global,
-    tree: &Tree,
-    rows: &[BeliefRow],
-) -> Result<Seq<Occ>, NoMemory>
+fn occurrences(alloc: Global, tree: &Tree, rows: &[BeliefRow]) -> Result<Seq<Occ>, NoMemory>
     requires { All (IsLiveRow tree.now) rows.now }
     ensures { IfOk result (λ occs. map moment_of occs.items ≡ map (λ r. moment_at tree.now r.node) rows.now) }
 {
@@ -132,4 +153,27 @@ pub(crate) fn occurrences(
         }
     }
     Ok(occs)
+}
+
+// The believed occurrences, in their order.
+pub(crate) fn told_rows(alloc: Global, beliefs: &Beliefs) -> Result<Seq<ListRow>, NoMemory>
+    requires { IsListing beliefs.now.tree beliefs.now.rows.items }
+    ensures { (list : List) (net : Net) → AreBeliefs list net beliefs.now → IfOk result (λ found. map row_of found.items ≡ rows (built list)) }
+{
+    list_rows(alloc, &beliefs.tree, beliefs.rows.items())
+}
+
+// Whether the rows are the believed occurrences of the list, in their order. They are, and it is found
+// anew from the list.
+pub(crate) fn audited(
+    alloc: Global,
+    standing: &Standing,
+    net: &DistNet,
+    beliefs: &Beliefs,
+) -> Result<bool, NoMemory>
+    requires { AreBeliefs standing.now.present net.now.present beliefs.now }
+    ensures { IfOk result (λ good. IsTrue good) }
+{
+    let rows = occurrences(alloc, &beliefs.tree, beliefs.rows.items())?;
+    audit(alloc, standing, net, rows.items())
 }
