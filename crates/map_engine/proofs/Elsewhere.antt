@@ -1,7 +1,6 @@
 -- Where no number is of a point that beliefs read, the list that an edit leaves is alike.
 use Rattle.std.proofs.Common.{◌≡◌, ◌∙◌, ℕ, Bool, true, false, not, List, refl, sym, ap, subst}
-use Rattle.std.specs.Prelude.{Option, Some, None, slice_index_or}
-use Rattle.std.specs.List.{Contains, list_all}
+use Rattle.std.specs.Prelude.{Some, None, slice_index_or}
 use Rattle.std.specs.Option.{is_some}
 use Rattle.tmm_model.specs.declared.point.PointName.{PointName}
 use Rattle.tmm_model.specs.declared.point.PointName.TheVariants.{Start, Begin, End}
@@ -13,10 +12,10 @@ use Rattle.tmm_model.specs.Standing.{Standing, name_of, premise_in}
 use Rattle.list_theory.specs.WellNamed.{IsWellNamed}
 use Rattle.list_theory.proofs.Elements.{In-from_Contains, In-filter_map, list_all-In}
 use Rattle.list_theory.proofs.KnownNames.{found}
-use Rattle.list_net.specs.Represents.{Names, IsNumberOf}
+use Rattle.list_net.specs.Represents.{Names}
 use Rattle.revisions.specs.Alike.{IsAnchor}
 use Rattle.revisions.specs.StillEdits.{AreElsewhere}
-use Rattle.map_engine.specs.Still.{occurs_in, is_anchor, is_elsewhere, are_elsewhere}
+use Rattle.map_engine.specs.Still.{is_anchor, is_elsewhere, are_elsewhere}
 
 -- what begins at a point under its name is declared there
 declared_at : (p : Premise) (k : List ℕ) → root_of p ≡ Some (At (Begin k)) → (name_of p ≡ k) × (is_some (as_root (Some p)) ≡ true)

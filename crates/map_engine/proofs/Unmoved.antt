@@ -1,28 +1,25 @@
 -- What is kept where the list that an edit leaves is alike in all that beliefs read.
-use Rattle.std.proofs.Common.{◌≡◌, ◌∙◌, ℕ, Bool, true, false, not, List, [], ◌∷◌, ◌++◌, map, refl, sym, ap, subst, inl, inr}
+use Rattle.std.proofs.Common.{◌≡◌, ◌∙◌, ℕ, false, not, List, [], ◌∷◌, ◌++◌, map, refl, sym, ap, subst, inl, inr}
 use Rattle.std.specs.Prelude.{Option, Some, None, filter, ◌≤◌}
-use Rattle.std.specs.List.{filter_map, cons_option, list_any}
-use Rattle.tmm_model.specs.declared.answer.Report.{Report}
+use Rattle.std.specs.List.{filter_map, cons_option}
 use Rattle.tmm_model.specs.declared.changes.Changes.{Changes as CodeChanges}
 use Rattle.tmm_model.specs.declared.premise.Edit.{Edit}
 use Rattle.tmm_model.specs.declared.premise.Edit.TheVariants.{Add, Erase, Horizon}
 use Rattle.tmm_model.specs.declared.premise.Premise.{Premise}
 use Rattle.tmm_model.specs.declared.premise.Premise.TheVariants.{Class, Kind, Point, Event, Token, Span, Dist, Rule, Protect}
-use Rattle.tmm_model.specs.Answers.{Finding, broken, reports, report_of, rows, size, most_size}
+use Rattle.tmm_model.specs.Answers.{broken, reports, report_of, most_size}
 use Rattle.tmm_model.specs.Changes.{changes, delta_of, protection_name, is_broken}
 use Rattle.tmm_model.specs.Edits.{next_list}
 use Rattle.tmm_model.specs.Maps.{TimeMap, built}
 use Rattle.tmm_model.specs.Moments.{Moment}
-use Rattle.tmm_model.specs.Points.{same_name}
 use Rattle.tmm_model.specs.Standing.{Standing, points_in}
 use Rattle.dist_net.specs.Net.{Net}
 use Rattle.list_net.specs.Fits.{IsNetOf}
 use Rattle.list_net.specs.Network.{PointsKeepNumbers}
-use Rattle.list_theory.proofs.Elements.{In, In-left}
+use Rattle.list_theory.proofs.Elements.{In}
 use Rattle.list_theory.proofs.Erasure.{kept_before}
-use Rattle.spots.specs.Forest.{Forest}
 use Rattle.spots.specs.Seen.{IsSeen, Holds}
-use Rattle.revisions.specs.Alike.{AreAlike, BelieveAlike, TellsNoBelief}
+use Rattle.revisions.specs.Alike.{AreAlike, BelieveAlike}
 use Rattle.revisions.proofs.Alike.{alike_believe}
 use Rattle.revisions.proofs.StillEdits.{stay_seen}
 use Rattle.map_engine.specs.declared.beliefs.Beliefs.{Beliefs}

@@ -1,5 +1,4 @@
-use Rattle.std.proofs.Common.{◌≡◌, ◌∙◌, true, List, ℕ, ap, sym, subst}
-use Rattle.dist_net.specs.Net.{IsMovedAt}
+use Rattle.std.proofs.Common.{◌≡◌, ◌∙◌, true, List, ℕ, ap, sym}
 use Rattle.revisions.proofs.StillEdits.{unmoved}
 use Rattle.map_engine.specs.Still.{are_elsewhere}
 use Rattle.map_engine.proofs.Elsewhere.{elsewhere}
