@@ -10,3 +10,5 @@ pub mod Ranking
 pub mod InOrder
 pub mod TokenLists
 pub mod Numbered
+pub mod Keeping
+pub mod Entered

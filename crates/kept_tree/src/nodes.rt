@@ -230,7 +230,8 @@ impl Nodes {
 
     // A number above those of all nodes.
     pub(crate) fn limit(&self) -> u32
-        ensures { (x : ℕ) → IsSome (nodes_in (present_rows self.now) x) → x < result }
+        ensures above { (x : ℕ) → IsSome (nodes_in (present_rows self.now) x) → x < result }
+        ensures stands { IsStanding self.now.limit (present_rows self.now) }
     {
         self.limit
     }
