@@ -17,7 +17,7 @@ use Rattle.kept_tree.proofs.Placing.{have_parents, extends_new, placed_new}
 use Rattle.kept_tree.proofs.Grown.{node_at, no_node_at, row_new, row_other}
 use Rattle.kept_tree.proofs.Effects.{above_of, member_at, way_below, way_root}
 
-head_for-one : (p q : Option ℕ) → head_for p ≡ head_for q → p ≡ q
+pub head_for-one : (p q : Option ℕ) → head_for p ≡ head_for q → p ≡ q
 head_for-one None None same = refl
 head_for-one None (Some y) same = absurd (omega (arith, same))
 head_for-one (Some x) None same = absurd (omega (arith, same))

@@ -1,5 +1,5 @@
 -- Tokens under the names of their classes, and nodes with their dates.
-use Rattle.std.proofs.Common.{◌≡◌, ◌≢◌, ℕ, ◌<◌, ◌≤◌, List, [], ◌∷◌, map, length, Option, Some, None, eqb, refl, sym, ap, ◌∙◌, subst, inl, inr, arith, slice_index_or, eqb-true, option_map}
+use Rattle.std.proofs.Common.{◌≡◌, ◌≢◌, ℕ, ◌<◌, ◌≤◌, List, [], ◌∷◌, map, length, Option, Some, None, IsSome, eqb, refl, sym, ap, ◌∙◌, subst, inl, inr, arith, slice_index_or, eqb-true, option_map}
 use Rattle.std.specs.List.{Contains, list_any}
 use Rattle.std.specs.Option.{option_map_or}
 use Rattle.std.specs.Prelude.{pos, ◌+ℤ◌}
@@ -67,6 +67,13 @@ node_of_member node x m at = by (node x) refl at
     by : (o : Option Node) → node x ≡ o → option_map (member_of (way_to node x)) o ≡ Some m → (n : Node) × (node x ≡ Some n) × (m ≡ member_of (way_to node x) n)
     by None none here = absurd (cc)
     by (Some n) is here = (n, is, cc)
+
+pub node_if_live : (node : Nodes) (x : ℕ) → IsSome (forest_in node x) → (n : Node) × (node x ≡ Some n)
+node_if_live node x = by (node x) refl
+  where
+    by : (o : Option Node) → node x ≡ o → IsSome (option_map (member_of (way_to node x)) o) → (n : Node) × (node x ≡ Some n)
+    by None none live = absurd (cc)
+    by (Some n) at live = (n, at)
 
 -- the row of a node that has a class
 row_seen : (node : Nodes) (x : ℕ) (n : Node) (class : List ℕ) → node x ≡ Some n → n.class ≡ Some class → row_in node x ≡ record { spot = OfNode x; end = option_map Declared n.end; fact = n.what; class = class }
@@ -211,7 +218,7 @@ root_there node placed x n at =
 abbrev pub IsInTime : Nodes → Node → Type 0
 IsInTime node n = (a : Above) → n.above ≡ Some a → n.early ≡ date_in node a.parent +ℤ n.lo
 
-date_at : (node : Nodes) (x : ℕ) (n : Node) → node x ≡ Some n → date_in node x ≡ n.early
+pub date_at : (node : Nodes) (x : ℕ) (n : Node) → node x ≡ Some n → date_in node x ≡ n.early
 date_at node x n at = ap (λ o. option_map_or (λ (q : Node). q.early) o (pos 0)) at
 
 module _ (names : List (List ℕ)) (node new : Nodes) (rows entered : ℕ → List (TokenRow Spot)) (x : ℕ) (n : Node) (free : node x ≡ None) (here : new x ≡ Some n) (others : (y : ℕ) → y ≢ x → new y ≡ node y) (placed : ArePlaced node) (will : WillBePlaced node n)

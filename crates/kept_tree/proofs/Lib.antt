@@ -12,3 +12,11 @@ pub mod TokenLists
 pub mod Numbered
 pub mod Keeping
 pub mod Entered
+pub mod OnWays
+pub mod Gathering
+pub mod Listed
+pub mod Fewer
+pub mod TokensOut
+pub mod Beneath
+pub mod Gone
+pub mod Moved

@@ -7,5 +7,6 @@ pub mod Words
 pub mod Classes
 pub mod Tokens
 pub mod Standing
+pub mod Below
 pub mod Edits
 pub mod Ends

@@ -52,6 +52,15 @@ impl Classes {
         }
     }
 
+    // The same classes, for more of their own. It takes memory.
+    pub(crate) fn copy(&self) -> Result<Classes, NoMemory>
+        ensures { IfOk result (λ copy. copy ≡ self.now) }
+    {
+        Ok(Classes {
+            names: self.names.clone()?,
+        })
+    }
+
     // Gives a class that has none the next number.
     fn push(&mut self, class: Name) -> Result<u32, NoMemory>
         requires { place_in self.old class ≡ None }

@@ -1,5 +1,5 @@
 // Tokens that enter and leave the order of their class.
-ghost use Rattle.std.specs.Prelude.{◌≡◌, ◌≢◌, ℕ, ◌+◌, ◌<◌, ◌≤◌, List, [], Option, ◌∷◌, Some, IsSome, IfSome, IfOk, OnOk, OnErr};
+ghost use Rattle.std.specs.Prelude.{◌≡◌, ◌≢◌, ℕ, ◌+◌, ◌<◌, ◌≤◌, List, [], Option, ◌∷◌, length, Some, IsSome, IfSome, IfOk, OnOk, OnErr};
 ghost use Rattle.std.specs.Ordering.{is_lt};
 ghost use Rattle.row_links.specs.Lists.{IsOn};
 ghost use Rattle.undo_lists.specs.Changes.{present, committed, rooms};
@@ -68,6 +68,23 @@ pub(crate) fn put_in(nodes: &Nodes, tokens: &mut Tokens, x: u32)
     if let Some(list) = node.list {
         let place = place_for(nodes, tokens.list(list), x);
         tokens.insert(list, place, token_of(node, x));
+    }
+}
+
+// Takes a node out of the tokens of its class, if it is one. It takes no memory, and leaves room for it.
+pub(crate) fn take_out(nodes: &Nodes, tokens: &mut Tokens, x: u32)
+    requires live { IsSome (nodes_in (present_rows nodes.now) x) }
+    requires tokens { AreTokensBut (nodes_in (present_rows nodes.now)) (present tokens.old) [] }
+    requires spare { 0 < tokens.old.spare }
+    ensures tokens { AreTokensBut (nodes_in (present_rows nodes.now)) (present tokens.new) (x ∷ []) }
+    ensures room { (k : ℕ) → HasList (nodes_in (present_rows nodes.now)) x k → length (present tokens.new k) < rooms tokens.new k }
+    ensures committed { committed tokens.new ≡ committed tokens.old }
+    ensures spare { tokens.old.spare ≤ tokens.new.spare + 1 }
+{
+    let node = nodes.get(x);
+    if let Some(list) = node.list {
+        let place = place_for(nodes, tokens.list(list), x);
+        let _ = tokens.remove(list, place);
     }
 }
 

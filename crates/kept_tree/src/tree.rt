@@ -8,9 +8,11 @@ ghost use Rattle.tmm_model.specs.declared.bound.Bound.TheVariants.{Finite};
 ghost use Rattle.kept_tree.specs.Forest.{Member, IsLive, root_member, child_member, IsNoRoot, HasClass, HasEnd, IsTrigger};
 ghost use Rattle.kept_tree.specs.Standing.{present, committed, forest, early, below, IsChildOf, order};
 ghost use Rattle.kept_tree.specs.Tokens.{AreTokens, IsInOrder, numbers_in};
-ghost use Rattle.kept_tree.specs.Edits.{Enters, Stays};
+ghost use Rattle.kept_tree.specs.Edits.{Enters, Withdraws, ReDates, Stays};
 
 use crate::classes::Classes;
+use crate::dating::date_all;
+use crate::leaving::{leave_all, room_below};
 use crate::nodes::Nodes;
 use crate::spot::{Link, Spot};
 use crate::tokens::{Tokens, enter, number_for};
@@ -114,6 +116,31 @@ impl Tree {
         Ok(x)
     }
 
+    /// Takes a node out with all below it. Their numbers are free again after the next commit. Without
+    /// memory nothing has changed.
+    pub fn withdraw(&mut self, alloc: Global, x: u32) -> Result<(), NoMemory>
+        requires { IsLive (forest (present self.old)) x }
+        ensures ok { OnOk result (Withdraws self.old self.new x) }
+        ensures err { OnErr result (Stays self.old self.new) }
+    {
+        let numbers = room_below(alloc, &mut self.nodes, &mut self.tokens, x)?;
+        leave_all(&mut self.nodes, &mut self.tokens, numbers);
+        Ok(())
+    }
+
+    /// Gives a root another earliest date, in whole time units. All below it keep their distances from it,
+    /// and the tokens of each class are in the order of nodes again. Without memory nothing has changed.
+    pub fn re_date(&mut self, alloc: Global, root: u32, date: i64) -> Result<(), NoMemory>
+        requires root { (m : Member) × (forest (present self.old) root ≡ Some m) × (m.links ≡ []) }
+        requires date { IsWithin 1000000000000 date }
+        ensures ok { OnOk result (ReDates self.old self.new root date) }
+        ensures err { OnErr result (Stays self.old self.new) }
+    {
+        let numbers = room_below(alloc, &mut self.nodes, &mut self.tokens, root)?;
+        date_all(&mut self.nodes, &mut self.tokens, numbers.as_slice(), date);
+        Ok(())
+    }
+
     /// Whether the number is of a node.
     pub fn is_live(&self, x: u32) -> bool
         ensures { IsTrue result ↔ IsLive (forest (present self.now)) x }
@@ -173,6 +200,17 @@ impl Tree {
             Some(number) => self.tokens.list(number),
             None => &[],
         }
+    }
+
+    /// The same tree, and the same last commit, for changes of its own. It takes memory.
+    pub fn copy(&self, alloc: Global) -> Result<Tree, NoMemory>
+        ensures { IfOk result (Stays self.now) }
+    {
+        Ok(Tree {
+            nodes: self.nodes.copy(alloc)?,
+            classes: self.classes.copy()?,
+            tokens: self.tokens.copy(alloc)?,
+        })
     }
 
     /// Makes the tree that of the last commit. It takes no memory.
