@@ -142,9 +142,13 @@ module _ (node : Nodes) (parents : HaveParents node) (x : ℕ) where
 
 -- ---- places on a list
 
-pub at_front : (first : List ℕ) (h : ℕ) (rest : List ℕ) (d : ℕ) → slice_index_or (first ++ h ∷ rest) (length first) d ≡ h
+at_front : (first : List ℕ) (h : ℕ) (rest : List ℕ) (d : ℕ) → slice_index_or (first ++ h ∷ rest) (length first) d ≡ h
 at_front [] h rest d = refl
 at_front (y ∷ first) h rest d = at_front first h rest d
+
+-- what stands at a place is the first of what follows
+pub item_at : (numbers first : List ℕ) (h : ℕ) (rest : List ℕ) (i item : ℕ) → numbers ≡ first ++ h ∷ rest → length first ≡ i → item ≡ slice_index_or numbers i item → item ≡ h
+item_at numbers first h rest i item is long at = at ∙ (λ j. slice_index_or (is j) (sym long j) item) ∙ at_front first h rest item
 
 pub first_split : (l : List ℕ) (y : ℕ) → first_or None l ≡ Some y → (rest : List ℕ) × (l ≡ y ∷ rest)
 first_split [] y is = absurd (cc)

@@ -4,7 +4,7 @@ use Rattle.std.specs.List.{list_any}
 use Rattle.std.specs.Int.RustNames.{FitsSigned}
 use Rattle.std.specs.Prelude.{ℤ, pos, ◌+ℤ◌, ◌-ℤ◌, ◌≤ℤ◌, MatchOption, IfSome}
 use Rattle.std.specs.Option.{option_map_or}
-use Rattle.std.proofs.lemmas.Bool.{cases_eq, cases_Bool, both_ways, false≢true}
+use Rattle.std.proofs.lemmas.Bool.{cases_eq, cases_Bool, both_ways}
 use Rattle.std.proofs.lemmas.Int.{ints}
 use Rattle.std.proofs.lemmas.List.{take-append-le}
 use Rattle.row_links.specs.Lists.{IsOn}
@@ -182,9 +182,6 @@ module _ (t u : Table Node 1) (x : ℕ) (date : ℤ) (n : Node) (at : nodes_in t
       (n, at, ap (λ (q : Node). q.list) one ∙ list)
 
 -- ---- one date after another
-
-pub dated_none : (t : Table Node 1) (date : ℤ) → AreDated t t [] date
-dated_none t date = record { on = λ y on. absurd (false≢true on); others = λ y free. refl; lists = λ h. refl }
 
 pub dated_more : (t u v : Table Node 1) (numbers : List ℕ) (x : ℕ) (date : ℤ) (n : Node) → nodes_in u x ≡ Some n → v ≡ with_value u x (dated date n) → AreDated t u numbers date → AreDated t v (numbers ++ x ∷ []) date
 dated_more t u v numbers x date n at is d = record {

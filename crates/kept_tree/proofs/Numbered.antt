@@ -96,13 +96,6 @@ number_stays names new more (Some class) number (k, is, at) = (k, is, place_stay
 pub no_more : (names : List (List ℕ)) → HaveMore names names
 no_more names = ([], sym (append-nil names))
 
-pub may_be_more : (names new : List (List ℕ)) (class : List ℕ) → new ≡ (if list_any (same_name class) names then names else (names ++ class ∷ [])) → HaveMore names new
-may_be_more names new class is = by (list_any (same_name class) names) is
-  where
-    by : (t : Bool) → new ≡ (if t then names else (names ++ class ∷ [])) → HaveMore names new
-    by true same = ([], same ∙ sym (append-nil names))
-    by false same = (class ∷ [], same)
-
 -- a class that had no place is last
 pub placed_last : (names new : List (List ℕ)) (class : List ℕ) → place_in names class ≡ None → new ≡ (if list_any (same_name class) names then names else (names ++ class ∷ [])) → place_in new class ≡ Some (length names)
 placed_last names new class none is = by (list_any (same_name class) names) refl is

@@ -15,7 +15,7 @@ use Rattle.kept_tree.specs.Tokens.{number_of, numbers_in, row_in, IsInOrder, IsP
 use Rattle.kept_tree.specs.Words.{node_cmp}
 use Rattle.kept_tree.proofs.Ranking.{nodes_total}
 use Rattle.kept_tree.proofs.InOrder.{on_one, once, without_ordered, place_is, remove-without}
-use Rattle.kept_tree.proofs.TokenLists.{each_list, only_list, no_list, length-numbers, drop-map-own}
+use Rattle.kept_tree.proofs.TokenLists.{each_list, only_list, length-numbers, drop-map-own}
 
 map-remove : {X Y : Type 0} (f : X → Y) (xs : List X) (i : ℕ) → map f (remove xs i) ≡ remove (map f xs) i
 map-remove f xs i = map-append f (take i xs) (drop (suc i) xs) ∙ (λ j. sym (take-map f i xs) j ++ sym (drop-map-own f (suc i) xs) j)
@@ -24,17 +24,6 @@ not_out : (x y : ℕ) → y ≢ x → IsOn (x ∷ []) y → ⊥
 not_out x y other gone = other (on_one y x gone)
 
 module _ (node : Nodes) (lists : ℕ → List (TokenRow Spot)) (x : ℕ) (n : Node) (at : node x ≡ Some n) (t : AreTokensBut node lists []) where
-  -- an event is on no list
-  pub out_none : n.list ≡ None → AreTokensBut node lists (x ∷ [])
-  out_none none = record {
-    rows = t.rows;
-    each = λ y k. (
-      λ on. let (has, free) = (t.each y k).0 on in (has, not_out x y (λ same. no_list node lists [] x n at k none (subst (λ z. HasList node z k) same has))),
-      λ (has, free). (t.each y k).1 (has, false≢true),
-    );
-    in_order = t.in_order;
-  }
-
   module _ (k : ℕ) (list : n.list ≡ Some k) (i : ℕ) (place : IsPlaceFor (node_cmp node) (numbers_in (lists k)) x i) where
     found : (i < length (numbers_in (lists k))) × (slice_index_or (numbers_in (lists k)) i 0 ≡ x)
     found = place_is (node_cmp node) (nodes_total node) (numbers_in (lists k)) x i (t.in_order k) ((t.each x k).1 ((n, at, list), false≢true)) place

@@ -1,10 +1,10 @@
-use Rattle.std.proofs.Common.{◌≡◌, ◌∙◌, ◌≤◌, ◌<◌, [], ◌∷◌, ◌++◌, ◌+◌, length, Some, ap, sym, subst, refl, arith, slice_index_or}
+use Rattle.std.proofs.Common.{◌≡◌, ◌∙◌, ◌≤◌, ◌<◌, [], ◌∷◌, ◌++◌, ◌+◌, length, Some, ap, sym, subst, refl, arith}
 use Rattle.std.proofs.lemmas.List.{append_assoc, append-nil, length_push}
 use Rattle.row_links.specs.Lists.{IsOn}
 use Rattle.row_links.proofs.Lists.{IsOn-first, IsOn-append_right}
 use Rattle.undo_rows.specs.Changes.{table_in}
 use Rattle.kept_tree.specs.Standing.{nodes_in, present_rows, siblings_in}
-use Rattle.kept_tree.proofs.Gathering.{Gathers, gathers_start, gathers_more, lists_below, few_from_once, at_front, rest_split, rest_none}
+use Rattle.kept_tree.proofs.Gathering.{Gathers, gathers_start, gathers_more, lists_below, few_from_once, item_at, rest_split, rest_none}
 use Rattle.kept_tree.proofs.Grown.{some_node, below_limit}
 use Rattle.kept_tree.proofs.Listed.{siblings_are}
 use Rattle.kept_tree.proofs.OnWays.{way_leads}
@@ -25,7 +25,7 @@ push_children-requires c =
     let within : c.loop-next.next < length c.loop-next.numbers.items = omega (arith, c.loop-next-test.true, c.len.ensures) in
     let (h, rest, others_are) = rest_split first others (subst (λ l. length first < length l) is (omega (arith, within, long))) in
     let whole : c.loop-next.numbers.items ≡ first ++ h ∷ rest = is ∙ ap (λ l. first ++ l) others_are in
-    let here : c.index.result.now ≡ h = c.index.ensures ∙ (λ i. slice_index_or (whole i) (sym long i) c.index.result.now) ∙ at_front first h rest c.index.result.now in
+    let here : c.index.result.now ≡ h = item_at c.loop-next.numbers.items first h rest c.loop-next.next c.index.result.now whole long c.index.ensures in
     let (n, at) = way_leads node c.args.x h (g.each h (subst (λ l. IsOn (first ++ l) h) (sym others_are) (IsOn-append_right first (h ∷ rest) h (IsOn-first h rest)))) in
     some_is (node c.index.result.now) n (ap node here ∙ at)
 
@@ -45,7 +45,7 @@ loop-next-preserved c =
     let within : c.loop-next.next < length c.loop-next.numbers.items = omega (arith, c.loop-next-test.true, c.len.ensures) in
     let (h, rest, others_are) = rest_split first others (subst (λ l. length first < length l) is (omega (arith, within, long))) in
     let whole : c.loop-next.numbers.items ≡ first ++ h ∷ rest = is ∙ ap (λ l. first ++ l) others_are in
-    let here : c.index.result.now ≡ h = c.index.ensures ∙ (λ i. slice_index_or (whole i) (sym long i) c.index.result.now) ∙ at_front first h rest c.index.result.now in
+    let here : c.index.result.now ≡ h = item_at c.loop-next.numbers.items first h rest c.loop-next.next c.index.result.now whole long c.index.ensures in
     let children = siblings_in (present_rows c.args.nodes.now) (Some h) in
     let listed = c.in_ok-push_children.ensures.listed in (
       first ++ h ∷ [],
