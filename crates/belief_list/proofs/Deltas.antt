@@ -1,23 +1,17 @@
 -- What changed of belief between two maps, row by row.
-use Rattle.std.proofs.Common.{◌≡◌, Bool, true, false, List, [], ◌∷◌, map, refl, sym, ◌∙◌, ap, subst}
+use Rattle.std.proofs.Common.{◌≡◌, Bool, true, false, List, [], ◌∷◌, map, refl, sym, ◌∙◌, ap}
 use Rattle.std.specs.Prelude.{not, ◌&&◌, ◌||◌, filter, cond, Option, Some, None}
 use Rattle.std.specs.Option.{is_some, is_none, option_eq, option_and_then}
 use Rattle.std.specs.List.{filter_map, cons_option}
-use Rattle.std.proofs.lemmas.List.Elements.{All-contains}
 use Rattle.tmm_model.specs.Answers.{Row, row, rows, clip}
 use Rattle.tmm_model.specs.Changes.{delta, in_order, new_clip}
 use Rattle.tmm_model.specs.Maps.{TimeMap, is_among, is_believed}
 use Rattle.tmm_model.specs.Moments.{Moment, same_moment, is_derived}
-use Rattle.list_theory.proofs.Elements.{In, In-map, map-In, In-from_Contains, Contains-from_In}
+use Rattle.list_theory.proofs.Elements.{In, In-from_Contains, Contains-from_In}
 use Rattle.belief_theory.proofs.Moments.{Decides-same_moment}
 use Rattle.belief_theory.proofs.Order.{ordered}
 use Rattle.belief_theory.proofs.Sorts.{sorted_in}
 use Rattle.belief_theory.proofs.Upholding.{among, is_among-Contains}
-use Rattle.spots.specs.Forest.{Forest, moment_at, moments}
-use Rattle.spots.proofs.Nodes.{node_at, live_at, moment_at-is}
-use Rattle.spots.proofs.Held.{Holds-itself}
-use Rattle.belief_list.specs.declared.list.BeliefRow.{BeliefRow}
-use Rattle.belief_list.specs.Rows.{row_at, IsLiveRow, IsListing}
 use Rattle.belief_list.specs.Compared.{row_in, clip_in, gone_row, loose_row, new_clip_row, clip_row}
 
 -- ---- members
@@ -37,25 +31,6 @@ ordered_in m x =
     (λ y at. (sorted_in (ordered m.list m.far) m.believed y).0 at)
     (λ y at. (sorted_in (ordered m.list m.far) m.believed y).1 at)
     x
-
--- what is a node of the rows' forest is believed in the map whose rows they are
-node_believed : (m : TimeMap) (f : Forest) (list : List BeliefRow) → IsListing f list → map (row_at f) list ≡ rows m → (x : Moment) → is_among (moments f) x ≡ is_believed m x
-node_believed m f list listing same x = among_same (moments f) (in_order m) into back x ∙ ordered_in m x
-  where
-    into : (x : Moment) → In x (moments f) → In x (in_order m)
-    into x at =
-        let (y, n, here, is) = (Holds-itself f listing.apart).all x (Contains-from_In (moments f) x at) in
-        let (r, there, e) = listing.all y (live_at f y n here) in
-        let (z, in_z, row_z) = In-map (row m) (in_order m) (row_at f r) (subst (In (row_at f r)) same (map-In (row_at f) list r (In-from_Contains list r there))) in
-        let occ : z ≡ x = ap (λ (w : Row). w.occ) row_z ∙ ap (moment_at f) e ∙ moment_at-is f y n here ∙ is in
-        subst (λ w. In w (in_order m)) occ in_z
-
-    back : (x : Moment) → In x (in_order m) → In x (moments f)
-    back x at =
-        let (r, there, e) = In-map (row_at f) list (row m x) (subst (In (row m x)) (sym same) (map-In (row m) (in_order m) x at)) in
-        let (n, here) = node_at f r.node (All-contains (IsLiveRow f) list r listing.live (Contains-from_In list r there)).node in
-        let occ = sym (moment_at-is f r.node n here) ∙ ap (λ (w : Row). w.occ) e in
-        subst (λ w. In w (moments f)) occ (In-from_Contains (moments f) _ ((Holds-itself f listing.apart).own r.node n here))
 
 -- ---- rows of a map
 
@@ -93,12 +68,19 @@ map_rows : {Y : Type 0} (m : TimeMap) (h : Row → Option Y) (g : Moment → Opt
 map_rows m h g tells [] = refl
 map_rows m h g tells (x ∷ xs) = (λ i. cons_option (tells x i) (map_rows m h g tells xs i))
 
--- of the maps m and n, with the nodes of n
-pub gone_rows : (m n : TimeMap) (f : Forest) (list : List BeliefRow) → IsListing f list → map (row_at f) list ≡ rows n
-    → filter_map (gone_row f) (rows m) ≡ filter (λ x. is_derived x && not (is_believed n x)) (in_order m)
-gone_rows m n f list listing same =
-    filter_rows m (gone_row f) (λ x. is_derived x && not (is_believed n x))
-    (λ x. ap (λ b. elim (is_derived x && not b) as (λ _. Option Moment) [ true ↦ Some x | false ↦ None ]) (node_believed n f list listing same x))
+-- what is not listed in a map is not believed in it
+unlisted : (m : TimeMap) (x : Moment) → is_none (row_in (rows m) x) ≡ not (is_believed m x)
+unlisted m x = ap is_none (row_among m (in_order m) x) ∙ by (is_among (in_order m) x) ∙ ap not (ordered_in m x)
+  where
+    by : (b : Bool) → is_none (elim b as (λ _. Option Row) [ true ↦ Some (row m x) | false ↦ None ]) ≡ not b
+    by true = refl
+    by false = refl
+
+-- of the maps m and n
+pub gone_rows : (m n : TimeMap) → filter_map (gone_row (rows n)) (rows m) ≡ filter (λ x. is_derived x && not (is_believed n x)) (in_order m)
+gone_rows m n =
+    filter_rows m (gone_row (rows n)) (λ x. is_derived x && not (is_believed n x))
+    (λ x. ap (λ b. elim (is_derived x && b) as (λ _. Option Moment) [ true ↦ Some x | false ↦ None ]) (unlisted n x))
     (in_order m)
 
 pub loose_rows : (old new : TimeMap) → filter_map (loose_row (rows old)) (rows new) ≡ (delta old new).loose

@@ -1,40 +1,23 @@
 -- Nodes and rows that are found by their occurrences.
 use Rattle.std.proofs.Common.{◌≡◌, ℕ, Bool, true, false, List, [], ◌∷◌, ◌++◌, map, refl, sym, ◌∙◌, ap, subst, inl, inr, nat_eq}
 use Rattle.std.specs.Prelude.{◌≢◌, Option, Some, None}
-use Rattle.std.specs.Option.{is_some, option_eq}
+use Rattle.std.specs.Option.{is_some, is_none, option_eq}
 use Rattle.std.specs.List.{Contains}
 use Rattle.std.proofs.lemmas.List.Elements.{All-contains}
 use Rattle.std.proofs.lemmas.Bool.Decides.{Decides-eqb}
 use Rattle.std.proofs.lemmas.List.{map_push}
 use Rattle.tmm_model.specs.Answers.{Row}
-use Rattle.tmm_model.specs.Maps.{is_among}
 use Rattle.tmm_model.specs.Moments.{Moment, At, After, same_moment, rules, is_derived}
-use Rattle.list_theory.proofs.Elements.{In, In-map, map-In, Contains-from_In}
+use Rattle.list_theory.proofs.Elements.{In, In-map, map-In, In-from_Contains, Contains-from_In}
 use Rattle.belief_theory.proofs.Moments.{Decides-same_moment}
-use Rattle.belief_theory.proofs.Upholding.{among, is_among-Contains}
-use Rattle.spots.specs.Forest.{Forest, Member, member, IsLive, moment, moment_at, moments, rules_of, IsFound, IsOnce, IsParent}
+use Rattle.spots.specs.Forest.{Forest, Member, member, IsLive, moment, moment_at, rules_of, IsFound, IsOnce, IsParent}
 use Rattle.spots.specs.declared.link.Link.{Link}
-use Rattle.spots.proofs.Nodes.{node_at, moment_at-is, rules-moment}
-use Rattle.spots.proofs.Held.{Holds-itself}
+use Rattle.spots.proofs.Nodes.{node_at, live_at, moment_at-is, rules-moment}
 use Rattle.belief_list.specs.declared.list.BeliefRow.{BeliefRow}
 use Rattle.belief_list.specs.Rows.{row_at, IsLiveRow, IsListing}
 use Rattle.belief_list.specs.Compared.{row_in}
 
 -- ---- nodes
-
-pub found_none : (f : Forest) (k : Moment) → IsOnce f → IsFound f k None → is_among (moments f) k ≡ false
-found_none f k once none = by (is_among (moments f) k) refl
-  where
-    by : (b : Bool) → is_among (moments f) k ≡ b → is_among (moments f) k ≡ false
-    by false e = e
-    by true e = let (x, m, here, is) = (Holds-itself f once).all k (among (moments f) k e) in absurd (none x m here is)
-
-pub found_some : (f : Forest) (k : Moment) (x : ℕ) → IsOnce f → IsFound f k (Some x) → is_among (moments f) k ≡ true
-found_some f k x once (m, here, is) = is_among-Contains (moments f) k (subst (Contains (moments f)) is ((Holds-itself f once).own x m here))
-
-pub found_tells : (f : Forest) (k : Moment) (found : Option ℕ) → IsOnce f → IsFound f k found → is_some found ≡ is_among (moments f) k
-found_tells f k None once h = sym (found_none f k once h)
-found_tells f k (Some x) once h = sym (found_some f k x once h)
 
 -- a node is found under a number where the moment is that of the number's node
 pub same_clip : (f : Forest) (k : Moment) (found : Option ℕ) (by : ℕ) → IsOnce f → IsLive f by → IsFound f k found → option_eq nat_eq found (Some by) ≡ same_moment (moment_at f by) k
@@ -130,3 +113,10 @@ module _ (f : Forest) (rows : List BeliefRow) (listing : IsListing f rows) where
       one r there same =
           let (w, at_w, e) = In-map (row_at f) rows r there in
           sym e ∙ ap (row_at f) (one_row w q at_w at (ap (λ (z : Row). z.occ) e ∙ same ∙ sym is))
+
+  -- an occurrence is listed exactly where it is found
+  pub listed_is : (x : Moment) (found : Option ℕ) → IsFound f x found → is_none (row_in (map (row_at f) rows) x) ≡ is_none found
+  listed_is x None none = ap is_none (no_row x none)
+  listed_is x (Some y) (m, here, is) =
+      let (r, there, same) = listing.all y (live_at f y m here) in
+      ap is_none (one_found r x (In-from_Contains rows r there) (ap (moment_at f) same ∙ moment_at-is f y m here ∙ is))

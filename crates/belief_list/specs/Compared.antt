@@ -1,11 +1,10 @@
 -- Two lists of believed occurrences, compared row by row.
-use Rattle.std.specs.Prelude.{◌≡◌, true, false, not, ◌&&◌, List, [], ◌∷◌, map, Option, Some, None}
+use Rattle.std.specs.Prelude.{◌≡◌, true, false, ◌&&◌, List, [], ◌∷◌, map, Option, Some, None}
 use Rattle.std.specs.Option.{option_and_then, option_eq, is_some, is_none}
 use Rattle.tmm_model.specs.Answers.{Row}
 use Rattle.tmm_model.specs.Changes.{delta, clip_pair}
-use Rattle.tmm_model.specs.Maps.{TimeMap, is_among}
+use Rattle.tmm_model.specs.Maps.{TimeMap}
 use Rattle.tmm_model.specs.Moments.{Moment, same_moment, is_derived, moment_of}
-use Rattle.spots.specs.Forest.{Forest, moments}
 use Rattle.belief_list.specs.declared.changes.BeliefChanges.{BeliefChanges}
 
 -- the row of an occurrence, none where it is not listed
@@ -17,9 +16,9 @@ row_in (r ∷ rs) x = elim (same_moment x r.occ) [ true ↦ Some r | false ↦ r
 abbrev pub clip_in : List Row → Moment → Option Moment
 clip_in rs x = option_and_then (λ r. r.clip) (row_in rs x)
 
--- the occurrence of the row, if it is derived and no node of the other forest
-abbrev pub gone_row : Forest → Row → Option Moment
-gone_row other r = elim (is_derived r.occ && not (is_among (moments other) r.occ)) [ true ↦ Some r.occ | false ↦ None ]
+-- the occurrence of the row, if it is derived and not listed among the others
+abbrev pub gone_row : List Row → Row → Option Moment
+gone_row others r = elim (is_derived r.occ && is_none (row_in others r.occ)) [ true ↦ Some r.occ | false ↦ None ]
 
 -- the occurrence of the row, if it was clipped and is no longer
 abbrev pub loose_row : List Row → Row → Option Moment

@@ -1,12 +1,14 @@
 // What of belief changed between two lists.
-ghost use Rattle.std.specs.Prelude.{◌≡◌, ◌++◌, ◌∷◌, [], map, not, ◌&&◌, IfOk, OnOk, IfSome, Some};
+ghost use Rattle.std.specs.Prelude.{◌≡◌, ◌++◌, ◌∷◌, [], List, map, ◌&&◌, IfOk, OnOk, IfSome, Some};
 ghost use Rattle.std.specs.List.{All, filter_map};
 ghost use Rattle.std.specs.Option.{option_map, option_eq, is_some, is_none};
 ghost use Rattle.tmm_model.specs.Answers.{rows};
 ghost use Rattle.tmm_model.specs.Changes.{clip_pair};
-ghost use Rattle.tmm_model.specs.Maps.{TimeMap, is_among};
+ghost use Rattle.tmm_model.specs.Maps.{TimeMap};
 ghost use Rattle.tmm_model.specs.Moments.{moment_of, is_derived, same_moment};
-ghost use Rattle.spots.specs.Forest.{IsLive, IsOnce, moment_at, moments};
+ghost use Rattle.spots.specs.Forest.{IsLive, moment_at};
+ghost use Rattle.occ_tree.specs.Places.{forest};
+ghost use Rattle.belief_list.specs.declared.list.BeliefRow.{BeliefRow as ABeliefRow};
 ghost use Rattle.belief_list.specs.Rows.{row_at, IsLiveRow, IsListing};
 ghost use Rattle.belief_list.specs.Compared.{row_in, clip_in, gone_row, loose_row, clip_row, AreChanges};
 ghost use Rattle.belief_list.specs.Tables.{IsTable};
@@ -45,13 +47,13 @@ pub fn compare(
     new_tree: &Tree,
     new: &[BeliefRow],
 ) -> Result<BeliefChanges, NoMemory>
-    requires old { IsListing old_tree.now old.now }
-    requires new { IsListing new_tree.now new.now }
-    ensures left { IfOk result (λ changes. map moment_of changes.left.items ≡ filter_map (gone_row new_tree.now) (map (row_at old_tree.now) old.now)) }
-    ensures entered { IfOk result (λ changes. map moment_of changes.entered.items ≡ filter_map (gone_row old_tree.now) (map (row_at new_tree.now) new.now)) }
-    ensures loose { IfOk result (λ changes. map moment_of changes.loose.items ≡ filter_map (loose_row (map (row_at old_tree.now) old.now)) (map (row_at new_tree.now) new.now)) }
-    ensures clips { IfOk result (λ changes. map clip_pair changes.clips.items ≡ filter_map (clip_row (map (row_at old_tree.now) old.now)) (map (row_at new_tree.now) new.now)) }
-    ensures delta { IfOk result (λ changes. (m_old m_new : TimeMap) → map (row_at old_tree.now) old.now ≡ rows m_old → map (row_at new_tree.now) new.now ≡ rows m_new → AreChanges m_old m_new changes) }
+    requires old { IsListing (forest old_tree.now) old.now }
+    requires new { IsListing (forest new_tree.now) new.now }
+    ensures left { IfOk result (λ changes. map moment_of changes.left.items ≡ filter_map (gone_row (map (row_at (forest new_tree.now)) new.now)) (map (row_at (forest old_tree.now)) old.now)) }
+    ensures entered { IfOk result (λ changes. map moment_of changes.entered.items ≡ filter_map (gone_row (map (row_at (forest old_tree.now)) old.now)) (map (row_at (forest new_tree.now)) new.now)) }
+    ensures loose { IfOk result (λ changes. map moment_of changes.loose.items ≡ filter_map (loose_row (map (row_at (forest old_tree.now)) old.now)) (map (row_at (forest new_tree.now)) new.now)) }
+    ensures clips { IfOk result (λ changes. map clip_pair changes.clips.items ≡ filter_map (clip_row (map (row_at (forest old_tree.now)) old.now)) (map (row_at (forest new_tree.now)) new.now)) }
+    ensures delta { IfOk result (λ changes. (m_old m_new : TimeMap) → map (row_at (forest old_tree.now)) old.now ≡ rows m_old → map (row_at (forest new_tree.now)) new.now ≡ rows m_new → AreChanges m_old m_new changes) }
 {
     let places = places_by_node(alloc, old_tree, old)?;
     let before = Before {
@@ -67,11 +69,10 @@ pub fn compare(
     })
 }
 
-// The derived occurrences that are no nodes of the other tree.
+// The derived occurrences that are no nodes of the other tree, whatever rows list its nodes.
 fn gone(alloc: Global, tree: &Tree, rows: &[BeliefRow], other: &Tree) -> Result<Seq<Occ>, NoMemory>
-    requires live { All (IsLiveRow tree.now) rows.now }
-    requires once { IsOnce other.now }
-    ensures { IfOk result (λ occs. map moment_of occs.items ≡ filter_map (gone_row other.now) (map (row_at tree.now) rows.now)) }
+    requires { All (IsLiveRow (forest tree.now)) rows.now }
+    ensures { IfOk result (λ occs. (others : List ABeliefRow) → IsListing (forest other.now) others → map moment_of occs.items ≡ filter_map (gone_row (map (row_at (forest other.now)) others)) (map (row_at (forest tree.now)) rows.now)) }
 {
     let mut occs = Seq::make(alloc);
     for row in rows {
@@ -83,16 +84,15 @@ fn gone(alloc: Global, tree: &Tree, rows: &[BeliefRow], other: &Tree) -> Result<
 }
 
 fn is_gone(tree: &Tree, node: u32, other: &Tree) -> bool
-    requires live { IsLive tree.now node }
-    requires once { IsOnce other.now }
-    ensures { result ≡ (is_derived (moment_at tree.now node) && not (is_among (moments other.now) (moment_at tree.now node))) }
+    requires { IsLive (forest tree.now) node }
+    ensures { (others : List ABeliefRow) → IsListing (forest other.now) others → result ≡ (is_derived (moment_at (forest tree.now) node) && is_none (row_in (map (row_at (forest other.now)) others) (moment_at (forest tree.now) node))) }
 {
     tree.row(node).parent.is_some() && other.find_same(tree, node).is_none()
 }
 
 fn push_occ(alloc: Global, tree: &Tree, node: u32, occs: &mut Seq<Occ>) -> Result<(), NoMemory>
-    requires { IsLive tree.now node }
-    ensures { OnOk result (map moment_of occs.new.items ≡ map moment_of occs.old.items ++ moment_at tree.now node ∷ []) }
+    requires { IsLive (forest tree.now) node }
+    ensures { OnOk result (map moment_of occs.new.items ≡ map moment_of occs.old.items ++ moment_at (forest tree.now) node ∷ []) }
 {
     match occs.push(tree.occ_of(alloc, node)?) {
         Ok(()) => Ok(()),
@@ -102,8 +102,8 @@ fn push_occ(alloc: Global, tree: &Tree, node: u32, occs: &mut Seq<Occ>) -> Resul
 
 // The place of the row of each node; 0 where there is no node.
 fn places_by_node(alloc: Global, tree: &Tree, rows: &[BeliefRow]) -> Result<Vec<usize>, NoMemory>
-    requires { IsListing tree.now rows.now }
-    ensures { IfOk result (λ places. IsTable tree.now rows.now places.items) }
+    requires { IsListing (forest tree.now) rows.now }
+    ensures { IfOk result (λ places. IsTable (forest tree.now) rows.now places.items) }
 {
     let mut places = Vec::from_elem(alloc, 0, tree.limit() as usize)?;
     for (i, row) in rows.iter().enumerate() {
@@ -115,11 +115,11 @@ fn places_by_node(alloc: Global, tree: &Tree, rows: &[BeliefRow]) -> Result<Vec<
 impl Before<'_> {
     // The row of what is the node of the other tree.
     fn row_of(&self, other: &Tree, node: u32) -> Option<BeliefRow>
-        requires listing { IsListing self.now.tree.now self.now.rows.now }
-        requires table { IsTable self.now.tree.now self.now.rows.now self.now.places.now }
-        requires live { IsLive other.now node }
-        ensures row { option_map (row_at self.now.tree.now) result ≡ row_in (map (row_at self.now.tree.now) self.now.rows.now) (moment_at other.now node) }
-        ensures live { IfSome result (IsLiveRow self.now.tree.now) }
+        requires listing { IsListing (forest self.now.tree.now) self.now.rows.now }
+        requires table { IsTable (forest self.now.tree.now) self.now.rows.now self.now.places.now }
+        requires live { IsLive (forest other.now) node }
+        ensures row { option_map (row_at (forest self.now.tree.now)) result ≡ row_in (map (row_at (forest self.now.tree.now)) self.now.rows.now) (moment_at (forest other.now) node) }
+        ensures live { IfSome result (IsLiveRow (forest self.now.tree.now)) }
     {
         let x = self.tree.find_same(other, node)?;
         Some(self.rows[self.places[x as usize]])
@@ -127,22 +127,22 @@ impl Before<'_> {
 
     // What clipped what is the node of the other tree.
     fn clip_of(&self, other: &Tree, node: u32) -> Option<u32>
-        requires listing { IsListing self.now.tree.now self.now.rows.now }
-        requires table { IsTable self.now.tree.now self.now.rows.now self.now.places.now }
-        requires live { IsLive other.now node }
-        ensures clip { option_map (moment_at self.now.tree.now) result ≡ clip_in (map (row_at self.now.tree.now) self.now.rows.now) (moment_at other.now node) }
-        ensures live { IfSome result (IsLive self.now.tree.now) }
+        requires listing { IsListing (forest self.now.tree.now) self.now.rows.now }
+        requires table { IsTable (forest self.now.tree.now) self.now.rows.now self.now.places.now }
+        requires live { IsLive (forest other.now) node }
+        ensures clip { option_map (moment_at (forest self.now.tree.now)) result ≡ clip_in (map (row_at (forest self.now.tree.now)) self.now.rows.now) (moment_at (forest other.now) node) }
+        ensures live { IfSome result (IsLive (forest self.now.tree.now)) }
     {
         self.row_of(other, node)?.clip
     }
 
     // Whether what clips the node of the other tree clipped it before.
     fn is_clip_of(&self, other: &Tree, node: u32, by: u32) -> bool
-        requires listing { IsListing self.now.tree.now self.now.rows.now }
-        requires table { IsTable self.now.tree.now self.now.rows.now self.now.places.now }
-        requires live { IsLive other.now node }
-        requires by_live { IsLive other.now by }
-        ensures { result ≡ option_eq same_moment (clip_in (map (row_at self.now.tree.now) self.now.rows.now) (moment_at other.now node)) (Some (moment_at other.now by)) }
+        requires listing { IsListing (forest self.now.tree.now) self.now.rows.now }
+        requires table { IsTable (forest self.now.tree.now) self.now.rows.now self.now.places.now }
+        requires live { IsLive (forest other.now) node }
+        requires by_live { IsLive (forest other.now) by }
+        ensures { result ≡ option_eq same_moment (clip_in (map (row_at (forest self.now.tree.now)) self.now.rows.now) (moment_at (forest other.now) node)) (Some (moment_at (forest other.now) by)) }
     {
         match self.clip_of(other, node) {
             None => false,
@@ -158,10 +158,10 @@ fn loosened(
     tree: &Tree,
     rows: &[BeliefRow],
 ) -> Result<Seq<Occ>, NoMemory>
-    requires listing { IsListing before.now.tree.now before.now.rows.now }
-    requires table { IsTable before.now.tree.now before.now.rows.now before.now.places.now }
-    requires live { All (IsLiveRow tree.now) rows.now }
-    ensures { IfOk result (λ occs. map moment_of occs.items ≡ filter_map (loose_row (map (row_at before.now.tree.now) before.now.rows.now)) (map (row_at tree.now) rows.now)) }
+    requires listing { IsListing (forest before.now.tree.now) before.now.rows.now }
+    requires table { IsTable (forest before.now.tree.now) before.now.rows.now before.now.places.now }
+    requires live { All (IsLiveRow (forest tree.now)) rows.now }
+    ensures { IfOk result (λ occs. map moment_of occs.items ≡ filter_map (loose_row (map (row_at (forest before.now.tree.now)) before.now.rows.now)) (map (row_at (forest tree.now)) rows.now)) }
 {
     let mut occs = Seq::make(alloc);
     for row in rows {
@@ -173,10 +173,10 @@ fn loosened(
 }
 
 fn is_loosened(before: &Before<'_>, tree: &Tree, row: &BeliefRow) -> bool
-    requires listing { IsListing before.now.tree.now before.now.rows.now }
-    requires table { IsTable before.now.tree.now before.now.rows.now before.now.places.now }
-    requires live { IsLiveRow tree.now row.now }
-    ensures { result ≡ (is_some (clip_in (map (row_at before.now.tree.now) before.now.rows.now) (moment_at tree.now row.now.node)) && is_none row.now.clip) }
+    requires listing { IsListing (forest before.now.tree.now) before.now.rows.now }
+    requires table { IsTable (forest before.now.tree.now) before.now.rows.now before.now.places.now }
+    requires live { IsLiveRow (forest tree.now) row.now }
+    ensures { result ≡ (is_some (clip_in (map (row_at (forest before.now.tree.now)) before.now.rows.now) (moment_at (forest tree.now) row.now.node)) && is_none row.now.clip) }
 {
     row.clip.is_none() && before.clip_of(tree, row.node).is_some()
 }
@@ -188,10 +188,10 @@ fn clipped(
     tree: &Tree,
     rows: &[BeliefRow],
 ) -> Result<Seq<Clip>, NoMemory>
-    requires listing { IsListing before.now.tree.now before.now.rows.now }
-    requires table { IsTable before.now.tree.now before.now.rows.now before.now.places.now }
-    requires live { All (IsLiveRow tree.now) rows.now }
-    ensures { IfOk result (λ clips. map clip_pair clips.items ≡ filter_map (clip_row (map (row_at before.now.tree.now) before.now.rows.now)) (map (row_at tree.now) rows.now)) }
+    requires listing { IsListing (forest before.now.tree.now) before.now.rows.now }
+    requires table { IsTable (forest before.now.tree.now) before.now.rows.now before.now.places.now }
+    requires live { All (IsLiveRow (forest tree.now)) rows.now }
+    ensures { IfOk result (λ clips. map clip_pair clips.items ≡ filter_map (clip_row (map (row_at (forest before.now.tree.now)) before.now.rows.now)) (map (row_at (forest tree.now)) rows.now)) }
 {
     let mut clips = Seq::make(alloc);
     for row in rows {
@@ -204,11 +204,11 @@ fn clipped(
 
 // What clips the node of the row, if that is new.
 fn new_clip(before: &Before<'_>, tree: &Tree, row: &BeliefRow) -> Option<u32>
-    requires listing { IsListing before.now.tree.now before.now.rows.now }
-    requires table { IsTable before.now.tree.now before.now.rows.now before.now.places.now }
-    requires live { IsLiveRow tree.now row.now }
-    ensures clip { option_map (λ by. (moment_at tree.now row.now.node, moment_at tree.now by)) result ≡ clip_row (map (row_at before.now.tree.now) before.now.rows.now) (row_at tree.now row.now) }
-    ensures live { IfSome result (IsLive tree.now) }
+    requires listing { IsListing (forest before.now.tree.now) before.now.rows.now }
+    requires table { IsTable (forest before.now.tree.now) before.now.rows.now before.now.places.now }
+    requires live { IsLiveRow (forest tree.now) row.now }
+    ensures clip { option_map (λ by. (moment_at (forest tree.now) row.now.node, moment_at (forest tree.now) by)) result ≡ clip_row (map (row_at (forest before.now.tree.now)) before.now.rows.now) (row_at (forest tree.now) row.now) }
+    ensures live { IfSome result (IsLive (forest tree.now)) }
 {
     let by = row.clip?;
     if before.is_clip_of(tree, row.node, by) {
@@ -225,9 +225,9 @@ fn push_clip(
     by: u32,
     clips: &mut Seq<Clip>,
 ) -> Result<(), NoMemory>
-    requires token { IsLive tree.now token }
-    requires by { IsLive tree.now by }
-    ensures { OnOk result (map clip_pair clips.new.items ≡ map clip_pair clips.old.items ++ (moment_at tree.now token, moment_at tree.now by) ∷ []) }
+    requires token { IsLive (forest tree.now) token }
+    requires by { IsLive (forest tree.now) by }
+    ensures { OnOk result (map clip_pair clips.new.items ≡ map clip_pair clips.old.items ++ (moment_at (forest tree.now) token, moment_at (forest tree.now) by) ∷ []) }
 {
     let token = tree.occ_of(alloc, token)?;
     let by = tree.occ_of(alloc, by)?;

@@ -7,6 +7,7 @@ ghost use Rattle.tmm_model.specs.Maps.{built};
 ghost use Rattle.tmm_model.specs.Moments.{moment_of};
 ghost use Rattle.spots.specs.Forest.{IsLive, moment_at};
 ghost use Rattle.spots.specs.Seen.{IsSeen, Holds};
+ghost use Rattle.occ_tree.specs.Places.{forest};
 ghost use Rattle.belief_list.specs.Rows.{belief_row, row_at, IsLiveRow, IsListing};
 
 use dist_net::DistNet;
@@ -34,10 +35,10 @@ pub fn listed(
     tree: &Tree,
     net: &DistNet,
 ) -> Result<Seq<BeliefRow>, NoMemory>
-    requires seen { IsSeen standing.now.present net.now.present tree.now }
-    requires holds { Holds (built standing.now.present).believed tree.now }
-    ensures rows { IfOk result (λ list. map (row_at tree.now) list.items ≡ rows (built standing.now.present)) }
-    ensures listing { IfOk result (λ list. IsListing tree.now list.items) }
+    requires seen { IsSeen standing.now.present net.now.present (forest tree.now) }
+    requires holds { Holds (built standing.now.present).believed (forest tree.now) }
+    ensures rows { IfOk result (λ list. map (row_at (forest tree.now)) list.items ≡ rows (built standing.now.present)) }
+    ensures listing { IfOk result (λ list. IsListing (forest tree.now) list.items) }
 {
     let nodes = tree.numbers(alloc)?;
     let ranked = in_order(alloc, tree, net, nodes.as_slice())?;
@@ -71,8 +72,8 @@ fn rows_of(
 
 /// The rows as a reply has them.
 pub fn list_rows(alloc: Global, tree: &Tree, rows: &[BeliefRow]) -> Result<Seq<ListRow>, NoMemory>
-    requires { All (IsLiveRow tree.now) rows.now }
-    ensures { IfOk result (λ told. map row_of told.items ≡ map (row_at tree.now) rows.now) }
+    requires { All (IsLiveRow (forest tree.now)) rows.now }
+    ensures { IfOk result (λ told. map row_of told.items ≡ map (row_at (forest tree.now)) rows.now) }
 {
     let mut told = Seq::make(alloc);
     for row in rows {
@@ -85,8 +86,8 @@ pub fn list_rows(alloc: Global, tree: &Tree, rows: &[BeliefRow]) -> Result<Seq<L
 }
 
 fn list_row(alloc: Global, tree: &Tree, row: &BeliefRow) -> Result<ListRow, NoMemory>
-    requires { IsLiveRow tree.now row.now }
-    ensures { IfOk result (λ told. row_of told ≡ row_at tree.now row.now) }
+    requires { IsLiveRow (forest tree.now) row.now }
+    ensures { IfOk result (λ told. row_of told ≡ row_at (forest tree.now) row.now) }
 {
     Ok(ListRow {
         early: row.early,
@@ -97,8 +98,8 @@ fn list_row(alloc: Global, tree: &Tree, row: &BeliefRow) -> Result<ListRow, NoMe
 }
 
 fn clip_of(alloc: Global, tree: &Tree, row: &BeliefRow) -> Result<Option<Occ>, NoMemory>
-    requires { IsLiveRow tree.now row.now }
-    ensures { IfOk result (λ occ. option_map moment_of occ ≡ option_map (moment_at tree.now) row.now.clip) }
+    requires { IsLiveRow (forest tree.now) row.now }
+    ensures { IfOk result (λ occ. option_map moment_of occ ≡ option_map (moment_at (forest tree.now)) row.now.clip) }
 {
     match row.clip {
         None => Ok(None),

@@ -1,13 +1,14 @@
 -- The laws of plain dates on lines of time that nothing relates, as the tests use them: a spot is its
 -- line, its date and its place.
-use Rattle.std.specs.Prelude.{◌≡◌, ℕ, ℤ, pos, ◌-ℤ◌, Bool, true, false, cond, refl, ◌==◌}
+use Rattle.std.specs.Prelude.{◌≡◌, ℕ, ℤ, pos, ◌+ℤ◌, ◌-ℤ◌, ◌≤ℤ◌, Bool, true, false, cond, refl, ◌==◌}
 use Rattle.std.specs.declared.cmp.Ordering.{Ordering}
 use Rattle.std.specs.declared.cmp.Ordering.TheVariants.{Less, Equal, Greater}
 use Rattle.std.specs.Ordering.{on, then_cmp, int_cmp, nat_cmp, ordering_then}
 use Rattle.std.specs.Cmp.{IsTotalOrder}
 use Rattle.tmm_model.specs.declared.bound.Bound.{Bound}
 use Rattle.tmm_model.specs.declared.bound.Bound.TheVariants.{Finite, Free}
-use Rattle.tmm_model.specs.Bounds.{bound_plus}
+use Rattle.tmm_model.specs.Bounds.{bound_plus, IfFinite}
+use Rattle.clipping.specs.ByDate.{AreDatesOn}
 use Rattle.tmm_model.specs.Types.{IsTighter, IsOrderOn}
 use Rattle.std.proofs.Common.{arith, ap, sym, ◌∙◌, eq-eqb}
 use Rattle.std.proofs.lemmas.Bool.{eqb-true}
@@ -67,3 +68,10 @@ ordered = record {
   trans = λ x y z _ _ _. total.trans x y z;
   strict = λ x y _ _. strict x y;
 }
+
+pub dated : AreDatesOn {P = Date} (λ p. Unit {0}) date_far (λ p. p.1)
+dated = record { met = λ p q _ _. by p q (p.0 == q.0) }
+  where
+    by : (p q : Date) (b : Bool) → IfFinite (cond b (Finite (q.1 -ℤ p.1)) Free) (λ w. q.1 ≤ℤ (p.1 +ℤ w))
+    by p q true = omega (arith, ints)
+    by p q false = tt

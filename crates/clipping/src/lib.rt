@@ -19,6 +19,10 @@ ghost use Rattle.clipping.specs.Cutters.{BeginsBy, clips_until};
 ghost use Rattle.clipping.specs.Lasts.{IsLastPlace};
 ghost use Rattle.clipping.specs.Faults.{IsClipPlace, IsFault};
 
+pub mod by_date;
+mod dated;
+
+pub use dated::Dated;
 use tmm_model::{Name, Sure, TokenRow};
 
 // Whether `c` contradicts `k`, and surely begins after it and at or before `q`.

@@ -1,5 +1,5 @@
 //! Tokens at plain dates.
-ghost use Rattle.clipping.specs.Dates.{date_far, date_cmp, itself, triangle, ordered};
+ghost use Rattle.clipping.specs.Dates.{date_far, date_cmp, itself, triangle, ordered, dated};
 
 use super::*;
 use std::cmp::Ordering;
@@ -29,6 +29,16 @@ impl Sure for Dates {
 
     fn rank(&self, a: (u8, i32, usize), b: (u8, i32, usize)) -> Ordering {
         a.1.cmp(&b.1).then(a.0.cmp(&b.0)).then(a.2.cmp(&b.2))
+    }
+}
+
+impl Dated for Dates {
+    ghost date = { λ s p. p.1 };
+
+    ghost dated = { λ s. dated };
+
+    fn date(&self, spot: (u8, i32, usize)) -> i64 {
+        i64::from(spot.1)
     }
 }
 
@@ -64,6 +74,27 @@ fn fault_of(tokens: &[TokenRow<(u8, i32, usize)>], k: usize, p: i32, q: i32) -> 
         None
     } else {
         Some(blame(&Dates, tokens, k, p, q))
+    }
+}
+
+// The same of tokens in the order of their dates.
+fn clipper_by_date(tokens: &[TokenRow<(u8, i32, usize)>], k: usize) -> Option<usize> {
+    if k < tokens.len() && by_date::is_by_date(&Dates, tokens) {
+        by_date::first_clipper(&Dates, tokens, k)
+    } else {
+        None
+    }
+}
+
+fn fault_by_date(tokens: &[TokenRow<(u8, i32, usize)>], k: usize, p: i32, q: i32) -> Option<Fault> {
+    let token = tokens.get(k)?;
+    let (p, q) = ((0, p, 8), (0, q, 8));
+    if !by_date::is_by_date(&Dates, tokens)
+        || is_supporter(&Dates, tokens, token, &token.fact, p, q, &mut None)
+    {
+        None
+    } else {
+        Some(by_date::blame(&Dates, tokens, k, p, q))
     }
 }
 
@@ -124,6 +155,57 @@ fn tokens_of_a_door(rt: HostRuntime) -> Result<(), Fail> {
         (5, 7, 12, Fault::Ends),
     ] {
         assert_eq!(rt; fault_of(&tokens, k, p, q), Some(fault));
+    }
+    Ok(())
+}
+
+#[test]
+fn tokens_of_a_door_by_date(rt: HostRuntime) -> Result<(), Fail> {
+    let door = Name::of(b"door").ok_or("name")?;
+    let open = Name::of(b"open").ok_or("name")?;
+    let shut = Name::of(b"shut").ok_or("name")?;
+    let tokens = [
+        token(0, 0, 3, open, door),
+        token(1, 2, 0, shut, door),
+        token(0, 5, 1, shut, door),
+        token(0, 5, 2, shut, door),
+        token(0, 5, 4, open, door),
+        span(7, 12, 5, open, door),
+    ];
+    assert!(rt; !by_date::is_by_date(&Dates, &[tokens[1], tokens[0]]));
+    if !by_date::is_by_date(&Dates, &tokens) {
+        return Err("order".into());
+    }
+    for (p, q, found) in [
+        (0, 4, Some(0)),
+        // the one at 5, which ties with those that are shut
+        (5, 20, Some(4)),
+        (4, 5, None),
+        (-1, -1, None),
+    ] {
+        let (p, q) = ((0, p, 8), (0, q, 8));
+        assert_eq!(rt; by_date::holder(&Dates, &tokens, open, p, q), found);
+        assert_eq!(rt;
+            by_date::is_held(&Dates, &tokens, open, p, q),
+            found.is_some()
+        );
+    }
+    for (k, found) in [(0, Some(2)), (1, None), (2, Some(5)), (4, None), (5, None)] {
+        assert_eq!(rt; clipper_by_date(&tokens, k), found);
+    }
+    for (line, date, place, found) in [(0, 5, 1, Some(2)), (0, 5, 3, None), (0, 9, 0, None)] {
+        assert_eq!(rt;
+            by_date::place_of(&Dates, &tokens, (line, date, place)),
+            found
+        );
+    }
+    for (k, p, q, fault) in [
+        (0, -1, -1, Fault::Late),
+        (0, 4, 5, Fault::Clipped(2)),
+        (5, 6, 11, Fault::Late),
+        (5, 7, 12, Fault::Ends),
+    ] {
+        assert_eq!(rt; fault_by_date(&tokens, k, p, q), Some(fault));
     }
     Ok(())
 }

@@ -125,7 +125,7 @@ impl Rows {
 
     /// The same rows and lists, and the same last commit, for edits of its own. It takes memory.
     pub fn copy(&self, alloc: Global) -> Result<Rows, NoMemory>
-        ensures { IfOk result (λ copy. copy ≡ self.now) }
+        ensures { IfOk result (Stays self.now) }
     {
         Ok(Rows {
             rows: self.rows.copy(alloc)?,

@@ -1,7 +1,8 @@
 // A bound in eight bytes.
-ghost use Rattle.std.specs.Prelude.{◌≡◌, IsTrue, ◌↔◌};
+ghost use Rattle.std.specs.Prelude.{◌≡◌, IsTrue, IsFalse, ◌↔◌};
 ghost use Rattle.tmm_model.specs.Types.{IsSmall};
-ghost use Rattle.tmm_model.specs.Bounds.{lesser};
+ghost use Rattle.tmm_model.specs.Bounds.{IfFinite, lesser};
+ghost use Rattle.walk_theory.specs.LeastWalks.{AtMost};
 ghost use Rattle.dist_net.specs.Cells.{addend_of, number_of, seen};
 
 use std::marker::Model;
@@ -78,6 +79,14 @@ impl Cell {
         }
     }
 
+    /// Whether it is greater than a sum, of which those from `NONE` on are no bound.
+    pub fn exceeds(self, sum: i64) -> bool
+        ensures greater { IsTrue result → (seen sum ≡ Bound.Finite sum) × (AtMost self sum → ⊥) }
+        ensures other { IsFalse result → IfFinite (seen sum) (AtMost self) }
+    {
+        sum < self.number
+    }
+
     /// The less of the bound and a sum, of which those from `NONE` on are no bound.
     pub fn lesser(self, sum: i64) -> Cell
         ensures { result ≡ lesser self (seen sum) }
@@ -87,5 +96,12 @@ impl Cell {
         } else {
             self
         }
+    }
+}
+
+impl Default for Cell {
+    /// No bound.
+    fn default() -> Cell {
+        Cell::FREE
     }
 }

@@ -7,19 +7,19 @@ use Rattle.std.proofs.lemmas.List.Elements.{All-push, Contains-append_left, Cont
 use Rattle.tmm_model.specs.declared.bound.Bound.{Bound}
 use Rattle.walk_theory.specs.LeastWalks.{IsFar}
 use Rattle.dist_net.specs.declared.Edge.{Edge}
-use Rattle.dist_net.specs.Net.{Net, Nets, IsInUse, entry, arcs_of, arc_of}
-use Rattle.dist_net.proofs.Ends.{in_places, edge_at}
-use Rattle.dist_repair.specs.Rows.{rest_of, IsFirstRow, IsPresentBeside, IsPresentRow, IsStarted, IsSafe, ChangesRow}
+use Rattle.dist_net.specs.Net.{Net, IsInUse, arcs_of, arc_of}
+use Rattle.dist_net.proofs.Ends.{edge_at}
+use Rattle.dist_repair.specs.Rows.{rest_of, IsFirstRow, IsPresentBeside, IsPresentRow, IsStarted, IsSafe}
 use Rattle.dist_repair.proofs.Left.{IsNet}
-use Rattle.dist_repair.proofs.Starts.{IsStarted-far, IsFar-safe, IsFar-held, ChangesRow-none}
+use Rattle.dist_repair.proofs.Starts.{IsStarted-far, IsFar-safe, IsFar-held}
 
 -- the last of a list stands in it
 pub Contains-last : (xs : List ℕ) (x : ℕ) → Contains (xs ++ x ∷ []) x
 Contains-last xs x = Contains-append_right xs (x ∷ []) x (0, omega arith, refl)
 
 -- what holds of two values holds of equal ones
-pub of_equal : (P : List ℕ → Nets → Type 0) → {l m : List ℕ} {x y : Nets} → l ≡ m → x ≡ y → P m y → P l x
-of_equal P {l} {m} {x} {y} same_list same_net h = subst (λ (n : Nets). P l n) (sym same_net) (subst (λ (k : List ℕ). P k y) (sym same_list) h)
+pub of_equal : (P : List ℕ → List Bound → Type 0) → {l m : List ℕ} {x y : List Bound} → l ≡ m → x ≡ y → P m y → P l x
+of_equal P {l} {m} {x} {y} same_list same_row h = subst (λ (n : List Bound). P l n) (sym same_row) (subst (λ (k : List ℕ). P k y) (sym same_list) h)
 
 -- ---- the columns
 
@@ -82,79 +82,65 @@ later columns k b q at ne s =
     (s.0, omega (arith, s.1, differ), s.2, s.3)
 
 -- at most k points are suspects so far, and those that wait have their present distances
-pub record IsBounding (old : Nets) (place : ℕ) (waits : ℕ → Type 0) (a k : ℕ) (suspects : List ℕ) (now : Nets) : Type 0 where
+pub record IsBounding (net : Net) (place : ℕ) (waits : ℕ → Type 0) (a k : ℕ) (suspects : List ℕ) (row : ℕ → Bound) : Type 0 where
   pub few : length suspects ≤ k
-  pub used : All (IsInUse old.present.names) suspects
-  pub begun : (q : ℕ) → IsInUse old.present.names q → IsStarted (rest_of old.present place) a q (entry now.draft a q) ⊎ (waits q × IsFar (arcs_of old.present.edges) a q (entry now.draft a q))
-  pub beside : IsPresentBeside old.present suspects a (entry now.draft a)
-  pub changes : ChangesRow a old now
+  pub used : All (IsInUse net.names) suspects
+  pub begun : (q : ℕ) → IsInUse net.names q → IsStarted (rest_of net place) a q (row q) ⊎ (waits q × IsFar (arcs_of net.edges) a q (row q))
+  pub beside : IsPresentBeside net suspects a row
 
 -- all points wait
-pub IsBounding-all : (old : Nets) (place a : ℕ) → IsPresentRow old.present a (entry old.draft a) → IsBounding old place (λ q. 0 ≤ q) a 0 [] old
-IsBounding-all old place a present = record {
+pub IsBounding-all : (net : Net) (place a : ℕ) (row : ℕ → Bound) → IsPresentRow net a row → IsBounding net place (λ q. 0 ≤ q) a 0 [] row
+IsBounding-all net place a row present = record {
   few = omega arith;
   used = λ k d below. absurd (omega (arith, below));
   begun = λ q in_q. inr (omega arith, present q in_q);
   beside = λ q in_q. inr (present q in_q);
-  changes = ChangesRow-none a old;
 }
 
 -- the columns wait, and the others keep their distances
-pub IsBounding-columns : (old : Nets) (place u : ℕ) (columns : List ℕ) (a : ℕ) → IsNet old.present → place < length old.present.edges → IsFirstRow old.present place u columns (entry old.draft u) → IsPresentRow old.present a (entry old.draft a) → IsBounding old place (StandsFrom columns 0) a 0 [] old
-IsBounding-columns old place u columns a known lt first present = record {
+pub IsBounding-columns : (net : Net) (place u : ℕ) (columns : List ℕ) (a : ℕ) (first_row row : ℕ → Bound) → IsNet net → place < length net.edges → IsFirstRow net place u columns first_row → IsPresentRow net a row → IsBounding net place (StandsFrom columns 0) a 0 [] row
+IsBounding-columns net place u columns a first_row row known lt first present = record {
   few = omega arith;
   used = λ k d below. absurd (omega (arith, below));
   begun = λ q in_q.
       elim (first.beside q in_q) [
         | inl m ↦ inr ((m.0, omega arith, m.1, m.2), present q in_q)
-        | inr far ↦ inl (IsStarted-far old.present place known a q in_q (entry old.draft a q)
-            (IsFar-held old.present place known lt u a q (entry old.draft a q) (entry old.draft u q) first.from far (first.far q in_q) (present q in_q)))
+        | inr far ↦ inl (IsStarted-far net place known a q in_q (row q)
+            (IsFar-held net place known lt u a q (row q) (first_row q) first.from far (first.far q in_q) (present q in_q)))
       ];
   beside = λ q in_q. inr (present q in_q);
-  changes = ChangesRow-none a old;
 }
 
-module _ (old now : Nets) (place : ℕ) (waits still : ℕ → Type 0) (suspects : List ℕ) (a k b : ℕ) (known : IsNet old.present) (is : IsBounding old place waits a k suspects now)
-    (step : (q : ℕ) → IsInUse old.present.names q → q ≢ b → waits q → still q) where
-  pub IsBounding-more : (next : Nets) (value : Bound) → a < 256 → IsInUse old.present.names b → IsStarted (rest_of now.present place) a b value →
-      entry next.draft a b ≡ value → ((p q : ℕ) → p < 256 → q < 256 → (p ≢ a) ⊎ (q ≢ b) → entry next.draft p q ≡ entry now.draft p q) →
-      next.present ≡ now.present → next.committed ≡ now.committed → IsBounding old place still a (k + 1) (suspects ++ b ∷ []) next
-  IsBounding-more next value in_a in_b started written others present committed =
-      let same_at : (q : ℕ) → IsInUse old.present.names q → (q ≢ b) → entry next.draft a q ≡ entry now.draft a q = λ q in_q ne. others a q in_a (in_places old.present.names known.places q in_q) (inr ne) in
-      record {
-        few = omega (arith, is.few, length-append suspects (b ∷ []));
-        used = All-push (IsInUse old.present.names) suspects b is.used in_b;
-        begun = λ q in_q.
-            elim (cases_eq q b) [
-              | inl same ↦ (let P : ℕ → Type 0 = λ r. IsStarted (rest_of old.present place) a r (entry next.draft a r) in
-                  inl (subst P (sym same) (subst (λ (x : Bound). IsStarted (rest_of old.present place) a b x) (sym written)
-                  (subst (λ (n : Net). IsStarted (rest_of n place) a b value) is.changes.present started))))
-              | inr other ↦ elim (is.begun q in_q) [
-                | inl s ↦ inl (subst (λ (x : Bound). IsStarted (rest_of old.present place) a q x) (sym (same_at q in_q other)) s)
-                | inr s ↦ inr (step q in_q other s.0, subst (λ (x : Bound). IsFar (arcs_of old.present.edges) a q x) (sym (same_at q in_q other)) s.1)
-              ]
-            ];
-        beside = λ q in_q.
-            elim (cases_eq q b) [
-              | inl same ↦ inl (subst (Contains (suspects ++ b ∷ [])) (sym same) (Contains-last suspects b))
-              | inr other ↦ elim (is.beside q in_q) [
-                | inl m ↦ inl (Contains-append_left suspects (b ∷ []) q m)
-                | inr far ↦ inr (subst (λ (x : Bound). IsFar (arcs_of old.present.edges) a q x) (sym (same_at q in_q other)) far)
-              ]
-            ];
-        changes = record {
-          others = λ p q in_p in_q ne. others p q in_p in_q (inl ne) ∙ is.changes.others p q in_p in_q ne;
-          present = present ∙ is.changes.present;
-          committed = committed ∙ is.changes.committed;
-        };
-      }
+module _ (net : Net) (place : ℕ) (waits still : ℕ → Type 0) (suspects : List ℕ) (a k b : ℕ) (now : ℕ → Bound) (known : IsNet net) (is : IsBounding net place waits a k suspects now)
+    (step : (q : ℕ) → IsInUse net.names q → q ≢ b → waits q → still q) where
+  pub IsBounding-more : (next : ℕ → Bound) (value : Bound) → IsInUse net.names b → IsStarted (rest_of net place) a b value →
+      next b ≡ value → ((q : ℕ) → q ≢ b → next q ≡ now q) → IsBounding net place still a (k + 1) (suspects ++ b ∷ []) next
+  IsBounding-more next value in_b started written others = record {
+    few = omega (arith, is.few, length-append suspects (b ∷ []));
+    used = All-push (IsInUse net.names) suspects b is.used in_b;
+    begun = λ q in_q.
+        elim (cases_eq q b) [
+          | inl same ↦ (let P : ℕ → Type 0 = λ r. IsStarted (rest_of net place) a r (next r) in
+              inl (subst P (sym same) (subst (λ (x : Bound). IsStarted (rest_of net place) a b x) (sym written) started)))
+          | inr other ↦ elim (is.begun q in_q) [
+            | inl s ↦ inl (subst (λ (x : Bound). IsStarted (rest_of net place) a q x) (sym (others q other)) s)
+            | inr s ↦ inr (step q in_q other s.0, subst (λ (x : Bound). IsFar (arcs_of net.edges) a q x) (sym (others q other)) s.1)
+          ]
+        ];
+    beside = λ q in_q.
+        elim (cases_eq q b) [
+          | inl same ↦ inl (subst (Contains (suspects ++ b ∷ [])) (sym same) (Contains-last suspects b))
+          | inr other ↦ elim (is.beside q in_q) [
+            | inl m ↦ inl (Contains-append_left suspects (b ∷ []) q m)
+            | inr far ↦ inr (subst (λ (x : Bound). IsFar (arcs_of net.edges) a q x) (sym (others q other)) far)
+          ]
+        ];
+  }
 
   -- a pair that is no suspect keeps its distance
-  pub IsBounding-skip : place < length old.present.edges → ((d : Edge) → IsSafe (arcs_of now.present.edges) (arc_of (get_or now.present.edges place d)) a b) → IsBounding old place still a (k + 1) suspects now
+  pub IsBounding-skip : place < length net.edges → ((d : Edge) → IsSafe (arcs_of net.edges) (arc_of (get_or net.edges place d)) a b) → IsBounding net place still a (k + 1) suspects now
   IsBounding-skip in_edges safe =
-      let safe_ : (d : Edge) → IsSafe (arcs_of old.present.edges) (arc_of (get_or old.present.edges place d)) a b =
-      subst (λ (n : Net). (d : Edge) → IsSafe (arcs_of n.edges) (arc_of (get_or n.edges place d)) a b) is.changes.present safe in
-      let d : Edge = (edge_at old.present.edges place in_edges).0 in
+      let d : Edge = (edge_at net.edges place in_edges).0 in
       record {
         few = omega (arith, is.few);
         used = is.used;
@@ -162,32 +148,29 @@ module _ (old now : Nets) (place : ℕ) (waits still : ℕ → Type 0) (suspects
             elim (is.begun q in_q) [
               | inl s ↦ inl s
               | inr s ↦ elim (cases_eq q b) [
-                | inl same ↦ (let P : ℕ → Type 0 = λ r. IsSafe (arcs_of old.present.edges) (arc_of (get_or old.present.edges place d)) a r in
-                    inl (IsStarted-far old.present place known a q in_q (entry now.draft a q)
-                    (IsFar-safe old.present place known in_edges a q d (entry now.draft a q) s.1 (subst P (sym same) (safe_ d)))))
+                | inl same ↦ (let P : ℕ → Type 0 = λ r. IsSafe (arcs_of net.edges) (arc_of (get_or net.edges place d)) a r in
+                    inl (IsStarted-far net place known a q in_q (now q) (IsFar-safe net place known in_edges a q d (now q) s.1 (subst P (sym same) (safe d)))))
                 | inr other ↦ inr (step q in_q other s.0, s.1)
               ]
             ];
         beside = is.beside;
-        changes = is.changes;
       }
 
   -- a number that is not in use is passed over
-  pub IsBounding-unused : (IsInUse old.present.names b → ⊥) → IsBounding old place still a (k + 1) suspects now
+  pub IsBounding-unused : (IsInUse net.names b → ⊥) → IsBounding net place still a (k + 1) suspects now
   IsBounding-unused none = record {
     few = omega (arith, is.few);
     used = is.used;
     begun = λ q in_q.
         elim (is.begun q in_q) [
           | inl s ↦ inl s
-          | inr s ↦ (let other : q ≢ b = λ same. none (subst (IsInUse old.present.names) same in_q) in inr (step q in_q other s.0, s.1))
+          | inr s ↦ (let other : q ≢ b = λ same. none (subst (IsInUse net.names) same in_q) in inr (step q in_q other s.0, s.1))
         ];
     beside = is.beside;
-    changes = is.changes;
   }
 
 -- none waits any more
-pub IsStarted-bounded : (old now : Nets) (place : ℕ) (waits : ℕ → Type 0) (suspects : List ℕ) (a k : ℕ) → IsBounding old place waits a k suspects now →
-    ((q : ℕ) → IsInUse old.present.names q → waits q → ⊥) → (q : ℕ) → IsInUse old.present.names q → IsStarted (rest_of old.present place) a q (entry now.draft a q)
-IsStarted-bounded old now place waits suspects a k is none q in_q =
+pub IsStarted-bounded : (net : Net) (place : ℕ) (waits : ℕ → Type 0) (suspects : List ℕ) (a k : ℕ) (row : ℕ → Bound) → IsBounding net place waits a k suspects row →
+    ((q : ℕ) → IsInUse net.names q → waits q → ⊥) → (q : ℕ) → IsInUse net.names q → IsStarted (rest_of net place) a q (row q)
+IsStarted-bounded net place waits suspects a k row is none q in_q =
     elim (is.begun q in_q) [ inl s ↦ s | inr s ↦ absurd (none q in_q s.0) ]

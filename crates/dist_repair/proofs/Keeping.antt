@@ -1,19 +1,16 @@
 -- Rows that stay without an edge, since no least walk needs it.
-use Rattle.std.proofs.Common.{◌≡◌, ◌≢◌, ◌⊎◌, ◌∙◌, ℕ, ◌<◌, ◌++◌, List, [], ◌∷◌, length, get_or, ℤ, pos, ◌+ℤ◌, ◌-ℤ◌, ◌≤ℤ◌, ap, sym, subst, arith, refl, inl, inr}
+use Rattle.std.proofs.Common.{◌≡◌, ◌≢◌, ◌⊎◌, ◌∙◌, ℕ, ◌<◌, List, [], ◌∷◌, length, get_or, ℤ, pos, ◌+ℤ◌, ◌-ℤ◌, ◌≤ℤ◌, ap, sym, subst, arith, refl, inl, inr}
 use Rattle.std.specs.List.{All, Contains}
 use Rattle.std.proofs.lemmas.Bool.Decides.{Decides-eqb}
 use Rattle.std.proofs.lemmas.Int.{ints}
 use Rattle.std.proofs.lemmas.List.{get_or-map, length-map}
 use Rattle.std.proofs.lemmas.List.Elements.{All-contains}
 use Rattle.tmm_model.specs.declared.bound.Bound.{Bound}
-use Rattle.tmm_model.specs.declared.bound.Bound.TheVariants.{Finite, Free}
-use Rattle.tmm_model.specs.Types.{through}
+use Rattle.tmm_model.specs.declared.bound.Bound.TheVariants.{Finite}
 use Rattle.tmm_model.specs.Walks.{Arc, HasDates, total}
 use Rattle.walk_theory.specs.LeastWalks.{HasWalk, IsFar, IsWalk, Adds}
-use Rattle.walk_theory.proofs.Closing.{IsFar-last}
 use Rattle.walk_theory.proofs.Dates.{Solved, difference-le_total}
 use Rattle.walk_theory.proofs.Members.{All-from_contains, Contains-map}
-use Rattle.walk_theory.proofs.Paths.{IsFar-same}
 use Rattle.walk_theory.proofs.Reach.{solved}
 use Rattle.walk_theory.proofs.Walks.{IsWalk-kept}
 use Rattle.dist_net.specs.declared.Edge.{Edge}

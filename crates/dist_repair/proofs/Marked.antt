@@ -1,5 +1,5 @@
 -- A set of points, as a list and as marks, with one point more.
-use Rattle.std.proofs.Common.{◌≡◌, ◌≢◌, ◌∙◌, inl, inr, ℕ, ◌<◌, ◌++◌, List, [], ◌∷◌, Bool, true, false, refl, sym, subst, arith}
+use Rattle.std.proofs.Common.{◌∙◌, inl, inr, ℕ, ◌<◌, ◌++◌, List, [], ◌∷◌, Bool, true, false, refl, sym, subst, arith}
 use Rattle.std.specs.Prelude.{slice_set}
 use Rattle.std.specs.List.{Contains}
 use Rattle.std.proofs.lemmas.Bool.{cases_eq}

@@ -1,217 +1,312 @@
--- How an audit goes on: what is owed, and the rows that are taken.
-use Rattle.std.proofs.Common.{◌≡◌, ◌∙◌, inl, inr, ℕ, zero, suc, ◌+◌, ◌<◌, List, [], ◌∷◌, ◌++◌, map, take, get_or, length, refl, sym, ap, subst, arith}
+-- How an audit goes on: one event more is decided, and one row more is taken.
+use Rattle.std.proofs.Common.{◌≡◌, ◌∙◌, ◌⊎◌, inl, inr, ℕ, suc, ◌+◌, ◌<◌, ◌≤◌, List, [], ◌∷◌, ◌++◌, map, take, drop, get_or, length, refl, sym, ap, subst, arith}
+use Rattle.std.proofs.Math.Seq.{drop-cons}
 use Rattle.std.proofs.lemmas.Int.{ints}
-use Rattle.std.proofs.lemmas.List.{map-append, take-append-le, length-append}
-use Rattle.std.proofs.lemmas.List.Elements.{All-contains, All-push}
-use Rattle.std.specs.Prelude.{◌⊎◌, ℤ, ◌≤ℤ◌, ◌<ℤ◌}
+use Rattle.std.proofs.lemmas.List.{map-append, take-append-drop, take-append-le, take_all, length-append}
+use Rattle.std.proofs.lemmas.List.Elements.{All-contains}
+use Rattle.std.specs.Prelude.{ℤ, ◌≤ℤ◌, ◌<ℤ◌, Option, Some, None, IsSome}
 use Rattle.std.specs.List.{All}
-use Rattle.std.specs.declared.cmp.Ordering.TheVariants.{Less}
-use Rattle.tmm_model.specs.Beliefs.{rules_at}
+use Rattle.tmm_model.specs.Beliefs.{roots, rules_at}
 use Rattle.tmm_model.specs.Maps.{built, order}
-use Rattle.tmm_model.specs.Moments.{Moment, After, moment_of}
+use Rattle.tmm_model.specs.Moments.{Moment, After}
 use Rattle.list_theory.specs.WellNamed.{IsSound}
 use Rattle.tmm_model.specs.Standing.{Standing, far_in}
+use Rattle.belief_theory.specs.Right.{Belongs}
 use Rattle.list_theory.proofs.Distinct.{Rising}
-use Rattle.list_theory.proofs.Elements.{In, In-cases, In-left, In-right, In-from_Contains, Contains-from_In}
-use Rattle.walk_theory.proofs.Members.{All-from_contains}
-use Rattle.belief_theory.proofs.Order.{total}
+use Rattle.list_theory.proofs.Elements.{In, In-cases, In-right, In-from_Contains, Contains-from_In, map-In}
 use Rattle.dist_net.specs.Net.{Net}
 use Rattle.spots.specs.Forest.{Forest, IsLive, moment_at}
-use Rattle.spots.specs.Seen.{IsSeen}
-use Rattle.spots.proofs.Nodes.{node_at, live_at, moment_at-is}
-use Rattle.spots.proofs.Seen.{order_is}
+use Rattle.occ_tree.specs.Places.{forest}
+use Rattle.supports.proofs.Taken.{next_taken}
 use Rattle.supports.specs.Growing.{Adds}
-use Rattle.supports.proofs.Grown.{node_kept, adds_seen, held_apart, adds_holds}
 use Rattle.just_check.specs.declared.auditing.Checked.{Checked}
-use Rattle.just_check.specs.Audited.{date_of, decided_in, IsTaken, IsChecked, IsBehind, ComesAfter}
-use Rattle.just_check.specs.Checking.{FiresIn, Joins, AreSoFar, Owes, OwesMore}
+use Rattle.just_check.specs.declared.expected.Origin.{Origin}
+use Rattle.just_check.specs.Audited.{date_of, rows_of, decided_in, IsTaken, IsPast, IsChecked, IsReady, IsDecided, DecidesThrough, IsBehind}
+use Rattle.just_check.specs.Checking.{Joins, AreSoFar, is_due, Expects, AwaitsMore}
+use Rattle.just_check.specs.Origins.{comes_of, comes_from, has_event, entry_at, SetsNode}
+use Rattle.just_check.proofs.Entering.{In-take, more_so_far, nodes_live, more_rows, expects_entered, new_live, kept_moment}
+use Rattle.just_check.proofs.Expecting.{expects_more}
 use Rattle.just_check.proofs.Joining.{one_of}
-use Rattle.just_check.proofs.Places.{mapped_more, element_in}
-use Rattle.just_check.proofs.Prefixes.{no_later, push_first, owes_pushed, rising_apart}
+use Rattle.just_check.proofs.Origins.{node_for, one_node}
+use Rattle.just_check.proofs.Places.{element_in}
+use Rattle.just_check.proofs.Prefixes.{no_later, after_event, rising_back}
 
--- ---- what is owed
+-- ---- nodes and their rows
 
-module _ (s : Standing) (b : List Moment) (t : Moment) where
-  pub owes_nothing : (owed : List Moment) → OwesMore s b t [] owed owed
-  owes_nothing owed = record { kept = λ k at. at; own = λ k at. inl at; all = λ r at f. absurd at }
+-- each node of the tree is that of a row
+pub node_in : (s : Standing) (net : Net) (c : Checked) → AreSoFar s net (forest c.tree) (rows_of c) → All (IsLive (forest c.tree)) c.nodes.items → (x : ℕ) → IsLive (forest c.tree) x → In x c.nodes.items
+node_in s net c so_far lives x live =
+    by c.nodes.items (λ y at. All-contains (IsLive (forest c.tree)) c.nodes.items y lives (Contains-from_In c.nodes.items y at)) (one_of (forest c.tree) (rows_of c) x so_far.holds live)
+  where
+    by : (ys : List ℕ) → ((y : ℕ) → In y ys → IsLive (forest c.tree) y) → In (moment_at (forest c.tree) x) (map (moment_at (forest c.tree)) ys) → In x ys
+    by [] all at = absurd at
+    by (y ∷ ys) all (inl same) = inl (one_node (forest c.tree) so_far.seen.once y x (all y (inl refl)) live same)
+    by (y ∷ ys) all (inr at) = inr (by ys (λ z there. all z (inr there)) at)
 
-  pub owes_both : (rs qs : List (List ℕ)) (old mid new : List Moment) → OwesMore s b t rs old mid → OwesMore s b t qs mid new → OwesMore s b t (rs ++ qs) old new
-  owes_both rs qs old mid new first second = record {
-    kept = λ k at. second.kept k (first.kept k at);
-    own = λ k at. elim (second.own k at) [ inl l ↦ first.own k l | inr r ↦ inr r ];
-    all = λ r at f. elim (In-cases rs qs r at) [ inl l ↦ second.kept (After t r) (first.all r l f) | inr q ↦ second.all r q f ];
-  }
+module _ (s : Standing) (net : Net) (c : Checked) (taken : IsTaken s net c) where
+  pub live_in : (x : ℕ) → In x c.nodes.items → IsLive (forest c.tree) x
+  live_in x at = All-contains (IsLive (forest c.tree)) c.nodes.items x taken.live (Contains-from_In c.nodes.items x at)
 
-  -- a rule that does not fire brings about nothing
-  pub owes_none : (r : List ℕ) (owed : List Moment) → (FiresIn s b t r → ⊥) → OwesMore s b t (r ∷ []) owed owed
-  owes_none r owed blocked = record {
-    kept = λ k at. at;
-    own = λ k at. inl at;
-    all = λ q at f. elim at [ inl same ↦ absurd (blocked (subst (FiresIn s b t) (sym same) f)) | inr never ↦ absurd never ];
-  }
+  pub decided_live : (x : ℕ) → In x (decided_in c) → IsLive (forest c.tree) x
+  decided_live x at = live_in x (In-take c.decided c.nodes.items x at)
 
-  pub owes_one : (r : List ℕ) (owed : List Moment) → FiresIn s b t r → OwesMore s b t (r ∷ []) owed (owed ++ After t r ∷ [])
-  owes_one r owed fires = record {
-    kept = λ k at. In-left owed (After t r ∷ []) k at;
-    own = λ k at. elim (In-cases owed (After t r ∷ []) k at) [ inl l ↦ inl l | inr (inl same) ↦ inr (r, sym same, fires) | inr (inr never) ↦ absurd never ];
-    all = λ q at f. elim at [ inl same ↦ In-right owed (After t r ∷ []) (After t q) (inl (ap (After t) same)) | inr never ↦ absurd never ];
-  }
-
-  -- with t one event more is decided
-  pub owes_more : (events old new : List Moment) → Owes s b events old → OwesMore s b t (rules_at s t) old new → Owes s b (events ++ t ∷ []) new
-  owes_more events old new owes more = record { own = own; all = all }
-    where
-      own : (k : Moment) → In k new → (u : Moment) × (r : List ℕ) × (k ≡ After u r) × In u (events ++ t ∷ []) × FiresIn s b u r
-      own k at = elim (more.own k at) [
-        | inl l ↦ let (u, r, same, there, f) = owes.own k l in (u, r, same, In-left events (t ∷ []) u there, f)
-        | inr e ↦ (t, e.0, e.1, In-right events (t ∷ []) t (inl refl), e.2)
-      ]
-
-      all : (u : Moment) (r : List ℕ) → In u (events ++ t ∷ []) → FiresIn s b u r → In (After u r) new
-      all u r at f = elim (In-cases events (t ∷ []) u at) [
-        | inl l ↦ more.kept (After u r) (owes.all u r l f)
-        | inr (inl same) ↦
-            subst (λ v. In (After v r) new) same
-            (let g : FiresIn s b t r = subst (λ v. FiresIn s b v r) (sym same) f in more.all r (In-from_Contains (rules_at s t) r g.stands) g)
-        | inr (inr never) ↦ absurd never
-      ]
+  pub row_in : (x : ℕ) → In x c.nodes.items → In (moment_at (forest c.tree) x) (rows_of c)
+  row_in x at = map-In (moment_at (forest c.tree)) c.nodes.items x at
 
 -- ---- one event more is decided
 
-module _ (s : Standing) (net : Net) (b : List Moment) (old : Checked) (x : ℕ) (below : old.decided < length old.nodes.items) (is : x ≡ get_or old.nodes.items old.decided x) where
-  pub decided_node : IsTaken s net old b → IsLive old.tree x
-  decided_node taken = All-contains (IsLive old.tree) old.nodes.items x taken.live (Contains-from_In old.nodes.items x (element_in (moment_at old.tree) old.nodes.items old.decided x below is))
+module _ (s : Standing) (net : Net) (old : Checked) (x : ℕ) (below : old.decided < length old.nodes.items) (is : x ≡ get_or old.nodes.items old.decided x) where
+  pub decided_node : IsTaken s net old → IsLive (forest old.tree) x
+  decided_node taken = live_in s net old taken x (element_in (moment_at (forest old.tree)) old.nodes.items old.decided x below is)
 
   module _ (new : Checked) (tree : new.tree ≡ old.tree) (nodes : new.nodes ≡ old.nodes) (next : new.decided ≡ old.decided + 1) where
-    pub decided_more : decided_in new ≡ decided_in old ++ moment_at old.tree x ∷ []
-    decided_more = (λ i. map (moment_at (tree i)) (take (next i) (nodes i).items)) ∙ mapped_more (moment_at old.tree) old.nodes.items old.decided x below is
+    pub decided_more : decided_in new ≡ decided_in old ++ x ∷ []
+    decided_more = (λ i. take (next i) (nodes i).items) ∙ next_taken old.nodes.items old.decided x below is
 
-    pub decides_next : OwesMore s b (moment_at old.tree x) (rules_at s (moment_at old.tree x)) (map moment_of old.owed.items) (map moment_of new.owed.items) → IsTaken s net old b → IsTaken s net new b
+    pub decides_next : AwaitsMore s (forest old.tree) (rows_of old) x (rules_at s (moment_at (forest old.tree) x)) old.expected new.expected → IsTaken s net old → IsTaken s net new
     decides_next more taken = record {
-      so_far = subst (λ f. AreSoFar s net f b) (sym tree) taken.so_far;
-      live = subst (λ f. All (IsLive f) new.nodes.items) (sym tree) (subst (λ ns. All (IsLive old.tree) ns.items) (sym nodes) taken.live);
-      nodes = (λ i. map (moment_at (tree i)) (nodes i).items) ∙ taken.nodes;
-      within = let same : length new.nodes.items ≡ length old.nodes.items = ap (λ ns. length ns.items) nodes in omega (arith, next, same);
-      owes = subst (λ events. Owes s b events (map moment_of new.owed.items)) (sym decided_more) (owes_more s b (moment_at old.tree x) (decided_in old) (map moment_of old.owed.items) (map moment_of new.owed.items) taken.owes more);
+      so_far = subst (λ f. AreSoFar s net f (rows_of new)) (sym same_forest) (subst (AreSoFar s net (forest old.tree)) (sym rows) taken.so_far);
+      live = subst (λ f. All (IsLive f) new.nodes.items) (sym same_forest) (subst (λ ns. All (IsLive (forest old.tree)) ns.items) (sym nodes) taken.live);
+      within = let same : length new.nodes.items ≡ length old.nodes.items = ap (λ ns. length ns.items) nodes in omega (arith, next, same, below);
+      expects =
+          subst (λ f. Expects s f (rows_of new) (decided_in new) new.expected) (sym same_forest)
+          (subst (λ b. Expects s (forest old.tree) b (decided_in new) new.expected) (sym rows)
+          (subst (λ events. Expects s (forest old.tree) (rows_of old) events new.expected) (sym decided_more)
+          (expects_more s (forest old.tree) (rows_of old) x (decided_in old) old.expected new.expected taken.expects more)));
     }
+      where
+        same_forest : forest new.tree ≡ forest old.tree
+        same_forest = ap forest tree
 
-    -- it begins before some row
-    pub checks_next : (y : Moment) → In y b → date_of s (moment_at old.tree x) <ℤ date_of s y → IsTaken s net new b → IsChecked s net old b → IsChecked s net new b
-    checks_next y at less taken checked = record {
-      taken = taken;
-      past = λ t decided. elim (In-cases (decided_in old) (moment_at old.tree x ∷ []) t (subst (In t) decided_more decided)) [
-        | inl l ↦ checked.past t l
-        | inr (inl is) ↦ (y, at, subst (λ z. date_of s z <ℤ date_of s y) is less)
-        | inr (inr never) ↦ absurd never
-      ];
-    }
+        rows : rows_of new ≡ rows_of old
+        rows = λ i. map (moment_at (same_forest i)) (nodes i).items
+
+-- ---- the events that begin by a date
+
+-- all that is not decided begins no earlier than the first of it
+later_nodes : (s : Standing) → IsSound s → (f : Forest) (nodes : List ℕ) (i x : ℕ) → i < length nodes → x ≡ get_or nodes i x → Rising (order (built s)) (map (moment_at f) nodes)
+    → (y : ℕ) → In y nodes → In y (take i nodes) ⊎ (date_of s (moment_at f x) ≤ℤ date_of s (moment_at f y))
+later_nodes s sound f nodes i x below is rising y at =
+    elim (In-cases (take i nodes) (x ∷ drop (suc i) nodes) y (subst (In y) (sym parts) at)) [
+      | inl before ↦ inl before
+      | inr (inl same) ↦ inr (same_date (date_of s (moment_at f x)) (date_of s (moment_at f y)) (ap (λ z. date_of s (moment_at f z)) same))
+      | inr (inr behind) ↦
+          inr (no_later s sound (moment_at f x) (moment_at f y)
+          ((rising_back (order (built s)) (map (moment_at f) (take i nodes)) (moment_at f x ∷ map (moment_at f) (drop (suc i) nodes))
+          (subst (Rising (order (built s))) (sym (ap (map (moment_at f)) parts) ∙ map-append (moment_at f) (take i nodes) (x ∷ drop (suc i) nodes)) rising)).0
+          (moment_at f y) (map-In (moment_at f) (drop (suc i) nodes) y behind)))
+    ]
+  where
+    parts : take i nodes ++ x ∷ drop (suc i) nodes ≡ nodes
+    parts = ap (λ l. take i nodes ++ l) ((λ j. is j ∷ drop (suc i) nodes) ∙ sym (drop-cons nodes i x below)) ∙ take-append-drop i nodes
+
+    same_date : (a c : ℤ) → a ≡ c → a ≤ℤ c
+    same_date a c e = omega (arith, ints)
+
+module _ (s : Standing) (net : Net) (old c : Checked) (date : ℤ) (taken : IsTaken s net c) (tree : c.tree ≡ old.tree) (nodes : c.nodes ≡ old.nodes)
+    (own : (x : ℕ) → In x (decided_in c) → In x (decided_in old) ⊎ (date_of s (moment_at (forest old.tree) x) ≤ℤ date)) where
+  -- where all is decided
+  pub through_all : length c.nodes.items ≤ c.decided → DecidesThrough s net old c date
+  through_all full = record {
+    taken = taken;
+    tree = tree;
+    nodes = nodes;
+    own = own;
+    all = λ x at below. subst (In x) (sym (take_all c.decided c.nodes.items full)) (subst (λ ns. In x ns.items) (sym nodes) at);
+  }
+
+  -- where the next begins later
+  pub through_next : (x : ℕ) → c.decided < length c.nodes.items → x ≡ get_or c.nodes.items c.decided x → date <ℤ date_of s (moment_at (forest c.tree) x) → DecidesThrough s net old c date
+  through_next x below is later = record {
+    taken = taken;
+    tree = tree;
+    nodes = nodes;
+    own = own;
+    all = λ y at by. elim (later_nodes s taken.so_far.seen.network.sound (forest c.tree) c.nodes.items c.decided x below is taken.so_far.first.rising y (subst (λ ns. In y ns.items) (sym nodes) at)) [
+      | inl there ↦ there
+      | inr no_earlier ↦
+          absurd (apart date (date_of s (moment_at (forest c.tree) x)) (date_of s (moment_at (forest c.tree) y)) later no_earlier (subst (λ f. date_of s (moment_at f y) ≤ℤ date) (sym (ap forest tree)) by))
+    ];
+  }
+    where
+      apart : (a p q : ℤ) → a <ℤ p → p ≤ℤ q → q ≤ℤ a → ⊥
+      apart a p q h g e = omega (arith, ints)
+
+-- where all is decided
+pub all_decided : (s : Standing) (net : Net) (c : Checked) → IsTaken s net c → length c.nodes.items ≤ c.decided → IsDecided s net c
+all_decided s net c taken full = record {
+  so_far = taken.so_far;
+  live = taken.live;
+  expects = subst (λ events. Expects s (forest c.tree) (rows_of c) events c.expected) (take_all c.decided c.nodes.items full) taken.expects;
+}
+
+-- ---- the event of an origin is decided
+
+module _ (s : Standing) (net : Net) (old c : Checked) (checked : IsChecked s net old) (o : Origin) where
+  rows_same : forest c.tree ≡ forest old.tree → c.nodes ≡ old.nodes → rows_of c ≡ rows_of old
+  rows_same tree nodes = λ i. map (moment_at (tree i)) (nodes i).items
+
+  still_past : forest c.tree ≡ forest old.tree → c.nodes ≡ old.nodes → (x : ℕ) → In x (decided_in old) → IsPast s (rows_of c) (moment_at (forest c.tree) x)
+  still_past tree nodes x at =
+      subst (λ f. IsPast s (rows_of c) (moment_at f x)) (sym tree) (subst (λ b. IsPast s b (moment_at (forest old.tree) x)) (sym (rows_same tree nodes)) (checked.past x at))
+
+  pub ready_event : (x : ℕ) → o.event ≡ Some x → IsLive (forest old.tree) x → (date : ℤ) → date ≡ date_of s (moment_at (forest old.tree) x) → DecidesThrough s net old c date → IsReady s net c o
+  ready_event x is live date date_is through = record {
+    taken = through.taken;
+    event = subst (has_event (forest c.tree)) (sym is) live_c;
+    decided = λ y also. let same : x ≡ y = (let g : Some x ≡ Some y = sym is ∙ also in cc) in subst (λ z. In z (decided_in c)) same at;
+    past = λ t there. elim (through.own t there) [
+      | inl before ↦ inl (still_past (ap forest through.tree) through.nodes t before)
+      | inr by ↦ inr (x, is, subst (λ f. date_of s (moment_at f t) ≤ℤ date_of s (moment_at f x)) (sym (ap forest through.tree)) (subst (λ z. date_of s (moment_at (forest old.tree) t) ≤ℤ z) date_is by))
+    ];
+  }
+    where
+      live_c : IsLive (forest c.tree) x
+      live_c = subst (λ f. IsLive f x) (sym (ap forest through.tree)) live
+
+      at : In x (decided_in c)
+      at = through.all x (node_in s net old checked.taken.so_far checked.taken.live x live) (no_later_self (date_of s (moment_at (forest old.tree) x)) date date_is)
+        where
+          no_later_self : (a d : ℤ) → d ≡ a → a ≤ℤ d
+          no_later_self a d e = omega (arith, ints)
+
+  pub ready_root : o.event ≡ None → IsReady s net old o
+  ready_root is = record {
+    taken = checked.taken;
+    event = subst (has_event (forest old.tree)) (sym is) tt;
+    decided = λ y also. absurd (let g : None ≡ Some y = sym is ∙ also in cc);
+    past = λ t there. inl (checked.past t there);
+  }
+
+-- ---- the events that begin before the last row
+
+module _ (s : Standing) (net : Net) (old c : Checked) (checked : IsChecked s net old) (x : ℕ) (live : IsLive (forest old.tree) x) where
+  pub checked_through : (date : ℤ) → date <ℤ date_of s (moment_at (forest old.tree) x) → DecidesThrough s net old c date → IsChecked s net c
+  checked_through date less through = record {
+    taken = through.taken;
+    past = λ t there. elim (through.own t there) [
+      | inl before ↦ still t (checked.past t before)
+      | inr by ↦ still t (moment_at (forest old.tree) x, row_in s net old checked.taken x (node_in s net old checked.taken.so_far checked.taken.live x live), chain (date_of s (moment_at (forest old.tree) t)) date (date_of s (moment_at (forest old.tree) x)) by less)
+    ];
+  }
+    where
+      still : (t : ℕ) → IsPast s (rows_of old) (moment_at (forest old.tree) t) → IsPast s (rows_of c) (moment_at (forest c.tree) t)
+      still t past =
+          subst (λ f. IsPast s (rows_of c) (moment_at f t)) (sym (ap forest through.tree))
+          (subst (λ b. IsPast s b (moment_at (forest old.tree) t)) (sym (λ i. map (moment_at (forest (through.tree i))) (through.nodes i).items)) past)
+
+      chain : (p q r : ℤ) → p ≤ℤ q → q <ℤ r → p <ℤ r
+      chain p q r h g = omega (arith, ints)
 
 -- ---- one row more
 
--- a node that was there is of the same occurrence
-kept_moment : (s : Standing) (net : Net) (old new : Forest) (x : ℕ) (k : Moment) → Adds s net.names old new x k → (y : ℕ) → IsLive old y → moment_at new y ≡ moment_at old y
-kept_moment s net old new x k adds y live =
-    let (m, here) = node_at old y live in
-    moment_at-is new y m (node_kept s net old new x k adds y m here) ∙ sym (moment_at-is old y m here)
+module _ (s : Standing) (net : Net) (old : Checked) (o : Origin) (ready : IsReady s net old o) where
+  abbrev k : Moment
+  k = comes_from (forest old.tree) o
 
-kept_moments : (s : Standing) (net : Net) (old new : Forest) (x : ℕ) (k : Moment) → Adds s net.names old new x k → (ys : List ℕ) → ((y : ℕ) → In y ys → IsLive old y) → map (moment_at new) ys ≡ map (moment_at old) ys
-kept_moments s net old new x k adds [] live = refl
-kept_moments s net old new x k adds (y ∷ ys) live =
-    let first = kept_moment s net old new x k adds y (live y (inl refl)) in
-    let rest = kept_moments s net old new x k adds ys (λ z at. live z (inr at)) in
-    λ i. first i ∷ rest i
-
-last_or_none : {X : Type 0} (xs : List X) → (xs ≡ []) ⊎ ((front : List X) × (last : X) × (xs ≡ front ++ last ∷ []))
-last_or_none [] = inl refl
-last_or_none (x ∷ xs) = elim (last_or_none xs) [ inl none ↦ inr ([], x, ap (λ l. x ∷ l) none) | inr (front, last, e) ↦ inr (x ∷ front, last, ap (λ l. x ∷ l) e) ]
-
-In-take : {X : Type 0} (n : ℕ) (xs : List X) (x : X) → In x (take n xs) → In x xs
-In-take zero xs x at = absurd at
-In-take (suc n) [] x at = absurd at
-In-take (suc n) (y ∷ xs) x (inl is) = inl is
-In-take (suc n) (y ∷ xs) x (inr at) = inr (In-take n xs x at)
-
-module _ (s : Standing) (net : Net) (old : Checked) (b : List Moment) (checked : IsChecked s net old b) (k : Moment) (new : Forest) (x : ℕ) (adds : Adds s net.names old.tree new x k) (joins : Joins s b k) where
   sound : IsSound s
-  sound = checked.taken.so_far.seen.network.sound
+  sound = ready.taken.so_far.seen.network.sound
 
-  all_live : (y : ℕ) → In y old.nodes.items → IsLive old.tree y
-  all_live y at = All-contains (IsLive old.tree) old.nodes.items y checked.taken.live (Contains-from_In old.nodes.items y at)
+  -- what is awaited joins the rows
+  module _ (awaited : entry_at old.expected o ≡ Some None) where
+    due : is_due s (forest old.tree) (rows_of old) (decided_in old) o.event o.name
+    due = (ready.taken.expects.due o).0 (subst IsSome (sym awaited) refl)
 
-  pub new_seen : IsSeen s net new
-  new_seen = adds_seen s net old.tree new x k adds (held_apart s net old.tree new x k adds b checked.taken.so_far.holds joins.new) checked.taken.so_far.seen
+    pub awaited_joins : Joins s (rows_of old) k
+    awaited_joins = record { belongs = by o.event o.name due; new = is_new }
+      where
+        by : (event : Option ℕ) (name : List ℕ) → is_due s (forest old.tree) (rows_of old) (decided_in old) event name → Belongs s (far_in s.premises) s.horizon (rows_of old) (comes_of (forest old.tree) event name)
+        by None name h = Contains-from_In (roots s) (comes_of (forest old.tree) None name) h
+        by (Some t) name h = h.1
 
-  pub new_live : IsLive new x
-  new_live = live_at new x adds.node adds.enters.entered
+        is_new : In k (rows_of old) → ⊥
+        is_new at =
+            let (x, live, is) = node_for (forest old.tree) (rows_of old) old.expected ready.taken.expects.knows k at in
+            let never : Some None ≡ Some (Some x) = sym awaited ∙ ready.taken.expects.knows.all o x ready.event live is in
+            cc
 
-  pub new_is : moment_at new x ≡ k
-  new_is = moment_at-is new x adds.node adds.enters.entered ∙ adds.is
+    -- all that is decided begins before it
+    before_row : IsBehind s (rows_of old) k → (t : ℕ) → In t (decided_in old) → date_of s (moment_at (forest old.tree) t) <ℤ date_of s k
+    before_row behind t at = elim (ready.past t at) [
+      | inl past ↦ let (y, there, less) = past in chain (date_of s (moment_at (forest old.tree) t)) (date_of s y) (date_of s k) less (no_later s sound y k (behind y there))
+      | inr by ↦ let (x, is, no_more) = by in at_event o.event o.name x is due no_more
+    ]
+      where
+        chain : (p q r : ℤ) → p <ℤ q → q ≤ℤ r → p <ℤ r
+        chain p q r h g = omega (arith, ints)
 
-  still_live : (y : ℕ) → IsLive old.tree y → IsLive new y
-  still_live y live = let (m, here) = node_at old.tree y live in live_at new y m (node_kept s net old.tree new x k adds y m here)
+        chain_up : (p q r : ℤ) → p ≤ℤ q → q <ℤ r → p <ℤ r
+        chain_up p q r h g = omega (arith, ints)
 
-  pub nodes_live : All (IsLive new) old.nodes.items
-  nodes_live = All-from_contains (IsLive new) old.nodes.items (λ y at. still_live y (all_live y (In-from_Contains old.nodes.items y at)))
-
-  same_moments : map (moment_at new) old.nodes.items ≡ b
-  same_moments = kept_moments s net old.tree new x k adds old.nodes.items all_live ∙ checked.taken.nodes
-
-  -- the last of b comes before k exactly where all of b do
-  pub behind_last : ComesAfter net new old.nodes.items x → IsBehind s b k
-  behind_last after y at = elim (last_or_none old.nodes.items) [
-    | inl none ↦ absurd (subst (In y) (sym same_moments ∙ ap (map (moment_at new)) none) at)
-    | inr (front, last, e) ↦
-        let parts : b ≡ map (moment_at new) front ++ moment_at new last ∷ [] = sym same_moments ∙ ap (map (moment_at new)) e ∙ map-append (moment_at new) front (last ∷ []) in
-        let live = still_live last (all_live last (subst (In last) (sym e) (In-right front (last ∷ []) last (inl refl)))) in
-        let less : order (built s) (moment_at new last) k ≡ Less = ap (order (built s) (moment_at new last)) (sym new_is) ∙ sym (order_is s net new new_seen last x live new_live) ∙ after front last e in
-        elim (In-cases (map (moment_at new) front) (moment_at new last ∷ []) y (subst (In y) parts at)) [
-          | inl l ↦
-              let rising = subst (Rising (order (built s))) parts checked.taken.so_far.first.rising in
-              (total s (far_in s.premises)).trans y (moment_at new last) k (rising_apart (order (built s)) (map (moment_at new) front) (moment_at new last ∷ []) rising y (moment_at new last) l (inl refl)) less
-          | inr (inl is) ↦ subst (λ z. order (built s) z k ≡ Less) is less
-          | inr (inr never) ↦ absurd never
-        ]
-  ]
-
-  pub last_behind : IsBehind s b k → ComesAfter net new old.nodes.items x
-  last_behind behind front last e =
-      let at : In last old.nodes.items = subst (In last) (sym e) (In-right front (last ∷ []) last (inl refl)) in
-      let live = all_live last at in
-      order_is s net new new_seen last x (still_live last live) new_live
-      ∙ (λ i. order (built s) (kept_moment s net old.tree new x k adds last live i) (new_is i))
-      ∙ behind (moment_at old.tree last) (one_of old.tree b last checked.taken.so_far.holds live)
-
-  module _ (behind : IsBehind s b k) where
-    pub more_so_far : AreSoFar s net new (b ++ k ∷ [])
-    more_so_far = record {
-      seen = new_seen;
-      holds = adds_holds s net old.tree new x k adds b checked.taken.so_far.holds joins.new;
-      first = push_first s sound b checked.taken.so_far.first k joins behind;
-    }
+        at_event : (event : Option ℕ) (name : List ℕ) (x : ℕ) → event ≡ Some x → is_due s (forest old.tree) (rows_of old) (decided_in old) event name
+            → date_of s (moment_at (forest old.tree) t) ≤ℤ date_of s (moment_at (forest old.tree) x) → date_of s (moment_at (forest old.tree) t) <ℤ date_of s (comes_of (forest old.tree) event name)
+        at_event None name x same h no_more = absurd (let g : None ≡ Some x = same in cc)
+        at_event (Some y) name x same h no_more =
+            let is : x ≡ y = (let g : Some y ≡ Some x = same in cc) in
+            let u = moment_at (forest old.tree) y in
+            let occurs = ready.taken.so_far.first.occurs u (In-from_Contains (rows_of old) u h.1.believed) in
+            chain_up (date_of s (moment_at (forest old.tree) t)) (date_of s u) (date_of s (After u name))
+            (subst (λ z. date_of s (moment_at (forest old.tree) t) ≤ℤ date_of s (moment_at (forest old.tree) z)) is no_more)
+            (after_event s sound u name occurs h.1.stands)
 
     -- **The row is taken behind the others.**
-    pub takes : (c : Checked) → c.tree ≡ new → c.nodes.items ≡ old.nodes.items ++ x ∷ [] → c.decided ≡ old.decided → c.owed ≡ old.owed → IsChecked s net c (b ++ k ∷ [])
-    takes c tree nodes decided owed = record {
-      taken = record {
-        so_far = subst (λ f. AreSoFar s net f (b ++ k ∷ [])) (sym tree) more_so_far;
-        live = subst (λ f. All (IsLive f) c.nodes.items) (sym tree) (subst (All (IsLive new)) (sym nodes) (All-push (IsLive new) old.nodes.items x nodes_live new_live));
-        nodes = (λ i. map (moment_at (tree i)) (nodes i)) ∙ map-append (moment_at new) old.nodes.items (x ∷ []) ∙ (λ i. same_moments i ++ new_is i ∷ []);
-        within = let long : length c.nodes.items ≡ length old.nodes.items + 1 = ap length nodes ∙ length-append old.nodes.items (x ∷ []) in let few = checked.taken.within in omega (arith, long, few, decided);
-        owes = subst (λ o. Owes s (b ++ k ∷ []) (decided_in c) (map moment_of o.items)) (sym owed)
-            (subst (λ events. Owes s (b ++ k ∷ []) events (map moment_of old.owed.items)) (sym same_events)
-            (owes_pushed s sound b checked.taken.so_far.first k joins behind (decided_in old) (map moment_of old.owed.items) before checked.taken.owes));
-      };
-      past = λ t at. let (y, there, less) = checked.past t (subst (In t) same_events at) in (y, In-left b (k ∷ []) y there, less);
-    }
+    pub enters_behind : (new : Forest) (x : ℕ) → Adds s net.names (forest old.tree) new x k → IsBehind s (rows_of old) k → (c : Checked) → forest c.tree ≡ new → c.nodes.items ≡ old.nodes.items ++ x ∷ [] → c.decided ≡ old.decided
+        → SetsNode old.expected c.expected o x → IsChecked s net c × (rows_of c ≡ rows_of old ++ k ∷ []) × IsLive (forest c.tree) x
+    enters_behind new x adds behind c tree nodes decided sets = (
+      record { taken = record { so_far = so_far; live = live; within = within; expects = expects }; past = past },
+      rows,
+      subst (λ f. IsLive f x) (sym tree) (new_live s net (forest old.tree) (rows_of old) ready.taken.so_far k new x adds awaited_joins),
+    )
       where
-        same_events : decided_in c ≡ decided_in old
-        same_events =
-            (λ i. map (moment_at (tree i)) (take (decided i) (nodes i)))
-            ∙ ap (map (moment_at new)) (take-append-le old.decided old.nodes.items (x ∷ []) checked.taken.within)
-            ∙ kept_moments s net old.tree new x k adds (take old.decided old.nodes.items) (λ y at. all_live y (In-take old.decided old.nodes.items y at))
+        b : List Moment
+        b = rows_of old
 
-        before : (t : Moment) → In t (decided_in old) → date_of s t <ℤ date_of s k
-        before t at = let (y, there, less) = checked.past t at in chain (date_of s t) (date_of s y) (date_of s k) less (no_later s sound y k (behind y there))
-          where
-            chain : (p q r : ℤ) → p <ℤ q → q ≤ℤ r → p <ℤ r
-            chain p q r h g = omega (arith, ints)
+        all_live : (y : ℕ) → In y old.nodes.items → IsLive (forest old.tree) y
+        all_live = live_in s net old ready.taken
+
+        rows : rows_of c ≡ b ++ k ∷ []
+        rows = (λ i. map (moment_at (tree i)) (nodes i)) ∙ more_rows s net (forest old.tree) b ready.taken.so_far k new x adds awaited_joins old.nodes.items all_live refl
+
+        so_far : AreSoFar s net (forest c.tree) (rows_of c)
+        so_far = subst (λ f. AreSoFar s net f (rows_of c)) (sym tree) (subst (AreSoFar s net new) (sym rows) (more_so_far s net (forest old.tree) b ready.taken.so_far k new x adds awaited_joins behind))
+
+        live : All (IsLive (forest c.tree)) c.nodes.items
+        live = subst (λ f. All (IsLive f) c.nodes.items) (sym tree) (subst (All (IsLive new)) (sym nodes) (nodes_live s net (forest old.tree) b ready.taken.so_far k new x adds awaited_joins old.nodes.items all_live refl))
+
+        within : c.decided ≤ length c.nodes.items
+        within =
+            let long : length c.nodes.items ≡ length old.nodes.items + 1 = ap length nodes ∙ length-append old.nodes.items (x ∷ []) in
+            let few = ready.taken.within in
+            omega (arith, long, few, decided)
+
+        same_events : decided_in c ≡ decided_in old
+        same_events = (λ i. take (decided i) (nodes i)) ∙ take-append-le old.decided old.nodes.items (x ∷ []) ready.taken.within
+
+        expects : Expects s (forest c.tree) (rows_of c) (decided_in c) c.expected
+        expects =
+            subst (λ f. Expects s f (rows_of c) (decided_in c) c.expected) (sym tree)
+            (subst (λ l. Expects s new l (decided_in c) c.expected) (sym rows)
+            (subst (λ events. Expects s new (b ++ k ∷ []) events c.expected) (sym same_events)
+            (expects_entered s net (forest old.tree) b ready.taken.so_far k new x adds awaited_joins behind (decided_in old) (decided_live s net old ready.taken) (before_row behind) old.expected c.expected ready.taken.expects o ready.event refl awaited sets)))
+
+        past : (t : ℕ) → In t (decided_in c) → IsPast s (rows_of c) (moment_at (forest c.tree) t)
+        past t at =
+            let was : In t (decided_in old) = subst (In t) same_events at in
+            let same : moment_at (forest c.tree) t ≡ moment_at (forest old.tree) t = ap (λ f. moment_at f t) tree ∙ kept_moment s net (forest old.tree) b ready.taken.so_far k new x adds awaited_joins t (decided_live s net old ready.taken t was) in
+            let less = subst (λ m. date_of s m <ℤ date_of s k) (sym same) (before_row behind t was) in
+            (k, subst (In k) (sym rows) (In-right b (k ∷ []) k (inl refl)), less)
+
+  -- what joins the rows is awaited
+  pub joins_awaited : Joins s (rows_of old) k → entry_at old.expected o ≡ Some None
+  joins_awaited joins = by (entry_at old.expected o) refl ((ready.taken.expects.due o).1 (is_due_now o.event o.name (λ x is. ready.decided x is) joins.belongs))
+    where
+      is_due_now : (event : Option ℕ) (name : List ℕ) → ((x : ℕ) → event ≡ Some x → In x (decided_in old)) → Belongs s (far_in s.premises) s.horizon (rows_of old) (comes_of (forest old.tree) event name) → is_due s (forest old.tree) (rows_of old) (decided_in old) event name
+      is_due_now None name decided h = In-from_Contains (roots s) (comes_of (forest old.tree) None name) h
+      is_due_now (Some t) name decided h = (decided t refl, h)
+
+      by : (v : Option (Option ℕ)) → entry_at old.expected o ≡ v → IsSome v → v ≡ Some None
+      by None e some = absurd (cc)
+      by (Some None) e some = refl
+      by (Some (Some x)) e some =
+          let (live, is) = ready.taken.expects.knows.nodes o x e in
+          absurd (joins.new (subst (λ m. In m (rows_of old)) is (one_of (forest old.tree) (rows_of old) x ready.taken.so_far.holds live)))

@@ -1,7 +1,6 @@
 -- What may enter a tree of rows: what joins the occurrences that its nodes are.
-use Rattle.std.proofs.Common.{◌≡◌, ◌∙◌, ℕ, ◌+◌, ◌-◌, ◌<◌, true, false, List, take, get_or, length, refl, sym, ap, subst, arith}
-use Rattle.std.proofs.lemmas.List.{take_all}
-use Rattle.std.specs.Prelude.{Option, Some, None, is_some}
+use Rattle.std.proofs.Common.{◌≡◌, ◌∙◌, ℕ, List, [], ◌∷◌, ◌++◌, refl, sym, ap, subst}
+use Rattle.std.specs.Prelude.{Option, Some, None}
 use Rattle.std.specs.List.{Contains}
 use Rattle.tmm_model.specs.declared.point.PointName.TheVariants.{Begin}
 use Rattle.tmm_model.specs.declared.premise.Premise.{Premise}
@@ -13,20 +12,22 @@ use Rattle.list_theory.proofs.Elements.{In, In-from_Contains, Contains-from_In, 
 use Rattle.list_theory.proofs.KnownNames.{found, finds}
 use Rattle.belief_theory.proofs.Moments.{along-push}
 use Rattle.dist_net.specs.Net.{Net}
-use Rattle.spots.specs.Forest.{Forest, moment, moment_at, IsLive, IsNoRoot, IsFound}
+use Rattle.spots.specs.Forest.{Forest, moment, moment_at, IsLive, IsNoRoot}
 use Rattle.spots.specs.Seen.{Holds}
 use Rattle.spots.proofs.Nodes.{node_at, moment_at-is, base-moment}
 use Rattle.supports.specs.Growing.{Adds, AddsRoot, AddsRootAt}
-use Rattle.supports.proofs.Taken.{next_taken}
-use Rattle.supports.proofs.Grown.{root_name, occurs_root}
-use Rattle.just_check.specs.Audited.{IsNode}
-use Rattle.just_check.specs.Checking.{FiresIn, Joins, AreFirst, AreSoFar, IsNoNode, EntersAs}
+use Rattle.supports.proofs.Grown.{root_name}
+use Rattle.just_check.specs.Checking.{Joins, AreFirst, AreSoFar, IsNoNode, EntersAs}
 
 -- ---- nodes and occurrences
 
 -- what is no node is none of the occurrences
 pub none_of : (f : Forest) (b : List Moment) (k : Moment) → Holds b f → IsNoNode f k → In k b → ⊥
 none_of f b k holds none at = let (x, m, here, is) = holds.all k (Contains-from_In b k at) in none x m here is
+
+-- and what is none of the occurrences is no node
+pub no_node : (f : Forest) (b : List Moment) (k : Moment) → Holds b f → (In k b → ⊥) → IsNoNode f k
+no_node f b k holds apart x m here is = apart (subst (λ y. In y b) is (In-from_Contains b (moment m) (holds.own x m here)))
 
 -- a node is one of the occurrences
 pub one_of : (f : Forest) (b : List Moment) (x : ℕ) → Holds b f → IsLive f x → In (moment_at f x) b
@@ -78,13 +79,7 @@ module _ (s : Standing) (net : Net) (f new : Forest) (b : List Moment) (so_far :
       where
         by : (o : Option Moment) → root_of p ≡ o → (x : Option ℕ) → AddsRootAt s net.names o f new x → EntersAs s net.names b (At (Begin name)) f new x
         by (Some k) e (Some x) adds =
-            let same : k ≡ At (Begin name) = root_name p k e ∙ ap (λ n. At (Begin n)) (finds s.premises name p here).1 in (
-              subst (Adds s net.names f new x) same adds,
-              record {
-                belongs = occurs_root s sound net so_far.seen.network p (At (Begin name)) premise_stands (e ∙ ap Some same);
-                new = none_of f b (At (Begin name)) so_far.holds none;
-              },
-            )
+            subst (Adds s net.names f new x) (root_name p k e ∙ ap (λ n. At (Begin n)) (finds s.premises name p here).1) adds
         by (Some k) e None adds = absurd adds
         by None e (Some x) adds = absurd adds
         by None e None adds = λ joins.
@@ -93,33 +88,12 @@ module _ (s : Standing) (net : Net) (f new : Forest) (b : List Moment) (so_far :
             let never : None ≡ Some (At (Begin name)) = sym e ∙ ap root_of same ∙ is in
             cc
 
--- ---- what a rule brings about
-
-module _ (s : Standing) (net : Net) (f : Forest) (b : List Moment) (so_far : AreSoFar s net f b) (x : ℕ) (live : IsLive f x) (r : List ℕ) where
-  -- where the rule fires its effect joins the occurrences, if it is no node
-  pub effect_joins : IsNoNode f (After (moment_at f x) r) → (believed : Contains b (moment_at f x) → FiresIn s b (moment_at f x) r) → Joins s b (After (moment_at f x) r)
-  effect_joins none fires = record { belongs = fires (Contains-from_In b (moment_at f x) (one_of f b x so_far.holds live)); new = none_of f b (After (moment_at f x) r) so_far.holds none }
-
--- ---- what is looked for
-
-pub found_none : (f : Forest) (k : Moment) (o : Option ℕ) → IsFound f k o → is_some o ≡ false → IsNoNode f k
-found_none f k None h e = h
-found_none f k (Some x) h e = cc
-
-pub found_some : (f : Forest) (k : Moment) (o : Option ℕ) → IsFound f k o → is_some o ≡ true → IsNode f k
-found_some f k None h e = cc
-found_some f k (Some x) h e = (x, h.0, h.1, h.2)
-
-pub node_in : (f : Forest) (b : List Moment) (k : Moment) → Holds b f → IsNode f k → In k b
-node_in f b k holds (x, m, here, is) = subst (λ y. In y b) is (In-from_Contains b (moment m) (holds.own x m here))
-
-pub node_of : (f : Forest) (b : List Moment) (k : Moment) → Holds b f → In k b → IsNode f k
-node_of f b k holds at = holds.all k (Contains-from_In b k at)
-
 -- ---- a row with rules
 
+-- an effect whose event is none of the occurrences does not join them
+pub no_event : (s : Standing) (b : List Moment) (k t : Moment) (r : List ℕ) → k ≡ After t r → (In t b → ⊥) → Joins s b k → ⊥
+no_event s b k t r is absent joins = let joined = subst (Joins s b) is joins in absent (In-from_Contains b t joined.belongs.believed)
+
 -- the row is what its last rule brings about at what the others lead to
-pub last_rule : (root : List ℕ) (rs : List (List ℕ)) (r : List ℕ) → 0 < length rs → r ≡ get_or rs (length rs - 1) r → along (At (Begin root)) rs ≡ After (along (At (Begin root)) (take (length rs - 1) rs)) r
-last_rule root rs r some is =
-    ap (along (At (Begin root))) (sym (take_all (length rs - 1 + 1) rs (omega arith)) ∙ next_taken rs (length rs - 1) r (omega arith) is)
-    ∙ along-push (At (Begin root)) (take (length rs - 1) rs) r
+pub last_rule : (root : List ℕ) (rs way : List (List ℕ)) (r : List ℕ) → rs ≡ way ++ r ∷ [] → along (At (Begin root)) rs ≡ After (along (At (Begin root)) way) r
+last_rule root rs way r is = ap (along (At (Begin root))) is ∙ along-push (At (Begin root)) way r

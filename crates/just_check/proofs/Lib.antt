@@ -1,6 +1,9 @@
 pub mod Prefixes
 pub mod Joining
-pub mod RulesOn
 pub mod Places
+pub mod Origins
+pub mod Entries
+pub mod Expecting
+pub mod Entering
 pub mod Deciding
 pub mod Answering

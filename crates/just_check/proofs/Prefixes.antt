@@ -24,7 +24,7 @@ use Rattle.belief_theory.proofs.Sorts.{sorted_in, sorted_rising}
 use Rattle.belief_theory.proofs.Spelt.{spelt}
 use Rattle.spots.proofs.Seen.{believed_once}
 use Rattle.just_check.specs.Believed.{believed_in_order}
-use Rattle.just_check.specs.Checking.{FiresIn, Joins, AreFirst, Owes}
+use Rattle.just_check.specs.Checking.{FiresIn, Joins, AreFirst}
 use Rattle.just_check.specs.Audited.{date_of, IsBehind}
 
 -- ---- rising lists
@@ -261,13 +261,3 @@ module _ (s : Standing) (sound : IsSound s) where
 
     pub next_joins : Joins s b k
     next_joins = record { belongs = belongs k refl; new = λ at. one_way k k (next_behind k at) (next_behind k at) }
-
-  -- ---- what is owed
-
-  -- with one more, what has been decided earlier is decided as before
-  pub owes_pushed : (b : List Moment) → AreFirst s b → (k : Moment) → Joins s b k → IsBehind s b k → (events owed : List Moment)
-      → ((t : Moment) → In t events → date_of s t <ℤ date_of s k) → Owes s b events owed → Owes s (b ++ k ∷ []) events owed
-  owes_pushed b first k joins behind events owed before owes = record {
-    own = λ o at. let (t, r, same, there, f) = owes.own o at in (t, r, same, there, push_fires b first k joins behind t r (before t there) f);
-    all = λ t r at f. owes.all t r at (fires_pushed b first k joins behind t r (before t at) f);
-  }

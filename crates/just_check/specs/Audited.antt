@@ -1,37 +1,70 @@
 -- How far an audit has come.
-use Rattle.std.specs.Prelude.{◌≡◌, ℕ, ◌≤◌, ℤ, ◌<ℤ◌, Bool, true, false, Some, List, [], ◌∷◌, ◌++◌, map, length, take}
+use Rattle.std.specs.Prelude.{◌≡◌, ◌⊎◌, ℕ, ◌≤◌, ℤ, ◌<ℤ◌, ◌≤ℤ◌, Bool, true, false, Option, Some, None, List, [], ◌∷◌, ◌++◌, map, length, take}
 use Rattle.std.specs.List.{All}
 use Rattle.std.specs.declared.cmp.Ordering.TheVariants.{Less}
 use Rattle.tmm_model.specs.Maps.{built, order}
-use Rattle.tmm_model.specs.Moments.{Moment, early, moment_of}
+use Rattle.tmm_model.specs.Moments.{Moment, early}
 use Rattle.tmm_model.specs.Standing.{Standing, far_in}
 use Rattle.list_theory.proofs.Elements.{In}
 use Rattle.dist_net.specs.Net.{Net}
-use Rattle.spots.specs.Forest.{Forest, Member, member, IsLive, moment, moment_at}
+use Rattle.spots.specs.Forest.{Forest, IsLive, moment_at}
 use Rattle.spots.specs.Spots.{node_cmp}
+use Rattle.occ_tree.specs.Places.{forest}
 use Rattle.just_check.specs.declared.auditing.Checked.{Checked}
-use Rattle.just_check.specs.Checking.{Joins, AreSoFar, Owes}
+use Rattle.just_check.specs.declared.expected.Origin.{Origin}
+use Rattle.just_check.specs.Checking.{Joins, AreSoFar, Expects}
+use Rattle.just_check.specs.Origins.{has_event}
 
 -- the earliest date of an occurrence
 abbrev pub date_of : Standing → Moment → ℤ
 date_of s x = early s (far_in s.premises) x
 
--- the events that are decided
-abbrev pub decided_in : Checked → List Moment
-decided_in c = map (moment_at c.tree) (take c.decided c.nodes.items)
+-- the rows so far
+abbrev pub rows_of : Checked → List Moment
+rows_of c = map (moment_at (forest c.tree)) c.nodes.items
 
--- the rows so far are these occurrences, and what is owed at the first of them is decided
-pub record IsTaken (s : Standing) (net : Net) (c : Checked) (b : List Moment) : Type 0 where
-  pub so_far : AreSoFar s net c.tree b
-  pub live : All (IsLive c.tree) c.nodes.items
-  pub nodes : map (moment_at c.tree) c.nodes.items ≡ b
+-- the events that are decided
+abbrev pub decided_in : Checked → List ℕ
+decided_in c = take c.decided c.nodes.items
+
+-- what is expected is known for the rows so far, of which the first are decided
+pub record IsTaken (s : Standing) (net : Net) (c : Checked) : Type 0 where
+  pub so_far : AreSoFar s net (forest c.tree) (rows_of c)
+  pub live : All (IsLive (forest c.tree)) c.nodes.items
   pub within : c.decided ≤ length c.nodes.items
-  pub owes : Owes s b (decided_in c) (map moment_of c.owed.items)
+  pub expects : Expects s (forest c.tree) (rows_of c) (decided_in c) c.expected
+
+-- the event begins before some of the occurrences b
+abbrev pub IsPast : Standing → List Moment → Moment → Type 0
+IsPast s b t = (y : Moment) × In y b × (date_of s t <ℤ date_of s y)
 
 -- and all that is decided begins before some row
-pub record IsChecked (s : Standing) (net : Net) (c : Checked) (b : List Moment) : Type 0 where
-  pub taken : IsTaken s net c b
-  pub past : (t : Moment) → In t (decided_in c) → (y : Moment) × In y b × (date_of s t <ℤ date_of s y)
+pub record IsChecked (s : Standing) (net : Net) (c : Checked) : Type 0 where
+  pub taken : IsTaken s net c
+  pub past : (x : ℕ) → In x (decided_in c) → IsPast s (rows_of c) (moment_at (forest c.tree) x)
+
+-- what fires at the events that begin by this date is decided, and at no others beside those where it was
+pub record DecidesThrough (s : Standing) (net : Net) (old new : Checked) (date : ℤ) : Type 0 where
+  pub taken : IsTaken s net new
+  pub tree : new.tree ≡ old.tree
+  pub nodes : new.nodes ≡ old.nodes
+  pub own : (x : ℕ) → In x (decided_in new) → In x (decided_in old) ⊎ (date_of s (moment_at (forest old.tree) x) ≤ℤ date)
+  pub all : (x : ℕ) → In x old.nodes.items → date_of s (moment_at (forest old.tree) x) ≤ℤ date → In x (decided_in new)
+
+-- what fires at the event of the origin is decided, and all that is decided begins before some row or no
+-- later than this event
+pub record IsReady (s : Standing) (net : Net) (c : Checked) (o : Origin) : Type 0 where
+  pub taken : IsTaken s net c
+  pub event : has_event (forest c.tree) o.event
+  pub decided : (x : ℕ) → o.event ≡ Some x → In x (decided_in c)
+  pub past : (t : ℕ) → In t (decided_in c)
+      → IsPast s (rows_of c) (moment_at (forest c.tree) t) ⊎ ((x : ℕ) × (o.event ≡ Some x) × (date_of s (moment_at (forest c.tree) t) ≤ℤ date_of s (moment_at (forest c.tree) x)))
+
+-- what fires at all rows is decided
+pub record IsDecided (s : Standing) (net : Net) (c : Checked) : Type 0 where
+  pub so_far : AreSoFar s net (forest c.tree) (rows_of c)
+  pub live : All (IsLive (forest c.tree)) c.nodes.items
+  pub expects : Expects s (forest c.tree) (rows_of c) c.nodes.items c.expected
 
 -- k comes after all of b
 abbrev pub IsBehind : Standing → List Moment → Moment → Type 0
@@ -41,20 +74,12 @@ IsBehind s b k = (y : Moment) → In y b → order (built s) y k ≡ Less
 abbrev pub ComesAfter : Net → Forest → List ℕ → ℕ → Type 0
 ComesAfter net f nodes x = (front : List ℕ) (last : ℕ) → nodes ≡ front ++ last ∷ [] → node_cmp net f last x ≡ Less
 
--- the row k has been taken behind b; or it may not stand there
-abbrev pub Takes : Standing → Net → Checked → List Moment → Moment → Bool → Type 0
-Takes s net new b k true = IsChecked s net new (b ++ k ∷ [])
-Takes s net new b k false = Joins s b k → IsBehind s b k → ⊥
+-- k has entered as this node behind the rows; or it may not stand there
+abbrev pub EntersBehind : Standing → Net → Checked → Checked → Moment → Option ℕ → Type 0
+EntersBehind s net old new k (Some x) = IsChecked s net new × (rows_of new ≡ rows_of old ++ k ∷ []) × IsLive (forest new.tree) x
+EntersBehind s net old new k None = Joins s (rows_of old) k → IsBehind s (rows_of old) k → ⊥
 
--- some of b begins at this date
-abbrev pub IsDated : Standing → List Moment → ℤ → Type 0
-IsDated s b date = (y : Moment) × In y b × (date_of s y ≡ date)
-
--- the rows are these occurrences, and what is owed at all of them
-pub record Decides (s : Standing) (net : Net) (c : Checked) (b : List Moment) : Type 0 where
-  pub so_far : AreSoFar s net c.tree b
-  pub owes : Owes s b b (map moment_of c.owed.items)
-
--- some node is of this occurrence
-abbrev pub IsNode : Forest → Moment → Type 0
-IsNode f k = (x : ℕ) × (m : Member) × (member f x ≡ Some m) × (moment m ≡ k)
+-- the row k has been taken behind the others; or it may not stand there
+abbrev pub Takes : Standing → Net → Checked → Checked → Moment → Bool → Type 0
+Takes s net old new k true = IsChecked s net new × (rows_of new ≡ rows_of old ++ k ∷ [])
+Takes s net old new k false = Joins s (rows_of old) k → IsBehind s (rows_of old) k → ⊥

@@ -1,4 +1,5 @@
 pub mod Believed
 pub mod Kinds
+pub mod Origins
 pub mod Checking
 pub mod Audited

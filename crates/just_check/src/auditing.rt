@@ -1,26 +1,29 @@
 // The audit of rows, in their order.
-ghost use Rattle.std.specs.Prelude.{◌≡◌, ◌↔◌, ◌+◌, ◌<◌, ℤ, ◌++◌, ◌∷◌, [], List, map, length, IsTrue, IfOk, OnOk};
+ghost use Rattle.std.specs.Prelude.{◌≡◌, ◌↔◌, ◌+◌, ◌<◌, ℤ, ◌++◌, ◌∷◌, [], ℕ, List, map, length, IsTrue, IfOk, OnOk};
 ghost use Rattle.std.specs.List.{All, Contains};
 ghost use Rattle.std.specs.Option.{option_map};
 ghost use Rattle.tmm_model.specs.Beliefs.{root_of, roots, rules_at};
-ghost use Rattle.tmm_model.specs.Moments.{Moment, At, After, moment_of};
+ghost use Rattle.tmm_model.specs.Moments.{Moment, At, moment_of};
 ghost use Rattle.tmm_model.specs.declared.point.PointName.TheVariants.{Begin};
 ghost use Rattle.list_theory.proofs.Elements.{In};
 ghost use Rattle.list_net.specs.Fits.{IsNetOf};
 ghost use Rattle.spots.specs.Forest.{IsLive, moment_at};
 ghost use Rattle.spots.specs.Seen.{IsSeen, HasList, Holds};
-ghost use Rattle.just_check.specs.Audited.{IsTaken, IsChecked, IsDated, Takes, Decides, ComesAfter, IsNode};
+ghost use Rattle.occ_tree.specs.Places.{forest};
+ghost use Rattle.just_check.specs.Audited.{IsTaken, IsChecked, IsReady, rows_of, DecidesThrough, EntersBehind, Takes, ComesAfter, IsDecided};
 ghost use Rattle.just_check.specs.Believed.{believed_in_order};
-ghost use Rattle.just_check.specs.Checking.{OwesMore};
+ghost use Rattle.just_check.specs.Checking.{AwaitsRoots, AwaitsRoot, AwaitsMore};
 ghost use Rattle.just_check.specs.Kinds.{AreRules};
+ghost use Rattle.just_check.specs.Origins.{comes_from, has_event};
 
-use crate::rows::enter;
+use crate::expected::{Expected, Origin};
+use crate::rows::{enter, origin_of};
 use crate::rules::{RulesByKind, does_fire};
 use dist_net::DistNet;
 use occ_tree::Tree;
 use premise_list::Standing;
 use std::alloc::Global;
-use tmm_model::{Name, NoMemory, Occ, Premise, Seq};
+use tmm_model::{Name, NoMemory, Occ, Premise};
 
 /// Whether the rows are the believed occurrences of the list, in their order, each once. Any rows are
 /// allowed, whoever made them.
@@ -38,18 +41,15 @@ pub fn audit(
         tree: Tree::make(alloc),
         nodes: Vec::new(alloc),
         decided: 0,
-        owed: Vec::new(alloc),
+        expected: expected_roots(alloc, standing)?,
     };
     for row in rows {
         if !take(alloc, standing, net, &rules, &mut checked, row)? {
             return Ok(false);
         }
     }
-    decide_rest(alloc, standing, net, &rules, &mut checked)?;
-    Ok(
-        are_there(&checked.tree, checked.owed.as_slice())
-            && has_roots(alloc, standing, &checked.tree),
-    )
+    decide_rest(standing, net, &rules, &mut checked)?;
+    Ok(checked.expected.all_stand())
 }
 
 /// The rows so far, and what is to stand among the rows.
@@ -61,231 +61,30 @@ struct Checked {
     nodes: Vec<u32>,
     // at so many of them it is decided which rules fire
     decided: usize,
-    // what these rules bring about
-    owed: Vec<Occ>,
+    // what is declared, and what these rules bring about
+    expected: Expected,
 }
 
-// Takes the next row, and decides what fires at events that begin before it. False where the row may
-// not stand behind those so far.
-fn take(
-    alloc: Global,
-    standing: &Standing,
-    net: &DistNet,
-    rules: &RulesByKind,
-    checked: &mut Checked,
-    row: &Occ,
-) -> Result<bool, NoMemory>
-    requires rules { AreRules standing.now.present rules.now }
-    requires before { (b : List Moment) × IsChecked standing.now.present net.now.present checked.old b }
-    ensures { IfOk result (λ good. (b : List Moment) → IsChecked standing.now.present net.now.present checked.old b → Takes standing.now.present net.now.present checked.new b (moment_of row.now) good) }
+// All that is declared to occur is to stand among the rows.
+fn expected_roots(alloc: Global, standing: &Standing) -> Result<Expected, NoMemory>
+    ensures { IfOk result (AwaitsRoots (roots standing.now.present)) }
 {
-    let Some(x) = enter(alloc, standing, net, &mut checked.tree, row)? else {
-        return Ok(false);
-    };
-    if !comes_after(&checked.tree, net, checked.nodes.as_slice(), x) {
-        return Ok(false);
-    }
-    push(&mut checked.nodes, x)?;
-    let date = checked.tree.early(net, x);
-    decide_before(alloc, standing, net, rules, checked, date)?;
-    Ok(true)
-}
-
-// Appends a number.
-fn push(numbers: &mut Vec<u32>, x: u32) -> Result<(), NoMemory>
-    ensures { OnOk result (numbers.new.items ≡ numbers.old.items ++ x ∷ []) }
-{
-    numbers.reserve(1)?;
-    numbers.push_reserved(x);
-    Ok(())
-}
-
-// Whether a node comes after the last of these.
-fn comes_after(tree: &Tree, net: &DistNet, nodes: &[u32], x: u32) -> bool
-    requires list { HasList net.now.present tree.now }
-    requires nodes { All (IsLive tree.now) nodes.now }
-    requires live { IsLive tree.now x }
-    ensures { IsTrue result ↔ ComesAfter net.now.present tree.now nodes.now x }
-{
-    match nodes.len() {
-        0 => true,
-        n => tree.cmp_order(net, nodes[n - 1], x).is_lt(),
-    }
-}
-
-// Decides what fires at the events that begin before this date and are not decided yet.
-fn decide_before(
-    alloc: Global,
-    standing: &Standing,
-    net: &DistNet,
-    rules: &RulesByKind,
-    checked: &mut Checked,
-    date: i64,
-) -> Result<(), NoMemory>
-    requires rules { AreRules standing.now.present rules.now }
-    requires before { (b : List Moment) × IsDated standing.now.present b date × IsChecked standing.now.present net.now.present checked.old b }
-    ensures { OnOk result ((b : List Moment) → IsDated standing.now.present b date → IsChecked standing.now.present net.now.present checked.old b → IsChecked standing.now.present net.now.present checked.new b) }
-{
-    while checked.decided < checked.nodes.len() {
-        if checked.tree.early(net, checked.nodes[checked.decided]) >= date {
-            break;
-        }
-        decide_next(alloc, standing, net, rules, checked)?;
-    }
-    Ok(())
-}
-
-// Decides what fires at the other events.
-fn decide_rest(
-    alloc: Global,
-    standing: &Standing,
-    net: &DistNet,
-    rules: &RulesByKind,
-    checked: &mut Checked,
-) -> Result<(), NoMemory>
-    requires rules { AreRules standing.now.present rules.now }
-    requires before { (b : List Moment) × IsTaken standing.now.present net.now.present checked.old b }
-    ensures { OnOk result ((b : List Moment) → IsTaken standing.now.present net.now.present checked.old b → Decides standing.now.present net.now.present checked.new b) }
-{
-    while checked.decided < checked.nodes.len() {
-        decide_next(alloc, standing, net, rules, checked)?;
-    }
-    Ok(())
-}
-
-// Decides what fires at the first node where that is not decided yet.
-fn decide_next(
-    alloc: Global,
-    standing: &Standing,
-    net: &DistNet,
-    rules: &RulesByKind,
-    checked: &mut Checked,
-) -> Result<(), NoMemory>
-    requires rules { AreRules standing.now.present rules.now }
-    requires before { (b : List Moment) × IsTaken standing.now.present net.now.present checked.old b }
-    requires within { checked.old.decided < length checked.old.nodes.items }
-    ensures taken { OnOk result ((b : List Moment) → IsTaken standing.now.present net.now.present checked.old b → IsTaken standing.now.present net.now.present checked.new b) }
-    ensures tree { OnOk result (checked.new.tree ≡ checked.old.tree) }
-    ensures nodes { OnOk result (checked.new.nodes ≡ checked.old.nodes) }
-    ensures next { OnOk result (checked.new.decided ≡ checked.old.decided + 1) }
-{
-    let x = checked.nodes[checked.decided];
-    owe(
-        alloc,
-        standing,
-        net,
-        rules,
-        &checked.tree,
-        x,
-        &mut checked.owed,
-    )?;
-    checked.decided += 1;
-    Ok(())
-}
-
-// Adds to what is owed what the rules bring about that fire at a node.
-fn owe(
-    alloc: Global,
-    standing: &Standing,
-    net: &DistNet,
-    rules: &RulesByKind,
-    tree: &Tree,
-    x: u32,
-    owed: &mut Vec<Occ>,
-) -> Result<(), NoMemory>
-    requires rules { AreRules standing.now.present rules.now }
-    requires seen { IsSeen standing.now.present net.now.present tree.now }
-    requires live { IsLive tree.now x }
-    ensures { OnOk result ((b : List Moment) → Holds b tree.now → OwesMore standing.now.present b (moment_at tree.now x) (rules_at standing.now.present (moment_at tree.now x)) (map moment_of owed.old.items) (map moment_of owed.new.items)) }
-{
-    for rule in rules.at(standing, tree, x) {
-        owe_effect(alloc, standing, net, tree, x, *rule, owed)?;
-    }
-    Ok(())
-}
-
-// Adds to what is owed what the rule brings about at a node, if it fires.
-fn owe_effect(
-    alloc: Global,
-    standing: &Standing,
-    net: &DistNet,
-    tree: &Tree,
-    x: u32,
-    rule: Name,
-    owed: &mut Vec<Occ>,
-) -> Result<(), NoMemory>
-    requires seen { IsSeen standing.now.present net.now.present tree.now }
-    requires live { IsLive tree.now x }
-    requires rule { Contains (rules_at standing.now.present (moment_at tree.now x)) rule }
-    ensures { OnOk result ((b : List Moment) → Holds b tree.now → OwesMore standing.now.present b (moment_at tree.now x) (rule ∷ []) (map moment_of owed.old.items) (map moment_of owed.new.items)) }
-{
-    if !does_fire(standing, net, tree, x, rule) {
-        return Ok(());
-    }
-    let effect = effect_of(alloc, tree, x, rule)?;
-    push_occ(owed, effect)
-}
-
-// Appends an occurrence.
-fn push_occ(owed: &mut Vec<Occ>, occ: Occ) -> Result<(), NoMemory>
-    ensures { OnOk result (owed.new.items ≡ owed.old.items ++ occ ∷ []) }
-{
-    owed.reserve(1)?;
-    owed.push_reserved(occ);
-    Ok(())
-}
-
-// What a rule brings about at the event of a node.
-fn effect_of(alloc: Global, tree: &Tree, x: u32, rule: Name) -> Result<Occ, NoMemory>
-    requires { IsLive tree.now x }
-    ensures { IfOk result (λ occ. moment_of occ ≡ After (moment_at tree.now x) rule) }
-{
-    let mut effect = tree.occ_of(alloc, x)?;
-    match effect.rules.push(rule) {
-        Ok(()) => Ok(effect),
-        Err(_) => Err(NoMemory),
-    }
-}
-
-// Whether all these occurrences are nodes.
-fn are_there(tree: &Tree, owed: &[Occ]) -> bool
-    ensures { IsTrue result ↔ ((k : Moment) → In k (map moment_of owed.now) → IsNode tree.now k) }
-{
-    for occ in owed {
-        if tree.find(occ).is_none() {
-            return false;
-        }
-    }
-    true
-}
-
-// Whether all that is declared to occur is a node.
-fn has_roots(alloc: Global, standing: &Standing, tree: &Tree) -> bool
-    ensures { IsTrue result ↔ ((k : Moment) → In k (roots standing.now.present) → IsNode tree.now k) }
-{
+    let mut expected = Expected::make(alloc);
     for place in 0..standing.len() {
         if let Some(premise) = standing.at(place) {
-            if !has_root(alloc, tree, premise) {
-                return false;
-            }
+            expect_root(premise, &mut expected)?;
         }
     }
-    true
+    Ok(expected)
 }
 
-// Whether what the premise declares to occur, if anything, is a node.
-fn has_root(alloc: Global, tree: &Tree, premise: &Premise) -> bool
-    ensures { IsTrue result ↔ ((k : Moment) → root_of premise.now ≡ Some k → IsNode tree.now k) }
+// Has what the premise declares to occur, if anything, stand among the rows.
+fn expect_root(premise: &Premise, expected: &mut Expected) -> Result<(), NoMemory>
+    ensures { OnOk result (AwaitsRoot expected.old expected.new (root_of premise.now)) }
 {
     match root_name(premise) {
-        Some(root) => {
-            let occ = Occ {
-                root,
-                rules: Seq::make(alloc),
-            };
-            tree.find(&occ).is_some()
-        }
-        None => true,
+        Some(name) => expected.add(Origin { event: None, name }),
+        None => Ok(()),
     }
 }
 
@@ -299,4 +98,229 @@ fn root_name(premise: &Premise) -> Option<Name>
         Premise::Span { name, .. } => Some(*name),
         _ => None,
     }
+}
+
+// Takes the next row, and decides what fires at events that begin before it. False where the row may
+// not stand behind those so far.
+fn take(
+    alloc: Global,
+    standing: &Standing,
+    net: &DistNet,
+    rules: &RulesByKind,
+    checked: &mut Checked,
+    row: &Occ,
+) -> Result<bool, NoMemory>
+    requires rules { AreRules standing.now.present rules.now }
+    requires before { IsChecked standing.now.present net.now.present checked.old }
+    ensures { IfOk result (Takes standing.now.present net.now.present checked.old checked.new (moment_of row.now)) }
+{
+    let Some(origin) = origin_of(&checked.expected, row) else {
+        return Ok(false);
+    };
+    decide_event(standing, net, rules, checked, &origin)?;
+    let Some(x) = enter_awaited(alloc, standing, net, checked, &origin)? else {
+        return Ok(false);
+    };
+    decide_before(standing, net, rules, checked, x)?;
+    Ok(true)
+}
+
+// Decides what fires at the event of an origin, and at those that begin no later.
+fn decide_event(
+    standing: &Standing,
+    net: &DistNet,
+    rules: &RulesByKind,
+    checked: &mut Checked,
+    origin: &Origin,
+) -> Result<(), NoMemory>
+    requires rules { AreRules standing.now.present rules.now }
+    requires before { IsChecked standing.now.present net.now.present checked.old }
+    requires event { has_event (forest checked.old.tree) origin.now.event }
+    ensures ready { OnOk result (IsReady standing.now.present net.now.present checked.new origin.now) }
+    ensures tree { OnOk result (checked.new.tree ≡ checked.old.tree) }
+    ensures nodes { OnOk result (checked.new.nodes ≡ checked.old.nodes) }
+{
+    match origin.event {
+        Some(event) => {
+            let date = checked.tree.early(net, event);
+            decide_through(standing, net, rules, checked, date)
+        }
+        None => Ok(()),
+    }
+}
+
+// Enters what comes from an origin behind the rows so far, where it is to stand among the rows, does not
+// stand yet, and comes after the last.
+fn enter_awaited(
+    alloc: Global,
+    standing: &Standing,
+    net: &DistNet,
+    checked: &mut Checked,
+    origin: &Origin,
+) -> Result<Option<u32>, NoMemory>
+    requires { IsReady standing.now.present net.now.present checked.old origin.now }
+    ensures { IfOk result (EntersBehind standing.now.present net.now.present checked.old checked.new (comes_from (forest checked.old.tree) origin.now)) }
+{
+    if !checked.expected.awaits(origin) {
+        return Ok(None);
+    }
+    let Some(x) = enter(alloc, standing, net, &mut checked.tree, origin)? else {
+        return Ok(None);
+    };
+    if !comes_after(&checked.tree, net, checked.nodes.as_slice(), x) {
+        return Ok(None);
+    }
+    push(&mut checked.nodes, x)?;
+    checked.expected.set(origin, x);
+    Ok(Some(x))
+}
+
+// Appends a number.
+fn push(numbers: &mut Vec<u32>, x: u32) -> Result<(), NoMemory>
+    ensures { OnOk result (numbers.new.items ≡ numbers.old.items ++ x ∷ []) }
+{
+    numbers.reserve(1)?;
+    numbers.push_reserved(x);
+    Ok(())
+}
+
+// Whether a node comes after the last of these.
+fn comes_after(tree: &Tree, net: &DistNet, nodes: &[u32], x: u32) -> bool
+    requires list { HasList net.now.present (forest tree.now) }
+    requires nodes { All (IsLive (forest tree.now)) nodes.now }
+    requires live { IsLive (forest tree.now) x }
+    ensures { IsTrue result ↔ ComesAfter net.now.present (forest tree.now) nodes.now x }
+{
+    match nodes.len() {
+        0 => true,
+        n => tree.cmp_order(net, nodes[n - 1], x).is_lt(),
+    }
+}
+
+// Decides what fires at the events that begin before the row of this node and are not decided yet.
+fn decide_before(
+    standing: &Standing,
+    net: &DistNet,
+    rules: &RulesByKind,
+    checked: &mut Checked,
+    x: u32,
+) -> Result<(), NoMemory>
+    requires rules { AreRules standing.now.present rules.now }
+    requires before { IsChecked standing.now.present net.now.present checked.old }
+    requires live { IsLive (forest checked.old.tree) x }
+    ensures checked { OnOk result (IsChecked standing.now.present net.now.present checked.new) }
+    ensures rows { OnOk result (rows_of checked.new ≡ rows_of checked.old) }
+{
+    let date = checked.tree.early(net, x);
+    decide_through(standing, net, rules, checked, date - 1)
+}
+
+// Decides what fires at the events that begin by this date and are not decided yet.
+fn decide_through(
+    standing: &Standing,
+    net: &DistNet,
+    rules: &RulesByKind,
+    checked: &mut Checked,
+    date: i64,
+) -> Result<(), NoMemory>
+    requires rules { AreRules standing.now.present rules.now }
+    requires before { IsTaken standing.now.present net.now.present checked.old }
+    ensures { OnOk result (DecidesThrough standing.now.present net.now.present checked.old checked.new date) }
+{
+    while checked.decided < checked.nodes.len() {
+        if checked.tree.early(net, checked.nodes[checked.decided]) > date {
+            break;
+        }
+        decide_next(standing, net, rules, checked)?;
+    }
+    Ok(())
+}
+
+// Decides what fires at the other events.
+fn decide_rest(
+    standing: &Standing,
+    net: &DistNet,
+    rules: &RulesByKind,
+    checked: &mut Checked,
+) -> Result<(), NoMemory>
+    requires rules { AreRules standing.now.present rules.now }
+    requires before { IsTaken standing.now.present net.now.present checked.old }
+    ensures decided { OnOk result (IsDecided standing.now.present net.now.present checked.new) }
+    ensures rows { OnOk result (rows_of checked.new ≡ rows_of checked.old) }
+{
+    while checked.decided < checked.nodes.len() {
+        decide_next(standing, net, rules, checked)?;
+    }
+    Ok(())
+}
+
+// Decides what fires at the first node where that is not decided yet.
+fn decide_next(
+    standing: &Standing,
+    net: &DistNet,
+    rules: &RulesByKind,
+    checked: &mut Checked,
+) -> Result<(), NoMemory>
+    requires rules { AreRules standing.now.present rules.now }
+    requires before { IsTaken standing.now.present net.now.present checked.old }
+    requires within { checked.old.decided < length checked.old.nodes.items }
+    ensures taken { OnOk result (IsTaken standing.now.present net.now.present checked.new) }
+    ensures tree { OnOk result (checked.new.tree ≡ checked.old.tree) }
+    ensures nodes { OnOk result (checked.new.nodes ≡ checked.old.nodes) }
+    ensures next { OnOk result (checked.new.decided ≡ checked.old.decided + 1) }
+{
+    let x = checked.nodes[checked.decided];
+    expect_effects(
+        standing,
+        net,
+        rules,
+        &checked.tree,
+        x,
+        &mut checked.expected,
+    )?;
+    checked.decided += 1;
+    Ok(())
+}
+
+// Has stand among the rows what the rules bring about that fire at a node.
+fn expect_effects(
+    standing: &Standing,
+    net: &DistNet,
+    rules: &RulesByKind,
+    tree: &Tree,
+    x: u32,
+    expected: &mut Expected,
+) -> Result<(), NoMemory>
+    requires rules { AreRules standing.now.present rules.now }
+    requires seen { IsSeen standing.now.present net.now.present (forest tree.now) }
+    requires live { IsLive (forest tree.now) x }
+    ensures { OnOk result ((b : List Moment) → Holds b (forest tree.now) → AwaitsMore standing.now.present (forest tree.now) b x (rules_at standing.now.present (moment_at (forest tree.now) x)) expected.old expected.new) }
+{
+    for rule in rules.at(standing, tree, x) {
+        expect_effect(standing, net, tree, x, *rule, expected)?;
+    }
+    Ok(())
+}
+
+// Has stand among the rows what the rule brings about at a node, if it fires.
+fn expect_effect(
+    standing: &Standing,
+    net: &DistNet,
+    tree: &Tree,
+    x: u32,
+    rule: Name,
+    expected: &mut Expected,
+) -> Result<(), NoMemory>
+    requires seen { IsSeen standing.now.present net.now.present (forest tree.now) }
+    requires live { IsLive (forest tree.now) x }
+    requires rule { Contains (rules_at standing.now.present (moment_at (forest tree.now) x)) rule }
+    ensures { OnOk result ((b : List Moment) → Holds b (forest tree.now) → AwaitsMore standing.now.present (forest tree.now) b x (rule ∷ []) expected.old expected.new) }
+{
+    if !does_fire(standing, net, tree, x, rule) {
+        return Ok(());
+    }
+    expected.add(Origin {
+        event: Some(x),
+        name: rule,
+    })
 }

@@ -2,60 +2,57 @@
 ghost use Rattle.std.specs.Prelude.{◌≡◌, List, IfOk};
 ghost use Rattle.std.specs.List.{Contains};
 ghost use Rattle.tmm_model.specs.Beliefs.{rules_at};
-ghost use Rattle.tmm_model.specs.Moments.{Moment, At, After, along, moment_of};
+ghost use Rattle.tmm_model.specs.Moments.{Moment, At, After, moment_of};
 ghost use Rattle.tmm_model.specs.declared.point.PointName.TheVariants.{Begin};
 ghost use Rattle.dist_net.specs.Net.{Net};
-ghost use Rattle.spots.specs.Forest.{IsLive, moment_at};
+ghost use Rattle.spots.specs.Forest.{Forest, IsLive, moment_at};
 ghost use Rattle.spots.specs.Seen.{IsSeen};
+ghost use Rattle.occ_tree.specs.Places.{forest};
 ghost use Rattle.supports.specs.Growing.{Adds, effect_shape};
-ghost use Rattle.just_check.specs.Checking.{AreSoFar, EntersAs, IsNoNode};
+ghost use Rattle.just_check.specs.Checking.{Joins, AreSoFar, EntersAs, IsNoNode};
+ghost use Rattle.just_check.specs.Origins.{Knows, IsOriginOf, comes_from, has_event};
 
-use crate::rules::{does_fire, is_rule_at};
+use crate::expected::{Expected, Origin};
 use dist_net::DistNet;
 use occ_tree::Tree;
 use premise_list::Standing;
 use std::alloc::Global;
 use supports::add_root;
-use tmm_model::{Name, NoMemory, Occ, Premise, Seq, Shape};
+use tmm_model::{Name, NoMemory, Occ, Premise, Shape};
 
-// Enters a row into the tree of those before it, and answers its number; none where it may not stand
-// behind them.
+// What a row comes from, none where the event that is to bring it about does not stand.
+pub(crate) fn origin_of(expected: &Expected, row: &Occ) -> Option<Origin>
+    ensures { (f : Forest) (b : List Moment) → Knows f b expected.now → IsOriginOf f b (moment_of row.now) result }
+{
+    match row.rules.items().split_last() {
+        Some((rule, way)) => Some(Origin {
+            event: Some(expected.find(row.root, way)?),
+            name: *rule,
+        }),
+        None => Some(Origin {
+            event: None,
+            name: row.root,
+        }),
+    }
+}
+
+// Enters what comes from an origin into the tree of the rows before it, and answers its number; none only
+// where it does not join them.
 pub(crate) fn enter(
     alloc: Global,
     standing: &Standing,
     net: &DistNet,
     tree: &mut Tree,
-    row: &Occ,
+    origin: &Origin,
 ) -> Result<Option<u32>, NoMemory>
-    requires before { (b : List Moment) × AreSoFar standing.now.present net.now.present tree.old b }
-    ensures { IfOk result (λ x. (b : List Moment) → AreSoFar standing.now.present net.now.present tree.old b → EntersAs standing.now.present net.now.present.names b (moment_of row.now) tree.old tree.new x) }
+    requires joins { (b : List Moment) × AreSoFar standing.now.present net.now.present (forest tree.old) b × Joins standing.now.present b (comes_from (forest tree.old) origin.now) }
+    requires event { has_event (forest tree.old) origin.now.event }
+    ensures { IfOk result (λ x. (b : List Moment) → AreSoFar standing.now.present net.now.present (forest tree.old) b → EntersAs standing.now.present net.now.present.names b (comes_from (forest tree.old) origin.now) (forest tree.old) (forest tree.new) x) }
 {
-    if tree.find(row).is_some() {
-        return Ok(None);
+    match origin.event {
+        Some(event) => enter_effect(alloc, standing, net, tree, event, origin.name),
+        None => enter_root(alloc, standing, net, tree, origin.name),
     }
-    let rules = row.rules.items();
-    match rules.len() {
-        0 => enter_root(alloc, standing, net, tree, row.root),
-        n => {
-            let trigger = occurrence(alloc, row.root, &rules[..n - 1])?;
-            match tree.find(&trigger) {
-                Some(x) => enter_effect(alloc, standing, net, tree, x, rules[n - 1]),
-                None => Ok(None),
-            }
-        }
-    }
-}
-
-// The occurrence to which these rules lead.
-fn occurrence(alloc: Global, root: Name, rules: &[Name]) -> Result<Occ, NoMemory>
-    ensures { IfOk result (λ occ. moment_of occ ≡ along (At (Begin root)) rules.now) }
-{
-    let mut copies = Seq::make(alloc);
-    copies.extend(rules)?;
-    Ok(Occ {
-        root,
-        rules: copies,
-    })
 }
 
 // Enters what the premise of this name declares to occur.
@@ -66,9 +63,9 @@ fn enter_root(
     tree: &mut Tree,
     name: Name,
 ) -> Result<Option<u32>, NoMemory>
-    requires before { (b : List Moment) × AreSoFar standing.now.present net.now.present tree.old b }
-    requires new { IsNoNode tree.old (At (Begin name)) }
-    ensures { IfOk result (λ x. (b : List Moment) → AreSoFar standing.now.present net.now.present tree.old b → EntersAs standing.now.present net.now.present.names b (At (Begin name)) tree.old tree.new x) }
+    requires before { (b : List Moment) × AreSoFar standing.now.present net.now.present (forest tree.old) b }
+    requires new { IsNoNode (forest tree.old) (At (Begin name)) }
+    ensures { IfOk result (λ x. (b : List Moment) → AreSoFar standing.now.present net.now.present (forest tree.old) b → EntersAs standing.now.present net.now.present.names b (At (Begin name)) (forest tree.old) (forest tree.new) x) }
 {
     // it tells the proof that names are distinct
     let _ = standing.len();
@@ -87,17 +84,12 @@ fn enter_effect(
     x: u32,
     rule: Name,
 ) -> Result<Option<u32>, NoMemory>
-    requires before { (b : List Moment) × AreSoFar standing.now.present net.now.present tree.old b }
-    requires live { IsLive tree.old x }
-    requires new { IsNoNode tree.old (After (moment_at tree.old x) rule) }
-    ensures { IfOk result (λ y. (b : List Moment) → AreSoFar standing.now.present net.now.present tree.old b → EntersAs standing.now.present net.now.present.names b (After (moment_at tree.old x) rule) tree.old tree.new y) }
+    requires seen { IsSeen standing.now.present net.now.present (forest tree.old) }
+    requires live { IsLive (forest tree.old) x }
+    requires rule { Contains (rules_at standing.now.present (moment_at (forest tree.old) x)) rule }
+    requires new { IsNoNode (forest tree.old) (After (moment_at (forest tree.old) x) rule) }
+    ensures { IfOk result (λ y. (b : List Moment) → AreSoFar standing.now.present net.now.present (forest tree.old) b → EntersAs standing.now.present net.now.present.names b (After (moment_at (forest tree.old) x) rule) (forest tree.old) (forest tree.new) y) }
 {
-    if !is_rule_at(standing, tree, x, rule) {
-        return Ok(None);
-    }
-    if !does_fire(standing, net, tree, x, rule) {
-        return Ok(None);
-    }
     Ok(Some(add_effect(alloc, standing, tree, x, rule)?))
 }
 
@@ -112,11 +104,11 @@ fn add_effect(
     x: u32,
     rule: Name,
 ) -> Result<u32, NoMemory>
-    requires seen { (net : Net) × IsSeen standing.now.present net tree.old }
-    requires live { IsLive tree.old x }
-    requires rule { Contains (rules_at standing.now.present (moment_at tree.old x)) rule }
-    requires new { IsNoNode tree.old (After (moment_at tree.old x) rule) }
-    ensures { IfOk result (λ y. (net : Net) → IsSeen standing.now.present net tree.old → Adds standing.now.present net.names tree.old tree.new y (After (moment_at tree.old x) rule)) }
+    requires seen { (net : Net) × IsSeen standing.now.present net (forest tree.old) }
+    requires live { IsLive (forest tree.old) x }
+    requires rule { Contains (rules_at standing.now.present (moment_at (forest tree.old) x)) rule }
+    requires new { IsNoNode (forest tree.old) (After (moment_at (forest tree.old) x) rule) }
+    ensures { IfOk result (λ y. (net : Net) → IsSeen standing.now.present net (forest tree.old) → Adds standing.now.present net.names (forest tree.old) (forest tree.new) y (After (moment_at (forest tree.old) x) rule)) }
 {
     // it tells the proof that names are distinct
     let _ = standing.len();

@@ -7,6 +7,7 @@ ghost use Rattle.tmm_model.specs.Standing.{far_in};
 ghost use Rattle.dist_net.specs.Net.{Net};
 ghost use Rattle.spots.specs.Forest.{IsLive, moment_at};
 ghost use Rattle.spots.specs.Seen.{IsSeen, Holds};
+ghost use Rattle.occ_tree.specs.Places.{forest};
 ghost use Rattle.just_check.specs.Kinds.{AreRules, AddsPremise};
 
 use dist_net::DistNet;
@@ -53,9 +54,9 @@ impl RulesByKind {
     /// The names of the rules on the kind of the event at a node, none where it is no event.
     pub fn at(&self, standing: &Standing, tree: &Tree, x: u32) -> &[Name]
         requires rules { AreRules standing.now.present self.now }
-        requires seen { (net : Net) × IsSeen standing.now.present net tree.now }
-        requires live { IsLive tree.now x }
-        ensures { result.now ≡ rules_at standing.now.present (moment_at tree.now x) }
+        requires seen { (net : Net) × IsSeen standing.now.present net (forest tree.now) }
+        requires live { IsLive (forest tree.now) x }
+        ensures { result.now ≡ rules_at standing.now.present (moment_at (forest tree.now) x) }
     {
         // it tells the proof what holds of the list
         let _ = standing.len();
@@ -67,41 +68,13 @@ impl RulesByKind {
     }
 }
 
-// Whether a premise is a rule on the kind of the event at a node.
-pub(crate) fn is_rule_at(standing: &Standing, tree: &Tree, x: u32, rule: Name) -> bool
-    requires seen { (net : Net) × IsSeen standing.now.present net tree.now }
-    requires live { IsLive tree.now x }
-    ensures { IsTrue result ↔ Contains (rules_at standing.now.present (moment_at tree.now x)) rule }
-{
-    // it tells the proof that names are distinct
-    let _ = standing.len();
-    let row = tree.row(x);
-    match standing.get(rule) {
-        Some(premise) => match row.shape {
-            Shape::Event => is_rule_on(premise, &row.what),
-            _ => false,
-        },
-        None => false,
-    }
-}
-
-// Whether the premise is a rule on this kind.
-fn is_rule_on(premise: &Premise, kind: &Name) -> bool
-    ensures { IsTrue result ↔ IsSome (on_kind kind.now premise.now) }
-{
-    match premise {
-        Premise::Rule { trigger, .. } => trigger == kind,
-        _ => false,
-    }
-}
-
 // Whether the rule fires at the event of a node: its effect begins by the horizon, and each antecedent has
 // a supporter there.
 pub(crate) fn does_fire(standing: &Standing, net: &DistNet, tree: &Tree, x: u32, rule: Name) -> bool
-    requires seen { IsSeen standing.now.present net.now.present tree.now }
-    requires live { IsLive tree.now x }
-    requires rule { Contains (rules_at standing.now.present (moment_at tree.now x)) rule }
-    ensures { (b : List Moment) → Holds b tree.now → IsTrue result ↔ ((due standing.now.present (far_in standing.now.present.premises) (moment_at tree.now x) rule ≤ℤ pos standing.now.present.horizon) × IsTrue (is_free standing.now.present (far_in standing.now.present.premises) b (moment_at tree.now x) rule)) }
+    requires seen { IsSeen standing.now.present net.now.present (forest tree.now) }
+    requires live { IsLive (forest tree.now) x }
+    requires rule { Contains (rules_at standing.now.present (moment_at (forest tree.now) x)) rule }
+    ensures { (b : List Moment) → Holds b (forest tree.now) → IsTrue result ↔ ((due standing.now.present (far_in standing.now.present.premises) (moment_at (forest tree.now) x) rule ≤ℤ pos standing.now.present.horizon) × IsTrue (is_free standing.now.present (far_in standing.now.present.premises) b (moment_at (forest tree.now) x) rule)) }
 {
     let text = rule_text(standing, rule);
     is_in_time(standing.horizon(), tree.early(net, x), text.lo)
@@ -126,11 +99,11 @@ fn is_free(
     rule: Name,
     given: &[Name],
 ) -> bool
-    requires seen { IsSeen standing.now.present net.now.present tree.now }
-    requires live { IsLive tree.now x }
-    requires rule { Contains (rules_at standing.now.present (moment_at tree.now x)) rule }
+    requires seen { IsSeen standing.now.present net.now.present (forest tree.now) }
+    requires live { IsLive (forest tree.now) x }
+    requires rule { Contains (rules_at standing.now.present (moment_at (forest tree.now) x)) rule }
     requires given { given.now ≡ (rule_of standing.now.present rule).given }
-    ensures { (b : List Moment) → Holds b tree.now → result ≡ is_free standing.now.present (far_in standing.now.present.premises) b (moment_at tree.now x) rule }
+    ensures { (b : List Moment) → Holds b (forest tree.now) → result ≡ is_free standing.now.present (far_in standing.now.present.premises) b (moment_at (forest tree.now) x) rule }
 {
     let at = Spot::Node(x);
     for fact in given {

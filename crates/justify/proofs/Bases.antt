@@ -3,8 +3,8 @@ use Rattle.std.proofs.Common.{◌≡◌, ◌∙◌, ℕ, ap, sym}
 use Rattle.std.specs.Option.{option_map_or}
 use Rattle.spots.specs.Forest.{Forest, Member, member, IsLive}
 use Rattle.spots.proofs.Nodes.{node_at}
-use Rattle.occ_tree.specs.declared.node.NodeRow.{NodeRow}
-use Rattle.occ_tree.specs.Rows.{IsRowOf}
+use Rattle.spots.specs.declared.node_row.NodeRow.{NodeRow}
+use Rattle.spots.specs.Rows.{IsRowOf}
 
 -- a row tells the number of the root's point
 pub begin_is : (f : Forest) (x : ℕ) → IsLive f x → (row : NodeRow) → IsRowOf f x row → row.begin ≡ option_map_or (λ m. m.begin) (member f x) 0

@@ -16,6 +16,7 @@ use Rattle.walk_theory.proofs.Members.{All-from_contains}
 use Rattle.belief_theory.proofs.Upholding.{further}
 use Rattle.indexmap.specs.IndexSet.{insert_key, insert_all}
 use Rattle.spots.specs.Forest.{Forest, IsLive, moment_at}
+use Rattle.occ_tree.specs.Places.{Places, forest}
 use Rattle.justify.specs.Grounds.{AddsGrounds, AreUpholders}
 
 -- ---- keys
@@ -86,10 +87,10 @@ same_place (x ∷ old) rest (suc i) y below at = same_place old rest i y (omega 
 
 -- ---- a live number is below the number of places
 
-below_places : (f : Forest) (x : ℕ) → IsLive f x → x < length f
+pub below_places : (places : Places) (x : ℕ) → IsLive (forest places) x → x < length places
 below_places [] x live = absurd (cc (live))
-below_places (o ∷ f) zero live = omega arith
-below_places (o ∷ f) (suc x) live = let low = below_places f x live in omega arith
+below_places (o ∷ places) zero live = omega arith
+below_places (o ∷ places) (suc x) live = let low = below_places places x live in omega arith
 
 -- ---- the walk
 
@@ -185,11 +186,11 @@ module _ (m : TimeMap) (f : Forest) (x : ℕ) where
           let (i, low, here) = placed nodes y in_nodes in
           walked.closed i y k (omega (arith, past)) here (subst (λ w. Contains (rests_on m w) k) (sym is) there)
 
-  -- there are no more of them than places
-  pub walked_below : (nodes : List ℕ) (next y : ℕ) → IsWalked nodes next → slice_get nodes next ≡ Some y → next < length f
-  walked_below nodes next y walked at =
-      let few = length-le_from_distinct_below nodes (length f) walked.once
+  -- there are no more of them than numbers that nodes can have
+  pub walked_below : (limit : ℕ) → ((z : ℕ) → IsLive f z → z < limit) → (nodes : List ℕ) (next y : ℕ) → IsWalked nodes next → slice_get nodes next ≡ Some y → next < limit
+  walked_below limit below nodes next y walked at =
+      let few = length-le_from_distinct_below nodes limit walked.once
       (λ q among. let (z, there, same) = list_any-In (nat_eq q) nodes among in
-      subst (λ w. w < length f) (sym ((Decides-eqb q z).0 same)) (below_places f z (All-contains (IsLive f) nodes z walked.live (Contains-from_In nodes z there)))) in
+      subst (λ w. w < limit) (sym ((Decides-eqb q z).0 same)) (below z (All-contains (IsLive f) nodes z walked.live (Contains-from_In nodes z there)))) in
       let low : next < length nodes = slice_get_within nodes next y at in
       omega arith

@@ -7,6 +7,7 @@ ghost use Rattle.tmm_model.specs.Reasons.{supports_at};
 ghost use Rattle.tmm_model.specs.Sorts.{class_in};
 ghost use Rattle.spots.specs.Forest.{IsLive, moment_at};
 ghost use Rattle.spots.specs.Seen.{IsSeen, Holds};
+ghost use Rattle.occ_tree.specs.Places.{forest};
 ghost use Rattle.justify.specs.Grounds.{IsOrigin, supporters_for};
 
 use arrayvec::ArrayVec;
@@ -28,8 +29,8 @@ pub(crate) enum Origin {
 
 // What brings a node about.
 pub(crate) fn origin_of(tree: &Tree, x: u32) -> Origin
-    requires { IsLive tree.now x }
-    ensures { IsOrigin tree.now x result }
+    requires { IsLive (forest tree.now) x }
+    ensures { IsOrigin (forest tree.now) x result }
 {
     let row = tree.row(x);
     match row.parent {
@@ -49,12 +50,12 @@ pub(crate) fn supports_at(
     event: u32,
     rule: Name,
 ) -> ArrayVec<u32, 4>
-    requires seen { IsSeen standing.now.present net.now.present tree.now }
-    requires holds { Holds (built standing.now.present).believed tree.now }
-    requires event { IsLive tree.now event }
-    requires rule { Contains (rules_at standing.now.present (moment_at tree.now event)) rule }
-    ensures live { All (IsLive tree.now) result.items }
-    ensures first { map (moment_at tree.now) result.items ≡ supports_at (built standing.now.present) (moment_at tree.now event) rule }
+    requires seen { IsSeen standing.now.present net.now.present (forest tree.now) }
+    requires holds { Holds (built standing.now.present).believed (forest tree.now) }
+    requires event { IsLive (forest tree.now) event }
+    requires rule { Contains (rules_at standing.now.present (moment_at (forest tree.now) event)) rule }
+    ensures live { All (IsLive (forest tree.now)) result.items }
+    ensures first { map (moment_at (forest tree.now)) result.items ≡ supports_at (built standing.now.present) (moment_at (forest tree.now) event) rule }
 {
     let text = rule_text(standing, rule);
     supporters(standing, tree, net, event, text.given)
@@ -68,13 +69,13 @@ fn supporters(
     event: u32,
     facts: &[Name],
 ) -> ArrayVec<u32, 4>
-    requires seen { IsSeen standing.now.present net.now.present tree.now }
-    requires holds { Holds (built standing.now.present).believed tree.now }
-    requires event { IsLive tree.now event }
+    requires seen { IsSeen standing.now.present net.now.present (forest tree.now) }
+    requires holds { Holds (built standing.now.present).believed (forest tree.now) }
+    requires event { IsLive (forest tree.now) event }
     requires facts { All (λ fact. IsSome (class_in standing.now.present.premises fact)) facts.now }
     requires few { length facts.now ≤ 4 }
-    ensures live { All (IsLive tree.now) result.items }
-    ensures first { map (moment_at tree.now) result.items ≡ filter_map (λ k. k) (supporters_for (built standing.now.present) (moment_at tree.now event) facts.now) }
+    ensures live { All (IsLive (forest tree.now)) result.items }
+    ensures first { map (moment_at (forest tree.now)) result.items ≡ filter_map (λ k. k) (supporters_for (built standing.now.present) (moment_at (forest tree.now) event) facts.now) }
 {
     let at = Spot::Node(event);
     let mut found = ArrayVec::new();

@@ -9,6 +9,7 @@ ghost use Rattle.spots.specs.Seen.{IsSeen, Holds};
 ghost use Rattle.spots.specs.Spots.{IsSpot, spot_moment};
 ghost use Rattle.justify.specs.Lines.{IsInOrder, AddsOrders, AddsReasons};
 ghost use Rattle.occ_tree.specs.Ranks.{nodes_of};
+ghost use Rattle.occ_tree.specs.Places.{forest};
 
 use crate::grounds::{Origin, origin_of, supports_at};
 use crate::walks::steps_between;
@@ -27,10 +28,10 @@ pub(crate) fn lines_of(
     net: &DistNet,
     ranked: &[Ranked<'_>],
 ) -> Result<Seq<WhyLine>, NoMemory>
-    requires seen { IsSeen standing.now.present net.now.present tree.now }
-    requires holds { Holds (built standing.now.present).believed tree.now }
-    requires live { All (IsLive tree.now) (nodes_of ranked.now) }
-    ensures { IfOk result (λ lines. AreReasons (built standing.now.present) (map (moment_at tree.now) (nodes_of ranked.now)) (map reason_of lines.items)) }
+    requires seen { IsSeen standing.now.present net.now.present (forest tree.now) }
+    requires holds { Holds (built standing.now.present).believed (forest tree.now) }
+    requires live { All (IsLive (forest tree.now)) (nodes_of ranked.now) }
+    ensures { IfOk result (λ lines. AreReasons (built standing.now.present) (map (moment_at (forest tree.now)) (nodes_of ranked.now)) (map reason_of lines.items)) }
 {
     let mut lines = Seq::make(alloc);
     for rank in ranked {
@@ -48,10 +49,10 @@ fn add_reasons(
     x: u32,
     lines: &mut Seq<WhyLine>,
 ) -> Result<(), NoMemory>
-    requires seen { IsSeen standing.now.present net.now.present tree.now }
-    requires holds { Holds (built standing.now.present).believed tree.now }
-    requires live { IsLive tree.now x }
-    ensures { OnOk result (AddsReasons (built standing.now.present) (moment_at tree.now x) lines.old.items lines.new.items) }
+    requires seen { IsSeen standing.now.present net.now.present (forest tree.now) }
+    requires holds { Holds (built standing.now.present).believed (forest tree.now) }
+    requires live { IsLive (forest tree.now) x }
+    ensures { OnOk result (AddsReasons (built standing.now.present) (moment_at (forest tree.now) x) lines.old.items lines.new.items) }
 {
     match origin_of(tree, x) {
         Origin::Declared(name) => push(lines, WhyLine::Premise(name)),
@@ -73,10 +74,10 @@ fn derived_line(
     event: u32,
     supports: &[u32],
 ) -> Result<WhyLine, NoMemory>
-    requires live { IsLive tree.now x }
-    requires event { IsLive tree.now event }
-    requires supports { All (IsLive tree.now) supports.now }
-    ensures { IfOk result (λ line. reason_of line ≡ by_rule (moment_at tree.now x) rule (moment_at tree.now event) (map (moment_at tree.now) supports.now)) }
+    requires live { IsLive (forest tree.now) x }
+    requires event { IsLive (forest tree.now) event }
+    requires supports { All (IsLive (forest tree.now)) supports.now }
+    ensures { IfOk result (λ line. reason_of line ≡ by_rule (moment_at (forest tree.now) x) rule (moment_at (forest tree.now) event) (map (moment_at (forest tree.now)) supports.now)) }
 {
     Ok(WhyLine::Derived {
         occ: tree.occ_of(alloc, x)?,
@@ -88,8 +89,8 @@ fn derived_line(
 
 // The occurrences of nodes.
 fn occs_of(alloc: Global, tree: &Tree, nodes: &[u32]) -> Result<Seq<Occ>, NoMemory>
-    requires { All (IsLive tree.now) nodes.now }
-    ensures { IfOk result (λ occs. map moment_of occs.items ≡ map (moment_at tree.now) nodes.now) }
+    requires { All (IsLive (forest tree.now)) nodes.now }
+    ensures { IfOk result (λ occs. map moment_of occs.items ≡ map (moment_at (forest tree.now)) nodes.now) }
 {
     let mut occs = Seq::make(alloc);
     for x in nodes {
@@ -111,11 +112,11 @@ fn add_orders(
     supports: &[u32],
     lines: &mut Seq<WhyLine>,
 ) -> Result<(), NoMemory>
-    requires seen { IsSeen standing.now.present net.now.present tree.now }
-    requires event { IsLive tree.now event }
-    requires supports { All (IsLive tree.now) supports.now }
-    requires in_order { All (λ x. All (IsInOrder (built standing.now.present)) (pairs_of (built standing.now.present) (moment_at tree.now event) (moment_at tree.now x))) supports.now }
-    ensures { OnOk result (AddsOrders (built standing.now.present) (flat_map (pairs_of (built standing.now.present) (moment_at tree.now event)) (map (moment_at tree.now) supports.now)) lines.old.items lines.new.items) }
+    requires seen { IsSeen standing.now.present net.now.present (forest tree.now) }
+    requires event { IsLive (forest tree.now) event }
+    requires supports { All (IsLive (forest tree.now)) supports.now }
+    requires in_order { All (λ x. All (IsInOrder (built standing.now.present)) (pairs_of (built standing.now.present) (moment_at (forest tree.now) event) (moment_at (forest tree.now) x))) supports.now }
+    ensures { OnOk result (AddsOrders (built standing.now.present) (flat_map (pairs_of (built standing.now.present) (moment_at (forest tree.now) event)) (map (moment_at (forest tree.now)) supports.now)) lines.old.items lines.new.items) }
 {
     for x in supports {
         add_orders_of(alloc, standing, tree, net, event, *x, lines)?;
@@ -134,11 +135,11 @@ fn add_orders_of(
     x: u32,
     lines: &mut Seq<WhyLine>,
 ) -> Result<(), NoMemory>
-    requires seen { IsSeen standing.now.present net.now.present tree.now }
-    requires event { IsLive tree.now event }
-    requires live { IsLive tree.now x }
-    requires in_order { All (IsInOrder (built standing.now.present)) (pairs_of (built standing.now.present) (moment_at tree.now event) (moment_at tree.now x)) }
-    ensures { OnOk result (AddsOrders (built standing.now.present) (pairs_of (built standing.now.present) (moment_at tree.now event) (moment_at tree.now x)) lines.old.items lines.new.items) }
+    requires seen { IsSeen standing.now.present net.now.present (forest tree.now) }
+    requires event { IsLive (forest tree.now) event }
+    requires live { IsLive (forest tree.now) x }
+    requires in_order { All (IsInOrder (built standing.now.present)) (pairs_of (built standing.now.present) (moment_at (forest tree.now) event) (moment_at (forest tree.now) x)) }
+    ensures { OnOk result (AddsOrders (built standing.now.present) (pairs_of (built standing.now.present) (moment_at (forest tree.now) event) (moment_at (forest tree.now) x)) lines.old.items lines.new.items) }
 {
     let at = Spot::Node(event);
     add_order(alloc, standing, tree, net, Spot::Node(x), at, lines)?;
@@ -158,11 +159,11 @@ fn add_order(
     second: Spot,
     lines: &mut Seq<WhyLine>,
 ) -> Result<(), NoMemory>
-    requires seen { IsSeen standing.now.present net.now.present tree.now }
-    requires first { IsSpot net.now.present.names tree.now first }
-    requires second { IsSpot net.now.present.names tree.now second }
-    requires in_order { IsInOrder (built standing.now.present) (spot_moment net.now.present.names tree.now first, spot_moment net.now.present.names tree.now second) }
-    ensures { OnOk result (AddsOrders (built standing.now.present) ((spot_moment net.now.present.names tree.now first, spot_moment net.now.present.names tree.now second) ∷ []) lines.old.items lines.new.items) }
+    requires seen { IsSeen standing.now.present net.now.present (forest tree.now) }
+    requires first { IsSpot net.now.present.names (forest tree.now) first }
+    requires second { IsSpot net.now.present.names (forest tree.now) second }
+    requires in_order { IsInOrder (built standing.now.present) (spot_moment net.now.present.names (forest tree.now) first, spot_moment net.now.present.names (forest tree.now) second) }
+    ensures { OnOk result (AddsOrders (built standing.now.present) ((spot_moment net.now.present.names (forest tree.now) first, spot_moment net.now.present.names (forest tree.now) second) ∷ []) lines.old.items lines.new.items) }
 {
     push(
         lines,
@@ -179,11 +180,11 @@ fn order_line(
     first: Spot,
     second: Spot,
 ) -> Result<WhyLine, NoMemory>
-    requires seen { IsSeen standing.now.present net.now.present tree.now }
-    requires first { IsSpot net.now.present.names tree.now first }
-    requires second { IsSpot net.now.present.names tree.now second }
-    requires in_order { IsInOrder (built standing.now.present) (spot_moment net.now.present.names tree.now first, spot_moment net.now.present.names tree.now second) }
-    ensures { IfOk result (λ line. IsOrderLine (built standing.now.present) (spot_moment net.now.present.names tree.now first, spot_moment net.now.present.names tree.now second) (reason_of line)) }
+    requires seen { IsSeen standing.now.present net.now.present (forest tree.now) }
+    requires first { IsSpot net.now.present.names (forest tree.now) first }
+    requires second { IsSpot net.now.present.names (forest tree.now) second }
+    requires in_order { IsInOrder (built standing.now.present) (spot_moment net.now.present.names (forest tree.now) first, spot_moment net.now.present.names (forest tree.now) second) }
+    ensures { IfOk result (λ line. IsOrderLine (built standing.now.present) (spot_moment net.now.present.names (forest tree.now) first, spot_moment net.now.present.names (forest tree.now) second) (reason_of line)) }
 {
     let bound = tree.far(net, second, first);
     let steps = steps_between(alloc, standing, tree, net, second, first, bound)?;
@@ -200,8 +201,8 @@ fn order_line(
 
 // A spot as a question names it.
 fn point_at(alloc: Global, tree: &Tree, net: &DistNet, spot: Spot) -> Result<QueryPoint, NoMemory>
-    requires { IsSpot net.now.present.names tree.now spot }
-    ensures { IfOk result (λ point. moment_of_point point ≡ spot_moment net.now.present.names tree.now spot) }
+    requires { IsSpot net.now.present.names (forest tree.now) spot }
+    ensures { IfOk result (λ point. moment_of_point point ≡ spot_moment net.now.present.names (forest tree.now) spot) }
 {
     match spot {
         Spot::Declared(p) => Ok(QueryPoint::Declared(net.name_of(p).unwrap_or(PointName::Start))),

@@ -7,6 +7,7 @@ ghost use Rattle.tmm_model.specs.Questions.{why_cause};
 ghost use Rattle.tmm_model.specs.Reasons.{IsWhy, reason_of};
 ghost use Rattle.spots.specs.Forest.{IsLive, moment_at};
 ghost use Rattle.spots.specs.Seen.{IsSeen, Holds};
+ghost use Rattle.occ_tree.specs.Places.{forest};
 ghost use Rattle.justify.specs.Stops.{StopsReasons};
 
 use crate::lines::lines_of;
@@ -28,8 +29,8 @@ pub fn why(
     tree: &Tree,
     occ: &Occ,
 ) -> Result<Seq<WhyLine>, Stop>
-    requires seen { IsSeen standing.now.present net.now.present tree.now }
-    requires holds { Holds (built standing.now.present).believed tree.now }
+    requires seen { IsSeen standing.now.present net.now.present (forest tree.now) }
+    requires holds { Holds (built standing.now.present).believed (forest tree.now) }
     requires well_formed { IsWellFormedOcc occ.now }
     ensures known { IfOk result (λ lines. why_cause (built standing.now.present) occ.now occ.now.rules.items ≡ None) }
     ensures reasons { IfOk result (λ lines. IsWhy (built standing.now.present) (moment_of occ.now) (map reason_of lines.items)) }
@@ -50,10 +51,10 @@ fn reasons_of(
     net: &DistNet,
     x: u32,
 ) -> Result<Seq<WhyLine>, NoMemory>
-    requires seen { IsSeen standing.now.present net.now.present tree.now }
-    requires holds { Holds (built standing.now.present).believed tree.now }
-    requires live { IsLive tree.now x }
-    ensures { IfOk result (λ lines. IsWhy (built standing.now.present) (moment_at tree.now x) (map reason_of lines.items)) }
+    requires seen { IsSeen standing.now.present net.now.present (forest tree.now) }
+    requires holds { Holds (built standing.now.present).believed (forest tree.now) }
+    requires live { IsLive (forest tree.now) x }
+    ensures { IfOk result (λ lines. IsWhy (built standing.now.present) (moment_at (forest tree.now) x) (map reason_of lines.items)) }
 {
     let found = upholders(alloc, standing, tree, net, x)?;
     let ranked = in_order(alloc, tree, net, found.as_slice())?;

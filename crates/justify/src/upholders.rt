@@ -4,6 +4,7 @@ ghost use Rattle.tmm_model.specs.Maps.{built};
 ghost use Rattle.indexmap.specs.IndexSet.{insert_key, insert_all};
 ghost use Rattle.spots.specs.Forest.{IsLive};
 ghost use Rattle.spots.specs.Seen.{IsSeen, Holds};
+ghost use Rattle.occ_tree.specs.Places.{forest};
 ghost use Rattle.justify.specs.Grounds.{AddsGrounds, AreUpholders};
 
 use crate::grounds::{Origin, origin_of, supports_at};
@@ -22,10 +23,10 @@ pub(crate) fn upholders(
     net: &DistNet,
     x: u32,
 ) -> Result<IndexSet<u32>, NoMemory>
-    requires seen { IsSeen standing.now.present net.now.present tree.now }
-    requires holds { Holds (built standing.now.present).believed tree.now }
-    requires live { IsLive tree.now x }
-    ensures { IfOk result (λ found. AreUpholders (built standing.now.present) tree.now x found.keys) }
+    requires seen { IsSeen standing.now.present net.now.present (forest tree.now) }
+    requires holds { Holds (built standing.now.present).believed (forest tree.now) }
+    requires live { IsLive (forest tree.now) x }
+    ensures { IfOk result (λ found. AreUpholders (built standing.now.present) (forest tree.now) x found.keys) }
 {
     let mut found = IndexSet::new(alloc);
     add(&mut found, x)?;
@@ -46,10 +47,10 @@ fn add_grounds(
     x: u32,
     found: &mut IndexSet<u32>,
 ) -> Result<(), NoMemory>
-    requires seen { IsSeen standing.now.present net.now.present tree.now }
-    requires holds { Holds (built standing.now.present).believed tree.now }
-    requires live { IsLive tree.now x }
-    ensures { OnOk result (AddsGrounds (built standing.now.present) tree.now x found.old.keys found.new.keys) }
+    requires seen { IsSeen standing.now.present net.now.present (forest tree.now) }
+    requires holds { Holds (built standing.now.present).believed (forest tree.now) }
+    requires live { IsLive (forest tree.now) x }
+    ensures { OnOk result (AddsGrounds (built standing.now.present) (forest tree.now) x found.old.keys found.new.keys) }
 {
     match origin_of(tree, x) {
         Origin::Declared(_) => Ok(()),

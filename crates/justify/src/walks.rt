@@ -4,6 +4,7 @@ ghost use Rattle.tmm_model.specs.Maps.{built, gap};
 ghost use Rattle.tmm_model.specs.Paths.{WalksIf};
 ghost use Rattle.spots.specs.Seen.{IsSeen};
 ghost use Rattle.spots.specs.Spots.{IsSpot, spot_moment, base_of};
+ghost use Rattle.occ_tree.specs.Places.{forest};
 
 use dist_net::DistNet;
 use neg_cycle::walk;
@@ -24,11 +25,11 @@ pub fn steps_between(
     to: Spot,
     far: Bound,
 ) -> Result<Seq<WalkStep>, NoMemory>
-    requires seen { IsSeen standing.now.present net.now.present tree.now }
-    requires from { IsSpot net.now.present.names tree.now from }
-    requires to { IsSpot net.now.present.names tree.now to }
-    requires far { far ≡ gap (built standing.now.present) (spot_moment net.now.present.names tree.now from) (spot_moment net.now.present.names tree.now to) }
-    ensures { IfOk result (λ steps. WalksIf (built standing.now.present) (spot_moment net.now.present.names tree.now from) (spot_moment net.now.present.names tree.now to) far steps.items) }
+    requires seen { IsSeen standing.now.present net.now.present (forest tree.now) }
+    requires from { IsSpot net.now.present.names (forest tree.now) from }
+    requires to { IsSpot net.now.present.names (forest tree.now) to }
+    requires far { far ≡ gap (built standing.now.present) (spot_moment net.now.present.names (forest tree.now) from) (spot_moment net.now.present.names (forest tree.now) to) }
+    ensures { IfOk result (λ steps. WalksIf (built standing.now.present) (spot_moment net.now.present.names (forest tree.now) from) (spot_moment net.now.present.names (forest tree.now) to) far steps.items) }
 {
     match far {
         Bound::Free => Ok(Seq::make(alloc)),
@@ -45,8 +46,8 @@ pub fn steps_between(
 
 // The number of the declared point from which rules lead to a spot.
 fn base_point(tree: &Tree, net: &DistNet, spot: Spot) -> u16
-    requires { IsSpot net.now.present.names tree.now spot }
-    ensures { result ≡ base_of tree.now spot }
+    requires { IsSpot net.now.present.names (forest tree.now) spot }
+    ensures { result ≡ base_of (forest tree.now) spot }
 {
     match spot {
         Spot::Declared(p) => p,

@@ -53,7 +53,7 @@ high_from_sums s ls is = (λ i. high_of (is.bounded i) (is.unbounded i)) ∙ sym
 abbrev pub IsUpTo : ℕ → ℤ → Type 0
 IsUpTo m x = (pos 0 ≤ℤ x) × (x ≤ℤ pos m)
 
-low_within : (ls : List Link) → All IsLight ls → IsUpTo (1000000000 * length ls) (links_low ls)
+pub low_within : (ls : List Link) → All IsLight ls → IsUpTo (1000000000 * length ls) (links_low ls)
 low_within [] light = (omega (arith, ints), omega (arith, ints))
 low_within (l ∷ ls) light =
     let one = All-head IsLight l ls light in

@@ -17,17 +17,17 @@ use Rattle.kept_tree.proofs.Placing.{have_parents, extends_new, placed_new}
 use Rattle.kept_tree.proofs.Grown.{node_at, no_node_at, row_new, row_other}
 use Rattle.kept_tree.proofs.Effects.{above_of, member_at, way_below, way_root}
 
-head_for-one : (p q : Option ℕ) → head_for p ≡ head_for q → p ≡ q
+pub head_for-one : (p q : Option ℕ) → head_for p ≡ head_for q → p ≡ q
 head_for-one None None same = refl
 head_for-one None (Some y) same = absurd (omega (arith, same))
 head_for-one (Some x) None same = absurd (omega (arith, same))
 head_for-one (Some x) (Some y) same = let is : x ≡ y = omega (arith, same) in ap (λ z. Some z) is
 
 module _ (t new : Table Node 1) (x : ℕ) (n : Node) (free : t.row x ≡ None) (is : new ≡ with_new t x (new_row (Some (head_for (parent_of n)) ∷ []) n)) where
-  node_new : nodes_in new x ≡ Some n
+  pub node_new : nodes_in new x ≡ Some n
   node_new = node_at new x (new_row (Some (head_for (parent_of n)) ∷ []) n) (row_new t new x n free is)
 
-  node_other : (y : ℕ) → y ≢ x → nodes_in new y ≡ nodes_in t y
+  pub node_other : (y : ℕ) → y ≢ x → nodes_in new y ≡ nodes_in t y
   node_other y other = ap (option_map (λ (q : Row Node 1). q.value)) (row_other t new x n free is y other)
 
   extends : Extends (nodes_in t) (nodes_in new)

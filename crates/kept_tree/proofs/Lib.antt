@@ -10,3 +10,13 @@ pub mod Ranking
 pub mod InOrder
 pub mod TokenLists
 pub mod Numbered
+pub mod Keeping
+pub mod Entered
+pub mod OnWays
+pub mod Gathering
+pub mod Listed
+pub mod Fewer
+pub mod TokensOut
+pub mod Beneath
+pub mod Gone
+pub mod Moved

@@ -73,7 +73,7 @@ module _ (node : Nodes) (placed : ArePlaced node) where
       let one : x ≡ y = placed.apart x y m n m_at n_at (m_above ∙ sym n_above) (sym (name_of node x m m_at) ∙ cut.0 ∙ name_of node y n n_at) in
       (λ i. one i ∷ one_tail (Some x) u v down_u (subst (λ z. LeadsDown node (Some z) v) (sym one) down_v) cut.1 i)
 
-  one_word : (x y : ℕ) → IsSome (node x) → IsSome (node y) → word_in node x ≡ word_in node y → x ≡ y
+  pub one_word : (x y : ℕ) → IsSome (node x) → IsSome (node y) → word_in node x ≡ word_in node y → x ≡ y
   one_word x y x_live y_live same =
       let (m, m_at) = some_node node x x_live in
       let (n, n_at) = some_node node y y_live in

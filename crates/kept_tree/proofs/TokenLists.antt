@@ -64,7 +64,7 @@ rows_of node lists out t k = record {
   in_order = t.in_order k;
 }
 
-drop-map-own : {X Y : Type 0} (f : X → Y) (n : ℕ) (xs : List X) → drop n (map f xs) ≡ map f (drop n xs)
+pub drop-map-own : {X Y : Type 0} (f : X → Y) (n : ℕ) (xs : List X) → drop n (map f xs) ≡ map f (drop n xs)
 drop-map-own f zero xs = refl
 drop-map-own f (suc n) [] = refl
 drop-map-own f (suc n) (x ∷ xs) = drop-map-own f n xs
@@ -72,24 +72,24 @@ drop-map-own f (suc n) (x ∷ xs) = drop-map-own f n xs
 map-insert : {X Y : Type 0} (f : X → Y) (xs : List X) (i : ℕ) (x : X) → map f (insert xs i x) ≡ insert (map f xs) i (f x)
 map-insert f xs i x = map-append f (take i xs) (x ∷ drop i xs) ∙ (λ j. sym (take-map f i xs) j ++ f x ∷ sym (drop-map-own f i xs) j)
 
-with_list-same : (lists : ℕ → List (TokenRow Spot)) (k : ℕ) (rows : List (TokenRow Spot)) → with_list lists k rows k ≡ rows
+pub with_list-same : (lists : ℕ → List (TokenRow Spot)) (k : ℕ) (rows : List (TokenRow Spot)) → with_list lists k rows k ≡ rows
 with_list-same lists k rows = cond-true (eqb k k) rows (lists k) (eq-eqb k k refl)
 
-with_list-other : (lists : ℕ → List (TokenRow Spot)) (k : ℕ) (rows : List (TokenRow Spot)) (m : ℕ) → m ≢ k → with_list lists k rows m ≡ lists m
+pub with_list-other : (lists : ℕ → List (TokenRow Spot)) (k : ℕ) (rows : List (TokenRow Spot)) (m : ℕ) → m ≢ k → with_list lists k rows m ≡ lists m
 with_list-other lists k rows m other = cond-false (eqb m k) rows (lists m) (ne_eqb m k other)
 
 -- what holds of the new list and of all others holds of all
-each_list : (P : ℕ → List (TokenRow Spot) → Type 0) (lists : ℕ → List (TokenRow Spot)) (k : ℕ) (rows : List (TokenRow Spot)) → P k rows → ((m : ℕ) → m ≢ k → P m (lists m)) → (m : ℕ) → P m (with_list lists k rows m)
+pub each_list : (P : ℕ → List (TokenRow Spot) → Type 0) (lists : ℕ → List (TokenRow Spot)) (k : ℕ) (rows : List (TokenRow Spot)) → P k rows → ((m : ℕ) → m ≢ k → P m (lists m)) → (m : ℕ) → P m (with_list lists k rows m)
 each_list P lists k rows own others m = elim (cases_eq m k) [
   | inl same ↦ subst (λ z. P z (with_list lists k rows z)) (sym same) (subst (P k) (sym (with_list-same lists k rows)) own)
   | inr other ↦ subst (P m) (sym (with_list-other lists k rows m other)) (others m other)
 ]
 
 module _ (node : Nodes) (lists : ℕ → List (TokenRow Spot)) (out : List ℕ) (x : ℕ) (n : Node) (at : node x ≡ Some n) where
-  only_list : (k m : ℕ) → n.list ≡ Some k → HasList node x m → m ≡ k
+  pub only_list : (k m : ℕ) → n.list ≡ Some k → HasList node x m → m ≡ k
   only_list k m list (q, q_at, q_list) = let both : Some n ≡ Some q = sym at ∙ q_at in let same : n ≡ q = cc in let lists_same : Some m ≡ Some k = sym q_list ∙ ap (λ (z : Node). z.list) (sym same) ∙ list in cc
 
-  no_list : (m : ℕ) → n.list ≡ None → HasList node x m → ⊥
+  pub no_list : (m : ℕ) → n.list ≡ None → HasList node x m → ⊥
   no_list m none (q, q_at, q_list) = let both : Some n ≡ Some q = sym at ∙ q_at in let same : n ≡ q = cc in let lists_same : Some m ≡ None = sym q_list ∙ ap (λ (z : Node). z.list) (sym same) ∙ none in cc
 
   -- an event is on no list

@@ -71,3 +71,13 @@ pub record IsTrigger (f : Forest) (m : Member) (rule : List ℕ) : Type 0 where
 -- each occurrence has one number
 abbrev pub IsOnce : Forest → Type 0
 IsOnce f = (x y : ℕ) (m n : Member) → f x ≡ Some m → f y ≡ Some n → moment m ≡ moment n → x ≡ y
+
+-- node y is node x or below it: its root is that of x, and its rules begin with those of x
+pub record IsBelow (f : Forest) (x y : ℕ) : Type 0 where
+  pub above : Member
+  pub below : Member
+  pub above_at : f x ≡ Some above
+  pub below_at : f y ≡ Some below
+  pub root : below.root ≡ above.root
+  pub rest : List (List ℕ)
+  pub rules : rules_of below ≡ rules_of above ++ rest

@@ -3,9 +3,10 @@ pub mod Spots
 pub mod Light
 pub mod Sums
 pub mod Nodes
+pub mod Words
+pub mod Classes
+pub mod Tokens
 pub mod Standing
+pub mod Below
 pub mod Edits
 pub mod Ends
-pub mod Words
-pub mod Tokens
-pub mod Classes

@@ -1,10 +1,11 @@
 -- The tokens of each class, in the order of occurrences.
-use Rattle.std.specs.Prelude.{◌≡◌, ◌≢◌, ℕ, ◌≤◌, ◌↔◌, List, [], ◌∷◌, map, take, drop, length, Option, Some, None, IsSome}
+use Rattle.std.specs.Prelude.{◌≡◌, ◌≢◌, ℕ, ◌<◌, ◌≤◌, ◌↔◌, List, [], ◌∷◌, map, take, drop, length, Option, Some, None, IsSome}
 use Rattle.std.specs.Option.{option_map, option_map_or}
 use Rattle.std.specs.List.{All, Contains}
 use Rattle.std.specs.declared.cmp.Ordering.{Ordering}
 use Rattle.std.specs.declared.cmp.Ordering.TheVariants.{Less}
 use Rattle.row_links.specs.Lists.{IsOn}
+use Rattle.undo_lists.specs.Changes.{Logged, present, rooms}
 use Rattle.tmm_model.specs.declared.token.TokenRow.{TokenRow}
 use Rattle.kept_tree.specs.declared.node.Node.{Node}
 use Rattle.kept_tree.specs.declared.spot.Spot.{Spot}
@@ -62,6 +63,10 @@ pub record IsPlaceFor (cmp : ℕ → ℕ → Ordering) (xs : List ℕ) (x i : �
 -- the node is a token of the class of this small number
 abbrev pub HasList : Nodes → ℕ → ℕ → Type 0
 HasList node x k = (n : Node) × (node x ≡ Some n) × (n.list ≡ Some k)
+
+-- the list has room for a token more, and so has the log for a change
+abbrev pub HasRoom : Logged (TokenRow Spot) → ℕ → Type 0
+HasRoom tokens k = (length (present tokens k) < rooms tokens k) × (0 < tokens.spare)
 
 -- the lists are of the tokens of each class but those of some nodes, in the order of their nodes
 pub record AreTokensBut (node : Nodes) (lists : ℕ → List (TokenRow Spot)) (out : List ℕ) : Type 0 where

@@ -1,6 +1,6 @@
 // Classes under small numbers.
-ghost use Rattle.std.specs.Prelude.{◌≡◌, ℕ, List, [], Some, None, IfOk};
-ghost use Rattle.kept_tree.specs.Classes.{place_in};
+ghost use Rattle.std.specs.Prelude.{◌≡◌, [], Some, None, IfOk};
+ghost use Rattle.kept_tree.specs.Classes.{place_in, HaveMore};
 
 use indexmap::IndexSet;
 use std::alloc::Global;
@@ -40,11 +40,11 @@ impl Classes {
         Some(self.names.get_index_of(class)? as u32)
     }
 
-    // The number of a class, which is new where it has none. Those of others stay, also without memory; it
-    // counts as want of memory that a number would be 2^32 - 1 or more.
+    // The number of a class, which is the next one where it has none. Those of others stay, also without
+    // memory; it counts as want of memory that a number would be 2^32 - 1 or more.
     pub(crate) fn enter(&mut self, class: Name) -> Result<u32, NoMemory>
         ensures entered { IfOk result (λ k. place_in self.new class ≡ Some k) }
-        ensures kept { (other : List ℕ) (k : ℕ) → place_in self.old other ≡ Some k → place_in self.new other ≡ Some k }
+        ensures more { HaveMore self.old self.new }
     {
         match self.find(&class) {
             Some(k) => Ok(k),
@@ -52,11 +52,20 @@ impl Classes {
         }
     }
 
+    // The same classes, for more of their own. It takes memory.
+    pub(crate) fn copy(&self) -> Result<Classes, NoMemory>
+        ensures { IfOk result (λ copy. copy ≡ self.now) }
+    {
+        Ok(Classes {
+            names: self.names.clone()?,
+        })
+    }
+
     // Gives a class that has none the next number.
     fn push(&mut self, class: Name) -> Result<u32, NoMemory>
         requires { place_in self.old class ≡ None }
         ensures entered { IfOk result (λ k. place_in self.new class ≡ Some k) }
-        ensures kept { (other : List ℕ) (k : ℕ) → place_in self.old other ≡ Some k → place_in self.new other ≡ Some k }
+        ensures more { HaveMore self.old self.new }
     {
         let k = self.names.len();
         if k >= u32::MAX as usize {

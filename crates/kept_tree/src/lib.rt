@@ -2,7 +2,10 @@
 //! each event what rules lead to from it.
 #![tactic(auto)]
 
+mod below;
 mod classes;
+mod dating;
+mod leaving;
 mod node;
 mod nodes;
 mod spot;

@@ -1,5 +1,5 @@
 // Nodes with the lists of their children.
-ghost use Rattle.std.specs.Prelude.{◌≡◌, ◌≢◌, ℕ, Option, ◌+◌, ◌<◌, [], ◌∷◌, length, None, Some, IsSome, IfSome, IfOk, OnOk, OnErr, IsTrue, ◌↔◌};
+ghost use Rattle.std.specs.Prelude.{◌≡◌, ◌≢◌, ℕ, Option, ◌+◌, ◌<◌, ◌≤◌, [], ◌∷◌, length, None, Some, IsSome, IfSome, IfOk, OnOk, OnErr, IsTrue, ◌↔◌};
 ghost use Rattle.row_links.specs.Lists.{IsOn, first_or, row_after};
 ghost use Rattle.undo_rows.specs.Tables.{AreListed};
 ghost use Rattle.tmm_model.specs.Bounds.{IsWithin};
@@ -12,7 +12,8 @@ ghost use Rattle.std.specs.Cmp.Lexicographic.{slice_cmp};
 ghost use Rattle.ancestors.specs.Ways.{shared_front};
 ghost use Rattle.kept_tree.specs.Words.{word_in, node_cmp, piece_at};
 ghost use Rattle.kept_tree.specs.Standing.{nodes_in, siblings_in, head_for, present_rows, committed_rows, IsStanding};
-ghost use Rattle.kept_tree.specs.Edits.{Adds, Keeps};
+ghost use Rattle.kept_tree.specs.Edits.{Adds, Keeps, Takes, Dates};
+ghost use Rattle.kept_tree.specs.Below.{IsRightBelow};
 
 use crate::node::{Above, Node};
 use crate::spot::Link;
@@ -68,6 +69,42 @@ impl Nodes {
         let x = self.rows.add(alloc, [Some(head)], node)?;
         self.limit = self.limit.max(x + 1);
         Ok(x)
+    }
+
+    // Makes room for so many changes, of which taking a node out is two. The nodes stay, also where there is
+    // no memory.
+    pub(crate) fn reserve(&mut self, alloc: Global, changes: usize) -> Result<(), NoMemory>
+        ensures ok { OnOk result (changes ≤ self.new.rows.spare) }
+        ensures keeps { Keeps self.old self.new }
+    {
+        let _ = &self.limit;
+        self.rows.reserve(alloc, changes)
+    }
+
+    // Takes a node out that has nothing below it. It takes no memory.
+    pub(crate) fn take(&mut self, x: u32)
+        requires live { IsSome (nodes_in (present_rows self.old) x) }
+        requires leaf { (y : ℕ) → IsRightBelow (nodes_in (present_rows self.old)) x y → ⊥ }
+        requires spare { 2 ≤ self.old.rows.spare }
+        ensures taken { Takes self.old self.new x }
+        ensures spare { self.old.rows.spare ≤ self.new.rows.spare + 2 }
+    {
+        let _ = &self.limit;
+        self.rows.remove_reserved(x);
+    }
+
+    // Gives a node the date that follows from this one of its root. It takes no memory.
+    pub(crate) fn date(&mut self, x: u32, root_date: i64)
+        requires live { IsSome (nodes_in (present_rows self.old) x) }
+        requires date { IsWithin 1000000000000 root_date }
+        requires spare { 0 < self.old.rows.spare }
+        ensures dated { Dates self.old self.new x root_date }
+        ensures spare { self.old.rows.spare ≤ self.new.rows.spare + 1 }
+    {
+        let _ = &self.limit;
+        let mut node = *self.rows.get(x);
+        node.early = root_date + node.sums.low;
+        self.rows.set_reserved(x, node);
     }
 
     // A declared event, token or span, as a node that is to come.
@@ -230,7 +267,8 @@ impl Nodes {
 
     // A number above those of all nodes.
     pub(crate) fn limit(&self) -> u32
-        ensures { (x : ℕ) → IsSome (nodes_in (present_rows self.now) x) → x < result }
+        ensures above { (x : ℕ) → IsSome (nodes_in (present_rows self.now) x) → x < result }
+        ensures stands { IsStanding self.now.limit (present_rows self.now) }
     {
         self.limit
     }
@@ -252,6 +290,16 @@ impl Nodes {
         // each node is on the list of its parent
         let _ = self.rows.first(0, 0);
         self.rows.next(0, x)
+    }
+
+    // The same nodes, and the same last commit, for changes of their own. It takes memory.
+    pub(crate) fn copy(&self, alloc: Global) -> Result<Nodes, NoMemory>
+        ensures { IfOk result (Keeps self.now) }
+    {
+        Ok(Nodes {
+            rows: self.rows.copy(alloc)?,
+            limit: self.limit,
+        })
     }
 
     // Makes the nodes those of the last commit. It takes no memory.

@@ -1,32 +1,43 @@
 // The tree of occurrences.
-ghost use Rattle.std.specs.Prelude.{◌≡◌, ◌≢◌, ℕ, [], ◌<◌, Option, pos, ◌+ℤ◌, ◌≤ℤ◌, None, Some, IsSome, IfOk, OnOk, OnErr, IfSome, IsTrue, ◌↔◌};
+ghost use Rattle.std.specs.Prelude.{◌≡◌, ◌≢◌, ℕ, List, [], ◌<◌, Option, pos, ◌+ℤ◌, ◌≤ℤ◌, None, Some, IsSome, IfOk, OnOk, OnErr, IfSome, IsTrue, ◌↔◌};
 ghost use Rattle.row_links.specs.Lists.{first_or, row_after};
 ghost use Rattle.tmm_model.specs.Bounds.{IsWithin};
 ghost use Rattle.tmm_model.specs.Lines.{IsNumber, IsBound, IsRange};
 ghost use Rattle.tmm_model.specs.Names.{is_name};
 ghost use Rattle.tmm_model.specs.declared.bound.Bound.TheVariants.{Finite};
 ghost use Rattle.kept_tree.specs.Forest.{Member, IsLive, root_member, child_member, IsNoRoot, HasClass, HasEnd, IsTrigger};
-ghost use Rattle.kept_tree.specs.Standing.{present, committed, forest, early, below, IsChildOf};
-ghost use Rattle.kept_tree.specs.Edits.{Enters, Stays};
+ghost use Rattle.kept_tree.specs.Standing.{present, committed, forest, early, below, IsChildOf, order};
+ghost use Rattle.kept_tree.specs.Tokens.{AreTokens, IsInOrder, numbers_in};
+ghost use Rattle.kept_tree.specs.Edits.{Enters, Withdraws, ReDates, Stays};
 
+use crate::classes::Classes;
+use crate::dating::date_all;
+use crate::leaving::{leave_all, room_below};
 use crate::nodes::Nodes;
-use crate::spot::Link;
+use crate::spot::{Link, Spot};
+use crate::tokens::{Tokens, enter, number_for};
 use std::alloc::Global;
 use std::marker::Model;
-use tmm_model::{Bound, Name, NoMemory, Shape};
+use tmm_model::{Bound, Name, NoMemory, Shape, TokenRow};
+use undo_lists::Lists;
 
 /// Occurrences under numbers, now and at the last commit.
 #[derive(Drop)]
 pub struct Tree {
     nodes: Nodes,
+    classes: Classes,
+    // those of a class stand under its number
+    tokens: Tokens,
 }
 
 impl Model for Tree {
-    ghost use Rattle.kept_tree.specs.Standing.{Kept};
+    ghost use Rattle.kept_tree.specs.Standing.{Kept, IsTree};
 
     ghost Value = { Kept };
 
-    ghost view = { λ t. record { nodes = t.nodes } };
+    ghost view = { λ t. record { nodes = t.nodes; classes = t.classes; tokens = t.tokens } };
+
+    ghost invariant = { λ t. IsTree t.nodes t.classes t.tokens };
 }
 
 impl Tree {
@@ -34,10 +45,13 @@ impl Tree {
     pub fn make(alloc: Global) -> Tree
         ensures none { (x : ℕ) → forest (present result) x ≡ None }
         ensures lists { (parent : Option ℕ) → below (present result) parent ≡ [] }
+        ensures tokens { (class : List ℕ) → (present result).tokens class ≡ [] }
         ensures committed { committed result ≡ present result }
     {
         Tree {
             nodes: Nodes::make(alloc),
+            classes: Classes::make(alloc),
+            tokens: Lists::make(alloc),
         }
     }
 
@@ -64,10 +78,11 @@ impl Tree {
         ensures ok { IfOk result (λ x. Enters self.old self.new x (root_member name begin end what class shape) None early) }
         ensures err { OnErr result (Stays self.old self.new) }
     {
+        let list = number_for(alloc, &mut self.classes, &mut self.tokens, &class)?;
         let node = self
             .nodes
-            .root(name, begin, end, what, class, None, shape, early);
-        let x = self.nodes.add(alloc, node)?;
+            .root(name, begin, end, what, class, list, shape, early);
+        let x = enter(alloc, &mut self.nodes, &mut self.tokens, node)?;
         Ok(x)
     }
 
@@ -94,10 +109,36 @@ impl Tree {
         ensures ok { IfOk result (λ x. (m : Member) → forest (present self.old) parent ≡ Some m → Enters self.old self.new x (child_member m (record { rule = rule; lo = lo; hi = hi }) what class shape) (Some parent) (early (present self.old) parent +ℤ lo)) }
         ensures err { OnErr result (Stays self.old self.new) }
     {
+        let list = number_for(alloc, &mut self.classes, &mut self.tokens, &class)?;
         let link = Link { rule, lo, hi };
-        let node = self.nodes.effect(parent, &link, what, class, None, shape);
-        let x = self.nodes.add(alloc, node)?;
+        let node = self.nodes.effect(parent, &link, what, class, list, shape);
+        let x = enter(alloc, &mut self.nodes, &mut self.tokens, node)?;
         Ok(x)
+    }
+
+    /// Takes a node out with all below it. Their numbers are free again after the next commit. Without
+    /// memory nothing has changed.
+    pub fn withdraw(&mut self, alloc: Global, x: u32) -> Result<(), NoMemory>
+        requires { IsLive (forest (present self.old)) x }
+        ensures ok { OnOk result (Withdraws self.old self.new x) }
+        ensures err { OnErr result (Stays self.old self.new) }
+    {
+        let numbers = room_below(alloc, &mut self.nodes, &mut self.tokens, x)?;
+        leave_all(&mut self.nodes, &mut self.tokens, numbers);
+        Ok(())
+    }
+
+    /// Gives a root another earliest date, in whole time units. All below it keep their distances from it,
+    /// and the tokens of each class are in the order of nodes again. Without memory nothing has changed.
+    pub fn re_date(&mut self, alloc: Global, root: u32, date: i64) -> Result<(), NoMemory>
+        requires root { (m : Member) × (forest (present self.old) root ≡ Some m) × (m.links ≡ []) }
+        requires date { IsWithin 1000000000000 date }
+        ensures ok { OnOk result (ReDates self.old self.new root date) }
+        ensures err { OnErr result (Stays self.old self.new) }
+    {
+        let numbers = room_below(alloc, &mut self.nodes, &mut self.tokens, root)?;
+        date_all(&mut self.nodes, &mut self.tokens, numbers.as_slice(), date);
+        Ok(())
     }
 
     /// Whether the number is of a node.
@@ -146,20 +187,48 @@ impl Tree {
         self.nodes.next(x)
     }
 
+    /// The tokens of a class, in the order of their earliest dates, and of the bytes of their words where
+    /// these are one.
+    pub fn tokens(&self, class: &Name) -> &[TokenRow<Spot>]
+        ensures list { result.now ≡ (present self.now).tokens class.now }
+        ensures tokens { AreTokens (forest (present self.now)) class.now result.now }
+        ensures in_order { IsInOrder (order (present self.now)) (numbers_in result.now) }
+    {
+        // each node stands where it says
+        let _ = self.nodes.limit();
+        match self.classes.find(class) {
+            Some(number) => self.tokens.list(number),
+            None => &[],
+        }
+    }
+
+    /// The same tree, and the same last commit, for changes of its own. It takes memory.
+    pub fn copy(&self, alloc: Global) -> Result<Tree, NoMemory>
+        ensures { IfOk result (Stays self.now) }
+    {
+        Ok(Tree {
+            nodes: self.nodes.copy(alloc)?,
+            classes: self.classes.copy()?,
+            tokens: self.tokens.copy(alloc)?,
+        })
+    }
+
     /// Makes the tree that of the last commit. It takes no memory.
     pub fn commit(&mut self)
         ensures present { present self.new ≡ present self.old }
         ensures committed { committed self.new ≡ present self.old }
     {
         self.nodes.commit();
+        self.tokens.commit();
     }
 
-    /// Makes the tree, with the orders of what is below each node, that of the last commit again. It takes
-    /// no memory.
+    /// Makes the tree, with the orders of what is below each node and of the tokens of each class, that of
+    /// the last commit again. It takes no memory.
     pub fn rollback(&mut self)
         ensures present { present self.new ≡ committed self.old }
         ensures committed { committed self.new ≡ committed self.old }
     {
         self.nodes.rollback();
+        self.tokens.rollback();
     }
 }

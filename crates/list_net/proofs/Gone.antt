@@ -1,8 +1,8 @@
 -- The names that an erasure answers are those of the premises that no longer stand.
 use Rattle.std.proofs.Common.{◌≡◌, ◌∙◌, ℕ, Bool, true, false, not, List, ap, sym, subst, refl, map, Option, Some, None}
-use Rattle.std.specs.List.{All, Contains, list_any}
+use Rattle.std.specs.List.{Contains, list_any}
 use Rattle.std.specs.Option.{is_some, is_none}
-use Rattle.std.proofs.lemmas.Bool.{false≢true, false_from_ne_true}
+use Rattle.std.proofs.lemmas.Bool.{false_from_ne_true}
 use Rattle.std.proofs.lemmas.List.Elements.{All-contains}
 use Rattle.tmm_model.specs.declared.premise.Premise.{Premise}
 use Rattle.tmm_model.specs.declared.walk.WalkStep.{WalkStep}

@@ -1,2 +1,5 @@
 mod Told
 mod Rows
+mod Elsewhere
+mod Unmoved
+mod NetMaps

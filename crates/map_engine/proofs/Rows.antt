@@ -1,8 +1,7 @@
 -- The rows of a map are the believed occurrences in order.
 use Rattle.std.proofs.Common.{◌≡◌, ◌∙◌, List, [], ◌∷◌, map, refl, sym, ap}
 use Rattle.tmm_model.specs.Answers.{Row, row, rows}
-use Rattle.tmm_model.specs.Firsts.{sorted}
-use Rattle.tmm_model.specs.Maps.{TimeMap, built, order}
+use Rattle.tmm_model.specs.Maps.{TimeMap, built}
 use Rattle.tmm_model.specs.Moments.{Moment}
 use Rattle.tmm_model.specs.Standing.{Standing}
 use Rattle.spots.specs.Forest.{Forest, moment_at}

@@ -1,10 +1,11 @@
 // What an edit makes of a list and its network.
-ghost use Rattle.std.specs.Prelude.{◌≡◌, None, IfOk, IfErr, OnOk, OnErr};
+ghost use Rattle.std.specs.Prelude.{◌≡◌, [], None, IfOk, IfErr, OnOk, OnErr};
 ghost use Rattle.tmm_model.specs.Edits.{next_list};
 ghost use Rattle.tmm_model.specs.Lines.{IsWellFormedEdit};
-ghost use Rattle.tmm_model.specs.Standing.{IsConsistent};
+ghost use Rattle.tmm_model.specs.Standing.{IsConsistent, points_in};
 ghost use Rattle.tmm_model.specs.Verdicts.{list_cause};
 ghost use Rattle.list_net.specs.Fits.{IsNetOf, IsSettled};
+ghost use Rattle.list_net.specs.Network.{PointsKeepNumbers};
 ghost use Rattle.map_engine.specs.Beliefs.{IsLeftOut};
 ghost use Rattle.map_engine.specs.Stops.{StopsEdit};
 
@@ -15,7 +16,8 @@ use std::alloc::Global;
 use tmm_model::{Edit, Name, NoMemory, Premise, Seq, Stop};
 
 // Makes an edit that names and counts let through, and answers the names of the premises that it
-// retracts. Where it is refused, or there is no memory, all is as before.
+// retracts. Every point that stays keeps its number. Where the edit is refused, or there is no memory, all
+// is as before.
 pub(crate) fn edited(
     alloc: Global,
     standing: &mut Standing,
@@ -28,6 +30,7 @@ pub(crate) fn edited(
     requires settled { IsSettled standing.old net.old }
     ensures list { OnOk result (standing.new ≡ record standing.old { present = next_list standing.old.present edit.now }) }
     ensures network { OnOk result (IsNetOf standing.new.present net.new.present) }
+    ensures numbers { OnOk result (PointsKeepNumbers (points_in (next_list standing.old.present edit.now).premises) net.old.present.names net.new.present.names) }
     ensures dates { OnOk result (IsConsistent (next_list standing.old.present edit.now).premises) }
     ensures erased { IfOk result (λ names. IsLeftOut standing.old.present (next_list standing.old.present edit.now) names.items) }
     ensures stops { IfErr result (StopsEdit standing.old.present edit.now) }
@@ -63,6 +66,7 @@ fn added(
     requires settled { IsSettled standing.old net.old }
     ensures list { OnOk result (standing.new ≡ record standing.old { present = next_list standing.old.present (Edit.Add premise.now) }) }
     ensures network { OnOk result (IsNetOf standing.new.present net.new.present) }
+    ensures numbers { OnOk result (PointsKeepNumbers (points_in (next_list standing.old.present (Edit.Add premise.now)).premises) net.old.present.names net.new.present.names) }
     ensures dates { OnOk result (IsConsistent (next_list standing.old.present (Edit.Add premise.now)).premises) }
     ensures erased { IfOk result (λ names. IsLeftOut standing.old.present (next_list standing.old.present (Edit.Add premise.now)) names.items) }
     ensures stops { IfErr result (StopsEdit standing.old.present (Edit.Add premise.now)) }
@@ -87,6 +91,7 @@ fn without(
     requires network { IsNetOf standing.old.present net.old.present }
     ensures list { OnOk result (standing.new ≡ record standing.old { present = next_list standing.old.present (Edit.Erase name) }) }
     ensures network { OnOk result (IsNetOf standing.new.present net.new.present) }
+    ensures numbers { OnOk result (PointsKeepNumbers (points_in (next_list standing.old.present (Edit.Erase name)).premises) net.old.present.names net.new.present.names) }
     ensures dates { OnOk result (IsConsistent (next_list standing.old.present (Edit.Erase name)).premises) }
     ensures erased { IfOk result (λ names. IsLeftOut standing.old.present (next_list standing.old.present (Edit.Erase name)) names.items) }
     ensures list_kept { OnErr result (standing.new ≡ standing.old) }
@@ -101,4 +106,13 @@ fn without(
     let _ = standing.len();
     let _ = net.edges();
     Ok(names)
+}
+
+// Makes the list and its network those of the last commit.
+pub(crate) fn roll_back(standing: &mut Standing, net: &mut DistNet)
+    ensures list { standing.new ≡ record standing.old { present = standing.old.committed } }
+    ensures net { net.new ≡ record net.old { present = net.old.committed; moved = [] } }
+{
+    standing.rollback();
+    net.rollback();
 }

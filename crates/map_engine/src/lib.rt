@@ -4,14 +4,19 @@
 //!
 //! `MapCore` is its contract: every answer is that of the map which is built of the list from scratch,
 //! an edit is accepted exactly where the definitions say so, and a refusal or want of memory changes
-//! nothing. `PlainMap` meets it by making beliefs anew at each edit.
+//! nothing. `PlainMap` meets it by making beliefs anew at each edit, and `NetMap` by making them anew only
+//! where an edit may touch them.
 #![tactic(auto)]
 
 mod beliefs;
 mod edited;
 mod map_core;
+mod net_map;
+mod next;
 mod plain;
 mod questions;
+mod still;
 
 pub use map_core::{MapCore, Pending};
+pub use net_map::NetMap;
 pub use plain::PlainMap;

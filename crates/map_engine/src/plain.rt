@@ -1,30 +1,20 @@
 // The plain map: distances are kept current, and beliefs are made afresh at each edit.
-ghost use Rattle.std.specs.Prelude.{◌≡◌, ◌≤◌, [], None, IfOk, IfErr};
-ghost use Rattle.tmm_model.specs.Answers.{size};
-ghost use Rattle.tmm_model.specs.Changes.{changes, delta_of};
-ghost use Rattle.tmm_model.specs.Maps.{built};
-ghost use Rattle.tmm_model.specs.Standing.{Standing as List, empty_list};
-ghost use Rattle.dist_net.specs.Net.{Net};
-ghost use Rattle.belief_list.specs.Rows.{IsListing};
-ghost use Rattle.list_net.specs.Fits.{IsNetOf};
-ghost use Rattle.map_engine.specs.Beliefs.{AreBeliefs, IsLeftOut};
-ghost use Rattle.projection.specs.Queues.{IsTooLarge};
+ghost use Rattle.std.specs.Prelude.{◌≡◌, None, IfOk};
+ghost use Rattle.tmm_model.specs.Standing.{empty_list};
 
-use crate::beliefs::{Beliefs, believe, changes_to, occurrences};
-use crate::edited::edited;
+use crate::beliefs::{Beliefs, audited, believe, drawn, told_rows};
+use crate::edited::{edited, roll_back};
 use crate::map_core::{MapCore, Pending};
 use crate::questions::{ask_between, bounds_between, path_between, why_of};
-use belief_list::list_rows;
 use dist_net::DistNet;
-use just_check::audit;
 use premise_list::Standing;
 use projection::Counter;
 use protections::copied;
 use std::alloc::Global;
 use std::marker::Model;
 use tmm_model::{
-    Answer, Bound, Changes, Edit, ListRow, Name, NoMemory, Occ, QueryPoint, Report, Seq, Stop,
-    WalkStep, WhyLine,
+    Answer, Bound, Edit, ListRow, Name, NoMemory, Occ, QueryPoint, Report, Seq, Stop, WalkStep,
+    WhyLine,
 };
 
 /// A map that keeps the standing list, its distances and its beliefs. Those before a pending edit are
@@ -72,39 +62,6 @@ impl PlainMap {
             Err(_) => Err(NoMemory),
         }
     }
-}
-
-// The beliefs of the list that an edit leaves, and what it changes.
-fn drawn(
-    alloc: Global,
-    standing: &Standing,
-    net: &DistNet,
-    old: &Beliefs,
-    erased: Seq<Name>,
-    counter: &mut Counter,
-) -> Result<(Beliefs, Changes), Stop>
-    requires network { IsNetOf standing.now.present net.now.present }
-    requires old { IsListing old.now.tree old.now.rows.items }
-    ensures beliefs { IfOk result (λ made. AreBeliefs standing.now.present net.now.present made.0) }
-    ensures changes { (list : List) (old_net : Net) → AreBeliefs list old_net old.now → IsLeftOut list standing.now.present erased.items
-        → IfOk result (λ made. delta_of made.1 ≡ changes list standing.now.present) }
-    ensures stops { IfErr result (IsTooLarge (size (built standing.now.present))) }
-    ensures counted { counter.old ≤ counter.new }
-{
-    let next = believe(alloc, standing, net, counter)?;
-    match changes_to(alloc, erased, old, &next, standing) {
-        Ok(changes) => Ok((next, changes)),
-        Err(NoMemory) => Err(Stop::NoMemory),
-    }
-}
-
-// Makes the list and its network those of the last commit.
-fn roll_back(standing: &mut Standing, net: &mut DistNet)
-    ensures list { standing.new ≡ record standing.old { present = standing.old.committed } }
-    ensures net { net.new ≡ record net.old { present = net.old.committed; moved = [] } }
-{
-    standing.rollback();
-    net.rollback();
 }
 
 impl MapCore for PlainMap {
@@ -199,12 +156,11 @@ impl MapCore for PlainMap {
     }
 
     fn list(&self, alloc: Global) -> Result<Seq<ListRow>, NoMemory> {
-        list_rows(alloc, &self.beliefs.tree, self.beliefs.rows.items())
+        told_rows(alloc, &self.beliefs)
     }
 
     fn audit(&self, alloc: Global) -> Result<bool, NoMemory> {
-        let rows = occurrences(alloc, &self.beliefs.tree, self.beliefs.rows.items())?;
-        audit(alloc, &self.standing, &self.net, rows.items())
+        audited(alloc, &self.standing, &self.net, &self.beliefs)
     }
 
     fn standing(&self) -> &Standing {

@@ -11,6 +11,7 @@ ghost use Rattle.tmm_model.specs.Questions.{query_cause};
 ghost use Rattle.tmm_model.specs.Reasons.{IsWhy, reason_of};
 ghost use Rattle.spots.specs.Seen.{IsSeen, Holds};
 ghost use Rattle.spots.specs.Spots.{IsSpot, spot_moment};
+ghost use Rattle.occ_tree.specs.Places.{forest};
 ghost use Rattle.map_engine.specs.Questions.{points_cause, StopsPoints};
 ghost use Rattle.map_engine.specs.Stops.{StopsQuery};
 
@@ -32,13 +33,13 @@ fn resolve_both(
     p: &QueryPoint,
     q: &QueryPoint,
 ) -> Result<(Spot, Spot), Stop>
-    requires seen { IsSeen standing.now.present net.now.present tree.now }
-    requires holds { Holds (built standing.now.present).believed tree.now }
+    requires seen { IsSeen standing.now.present net.now.present (forest tree.now) }
+    requires holds { Holds (built standing.now.present).believed (forest tree.now) }
     requires p_well_formed { IsWellFormedQueryPoint p.now }
     requires q_well_formed { IsWellFormedQueryPoint q.now }
     ensures known { IfOk result (λ spots. points_cause (built standing.now.present) p.now q.now ≡ None) }
-    ensures from { IfOk result (λ spots. IsSpot net.now.present.names tree.now spots.0 × (spot_moment net.now.present.names tree.now spots.0 ≡ moment_of_point p.now)) }
-    ensures to { IfOk result (λ spots. IsSpot net.now.present.names tree.now spots.1 × (spot_moment net.now.present.names tree.now spots.1 ≡ moment_of_point q.now)) }
+    ensures from { IfOk result (λ spots. IsSpot net.now.present.names (forest tree.now) spots.0 × (spot_moment net.now.present.names (forest tree.now) spots.0 ≡ moment_of_point p.now)) }
+    ensures to { IfOk result (λ spots. IsSpot net.now.present.names (forest tree.now) spots.1 × (spot_moment net.now.present.names (forest tree.now) spots.1 ≡ moment_of_point q.now)) }
     ensures stops { IfErr result (StopsPoints (built standing.now.present) p.now q.now) }
 {
     let from = resolve(alloc, standing, tree, net, p)?;
@@ -55,8 +56,8 @@ pub(crate) fn bounds_between(
     p: &QueryPoint,
     q: &QueryPoint,
 ) -> Result<(Bound, Bound), Stop>
-    requires seen { IsSeen standing.now.present net.now.present tree.now }
-    requires holds { Holds (built standing.now.present).believed tree.now }
+    requires seen { IsSeen standing.now.present net.now.present (forest tree.now) }
+    requires holds { Holds (built standing.now.present).believed (forest tree.now) }
     requires p_well_formed { IsWellFormedQueryPoint p.now }
     requires q_well_formed { IsWellFormedQueryPoint q.now }
     ensures known { IfOk result (λ found. query_cause (built standing.now.present) (BoundsLine p.now q.now) ≡ None) }
@@ -78,8 +79,8 @@ pub(crate) fn ask_between(
     p: &QueryPoint,
     q: &QueryPoint,
 ) -> Result<Answer, Stop>
-    requires seen { IsSeen standing.now.present net.now.present tree.now }
-    requires holds { Holds (built standing.now.present).believed tree.now }
+    requires seen { IsSeen standing.now.present net.now.present (forest tree.now) }
+    requires holds { Holds (built standing.now.present).believed (forest tree.now) }
     requires p_well_formed { IsWellFormedQueryPoint p.now }
     requires q_well_formed { IsWellFormedQueryPoint q.now }
     ensures known { IfOk result (λ answer. query_cause (built standing.now.present) (AskLine fact p.now q.now) ≡ None) }
@@ -106,8 +107,8 @@ pub(crate) fn path_between(
     p: &QueryPoint,
     q: &QueryPoint,
 ) -> Result<(Bound, Seq<WalkStep>), Stop>
-    requires seen { IsSeen standing.now.present net.now.present tree.now }
-    requires holds { Holds (built standing.now.present).believed tree.now }
+    requires seen { IsSeen standing.now.present net.now.present (forest tree.now) }
+    requires holds { Holds (built standing.now.present).believed (forest tree.now) }
     requires p_well_formed { IsWellFormedQueryPoint p.now }
     requires q_well_formed { IsWellFormedQueryPoint q.now }
     ensures known { IfOk result (λ found. query_cause (built standing.now.present) (PathLine p.now q.now) ≡ None) }
@@ -130,8 +131,8 @@ pub(crate) fn why_of(
     net: &DistNet,
     occ: &Occ,
 ) -> Result<Seq<WhyLine>, Stop>
-    requires seen { IsSeen standing.now.present net.now.present tree.now }
-    requires holds { Holds (built standing.now.present).believed tree.now }
+    requires seen { IsSeen standing.now.present net.now.present (forest tree.now) }
+    requires holds { Holds (built standing.now.present).believed (forest tree.now) }
     requires well_formed { IsWellFormedOcc occ.now }
     ensures known { IfOk result (λ lines. query_cause (built standing.now.present) (WhyQuery occ.now) ≡ None) }
     ensures reasons { IfOk result (λ lines. IsWhy (built standing.now.present) (moment_of occ.now) (map reason_of lines.items)) }

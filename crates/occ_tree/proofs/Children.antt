@@ -16,6 +16,7 @@ use Rattle.spots.specs.Spots.{token_row, AreTokens}
 use Rattle.occ_tree.specs.declared.classes.ClassRows.{ClassRows}
 use Rattle.occ_tree.specs.declared.node.Node.{Node}
 use Rattle.occ_tree.specs.Classes.{rows_in, TakesToken}
+use Rattle.occ_tree.specs.Places.{forest}
 use Rattle.occ_tree.specs.Nodes.{Slots, node_at, member_of, forest_in, AreOnce, IsNode, IsBetween, IsEffect, Rewrites}
 use Rattle.occ_tree.specs.TreeInside.{AreRight}
 use Rattle.occ_tree.proofs.NodeLists.{seen, unseen}
@@ -47,8 +48,11 @@ module _ (old new : Slab Node) (x : ℕ) (more : List ℕ) (r : Rewrites old new
         kept = λ z h. subst (λ (l : List ℕ). Contains l z) (sym listed) (Contains-from_In _ z (In-left r.was.children.items more z (In-from_Contains _ z h)));
       })
 
+  pub places_written : map (option_map member_of) new.slots ≡ map (option_map member_of) old.slots
+  places_written = ap (map (option_map member_of)) r.slots ∙ map-set_same (option_map member_of) old.slots x (Some r.now) None (ap Some IsSame-written.member ∙ sym (ap (option_map member_of) r.at))
+
   pub forest_written : forest_in new.slots ≡ forest_in old.slots
-  forest_written = ap forest_in r.slots ∙ map-set_same (option_map member_of) old.slots x (Some r.now) None (ap Some IsSame-written.member ∙ sym (ap (option_map member_of) r.at))
+  forest_written = ap forest places_written
 
 abbrev IsNone : ℕ → Node → Type 0
 IsNone y k = ⊥

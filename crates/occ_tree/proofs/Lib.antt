@@ -1,6 +1,3 @@
-pub mod Sums
-pub mod Apart
-pub mod InUse
 pub mod ClassLists
 pub mod NodeLists
 pub mod Entering

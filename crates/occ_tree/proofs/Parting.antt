@@ -1,15 +1,11 @@
--- Where the ways to two spots of one root part, and how far apart the spots are.
-use Rattle.std.proofs.Common.{◌≡◌, ◌≢◌, ℕ, zero, suc, ◌+◌, ◌<◌, ◌≤◌, Bool, true, false, List, [], ◌∷◌, ◌++◌, map, take, drop, get_or, length, refl, sym, ap, ◌∙◌, subst, arith, pos}
-use Rattle.std.specs.Prelude.{Option, Some, None, slice_index_or, is_some}
+-- Where the ways to two spots of one root part.
+use Rattle.std.proofs.Common.{◌≡◌, ◌≢◌, ℕ, zero, suc, ◌+◌, ◌<◌, ◌≤◌, Bool, true, false, List, [], ◌∷◌, ◌++◌, map, take, drop, get_or, length, refl, sym, ap, ◌∙◌, subst, arith}
+use Rattle.std.specs.Prelude.{Option, Some, is_some}
 use Rattle.std.specs.List.{All}
 use Rattle.std.specs.Option.{option_map_or}
 use Rattle.std.specs.Cmp.Lexicographic.{bytes_decides}
-use Rattle.std.proofs.lemmas.Bool.{eq-eqb, ne_eqb}
 use Rattle.std.proofs.lemmas.List.{map_push, take_more, take-append-drop, get_or_default}
 use Rattle.std.proofs.lemmas.List.Elements.{All-nil}
-use Rattle.std.proofs.lemmas.Int.{ints}
-use Rattle.tmm_model.specs.declared.point.PointName.TheVariants.{Begin}
-use Rattle.tmm_model.specs.Moments.{negated}
 use Rattle.tmm_model.specs.Points.{same_name}
 use Rattle.dist_net.specs.Net.{Net}
 use Rattle.spots.specs.declared.link.Link.{Link}
@@ -17,15 +13,12 @@ use Rattle.spots.specs.declared.spot.Spot.{Spot}
 use Rattle.spots.specs.declared.spot.Spot.TheVariants.{Declared, Node as OfNode}
 use Rattle.spots.specs.Forest.{Forest, Member, member, IsLive, rules_of, IsOnce}
 use Rattle.spots.specs.Seen.{HasList}
-use Rattle.spots.specs.Spots.{base_of, links_of, links_low, links_high, links_apart, net_far, spot_distance, node_early}
-use Rattle.tmm_model.specs.declared.bound.Bound.{Bound}
-use Rattle.tmm_model.specs.declared.bound.Bound.TheVariants.{Finite, Free}
-use Rattle.tmm_model.specs.Bounds.{bound_plus, bound_less}
-use Rattle.occ_tree.specs.declared.links.Sums.{Sums}
-use Rattle.occ_tree.specs.Sums.{AreSums, ArePartedBy}
+use Rattle.spots.specs.Spots.{base_of, links_of}
+use Rattle.spots.specs.declared.sums.Sums.{Sums}
+use Rattle.spots.specs.Sums.{AreSums, ArePartedBy}
 use Rattle.occ_tree.specs.Ways.{number_at, IsWay, IsWayOf, IsShared, links_to, AreShared}
-use Rattle.occ_tree.proofs.Apart.{apart_from_none, apart_to_none, apart_behind, Differ}
-use Rattle.occ_tree.proofs.InUse.{begin_apart}
+use Rattle.spots.proofs.Apart.{apart_from_none, apart_to_none, apart_behind, Differ}
+use Rattle.spots.proofs.Distances.{one_root}
 use Rattle.occ_tree.proofs.Lookups.{same_moment}
 
 -- ---- two nodes of one root
@@ -112,14 +105,6 @@ none_shared f u v s none shares = by shares.count shares.shared shares.sums
 no_place : (way : List ℕ) (k : ℕ) → way ≡ [] → suc k ≤ length way → ⊥
 no_place way k none within = let empty = ap length none in omega (arith, within, empty)
 
--- nodes whose rules lead on from one point are of one root
-one_root : (net : Net) (f : Forest) → HasList net f → (x y : ℕ) (m n : Member) → member f x ≡ Some m → member f y ≡ Some n → m.begin ≡ n.begin → m.root ≡ n.root
-one_root net f (s, seen) x y m n m_at n_at base =
-    let a = (seen.members x m m_at).begin in
-    let b = (seen.members y n n_at).begin in
-    let both : Some (Begin m.root) ≡ Some (Begin n.root) = sym a ∙ ap (λ (k : ℕ). slice_index_or net.names k None) base ∙ b in
-    cc
-
 -- **The rules behind those that both begin with tell how far apart the spots are.**
 pub parted : (net : Net) (f : Forest) → HasList net f → (p q : Spot) (u v : List ℕ) (s : Sums) → base_of f p ≡ base_of f q → IsWayOf f p u → IsWayOf f q v → AreShared f u v s → ArePartedBy s (links_of f p) (links_of f q)
 parted net f list (Declared p) q u v s base to_p to_q shares = record {
@@ -155,35 +140,3 @@ live_way f (OfNode x) way (m, m_at, to_m) = λ i d within.
     let count = to_m.count in
     let a = to_m.each i (omega (arith, count, within)) in
     subst (IsLive f) (get_or_default way i 0 d within) (ap is_some a.at)
-
--- ---- distances
-
-module _ (net : Net) (f : Forest) (p q : Spot) where
-  abbrev Chosen : Bool → Bound
-  Chosen b =
-      elim b [
-        | true ↦ links_apart (links_of f p) (links_of f q)
-        | false ↦ bound_less (bound_plus (net_far net (base_of f p) (base_of f q)) (links_high (links_of f q))) (links_low (links_of f p))
-      ]
-
-  pub distance-one_base : base_of f p ≡ base_of f q → spot_distance net f p q ≡ links_apart (links_of f p) (links_of f q)
-  distance-one_base e = ap Chosen (eq-eqb (base_of f p) (base_of f q) e)
-
-  pub distance-two_bases : base_of f p ≢ base_of f q → spot_distance net f p q ≡ bound_less (bound_plus (net_far net (base_of f p) (base_of f q)) (links_high (links_of f q))) (links_low (links_of f p))
-  distance-two_bases e = ap Chosen (ne_eqb (base_of f p) (base_of f q) e)
-
--- date 0 from a node, which begins elsewhere
-pub distance-to_start : (net : Net) (f : Forest) → HasList net f → (x : ℕ) (m : Member) → member f x ≡ Some m → spot_distance net f (OfNode x) (Declared 0) ≡ bound_less (net_far net m.begin 0) (links_low m.links)
-distance-to_start net f list x m at =
-    let base : base_of f (OfNode x) ≡ m.begin = ap (λ (o : Option Member). option_map_or (λ k. k.begin) o 0) at in
-    let links : links_of f (OfNode x) ≡ m.links = ap (λ (o : Option Member). option_map_or (λ k. k.links) o []) at in
-    distance-two_bases net f (OfNode x) (Declared 0) (λ e. begin_apart net f list x m at (sym base ∙ e))
-    ∙ (λ i. bound_less (bound_plus (net_far net (base i) 0) (Finite (pos 0))) (links_low (links i)))
-    ∙ ap (λ (b : Bound). bound_less b (links_low m.links)) (plus_none (net_far net m.begin 0))
-  where
-    plus_none : (b : Bound) → bound_plus b (Finite (pos 0)) ≡ b
-    plus_none (Finite d) = ap Finite (omega (arith, ints))
-    plus_none Free = refl
-
-pub early_is : (net : Net) (f : Forest) → HasList net f → (x : ℕ) (m : Member) → member f x ≡ Some m → (far : Bound) → far ≡ net_far net m.begin 0 → node_early net f x ≡ negated (bound_less far (links_low m.links))
-early_is net f list x m at far is = ap negated (distance-to_start net f list x m at ∙ ap (λ (b : Bound). bound_less b (links_low m.links)) (sym is))

@@ -14,8 +14,8 @@ use Rattle.spots.specs.Spots.{token_row}
 use Rattle.occ_tree.specs.declared.classes.ClassRows.{ClassRows}
 use Rattle.occ_tree.specs.declared.node.Node.{Node}
 use Rattle.occ_tree.specs.Classes.{TakesToken}
-use Rattle.occ_tree.specs.Light.{IsLight, AreLight}
-use Rattle.occ_tree.specs.Sums.{AreSums}
+use Rattle.spots.specs.Light.{IsLight, AreLight}
+use Rattle.spots.specs.Sums.{AreSums}
 use Rattle.occ_tree.specs.Nodes.{node_at, member_of, forest_in, AreOnce, IsSummed, IsNode, IsBetween}
 use Rattle.occ_tree.specs.TreeInside.{AreRight}
 use Rattle.occ_tree.proofs.Entering.{IsSame, Grows, HasMore-itself, AreRight-grown, Enters-grown}

@@ -1,9 +1,7 @@
-pub mod Light
-pub mod Sums
+pub mod Places
 pub mod Ways
 pub mod Classes
 pub mod Nodes
 pub mod TreeInside
-pub mod Rows
 pub mod Leaving
 pub mod Ranks

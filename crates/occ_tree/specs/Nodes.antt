@@ -10,8 +10,9 @@ use Rattle.spots.specs.declared.spot.Spot.{Spot}
 use Rattle.spots.specs.declared.spot.Spot.TheVariants.{Declared, Node as OfNode}
 use Rattle.spots.specs.Forest.{Forest, Member, member, IsLive, moment, child_member, IsParent, HasClass}
 use Rattle.occ_tree.specs.declared.node.Node.{Node}
-use Rattle.occ_tree.specs.Light.{AreLight}
-use Rattle.occ_tree.specs.Sums.{AreSums}
+use Rattle.occ_tree.specs.Places.{forest}
+use Rattle.spots.specs.Light.{AreLight}
+use Rattle.spots.specs.Sums.{AreSums}
 use Rattle.occ_tree.specs.Ways.{IsWay}
 
 -- the places of the slab
@@ -28,7 +29,7 @@ member_of n = record { root = n.root; links = n.links.items; begin = n.begin; en
 
 -- the nodes as occurrences, by their numbers
 abbrev pub forest_in : Slots → Forest
-forest_in slots = map (option_map member_of) slots
+forest_in slots = forest (map (option_map member_of) slots)
 
 -- no number stands twice
 abbrev pub AreOnce : List ℕ → Type 0

@@ -1,17 +1,19 @@
 -- What holds of the fields of a `Tree`.
-use Rattle.std.specs.Prelude.{◌≡◌, ℕ, ◌<◌, List, [], Some}
+use Rattle.std.specs.Prelude.{◌≡◌, ℕ, ◌<◌, List, [], Some, map}
 use Rattle.std.specs.List.{Contains}
-use Rattle.spots.specs.Forest.{Forest, IsOnce}
+use Rattle.std.specs.Option.{option_map}
+use Rattle.spots.specs.Forest.{IsOnce}
 use Rattle.spots.specs.Spots.{AreTokens}
 use Rattle.occ_tree.specs.declared.classes.ClassRows.{ClassRows}
 use Rattle.occ_tree.specs.declared.node.Node.{Node}
 use Rattle.occ_tree.specs.declared.tree.Tree.TheInside.{Inside}
 use Rattle.occ_tree.specs.Classes.{rows_in}
-use Rattle.occ_tree.specs.Nodes.{Slots, node_at, forest_in, IsNode}
+use Rattle.occ_tree.specs.Nodes.{Slots, node_at, member_of, forest_in, IsNode}
+use Rattle.occ_tree.specs.Places.{Places}
 
 -- the nodes of a tree as occurrences
-abbrev pub forest_of : Inside → Forest
-forest_of t = forest_in t.nodes.slots
+abbrev pub places_of : Inside → Places
+places_of t = map (option_map member_of) t.nodes.slots
 
 -- Each node is as it says, each occurrence has one, the roots are listed, and so are the tokens of each
 -- class.

@@ -5,8 +5,8 @@ use Rattle.spots.specs.declared.spot.Spot.{Spot}
 use Rattle.spots.specs.declared.spot.Spot.TheVariants.{Declared, Node as OfNode}
 use Rattle.spots.specs.Forest.{Forest, Member, member}
 use Rattle.spots.specs.Spots.{links_of}
-use Rattle.occ_tree.specs.declared.links.Sums.{Sums}
-use Rattle.occ_tree.specs.Sums.{AreSums}
+use Rattle.spots.specs.declared.sums.Sums.{Sums}
+use Rattle.spots.specs.Sums.{AreSums}
 
 -- the number at a place
 abbrev pub number_at : List ℕ → ℕ → ℕ

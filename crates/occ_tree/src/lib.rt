@@ -10,7 +10,6 @@
 
 mod classes;
 mod leaving;
-mod links;
 mod lists;
 mod node;
 mod order;
@@ -18,9 +17,9 @@ mod ranks;
 mod tree;
 mod way;
 
-pub use node::NodeRow;
 pub use order::Order;
 pub use ranks::{Ranked, in_order};
+pub use spots::NodeRow;
 pub use tree::Tree;
 
 #[cfg(test)]

@@ -1,44 +1,16 @@
-// What a node keeps, and what is told of it.
+// What a node keeps.
 ghost use Rattle.std.specs.Prelude.{◌≡◌, ◌<◌, [], ◌∷◌, ◌++◌, length, IfOk, OnOk};
 ghost use Rattle.slab.specs.Slab.{ContainsKey};
 ghost use Rattle.spots.specs.Forest.{last_name as last_name_of, HasClass};
 ghost use Rattle.spots.specs.Spots.{token_row};
-ghost use Rattle.occ_tree.specs.Light.{IsLight};
+ghost use Rattle.spots.specs.Light.{IsLight};
 ghost use Rattle.occ_tree.specs.Nodes.{member_of, IsSummed, IsEffect, Rewrites, HasChildRoom};
 
-use crate::links::Sums;
 use crate::lists::longer;
 use slab::Slab;
-use spots::{Link, Spot};
+use spots::{Link, Spot, Sums};
 use std::alloc::Global;
 use tmm_model::{Bound, Name, NoMemory, Shape, TokenRow};
-
-/// What is told of a node.
-#[derive(Clone, Copy)]
-pub struct NodeRow {
-    /// The event whose effect it is, none for a root.
-    pub parent: Option<u32>,
-    /// The name of the root, or of the last rule.
-    pub name: Name,
-    /// The node of its root.
-    pub root: u32,
-    /// The number of rules.
-    pub rules: u32,
-    /// The sum of their least delays, in whole time units.
-    pub low: i64,
-    /// The sum of their most delays, none where one of them has no bound.
-    pub high: Bound,
-    /// The number of the root's point.
-    pub begin: u16,
-    /// The number of a span's end.
-    pub end: Option<u16>,
-    /// The kind of an event, or the fact of a token.
-    pub what: Name,
-    /// The class of a token's fact.
-    pub class: Option<Name>,
-    /// Whether it is an event, a persistence or a span.
-    pub shape: Shape,
-}
 
 /// An occurrence, and where it stands in the tree.
 #[derive(Drop)]

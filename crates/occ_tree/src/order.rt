@@ -1,30 +1,31 @@
 // The order of the nodes of a tree, with the distances of a network.
 ghost use Rattle.std.specs.Prelude.{◌≡◌};
+ghost use Rattle.occ_tree.specs.Places.{forest};
 ghost use Rattle.spots.specs.Forest.{IsLive};
 ghost use Rattle.spots.specs.Seen.{HasList};
 ghost use Rattle.std.specs.List.{All};
-ghost use Rattle.spots.specs.Spots.{IsSpot, base_of, links_of, spot_distance, node_early, node_cmp, spot_cmp};
+ghost use Rattle.spots.specs.Spots.{IsSpot, base_of, links_of, spot_distance, node_early, spot_early, node_cmp, spot_cmp};
 ghost use Rattle.tmm_model.specs.Bounds.{IfFinite, IsWithin};
-ghost use Rattle.occ_tree.specs.Light.{AreLight};
+ghost use Rattle.spots.specs.Light.{AreLight};
 ghost use Rattle.occ_tree.specs.Nodes.{IsThere};
-ghost use Rattle.occ_tree.specs.Sums.{AreSums};
+ghost use Rattle.spots.specs.Sums.{AreSums};
 ghost use Rattle.occ_tree.specs.Ways.{IsWayOf, AreShared};
 
-use crate::links::{Sums, between, less, plus};
 use crate::tree::Tree;
 use crate::way::shared;
+use clipping::Dated;
 use dist_net::DistNet;
-use spots::Spot;
+use spots::{Spot, Sums, between, less, plus};
 use std::cmp::Ordering;
 use tmm_model::{Bound, Sure};
 
 impl Tree {
     /// The tightest upper bound on the date of the second spot less that of the first, in whole time units.
     pub fn far(&self, net: &DistNet, from: Spot, to: Spot) -> Bound
-        requires list { HasList net.now.present self.now }
-        requires from { IsSpot net.now.present.names self.now from }
-        requires to { IsSpot net.now.present.names self.now to }
-        ensures exact { result ≡ spot_distance net.now.present self.now from to }
+        requires list { HasList net.now.present (forest self.now) }
+        requires from { IsSpot net.now.present.names (forest self.now) from }
+        requires to { IsSpot net.now.present.names (forest self.now) to }
+        ensures exact { result ≡ spot_distance net.now.present (forest self.now) from to }
         ensures small { IfFinite result (IsWithin 1000000000000000) }
     {
         let start = self.place(from);
@@ -42,9 +43,9 @@ impl Tree {
 
     /// The earliest date of a node, in whole time units.
     pub fn early(&self, net: &DistNet, x: u32) -> i64
-        requires list { HasList net.now.present self.now }
-        requires live { IsLive self.now x }
-        ensures { result ≡ node_early net.now.present self.now x }
+        requires list { HasList net.now.present (forest self.now) }
+        requires live { IsLive (forest self.now) x }
+        ensures { result ≡ node_early net.now.present (forest self.now) x }
     {
         let node = self.node(x);
         match net.far(node.begin, 0) {
@@ -53,12 +54,27 @@ impl Tree {
         }
     }
 
+    /// The earliest date of a spot, in whole time units.
+    pub fn date(&self, net: &DistNet, spot: Spot) -> i64
+        requires list { HasList net.now.present (forest self.now) }
+        requires live { IsSpot net.now.present.names (forest self.now) spot }
+        ensures { result ≡ spot_early net.now.present (forest self.now) spot }
+    {
+        match spot {
+            Spot::Node(x) => self.early(net, x),
+            Spot::Declared(_) => match self.far(net, spot, Spot::Declared(0)) {
+                Bound::Finite(far) => -far,
+                Bound::Free => 0,
+            },
+        }
+    }
+
     /// The order of two nodes: by their earliest dates, and then by the bytes of their words.
     pub fn cmp_order(&self, net: &DistNet, x: u32, y: u32) -> Ordering
-        requires list { HasList net.now.present self.now }
-        requires x_live { IsLive self.now x }
-        requires y_live { IsLive self.now y }
-        ensures { result ≡ node_cmp net.now.present self.now x y }
+        requires list { HasList net.now.present (forest self.now) }
+        requires x_live { IsLive (forest self.now) x }
+        requires y_live { IsLive (forest self.now) y }
+        ensures { result ≡ node_cmp net.now.present (forest self.now) x y }
     {
         match self.early(net, x).cmp(&self.early(net, y)) {
             Ordering::Equal => self.word(x).cmp(self.word(y)),
@@ -68,8 +84,8 @@ impl Tree {
 
     // The sums of the rules that two ways both begin with.
     fn shared_sums(&self, from: &[u32], to: &[u32]) -> Sums
-        requires { All (IsLive self.now) from.now }
-        ensures { AreShared self.now from.now to.now result }
+        requires { All (IsLive (forest self.now)) from.now }
+        ensures { AreShared (forest self.now) from.now to.now result }
     {
         match shared(from, to) {
             0 => Sums::of_none(),
@@ -79,11 +95,11 @@ impl Tree {
 
     // Where a spot is.
     fn place(&self, spot: Spot) -> Place<'_>
-        requires { IsThere self.now spot }
-        ensures base { result.base ≡ base_of self.now spot }
-        ensures way { IsWayOf self.now spot result.way.now }
-        ensures sums { AreSums result.sums (links_of self.now spot) }
-        ensures light { AreLight (links_of self.now spot) }
+        requires { IsThere (forest self.now) spot }
+        ensures base { result.base ≡ base_of (forest self.now) spot }
+        ensures way { IsWayOf (forest self.now) spot result.way.now }
+        ensures sums { AreSums result.sums (links_of (forest self.now) spot) }
+        ensures light { AreLight (links_of (forest self.now) spot) }
     {
         match spot {
             Spot::Declared(base) => Place {
@@ -127,11 +143,11 @@ impl Sure for Order<'_> {
 
     type Spot = Spot;
 
-    ghost live = { λ o p. HasList o.net.now.present o.tree.now × IsSpot o.net.now.present.names o.tree.now p };
+    ghost live = { λ o p. HasList o.net.now.present (forest o.tree.now) × IsSpot o.net.now.present.names (forest o.tree.now) p };
 
-    ghost distance = { λ o p q. spot_distance o.net.now.present o.tree.now p q };
+    ghost distance = { λ o p q. spot_distance o.net.now.present (forest o.tree.now) p q };
 
-    ghost order = { λ o p q. spot_cmp o.net.now.present o.tree.now p q };
+    ghost order = { λ o p q. spot_cmp o.net.now.present (forest o.tree.now) p q };
 
     fn at_most(&self, from: Spot, to: Spot, w: i64) -> bool {
         match self.tree.far(self.net, from, to) {
@@ -153,9 +169,21 @@ impl Sure for Order<'_> {
         }
     }
 
-    ghost itself = { λ o p at. itself o.net.now.present o.tree.now p at };
+    ghost itself = { λ o p at. itself o.net.now.present (forest o.tree.now) p at };
 
-    ghost triangle = { λ o p q r at_p at_q at_r. triangle o.net.now.present o.tree.now p q r at_p at_q at_r };
+    ghost triangle = { λ o p q r at_p at_q at_r. triangle o.net.now.present (forest o.tree.now) p q r at_p at_q at_r };
 
-    ghost ordered = { λ o. ordered o.net.now.present o.tree.now };
+    ghost ordered = { λ o. ordered o.net.now.present (forest o.tree.now) };
+}
+
+impl Dated for Order<'_> {
+    ghost use Rattle.spots.proofs.Dates.{dates_met};
+
+    ghost date = { λ o p. spot_early o.net.now.present (forest o.tree.now) p };
+
+    fn date(&self, spot: Spot) -> i64 {
+        self.tree.date(self.net, spot)
+    }
+
+    ghost dated = { λ o. record { met = dates_met o.net.now.present (forest o.tree.now) } };
 }

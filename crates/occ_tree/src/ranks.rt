@@ -2,6 +2,7 @@
 ghost use Rattle.std.specs.Prelude.{◌≡◌, nat_eq, IfOk};
 ghost use Rattle.std.specs.List.{All, IsDistinct};
 ghost use Rattle.std.specs.List.Sorted.{IsPermutation, IsStrictlySortedBy};
+ghost use Rattle.occ_tree.specs.Places.{forest};
 ghost use Rattle.spots.specs.Forest.{IsLive};
 ghost use Rattle.spots.specs.Seen.{HasList};
 ghost use Rattle.spots.specs.Spots.{node_cmp};
@@ -30,12 +31,12 @@ pub fn in_order<'a>(
     net: &DistNet,
     nodes: &[u32],
 ) -> Result<Vec<Ranked<'a>>, NoMemory>
-    requires list { HasList net.now.present tree.now }
-    requires live { All (IsLive tree.now) nodes.now }
+    requires list { HasList net.now.present (forest tree.now) }
+    requires live { All (IsLive (forest tree.now)) nodes.now }
     requires once { IsDistinct nat_eq nodes.now }
     ensures same { IfOk result (λ ranked. IsPermutation nodes.now (nodes_of ranked.items)) }
-    ensures in_order { IfOk result (λ ranked. IsStrictlySortedBy (node_cmp net.now.present tree.now) (nodes_of ranked.items)) }
-    ensures ranked { IfOk result (λ ranked. All (IsRanked net.now.present tree.now) ranked.items) }
+    ensures in_order { IfOk result (λ ranked. IsStrictlySortedBy (node_cmp net.now.present (forest tree.now)) (nodes_of ranked.items)) }
+    ensures ranked { IfOk result (λ ranked. All (IsRanked net.now.present (forest tree.now)) ranked.items) }
 {
     let mut ranked = ranks(alloc, tree, net, nodes)?;
     ranked.sort()?;
@@ -49,10 +50,10 @@ fn ranks<'a>(
     net: &DistNet,
     nodes: &[u32],
 ) -> Result<Vec<Ranked<'a>>, NoMemory>
-    requires list { HasList net.now.present tree.now }
-    requires live { All (IsLive tree.now) nodes.now }
+    requires list { HasList net.now.present (forest tree.now) }
+    requires live { All (IsLive (forest tree.now)) nodes.now }
     ensures nodes { IfOk result (λ ranked. nodes_of ranked.items ≡ nodes.now) }
-    ensures ranked { IfOk result (λ ranked. All (IsRanked net.now.present tree.now) ranked.items) }
+    ensures ranked { IfOk result (λ ranked. All (IsRanked net.now.present (forest tree.now)) ranked.items) }
 {
     let mut ranked = Vec::with_capacity(alloc, nodes.len())?;
     for node in nodes {
@@ -62,9 +63,9 @@ fn ranks<'a>(
 }
 
 fn rank_of<'a>(tree: &'a Tree, net: &DistNet, node: u32) -> Ranked<'a>
-    requires list { HasList net.now.present tree.now }
-    requires live { IsLive tree.now node }
-    ensures ranked { IsRanked net.now.present tree.now result }
+    requires list { HasList net.now.present (forest tree.now) }
+    requires live { IsLive (forest tree.now) node }
+    ensures ranked { IsRanked net.now.present (forest tree.now) result }
     ensures node { result.node ≡ node }
 {
     Ranked {

@@ -4,8 +4,9 @@ ghost use Rattle.tmm_model.specs.Lines.{IsNumber, IsBound, IsRange};
 ghost use Rattle.tmm_model.specs.Moments.{At, After, moment_of, printed};
 ghost use Rattle.tmm_model.specs.declared.point.PointName.TheVariants.{Begin};
 ghost use Rattle.std.specs.List.{All, Contains, IsDistinct};
+ghost use Rattle.occ_tree.specs.Places.{forest};
 ghost use Rattle.spots.specs.Forest.{Member, member, IsLive, IsOnce, moment_at, Enters, root_member, child_member, IsNoRoot, HasClass, HasEnd, IsTrigger, Withdraws, IsFound, last_name as last_name_of};
-ghost use Rattle.occ_tree.specs.Rows.{IsRowOf};
+ghost use Rattle.spots.specs.Rows.{IsRowOf};
 ghost use Rattle.spots.specs.Spots.{AreTokens, token_row};
 ghost use Rattle.occ_tree.specs.Classes.{rows_in, TakesToken};
 ghost use Rattle.slab.specs.Slab.{get, Updates};
@@ -15,10 +16,9 @@ ghost use Rattle.tmm_model.specs.declared.bound.Bound.TheVariants.{Finite};
 
 use crate::classes::{ClassRows, add_row, drop_gone, rows_of};
 use crate::leaving::{classes_of, remove_all, unlist};
-use crate::links::Sums;
-use crate::node::{Node, NodeRow, effect, last_name, push_child, reserve_child, token_of};
+use crate::node::{Node, effect, last_name, push_child, reserve_child, token_of};
 use slab::Slab;
-use spots::{Link, Spot};
+use spots::{Link, NodeRow, Spot, Sums};
 use std::alloc::Global;
 use std::marker::Model;
 use tmm_model::{Bound, Name, NoMemory, Occ, Seq, Shape, TokenRow};
@@ -36,13 +36,13 @@ pub struct Tree {
 }
 
 impl Model for Tree {
-    ghost use Rattle.spots.specs.Forest.{Forest};
+    ghost use Rattle.occ_tree.specs.Places.{Places};
 
-    ghost Value = { Forest };
+    ghost Value = { Places };
 
-    ghost use Rattle.occ_tree.specs.TreeInside.{forest_of, IsTree};
+    ghost use Rattle.occ_tree.specs.TreeInside.{places_of, IsTree};
 
-    ghost view = { forest_of };
+    ghost view = { places_of };
 
     ghost invariant = { IsTree };
 }
@@ -50,7 +50,7 @@ impl Model for Tree {
 impl Tree {
     /// The tree without nodes. It takes no memory.
     pub fn make(alloc: Global) -> Tree
-        ensures { (x : ℕ) → member result x ≡ None }
+        ensures { (x : ℕ) → forest result x ≡ None }
     {
         Tree {
             nodes: Slab::new(alloc),
@@ -73,10 +73,10 @@ impl Tree {
         class: Option<Name>,
         shape: Shape,
     ) -> Result<u32, NoMemory>
-        requires new { IsNoRoot self.old name }
+        requires new { IsNoRoot (forest self.old) name }
         requires class { HasClass class shape }
         requires span { HasEnd end shape }
-        ensures ok { IfOk result (λ x. Enters self.old self.new x (root_member name begin end what class shape)) }
+        ensures ok { IfOk result (λ x. Enters (forest self.old) (forest self.new) x (root_member name begin end what class shape)) }
         ensures err { OnErr result (self.new ≡ self.old) }
     {
         let x = next_number(&self.nodes)?;
@@ -117,11 +117,11 @@ impl Tree {
         class: Option<Name>,
         shape: Shape,
     ) -> Result<u32, NoMemory>
-        requires trigger { (m : Member) × (member self.old parent ≡ Some m) × IsTrigger self.old m rule }
+        requires trigger { (m : Member) × (member (forest self.old) parent ≡ Some m) × IsTrigger (forest self.old) m rule }
         requires delay { IsNumber lo × IsBound hi × (pos 1 ≤ℤ lo) × IsRange (Finite lo) hi }
         requires class { HasClass class shape }
         requires no_span { shape ≢ Shape.Span }
-        ensures ok { IfOk result (λ x. (m : Member) → member self.old parent ≡ Some m → Enters self.old self.new x (child_member m (record { rule = rule; lo = lo; hi = hi }) what class shape)) }
+        ensures ok { IfOk result (λ x. (m : Member) → member (forest self.old) parent ≡ Some m → Enters (forest self.old) (forest self.new) x (child_member m (record { rule = rule; lo = lo; hi = hi }) what class shape)) }
         ensures err { OnErr result (self.new ≡ self.old) }
     {
         let link = Link { rule, lo, hi };
@@ -137,8 +137,8 @@ impl Tree {
 
     /// Takes a node out with all below it. The numbers are free again. Without memory nothing has changed.
     pub fn withdraw(&mut self, alloc: Global, x: u32) -> Result<(), NoMemory>
-        requires live { IsLive self.old x }
-        ensures ok { OnOk result ((m : Member) → member self.old x ≡ Some m → Withdraws self.old self.new m) }
+        requires live { IsLive (forest self.old) x }
+        ensures ok { OnOk result ((m : Member) → member (forest self.old) x ≡ Some m → Withdraws (forest self.old) (forest self.new) m) }
         ensures err { OnErr result (self.new ≡ self.old) }
     {
         let gone = self.below(alloc, x)?;
@@ -152,8 +152,8 @@ impl Tree {
 
     /// The occurrence of a node. Without memory it answers that.
     pub fn occ_of(&self, alloc: Global, x: u32) -> Result<Occ, NoMemory>
-        requires { IsLive self.now x }
-        ensures { IfOk result (λ occ. moment_of occ ≡ moment_at self.now x) }
+        requires { IsLive (forest self.now) x }
+        ensures { IfOk result (λ occ. moment_of occ ≡ moment_at (forest self.now) x) }
     {
         let node = self.node(x);
         let rules = rules_of(alloc, node.links.as_slice())?;
@@ -165,8 +165,8 @@ impl Tree {
 
     /// Appends the word of a node. Without memory nothing has changed.
     pub fn name_into(&self, _alloc: Global, x: u32, out: &mut Seq<u8>) -> Result<(), NoMemory>
-        requires { IsLive self.now x }
-        ensures appended { OnOk result (out.new.items ≡ out.old.items ++ printed (moment_at self.now x)) }
+        requires { IsLive (forest self.now) x }
+        ensures appended { OnOk result (out.new.items ≡ out.old.items ++ printed (moment_at (forest self.now) x)) }
         ensures kept { OnErr result (out.new.items ≡ out.old.items) }
     {
         out.extend(self.word(x))
@@ -174,15 +174,15 @@ impl Tree {
 
     /// Every number of a node is below it.
     pub fn limit(&self) -> u32
-        ensures { (x : ℕ) → IsLive self.now x → x < result }
+        ensures { (x : ℕ) → IsLive (forest self.now) x → x < result }
     {
         self.limit
     }
 
     /// The numbers of all nodes, each once. Without memory it answers that.
     pub fn numbers(&self, alloc: Global) -> Result<Vec<u32>, NoMemory>
-        ensures live { IfOk result (λ numbers. All (IsLive self.now) numbers.items) }
-        ensures all { IfOk result (λ numbers. (x : ℕ) → IsLive self.now x → Contains numbers.items x) }
+        ensures live { IfOk result (λ numbers. All (IsLive (forest self.now)) numbers.items) }
+        ensures all { IfOk result (λ numbers. (x : ℕ) → IsLive (forest self.now) x → Contains numbers.items x) }
         ensures once { IfOk result (λ numbers. IsDistinct nat_eq numbers.items) }
     {
         let mut numbers = Vec::new(alloc);
@@ -197,15 +197,15 @@ impl Tree {
 
     /// Whether the number is of a node.
     pub fn is_live(&self, x: u32) -> bool
-        ensures { IsTrue result ↔ IsLive self.now x }
+        ensures { IsTrue result ↔ IsLive (forest self.now) x }
     {
         self.nodes.contains(x as usize)
     }
 
     /// What there is to tell of a node.
     pub fn row(&self, x: u32) -> NodeRow
-        requires { IsLive self.now x }
-        ensures { IsRowOf self.now x result }
+        requires { IsLive (forest self.now) x }
+        ensures { IsRowOf (forest self.now) x result }
     {
         let node = self.node(x);
         NodeRow {
@@ -225,15 +225,15 @@ impl Tree {
 
     /// The tokens of a class, each once.
     pub fn tokens(&self, class: Name) -> &[TokenRow<Spot>]
-        ensures rows { AreTokens self.now class result.now }
-        ensures once { IsOnce self.now }
+        ensures rows { AreTokens (forest self.now) class result.now }
+        ensures once { IsOnce (forest self.now) }
     {
         rows_of(self.classes.as_slice(), class)
     }
 
     /// The number of an occurrence, none exactly where no node is of it.
     pub fn find(&self, occ: &Occ) -> Option<u32>
-        ensures { IsFound self.now (moment_of occ.now) result }
+        ensures { IsFound (forest self.now) (moment_of occ.now) result }
     {
         let mut x = self.root_of(&occ.root)?;
         for rule in occ.rules.items() {
@@ -244,8 +244,8 @@ impl Tree {
 
     /// The number here of what is node `x` of another tree, none exactly where no node is of it.
     pub fn find_same(&self, other: &Tree, x: u32) -> Option<u32>
-        requires { IsLive other.now x }
-        ensures { IsFound self.now (moment_at other.now x) result }
+        requires { IsLive (forest other.now) x }
+        ensures { IsFound (forest self.now) (moment_at (forest other.now) x) result }
     {
         let node = other.node(x);
         let mut depth: usize = 0;
@@ -259,16 +259,16 @@ impl Tree {
 
     /// What rules lead to from a node by one more, each once.
     pub fn children(&self, x: u32) -> &[u32]
-        requires { IsLive self.now x }
-        ensures { AreChildren self.now x result.now }
+        requires { IsLive (forest self.now) x }
+        ensures { AreChildren (forest self.now) x result.now }
     {
         self.node(x).children.as_slice()
     }
 
     // The numbers of a node and of all below it.
     fn below(&self, alloc: Global, x: u32) -> Result<Vec<u32>, NoMemory>
-        requires { IsLive self.now x }
-        ensures { IfOk result (λ found. (m : Member) → member self.now x ≡ Some m → ListsBelow self.now m found.items) }
+        requires { IsLive (forest self.now) x }
+        ensures { IfOk result (λ found. (m : Member) → member (forest self.now) x ≡ Some m → ListsBelow (forest self.now) m found.items) }
     {
         let mut found = Vec::from_slice(alloc, &[x])?;
         let mut next = 0;
@@ -283,7 +283,7 @@ impl Tree {
 
     // The node of a root.
     fn root_of(&self, name: &Name) -> Option<u32>
-        ensures { IsWayTo self.now (At (Begin name.now)) result }
+        ensures { IsWayTo (forest self.now) (At (Begin name.now)) result }
     {
         for x in &self.roots {
             if self.nodes[*x as usize].root == *name {
@@ -304,7 +304,7 @@ impl Tree {
 
     // The node of a root, if it stands at this place.
     fn root_at(&self, name: &Name, place: usize) -> Option<u32>
-        ensures { IfSome result (IsNodeOf self.now (At (Begin name.now))) }
+        ensures { IfSome result (IsNodeOf (forest self.now) (At (Begin name.now))) }
     {
         let x = number_at(self.roots.as_slice(), place)?;
         if self.nodes[x as usize].root == *name {
@@ -316,7 +316,7 @@ impl Tree {
 
     // The node of a root, looked for first at this place and next to it.
     fn root_near(&self, name: &Name, place: usize) -> Option<u32>
-        ensures { IsWayTo self.now (At (Begin name.now)) result }
+        ensures { IsWayTo (forest self.now) (At (Begin name.now)) result }
     {
         for k in [place, place.saturating_add(1), place.saturating_sub(1)] {
             if let Some(x) = self.root_at(name, k) {
@@ -328,8 +328,8 @@ impl Tree {
 
     // The node of what a rule leads to from a node, if it stands at this place of the children.
     fn effect_at(&self, x: u32, rule: &Name, place: usize) -> Option<u32>
-        requires { IsLive self.now x }
-        ensures { IfSome result (IsNodeOf self.now (After (moment_at self.now x) rule.now)) }
+        requires { IsLive (forest self.now) x }
+        ensures { IfSome result (IsNodeOf (forest self.now) (After (moment_at (forest self.now) x) rule.now)) }
     {
         let child = number_at(self.nodes[x as usize].children.as_slice(), place)?;
         if is_by(&self.nodes[child as usize], rule) {
@@ -342,8 +342,8 @@ impl Tree {
     // The node of what a rule leads to from a node, looked for first at this place of the children and
     // next to it.
     fn effect_near(&self, x: u32, rule: &Name, place: usize) -> Option<u32>
-        requires { IsLive self.now x }
-        ensures { IsWayTo self.now (After (moment_at self.now x) rule.now) result }
+        requires { IsLive (forest self.now) x }
+        ensures { IsWayTo (forest self.now) (After (moment_at (forest self.now) x) rule.now) result }
     {
         for k in [place, place.saturating_add(1), place.saturating_sub(1)] {
             if let Some(child) = self.effect_at(x, rule, k) {
@@ -355,8 +355,8 @@ impl Tree {
 
     // The node of what a rule leads to from a node.
     fn effect_of(&self, x: u32, rule: &Name) -> Option<u32>
-        requires { IsLive self.now x }
-        ensures { IsWayTo self.now (After (moment_at self.now x) rule.now) result }
+        requires { IsLive (forest self.now) x }
+        ensures { IsWayTo (forest self.now) (After (moment_at (forest self.now) x) rule.now) result }
     {
         for child in &self.nodes[x as usize].children {
             if is_by(&self.nodes[*child as usize], rule) {
@@ -368,16 +368,16 @@ impl Tree {
 
     // The node of a number.
     pub(crate) fn node(&self, x: u32) -> &Node
-        requires { IsLive self.now x }
-        ensures { IsKept self.now x result.now }
+        requires { IsLive (forest self.now) x }
+        ensures { IsKept (forest self.now) x result.now }
     {
         &self.nodes[x as usize]
     }
 
     /// The word of a node, as it is printed.
     pub fn word(&self, x: u32) -> &[u8]
-        requires { IsLive self.now x }
-        ensures { result.now ≡ printed (moment_at self.now x) }
+        requires { IsLive (forest self.now) x }
+        ensures { result.now ≡ printed (moment_at (forest self.now) x) }
     {
         self.node(x).word.as_slice()
     }

@@ -16,6 +16,7 @@ use Rattle.belief_theory.proofs.SoundBeliefs.{sound_timed}
 use Rattle.dist_net.specs.Net.{Net}
 use Rattle.spots.specs.Forest.{Forest, IsLive, moment_at}
 use Rattle.spots.specs.Seen.{IsSeen, Holds}
+use Rattle.occ_tree.specs.Places.{forest}
 use Rattle.projection.specs.declared.growth.Growing.{Growing}
 use Rattle.projection.specs.declared.pending.Pending.{Pending}
 use Rattle.projection.specs.Counted.{due_rules}
@@ -73,7 +74,7 @@ pub record IsGrowingWith (s : Standing) (net : Net) (f : Forest) (p : Pending) (
 
 -- with the decision p made, one more has been made than before
 abbrev pub Settles : Standing → Net → Growing → Pending → Growing → Type 0
-Settles s net old p new = (made : ℕ) → IsGrowingWith s net old.tree p old.queue old.size made → IsGrowing s net new.tree new.queue new.size (made + 1)
+Settles s net old p new = (made : ℕ) → IsGrowingWith s net (forest old.tree) p old.queue old.size made → IsGrowing s net (forest new.tree) new.queue new.size (made + 1)
 
 -- among the occurrences that the nodes are, each antecedent of the rule that waits has a supporter
 abbrev pub FiresAmong : Standing → Forest → Pending → Type 0

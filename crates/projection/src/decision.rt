@@ -8,6 +8,7 @@ ghost use Rattle.tmm_model.specs.Sorts.{class_in};
 ghost use Rattle.tmm_model.specs.Standing.{far_in};
 ghost use Rattle.spots.specs.Forest.{IsLive, moment_at};
 ghost use Rattle.spots.specs.Seen.{IsSeen, Holds};
+ghost use Rattle.occ_tree.specs.Places.{forest};
 ghost use Rattle.projection.specs.Decisions.{outcome_at, AreLive, tried_at};
 ghost use Rattle.projection.specs.Places.{name_at, IsRuleAt};
 
@@ -80,11 +81,11 @@ pub fn decide(
     rule: Name,
     counter: &mut Counter,
 ) -> Decision
-    requires seen { IsSeen standing.now.present net.now.present tree.now }
-    requires trigger { IsLive tree.now trigger }
-    requires rule { Contains (rules_at standing.now.present (moment_at tree.now trigger)) rule }
-    ensures outcome { (b : List Moment) → Holds b tree.now → outcome_at tree.now result ≡ outcome standing.now.present (far_in standing.now.present.premises) b (moment_at tree.now trigger) rule }
-    ensures live { AreLive tree.now result }
+    requires seen { IsSeen standing.now.present net.now.present (forest tree.now) }
+    requires trigger { IsLive (forest tree.now) trigger }
+    requires rule { Contains (rules_at standing.now.present (moment_at (forest tree.now) trigger)) rule }
+    ensures outcome { (b : List Moment) → Holds b (forest tree.now) → outcome_at (forest tree.now) result ≡ outcome standing.now.present (far_in standing.now.present.premises) b (moment_at (forest tree.now) trigger) rule }
+    ensures live { AreLive (forest tree.now) result }
     ensures counted { counter.new ≡ min (counter.old + 1) 18446744073709551615 }
     ensures kept { counter.old ≤ counter.new }
 {
@@ -105,12 +106,12 @@ fn try_given(
     trigger: u32,
     given: &[Name],
 ) -> Decision
-    requires seen { IsSeen standing.now.present net.now.present tree.now }
-    requires trigger { IsLive tree.now trigger }
+    requires seen { IsSeen standing.now.present net.now.present (forest tree.now) }
+    requires trigger { IsLive (forest tree.now) trigger }
     requires facts { All (λ fact. IsSome (class_in standing.now.present.premises fact)) given.now }
     requires few { length given.now ≤ 4 }
-    ensures outcome { (b : List Moment) → Holds b tree.now → outcome_at tree.now result ≡ tried_at standing.now.present b (moment_at tree.now trigger) given.now }
-    ensures live { AreLive tree.now result }
+    ensures outcome { (b : List Moment) → Holds b (forest tree.now) → outcome_at (forest tree.now) result ≡ tried_at standing.now.present b (moment_at (forest tree.now) trigger) given.now }
+    ensures live { AreLive (forest tree.now) result }
 {
     let at = Spot::Node(trigger);
     let mut supports = ArrayVec::new();
@@ -132,11 +133,11 @@ pub(crate) fn is_free(
     trigger: u32,
     place: u32,
 ) -> bool
-    requires seen { IsSeen standing.now.present net.now.present tree.now }
-    requires trigger { IsLive tree.now trigger }
+    requires seen { IsSeen standing.now.present net.now.present (forest tree.now) }
+    requires trigger { IsLive (forest tree.now) trigger }
     requires place { IsRuleAt standing.now.present place }
-    requires rule { Contains (rules_at standing.now.present (moment_at tree.now trigger)) (name_at standing.now.present place) }
-    ensures { (b : List Moment) → Holds b tree.now → result ≡ is_free standing.now.present (far_in standing.now.present.premises) b (moment_at tree.now trigger) (name_at standing.now.present place) }
+    requires rule { Contains (rules_at standing.now.present (moment_at (forest tree.now) trigger)) (name_at standing.now.present place) }
+    ensures { (b : List Moment) → Holds b (forest tree.now) → result ≡ is_free standing.now.present (far_in standing.now.present.premises) b (moment_at (forest tree.now) trigger) (name_at standing.now.present place) }
 {
     let at = Spot::Node(trigger);
     let given = text_at(standing, place).given;

@@ -9,6 +9,7 @@ ghost use Rattle.dist_net.specs.Net.{Net};
 ghost use Rattle.list_net.specs.Fits.{IsNetOf};
 ghost use Rattle.spots.specs.Forest.{IsLive, moment_at};
 ghost use Rattle.spots.specs.Seen.{IsSeen, Holds};
+ghost use Rattle.occ_tree.specs.Places.{forest};
 ghost use Rattle.projection.specs.Counted.{decisions_due};
 ghost use Rattle.supports.specs.Growing.{Adds, effect_shape, MayEnter};
 ghost use Rattle.projection.specs.Kinds.{AreRules};
@@ -55,11 +56,11 @@ fn add_effect(
     trigger: u32,
     place: u32,
 ) -> Result<u32, NoMemory>
-    requires seen { (net : Net) × IsSeen standing.now.present net tree.old }
-    requires trigger { IsLive tree.old trigger }
+    requires seen { (net : Net) × IsSeen standing.now.present net (forest tree.old) }
+    requires trigger { IsLive (forest tree.old) trigger }
     requires place { IsRuleAt standing.now.present place }
-    requires enters { MayEnter standing.now.present tree.old trigger (name_at standing.now.present place) }
-    ensures { IfOk result (λ x. (net : Net) → IsSeen standing.now.present net tree.old → Adds standing.now.present net.names tree.old tree.new x (After (moment_at tree.old trigger) (name_at standing.now.present place))) }
+    requires enters { MayEnter standing.now.present (forest tree.old) trigger (name_at standing.now.present place) }
+    ensures { IfOk result (λ x. (net : Net) → IsSeen standing.now.present net (forest tree.old) → Adds standing.now.present net.names (forest tree.old) (forest tree.new) x (After (moment_at (forest tree.old) trigger) (name_at standing.now.present place))) }
 {
     // It tells the proof that names are distinct.
     let _ = standing.len();
@@ -89,11 +90,11 @@ fn wait_for(
     queue: &mut Queue,
     x: u32,
 ) -> Result<(), NoMemory>
-    requires seen { IsSeen standing.now.present net.now.present tree.now }
-    requires live { IsLive tree.now x }
-    requires rules { map (name_at standing.now.present) places.now ≡ rules_at standing.now.present (moment_at tree.now x) }
+    requires seen { IsSeen standing.now.present net.now.present (forest tree.now) }
+    requires live { IsLive (forest tree.now) x }
+    requires rules { map (name_at standing.now.present) places.now ≡ rules_at standing.now.present (moment_at (forest tree.now) x) }
     requires places { All (IsRuleAt standing.now.present) places.now }
-    ensures { OnOk result (Queues standing.now.present tree.now x (rules_at standing.now.present (moment_at tree.now x)) queue.old queue.new) }
+    ensures { OnOk result (Queues standing.now.present (forest tree.now) x (rules_at standing.now.present (moment_at (forest tree.now) x)) queue.old queue.new) }
 {
     let horizon = standing.horizon();
     let early = tree.early(net, x);
@@ -126,15 +127,15 @@ fn count_in(
     growing: &mut Growing,
     x: u32,
 ) -> Result<(), Stop>
-    requires seen { IsSeen standing.now.present net.now.present growing.old.tree }
-    requires live { IsLive growing.old.tree x }
+    requires seen { IsSeen standing.now.present net.now.present (forest growing.old.tree) }
+    requires live { IsLive (forest growing.old.tree) x }
     requires rules { AreRules standing.now.present rules.now }
     requires size { growing.old.size ≤ most_size }
     ensures tree { OnOk result (growing.new.tree ≡ growing.old.tree) }
-    ensures size { OnOk result (growing.new.size ≡ growing.old.size + weight_at standing.now.present growing.old.tree x) }
-    ensures small { OnOk result (growing.old.size + weight_at standing.now.present growing.old.tree x ≤ most_size) }
-    ensures queued { OnOk result (Queues standing.now.present growing.old.tree x (rules_at standing.now.present (moment_at growing.old.tree x)) growing.old.queue growing.new.queue) }
-    ensures stops { IfErr result (IsTooLarge (growing.old.size + weight_at standing.now.present growing.old.tree x)) }
+    ensures size { OnOk result (growing.new.size ≡ growing.old.size + weight_at standing.now.present (forest growing.old.tree) x) }
+    ensures small { OnOk result (growing.old.size + weight_at standing.now.present (forest growing.old.tree) x ≤ most_size) }
+    ensures queued { OnOk result (Queues standing.now.present (forest growing.old.tree) x (rules_at standing.now.present (moment_at (forest growing.old.tree) x)) growing.old.queue growing.new.queue) }
+    ensures stops { IfErr result (IsTooLarge (growing.old.size + weight_at standing.now.present (forest growing.old.tree) x)) }
 {
     let places = rules.at(standing, &growing.tree, x);
     let row = growing.tree.row(x);
@@ -161,8 +162,8 @@ fn declare(
     requires network { IsNetOf standing.now.present net.now.present }
     requires rules { AreRules standing.now.present rules.now }
     requires place { place < length standing.now.present.premises }
-    requires before { IsStarted standing.now.present net.now.present (take place standing.now.present.premises) growing.old.tree growing.old.queue growing.old.size }
-    ensures after { OnOk result (IsStarted standing.now.present net.now.present (take (place + 1) standing.now.present.premises) growing.new.tree growing.new.queue growing.new.size) }
+    requires before { IsStarted standing.now.present net.now.present (take place standing.now.present.premises) (forest growing.old.tree) growing.old.queue growing.old.size }
+    ensures after { OnOk result (IsStarted standing.now.present net.now.present (take (place + 1) standing.now.present.premises) (forest growing.new.tree) growing.new.queue growing.new.size) }
     ensures stops { IfErr result (IsTooLarge (size (built standing.now.present))) }
 {
     let Some(premise) = standing.at(place) else {
@@ -186,7 +187,7 @@ fn settle(
     counter: &mut Counter,
 ) -> Result<(), Stop>
     requires rules { AreRules standing.now.present rules.now }
-    requires before { (made : ℕ) × IsGrowingWith standing.now.present net.now.present growing.old.tree pending.now growing.old.queue growing.old.size made }
+    requires before { (made : ℕ) × IsGrowingWith standing.now.present net.now.present (forest growing.old.tree) pending.now growing.old.queue growing.old.size made }
     ensures after { OnOk result (Settles standing.now.present net.now.present growing.old pending.now growing.new) }
     ensures nearer { OnOk result (left growing.new.queue growing.new.size ≤ left growing.old.queue growing.old.size) }
     ensures stops { IfErr result (IsTooLarge (size (built standing.now.present))) }
@@ -211,8 +212,8 @@ fn bring_about(
     pending: &Pending,
 ) -> Result<(), Stop>
     requires rules { AreRules standing.now.present rules.now }
-    requires before { (made : ℕ) × IsGrowingWith standing.now.present net.now.present growing.old.tree pending.now growing.old.queue growing.old.size made }
-    requires fires { FiresAmong standing.now.present growing.old.tree pending.now }
+    requires before { (made : ℕ) × IsGrowingWith standing.now.present net.now.present (forest growing.old.tree) pending.now growing.old.queue growing.old.size made }
+    requires fires { FiresAmong standing.now.present (forest growing.old.tree) pending.now }
     ensures after { OnOk result (Settles standing.now.present net.now.present growing.old pending.now growing.new) }
     ensures nearer { OnOk result (left growing.new.queue growing.new.size ≤ left growing.old.queue growing.old.size) }
     ensures stops { IfErr result (IsTooLarge (size (built standing.now.present))) }
@@ -238,8 +239,8 @@ pub fn rebuild(
     counter: &mut Counter,
 ) -> Result<Projected, Stop>
     requires network { IsNetOf standing.now.present net.now.present }
-    ensures seen { IfOk result (λ projected. IsSeen standing.now.present net.now.present projected.tree) }
-    ensures holds { IfOk result (λ projected. Holds (built standing.now.present).believed projected.tree) }
+    ensures seen { IfOk result (λ projected. IsSeen standing.now.present net.now.present (forest projected.tree)) }
+    ensures holds { IfOk result (λ projected. Holds (built standing.now.present).believed (forest projected.tree)) }
     ensures size { IfOk result (λ projected. projected.size ≡ size (built standing.now.present)) }
     ensures small { IfOk result (λ projected. projected.size ≤ most_size) }
     ensures stops { IfErr result (IsTooLarge (size (built standing.now.present))) }

@@ -4,6 +4,7 @@ ghost use Rattle.std.specs.List.{All};
 ghost use Rattle.tmm_model.specs.Beliefs.{rules_at};
 ghost use Rattle.spots.specs.Forest.{IsLive, moment_at};
 ghost use Rattle.spots.specs.Seen.{IsSeen};
+ghost use Rattle.occ_tree.specs.Places.{forest};
 ghost use Rattle.dist_net.specs.Net.{Net};
 ghost use Rattle.projection.specs.Kinds.{AreRules, AddsPremise};
 ghost use Rattle.projection.specs.Places.{name_at, IsRuleAt};
@@ -49,9 +50,9 @@ impl RulesByKind {
     /// The places of the rules on the kind of the event at a node, none where it is no event.
     pub fn at(&self, standing: &Standing, tree: &Tree, x: u32) -> &[u32]
         requires rules { AreRules standing.now.present self.now }
-        requires members { (net : Net) × IsSeen standing.now.present net tree.now }
-        requires live { IsLive tree.now x }
-        ensures value { map (name_at standing.now.present) result.now ≡ rules_at standing.now.present (moment_at tree.now x) }
+        requires members { (net : Net) × IsSeen standing.now.present net (forest tree.now) }
+        requires live { IsLive (forest tree.now) x }
+        ensures value { map (name_at standing.now.present) result.now ≡ rules_at standing.now.present (moment_at (forest tree.now) x) }
         ensures places { All (IsRuleAt standing.now.present) result.now }
         ensures few { length result.now ≤ 2000 }
     {

@@ -5,6 +5,7 @@ ghost use Rattle.std.specs.Option.{ForSome};
 ghost use Rattle.tmm_model.specs.Lines.{IsName, IsWellFormedPremise};
 ghost use Rattle.spots.specs.Forest.{IsLive};
 ghost use Rattle.spots.specs.Seen.{HasList};
+ghost use Rattle.occ_tree.specs.Places.{forest};
 ghost use Rattle.list_net.specs.Fits.{IsNetOf, IsSettled};
 ghost use Rattle.projection.specs.Places.{name_at, IsRuleAt};
 
@@ -229,14 +230,14 @@ fn are_one_apart(ranked: &[Ranked<'_>]) -> bool {
 
 // Whether the node is a token of this fact.
 fn is_of(tree: &Tree, node: u32, fact: Name) -> bool
-    requires { IsLive tree.now node }
+    requires { IsLive (forest tree.now) node }
 {
     tree.row(node).what == fact
 }
 
 // How many nodes are clipped, each by a token of this fact; none where one is of another.
 fn clipped_by(tree: &Tree, clips: &[Option<u32>], fact: Name) -> Option<usize>
-    requires { All (λ clip. IfSome clip (IsLive tree.now)) clips.now }
+    requires { All (λ clip. IfSome clip (IsLive (forest tree.now))) clips.now }
 {
     let mut found: usize = 0;
     for i in 0..clips.len() {
@@ -258,7 +259,7 @@ fn clipped_one_apart(
     net: &DistNet,
     fact: Name,
 ) -> Result<Option<usize>, NoMemory>
-    requires { HasList net.now.present tree.now }
+    requires { HasList net.now.present (forest tree.now) }
 {
     let nodes = tree.numbers(alloc)?;
     let ranked = in_order(alloc, tree, net, nodes.as_slice())?;

@@ -2,20 +2,20 @@
 use Rattle.std.proofs.Common.{◌≡◌, ◌∙◌, ℕ, Bool, true, false, not, ◌&&◌, ◌||◌, ◌==◌, List, map, refl, sym, ap, subst, inl, inr}
 use Rattle.std.specs.Prelude.{◌↔◌, ◌⊎◌, Option, Some, None, ◌≤ℤ◌}
 use Rattle.std.specs.List.{Contains}
-use Rattle.std.specs.Cmp.Lexicographic.{nat_list_eq_equiv, bytes_decides}
+use Rattle.std.specs.Cmp.Lexicographic.{nat_list_eq_equiv}
 use Rattle.tmm_model.specs.declared.premise.Edit.{Edit}
 use Rattle.tmm_model.specs.declared.token.TokenRow.{TokenRow}
 use Rattle.tmm_model.specs.Beliefs.{class_of, rules_at, token_of}
 use Rattle.belief_theory.specs.Outcomes.{decisions, outcome, Outcome, fires, blocked, beyond}
 use Rattle.tmm_model.specs.Edits.{next_list}
 use Rattle.tmm_model.specs.Maps.{TimeMap, built, believed_tokens}
-use Rattle.tmm_model.specs.Moments.{Moment, At, After, RuleText, as_rule, distance, same_moment, rule_of}
+use Rattle.tmm_model.specs.Moments.{Moment, At, After, RuleText, distance, same_moment, rule_of}
 use Rattle.tmm_model.specs.Points.{same_name}
 use Rattle.belief_theory.specs.Right.{Occurs}
 use Rattle.list_theory.specs.WellNamed.{IsSound}
-use Rattle.tmm_model.specs.Standing.{Standing, far_in, premise_in}
+use Rattle.tmm_model.specs.Standing.{Standing, far_in}
 use Rattle.belief_theory.specs.Touched.{same_tokens, watched, watched_points, same_gaps, is_decision}
-use Rattle.list_theory.proofs.Elements.{In, In-from_Contains, Contains-from_In, In-filter, filter-In, In-filter_map, filter_map-In, flat_map-In, map-In, In-list_any, list_any-In, both, In-flat_map, In-map}
+use Rattle.list_theory.proofs.Elements.{In, In-from_Contains, Contains-from_In, In-filter, filter-In, In-filter_map, filter_map-In, flat_map-In, map-In, In-list_any, list_any-In}
 use Rattle.belief_theory.proofs.NextLists.{one_way, found_within}
 use Rattle.belief_theory.proofs.Moments.{Decides-same_moment}
 use Rattle.belief_theory.proofs.OneRight.{later, spot-token_of}
@@ -27,8 +27,6 @@ use Rattle.revisions.specs.Maps.{is_watched, watches, revision}
 use Rattle.revisions.specs.Revisions.{Revision, is_firing, IsOf, AreOf, AgreeFor, Belongs, IsNew, IsLost, IsLawful}
 use Rattle.tmm_model.specs.Tokens.{is_by}
 use Rattle.belief_theory.proofs.Order.{IsSpelt}
-use Rattle.list_theory.proofs.KnownNames.{found}
-use Rattle.belief_theory.proofs.Sound.{rule_stands}
 use Rattle.revisions.proofs.Tokens.{tokens_stay, classes_stay}
 use Rattle.revisions.proofs.Locality.{Sees, AllSpelt, outcome_local}
 

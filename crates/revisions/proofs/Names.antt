@@ -32,7 +32,7 @@ known_word earlier q n at own =
     subst (λ m. In m (words_known earlier)) is (map-In (λ d. d.0) (declarations_in earlier) d (flat_map-In declarations_of earlier q d at there))
 
 -- no two premises declare one name
-fresh_word : (earlier premises : List Premise) → AllFollow earlier premises → (p : Premise) → In p premises → (n : List ℕ) → In n (declared_by p)
+pub fresh_word : (earlier premises : List Premise) → AllFollow earlier premises → (p : Premise) → In p premises → (n : List ℕ) → In n (declared_by p)
     → (q : Premise) → In q earlier → In n (declared_by q) → ⊥
 fresh_word earlier [] h p at n own q before there = absurd at
 fresh_word earlier (o ∷ premises) h p (inl is) n own q before there =

@@ -9,3 +9,5 @@ pub mod Marks
 pub mod Whole
 pub mod Clips
 pub mod Standing
+pub mod Alike
+pub mod StillEdits

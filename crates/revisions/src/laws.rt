@@ -2,7 +2,9 @@
 ghost use Rattle.revisions.specs.Laws.{NodesAreFinal, EndIsBelieved, MadeAreTouched, ChangedWereMade, TurnsKeep, SeedsKeep, ToldIsChanged};
 ghost use Rattle.revisions.specs.Maps.{EditsAreLawful};
 ghost use Rattle.revisions.specs.Standing.{StandingOccur};
+ghost use Rattle.revisions.specs.Alike.{AlikeBelieve, SameReadSayAlike, UnreadEditsSayAlike};
 ghost use Rattle.revisions.specs.Clips.{ClipsStay};
+ghost use Rattle.revisions.specs.StillEdits.{UnmovedAreAlike, LikeListsSee};
 ghost use Rattle.revisions.specs.Whole.{RevisionsAreRight};
 ghost use Rattle.revisions.specs.Marks.{MarksMake};
 ghost use Rattle.revisions.specs.Counted.{EditsAreCounted, SeedsAreRight};
@@ -75,4 +77,29 @@ pub fn clips_stay()
 /// What occurred still occurs exactly where its root and its rules stand.
 pub fn standing_occur()
     ensures { StandingOccur }
+{}
+
+/// Of lists that are alike in all that beliefs read, the same is believed, and no belief changes.
+pub fn alike_believe()
+    ensures { AlikeBelieve }
+{}
+
+/// Lists with the same of those premises that beliefs read say the same.
+pub fn same_read_say_alike()
+    ensures { SameReadSayAlike }
+{}
+
+/// What an edit adds or erases that beliefs do not read, it changes nothing of what they read but distances.
+pub fn unread_edits_say_alike()
+    ensures { UnreadEditsSayAlike }
+{}
+
+/// Lists that say the same are alike where no point moved whose distances beliefs read.
+pub fn unmoved_are_alike()
+    ensures { UnmovedAreAlike }
+{}
+
+/// Nodes that a list sees are seen by each list that says the same.
+pub fn like_lists_see()
+    ensures { LikeListsSee }
 {}

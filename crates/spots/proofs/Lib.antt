@@ -3,5 +3,9 @@ pub mod Nodes
 pub mod Rows
 pub mod Seen
 pub mod Laws
+pub mod Dates
 pub mod Believed
-pub mod Held
+pub mod Delays
+pub mod Apart
+pub mod InUse
+pub mod Distances

@@ -26,7 +26,6 @@ use Rattle.spots.specs.Seen.{IsSeen, Holds}
 use Rattle.spots.proofs.Links.{low_is, high_is, apart_is}
 use Rattle.spots.proofs.Nodes.{node_at, moment_at-is, point_is, links_are, rules_are}
 pub use Rattle.spots.proofs.Believed.{believed_once}
-pub use Rattle.spots.proofs.Held.{Holds-itself, moments_are}
 pub use Rattle.spots.proofs.Rows.{IsRowOf, member_of_token, end_there, token_is, class_of_member, class_of_fact, rows_there}
 
 module _ (s : Standing) (net : Net) (f : Forest) (seen : IsSeen s net f) where

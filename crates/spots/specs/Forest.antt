@@ -1,7 +1,6 @@
 -- Occurrences as numbered nodes.
-use Rattle.std.specs.Prelude.{◌≡◌, ◌≢◌, ℕ, ◌<◌, List, [], ◌∷◌, ◌++◌, map, length, slice_index_or, Option, Some, None, IsSome, IsNone, MatchOption}
-use Rattle.std.specs.List.{filter_map}
-use Rattle.std.specs.Option.{option_map, option_map_or}
+use Rattle.std.specs.Prelude.{◌≡◌, ◌≢◌, ℕ, ◌<◌, List, [], ◌∷◌, ◌++◌, map, length, Option, Some, None, IsSome, IsNone, MatchOption}
+use Rattle.std.specs.Option.{option_map_or}
 use Rattle.tmm_model.specs.declared.point.PointName.TheVariants.{Start, Begin}
 use Rattle.tmm_model.specs.declared.token.Shape.{Shape}
 use Rattle.tmm_model.specs.declared.token.Shape.TheVariants.{Event, Persistence, Span}
@@ -21,11 +20,11 @@ pub record Member : Type 0 where
 
 -- the node of each number, none where the number is of no node
 abbrev pub Forest : Type 0
-Forest = List (Option Member)
+Forest = ℕ → Option Member
 
 -- the node of a number, none where the number is of no node
 abbrev pub member : Forest → ℕ → Option Member
-member f x = slice_index_or f x None
+member f x = f x
 
 -- the number is of a node
 abbrev pub IsLive : Forest → ℕ → Type 0
@@ -42,10 +41,6 @@ moment m = along (At (Begin m.root)) (rules_of m)
 -- the moment of the node of a number
 abbrev pub moment_at : Forest → ℕ → Moment
 moment_at f x = option_map_or moment (member f x) (At Start)
-
--- the moments of all nodes, by their numbers
-abbrev pub moments : Forest → List Moment
-moments f = filter_map (option_map moment) f
 
 -- ---- what enters and leaves
 

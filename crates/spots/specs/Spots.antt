@@ -80,6 +80,10 @@ module _ (net : Net) (f : Forest) where
   abbrev pub node_early : ℕ → ℤ
   node_early x = negated (spot_distance (Node x) (Declared 0))
 
+  -- the earliest date of a spot
+  abbrev pub spot_early : Spot → ℤ
+  spot_early p = negated (spot_distance p (Declared 0))
+
   -- nodes by their earliest dates, and then by the bytes of their words
   abbrev pub node_cmp : ℕ → ℕ → Ordering
   node_cmp = then_cmp (on node_early int_cmp) (on (λ x. printed (moment_at f x)) (slice_cmp nat_cmp))

@@ -12,6 +12,7 @@ ghost use Rattle.occ_tree.specs.Ranks.{nodes_of};
 ghost use Rattle.spots.specs.Forest.{IsLive, moment_at};
 ghost use Rattle.spots.specs.Seen.{IsSeen, HasList, Holds, map_of};
 ghost use Rattle.spots.specs.Spots.{IsSpot, spot_distance, node_cmp};
+ghost use Rattle.occ_tree.specs.Places.{forest};
 ghost use Rattle.supports.specs.Behind.{AreBehind, IsClip, IsLastNode, token_at};
 ghost use Rattle.supports.specs.Nodes.{IsOfNode};
 
@@ -32,12 +33,12 @@ pub fn clips(
     net: &DistNet,
     ranked: &[Ranked<'_>],
 ) -> Result<Vec<Option<u32>>, NoMemory>
-    requires list { HasList net.now.present tree.now }
-    requires live { All (IsLive tree.now) (nodes_of ranked.now) }
-    requires all { (x : ℕ) → IsLive tree.now x → Contains (nodes_of ranked.now) x }
-    requires in_order { IsStrictlySortedBy (node_cmp net.now.present tree.now) (nodes_of ranked.now) }
-    ensures live { IfOk result (λ clips. All (λ clip. IfSome clip (IsLive tree.now)) clips.items) }
-    ensures first { IfOk result (λ clips. (s : Standing) (b : List Moment) → IsSeen s net.now.present tree.now → Holds b tree.now → map (option_map (moment_at tree.now)) clips.items ≡ map (λ x. clip (map_of s b) (moment_at tree.now x)) (nodes_of ranked.now)) }
+    requires list { HasList net.now.present (forest tree.now) }
+    requires live { All (IsLive (forest tree.now)) (nodes_of ranked.now) }
+    requires all { (x : ℕ) → IsLive (forest tree.now) x → Contains (nodes_of ranked.now) x }
+    requires in_order { IsStrictlySortedBy (node_cmp net.now.present (forest tree.now)) (nodes_of ranked.now) }
+    ensures live { IfOk result (λ clips. All (λ clip. IfSome clip (IsLive (forest tree.now))) clips.items) }
+    ensures first { IfOk result (λ clips. (s : Standing) (b : List Moment) → IsSeen s net.now.present (forest tree.now) → Holds b (forest tree.now) → map (option_map (moment_at (forest tree.now))) clips.items ≡ map (λ x. clip (map_of s b) (moment_at (forest tree.now) x)) (nodes_of ranked.now)) }
 {
     let mut clips = Vec::from_elem(alloc, None, ranked.len())?;
     // the tokens behind by their classes: in each class the nearest one stands last
@@ -58,15 +59,15 @@ fn clip_at(
     i: usize,
     behind: &mut NameLists<TokenRow<Spot>>,
 ) -> Result<Option<u32>, NoMemory>
-    requires list { HasList net.now.present tree.now }
-    requires live { All (IsLive tree.now) (nodes_of ranked.now) }
-    requires all { (x : ℕ) → IsLive tree.now x → Contains (nodes_of ranked.now) x }
-    requires in_order { IsStrictlySortedBy (node_cmp net.now.present tree.now) (nodes_of ranked.now) }
+    requires list { HasList net.now.present (forest tree.now) }
+    requires live { All (IsLive (forest tree.now)) (nodes_of ranked.now) }
+    requires all { (x : ℕ) → IsLive (forest tree.now) x → Contains (nodes_of ranked.now) x }
+    requires in_order { IsStrictlySortedBy (node_cmp net.now.present (forest tree.now)) (nodes_of ranked.now) }
     requires within { i < length ranked.now }
-    requires behind { AreBehind tree.now (drop (i + 1) (nodes_of ranked.now)) (list_of behind.old) }
-    ensures live { IfOk result (λ clip. IfSome clip (IsLive tree.now)) }
-    ensures clip { IfOk result (IsClip net.now.present tree.now (slice_index_or (nodes_of ranked.now) i 0)) }
-    ensures behind { OnOk result (AreBehind tree.now (drop i (nodes_of ranked.now)) (list_of behind.new)) }
+    requires behind { AreBehind (forest tree.now) (drop (i + 1) (nodes_of ranked.now)) (list_of behind.old) }
+    ensures live { IfOk result (λ clip. IfSome clip (IsLive (forest tree.now))) }
+    ensures clip { IfOk result (IsClip net.now.present (forest tree.now) (slice_index_or (nodes_of ranked.now) i 0)) }
+    ensures behind { OnOk result (AreBehind (forest tree.now) (drop i (nodes_of ranked.now)) (list_of behind.new)) }
 {
     let Some(token) = token_at(tree, ranked[i].node) else {
         return Ok(None);
@@ -78,8 +79,8 @@ fn clip_at(
 
 // The token that a node is, none for an event.
 fn token_at(tree: &Tree, x: u32) -> Option<TokenRow<Spot>>
-    requires { IsLive tree.now x }
-    ensures { result ≡ token_at tree.now x }
+    requires { IsLive (forest tree.now) x }
+    ensures { result ≡ token_at (forest tree.now) x }
 {
     let row = tree.row(x);
     let class = row.class?;
@@ -98,12 +99,12 @@ fn next_clip(
     behind: &[TokenRow<Spot>],
     k: &TokenRow<Spot>,
 ) -> Option<u32>
-    requires list { HasList net.now.present tree.now }
+    requires list { HasList net.now.present (forest tree.now) }
     requires nodes { All IsOfNode behind.now }
-    requires live { All (λ row. IsSpot net.now.present.names tree.now row.spot × ForSome row.end (IsSpot net.now.present.names tree.now)) behind.now }
-    requires k_live { IsSpot net.now.present.names tree.now k.now.spot }
-    ensures live { IfSome result (IsLive tree.now) }
-    ensures last { MatchOption k.now.end (IsLastNode (clips of_one_class (spot_distance net.now.present tree.now) k.now) behind.now result) (λ _. IsNone result) }
+    requires live { All (λ row. IsSpot net.now.present.names (forest tree.now) row.spot × ForSome row.end (IsSpot net.now.present.names (forest tree.now))) behind.now }
+    requires k_live { IsSpot net.now.present.names (forest tree.now) k.now.spot }
+    ensures live { IfSome result (IsLive (forest tree.now)) }
+    ensures last { MatchOption k.now.end (IsLastNode (clips of_one_class (spot_distance net.now.present (forest tree.now)) k.now) behind.now result) (λ _. IsNone result) }
 {
     if k.end.is_some() {
         return None;

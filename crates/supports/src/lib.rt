@@ -20,6 +20,7 @@ ghost use Rattle.spots.specs.Forest.{Member, member, IsLive, moment_at};
 ghost use Rattle.spots.specs.Seen.{IsSeen, Holds, map_of};
 ghost use Rattle.spots.specs.declared.spot.Spot.{Spot};
 ghost use Rattle.spots.specs.Spots.{IsSpot, spot_moment};
+ghost use Rattle.occ_tree.specs.Places.{forest};
 ghost use Rattle.supports.specs.Faults.{fault_at};
 ghost use Rattle.supports.specs.Nodes.{IsOfNode, HasNode};
 
@@ -73,12 +74,12 @@ pub fn supporter(
     p: Spot,
     q: Spot,
 ) -> Option<u32>
-    requires seen { IsSeen standing.now.present net.now.present tree.now }
+    requires seen { IsSeen standing.now.present net.now.present (forest tree.now) }
     requires fact { IsSome (class_in standing.now.present.premises fact) }
-    requires p { IsSpot net.now.present.names tree.now p }
-    requires q { IsSpot net.now.present.names tree.now q }
-    ensures live { IfSome result (IsLive tree.now) }
-    ensures first { (b : List Moment) → Holds b tree.now → option_map (moment_at tree.now) result ≡ holder standing.now.present (far_in standing.now.present.premises) b fact (spot_moment net.now.present.names tree.now p) (spot_moment net.now.present.names tree.now q) }
+    requires p { IsSpot net.now.present.names (forest tree.now) p }
+    requires q { IsSpot net.now.present.names (forest tree.now) q }
+    ensures live { IfSome result (IsLive (forest tree.now)) }
+    ensures first { (b : List Moment) → Holds b (forest tree.now) → option_map (moment_at (forest tree.now)) result ≡ holder standing.now.present (far_in standing.now.present.premises) b fact (spot_moment net.now.present.names (forest tree.now) p) (spot_moment net.now.present.names (forest tree.now) q) }
 {
     let Some(class) = standing.class_of(fact) else {
         unreachable!()
@@ -97,11 +98,11 @@ pub fn is_supported(
     p: Spot,
     q: Spot,
 ) -> bool
-    requires seen { IsSeen standing.now.present net.now.present tree.now }
+    requires seen { IsSeen standing.now.present net.now.present (forest tree.now) }
     requires fact { IsSome (class_in standing.now.present.premises fact) }
-    requires p { IsSpot net.now.present.names tree.now p }
-    requires q { IsSpot net.now.present.names tree.now q }
-    ensures { (b : List Moment) → Holds b tree.now → result ≡ has_support standing.now.present (far_in standing.now.present.premises) b fact (spot_moment net.now.present.names tree.now p) (spot_moment net.now.present.names tree.now q) }
+    requires p { IsSpot net.now.present.names (forest tree.now) p }
+    requires q { IsSpot net.now.present.names (forest tree.now) q }
+    ensures { (b : List Moment) → Holds b (forest tree.now) → result ≡ has_support standing.now.present (far_in standing.now.present.premises) b fact (spot_moment net.now.present.names (forest tree.now) p) (spot_moment net.now.present.names (forest tree.now) q) }
 {
     let Some(class) = standing.class_of(fact) else {
         unreachable!()
@@ -112,10 +113,10 @@ pub fn is_supported(
 /// The node of the first token that clips the one at `x`, none exactly where no token does. A span
 /// and an event have none.
 pub fn clip(standing: &Standing, tree: &Tree, net: &DistNet, x: u32) -> Option<u32>
-    requires seen { IsSeen standing.now.present net.now.present tree.now }
-    requires live { IsLive tree.now x }
-    ensures live { IfSome result (IsLive tree.now) }
-    ensures first { (b : List Moment) → Holds b tree.now → option_map (moment_at tree.now) result ≡ clip (map_of standing.now.present b) (moment_at tree.now x) }
+    requires seen { IsSeen standing.now.present net.now.present (forest tree.now) }
+    requires live { IsLive (forest tree.now) x }
+    ensures live { IfSome result (IsLive (forest tree.now)) }
+    ensures first { (b : List Moment) → Holds b (forest tree.now) → option_map (moment_at (forest tree.now)) result ≡ clip (map_of standing.now.present b) (moment_at (forest tree.now) x) }
 {
     let class = tree.row(x).class?;
     let rows = tree.tokens(class);
@@ -137,14 +138,14 @@ pub enum NodeFault {
 
 /// Why the token at `x` does not support its fact throughout `p` to `q`, where no token does.
 pub fn blame(standing: &Standing, tree: &Tree, net: &DistNet, x: u32, p: Spot, q: Spot) -> NodeFault
-    requires seen { IsSeen standing.now.present net.now.present tree.now }
-    requires p { IsSpot net.now.present.names tree.now p }
-    requires q { IsSpot net.now.present.names tree.now q }
-    requires no_supporter { (b : List Moment) × (m : Member) × Holds b tree.now × (member tree.now x ≡ Some m) × IsSome m.class
-        × (holder standing.now.present (far_in standing.now.present.premises) b m.what (spot_moment net.now.present.names tree.now p) (spot_moment net.now.present.names tree.now q) ≡ None) }
-    ensures live { (c : ℕ) → result ≡ NodeFault.Clipped c → IsLive tree.now c }
-    ensures fault { (b : List Moment) (k : TokenRow Moment) → Holds b tree.now → token_of standing.now.present (moment_at tree.now x) ≡ Some k
-        → fault (map_of standing.now.present b) (spot_moment net.now.present.names tree.now p) (spot_moment net.now.present.names tree.now q) k ≡ fault_at tree.now result }
+    requires seen { IsSeen standing.now.present net.now.present (forest tree.now) }
+    requires p { IsSpot net.now.present.names (forest tree.now) p }
+    requires q { IsSpot net.now.present.names (forest tree.now) q }
+    requires no_supporter { (b : List Moment) × (m : Member) × Holds b (forest tree.now) × (member (forest tree.now) x ≡ Some m) × IsSome m.class
+        × (holder standing.now.present (far_in standing.now.present.premises) b m.what (spot_moment net.now.present.names (forest tree.now) p) (spot_moment net.now.present.names (forest tree.now) q) ≡ None) }
+    ensures live { (c : ℕ) → result ≡ NodeFault.Clipped c → IsLive (forest tree.now) c }
+    ensures fault { (b : List Moment) (k : TokenRow Moment) → Holds b (forest tree.now) → token_of standing.now.present (moment_at (forest tree.now) x) ≡ Some k
+        → fault (map_of standing.now.present b) (spot_moment net.now.present.names (forest tree.now) p) (spot_moment net.now.present.names (forest tree.now) q) k ≡ fault_at (forest tree.now) result }
 {
     let Some(class) = tree.row(x).class else {
         unreachable!()

@@ -3,6 +3,7 @@ ghost use Rattle.std.specs.Prelude.{IfOk};
 ghost use Rattle.tmm_model.specs.Standing.{name_of};
 ghost use Rattle.list_theory.proofs.Elements.{In};
 ghost use Rattle.spots.specs.Forest.{IsNoRoot};
+ghost use Rattle.occ_tree.specs.Places.{forest};
 ghost use Rattle.list_net.specs.Fits.{IsNetOf};
 ghost use Rattle.supports.specs.Growing.{AddsRoot};
 
@@ -24,8 +25,8 @@ pub fn add_root(
 ) -> Result<Option<u32>, NoMemory>
     requires network { IsNetOf standing.now.present net.now.present }
     requires stands { In premise.now standing.now.present.premises }
-    requires new { IsNoRoot tree.old (name_of premise.now) }
-    ensures { IfOk result (AddsRoot standing.now.present net.now.present.names premise.now tree.old tree.new) }
+    requires new { IsNoRoot (forest tree.old) (name_of premise.now) }
+    ensures { IfOk result (AddsRoot standing.now.present net.now.present.names premise.now (forest tree.old) (forest tree.new)) }
 {
     match premise {
         Premise::Event { name, kind } => {

@@ -5,7 +5,7 @@ ghost use Rattle.tmm_io.specs.Causes.{Rose};
 ghost use Rattle.tmm_cli.specs.Program.{ProgramEnds, SummaryEnds};
 
 use crate::demo::{demo, demo_number};
-use map_engine::PlainMap;
+use map_engine::NetMap;
 use std::alloc::Global;
 use tmm_drive::{Status, drive};
 use tmm_io::{Sink, Source};
@@ -40,7 +40,7 @@ pub fn run<S: Source, K: Sink>(
             Err(_) => Status::WriteFault,
         };
     }
-    let Ok(core) = PlainMap::make(alloc) else {
+    let Ok(core) = NetMap::make(alloc) else {
         return Status::NoMemory;
     };
     let Ok(mut buffer) = line_buffer(alloc) else {
@@ -59,7 +59,7 @@ fn run_demo<K: Sink>(alloc: Global, n: u32, sink: &mut K) -> Status
     ensures write_fault { result ≡ Status.WriteFault → Rose (K.faults sink.old) (K.faults sink.new) }
     ensures sink_faults { result ≢ Status.WriteFault → K.faults sink.new ≡ K.faults sink.old }
 {
-    let Ok(core) = PlainMap::make(alloc) else {
+    let Ok(core) = NetMap::make(alloc) else {
         return Status::NoMemory;
     };
     let mut session = Session::make(core);
@@ -67,7 +67,7 @@ fn run_demo<K: Sink>(alloc: Global, n: u32, sink: &mut K) -> Status
 }
 
 // Room for the part of a line that is kept.
-fn line_buffer(alloc: Global) -> Result<Seq<u8>, NoMemory>
+pub(crate) fn line_buffer(alloc: Global) -> Result<Seq<u8>, NoMemory>
     ensures empty { IfOk result (λ buffer. buffer.items ≡ []) }
     ensures room { IfOk result (λ buffer. 401 ≤ buffer.room) }
 {

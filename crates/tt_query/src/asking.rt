@@ -10,6 +10,7 @@ ghost use Rattle.tmm_model.specs.Standing.{far_in};
 ghost use Rattle.spots.specs.Forest.{IsLive};
 ghost use Rattle.spots.specs.Seen.{IsSeen, HasList, Holds};
 ghost use Rattle.spots.specs.Spots.{IsSpot, spot_moment, spot_distance};
+ghost use Rattle.occ_tree.specs.Places.{forest};
 ghost use Rattle.supports.specs.Faults.{fault_at};
 ghost use Rattle.tt_query.specs.Firsts.{blame_at, failing_of, HasNoSupporter};
 
@@ -34,12 +35,12 @@ pub fn ask(
     p: Spot,
     q: Spot,
 ) -> Result<Answer, NoMemory>
-    requires seen { IsSeen standing.now.present net.now.present tree.now }
-    requires holds { Holds (built standing.now.present).believed tree.now }
+    requires seen { IsSeen standing.now.present net.now.present (forest tree.now) }
+    requires holds { Holds (built standing.now.present).believed (forest tree.now) }
     requires fact { IsSome (class_in standing.now.present.premises fact) }
-    requires p { IsSpot net.now.present.names tree.now p }
-    requires q { IsSpot net.now.present.names tree.now q }
-    ensures { IfOk result (λ answer. finding_of answer ≡ ask (built standing.now.present) fact (spot_moment net.now.present.names tree.now p) (spot_moment net.now.present.names tree.now q)) }
+    requires p { IsSpot net.now.present.names (forest tree.now) p }
+    requires q { IsSpot net.now.present.names (forest tree.now) q }
+    ensures { IfOk result (λ answer. finding_of answer ≡ ask (built standing.now.present) fact (spot_moment net.now.present.names (forest tree.now) p) (spot_moment net.now.present.names (forest tree.now) q)) }
 {
     if !is_by(tree, net, p, q) {
         return Ok(Answer::Unordered);
@@ -55,10 +56,10 @@ pub fn ask(
 
 // Whether the first spot is surely at or before the second.
 fn is_by(tree: &Tree, net: &DistNet, p: Spot, q: Spot) -> bool
-    requires list { HasList net.now.present tree.now }
-    requires p { IsSpot net.now.present.names tree.now p }
-    requires q { IsSpot net.now.present.names tree.now q }
-    ensures { result ≡ bound_at_most (spot_distance net.now.present tree.now q p) (pos 0) }
+    requires list { HasList net.now.present (forest tree.now) }
+    requires p { IsSpot net.now.present.names (forest tree.now) p }
+    requires q { IsSpot net.now.present.names (forest tree.now) q }
+    ensures { result ≡ bound_at_most (spot_distance net.now.present (forest tree.now) q p) (pos 0) }
 {
     match tree.far(net, q, p) {
         Bound::Finite(far) => far <= 0,
@@ -76,13 +77,13 @@ fn blamed(
     p: Spot,
     q: Spot,
 ) -> Result<Answer, NoMemory>
-    requires seen { IsSeen standing.now.present net.now.present tree.now }
-    requires holds { Holds (built standing.now.present).believed tree.now }
+    requires seen { IsSeen standing.now.present net.now.present (forest tree.now) }
+    requires holds { Holds (built standing.now.present).believed (forest tree.now) }
     requires fact { IsSome (class_in standing.now.present.premises fact) }
-    requires p { IsSpot net.now.present.names tree.now p }
-    requires q { IsSpot net.now.present.names tree.now q }
-    requires none { holder standing.now.present (far_in standing.now.present.premises) (built standing.now.present).believed fact (spot_moment net.now.present.names tree.now p) (spot_moment net.now.present.names tree.now q) ≡ None }
-    ensures { IfOk result (λ answer. finding_of answer ≡ failing_of (built standing.now.present) fact (spot_moment net.now.present.names tree.now p) (spot_moment net.now.present.names tree.now q)) }
+    requires p { IsSpot net.now.present.names (forest tree.now) p }
+    requires q { IsSpot net.now.present.names (forest tree.now) q }
+    requires none { holder standing.now.present (far_in standing.now.present.premises) (built standing.now.present).believed fact (spot_moment net.now.present.names (forest tree.now) p) (spot_moment net.now.present.names (forest tree.now) q) ≡ None }
+    ensures { IfOk result (λ answer. finding_of answer ≡ failing_of (built standing.now.present) fact (spot_moment net.now.present.names (forest tree.now) p) (spot_moment net.now.present.names (forest tree.now) q)) }
 {
     let class = match standing.class_of(fact) {
         Some(class) => class,
@@ -107,12 +108,12 @@ fn blames(
     p: Spot,
     q: Spot,
 ) -> Result<Seq<Blame>, NoMemory>
-    requires seen { IsSeen standing.now.present net.now.present tree.now }
-    requires holds { Holds (built standing.now.present).believed tree.now }
-    requires p { IsSpot net.now.present.names tree.now p }
-    requires q { IsSpot net.now.present.names tree.now q }
-    requires none { All (HasNoSupporter standing.now.present tree.now (spot_moment net.now.present.names tree.now p) (spot_moment net.now.present.names tree.now q)) nodes.now }
-    ensures { IfOk result (λ blames. map blame_of blames.items ≡ map (blame_at (built standing.now.present) tree.now (spot_moment net.now.present.names tree.now p) (spot_moment net.now.present.names tree.now q)) nodes.now) }
+    requires seen { IsSeen standing.now.present net.now.present (forest tree.now) }
+    requires holds { Holds (built standing.now.present).believed (forest tree.now) }
+    requires p { IsSpot net.now.present.names (forest tree.now) p }
+    requires q { IsSpot net.now.present.names (forest tree.now) q }
+    requires none { All (HasNoSupporter standing.now.present (forest tree.now) (spot_moment net.now.present.names (forest tree.now) p) (spot_moment net.now.present.names (forest tree.now) q)) nodes.now }
+    ensures { IfOk result (λ blames. map blame_of blames.items ≡ map (blame_at (built standing.now.present) (forest tree.now) (spot_moment net.now.present.names (forest tree.now) p) (spot_moment net.now.present.names (forest tree.now) q)) nodes.now) }
 {
     let mut blames = Seq::make(alloc);
     for x in nodes {
@@ -143,12 +144,12 @@ fn blame_node(
     p: Spot,
     q: Spot,
 ) -> Result<Blame, NoMemory>
-    requires seen { IsSeen standing.now.present net.now.present tree.now }
-    requires holds { Holds (built standing.now.present).believed tree.now }
-    requires p { IsSpot net.now.present.names tree.now p }
-    requires q { IsSpot net.now.present.names tree.now q }
-    requires none { HasNoSupporter standing.now.present tree.now (spot_moment net.now.present.names tree.now p) (spot_moment net.now.present.names tree.now q) x }
-    ensures { IfOk result (λ blame. blame_of blame ≡ blame_at (built standing.now.present) tree.now (spot_moment net.now.present.names tree.now p) (spot_moment net.now.present.names tree.now q) x) }
+    requires seen { IsSeen standing.now.present net.now.present (forest tree.now) }
+    requires holds { Holds (built standing.now.present).believed (forest tree.now) }
+    requires p { IsSpot net.now.present.names (forest tree.now) p }
+    requires q { IsSpot net.now.present.names (forest tree.now) q }
+    requires none { HasNoSupporter standing.now.present (forest tree.now) (spot_moment net.now.present.names (forest tree.now) p) (spot_moment net.now.present.names (forest tree.now) q) x }
+    ensures { IfOk result (λ blame. blame_of blame ≡ blame_at (built standing.now.present) (forest tree.now) (spot_moment net.now.present.names (forest tree.now) p) (spot_moment net.now.present.names (forest tree.now) q) x) }
 {
     let cause = cause_of(alloc, tree, blame(standing, tree, net, x, p, q))?;
     Ok(Blame {
@@ -159,8 +160,8 @@ fn blame_node(
 
 // A fault, told of occurrences.
 fn cause_of(alloc: Global, tree: &Tree, fault: NodeFault) -> Result<Cause, NoMemory>
-    requires { (c : ℕ) → fault ≡ NodeFault.Clipped c → IsLive tree.now c }
-    ensures { IfOk result (λ cause. fault_of cause ≡ fault_at tree.now fault) }
+    requires { (c : ℕ) → fault ≡ NodeFault.Clipped c → IsLive (forest tree.now) c }
+    ensures { IfOk result (λ cause. fault_of cause ≡ fault_at (forest tree.now) fault) }
 {
     Ok(match fault {
         NodeFault::Late => Cause::Late,

@@ -5,6 +5,7 @@ ghost use Rattle.tmm_model.specs.Firsts.{placed};
 ghost use Rattle.spots.specs.Forest.{IsLive};
 ghost use Rattle.spots.specs.Seen.{HasList};
 ghost use Rattle.spots.specs.Spots.{AreTokens, node_cmp};
+ghost use Rattle.occ_tree.specs.Places.{forest};
 ghost use Rattle.tt_query.specs.Firsts.{node_for, nodes_of, firsts};
 
 use arrayvec::ArrayVec;
@@ -34,9 +35,9 @@ pub(crate) fn first_tokens(
     rows: &[TokenRow<Spot>],
     fact: Name,
 ) -> Firsts
-    requires list { HasList net.now.present tree.now }
-    requires rows { AreTokens tree.now class rows.now }
-    ensures nodes { result.nodes.items ≡ firsts net.now.present tree.now (nodes_of fact rows.now) }
+    requires list { HasList net.now.present (forest tree.now) }
+    requires rows { AreTokens (forest tree.now) class rows.now }
+    ensures nodes { result.nodes.items ≡ firsts net.now.present (forest tree.now) (nodes_of fact rows.now) }
     ensures count { result.count ≡ length (nodes_of fact rows.now) }
 {
     let mut nodes = ArrayVec::new();
@@ -68,10 +69,10 @@ fn node_for(row: &TokenRow<Spot>, fact: Name) -> Option<u32>
 
 // Puts a node in its place among those in order, and keeps the first.
 fn place(nodes: &mut ArrayVec<u32, BLAMES>, tree: &Tree, net: &DistNet, x: u32)
-    requires list { HasList net.now.present tree.now }
-    requires live { IsLive tree.now x }
-    requires all { All (IsLive tree.now) nodes.old.items }
-    ensures { nodes.new.items ≡ take BLAMES (placed (node_cmp net.now.present tree.now) x nodes.old.items) }
+    requires list { HasList net.now.present (forest tree.now) }
+    requires live { IsLive (forest tree.now) x }
+    requires all { All (IsLive (forest tree.now)) nodes.old.items }
+    ensures { nodes.new.items ≡ take BLAMES (placed (node_cmp net.now.present (forest tree.now)) x nodes.old.items) }
 {
     let k = place_of(tree, net, nodes.as_slice(), x);
     if k < BLAMES {
@@ -82,11 +83,11 @@ fn place(nodes: &mut ArrayVec<u32, BLAMES>, tree: &Tree, net: &DistNet, x: u32)
 
 // How many of the nodes that are in order come before another.
 fn place_of(tree: &Tree, net: &DistNet, nodes: &[u32], x: u32) -> usize
-    requires list { HasList net.now.present tree.now }
-    requires live { IsLive tree.now x }
-    requires all { All (IsLive tree.now) nodes.now }
+    requires list { HasList net.now.present (forest tree.now) }
+    requires live { IsLive (forest tree.now) x }
+    requires all { All (IsLive (forest tree.now)) nodes.now }
     ensures within { result ≤ length nodes.now }
-    ensures placed { placed (node_cmp net.now.present tree.now) x nodes.now ≡ take result nodes.now ++ x ∷ drop result nodes.now }
+    ensures placed { placed (node_cmp net.now.present (forest tree.now)) x nodes.now ≡ take result nodes.now ++ x ∷ drop result nodes.now }
 {
     match nodes {
         [] => 0,

@@ -8,6 +8,7 @@ ghost use Rattle.dist_net.specs.Net.{Net};
 ghost use Rattle.spots.specs.Forest.{IsLive, moment_at};
 ghost use Rattle.spots.specs.Seen.{IsSeen, Holds};
 ghost use Rattle.spots.specs.Spots.{IsSpot, spot_moment};
+ghost use Rattle.occ_tree.specs.Places.{forest};
 ghost use Rattle.tt_query.specs.Stops.{StopsPoint, StopsWhy, StopsUnknown};
 
 use dist_net::DistNet;
@@ -27,12 +28,12 @@ pub fn resolve(
     net: &DistNet,
     point: &QueryPoint,
 ) -> Result<Spot, Stop>
-    requires seen { IsSeen standing.now.present net.now.present tree.now }
-    requires holds { Holds (built standing.now.present).believed tree.now }
+    requires seen { IsSeen standing.now.present net.now.present (forest tree.now) }
+    requires holds { Holds (built standing.now.present).believed (forest tree.now) }
     requires well_formed { IsWellFormedQueryPoint point.now }
     ensures known { IfOk result (λ spot. point_cause (built standing.now.present) point.now ≡ None) }
-    ensures spot { IfOk result (IsSpot net.now.present.names tree.now) }
-    ensures moment { IfOk result (λ spot. spot_moment net.now.present.names tree.now spot ≡ moment_of_point point.now) }
+    ensures spot { IfOk result (IsSpot net.now.present.names (forest tree.now)) }
+    ensures moment { IfOk result (λ spot. spot_moment net.now.present.names (forest tree.now) spot ≡ moment_of_point point.now) }
     ensures stops { IfErr result (StopsPoint (built standing.now.present) point.now) }
 {
     match point {
@@ -50,12 +51,12 @@ pub fn resolve(
 /// The node of an occurrence whose reasons are asked for, or the cause against its word. Memory is
 /// asked for only for the word of an occurrence that is not believed.
 pub fn resolve_why(alloc: Global, standing: &Standing, tree: &Tree, occ: &Occ) -> Result<u32, Stop>
-    requires seen { (net : Net) × IsSeen standing.now.present net tree.now }
-    requires holds { Holds (built standing.now.present).believed tree.now }
+    requires seen { (net : Net) × IsSeen standing.now.present net (forest tree.now) }
+    requires holds { Holds (built standing.now.present).believed (forest tree.now) }
     requires well_formed { IsWellFormedOcc occ.now }
     ensures known { IfOk result (λ x. why_cause (built standing.now.present) occ.now occ.now.rules.items ≡ None) }
-    ensures there { IfOk result (IsLive tree.now) }
-    ensures moment { IfOk result (λ x. moment_at tree.now x ≡ moment_of occ.now) }
+    ensures there { IfOk result (IsLive (forest tree.now)) }
+    ensures moment { IfOk result (λ x. moment_at (forest tree.now) x ≡ moment_of occ.now) }
     ensures stops { IfErr result (StopsWhy (built standing.now.present) occ.now) }
 {
     if occ.rules.items().is_empty() {
@@ -69,12 +70,12 @@ pub fn resolve_why(alloc: Global, standing: &Standing, tree: &Tree, occ: &Occ) -
 
 // The node of a declared event, token or span.
 fn resolve_root(standing: &Standing, tree: &Tree, occ: &Occ) -> Result<u32, Stop>
-    requires seen { (net : Net) × IsSeen standing.now.present net tree.now }
-    requires holds { Holds (built standing.now.present).believed tree.now }
+    requires seen { (net : Net) × IsSeen standing.now.present net (forest tree.now) }
+    requires holds { Holds (built standing.now.present).believed (forest tree.now) }
     requires root { occ.now.rules.items ≡ [] }
     ensures known { IfOk result (λ x. why_cause (built standing.now.present) occ.now [] ≡ None) }
-    ensures there { IfOk result (IsLive tree.now) }
-    ensures moment { IfOk result (λ x. moment_at tree.now x ≡ moment_of occ.now) }
+    ensures there { IfOk result (IsLive (forest tree.now)) }
+    ensures moment { IfOk result (λ x. moment_at (forest tree.now) x ≡ moment_of occ.now) }
     ensures stops { IfErr result (StopsWhy (built standing.now.present) occ.now) }
 {
     let root = occ.root;

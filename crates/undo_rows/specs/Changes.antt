@@ -9,11 +9,12 @@ use Rattle.undo_rows.specs.declared.change.Change.TheVariants.{Entered, Linked, 
 use Rattle.undo_rows.specs.Tables.{Table, live_table, with_row, with_list, with_value}
 
 -- what contracts see of a `Rows`: the rows by number, those removed among them, the families of lists,
--- and the changes since the commit
+-- the changes since the commit, and how many more it takes without memory
 pub record Logged (T : Type 0) (F : ℕ) : Type 0 where
   pub rows : List (Option (Row T F))
   pub families : List Lists
   pub log : List (Change T)
+  pub spare : ℕ
 
 module _ {T : Type 0} {F : ℕ} where
   -- the table as it was before a change

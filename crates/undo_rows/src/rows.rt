@@ -1,5 +1,5 @@
 // The rows.
-ghost use Rattle.std.specs.Prelude.{◌≡◌, ℕ, slice_index_or, ◌+◌, ◌*◌, ◌^◌, ◌<◌, ◌↔◌, [], None, Some, IsSome, IsTrue, length, IfOk, IfSome, OnOk, OnErr};
+ghost use Rattle.std.specs.Prelude.{◌≡◌, ℕ, slice_index_or, ◌+◌, ◌*◌, ◌^◌, ◌<◌, ◌≤◌, ◌↔◌, [], None, Some, IsSome, IsTrue, length, IfOk, IfSome, OnOk, OnErr};
 ghost use Rattle.row_links.specs.Lists.{IsOn, first_or, row_after};
 ghost use Rattle.undo_rows.specs.Tables.{new_row, AreListed};
 ghost use Rattle.undo_rows.specs.Changes.{present, committed, Stays};
@@ -32,7 +32,7 @@ impl<T, const F: usize> Model for Rows<T, F> {
 
     ghost use Rattle.undo_rows.specs.RowsInside.{IsRows};
 
-    ghost view = { λ r. record { rows = r.stored.rows.slots; families = r.stored.links; log = r.log.items } };
+    ghost view = { λ r. record { rows = r.stored.rows.slots; families = r.stored.links; log = r.log.items; spare = r.log.spare } };
 
     ghost invariant = { λ r. IsRows r.stored.rows.slots r.stored.links r.log.items };
 }
@@ -79,33 +79,65 @@ impl<T: Copy, const F: usize> Rows<T, F> {
         Ok(x)
     }
 
+    /// Makes room for so many more changes: a removal takes at most one for each family and one more, a new
+    /// value takes one. Nothing else has changed, also where there is no memory.
+    pub fn reserve(&mut self, _alloc: Global, changes: usize) -> Result<(), NoMemory>
+        ensures ok { OnOk result (changes ≤ self.new.spare) }
+        ensures stays { Stays self.old self.new }
+        ensures spare { self.old.spare ≤ self.new.spare }
+    {
+        self.log.reserve(changes)
+    }
+
     /// Takes a row off all its lists. Its number is free again after the next commit. Without memory
     /// nothing has changed.
-    pub fn remove(&mut self, _alloc: Global, x: u32) -> Result<(), NoMemory>
+    pub fn remove(&mut self, alloc: Global, x: u32) -> Result<(), NoMemory>
         requires { IsSome ((present self.old).row x) }
         ensures ok { OnOk result (Removes self.old self.new x) }
         ensures err { OnErr result (Stays self.old self.new) }
     {
-        let heads = self.stored.rows[x as usize].heads;
-        self.log.reserve(changes_of(&heads))?;
-        unlink_all(&mut self.stored.links, &mut self.log, x, &heads);
-        self.stored.rows[x as usize].gone = true;
-        self.log.push(Change::Removed { row: x });
+        let changes = changes_of(&self.stored.rows[x as usize].heads);
+        self.reserve(alloc, changes)?;
+        self.remove_reserved(x);
         Ok(())
     }
 
+    /// Takes a row off all its lists, where there is room for the changes. It takes no memory. The number is
+    /// free again after the next commit.
+    pub fn remove_reserved(&mut self, x: u32)
+        requires live { IsSome ((present self.old).row x) }
+        requires spare { F + 1 ≤ self.old.spare }
+        ensures removed { Removes self.old self.new x }
+        ensures spare { self.old.spare ≤ self.new.spare + (F + 1) }
+    {
+        let heads = self.stored.rows[x as usize].heads;
+        unlink_all(&mut self.stored.links, &mut self.log, x, &heads);
+        self.stored.rows[x as usize].gone = true;
+        self.log.push(Change::Removed { row: x });
+    }
+
     /// Keeps a value in a row. Without memory nothing has changed.
-    pub fn set(&mut self, _alloc: Global, x: u32, value: T) -> Result<(), NoMemory>
+    pub fn set(&mut self, alloc: Global, x: u32, value: T) -> Result<(), NoMemory>
         requires { IsSome ((present self.old).row x) }
         ensures ok { OnOk result (Sets self.old self.new x value) }
         ensures err { OnErr result (Stays self.old self.new) }
     {
-        self.log.reserve(1)?;
+        self.reserve(alloc, 1)?;
+        self.set_reserved(x, value);
+        Ok(())
+    }
+
+    /// Keeps a value in a row, where there is room for the change. It takes no memory.
+    pub fn set_reserved(&mut self, x: u32, value: T)
+        requires live { IsSome ((present self.old).row x) }
+        requires spare { 0 < self.old.spare }
+        ensures set { Sets self.old self.new x value }
+        ensures spare { self.new.spare + 1 ≡ self.old.spare }
+    {
         let row = &mut self.stored.rows[x as usize];
         let before = row.value;
         row.value = value;
         self.log.push(Change::Replaced { row: x, before });
-        Ok(())
     }
 
     /// The row of a number.
@@ -153,7 +185,7 @@ impl<T: Copy, const F: usize> Rows<T, F> {
     /// The same rows and lists, and the same last commit, for edits of its own. It takes memory.
     pub fn copy(&self, alloc: Global) -> Result<Rows<T, F>, NoMemory>
         requires { RowFits T.row F.row }
-        ensures { IfOk result (λ copy. copy ≡ self.now) }
+        ensures { IfOk result (Stays self.now) }
     {
         Ok(Rows {
             stored: self.stored.copy(alloc)?,

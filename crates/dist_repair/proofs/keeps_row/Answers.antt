@@ -1,5 +1,5 @@
 use Rattle.std.proofs.lemmas.Bool.{false≢true}
-use Rattle.std.proofs.Common.{Bool, true, false, not, refl, ◌∙◌, sym, ap}
+use Rattle.std.proofs.Common.{Bool, true, false, not, refl}
 use Rattle.std.specs.Prelude.{IsTrue}
 use Rattle.std.proofs.lemmas.List.Elements.{All-contains}
 use Rattle.dist_repair.specs.Rows.{IsHeld}

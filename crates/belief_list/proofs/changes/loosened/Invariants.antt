@@ -3,9 +3,10 @@ use Rattle.std.specs.List.{filter_map}
 use Rattle.tmm_model.specs.Moments.{moment_of}
 use Rattle.belief_list.specs.Rows.{row_at}
 use Rattle.belief_list.specs.Compared.{loose_row}
+use Rattle.occ_tree.specs.Places.{forest}
 use Rattle.belief_list.proofs.changes.loosened.Given as goal
 
 abbrev pub invariant-loop-row : goal.invariant-loop-row
 invariant-loop-row l =
-    map moment_of l.occs.items ++ filter_map (loose_row (map (row_at l.before.tree.now) l.before.rows.now)) (map (row_at l.tree) (drop l.row-index l.rows))
-    ≡ filter_map (loose_row (map (row_at l.before.tree.now) l.before.rows.now)) (map (row_at l.tree) l.rows)
+    map moment_of l.occs.items ++ filter_map (loose_row (map (row_at (forest l.before.tree.now)) l.before.rows.now)) (map (row_at (forest l.tree)) (drop l.row-index l.rows))
+    ≡ filter_map (loose_row (map (row_at (forest l.before.tree.now)) l.before.rows.now)) (map (row_at (forest l.tree)) l.rows)

@@ -2,6 +2,7 @@ use Rattle.std.proofs.Common.{ap, arith}
 use Rattle.std.proofs.lemmas.List.{get_or_default, get_or-set_same, get_or-set_other, length-set}
 use Rattle.belief_list.specs.declared.list.BeliefRow.{BeliefRow}
 use Rattle.belief_list.proofs.Tables.{found_more, table_is}
+use Rattle.occ_tree.specs.Places.{forest}
 use Rattle.belief_list.proofs.changes.places_by_node.Goals as goal
 
 pub loop-i-preserved : goal.loop-i-preserved
@@ -21,4 +22,4 @@ loop-i-preserved c =
 
 pub returns : goal.returns
 returns c =
-    table_is c.args.tree.now c.args.rows.now c.loop-i.places.items c.loop-i.i c.requires c.loop-i.invariant.long (omega arith) c.loop-i.invariant.found
+    table_is (forest c.args.tree.now) c.args.rows.now c.loop-i.places.items c.loop-i.i c.requires c.loop-i.invariant.long (omega arith) c.loop-i.invariant.found

@@ -12,6 +12,7 @@ use Rattle.tmm_model.specs.Maps.{built}
 use Rattle.spots.specs.Forest.{IsLive, moment_at}
 use Rattle.occ_tree.specs.declared.ranks.Ranked.{Ranked}
 use Rattle.occ_tree.specs.Ranks.{nodes_of}
+use Rattle.occ_tree.specs.Places.{forest}
 use Rattle.belief_list.specs.Rows.{belief_row, row_at, IsListing}
 use Rattle.belief_list.proofs.Ordered.{as_many, rows_are, listing_is}
 use Rattle.belief_list.proofs.list.listed.Goals as goal
@@ -21,7 +22,7 @@ moved lent nodes ranked same = subst (λ (l : List ℕ). IsPermutation l ranked)
 
 pub clips-requires-clause-live : goal.clips-requires-clause-live
 clips-requires-clause-live c =
-    let f = c.args.tree.now in
+    let f = forest c.args.tree.now in
     let nodes = c.in_ok-nodes.nodes.items in
     let ranked = nodes_of c.in_ok-ranked.ranked.items in
     subst (λ (rs : List Ranked). All (IsLive f) (nodes_of rs)) (sym c.as_slice-2.ensures.value)
@@ -37,7 +38,7 @@ clips-requires-clause-all c x live =
 pub rows_of-requires : goal.rows_of-requires
 rows_of-requires c =
     let s = c.args.standing.now.present in
-    let f = c.args.tree.now in
+    let f = forest c.args.tree.now in
     let clips = c.in_ok-clips.clips.items in
     let clipped = c.in_ok-clips.ensures.first s (built s).believed c.requires.seen c.requires.holds in
     ap length c.as_slice-4.ensures.value
@@ -47,7 +48,7 @@ rows_of-requires c =
 pub returns-clause-rows : goal.returns-clause-rows
 returns-clause-rows c =
     let s = c.args.standing.now.present in
-    let f = c.args.tree.now in
+    let f = forest c.args.tree.now in
     let nodes = c.in_ok-nodes.nodes.items in
     let ranked = c.in_ok-ranked.ranked.items in
     let clips = c.in_ok-clips.clips.items in
@@ -70,7 +71,7 @@ pub returns-clause-listing : goal.returns-clause-listing
 returns-clause-listing c =
     let s = c.args.standing.now.present in
     let net = c.args.net.now.present in
-    let f = c.args.tree.now in
+    let f = forest c.args.tree.now in
     let nodes = c.in_ok-nodes.nodes.items in
     let ranked = c.in_ok-ranked.ranked.items in
     let clips = c.in_ok-clips.clips.items in

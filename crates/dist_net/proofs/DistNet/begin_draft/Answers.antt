@@ -1,4 +1,4 @@
-use Rattle.std.proofs.Common.{◌≡◌, ◌∙◌, ◌⊎◌, ◌+◌, ◌*◌, ◌++◌, ◌<◌, ◌≤◌, ℕ, ℤ, List, [], length, take, drop, get_or, set, length-set, true, false, ap, sym, subst, arith, rules, refl, w64, vec_capacity}
+use Rattle.std.proofs.Common.{◌≡◌, ◌∙◌, ◌++◌, List, length, take, drop, ap, sym, subst}
 use Rattle.tmm_model.specs.declared.bound.Bound.{Bound}
 use Rattle.dist_net.specs.Table.{AreTied}
 use Rattle.dist_net.specs.Changes.{Listed}

@@ -1,4 +1,4 @@
-use Rattle.std.proofs.Common.{◌≡◌, ◌∙◌, ◌⊎◌, inl, inr, ◌+◌, ◌*◌, ◌/◌, ◌%◌, ◌++◌, ◌<◌, ◌≤◌, ℕ, ℤ, Bool, List, [], length, take, drop, get_or, set, length-set, true, false, ap, sym, subst, arith, rules, refl, w64, vec_capacity, Vec, Global}
+use Rattle.std.proofs.Common.{length, ap, sym, subst, arith}
 use Rattle.dist_net.specs.Table.{AreTied}
 use Rattle.dist_net.specs.Changes.{Listed}
 use Rattle.dist_net.proofs.Tied.{AreTied-same}

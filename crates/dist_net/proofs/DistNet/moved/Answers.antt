@@ -1,4 +1,4 @@
-use Rattle.std.proofs.Common.{◌≡◌, ◌∙◌, ◌⊎◌, ◌+◌, ◌*◌, ◌++◌, ◌<◌, ◌≤◌, ℕ, ℤ, List, [], length, take, drop, get_or, set, length-set, true, false, ap, sym, subst, arith, rules, refl, w64, vec_capacity}
+use Rattle.std.proofs.Common.{subst}
 use Rattle.dist_net.specs.Net.{Nets, IsMovedAt}
 use Rattle.dist_net.proofs.Tied.{IsMovedAt-tied}
 use Rattle.dist_net.proofs.DistNet.moved.Goals as goal

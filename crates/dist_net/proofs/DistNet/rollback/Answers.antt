@@ -1,4 +1,4 @@
-use Rattle.std.proofs.Common.{◌≡◌, ◌∙◌, ◌⊎◌, inl, inr, ◌+◌, ◌*◌, ◌/◌, ◌%◌, ◌++◌, ◌<◌, ◌≤◌, ℕ, ℤ, Bool, List, [], length, take, drop, get_or, set, length-set, true, false, ap, sym, subst, arith, rules, refl, w64, vec_capacity, Vec, Global}
+use Rattle.std.proofs.Common.{ℕ, List, length, ap, sym, subst, arith}
 use Rattle.dist_net.specs.Table.{Kept, AreTied}
 use Rattle.dist_net.specs.Changes.{Listed, AreMarked}
 use Rattle.dist_net.proofs.Tied.{AreTied-same, drafted_back}

@@ -1,4 +1,4 @@
-use Rattle.std.proofs.Common.{◌≡◌, ◌∙◌, ◌⊎◌, inl, inr, ◌+◌, ◌*◌, ◌/◌, ◌%◌, ◌++◌, ◌<◌, ◌≤◌, ℕ, ℤ, Bool, List, [], length, take, drop, get_or, set, length-set, true, false, ap, sym, subst, arith, rules, refl, w64, vec_capacity, Vec, Global}
+use Rattle.std.proofs.Common.{◌∙◌, ◌+◌, ℕ, false, ap, sym, subst, arith, vec_capacity, Vec, Global}
 use Rattle.std.proofs.lemmas.List.{get_or_default}
 use Rattle.dist_net.specs.Changes.{AreMarksListed}
 use Rattle.dist_net.proofs.Listing.{AreMarksListed-start, AreMarksListed-more, AreMarksListed-skip}

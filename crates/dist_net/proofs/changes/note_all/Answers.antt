@@ -1,4 +1,3 @@
-use Rattle.std.proofs.Common.{◌≡◌, ◌∙◌, ◌⊎◌, inl, inr, ◌+◌, ◌*◌, ◌/◌, ◌%◌, ◌++◌, ◌<◌, ◌≤◌, ℕ, ℤ, Bool, List, [], length, take, drop, get_or, set, length-set, true, false, ap, sym, subst, arith, rules, refl, w64, vec_capacity, Vec, Global}
 use Rattle.dist_net.proofs.Listing.{AreDrafted-start, AreDrafted-more, AreDrafted-all}
 use Rattle.dist_net.proofs.changes.note_all.Goals as goal
 

@@ -1,4 +1,4 @@
-use Rattle.std.proofs.Common.{◌≡◌, ◌∙◌, ◌⊎◌, ◌+◌, ◌*◌, ◌++◌, ◌<◌, ◌≤◌, ℕ, ℤ, List, [], length, take, drop, get_or, set, length-set, true, false, ap, sym, subst, arith, rules, refl, w64, vec_capacity}
+use Rattle.std.proofs.Common.{◌∙◌, arith}
 use Rattle.dist_net.proofs.Copies.{AreTaken-start, AreTaken-listed, AreTaken-all}
 use Rattle.dist_net.proofs.Listing.{IsMarking-start, IsMarking-trans, drafted_reaches, drafted_reads}
 use Rattle.dist_net.proofs.table.copy_drafted.Goals as goal

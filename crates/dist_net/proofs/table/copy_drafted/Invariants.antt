@@ -1,4 +1,3 @@
-use Rattle.std.proofs.Common.{◌≡◌, ◌∙◌, ◌⊎◌, ◌+◌, ◌*◌, ◌++◌, ◌<◌, ◌≤◌, ℕ, ℤ, List, [], length, take, drop, get_or, set, length-set, true, false, ap, sym, subst, arith, rules, refl, w64, vec_capacity}
 use Rattle.dist_net.proofs.Copies.{AreTaken, IsLaterOf}
 use Rattle.dist_net.specs.Changes.{IsMarking}
 use Rattle.dist_net.proofs.table.copy_drafted.Given as goal

@@ -1,7 +1,6 @@
-use Rattle.std.proofs.Common.{◌≡◌, ◌∙◌, ◌⊎◌, ◌+◌, ◌*◌, ◌/◌, ◌%◌, ◌++◌, ◌<◌, ◌≤◌, ℕ, ℤ, List, [], length, take, drop, get_or, set, length-set, true, false, ap, sym, subst, arith, rules, refl, w64, vec_capacity}
+use Rattle.std.proofs.Common.{◌/◌, ◌%◌, true, arith}
 use Rattle.dist_net.proofs.Listing.{IsMarking-start}
-use Rattle.std.proofs.lemmas.Bool.{false≢true}
-use Rattle.dist_net.proofs.Copies.{IsPlaceTaken-kept_from, IsPlaceTaken-kept_to, IsPlaceTaken-set, use_read}
+use Rattle.dist_net.proofs.Copies.{IsPlaceTaken-set, use_read}
 use Rattle.dist_net.proofs.table.copy_place.Goals as goal
 
 pub returns-then-is_none-clause-marking : goal.returns-then-is_none-clause-marking

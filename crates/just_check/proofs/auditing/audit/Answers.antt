@@ -1,15 +1,12 @@
-use Rattle.std.proofs.Common.{◌≡◌, ◌∙◌, ◌∷◌, ◌++◌, suc, map, take, drop, sym, ap, subst, arith}
-use Rattle.std.specs.Prelude.{◌↔◌, IsTrue}
+use Rattle.std.proofs.Common.{◌≡◌, ◌∙◌, ◌∷◌, ◌++◌, [], suc, map, drop, sym, ap, subst, arith}
 use Rattle.std.proofs.lemmas.List.{take_all}
-use Rattle.tmm_model.specs.Moments.{Moment, moment_of}
-use Rattle.list_theory.proofs.Elements.{In}
-use Rattle.just_check.specs.Audited.{IsChecked, Takes, Decides, IsNode}
+use Rattle.tmm_model.specs.Moments.{moment_of}
+use Rattle.just_check.specs.Audited.{rows_of, Takes}
 use Rattle.just_check.specs.Believed.{believed_in_order}
-use Rattle.just_check.proofs.Answering.{is_list, owed_there, roots_there}
+use Rattle.just_check.proofs.Answering.{is_list, all_there}
 use Rattle.just_check.proofs.Places.{mapped_more, mapped_parts}
 use Rattle.just_check.proofs.Prefixes.{next_joins, next_behind}
 use Rattle.just_check.proofs.auditing.audit.Goals as goal
-use Rattle.just_check.proofs.auditing.audit.Goals.{then-are_there, else-are_there}
 
 pub returns-then-not-branch : goal.returns-then-not-branch
 returns-then-not-branch c = (
@@ -20,25 +17,27 @@ returns-then-not-branch c = (
       let rows = c.args.rows.now in
       let i = c.loop-row.row-index in
       let row = c.row-item.result in
-      let b = map moment_of (take i rows) in
+      let old = c.loop-row.checked in
+      let b = rows_of old in
       let k = moment_of row in
       let rest = map moment_of (drop (suc i) rows) in
-      let whole : b ++ k ∷ rest ≡ believed_in_order s = mapped_parts moment_of rows i row c.loop-row-test.true c.row-item.is ∙ is in
-      let never = subst (Takes s net c.take.new.checked b k) c.if-not-branch.true (c.in_ok-take.ensures b c.loop-row.invariant) in
+      let whole : b ++ k ∷ rest ≡ believed_in_order s = ap (λ l. l ++ k ∷ rest) c.loop-row.invariant.rows ∙ mapped_parts moment_of rows i row c.loop-row-test.true c.row-item.is ∙ is in
+      let never = subst (Takes s net old c.take.new.checked k) c.if-not-branch.true c.in_ok-take.ensures in
       let sound = c.requires.network.sound in
       absurd (never (next_joins s sound b k rest whole) (next_behind s sound b k rest whole))),
 )
 
 pub loop-row-preserved : goal.loop-row-preserved
 loop-row-preserved c =
-    let s = c.args.standing.now.present in
-    let net = c.args.net.now.present in
     let rows = c.args.rows.now in
     let i = c.loop-row.row-index in
     let row = c.row-item.result in
-    let b = map moment_of (take i rows) in
-    subst (IsChecked s net c.take.new.checked) (sym (mapped_more moment_of rows i row c.loop-row-test.true c.row-item.is))
-    (subst (Takes s net c.take.new.checked b (moment_of row)) c.if-not-branch.false (c.in_ok-take.ensures b c.loop-row.invariant))
+    let k = moment_of row in
+    let (checked, more) = subst (Takes c.args.standing.now.present c.args.net.now.present c.loop-row.checked c.take.new.checked k) c.if-not-branch.false c.in_ok-take.ensures in
+    record {
+      checked = checked;
+      rows = more ∙ ap (λ l. l ++ k ∷ []) c.loop-row.invariant.rows ∙ sym (mapped_more moment_of rows i row c.loop-row-test.true c.row-item.is);
+    }
 
 pub returns : goal.returns
 returns c =
@@ -47,20 +46,8 @@ returns c =
     let rows = c.args.rows.now in
     let i = c.loop-row.row-index in
     let new = c.decide_rest.new.checked in
-    let b = map moment_of rows in
-    let all : map moment_of (take i rows) ≡ b = ap (map moment_of) (take_all i rows (omega arith)) in
-    let decides : Decides s net new b = subst (Decides s net new) all (c.in_ok-decide_rest.ensures (map moment_of (take i rows)) c.loop-row.invariant.taken) in
-    let owed_is = c.as_slice.ensures.value in
-    let are : IsTrue c.are_there.result ↔ ((k : Moment) → In k (map moment_of new.owed.items) → IsNode new.tree k) = subst (λ os. IsTrue c.are_there.result ↔ ((k : Moment) → In k (map moment_of os) → IsNode new.tree k)) owed_is c.are_there.ensures in
-    elim c.if-are_there.branch [
-      | then-are_there w ↦
-          let result_is = w.result-is in (
-            (λ h. is_list s net new b decides (are.0 w.if-are_there.true) (w.has_roots.ensures.0 (sym result_is ∙ h))),
-            (λ is. result_is ∙ w.has_roots.ensures.1 (roots_there s net new b decides is)),
-          )
-      | else-are_there w ↦
-          let result_is = w.result-is in (
-            (λ h. absurd (cc)),
-            (λ is. let t : IsTrue c.are_there.result = are.1 (owed_there s net new b decides is) in absurd (cc)),
-          )
-    ]
+    let ensured = c.in_ok-decide_rest.ensures in
+    let same : rows_of new ≡ map moment_of rows = ensured.rows ∙ c.loop-row.invariant.rows ∙ ap (map moment_of) (take_all i rows (omega arith)) in (
+      (λ h. sym same ∙ is_list s net new ensured.decided (c.all_stand.ensures.0 h)),
+      (λ is. c.all_stand.ensures.1 (all_there s net new ensured.decided (same ∙ is))),
+    )

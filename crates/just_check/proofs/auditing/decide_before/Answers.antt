@@ -1,44 +1,46 @@
-use Rattle.std.proofs.Common.{◌≡◌, ◌∙◌, ◌<◌, false, List, length, sym, subst, rules, arith, w64, to_z, of_z}
+use Rattle.std.proofs.Common.{◌≡◌, ◌∙◌, sym, subst, rules, arith, w64, to_z, of_z}
 use Rattle.std.proofs.lemmas.Int.{ints, to_z-of_z}
-use Rattle.std.specs.Prelude.{ℤ, ◌<ℤ◌, int_le, FitsSigned}
-use Rattle.tmm_model.specs.Moments.{Moment}
+use Rattle.std.proofs.lemmas.Result.{on_ok_weaker}
+use Rattle.std.specs.Prelude.{ℤ, pos, ◌-ℤ◌, ◌≤ℤ◌, ◌<ℤ◌, FitsSigned}
+use Rattle.belief_theory.proofs.SoundBeliefs.{sound_timed}
 use Rattle.spots.specs.Forest.{moment_at}
-use Rattle.spots.proofs.Seen.{early_is}
-use Rattle.just_check.specs.Audited.{IsChecked, IsDated, date_of}
-use Rattle.just_check.proofs.Deciding.{decided_node, checks_next}
+use Rattle.occ_tree.specs.Places.{forest}
+use Rattle.spots.proofs.Seen.{early_is, occurs_at}
+use Rattle.just_check.specs.Audited.{date_of, DecidesThrough, IsChecked}
+use Rattle.just_check.proofs.Deciding.{checked_through}
 use Rattle.just_check.proofs.auditing.decide_before.Goals as goal
 
-later : (a b : ℤ) → int_le a b ≡ false → b <ℤ a
-later a b h = grind (arith, ints)
+fits_less : (z : ℤ) → FitsSigned w64 z → pos 0 ≤ℤ z → FitsSigned w64 (z -ℤ pos 1)
+fits_less z fits h = grind (arith, ints)
 
-chain : (a b c d : ℤ) → a ≡ b → d ≡ c → b <ℤ c → a <ℤ d
-chain a b c d e f h = omega (arith, ints)
+less : (a b : ℤ) → a ≡ b → (a -ℤ pos 1) <ℤ b
+less a b e = omega (arith, ints)
 
-pub loop-checked-preserved : goal.loop-checked-preserved
-loop-checked-preserved c =
+pub overflow_sub-date : goal.overflow_sub-date
+overflow_sub-date c =
+    let s = c.args.standing.now.present in
+    let old = c.args.checked.now in
+    let seen = c.requires.before.taken.so_far.seen in
+    let fits : FitsSigned w64 c.early-date.result = search rules in
+    let same = to_z-of_z w64 c.early-date.result fits in
+    let date_is : c.early-date.result ≡ date_of s (moment_at (forest old.tree) c.args.x) = c.early-date.ensures ∙ early_is s c.args.net.now.present (forest old.tree) seen c.args.x c.requires.live in
+    let from_start = (sound_timed s seen.network.sound).not_before_start (moment_at (forest old.tree) c.args.x) (occurs_at s c.args.net.now.present (forest old.tree) seen c.args.x c.requires.live) in
+    subst (λ z. FitsSigned w64 (z -ℤ pos 1)) (sym same) (fits_less c.early-date.result fits (subst (λ z. pos 0 ≤ℤ z) (sym date_is) from_start))
+
+pub returns-clause-checked : goal.returns-clause-checked
+returns-clause-checked c =
     let s = c.args.standing.now.present in
     let net = c.args.net.now.present in
-    let old = c.loop-checked.checked in
-    let new = c.decide_next.new.checked in
-    let x = c.index.result.now in
-    let below : old.decided < length old.nodes.items = omega (arith, c.len.ensures) in
-    let (b0, dated0, checked0) = c.loop-checked.invariant.some in
-    let fits : FitsSigned w64 c.early.result = search rules in
-    let live = decided_node s net b0 old x below c.index.ensures checked0.taken in
-    let date_is : date_of s (moment_at old.tree x) ≡ to_z w64 (of_z w64 c.early.result) = sym (to_z-of_z w64 c.early.result fits ∙ c.early.ensures ∙ early_is s net old.tree checked0.taken.so_far.seen x live) in
-    let go : (b : List Moment) → IsDated s b (to_z w64 (of_z w64 c.args.date)) → IsChecked s net old b → IsChecked s net new b = λ b dated checked.
-    let (y, at, is) = dated in
-    checks_next s net b old x below c.index.ensures new c.in_ok-decide_next.ensures.tree c.in_ok-decide_next.ensures.nodes c.in_ok-decide_next.ensures.next y at
-    (chain (date_of s (moment_at old.tree x)) (to_z w64 (of_z w64 c.early.result)) (to_z w64 (of_z w64 c.args.date)) (date_of s y) date_is is (later (to_z w64 (of_z w64 c.args.date)) (to_z w64 (of_z w64 c.early.result)) c.if-early-date.false))
-    (c.in_ok-decide_next.ensures.taken b checked.taken) checked in
-    record { some = (b0, dated0, go b0 dated0 checked0); goes_on = λ b dated checked. go b dated (c.loop-checked.invariant.goes_on b dated checked) }
-
-pub returns-after-loop-checked : goal.returns-after-loop-checked
-returns-after-loop-checked c b dated checked =
-    let fits : FitsSigned w64 c.args.date = search rules in
-    c.loop-checked.invariant.goes_on b (subst (IsDated c.args.standing.now.present b) (sym (to_z-of_z w64 c.args.date fits)) dated) checked
-
-pub returns-then-early-date : goal.returns-then-early-date
-returns-then-early-date c b dated checked =
-    let fits : FitsSigned w64 c.args.date = search rules in
-    c.loop-checked.invariant.goes_on b (subst (IsDated c.args.standing.now.present b) (sym (to_z-of_z w64 c.args.date fits)) dated) checked
+    let old = c.args.checked.now in
+    let new = c.decide_through.new.checked in
+    let seen = c.requires.before.taken.so_far.seen in
+    let fits : FitsSigned w64 c.early-date.result = search rules in
+    let early = to_z w64 (of_z w64 c.early-date.result) in
+    let date = to_z w64 (of_z w64 (early -ℤ pos 1)) in
+    let date_is = to_z-of_z w64 c.early-date.result fits ∙ c.early-date.ensures ∙ early_is s net (forest old.tree) seen c.args.x c.requires.live in
+    let date_at : c.early-date.result ≡ date_of s (moment_at (forest old.tree) c.args.x) = c.early-date.ensures ∙ early_is s net (forest old.tree) seen c.args.x c.requires.live in
+    let from_start = (sound_timed s seen.network.sound).not_before_start (moment_at (forest old.tree) c.args.x) (occurs_at s net (forest old.tree) seen c.args.x c.requires.live) in
+    let still : FitsSigned w64 (early -ℤ pos 1) = subst (λ z. FitsSigned w64 (z -ℤ pos 1)) (sym (to_z-of_z w64 c.early-date.result fits)) (fits_less c.early-date.result fits (subst (λ z. pos 0 ≤ℤ z) (sym date_at) from_start)) in
+    let before : date <ℤ date_of s (moment_at (forest old.tree) c.args.x) = subst (λ z. z <ℤ date_of s (moment_at (forest old.tree) c.args.x)) (sym (to_z-of_z w64 (early -ℤ pos 1) still)) (less early (date_of s (moment_at (forest old.tree) c.args.x)) date_is) in
+    let go : DecidesThrough s net old new date → IsChecked s net new = checked_through s net old new c.requires.before c.args.x c.requires.live date before in
+    on_ok_weaker c.decide_through.result go c.decide_through.ensures

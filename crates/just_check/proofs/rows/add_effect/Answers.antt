@@ -11,6 +11,7 @@ use Rattle.tmm_model.specs.Standing.{premise_in}
 use Rattle.dist_net.specs.Net.{Net}
 use Rattle.spots.specs.Forest.{Member, member, Enters, child_member, moment_at}
 use Rattle.spots.specs.Seen.{IsSeen}
+use Rattle.occ_tree.specs.Places.{forest}
 use Rattle.spots.proofs.Nodes.{node_at}
 use Rattle.supports.specs.Growing.{Adds, effect_shape, MayEnter}
 use Rattle.supports.specs.Rules.{IsRuleOf}
@@ -21,13 +22,13 @@ use Rattle.just_check.proofs.rows.add_effect.Goals as goal
 pub unreachable-requires : goal.unreachable-requires
 unreachable-requires c =
     let s = c.args.standing.now.present in
-    let is_rule : IsRuleOf s c.args.rule = rule_there s c.requires.seen.1.network.sound (moment_at c.args.tree.now c.args.x) c.args.rule c.requires.rule in
+    let is_rule : IsRuleOf s c.args.rule = rule_there s c.requires.seen.1.network.sound (moment_at (forest c.args.tree.now) c.args.x) c.args.rule c.requires.rule in
     search rules
 
 pub insert_child-requires-clause-trigger : goal.insert_child-requires-clause-trigger
 insert_child-requires-clause-trigger c =
     let s = c.args.standing.now.present in
-    let f = c.args.tree.now in
+    let f = forest c.args.tree.now in
     let (m, at) = node_at f c.args.x c.requires.live in
     let few = (c.row.ensures m at).rules in
     let may : MayEnter s f c.args.x c.args.rule = record {
@@ -40,7 +41,7 @@ insert_child-requires-clause-trigger c =
 pub insert_child-requires-clause-delay : goal.insert_child-requires-clause-delay
 insert_child-requires-clause-delay c =
     let s = c.args.standing.now.present in
-    let f = c.args.tree.now in
+    let f = forest c.args.tree.now in
     let lo = c.in-Some-Rule.lo in
     let fits : FitsSigned w64 c.in-Some-Rule.lo = search rules in
     let rule = Rule c.in-Some-Rule.field-0-0 c.in-Some-Rule.field-0-1 lo c.in-Some-Rule.hi c.in-Some-Rule.effect c.in-Some-Rule.field-0-5 in
@@ -58,8 +59,8 @@ insert_child-requires-clause-delay c =
 pub returns : goal.returns
 returns c =
     let s = c.args.standing.now.present in
-    let f = c.args.tree.now in
-    let new = c.insert_child.new.self in
+    let f = forest c.args.tree.now in
+    let new = forest c.insert_child.new.self in
     let r = c.args.rule in
     let lo = c.in-Some-Rule.lo in
     let hi = c.in-Some-Rule.hi in

@@ -7,6 +7,7 @@ use Rattle.tmm_model.specs.Beliefs.{holder}
 use Rattle.tmm_model.specs.Maps.{built}
 use Rattle.tmm_model.specs.Standing.{far_in}
 use Rattle.spots.specs.Forest.{IsLive, moment_at}
+use Rattle.occ_tree.specs.Places.{forest}
 use Rattle.justify.proofs.Antecedents.{found_more}
 use Rattle.justify.proofs.grounds.supporters.Goals as goal
 use Rattle.justify.proofs.grounds.supporters.Goals.{in-Some, in-None}
@@ -14,7 +15,7 @@ use Rattle.justify.proofs.grounds.supporters.Goals.{in-Some, in-None}
 pub loop-fact-preserved : goal.loop-fact-preserved
 loop-fact-preserved c =
     let s = c.args.standing.now.present in
-    let f = c.args.tree.now in
+    let f = forest c.args.tree.now in
     let t = moment_at f c.args.event in
     let old = c.loop-fact.found.items in
     let i = c.loop-fact.fact-index in

@@ -4,6 +4,7 @@ use Rattle.tmm_model.specs.Maps.{built}
 use Rattle.tmm_model.specs.Moments.{Moment}
 use Rattle.tmm_model.specs.Reasons.{pairs_of}
 use Rattle.spots.specs.Forest.{moment_at}
+use Rattle.occ_tree.specs.Places.{forest}
 use Rattle.justify.specs.Lines.{AddsOrders}
 use Rattle.justify.proofs.Told.{flat_more, more_orders}
 use Rattle.justify.proofs.lines.add_orders.Goals as goal
@@ -11,7 +12,7 @@ use Rattle.justify.proofs.lines.add_orders.Goals as goal
 pub loop-x-preserved : goal.loop-x-preserved
 loop-x-preserved c =
     let m = built c.args.standing.now.present in
-    let f = c.args.tree.now in
+    let f = forest c.args.tree.now in
     let t = moment_at f c.args.event in
     let i = c.loop-x.x-index in
     let x = get_or c.args.supports.now i 0 in

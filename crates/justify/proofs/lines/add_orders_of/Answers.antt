@@ -11,6 +11,7 @@ use Rattle.tmm_model.specs.Reasons.{end_pair}
 use Rattle.spots.specs.declared.spot.Spot.TheVariants.{Declared}
 use Rattle.spots.specs.Forest.{moment_at}
 use Rattle.spots.specs.Spots.{spot_moment}
+use Rattle.occ_tree.specs.Places.{forest}
 use Rattle.spots.proofs.Nodes.{node_at}
 use Rattle.justify.specs.Lines.{IsInOrder, AddsOrders}
 use Rattle.justify.proofs.Told.{more_orders, pairs_are}
@@ -19,15 +20,15 @@ use Rattle.justify.proofs.lines.add_orders_of.Goals as goal
 pub add_order-requires-clause-in_order : goal.add_order-requires-clause-in_order
 add_order-requires-clause-in_order c =
     let s = c.args.standing.now.present in
-    let t = moment_at c.args.tree.now c.args.event in
-    let k = moment_at c.args.tree.now c.args.x in
+    let t = moment_at (forest c.args.tree.now) c.args.event in
+    let k = moment_at (forest c.args.tree.now) c.args.x in
     All-head (IsInOrder (built s)) (k, t) (end_pair (built s) t (option_and_then (λ row. row.end) (token_of s k))) c.requires.in_order
 
 pub add_order-requires-in-Some-clause-in_order : goal.add_order-requires-in-Some-clause-in_order
 add_order-requires-in-Some-clause-in_order c =
     let s = c.args.standing.now.present in
     let net = c.args.net.now.present in
-    let f = c.args.tree.now in
+    let f = forest c.args.tree.now in
     let t = moment_at f c.args.event in
     let k = moment_at f c.args.x in
     let (m, here) = node_at f c.args.x c.requires.live in
@@ -40,7 +41,7 @@ pub returns-in-Some : goal.returns-in-Some
 returns-in-Some c =
     let s = c.args.standing.now.present in
     let net = c.args.net.now.present in
-    let f = c.args.tree.now in
+    let f = forest c.args.tree.now in
     let t = moment_at f c.args.event in
     let k = moment_at f c.args.x in
     let (m, here) = node_at f c.args.x c.requires.live in

@@ -5,6 +5,7 @@ use Rattle.tmm_model.specs.Moments.{Moment}
 use Rattle.tmm_model.specs.Reasons.{pairs_of}
 use Rattle.walk_theory.proofs.Members.{All-from_contains, Contains-map}
 use Rattle.spots.specs.Forest.{moment_at}
+use Rattle.occ_tree.specs.Places.{forest}
 use Rattle.justify.specs.Lines.{IsInOrder}
 use Rattle.justify.proofs.Supported.{supports_in_order}
 use Rattle.justify.proofs.lines.add_reasons.Goals as goal
@@ -12,7 +13,7 @@ use Rattle.justify.proofs.lines.add_reasons.Goals as goal
 pub add_orders-requires-clause-in_order : goal.add_orders-requires-clause-in_order
 add_orders-requires-clause-in_order c =
     let s = c.args.standing.now.present in
-    let f = c.args.tree.now in
+    let f = forest c.args.tree.now in
     let t = moment_at f c.in-Effect.event in
     let nodes = c.as_slice-nodes.result.now in
     All-from_contains (λ x. All (IsInOrder (built s)) (pairs_of (built s) t (moment_at f x))) nodes

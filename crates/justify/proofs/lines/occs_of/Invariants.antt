@@ -1,7 +1,8 @@
 use Rattle.std.proofs.Common.{◌≡◌, map, take}
 use Rattle.tmm_model.specs.Moments.{moment_of}
 use Rattle.spots.specs.Forest.{moment_at}
+use Rattle.occ_tree.specs.Places.{forest}
 use Rattle.justify.proofs.lines.occs_of.Given as goal
 
 abbrev pub invariant-loop-x : goal.invariant-loop-x
-invariant-loop-x l = map moment_of l.occs.items ≡ map (moment_at l.tree) (take l.x-index l.nodes)
+invariant-loop-x l = map moment_of l.occs.items ≡ map (moment_at (forest l.tree)) (take l.x-index l.nodes)

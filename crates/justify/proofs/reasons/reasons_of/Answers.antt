@@ -8,12 +8,13 @@ use Rattle.tmm_model.specs.Reasons.{AreReasons, IsWhy, reason_of}
 use Rattle.spots.specs.Forest.{IsLive, moment_at}
 use Rattle.occ_tree.specs.declared.ranks.Ranked.{Ranked}
 use Rattle.occ_tree.specs.Ranks.{nodes_of}
+use Rattle.occ_tree.specs.Places.{forest}
 use Rattle.justify.proofs.AllTold.{reasons_are}
 use Rattle.justify.proofs.reasons.reasons_of.Goals as goal
 
 pub lines_of-requires-clause-live : goal.lines_of-requires-clause-live
 lines_of-requires-clause-live c =
-    let f = c.args.tree.now in
+    let f = forest c.args.tree.now in
     let keys = c.in_ok-found.found.keys in
     let ranked = c.in_ok-ranked.ranked.items in
     subst (λ (ps : List Ranked). All (IsLive f) (nodes_of ps)) (sym c.as_slice-2.ensures.value)
@@ -22,7 +23,7 @@ lines_of-requires-clause-live c =
 pub returns : goal.returns
 returns c =
     let s = c.args.standing.now.present in
-    let f = c.args.tree.now in
+    let f = forest c.args.tree.now in
     let keys = c.in_ok-found.found.keys in
     let ranked = c.in_ok-ranked.ranked.items in
     IfOk-weaker c.lines_of.result

@@ -7,13 +7,14 @@ use Rattle.tmm_model.specs.Moments.{Moment}
 use Rattle.tmm_model.specs.Reasons.{rests_on}
 use Rattle.indexmap.specs.IndexSet.{insert_all}
 use Rattle.spots.specs.Forest.{IsLive, moment_at}
+use Rattle.occ_tree.specs.Places.{forest}
 use Rattle.justify.specs.Grounds.{AreGrounds}
 use Rattle.justify.proofs.upholders.add_grounds.Goals as goal
 
 pub returns-in_ok-add-in-Effect : goal.returns-in_ok-add-in-Effect
 returns-in_ok-add-in-Effect c =
     let m = built c.args.standing.now.present in
-    let f = c.args.tree.now in
+    let f = forest c.args.tree.now in
     let event = c.in-Effect.event in
     let (live, is) = c.in-Effect.ensures in
     let supports = c.supports_at-supports.ensures in

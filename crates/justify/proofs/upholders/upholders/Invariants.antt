@@ -1,10 +1,11 @@
 use Rattle.std.proofs.Common.{◌-◌, length}
 use Rattle.tmm_model.specs.Maps.{built}
 use Rattle.justify.proofs.Reached.{IsWalked}
+use Rattle.occ_tree.specs.Places.{forest}
 use Rattle.justify.proofs.upholders.upholders.Given as goal
 
 abbrev pub invariant-loop-next : goal.invariant-loop-next
-invariant-loop-next l = IsWalked (built l.standing.present) l.tree l.x l.found.keys l.next
+invariant-loop-next l = IsWalked (built l.standing.present) (forest l.tree) l.x l.found.keys l.next
 
 -- the nodes that are still to come are no more than the places behind
 abbrev pub decreases-loop-next : goal.decreases-loop-next

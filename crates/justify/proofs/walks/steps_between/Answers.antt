@@ -1,6 +1,7 @@
 use Rattle.std.proofs.Common.{sym, subst}
 use Rattle.list_net.specs.Represents.{IsNumberOf}
 use Rattle.spots.specs.Spots.{spot_moment}
+use Rattle.occ_tree.specs.Places.{forest}
 use Rattle.spots.proofs.Nodes.{point_is}
 use Rattle.tmm_model.specs.Moments.{base}
 use Rattle.justify.proofs.Walked.{walks, has_walk}
@@ -10,7 +11,7 @@ pub returns-in-Some : goal.returns-in-Some
 returns-in-Some c =
     let s = c.args.standing.now.present in
     let net = c.args.net.now.present in
-    let f = c.args.tree.now in
+    let f = forest c.args.tree.now in
     let at_a = subst (λ n. IsNumberOf net.names n (base (spot_moment net.names f c.args.from))) (sym c.base_point-a.ensures) (point_is s net f c.requires.seen c.args.from c.requires.from) in
     let at_b = subst (λ n. IsNumberOf net.names n (base (spot_moment net.names f c.args.to))) (sym c.base_point-b.ensures) (point_is s net f c.requires.seen c.args.to c.requires.to) in
     walks s net c.requires.seen.network (spot_moment net.names f c.args.from) (spot_moment net.names f c.args.to) c.base_point-a.result c.base_point-b.result at_a at_b
@@ -20,7 +21,7 @@ pub returns-in-None : goal.returns-in-None
 returns-in-None c =
     let s = c.args.standing.now.present in
     let net = c.args.net.now.present in
-    let f = c.args.tree.now in
+    let f = forest c.args.tree.now in
     let at_a = subst (λ n. IsNumberOf net.names n (base (spot_moment net.names f c.args.from))) (sym c.base_point-a.ensures) (point_is s net f c.requires.seen c.args.from c.requires.from) in
     let at_b = subst (λ n. IsNumberOf net.names n (base (spot_moment net.names f c.args.to))) (sym c.base_point-b.ensures) (point_is s net f c.requires.seen c.args.to c.requires.to) in
     absurd (has_walk s net c.requires.seen.network (spot_moment net.names f c.args.from) (spot_moment net.names f c.args.to) c.base_point-a.result c.base_point-b.result at_a at_b

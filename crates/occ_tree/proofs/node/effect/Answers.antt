@@ -2,9 +2,9 @@ use Rattle.std.proofs.Common.{◌≡◌, ◌∷◌, [], ◌++◌, ℕ, List, map
 use Rattle.tmm_model.specs.declared.point.PointName.TheVariants.{Begin}
 use Rattle.tmm_model.specs.Moments.{At, along, printed}
 use Rattle.spots.specs.declared.link.Link.{Link}
-use Rattle.occ_tree.specs.Light.{AreLight}
-use Rattle.occ_tree.specs.Sums.{AreSums}
-use Rattle.occ_tree.proofs.Sums.{AreLight-push}
+use Rattle.spots.specs.Light.{AreLight}
+use Rattle.spots.specs.Sums.{AreSums}
+use Rattle.spots.proofs.Delays.{AreLight-push}
 use Rattle.occ_tree.proofs.Words.{printed-push}
 use Rattle.occ_tree.proofs.node.effect.Goals as goal
 

@@ -1,7 +1,7 @@
 use Rattle.std.proofs.Common.{◌≡◌, ◌<◌, ◌-◌, length, sym, arith}
 use Rattle.std.specs.Prelude.{Some, slice_get}
 use Rattle.std.proofs.lemmas.Option.{slice_get_within}
-use Rattle.occ_tree.proofs.Apart.{last_name_is}
+use Rattle.spots.proofs.Apart.{last_name_is}
 use Rattle.occ_tree.proofs.node.last_name.Goals as goal
 
 pub returns-in-Some : goal.returns-in-Some

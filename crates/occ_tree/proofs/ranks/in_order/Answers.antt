@@ -7,6 +7,7 @@ use Rattle.std.proofs.lemmas.List.Sorted.{IsPermutation-map, All-permutation}
 use Rattle.std.proofs.lemmas.Map.Keys.{IsDistinct-IsPermutation}
 use Rattle.occ_tree.specs.declared.ranks.Ranked.{Ranked}
 use Rattle.occ_tree.specs.Ranks.{IsRanked, nodes_of}
+use Rattle.occ_tree.specs.Places.{forest}
 use Rattle.occ_tree.proofs.Ordered.{in_order}
 use Rattle.occ_tree.proofs.ranks.in_order.Goals as goal
 
@@ -18,7 +19,7 @@ returns-clause-same c =
 pub returns-clause-in_order : goal.returns-clause-in_order
 returns-clause-in_order c =
     let net = c.args.net.now.present in
-    let f = c.args.tree.now in
+    let f = forest c.args.tree.now in
     let old = c.in_ok-ranked.ranked.items in
     let new = c.sort.new.self.items in
     in_order net f c.requires.list new

@@ -1,6 +1,7 @@
 use Rattle.std.proofs.Common.{◌≡◌, take, length, vec_capacity, vec_len}
 use Rattle.std.specs.List.{All}
 use Rattle.occ_tree.specs.Ranks.{IsRanked, nodes_of}
+use Rattle.occ_tree.specs.Places.{forest}
 use Rattle.occ_tree.proofs.ranks.ranks.Given as goal
 
 abbrev pub invariant-loop-node : goal.invariant-loop-node
@@ -8,5 +9,5 @@ invariant-loop-node l = record {
   capacity : vec_capacity l.ranked ≡ length l.nodes;
   long : vec_len l.ranked ≡ l.node-index;
   nodes : nodes_of l.ranked.items ≡ take l.node-index l.nodes;
-  ranked : All (IsRanked l.net.present l.tree) l.ranked.items;
+  ranked : All (IsRanked l.net.present (forest l.tree)) l.ranked.items;
 }

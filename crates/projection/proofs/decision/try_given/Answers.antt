@@ -5,13 +5,14 @@ use Rattle.std.proofs.lemmas.List.Elements.{All-push}
 use Rattle.tmm_model.specs.Beliefs.{holder}
 use Rattle.tmm_model.specs.Standing.{far_in}
 use Rattle.spots.specs.Forest.{IsLive, moment_at}
+use Rattle.occ_tree.specs.Places.{forest}
 use Rattle.projection.proofs.Tried.{found_more, tried_fires, tried_blocked}
 use Rattle.projection.proofs.decision.try_given.Goals as goal
 
 pub returns-in-None-clause-outcome : goal.returns-in-None-clause-outcome
 returns-in-None-clause-outcome c b holds =
     let s = c.args.standing.now.present in
-    let f = c.args.tree.now in
+    let f = forest c.args.tree.now in
     let t = moment_at f c.args.trigger in
     tried_blocked (moment_at f) (λ fact. holder s (far_in s.premises) b fact t t) c.loop-antecedent.supports.items c.args.given.now c.loop-antecedent.antecedent c.index-given-antecedent.result
     (c.loop-antecedent.invariant.found b holds) c.loop-antecedent.invariant.count (omega arith) c.index-given-antecedent.is (c.in-None.ensures.first b holds)
@@ -19,7 +20,7 @@ returns-in-None-clause-outcome c b holds =
 pub loop-antecedent-preserved : goal.loop-antecedent-preserved
 loop-antecedent-preserved c =
     let s = c.args.standing.now.present in
-    let f = c.args.tree.now in
+    let f = forest c.args.tree.now in
     let t = moment_at f c.args.trigger in
     let old = c.loop-antecedent.supports.items in
     let pushed = c.push.ensures.items in
@@ -35,7 +36,7 @@ loop-antecedent-preserved c =
 pub returns-clause-outcome : goal.returns-clause-outcome
 returns-clause-outcome c b holds =
     let s = c.args.standing.now.present in
-    let f = c.args.tree.now in
+    let f = forest c.args.tree.now in
     let t = moment_at f c.args.trigger in
     tried_fires (moment_at f) (λ fact. holder s (far_in s.premises) b fact t t) c.loop-antecedent.supports.items c.args.given.now
     (c.loop-antecedent.invariant.found b holds ∙ ap (map (λ fact. holder s (far_in s.premises) b fact t t)) (take_all c.loop-antecedent.antecedent c.args.given.now (omega arith)))

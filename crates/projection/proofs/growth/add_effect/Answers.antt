@@ -10,6 +10,7 @@ use Rattle.tmm_model.specs.Standing.{premise_in}
 use Rattle.dist_net.specs.Net.{Net}
 use Rattle.spots.specs.Forest.{Member, member, Enters, child_member, moment_at, IsTrigger}
 use Rattle.spots.specs.Seen.{IsSeen}
+use Rattle.occ_tree.specs.Places.{forest}
 use Rattle.spots.proofs.Nodes.{node_at}
 use Rattle.supports.specs.Growing.{Adds, effect_shape}
 use Rattle.projection.specs.Places.{name_at}
@@ -24,8 +25,8 @@ ok_kept P Q (Err e) f h = tt
 pub returns : goal.returns
 returns c =
     let s = c.args.standing.now.present in
-    let f = c.args.tree.now in
-    let new = c.insert_child.new.self in
+    let f = forest c.args.tree.now in
+    let new = forest c.insert_child.new.self in
     let t = c.args.trigger in
     let r = name_at s c.args.place in
     let lo = c.in-Some-Rule.lo in
@@ -53,7 +54,7 @@ returns c =
 pub insert_child-requires-clause-trigger : goal.insert_child-requires-clause-trigger
 insert_child-requires-clause-trigger c =
     let s = c.args.standing.now.present in
-    let f = c.args.tree.now in
+    let f = forest c.args.tree.now in
     let rule = Rule c.in-Some-Rule.name c.in-Some-Rule.field-0-1 c.in-Some-Rule.lo c.in-Some-Rule.hi c.in-Some-Rule.effect c.in-Some-Rule.field-0-5 in
     let at_place : slice_get s.premises c.args.place ≡ Some rule = sym c.in-Some-Rule.ensures ∙ ap Some c.in-Some-Rule.field-0-is in
     let (m, at) = node_at f c.args.trigger c.requires.trigger in
@@ -62,7 +63,7 @@ insert_child-requires-clause-trigger c =
 pub insert_child-requires-clause-delay : goal.insert_child-requires-clause-delay
 insert_child-requires-clause-delay c =
     let s = c.args.standing.now.present in
-    let f = c.args.tree.now in
+    let f = forest c.args.tree.now in
     let lo = c.in-Some-Rule.lo in
     let fits : FitsSigned w64 c.in-Some-Rule.lo = search rules in
     let rule = Rule c.in-Some-Rule.name c.in-Some-Rule.field-0-1 lo c.in-Some-Rule.hi c.in-Some-Rule.effect c.in-Some-Rule.field-0-5 in

@@ -4,6 +4,7 @@ use Rattle.tmm_model.specs.Beliefs.{rules_at}
 use Rattle.tmm_model.specs.Maps.{built}
 use Rattle.tmm_model.specs.Moments.{After}
 use Rattle.spots.specs.Forest.{moment_at}
+use Rattle.occ_tree.specs.Places.{forest}
 use Rattle.projection.specs.Places.{rule_at}
 use Rattle.projection.specs.Projecting.{IsGrowing, Settles, left}
 use Rattle.projection.specs.Queues.{Queues, weight_at, IsTooLarge}
@@ -16,58 +17,58 @@ use Rattle.projection.proofs.growth.bring_about.Goals as goal
 
 pub add_effect-requires-clause-trigger : goal.add_effect-requires-clause-trigger
 add_effect-requires-clause-trigger c =
-    (entry c.args.standing.now.present c.args.net.now.present c.args.growing.now.tree c.requires.before.1.queue c.args.growing.now.size c.requires.before.1.growing c.args.pending.now c.args.growing.now.queue c.requires.before.1.next).live
+    (entry c.args.standing.now.present c.args.net.now.present (forest c.args.growing.now.tree) c.requires.before.1.queue c.args.growing.now.size c.requires.before.1.growing c.args.pending.now c.args.growing.now.queue c.requires.before.1.next).live
 
 pub add_effect-requires-clause-place : goal.add_effect-requires-clause-place
 add_effect-requires-clause-place c =
-    (entry c.args.standing.now.present c.args.net.now.present c.args.growing.now.tree c.requires.before.1.queue c.args.growing.now.size c.requires.before.1.growing c.args.pending.now c.args.growing.now.queue c.requires.before.1.next).place
+    (entry c.args.standing.now.present c.args.net.now.present (forest c.args.growing.now.tree) c.requires.before.1.queue c.args.growing.now.size c.requires.before.1.growing c.args.pending.now c.args.growing.now.queue c.requires.before.1.next).place
 
 pub add_effect-requires-clause-enters : goal.add_effect-requires-clause-enters
 add_effect-requires-clause-enters c =
-    may_enter c.args.standing.now.present c.args.net.now.present c.args.growing.now.tree c.requires.before.1.queue c.args.growing.now.size c.requires.before.1.growing c.args.pending.now c.args.growing.now.queue c.requires.before.1.next
+    may_enter c.args.standing.now.present c.args.net.now.present (forest c.args.growing.now.tree) c.requires.before.1.queue c.args.growing.now.size c.requires.before.1.growing c.args.pending.now c.args.growing.now.queue c.requires.before.1.next
 
 pub count_in-requires-clause-seen : goal.count_in-requires-clause-seen
 count_in-requires-clause-seen c =
     let s = c.args.standing.now.present in
     let net = c.args.net.now.present in
-    let f = c.args.growing.now.tree in
+    let f = forest c.args.growing.now.tree in
     let seen = c.requires.before.1.growing.grown.seen in
     let may = may_enter s net f c.requires.before.1.queue c.args.growing.now.size c.requires.before.1.growing c.args.pending.now c.args.growing.now.queue c.requires.before.1.next in
-    adds_seen s net f c.add_effect.new.tree c.in-Ok.x (After (moment_at f c.args.pending.now.trigger) (rule_at c.args.standing.now.present c.args.pending.now)) (c.in-Ok.ensures net seen) may.new seen
+    adds_seen s net f (forest c.add_effect.new.tree) c.in-Ok.x (After (moment_at f c.args.pending.now.trigger) (rule_at c.args.standing.now.present c.args.pending.now)) (c.in-Ok.ensures net seen) may.new seen
 
 pub count_in-requires-clause-live : goal.count_in-requires-clause-live
 count_in-requires-clause-live c =
     let s = c.args.standing.now.present in
     let net = c.args.net.now.present in
-    let f = c.args.growing.now.tree in
+    let f = forest c.args.growing.now.tree in
     let seen = c.requires.before.1.growing.grown.seen in
-    new_live s net f c.add_effect.new.tree c.in-Ok.x (After (moment_at f c.args.pending.now.trigger) (rule_at c.args.standing.now.present c.args.pending.now)) (c.in-Ok.ensures net seen)
+    new_live s net f (forest c.add_effect.new.tree) c.in-Ok.x (After (moment_at f c.args.pending.now.trigger) (rule_at c.args.standing.now.present c.args.pending.now)) (c.in-Ok.ensures net seen)
 
 pub returns-in-Ok : goal.returns-in-Ok
 returns-in-Ok c =
     let s = c.args.standing.now.present in
     let net = c.args.net.now.present in
-    let f = c.args.growing.now.tree in
+    let f = forest c.args.growing.now.tree in
     let n = c.args.growing.now.size in
     let p = c.args.pending.now in
     let rest = c.args.growing.now.queue in
     let (made, now) = c.requires.before in
     let fires = c.requires.fires now.growing.entered now.growing.grown.holds in
-    let new = c.add_effect.new.tree in
+    let new = forest c.add_effect.new.tree in
     let x = c.in-Ok.x in
     let adds = c.in-Ok.ensures net now.growing.grown.seen in
     let grown = c.count_in.new.growing in
     record {
       after =
-          ok_four c.count_in.result (grown.tree ≡ new) (grown.size ≡ n + weight_at s new x) (n + weight_at s new x ≤ most_size) (Queues s new x (rules_at s (moment_at new x)) rest grown.queue)
+          ok_four c.count_in.result (grown.tree ≡ c.add_effect.new.tree) (grown.size ≡ n + weight_at s new x) (n + weight_at s new x ≤ most_size) (Queues s new x (rules_at s (moment_at new x)) rest grown.queue)
           (Settles s net c.args.growing.now p grown) c.count_in.ensures.tree c.count_in.ensures.size c.count_in.ensures.small c.count_in.ensures.queued
           (λ same counted small queues made before.
-          subst (λ g. IsGrowing s net g grown.queue grown.size (made + 1)) (sym same)
+          subst (λ t. IsGrowing s net (forest t) grown.queue grown.size (made + 1)) (sym same)
           (subst (λ m. IsGrowing s net new grown.queue m (made + 1)) (sym counted)
           (decided_fires s net f before.queue n before.growing p rest before.next (c.requires.fires before.growing.entered before.growing.grown.holds) new x
           (c.in-Ok.ensures net before.growing.grown.seen) grown.queue queues small)));
       nearer =
-          ok_four c.count_in.result (grown.tree ≡ new) (grown.size ≡ n + weight_at s new x) (n + weight_at s new x ≤ most_size) (Queues s new x (rules_at s (moment_at new x)) rest grown.queue)
+          ok_four c.count_in.result (grown.tree ≡ c.add_effect.new.tree) (grown.size ≡ n + weight_at s new x) (n + weight_at s new x ≤ most_size) (Queues s new x (rules_at s (moment_at new x)) rest grown.queue)
           (left grown.queue grown.size ≤ left rest n) c.count_in.ensures.tree c.count_in.ensures.size c.count_in.ensures.small c.count_in.ensures.queued
           (λ same counted small queues.
           subst (λ m. left grown.queue m ≤ left rest n) (sym counted)

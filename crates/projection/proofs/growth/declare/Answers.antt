@@ -6,6 +6,7 @@ use Rattle.tmm_model.specs.Answers.{size, most_size}
 use Rattle.tmm_model.specs.Beliefs.{rules_at}
 use Rattle.tmm_model.specs.Maps.{built}
 use Rattle.spots.specs.Forest.{moment_at}
+use Rattle.occ_tree.specs.Places.{forest}
 use Rattle.projection.proofs.Ends.{ok_four, err_kept}
 use Rattle.supports.proofs.Grown.{taken, parted, stands, no_root, root_seen, root_added, root_skipped}
 use Rattle.projection.proofs.Settled.{started_none, started_more, root_too_large, larger}
@@ -20,25 +21,25 @@ add_root-requires-clause-new c =
     let s = c.args.standing.now.present in
     let i = c.args.place in
     let p = c.in-Some.premise.now in
-    no_root s c.requires.network.sound (take i s.premises) p (drop (suc i) s.premises) (parted s.premises i p (sym c.in-Some.ensures)) c.args.growing.now.tree c.requires.before.grown.holds
+    no_root s c.requires.network.sound (take i s.premises) p (drop (suc i) s.premises) (parted s.premises i p (sym c.in-Some.ensures)) (forest c.args.growing.now.tree) c.requires.before.grown.holds
 
 pub count_in-requires-clause-seen : goal.count_in-requires-clause-seen
 count_in-requires-clause-seen c =
     let s = c.args.standing.now.present in
     let net = c.args.net.now.present in
-    let f = c.args.growing.now.tree in
+    let f = forest c.args.growing.now.tree in
     let i = c.args.place in
     let p = c.in-Some.premise.now in
-    root_seen s c.requires.network.sound (take i s.premises) p (drop (suc i) s.premises) (parted s.premises i p (sym c.in-Some.ensures)) net f c.add_root.new.tree (Some c.in-Ok-Some.x)
+    root_seen s c.requires.network.sound (take i s.premises) p (drop (suc i) s.premises) (parted s.premises i p (sym c.in-Some.ensures)) net f (forest c.add_root.new.tree) (Some c.in-Ok-Some.x)
     c.requires.before.grown.holds c.requires.before.grown.seen (rw c.in-Ok-Some.field-0-is at c.in-Ok-Some.ensures)
 
 pub count_in-requires-clause-live : goal.count_in-requires-clause-live
 count_in-requires-clause-live c =
     let s = c.args.standing.now.present in
     let net = c.args.net.now.present in
-    let f = c.args.growing.now.tree in
-    let (k, made, adds) = root_added s net c.in-Some.premise.now f c.add_root.new.tree c.in-Ok-Some.x (rw c.in-Ok-Some.field-0-is at c.in-Ok-Some.ensures) in
-    new_live s net f c.add_root.new.tree c.in-Ok-Some.x k adds
+    let f = forest c.args.growing.now.tree in
+    let (k, made, adds) = root_added s net c.in-Some.premise.now f (forest c.add_root.new.tree) c.in-Ok-Some.x (rw c.in-Ok-Some.field-0-is at c.in-Ok-Some.ensures) in
+    new_live s net f (forest c.add_root.new.tree) c.in-Ok-Some.x k adds
 
 pub returns-in-Ok-Some : goal.returns-in-Ok-Some
 returns-in-Ok-Some c =
@@ -46,8 +47,8 @@ returns-in-Ok-Some c =
     let net = c.args.net.now.present in
     let i = c.args.place in
     let p = c.in-Some.premise.now in
-    let f = c.args.growing.now.tree in
-    let new = c.add_root.new.tree in
+    let f = forest c.args.growing.now.tree in
+    let new = forest c.add_root.new.tree in
     let x = c.in-Ok-Some.x in
     let n = c.args.growing.now.size in
     let queue = c.args.growing.now.queue in
@@ -58,11 +59,11 @@ returns-in-Ok-Some c =
     let (k, made, adds) = root_added s net p f new x (rw c.in-Ok-Some.field-0-is at c.in-Ok-Some.ensures) in
     record {
       after =
-          ok_four c.count_in.result (grown.tree ≡ new) (grown.size ≡ n + weight_at s new x) (n + weight_at s new x ≤ most_size) (Queues s new x (rules_at s (moment_at new x)) queue grown.queue)
-          (IsStarted s net (take (i + 1) s.premises) grown.tree grown.queue grown.size) c.count_in.ensures.tree c.count_in.ensures.size c.count_in.ensures.small c.count_in.ensures.queued
+          ok_four c.count_in.result (grown.tree ≡ c.add_root.new.tree) (grown.size ≡ n + weight_at s new x) (n + weight_at s new x ≤ most_size) (Queues s new x (rules_at s (moment_at new x)) queue grown.queue)
+          (IsStarted s net (take (i + 1) s.premises) (forest grown.tree) grown.queue grown.size) c.count_in.ensures.tree c.count_in.ensures.size c.count_in.ensures.small c.count_in.ensures.queued
           (λ same counted small queues.
-          subst (λ front. IsStarted s net front grown.tree grown.queue grown.size) more
-          (subst (λ g. IsStarted s net (take i s.premises ++ p ∷ []) g grown.queue grown.size) (sym same)
+          subst (λ front. IsStarted s net front (forest grown.tree) grown.queue grown.size) more
+          (subst (λ t. IsStarted s net (take i s.premises ++ p ∷ []) (forest t) grown.queue grown.size) (sym same)
           (subst (IsStarted s net (take i s.premises ++ p ∷ []) new grown.queue) (sym counted)
           (started_more s net f queue n (take i s.premises) p (drop (suc i) s.premises) whole c.requires.before new x k made adds grown.queue queues small))));
       stops =
@@ -76,8 +77,8 @@ returns-in-Ok-None-clause-after c =
     let net = c.args.net.now.present in
     let i = c.args.place in
     let p = c.in-Some.premise.now in
-    let f = c.args.growing.now.tree in
-    let new = c.add_root.new.tree in
+    let f = forest c.args.growing.now.tree in
+    let new = forest c.add_root.new.tree in
     let n = c.args.growing.now.size in
     let queue = c.args.growing.now.queue in
     let at : slice_get s.premises i ≡ Some p = sym c.in-Some.ensures in

@@ -5,12 +5,13 @@ use Rattle.projection.specs.Projecting.{IsStarted, IsGrowing, IsGrowingWith}
 use Rattle.projection.proofs.Decided.{holds_at_end, size_at_end, made_at_end}
 use Rattle.supports.proofs.Grown.{seen_first, holds_first}
 use Rattle.projection.proofs.Settled.{started_first, growing_first}
+use Rattle.occ_tree.specs.Places.{forest}
 use Rattle.projection.proofs.growth.rebuild.Goals as goal
 
 pub loop-place-init : goal.loop-place-init
 loop-place-init c =
-    started_first c.args.standing.now.present c.args.net.now.present c.make.result c.make-2.result 0
-    (seen_first c.args.standing.now.present c.args.net.now.present c.make.result c.requires.network c.make.ensures) (holds_first c.make.result c.make.ensures) c.make-2.ensures refl
+    started_first c.args.standing.now.present c.args.net.now.present (forest c.make.result) c.make-2.result 0
+    (seen_first c.args.standing.now.present c.args.net.now.present (forest c.make.result) c.requires.network c.make.ensures) (holds_first (forest c.make.result) c.make.ensures) c.make-2.ensures refl
 
 pub loop-pending-init : goal.loop-pending-init
 loop-pending-init c =
@@ -18,8 +19,8 @@ loop-pending-init c =
     let net = c.args.net.now.present in
     let g = c.loop-place.growing in (
       0,
-      growing_first s net g.tree g.queue g.size
-          (subst (λ ps. IsStarted s net ps g.tree g.queue g.size) (take_all c.loop-place.place s.premises (omega arith)) c.loop-place.invariant),
+      growing_first s net (forest g.tree) g.queue g.size
+          (subst (λ ps. IsStarted s net ps (forest g.tree) g.queue g.size) (take_all c.loop-place.place s.premises (omega arith)) c.loop-place.invariant),
       omega (arith, c.value.ensures),
       omega arith,
     )
@@ -36,14 +37,14 @@ returns c =
     let g = c.loop-pending.growing in
     let none : g.queue ≡ [] = c.in_default-pop.ensures in
     let (made, growing, counted, kept) = c.loop-pending.invariant in
-    let last : IsGrowing s net g.tree [] g.size made = subst (λ q. IsGrowing s net g.tree q g.size made) none growing in
+    let last : IsGrowing s net (forest g.tree) [] g.size made = subst (λ q. IsGrowing s net (forest g.tree) q g.size made) none growing in
     record {
       seen = growing.grown.seen;
-      holds = holds_at_end s net g.tree g.size last;
-      size = size_at_end s net g.tree g.size last;
+      holds = holds_at_end s net (forest g.tree) g.size last;
+      size = size_at_end s net (forest g.tree) g.size last;
       small = growing.grown.small;
       stops = tt;
-      counted = counted ∙ ap (λ n. min (c.args.counter.now + n) 18446744073709551615) (made_at_end s net g.tree g.size last);
+      counted = counted ∙ ap (λ n. min (c.args.counter.now + n) 18446744073709551615) (made_at_end s net (forest g.tree) g.size last);
       kept = kept;
     }
 
@@ -53,7 +54,7 @@ loop-pending-preserved c =
     let net = c.args.net.now.present in
     let g = c.loop-pending.growing in
     let (made, growing, counted, kept) = c.loop-pending.invariant in
-    let before : IsGrowingWith s net g.tree c.in-Some.pending c.pop.new.self g.size made =
+    let before : IsGrowingWith s net (forest g.tree) c.in-Some.pending c.pop.new.self g.size made =
     record {
       queue = g.queue;
       next = record { taken = c.in-Some.ensures.0; first = c.in-Some.ensures.1 };

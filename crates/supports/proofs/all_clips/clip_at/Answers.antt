@@ -9,6 +9,7 @@ use Rattle.supports.specs.Nodes.{IsOfNode}
 use Rattle.std.specs.Prelude.{MatchOption, IsNone}
 use Rattle.tmm_model.specs.Tokens.{of_one_class, clips}
 use Rattle.spots.specs.Spots.{spot_distance}
+use Rattle.occ_tree.specs.Places.{forest}
 use Rattle.supports.specs.Behind.{IsLastNode}
 use Rattle.name_lists.specs.Lists.{list_of}
 use Rattle.supports.proofs.Behind.{behind_event, behind_token, behind_of_nodes, behind_there, place_node, live_place, within_nodes}
@@ -16,37 +17,37 @@ use Rattle.supports.proofs.Nearest.{nearest_is, event_has_none}
 use Rattle.supports.proofs.all_clips.clip_at.Goals as goal
 
 pub token_at-requires : goal.token_at-requires
-token_at-requires c = live_place c.args.tree.now c.args.ranked.now c.args.i _ c.requires.within c.requires.live
+token_at-requires c = live_place (forest c.args.tree.now) c.args.ranked.now c.args.i _ c.requires.within c.requires.live
 
 pub returns-in_default-clause-clip : goal.returns-in_default-clause-clip
 returns-in_default-clause-clip c s b seen holds =
     sym (event_has_none seen b (slice_index_or (nodes_of c.args.ranked.now) c.args.i 0) (c.requires.live c.args.i 0 (within_nodes c.args.ranked.now c.args.i c.requires.within))
-    (ap (token_at c.args.tree.now) (place_node c.args.ranked.now c.args.i _ c.requires.within) ∙ sym c.token_at.ensures ∙ c.in_default.is))
+    (ap (token_at (forest c.args.tree.now)) (place_node c.args.ranked.now c.args.i _ c.requires.within) ∙ sym c.token_at.ensures ∙ c.in_default.is))
 
 pub returns-in_default-clause-behind : goal.returns-in_default-clause-behind
 returns-in_default-clause-behind c =
-    behind_event c.args.tree.now (nodes_of c.args.ranked.now) c.args.i (within_nodes c.args.ranked.now c.args.i c.requires.within)
-    (ap (token_at c.args.tree.now) (place_node c.args.ranked.now c.args.i _ c.requires.within) ∙ sym c.token_at.ensures ∙ c.in_default.is)
+    behind_event (forest c.args.tree.now) (nodes_of c.args.ranked.now) c.args.i (within_nodes c.args.ranked.now c.args.i c.requires.within)
+    (ap (token_at (forest c.args.tree.now)) (place_node c.args.ranked.now c.args.i _ c.requires.within) ∙ sym c.token_at.ensures ∙ c.in_default.is)
     (list_of c.args.behind.now) c.requires.behind
 
 pub next_clip-clip-requires-clause-nodes : goal.next_clip-clip-requires-clause-nodes
 next_clip-clip-requires-clause-nodes c =
-    subst (All IsOfNode) (sym (c.of.ensures ∙ c.requires.behind c.in-Some.token.class)) (behind_of_nodes c.args.tree.now c.in-Some.token.class (drop (c.args.i + 1) (nodes_of c.args.ranked.now)))
+    subst (All IsOfNode) (sym (c.of.ensures ∙ c.requires.behind c.in-Some.token.class)) (behind_of_nodes (forest c.args.tree.now) c.in-Some.token.class (drop (c.args.i + 1) (nodes_of c.args.ranked.now)))
 
 pub next_clip-clip-requires-clause-live : goal.next_clip-clip-requires-clause-live
 next_clip-clip-requires-clause-live c =
-    subst (All (λ row. IsSpot c.args.net.now.present.names c.args.tree.now row.spot × ForSome row.end (IsSpot c.args.net.now.present.names c.args.tree.now))) (sym (c.of.ensures ∙ c.requires.behind c.in-Some.token.class))
-    (behind_there c.args.tree.now c.in-Some.token.class c.requires.list.0 c.args.net.now.present c.requires.list.1 (drop (c.args.i + 1) (nodes_of c.args.ranked.now)))
+    subst (All (λ row. IsSpot c.args.net.now.present.names (forest c.args.tree.now) row.spot × ForSome row.end (IsSpot c.args.net.now.present.names (forest c.args.tree.now)))) (sym (c.of.ensures ∙ c.requires.behind c.in-Some.token.class))
+    (behind_there (forest c.args.tree.now) c.in-Some.token.class c.requires.list.0 c.args.net.now.present c.requires.list.1 (drop (c.args.i + 1) (nodes_of c.args.ranked.now)))
 
 pub returns-clause-clip : goal.returns-clause-clip
 returns-clause-clip c s b seen holds =
     nearest_is seen holds (nodes_of c.args.ranked.now) c.args.i (within_nodes c.args.ranked.now c.args.i c.requires.within) c.requires.in_order c.requires.all c.in-Some.token
-    (ap (token_at c.args.tree.now) (place_node c.args.ranked.now c.args.i _ c.requires.within) ∙ sym c.token_at.ensures ∙ c.in-Some.is) c.next_clip-clip.result
-    (subst (λ rows. MatchOption c.in-Some.token.end (IsLastNode (clips of_one_class (spot_distance c.args.net.now.present c.args.tree.now) c.in-Some.token) rows c.next_clip-clip.result) (λ _. IsNone c.next_clip-clip.result))
+    (ap (token_at (forest c.args.tree.now)) (place_node c.args.ranked.now c.args.i _ c.requires.within) ∙ sym c.token_at.ensures ∙ c.in-Some.is) c.next_clip-clip.result
+    (subst (λ rows. MatchOption c.in-Some.token.end (IsLastNode (clips of_one_class (spot_distance c.args.net.now.present (forest c.args.tree.now)) c.in-Some.token) rows c.next_clip-clip.result) (λ _. IsNone c.next_clip-clip.result))
     (c.of.ensures ∙ c.requires.behind c.in-Some.token.class) c.next_clip-clip.ensures.last)
 
 pub returns-clause-behind : goal.returns-clause-behind
 returns-clause-behind c =
-    behind_token c.args.tree.now (nodes_of c.args.ranked.now) c.args.i (within_nodes c.args.ranked.now c.args.i c.requires.within) c.in-Some.token
-    (ap (token_at c.args.tree.now) (place_node c.args.ranked.now c.args.i _ c.requires.within) ∙ sym c.token_at.ensures ∙ c.in-Some.is)
+    behind_token (forest c.args.tree.now) (nodes_of c.args.ranked.now) c.args.i (within_nodes c.args.ranked.now c.args.i c.requires.within) c.in-Some.token
+    (ap (token_at (forest c.args.tree.now)) (place_node c.args.ranked.now c.args.i _ c.requires.within) ∙ sym c.token_at.ensures ∙ c.in-Some.is)
     (list_of c.args.behind.now) (list_of c.push.new.self) c.requires.behind c.in_ok-push.ensures.ok

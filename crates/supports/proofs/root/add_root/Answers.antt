@@ -5,6 +5,7 @@ use Rattle.tmm_model.specs.declared.premise.Premise.TheVariants.{Event, Token, S
 use Rattle.tmm_model.specs.declared.token.Shape.TheVariants.{Persistence as APersistence, Span as ASpan}
 use Rattle.list_theory.proofs.Elements.{In}
 use Rattle.spots.specs.Forest.{Enters, root_member}
+use Rattle.occ_tree.specs.Places.{forest}
 use Rattle.supports.specs.Growing.{AddsRoot}
 use Rattle.supports.proofs.Facts.{fact_known}
 use Rattle.supports.proofs.Grown.{number_there, event_adds, token_adds, span_adds}
@@ -51,9 +52,9 @@ returns-in_ok-x-in-Event c =
     let s = c.args.standing.now.present in
     let names = c.args.net.now.present.names in
     let p = Event c.in-Event.name c.in-Event.kind in
-    subst (λ q. AddsRoot s names q c.args.tree.now c.insert_root.new.self (Some c.in_ok-x-in-Event.x)) (sym c.in-Event.is)
+    subst (λ q. AddsRoot s names q (forest c.args.tree.now) (forest c.insert_root.new.self) (Some c.in_ok-x-in-Event.x)) (sym c.in-Event.is)
     (event_adds s c.requires.network.sound c.args.net.now.present c.requires.network c.in-Event.name c.in-Event.kind (subst (λ q. In q s.premises) c.in-Event.is c.requires.stands)
-    c.number_of-begin.result c.number_of-begin.ensures c.args.tree.now c.insert_root.new.self c.in_ok-x-in-Event.x c.in_ok-x-in-Event.ensures.ok)
+    c.number_of-begin.result c.number_of-begin.ensures (forest c.args.tree.now) (forest c.insert_root.new.self) c.in_ok-x-in-Event.x c.in_ok-x-in-Event.ensures.ok)
 
 pub returns-in_ok-x-in-Token : goal.returns-in_ok-x-in-Token
 returns-in_ok-x-in-Token c =
@@ -61,8 +62,8 @@ returns-in_ok-x-in-Token c =
     let names = c.args.net.now.present.names in
     let p = Token c.in-Token.name c.in-Token.fact in
     let begin = c.number_of-begin-in-Token.result in
-    let old = c.args.tree.now in
-    let new = c.insert_root-in-Token.new.self in
+    let old = forest c.args.tree.now in
+    let new = forest c.insert_root-in-Token.new.self in
     subst (λ q. AddsRoot s names q old new (Some c.in_ok-x-in-Token.x)) (sym c.in-Token.is)
     (token_adds s c.requires.network.sound c.args.net.now.present c.requires.network c.in-Token.name c.in-Token.fact (subst (λ q. In q s.premises) c.in-Token.is c.requires.stands)
     begin c.number_of-begin-in-Token.ensures old new c.in_ok-x-in-Token.x
@@ -74,8 +75,8 @@ returns-in_ok-x-in-Span c =
     let names = c.args.net.now.present.names in
     let p = Span c.in-Span.name c.in-Span.fact in
     let begin = c.number_of-begin-in-Span.result in
-    let old = c.args.tree.now in
-    let new = c.insert_root-in-Span.new.self in
+    let old = forest c.args.tree.now in
+    let new = forest c.insert_root-in-Span.new.self in
     subst (λ q. AddsRoot s names q old new (Some c.in_ok-x-in-Span.x)) (sym c.in-Span.is)
     (span_adds s c.requires.network.sound c.args.net.now.present c.requires.network c.in-Span.name c.in-Span.fact (subst (λ q. In q s.premises) c.in-Span.is c.requires.stands)
     begin c.number_of-end.result c.number_of-begin-in-Span.ensures c.number_of-end.ensures old new c.in_ok-x-in-Span.x

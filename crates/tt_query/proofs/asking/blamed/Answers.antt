@@ -2,6 +2,7 @@ use Rattle.std.proofs.Common.{◌∙◌, ◌-◌, ap, sym, map}
 use Rattle.tmm_model.specs.Answers.{fails, most_blames}
 use Rattle.tmm_model.specs.Maps.{built}
 use Rattle.spots.specs.Spots.{spot_moment}
+use Rattle.occ_tree.specs.Places.{forest}
 use Rattle.tt_query.specs.Firsts.{blame_at}
 use Rattle.tt_query.proofs.FirstTokens.{found_is, no_supporters}
 use Rattle.tt_query.proofs.asking.blamed.Goals as goal
@@ -9,7 +10,7 @@ use Rattle.tt_query.proofs.asking.blamed.Goals as goal
 pub blames-requires-clause-none : goal.blames-requires-clause-none
 blames-requires-clause-none c =
     let n = c.args.net.now.present in
-    let f = c.args.tree.now in
+    let f = forest c.args.tree.now in
     no_supporters c.args.standing.now.present n f c.requires.seen c.requires.holds c.args.fact c.in-Some.class (sym c.class_of.ensures ∙ c.in-Some.is) c.tokens-rows.result.now c.tokens-rows.ensures.rows
     (spot_moment n.names f c.args.p) (spot_moment n.names f c.args.q) c.requires.none c.as_slice.result.now (c.as_slice.ensures.value ∙ c.first_tokens-first.ensures.nodes)
 
@@ -17,7 +18,7 @@ pub returns : goal.returns
 returns c =
     let s = c.args.standing.now.present in
     let n = c.args.net.now.present in
-    let f = c.args.tree.now in
+    let f = forest c.args.tree.now in
     let p = spot_moment n.names f c.args.p in
     let q = spot_moment n.names f c.args.q in
     (λ i. fails ((c.in_ok-blames.ensures ∙ ap (map (blame_at (built s) f p q)) (c.as_slice.ensures.value ∙ c.first_tokens-first.ensures.nodes)) i)

@@ -2,9 +2,10 @@ use Rattle.std.proofs.Common.{◌≡◌, map, take}
 use Rattle.tmm_model.specs.Answers.{blame_of}
 use Rattle.tmm_model.specs.Maps.{built}
 use Rattle.spots.specs.Spots.{spot_moment}
+use Rattle.occ_tree.specs.Places.{forest}
 use Rattle.tt_query.specs.Firsts.{blame_at}
 use Rattle.tt_query.proofs.asking.blames.Given as goal
 
 abbrev pub invariant-loop-x : goal.invariant-loop-x
 invariant-loop-x l =
-    map blame_of l.blames.items ≡ map (blame_at (built l.standing.present) l.tree (spot_moment l.net.present.names l.tree l.p) (spot_moment l.net.present.names l.tree l.q)) (take l.x-index l.nodes)
+    map blame_of l.blames.items ≡ map (blame_at (built l.standing.present) (forest l.tree) (spot_moment l.net.present.names (forest l.tree) l.p) (spot_moment l.net.present.names (forest l.tree) l.q)) (take l.x-index l.nodes)

@@ -2,6 +2,7 @@ use Rattle.std.proofs.Common.{◌≤◌, ◌∙◌, ℕ, List, ap, sym, subst, t
 use Rattle.std.specs.List.{insert}
 use Rattle.tmm_model.specs.Firsts.{placed}
 use Rattle.spots.specs.Spots.{node_cmp}
+use Rattle.occ_tree.specs.Places.{forest}
 use Rattle.tt_query.proofs.FirstPlaces.{insert-first}
 use Rattle.tt_query.proofs.firsts.place.Goals as goal
 
@@ -15,4 +16,4 @@ returns-then-k-lt-BLAMES c =
     ∙ ap (λ (l : List ℕ). insert l k x) c.truncate.ensures.items
     ∙ insert-first 7 k x ys (omega (arith, c.if-k-lt-BLAMES.true)) within
     ∙ ap (take 8)
-    (ap (λ (l : List ℕ). insert l k x) (sym c.as_slice.ensures.value) ∙ sym c.place_of-k.ensures.placed ∙ ap (placed (node_cmp c.args.net.now.present c.args.tree.now) x) c.as_slice.ensures.value)
+    (ap (λ (l : List ℕ). insert l k x) (sym c.as_slice.ensures.value) ∙ sym c.place_of-k.ensures.placed ∙ ap (placed (node_cmp c.args.net.now.present (forest c.args.tree.now)) x) c.as_slice.ensures.value)

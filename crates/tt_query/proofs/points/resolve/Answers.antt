@@ -5,6 +5,7 @@ use Rattle.tmm_model.specs.Questions.{point_cause}
 use Rattle.list_theory.proofs.Places.{place_known}
 use Rattle.tt_query.specs.Stops.{StopsPoint}
 use Rattle.tt_query.proofs.Believed.{no_cause, a_cause, stops_derived}
+use Rattle.occ_tree.specs.Places.{forest}
 use Rattle.tt_query.proofs.points.resolve.Goals as goal
 
 pub number_of-requires : goal.number_of-requires
@@ -14,10 +15,10 @@ number_of-requires c =
 pub returns-in-Some-clause-known : goal.returns-in-Some-clause-known
 returns-in-Some-clause-known c =
     let (m, is, same) = c.in-Some.ensures in
-    ap (point_cause (built c.args.standing.now.present)) c.in-Derived.is ∙ no_cause c.args.standing.now.present c.args.tree.now c.requires.holds c.in-Derived.occ c.in-Some.x m is same
+    ap (point_cause (built c.args.standing.now.present)) c.in-Derived.is ∙ no_cause c.args.standing.now.present (forest c.args.tree.now) c.requires.holds c.in-Derived.occ c.in-Some.x m is same
 
 pub returns-in-None-clause-stops : goal.returns-in-None-clause-stops
 returns-in-None-clause-stops c =
     let m = built c.args.standing.now.present in
     subst (λ (p : QueryPoint). StopsPoint m p c.unknown.result) (sym c.in-Derived.is)
-    (stops_derived m c.in-Derived.occ c.unknown.result (a_cause c.args.standing.now.present c.args.tree.now c.requires.holds c.in-Derived.occ c.in-None.ensures) c.unknown.ensures)
+    (stops_derived m c.in-Derived.occ c.unknown.result (a_cause c.args.standing.now.present (forest c.args.tree.now) c.requires.holds c.in-Derived.occ c.in-None.ensures) c.unknown.ensures)

@@ -1,4 +1,4 @@
-use Rattle.std.proofs.Common.{◌≡◌, ◌∙◌, ◌⊎◌, ◌+◌, ◌*◌, ◌++◌, ◌<◌, ◌≤◌, ℕ, ℤ, List, [], length, take, drop, get_or, set, length-set, true, false, ap, sym, subst, arith, rules, refl, w64, vec_capacity}
+use Rattle.std.proofs.Common.{sym, subst, arith}
 use Rattle.dist_net.specs.Changes.{ArePoints}
 use Rattle.dist_net.proofs.Listing.{ArePoints-none}
 use Rattle.dist_net.proofs.changes.Changes.clear.Goals as goal

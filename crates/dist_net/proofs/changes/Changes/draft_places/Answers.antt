@@ -1,4 +1,4 @@
-use Rattle.std.proofs.Common.{◌≡◌, ◌∙◌, ℕ, List, ap, sym, subst}
+use Rattle.std.proofs.Common.{ℕ, List, sym, subst}
 use Rattle.dist_net.specs.Changes.{Covers, Listed}
 use Rattle.dist_net.proofs.changes.Changes.draft_places.Goals as goal
 

@@ -1,11 +1,11 @@
-use Rattle.std.proofs.Common.{◌≡◌, ◌∙◌, ◌⊎◌, inl, inr, ◌+◌, ◌*◌, ◌/◌, ◌%◌, ◌++◌, ◌<◌, ◌≤◌, ℕ, ℤ, Bool, List, [], length, take, drop, get_or, set, length-set, true, false, ap, sym, subst, arith, rules, refl, w64, vec_capacity, Vec, Global}
+use Rattle.std.proofs.Common.{◌≡◌, ◌∙◌, ◌⊎◌, inl, inr, ℕ, Bool, List, length, drop, ap, sym, subst, arith}
 use Rattle.std.specs.List.{Contains}
 use Rattle.std.proofs.lemmas.Bool.{false≢true, le-leb}
 use Rattle.std.proofs.Common.{◌-◌, length-drop}
 use Rattle.std.proofs.lemmas.List.{take_all}
 use Rattle.dist_net.specs.Changes.{Listed, AreMarksListed}
 use Rattle.dist_net.proofs.Adding.{refilled}
-use Rattle.dist_net.proofs.Listing.{fewer_points, fewer_kept, fewer_listed}
+use Rattle.dist_net.proofs.Listing.{fewer_listed}
 use Rattle.dist_net.proofs.changes.Changes.list_moved.Goals as goal
 
 pub returns-clause-full : goal.returns-clause-full

@@ -2,12 +2,13 @@ use Rattle.std.proofs.Common.{◌∙◌, sym, ap}
 use Rattle.tmm_model.specs.Beliefs.{rules_on}
 use Rattle.spots.proofs.Nodes.{node_at}
 use Rattle.supports.proofs.OnKinds.{rules_of_event}
+use Rattle.occ_tree.specs.Places.{forest}
 use Rattle.just_check.proofs.rules.RulesByKind.at.Goals as goal
 
 pub returns-in-Event : goal.returns-in-Event
 returns-in-Event c =
     let s = c.args.standing.now.present in
-    let (m, at) = node_at c.args.tree.now c.args.x c.requires.live in
+    let (m, at) = node_at (forest c.args.tree.now) c.args.x c.requires.live in
     let row = c.row-row.ensures m at in
     c.of.ensures ∙ c.requires.rules c.row-row.result.what ∙ ap (rules_on s) row.what
-    ∙ sym (rules_of_event s c.requires.seen.0 c.args.tree.now c.requires.seen.1 c.args.x m at (sym row.shape ∙ c.in-Event.is))
+    ∙ sym (rules_of_event s c.requires.seen.0 (forest c.args.tree.now) c.requires.seen.1 c.args.x m at (sym row.shape ∙ c.in-Event.is))

@@ -8,6 +8,7 @@ use Rattle.tmm_model.specs.Moments.{Moment, At, After, along}
 use Rattle.tmm_model.specs.declared.point.PointName.TheVariants.{Begin}
 use Rattle.occ_tree.specs.declared.node.Node.{Node}
 use Rattle.occ_tree.specs.Nodes.{node_at, member_of, forest_in}
+use Rattle.occ_tree.specs.Places.{forest}
 use Rattle.occ_tree.proofs.NodeLists.{seen}
 use Rattle.occ_tree.proofs.Lookups.{none_below, effect_none, effect_found, number_read}
 use Rattle.occ_tree.proofs.tree.Tree.effect_of.Goals as goal
@@ -28,7 +29,7 @@ returns-then-is_by c =
     let listed = number_read c.deref-child-items.result.now n.children.items c.loop-child.child-index (c.loop-child.invariant.items n c.index.ensures) c.loop-child-test.true in
     let found = effect_found c.self.inside.nodes.slots c.self.invariant.nodes c.self.invariant.once c.args.x n c.args.rule.now y c.index-in-loop-child.result.now c.index.ensures listed c.index-in-loop-child.ensures (c.is_by.ensures.0 c.if-is_by.true) in
     let t : moment (member_of n) ≡ moment_at (forest_in c.self.inside.nodes.slots) c.args.x = sym (moment_at-is (forest_in c.self.inside.nodes.slots) c.args.x (member_of n) (seen c.self.inside.nodes.slots c.args.x n c.index.ensures)) in
-    subst (λ (f : Forest). (m : Member) × (member f y ≡ Some m) × (moment m ≡ After (moment_at f c.args.x) c.args.rule.now)) c.self.view_is
+    subst (λ (f : Forest). (m : Member) × (member f y ≡ Some m) × (moment m ≡ After (moment_at f c.args.x) c.args.rule.now)) (ap forest c.self.view_is)
     (subst (λ (t : Moment). (m : Member) × (member (forest_in c.self.inside.nodes.slots) y ≡ Some m) × (moment m ≡ After t c.args.rule.now)) t found)
 
 pub loop-child-preserved : goal.loop-child-preserved
@@ -49,7 +50,7 @@ returns c =
     let all = take_all c.loop-child.child-index c.deref-child-items.result.now c.loop-child-test.false in
     let none = subst (All (λ y. (n : Node) → node_at c.self.inside.nodes.slots y ≡ Some n → last_name n.root n.links.items ≢ c.args.rule.now)) (all ∙ c.loop-child.invariant.items n c.index.ensures) c.loop-child.invariant.passed in
     let t : moment (member_of n) ≡ moment_at (forest_in c.self.inside.nodes.slots) c.args.x = sym (moment_at-is (forest_in c.self.inside.nodes.slots) c.args.x (member_of n) (seen c.self.inside.nodes.slots c.args.x n c.index.ensures)) in
-    subst (λ (f : Forest). (rest : List (List ℕ)) (y : ℕ) (m : Member) → member f y ≡ Some m → moment m ≢ along (After (moment_at f c.args.x) c.args.rule.now) rest) c.self.view_is
+    subst (λ (f : Forest). (rest : List (List ℕ)) (y : ℕ) (m : Member) → member f y ≡ Some m → moment m ≢ along (After (moment_at f c.args.x) c.args.rule.now) rest) (ap forest c.self.view_is)
     (subst (λ (t : Moment). (rest : List (List ℕ)) (y : ℕ) (m : Member) → member (forest_in c.self.inside.nodes.slots) y ≡ Some m → moment m ≢ along (After t c.args.rule.now) rest) t
     (none_below c.self.inside.nodes.slots c.self.invariant.nodes n.root (rules_of (member_of n) ++ c.args.rule.now ∷ []) (After (moment (member_of n)) c.args.rule.now) (along-push (At (Begin n.root)) (rules_of (member_of n)) c.args.rule.now)
     (effect_none c.self.inside.nodes.slots c.self.invariant.nodes c.self.invariant.once c.args.x n c.args.rule.now c.index.ensures none)))

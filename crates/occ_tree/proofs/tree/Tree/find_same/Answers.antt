@@ -6,6 +6,7 @@ use Rattle.tmm_model.specs.Moments.{Moment, At, along}
 use Rattle.spots.specs.declared.link.Link.{Link}
 use Rattle.spots.specs.Forest.{Member, member, moment, moment_at}
 use Rattle.occ_tree.specs.Nodes.{member_of}
+use Rattle.occ_tree.specs.Places.{forest}
 use Rattle.occ_tree.proofs.Lookups.{way_none, way_found}
 use Rattle.occ_tree.proofs.tree.Tree.find_same.Goals as goal
 use Rattle.spots.proofs.Nodes.{moment_at-is}
@@ -25,7 +26,7 @@ module _ (ls : List Link) (i : ℕ) (l : Link) where
 pub returns-in_err-same-2 : goal.returns-in_err-same-2
 unfolding names
 returns-in_err-same-2 c =
-    let f = c.args.self.now in
+    let f = forest c.args.self.now in
     let n = member_of c.node-node.result.now in
     let t = At (Begin n.root) in
     let ls = c.deref-link-items.result.now in
@@ -33,13 +34,13 @@ returns-in_err-same-2 c =
     let l = c.link-item.result in
     let (m, m_at, here) = c.loop-link.invariant.here in
     let none = way_none f t (names ls) i l.rule (within_names ls i l c.loop-link-test.true) (at_name ls i l c.link-item.is) (moment_at f c.loop-link.same) (moment_at-is f c.loop-link.same m m_at ∙ here n c.node-node.ensures.is) c.in_err-same-2.ensures in
-    let whole : along t (names ls) ≡ moment_at c.args.other.now c.args.x = ap (λ (ks : List Link). along t (names ks)) (c.loop-link.invariant.items n c.node-node.ensures.is) ∙ sym (moment_at-is c.args.other.now c.args.x n c.node-node.ensures.is) in
+    let whole : along t (names ls) ≡ moment_at (forest c.args.other.now) c.args.x = ap (λ (ks : List Link). along t (names ks)) (c.loop-link.invariant.items n c.node-node.ensures.is) ∙ sym (moment_at-is (forest c.args.other.now) c.args.x n c.node-node.ensures.is) in
     rw c.from_residual-in_err-same-2.ensures (subst (λ (u : Moment). (x : ℕ) (m : Member) → member f x ≡ Some m → moment m ≢ u) whole none)
 
 pub loop-link-preserved : goal.loop-link-preserved
 unfolding names
 loop-link-preserved c =
-    let f = c.args.self.now in
+    let f = forest c.args.self.now in
     let ls = c.deref-link-items.result.now in
     let i = c.loop-link.link-index in
     let l = c.link-item.result in
@@ -62,5 +63,5 @@ returns c =
     let ls = c.deref-link-items.result.now in
     let (m, m_at, here) = c.loop-link.invariant.here in
     let all : take c.loop-link.link-index (names ls) ≡ names ls = take_all c.loop-link.link-index (names ls) (let n = length-map ls (λ (k : Link). k.rule) in let past = c.loop-link-test.false in omega arith) in
-    let whole : along t (names ls) ≡ moment_at c.args.other.now c.args.x = ap (λ (ks : List Link). along t (names ks)) (c.loop-link.invariant.items n c.node-node.ensures.is) ∙ sym (moment_at-is c.args.other.now c.args.x n c.node-node.ensures.is) in
+    let whole : along t (names ls) ≡ moment_at (forest c.args.other.now) c.args.x = ap (λ (ks : List Link). along t (names ks)) (c.loop-link.invariant.items n c.node-node.ensures.is) ∙ sym (moment_at-is (forest c.args.other.now) c.args.x n c.node-node.ensures.is) in
     (m, m_at, here n c.node-node.ensures.is ∙ ap (along t) all ∙ whole)

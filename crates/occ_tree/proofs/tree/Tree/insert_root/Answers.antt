@@ -4,6 +4,7 @@ use Rattle.spots.specs.declared.link.Link.{Link}
 use Rattle.spots.specs.Forest.{Forest, IsNoRoot, Enters}
 use Rattle.occ_tree.specs.declared.node.Node.{Node}
 use Rattle.occ_tree.specs.Nodes.{member_of, forest_in}
+use Rattle.occ_tree.specs.Places.{forest}
 use Rattle.occ_tree.proofs.Entering.{AreRight-kept}
 use Rattle.occ_tree.proofs.Roots.{IsRootNode, Enters-beside, AreRight-root}
 use Rattle.occ_tree.proofs.tree.Tree.insert_root.Goals as goal
@@ -43,7 +44,7 @@ invariant_of-self-2 c =
       children = c.new-2.ensures.items;
     } in
     let limit = c.max-self-inside.ensures in
-    let new : IsNoRoot (forest_in c.self.inside.nodes.slots) c.args.name = subst (λ (f : Forest). IsNoRoot f c.args.name) (sym c.self.view_is) c.requires.new in
+    let new : IsNoRoot (forest_in c.self.inside.nodes.slots) c.args.name = subst (λ (f : Forest). IsNoRoot f c.args.name) (sym (ap forest c.self.view_is)) c.requires.new in
     AreRight-root c.self.inside.nodes c.enter.new.nodes x n is c.in_ok-enter.ensures.free c.in_ok-enter.ensures.entered c.self.inside.roots.items c.push_reserved.new.self.items
     c.self.inside.classes.items c.enter.new.classes.items c.self.inside.limit c.max-self-inside.result c.self.invariant new
     (c.push_reserved.ensures.items ∙ ap (λ (l : List ℕ). l ++ x ∷ []) c.reserve.ensures.items) (omega (arith, limit)) (omega (arith, limit)) c.in_ok-enter.ensures.ok
@@ -68,6 +69,6 @@ returns-clause-ok c =
       children = c.new-2.result;
     } in
     let enters = Enters-beside c.self.inside.nodes c.enter.new.nodes x n c.in_ok-enter.ensures.free c.in_ok-enter.ensures.entered in
-    subst (λ (ls : List Link). Enters c.args.self.now (forest_in c.enter.new.nodes.slots) x (record { root = c.args.name; links = ls; begin = c.args.begin; «end» = c.args.end; what = c.args.what; class = c.args.class; shape = c.args.shape }))
+    subst (λ (ls : List Link). Enters (forest c.args.self.now) (forest_in c.enter.new.nodes.slots) x (record { root = c.args.name; links = ls; begin = c.args.begin; «end» = c.args.end; what = c.args.what; class = c.args.class; shape = c.args.shape }))
     c.new.ensures.items
-    (subst (λ (f : Forest). Enters f (forest_in c.enter.new.nodes.slots) x (member_of n)) c.self.view_is enters)
+    (subst (λ (f : Forest). Enters f (forest_in c.enter.new.nodes.slots) x (member_of n)) (ap forest c.self.view_is) enters)

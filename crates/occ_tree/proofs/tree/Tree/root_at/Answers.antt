@@ -7,6 +7,7 @@ use Rattle.tmm_model.specs.Moments.{At}
 use Rattle.spots.specs.Forest.{Forest}
 use Rattle.occ_tree.specs.declared.node.Node.{Node}
 use Rattle.occ_tree.specs.Nodes.{IsNodeOf}
+use Rattle.occ_tree.specs.Places.{forest}
 use Rattle.occ_tree.proofs.Lookups.{contains_at, root_found}
 use Rattle.occ_tree.proofs.tree.Tree.root_at.Goals as goal
 
@@ -24,5 +25,5 @@ returns-then-eq c =
     let e : Some n ≡ Some c.index.result.now = sym at ∙ c.index.ensures in
     let is : n ≡ c.index.result.now = cc in
     let root = (bytes_decides c.index.result.now.root c.args.name.now).0 (sym c.eq.ensures ∙ c.if-eq.true) in
-    subst (λ (f : Forest). IsNodeOf f (At (Begin c.args.name.now)) x) c.self.view_is
+    subst (λ (f : Forest). IsNodeOf f (At (Begin c.args.name.now)) x) (ap forest c.self.view_is)
     (root_found c.self.inside.nodes.slots c.self.invariant.nodes x n c.args.name.now at none (ap (λ (n : Node). n.root) is ∙ root))

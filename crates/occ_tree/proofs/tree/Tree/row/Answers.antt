@@ -1,10 +1,11 @@
 use Rattle.std.proofs.Common.{◌≡◌, ◌∙◌, refl, ap, sym, subst, length, w64, of_z, to_z}
 use Rattle.std.specs.Prelude.{Some}
 use Rattle.spots.specs.Forest.{Member, last_name}
-use Rattle.occ_tree.specs.declared.node.NodeRow.{NodeRow}
+use Rattle.spots.specs.declared.node_row.NodeRow.{NodeRow}
 use Rattle.occ_tree.specs.Nodes.{member_of}
-use Rattle.occ_tree.specs.Rows.{IsRow}
-use Rattle.occ_tree.proofs.Sums.{low_from_sums, high_from_sums}
+use Rattle.spots.specs.Rows.{IsRow}
+use Rattle.occ_tree.specs.Places.{forest}
+use Rattle.spots.proofs.Delays.{low_from_sums, high_from_sums}
 use Rattle.occ_tree.proofs.tree.Tree.row.Goals as goal
 
 pub returns : goal.returns
@@ -27,7 +28,7 @@ returns c m at =
       shape = n.shape;
     } in
     let links : c.as_slice.result.now ≡ n.links.items = c.as_slice.ensures.value in
-    let own : IsRow c.args.self.now (member_of n) row = record {
+    let own : IsRow (forest c.args.self.now) (member_of n) row = record {
       parent = kept.parent;
       name = c.last_name.ensures ∙ ap (last_name n.root) links;
       root = kept.root;
@@ -40,4 +41,4 @@ returns c m at =
       class = refl;
       shape = refl;
     } in
-    subst (λ (k : Member). IsRow c.args.self.now k row) is own
+    subst (λ (k : Member). IsRow (forest c.args.self.now) k row) is own

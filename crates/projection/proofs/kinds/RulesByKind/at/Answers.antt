@@ -6,15 +6,16 @@ use Rattle.projection.specs.Places.{name_at, IsRuleAt}
 use Rattle.projection.proofs.AtPlaces.{placed}
 use Rattle.supports.proofs.OnKinds.{rules_of_event}
 use Rattle.projection.proofs.OnKinds.{length-filter_map-le}
+use Rattle.occ_tree.specs.Places.{forest}
 use Rattle.projection.proofs.kinds.RulesByKind.at.Goals as goal
 
 pub returns-in-Event-clause-value : goal.returns-in-Event-clause-value
 returns-in-Event-clause-value c =
     let s = c.args.standing.now.present in
-    let (m, at) = node_at c.args.tree.now c.args.x c.requires.live in
+    let (m, at) = node_at (forest c.args.tree.now) c.args.x c.requires.live in
     let row = c.row-row.ensures m at in
     ap (map (name_at s)) c.of.ensures ∙ c.requires.rules.named c.row-row.result.what ∙ ap (rules_on s) row.what
-    ∙ sym (rules_of_event s c.requires.members.0 c.args.tree.now c.requires.members.1 c.args.x m at (sym row.shape ∙ c.in-Event.is))
+    ∙ sym (rules_of_event s c.requires.members.0 (forest c.args.tree.now) c.requires.members.1 c.args.x m at (sym row.shape ∙ c.in-Event.is))
 
 pub returns-in-Event-clause-places : goal.returns-in-Event-clause-places
 returns-in-Event-clause-places c = subst (All (IsRuleAt c.args.standing.now.present)) (sym c.of.ensures) (c.requires.rules.places c.row-row.result.what)

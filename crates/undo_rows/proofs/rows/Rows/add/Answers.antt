@@ -23,7 +23,7 @@ returns-in_err-reserve_rows-clause-err g c =
     let log = c.self.inside.log.items in
     let alike : c.reserve.new.self.slots ≡ slots = ap (λ (s : Slab (Row g.row.T.Denot g.row.F)). s.slots) c.reserve.ensures.rest_kept in
     let p = err_from_is_err_and c.from_residual-in_err-reserve_rows.result c.from_residual-in_err-reserve_rows.ensures.1 in
-    rw (p.1, ← c.self.view_is) (grown_stays slots c.reserve.new.self.slots links c.reserve_rows.new.self log log alike refl c.reserve_rows.ensures.kept)
+    rw (p.1, ← c.self.view_is) (grown_stays slots c.reserve.new.self.slots links c.reserve_rows.new.self log log _ _ alike refl c.reserve_rows.ensures.kept)
 
 pub invariant_of-self-in_err-reserve-2 : goal.invariant_of-self-in_err-reserve-2
 invariant_of-self-in_err-reserve-2 g c =
@@ -40,7 +40,7 @@ returns-in_err-reserve-2-clause-err g c =
     let log = c.self.inside.log.items in
     let alike : c.reserve.new.self.slots ≡ slots = ap (λ (s : Slab (Row g.row.T.Denot g.row.F)). s.slots) c.reserve.ensures.rest_kept in
     let p = err_from_is_err_and c.from_residual-in_err-reserve-2.result c.from_residual-in_err-reserve-2.ensures.1 in
-    rw (p.1, ← c.self.view_is) (grown_stays slots c.reserve.new.self.slots links c.reserve_rows.new.self log c.reserve-2.new.self.items alike c.reserve-2.ensures.items c.reserve_rows.ensures.kept)
+    rw (p.1, ← c.self.view_is) (grown_stays slots c.reserve.new.self.slots links c.reserve_rows.new.self log c.reserve-2.new.self.items _ _ alike c.reserve-2.ensures.items c.reserve_rows.ensures.kept)
 
 pub invariant_of-self-2 : goal.invariant_of-self-2
 invariant_of-self-2 g c =

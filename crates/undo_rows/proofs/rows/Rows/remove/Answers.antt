@@ -1,64 +1,15 @@
-use Rattle.std.proofs.Common.{◌≡◌, arith, sym, ap, ◌∙◌, subst, Some, None, Option}
-use Rattle.row_links.specs.Lists.{without}
-use Rattle.row_links.specs.Families.{list_in}
-use Rattle.undo_rows.specs.declared.row.Row.{Row}
-use Rattle.undo_rows.specs.Tables.{live}
-use Rattle.undo_rows.specs.Tables.{head_in, is_head}
-use Rattle.undo_rows.specs.Changes.{present, table_in}
-use Rattle.std.proofs.Common.{cond, IsSome, slice_index_or, slice_set, true, false}
-use Rattle.undo_rows.specs.Changes.{Logged}
-use Rattle.undo_rows.proofs.Edits.{not_gone, on_lists, removes}
+use Rattle.std.proofs.Common.{ap, sym, subst, ◌∙◌, arith, IsSome}
+use Rattle.undo_rows.specs.Tables.{Table, without_row}
 use Rattle.undo_rows.proofs.rows.Rows.remove.Goals as goal
 
-pub unlink_all-requires : goal.unlink_all-requires
-unlink_all-requires g c =
-    let slots = c.self.inside.stored.rows.slots in
-    let links = c.self.inside.stored.links in
-    let x = c.args.x in
-    let r = c.index.result.now in
-    let there : slice_index_or slots x None ≡ Some r = c.index.ensures in
-    let present_before : IsSome (live (slice_index_or slots x None)) = subst (λ (l : Logged g.row.T.Denot g.row.F). IsSome ((present l).row x)) (sym c.self.view_is) c.requires in
-    let stays : r.gone ≡ false = not_gone r (subst (λ (o : Option (Row g.row.T.Denot g.row.F)). IsSome (live o)) there present_before) in
-    (omega arith, (on_lists (table_in slots links) x r c.self.invariant.now_listed there stays, omega (arith, c.in_ok-reserve.ensures.ok)))
-
-pub invariant_of-self-2 : goal.invariant_of-self-2
-invariant_of-self-2 g c =
-    let slots = c.self.inside.stored.rows.slots in
-    let links = c.self.inside.stored.links in
-    let x = c.args.x in
-    let r = c.index_mut.result.now in
-    let log = c.self.inside.log.items in
-    let new_links = c.unlink_all.new.links in
-    let removed : (Row g.row.T.Denot g.row.F) = record r { gone = true } in
-    let new = slice_set slots x (Some removed) in
-    let there : slice_index_or slots x None ≡ Some r = c.index_mut.ensures.value in
-    let present_before : IsSome (live (slice_index_or slots x None)) = subst (λ (l : Logged g.row.T.Denot g.row.F). IsSome ((present l).row x)) (sym c.self.view_is) c.requires in
-    let stays : r.gone ≡ false = not_gone r (subst (λ (o : Option (Row g.row.T.Denot g.row.F)). IsSome (live o)) there present_before) in
-    let read : c.index.result.now ≡ r = (let both : Some c.index.result.now ≡ Some r = sym c.index.ensures ∙ there in cc) in
-    let e = c.unlink_all.ensures in
-    let logged = c.reserve.ensures.items in
-    let s = removes slots links new_links x r log c.reserve.new.self.items c.unlink_all.new.log.items c.push.new.self.items there stays logged
-    (λ f h. e.lists f h ∙ ap (λ (q : Row g.row.T.Denot g.row.F). cond (is_head (head_in q.heads f) h) (without x (list_in links f h)) (list_in links f h)) read)
-    e.back c.push.ensures.items c.self.invariant in
-    s.rows
+pub remove_reserved-requires : goal.remove_reserved-requires
+remove_reserved-requires g c =
+    (omega arith, (subst (λ (t : Table g.row.T.Denot g.row.F). IsSome (t.row c.args.x)) (sym c.reserve.ensures.stays.present) c.requires, omega (arith, c.in_ok-reserve.ensures.ok, c.changes_of-changes.ensures)))
 
 pub returns-clause-ok : goal.returns-clause-ok
 returns-clause-ok g c =
-    let slots = c.self.inside.stored.rows.slots in
-    let links = c.self.inside.stored.links in
-    let x = c.args.x in
-    let r = c.index_mut.result.now in
-    let log = c.self.inside.log.items in
-    let new_links = c.unlink_all.new.links in
-    let removed : (Row g.row.T.Denot g.row.F) = record r { gone = true } in
-    let new = slice_set slots x (Some removed) in
-    let there : slice_index_or slots x None ≡ Some r = c.index_mut.ensures.value in
-    let present_before : IsSome (live (slice_index_or slots x None)) = subst (λ (l : Logged g.row.T.Denot g.row.F). IsSome ((present l).row x)) (sym c.self.view_is) c.requires in
-    let stays : r.gone ≡ false = not_gone r (subst (λ (o : Option (Row g.row.T.Denot g.row.F)). IsSome (live o)) there present_before) in
-    let read : c.index.result.now ≡ r = (let both : Some c.index.result.now ≡ Some r = sym c.index.ensures ∙ there in cc) in
-    let e = c.unlink_all.ensures in
-    let logged = c.reserve.ensures.items in
-    let s = removes slots links new_links x r log c.reserve.new.self.items c.unlink_all.new.log.items c.push.new.self.items there stays logged
-    (λ f h. e.lists f h ∙ ap (λ (q : Row g.row.T.Denot g.row.F). cond (is_head (head_in q.heads f) h) (without x (list_in links f h)) (list_in links f h)) read)
-    e.back c.push.ensures.items c.self.invariant in
-    rw (← c.self.view_is) (record { present_is = s.present_is; committed_is = s.committed_is })
+    let stays = c.reserve.ensures.stays in
+    record {
+      present_is = c.remove_reserved.ensures.removed.present_is ∙ ap (λ (t : Table g.row.T.Denot g.row.F). without_row t c.args.x) stays.present;
+      committed_is = c.remove_reserved.ensures.removed.committed_is ∙ stays.committed;
+    }

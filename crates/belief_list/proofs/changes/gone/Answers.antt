@@ -1,0 +1,9 @@
+use Rattle.std.proofs.Common.{arith}
+use Rattle.std.proofs.lemmas.Grind.{common_steps}
+use Rattle.belief_list.proofs.changes.gone.Goals as goal
+
+pub loop-row-preserved : goal.loop-row-preserved
+loop-row-preserved c = λ others listing. grind (arith, common_steps, c.loop-row.invariant others listing, c.is_gone.ensures others listing)
+
+pub returns : goal.returns
+returns c = λ others listing. grind (arith, common_steps, c.loop-row.invariant others listing)

@@ -1,0 +1,395 @@
+//! The same answers over tokens in the order of their earliest dates, for a map that keeps those of each
+//! class so.
+//!
+//! The first supporter or clip in the list is the first by the order, so a search stops at the first that
+//! it finds. No search looks at a token whose date alone rules it out: what supports at a point has a date
+//! up to the point's, what clips a token has a later one than the token's, and what cuts it before a point
+//! has one up to that point's. The bounds of a search are found by halving. No call takes memory.
+//!
+//! `first_clipper` and `blame` cost what they pass over. `is_held` and `holder` cost, for each token of the
+//! fact that they pass over, the way from what cut the one before to what cuts this one: little where those
+//! that cut stand in the order of those that they cut. Where they stand in quite another order it comes to
+//! the square of the tokens up to the last point.
+ghost use Rattle.std.specs.Prelude.{◌≡◌, ◌<◌, ◌≤◌, ◌+◌, ◌↔◌, ◌≤ℤ◌, ℕ, length, IsTrue, false, IfSome, MatchOption, slice_get, slice_index_or};
+ghost use Rattle.std.specs.List.{All, list_any};
+ghost use Rattle.std.specs.Option.{ForSome};
+ghost use Rattle.std.specs.Ordering.{on};
+ghost use Rattle.std.specs.declared.cmp.Ordering.TheVariants.{Less};
+ghost use Rattle.tmm_model.specs.declared.token.TokenRow.{TokenRow};
+ghost use Rattle.tmm_model.specs.Tokens.{of_one_class, supports, cuts, lasts_to};
+ghost use Rattle.belief_theory.specs.FirstPlaces.{IsFirstPlace};
+ghost use Rattle.clipping.specs.ByDate.{IsByDate, AreUntil, AreBefore, IsAnyPlaceIn, IsFirstPlaceIn, IsPlaceOf};
+ghost use Rattle.clipping.specs.Cutters.{clips_until};
+ghost use Rattle.clipping.specs.Faults.{IsClipPlace, IsFault};
+ghost use Rattle.clipping.specs.Live.{IsLive};
+
+use crate::{Dated, Fault, clips_until, cuts_before};
+use tmm_model::{Name, TokenRow};
+
+/// Whether the tokens stand in the order of their dates, which the other calls ask for.
+pub fn is_by_date<S: Dated>(order: &S, tokens: &[TokenRow<S::Spot>]) -> bool
+    requires all_live { All (IsLive (S.live order.now)) tokens.now }
+    ensures { IsTrue result ↔ IsByDate (S.date order.now) (S.order order.now) tokens.now }
+{
+    for i in 1..tokens.len() {
+        if !follows(order, tokens[i - 1].spot, tokens[i].spot) {
+            return false;
+        }
+    }
+    true
+}
+
+// Whether a spot is behind another, with a date that is not lower.
+fn follows<S: Dated>(order: &S, a: S::Spot, b: S::Spot) -> bool
+    requires a_live { S.live order.now a }
+    requires b_live { S.live order.now b }
+    ensures { IsTrue result ↔ ((S.date order.now a ≤ℤ S.date order.now b) × (S.order order.now a b ≡ Less)) }
+{
+    order.date(a) <= order.date(b) && order.rank(a, b).is_lt()
+}
+
+// How many tokens have a date up to this one.
+fn count_by_date<S: Dated>(order: &S, tokens: &[TokenRow<S::Spot>], until: i64) -> usize
+    requires all_live { All (IsLive (S.live order.now)) tokens.now }
+    requires by_date { IsByDate (S.date order.now) (S.order order.now) tokens.now }
+    ensures { AreUntil (S.date order.now) tokens.now until result }
+{
+    let mut low = 0;
+    let mut high = tokens.len();
+    while low < high {
+        let middle = low + (high - low) / 2;
+        if order.date(tokens[middle].spot) <= until {
+            low = middle + 1;
+        } else {
+            high = middle;
+        }
+    }
+    low
+}
+
+// How many tokens have a date up to that of a spot.
+fn count_until<S: Dated>(order: &S, tokens: &[TokenRow<S::Spot>], q: S::Spot) -> usize
+    requires all_live { All (IsLive (S.live order.now)) tokens.now }
+    requires by_date { IsByDate (S.date order.now) (S.order order.now) tokens.now }
+    requires q_live { S.live order.now q }
+    ensures { AreUntil (S.date order.now) tokens.now (S.date order.now q) result }
+{
+    count_by_date(order, tokens, order.date(q))
+}
+
+// How many tokens have a date up to that of a point where one is given: all where none is.
+fn count_reached<S: Dated>(order: &S, tokens: &[TokenRow<S::Spot>], until: Option<S::Spot>) -> usize
+    requires all_live { All (IsLive (S.live order.now)) tokens.now }
+    requires by_date { IsByDate (S.date order.now) (S.order order.now) tokens.now }
+    requires until_live { ForSome until (λ q. S.live order.now q) }
+    ensures { MatchOption until (result ≡ length tokens.now) (λ q. AreUntil (S.date order.now) tokens.now (S.date order.now q) result) }
+{
+    match until {
+        None => tokens.len(),
+        Some(q) => count_until(order, tokens, q),
+    }
+}
+
+// How many tokens are before a spot.
+fn count_before<S: Dated>(order: &S, tokens: &[TokenRow<S::Spot>], spot: S::Spot) -> usize
+    requires all_live { All (IsLive (S.live order.now)) tokens.now }
+    requires by_date { IsByDate (S.date order.now) (S.order order.now) tokens.now }
+    requires spot_live { S.live order.now spot }
+    ensures { AreBefore (S.order order.now) tokens.now spot result }
+{
+    let mut low = 0;
+    let mut high = tokens.len();
+    while low < high {
+        let middle = low + (high - low) / 2;
+        if order.rank(tokens[middle].spot, spot).is_lt() {
+            low = middle + 1;
+        } else {
+            high = middle;
+        }
+    }
+    low
+}
+
+/// The place of the token that begins at a spot, none exactly where no token does. It is found by halving.
+pub fn place_of<S: Dated>(order: &S, tokens: &[TokenRow<S::Spot>], spot: S::Spot) -> Option<usize>
+    requires all_live { All (IsLive (S.live order.now)) tokens.now }
+    requires by_date { IsByDate (S.date order.now) (S.order order.now) tokens.now }
+    requires spot_live { S.live order.now spot }
+    ensures { IsPlaceOf tokens.now spot result }
+{
+    let place = count_before(order, tokens, spot);
+    let token = tokens.get(place)?;
+    if order.rank(token.spot, spot).is_eq() {
+        Some(place)
+    } else {
+        None
+    }
+}
+
+// The first place, from `low` on and before `high`, of a token that clips `k`, and begins surely at or
+// before a point where one is given.
+fn first_between<S: Dated>(
+    order: &S,
+    tokens: &[TokenRow<S::Spot>],
+    k: &TokenRow<S::Spot>,
+    until: Option<S::Spot>,
+    low: usize,
+    high: usize,
+) -> Option<usize>
+    requires all_live { All (IsLive (S.live order.now)) tokens.now }
+    requires k_live { S.live order.now k.now.spot }
+    requires until_live { ForSome until (λ q. S.live order.now q) }
+    requires within { high ≤ length tokens.now }
+    ensures { IsFirstPlaceIn (clips_until of_one_class (S.distance order.now) k.now until) tokens.now low high result }
+{
+    for i in low..high {
+        if clips_until(order, k, &tokens[i], until) {
+            return Some(i);
+        }
+    }
+    None
+}
+
+// A place, from `low` on and before `high`, of a token that cuts `k` before `q`. It is looked for from the
+// last one back.
+fn last_between<S: Dated>(
+    order: &S,
+    tokens: &[TokenRow<S::Spot>],
+    k: &TokenRow<S::Spot>,
+    q: S::Spot,
+    low: usize,
+    high: usize,
+) -> Option<usize>
+    requires all_live { All (IsLive (S.live order.now)) tokens.now }
+    requires k_live { S.live order.now k.now.spot }
+    requires q_live { S.live order.now q }
+    requires within { high ≤ length tokens.now }
+    ensures { IsAnyPlaceIn (cuts of_one_class (S.distance order.now) k.now q) tokens.now low high result }
+{
+    for i in (low..high).rev() {
+        if cuts_before(order, k, &tokens[i], q) {
+            return Some(i);
+        }
+    }
+    None
+}
+
+// Where the search for what cuts a token begins: at what cut the token before, which mostly cuts this one
+// too, or stands near what does. From there it goes the way that the tokens themselves are gone through.
+#[derive(Clone, Copy)]
+enum Near {
+    // on from this place
+    On(usize),
+    // back from right before this place
+    Back(usize),
+}
+
+// A place, from `low` on and before `high`, of a token that cuts `k` before `q`.
+fn cutter_near<S: Dated>(
+    order: &S,
+    tokens: &[TokenRow<S::Spot>],
+    k: &TokenRow<S::Spot>,
+    q: S::Spot,
+    low: usize,
+    high: usize,
+    near: Near,
+) -> Option<usize>
+    requires all_live { All (IsLive (S.live order.now)) tokens.now }
+    requires k_live { S.live order.now k.now.spot }
+    requires q_live { S.live order.now q }
+    requires within { high ≤ length tokens.now }
+    ensures { IsAnyPlaceIn (cuts of_one_class (S.distance order.now) k.now q) tokens.now low high result }
+{
+    match near {
+        Near::On(place) => {
+            let from = place.max(low).min(high);
+            match first_between(order, tokens, k, Some(q), from, high) {
+                Some(c) => Some(c),
+                None => first_between(order, tokens, k, Some(q), low, from),
+            }
+        }
+        Near::Back(place) => {
+            let from = place.max(low).min(high);
+            match last_between(order, tokens, k, q, low, from) {
+                Some(c) => Some(c),
+                None => last_between(order, tokens, k, q, from, high),
+            }
+        }
+    }
+}
+
+// Whether a token cuts the one at `i` before `q`, where the tokens that begin by the date of `q` are the
+// first `reach`. Only those behind the one at `i` can.
+fn is_cut<S: Dated>(
+    order: &S,
+    tokens: &[TokenRow<S::Spot>],
+    i: usize,
+    q: S::Spot,
+    reach: usize,
+    near: &mut Near,
+) -> bool
+    requires all_live { All (IsLive (S.live order.now)) tokens.now }
+    requires by_date { IsByDate (S.date order.now) (S.order order.now) tokens.now }
+    requires within { i < length tokens.now }
+    requires q_live { S.live order.now q }
+    requires reach { AreUntil (S.date order.now) tokens.now (S.date order.now q) reach }
+    ensures { (d : TokenRow S.Spot) → result ≡ list_any (cuts of_one_class (S.distance order.now) (slice_index_or tokens.now i d) q) tokens.now }
+{
+    let k = &tokens[i];
+    match cutter_near(order, tokens, k, q, i + 1, reach, *near) {
+        Some(c) => {
+            *near = match *near {
+                Near::On(_) => Near::On(c),
+                Near::Back(_) => Near::Back(c + 1),
+            };
+            true
+        }
+        None => false,
+    }
+}
+
+// Whether the token at `i` supports the fact throughout `p` to `q`, where the tokens that begin by the
+// date of `q` are the first `reach`.
+fn is_supporter<S: Dated>(
+    order: &S,
+    tokens: &[TokenRow<S::Spot>],
+    i: usize,
+    fact: &Name,
+    p: S::Spot,
+    q: S::Spot,
+    reach: usize,
+    near: &mut Near,
+) -> bool
+    requires all_live { All (IsLive (S.live order.now)) tokens.now }
+    requires by_date { IsByDate (S.date order.now) (S.order order.now) tokens.now }
+    requires within { i < length tokens.now }
+    requires p_live { S.live order.now p }
+    requires q_live { S.live order.now q }
+    requires reach { AreUntil (S.date order.now) tokens.now (S.date order.now q) reach }
+    ensures { (d : TokenRow S.Spot) → result ≡ supports of_one_class (S.distance order.now) tokens.now fact.now p q (slice_index_or tokens.now i d) }
+{
+    let k = &tokens[i];
+    if k.fact != *fact || !order.at_most(p, k.spot, 0) {
+        return false;
+    }
+    match k.end {
+        Some(end) => order.at_most(end, q, -1),
+        None => !is_cut(order, tokens, i, q, reach, near),
+    }
+}
+
+/// Whether a token supports the fact throughout `p` to `q`. Those with a date up to that of `p` are asked,
+/// from the last back to the first that does: what supports now is mostly among the last that began.
+pub fn is_held<S: Dated>(
+    order: &S,
+    tokens: &[TokenRow<S::Spot>],
+    fact: Name,
+    p: S::Spot,
+    q: S::Spot,
+) -> bool
+    requires all_live { All (IsLive (S.live order.now)) tokens.now }
+    requires by_date { IsByDate (S.date order.now) (S.order order.now) tokens.now }
+    requires p_live { S.live order.now p }
+    requires q_live { S.live order.now q }
+    ensures { result ≡ list_any (supports of_one_class (S.distance order.now) tokens.now fact p q) tokens.now }
+{
+    let until = count_until(order, tokens, p);
+    let reach = count_until(order, tokens, q);
+    let mut near = Near::Back(reach);
+    for i in (0..until).rev() {
+        if is_supporter(order, tokens, i, &fact, p, q, reach, &mut near) {
+            return true;
+        }
+    }
+    false
+}
+
+/// The place of the first token that supports the fact throughout `p` to `q`, none exactly where no
+/// token does. Those with a date up to that of `p` are asked, from the first on to the first that does.
+pub fn holder<S: Dated>(
+    order: &S,
+    tokens: &[TokenRow<S::Spot>],
+    fact: Name,
+    p: S::Spot,
+    q: S::Spot,
+) -> Option<usize>
+    requires all_live { All (IsLive (S.live order.now)) tokens.now }
+    requires by_date { IsByDate (S.date order.now) (S.order order.now) tokens.now }
+    requires p_live { S.live order.now p }
+    requires q_live { S.live order.now q }
+    ensures { IsFirstPlace (on (λ k. k.spot) (S.order order.now)) (supports of_one_class (S.distance order.now) tokens.now fact p q) tokens.now result }
+{
+    let until = count_until(order, tokens, p);
+    let reach = count_until(order, tokens, q);
+    let mut near = Near::On(0);
+    for i in 0..until {
+        if is_supporter(order, tokens, i, &fact, p, q, reach, &mut near) {
+            return Some(i);
+        }
+    }
+    None
+}
+
+// The place of the first token that clips `k`, and begins surely at or before a point where one is given.
+fn first_clip<S: Dated>(
+    order: &S,
+    tokens: &[TokenRow<S::Spot>],
+    k: &TokenRow<S::Spot>,
+    until: Option<S::Spot>,
+) -> Option<usize>
+    requires all_live { All (IsLive (S.live order.now)) tokens.now }
+    requires by_date { IsByDate (S.date order.now) (S.order order.now) tokens.now }
+    requires k_live { S.live order.now k.now.spot }
+    requires until_live { ForSome until (λ q. S.live order.now q) }
+    ensures { IsFirstPlace (on (λ k. k.spot) (S.order order.now)) (clips_until of_one_class (S.distance order.now) k.now until) tokens.now result }
+{
+    // what clips `k` has a later date
+    let low = count_until(order, tokens, k.spot);
+    let high = count_reached(order, tokens, until);
+    first_between(order, tokens, k, until, low, high)
+}
+
+/// The place of the first token that clips the one at `k`, none exactly where no token does. A span
+/// has none. Those with a later date are asked, to the first that does.
+pub fn first_clipper<S: Dated>(order: &S, tokens: &[TokenRow<S::Spot>], k: usize) -> Option<usize>
+    requires all_live { All (IsLive (S.live order.now)) tokens.now }
+    requires by_date { IsByDate (S.date order.now) (S.order order.now) tokens.now }
+    requires within { k < length tokens.now }
+    ensures { IfSome (slice_get tokens.now k) (λ row. IsClipPlace of_one_class (S.distance order.now) (S.order order.now) tokens.now row result) }
+{
+    let row = &tokens[k];
+    match row.end {
+        Some(_) => None,
+        None => first_clip(order, tokens, row, None),
+    }
+}
+
+/// Why the token at `k` does not support its fact throughout `p` to `q`. The caller knows that it does
+/// not. A clip is looked for among those with a later date than the token, up to the date of `q`.
+pub fn blame<S: Dated>(
+    order: &S,
+    tokens: &[TokenRow<S::Spot>],
+    k: usize,
+    p: S::Spot,
+    q: S::Spot,
+) -> Fault
+    requires all_live { All (IsLive (S.live order.now)) tokens.now }
+    requires by_date { IsByDate (S.date order.now) (S.order order.now) tokens.now }
+    requires p_live { S.live order.now p }
+    requires q_live { S.live order.now q }
+    requires within { k < length tokens.now }
+    requires no_supporter { ForSome (slice_get tokens.now k) (λ row. supports of_one_class (S.distance order.now) tokens.now row.fact p q row ≡ false) }
+    ensures { IfSome (slice_get tokens.now k) (λ row. IsFault of_one_class (S.distance order.now) (S.order order.now) tokens.now row p q result) }
+{
+    let row = &tokens[k];
+    if !order.at_most(p, row.spot, 0) {
+        return Fault::Late;
+    }
+    match row.end {
+        Some(_) => Fault::Ends,
+        None => match first_clip(order, tokens, row, Some(q)) {
+            Some(c) => Fault::Clipped(c),
+            None => Fault::Ends,
+        },
+    }
+}

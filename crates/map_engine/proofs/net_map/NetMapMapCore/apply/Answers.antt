@@ -1,0 +1,79 @@
+use Rattle.std.proofs.Common.{◌≡◌, ◌∙◌, ◌≤◌, refl, ap, sym, subst}
+use Rattle.tmm_model.specs.Answers.{size, most_size}
+use Rattle.tmm_model.specs.Changes.{changes}
+use Rattle.tmm_model.specs.Edits.{next_list}
+use Rattle.tmm_model.specs.Kept.{IsAccepted}
+use Rattle.tmm_model.specs.Maps.{built}
+use Rattle.tmm_model.specs.Standing.{Standing}
+use Rattle.list_theory.specs.WellNamed.{IsWellNamed}
+use Rattle.projection.specs.Queues.{IsTooLarge}
+use Rattle.premise_list.specs.States.{States}
+use Rattle.revisions.specs.Alike.{SayAlike}
+use Rattle.revisions.proofs.UnreadEdits.{unread_edit}
+use Rattle.map_engine.specs.Plain.{MapState}
+use Rattle.map_engine.specs.Stops.{StopsEdit}
+use Rattle.map_engine.proofs.NetMaps.{next_unguarded, edited_map}
+use Rattle.map_engine.proofs.Told.{too_large}
+use Rattle.map_engine.proofs.net_map.NetMapMapCore.apply.Goals as goal
+
+pub draw_next-requires-clause-unread : goal.draw_next-requires-clause-unread
+draw_next-requires-clause-unread c = λ unread.
+    let lists = c.self.inside.standing in
+    let edit = c.args.edit.now in
+    let settled = c.self.invariant.settled (ap (λ (m : MapState). m.pending) c.self.view_is ∙ c.requires.idle) in
+    let made = c.in_ok-erased.ensures.list in
+    let say : SayAlike lists.present (next_list lists.present edit) =
+    unread_edit lists.present edit c.self.invariant.next_network.sound.well_named
+    (subst (λ (s : States). IsWellNamed s.present.premises) made c.in_ok-erased.ensures.network.sound.well_named) (sym c.is_unread.ensures ∙ unread) in
+    subst (λ (s : States). SayAlike s.committed s.present) (sym made) (subst (λ (s : Standing). SayAlike s (next_list lists.present edit)) settled.list say)
+
+pub draw_next-requires-clause-unguarded_now : goal.draw_next-requires-clause-unguarded_now
+draw_next-requires-clause-unguarded_now c = λ none.
+    let m = c.self.inside in
+    (next_unguarded m.standing m.net m.beliefs m.guarded m.next c.self.invariant c.edited.new.standing c.args.edit.now c.in_ok-erased.ensures.list (sym c.may_guard-self-inside.ensures ∙ none)).1
+
+pub draw_next-requires-clause-unguarded_before : goal.draw_next-requires-clause-unguarded_before
+draw_next-requires-clause-unguarded_before c = λ none.
+    let m = c.self.inside in
+    (next_unguarded m.standing m.net m.beliefs m.guarded m.next c.self.invariant c.edited.new.standing c.args.edit.now c.in_ok-erased.ensures.list (sym c.may_guard-self-inside.ensures ∙ none)).0
+
+pub invariant_of-self-in-Ok : goal.invariant_of-self-in-Ok
+invariant_of-self-in-Ok c =
+    let m = c.self.inside in
+    edited_map m.standing m.net m.beliefs m.guarded m.next c.self.invariant c.edited.new.standing c.edited.new.net c.may_guard-self-inside.result c.in-Ok.next c.args.edit.now
+    c.in_ok-erased.ensures.list c.in_ok-erased.ensures.committed c.may_guard-self-inside.ensures c.in_ok-erased.ensures.network c.in-Ok.ensures.beliefs c.in-Ok.ensures.pending
+
+pub returns-in-Ok-clause-accepted : goal.returns-in-Ok-clause-accepted
+returns-in-Ok-clause-accepted c =
+    let lists = c.self.inside.standing in
+    let edit = c.args.edit.now in
+    let settled = c.self.invariant.settled (ap (λ (m : MapState). m.pending) c.self.view_is ∙ c.requires.idle) in
+    let present : lists.present ≡ c.args.self.now.list = settled.list ∙ ap (λ (m : MapState). m.list) c.self.view_is in
+    subst (λ (s : Standing). IsAccepted s edit) present
+    (record {
+      no_cause = c.in_default.ensures.ok.0 refl;
+      dates = c.in_ok-erased.ensures.dates;
+      small = subst (λ (s : States). size (built s.present) ≤ most_size) c.in_ok-erased.ensures.list c.in-Ok.ensures.beliefs.small;
+    })
+
+pub returns-in-Ok-clause-changes : goal.returns-in-Ok-clause-changes
+returns-in-Ok-clause-changes c =
+    let lists = c.self.inside.standing in
+    let edit = c.args.edit.now in
+    let settled = c.self.invariant.settled (ap (λ (m : MapState). m.pending) c.self.view_is ∙ c.requires.idle) in
+    let committed : lists.committed ≡ c.args.self.now.list = ap (λ (m : MapState). m.list) c.self.view_is in
+    c.in-Ok.ensures.changes
+    ∙ ap (λ (s : States). changes s.committed s.present) c.in_ok-erased.ensures.list
+    ∙ ap (λ (s : Standing). changes lists.committed (next_list s edit)) settled.list
+    ∙ ap (λ (s : Standing). changes s (next_list s edit)) committed
+
+pub returns-in-Err-draw_next-clause-stops : goal.returns-in-Err-draw_next-clause-stops
+returns-in-Err-draw_next-clause-stops c =
+    let lists = c.self.inside.standing in
+    let edit = c.args.edit.now in
+    let settled = c.self.invariant.settled (ap (λ (m : MapState). m.pending) c.self.view_is ∙ c.requires.idle) in
+    let present : lists.present ≡ c.args.self.now.list = settled.list ∙ ap (λ (m : MapState). m.list) c.self.view_is in
+    let new : c.edited.new.standing.present ≡ next_list lists.present edit = ap (λ (s : States). s.present) c.in_ok-erased.ensures.list in
+    subst (λ (s : Standing). StopsEdit s edit c.in-Err-draw_next.stop) present
+    (too_large lists.present edit (c.in_default.ensures.ok.0 refl) c.in_ok-erased.ensures.dates c.in-Err-draw_next.stop
+    (subst (λ (s : Standing). IsTooLarge (size (built s)) c.in-Err-draw_next.stop) new c.in-Err-draw_next.ensures.stops))

@@ -1,0 +1,51 @@
+use Rattle.std.proofs.Common.{◌∙◌, List, map, refl, sym, ap}
+use Rattle.tmm_model.specs.declared.answer.Report.{Report}
+use Rattle.tmm_model.specs.Answers.{report_of}
+use Rattle.tmm_model.specs.Maps.{built}
+use Rattle.map_engine.proofs.Unmoved.{seen_still, holds_still, beliefs_still, none_reported, told_still, told_unguarded}
+use Rattle.map_engine.proofs.next.unmoved.Goals as goal
+
+pub returns-then-not-guarded-clause-beliefs : goal.returns-then-not-guarded-clause-beliefs
+returns-then-not-guarded-clause-beliefs c =
+    let lists = c.args.standing.now in
+    let nets = c.args.net.now in
+    let none = c.if-not-guarded.true in
+    beliefs_still lists.committed lists.present nets.committed nets.present c.args.old.now c.requires.old c.requires.network c.requires.numbers c.requires.alike c.args.old.now refl
+    (c.requires.old.broken ∙ none_reported lists.committed (c.requires.unguarded_before none) ∙ sym (none_reported lists.present (c.requires.unguarded_now none)))
+
+pub returns-then-not-guarded-clause-changes : goal.returns-then-not-guarded-clause-changes
+returns-then-not-guarded-clause-changes c =
+    let lists = c.args.standing.now in
+    let none = c.if-not-guarded.true in
+    let told = c.changes_of-changes.ensures in
+    told_unguarded lists.committed lists.present c.requires.alike c.changes_of-changes.result (told.erased ∙ c.requires.left_out) told.left told.entered told.loose told.clips
+    (c.requires.unguarded_now none) (told.broken ∙ c.make.ensures) (told.mended ∙ c.make-then-not-guarded.ensures)
+
+pub report-requires-clause-seen : goal.report-requires-clause-seen
+report-requires-clause-seen c =
+    let lists = c.args.standing.now in
+    let nets = c.args.net.now in
+    seen_still lists.committed lists.present nets.committed nets.present c.args.old.now c.requires.old c.requires.network c.requires.numbers c.requires.alike
+
+pub report-requires-clause-holds : goal.report-requires-clause-holds
+report-requires-clause-holds c =
+    let lists = c.args.standing.now in
+    let nets = c.args.net.now in
+    holds_still lists.committed lists.present nets.committed nets.present c.args.old.now c.requires.old c.requires.network c.requires.numbers c.requires.alike
+
+pub returns-clause-beliefs : goal.returns-clause-beliefs
+returns-clause-beliefs c =
+    let lists = c.args.standing.now in
+    let nets = c.args.net.now in
+    beliefs_still lists.committed lists.present nets.committed nets.present c.args.old.now c.requires.old c.requires.network c.requires.numbers c.requires.alike
+    (record c.args.old.now { reports = c.in_ok-reports.reports }) refl c.in_ok-reports.ensures
+
+pub returns-clause-changes : goal.returns-clause-changes
+returns-clause-changes c =
+    let lists = c.args.standing.now in
+    let told = c.changes_of-changes-2.ensures in
+    let before = ap (λ (l : List Report). map report_of l) c.items.ensures ∙ c.requires.old.broken in
+    let now = ap (λ (l : List Report). map report_of l) c.items-2.ensures ∙ c.in_ok-reports.ensures in
+    let differ = c.in_ok-broken.ensures.delta (built lists.committed) (built lists.present) before now refl in
+    told_still lists.committed lists.present c.requires.alike c.changes_of-changes-2.result (told.erased ∙ c.requires.left_out) told.left told.entered told.loose told.clips
+    (ap (λ (l : List Report). map report_of l) told.broken ∙ differ.0) (told.mended ∙ differ.1)

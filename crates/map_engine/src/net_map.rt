@@ -1,0 +1,186 @@
+// The map that keeps its beliefs where an edit touches none.
+ghost use Rattle.std.specs.Prelude.{◌≡◌, None, IfOk};
+ghost use Rattle.tmm_model.specs.Standing.{empty_list};
+
+use crate::beliefs::{Beliefs, audited, believe, told_rows};
+use crate::edited::{edited, roll_back};
+use crate::map_core::{MapCore, Pending};
+use crate::next::{Known, Next, draw_next, keep, may_guard};
+use crate::questions::{ask_between, bounds_between, path_between, why_of};
+use crate::still::is_unread;
+use dist_net::DistNet;
+use premise_list::Standing;
+use projection::Counter;
+use protections::copied;
+use std::alloc::Global;
+use std::marker::Model;
+use std::mem;
+use tmm_model::{
+    Answer, Bound, Edit, ListRow, Name, NoMemory, Occ, QueryPoint, Report, Seq, Stop, WalkStep,
+    WhyLine,
+};
+
+/// A map that keeps the standing list, its distances and its beliefs. An edit that moves no point of an
+/// occurrence, and adds or retracts points, constraints and protections alone, leaves beliefs as they are; at
+/// any other they are made anew, beside those before it.
+#[derive(Drop)]
+pub struct NetMap {
+    standing: Standing,
+    net: DistNet,
+    // of the list of the last commit
+    beliefs: Beliefs,
+    // whether a protection was ever added: where none was, none stands
+    guarded: bool,
+    // of the list that a pending edit leaves
+    next: Next,
+}
+
+impl Model for NetMap {
+    ghost use Rattle.map_engine.specs.Plain.{MapState};
+    ghost use Rattle.map_engine.specs.Nexts.{pending_list};
+    ghost use Rattle.map_engine.specs.NetMaps.{IsNetMap};
+
+    ghost Value = { MapState };
+
+    ghost view = { λ m. record { list = m.standing.committed; pending = pending_list m.standing.present m.next } };
+
+    ghost invariant = { λ m. IsNetMap m.standing m.net m.beliefs m.guarded m.next };
+}
+
+impl NetMap {
+    /// The empty map, with nothing pending.
+    pub fn make(alloc: Global) -> Result<NetMap, NoMemory>
+        ensures list { IfOk result (λ m. m.list ≡ empty_list) }
+        ensures idle { IfOk result (λ m. m.pending ≡ None) }
+    {
+        let standing = Standing::make(alloc);
+        let net = DistNet::make(alloc)?;
+        // it tells the proof what holds of the network
+        let _ = net.edges();
+        let mut counter = Counter::zero();
+        match believe(alloc, &standing, &net, &mut counter) {
+            Ok(beliefs) => Ok(NetMap {
+                standing,
+                net,
+                beliefs,
+                guarded: false,
+                next: Next::Nothing,
+            }),
+            // The empty map is small, so only memory can be wanting.
+            Err(_) => Err(NoMemory),
+        }
+    }
+}
+
+impl MapCore for NetMap {
+    ghost list = { λ m. m.list };
+
+    ghost pending = { λ m. m.pending };
+
+    fn apply(
+        &mut self,
+        alloc: Global,
+        edit: &Edit,
+        counter: &mut Counter,
+    ) -> Result<Pending, Stop> {
+        if let Err(refusal) = self.standing.check(edit) {
+            return Err(Stop::Refused(refusal));
+        }
+        self.guarded = may_guard(self.guarded, edit);
+        let known = Known {
+            unread: is_unread(&self.standing, edit),
+            guarded: self.guarded,
+        };
+        let erased = edited(alloc, &mut self.standing, &mut self.net, edit)?;
+        match draw_next(
+            alloc,
+            &self.standing,
+            &self.net,
+            &self.beliefs,
+            erased,
+            known,
+            counter,
+        ) {
+            Ok((next, changes)) => {
+                self.next = next;
+                Ok(Pending { changes })
+            }
+            Err(stop) => {
+                roll_back(&mut self.standing, &mut self.net);
+                Err(stop)
+            }
+        }
+    }
+
+    fn commit(&mut self) {
+        self.standing.commit();
+        self.net.commit();
+        let next = mem::replace(&mut self.next, Next::Nothing);
+        keep(&mut self.beliefs, next);
+    }
+
+    fn rollback(&mut self) {
+        roll_back(&mut self.standing, &mut self.net);
+        self.next = Next::Nothing;
+    }
+
+    fn bounds(
+        &self,
+        alloc: Global,
+        p: &QueryPoint,
+        q: &QueryPoint,
+    ) -> Result<(Bound, Bound), Stop> {
+        bounds_between(alloc, &self.standing, &self.beliefs.tree, &self.net, p, q)
+    }
+
+    fn path(
+        &self,
+        alloc: Global,
+        p: &QueryPoint,
+        q: &QueryPoint,
+    ) -> Result<(Bound, Seq<WalkStep>), Stop> {
+        path_between(alloc, &self.standing, &self.beliefs.tree, &self.net, p, q)
+    }
+
+    fn ask(
+        &self,
+        alloc: Global,
+        fact: Name,
+        p: &QueryPoint,
+        q: &QueryPoint,
+    ) -> Result<Answer, Stop> {
+        ask_between(
+            alloc,
+            &self.standing,
+            &self.beliefs.tree,
+            &self.net,
+            fact,
+            p,
+            q,
+        )
+    }
+
+    fn why(&self, alloc: Global, occ: &Occ) -> Result<Seq<WhyLine>, Stop> {
+        why_of(alloc, &self.standing, &self.beliefs.tree, &self.net, occ)
+    }
+
+    fn check(&self, alloc: Global) -> Result<Seq<Report>, NoMemory> {
+        copied(alloc, self.beliefs.reports.items())
+    }
+
+    fn list(&self, alloc: Global) -> Result<Seq<ListRow>, NoMemory> {
+        told_rows(alloc, &self.beliefs)
+    }
+
+    fn audit(&self, alloc: Global) -> Result<bool, NoMemory> {
+        audited(alloc, &self.standing, &self.net, &self.beliefs)
+    }
+
+    fn standing(&self) -> &Standing {
+        &self.standing
+    }
+
+    fn size(&self) -> u64 {
+        self.beliefs.size
+    }
+}
