@@ -82,7 +82,7 @@ parent_there node n will = by n.above refl
 
 -- ---- the list of a node
 
-live-live : (o : Option (Row Node 1)) → live (live o) ≡ live o
+pub live-live : (o : Option (Row Node 1)) → live (live o) ≡ live o
 live-live None = refl
 live-live (Some r) = by r.gone refl
   where

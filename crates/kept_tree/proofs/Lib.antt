@@ -1,4 +1,3 @@
-pub mod Delays
 pub mod Ways
 pub mod Placing
 pub mod Grown
@@ -10,3 +9,8 @@ pub mod Ranking
 pub mod InOrder
 pub mod TokenLists
 pub mod Numbered
+pub mod Parting
+pub mod Telling
+pub mod Walked
+pub mod Looking
+pub mod Finding

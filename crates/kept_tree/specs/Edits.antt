@@ -4,7 +4,7 @@ use Rattle.undo_rows.specs.Tables.{with_new, new_row}
 use Rattle.kept_tree.specs.declared.node.Node.{Node}
 use Rattle.kept_tree.specs.Nodes.{parent_of}
 use Rattle.kept_tree.specs.Standing.{Grove, present_rows, committed_rows, head_for, Kept, State, present, committed, forest, early, below}
-use Rattle.kept_tree.specs.Forest.{Member}
+use Rattle.spots.specs.Forest.{Member}
 
 -- the nodes stay, those of the last commit too
 pub record Keeps (old new : Grove) : Type 0 where

@@ -1,7 +1,3 @@
-pub mod Forest
-pub mod Spots
-pub mod Light
-pub mod Sums
 pub mod Nodes
 pub mod Standing
 pub mod Edits
@@ -9,3 +5,7 @@ pub mod Ends
 pub mod Words
 pub mod Tokens
 pub mod Classes
+pub mod Asked
+pub mod Dated
+pub mod Named
+pub mod Known

@@ -7,7 +7,7 @@ use Rattle.undo_rows.specs.Tables.{Table}
 use Rattle.undo_rows.specs.Changes.{Logged}
 use Rattle.undo_rows.specs.Changes as changes
 use Rattle.kept_tree.specs.declared.node.Node.{Node}
-use Rattle.kept_tree.specs.Forest.{Forest}
+use Rattle.spots.specs.Forest.{Forest}
 use Rattle.kept_tree.specs.Nodes.{Nodes, parent_of, forest_in, date_in, ArePlaced}
 
 -- the nodes of a table

@@ -3,15 +3,17 @@
 #![tactic(auto)]
 
 mod classes;
+mod far;
+mod find;
 mod node;
 mod nodes;
-mod spot;
-mod sums;
+mod order;
 mod tokens;
+mod told;
 mod tree;
 mod words;
 
-pub use spot::{Link, Spot};
+pub use order::Order;
 pub use tree::Tree;
 
 #[cfg(test)]

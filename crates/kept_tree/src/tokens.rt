@@ -4,14 +4,14 @@ ghost use Rattle.std.specs.Ordering.{is_lt};
 ghost use Rattle.row_links.specs.Lists.{IsOn};
 ghost use Rattle.undo_lists.specs.Changes.{present, committed, rooms};
 ghost use Rattle.kept_tree.specs.declared.node.Node.{Node as ANode};
-ghost use Rattle.kept_tree.specs.declared.spot.Spot.TheVariants.{Node as OfNode};
+ghost use Rattle.spots.specs.declared.spot.Spot.TheVariants.{Node as OfNode};
 ghost use Rattle.kept_tree.specs.Standing.{nodes_in, present_rows};
 ghost use Rattle.kept_tree.specs.Tokens.{row_in, number_of, numbers_in, IsPlaceFor, HasList, AreRowsOf, AreTokensBut};
 ghost use Rattle.kept_tree.specs.Words.{node_cmp};
 
 use crate::node::Node;
 use crate::nodes::Nodes;
-use crate::spot::Spot;
+use spots::Spot;
 use tmm_model::TokenRow;
 use undo_lists::Lists;
 

@@ -5,12 +5,12 @@ ghost use Rattle.tmm_model.specs.Bounds.{IsWithin};
 ghost use Rattle.tmm_model.specs.Lines.{IsNumber, IsBound, IsRange};
 ghost use Rattle.tmm_model.specs.Names.{is_name};
 ghost use Rattle.tmm_model.specs.declared.bound.Bound.TheVariants.{Finite};
-ghost use Rattle.kept_tree.specs.Forest.{Member, IsLive, root_member, child_member, IsNoRoot, HasClass, HasEnd, IsTrigger};
+ghost use Rattle.spots.specs.Forest.{Member, IsLive, root_member, child_member, IsNoRoot, HasClass, HasEnd, IsTrigger};
 ghost use Rattle.kept_tree.specs.Standing.{present, committed, forest, early, below, IsChildOf};
 ghost use Rattle.kept_tree.specs.Edits.{Enters, Stays};
 
 use crate::nodes::Nodes;
-use crate::spot::Link;
+use spots::Link;
 use std::alloc::Global;
 use std::marker::Model;
 use tmm_model::{Bound, Name, NoMemory, Shape};
@@ -161,5 +161,11 @@ impl Tree {
         ensures committed { committed self.new ≡ committed self.old }
     {
         self.nodes.rollback();
+    }
+    // The nodes.
+    pub(crate) fn nodes(&self) -> &Nodes
+        ensures { result.now ≡ self.now.nodes }
+    {
+        &self.nodes
     }
 }

@@ -1,8 +1,8 @@
 use Rattle.std.proofs.Common.{◌≡◌, Some, None, sym, subst, w64}
 use Rattle.std.proofs.lemmas.Int.{to_z-of_z}
 use Rattle.kept_tree.specs.Nodes.{IsEffect}
-use Rattle.kept_tree.specs.declared.spot.Link.{Link}
-use Rattle.kept_tree.specs.Forest.{child_member}
+use Rattle.spots.specs.declared.link.Link.{Link}
+use Rattle.spots.specs.Forest.{child_member}
 use Rattle.std.specs.Prelude.{◌+ℤ◌}
 use Rattle.kept_tree.specs.Standing.{Kept, nodes_in, present_rows, present, forest, early}
 use Rattle.kept_tree.specs.Edits.{Enters}

@@ -1,7 +1,7 @@
 use Rattle.std.proofs.Common.{None, sym, subst, w64}
 use Rattle.std.proofs.lemmas.Int.{to_z-of_z}
 use Rattle.kept_tree.specs.Nodes.{IsRoot}
-use Rattle.kept_tree.specs.Forest.{IsNoRoot, root_member}
+use Rattle.spots.specs.Forest.{IsNoRoot, root_member}
 use Rattle.kept_tree.specs.Standing.{Kept, present, forest}
 use Rattle.kept_tree.specs.Edits.{Enters}
 use Rattle.kept_tree.proofs.Entering.{gone_before, grows_root}
