@@ -2,7 +2,8 @@ use Rattle.std.proofs.Common.{◌≡◌, ◌∙◌, [], ap, sym, subst}
 use Rattle.std.specs.Option.{option_map_or}
 use Rattle.undo_lists.specs.Changes as lists
 use Rattle.kept_tree.specs.Standing.{Kept, nodes_in, present_rows, present, forest, order, tokens_under}
-use Rattle.kept_tree.specs.Tokens.{AreTokens, IsInOrder, numbers_in}
+use Rattle.spots.specs.Spots.{AreTokens}
+use Rattle.kept_tree.specs.Tokens.{IsInOrder, numbers_in}
 use Rattle.kept_tree.proofs.Keeping.{tokens_of, order_of}
 use Rattle.kept_tree.proofs.tree.Tree.tokens.Goals as goal
 
