@@ -1,20 +1,22 @@
 -- Nodes that are found by the names on the way to them.
 use Rattle.std.proofs.Common.{◌≡◌, ℕ, ◌+◌, ◌<◌, List, [], ◌∷◌, ◌++◌, map, length, take, drop, get_or, append_assoc, Option, Some, None, IsSome, refl, sym, ap, ◌∙◌, subst, arith}
-use Rattle.std.specs.Option.{option_map}
 use Rattle.std.proofs.lemmas.List.{map_push, take_more, take-append-drop}
 use Rattle.tmm_model.specs.declared.point.PointName.TheVariants.{Begin}
-use Rattle.tmm_model.specs.Moments.{At, along, base, rules}
+use Rattle.tmm_model.specs.Moments.{At, along, base, rules, printed}
 use Rattle.belief_theory.proofs.Moments.{rules-along, base-along}
 use Rattle.spots.specs.declared.link.Link.{Link}
-use Rattle.spots.specs.Forest.{Member, moment, rules_of}
-use Rattle.spots.proofs.Nodes.{rules-moment, base-moment}
+use Rattle.spots.specs.Forest.{Member, moment, rules_of, IsOnce}
+use Rattle.spots.proofs.Nodes.{rules-moment, base-moment, moment_at-is}
 use Rattle.kept_tree.specs.declared.node.Node.{Node}
 use Rattle.kept_tree.specs.Ends.{way_ends}
 use Rattle.kept_tree.specs.Named.{IsNamed}
 use Rattle.kept_tree.specs.Nodes.{Nodes, Way, parent_of, name_at, way_to, member_of, forest_in, ArePlaced}
+use Rattle.kept_tree.specs.Words.{word_in}
 use Rattle.kept_tree.proofs.Effects.{above_of, no_above, member_at, way_below, way_root}
 use Rattle.kept_tree.proofs.Grown.{some_node}
+use Rattle.kept_tree.proofs.Keeping.{node_of_member}
 use Rattle.kept_tree.proofs.Parting.{first_name, root_on}
+use Rattle.kept_tree.proofs.Ranking.{one_word}
 use Rattle.kept_tree.proofs.Telling.{rules_told}
 use Rattle.kept_tree.proofs.Ways.{length-way, way_of_live}
 use Rattle.kept_tree.proofs.Wording.{LeadsDown, leads_down, name_of}
@@ -68,7 +70,8 @@ module _ (node : Nodes) (placed : ArePlaced node) where
   -- the occurrence of a node is spelt so
   pub moment_spelt : (x : ℕ) (m : Member) (root : List ℕ) (names : List (List ℕ)) → forest_in node x ≡ Some m → moment m ≡ along (At (Begin root)) names → Spells node x (root ∷ names)
   moment_spelt x m root names at is =
-      let (n, here, same) = node_of in
+      let (n, here, is_member) = node_of_member node x m at in
+      let same : member_of (way_to node x) n ≡ m = sym is_member in
       let w = way_to node x in
       let roots : Begin m.root ≡ Begin root = sym (base-moment m) ∙ ap base is ∙ base-along (At (Begin root)) names in
       let rooted : m.root ≡ root = cc in
@@ -77,16 +80,17 @@ module _ (node : Nodes) (placed : ArePlaced node) where
       let rest : map (name_at node) (drop 1 w.numbers) ≡ names = sym (rules_told node placed x n here) ∙ ap rules_of same ∙ ruled in
       (subst (λ (o : Option Node). IsSome o) (sym here) refl, whole w.numbers (let long = length-way node x n here in omega (arith, long)) first rest)
     where
-      node_of : (n : Node) × (node x ≡ Some n) × (member_of (way_to node x) n ≡ m)
-      node_of = by (node x) refl
-        where
-          by : (o : Option Node) → node x ≡ o → (n : Node) × (node x ≡ Some n) × (member_of (way_to node x) n ≡ m)
-          by None e = let no : None ≡ Some m = sym (ap (λ o. option_map (member_of (way_to node x)) o) e) ∙ at in cc
-          by (Some n) e = let here : Some (member_of (way_to node x) n) ≡ Some m = sym (member_at node x n e) ∙ at in (n, e, cc)
-
       whole : (u : List ℕ) → 0 < length u → first_name node u ≡ root → map (name_at node) (drop 1 u) ≡ names → map (name_at node) u ≡ root ∷ names
       whole [] some first rest = absurd (omega (arith, some))
       whole (y ∷ u) some first rest = λ i. first i ∷ rest i
+
+  -- **Each occurrence has one number.**
+  pub one_number : IsOnce (forest_in node)
+  one_number x y m n m_at n_at same =
+      let (k, x_at, _) = node_of_member node x m m_at in
+      let (q, y_at, _) = node_of_member node y n n_at in
+      let words : word_in node x ≡ word_in node y = ap printed (moment_at-is (forest_in node) x m m_at ∙ same ∙ sym (moment_at-is (forest_in node) y n n_at)) in
+      one_word node placed x y (subst (λ (o : Option Node). IsSome o) (sym x_at) refl) (subst (λ (o : Option Node). IsSome o) (sym y_at) refl) words
 
   -- ---- one way for some names
 

@@ -1,10 +1,11 @@
 -- What a node tells of its spot, and of where it stands.
-use Rattle.std.proofs.Common.{◌≡◌, ℕ, ◌+◌, ◌≤◌, List, [], ◌∷◌, map, length, take, drop, Option, Some, None, IsSome, refl, sym, ap, ◌∙◌, arith}
+use Rattle.std.proofs.Common.{◌≡◌, ℕ, ◌+◌, ◌≤◌, List, [], ◌∷◌, ◌++◌, map, length, take, drop, Option, Some, None, IsSome, refl, sym, ap, ◌∙◌, arith, append_assoc}
 use Rattle.std.specs.Prelude.{MatchOption}
 use Rattle.std.specs.Option.{option_map, option_map_or}
-use Rattle.std.proofs.lemmas.List.{length-take-le}
+use Rattle.std.proofs.lemmas.List.{length-take-le, drop-drop}
 use Rattle.tmm_model.specs.declared.point.PointName.TheVariants.{Begin}
 use Rattle.tmm_model.specs.Moments.{At, along}
+use Rattle.tmm_model.specs.Points.{slashed}
 use Rattle.dist_net.specs.Net.{Net}
 use Rattle.spots.specs.declared.link.Link.{Link}
 use Rattle.spots.specs.declared.spot.Spot.{Spot}
@@ -22,11 +23,12 @@ use Rattle.kept_tree.specs.declared.node.Above.{Above}
 use Rattle.kept_tree.specs.Ends.{way_ends}
 use Rattle.kept_tree.specs.Asked.{AreOfOneRoot}
 use Rattle.kept_tree.specs.Nodes.{Nodes, Way, no_way, way_from, link_of, parent_of, root_of, name_at, link_at, way_to, member_of, forest_in, HasParent, ArePlaced}
+use Rattle.kept_tree.specs.Words.{first_piece, piece_at}
 use Rattle.kept_tree.proofs.Ways.{length-way, node_on_way, live_by_way}
 use Rattle.kept_tree.proofs.Effects.{member_at, way_below, way_root}
 use Rattle.kept_tree.proofs.Parting.{first_name, links_on, root_on}
 use Rattle.kept_tree.proofs.Pieces.{drop_last}
-use Rattle.kept_tree.proofs.Wording.{name_of, rule_at}
+use Rattle.kept_tree.proofs.Wording.{name_of, rule_at, text_on}
 
 -- ---- a spot
 
@@ -137,3 +139,15 @@ module _ (node : Nodes) (placed : ArePlaced node) (x : ℕ) (n : Node) (at : nod
   moment_told r q up q_at names same =
       let root : q.name ≡ (way_to node x).root = sym (name_of node r q q_at) ∙ sym (ap (first_name node) (next_told 0 r (omega arith) up)) ∙ sym (root_on node x n at) in
       (λ i. along (At (Begin (root i))) (same i)) ∙ sym (moment_at-is (forest_in node) x (member_of (way_to node x) n) (member_at node x n at))
+
+-- ---- its word
+
+-- a name with what parts it from the next one, and the names behind it
+text_piece : (node : Nodes) (u : List ℕ) → first_piece (map (name_at node) u) ++ text_on node (drop 1 u) ≡ text_on node u
+text_piece node [] = refl
+text_piece node (x ∷ []) = refl
+text_piece node (x ∷ (y ∷ u)) = append_assoc (name_at node x) (47 ∷ []) (name_at node y ++ slashed (map (name_at node) u))
+
+-- a word from some name on is what stands there of it, and the word from the next name on
+pub word_piece : (node : Nodes) (x k : ℕ) → piece_at node x k ++ text_on node (drop (k + 1) (way_to node x).numbers) ≡ text_on node (drop k (way_to node x).numbers)
+word_piece node x k = ap (λ (u : List ℕ). piece_at node x k ++ text_on node u) (sym (drop-drop 1 k (way_to node x).numbers)) ∙ text_piece node (drop k (way_to node x).numbers)

@@ -245,7 +245,7 @@ impl Nodes {
 
     // What stands in the word of a node behind so many names: the next name, and `/` where there are
     // more.
-    fn piece(&self, x: u32, depth: u32) -> Piece
+    pub(crate) fn piece(&self, x: u32, depth: u32) -> Piece
         requires { IsSome (nodes_in (present_rows self.now) x) }
         ensures { result.items ≡ piece_at (nodes_in (present_rows self.now)) x depth }
     {

@@ -1,10 +1,11 @@
 // What is told of a node.
-ghost use Rattle.std.specs.Prelude.{◌≡◌, map, IsSome, IfOk};
-ghost use Rattle.tmm_model.specs.Moments.{moment_of};
+ghost use Rattle.std.specs.Prelude.{◌≡◌, ◌++◌, map, IsSome, IfOk, OnOk, OnErr};
+ghost use Rattle.tmm_model.specs.Moments.{moment_of, printed};
 ghost use Rattle.spots.specs.Forest.{IsLive, moment_at};
 ghost use Rattle.spots.specs.Rows.{IsRowOf};
 ghost use Rattle.kept_tree.specs.Nodes.{way_to};
 ghost use Rattle.kept_tree.specs.Standing.{nodes_in, present_rows, present, forest};
+ghost use Rattle.kept_tree.specs.Words.{word_in};
 
 use crate::nodes::Nodes;
 use crate::tree::Tree;
@@ -45,6 +46,16 @@ impl Tree {
         let rules = rules_to(alloc, nodes, x)?;
         Ok(Occ { root, rules })
     }
+
+    /// Appends the word of a node. Without memory nothing has changed.
+    pub fn name_into(&self, alloc: Global, x: u32, out: &mut Seq<u8>) -> Result<(), NoMemory>
+        requires { IsLive (forest (present self.now)) x }
+        ensures appended { OnOk result (out.new.items ≡ out.old.items ++ printed (moment_at (forest (present self.now)) x)) }
+        ensures kept { OnErr result (out.new.items ≡ out.old.items) }
+    {
+        let word = word_of(alloc, self.nodes(), x)?;
+        out.extend(word.items())
+    }
 }
 
 // The names of the rules that lead to a node, the first one first.
@@ -61,4 +72,17 @@ fn rules_to(alloc: Global, nodes: &Nodes, x: u32) -> Result<Seq<Name>, NoMemory>
         }
     }
     Ok(rules)
+}
+
+// The word of a node.
+fn word_of(alloc: Global, nodes: &Nodes, x: u32) -> Result<Seq<u8>, NoMemory>
+    requires { IsSome (nodes_in (present_rows nodes.now) x) }
+    ensures { IfOk result (λ word. word.items ≡ word_in (nodes_in (present_rows nodes.now)) x) }
+{
+    let mut word = Seq::make(alloc);
+    let last = nodes.get(x).depth;
+    for depth in 0..last + 1 {
+        word.extend(nodes.piece(x, depth).as_slice())?;
+    }
+    Ok(word)
 }

@@ -5,7 +5,7 @@ ghost use Rattle.tmm_model.specs.Bounds.{IsWithin};
 ghost use Rattle.tmm_model.specs.Lines.{IsNumber, IsBound, IsRange};
 ghost use Rattle.tmm_model.specs.Names.{is_name};
 ghost use Rattle.tmm_model.specs.declared.bound.Bound.TheVariants.{Finite};
-ghost use Rattle.spots.specs.Forest.{Member, IsLive, root_member, child_member, IsNoRoot, HasClass, HasEnd, IsTrigger};
+ghost use Rattle.spots.specs.Forest.{Member, IsLive, root_member, child_member, IsNoRoot, HasClass, HasEnd, IsTrigger, IsOnce};
 ghost use Rattle.kept_tree.specs.Standing.{present, committed, forest, early, below, IsChildOf, order};
 ghost use Rattle.spots.specs.Spots.{AreTokens};
 ghost use Rattle.kept_tree.specs.Tokens.{IsInOrder, numbers_in};
@@ -194,6 +194,7 @@ impl Tree {
         ensures list { result.now ≡ (present self.now).tokens class.now }
         ensures tokens { AreTokens (forest (present self.now)) class.now result.now }
         ensures in_order { IsInOrder (order (present self.now)) (numbers_in result.now) }
+        ensures once { IsOnce (forest (present self.now)) }
     {
         // each node stands where it says
         let _ = self.nodes.limit();
