@@ -5,11 +5,11 @@ use Rattle.std.specs.Option.{option_map_or}
 use Rattle.std.proofs.lemmas.List.{append_assoc, append-nil, map_push, length-append, length-map}
 use Rattle.tmm_model.specs.Moments.{At, along, printed}
 use Rattle.tmm_model.specs.declared.point.PointName.TheVariants.{Start, Begin}
-use Rattle.kept_tree.specs.Below.{IsOnWay}
+use Rattle.kept_tree.specs.Below.{IsBelow, IsOnWay}
 use Rattle.kept_tree.specs.declared.node.Node.{Node}
 use Rattle.kept_tree.specs.declared.node.Above.{Above}
-use Rattle.kept_tree.specs.declared.spot.Link.{Link}
-use Rattle.kept_tree.specs.Forest.{Member, IsBelow, rules_of, moment}
+use Rattle.spots.specs.declared.link.Link.{Link}
+use Rattle.spots.specs.Forest.{Member, rules_of, moment}
 use Rattle.kept_tree.specs.Nodes.{Nodes, Way, further, link_of, parent_of, way_to, member_of, forest_in, HasParent, ArePlaced}
 use Rattle.kept_tree.specs.Words.{word_in}
 use Rattle.kept_tree.proofs.Effects.{member_at, way_below}

@@ -11,13 +11,13 @@ use Rattle.tmm_model.specs.declared.bound.Bound.TheVariants.{Finite}
 use Rattle.tmm_model.specs.declared.token.Shape.{Shape}
 use Rattle.tmm_model.specs.Bounds.{IsWithin}
 use Rattle.tmm_model.specs.Names.{is_name}
-use Rattle.kept_tree.specs.declared.spot.Link.{Link}
+use Rattle.spots.specs.declared.link.Link.{Link}
 use Rattle.kept_tree.specs.declared.node.Node.{Node}
 use Rattle.kept_tree.specs.declared.node.Above.{Above}
-use Rattle.kept_tree.specs.declared.sums.Sums.{Sums}
-use Rattle.kept_tree.specs.Light.{IsLight, AreLight}
-use Rattle.kept_tree.specs.Sums.{AreSums}
-use Rattle.kept_tree.specs.Forest.{Member, rules_of, HasClass, IsTrigger, IsNoRoot}
+use Rattle.spots.specs.declared.sums.Sums.{Sums}
+use Rattle.spots.specs.Light.{IsLight, AreLight}
+use Rattle.spots.specs.Sums.{AreSums}
+use Rattle.spots.specs.Forest.{Member, rules_of, HasClass, IsTrigger, IsNoRoot}
 use Rattle.kept_tree.specs.Nodes.{Nodes, Way, further, link_of, parent_of, root_of, way_from, way_to, member_of, forest_in, HasParent, IsDated, ArePlaced, ComesBelow, WillBePlaced, IsEffect, IsRoot}
 use Rattle.kept_tree.proofs.Ways.{way_to-at, way-further, length-links}
 

@@ -8,8 +8,8 @@ use Rattle.tmm_model.specs.declared.token.Shape.{Shape}
 use Rattle.undo_lists.specs.Changes as lists
 use Rattle.kept_tree.specs.declared.node.Node.{Node}
 use Rattle.kept_tree.specs.declared.node.Above.{Above}
-use Rattle.kept_tree.specs.declared.spot.Link.{Link}
-use Rattle.kept_tree.specs.declared.spot.Spot.{Spot}
+use Rattle.spots.specs.declared.link.Link.{Link}
+use Rattle.spots.specs.declared.spot.Spot.{Spot}
 use Rattle.kept_tree.specs.Classes.{HaveMore, IsNumberOf}
 use Rattle.kept_tree.specs.Edits.{Adds, Keeps, Stays}
 use Rattle.kept_tree.specs.Nodes.{Nodes, ArePlaced, WillBePlaced, IsEffect, date_in}

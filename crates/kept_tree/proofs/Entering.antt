@@ -7,8 +7,8 @@ use Rattle.undo_rows.specs.declared.row.Row.{Row}
 use Rattle.undo_rows.specs.Tables.{Table, with_new, new_row}
 use Rattle.kept_tree.specs.declared.node.Node.{Node}
 use Rattle.kept_tree.specs.declared.node.Above.{Above}
-use Rattle.kept_tree.specs.declared.spot.Link.{Link}
-use Rattle.kept_tree.specs.Forest.{Member, root_member, child_member}
+use Rattle.spots.specs.declared.link.Link.{Link}
+use Rattle.spots.specs.Forest.{Member, root_member, child_member}
 use Rattle.kept_tree.specs.Edits.{Adds, Grows}
 use Rattle.kept_tree.specs.Nodes.{Way, further, link_of, parent_of, way_to, member_of, forest_in, date_in, ArePlaced, WillBePlaced, IsRoot, IsEffect}
 use Rattle.kept_tree.specs.Standing.{nodes_in, head_for, siblings_in, present_rows, committed_rows, Kept, present, committed, forest, early}

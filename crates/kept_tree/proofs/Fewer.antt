@@ -13,9 +13,9 @@ use Rattle.undo_rows.proofs.Written.{with_row-same, with_row-other}
 use Rattle.kept_tree.specs.Below.{IsRightBelow}
 use Rattle.kept_tree.specs.declared.node.Node.{Node}
 use Rattle.kept_tree.specs.declared.node.Above.{Above}
-use Rattle.kept_tree.specs.declared.spot.Spot.{Spot}
-use Rattle.kept_tree.specs.Light.{AreLight}
-use Rattle.kept_tree.specs.Sums.{AreSums}
+use Rattle.spots.specs.declared.spot.Spot.{Spot}
+use Rattle.spots.specs.Light.{AreLight}
+use Rattle.spots.specs.Sums.{AreSums}
 use Rattle.kept_tree.specs.Nodes.{Nodes, Way, root_of, jump_of, way_to, member_of, forest_in, HasParent, IsPlaced, ArePlaced}
 use Rattle.kept_tree.specs.Standing.{nodes_in, IsStanding, AreKept}
 use Rattle.kept_tree.specs.Tokens.{AreTokensBut}

@@ -12,12 +12,11 @@ use Rattle.undo_rows.specs.Tables.{Table}
 use Rattle.undo_rows.proofs.Listing.{AreOnce-without, IsOn-without}
 use Rattle.undo_rows.proofs.Written.{with_row-same, with_row-other}
 use Rattle.tmm_model.specs.declared.token.TokenRow.{TokenRow}
-use Rattle.kept_tree.specs.Below.{IsRightBelow, IsOnWay, LeadOn, ListsBelow, without_rows}
+use Rattle.kept_tree.specs.Below.{IsBelow, IsRightBelow, IsOnWay, LeadOn, ListsBelow, without_rows}
 use Rattle.kept_tree.specs.declared.node.Node.{Node}
 use Rattle.kept_tree.specs.declared.node.Above.{Above}
-use Rattle.kept_tree.specs.declared.spot.Spot.{Spot}
+use Rattle.spots.specs.declared.spot.Spot.{Spot}
 use Rattle.kept_tree.specs.Edits.{Shrinks}
-use Rattle.kept_tree.specs.Forest.{IsBelow}
 use Rattle.kept_tree.specs.Nodes.{Nodes, parent_of, way_to, member_of, forest_in, HasParent, ArePlaced}
 use Rattle.kept_tree.specs.Standing.{nodes_in, siblings_in, head_for, AreKept}
 use Rattle.kept_tree.specs.Tokens.{AreTokensBut}

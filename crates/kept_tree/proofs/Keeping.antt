@@ -14,16 +14,16 @@ use Rattle.tmm_model.specs.declared.token.TokenRow.{TokenRow}
 use Rattle.undo_rows.specs.Tables.{Table}
 use Rattle.kept_tree.specs.declared.node.Node.{Node}
 use Rattle.kept_tree.specs.declared.node.Above.{Above}
-use Rattle.kept_tree.specs.declared.spot.Spot.{Spot}
-use Rattle.kept_tree.specs.declared.spot.Spot.TheVariants.{Declared, Node as OfNode}
+use Rattle.spots.specs.declared.spot.Spot.{Spot}
+use Rattle.spots.specs.declared.spot.Spot.TheVariants.{Declared, Node as OfNode}
 use Rattle.kept_tree.specs.Classes.{place_in, HaveMore, IsNumberOf}
-use Rattle.kept_tree.specs.Forest.{Member}
+use Rattle.spots.specs.Forest.{Member}
 use Rattle.kept_tree.specs.Nodes.{Nodes, way_to, root_of, member_of, forest_in, date_in, link_of, ArePlaced, WillBePlaced}
-use Rattle.kept_tree.specs.Spots.{links_low}
+use Rattle.spots.specs.Spots.{links_low, token_row, AreApart, AreTokens}
 use Rattle.kept_tree.specs.Standing.{nodes_in, tokens_under, AreKept}
-use Rattle.kept_tree.specs.Tokens.{token_row, AreApart, AreTokens, number_of, numbers_in, row_in, IsInOrder, AreTokensBut}
+use Rattle.kept_tree.specs.Tokens.{number_of, numbers_in, row_in, IsInOrder, AreTokensBut}
 use Rattle.kept_tree.specs.Words.{node_cmp}
-use Rattle.kept_tree.proofs.Delays.{low_push}
+use Rattle.spots.proofs.Delays.{low_push}
 use Rattle.kept_tree.proofs.Effects.{member_at}
 use Rattle.kept_tree.proofs.InOrder.{once}
 use Rattle.kept_tree.proofs.Numbered.{one_class, place_within, place_stays, place_behind, number_stays}

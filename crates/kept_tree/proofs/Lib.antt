@@ -1,4 +1,3 @@
-pub mod Delays
 pub mod Ways
 pub mod Placing
 pub mod Grown
@@ -20,3 +19,8 @@ pub mod TokensOut
 pub mod Beneath
 pub mod Gone
 pub mod Moved
+pub mod Parting
+pub mod Telling
+pub mod Walked
+pub mod Looking
+pub mod Finding

@@ -14,19 +14,19 @@ use Rattle.tmm_model.specs.declared.token.TokenRow.{TokenRow}
 use Rattle.undo_rows.specs.declared.row.Row.{Row}
 use Rattle.undo_rows.specs.Tables.{Table, with_value}
 use Rattle.undo_rows.proofs.Written.{with_row-same, with_row-other}
-use Rattle.kept_tree.specs.Below.{IsOnWay, ListsBelow}
+use Rattle.kept_tree.specs.Below.{IsBelow, IsOnWay, ListsBelow}
 use Rattle.kept_tree.specs.declared.node.Node.{Node}
 use Rattle.kept_tree.specs.declared.node.Above.{Above}
-use Rattle.kept_tree.specs.declared.spot.Spot.{Spot}
+use Rattle.spots.specs.declared.spot.Spot.{Spot}
 use Rattle.kept_tree.specs.Edits.{dated, AreDated, Moves}
-use Rattle.kept_tree.specs.Forest.{Member, IsBelow}
+use Rattle.spots.specs.Forest.{Member}
 use Rattle.kept_tree.specs.Nodes.{Nodes, Way, parent_of, root_of, way_to, member_of, forest_in, date_in, HasParent, IsPlaced, ArePlaced}
-use Rattle.kept_tree.specs.Spots.{links_low}
+use Rattle.spots.specs.Spots.{links_low}
 use Rattle.kept_tree.specs.Classes.{IsNumberOf}
 use Rattle.kept_tree.specs.Standing.{nodes_in, head_for, IsStanding, AreKept}
 use Rattle.kept_tree.specs.Tokens.{HasList, AreTokensBut}
 use Rattle.kept_tree.proofs.Beneath.{below_from_way, way_from_below}
-use Rattle.kept_tree.proofs.Delays.{low_within, low_small}
+use Rattle.spots.proofs.Delays.{low_within, low_small}
 use Rattle.kept_tree.proofs.Effects.{seen, member_at, way_root}
 use Rattle.kept_tree.proofs.Grown.{row_at, node_at}
 use Rattle.kept_tree.proofs.InOrder.{on_one, on_front}

@@ -20,14 +20,14 @@ pub short_name : (name : List ℕ) → is_name name ≡ true → length name ≤
 short_name [] word = omega arith
 short_name (b ∷ bs) word = let few : length bs ≤ 23 = leb-true (length bs) 23 (both (is_letter b && list_all is_name_byte bs) (nat_le (length bs) 23) word).1 in omega (arith, few)
 
-drop_past : (u : List ℕ) (k : ℕ) → length u ≤ k → drop k u ≡ []
+pub drop_past : (u : List ℕ) (k : ℕ) → length u ≤ k → drop k u ≡ []
 drop_past [] zero past = refl
 drop_past [] (suc k) past = refl
 drop_past (x ∷ u) zero past = absurd (omega (arith, past))
 drop_past (x ∷ u) (suc k) past = drop_past u k (omega (arith, past))
 
 -- where one more is taken than so many, the last of them is the first behind these
-drop_last : (u front : List ℕ) (k r : ℕ) → k < length u → take (k + 1) u ≡ front ++ r ∷ [] → drop k u ≡ r ∷ drop (k + 1) u
+pub drop_last : (u front : List ℕ) (k r : ℕ) → k < length u → take (k + 1) u ≡ front ++ r ∷ [] → drop k u ≡ r ∷ drop (k + 1) u
 drop_last u front k r within is =
     let long : length front ≡ k = (let l = length_push front r in let t = length-take-le (k + 1) u (omega (arith, within)) in let e = ap length is in omega (arith, l, t, e)) in
     let whole : u ≡ front ++ (r ∷ drop (k + 1) u) = sym (take-append-drop (k + 1) u) ∙ ap (λ l. l ++ drop (k + 1) u) is ∙ append_assoc front (r ∷ []) (drop (k + 1) u) in

@@ -10,9 +10,9 @@ use Rattle.ancestors.proofs.Jumps.{jump_within, jump_up}
 use Rattle.tmm_model.specs.Names.{is_name}
 use Rattle.kept_tree.specs.declared.node.Node.{Node}
 use Rattle.kept_tree.specs.declared.node.Above.{Above}
-use Rattle.kept_tree.specs.Light.{IsLight, AreLight}
-use Rattle.kept_tree.specs.Sums.{AreSums}
-use Rattle.kept_tree.specs.Forest.{HasClass}
+use Rattle.spots.specs.Light.{IsLight, AreLight}
+use Rattle.spots.specs.Sums.{AreSums}
+use Rattle.spots.specs.Forest.{HasClass}
 use Rattle.kept_tree.specs.Nodes.{Nodes, Way, further, link_of, parent_of, root_of, jump_of, way_from, way_to, HasParent, IsDated, IsPlaced, ArePlaced, WillBePlaced}
 use Rattle.kept_tree.proofs.Ways.{fixed, Extends, HaveParents, way_to-at, length-way, node_on_way, way-further, way-same}
 

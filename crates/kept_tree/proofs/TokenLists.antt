@@ -16,9 +16,9 @@ use Rattle.tmm_model.specs.declared.token.TokenRow.{TokenRow}
 use Rattle.tmm_model.specs.Moments.{At, printed}
 use Rattle.tmm_model.specs.declared.point.PointName.TheVariants.{Start}
 use Rattle.kept_tree.specs.declared.node.Node.{Node}
-use Rattle.kept_tree.specs.declared.spot.Spot.{Spot}
-use Rattle.kept_tree.specs.declared.spot.Spot.TheVariants.{Declared, Node as OfNode}
-use Rattle.kept_tree.specs.Forest.{Member, moment}
+use Rattle.spots.specs.declared.spot.Spot.{Spot}
+use Rattle.spots.specs.declared.spot.Spot.TheVariants.{Declared, Node as OfNode}
+use Rattle.spots.specs.Forest.{Member, moment}
 use Rattle.kept_tree.specs.Nodes.{Nodes, forest_in, date_in, ArePlaced}
 use Rattle.kept_tree.specs.Tokens.{number_of, numbers_in, row_in, IsInOrder, IsPlaceFor, HasList, AreRowsOf, AreTokensBut}
 use Rattle.kept_tree.specs.Words.{word_in, node_cmp}

@@ -9,7 +9,7 @@ use Rattle.undo_lists.specs.Rooms.{without_item}
 use Rattle.undo_rows.proofs.Listing.{IsOn-without, without-IsOn}
 use Rattle.tmm_model.specs.declared.token.TokenRow.{TokenRow}
 use Rattle.kept_tree.specs.declared.node.Node.{Node}
-use Rattle.kept_tree.specs.declared.spot.Spot.{Spot}
+use Rattle.spots.specs.declared.spot.Spot.{Spot}
 use Rattle.kept_tree.specs.Nodes.{Nodes}
 use Rattle.kept_tree.specs.Tokens.{number_of, numbers_in, row_in, IsInOrder, IsPlaceFor, HasList, AreTokensBut}
 use Rattle.kept_tree.specs.Words.{node_cmp}

@@ -17,10 +17,10 @@ use Rattle.tmm_model.specs.Points.{slashed}
 use Rattle.list_theory.proofs.Elements.{In}
 use Rattle.belief_theory.proofs.Moments.{along-push}
 use Rattle.belief_theory.proofs.Spelt.{no_slash}
-use Rattle.kept_tree.specs.declared.spot.Link.{Link}
+use Rattle.spots.specs.declared.link.Link.{Link}
 use Rattle.kept_tree.specs.declared.node.Node.{Node}
 use Rattle.kept_tree.specs.declared.node.Above.{Above}
-use Rattle.kept_tree.specs.Forest.{Member, moment}
+use Rattle.spots.specs.Forest.{Member, moment}
 use Rattle.kept_tree.specs.Nodes.{Nodes, Way, further, link_of, parent_of, name_at, link_at, parent_at, way_from, way_to, HasParent, ArePlaced}
 use Rattle.kept_tree.specs.Words.{word_in, first_piece, piece_at}
 use Rattle.kept_tree.specs.Ends.{ends_from}
@@ -107,7 +107,7 @@ text_on-push node (y ∷ u) x some =
     ∙ ap (λ t. name_at node y ++ t) (slashed-push (map (name_at node) u) (name_at node x))
     ∙ sym (append_assoc (name_at node y) (slashed (map (name_at node) u)) (47 ∷ name_at node x))
 
-rule_at : (node : Nodes) (x : ℕ) → (link_at node x).rule ≡ name_at node x
+pub rule_at : (node : Nodes) (x : ℕ) → (link_at node x).rule ≡ name_at node x
 rule_at node x = by (node x) refl
   where
     by : (o : Option Node) → node x ≡ o → (link_at node x).rule ≡ name_at node x

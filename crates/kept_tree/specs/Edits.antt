@@ -4,9 +4,10 @@ use Rattle.std.specs.Option.{option_map}
 use Rattle.row_links.specs.Lists.{IsOn, without}
 use Rattle.undo_rows.specs.Tables.{Table, with_new, without_row, with_value, new_row}
 use Rattle.kept_tree.specs.declared.node.Node.{Node}
+use Rattle.kept_tree.specs.Below.{IsBelow}
 use Rattle.kept_tree.specs.Nodes.{parent_of}
 use Rattle.kept_tree.specs.Standing.{Grove, nodes_in, present_rows, committed_rows, head_for, Kept, State, present, committed, forest, early, below}
-use Rattle.kept_tree.specs.Forest.{Member, IsBelow}
+use Rattle.spots.specs.Forest.{Member}
 
 -- the nodes stay, those of the last commit too
 pub record Keeps (old new : Grove) : Type 0 where

@@ -1,7 +1,3 @@
-pub mod Forest
-pub mod Spots
-pub mod Light
-pub mod Sums
 pub mod Nodes
 pub mod Words
 pub mod Classes
@@ -10,3 +6,7 @@ pub mod Standing
 pub mod Below
 pub mod Edits
 pub mod Ends
+pub mod Asked
+pub mod Dated
+pub mod Named
+pub mod Known

@@ -6,12 +6,12 @@ use Rattle.tmm_model.specs.declared.token.Shape.{Shape}
 use Rattle.tmm_model.specs.declared.bound.Bound.TheVariants.{Free}
 use Rattle.tmm_model.specs.Bounds.{IsWithin}
 use Rattle.tmm_model.specs.Names.{is_name}
-use Rattle.kept_tree.specs.declared.spot.Link.{Link}
+use Rattle.spots.specs.declared.link.Link.{Link}
 use Rattle.kept_tree.specs.declared.node.Node.{Node}
 use Rattle.kept_tree.specs.declared.node.Above.{Above}
-use Rattle.kept_tree.specs.Forest.{Forest, Member, HasClass}
-use Rattle.kept_tree.specs.Light.{AreLight}
-use Rattle.kept_tree.specs.Sums.{AreSums}
+use Rattle.spots.specs.Forest.{Forest, Member, HasClass}
+use Rattle.spots.specs.Light.{AreLight}
+use Rattle.spots.specs.Sums.{AreSums}
 
 -- the node of each number, none where the number is of no node
 abbrev pub Nodes : Type 0

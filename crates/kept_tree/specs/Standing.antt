@@ -11,8 +11,8 @@ use Rattle.undo_lists.specs.Changes.{Logged as LoggedLists}
 use Rattle.undo_lists.specs.Changes as lists
 use Rattle.tmm_model.specs.declared.token.TokenRow.{TokenRow}
 use Rattle.kept_tree.specs.declared.node.Node.{Node}
-use Rattle.kept_tree.specs.declared.spot.Spot.{Spot}
-use Rattle.kept_tree.specs.Forest.{Forest}
+use Rattle.spots.specs.declared.spot.Spot.{Spot}
+use Rattle.spots.specs.Forest.{Forest}
 use Rattle.kept_tree.specs.Nodes.{Nodes, parent_of, root_of, forest_in, date_in, ArePlaced}
 use Rattle.kept_tree.specs.Classes.{place_in, IsNumberOf}
 use Rattle.kept_tree.specs.Tokens.{AreTokensBut}

@@ -1,35 +1,16 @@
 -- The tokens of each class, in the order of occurrences.
-use Rattle.std.specs.Prelude.{◌≡◌, ◌≢◌, ℕ, ◌<◌, ◌≤◌, ◌↔◌, List, [], ◌∷◌, map, take, drop, length, Option, Some, None, IsSome}
+use Rattle.std.specs.Prelude.{◌≡◌, ◌≢◌, ℕ, ◌<◌, ◌≤◌, ◌↔◌, List, [], ◌∷◌, map, take, drop, length, Some, None, IsSome}
 use Rattle.std.specs.Option.{option_map, option_map_or}
-use Rattle.std.specs.List.{All, Contains}
 use Rattle.std.specs.declared.cmp.Ordering.{Ordering}
 use Rattle.std.specs.declared.cmp.Ordering.TheVariants.{Less}
 use Rattle.row_links.specs.Lists.{IsOn}
 use Rattle.undo_lists.specs.Changes.{Logged, present, rooms}
 use Rattle.tmm_model.specs.declared.token.TokenRow.{TokenRow}
 use Rattle.kept_tree.specs.declared.node.Node.{Node}
-use Rattle.kept_tree.specs.declared.spot.Spot.{Spot}
-use Rattle.kept_tree.specs.declared.spot.Spot.TheVariants.{Declared, Node as OfNode}
-use Rattle.kept_tree.specs.Forest.{Forest, Member}
+use Rattle.spots.specs.declared.spot.Spot.{Spot}
+use Rattle.spots.specs.declared.spot.Spot.TheVariants.{Declared, Node as OfNode}
 use Rattle.kept_tree.specs.Nodes.{Nodes}
 use Rattle.kept_tree.specs.Words.{node_cmp}
-
--- the token that a node is; none for an event
-abbrev pub token_row : ℕ → Member → Option (TokenRow Spot)
-token_row x m = option_map (λ class. record { spot = OfNode x; end = option_map Declared m.end; fact = m.what; class = class }) m.class
-
--- no two rows are of one spot
-abbrev pub AreApart : List (TokenRow Spot) → Type 0
-AreApart [] = Unit {0}
-AreApart (row ∷ rows) = All (λ other. other.spot ≢ row.spot) rows × AreApart rows
-
--- the rows are the tokens of a class among the nodes, each once
-pub record AreTokens (f : Forest) (class : List ℕ) (rows : List (TokenRow Spot)) : Type 0 where
-  pub own : (row : TokenRow Spot) → Contains rows row → (x : ℕ) × (m : Member) × (f x ≡ Some m) × (token_row x m ≡ Some row) × (row.class ≡ class)
-  pub all : (x : ℕ) (m : Member) (row : TokenRow Spot) → f x ≡ Some m → token_row x m ≡ Some row → row.class ≡ class → Contains rows row
-  pub once : AreApart rows
-
--- ---- as they are kept
 
 -- the number of the node at which a row stands
 abbrev pub number_of : Spot → ℕ

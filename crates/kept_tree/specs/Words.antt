@@ -4,7 +4,7 @@ use Rattle.std.specs.declared.cmp.Ordering.{Ordering}
 use Rattle.std.specs.Ordering.{int_cmp, nat_cmp, on, then_cmp}
 use Rattle.std.specs.Cmp.Lexicographic.{slice_cmp}
 use Rattle.tmm_model.specs.Moments.{printed}
-use Rattle.kept_tree.specs.Forest.{moment_at}
+use Rattle.spots.specs.Forest.{moment_at}
 use Rattle.kept_tree.specs.Nodes.{Nodes, name_at, forest_in, date_in, way_to}
 
 -- the word of a node, as it is printed

@@ -3,8 +3,7 @@ ghost use Rattle.std.specs.Prelude.{◌≡◌};
 ghost use Rattle.kept_tree.specs.Nodes.{link_of, parent_of, root_of, jump_of};
 ghost use Rattle.kept_tree.specs.Standing.{head_for};
 
-use crate::spot::Link;
-use crate::sums::Sums;
+use spots::{Link, Sums};
 use tmm_model::{Bound, Name, Shape};
 
 /// Which nodes stand above one that is no root.

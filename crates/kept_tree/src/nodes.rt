@@ -4,8 +4,8 @@ ghost use Rattle.row_links.specs.Lists.{IsOn, first_or, row_after};
 ghost use Rattle.undo_rows.specs.Tables.{AreListed};
 ghost use Rattle.tmm_model.specs.Bounds.{IsWithin};
 ghost use Rattle.tmm_model.specs.Names.{is_name};
-ghost use Rattle.kept_tree.specs.Forest.{Member, IsNoRoot, IsTrigger, HasClass};
-ghost use Rattle.kept_tree.specs.Light.{IsLight};
+ghost use Rattle.spots.specs.Forest.{Member, IsNoRoot, IsTrigger, HasClass};
+ghost use Rattle.spots.specs.Light.{IsLight};
 ghost use Rattle.kept_tree.specs.Nodes.{forest_in, way_to, ArePlaced, WillBePlaced, IsRoot, IsEffect, parent_of};
 ghost use Rattle.std.specs.Ordering.{nat_cmp};
 ghost use Rattle.std.specs.Cmp.Lexicographic.{slice_cmp};
@@ -16,10 +16,9 @@ ghost use Rattle.kept_tree.specs.Edits.{Adds, Keeps, Takes, Dates};
 ghost use Rattle.kept_tree.specs.Below.{IsRightBelow};
 
 use crate::node::{Above, Node};
-use crate::spot::Link;
-use crate::sums::Sums;
 use crate::words::{Piece, piece};
 use ancestors::{Ancestry, ancestor_at, jump_below, lowest_common};
+use spots::{Link, Sums};
 use std::alloc::Global;
 use std::cmp::Ordering;
 use std::marker::Model;
@@ -246,7 +245,7 @@ impl Nodes {
 
     // What stands in the word of a node behind so many names: the next name, and `/` where there are
     // more.
-    fn piece(&self, x: u32, depth: u32) -> Piece
+    pub(crate) fn piece(&self, x: u32, depth: u32) -> Piece
         requires { IsSome (nodes_in (present_rows self.now) x) }
         ensures { result.items ≡ piece_at (nodes_in (present_rows self.now)) x depth }
     {
@@ -278,6 +277,7 @@ impl Nodes {
         requires { IfSome parent (λ p. IsSome (nodes_in (present_rows self.now) p)) }
         ensures first { result ≡ first_or None (siblings_in (present_rows self.now) parent) }
         ensures listed { AreListed (present_rows self.now) }
+        ensures stands { IsStanding self.now.limit (present_rows self.now) }
     {
         self.rows.first(0, self.head_below(parent))
     }

@@ -5,17 +5,18 @@ ghost use Rattle.tmm_model.specs.Bounds.{IsWithin};
 ghost use Rattle.tmm_model.specs.Lines.{IsNumber, IsBound, IsRange};
 ghost use Rattle.tmm_model.specs.Names.{is_name};
 ghost use Rattle.tmm_model.specs.declared.bound.Bound.TheVariants.{Finite};
-ghost use Rattle.kept_tree.specs.Forest.{Member, IsLive, root_member, child_member, IsNoRoot, HasClass, HasEnd, IsTrigger};
+ghost use Rattle.spots.specs.Forest.{Member, IsLive, root_member, child_member, IsNoRoot, HasClass, HasEnd, IsTrigger, IsOnce};
 ghost use Rattle.kept_tree.specs.Standing.{present, committed, forest, early, below, IsChildOf, order};
-ghost use Rattle.kept_tree.specs.Tokens.{AreTokens, IsInOrder, numbers_in};
+ghost use Rattle.spots.specs.Spots.{AreTokens};
+ghost use Rattle.kept_tree.specs.Tokens.{IsInOrder, numbers_in};
 ghost use Rattle.kept_tree.specs.Edits.{Enters, Withdraws, ReDates, Stays};
 
 use crate::classes::Classes;
 use crate::dating::date_all;
 use crate::leaving::{leave_all, room_below};
 use crate::nodes::Nodes;
-use crate::spot::{Link, Spot};
 use crate::tokens::{Tokens, enter, number_for};
+use spots::{Link, Spot};
 use std::alloc::Global;
 use std::marker::Model;
 use tmm_model::{Bound, Name, NoMemory, Shape, TokenRow};
@@ -193,6 +194,7 @@ impl Tree {
         ensures list { result.now ≡ (present self.now).tokens class.now }
         ensures tokens { AreTokens (forest (present self.now)) class.now result.now }
         ensures in_order { IsInOrder (order (present self.now)) (numbers_in result.now) }
+        ensures once { IsOnce (forest (present self.now)) }
     {
         // each node stands where it says
         let _ = self.nodes.limit();
@@ -230,5 +232,12 @@ impl Tree {
     {
         self.nodes.rollback();
         self.tokens.rollback();
+    }
+
+    // The nodes.
+    pub(crate) fn nodes(&self) -> &Nodes
+        ensures { result.now ≡ self.now.nodes }
+    {
+        &self.nodes
     }
 }

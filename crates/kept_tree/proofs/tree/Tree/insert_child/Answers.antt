@@ -2,10 +2,10 @@ use Rattle.std.proofs.Common.{◌≡◌, ◌∙◌, Some, refl, sym, subst, w64}
 use Rattle.std.proofs.lemmas.Int.{to_z-of_z}
 use Rattle.std.proofs.lemmas.Result.{err_from_is_err_and}
 use Rattle.std.specs.Prelude.{◌+ℤ◌}
-use Rattle.kept_tree.specs.declared.spot.Link.{Link}
+use Rattle.spots.specs.declared.link.Link.{Link}
 use Rattle.kept_tree.specs.Classes.{IsNumberOf}
 use Rattle.kept_tree.specs.Nodes.{IsEffect}
-use Rattle.kept_tree.specs.Forest.{Member, IsTrigger, child_member}
+use Rattle.spots.specs.Forest.{Member, IsTrigger, child_member}
 use Rattle.kept_tree.specs.Standing.{Kept, nodes_in, present_rows, present, forest, early}
 use Rattle.kept_tree.specs.Edits.{Enters}
 use Rattle.kept_tree.proofs.Entered.{tree_stays, stays, tree_entered, committed_same, effect_in_time}

@@ -3,7 +3,7 @@ use Rattle.std.proofs.lemmas.Int.{to_z-of_z}
 use Rattle.std.proofs.lemmas.Result.{err_from_is_err_and}
 use Rattle.kept_tree.specs.Classes.{IsNumberOf}
 use Rattle.kept_tree.specs.Nodes.{IsRoot}
-use Rattle.kept_tree.specs.Forest.{IsNoRoot, root_member}
+use Rattle.spots.specs.Forest.{IsNoRoot, root_member}
 use Rattle.kept_tree.specs.Standing.{Kept, nodes_in, present_rows, present, forest}
 use Rattle.kept_tree.specs.Edits.{Enters}
 use Rattle.kept_tree.proofs.Entered.{tree_stays, stays, tree_entered, committed_same, root_in_time}

@@ -3,7 +3,7 @@ use Rattle.undo_rows.specs.Tables.{Table}
 use Rattle.undo_lists.specs.Changes as lists
 use Rattle.tmm_model.specs.declared.token.TokenRow.{TokenRow}
 use Rattle.kept_tree.specs.declared.node.Node.{Node}
-use Rattle.kept_tree.specs.declared.spot.Spot.{Spot}
+use Rattle.spots.specs.declared.spot.Spot.{Spot}
 use Rattle.kept_tree.specs.Standing.{nodes_in, present_rows, committed_rows}
 use Rattle.kept_tree.proofs.Grown.{no_node_at}
 use Rattle.kept_tree.proofs.Keeping.{kept_none}

@@ -4,7 +4,7 @@ use Rattle.row_links.specs.Lists.{IsOn}
 use Rattle.undo_lists.specs.Changes as lists
 use Rattle.undo_rows.specs.Tables.{Table}
 use Rattle.kept_tree.specs.Edits.{AreDated, ReDates}
-use Rattle.kept_tree.specs.Forest.{Member}
+use Rattle.spots.specs.Forest.{Member}
 use Rattle.kept_tree.specs.Standing.{Kept, nodes_in, present_rows, committed_rows, tokens_under, present, forest}
 use Rattle.kept_tree.proofs.Entered.{committed_same}
 use Rattle.kept_tree.proofs.Keeping.{kept_same}

@@ -5,7 +5,7 @@ use Rattle.undo_rows.specs.Tables.{Table}
 use Rattle.kept_tree.specs.Below.{ListsBelow, without_rows}
 use Rattle.kept_tree.specs.declared.node.Node.{Node}
 use Rattle.kept_tree.specs.Edits.{Withdraws}
-use Rattle.kept_tree.specs.Forest.{IsLive}
+use Rattle.spots.specs.Forest.{IsLive}
 use Rattle.kept_tree.specs.Standing.{Kept, nodes_in, present_rows, committed_rows, tokens_under, present, forest}
 use Rattle.kept_tree.proofs.Entered.{committed_same}
 use Rattle.kept_tree.proofs.Gone.{kept_left, shrinks}
