@@ -6,6 +6,7 @@ use Rattle.tmm_model.specs.declared.token.Shape.TheVariants.{Event}
 use Rattle.spots.specs.declared.link.Link.{Link}
 use Rattle.spots.specs.Forest.{Forest, Member, member, rules_of, Enters, IsTrigger, IsBelow, Withdraws}
 use Rattle.occ_tree.proofs.Withdrawn.{stayed}
+use Rattle.occ_tree.specs.Places.{forest}
 use Rattle.occ_tree.proofs.tests.an_event_leaves_with_its_effect.Goals as goal
 
 -- a node stays when another enters
@@ -64,13 +65,13 @@ pub insert_child-requires-2-clause-trigger : goal.insert_child-requires-2-clause
 insert_child-requires-2-clause-trigger g c =
     let press = c.in_ok-press.ensures.ok in
     let bell = c.in_ok-bell.ensures.ok _ press.entered in
-    let first = short_enters c.make-tree.result c.insert_root.new.self c.in_ok-press.press _ 1 press (omega arith) (short_none c.make-tree.result 1 c.make-tree.ensures) in
-    (_, bell.entered, leads_on c.insert_child.new.self _ c.name-rule.result (short_enters c.insert_root.new.self c.insert_child.new.self c.in_ok-bell.bell _ 1 bell (omega arith) first) refl (omega arith))
+    let first = short_enters (forest c.make-tree.result) (forest c.insert_root.new.self) c.in_ok-press.press _ 1 press (omega arith) (short_none (forest c.make-tree.result) 1 c.make-tree.ensures) in
+    (_, bell.entered, leads_on (forest c.insert_child.new.self) _ c.name-rule.result (short_enters (forest c.insert_root.new.self) (forest c.insert_child.new.self) c.in_ok-bell.bell _ 1 bell (omega arith) first) refl (omega arith))
 
 pub occ_of-requires : goal.occ_of-requires
 occ_of-requires g c =
     let bell = c.in_ok-bell.ensures.ok _ c.in_ok-press.ensures.ok.entered in
-    ap is_some (stays c.insert_child.new.self c.insert_child-2.new.self c.in_ok-lit.lit _ (c.in_ok-lit.ensures.ok _ bell.entered) c.in_ok-bell.bell _ bell.entered)
+    ap is_some (stays (forest c.insert_child.new.self) (forest c.insert_child-2.new.self) c.in_ok-lit.lit _ (c.in_ok-lit.ensures.ok _ bell.entered) c.in_ok-bell.bell _ bell.entered)
 
 pub occ_of-requires-2 : goal.occ_of-requires-2
 occ_of-requires-2 g c = ap is_some (c.in_ok-lit.ensures.ok _ (c.in_ok-bell.ensures.ok _ c.in_ok-press.ensures.ok.entered).entered).entered
@@ -78,22 +79,22 @@ occ_of-requires-2 g c = ap is_some (c.in_ok-lit.ensures.ok _ (c.in_ok-bell.ensur
 pub withdraw-requires : goal.withdraw-requires
 withdraw-requires g c =
     let bell = c.in_ok-bell.ensures.ok _ c.in_ok-press.ensures.ok.entered in
-    record { live = ap is_some (stays c.insert_child.new.self c.insert_child-2.new.self c.in_ok-lit.lit _ (c.in_ok-lit.ensures.ok _ bell.entered) c.in_ok-bell.bell _ bell.entered) }
+    record { live = ap is_some (stays (forest c.insert_child.new.self) (forest c.insert_child-2.new.self) c.in_ok-lit.lit _ (c.in_ok-lit.ensures.ok _ bell.entered) c.in_ok-bell.bell _ bell.entered) }
 
 pub children-requires : goal.children-requires
 children-requires g c =
     let press = c.in_ok-press.ensures.ok in
     let bell = c.in_ok-bell.ensures.ok _ press.entered in
     let lit = c.in_ok-lit.ensures.ok _ bell.entered in
-    let press_stays = stays c.insert_child.new.self c.insert_child-2.new.self c.in_ok-lit.lit _ lit c.in_ok-press.press _ (stays c.insert_root.new.self c.insert_child.new.self c.in_ok-bell.bell _ bell c.in_ok-press.press _ press.entered) in
-    let withdraws = c.in_ok-withdraw.ensures.ok _ (stays c.insert_child.new.self c.insert_child-2.new.self c.in_ok-lit.lit _ lit c.in_ok-bell.bell _ bell.entered) in
-    ap is_some (event_stays c.insert_child-2.new.self c.withdraw.new.self _ _ c.name-rule.result withdraws c.in_ok-press.press press_stays refl)
+    let press_stays = stays (forest c.insert_child.new.self) (forest c.insert_child-2.new.self) c.in_ok-lit.lit _ lit c.in_ok-press.press _ (stays (forest c.insert_root.new.self) (forest c.insert_child.new.self) c.in_ok-bell.bell _ bell c.in_ok-press.press _ press.entered) in
+    let withdraws = c.in_ok-withdraw.ensures.ok _ (stays (forest c.insert_child.new.self) (forest c.insert_child-2.new.self) c.in_ok-lit.lit _ lit c.in_ok-bell.bell _ bell.entered) in
+    ap is_some (event_stays (forest c.insert_child-2.new.self) (forest c.withdraw.new.self) _ _ c.name-rule.result withdraws c.in_ok-press.press press_stays refl)
 
 pub insert_child-requires-3-clause-trigger : goal.insert_child-requires-3-clause-trigger
 insert_child-requires-3-clause-trigger g c =
     let press = c.in_ok-press.ensures.ok in
     let bell = c.in_ok-bell.ensures.ok _ press.entered in
     let lit = c.in_ok-lit.ensures.ok _ bell.entered in
-    let press_stays = stays c.insert_child.new.self c.insert_child-2.new.self c.in_ok-lit.lit _ lit c.in_ok-press.press _ (stays c.insert_root.new.self c.insert_child.new.self c.in_ok-bell.bell _ bell c.in_ok-press.press _ press.entered) in
-    let withdraws = c.in_ok-withdraw.ensures.ok _ (stays c.insert_child.new.self c.insert_child-2.new.self c.in_ok-lit.lit _ lit c.in_ok-bell.bell _ bell.entered) in
-    (_, event_stays c.insert_child-2.new.self c.withdraw.new.self _ _ c.name-rule.result withdraws c.in_ok-press.press press_stays refl, leads_again c.insert_child-2.new.self c.withdraw.new.self _ _ c.name-rule.result withdraws refl (omega arith) refl refl)
+    let press_stays = stays (forest c.insert_child.new.self) (forest c.insert_child-2.new.self) c.in_ok-lit.lit _ lit c.in_ok-press.press _ (stays (forest c.insert_root.new.self) (forest c.insert_child.new.self) c.in_ok-bell.bell _ bell c.in_ok-press.press _ press.entered) in
+    let withdraws = c.in_ok-withdraw.ensures.ok _ (stays (forest c.insert_child.new.self) (forest c.insert_child-2.new.self) c.in_ok-lit.lit _ lit c.in_ok-bell.bell _ bell.entered) in
+    (_, event_stays (forest c.insert_child-2.new.self) (forest c.withdraw.new.self) _ _ c.name-rule.result withdraws c.in_ok-press.press press_stays refl, leads_again (forest c.insert_child-2.new.self) (forest c.withdraw.new.self) _ _ c.name-rule.result withdraws refl (omega arith) refl refl)
