@@ -125,7 +125,8 @@ impl Rows {
 
     /// The same rows and lists, and the same last commit, for edits of its own. It takes memory.
     pub fn copy(&self, alloc: Global) -> Result<Rows, NoMemory>
-        ensures { IfOk result (Stays self.now) }
+        ensures same { IfOk result (λ copy. copy ≡ record self.now { spare = copy.spare }) }
+        ensures stays { IfOk result (Stays self.now) }
     {
         Ok(Rows {
             rows: self.rows.copy(alloc)?,

@@ -185,7 +185,8 @@ impl<T: Copy, const F: usize> Rows<T, F> {
     /// The same rows and lists, and the same last commit, for edits of its own. It takes memory.
     pub fn copy(&self, alloc: Global) -> Result<Rows<T, F>, NoMemory>
         requires { RowFits T.row F.row }
-        ensures { IfOk result (Stays self.now) }
+        ensures same { IfOk result (λ copy. copy ≡ record self.now { spare = copy.spare }) }
+        ensures stays { IfOk result (Stays self.now) }
     {
         Ok(Rows {
             stored: self.stored.copy(alloc)?,
