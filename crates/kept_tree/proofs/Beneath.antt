@@ -87,9 +87,7 @@ module _ (node : Nodes) (placed : ArePlaced node) where
         below = member_of (way_to node y) n;
         above_at = member_at node x m m_at;
         below_at = member_at node y n n_at;
-        root = root;
-        rest = rest;
-        rules = rules;
+        is_below = (sym root, rest, rules);
       }
 
   -- ---- from roots and rules
@@ -127,5 +125,5 @@ module _ (node : Nodes) (placed : ArePlaced node) where
       let (m, m_at, m_is) = node_of_member node x b.above b.above_at in
       let (n, n_at, n_is) = node_of_member node y b.below b.below_at in
       way_from_rules n.depth x y m n m_at n_at refl
-      (ap (λ (k : Member). k.root) (sym n_is) ∙ b.root ∙ ap (λ (k : Member). k.root) m_is) b.rest
-      (ap (λ (k : Member). rules_of k) (sym n_is) ∙ b.rules ∙ ap (λ (k : Member). rules_of k ++ b.rest) m_is)
+      (ap (λ (k : Member). k.root) (sym n_is) ∙ sym b.is_below.0 ∙ ap (λ (k : Member). k.root) m_is) b.is_below.1
+      (ap (λ (k : Member). rules_of k) (sym n_is) ∙ b.is_below.2 ∙ ap (λ (k : Member). rules_of k ++ b.is_below.1) m_is)

@@ -24,3 +24,10 @@ pub mod Telling
 pub mod Walked
 pub mod Looking
 pub mod Finding
+pub mod Ordered
+pub mod Indexed
+pub mod Same
+pub mod FirstNodes
+pub mod Members
+pub mod KeptDates
+pub mod Following

@@ -2,19 +2,17 @@
 use Rattle.std.specs.Prelude.{◌≡◌, ℕ, ◌≤◌, ◌↔◌, List, [], ◌∷◌, ◌++◌, length, Some}
 use Rattle.row_links.specs.Lists.{IsOn, AreOnce}
 use Rattle.undo_rows.specs.Tables.{Table, without_row}
-use Rattle.spots.specs.Forest.{Forest, Member, rules_of}
+use Rattle.spots.specs.Forest.{Forest, Member, IsBelow as IsMemberBelow}
 use Rattle.kept_tree.specs.declared.node.Node.{Node}
 use Rattle.kept_tree.specs.Nodes.{Nodes, parent_of, way_to}
 
--- node y is node x or below it: its root is that of x, and its rules begin with those of x
+-- node y is node x or below it
 pub record IsBelow (f : Forest) (x y : ℕ) : Type 0 where
   pub above : Member
   pub below : Member
   pub above_at : f x ≡ Some above
   pub below_at : f y ≡ Some below
-  pub root : below.root ≡ above.root
-  pub rest : List (List ℕ)
-  pub rules : rules_of below ≡ rules_of above ++ rest
+  pub is_below : IsMemberBelow above below
 
 -- node y is right below node x
 abbrev pub IsRightBelow : Nodes → ℕ → ℕ → Type 0

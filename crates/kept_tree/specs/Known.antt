@@ -1,14 +1,15 @@
--- The laws of spots, and the order of nodes, where the dates that are kept are those of a network.
-use Rattle.std.proofs.Common.{◌≡◌, ℕ, pos}
+-- The laws of spots, their dates, and the order of nodes, where the dates that are kept are those of a network.
+use Rattle.std.proofs.Common.{◌≡◌, ℕ, pos, ◌+ℤ◌, ◌≤ℤ◌}
 use Rattle.std.specs.Ordering.{int_cmp, nat_cmp, ordering_then}
 use Rattle.std.specs.Cmp.Lexicographic.{slice_cmp}
 use Rattle.tmm_model.specs.declared.bound.Bound.TheVariants.{Finite}
-use Rattle.tmm_model.specs.Bounds.{bound_plus}
+use Rattle.tmm_model.specs.Bounds.{IfFinite, bound_plus}
 use Rattle.tmm_model.specs.Types.{IsTighter, IsOrderOn}
 use Rattle.dist_net.specs.Net.{Net}
 use Rattle.spots.specs.declared.spot.Spot.{Spot}
 use Rattle.spots.specs.Forest.{IsLive}
-use Rattle.spots.specs.Spots.{spot_distance, spot_cmp, node_cmp}
+use Rattle.spots.specs.Spots.{spot_distance, spot_early, spot_cmp, node_cmp}
+use Rattle.spots.proofs.Dates as dates
 use Rattle.spots.proofs.Laws as laws
 use Rattle.kept_tree.specs.Dated.{IsDatedBy, IsKnown}
 use Rattle.kept_tree.specs.Standing.{State, nodes_in, forest, order}
@@ -35,3 +36,7 @@ module _ (net : Net) (s : State) where
         trans = λ p q r a b c. law.trans p q r (a.0, a.2) (b.0, b.2) (c.0, c.2);
         strict = λ p q a b. law.strict p q (a.0, a.2) (b.0, b.2);
       }
+
+  -- none is later than its distance from another allows
+  pub dates_met : (p q : Spot) → IsKnown net s p → IsKnown net s q → IfFinite (spot_distance net (forest s) p q) (λ w. spot_early net (forest s) q ≤ℤ (spot_early net (forest s) p +ℤ w))
+  dates_met p q (list, _, at_p) (_, _, at_q) = dates.dates_met net (forest s) p q (list, at_p) (list, at_q)

@@ -5,8 +5,14 @@ pub mod Tokens
 pub mod Standing
 pub mod Below
 pub mod Edits
+pub mod EditLaws
 pub mod Ends
 pub mod Asked
 pub mod Dated
+pub mod DatedLaws
 pub mod Named
 pub mod Known
+pub mod Places
+pub mod OfLists
+pub mod Ranks
+pub mod Index

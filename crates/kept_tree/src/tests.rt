@@ -1,10 +1,13 @@
-//! A root that comes and goes.
-ghost use Rattle.std.specs.Prelude.{IsTrue};
+//! A root that comes and goes, and what two trees have in common.
+ghost use Rattle.std.specs.Prelude.{◌≢◌, IsTrue, IfOk};
 ghost use Rattle.tmm_model.specs.Names.{is_name};
+ghost use Rattle.spots.specs.Forest.{IsLive};
+ghost use Rattle.kept_tree.specs.Standing.{present, forest};
 
 use super::*;
+use std::alloc::Global;
 use std::test::Fail;
-use tmm_model::{Name, Shape};
+use tmm_model::{Bound, Name, NoMemory, Shape};
 
 fn name(word: &str) -> Name
     ensures { IsTrue (is_name result) }
@@ -42,5 +45,78 @@ fn a_root_is_found_by_its_occurrence(rt: HostRuntime) -> Result<(), Fail> {
     assert_eq!(rt; tree.row(event).root, event);
     tree.rollback();
     assert_eq!(rt; tree.find(&occ), None);
+    Ok(())
+}
+
+// Two roots, and what a rule of the name of the second leads to from the first.
+#[derive(Drop)]
+struct Sample {
+    tree: Tree,
+    first: u32,
+    second: u32,
+    effect: u32,
+}
+
+fn two_roots(alloc: Global, first: Name, second: Name) -> Result<Sample, NoMemory>
+    requires first { IsTrue (is_name first) }
+    requires second { IsTrue (is_name second) }
+    requires differ { first ≢ second }
+    ensures first { IfOk result (λ s. IsLive (forest (present s.tree)) s.first) }
+    ensures second { IfOk result (λ s. IsLive (forest (present s.tree)) s.second) }
+    ensures effect { IfOk result (λ s. IsLive (forest (present s.tree)) s.effect) }
+{
+    let mut tree = Tree::make(alloc);
+    let what = first;
+    let event = tree.insert_root(alloc, first, 1, None, what, None, Shape::Event, 5)?;
+    let other = tree.insert_root(alloc, second, 2, None, what, None, Shape::Event, 5)?;
+    let hi = Bound::Finite(2);
+    let effect = tree.insert_child(alloc, event, second, 1, hi, what, None, Shape::Event)?;
+    Ok(Sample {
+        tree,
+        first: event,
+        second: other,
+        effect,
+    })
+}
+
+#[test]
+fn nodes_of_another_tree_are_found_by_their_names(rt: HostRuntime) -> Result<(), Fail> {
+    let alloc = rt.alloc();
+    let press = name("press");
+    let ring = name("ring");
+    assert!(rt; press != ring);
+    let one = two_roots(alloc, press, ring)?;
+    let two = two_roots(alloc, ring, press)?;
+    let index = ByName::of(alloc, &two.tree)?;
+    assert_eq!(rt; index.find_same(&one.tree, one.first), Some(two.second));
+    assert_eq!(rt; index.find_same(&one.tree, one.second), Some(two.first));
+    assert_eq!(rt; index.find_same(&one.tree, one.effect), None);
+    assert_eq!(rt; index.find_same(&two.tree, two.effect), Some(two.effect));
+    Ok(())
+}
+
+#[test]
+fn an_occurrence_is_found_by_its_names(rt: HostRuntime) -> Result<(), Fail> {
+    let alloc = rt.alloc();
+    let press = name("press");
+    let ring = name("ring");
+    assert!(rt; press != ring);
+    let roots = two_roots(alloc, press, ring)?;
+    let occ = roots.tree.occ_of(alloc, roots.effect)?;
+    let index = ByName::of(alloc, &roots.tree)?;
+    assert_eq!(rt; index.find(&occ), Some(roots.effect));
+    Ok(())
+}
+
+#[test]
+fn all_numbers_are_told(rt: HostRuntime) -> Result<(), Fail> {
+    let alloc = rt.alloc();
+    let press = name("press");
+    let ring = name("ring");
+    assert!(rt; press != ring);
+    let roots = two_roots(alloc, press, ring)?;
+    let numbers = roots.tree.numbers(alloc)?;
+    let want = [roots.first, roots.second, roots.effect];
+    assert_eq!(rt; numbers.as_slice(), want.as_slice());
     Ok(())
 }

@@ -9,6 +9,7 @@ ghost use Rattle.spots.specs.Forest.{Member, IsLive, root_member, child_member, 
 ghost use Rattle.kept_tree.specs.Standing.{present, committed, forest, early, below, IsChildOf, order};
 ghost use Rattle.spots.specs.Spots.{AreTokens};
 ghost use Rattle.kept_tree.specs.Tokens.{IsInOrder, numbers_in};
+ghost use Rattle.kept_tree.specs.Dated.{DatesFollow, HaveRoots};
 ghost use Rattle.kept_tree.specs.Edits.{Enters, Withdraws, ReDates, Stays};
 
 use crate::classes::Classes;
@@ -156,17 +157,20 @@ impl Tree {
         self.nodes.limit()
     }
 
-    /// The earliest date of a node, in whole time units.
+    /// The earliest date of a node, in whole time units: that of its root and the least delays on the way.
     pub fn early(&self, x: u32) -> i64
         requires { IsLive (forest (present self.now)) x }
-        ensures { result ≡ early (present self.now) x }
+        ensures date { result ≡ early (present self.now) x }
+        ensures follow { DatesFollow (present self.now) }
     {
         self.nodes.get(x).early
     }
 
-    /// The first root, none exactly where there is none.
+    /// The first root, none exactly where there is none. No rule leads to a root, and each node is one of the
+    /// roots or below it.
     pub fn first_root(&self) -> Option<u32>
-        ensures { result ≡ first_or None (below (present self.now) None) }
+        ensures first { result ≡ first_or None (below (present self.now) None) }
+        ensures roots { HaveRoots (present self.now) }
     {
         self.nodes.first(None)
     }
@@ -192,7 +196,7 @@ impl Tree {
     /// these are one.
     pub fn tokens(&self, class: &Name) -> &[TokenRow<Spot>]
         ensures list { result.now ≡ (present self.now).tokens class.now }
-        ensures tokens { AreTokens (forest (present self.now)) class.now result.now }
+        ensures rows { AreTokens (forest (present self.now)) class.now result.now }
         ensures in_order { IsInOrder (order (present self.now)) (numbers_in result.now) }
         ensures once { IsOnce (forest (present self.now)) }
     {

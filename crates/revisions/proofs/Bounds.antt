@@ -83,10 +83,18 @@ module _ (old : Standing) (edit : Edit) (sound_old : IsSound old) (sound_new : I
       by true false e f = cc
       by false b e f = cc
 
+  -- the bounds, however it is told what waits
+  pub counted_by : (b : List Moment) (kept : Moment → List ℕ → Outcome) (queued : Moment → List ℕ → Type 0) (taken : List (Moment × List ℕ)) (d : ℤ)
+      → IsKeeping (revision (built old) (built (next_list old edit))) b kept queued taken d
+      → (length taken ≤ touched old (next_list old edit)) × (((t : Moment) (r : List ℕ) → queued t r → ⊥) → changed old (next_list old edit) ≤ length taken)
+  counted_by b kept queued taken d k = (
+    at_most g b kept queued taken all d k are,
+    λ none. at_least g b kept queued taken all d k are (lawful old edit sound_old sound_new) none (is_changed (built old) (built new)) tells,
+  )
+
   pub counted : (b : List Moment) (kept : Moment → List ℕ → Outcome) (queue taken : List (Moment × List ℕ)) (d : ℤ)
       → IsKeeping (revision (built old) (built (next_list old edit))) b kept (λ t r. In (t, r) queue) taken d
       → (length taken ≤ touched old (next_list old edit)) × (queue ≡ [] → changed old (next_list old edit) ≤ length taken)
-  counted b kept queue taken d k = (
-    at_most g b kept (λ t r. In (t, r) queue) taken all d k are,
-    λ none. at_least g b kept (λ t r. In (t, r) queue) taken all d k are (lawful old edit sound_old sound_new) (λ t r at. subst (In (t, r)) none at) (is_changed (built old) (built new)) tells,
-  )
+  counted b kept queue taken d k =
+      let bounds = counted_by b kept (λ t r. In (t, r) queue) taken d k in
+      (bounds.0, λ none. bounds.1 (λ t r at. subst (In (t, r)) none at))

@@ -36,14 +36,14 @@ firing (blocked place) e = cc
 firing beyond e = cc
 
 -- the token of what is watched
-watched_token : (s : Standing) (r : List ℕ) (x : Moment) → watches s r x ≡ true → (k : TokenRow Moment) × (token_of s x ≡ Some k) × (is_watched s r k ≡ true)
+pub watched_token : (s : Standing) (r : List ℕ) (x : Moment) → watches s r x ≡ true → (k : TokenRow Moment) × (token_of s x ≡ Some k) × (is_watched s r k ≡ true)
 watched_token s r x h = by (token_of s x) refl h
   where
     by : (o : Option (TokenRow Moment)) → token_of s x ≡ o → (elim o as (λ _. Bool) [ None ↦ false | Some k ↦ is_watched s r k ]) ≡ true → (k : TokenRow Moment) × (token_of s x ≡ Some k) × (is_watched s r k ≡ true)
     by None e h = cc
     by (Some k) e h = (k, e, h)
 
-token_watched : (s : Standing) (r : List ℕ) (x : Moment) (k : TokenRow Moment) → token_of s x ≡ Some k → is_watched s r k ≡ true → watches s r x ≡ true
+pub token_watched : (s : Standing) (r : List ℕ) (x : Moment) (k : TokenRow Moment) → token_of s x ≡ Some k → is_watched s r k ≡ true → watches s r x ≡ true
 token_watched s r x k e h = ap (λ (o : Option (TokenRow Moment)). elim o as (λ _. Bool) [ None ↦ false | Some k ↦ is_watched s r k ]) e ∙ h
 
 module _ (old : Standing) (edit : Edit) (sound_old : IsSound old) (sound_new : IsSound (next_list old edit)) where

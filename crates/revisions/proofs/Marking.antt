@@ -10,6 +10,7 @@ use Rattle.revisions.specs.Keeping.{IsKeeping, IsLeast, Waits}
 use Rattle.revisions.specs.Steps.{IsUnder, Differs, IsMarked, Makes, Stays, Enters, Withdraws, Turns, staying, entering, withdrawing}
 use Rattle.revisions.specs.Marks.{ReadsMoved, Marks, Moves}
 use Rattle.revisions.proofs.Agreeing.{live_of}
+use Rattle.revisions.proofs.Same.{outcome_or}
 use Rattle.revisions.proofs.Turning.{newly, lost, under_late}
 
 module _ (g : Revision) (laws : IsLawful g) (b : List Moment) (kept : Moment → List ℕ → Outcome) (queued : Moment → List ℕ → Type 0) (taken : List (Moment × List ℕ)) (d : ℤ)
@@ -47,22 +48,17 @@ module _ (g : Revision) (laws : IsLawful g) (b : List Moment) (kept : Moment →
         come u q at =
             elim (marks.come u q at) [
               | inl old ↦ inl old
-              | inr new ↦ inr (record { live = new.0; stands = new.1; after = after new.2; touched = λ believed. touched believed new.2 })
+              | inr (inl new) ↦ inr (record { live = new.0; stands = new.1; after = after new.2; touched = λ believed. touched believed new.1 new.2 })
+              | inr (inr marked) ↦ inr marked
             ]
           where
             after : ReadsMoved g moved u q ⊎ ((u ≡ After t r) × moved u) → g.early t <ℤ g.early u
             after (inl reads) = up (g.early reads.0) (g.early u) (m.after reads.0 reads.1) reads.3
             after (inr itself) = m.after u itself.1
 
-            touched : Contains g.believed u → ReadsMoved g moved u q ⊎ ((u ≡ After t r) × moved u) → g.touched u q ≡ true
-            touched believed (inl reads) = laws.moved_touched u q reads.0 believed (stands_of new_stands) (m.occurs reads.0 reads.1) (m.changes reads.0 reads.1) reads.2
-              where
-                new_stands : Contains (g.rules u) q
-                new_stands = elim (marks.come u q at) [ inl old ↦ (k.waits u q old.0).stands | inr new ↦ new.1 ]
-
-                stands_of : Contains (g.rules u) q → Contains (g.rules u) q
-                stands_of h = h
-            touched believed (inr itself) = elim (m.changes u itself.1) [
+            touched : Contains g.believed u → Contains (g.rules u) q → ReadsMoved g moved u q ⊎ ((u ≡ After t r) × moved u) → g.touched u q ≡ true
+            touched believed stands (inl reads) = laws.moved_touched u q reads.0 believed stands (m.occurs reads.0 reads.1) (m.changes reads.0 reads.1) reads.2
+            touched believed stands (inr itself) = elim (m.changes u itself.1) [
               | inl new ↦ laws.new_touched u q (not_was (g.was u q) refl new.not_before)
               | inr gone ↦ absurd (gone.not_now believed)
             ]
@@ -75,12 +71,19 @@ module _ (g : Revision) (laws : IsLawful g) (b : List Moment) (kept : Moment →
         unmarked u q before now stands differs =
             elim (test u q now stands) [
               | inl waits ↦ inl waits
-              | inr free ↦ inr (laws.rests c b m.live (live_of g laws b kept queued taken d k) u q (m.live u now) stands
-                  (λ x by_u reads. (
-                    (λ at. elim ((m.rest x).1 at) [ inl there ↦ there | inr moves ↦ absurd (free (marks.all u q now stands (x, moves, reads, by_u))) ]),
-                    (λ at. elim ((m.rest x).0 at) [ inl there ↦ there | inr moves ↦ absurd (free (marks.all u q now stands (x, moves, reads, by_u))) ]),
-                  )))
+              | inr free ↦ elim (outcome_or (g.outcome c u q) (g.outcome b u q)) [
+                | inl same ↦ inr same
+                | inr other ↦ inr (laws.rests c b m.live (live_of g laws b kept queued taken d k) u q (m.live u now) stands
+                    (λ x by_u reads. (
+                      (λ at. elim ((m.rest x).1 at) [ inl there ↦ there | inr moves ↦ absurd (unread free other x moves reads by_u) ]),
+                      (λ at. elim ((m.rest x).0 at) [ inl there ↦ there | inr moves ↦ absurd (unread free other x moves reads by_u) ]),
+                    )))
+              ]
             ]
+          where
+            -- what is not marked, and has another outcome, reads nothing that moved
+            unread : (queued_after u q → ⊥) → (g.outcome c u q ≡ g.outcome b u q → ⊥) → (x : Moment) → moved x → g.reads u q x ≡ true → g.early x ≤ℤ g.early u → ⊥
+            unread free other x moves reads by_u = elim (marks.all u q now stands (x, moves, reads, by_u)) [ inl waits ↦ free waits | inr same ↦ other same ]
 
   -- ---- the three kinds
 

@@ -1,10 +1,12 @@
--- Whether two decisions are one.
+-- Whether two decisions are one, and two outcomes.
 use Rattle.std.proofs.Common.{◌≡◌, ℕ, Bool, true, false, ◌&&◌, List, [], ◌∷◌, refl, ap, inl, inr}
+use Rattle.std.proofs.lemmas.Bool.Decides.{eqb_tells}
 use Rattle.std.specs.Prelude.{◌⊎◌}
 use Rattle.std.specs.Cmp.Lexicographic.{bytes_decides}
 use Rattle.tmm_model.specs.Moments.{Moment, same_moment}
 use Rattle.tmm_model.specs.Points.{same_name}
 use Rattle.list_theory.proofs.Elements.{In, both}
+use Rattle.belief_theory.specs.Outcomes.{Outcome, fires, blocked, beyond}
 use Rattle.belief_theory.proofs.Moments.{Decides-same_moment}
 use Rattle.revisions.specs.Steps.{Differs}
 
@@ -35,3 +37,26 @@ moment_or x y = by (same_moment x y) refl
     by : (v : Bool) → same_moment x y ≡ v → (x ≡ y) ⊎ (x ≡ y → ⊥)
     by true e = inl ((Decides-same_moment x y).0 e)
     by false e = inr (λ same. let f : same_moment x y ≡ true = (Decides-same_moment x y).1 same in cc)
+
+moments_or : (ks ls : List Moment) → (ks ≡ ls) ⊎ (ks ≡ ls → ⊥)
+moments_or [] [] = inl refl
+moments_or [] (l ∷ ls) = inr (λ same. cc)
+moments_or (k ∷ ks) [] = inr (λ same. cc)
+moments_or (k ∷ ks) (l ∷ ls) = by (moment_or k l) (moments_or ks ls)
+  where
+    by : (k ≡ l) ⊎ (k ≡ l → ⊥) → (ks ≡ ls) ⊎ (ks ≡ ls → ⊥) → (k ∷ ks ≡ l ∷ ls) ⊎ (k ∷ ks ≡ l ∷ ls → ⊥)
+    by (inl first) (inl rest) = inl (λ i. first i ∷ rest i)
+    by (inr other) rest = inr (λ same. let first : k ≡ l = cc in other first)
+    by (inl first) (inr other) = inr (λ same. let rest : ks ≡ ls = cc in other rest)
+
+-- two outcomes are one, or aren't
+pub outcome_or : (o p : Outcome) → (o ≡ p) ⊎ (o ≡ p → ⊥)
+outcome_or (fires ks) (fires ls) = elim (moments_or ks ls) [ inl same ↦ inl (ap fires same) | inr other ↦ inr (λ same. let inner : ks ≡ ls = cc in other inner) ]
+outcome_or (blocked m) (blocked n) = elim (eqb_tells m n) [ inl same ↦ inl (ap blocked same.1) | inr other ↦ inr (λ same. let inner : m ≡ n = cc in other.1 inner) ]
+outcome_or beyond beyond = inl refl
+outcome_or (fires ks) (blocked n) = inr (λ same. cc)
+outcome_or (fires ks) beyond = inr (λ same. cc)
+outcome_or (blocked m) (fires ls) = inr (λ same. cc)
+outcome_or (blocked m) beyond = inr (λ same. cc)
+outcome_or beyond (fires ls) = inr (λ same. cc)
+outcome_or beyond (blocked n) = inr (λ same. cc)

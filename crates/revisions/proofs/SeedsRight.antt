@@ -53,7 +53,7 @@ within_from : (xs ys : List (TokenRow Moment)) → ((k : TokenRow Moment) → In
 within_from xs ys sub = In-list_all (λ k. list_any (same_token k) ys) xs (λ k at. In-list_any (same_token k) ys k (sub k at) (token_itself k))
 
 -- where two maps are alike for a decision that the first has, it is not touched
-untouched_from : (m n : TimeMap) (t : Moment) (r : List ℕ) → is_decision m (t, r) ≡ true → m.list.horizon ≡ n.list.horizon
+pub untouched_from : (m n : TimeMap) (t : Moment) (r : List ℕ) → is_decision m (t, r) ≡ true → m.list.horizon ≡ n.list.horizon
     → ((k : TokenRow Moment) → In k (watched m r) → In k (watched n r)) → ((k : TokenRow Moment) → In k (watched n r) → In k (watched m r))
     → ((p q : Moment) → In p (watched_points n t r) → In q (watched_points n t r) → gap m p q ≡ gap n p q)
     → is_touched m n (t, r) ≡ false
@@ -73,10 +73,10 @@ untouched_from m n t r was horizon into back gaps =
     all_true true true false d e f g h = cc
     all_true true true true false e f g h = cc
 
-abbrev points_among : Moment → List (TokenRow Moment) → List Moment
+abbrev pub points_among : Moment → List (TokenRow Moment) → List Moment
 points_among t ks = At Start ∷ t ∷ map (λ k. k.spot) ks ++ filter_map (λ k. k.end) ks
 
-among_more : (t : Moment) (ks ls : List (TokenRow Moment)) → ((k : TokenRow Moment) → In k ks → In k ls) → (p : Moment) → In p (points_among t ks) → In p (points_among t ls)
+pub among_more : (t : Moment) (ks ls : List (TokenRow Moment)) → ((k : TokenRow Moment) → In k ks → In k ls) → (p : Moment) → In p (points_among t ks) → In p (points_among t ls)
 among_more t ks ls sub p (inl is) = inl is
 among_more t ks ls sub p (inr (inl is)) = inr (inl is)
 among_more t ks ls sub p (inr (inr at)) =
@@ -89,7 +89,7 @@ module _ (old : Standing) (edit : Edit) (sound_old : IsSound old) (sound_new : I
   abbrev new : Standing
   new = next_list old edit
 
-  seed_occurs : (x : Moment) → Contains b x → Occurs new x
+  pub seed_occurs : (x : Moment) → Contains b x → Occurs (next_list old edit) x
   seed_occurs (At p) at = (seeds.root p).0 at
   seed_occurs (After t r) at = ((seeds.derived t r).0 at).1
 

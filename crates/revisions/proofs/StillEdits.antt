@@ -66,10 +66,15 @@ span_end s k (Some (Dist name from to lo hi)) is fact e = cc
 span_end s k (Some (Rule name trigger lo hi effect given)) is fact e = cc
 span_end s k (Some (Protect name fact_ from to)) is fact e = cc
 
-anchor_point : (s : Standing) (p : PointName) → IsAnchor s p → In p (points_in s.premises)
+pub anchor_point : (s : Standing) (p : PointName) → IsAnchor s p → In p (points_in s.premises)
 anchor_point s Start at = inl refl
 anchor_point s (Begin k) at = root_points s k at
 anchor_point s (End k) at = span_end s k (premise_in s.premises k) refl at.0 at.1
+
+-- the declared point of an occurrence is a root
+pub base_root : (s : Standing) (x : Moment) → Occurs s x → Contains (roots s) (At (base x))
+base_root s (At p) at = at
+base_root s (After u r) at = base_root s u at.0
 
 module _ (s t : Standing) (say : SayAlike s t) where
   anchor_over : (p : PointName) → IsAnchor s p → IsAnchor t p
@@ -113,10 +118,6 @@ module _ (s t : Standing) (say : SayAlike s t) where
   occurs_over (At p) at = subst (λ l. Contains l (At p)) say.declared at
   occurs_over (After u r) at = (occurs_over u at.0, subst (λ l. Contains l r) (rules_same s t say u) at.1)
 
-  base_root : (x : Moment) → Occurs s x → Contains (roots s) (At (base x))
-  base_root (At p) at = at
-  base_root (After u r) at = base_root u at.0
-
   module _ (net after : Net) (f : Forest) (of_t : IsNetOf t after) (keep : PointsKeepNumbers (points_in t.premises) net.names after.names) (seen : IsSeen s net f) where
     number_stays : (n : ℕ) (p : PointName) → IsAnchor s p → IsNumberOf net.names n p → IsNumberOf after.names n p
     number_stays n p at is = keep n p (Contains-from_In (points_in t.premises) p (anchor_point t p (anchor_over p at))) is
@@ -137,7 +138,7 @@ module _ (s t : Standing) (say : SayAlike s t) where
         let own = seen.members x m at in
         record {
           occurs = occurs_over (moment m) own.occurs;
-          begin = number_stays m.begin (Begin m.root) (subst (λ p. Contains (roots s) (At p)) (base-moment m) (base_root (moment m) own.occurs)) own.begin;
+          begin = number_stays m.begin (Begin m.root) (subst (λ p. Contains (roots s) (At p)) (base-moment m) (base_root s (moment m) own.occurs)) own.begin;
           «end» = end_stays m own.is m.end own.end;
           links = All-from_contains (IsLinkOf t) m.links (λ l there.
               (let link : IsLinkOf s l = All-contains (IsLinkOf s) m.links l own.links there in

@@ -14,11 +14,12 @@ use Rattle.list_theory.specs.WellNamed.{IsSound}
 use Rattle.belief_theory.specs.Right.{Occurs}
 use Rattle.tmm_model.specs.Standing.{Standing}
 use Rattle.belief_theory.specs.Touched.{same_tokens, watched, watched_points, same_gaps, is_decision, is_touched}
-use Rattle.list_theory.proofs.Distinct.{sum_inside}
+use Rattle.list_theory.proofs.Distinct.{Distinct, sum_inside}
 use Rattle.list_theory.proofs.Elements.{In, In-from_Contains, Contains-from_In, list_any-In, In-list_any}
 use Rattle.belief_theory.proofs.Moments.{Decides-same_moment}
 use Rattle.belief_theory.proofs.SoundBeliefs.{believed_occurs}
 use Rattle.spots.specs.Seen.{map_of}
+use Rattle.revisions.specs.Counted.{AreSeeds}
 use Rattle.revisions.specs.Revisions.{Revision, IsLawful, IsNew, IsLost}
 use Rattle.revisions.specs.Keeping.{IsKeeping, IsTold}
 use Rattle.revisions.specs.Steps.{Turns, staying, entering, withdrawing}
@@ -107,6 +108,33 @@ module _ (old : Standing) (edit : Edit) (sound_old : IsSound old) (sound_new : I
   true_or true = inl refl
   true_or false = inr refl
 
+  -- what is told at the beginning: that all derived occurrences left that occur no longer
+  pub told_first : (b left : List Moment) → AreSeeds old (next_list old edit) b
+      → ((t : Moment) (r : List ℕ) → In (After t r) left ↔ (Contains (built old).believed (After t r) × (Occurs (next_list old edit) (After t r) → ⊥)))
+      → ((x : Moment) → In x left → (t : Moment) × (r : List ℕ) × (x ≡ After t r)) → Distinct left
+      → IsTold (revision (built old) (built (next_list old edit))) b [] left
+  told_first b left seeds gone derived once = record {
+    new = λ x at. absurd at;
+    lost = lost_of;
+    entered = λ t r at. inl ((seeds.derived t r).0 at).0;
+    left = λ t r before. elim (occurs_or new (After t r)) [ inl of ↦ inl ((seeds.derived t r).1 (before, of)) | inr not_of ↦ inr ((gone t r).1 (before, not_of)) ];
+    live = λ x at. absurd at;
+    gone = not_live;
+    once_entered = tt;
+    once_left = once;
+  }
+    where
+      lost_of : (x : Moment) → In x left → IsLost g x
+      lost_of x at =
+          let (t, r, is) = derived x at in
+          let h = (gone t r).0 (subst (λ z. In z left) is at) in
+          subst (IsLost g) (sym is) (record { before = h.0; not_now = λ now. h.1 (believed_occurs new sound_new (After t r) now) })
+
+      not_live : (x : Moment) → In x left → Contains b x → ⊥
+      not_live x at live =
+          let (t, r, is) = derived x at in
+          ((gone t r).0 (subst (λ z. In z left) is at)).1 ((seeds.derived t r).0 (subst (Contains b) is live)).1
+
   module _ (s : State) (begins : Begins old (next_list old edit) s) where
     new_touched : (n : TimeMap) (t : Moment) (r : List ℕ) → is_decision (built old) (t, r) ≡ false → is_touched (built old) n (t, r) ≡ true
     new_touched n t r e = by (is_decision (built old) (t, r)) (old.horizon == n.list.horizon) (same_tokens (watched (built old) r) (watched n r)) (same_gaps (built old) n (watched_points n t r)) e
@@ -136,31 +164,8 @@ module _ (old : Standing) (edit : Edit) (sound_old : IsSound old) (sound_new : I
     first_keeps = record {
       date = negsuc 0;
       keeping = subst (λ made. IsKeeping g s.nodes s.kept (Waiting s) made (negsuc 0)) (sym begins.none_taken) (seeded g laws s.nodes s.kept (Waiting s) is_seeded);
-      told = subst (λ ins. IsTold g s.nodes ins s.left) (sym begins.none_entered) told_first;
+      told = subst (λ ins. IsTold g s.nodes ins s.left) (sym begins.none_entered) (told_first s.nodes s.left begins.seeds begins.gone begins.gone_derived begins.gone_once);
     }
-      where
-        lost_of : (x : Moment) → In x s.left → IsLost g x
-        lost_of x at =
-            let (t, r, is) = begins.gone_derived x at in
-            let h = (begins.gone t r).0 (subst (λ z. In z s.left) is at) in
-            subst (IsLost g) (sym is) (record { before = h.0; not_now = λ now. h.1 (believed_occurs new sound_new (After t r) now) })
-
-        not_live : (x : Moment) → In x s.left → Contains s.nodes x → ⊥
-        not_live x at live =
-            let (t, r, is) = begins.gone_derived x at in
-            ((begins.gone t r).0 (subst (λ z. In z s.left) is at)).1 ((begins.seeds.derived t r).0 (subst (Contains s.nodes) is live)).1
-
-        told_first : IsTold g s.nodes [] s.left
-        told_first = record {
-          new = λ x at. absurd at;
-          lost = lost_of;
-          entered = λ t r at. inl ((begins.seeds.derived t r).0 at).0;
-          left = λ t r before. elim (occurs_or new (After t r)) [ inl of ↦ inl ((begins.seeds.derived t r).1 (before, of)) | inr not_of ↦ inr ((begins.gone t r).1 (before, not_of)) ];
-          live = λ x at. absurd at;
-          gone = not_live;
-          once_entered = tt;
-          once_left = begins.gone_once;
-        }
 
     module _ (last : State) (reaches : Reaches g s last) where
       k : Keeps g laws last

@@ -6,24 +6,25 @@ use Rattle.tmm_model.specs.Moments.{Moment, After}
 use Rattle.list_theory.proofs.Elements.{In}
 use Rattle.revisions.specs.Revisions.{Revision, IsLawful}
 use Rattle.revisions.specs.Keeping.{IsKeeping, IsLeast}
-use Rattle.revisions.specs.Steps.{IsUnder, Differs, Makes, Enters, Withdraws, Stays, Turns}
+use Rattle.revisions.specs.Steps.{IsUnder, Differs, IsMarked, Makes, Enters, Withdraws, Stays, Turns}
 
 -- the decision reads an occurrence that moved, and is no earlier
 abbrev pub ReadsMoved : Revision → (Moment → Type 0) → Moment → List ℕ → Type 0
 ReadsMoved g moved u q = (x : Moment) × moved x × (g.reads u q x ≡ true) × (g.early x ≤ℤ g.early u)
 
 -- What a turn does in the code's terms. The row of r at t gets the outcome; other rows keep theirs; each decision that waited
--- waits on where its event stays; besides these wait the decisions that read what moved, and those on a new event.
+-- waits on where its event stays; besides these wait those that read what moved, and those on a new event.
 pub record Marks (g : Revision) (b c : List Moment) (kept kept_after : Moment → List ℕ → Outcome)
     (queued queued_after : Moment → List ℕ → Type 0) (t : Moment) (r : List ℕ) (moved : Moment → Type 0) : Type 0 where
   pub now : kept_after t r ≡ g.outcome b t r
   pub others : (u : Moment) (q : List ℕ) → Contains b u → Contains c u → Contains (g.rules u) q → Differs t r u q → kept_after u q ≡ kept u q
   pub stay : (u : Moment) (q : List ℕ) → queued u q → Contains c u → Differs t r u q → queued_after u q
-  -- each that reads what moved waits
-  pub all : (u : Moment) (q : List ℕ) → Contains c u → Contains (g.rules u) q → ReadsMoved g moved u q → queued_after u q
-  -- and nothing else
+  -- each that reads what moved waits, but where its outcome is the same
+  pub all : (u : Moment) (q : List ℕ) → Contains c u → Contains (g.rules u) q → ReadsMoved g moved u q → queued_after u q ⊎ (g.outcome c u q ≡ g.outcome b u q)
+  -- and nothing else but what may be marked
   pub come : (u : Moment) (q : List ℕ) → queued_after u q
-      → (queued u q × Contains c u × Differs t r u q) ⊎ (Contains c u × Contains (g.rules u) q × (ReadsMoved g moved u q ⊎ ((u ≡ After t r) × moved u)))
+      → (queued u q × Contains c u × Differs t r u q)
+      ⊎ ((Contains c u × Contains (g.rules u) q × (ReadsMoved g moved u q ⊎ ((u ≡ After t r) × moved u))) ⊎ IsMarked g c t u q)
 
 -- what moves: the effect alone, or all of it that is live, or nothing
 abbrev pub Moves : Revision → List Moment → (Moment → List ℕ → Outcome) → Moment → List ℕ → List Moment → (Moment → List ℕ → Outcome) → (Moment → List ℕ → Type 0) → (Moment → Type 0) → Type 0

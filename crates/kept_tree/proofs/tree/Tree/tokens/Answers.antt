@@ -9,8 +9,8 @@ use Rattle.kept_tree.proofs.Finding.{one_number}
 use Rattle.kept_tree.proofs.Keeping.{tokens_of, order_of}
 use Rattle.kept_tree.proofs.tree.Tree.tokens.Goals as goal
 
-pub returns-in-Some-clause-tokens : goal.returns-in-Some-clause-tokens
-returns-in-Some-clause-tokens c =
+pub returns-in-Some-clause-rows : goal.returns-in-Some-clause-rows
+returns-in-Some-clause-rows c =
     let names = c.self.inside.classes in
     let node = nodes_in (present_rows c.self.inside.nodes) in
     let rows = lists.present c.self.inside.tokens in
@@ -27,8 +27,8 @@ returns-in-Some-clause-in_order c =
     subst (λ (k : Kept). IsInOrder (order (present k)) (numbers_in c.list.result.now)) c.self.view_is
     (subst (λ l. IsInOrder (order (present (record { nodes = c.self.inside.nodes; classes = names; tokens = c.self.inside.tokens }))) (numbers_in l)) is (order_of names node rows c.self.invariant.now c.args.class.now))
 
-pub returns-in-None-clause-tokens : goal.returns-in-None-clause-tokens
-returns-in-None-clause-tokens c =
+pub returns-in-None-clause-rows : goal.returns-in-None-clause-rows
+returns-in-None-clause-rows c =
     let names = c.self.inside.classes in
     let node = nodes_in (present_rows c.self.inside.nodes) in
     let rows = lists.present c.self.inside.tokens in

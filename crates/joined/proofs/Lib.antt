@@ -1,0 +1,15 @@
+pub mod Leaving
+pub mod Staying
+pub mod Deciding
+pub mod Supporters
+pub mod Starting
+pub mod Preparing
+pub mod Netted
+pub mod CodeTurning
+pub mod CodeTurns
+pub mod Telling
+pub mod Entering
+pub mod Kept
+pub mod Listed
+pub mod Marking
+pub mod Touching

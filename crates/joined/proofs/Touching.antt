@@ -1,0 +1,196 @@
+-- Which rows wait at the beginning.
+use Rattle.std.proofs.Common.{◌≡◌, ◌∙◌, ℕ, Bool, true, false, not, ◌||◌, ◌==◌, List, refl, sym, subst, inl, inr}
+use Rattle.std.proofs.lemmas.Bool.Decides.{eqb_tells}
+use Rattle.std.specs.Prelude.{◌⊎◌, ◌≢◌, Some, pos, int_le}
+use Rattle.std.specs.List.{Contains}
+use Rattle.tmm_model.specs.declared.premise.Edit.{Edit}
+use Rattle.tmm_model.specs.declared.premise.Edit.TheVariants.{Horizon}
+use Rattle.tmm_model.specs.declared.token.TokenRow.{TokenRow}
+use Rattle.tmm_model.specs.Beliefs.{due, class_of, rules_at, token_of}
+use Rattle.tmm_model.specs.Edits.{next_list, list_until}
+use Rattle.tmm_model.specs.Maps.{built, gap, believed_tokens}
+use Rattle.tmm_model.specs.Moments.{Moment, At, After, RuleText, rule_of}
+use Rattle.tmm_model.specs.Points.{same_name}
+use Rattle.tmm_model.specs.Standing.{Standing, far_in}
+use Rattle.list_theory.specs.WellNamed.{IsSound}
+use Rattle.list_theory.proofs.Elements.{In, In-from_Contains, Contains-from_In, In-filter, filter-In, In-filter_map, filter_map-In, list_any-In, In-list_any}
+use Rattle.belief_theory.specs.Outcomes.{outcome}
+use Rattle.belief_theory.specs.Right.{Occurs}
+use Rattle.belief_theory.specs.Touched.{is_decision, is_touched, same_tokens, same_gaps, watched, watched_points}
+use Rattle.belief_theory.proofs.OneRight.{spot-token_of}
+use Rattle.belief_theory.proofs.SoundBeliefs.{believed_right, believed_occurs}
+use Rattle.belief_theory.proofs.Untouched.{Alike, untouched_alike, untouched_stood}
+use Rattle.spots.specs.Forest.{Forest, moment_at}
+use Rattle.spots.specs.Seen.{Holds, map_of}
+use Rattle.spots.proofs.Nodes.{node_at, moment_at-is}
+use Rattle.revisions.specs.Counted.{AreSeeds}
+use Rattle.revisions.specs.Maps.{revision, is_watched, watches}
+use Rattle.revisions.specs.Revisions.{Revision, IsOf}
+use Rattle.revisions.proofs.Lawful.{lawful, text, watched_token, token_watched, watched_back, decided, occurs_of}
+use Rattle.revisions.proofs.SeedsRight.{keeps, seed_occurs, untouched_from, among_more}
+use Rattle.revisions.proofs.Tokens.{tokens_stay, classes_stay}
+use Rattle.joined.specs.Rows.{Row, Rows, AreRowsOf}
+use Rattle.joined.specs.Starting.{AreMarked}
+use Rattle.joined.specs.Touching.{IsUntouched}
+use Rattle.joined.proofs.Starting.{horizons_keep}
+
+-- ---- a decision is not touched exactly where it is said so
+
+module _ (old : Standing) (edit : Edit) (sound_old : IsSound old) (sound_new : IsSound (next_list old edit)) (b : List Moment) (seeds : AreSeeds old (next_list old edit) b)
+    (t : Moment) (r : List ℕ) (stands : Contains (rules_at (next_list old edit) t) r) where
+  abbrev new : Standing
+  new = next_list old edit
+
+  -- a token that the rule reads by the old list it reads by the new one
+  watched_on : (k : TokenRow Moment) → Contains (rules_at old t) r → rule_of old r ≡ rule_of new r → is_watched old r k ≡ true → is_watched new r k ≡ true
+  watched_on k before same h =
+      let (f, at, of_class) = list_any-In (λ fact. same_name (class_of old fact) k.class) (rule_of old r).given h in
+      let at_new : In f (rule_of new r).given = subst (λ (x : RuleText). In f x.given) same at in
+      let class : class_of old f ≡ class_of new f = classes_stay old edit sound_old sound_new t r f before stands at at_new in
+      In-list_any (λ fact. same_name (class_of new fact) k.class) (rule_of new r).given f at_new (subst (λ c. same_name c k.class ≡ true) class of_class)
+
+  old_token : (x : Moment) (k : TokenRow Moment) → Contains (built old).believed x → token_of old x ≡ Some k → is_watched old r k ≡ true → In k (watched (built old) r)
+  old_token x k believed e h = filter-In (is_watched old r) (believed_tokens (built old)) k (filter_map-In (token_of old) (built old).believed x k (In-from_Contains (built old).believed x believed) e) h
+
+  new_token : (x : Moment) (k : TokenRow Moment) → Contains b x → token_of new x ≡ Some k → is_watched new r k ≡ true → In k (watched (map_of new b) r)
+  new_token x k at e h = filter-In (is_watched new r) (believed_tokens (map_of new b)) k (filter_map-In (token_of new) b x k (In-from_Contains b x at) e) h
+
+  of_old : (k : TokenRow Moment) → In k (watched (built old) r) → (x : Moment) × Contains (built old).believed x × (token_of old x ≡ Some k) × (is_watched old r k ≡ true)
+  of_old k at =
+      let h = In-filter (is_watched old r) (believed_tokens (built old)) k at in
+      let (x, there, e) = In-filter_map (token_of old) (built old).believed k h.0 in
+      (x, Contains-from_In (built old).believed x there, e, h.1)
+
+  of_new : (k : TokenRow Moment) → In k (watched (map_of new b) r) → (x : Moment) × Contains b x × (token_of new x ≡ Some k) × (is_watched new r k ≡ true)
+  of_new k at =
+      let h = In-filter (is_watched new r) (believed_tokens (map_of new b)) k at in
+      let (x, there, e) = In-filter_map (token_of new) b k h.0 in
+      (x, Contains-from_In b x there, e, h.1)
+
+  -- what occurs in both lists is one token in both
+  one_token : (x : Moment) → Contains (built old).believed x → Contains b x → token_of old x ≡ token_of new x
+  one_token x believed at = tokens_stay old edit sound_old sound_new x (believed_occurs old sound_old x believed) (seed_occurs old edit sound_old sound_new b seeds x at)
+
+  pub untouched_false : IsUntouched old (next_list old edit) b t r → is_touched (built old) (map_of (next_list old edit) b) (t, r) ≡ false
+  untouched_false u = untouched_from (built old) (map_of new b) t r (decided old edit sound_old sound_new (built old) t r u.was.0 u.was.1) u.horizon into back u.gaps
+    where
+      same : rule_of old r ≡ rule_of new r
+      same = text old edit sound_old sound_new t r u.was.1 stands
+
+      into : (k : TokenRow Moment) → In k (watched (built old) r) → In k (watched (map_of new b) r)
+      into k at =
+          let (x, believed, e, h) = of_old k at in
+          let there = u.left x believed (token_watched old r x k e h) in
+          new_token x k there (sym (one_token x believed there) ∙ e) (watched_on k u.was.1 same h)
+
+      back : (k : TokenRow Moment) → In k (watched (map_of new b) r) → In k (watched (built old) r)
+      back k at =
+          let (x, there, e, h) = of_new k at in
+          let believed = u.entered x there (token_watched new r x k e h) in
+          old_token x k believed (one_token x believed there ∙ e) (watched_back old edit sound_old sound_new t r k u.was.1 stands same h)
+
+  pub false_untouched : is_touched (built old) (map_of (next_list old edit) b) (t, r) ≡ false → IsUntouched old (next_list old edit) b t r
+  false_untouched h = record { was = stood; horizon = alike.horizon; left = left; entered = entered; gaps = gaps }
+    where
+      stood : Contains (built old).believed t × Contains (rules_at old t) r
+      stood = untouched_stood (built old) (map_of new b) t r h
+
+      alike : Alike (built old) (map_of new b) t r
+      alike = untouched_alike (built old) (map_of new b) t r (text old edit sound_old sound_new t r stood.1 stands) h
+
+      left : (x : Moment) → Contains (built old).believed x → watches old r x ≡ true → Contains b x
+      left x believed reads =
+          let (k, e, watched_k) = watched_token old r x reads in
+          let (y, there, f, _) = of_new k (alike.into k (old_token x k believed e watched_k)) in
+          subst (Contains b) (sym (spot-token_of new y k f) ∙ spot-token_of old x k e) there
+
+      entered : (x : Moment) → Contains b x → watches new r x ≡ true → Contains (built old).believed x
+      entered x there reads =
+          let (k, e, watched_k) = watched_token new r x reads in
+          let (y, believed, f, _) = of_old k (alike.back k (new_token x k there e watched_k)) in
+          subst (Contains (built old).believed) (sym (spot-token_of old y k f) ∙ spot-token_of new x k e) believed
+
+      gaps : (p q : Moment) → In p (watched_points (map_of new b) t r) → In q (watched_points (map_of new b) t r) → gap (built old) p q ≡ gap (map_of new b) p q
+      gaps p q at_p at_q =
+          alike.gaps p q (among_more t (watched (map_of new b) r) (watched (built old) r) alike.back p at_p) (among_more t (watched (map_of new b) r) (watched (built old) r) alike.back q at_q)
+
+pub touched_marked : (old : Standing) (edit : Edit) (b : List Moment) (f : Forest) (rows : Rows)
+    → IsSound old → IsSound (next_list old edit) → AreSeeds old (next_list old edit) b → AreRowsOf (next_list old edit) f rows
+    → ((i : ℕ) (q : Row) → rows i ≡ Some q → (q.waits ≡ true) ⊎ IsUntouched old (next_list old edit) b (moment_at f q.trigger) q.rule)
+    → ((i : ℕ) (q : Row) → rows i ≡ Some q → q.waits ≡ true → IsUntouched old (next_list old edit) b (moment_at f q.trigger) q.rule → ⊥)
+    → AreMarked old (next_list old edit) b f rows
+touched_marked old edit b f rows sound_old sound_new seeds are all only = record { right = right; touched = touched }
+  where
+    right : (i : ℕ) (q : Row) → rows i ≡ Some q → (q.waits ≡ true)
+        ⊎ (outcome old (far_in old.premises) (built old).believed (moment_at f q.trigger) q.rule ≡ outcome (next_list old edit) (far_in (next_list old edit).premises) b (moment_at f q.trigger) q.rule)
+    right i q at = elim (all i q at) [
+      | inl waits ↦ inl waits
+      | inr free ↦ inr (
+          let stands = (are.own i q at).1 in
+          keeps old edit sound_old sound_new b seeds (moment_at f q.trigger) q.rule stands (untouched_false old edit sound_old sound_new b seeds (moment_at f q.trigger) q.rule stands free))
+    ]
+
+    touched : (i : ℕ) (q : Row) → rows i ≡ Some q → q.waits ≡ true
+        → (is_touched (built old) (map_of (next_list old edit) b) (moment_at f q.trigger, q.rule) ≡ true) ⊎ (is_touched (built old) (built (next_list old edit)) (moment_at f q.trigger, q.rule) ≡ true)
+    touched i q at waits = by (is_touched (built old) (map_of (next_list old edit) b) (moment_at f q.trigger, q.rule)) refl
+      where
+        by : (v : Bool) → is_touched (built old) (map_of (next_list old edit) b) (moment_at f q.trigger, q.rule) ≡ v
+            → (is_touched (built old) (map_of (next_list old edit) b) (moment_at f q.trigger, q.rule) ≡ true) ⊎ (is_touched (built old) (built (next_list old edit)) (moment_at f q.trigger, q.rule) ≡ true)
+        by true e = inl e
+        by false e = absurd (only i q at waits (false_untouched old edit sound_old sound_new b seeds (moment_at f q.trigger) q.rule (are.own i q at).1 e))
+
+-- ---- another horizon
+
+module _ (old : Standing) (n : ℕ) (b : List Moment) (f : Forest) (rows : Rows) (sound_old : IsSound old) (sound_new : IsSound (list_until old n)) (in_b : Holds b f)
+    (seeds : AreSeeds old (list_until old n) b) (are : AreRowsOf (list_until old n) f rows)
+    (all : (i : ℕ) (q : Row) → rows i ≡ Some q → (q.waits ≡ true)
+    ⊎ (int_le (due old (far_in old.premises) (moment_at f q.trigger) q.rule) (pos old.horizon) ≡ int_le (due old (far_in old.premises) (moment_at f q.trigger) q.rule) (pos n)))
+    (only : (i : ℕ) (q : Row) → rows i ≡ Some q → q.waits ≡ true → old.horizon ≢ n) where
+  abbrev R : Revision
+  R = revision (built old) (built (list_until old n))
+
+  -- the same occurs
+  occurs_until : (x : Moment) → Occurs old x → Occurs (list_until old n) x
+  occurs_until (At p) h = h
+  occurs_until (After t r) h = (occurs_until t h.0, h.1)
+
+  -- the nodes are what was believed
+  into : (x : Moment) → Contains (built old).believed x → Contains b x
+  into (At p) at = (seeds.root p).1 ((believed_right old sound_old (At p)).0 at)
+  into (After t r) at = (seeds.derived t r).1 (at, occurs_until (After t r) (believed_occurs old sound_old (After t r) at))
+
+  back : (x : Moment) → Contains b x → Contains (built old).believed x
+  back (At p) at = (believed_right old sound_old (At p)).1 ((seeds.root p).0 at)
+  back (After t r) at = ((seeds.derived t r).0 at).0
+
+  is_of : (x : Moment) → Contains b x → IsOf R x
+  is_of x at = occurs_of old (Horizon n) sound_old sound_new x (seed_occurs old (Horizon n) sound_old sound_new b seeds x at)
+
+  right : (i : ℕ) (q : Row) → rows i ≡ Some q → (q.waits ≡ true)
+      ⊎ (outcome old (far_in old.premises) (built old).believed (moment_at f q.trigger) q.rule ≡ outcome (list_until old n) (far_in old.premises) b (moment_at f q.trigger) q.rule)
+  right i q at = elim (all i q at) [
+    | inl waits ↦ inl waits
+    | inr same ↦ inr (
+        let (m, there) = node_at f q.trigger (are.own i q at).0 in
+        let live = subst (Contains b) (sym (moment_at-is f q.trigger m there)) (in_b.own q.trigger m there) in
+        horizons_keep old n (far_in old.premises) (built old).believed (moment_at f q.trigger) q.rule same
+        ∙ (lawful old (Horizon n) sound_old sound_new).rests (built old).believed b (λ x here. is_of x (into x here)) is_of
+        (moment_at f q.trigger) q.rule (is_of (moment_at f q.trigger) live) (are.own i q at).1 (λ x _ _. (into x, back x)))
+  ]
+
+  touched : (i : ℕ) (q : Row) → rows i ≡ Some q → q.waits ≡ true → is_touched (built old) (map_of (list_until old n) b) (moment_at f q.trigger, q.rule) ≡ true
+  touched i q at waits = elim (eqb_tells old.horizon n) [
+    | inl same ↦ absurd (only i q at waits same.1)
+    | inr other ↦
+        by (is_decision (built old) (moment_at f q.trigger, q.rule)) (old.horizon == n)
+        (same_tokens (watched (built old) q.rule) (watched (map_of (list_until old n) b) q.rule))
+        (same_gaps (built old) (map_of (list_until old n) b) (watched_points (map_of (list_until old n) b) (moment_at f q.trigger) q.rule)) other.0
+  ]
+    where
+      by : (a b c d : Bool) → b ≡ false → (not a || not b || not c || not d) ≡ true
+      by true false c d e = refl
+      by false false c d e = refl
+      by a true c d e = cc
+
+  pub horizons_marked : AreMarked old (list_until old n) b f rows
+  horizons_marked = record { right = right; touched = λ i q at waits. inl (touched i q at waits) }

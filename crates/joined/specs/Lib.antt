@@ -1,0 +1,10 @@
+pub mod Rows
+pub mod Nodes
+pub mod Netted
+pub mod Starting
+pub mod Turning
+pub mod Telling
+pub mod Kept
+pub mod Listed
+pub mod Marking
+pub mod Touching

@@ -1,0 +1,46 @@
+-- Rows on the lists of classes: those that may read a node.
+use Rattle.std.specs.Prelude.{◌≡◌, ◌↔◌, ℕ, ◌+◌, ◌<◌, ◌≤◌, true, List, map, length, Option, Some}
+use Rattle.tmm_model.specs.Beliefs.{class_of}
+use Rattle.tmm_model.specs.Moments.{rule_of}
+use Rattle.tmm_model.specs.Standing.{Standing}
+use Rattle.list_net.specs.Represents.{Names}
+use Rattle.spots.specs.Forest.{Member, moment}
+use Rattle.spots.specs.Seen.{IsMemberOf}
+use Rattle.row_links.specs.Lists.{IsOn}
+use Rattle.undo_rows.specs.declared.row.Row.{Row as TableRow}
+use Rattle.undo_rows.specs.Changes.{Logged, present}
+use Rattle.undo_rows.specs.Tables.{Table, AreListed}
+use Rattle.decision_rows.specs.Decisions.{classes_in, heads_of}
+use Rattle.decision_rows.specs.declared.row.Pair.{Pair}
+use Rattle.revisions.specs.Maps.{watches}
+
+-- no two classes have one number
+abbrev pub AreNumbered : (List ℕ → Option ℕ) → Type 0
+AreNumbered number = (c d : List ℕ) (k : ℕ) → number c ≡ Some k → number d ≡ Some k → c ≡ d
+
+-- the row stands under the numbers of the classes of its rule's antecedents
+pub record IsUnderClasses (s : Standing) (name : ℕ → List ℕ) (number : List ℕ → Option ℕ) (r : TableRow Pair 6) : Type 0 where
+  pub classes : List ℕ
+  pub few : length classes ≤ 4
+  pub numbers : map (λ fact. number (class_of s fact)) (rule_of s (name r.value.rule)).given ≡ map Some classes
+  pub heads : r.heads ≡ heads_of r.value.trigger r.value.rule (classes_in classes)
+
+-- the row is on the list of the class of this number, for some antecedent
+abbrev pub IsListedUnder : Table Pair 6 → ℕ → ℕ → Type 0
+IsListedUnder t k i = (antecedent : ℕ) × (antecedent < 4) × IsOn (t.list (antecedent + 2) k) i
+
+-- **A row reads a node exactly where it is on a list of the node's class.**
+abbrev pub ReadersAreListed : Type 0
+ReadersAreListed =
+    (s : Standing) (names : Names) (m : Member) (rows : Logged Pair 6) (name : ℕ → List ℕ) (number : List ℕ → Option ℕ)
+    (class : List ℕ) (k i : ℕ) (r : TableRow Pair 6)
+    → IsMemberOf s names m → m.class ≡ Some class → number class ≡ Some k → AreNumbered number
+    → AreListed (present rows) → (present rows).row i ≡ Some r → IsUnderClasses s name number r
+    → (watches s (name r.value.rule) (moment m) ≡ true) ↔ IsListedUnder (present rows) k i
+
+-- **A row is on the lists of its trigger and of its rule**, and on no other of these two families.
+abbrev pub PairsAreListed : Type 0
+PairsAreListed =
+    (rows : Logged Pair 6) (i h : ℕ) (r : TableRow Pair 6) (classes : List (Option ℕ))
+    → AreListed (present rows) → (present rows).row i ≡ Some r → r.heads ≡ heads_of r.value.trigger r.value.rule classes
+    → (IsOn ((present rows).list 0 h) i ↔ (r.value.trigger ≡ h)) × (IsOn ((present rows).list 1 h) i ↔ (r.value.rule ≡ h))

@@ -1,0 +1,54 @@
+-- What becomes of nodes when some leave, and when the list changes; and what a decision reads of a node.
+use Rattle.std.specs.Prelude.{◌≡◌, ◌⊎◌, ℕ, false, List, Some}
+use Rattle.std.specs.List.{Contains, list_any}
+use Rattle.std.specs.Option.{option_map_or}
+use Rattle.tmm_model.specs.declared.premise.Edit.{Edit}
+use Rattle.tmm_model.specs.Beliefs.{class_of}
+use Rattle.tmm_model.specs.Edits.{next_list}
+use Rattle.tmm_model.specs.Moments.{Moment, rule_of}
+use Rattle.tmm_model.specs.Points.{same_name}
+use Rattle.tmm_model.specs.Standing.{Standing, points_in}
+use Rattle.belief_theory.specs.Right.{Occurs}
+use Rattle.dist_net.specs.Net.{Net}
+use Rattle.list_net.specs.Fits.{IsNetOf}
+use Rattle.list_net.specs.Network.{PointsKeepNumbers}
+use Rattle.list_net.specs.Represents.{Names}
+use Rattle.spots.specs.Forest.{Forest, Member, member, moment, Withdraws}
+use Rattle.spots.specs.Seen.{IsSeen, IsMemberOf, Holds}
+use Rattle.revisions.specs.Maps.{watches}
+use Rattle.revisions.specs.Steps.{IsUnder}
+
+-- ---- withdrawing
+
+-- the nodes that are left of b when m is withdrawn: all but m and what stands below it
+pub record Leaves (s : Standing) (net : Net) (b : List Moment) (new : Forest) (m : Member) : Type 0 where
+  pub nodes : List Moment
+  pub seen : IsSeen s net new
+  pub holds : Holds nodes new
+  pub out : (x : Moment) → Contains nodes x → Contains b x × (IsUnder (moment m) x → ⊥)
+  pub rest : (x : Moment) → Contains b x → Contains nodes x ⊎ IsUnder (moment m) x
+
+-- **A withdrawal takes out a node with all below it, and nothing else.**
+abbrev pub WithdrawalsLeave : Type 0
+WithdrawalsLeave =
+    (s : Standing) (net : Net) (b : List Moment) (old new : Forest) (m : Member)
+    → IsSeen s net old → Holds b old → Withdraws old new m → Leaves s net b new m
+
+-- ---- another list
+
+-- **Nodes of the list before that still occur are seen by the list after**, where points keep their numbers.
+abbrev pub NodesStaySeen : Type 0
+NodesStaySeen =
+    (old : Standing) (edit : Edit) (net after : Net) (f : Forest)
+    → IsSeen old net f → IsNetOf (next_list old edit) after
+    → PointsKeepNumbers (points_in (next_list old edit).premises) net.names after.names
+    → ((x : ℕ) (m : Member) → member f x ≡ Some m → Occurs (next_list old edit) (moment m))
+    → IsSeen (next_list old edit) after f
+
+-- ---- reading
+
+-- **A decision reads a node exactly where the class of the node is that of an antecedent.**
+abbrev pub ReadsByClass : Type 0
+ReadsByClass =
+    (s : Standing) (names : Names) (m : Member) (r : List ℕ) → IsMemberOf s names m
+    → watches s r (moment m) ≡ option_map_or (λ class. list_any (λ fact. same_name (class_of s fact) class) (rule_of s r).given) m.class false

@@ -1,0 +1,47 @@
+-- Which rows wait at the beginning: those that the edit touches, or of which another horizon brings the effect into time or
+-- puts it beyond.
+use Rattle.std.specs.Prelude.{◌≡◌, ◌≢◌, ◌⊎◌, ℕ, pos, int_le, true, List, Some}
+use Rattle.std.specs.List.{Contains}
+use Rattle.tmm_model.specs.declared.premise.Edit.{Edit}
+use Rattle.tmm_model.specs.Beliefs.{due, rules_at}
+use Rattle.tmm_model.specs.Edits.{next_list, list_until}
+use Rattle.tmm_model.specs.Maps.{built, gap}
+use Rattle.tmm_model.specs.Moments.{Moment}
+use Rattle.tmm_model.specs.Standing.{Standing, far_in}
+use Rattle.list_theory.specs.WellNamed.{IsSound}
+use Rattle.list_theory.proofs.Elements.{In}
+use Rattle.belief_theory.specs.Touched.{watched_points}
+use Rattle.spots.specs.Forest.{Forest, moment_at}
+use Rattle.spots.specs.Seen.{Holds, map_of}
+use Rattle.revisions.specs.Counted.{AreSeeds}
+use Rattle.revisions.specs.Maps.{watches}
+use Rattle.joined.specs.Rows.{Row, Rows, AreRowsOf}
+use Rattle.joined.specs.Starting.{AreMarked}
+
+-- The edit does not touch the decision of r at t, where these occurrences are live: there was this decision, the horizon is
+-- the same, no token that it reads left or entered, and the points on which it depends are as far apart as they were.
+pub record IsUntouched (old new : Standing) (b : List Moment) (t : Moment) (r : List ℕ) : Type 0 where
+  pub was : Contains (built old).believed t × Contains (rules_at old t) r
+  pub horizon : old.horizon ≡ new.horizon
+  pub left : (x : Moment) → Contains (built old).believed x → watches old r x ≡ true → Contains b x
+  pub entered : (x : Moment) → Contains b x → watches new r x ≡ true → Contains (built old).believed x
+  pub gaps : (p q : Moment) → In p (watched_points (map_of new b) t r) → In q (watched_points (map_of new b) t r) → gap (built old) p q ≡ gap (map_of new b) p q
+
+-- **Rows are marked rightly where those wait that are touched**, and no others.
+abbrev pub TouchedAreMarked : Type 0
+TouchedAreMarked =
+    (old : Standing) (edit : Edit) (b : List Moment) (f : Forest) (rows : Rows)
+    → IsSound old → IsSound (next_list old edit) → AreSeeds old (next_list old edit) b → AreRowsOf (next_list old edit) f rows
+    → ((i : ℕ) (q : Row) → rows i ≡ Some q → (q.waits ≡ true) ⊎ IsUntouched old (next_list old edit) b (moment_at f q.trigger) q.rule)
+    → ((i : ℕ) (q : Row) → rows i ≡ Some q → q.waits ≡ true → IsUntouched old (next_list old edit) b (moment_at f q.trigger) q.rule → ⊥)
+    → AreMarked old (next_list old edit) b f rows
+
+-- **Where the horizon alone changes, it suffices that those wait whose effects it brings into time or puts beyond.**
+abbrev pub HorizonsMark : Type 0
+HorizonsMark =
+    (old : Standing) (n : ℕ) (b : List Moment) (f : Forest) (rows : Rows)
+    → IsSound old → IsSound (list_until old n) → Holds b f → AreSeeds old (list_until old n) b → AreRowsOf (list_until old n) f rows
+    → ((i : ℕ) (q : Row) → rows i ≡ Some q → (q.waits ≡ true)
+    ⊎ (int_le (due old (far_in old.premises) (moment_at f q.trigger) q.rule) (pos old.horizon) ≡ int_le (due old (far_in old.premises) (moment_at f q.trigger) q.rule) (pos n)))
+    → ((i : ℕ) (q : Row) → rows i ≡ Some q → q.waits ≡ true → old.horizon ≢ n)
+    → AreMarked old (list_until old n) b f rows
