@@ -19,13 +19,13 @@ use undo_log::Undo;
 
 /// Rows that keep a value each, on a list of each family under a head.
 #[derive(Drop)]
-pub struct Rows<T, const F: usize> {
+pub struct Rows<T: Copy, const F: usize> {
     stored: Stored<T, F>,
     // the changes since the last commit
     log: Undo<Change<T>>,
 }
 
-impl<T, const F: usize> Model for Rows<T, F> {
+impl<T: Copy, const F: usize> Model for Rows<T, F> {
     ghost use Rattle.undo_rows.specs.Changes.{Logged};
 
     ghost Value = { Logged T F };

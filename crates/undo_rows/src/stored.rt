@@ -18,7 +18,7 @@ use tmm_model::NoMemory;
 
 /// Rows and the lists on which they are.
 #[derive(Drop)]
-pub(crate) struct Stored<T, const F: usize> {
+pub(crate) struct Stored<T: Copy, const F: usize> {
     /// The rows by number, those removed since the last commit among them.
     pub rows: Slab<Row<T, F>>,
     /// The lists.

@@ -94,3 +94,15 @@ fn written(alloc: Global, rows: &mut Letters, x: u32, letter: char) -> Result<()
 fn second(rows: &Letters, family: usize, head: u32) -> Option<u32> {
     rows.next(family, rows.first(family, head)?)
 }
+
+// Lets go of a value of any type that may be dropped.
+fn let_go<M: Drop>(_kept: M) {}
+
+#[test]
+fn rows_are_dropped_behind_a_type_parameter(rt: HostRuntime) -> Result<(), Fail> {
+    let alloc = rt.alloc();
+    let mut rows: Rows<u32, 1> = Rows::make(alloc);
+    rows.add(alloc, [Some(0)], 7)?;
+    let_go(rows);
+    Ok(())
+}
