@@ -1,5 +1,5 @@
 #!/usr/bin/env bash
-# A long script, of more than 6,000 lines and 300 premises, with every kind of line and replies of more than 100
+# A long script, of more than 5,000 lines and 300 premises, with every kind of line and replies of more than 100
 # lines: each line has the reply that is due, and none is `memory`, which contracts would allow anywhere.
 set -u
 cd "$(dirname "$0")/.." || exit 1
@@ -46,7 +46,7 @@ breaks() {
 last=e$(printf '/a%.0s' {1..119})
 
 write() {
-  local i round
+  local i round least held
   give "class door open shut" "ok"
   give "class day light dark" "ok"
   give "kind push" "ok"
@@ -69,16 +69,22 @@ write() {
   questions
   breaks
   for ((round = 1; round <= 600; round++)); do
+    least=$((round % 20))
+    # by 7 the door is surely shut
+    held="yes held"
+    [ "$least" -lt 7 ] || held=no
     give "# round $round"
     give "point x" "ok"
-    give "dist y p1 x $((round % 50)) *" "ok"
-    give "bounds p1 x" "bounds $((round % 50)) *"
-    give "ask open x x" "yes held"
+    give "dist y p1 x $least *" "ok"
+    give "bounds p1 x" "bounds $least *"
+    give "ask open x x" "$held"
     give "point x" "no taken x"
-    give "dist z x p1 1 *" "no cycle -$((round % 50 + 1))"
+    give "dist z x p1 1 *" "no cycle -$((least + 1))"
     give "bounds nobody x" "no unknown nobody"
-    give "horizon $((120 - round % 2))" "ok"
     give "erase x" "ok"
+    # one tick less, and all of them again
+    [ "$((round % 20))" != 10 ] || give "horizon 119" "ok"
+    [ "$((round % 20))" != 0 ] || give "horizon 120" "ok"
   done
   questions
   breaks
