@@ -59,4 +59,7 @@ status=$?
 expect 6 "2^30 bytes and one more"
 
 rm -f "$kept"
+
+checks/streams.py || failed=1
+
 exit $failed

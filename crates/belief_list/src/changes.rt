@@ -14,7 +14,7 @@ ghost use Rattle.belief_list.specs.Compared.{row_in, clip_in, gone_row, loose_ro
 ghost use Rattle.belief_list.specs.Tables.{IsTable};
 
 use crate::list::BeliefRow;
-use occ_tree::Tree;
+use occ_tree::{ByName, Tree};
 use std::alloc::Global;
 use tmm_model::{Clip, NoMemory, Occ, Seq};
 
@@ -31,10 +31,10 @@ pub struct BeliefChanges {
     pub clips: Seq<Clip>,
 }
 
-// The rows before, and the place of the row of each node.
+// The nodes before under their names, their rows, and the place of the row of each.
 #[derive(Clone, Copy)]
 struct Before<'a> {
-    tree: &'a Tree,
+    names: &'a ByName<'a>,
     rows: &'a [BeliefRow],
     places: &'a [usize],
 }
@@ -56,21 +56,28 @@ pub fn compare(
     ensures delta { IfOk result (λ changes. (m_old m_new : TimeMap) → map (row_at (forest old_tree.now)) old.now ≡ rows m_old → map (row_at (forest new_tree.now)) new.now ≡ rows m_new → AreChanges m_old m_new changes) }
 {
     let places = places_by_node(alloc, old_tree, old)?;
+    let old_names = ByName::of(alloc, old_tree)?;
+    let new_names = ByName::of(alloc, new_tree)?;
     let before = Before {
-        tree: old_tree,
+        names: &old_names,
         rows: old,
         places: places.as_slice(),
     };
     Ok(BeliefChanges {
-        left: gone(alloc, old_tree, old, new_tree)?,
-        entered: gone(alloc, new_tree, new, old_tree)?,
+        left: gone(alloc, old_tree, old, &new_names)?,
+        entered: gone(alloc, new_tree, new, &old_names)?,
         loose: loosened(alloc, &before, new_tree, new)?,
         clips: clipped(alloc, &before, new_tree, new)?,
     })
 }
 
 // The derived occurrences that are no nodes of the other tree, whatever rows list its nodes.
-fn gone(alloc: Global, tree: &Tree, rows: &[BeliefRow], other: &Tree) -> Result<Seq<Occ>, NoMemory>
+fn gone(
+    alloc: Global,
+    tree: &Tree,
+    rows: &[BeliefRow],
+    other: &ByName<'_>,
+) -> Result<Seq<Occ>, NoMemory>
     requires { All (IsLiveRow (forest tree.now)) rows.now }
     ensures { IfOk result (λ occs. (others : List ABeliefRow) → IsListing (forest other.now) others → map moment_of occs.items ≡ filter_map (gone_row (map (row_at (forest other.now)) others)) (map (row_at (forest tree.now)) rows.now)) }
 {
@@ -83,7 +90,7 @@ fn gone(alloc: Global, tree: &Tree, rows: &[BeliefRow], other: &Tree) -> Result<
     Ok(occs)
 }
 
-fn is_gone(tree: &Tree, node: u32, other: &Tree) -> bool
+fn is_gone(tree: &Tree, node: u32, other: &ByName<'_>) -> bool
     requires { IsLive (forest tree.now) node }
     ensures { (others : List ABeliefRow) → IsListing (forest other.now) others → result ≡ (is_derived (moment_at (forest tree.now) node) && is_none (row_in (map (row_at (forest other.now)) others) (moment_at (forest tree.now) node))) }
 {
@@ -115,38 +122,38 @@ fn places_by_node(alloc: Global, tree: &Tree, rows: &[BeliefRow]) -> Result<Vec<
 impl Before<'_> {
     // The row of what is the node of the other tree.
     fn row_of(&self, other: &Tree, node: u32) -> Option<BeliefRow>
-        requires listing { IsListing (forest self.now.tree.now) self.now.rows.now }
-        requires table { IsTable (forest self.now.tree.now) self.now.rows.now self.now.places.now }
+        requires listing { IsListing (forest self.now.names.now) self.now.rows.now }
+        requires table { IsTable (forest self.now.names.now) self.now.rows.now self.now.places.now }
         requires live { IsLive (forest other.now) node }
-        ensures row { option_map (row_at (forest self.now.tree.now)) result ≡ row_in (map (row_at (forest self.now.tree.now)) self.now.rows.now) (moment_at (forest other.now) node) }
-        ensures live { IfSome result (IsLiveRow (forest self.now.tree.now)) }
+        ensures row { option_map (row_at (forest self.now.names.now)) result ≡ row_in (map (row_at (forest self.now.names.now)) self.now.rows.now) (moment_at (forest other.now) node) }
+        ensures live { IfSome result (IsLiveRow (forest self.now.names.now)) }
     {
-        let x = self.tree.find_same(other, node)?;
+        let x = self.names.find_same(other, node)?;
         Some(self.rows[self.places[x as usize]])
     }
 
     // What clipped what is the node of the other tree.
     fn clip_of(&self, other: &Tree, node: u32) -> Option<u32>
-        requires listing { IsListing (forest self.now.tree.now) self.now.rows.now }
-        requires table { IsTable (forest self.now.tree.now) self.now.rows.now self.now.places.now }
+        requires listing { IsListing (forest self.now.names.now) self.now.rows.now }
+        requires table { IsTable (forest self.now.names.now) self.now.rows.now self.now.places.now }
         requires live { IsLive (forest other.now) node }
-        ensures clip { option_map (moment_at (forest self.now.tree.now)) result ≡ clip_in (map (row_at (forest self.now.tree.now)) self.now.rows.now) (moment_at (forest other.now) node) }
-        ensures live { IfSome result (IsLive (forest self.now.tree.now)) }
+        ensures clip { option_map (moment_at (forest self.now.names.now)) result ≡ clip_in (map (row_at (forest self.now.names.now)) self.now.rows.now) (moment_at (forest other.now) node) }
+        ensures live { IfSome result (IsLive (forest self.now.names.now)) }
     {
         self.row_of(other, node)?.clip
     }
 
     // Whether what clips the node of the other tree clipped it before.
     fn is_clip_of(&self, other: &Tree, node: u32, by: u32) -> bool
-        requires listing { IsListing (forest self.now.tree.now) self.now.rows.now }
-        requires table { IsTable (forest self.now.tree.now) self.now.rows.now self.now.places.now }
+        requires listing { IsListing (forest self.now.names.now) self.now.rows.now }
+        requires table { IsTable (forest self.now.names.now) self.now.rows.now self.now.places.now }
         requires live { IsLive (forest other.now) node }
         requires by_live { IsLive (forest other.now) by }
-        ensures { result ≡ option_eq same_moment (clip_in (map (row_at (forest self.now.tree.now)) self.now.rows.now) (moment_at (forest other.now) node)) (Some (moment_at (forest other.now) by)) }
+        ensures { result ≡ option_eq same_moment (clip_in (map (row_at (forest self.now.names.now)) self.now.rows.now) (moment_at (forest other.now) node)) (Some (moment_at (forest other.now) by)) }
     {
         match self.clip_of(other, node) {
             None => false,
-            Some(clip) => self.tree.find_same(other, by) == Some(clip),
+            Some(clip) => self.names.find_same(other, by) == Some(clip),
         }
     }
 }
@@ -158,10 +165,10 @@ fn loosened(
     tree: &Tree,
     rows: &[BeliefRow],
 ) -> Result<Seq<Occ>, NoMemory>
-    requires listing { IsListing (forest before.now.tree.now) before.now.rows.now }
-    requires table { IsTable (forest before.now.tree.now) before.now.rows.now before.now.places.now }
+    requires listing { IsListing (forest before.now.names.now) before.now.rows.now }
+    requires table { IsTable (forest before.now.names.now) before.now.rows.now before.now.places.now }
     requires live { All (IsLiveRow (forest tree.now)) rows.now }
-    ensures { IfOk result (λ occs. map moment_of occs.items ≡ filter_map (loose_row (map (row_at (forest before.now.tree.now)) before.now.rows.now)) (map (row_at (forest tree.now)) rows.now)) }
+    ensures { IfOk result (λ occs. map moment_of occs.items ≡ filter_map (loose_row (map (row_at (forest before.now.names.now)) before.now.rows.now)) (map (row_at (forest tree.now)) rows.now)) }
 {
     let mut occs = Seq::make(alloc);
     for row in rows {
@@ -173,10 +180,10 @@ fn loosened(
 }
 
 fn is_loosened(before: &Before<'_>, tree: &Tree, row: &BeliefRow) -> bool
-    requires listing { IsListing (forest before.now.tree.now) before.now.rows.now }
-    requires table { IsTable (forest before.now.tree.now) before.now.rows.now before.now.places.now }
+    requires listing { IsListing (forest before.now.names.now) before.now.rows.now }
+    requires table { IsTable (forest before.now.names.now) before.now.rows.now before.now.places.now }
     requires live { IsLiveRow (forest tree.now) row.now }
-    ensures { result ≡ (is_some (clip_in (map (row_at (forest before.now.tree.now)) before.now.rows.now) (moment_at (forest tree.now) row.now.node)) && is_none row.now.clip) }
+    ensures { result ≡ (is_some (clip_in (map (row_at (forest before.now.names.now)) before.now.rows.now) (moment_at (forest tree.now) row.now.node)) && is_none row.now.clip) }
 {
     row.clip.is_none() && before.clip_of(tree, row.node).is_some()
 }
@@ -188,10 +195,10 @@ fn clipped(
     tree: &Tree,
     rows: &[BeliefRow],
 ) -> Result<Seq<Clip>, NoMemory>
-    requires listing { IsListing (forest before.now.tree.now) before.now.rows.now }
-    requires table { IsTable (forest before.now.tree.now) before.now.rows.now before.now.places.now }
+    requires listing { IsListing (forest before.now.names.now) before.now.rows.now }
+    requires table { IsTable (forest before.now.names.now) before.now.rows.now before.now.places.now }
     requires live { All (IsLiveRow (forest tree.now)) rows.now }
-    ensures { IfOk result (λ clips. map clip_pair clips.items ≡ filter_map (clip_row (map (row_at (forest before.now.tree.now)) before.now.rows.now)) (map (row_at (forest tree.now)) rows.now)) }
+    ensures { IfOk result (λ clips. map clip_pair clips.items ≡ filter_map (clip_row (map (row_at (forest before.now.names.now)) before.now.rows.now)) (map (row_at (forest tree.now)) rows.now)) }
 {
     let mut clips = Seq::make(alloc);
     for row in rows {
@@ -204,10 +211,10 @@ fn clipped(
 
 // What clips the node of the row, if that is new.
 fn new_clip(before: &Before<'_>, tree: &Tree, row: &BeliefRow) -> Option<u32>
-    requires listing { IsListing (forest before.now.tree.now) before.now.rows.now }
-    requires table { IsTable (forest before.now.tree.now) before.now.rows.now before.now.places.now }
+    requires listing { IsListing (forest before.now.names.now) before.now.rows.now }
+    requires table { IsTable (forest before.now.names.now) before.now.rows.now before.now.places.now }
     requires live { IsLiveRow (forest tree.now) row.now }
-    ensures clip { option_map (λ by. (moment_at (forest tree.now) row.now.node, moment_at (forest tree.now) by)) result ≡ clip_row (map (row_at (forest before.now.tree.now)) before.now.rows.now) (row_at (forest tree.now) row.now) }
+    ensures clip { option_map (λ by. (moment_at (forest tree.now) row.now.node, moment_at (forest tree.now) by)) result ≡ clip_row (map (row_at (forest before.now.names.now)) before.now.rows.now) (row_at (forest tree.now) row.now) }
     ensures live { IfSome result (IsLive (forest tree.now)) }
 {
     let by = row.clip?;

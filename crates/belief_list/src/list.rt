@@ -7,11 +7,12 @@ ghost use Rattle.tmm_model.specs.Maps.{built};
 ghost use Rattle.tmm_model.specs.Moments.{moment_of};
 ghost use Rattle.spots.specs.Forest.{IsLive, moment_at};
 ghost use Rattle.spots.specs.Seen.{IsSeen, Holds};
+ghost use Rattle.occ_tree.specs.OfLists.{IsTreeOf};
 ghost use Rattle.occ_tree.specs.Places.{forest};
 ghost use Rattle.belief_list.specs.Rows.{belief_row, row_at, IsLiveRow, IsListing};
 
 use dist_net::DistNet;
-use occ_tree::{Ranked, Tree, in_order};
+use occ_tree::{Order, Ranked, Tree, in_order};
 use premise_list::Standing;
 use std::alloc::Global;
 use supports::clips;
@@ -35,13 +36,13 @@ pub fn listed(
     tree: &Tree,
     net: &DistNet,
 ) -> Result<Seq<BeliefRow>, NoMemory>
-    requires seen { IsSeen standing.now.present net.now.present (forest tree.now) }
+    requires seen { IsTreeOf standing.now.present net.now.present tree.now }
     requires holds { Holds (built standing.now.present).believed (forest tree.now) }
     ensures rows { IfOk result (λ list. map (row_at (forest tree.now)) list.items ≡ rows (built standing.now.present)) }
     ensures listing { IfOk result (λ list. IsListing (forest tree.now) list.items) }
 {
     let nodes = tree.numbers(alloc)?;
-    let ranked = in_order(alloc, tree, net, nodes.as_slice())?;
+    let ranked = in_order(alloc, &Order { tree, net }, nodes.as_slice())?;
     let clips = clips(alloc, tree, net, ranked.as_slice())?;
     rows_of(alloc, ranked.as_slice(), clips.as_slice())
 }
@@ -49,7 +50,7 @@ pub fn listed(
 // The row of each node.
 fn rows_of(
     alloc: Global,
-    ranked: &[Ranked<'_>],
+    ranked: &[Ranked],
     clips: &[Option<u32>],
 ) -> Result<Seq<BeliefRow>, NoMemory>
     requires { length clips.now ≡ length ranked.now }

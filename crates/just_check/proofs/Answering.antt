@@ -14,6 +14,8 @@ use Rattle.dist_net.specs.Net.{Net}
 use Rattle.list_net.specs.Fits.{IsNetOf}
 use Rattle.spots.specs.Forest.{Forest, member, IsLive, moment_at}
 use Rattle.occ_tree.specs.Places.{forest}
+use Rattle.occ_tree.specs.Standing.{present}
+use Rattle.occ_tree.proofs.KeptDates.{none_dated}
 use Rattle.spots.proofs.Nodes.{node_at}
 use Rattle.supports.proofs.Grown.{root_name, seen_first, holds_first}
 use Rattle.just_check.specs.declared.auditing.Checked.{Checked}
@@ -62,6 +64,7 @@ pub checked_first : (s : Standing) (net : Net) (c : Checked) → IsNetOf s net �
 checked_first s net c network none no_nodes first are = record {
   taken = record {
     so_far = subst (λ ns. AreSoFar s net (forest c.tree) (map (moment_at (forest c.tree)) ns)) (sym no_nodes) (first_so_far s net (forest c.tree) network none);
+    dated = none_dated net (present c.tree) none;
     live = subst (All (IsLive (forest c.tree))) (sym no_nodes) (All-nil (IsLive (forest c.tree)));
     within = omega (arith, first);
     expects = subst (λ ns. Expects s (forest c.tree) (map (moment_at (forest c.tree)) ns) (take c.decided ns) c.expected) (sym no_nodes)

@@ -16,7 +16,10 @@ use Rattle.list_theory.proofs.Distinct.{Rising}
 use Rattle.list_theory.proofs.Elements.{In, In-cases, In-right, In-from_Contains, Contains-from_In, map-In}
 use Rattle.dist_net.specs.Net.{Net}
 use Rattle.spots.specs.Forest.{Forest, IsLive, moment_at}
+use Rattle.occ_tree.specs.Dated.{IsDatedBy}
+use Rattle.occ_tree.specs.OfLists.{IsTreeIn, IsTreeOf}
 use Rattle.occ_tree.specs.Places.{forest}
+use Rattle.occ_tree.specs.Standing.{present}
 use Rattle.supports.proofs.Taken.{next_taken}
 use Rattle.supports.specs.Growing.{Adds}
 use Rattle.just_check.specs.declared.auditing.Checked.{Checked}
@@ -32,6 +35,10 @@ use Rattle.just_check.proofs.Places.{element_in}
 use Rattle.just_check.proofs.Prefixes.{no_later, after_event, rising_back}
 
 -- ---- nodes and their rows
+
+-- the same nodes of the same tree are the same rows
+pub same_rows : (new old : Checked) → forest new.tree ≡ forest old.tree → new.nodes ≡ old.nodes → rows_of new ≡ rows_of old
+same_rows new old tree nodes = λ i. map (moment_at (tree i)) (nodes i).items
 
 -- each node of the tree is that of a row
 pub node_in : (s : Standing) (net : Net) (c : Checked) → AreSoFar s net (forest c.tree) (rows_of c) → All (IsLive (forest c.tree)) c.nodes.items → (x : ℕ) → IsLive (forest c.tree) x → In x c.nodes.items
@@ -66,6 +73,7 @@ module _ (s : Standing) (net : Net) (old : Checked) (x : ℕ) (below : old.decid
     pub decides_next : AwaitsMore s (forest old.tree) (rows_of old) x (rules_at s (moment_at (forest old.tree) x)) old.expected new.expected → IsTaken s net old → IsTaken s net new
     decides_next more taken = record {
       so_far = subst (λ f. AreSoFar s net f (rows_of new)) (sym same_forest) (subst (AreSoFar s net (forest old.tree)) (sym rows) taken.so_far);
+      dated = subst (λ k. IsDatedBy net (present k)) (sym tree) taken.dated;
       live = subst (λ f. All (IsLive f) new.nodes.items) (sym same_forest) (subst (λ ns. All (IsLive (forest old.tree)) ns.items) (sym nodes) taken.live);
       within = let same : length new.nodes.items ≡ length old.nodes.items = ap (λ ns. length ns.items) nodes in omega (arith, next, same, below);
       expects =
@@ -79,7 +87,14 @@ module _ (s : Standing) (net : Net) (old : Checked) (x : ℕ) (below : old.decid
         same_forest = ap forest tree
 
         rows : rows_of new ≡ rows_of old
-        rows = λ i. map (moment_at (same_forest i)) (nodes i).items
+        rows = same_rows new old same_forest nodes
+
+-- the rows are a tree of the list, in its network
+pub rows_tree : {s : Standing} {net : Net} {c : Checked} → IsTaken s net c → IsTreeOf s net c.tree
+rows_tree taken = record { seen = taken.so_far.seen; dated = taken.dated }
+
+pub rows_in : {s : Standing} {net : Net} {c : Checked} → IsTaken s net c → IsTreeIn net c.tree
+rows_in {s} taken = record { list = (s, taken.so_far.seen); dated = taken.dated }
 
 -- ---- the events that begin by a date
 
@@ -143,12 +158,9 @@ all_decided s net c taken full = record {
 -- ---- the event of an origin is decided
 
 module _ (s : Standing) (net : Net) (old c : Checked) (checked : IsChecked s net old) (o : Origin) where
-  rows_same : forest c.tree ≡ forest old.tree → c.nodes ≡ old.nodes → rows_of c ≡ rows_of old
-  rows_same tree nodes = λ i. map (moment_at (tree i)) (nodes i).items
-
   still_past : forest c.tree ≡ forest old.tree → c.nodes ≡ old.nodes → (x : ℕ) → In x (decided_in old) → IsPast s (rows_of c) (moment_at (forest c.tree) x)
   still_past tree nodes x at =
-      subst (λ f. IsPast s (rows_of c) (moment_at f x)) (sym tree) (subst (λ b. IsPast s b (moment_at (forest old.tree) x)) (sym (rows_same tree nodes)) (checked.past x at))
+      subst (λ f. IsPast s (rows_of c) (moment_at f x)) (sym tree) (subst (λ b. IsPast s b (moment_at (forest old.tree) x)) (sym (same_rows c old tree nodes)) (checked.past x at))
 
   pub ready_event : (x : ℕ) → o.event ≡ Some x → IsLive (forest old.tree) x → (date : ℤ) → date ≡ date_of s (moment_at (forest old.tree) x) → DecidesThrough s net old c date → IsReady s net c o
   ready_event x is live date date_is through = record {
@@ -193,7 +205,7 @@ module _ (s : Standing) (net : Net) (old c : Checked) (checked : IsChecked s net
       still : (t : ℕ) → IsPast s (rows_of old) (moment_at (forest old.tree) t) → IsPast s (rows_of c) (moment_at (forest c.tree) t)
       still t past =
           subst (λ f. IsPast s (rows_of c) (moment_at f t)) (sym (ap forest through.tree))
-          (subst (λ b. IsPast s b (moment_at (forest old.tree) t)) (sym (λ i. map (moment_at (forest (through.tree i))) (through.nodes i).items)) past)
+          (subst (λ b. IsPast s b (moment_at (forest old.tree) t)) (sym (same_rows c old (ap forest through.tree) through.nodes)) past)
 
       chain : (p q r : ℤ) → p ≤ℤ q → q <ℤ r → p <ℤ r
       chain p q r h g = omega (arith, ints)
@@ -250,10 +262,10 @@ module _ (s : Standing) (net : Net) (old : Checked) (o : Origin) (ready : IsRead
             (after_event s sound u name occurs h.1.stands)
 
     -- **The row is taken behind the others.**
-    pub enters_behind : (new : Forest) (x : ℕ) → Adds s net.names (forest old.tree) new x k → IsBehind s (rows_of old) k → (c : Checked) → forest c.tree ≡ new → c.nodes.items ≡ old.nodes.items ++ x ∷ [] → c.decided ≡ old.decided
+    pub enters_behind : (new : Forest) (x : ℕ) → Adds s net.names (forest old.tree) new x k → IsBehind s (rows_of old) k → (c : Checked) → forest c.tree ≡ new → IsDatedBy net (present c.tree) → c.nodes.items ≡ old.nodes.items ++ x ∷ [] → c.decided ≡ old.decided
         → SetsNode old.expected c.expected o x → IsChecked s net c × (rows_of c ≡ rows_of old ++ k ∷ []) × IsLive (forest c.tree) x
-    enters_behind new x adds behind c tree nodes decided sets = (
-      record { taken = record { so_far = so_far; live = live; within = within; expects = expects }; past = past },
+    enters_behind new x adds behind c tree dated nodes decided sets = (
+      record { taken = record { so_far = so_far; dated = dated; live = live; within = within; expects = expects }; past = past },
       rows,
       subst (λ f. IsLive f x) (sym tree) (new_live s net (forest old.tree) (rows_of old) ready.taken.so_far k new x adds awaited_joins),
     )

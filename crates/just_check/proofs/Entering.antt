@@ -85,8 +85,11 @@ module _ (s : Standing) (net : Net) (f : Forest) (b : List Moment) (so_far : Are
     same_moments : map (moment_at new) nodes ≡ b
     same_moments = kept_moments nodes all_live ∙ is
 
+    pub kept_live : All (IsLive new) nodes
+    kept_live = All-from_contains (IsLive new) nodes (λ y at. still_live y (all_live y (In-from_Contains nodes y at)))
+
     pub nodes_live : All (IsLive new) (nodes ++ x ∷ [])
-    nodes_live = All-push (IsLive new) nodes x (All-from_contains (IsLive new) nodes (λ y at. still_live y (all_live y (In-from_Contains nodes y at)))) new_live
+    nodes_live = All-push (IsLive new) nodes x kept_live new_live
 
     pub more_rows : map (moment_at new) (nodes ++ x ∷ []) ≡ b ++ k ∷ []
     more_rows = map-append (moment_at new) nodes (x ∷ []) ∙ (λ i. same_moments i ++ new_is i ∷ [])

@@ -13,10 +13,10 @@ use Rattle.list_theory.proofs.KnownNames.{found, finds}
 use Rattle.belief_theory.proofs.Moments.{along-push}
 use Rattle.dist_net.specs.Net.{Net}
 use Rattle.spots.specs.Forest.{Forest, moment, moment_at, IsLive, IsNoRoot}
-use Rattle.spots.specs.Seen.{Holds}
+use Rattle.spots.specs.Seen.{Holds, HasList}
 use Rattle.spots.proofs.Nodes.{node_at, moment_at-is, base-moment}
 use Rattle.supports.specs.Growing.{Adds, AddsRoot, AddsRootAt}
-use Rattle.supports.proofs.Grown.{root_name}
+use Rattle.supports.proofs.Grown.{root_name, adds_seen}
 use Rattle.just_check.specs.Checking.{Joins, AreFirst, AreSoFar, IsNoNode, EntersAs}
 
 -- ---- nodes and occurrences
@@ -87,6 +87,18 @@ module _ (s : Standing) (net : Net) (f new : Forest) (b : List Moment) (so_far :
             let same : p ≡ q = (let g : Some p ≡ Some q = sym here ∙ there in cc) in
             let never : None ≡ Some (At (Begin name)) = sym e ∙ ap root_of same ∙ is in
             cc
+
+    -- nodes and network are of a list then, too
+    pub root_in : (x : Option ℕ) → AddsRoot s net.names p f new x → HasList net new
+    root_in x = by (root_of p) refl x
+      where
+        by : (o : Option Moment) → root_of p ≡ o → (x : Option ℕ) → AddsRootAt s net.names o f new x → HasList net new
+        by (Some k) e (Some x) adds =
+            let named : k ≡ At (Begin name) = root_name p k e ∙ ap (λ n. At (Begin n)) (finds s.premises name p here).1 in
+            (s, adds_seen s net f new x k adds (subst (IsNoNode f) (sym named) none) so_far.seen)
+        by (Some k) e None adds = absurd adds
+        by None e (Some x) adds = absurd adds
+        by None e None same = subst (HasList net) (sym same) (s, so_far.seen)
 
 -- ---- a row with rules
 

@@ -9,7 +9,9 @@ use Rattle.list_theory.proofs.Elements.{In}
 use Rattle.dist_net.specs.Net.{Net}
 use Rattle.spots.specs.Forest.{Forest, IsLive, moment_at}
 use Rattle.spots.specs.Spots.{node_cmp}
+use Rattle.occ_tree.specs.Dated.{IsDatedBy}
 use Rattle.occ_tree.specs.Places.{forest}
+use Rattle.occ_tree.specs.Standing.{present}
 use Rattle.just_check.specs.declared.auditing.Checked.{Checked}
 use Rattle.just_check.specs.declared.expected.Origin.{Origin}
 use Rattle.just_check.specs.Checking.{Joins, AreSoFar, Expects}
@@ -27,9 +29,10 @@ rows_of c = map (moment_at (forest c.tree)) c.nodes.items
 abbrev pub decided_in : Checked → List ℕ
 decided_in c = take c.decided c.nodes.items
 
--- what is expected is known for the rows so far, of which the first are decided
+-- what is expected is known for the rows so far, of which the first are decided; their dates are the network's
 pub record IsTaken (s : Standing) (net : Net) (c : Checked) : Type 0 where
   pub so_far : AreSoFar s net (forest c.tree) (rows_of c)
+  pub dated : IsDatedBy net (present c.tree)
   pub live : All (IsLive (forest c.tree)) c.nodes.items
   pub within : c.decided ≤ length c.nodes.items
   pub expects : Expects s (forest c.tree) (rows_of c) (decided_in c) c.expected

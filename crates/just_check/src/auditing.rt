@@ -8,7 +8,8 @@ ghost use Rattle.tmm_model.specs.declared.point.PointName.TheVariants.{Begin};
 ghost use Rattle.list_theory.proofs.Elements.{In};
 ghost use Rattle.list_net.specs.Fits.{IsNetOf};
 ghost use Rattle.spots.specs.Forest.{IsLive, moment_at};
-ghost use Rattle.spots.specs.Seen.{IsSeen, HasList, Holds};
+ghost use Rattle.spots.specs.Seen.{Holds};
+ghost use Rattle.occ_tree.specs.OfLists.{IsTreeIn, IsTreeOf};
 ghost use Rattle.occ_tree.specs.Places.{forest};
 ghost use Rattle.just_check.specs.Audited.{IsTaken, IsChecked, IsReady, rows_of, DecidesThrough, EntersBehind, Takes, ComesAfter, IsDecided};
 ghost use Rattle.just_check.specs.Believed.{believed_in_order};
@@ -20,7 +21,7 @@ use crate::expected::{Expected, Origin};
 use crate::rows::{enter, origin_of};
 use crate::rules::{RulesByKind, does_fire};
 use dist_net::DistNet;
-use occ_tree::Tree;
+use occ_tree::{Order, Tree};
 use premise_list::Standing;
 use std::alloc::Global;
 use tmm_model::{Name, NoMemory, Occ, Premise};
@@ -142,7 +143,11 @@ fn decide_event(
 {
     match origin.event {
         Some(event) => {
-            let date = checked.tree.early(net, event);
+            let date = Order {
+                tree: &checked.tree,
+                net,
+            }
+            .early(event);
             decide_through(standing, net, rules, checked, date)
         }
         None => Ok(()),
@@ -186,14 +191,14 @@ fn push(numbers: &mut Vec<u32>, x: u32) -> Result<(), NoMemory>
 
 // Whether a node comes after the last of these.
 fn comes_after(tree: &Tree, net: &DistNet, nodes: &[u32], x: u32) -> bool
-    requires list { HasList net.now.present (forest tree.now) }
+    requires dates { IsTreeIn net.now.present tree.now }
     requires nodes { All (IsLive (forest tree.now)) nodes.now }
     requires live { IsLive (forest tree.now) x }
     ensures { IsTrue result ↔ ComesAfter net.now.present (forest tree.now) nodes.now x }
 {
     match nodes.len() {
         0 => true,
-        n => tree.cmp_order(net, nodes[n - 1], x).is_lt(),
+        n => Order { tree, net }.cmp_order(nodes[n - 1], x).is_lt(),
     }
 }
 
@@ -211,7 +216,11 @@ fn decide_before(
     ensures checked { OnOk result (IsChecked standing.now.present net.now.present checked.new) }
     ensures rows { OnOk result (rows_of checked.new ≡ rows_of checked.old) }
 {
-    let date = checked.tree.early(net, x);
+    let date = Order {
+        tree: &checked.tree,
+        net,
+    }
+    .early(x);
     decide_through(standing, net, rules, checked, date - 1)
 }
 
@@ -228,7 +237,11 @@ fn decide_through(
     ensures { OnOk result (DecidesThrough standing.now.present net.now.present checked.old checked.new date) }
 {
     while checked.decided < checked.nodes.len() {
-        if checked.tree.early(net, checked.nodes[checked.decided]) > date {
+        let order = Order {
+            tree: &checked.tree,
+            net,
+        };
+        if order.early(checked.nodes[checked.decided]) > date {
             break;
         }
         decide_next(standing, net, rules, checked)?;
@@ -292,7 +305,7 @@ fn expect_effects(
     expected: &mut Expected,
 ) -> Result<(), NoMemory>
     requires rules { AreRules standing.now.present rules.now }
-    requires seen { IsSeen standing.now.present net.now.present (forest tree.now) }
+    requires seen { IsTreeOf standing.now.present net.now.present tree.now }
     requires live { IsLive (forest tree.now) x }
     ensures { OnOk result ((b : List Moment) → Holds b (forest tree.now) → AwaitsMore standing.now.present (forest tree.now) b x (rules_at standing.now.present (moment_at (forest tree.now) x)) expected.old expected.new) }
 {
@@ -311,7 +324,7 @@ fn expect_effect(
     rule: Name,
     expected: &mut Expected,
 ) -> Result<(), NoMemory>
-    requires seen { IsSeen standing.now.present net.now.present (forest tree.now) }
+    requires seen { IsTreeOf standing.now.present net.now.present tree.now }
     requires live { IsLive (forest tree.now) x }
     requires rule { Contains (rules_at standing.now.present (moment_at (forest tree.now) x)) rule }
     ensures { OnOk result ((b : List Moment) → Holds b (forest tree.now) → AwaitsMore standing.now.present (forest tree.now) b x (rule ∷ []) expected.old expected.new) }

@@ -1,5 +1,5 @@
 // A row that is to stand behind others.
-ghost use Rattle.std.specs.Prelude.{◌≡◌, List, IfOk};
+ghost use Rattle.std.specs.Prelude.{◌≡◌, List, IfOk, OnOk};
 ghost use Rattle.std.specs.List.{Contains};
 ghost use Rattle.tmm_model.specs.Beliefs.{rules_at};
 ghost use Rattle.tmm_model.specs.Moments.{Moment, At, After, moment_of};
@@ -7,7 +7,10 @@ ghost use Rattle.tmm_model.specs.declared.point.PointName.TheVariants.{Begin};
 ghost use Rattle.dist_net.specs.Net.{Net};
 ghost use Rattle.spots.specs.Forest.{Forest, IsLive, moment_at};
 ghost use Rattle.spots.specs.Seen.{IsSeen};
+ghost use Rattle.occ_tree.specs.Dated.{IsDatedBy};
+ghost use Rattle.occ_tree.specs.OfLists.{IsTreeOf};
 ghost use Rattle.occ_tree.specs.Places.{forest};
+ghost use Rattle.occ_tree.specs.Standing.{present};
 ghost use Rattle.supports.specs.Growing.{Adds, effect_shape};
 ghost use Rattle.just_check.specs.Checking.{Joins, AreSoFar, EntersAs, IsNoNode};
 ghost use Rattle.just_check.specs.Origins.{Knows, IsOriginOf, comes_from, has_event};
@@ -47,7 +50,8 @@ pub(crate) fn enter(
 ) -> Result<Option<u32>, NoMemory>
     requires joins { (b : List Moment) × AreSoFar standing.now.present net.now.present (forest tree.old) b × Joins standing.now.present b (comes_from (forest tree.old) origin.now) }
     requires event { has_event (forest tree.old) origin.now.event }
-    ensures { IfOk result (λ x. (b : List Moment) → AreSoFar standing.now.present net.now.present (forest tree.old) b → EntersAs standing.now.present net.now.present.names b (comes_from (forest tree.old) origin.now) (forest tree.old) (forest tree.new) x) }
+    ensures enters { IfOk result (λ x. (b : List Moment) → AreSoFar standing.now.present net.now.present (forest tree.old) b → EntersAs standing.now.present net.now.present.names b (comes_from (forest tree.old) origin.now) (forest tree.old) (forest tree.new) x) }
+    ensures dated { OnOk result (IsDatedBy net.now.present (present tree.old) → IsDatedBy net.now.present (present tree.new)) }
 {
     match origin.event {
         Some(event) => enter_effect(alloc, standing, net, tree, event, origin.name),
@@ -65,7 +69,8 @@ fn enter_root(
 ) -> Result<Option<u32>, NoMemory>
     requires before { (b : List Moment) × AreSoFar standing.now.present net.now.present (forest tree.old) b }
     requires new { IsNoNode (forest tree.old) (At (Begin name)) }
-    ensures { IfOk result (λ x. (b : List Moment) → AreSoFar standing.now.present net.now.present (forest tree.old) b → EntersAs standing.now.present net.now.present.names b (At (Begin name)) (forest tree.old) (forest tree.new) x) }
+    ensures enters { IfOk result (λ x. (b : List Moment) → AreSoFar standing.now.present net.now.present (forest tree.old) b → EntersAs standing.now.present net.now.present.names b (At (Begin name)) (forest tree.old) (forest tree.new) x) }
+    ensures dated { OnOk result (IsDatedBy net.now.present (present tree.old) → IsDatedBy net.now.present (present tree.new)) }
 {
     // it tells the proof that names are distinct
     let _ = standing.len();
@@ -88,7 +93,8 @@ fn enter_effect(
     requires live { IsLive (forest tree.old) x }
     requires rule { Contains (rules_at standing.now.present (moment_at (forest tree.old) x)) rule }
     requires new { IsNoNode (forest tree.old) (After (moment_at (forest tree.old) x) rule) }
-    ensures { IfOk result (λ y. (b : List Moment) → AreSoFar standing.now.present net.now.present (forest tree.old) b → EntersAs standing.now.present net.now.present.names b (After (moment_at (forest tree.old) x) rule) (forest tree.old) (forest tree.new) y) }
+    ensures enters { IfOk result (λ y. (b : List Moment) → AreSoFar standing.now.present net.now.present (forest tree.old) b → EntersAs standing.now.present net.now.present.names b (After (moment_at (forest tree.old) x) rule) (forest tree.old) (forest tree.new) y) }
+    ensures dated { OnOk result (IsDatedBy net.now.present (present tree.old) → IsDatedBy net.now.present (present tree.new)) }
 {
     Ok(Some(add_effect(alloc, standing, tree, x, rule)?))
 }
@@ -108,7 +114,8 @@ fn add_effect(
     requires live { IsLive (forest tree.old) x }
     requires rule { Contains (rules_at standing.now.present (moment_at (forest tree.old) x)) rule }
     requires new { IsNoNode (forest tree.old) (After (moment_at (forest tree.old) x) rule) }
-    ensures { IfOk result (λ y. (net : Net) → IsSeen standing.now.present net (forest tree.old) → Adds standing.now.present net.names (forest tree.old) (forest tree.new) y (After (moment_at (forest tree.old) x) rule)) }
+    ensures adds { IfOk result (λ y. (net : Net) → IsSeen standing.now.present net (forest tree.old) → Adds standing.now.present net.names (forest tree.old) (forest tree.new) y (After (moment_at (forest tree.old) x) rule)) }
+    ensures dated { OnOk result ((net : Net) → IsTreeOf standing.now.present net tree.old → IsDatedBy net (present tree.new)) }
 {
     // it tells the proof that names are distinct
     let _ = standing.len();

@@ -7,12 +7,13 @@ ghost use Rattle.tmm_model.specs.Standing.{far_in};
 ghost use Rattle.dist_net.specs.Net.{Net};
 ghost use Rattle.spots.specs.Forest.{IsLive, moment_at};
 ghost use Rattle.spots.specs.Seen.{IsSeen, Holds};
+ghost use Rattle.occ_tree.specs.OfLists.{IsTreeOf};
 ghost use Rattle.occ_tree.specs.Places.{forest};
 ghost use Rattle.just_check.specs.Kinds.{AreRules, AddsPremise};
 
 use dist_net::DistNet;
 use name_lists::NameLists;
-use occ_tree::Tree;
+use occ_tree::{Order, Tree};
 use premise_list::Standing;
 use spots::Spot;
 use std::alloc::Global;
@@ -71,13 +72,13 @@ impl RulesByKind {
 // Whether the rule fires at the event of a node: its effect begins by the horizon, and each antecedent has
 // a supporter there.
 pub(crate) fn does_fire(standing: &Standing, net: &DistNet, tree: &Tree, x: u32, rule: Name) -> bool
-    requires seen { IsSeen standing.now.present net.now.present (forest tree.now) }
+    requires seen { IsTreeOf standing.now.present net.now.present tree.now }
     requires live { IsLive (forest tree.now) x }
     requires rule { Contains (rules_at standing.now.present (moment_at (forest tree.now) x)) rule }
     ensures { (b : List Moment) → Holds b (forest tree.now) → IsTrue result ↔ ((due standing.now.present (far_in standing.now.present.premises) (moment_at (forest tree.now) x) rule ≤ℤ pos standing.now.present.horizon) × IsTrue (is_free standing.now.present (far_in standing.now.present.premises) b (moment_at (forest tree.now) x) rule)) }
 {
     let text = rule_text(standing, rule);
-    is_in_time(standing.horizon(), tree.early(net, x), text.lo)
+    is_in_time(standing.horizon(), Order { tree, net }.early(x), text.lo)
         && is_free(standing, net, tree, x, rule, text.given)
 }
 
@@ -99,7 +100,7 @@ fn is_free(
     rule: Name,
     given: &[Name],
 ) -> bool
-    requires seen { IsSeen standing.now.present net.now.present (forest tree.now) }
+    requires seen { IsTreeOf standing.now.present net.now.present tree.now }
     requires live { IsLive (forest tree.now) x }
     requires rule { Contains (rules_at standing.now.present (moment_at (forest tree.now) x)) rule }
     requires given { given.now ≡ (rule_of standing.now.present rule).given }

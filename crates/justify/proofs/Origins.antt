@@ -1,11 +1,17 @@
 -- What brings a node about, by its row.
-use Rattle.std.proofs.Common.{◌≡◌, ◌∙◌, ℕ, List, [], ◌∷◌, ◌++◌, map, Some, sym, ap}
+use Rattle.std.proofs.Common.{◌≡◌, ◌∙◌, ℕ, List, [], ◌∷◌, ◌++◌, map, Some, sym, ap, subst}
+use Rattle.std.specs.List.{Contains}
 use Rattle.std.proofs.lemmas.List.{map_push}
 use Rattle.tmm_model.specs.declared.point.PointName.TheVariants.{Begin}
+use Rattle.tmm_model.specs.Beliefs.{rules_at}
 use Rattle.tmm_model.specs.Moments.{At, After, along}
+use Rattle.tmm_model.specs.Standing.{Standing}
+use Rattle.dist_net.specs.Net.{Net}
 use Rattle.spots.specs.declared.link.Link.{Link}
-use Rattle.spots.specs.Forest.{Forest, Member, member, moment_at, rules_of, last_name}
-use Rattle.spots.proofs.Nodes.{moment_at-is, last_name-push}
+use Rattle.spots.specs.Forest.{Forest, Member, member, IsLive, moment_at, rules_of, last_name}
+use Rattle.spots.specs.Seen.{IsSeen}
+use Rattle.spots.proofs.Nodes.{node_at, moment_at-is, last_name-push}
+use Rattle.belief_theory.specs.Right.{Occurs}
 use Rattle.belief_theory.proofs.Moments.{along-push}
 
 -- a node without rules is declared under its name
@@ -26,3 +32,10 @@ effect_at f x y m n link here there root links name named =
     ∙ ap (along (At (Begin m.root))) rules
     ∙ along-push (At (Begin m.root)) (rules_of n) link.rule
     ∙ (λ i. After (event i) (rule i))
+
+-- the rule whose effect a node is stands at the event
+pub rule_at : (s : Standing) (net : Net) (f : Forest) → IsSeen s net f → (x event : ℕ) (rule : List ℕ) → IsLive f x → moment_at f x ≡ After (moment_at f event) rule
+    → Contains (rules_at s (moment_at f event)) rule
+rule_at s net f seen x event rule live is =
+    let (m, here) = node_at f x live in
+    (subst (Occurs s) (sym (moment_at-is f x m here) ∙ is) (seen.members x m here).occurs).1

@@ -16,7 +16,6 @@ use Rattle.walk_theory.proofs.Members.{All-from_contains}
 use Rattle.belief_theory.proofs.Upholding.{further}
 use Rattle.indexmap.specs.IndexSet.{insert_key, insert_all}
 use Rattle.spots.specs.Forest.{Forest, IsLive, moment_at}
-use Rattle.occ_tree.specs.Places.{Places, forest}
 use Rattle.justify.specs.Grounds.{AddsGrounds, AreUpholders}
 
 -- ---- keys
@@ -84,13 +83,6 @@ same_place : (old rest : List ℕ) (i : ℕ) (y : ℕ) → i < length old → sl
 same_place [] rest i y below at = absurd (omega arith)
 same_place (x ∷ old) rest zero y below at = at
 same_place (x ∷ old) rest (suc i) y below at = same_place old rest i y (omega arith) at
-
--- ---- a live number is below the number of places
-
-pub below_places : (places : Places) (x : ℕ) → IsLive (forest places) x → x < length places
-below_places [] x live = absurd (cc (live))
-below_places (o ∷ places) zero live = omega arith
-below_places (o ∷ places) (suc x) live = let low = below_places places x live in omega arith
 
 -- ---- the walk
 
@@ -186,7 +178,7 @@ module _ (m : TimeMap) (f : Forest) (x : ℕ) where
           let (i, low, here) = placed nodes y in_nodes in
           walked.closed i y k (omega (arith, past)) here (subst (λ w. Contains (rests_on m w) k) (sym is) there)
 
-  -- there are no more of them than numbers that nodes can have
+  -- there are no more of them than numbers below a limit that no node's number reaches
   pub walked_below : (limit : ℕ) → ((z : ℕ) → IsLive f z → z < limit) → (nodes : List ℕ) (next y : ℕ) → IsWalked nodes next → slice_get nodes next ≡ Some y → next < limit
   walked_below limit below nodes next y walked at =
       let few = length-le_from_distinct_below nodes limit walked.once

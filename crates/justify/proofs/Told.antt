@@ -1,6 +1,6 @@
 -- Lines that are told one after the other.
 use Rattle.std.proofs.Common.{◌≡◌, ◌∙◌, ℕ, ◌+◌, ◌<◌, List, [], ◌∷◌, ◌++◌, map, take, length, get_or, refl, sym, ap, subst, add-one, append_assoc, append-nil}
-use Rattle.std.specs.Prelude.{Option, Some, None, MatchOption, ◌≢◌}
+use Rattle.std.specs.Prelude.{Option, Some, None, MatchOption, is_some, ◌≢◌}
 use Rattle.std.specs.List.{All, AllZip, flat_map}
 use Rattle.std.specs.Option.{option_map, option_and_then}
 use Rattle.std.proofs.Math.Seq.{take-suc}
@@ -18,7 +18,7 @@ use Rattle.tmm_model.specs.Moments.{Moment}
 use Rattle.tmm_model.specs.Reasons.{Reason, reason_of, belief_line, end_pair, pairs_of, pairs, IsOrderLine, AreReasons}
 use Rattle.tmm_model.specs.Standing.{Standing}
 use Rattle.walk_theory.proofs.Members.{Contains-map}
-use Rattle.dist_net.specs.Net.{Net}
+use Rattle.dist_net.specs.Net.{Net, IsInUse}
 use Rattle.list_net.specs.Represents.{IsNumberOf}
 use Rattle.spots.specs.declared.spot.Spot.{Spot}
 use Rattle.spots.specs.declared.spot.Spot.TheVariants.{Declared, Node}
@@ -138,6 +138,12 @@ module _ (s : Standing) (net : Net) (f : Forest) (seen : IsSeen s net f) where
       by None (Some e) is ends = absurd (no_class e ends is)
       by (Some class) None is ends = refl
       by (Some class) (Some e) is ends = refl
+
+  -- the number of a node's end is in use
+  pub end_in_use : (x : ℕ) (m : Member) → member f x ≡ Some m → (e : ℕ) → m.end ≡ Some e → IsInUse net.names e
+  end_in_use x m here e ends =
+      let span : (m.shape ≡ Span) × IsNumberOf net.names e (End m.root) = subst (λ (o : Option ℕ). MatchOption o (m.shape ≢ Span) (λ k. (m.shape ≡ Span) × IsNumberOf net.names k (End m.root))) ends (seen.members x m here).end in
+      ap is_some span.1
 
   -- what a supporter at a node needs to be in order at t
   pub pairs_are : (x : ℕ) (m : Member) → member f x ≡ Some m → (t : Moment) (e : Option ℕ) → m.end ≡ e

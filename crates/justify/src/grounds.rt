@@ -6,7 +6,8 @@ ghost use Rattle.tmm_model.specs.Maps.{built};
 ghost use Rattle.tmm_model.specs.Reasons.{supports_at};
 ghost use Rattle.tmm_model.specs.Sorts.{class_in};
 ghost use Rattle.spots.specs.Forest.{IsLive, moment_at};
-ghost use Rattle.spots.specs.Seen.{IsSeen, Holds};
+ghost use Rattle.spots.specs.Seen.{Holds};
+ghost use Rattle.occ_tree.specs.OfLists.{IsTreeOf};
 ghost use Rattle.occ_tree.specs.Places.{forest};
 ghost use Rattle.justify.specs.Grounds.{IsOrigin, supporters_for};
 
@@ -50,7 +51,7 @@ pub(crate) fn supports_at(
     event: u32,
     rule: Name,
 ) -> ArrayVec<u32, 4>
-    requires seen { IsSeen standing.now.present net.now.present (forest tree.now) }
+    requires seen { IsTreeOf standing.now.present net.now.present tree.now }
     requires holds { Holds (built standing.now.present).believed (forest tree.now) }
     requires event { IsLive (forest tree.now) event }
     requires rule { Contains (rules_at standing.now.present (moment_at (forest tree.now) event)) rule }
@@ -69,7 +70,7 @@ fn supporters(
     event: u32,
     facts: &[Name],
 ) -> ArrayVec<u32, 4>
-    requires seen { IsSeen standing.now.present net.now.present (forest tree.now) }
+    requires seen { IsTreeOf standing.now.present net.now.present tree.now }
     requires holds { Holds (built standing.now.present).believed (forest tree.now) }
     requires event { IsLive (forest tree.now) event }
     requires facts { All (λ fact. IsSome (class_in standing.now.present.premises fact)) facts.now }

@@ -5,10 +5,11 @@ ghost use Rattle.tmm_model.specs.Maps.{built};
 ghost use Rattle.tmm_model.specs.Moments.{moment_of, moment_of_point};
 ghost use Rattle.tmm_model.specs.Reasons.{AreReasons, IsOrderLine, by_rule, pairs_of, reason_of};
 ghost use Rattle.spots.specs.Forest.{IsLive, moment_at};
-ghost use Rattle.spots.specs.Seen.{IsSeen, Holds};
+ghost use Rattle.spots.specs.Seen.{Holds};
 ghost use Rattle.spots.specs.Spots.{IsSpot, spot_moment};
 ghost use Rattle.justify.specs.Lines.{IsInOrder, AddsOrders, AddsReasons};
 ghost use Rattle.occ_tree.specs.Ranks.{nodes_of};
+ghost use Rattle.occ_tree.specs.OfLists.{IsTreeOf};
 ghost use Rattle.occ_tree.specs.Places.{forest};
 
 use crate::grounds::{Origin, origin_of, supports_at};
@@ -26,9 +27,9 @@ pub(crate) fn lines_of(
     standing: &Standing,
     tree: &Tree,
     net: &DistNet,
-    ranked: &[Ranked<'_>],
+    ranked: &[Ranked],
 ) -> Result<Seq<WhyLine>, NoMemory>
-    requires seen { IsSeen standing.now.present net.now.present (forest tree.now) }
+    requires seen { IsTreeOf standing.now.present net.now.present tree.now }
     requires holds { Holds (built standing.now.present).believed (forest tree.now) }
     requires live { All (IsLive (forest tree.now)) (nodes_of ranked.now) }
     ensures { IfOk result (λ lines. AreReasons (built standing.now.present) (map (moment_at (forest tree.now)) (nodes_of ranked.now)) (map reason_of lines.items)) }
@@ -49,7 +50,7 @@ fn add_reasons(
     x: u32,
     lines: &mut Seq<WhyLine>,
 ) -> Result<(), NoMemory>
-    requires seen { IsSeen standing.now.present net.now.present (forest tree.now) }
+    requires seen { IsTreeOf standing.now.present net.now.present tree.now }
     requires holds { Holds (built standing.now.present).believed (forest tree.now) }
     requires live { IsLive (forest tree.now) x }
     ensures { OnOk result (AddsReasons (built standing.now.present) (moment_at (forest tree.now) x) lines.old.items lines.new.items) }
@@ -112,7 +113,7 @@ fn add_orders(
     supports: &[u32],
     lines: &mut Seq<WhyLine>,
 ) -> Result<(), NoMemory>
-    requires seen { IsSeen standing.now.present net.now.present (forest tree.now) }
+    requires seen { IsTreeOf standing.now.present net.now.present tree.now }
     requires event { IsLive (forest tree.now) event }
     requires supports { All (IsLive (forest tree.now)) supports.now }
     requires in_order { All (λ x. All (IsInOrder (built standing.now.present)) (pairs_of (built standing.now.present) (moment_at (forest tree.now) event) (moment_at (forest tree.now) x))) supports.now }
@@ -135,7 +136,7 @@ fn add_orders_of(
     x: u32,
     lines: &mut Seq<WhyLine>,
 ) -> Result<(), NoMemory>
-    requires seen { IsSeen standing.now.present net.now.present (forest tree.now) }
+    requires seen { IsTreeOf standing.now.present net.now.present tree.now }
     requires event { IsLive (forest tree.now) event }
     requires live { IsLive (forest tree.now) x }
     requires in_order { All (IsInOrder (built standing.now.present)) (pairs_of (built standing.now.present) (moment_at (forest tree.now) event) (moment_at (forest tree.now) x)) }
@@ -159,7 +160,7 @@ fn add_order(
     second: Spot,
     lines: &mut Seq<WhyLine>,
 ) -> Result<(), NoMemory>
-    requires seen { IsSeen standing.now.present net.now.present (forest tree.now) }
+    requires seen { IsTreeOf standing.now.present net.now.present tree.now }
     requires first { IsSpot net.now.present.names (forest tree.now) first }
     requires second { IsSpot net.now.present.names (forest tree.now) second }
     requires in_order { IsInOrder (built standing.now.present) (spot_moment net.now.present.names (forest tree.now) first, spot_moment net.now.present.names (forest tree.now) second) }
@@ -180,7 +181,7 @@ fn order_line(
     first: Spot,
     second: Spot,
 ) -> Result<WhyLine, NoMemory>
-    requires seen { IsSeen standing.now.present net.now.present (forest tree.now) }
+    requires seen { IsTreeOf standing.now.present net.now.present tree.now }
     requires first { IsSpot net.now.present.names (forest tree.now) first }
     requires second { IsSpot net.now.present.names (forest tree.now) second }
     requires in_order { IsInOrder (built standing.now.present) (spot_moment net.now.present.names (forest tree.now) first, spot_moment net.now.present.names (forest tree.now) second) }

@@ -6,14 +6,15 @@ ghost use Rattle.tmm_model.specs.Moments.{moment_of};
 ghost use Rattle.tmm_model.specs.Questions.{why_cause};
 ghost use Rattle.tmm_model.specs.Reasons.{IsWhy, reason_of};
 ghost use Rattle.spots.specs.Forest.{IsLive, moment_at};
-ghost use Rattle.spots.specs.Seen.{IsSeen, Holds};
+ghost use Rattle.spots.specs.Seen.{Holds};
+ghost use Rattle.occ_tree.specs.OfLists.{IsTreeOf};
 ghost use Rattle.occ_tree.specs.Places.{forest};
 ghost use Rattle.justify.specs.Stops.{StopsReasons};
 
 use crate::lines::lines_of;
 use crate::upholders::upholders;
 use dist_net::DistNet;
-use occ_tree::{Tree, in_order};
+use occ_tree::{Order, Tree, in_order};
 use premise_list::Standing;
 use std::alloc::Global;
 use tmm_model::{NoMemory, Occ, Seq, Stop, WhyLine};
@@ -29,7 +30,7 @@ pub fn why(
     tree: &Tree,
     occ: &Occ,
 ) -> Result<Seq<WhyLine>, Stop>
-    requires seen { IsSeen standing.now.present net.now.present (forest tree.now) }
+    requires seen { IsTreeOf standing.now.present net.now.present tree.now }
     requires holds { Holds (built standing.now.present).believed (forest tree.now) }
     requires well_formed { IsWellFormedOcc occ.now }
     ensures known { IfOk result (λ lines. why_cause (built standing.now.present) occ.now occ.now.rules.items ≡ None) }
@@ -51,12 +52,12 @@ fn reasons_of(
     net: &DistNet,
     x: u32,
 ) -> Result<Seq<WhyLine>, NoMemory>
-    requires seen { IsSeen standing.now.present net.now.present (forest tree.now) }
+    requires seen { IsTreeOf standing.now.present net.now.present tree.now }
     requires holds { Holds (built standing.now.present).believed (forest tree.now) }
     requires live { IsLive (forest tree.now) x }
     ensures { IfOk result (λ lines. IsWhy (built standing.now.present) (moment_at (forest tree.now) x) (map reason_of lines.items)) }
 {
     let found = upholders(alloc, standing, tree, net, x)?;
-    let ranked = in_order(alloc, tree, net, found.as_slice())?;
+    let ranked = in_order(alloc, &Order { tree, net }, found.as_slice())?;
     lines_of(alloc, standing, tree, net, ranked.as_slice())
 }

@@ -3,7 +3,8 @@ ghost use Rattle.std.specs.Prelude.{◌≡◌, nat_eq, IfOk, OnOk};
 ghost use Rattle.tmm_model.specs.Maps.{built};
 ghost use Rattle.indexmap.specs.IndexSet.{insert_key, insert_all};
 ghost use Rattle.spots.specs.Forest.{IsLive};
-ghost use Rattle.spots.specs.Seen.{IsSeen, Holds};
+ghost use Rattle.spots.specs.Seen.{Holds};
+ghost use Rattle.occ_tree.specs.OfLists.{IsTreeOf};
 ghost use Rattle.occ_tree.specs.Places.{forest};
 ghost use Rattle.justify.specs.Grounds.{AddsGrounds, AreUpholders};
 
@@ -23,11 +24,13 @@ pub(crate) fn upholders(
     net: &DistNet,
     x: u32,
 ) -> Result<IndexSet<u32>, NoMemory>
-    requires seen { IsSeen standing.now.present net.now.present (forest tree.now) }
+    requires seen { IsTreeOf standing.now.present net.now.present tree.now }
     requires holds { Holds (built standing.now.present).believed (forest tree.now) }
     requires live { IsLive (forest tree.now) x }
     ensures { IfOk result (λ found. AreUpholders (built standing.now.present) (forest tree.now) x found.keys) }
 {
+    // no node's number reaches it, so the search ends
+    let _limit = tree.limit();
     let mut found = IndexSet::new(alloc);
     add(&mut found, x)?;
     let mut next = 0;
@@ -47,7 +50,7 @@ fn add_grounds(
     x: u32,
     found: &mut IndexSet<u32>,
 ) -> Result<(), NoMemory>
-    requires seen { IsSeen standing.now.present net.now.present (forest tree.now) }
+    requires seen { IsTreeOf standing.now.present net.now.present tree.now }
     requires holds { Holds (built standing.now.present).believed (forest tree.now) }
     requires live { IsLive (forest tree.now) x }
     ensures { OnOk result (AddsGrounds (built standing.now.present) (forest tree.now) x found.old.keys found.new.keys) }

@@ -2,8 +2,8 @@
 ghost use Rattle.std.specs.Prelude.{◌≡◌, IfOk};
 ghost use Rattle.tmm_model.specs.Maps.{built, gap};
 ghost use Rattle.tmm_model.specs.Paths.{WalksIf};
-ghost use Rattle.spots.specs.Seen.{IsSeen};
 ghost use Rattle.spots.specs.Spots.{IsSpot, spot_moment, base_of};
+ghost use Rattle.occ_tree.specs.OfLists.{IsTreeOf};
 ghost use Rattle.occ_tree.specs.Places.{forest};
 
 use dist_net::DistNet;
@@ -25,7 +25,7 @@ pub fn steps_between(
     to: Spot,
     far: Bound,
 ) -> Result<Seq<WalkStep>, NoMemory>
-    requires seen { IsSeen standing.now.present net.now.present (forest tree.now) }
+    requires seen { IsTreeOf standing.now.present net.now.present tree.now }
     requires from { IsSpot net.now.present.names (forest tree.now) from }
     requires to { IsSpot net.now.present.names (forest tree.now) to }
     requires far { far ≡ gap (built standing.now.present) (spot_moment net.now.present.names (forest tree.now) from) (spot_moment net.now.present.names (forest tree.now) to) }

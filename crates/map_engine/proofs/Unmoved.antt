@@ -1,7 +1,7 @@
 -- What is kept where the list that an edit leaves is alike in all that beliefs read.
 use Rattle.std.proofs.Common.{◌≡◌, ◌∙◌, ℕ, false, not, List, [], ◌∷◌, ◌++◌, map, refl, sym, ap, subst, inl, inr}
 use Rattle.std.specs.Prelude.{Option, Some, None, filter, ◌≤◌}
-use Rattle.std.specs.List.{filter_map, cons_option}
+use Rattle.std.specs.List.{Contains, filter_map, cons_option}
 use Rattle.tmm_model.specs.declared.changes.Changes.{Changes as CodeChanges}
 use Rattle.tmm_model.specs.declared.premise.Edit.{Edit}
 use Rattle.tmm_model.specs.declared.premise.Edit.TheVariants.{Add, Erase, Horizon}
@@ -19,7 +19,13 @@ use Rattle.list_net.specs.Network.{PointsKeepNumbers}
 use Rattle.list_theory.proofs.Elements.{In}
 use Rattle.list_theory.proofs.Erasure.{kept_before}
 use Rattle.spots.specs.Seen.{IsSeen, Holds}
+use Rattle.spots.specs.Forest.{moment_at}
+use Rattle.spots.proofs.Nodes.{node_at, moment_at-is}
+use Rattle.spots.proofs.Seen.{early_is}
+use Rattle.occ_tree.specs.Dated.{IsDatedBy}
+use Rattle.occ_tree.specs.OfLists.{IsTreeOf}
 use Rattle.occ_tree.specs.Places.{forest}
+use Rattle.occ_tree.specs.Standing.{present}
 use Rattle.revisions.specs.Alike.{AreAlike, BelieveAlike}
 use Rattle.revisions.proofs.Alike.{alike_believe}
 use Rattle.revisions.proofs.StillEdits.{stay_seen}
@@ -35,8 +41,21 @@ module _ (s t : Standing) (net net_after : Net) (b : Beliefs) (old : AreBeliefs 
   abbrev same : BelieveAlike s t
   same = (alike_believe s t alike).0
 
-  pub seen_still : IsSeen t net_after (forest b.tree)
-  seen_still = stay_seen s t alike.say net net_after (forest b.tree) of_t keep old.seen
+  nodes_still : IsSeen t net_after (forest b.tree)
+  nodes_still = stay_seen s t alike.say net net_after (forest b.tree) of_t keep old.seen.seen
+
+  -- each node has the same date in both networks
+  dates_still : IsDatedBy net_after (present b.tree)
+  dates_still x live =
+      let (m, here) = node_at (forest b.tree) x live in
+      let believed : Contains (built s).believed (moment_at (forest b.tree) x) = subst (Contains (built s).believed) (sym (moment_at-is (forest b.tree) x m here)) (old.holds.own x m here) in
+      old.seen.dated x live
+      ∙ early_is s net (forest b.tree) old.seen.seen x live
+      ∙ same.dates (moment_at (forest b.tree) x) believed
+      ∙ sym (early_is t net_after (forest b.tree) nodes_still x live)
+
+  pub seen_still : IsTreeOf t net_after b.tree
+  seen_still = record { seen = nodes_still; dated = dates_still }
 
   pub holds_still : Holds (built t).believed (forest b.tree)
   holds_still = subst (λ (l : List Moment). Holds l (forest b.tree)) same.believed old.holds

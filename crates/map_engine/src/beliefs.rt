@@ -7,6 +7,7 @@ ghost use Rattle.std.specs.List.{All};
 ghost use Rattle.spots.specs.Forest.{moment_at};
 ghost use Rattle.belief_list.specs.Rows.{row_at, IsLiveRow, IsListing};
 ghost use Rattle.spots.specs.Seen.{IsSeen, Holds};
+ghost use Rattle.occ_tree.specs.OfLists.{IsTreeOf};
 ghost use Rattle.occ_tree.specs.Places.{forest};
 ghost use Rattle.tmm_model.specs.Changes.{changes, delta_of};
 ghost use Rattle.tmm_model.specs.Standing.{Standing as List};
@@ -69,7 +70,7 @@ fn survey(
     net: &DistNet,
     tree: &Tree,
 ) -> Result<(Seq<BeliefRow>, Seq<Report>), NoMemory>
-    requires seen { IsSeen standing.now.present net.now.present (forest tree.now) }
+    requires seen { IsTreeOf standing.now.present net.now.present tree.now }
     requires holds { Holds (built standing.now.present).believed (forest tree.now) }
     ensures rows { IfOk result (λ found. map (row_at (forest tree.now)) found.0.items ≡ rows (built standing.now.present)) }
     ensures listing { IfOk result (λ found. IsListing (forest tree.now) found.0.items) }

@@ -11,6 +11,7 @@ ghost use Rattle.tmm_model.specs.Questions.{query_cause};
 ghost use Rattle.tmm_model.specs.Reasons.{IsWhy, reason_of};
 ghost use Rattle.spots.specs.Seen.{IsSeen, Holds};
 ghost use Rattle.spots.specs.Spots.{IsSpot, spot_moment};
+ghost use Rattle.occ_tree.specs.OfLists.{IsTreeOf};
 ghost use Rattle.occ_tree.specs.Places.{forest};
 ghost use Rattle.map_engine.specs.Questions.{points_cause, StopsPoints};
 ghost use Rattle.map_engine.specs.Stops.{StopsQuery};
@@ -33,7 +34,7 @@ fn resolve_both(
     p: &QueryPoint,
     q: &QueryPoint,
 ) -> Result<(Spot, Spot), Stop>
-    requires seen { IsSeen standing.now.present net.now.present (forest tree.now) }
+    requires seen { IsTreeOf standing.now.present net.now.present tree.now }
     requires holds { Holds (built standing.now.present).believed (forest tree.now) }
     requires p_well_formed { IsWellFormedQueryPoint p.now }
     requires q_well_formed { IsWellFormedQueryPoint q.now }
@@ -56,7 +57,7 @@ pub(crate) fn bounds_between(
     p: &QueryPoint,
     q: &QueryPoint,
 ) -> Result<(Bound, Bound), Stop>
-    requires seen { IsSeen standing.now.present net.now.present (forest tree.now) }
+    requires seen { IsTreeOf standing.now.present net.now.present tree.now }
     requires holds { Holds (built standing.now.present).believed (forest tree.now) }
     requires p_well_formed { IsWellFormedQueryPoint p.now }
     requires q_well_formed { IsWellFormedQueryPoint q.now }
@@ -79,7 +80,7 @@ pub(crate) fn ask_between(
     p: &QueryPoint,
     q: &QueryPoint,
 ) -> Result<Answer, Stop>
-    requires seen { IsSeen standing.now.present net.now.present (forest tree.now) }
+    requires seen { IsTreeOf standing.now.present net.now.present tree.now }
     requires holds { Holds (built standing.now.present).believed (forest tree.now) }
     requires p_well_formed { IsWellFormedQueryPoint p.now }
     requires q_well_formed { IsWellFormedQueryPoint q.now }
@@ -107,7 +108,7 @@ pub(crate) fn path_between(
     p: &QueryPoint,
     q: &QueryPoint,
 ) -> Result<(Bound, Seq<WalkStep>), Stop>
-    requires seen { IsSeen standing.now.present net.now.present (forest tree.now) }
+    requires seen { IsTreeOf standing.now.present net.now.present tree.now }
     requires holds { Holds (built standing.now.present).believed (forest tree.now) }
     requires p_well_formed { IsWellFormedQueryPoint p.now }
     requires q_well_formed { IsWellFormedQueryPoint q.now }
@@ -131,7 +132,7 @@ pub(crate) fn why_of(
     net: &DistNet,
     occ: &Occ,
 ) -> Result<Seq<WhyLine>, Stop>
-    requires seen { IsSeen standing.now.present net.now.present (forest tree.now) }
+    requires seen { IsTreeOf standing.now.present net.now.present tree.now }
     requires holds { Holds (built standing.now.present).believed (forest tree.now) }
     requires well_formed { IsWellFormedOcc occ.now }
     ensures known { IfOk result (λ lines. query_cause (built standing.now.present) (WhyQuery occ.now) ≡ None) }

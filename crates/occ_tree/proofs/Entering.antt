@@ -1,229 +1,124 @@
--- A tree after a node has entered.
-use Rattle.std.proofs.Common.{◌≡◌, ◌≢◌, ◌⊎◌, ℕ, ◌<◌, ◌≤◌, Bool, true, false, List, [], ◌∷◌, ◌++◌, refl, sym, ap, ◌∙◌, subst, inl, inr, arith}
-use Rattle.std.specs.Prelude.{Option, Some, None, MatchOption}
-use Rattle.std.specs.Option.{option_map}
-use Rattle.std.specs.List.{Contains}
-use Rattle.std.proofs.lemmas.Bool.{cases_eq}
-use Rattle.std.specs.Cmp.Lexicographic.{bytes_decides}
-use Rattle.tmm_model.specs.declared.token.TokenRow.{TokenRow}
-use Rattle.tmm_model.specs.Points.{same_name}
-use Rattle.list_theory.proofs.Elements.{In-from_Contains, Contains-from_In, In-left, In-right, In-cases}
-use Rattle.spots.specs.declared.spot.Spot.{Spot}
-use Rattle.spots.specs.Forest.{Member, member, moment, Enters}
-use Rattle.spots.specs.Spots.{token_row, AreTokens}
-use Rattle.occ_tree.specs.declared.classes.ClassRows.{ClassRows}
+-- Occurrences, lists and dates with one node more.
+use Rattle.std.proofs.Common.{◌≡◌, ◌≢◌, ℕ, List, [], ◌∷◌, ◌++◌, Option, Some, None, cond, eqb, refl, sym, ap, ◌∙◌, subst, arith, option_map, eq-eqb, ne_eqb}
+use Rattle.std.specs.Option.{option_map_or}
+use Rattle.std.specs.Prelude.{ℤ, pos, ◌+ℤ◌}
+use Rattle.tmm_model.specs.declared.token.Shape.{Shape}
+use Rattle.undo_rows.specs.declared.row.Row.{Row}
+use Rattle.undo_rows.specs.Tables.{Table, with_new, new_row}
 use Rattle.occ_tree.specs.declared.node.Node.{Node}
-use Rattle.occ_tree.specs.Classes.{rows_in, TakesToken}
-use Rattle.occ_tree.specs.Nodes.{Slots, node_at, member_of, forest_in, AreOnce, IsSummed, IsNode, IsBetween}
-use Rattle.occ_tree.specs.TreeInside.{AreRight}
-use Rattle.occ_tree.proofs.NodeLists.{seen, member_at}
-use Rattle.occ_tree.proofs.Once.{rows_once}
+use Rattle.occ_tree.specs.declared.node.Above.{Above}
+use Rattle.spots.specs.declared.link.Link.{Link}
+use Rattle.spots.specs.Forest.{Member, root_member, child_member}
+use Rattle.occ_tree.specs.Edits.{Adds, Grows}
+use Rattle.occ_tree.specs.Nodes.{Way, further, link_of, parent_of, way_to, member_of, forest_in, date_in, ArePlaced, WillBePlaced, IsRoot, IsEffect}
+use Rattle.occ_tree.specs.Standing.{nodes_in, head_for, siblings_in, present_rows, committed_rows, Kept, present, committed, forest, early}
+use Rattle.occ_tree.proofs.Ways.{Extends, way-same}
+use Rattle.occ_tree.proofs.Placing.{have_parents, extends_new, placed_new}
+use Rattle.occ_tree.proofs.Grown.{node_at, no_node_at, row_new, row_other}
+use Rattle.occ_tree.proofs.Effects.{above_of, member_at, way_below, way_root}
 
--- k is the same node as m, maybe with more children
-pub record IsSame (m k : Node) : Type 0 where
-  pub member : member_of k ≡ member_of m
-  pub own : IsSummed m → IsSummed k
-  pub root_node : k.root_node ≡ m.root_node
-  pub parent : k.parent ≡ m.parent
-  pub way : k.way.items ≡ m.way.items
-  pub kept : (z : ℕ) → Contains m.children.items z → Contains k.children.items z
+pub head_for-one : (p q : Option ℕ) → head_for p ≡ head_for q → p ≡ q
+head_for-one None None same = refl
+head_for-one None (Some y) same = absurd (omega (arith, same))
+head_for-one (Some x) None same = absurd (omega (arith, same))
+head_for-one (Some x) (Some y) same = let is : x ≡ y = omega (arith, same) in ap (λ z. Some z) is
 
--- the children of k are those of m, and new ones
-pub record HasMore (IsNew : ℕ → Node → Type 0) (y : ℕ) (m k : Node) : Type 0 where
-  pub each : (z : ℕ) → Contains k.children.items z → Contains m.children.items z ⊎ ((n : Node) × IsNew z n × (n.parent ≡ Some y))
-  pub once : AreOnce m.children.items → AreOnce k.children.items
+module _ (t new : Table Node 1) (x : ℕ) (n : Node) (free : t.row x ≡ None) (is : new ≡ with_new t x (new_row (Some (head_for (parent_of n)) ∷ []) n)) where
+  pub node_new : nodes_in new x ≡ Some n
+  node_new = node_at new x (new_row (Some (head_for (parent_of n)) ∷ []) n) (row_new t new x n free is)
 
-pub HasMore-itself : (IsNew : ℕ → Node → Type 0) (y : ℕ) (m : Node) → HasMore IsNew y m m
-HasMore-itself IsNew y m = record { each = λ z h. inl h; once = λ h. h }
+  pub node_other : (y : ℕ) → y ≢ x → nodes_in new y ≡ nodes_in t y
+  node_other y other = ap (option_map (λ (q : Row Node 1). q.value)) (row_other t new x n free is y other)
 
--- the node n has entered under the number x, and all others stay
-pub record Grows (old new : Slots) (x : ℕ) (n : Node) : Type 0 where
-  pub free : node_at old x ≡ None
-  pub entered : node_at new x ≡ Some n
-  pub on : (y : ℕ) (m : Node) → node_at old y ≡ Some m → (k : Node) × (node_at new y ≡ Some k) × IsSame m k
-  pub back : (y : ℕ) (k : Node) → y ≢ x → node_at new y ≡ Some k
-      → (m : Node) × (node_at old y ≡ Some m) × IsSame m k × HasMore (λ z q. (z ≡ x) × (q ≡ n)) y m k
+  extends : Extends (nodes_in t) (nodes_in new)
+  extends = extends_new (nodes_in t) (nodes_in new) x n (no_node_at t x free) node_new node_other
 
--- nothing but room has changed
-pub AreRight-kept : (old new : Slots) (listed_old listed : List ℕ) (classes_old classes : List ClassRows) (limit : ℕ) → new ≡ old → listed ≡ listed_old → ((c : List ℕ) → rows_in classes c ≡ rows_in classes_old c)
-    → AreRight old listed_old classes_old limit → AreRight new listed classes limit
-AreRight-kept old new listed_old listed classes_old classes limit same_slots same_roots same_rows right =
-    let here : AreRight old listed_old classes limit = record { nodes = right.nodes; once = right.once; below = right.below; roots = right.roots; are_roots = right.are_roots; tokens = λ c. subst (AreTokens (forest_in old) c) (sym (same_rows c)) (right.tokens c) } in
-    subst (λ (s : Slots). AreRight s listed classes limit) (sym same_slots) (subst (λ (l : List ℕ). AreRight old l classes limit) (sym same_roots) here)
+  pub was_no_member : forest_in (nodes_in t) x ≡ None
+  was_no_member = ap (option_map (member_of (way_to (nodes_in t) x))) (no_node_at t x free)
 
--- the tokens of a class after one may have come
-pub record MoreRows (before after : List ClassRows) (token : Option (TokenRow Spot)) (c : List ℕ) : Type 0 where
-  pub back : (row : TokenRow Spot) → Contains (rows_in after c) row → Contains (rows_in before c) row ⊎ ((token ≡ Some row) × (row.class ≡ c))
-  pub on : (row : TokenRow Spot) → Contains (rows_in before c) row → Contains (rows_in after c) row
-  pub new : (row : TokenRow Spot) → token ≡ Some row → row.class ≡ c → Contains (rows_in after c) row
+  pub date_new : date_in (nodes_in new) x ≡ n.early
+  date_new = ap (λ o. option_map_or (λ (q : Node). q.early) o (pos 0)) node_new
 
-pub more_rows : (old new : List ClassRows) (token : Option (TokenRow Spot)) → TakesToken old new token → (c : List ℕ) → MoreRows old new token c
-more_rows old new None takes c = record {
-  back = λ row h. inl (subst (λ (l : List (TokenRow Spot)). Contains l row) (takes c) h);
-  on = λ row h. subst (λ (l : List (TokenRow Spot)). Contains l row) (sym (takes c)) h;
-  new = λ row e. cc;
-}
-more_rows old new (Some row) takes c = by (same_name c row.class) refl
-  where
-    by : (b : Bool) → same_name c row.class ≡ b → MoreRows old new (Some row) c
-    by true e =
-        let is : row.class ≡ c = sym ((bytes_decides c row.class).0 e) in
-        let now : rows_in new c ≡ rows_in old c ++ row ∷ [] = subst (λ (c : List ℕ). rows_in new c ≡ rows_in old c ++ row ∷ []) is takes.own in
-        record {
-          back = λ r h. elim (In-cases (rows_in old c) (row ∷ []) r (In-from_Contains _ r (subst (λ (l : List (TokenRow Spot)). Contains l r) now h))) [
-            | inl was ↦ inl (Contains-from_In (rows_in old c) r was)
-            | inr here ↦ elim here [
-              | inl same ↦ inr (ap Some same, subst (λ (k : TokenRow Spot). k.class ≡ c) same is)
-              | inr none ↦ absurd none
-            ]
-          ];
-          on = λ r h. subst (λ (l : List (TokenRow Spot)). Contains l r) (sym now) (Contains-from_In _ r (In-left (rows_in old c) (row ∷ []) r (In-from_Contains _ r h)));
-          new = λ r e f. subst (λ (l : List (TokenRow Spot)). Contains l r) (sym now) (Contains-from_In _ r (In-right (rows_in old c) (row ∷ []) r (inl (let same : row ≡ r = cc in same))));
-        }
-    by false e =
-        let other : c ≢ row.class = λ f. let t : true ≡ false = sym ((bytes_decides c row.class).1 f) ∙ e in cc in
-        let same = takes.others c other in
-        record {
-          back = λ r h. inl (subst (λ (l : List (TokenRow Spot)). Contains l r) same h);
-          on = λ r h. subst (λ (l : List (TokenRow Spot)). Contains l r) (sym same) h;
-          new = λ r e f. let is : row ≡ r = cc in absurd (other (sym (ap (λ (k : TokenRow Spot). k.class) is ∙ f)));
-        }
+  pub date_other : (y : ℕ) → y ≢ x → date_in (nodes_in new) y ≡ date_in (nodes_in t) y
+  date_other y other = ap (λ o. option_map_or (λ (q : Node). q.early) o (pos 0)) (node_other y other)
 
--- All nodes stay, some with more children, and others are new.
-pub record Moves (old new : Slots) (IsNew : ℕ → Node → Type 0) : Type 0 where
-  pub on : (y : ℕ) (m : Node) → node_at old y ≡ Some m → (k : Node) × (node_at new y ≡ Some k) × IsSame m k
-  pub entered : (y : ℕ) (k : Node) → IsNew y k → node_at new y ≡ Some k
+  list_is : (h : ℕ) → new.list 0 h ≡ cond (eqb (head_for (parent_of n)) h) (t.list 0 h ++ x ∷ []) (t.list 0 h)
+  list_is h = ap (λ (u : Table Node 1). u.list 0 h) is
 
-module _ (old new : Slots) (IsNew : ℕ → Node → Type 0) (moves : Moves old new IsNew) where
-  -- a node that was there keeps its place
-  pub IsNode-moved : (y : ℕ) (m k : Node) → IsSame m k → HasMore IsNew y m k → IsNode old y m → IsNode new y k
-  IsNode-moved y m k same back is =
-      let (r, r_at, r_root, r_links) = is.root in
-      let (q, q_at, q_same) = moves.on m.root_node r r_at in
-      record {
-        own = same.own is.own;
-        root = (q, ap (node_at new) same.root_node ∙ q_at, ap (λ (a : Member). a.root) q_same.member ∙ r_root ∙ sym (ap (λ (a : Member). a.root) same.member), ap (λ (a : Member). a.links) q_same.member ∙ r_links);
-        parent = subst (λ (o : Option ℕ). Parented o) (sym same.parent) (parented m.parent is.parent);
-        start = λ none. same.way ∙ is.start (sym (ap (λ (a : Member). a.links) same.member) ∙ none);
-        children = λ z h. elim (back.each z h) [
-          | inl was ↦
-              let (d, d_at, d_parent) = is.children z was in
-              let (e, e_at, e_same) = moves.on z d d_at in
-              (e, e_at, e_same.parent ∙ d_parent)
-          | inr (n, is_new, its) ↦ (n, moves.entered z n is_new, its)
-        ];
-        once = back.once is.once;
-      }
-    where
-      Parented : Option ℕ → Type 0
-      Parented o = MatchOption o (k.links.items ≡ []) (λ z. (p : Node) × (node_at new z ≡ Some p) × IsBetween p k y)
+  pub last_below : siblings_in new (parent_of n) ≡ siblings_in t (parent_of n) ++ x ∷ []
+  last_below = let h = head_for (parent_of n) in list_is h ∙ ap (λ b. cond b (t.list 0 h ++ x ∷ []) (t.list 0 h)) (eq-eqb h h refl)
 
-      parented : (o : Option ℕ) → MatchOption o (m.links.items ≡ []) (λ z. (p : Node) × (node_at old z ≡ Some p) × IsBetween p m y) → Parented o
-      parented None e = ap (λ (a : Member). a.links) same.member ∙ e
-      parented (Some z) (p, p_at, between) =
-          let (q, q_at, q_same) = moves.on z p p_at in (
-            q,
-            q_at,
-            record {
-              root = ap (λ (a : Member). a.root) q_same.member ∙ between.root ∙ sym (ap (λ (a : Member). a.root) same.member);
-              link = between.link;
-              links = ap (λ (a : Member). a.links) same.member ∙ between.links ∙ sym (ap (λ (a : Member). a.links ++ between.link ∷ []) q_same.member);
-              way = same.way ∙ between.way ∙ ap (λ (w : List ℕ). w ++ y ∷ []) (sym q_same.way);
-              listed = q_same.kept y between.listed;
-            },
-          )
+  pub others_below : (q : Option ℕ) → q ≢ parent_of n → siblings_in new q ≡ siblings_in t q
+  others_below q other =
+      let h = head_for q in
+      list_is h ∙ ap (λ b. cond b (t.list 0 h ++ x ∷ []) (t.list 0 h)) (ne_eqb (head_for (parent_of n)) h (λ same. other (sym (head_for-one (parent_of n) q same))))
 
-module _ (old new : Slots) (x : ℕ) (n : Node) (grows : Grows old new x n) where
-  -- a node is the new one, or was there
-  which : (y : ℕ) (k : Node) → node_at new y ≡ Some k → ((y ≡ x) × (k ≡ n)) ⊎ ((m : Node) × (node_at old y ≡ Some m) × IsSame m k)
-  which y k at =
-      elim (cases_eq y x) [
-        | inl same ↦ let here : Some n ≡ Some k = sym grows.entered ∙ ap (node_at new) (sym same) ∙ at in inl (same, cc)
-        | inr other ↦ let (m, was, is, _) = grows.back y k other at in inr (m, was, is)
-      ]
+  module _ (placed : ArePlaced (nodes_in t)) where
+    pub member_other : (y : ℕ) → y ≢ x → forest_in (nodes_in new) y ≡ forest_in (nodes_in t) y
+    member_other y other = by (nodes_in t y) refl
+      where
+        by : (o : Option Node) → nodes_in t y ≡ o → forest_in (nodes_in new) y ≡ forest_in (nodes_in t) y
+        by None at =
+            ap (option_map (member_of (way_to (nodes_in new) y))) (node_other y other ∙ at) ∙ ap (option_map (member_of (way_to (nodes_in t) y))) (sym at)
+        by (Some q) at =
+            member_at (nodes_in new) y q (node_other y other ∙ at)
+            ∙ ap (λ w. Some (member_of w q)) (way-same (nodes_in t) (nodes_in new) extends (have_parents (nodes_in t) placed) y q at)
+            ∙ sym (member_at (nodes_in t) y q at)
 
-  -- the members
-  pub Enters-grown : Enters (forest_in old) (forest_in new) x (member_of n)
-  Enters-grown = record {
-    free = member_at old x ∙ ap (λ (o : Option Node). option_map member_of o) grows.free;
-    entered = seen new x n grows.entered;
-    others = λ y other. by y other (node_at old y) refl (node_at new y) refl;
-  }
-    where
-      by : (y : ℕ) → y ≢ x → (o : Option Node) → node_at old y ≡ o → (p : Option Node) → node_at new y ≡ p → member (forest_in new) y ≡ member (forest_in old) y
-      by y other (Some m) e p f =
-          let (k, at, is) = grows.on y m e in
-          seen new y k at ∙ ap Some is.member ∙ sym (seen old y m e)
-      by y other None e None f = member_at new y ∙ ap (λ (o : Option Node). option_map member_of o) (f ∙ sym e) ∙ sym (member_at old y)
-      by y other None e (Some k) f =
-          let (m, was, is, _) = grows.back y k other f in
-          let no : None ≡ Some m = sym e ∙ was in cc
+    module _ (will : WillBePlaced (nodes_in t) n) where
+      new_placed : ArePlaced (nodes_in new)
+      new_placed = placed_new (nodes_in t) (nodes_in new) x n (no_node_at t x free) node_new node_other placed will
 
-  was_member : (y : ℕ) (m : Member) → y ≢ x → member (forest_in new) y ≡ Some m → member (forest_in old) y ≡ Some m
-  was_member y m other at = sym (Enters-grown.others y other) ∙ at
+      pub member_root : n.above ≡ None → forest_in (nodes_in new) x ≡ Some (member_of (record { numbers = x ∷ []; root = n.name; links = [] }) n)
+      member_root above =
+          let way : way_to (nodes_in new) x ≡ record { numbers = x ∷ []; root = n.name; links = [] } =
+          way_root (nodes_in new) new_placed x n node_new above ∙ (λ i. record { numbers = x ∷ []; root = option_map_or (λ (q : Node). q.name) (node_new i) []; links = [] }) in
+          member_at (nodes_in new) x n node_new ∙ ap (λ w. Some (member_of w n)) way
 
-  is_member : (y : ℕ) (m : Member) → member (forest_in old) y ≡ Some m → member (forest_in new) y ≡ Some m
-  is_member y m at = Enters-grown.others y (λ e. let no : None ≡ Some m = sym (ap (member (forest_in old)) e ∙ Enters-grown.free) ∙ at in cc) ∙ at
+      pub member_child : (a : Above) → n.above ≡ Some a → forest_in (nodes_in new) x ≡ Some (member_of (further (way_to (nodes_in t) a.parent) x (link_of n)) n)
+      member_child a above =
+          let c = will.parent a above in
+          let way : way_to (nodes_in new) x ≡ further (way_to (nodes_in t) a.parent) x (link_of n) =
+          way_below (nodes_in new) new_placed x n a node_new above
+          ∙ ap (λ (w : Way). further w x (link_of n)) (way-same (nodes_in t) (nodes_in new) extends (have_parents (nodes_in t) placed) a.parent c.above c.at) in
+          member_at (nodes_in new) x n node_new ∙ ap (λ w. Some (member_of w n)) way
 
-  abbrev IsOwn : ℕ → Node → Type 0
-  IsOwn y k = (y ≡ x) × (k ≡ n)
+-- ---- what a tree gains
 
-  moved : Moves old new IsOwn
-  moved = record { on = grows.on; entered = λ y k own. ap (node_at new) own.0 ∙ grows.entered ∙ ap Some (sym own.1) }
+no_member : (t : Table Node 1) (x : ℕ) → t.row x ≡ None → forest_in (nodes_in t) x ≡ None
+no_member t x at = ap (option_map (member_of (way_to (nodes_in t) x))) (no_node_at t x at)
 
-  -- the tree is right with the new node
-  pub AreRight-grown : (listed_old listed : List ℕ) (classes_old classes : List ClassRows) (limit_old limit : ℕ) → AreRight old listed_old classes_old limit_old → IsNode new x n
-      → ((y : ℕ) (m : Member) → member (forest_in old) y ≡ Some m → moment m ≢ moment (member_of n))
-      → ((y : ℕ) → Contains listed_old y → Contains listed y) → (n.links.items ≡ [] → Contains listed x) → ((y : ℕ) → Contains listed y → Contains listed_old y ⊎ ((y ≡ x) × (n.links.items ≡ [])))
-      → x < limit → limit_old ≤ limit → TakesToken classes_old classes (token_row x (member_of n)) → AreRight new listed classes limit
-  AreRight-grown listed_old listed classes_old classes limit_old limit right node unlike on here back within wider takes = record {
-    nodes = λ y k at. elim (cases_eq y x) [
-      | inl same ↦
-          let is : Some n ≡ Some k = sym grows.entered ∙ ap (node_at new) (sym same) ∙ at in
-          let at_n : n ≡ k = cc in
-          subst (λ (z : ℕ). IsNode new z k) (sym same) (subst (IsNode new x) at_n node)
-      | inr other ↦ let (m, was, is, more) = grows.back y k other at in IsNode-moved old new IsOwn moved y m k is more (right.nodes y m was)
-    ];
-    once = λ y z a b at_a at_b same. once y z a b at_a at_b same (cases_eq y x) (cases_eq z x);
-    below = λ y k at. elim (which y k at) [
-      | inl (same, _) ↦ omega arith
-      | inr (m, was, _) ↦ let b = right.below y m was in omega arith
-    ];
-    roots = λ y k at none. elim (which y k at) [
-      | inl (same, is) ↦ subst (Contains listed) (sym same) (here (ap (λ (a : Node). a.links.items) (sym is) ∙ none))
-      | inr (m, was, is) ↦ on y (right.roots y m was (sym (ap (λ (a : Member). a.links) is.member) ∙ none))
-    ];
-    are_roots = λ y h. elim (back y h) [
-      | inl was ↦
-          let (m, at, none) = right.are_roots y was in
-          let (k, now, is) = grows.on y m at in
-          (k, now, ap (λ (a : Member). a.links) is.member ∙ none)
-      | inr (same, none) ↦ (n, ap (node_at new) same ∙ grows.entered, none)
-    ];
-    tokens = λ c. let more = more_rows classes_old classes (token_row x (member_of n)) takes c in record {
-      own = λ row h. elim (more.back row h) [
-        | inl was ↦ let (y, m, at, token, class) = (right.tokens c).own row was in (y, m, is_member y m at, token, class)
-        | inr (token, class) ↦ (x, member_of n, Enters-grown.entered, token, class)
-      ];
-      all = λ y m row at token class. elim (cases_eq y x) [
-        | inl same ↦
-            let is : Some (member_of n) ≡ Some m = sym Enters-grown.entered ∙ ap (member (forest_in new)) (sym same) ∙ at in
-            let at_n : m ≡ member_of n = cc in
-            more.new row (subst (λ (a : Member). token_row x a ≡ Some row) at_n (subst (λ (z : ℕ). token_row z m ≡ Some row) same token)) class
-        | inr other ↦ more.on row ((right.tokens c).all y m row (was_member y m other at) token class)
-      ];
-      once = rows_once (forest_in old) classes_old classes x (member_of n) c Enters-grown.free takes (right.tokens c);
-    };
-  }
-    where
-      once : (y z : ℕ) (a b : Member) → member (forest_in new) y ≡ Some a → member (forest_in new) z ≡ Some b → moment a ≡ moment b → (y ≡ x) ⊎ (y ≢ x) → (z ≡ x) ⊎ (z ≢ x) → y ≡ z
-      once y z a b at_a at_b same (inl e) (inl f) = e ∙ sym f
-      once y z a b at_a at_b same (inl e) (inr f) =
-          let is : Some (member_of n) ≡ Some a = sym Enters-grown.entered ∙ ap (member (forest_in new)) (sym e) ∙ at_a in
-          let at_n : member_of n ≡ a = cc in
-          absurd (unlike z b (was_member z b f at_b) (sym same ∙ sym (ap moment at_n)))
-      once y z a b at_a at_b same (inr e) (inl f) =
-          let is : Some (member_of n) ≡ Some b = sym Enters-grown.entered ∙ ap (member (forest_in new)) (sym f) ∙ at_b in
-          let at_n : member_of n ≡ b = cc in
-          absurd (unlike y a (was_member y a e at_a) (same ∙ sym (ap moment at_n)))
-      once y z a b at_a at_b same (inr e) (inr f) = right.once y z a b (was_member y a e at_a) (was_member z b f at_b) same
+module _ (old new : Kept) (x : ℕ) (n : Node) (adds : Adds old.nodes new.nodes x n) (placed : ArePlaced (nodes_in (present_rows old.nodes))) (will : WillBePlaced (nodes_in (present_rows old.nodes)) n) where
+  pub gone_before : forest (committed old) x ≡ None
+  gone_before = no_member (committed_rows old.nodes) x adds.was_free
+
+  grows : (m : Member) (parent : Option ℕ) (date : ℤ) → parent_of n ≡ parent → n.early ≡ date → forest (present new) x ≡ Some m → Grows (present old) (present new) x m parent date
+  grows m parent date parent_is early_is entered = subst (λ q. Grows (present old) (present new) x m q date) parent_is (record {
+    free = no_member (present_rows old.nodes) x adds.free;
+    entered = entered;
+    others = member_other (present_rows old.nodes) (present_rows new.nodes) x n adds.free adds.present_is placed;
+    last = last_below (present_rows old.nodes) (present_rows new.nodes) x n adds.free adds.present_is;
+    lists = others_below (present_rows old.nodes) (present_rows new.nodes) x n adds.free adds.present_is;
+    date_is = date_new (present_rows old.nodes) (present_rows new.nodes) x n adds.free adds.present_is ∙ early_is;
+    dates = date_other (present_rows old.nodes) (present_rows new.nodes) x n adds.free adds.present_is;
+  })
+
+  pub grows_root : (name : List ℕ) (begin : ℕ) («end» : Option ℕ) (what : List ℕ) (class : Option (List ℕ)) (list : Option ℕ) (shape : Shape) (early : ℤ) → IsRoot name begin «end» what class list shape early n → Grows (present old) (present new) x (root_member name begin «end» what class shape) None early
+  grows_root name begin «end» what class list shape early r =
+      grows (root_member name begin «end» what class shape) None early (ap (option_map (λ (a : Above). a.parent)) r.above_is) r.early_is
+      (member_root (present_rows old.nodes) (present_rows new.nodes) x n adds.free adds.present_is placed will r.above_is
+      ∙ (λ i. Some record { root = r.name_is i; links = []; begin = r.begin_is i; end = r.end_is i; what = r.what_is i; class = r.class_is i; shape = r.shape_is i }))
+
+  pub grows_child : (parent : ℕ) (link : Link) (what : List ℕ) (class : Option (List ℕ)) (list : Option ℕ) (shape : Shape) (m : Member) → forest (present old) parent ≡ Some m → IsEffect (nodes_in (present_rows old.nodes)) parent link what class list shape n
+      → Grows (present old) (present new) x (child_member m link what class shape) (Some parent) (early (present old) parent +ℤ link.lo)
+  grows_child parent link what class list shape m m_at e =
+      let (a, above, is) = above_of n parent e.parent_is in
+      let c = will.parent a above in
+      let node = nodes_in (present_rows old.nodes) in
+      let at : node parent ≡ Some c.above = ap node (sym is) ∙ c.at in
+      let m_is : m ≡ member_of (way_to node parent) c.above = (let both : Some m ≡ Some (member_of (way_to node parent) c.above) = sym m_at ∙ member_at node parent c.above at in cc) in
+      grows (child_member m link what class shape) (Some parent) (early (present old) parent +ℤ link.lo) e.parent_is e.early_is
+      (member_child (present_rows old.nodes) (present_rows new.nodes) x n adds.free adds.present_is placed will a above
+      ∙ ap (λ z. Some (member_of (further (way_to node z) x (link_of n)) n)) is
+      ∙ (λ i. Some record { root = (way_to node parent).root; links = (way_to node parent).links ++ e.link_is i ∷ []; begin = c.begin i; end = e.end_is i; what = e.what_is i; class = e.class_is i; shape = e.shape_is i })
+      ∙ ap (λ k. Some (child_member k link what class shape)) (sym m_is))

@@ -2,41 +2,42 @@
 use Rattle.std.proofs.Common.{◌≡◌, ◌∙◌, ℕ, zero, suc, ◌<◌, true, false, List, [], ◌∷◌, map, length, refl, sym, ap, subst, arith}
 use Rattle.std.specs.Prelude.{nat_eq, slice_index_or}
 use Rattle.std.specs.List.{All, AllByRecursion, IsDistinct}
-use Rattle.std.specs.List.Sorted.{IsSorted, IsStrictlySortedBy}
+use Rattle.std.specs.List.Sorted.{IsSortedBy, IsStrictlySortedBy}
+use Rattle.std.specs.Option.{is_some}
 use Rattle.std.specs.declared.cmp.Ordering.{Ordering}
 use Rattle.std.specs.declared.cmp.Ordering.TheVariants.{Less, Equal, Greater}
-use Rattle.std.specs.Ordering.{int_cmp, nat_cmp, on, then_cmp, ordering_then, ordering_reverse, is_lt}
-use Rattle.std.specs.Cmp.{IsStrictWeakOrder}
-use Rattle.std.specs.Cmp.Lexicographic.{slice_cmp, nat_list_cmp_total}
+use Rattle.std.specs.Ordering.{bool_cmp, ordering_then, ordering_reverse, is_lt}
+use Rattle.std.specs.Cmp.{IsStrictWeakOrder, bool_cmp_total}
 use Rattle.std.proofs.lemmas.Bool.Decides.{Decides-eqb}
-use Rattle.std.proofs.lemmas.Cmp.{then_total, on_total, int_cmp_total, nat_cmp_total}
+use Rattle.std.proofs.lemmas.Cmp.{then_total, on_total}
 use Rattle.std.proofs.lemmas.List.{get_or-map, length-map}
 use Rattle.std.proofs.lemmas.List.Elements.{All-contains, All-head, All-tail, Contains-get_or}
 use Rattle.std.proofs.lemmas.List.Sorted.{sorted_far, ranks_by}
 use Rattle.std.proofs.lemmas.Map.Keys.{apart_from_distinct}
-use Rattle.tmm_model.specs.Maps.{built, order}
-use Rattle.tmm_model.specs.Moments.{printed}
+use Rattle.tmm_model.specs.Maps.{built}
+use Rattle.tmm_model.specs.Maps as maps
 use Rattle.tmm_model.specs.Standing.{Standing}
 use Rattle.tmm_model.specs.Types.{IsOrderOn}
 use Rattle.dist_net.specs.Net.{Net}
 use Rattle.spots.specs.declared.spot.Spot.TheVariants.{Node}
 use Rattle.spots.specs.Forest.{Forest, IsLive, moment_at}
 use Rattle.spots.specs.Seen.{HasList, IsSeen}
-use Rattle.spots.specs.Spots.{node_early, node_cmp, spot_cmp}
+use Rattle.spots.specs.Spots.{node_cmp, spot_cmp}
 use Rattle.spots.proofs.Laws.{IsThere, ordered}
 use Rattle.spots.proofs.Seen.{order_is}
 use Rattle.occ_tree.specs.declared.ranks.Ranked.{Ranked}
-use Rattle.occ_tree.specs.Ranks.{IsRanked, nodes_of}
+use Rattle.occ_tree.specs.Dated.{IsDatedBy}
+use Rattle.occ_tree.specs.Known.{dated_cmp}
+use Rattle.occ_tree.specs.Ranks.{rank_cmp, IsRanked, nodes_of}
+use Rattle.occ_tree.specs.Standing.{State, nodes_in, forest, order}
+use Rattle.occ_tree.proofs.Ranking.{nodes_total}
 
--- the order in which they are sorted: by date, then by word, and at last by node
-abbrev pub rank_cmp : Ranked → Ranked → Ordering
-rank_cmp = then_cmp (on (λ p. p.early) int_cmp) (then_cmp (on (λ p. p.word.now) (slice_cmp nat_cmp)) (on (λ p. p.node) nat_cmp))
+-- the order in which they are sorted
+abbrev pub rank_by : State → Ranked → Ranked → Ordering
+rank_by s p q = rank_cmp s p.node q.node
 
-rank_order : IsStrictWeakOrder (λ p q. is_lt (rank_cmp p q))
-rank_order =
-    ranks_by
-    (then_total (on_total (λ (p : Ranked). p.early) int_cmp_total) (then_total (on_total (λ (p : Ranked). p.word.now) nat_list_cmp_total) (on_total (λ (p : Ranked). p.node) nat_cmp_total)))
-    (λ (p : Ranked). p)
+pub rank_order : (s : State) → IsStrictWeakOrder (λ p q. is_lt (rank_by s p q))
+rank_order s = ranks_by (then_total (on_total (λ x. is_some (forest s x)) bool_cmp_total) (nodes_total (nodes_in s.rows))) (λ (p : Ranked). p.node)
 
 -- each before all that follow
 strictly_sorted : {X : Type 0} (cmp : X → X → Ordering) (xs : List X) → ((i j : ℕ) (d : X) → i < j → j < length xs → cmp (slice_index_or xs i d) (slice_index_or xs j d) ≡ Less) → IsStrictlySortedBy cmp xs
@@ -58,51 +59,36 @@ sorted_nodes cmp (p ∷ ps) h = (each ps h.0, sorted_nodes cmp ps h.1)
     each [] g = tt
     each (q ∷ qs) g = (g.0, each qs g.1)
 
-module _ (net : Net) (f : Forest) (list : HasList net f) where
+module _ (net : Net) (s : State) (list : HasList net (forest s)) (dated : IsDatedBy net s) where
   -- what is not before, and is another node, is after
-  after : (x y : ℕ) → IsLive f x → IsLive f y → (node_cmp net f y x ≡ Less → ⊥) → (x ≡ y → ⊥) → node_cmp net f x y ≡ Less
-  after x y live_x live_y up other = law.antisymm (Node x) (Node y) (list, live_x) (list, live_y) ∙ by (node_cmp net f y x) refl
+  after : (x y : ℕ) → IsLive (forest s) x → IsLive (forest s) y → (node_cmp net (forest s) y x ≡ Less → ⊥) → (x ≡ y → ⊥) → node_cmp net (forest s) x y ≡ Less
+  after x y live_x live_y up other = law.antisymm (Node x) (Node y) (list, live_x) (list, live_y) ∙ by (node_cmp net (forest s) y x) refl
     where
-      law : IsOrderOn (IsThere net f) (spot_cmp net f)
-      law = ordered net f
+      law : IsOrderOn (IsThere net (forest s)) (spot_cmp net (forest s))
+      law = ordered net (forest s)
 
-      by : (r : Ordering) → node_cmp net f y x ≡ r → ordering_reverse r ≡ Less
+      by : (r : Ordering) → node_cmp net (forest s) y x ≡ r → ordering_reverse r ≡ Less
       by Less e = absurd (up e)
       by Greater e = refl
       by Equal e = let same : Node y ≡ Node x = law.strict (Node y) (Node x) (list, live_y) (list, live_x) e in absurd (other cc)
 
   -- a node that is before another is sorted before it
-  rank_before : (p q : Ranked) → IsRanked net f p → IsRanked net f q → node_cmp net f p.node q.node ≡ Less → rank_cmp p q ≡ Less
-  rank_before p q is_p is_q e =
-      (λ i. ordering_then (dates i) (ordering_then (words i) (nat_cmp p.node q.node)))
-      ∙ by (int_cmp (node_early net f p.node) (node_early net f q.node)) (slice_cmp nat_cmp (printed (moment_at f p.node)) (printed (moment_at f q.node))) e
-    where
-      dates : int_cmp p.early q.early ≡ int_cmp (node_early net f p.node) (node_early net f q.node)
-      dates = λ i. int_cmp (is_p.early i) (is_q.early i)
-
-      words : slice_cmp nat_cmp p.word.now q.word.now ≡ slice_cmp nat_cmp (printed (moment_at f p.node)) (printed (moment_at f q.node))
-      words = λ i. slice_cmp nat_cmp (is_p.word i) (is_q.word i)
-
-      by : (a b : Ordering) → ordering_then a b ≡ Less → ordering_then a (ordering_then b (nat_cmp p.node q.node)) ≡ Less
-      by Less b h = refl
-      by Greater b h = h
-      by Equal Less h = refl
-      by Equal Greater h = h
-      by Equal Equal h = cc
+  rank_before : (x y : ℕ) → IsLive (forest s) x → IsLive (forest s) y → node_cmp net (forest s) x y ≡ Less → rank_cmp s x y ≡ Less
+  rank_before x y live_x live_y e = (λ i. ordering_then (bool_cmp (live_x i) (live_y i)) (order s x y)) ∙ dated_cmp net s dated x y live_x live_y ∙ e
 
   -- **Sorted nodes are in order.**
-  pub in_order : (ps : List Ranked) → All (IsRanked net f) ps → IsDistinct nat_eq (nodes_of ps) → IsSorted rank_cmp ps → IsStrictlySortedBy (node_cmp net f) (nodes_of ps)
+  pub in_order : (ps : List Ranked) → All (IsRanked net (forest s)) ps → IsDistinct nat_eq (nodes_of ps) → IsSortedBy (λ p q. is_lt (rank_by s p q)) ps → IsStrictlySortedBy (node_cmp net (forest s)) (nodes_of ps)
   in_order ps ranked once up =
-      sorted_nodes (node_cmp net f) ps
-      (strictly_sorted (λ p q. node_cmp net f p.node q.node) ps
+      sorted_nodes (node_cmp net (forest s)) ps
+      (strictly_sorted (λ p q. node_cmp net (forest s) p.node q.node) ps
       (λ i j d l h.
       (let p = slice_index_or ps i d in
       let q = slice_index_or ps j d in
-      let is_p = All-contains (IsRanked net f) ps p ranked (Contains-get_or ps i d (omega arith)) in
-      let is_q = All-contains (IsRanked net f) ps q ranked (Contains-get_or ps j d h) in
+      let is_p = All-contains (IsRanked net (forest s)) ps p ranked (Contains-get_or ps i d (omega arith)) in
+      let is_q = All-contains (IsRanked net (forest s)) ps q ranked (Contains-get_or ps j d h) in
       after p.node q.node is_p.live is_q.live
-      (λ e. (let t : is_lt (rank_cmp q p) ≡ true = ap is_lt (rank_before q p is_q is_p e) in
-      let g = sorted_far (λ p q. is_lt (rank_cmp p q)) rank_order ps up i j d (omega arith) h in cc))
+      (λ e. (let t : is_lt (rank_by s q p) ≡ true = ap is_lt (rank_before q.node p.node is_q.live is_p.live e) in
+      let g = sorted_far (λ p q. is_lt (rank_by s p q)) (rank_order s) ps up i j d (omega arith) h in cc))
       (apart i j d l h))))
     where
       apart : (i j : ℕ) (d : Ranked) → i < j → j < length ps → (slice_index_or ps i d).node ≡ (slice_index_or ps j d).node → ⊥
@@ -116,11 +102,11 @@ module _ (net : Net) (f : Forest) (list : HasList net f) where
           cc
 
 -- nodes in order are moments in order
-pub moments_in_order : (s : Standing) (net : Net) (f : Forest) → IsSeen s net f → (nodes : List ℕ) → All (IsLive f) nodes → IsStrictlySortedBy (node_cmp net f) nodes → IsStrictlySortedBy (order (built s)) (map (moment_at f) nodes)
+pub moments_in_order : (s : Standing) (net : Net) (f : Forest) → IsSeen s net f → (nodes : List ℕ) → All (IsLive f) nodes → IsStrictlySortedBy (node_cmp net f) nodes → IsStrictlySortedBy (maps.order (built s)) (map (moment_at f) nodes)
 unfolding IsStrictlySortedBy
 moments_in_order s net f seen [] live up = tt
 moments_in_order s net f seen (x ∷ nodes) live up = (each nodes (All-tail (IsLive f) x nodes live) up.0, moments_in_order s net f seen nodes (All-tail (IsLive f) x nodes live) up.1)
   where
-    each : (ys : List ℕ) → All (IsLive f) ys → AllByRecursion (λ y. node_cmp net f x y ≡ Less) ys → AllByRecursion (λ k. order (built s) (moment_at f x) k ≡ Less) (map (moment_at f) ys)
+    each : (ys : List ℕ) → All (IsLive f) ys → AllByRecursion (λ y. node_cmp net f x y ≡ Less) ys → AllByRecursion (λ k. maps.order (built s) (moment_at f x) k ≡ Less) (map (moment_at f) ys)
     each [] alive h = tt
     each (y ∷ ys) alive h = (sym (order_is s net f seen x y (All-head (IsLive f) x nodes live) (All-head (IsLive f) y ys alive)) ∙ h.0, each ys (All-tail (IsLive f) y ys alive) h.1)

@@ -1,142 +1,154 @@
--- Where the ways to two spots of one root part.
-use Rattle.std.proofs.Common.{◌≡◌, ◌≢◌, ℕ, zero, suc, ◌+◌, ◌<◌, ◌≤◌, Bool, true, false, List, [], ◌∷◌, ◌++◌, map, take, drop, get_or, length, refl, sym, ap, ◌∙◌, subst, arith}
-use Rattle.std.specs.Prelude.{Option, Some, is_some}
-use Rattle.std.specs.List.{All}
-use Rattle.std.specs.Option.{option_map_or}
+-- Where the ways to two nodes part, and how far apart the rules on them lead.
+use Rattle.std.proofs.Common.{◌≡◌, ℕ, zero, suc, Bool, true, false, cond, eqb, ◌<◌, List, [], ◌∷◌, ◌++◌, map, length, take, drop, Option, Some, None, refl, sym, ap, ◌∙◌, subst, arith, eqb-true, eq-eqb}
 use Rattle.std.specs.Cmp.Lexicographic.{bytes_decides}
-use Rattle.std.proofs.lemmas.List.{map_push, take_more, take-append-drop, get_or_default}
-use Rattle.std.proofs.lemmas.List.Elements.{All-nil}
+use Rattle.std.proofs.lemmas.List.{map-append, map_push, take-append-drop}
+use Rattle.ancestors.specs.Ways.{shared_front}
+use Rattle.ancestors.proofs.Fronts.{shared_front-alike}
+use Rattle.tmm_model.specs.Bounds.{bound_less}
 use Rattle.tmm_model.specs.Points.{same_name}
-use Rattle.dist_net.specs.Net.{Net}
 use Rattle.spots.specs.declared.link.Link.{Link}
-use Rattle.spots.specs.declared.spot.Spot.{Spot}
-use Rattle.spots.specs.declared.spot.Spot.TheVariants.{Declared, Node as OfNode}
-use Rattle.spots.specs.Forest.{Forest, Member, member, IsLive, rules_of, IsOnce}
-use Rattle.spots.specs.Seen.{HasList}
-use Rattle.spots.specs.Spots.{base_of, links_of}
 use Rattle.spots.specs.declared.sums.Sums.{Sums}
+use Rattle.spots.specs.Spots.{links_low, links_high, links_apart}
 use Rattle.spots.specs.Sums.{AreSums, ArePartedBy}
-use Rattle.occ_tree.specs.Ways.{number_at, IsWay, IsWayOf, IsShared, links_to, AreShared}
-use Rattle.spots.proofs.Apart.{apart_from_none, apart_to_none, apart_behind, Differ}
-use Rattle.spots.proofs.Distances.{one_root}
-use Rattle.occ_tree.proofs.Lookups.{same_moment}
+use Rattle.spots.proofs.Apart.{apart_from_none, apart_to_none, apart_same, apart_differ}
+use Rattle.occ_tree.specs.declared.node.Node.{Node}
+use Rattle.occ_tree.specs.Nodes.{Nodes, Way, name_at, link_at, parent_at, way_from, way_to, ArePlaced}
+use Rattle.occ_tree.proofs.Ways.{way_to-at, length-way_from}
+use Rattle.occ_tree.proofs.Wording.{LeadsDown, leads_down, name_of, rule_at}
 
--- ---- two nodes of one root
+-- ---- what a way says, by its numbers
 
-module _ (f : Forest) (once : IsOnce f) (m n : Member) (root : m.root ≡ n.root) (u v : List ℕ) (to_m : IsWay f m u) (to_n : IsWay f n v) where
-  -- one number, the same rules
-  same_rules : (i : ℕ) → i ≤ length m.links → i ≤ length n.links → number_at u i ≡ number_at v i → take i m.links ≡ take i n.links
-  same_rules i in_m in_n same =
-      let a = to_m.each i in_m in
-      let b = to_n.each i in_n in
-      let both : Some a.node ≡ Some b.node = sym a.at ∙ ap (member f) same ∙ b.at in
-      let is : a.node ≡ b.node = cc in
-      sym a.links ∙ ap (λ (k : Member). k.links) is ∙ b.links
-
-  -- the same names of rules, one number
-  one_number : (i : ℕ) → i ≤ length m.links → i ≤ length n.links → map (λ (l : Link). l.rule) (take i m.links) ≡ map (λ (l : Link). l.rule) (take i n.links) → number_at u i ≡ number_at v i
-  one_number i in_m in_n names =
-      let a = to_m.each i in_m in
-      let b = to_n.each i in_n in
-      let rules : rules_of a.node ≡ rules_of b.node = ap (map (λ (l : Link). l.rule)) a.links ∙ names ∙ sym (ap (map (λ (l : Link). l.rule)) b.links) in
-      once (number_at u i) (number_at v i) a.node b.node a.at b.at (same_moment a.node b.node (a.root ∙ root ∙ sym b.root) rules)
-
-  -- rules of one name behind the same rules lead to one number
-  one_more : (i : ℕ) → i < length m.links → i < length n.links → (d : Link) → take i m.links ≡ take i n.links → (get_or m.links i d).rule ≡ (get_or n.links i d).rule → number_at u (i + 1) ≡ number_at v (i + 1)
-  one_more i in_m in_n d same name =
-      one_number (i + 1) (omega (arith, in_m)) (omega (arith, in_n))
-      (ap (map (λ (l : Link). l.rule)) (take_more m.links i d in_m)
-      ∙ map_push (λ (l : Link). l.rule) (take i m.links) (get_or m.links i d)
-      ∙ (λ j. map (λ (l : Link). l.rule) (same j) ++ name j ∷ [])
-      ∙ sym (map_push (λ (l : Link). l.rule) (take i n.links) (get_or n.links i d))
-      ∙ sym (ap (map (λ (l : Link). l.rule)) (take_more n.links i d in_n)))
-
-  parted_nodes : (s : Sums) → AreShared f u v s → ArePartedBy s m.links n.links
-  parted_nodes s shares = by shares.count shares.shared shares.sums
-    where
-      by : (count : ℕ) → IsShared u v count → AreSums s (links_to f u count) → ArePartedBy s m.links n.links
-      by zero shared sums =
-          let count_u = to_m.count in
-          let count_v = to_n.count in
-          absurd (shared.part (omega (arith, count_u)) (omega (arith, count_v)) (one_number 0 (omega arith) (omega arith) refl))
-      by (suc i) shared sums =
-          let count_u = to_m.count in
-          let count_v = to_n.count in
-          let within_u = shared.in_first in
-          let within_v = shared.in_second in
-          let in_m : i ≤ length m.links = omega (arith, count_u, within_u) in
-          let in_n : i ≤ length n.links = omega (arith, count_v, within_v) in
-          let same : take i m.links ≡ take i n.links = same_rules i in_m in_n (shared.same i (omega arith)) in
-          let a = to_m.each i in_m in
-          let front : links_to f u (suc i) ≡ take i m.links = ap (λ (o : Option Member). option_map_or (λ k. k.links) o []) a.at ∙ a.links in
-          record {
-            front = take i m.links;
-            first = drop i m.links;
-            second = drop i n.links;
-            sums = subst (AreSums s) front sums;
-            first_is = sym (take-append-drop i m.links);
-            second_is = sym (take-append-drop i n.links) ∙ ap (λ (ls : List Link). ls ++ drop i n.links) (sym same);
-            apart = apart_behind i m.links n.links in_m in_n same (differ i shared same);
-          }
-        where
-          differ : (i : ℕ) → IsShared u v (suc i) → take i m.links ≡ take i n.links → Differ m.links n.links i
-          differ i shared same in_m in_n d = which (same_name (get_or m.links i d).rule (get_or n.links i d).rule) refl
-            where
-              which : (b : Bool) → same_name (get_or m.links i d).rule (get_or n.links i d).rule ≡ b → same_name (get_or m.links i d).rule (get_or n.links i d).rule ≡ false
-              which false e = e
-              which true e =
-                  let count_u = to_m.count in
-                  let count_v = to_n.count in
-                  let next : suc i ≡ i + 1 = omega arith in
-                  let one = one_more i in_m in_n d same ((bytes_decides (get_or m.links i d).rule (get_or n.links i d).rule).0 e) in
-                  absurd (shared.part (omega (arith, count_u, in_m)) (omega (arith, count_v, in_n)) (subst (λ (k : ℕ). number_at u k ≡ number_at v k) (sym next) one))
-
--- ---- two spots of one base
-
--- nothing is shared where no number can be
-none_shared : (f : Forest) (u v : List ℕ) (s : Sums) → ((k : ℕ) → IsShared u v (suc k) → ⊥) → AreShared f u v s → AreSums s []
-none_shared f u v s none shares = by shares.count shares.shared shares.sums
+links-from : (node : Nodes) (d x : ℕ) → (way_from node d x).links ≡ map (link_at node) (drop 1 (way_from node d x).numbers)
+links-from node zero x = refl
+links-from node (suc d) x =
+    let w = way_from node d (parent_at node x) in
+    ap (λ (ls : List Link). ls ++ link_at node x ∷ []) (links-from node d (parent_at node x))
+    ∙ by w.numbers (let long = length-way_from node d (parent_at node x) in omega (arith, long))
   where
-    by : (count : ℕ) → IsShared u v count → AreSums s (links_to f u count) → AreSums s []
-    by zero shared sums = sums
-    by (suc i) shared sums = absurd (none i shared)
+    by : (u : List ℕ) → 0 < length u → map (link_at node) (drop 1 u) ++ link_at node x ∷ [] ≡ map (link_at node) (drop 1 (u ++ x ∷ []))
+    by [] some = absurd (omega (arith, some))
+    by (y ∷ u) some = sym (map_push (link_at node) u x)
 
--- no number stands in an empty way
-no_place : (way : List ℕ) (k : ℕ) → way ≡ [] → suc k ≤ length way → ⊥
-no_place way k none within = let empty = ap length none in omega (arith, within, empty)
+-- the rules on the way to a node are those of its nodes but the root
+pub links_on : (node : Nodes) (x : ℕ) (n : Node) → node x ≡ Some n → (way_to node x).links ≡ map (link_at node) (drop 1 (way_to node x).numbers)
+links_on node x n at =
+    ap (λ (w : Way). w.links) (way_to-at node x n at)
+    ∙ links-from node n.depth x
+    ∙ sym (ap (λ (w : Way). map (link_at node) (drop 1 w.numbers)) (way_to-at node x n at))
 
--- **The rules behind those that both begin with tell how far apart the spots are.**
-pub parted : (net : Net) (f : Forest) → HasList net f → (p q : Spot) (u v : List ℕ) (s : Sums) → base_of f p ≡ base_of f q → IsWayOf f p u → IsWayOf f q v → AreShared f u v s → ArePartedBy s (links_of f p) (links_of f q)
-parted net f list (Declared p) q u v s base to_p to_q shares = record {
-  front = [];
-  first = [];
-  second = links_of f q;
-  sums = none_shared f u v s (λ k shared. no_place u k to_p shared.in_first) shares;
-  first_is = refl;
-  second_is = refl;
-  apart = apart_to_none (links_of f q);
-}
-parted net f list (OfNode x) (Declared q) u v s base to_p to_q shares = record {
-  front = [];
-  first = links_of f (OfNode x);
-  second = [];
-  sums = none_shared f u v s (λ k shared. no_place v k to_q shared.in_second) shares;
-  first_is = refl;
-  second_is = refl;
-  apart = apart_from_none (links_of f (OfNode x));
-}
-parted net f (t, seen) (OfNode x) (OfNode y) u v s base (m, m_at, to_m) (n, n_at, to_n) shares =
-    let base_m : base_of f (OfNode x) ≡ m.begin = ap (λ (o : Option Member). option_map_or (λ k. k.begin) o 0) m_at in
-    let base_n : base_of f (OfNode y) ≡ n.begin = ap (λ (o : Option Member). option_map_or (λ k. k.begin) o 0) n_at in
-    let root = one_root net f (t, seen) x y m n m_at n_at (sym base_m ∙ base ∙ base_n) in
-    let links_m : m.links ≡ links_of f (OfNode x) = sym (ap (λ (o : Option Member). option_map_or (λ k. k.links) o []) m_at) in
-    let links_n : n.links ≡ links_of f (OfNode y) = sym (ap (λ (o : Option Member). option_map_or (λ k. k.links) o []) n_at) in
-    subst (λ (ls : List Link). ArePartedBy s ls (links_of f (OfNode y))) links_m (subst (ArePartedBy s m.links) links_n (parted_nodes f seen.once m n root u v to_m to_n s shares))
+-- the name of the first node
+abbrev pub first_name : Nodes → List ℕ → List ℕ
+first_name node [] = []
+first_name node (x ∷ u) = name_at node x
 
--- the numbers on a way are of nodes
-pub live_way : (f : Forest) (p : Spot) (way : List ℕ) → IsWayOf f p way → All (IsLive f) way
-live_way f (Declared p) way none = subst (All (IsLive f)) (sym none) (All-nil (IsLive f))
-live_way f (OfNode x) way (m, m_at, to_m) = λ i d within.
-    let count = to_m.count in
-    let a = to_m.each i (omega (arith, count, within)) in
-    subst (IsLive f) (get_or_default way i 0 d within) (ap is_some a.at)
+root-from : (node : Nodes) (d x : ℕ) → (way_from node d x).root ≡ first_name node (way_from node d x).numbers
+root-from node zero x = refl
+root-from node (suc d) x =
+    let w = way_from node d (parent_at node x) in
+    root-from node d (parent_at node x) ∙ by w.numbers (let long = length-way_from node d (parent_at node x) in omega (arith, long))
+  where
+    by : (u : List ℕ) → 0 < length u → first_name node u ≡ first_name node (u ++ x ∷ [])
+    by [] some = absurd (omega (arith, some))
+    by (y ∷ u) some = refl
+
+-- the root of a way is named by its first node
+pub root_on : (node : Nodes) (x : ℕ) (n : Node) → node x ≡ Some n → (way_to node x).root ≡ first_name node (way_to node x).numbers
+root_on node x n at =
+    ap (λ (w : Way). w.root) (way_to-at node x n at) ∙ root-from node n.depth x ∙ sym (ap (λ (w : Way). first_name node w.numbers) (way_to-at node x n at))
+
+-- ---- what two lists begin with
+
+front_taken : (u v : List ℕ) → shared_front u v ≡ take (length (shared_front u v)) u
+front_taken [] v = refl
+front_taken (x ∷ u) [] = refl
+front_taken (x ∷ u) (y ∷ v) = by (front_taken u v) (eqb x y)
+  where
+    by : shared_front u v ≡ take (length (shared_front u v)) u → (t : Bool) → cond t (x ∷ shared_front u v) [] ≡ take (length (cond t (x ∷ shared_front u v) [])) (x ∷ u)
+    by again true = ap (λ (l : List ℕ). x ∷ l) again
+    by again false = refl
+
+front_taken_too : (u v : List ℕ) → shared_front u v ≡ take (length (shared_front u v)) v
+front_taken_too u v = front_taken u v ∙ shared_front-alike (length (shared_front u v)) u v (omega arith)
+
+module _ (node : Nodes) (placed : ArePlaced node) where
+  abbrev rules : List ℕ → List Link
+  rules u = map (link_at node) u
+
+  -- nodes of one parent are one where their names are
+  one_name : (above : Option ℕ) (x y : ℕ) (u v : List ℕ) → LeadsDown node above (x ∷ u) → LeadsDown node above (y ∷ v) → name_at node x ≡ name_at node y → x ≡ y
+  one_name above x y u v ((m, m_at, m_above), down_u) ((n, n_at, n_above), down_v) same =
+      placed.apart x y m n m_at n_at (m_above ∙ sym n_above) (sym (name_of node x m m_at) ∙ same ∙ name_of node y n n_at)
+
+  -- rules that both ways begin with count for nothing
+  apart_behind_front : (above : Option ℕ) (u v : List ℕ) → LeadsDown node above u → LeadsDown node above v
+      → links_apart (rules u) (rules v) ≡ bound_less (links_high (rules (drop (length (shared_front u v)) v))) (links_low (rules (drop (length (shared_front u v)) u)))
+  apart_behind_front above [] v down_u down_v = apart_to_none (rules v)
+  apart_behind_front above (x ∷ u) [] down_u down_v = apart_from_none (rules (x ∷ u))
+  apart_behind_front above (x ∷ u) (y ∷ v) down_u down_v = by (λ (same : x ≡ y). apart_behind_front (Some x) u v down_u.1 (subst (λ z. LeadsDown node (Some z) v) (sym same) down_v.1)) (eqb x y) refl
+    where
+      by : (x ≡ y → links_apart (rules u) (rules v) ≡ bound_less (links_high (rules (drop (length (shared_front u v)) v))) (links_low (rules (drop (length (shared_front u v)) u))))
+          → (t : Bool) → eqb x y ≡ t
+          → links_apart (rules (x ∷ u)) (rules (y ∷ v)) ≡ bound_less (links_high (rules (drop (length (cond t (x ∷ shared_front u v) [])) (y ∷ v)))) (links_low (rules (drop (length (cond t (x ∷ shared_front u v) [])) (x ∷ u))))
+      by again true same =
+          let is = eqb-true x y same in
+          apart_same (link_at node x) (link_at node y) (rules u) (rules v) ((bytes_decides (link_at node x).rule (link_at node y).rule).1 (ap (λ z. (link_at node z).rule) is)) ∙ again is
+      by again false other =
+          apart_differ (link_at node x) (link_at node y) (rules u) (rules v) (which (same_name (link_at node x).rule (link_at node y).rule) refl)
+        where
+          which : (b : Bool) → same_name (link_at node x).rule (link_at node y).rule ≡ b → same_name (link_at node x).rule (link_at node y).rule ≡ false
+          which false e = e
+          which true e =
+              let named : name_at node x ≡ name_at node y = sym (rule_at node x) ∙ (bytes_decides (link_at node x).rule (link_at node y).rule).0 e ∙ rule_at node y in
+              let t : eqb x y ≡ true = eq-eqb x y (one_name above x y u v down_u down_v named) in
+              let both : false ≡ true = sym other ∙ t in
+              cc
+
+  parted_lists : (u v w : List ℕ) (s : Sums) → LeadsDown node None u → LeadsDown node None v → w ≡ shared_front u v → 0 < length w → AreSums s (rules (drop 1 w)) → ArePartedBy s (rules (drop 1 u)) (rules (drop 1 v))
+  parted_lists [] v w s down_u down_v is some sums = absurd (let none = ap length is in omega (arith, some, none))
+  parted_lists (x ∷ u) [] w s down_u down_v is some sums = absurd (let none = ap length is in omega (arith, some, none))
+  parted_lists (x ∷ u) (y ∷ v) w s down_u down_v is some sums = by (eqb x y) refl is
+    where
+      by : (t : Bool) → eqb x y ≡ t → w ≡ cond t (x ∷ shared_front u v) [] → ArePartedBy s (rules u) (rules v)
+      by false other is = absurd (let none = ap length is in omega (arith, some, none))
+      by true same is =
+          let one : x ≡ y = eqb-true x y same in
+          let k = length (shared_front u v) in
+          record {
+            front = rules (shared_front u v);
+            first = rules (drop k u);
+            second = rules (drop k v);
+            sums = subst (λ (l : List ℕ). AreSums s (rules (drop 1 l))) is sums;
+            first_is = ap rules (sym (take-append-drop k u)) ∙ map-append (link_at node) (take k u) (drop k u) ∙ ap (λ (l : List ℕ). rules l ++ rules (drop k u)) (sym (front_taken u v));
+            second_is = ap rules (sym (take-append-drop k v)) ∙ map-append (link_at node) (take k v) (drop k v) ∙ ap (λ (l : List ℕ). rules l ++ rules (drop k v)) (sym (front_taken_too u v));
+            apart = apart_behind_front (Some x) u v down_u.1 (subst (λ z. LeadsDown node (Some z) v) (sym one) down_v.1);
+          }
+
+  -- **The sums of the rules to the last node above both tell how far apart two nodes are.**
+  pub parted_ways : (x y z : ℕ) (m n q : Node) → node x ≡ Some m → node y ≡ Some n → node z ≡ Some q → (way_to node z).numbers ≡ shared_front (way_to node x).numbers (way_to node y).numbers → (s : Sums) → AreSums s (way_to node z).links
+      → ArePartedBy s (way_to node x).links (way_to node y).links
+  parted_ways x y z m n q m_at n_at q_at is s sums =
+      let first = sym (links_on node x m m_at) in
+      let second = sym (links_on node y n n_at) in
+      let long = length-way_from node q.depth z in
+      let way = ap (λ (w : Way). length w.numbers) (way_to-at node z q q_at) in
+      subst (λ (u : List Link). ArePartedBy s u (way_to node y).links) first
+      (subst (ArePartedBy s (rules (drop 1 (way_to node x).numbers))) second
+      (parted_lists (way_to node x).numbers (way_to node y).numbers (way_to node z).numbers s (leads_down node placed x m m_at) (leads_down node placed y n n_at) is (omega (arith, long, way)) (subst (AreSums s) (links_on node z q q_at) sums)))
+
+  no_front : (u v : List ℕ) → LeadsDown node None u → LeadsDown node None v → 0 < length u → 0 < length v → first_name node u ≡ first_name node v → shared_front u v ≡ [] → ⊥
+  no_front [] v down_u down_v some_u some_v same none = omega (arith, some_u)
+  no_front (x ∷ u) [] down_u down_v some_u some_v same none = omega (arith, some_v)
+  no_front (x ∷ u) (y ∷ v) down_u down_v some_u some_v same none =
+      let t : eqb x y ≡ true = eq-eqb x y (one_name None x y u v down_u down_v same) in
+      let short : length (cond true (x ∷ shared_front u v) []) ≡ 0 = ap (λ b. length (cond b (x ∷ shared_front u v) [])) (sym t) ∙ ap length none in
+      omega (arith, short)
+
+  -- two nodes of one root have a node above both
+  pub shares_root : (x y : ℕ) (m n : Node) → node x ≡ Some m → node y ≡ Some n → (way_to node x).root ≡ (way_to node y).root → shared_front (way_to node x).numbers (way_to node y).numbers ≡ [] → ⊥
+  shares_root x y m n m_at n_at same none =
+      let long_x = length-way_from node m.depth x in
+      let way_x = ap (λ (w : Way). length w.numbers) (way_to-at node x m m_at) in
+      let long_y = length-way_from node n.depth y in
+      let way_y = ap (λ (w : Way). length w.numbers) (way_to-at node y n n_at) in
+      no_front (way_to node x).numbers (way_to node y).numbers (leads_down node placed x m m_at) (leads_down node placed y n n_at) (omega (arith, long_x, way_x)) (omega (arith, long_y, way_y))
+      (sym (root_on node x m m_at) ∙ same ∙ root_on node y n n_at) none

@@ -1,91 +1,103 @@
--- The way to a node.
-use Rattle.std.proofs.Common.{◌≡◌, ◌⊎◌, ℕ, zero, suc, ◌+◌, ◌-◌, ◌≤◌, List, [], ◌∷◌, take, length, refl, sym, ap, ◌∙◌, inl, inr, arith}
-use Rattle.std.specs.Prelude.{Option, Some, None, MatchOption}
-use Rattle.std.proofs.Math.ListN.{get_or-append}
-use Rattle.std.proofs.lemmas.List.{length_push, get_or_push, take_all, take-append-le}
-use Rattle.spots.specs.declared.link.Link.{Link}
+-- Ways among nodes that stay, also where dates change.
+use Rattle.std.proofs.Common.{◌≡◌, ℕ, zero, suc, ◌+◌, ◌<◌, pos, [], ◌∷◌, length, Option, Some, None, IsSome, refl, sym, ap, ◌∙◌, subst, arith}
+use Rattle.std.specs.Prelude.{MatchOption}
+use Rattle.std.specs.Option.{option_map, option_map_or}
+use Rattle.std.proofs.lemmas.List.{length_push}
+use Rattle.tmm_model.specs.declared.bound.Bound.TheVariants.{Free}
 use Rattle.occ_tree.specs.declared.node.Node.{Node}
-use Rattle.occ_tree.specs.Nodes.{Slots, node_at, member_of, forest_in, IsNode, IsBetween}
-use Rattle.occ_tree.specs.Ways.{number_at, IsWay}
-use Rattle.occ_tree.proofs.NodeLists.{seen}
+use Rattle.occ_tree.specs.declared.node.Above.{Above}
+use Rattle.occ_tree.specs.Nodes.{Nodes, Way, no_way, further, link_of, parent_of, link_at, parent_at, way_from, way_to, HasParent}
 
-pub empty_or : (ls : List Link) → (ls ≡ []) ⊎ (ls ≡ [] → ⊥)
-empty_or [] = inl refl
-empty_or (l ∷ ls) = inr (λ e. cc)
+-- the node, whatever its date
+abbrev pub fixed : Node → Node
+fixed n = record n { early = pos 0 }
 
-pub empty_from_length : (ls : List Link) → length ls ≤ 0 → ls ≡ []
-empty_from_length [] short = refl
-empty_from_length (l ∷ ls) short = absurd (omega (arith, short))
+-- each node is among the others, maybe with another date
+abbrev pub Extends : Nodes → Nodes → Type 0
+Extends a b = (y : ℕ) (n : Node) → a y ≡ Some n → (m : Node) × (b y ≡ Some m) × (fixed m ≡ fixed n)
 
-rest_of : (i n : ℕ) → i ≤ n → (rest : ℕ) × (n ≡ i + rest)
-rest_of i n within = (n - i, omega (arith, within))
+-- each node has its parent, or is no deeper than a root
+abbrev pub HaveParents : Nodes → Type 0
+HaveParents node = (y : ℕ) (n : Node) → node y ≡ Some n → MatchOption n.above (n.depth ≡ 0) (HasParent node n)
 
--- what stands at a place of the way to a node
-record IsPassed (slots : Slots) (n : Node) (i : ℕ) : Type 0 where
-  node : Node
-  at : node_at slots (number_at n.way.items i) ≡ Some node
-  root : node.root ≡ n.root
-  links : node.links.items ≡ take i n.links.items
+-- ---- one way
 
-module _ (slots : Slots) (nodes : (x : ℕ) (n : Node) → node_at slots x ≡ Some n → IsNode slots x n) where
-  -- the event of an effect
-  pub parent_of : (x : ℕ) (n : Node) → node_at slots x ≡ Some n → (n.links.items ≡ [] → ⊥) → (y : ℕ) × (m : Node) × (n.parent ≡ Some y) × (node_at slots y ≡ Some m) × IsBetween m n x
-  parent_of x n at derived = by n.parent refl (nodes x n at).parent
-    where
-      by : (o : Option ℕ) → n.parent ≡ o → MatchOption o (n.links.items ≡ []) (λ y. (m : Node) × (node_at slots y ≡ Some m) × IsBetween m n x) → (y : ℕ) × (m : Node) × (n.parent ≡ Some y) × (node_at slots y ≡ Some m) × IsBetween m n x
-      by None e none = absurd (derived none)
-      by (Some y) e (m, m_at, between) = (y, m, e, m_at, between)
+pub way_to-at : (node : Nodes) (x : ℕ) (n : Node) → node x ≡ Some n → way_to node x ≡ way_from node n.depth x
+way_to-at node x n at = ap (λ o. option_map_or (λ (q : Node). way_from node q.depth x) o no_way) at
 
-  -- a number for each rule, and one for the root
-  pub way_count : (d x : ℕ) (n : Node) → node_at slots x ≡ Some n → length n.links.items ≡ d → length n.way.items ≡ d + 1
-  way_count zero x n at none = ap length ((nodes x n at).start (empty_from_length n.links.items (omega (arith, none))))
-  way_count (suc d) x n at count =
-      let derived : n.links.items ≡ [] → ⊥ = λ e. let none = ap length e in omega (arith, none, count) in
-      let (y, m, parent, m_at, between) = parent_of x n at derived in
-      let longer : length n.links.items ≡ length m.links.items + 1 = ap length between.links ∙ length_push m.links.items between.link in
-      let again = way_count d y m m_at (omega (arith, longer, count)) in
-      ap length between.way ∙ length_push m.way.items x ∙ ap (λ (k : ℕ). k + 1) again ∙ omega arith
+pub length-way_from : (node : Nodes) (d x : ℕ) → length (way_from node d x).numbers ≡ d + 1
+length-way_from node zero x = refl
+length-way_from node (suc d) x = length_push (way_from node d (parent_at node x)).numbers x ∙ (let less = length-way_from node d (parent_at node x) in omega (arith, less))
 
-  -- its own number is the last
-  way_last : (i x : ℕ) (n : Node) → node_at slots x ≡ Some n → length n.links.items ≡ i → number_at n.way.items i ≡ x
-  way_last i x n at count =
-      elim (empty_or n.links.items) [
-        | inl none ↦
-            let start = (nodes x n at).start none in
-            let first : i ≡ 0 = sym count ∙ ap length none in
-            λ j. number_at (start j) (first j)
-        | inr derived ↦
-            let (y, m, parent, m_at, between) = parent_of x n at derived in
-            let longer : length n.links.items ≡ length m.links.items + 1 = ap length between.links ∙ length_push m.links.items between.link in
-            let before : length m.way.items ≡ i = way_count (length m.links.items) y m m_at refl ∙ sym longer ∙ count in
-            ap (λ (w : List ℕ). number_at w i) between.way ∙ get_or_push m.way.items x 0 i before
-      ]
+pub length-links_from : (node : Nodes) (d x : ℕ) → length (way_from node d x).links ≡ d
+length-links_from node zero x = refl
+length-links_from node (suc d) x = length_push (way_from node d (parent_at node x)).links (link_at node x) ∙ (let less = length-links_from node d (parent_at node x) in omega (arith, less))
 
-  -- at each place stands the node to which so many of the rules lead
-  way_at : (d i x : ℕ) (n : Node) → node_at slots x ≡ Some n → length n.links.items ≡ i + d → IsPassed slots n i
-  way_at zero i x n at count =
-      let all : length n.links.items ≡ i = omega (arith, count) in
-      record { node = n; at = ap (node_at slots) (way_last i x n at all) ∙ at; root = refl; links = sym (take_all i n.links.items (omega (arith, all))) }
-  way_at (suc d) i x n at count =
-      let derived : n.links.items ≡ [] → ⊥ = λ e. let none = ap length e in omega (arith, none, count) in
-      let (y, m, parent, m_at, between) = parent_of x n at derived in
-      let longer : length n.links.items ≡ length m.links.items + 1 = ap length between.links ∙ length_push m.links.items between.link in
-      let again = way_at d i y m m_at (omega (arith, longer, count)) in
-      let whole = way_count (length m.links.items) y m m_at refl in
-      let place : number_at n.way.items i ≡ number_at m.way.items i = ap (λ (w : List ℕ). number_at w i) between.way ∙ get_or-append m.way.items (x ∷ []) 0 i (omega (arith, whole, longer, count)) in
-      record {
-        node = again.node;
-        at = ap (node_at slots) place ∙ again.at;
-        root = again.root ∙ between.root;
-        links = again.links ∙ sym (take-append-le i m.links.items (between.link ∷ []) (omega (arith, longer, count))) ∙ sym (ap (take i) between.links);
-      }
+pub length-way : (node : Nodes) (x : ℕ) (n : Node) → node x ≡ Some n → length (way_to node x).numbers ≡ n.depth + 1
+length-way node x n at = ap (λ (w : Way). length w.numbers) (way_to-at node x n at) ∙ length-way_from node n.depth x
 
-  -- the way as told of members
-  pub IsWay-listed : (x : ℕ) (n : Node) → node_at slots x ≡ Some n → IsWay (forest_in slots) (member_of n) n.way.items
-  IsWay-listed x n at = record {
-    count = way_count (length n.links.items) x n at refl;
-    each = λ i within.
-        let (rest, sum) = rest_of i (length n.links.items) within in
-        let passed = way_at rest i x n at sum in
-        record { node = member_of passed.node; at = seen slots (number_at n.way.items i) passed.node passed.at; root = passed.root; links = passed.links };
-  }
+pub length-links : (node : Nodes) (x : ℕ) (n : Node) → node x ≡ Some n → length (way_to node x).links ≡ n.depth
+length-links node x n at = ap (λ (w : Way). length w.links) (way_to-at node x n at) ∙ length-links_from node n.depth x
+
+-- a number with a way is of a node
+pub node_on_way : (node : Nodes) (x : ℕ) → 0 < length (way_to node x).numbers → (n : Node) × (node x ≡ Some n)
+node_on_way node x some = by (node x) refl
+  where
+    by : (o : Option Node) → node x ≡ o → (n : Node) × (node x ≡ Some n)
+    by (Some n) at = (n, at)
+    by None at = absurd (let none : length (way_to node x).numbers ≡ 0 = ap (λ (o : Option Node). length (option_map_or (λ (q : Node). way_from node q.depth x) o no_way).numbers) at in omega (arith, some, none))
+
+pub parent_at-is : (node : Nodes) (x : ℕ) (n : Node) (a : Above) → node x ≡ Some n → n.above ≡ Some a → parent_at node x ≡ a.parent
+parent_at-is node x n a at above =
+    ap (λ o. option_map_or (λ (q : Node). option_map_or (λ (p : ℕ). p) (parent_of q) 0) o 0) at
+    ∙ ap (λ (o : Option Above). option_map_or (λ (p : ℕ). p) (option_map (λ (b : Above). b.parent) o) 0) above
+
+pub link_at-is : (node : Nodes) (x : ℕ) (n : Node) → node x ≡ Some n → link_at node x ≡ link_of n
+link_at-is node x n at = ap (λ o. option_map_or link_of o (record { rule = []; lo = pos 0; hi = Free })) at
+
+-- the way to a node leads on from the one to its parent
+pub way-further : (node : Nodes) (x : ℕ) (n : Node) (a : Above) → node x ≡ Some n → n.above ≡ Some a → HasParent node n a → way_to node x ≡ further (way_to node a.parent) x (link_of n)
+way-further node x n a at above (p, p_at, deep, begin) =
+    let depth : n.depth ≡ suc p.depth = omega (arith, deep) in
+    way_to-at node x n at ∙ ap (λ d. way_from node d x) depth
+    ∙ (λ i. further (way_from node p.depth (parent_at-is node x n a at above i)) x (link_at-is node x n at i))
+    ∙ ap (λ (w : Way). further w x (link_of n)) (sym (way_to-at node a.parent p p_at))
+
+-- ---- ways that stay
+
+module _ (a b : Nodes) (more : Extends a b) where
+  same_at : {A : Type 0} (f : Node → A) (none : A) (x : ℕ) (n : Node) → a x ≡ Some n → option_map_or (λ (q : Node). f (fixed q)) (b x) none ≡ option_map_or (λ (q : Node). f (fixed q)) (a x) none
+  same_at f none x n at =
+      let (m, here, same) = more x n at in
+      ap (λ o. option_map_or (λ (q : Node). f (fixed q)) o none) here ∙ ap f same ∙ ap (λ o. option_map_or (λ (q : Node). f (fixed q)) o none) (sym at)
+
+  module _ (parents : HaveParents a) where
+    pub way_from-same : (d x : ℕ) (n : Node) → a x ≡ Some n → n.depth ≡ d → way_from b d x ≡ way_from a d x
+    way_from-same zero x n at deep = λ i. record { numbers = x ∷ []; root = same_at (λ (q : Node). q.name) [] x n at i; links = [] }
+    way_from-same (suc d) x n at deep =
+        let way = by (way_from-same d) n.above refl (parents x n at) in
+        λ i. further (way i) x (same_at link_of (record { rule = []; lo = pos 0; hi = Free }) x n at i)
+      where
+        by : ((y : ℕ) (q : Node) → a y ≡ Some q → q.depth ≡ d → way_from b d y ≡ way_from a d y) → (o : Option Above) → n.above ≡ o → MatchOption o (n.depth ≡ 0) (HasParent a n) → way_from b d (parent_at b x) ≡ way_from a d (parent_at a x)
+        by again None above root = absurd (omega (arith, deep, root))
+        by again (Some up) above (p, p_at, depth, begin) =
+            let is : parent_at a x ≡ up.parent = parent_at-is a x n up at above in
+            let same : parent_at b x ≡ parent_at a x = same_at (λ (q : Node). option_map_or (λ (p : ℕ). p) (parent_of q) 0) 0 x n at in
+            ap (way_from b d) (same ∙ is) ∙ again up.parent p p_at (omega (arith, deep, depth)) ∙ ap (way_from a d) (sym is)
+
+    pub way-same : (x : ℕ) (n : Node) → a x ≡ Some n → way_to b x ≡ way_to a x
+    way-same x n at =
+        let (m, here, same) = more x n at in
+        way_to-at b x m here ∙ ap (λ d. way_from b d x) (ap (λ (q : Node). q.depth) same) ∙ way_from-same n.depth x n at refl ∙ sym (way_to-at a x n at)
+
+-- ---- nodes and their ways
+
+pub way_of_live : (node : Nodes) (x : ℕ) → IsSome (node x) → 0 < length (way_to node x).numbers
+way_of_live node x live = by (node x) refl live
+  where
+    by : (o : Option Node) → node x ≡ o → IsSome o → 0 < length (way_to node x).numbers
+    by None at live = absurd (cc)
+    by (Some n) at live = let long = length-way node x n at in omega (arith, long)
+
+pub live_by_way : (node : Nodes) (x : ℕ) → 0 < length (way_to node x).numbers → IsSome (node x)
+live_by_way node x some = let (n, at) = node_on_way node x some in subst (λ (o : Option Node). IsSome o) (sym at) refl

@@ -1,36 +1,17 @@
--- The tokens of each class.
-use Rattle.std.specs.Prelude.{◌≡◌, ◌≢◌, ℕ, true, false, List, [], ◌∷◌, ◌++◌, ◌<◌, length, take, Option, Some, None}
-use Rattle.std.specs.List.{All, HoldsAt}
-use Rattle.tmm_model.specs.declared.token.TokenRow.{TokenRow}
+-- Classes under small numbers.
+use Rattle.std.specs.Prelude.{◌≡◌, ℕ, List, ◌++◌, Option, Some, None}
+use Rattle.std.specs.List.{position}
 use Rattle.tmm_model.specs.Points.{same_name}
-use Rattle.spots.specs.declared.spot.Spot.{Spot}
-use Rattle.occ_tree.specs.declared.classes.ClassRows.{ClassRows}
 
--- the tokens of a class
-abbrev pub rows_in : List ClassRows → List ℕ → List (TokenRow Spot)
-rows_in [] c = []
-rows_in (e ∷ es) c =
-    elim (same_name c e.class) [
-      | true ↦ e.rows.items
-      | false ↦ rows_in es c
-    ]
+-- the place of a class among others, none where it is not among them
+abbrev pub place_in : List (List ℕ) → List ℕ → Option ℕ
+place_in names class = position (same_name class) names
 
--- the entry is of another class
-abbrev pub IsOther : List ℕ → ClassRows → Type 0
-IsOther c e = same_name c e.class ≡ false
+-- there may be more classes, behind those of before
+abbrev pub HaveMore : List (List ℕ) → List (List ℕ) → Type 0
+HaveMore old new = (more : List (List ℕ)) × (new ≡ old ++ more)
 
--- the entry at the place is of the class, and those before it are of others
-pub record IsPlace (es : List ClassRows) (c : List ℕ) (i : ℕ) : Type 0 where
-  pub within : i < length es
-  pub before : All (IsOther c) (take i es)
-  pub here : HoldsAt (λ e. same_name c e.class ≡ true) es i
-
--- the token is new among those of its class, and all others stay
-pub record AddsRow (old new : List ClassRows) (row : TokenRow Spot) : Type 0 where
-  pub own : rows_in new row.class ≡ rows_in old row.class ++ row ∷ []
-  pub others : (c : List ℕ) → c ≢ row.class → rows_in new c ≡ rows_in old c
-
--- the token, if there is one, is new among those of its class, and all others stay
-abbrev pub TakesToken : List ClassRows → List ClassRows → Option (TokenRow Spot) → Type 0
-TakesToken old new None = (c : List ℕ) → rows_in new c ≡ rows_in old c
-TakesToken old new (Some row) = AddsRow old new row
+-- the number is that of the class, and there is none where there is no class
+abbrev pub IsNumberOf : List (List ℕ) → Option (List ℕ) → Option ℕ → Type 0
+IsNumberOf names None number = number ≡ None
+IsNumberOf names (Some class) number = (k : ℕ) × (number ≡ Some k) × (place_in names class ≡ Some k)

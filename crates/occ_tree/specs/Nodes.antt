@@ -1,124 +1,156 @@
--- What holds of the nodes of a tree.
-use Rattle.std.specs.Prelude.{◌≡◌, ◌≢◌, ℕ, List, [], ◌∷◌, ◌++◌, map, Option, Some, None, MatchOption, slice_index_or, slice_set, vec_len, vec_capacity, ◌<◌, ◌↔◌}
-use Rattle.std.specs.Option.{option_map}
-use Rattle.std.specs.List.{Contains}
-use Rattle.slab.specs.Slab.{Slab}
+-- Nodes, and the ways that lead down to them.
+use Rattle.std.specs.Prelude.{◌≡◌, ◌≢◌, ℕ, zero, suc, ℤ, pos, ◌+ℤ◌, ◌+◌, ◌*◌, true, List, [], ◌∷◌, ◌++◌, take, Option, Some, None, MatchOption}
+use Rattle.std.specs.Option.{option_map, option_map_or}
+use Rattle.ancestors.specs.Jumps.{jump_depth}
 use Rattle.tmm_model.specs.declared.token.Shape.{Shape}
-use Rattle.tmm_model.specs.Moments.{Moment, along, printed}
+use Rattle.tmm_model.specs.declared.bound.Bound.TheVariants.{Free}
+use Rattle.tmm_model.specs.Bounds.{IsWithin}
+use Rattle.tmm_model.specs.Names.{is_name}
 use Rattle.spots.specs.declared.link.Link.{Link}
-use Rattle.spots.specs.declared.spot.Spot.{Spot}
-use Rattle.spots.specs.declared.spot.Spot.TheVariants.{Declared, Node as OfNode}
-use Rattle.spots.specs.Forest.{Forest, Member, member, IsLive, moment, child_member, IsParent, HasClass}
 use Rattle.occ_tree.specs.declared.node.Node.{Node}
-use Rattle.occ_tree.specs.Places.{forest}
+use Rattle.occ_tree.specs.declared.node.Above.{Above}
+use Rattle.spots.specs.Forest.{Forest, Member, HasClass}
 use Rattle.spots.specs.Light.{AreLight}
 use Rattle.spots.specs.Sums.{AreSums}
-use Rattle.occ_tree.specs.Ways.{IsWay}
 
--- the places of the slab
-abbrev pub Slots : Type 0
-Slots = List (Option Node)
+-- the node of each number, none where the number is of no node
+abbrev pub Nodes : Type 0
+Nodes = ℕ → Option Node
 
--- the node of a number, none where it is of none
-abbrev pub node_at : Slots → ℕ → Option Node
-node_at slots x = slice_index_or slots x None
+-- the rule that leads to a node from its parent; of a root, its name
+abbrev pub link_of : Node → Link
+link_of n = record { rule = n.name; lo = n.lo; hi = n.hi }
 
--- what the node says of its occurrence
-abbrev pub member_of : Node → Member
-member_of n = record { root = n.root; links = n.links.items; begin = n.begin; end = n.end; what = n.what; class = n.class; shape = n.shape }
+-- the number of the node right above, none for a root
+abbrev pub parent_of : Node → Option ℕ
+parent_of n = option_map (λ (a : Above). a.parent) n.above
+
+-- the number of the root of node x
+abbrev pub root_of : ℕ → Node → ℕ
+root_of x n = option_map_or (λ (a : Above). a.root) n.above x
+
+-- the number of the node to which node x jumps; a root stays where it is
+abbrev pub jump_of : ℕ → Node → ℕ
+jump_of x n = option_map_or (λ (a : Above). a.jump) n.above x
+
+-- ---- ways
+
+-- a way down from a root: the numbers of the nodes on it, the name of the root, and the rules on it
+pub record Way : Type 0 where
+  pub numbers : List ℕ
+  pub root : List ℕ
+  pub links : List Link
+
+-- a way of no nodes
+abbrev pub no_way : Way
+no_way = record { numbers = []; root = []; links = [] }
+
+-- the way, and on by a rule to node x
+abbrev pub further : Way → ℕ → Link → Way
+further w x link = record { numbers = w.numbers ++ x ∷ []; root = w.root; links = w.links ++ link ∷ [] }
+
+-- the name of a node
+abbrev pub name_at : Nodes → ℕ → List ℕ
+name_at node x = option_map_or (λ (n : Node). n.name) (node x) []
+
+-- the rule that leads to a node
+abbrev pub link_at : Nodes → ℕ → Link
+link_at node x = option_map_or link_of (node x) (record { rule = []; lo = pos 0; hi = Free })
+
+-- the number of the node right above
+abbrev pub parent_at : Nodes → ℕ → ℕ
+parent_at node x = option_map_or (λ (n : Node). option_map_or (λ (p : ℕ). p) (parent_of n) 0) (node x) 0
+
+-- the way to node x from the node that is so many above
+abbrev pub way_from : Nodes → ℕ → ℕ → Way
+way_from node zero x = record { numbers = x ∷ []; root = name_at node x; links = [] }
+way_from node (suc d) x = further (way_from node d (parent_at node x)) x (link_at node x)
+
+-- the way to a node, its root first
+abbrev pub way_to : Nodes → ℕ → Way
+way_to node x = option_map_or (λ (n : Node). way_from node n.depth x) (node x) no_way
+
+-- ---- occurrences
+
+-- what a node says of its occurrence, to which this way leads
+abbrev pub member_of : Way → Node → Member
+member_of w n = record { root = w.root; links = w.links; begin = n.begin; end = n.end; what = n.what; class = n.class; shape = n.shape }
 
 -- the nodes as occurrences, by their numbers
-abbrev pub forest_in : Slots → Forest
-forest_in slots = forest (map (option_map member_of) slots)
+abbrev pub forest_in : Nodes → Forest
+forest_in node x = option_map (member_of (way_to node x)) (node x)
 
--- no number stands twice
-abbrev pub AreOnce : List ℕ → Type 0
-AreOnce [] = Unit {0}
-AreOnce (x ∷ xs) = (Contains xs x → ⊥) × AreOnce xs
+-- the earliest date that is kept of a node, 0 where there is none
+abbrev pub date_in : Nodes → ℕ → ℤ
+date_in node x = option_map_or (λ (n : Node). n.early) (node x) (pos 0)
 
--- what a node tells of its own occurrence
-pub record IsSummed (n : Node) : Type 0 where
-  pub light : AreLight n.links.items
-  pub sums : AreSums n.sums n.links.items
-  pub word : n.word.items ≡ printed (moment (member_of n))
+-- ---- what holds of nodes
+
+-- the node right above is there, and has one rule less
+abbrev pub HasParent : Nodes → Node → Above → Type 0
+HasParent node n a = (p : Node) × (node a.parent ≡ Some p) × (n.depth ≡ p.depth + 1) × (n.begin ≡ p.begin)
+
+-- the date is within what a root's date and its delays come to
+abbrev pub IsDated : Node → Type 0
+IsDated n = IsWithin (1000000000000 + n.depth * 1000000000) n.early
+
+-- the node stands where it says, and has the sums of the rules that lead to it
+pub record IsPlaced (node : Nodes) (x : ℕ) (n : Node) : Type 0 where
+  pub parent : MatchOption n.above (n.depth ≡ 0) (HasParent node n)
+  pub root : (way_to node (root_of x n)).numbers ≡ take 1 (way_to node x).numbers
+  pub jump : (way_to node (jump_of x n)).numbers ≡ take (jump_depth n.depth + 1) (way_to node x).numbers
+  pub light : AreLight (way_to node x).links
+  pub sums : AreSums n.sums (way_to node x).links
+  pub word : is_name n.name ≡ true
   pub class : HasClass n.class n.shape
+  pub date : IsDated n
 
--- n, of number x, is the effect of a rule on the event that m is
-pub record IsBetween (m n : Node) (x : ℕ) : Type 0 where
-  pub root : m.root ≡ n.root
-  pub link : Link
-  pub links : n.links.items ≡ m.links.items ++ link ∷ []
-  pub way : n.way.items ≡ m.way.items ++ x ∷ []
-  pub listed : Contains m.children.items x
+-- each node stands where it says, and no two of one name have one parent
+pub record ArePlaced (node : Nodes) : Type 0 where
+  pub each : (x : ℕ) (n : Node) → node x ≡ Some n → IsPlaced node x n
+  pub apart : (x y : ℕ) (m n : Node) → node x ≡ Some m → node y ≡ Some n → parent_of m ≡ parent_of n → m.name ≡ n.name → x ≡ y
 
--- what the node of number x keeps, for what it stands and where it is in the tree
-pub record IsNode (slots : Slots) (x : ℕ) (n : Node) : Type 0 where
-  pub own : IsSummed n
-  pub root : (r : Node) × (node_at slots n.root_node ≡ Some r) × (r.root ≡ n.root) × (r.links.items ≡ [])
-  pub parent : MatchOption n.parent (n.links.items ≡ []) (λ y. (m : Node) × (node_at slots y ≡ Some m) × IsBetween m n x)
-  pub start : n.links.items ≡ [] → n.way.items ≡ x ∷ []
-  pub children : (y : ℕ) → Contains n.children.items y → (m : Node) × (node_at slots y ≡ Some m) × (m.parent ≡ Some x)
-  pub once : AreOnce n.children.items
+-- ---- a new node
 
--- y is what a rule leads to from x
-pub record IsChild (f : Forest) (x y : ℕ) : Type 0 where
-  pub event : Member
-  pub effect : Member
-  pub rule : Link
-  pub at : member f x ≡ Some event
-  pub child_at : member f y ≡ Some effect
-  pub root : effect.root ≡ event.root
-  pub links : effect.links ≡ event.links ++ rule ∷ []
+-- a node that is to come is right below another
+pub record ComesBelow (node : Nodes) (n : Node) (a : Above) : Type 0 where
+  pub above : Node
+  pub at : node a.parent ≡ Some above
+  pub depth : n.depth ≡ above.depth + 1
+  pub begin : n.begin ≡ above.begin
+  pub root : a.root ≡ root_of a.parent above
+  pub jump : (way_to node a.jump).numbers ≡ take (jump_depth (above.depth + 1) + 1) (way_to node a.parent).numbers
+  pub light : AreLight ((way_to node a.parent).links ++ link_of n ∷ [])
+  pub sums : AreSums n.sums ((way_to node a.parent).links ++ link_of n ∷ [])
 
--- the numbers are those of what rules lead to from x, each once
-pub record AreChildren (f : Forest) (x : ℕ) (children : List ℕ) : Type 0 where
-  pub each : (y : ℕ) → Contains children y ↔ IsChild f x y
-  pub once : AreOnce children
+-- a node that is to come stands where it says
+pub record WillBePlaced (node : Nodes) (n : Node) : Type 0 where
+  pub apart : (y : ℕ) (m : Node) → node y ≡ Some m → parent_of m ≡ parent_of n → m.name ≢ n.name
+  pub root : n.above ≡ None → (n.depth ≡ 0) × AreSums n.sums []
+  pub parent : (a : Above) → n.above ≡ Some a → ComesBelow node n a
+  pub word : is_name n.name ≡ true
+  pub class : HasClass n.class n.shape
+  pub date : IsDated n
 
--- what is known of the node of number x among the members
-pub record IsKept (f : Forest) (x : ℕ) (n : Node) : Type 0 where
-  pub is : member f x ≡ Some (member_of n)
-  pub own : IsSummed n
-  pub root : (r : Member) × (member f n.root_node ≡ Some r) × (r.root ≡ n.root) × (r.links ≡ [])
-  pub parent : IsParent f (member_of n) n.parent
-  pub way : IsWay f (member_of n) n.way.items
-  pub children : AreChildren f x n.children.items
+-- what a rule leads to from the event of a number, with its earliest date
+pub record IsEffect (node : Nodes) (parent : ℕ) (link : Link) (what : List ℕ) (class : Option (List ℕ)) (list : Option ℕ) (shape : Shape) (n : Node) : Type 0 where
+  pub parent_is : parent_of n ≡ Some parent
+  pub link_is : link_of n ≡ link
+  pub end_is : n.end ≡ None
+  pub what_is : n.what ≡ what
+  pub class_is : n.class ≡ class
+  pub list_is : n.list ≡ list
+  pub shape_is : n.shape ≡ shape
+  pub early_is : n.early ≡ date_in node parent +ℤ link.lo
 
--- the number is that of the node at this moment
-abbrev pub IsNodeOf : Forest → Moment → ℕ → Type 0
-IsNodeOf f k x = (m : Member) × (member f x ≡ Some m) × (moment m ≡ k)
-
--- The number of the node at this moment. Where there is none, no node is at a moment that rules lead to
--- from it.
-abbrev pub IsWayTo : Forest → Moment → Option ℕ → Type 0
-IsWayTo f k found =
-    MatchOption found ((rest : List (List ℕ)) (x : ℕ) (m : Member) → member f x ≡ Some m → moment m ≢ along k rest) (IsNodeOf f k)
-
--- the spot is a declared point or a node
-abbrev pub IsThere : Forest → Spot → Type 0
-IsThere f (Declared p) = Unit {0}
-IsThere f (OfNode x) = IsLive f x
-
--- n, of number x, is the effect of a rule on the event that m is, whose number is the parent
-pub record IsEffect (x : ℕ) (m : Node) (parent : ℕ) (link : Link) (what : List ℕ) (class : Option (List ℕ)) (shape : Shape) (n : Node) : Type 0 where
-  pub links : n.links.items ≡ m.links.items ++ link ∷ []
-  pub way : n.way.items ≡ m.way.items ++ x ∷ []
-  pub is : member_of n ≡ record (child_member (member_of m) link what class shape) { links = n.links.items }
-  pub own : IsSummed n
-  pub root_node : n.root_node ≡ m.root_node
-  pub parent_is : n.parent ≡ Some parent
-  pub children : n.children.items ≡ []
-
--- the node of this number has these children more, and nothing else has changed
-pub record Rewrites (old new : Slab Node) (x : ℕ) (more : List ℕ) : Type 0 where
-  pub was : Node
-  pub now : Node
-  pub at : node_at old.slots x ≡ Some was
-  pub is : now ≡ record was { children = now.children }
-  pub children : now.children.items ≡ was.children.items ++ more
-  pub slots : new.slots ≡ slice_set old.slots x (Some now)
-  pub key : new.vacant_key ≡ old.vacant_key
-
--- the node has room for one more child
-abbrev pub HasChildRoom : Slab Node → ℕ → Type 0
-HasChildRoom s x = (n : Node) → node_at s.slots x ≡ Some n → vec_len n.children < vec_capacity n.children
+-- a declared event, token or span, with its earliest date
+pub record IsRoot (name : List ℕ) (begin : ℕ) («end» : Option ℕ) (what : List ℕ) (class : Option (List ℕ)) (list : Option ℕ) (shape : Shape) (early : ℤ) (n : Node) : Type 0 where
+  pub above_is : n.above ≡ None
+  pub name_is : n.name ≡ name
+  pub begin_is : n.begin ≡ begin
+  pub end_is : n.end ≡ «end»
+  pub what_is : n.what ≡ what
+  pub class_is : n.class ≡ class
+  pub list_is : n.list ≡ list
+  pub shape_is : n.shape ≡ shape
+  pub early_is : n.early ≡ early

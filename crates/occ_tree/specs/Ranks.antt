@@ -1,16 +1,22 @@
 -- What nodes are ordered by.
 use Rattle.std.specs.Prelude.{◌≡◌, ℕ, List, map}
-use Rattle.tmm_model.specs.Moments.{printed}
+use Rattle.std.specs.Option.{is_some}
+use Rattle.std.specs.declared.cmp.Ordering.{Ordering}
+use Rattle.std.specs.Ordering.{bool_cmp, on, then_cmp}
 use Rattle.dist_net.specs.Net.{Net}
-use Rattle.spots.specs.Forest.{Forest, IsLive, moment_at}
+use Rattle.spots.specs.Forest.{Forest, IsLive}
 use Rattle.spots.specs.Spots.{node_early}
+use Rattle.occ_tree.specs.Standing.{State, forest, order}
 use Rattle.occ_tree.specs.declared.ranks.Ranked.{Ranked}
 
--- it has the date and the word of its node
+-- numbers of nodes in the order of nodes, behind all other numbers
+abbrev pub rank_cmp : State → ℕ → ℕ → Ordering
+rank_cmp s = then_cmp (on (λ x. is_some (forest s x)) bool_cmp) (order s)
+
+-- it has the date of its node
 pub record IsRanked (net : Net) (f : Forest) (r : Ranked) : Type 0 where
   pub live : IsLive f r.node
   pub early : r.early ≡ node_early net f r.node
-  pub word : r.word.now ≡ printed (moment_at f r.node)
 
 -- the numbers of ranked nodes
 abbrev pub nodes_of : List Ranked → List ℕ

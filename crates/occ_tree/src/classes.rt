@@ -1,99 +1,79 @@
-// The tokens of each class.
-ghost use Rattle.std.specs.Prelude.{◌≡◌, ◌≢◌, ℕ, List, OnOk, OnErr, MatchOption};
-ghost use Rattle.std.specs.List.{All, Contains};
-ghost use Rattle.occ_tree.specs.Classes.{rows_in, IsOther, IsPlace, AddsRow};
-ghost use Rattle.occ_tree.specs.Leaving.{there, rows_there, ShedsAny};
+// Classes under small numbers.
+ghost use Rattle.std.specs.Prelude.{◌≡◌, [], Some, None, IfOk};
+ghost use Rattle.occ_tree.specs.Classes.{place_in, HaveMore};
 
-use crate::lists::push;
-use crate::node::Node;
-use slab::Slab;
-use spots::Spot;
+use indexmap::IndexSet;
 use std::alloc::Global;
-use tmm_model::{Name, NoMemory, TokenRow};
+use std::marker::Model;
+use tmm_model::{Name, NoMemory};
 
-/// The tokens of one class, in the order in which they came.
+/// The names of classes, each under the number of its place among them. A name stays.
 #[derive(Drop)]
-pub(crate) struct ClassRows {
-    /// The name of the class.
-    pub class: Name,
-    /// Its tokens.
-    pub rows: Vec<TokenRow<Spot>>,
+pub(crate) struct Classes {
+    names: IndexSet<Name>,
 }
 
-// The tokens of a class.
-pub(crate) fn rows_of(classes: &[ClassRows], class: Name) -> &[TokenRow<Spot>]
-    ensures { result.now ≡ rows_in classes.now class }
-{
-    match place_of(classes, &class) {
-        Some(i) => classes[i].rows.as_slice(),
-        None => &[],
-    }
+impl Model for Classes {
+    ghost use Rattle.std.specs.Prelude.{ℕ, List, ◌≤◌, length};
+
+    ghost Value = { List (List ℕ) };
+
+    ghost view = { λ c. c.names.keys };
+
+    ghost invariant = { λ c. length c.names.keys ≤ 4294967295 };
 }
 
-// The place of a class among those that have had tokens.
-fn place_of(classes: &[ClassRows], class: &Name) -> Option<usize>
-    ensures { MatchOption result (All (IsOther class.now) classes.now) (IsPlace classes.now class.now) }
-{
-    for (i, known) in classes.iter().enumerate() {
-        if known.class == *class {
-            return Some(i);
+impl Classes {
+    // No classes. It takes no memory.
+    pub(crate) fn make(alloc: Global) -> Classes
+        ensures { result ≡ [] }
+    {
+        Classes {
+            names: IndexSet::new(alloc),
         }
     }
-    None
-}
 
-// Adds a token to those of its class. Without memory the tokens of each class are as before.
-pub(crate) fn add_row(
-    alloc: Global,
-    classes: &mut Vec<ClassRows>,
-    row: TokenRow<Spot>,
-) -> Result<(), NoMemory>
-    ensures ok { OnOk result (AddsRow classes.old.items classes.new.items row) }
-    ensures err { OnErr result ((c : List ℕ) → rows_in classes.new.items c ≡ rows_in classes.old.items c) }
-{
-    let class = row.class;
-    match place_of(classes, &class) {
-        Some(i) => push(&mut classes[i].rows, row),
-        None => {
-            let rows = Vec::from_slice(alloc, &[row])?;
-            push(classes, ClassRows { class, rows })
+    // The number of a class, none exactly where it has none.
+    pub(crate) fn find(&self, class: &Name) -> Option<u32>
+        ensures { result ≡ place_in self.now class.now }
+    {
+        Some(self.names.get_index_of(class)? as u32)
+    }
+
+    // The number of a class, which is the next one where it has none. Those of others stay, also without
+    // memory; it counts as want of memory that a number would be 2^32 - 1 or more.
+    pub(crate) fn enter(&mut self, class: Name) -> Result<u32, NoMemory>
+        ensures entered { IfOk result (λ k. place_in self.new class ≡ Some k) }
+        ensures more { HaveMore self.old self.new }
+    {
+        match self.find(&class) {
+            Some(k) => Ok(k),
+            None => self.push(class),
         }
     }
-}
 
-// Drops the tokens of these classes whose nodes are gone.
-pub(crate) fn drop_gone(classes: &mut Vec<ClassRows>, touched: &[Name], nodes: &Slab<Node>)
-    ensures each { (c : List ℕ) → ShedsAny nodes.now.slots (rows_in classes.old.items c) (rows_in classes.new.items c) }
-    ensures touched { (c : List ℕ) → Contains touched.now c → rows_in classes.new.items c ≡ rows_there nodes.now.slots (rows_in classes.old.items c) }
-{
-    for class in touched {
-        drop_gone_of(classes, class, nodes);
+    // The same classes, for more of their own. It takes memory.
+    pub(crate) fn copy(&self) -> Result<Classes, NoMemory>
+        ensures { IfOk result (λ copy. copy ≡ self.now) }
+    {
+        Ok(Classes {
+            names: self.names.clone()?,
+        })
     }
-}
 
-// Drops the tokens of a class whose nodes are gone.
-fn drop_gone_of(classes: &mut Vec<ClassRows>, class: &Name, nodes: &Slab<Node>)
-    ensures own { rows_in classes.new.items class.now ≡ rows_there nodes.now.slots (rows_in classes.old.items class.now) }
-    ensures others { (c : List ℕ) → c ≢ class.now → rows_in classes.new.items c ≡ rows_in classes.old.items c }
-{
-    if let Some(i) = place_of(classes, class) {
-        keep_there(&mut classes[i].rows, nodes);
-    }
-}
-
-// Keeps the tokens whose nodes are there, in their order.
-fn keep_there(rows: &mut Vec<TokenRow<Spot>>, nodes: &Slab<Node>)
-    ensures { rows.new.items ≡ rows_there nodes.now.slots rows.old.items }
-{
-    rows.retain(|row| is_there(nodes, row.spot));
-}
-
-// Whether the spot is a declared point or a node.
-fn is_there(nodes: &Slab<Node>, spot: Spot) -> bool
-    ensures { result ≡ there nodes.now.slots spot }
-{
-    match spot {
-        Spot::Declared(_) => true,
-        Spot::Node(x) => nodes.contains(x as usize),
+    // Gives a class that has none the next number.
+    fn push(&mut self, class: Name) -> Result<u32, NoMemory>
+        requires { place_in self.old class ≡ None }
+        ensures entered { IfOk result (λ k. place_in self.new class ≡ Some k) }
+        ensures more { HaveMore self.old self.new }
+    {
+        let k = self.names.len();
+        if k >= u32::MAX as usize {
+            return Err(NoMemory);
+        }
+        match self.names.insert(class) {
+            Ok(_) => Ok(k as u32),
+            Err(_) => Err(NoMemory),
+        }
     }
 }

@@ -1,75 +1,75 @@
-// What leaves when a node is taken out with all below it.
-ghost use Rattle.std.specs.Prelude.{◌≡◌, ℕ, List, IfSome, IfOk, OnOk, MatchOption, Some};
-ghost use Rattle.std.specs.List.{All, Contains};
-ghost use Rattle.slab.specs.Slab.{get, ContainsKey};
-ghost use Rattle.occ_tree.specs.Leaving.{HasClassIn, LosesNumber, LosesChild};
+// Nodes that leave the tree, and the tokens of their classes.
+ghost use Rattle.std.specs.Prelude.{◌≡◌, ℕ, ◌+◌, ◌*◌, ◌<◌, ◌≤◌, [], length, IsSome, IfOk};
+ghost use Rattle.undo_lists.specs.Changes.{present, committed};
+ghost use Rattle.undo_rows.specs.Tables.{AreListed};
+ghost use Rattle.occ_tree.specs.Below.{IsRightBelow, ListsBelow, without_rows};
+ghost use Rattle.occ_tree.specs.Edits.{Keeps, Takes};
+ghost use Rattle.occ_tree.specs.Standing.{nodes_in, present_rows, committed_rows, IsStanding};
+ghost use Rattle.occ_tree.specs.Tokens.{AreTokensBut};
 
-use crate::lists::push;
-use crate::node::Node;
-use slab::Slab;
+use crate::below::list_below;
+use crate::nodes::Nodes;
+use crate::tokens::{Tokens, take_out};
 use std::alloc::Global;
-use tmm_model::{Name, NoMemory};
+use tmm_model::NoMemory;
 
-// The classes of the tokens among these nodes.
-pub(crate) fn classes_of(
+// The numbers of a node and of all below it, each before those below it, with room for two changes of each
+// node and of each token among them. All stays, also where there is no memory.
+pub(crate) fn room_below(
     alloc: Global,
-    nodes: &Slab<Node>,
-    numbers: &[u32],
-) -> Result<Vec<Name>, NoMemory>
-    requires { All (ContainsKey nodes.now) numbers.now }
-    ensures { IfOk result (λ classes. All (HasClassIn nodes.now.slots classes.items) numbers.now) }
+    nodes: &mut Nodes,
+    tokens: &mut Tokens,
+    x: u32,
+) -> Result<Vec<u32>, NoMemory>
+    requires { IsSome (nodes_in (present_rows nodes.old) x) }
+    ensures below { IfOk result (λ numbers. ListsBelow (nodes_in (present_rows nodes.old)) x numbers.items) }
+    ensures room { IfOk result (λ numbers. (2 * length numbers.items ≤ nodes.new.rows.spare) × (2 * length numbers.items ≤ tokens.new.spare)) }
+    ensures stands { IsStanding nodes.old.limit (present_rows nodes.old) }
+    ensures listed { AreListed (present_rows nodes.old) }
+    ensures keeps { Keeps nodes.old nodes.new }
+    ensures present { present tokens.new ≡ present tokens.old }
+    ensures committed { committed tokens.new ≡ committed tokens.old }
 {
-    let mut classes = Vec::new(alloc);
-    for x in numbers {
-        add_class(&mut classes, nodes[*x as usize].class)?;
+    // each node stands where it says, and on the list of its parent
+    let _ = nodes.limit();
+    let _ = nodes.first(None);
+    let numbers = list_below(alloc, nodes, x)?;
+    let changes = 2 * numbers.len();
+    nodes.reserve(alloc, changes)?;
+    tokens.reserve(alloc, 0, 0, changes)?;
+    Ok(numbers)
+}
+
+// Takes out all these nodes, the last one first. It takes no memory.
+pub(crate) fn leave_all(nodes: &mut Nodes, tokens: &mut Tokens, numbers: Vec<u32>)
+    requires below { (x : ℕ) × ListsBelow (nodes_in (present_rows nodes.old)) x numbers.items }
+    requires tokens { AreTokensBut (nodes_in (present_rows nodes.old)) (present tokens.old) [] }
+    requires room { (2 * length numbers.items ≤ nodes.old.rows.spare) × (length numbers.items ≤ tokens.old.spare) }
+    ensures rows { present_rows nodes.new ≡ without_rows numbers.items (present_rows nodes.old) }
+    ensures committed_rows { committed_rows nodes.new ≡ committed_rows nodes.old }
+    ensures tokens { AreTokensBut (nodes_in (present_rows nodes.new)) (present tokens.new) [] }
+    ensures committed { committed tokens.new ≡ committed tokens.old }
+{
+    let mut left = numbers;
+    while let Some(x) = left.pop() {
+        leave(nodes, tokens, x);
     }
-    Ok(classes)
 }
 
-// Adds the class of a token, unless it is there.
-fn add_class(classes: &mut Vec<Name>, class: Option<Name>) -> Result<(), NoMemory>
-    ensures added { OnOk result (IfSome class (Contains classes.new.items)) }
-    ensures kept { OnOk result ((c : List ℕ) → Contains classes.old.items c → Contains classes.new.items c) }
+// Takes a node out that has nothing below it, and out of the tokens of its class if it is one. It takes no
+// memory.
+fn leave(nodes: &mut Nodes, tokens: &mut Tokens, x: u32)
+    requires live { IsSome (nodes_in (present_rows nodes.old) x) }
+    requires leaf { (y : ℕ) → IsRightBelow (nodes_in (present_rows nodes.old)) x y → ⊥ }
+    requires tokens { AreTokensBut (nodes_in (present_rows nodes.old)) (present tokens.old) [] }
+    requires room { (2 ≤ nodes.old.rows.spare) × (0 < tokens.old.spare) }
+    ensures taken { Takes nodes.old nodes.new x }
+    ensures tokens { AreTokensBut (nodes_in (present_rows nodes.new)) (present tokens.new) [] }
+    ensures committed { committed tokens.new ≡ committed tokens.old }
+    ensures room { (nodes.old.rows.spare ≤ nodes.new.rows.spare + 2) × (tokens.old.spare ≤ tokens.new.spare + 1) }
 {
-    match class {
-        Some(class) if !classes.contains(&class) => push(classes, class),
-        _ => Ok(()),
-    }
-}
-
-// Takes a node out of the children of its parent, or out of the roots.
-pub(crate) fn unlist(nodes: &mut Slab<Node>, roots: &mut Vec<u32>, parent: Option<u32>, x: u32)
-    requires { IfSome parent (ContainsKey nodes.old) }
-    ensures nodes { MatchOption parent (nodes.new ≡ nodes.old) (λ y. LosesChild nodes.old nodes.new y x) }
-    ensures roots { MatchOption parent (LosesNumber roots.old.items roots.new.items x) (λ y. roots.new.items ≡ roots.old.items) }
-{
-    match parent {
-        Some(parent) => drop_child(nodes, parent, x),
-        None => drop_number(roots, x),
-    }
-}
-
-// Takes a child out of those of a node.
-fn drop_child(nodes: &mut Slab<Node>, parent: u32, x: u32)
-    requires { ContainsKey nodes.old parent }
-    ensures { LosesChild nodes.old nodes.new parent x }
-{
-    drop_number(&mut nodes[parent as usize].children, x);
-}
-
-// Takes a number out. The others stay in their order.
-fn drop_number(numbers: &mut Vec<u32>, x: u32)
-    ensures { LosesNumber numbers.old.items numbers.new.items x }
-{
-    numbers.retain(|y| *y != x);
-}
-
-// Takes out the nodes of these numbers.
-pub(crate) fn remove_all(nodes: &mut Slab<Node>, numbers: &[u32])
-    ensures gone { All (λ y. get nodes.new y ≡ None) numbers.now }
-    ensures others { (y : ℕ) → (Contains numbers.now y → ⊥) → get nodes.new y ≡ get nodes.old y }
-{
-    for x in numbers {
-        let _ = nodes.try_remove(*x as usize);
-    }
+    // each node stands where it says
+    let _ = nodes.limit();
+    take_out(nodes, tokens, x);
+    nodes.take(x);
 }

@@ -1,25 +1,42 @@
-//! Occurrences as nodes of a tree: declared events, tokens and spans, and below each event what rules
-//! lead to from it. It stands on `spots`.
+//! Occurrences as nodes of a tree that is undone by a log: declared events, tokens and spans, and below
+//! each event what rules lead to from it. It stands on `spots`.
 //!
-//! A `Tree` is seen as the node of each number. With a network of distances it answers the tightest
-//! distance of two spots, the earliest date of a node and the order of nodes, in which `in_order` sorts
-//! them; `Order` is that order for `clipping`. `withdraw` takes a node out with all below it. Where the
-//! nodes and the network are those of a standing list, these are the distances, dates and order of the
-//! list's occurrences.
+//! With a network of distances a `Tree` answers the tightest distance of two spots. Where the dates that it
+//! keeps are those of the network, nodes compared by these are in the order of `spots`, and `Order` is that
+//! order for `clipping`, with the dates. Roots and effects that come, nodes that go, and roots that are moved
+//! to their dates in another network leave the dates those of the network (`roots_keep_dates`,
+//! `effects_keep_dates`, `withdrawals_keep_dates`, `moves_keep_dates`).
+//!
+//! `ByName` finds the occurrences of one tree among those of another.
 #![tactic(auto)]
 
+mod below;
+mod by_name;
 mod classes;
+mod dated_laws;
+mod dating;
+mod edit_laws;
+mod far;
+mod find;
 mod leaving;
-mod lists;
 mod node;
+mod nodes;
+mod numbers;
 mod order;
 mod ranks;
+mod tokens;
+mod told;
 mod tree;
-mod way;
+mod words;
 
+pub use by_name::ByName;
+pub use dated_laws::{
+    effects_keep_dates, moves_keep_dates, points_date_nodes, roots_date_all, roots_keep_dates,
+    withdrawals_keep_dates,
+};
+pub use edit_laws::{growing_enters, moving_keeps_members, shrinking_withdraws};
 pub use order::Order;
 pub use ranks::{Ranked, in_order};
-pub use spots::NodeRow;
 pub use tree::Tree;
 
 #[cfg(test)]

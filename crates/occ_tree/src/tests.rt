@@ -1,71 +1,122 @@
-//! A tree of one event and of the token that a rule leads to from it, and a tree that an event leaves
-//! with its effect.
-use super::*;
-use std::test::Fail;
-use tmm_model::{Bound, Name, Seq, Shape};
+//! A root that comes and goes, and what two trees have in common.
+ghost use Rattle.std.specs.Prelude.{◌≢◌, IsTrue, IfOk};
+ghost use Rattle.tmm_model.specs.Names.{is_name};
+ghost use Rattle.spots.specs.Forest.{IsLive};
+ghost use Rattle.occ_tree.specs.Standing.{present, forest};
 
-fn name(word: &str) -> Name {
-    Name::of(word.as_bytes()).unwrap_or_default()
+use super::*;
+use std::alloc::Global;
+use std::test::Fail;
+use tmm_model::{Bound, Name, NoMemory, Shape};
+
+fn name(word: &str) -> Name
+    ensures { IsTrue (is_name result) }
+{
+    match Name::of(word.as_bytes()) {
+        Some(name) => name,
+        None => Name::default(),
+    }
 }
 
 #[test]
-fn a_rule_leads_on(rt: HostRuntime) -> Result<(), Fail> {
+fn a_new_root_goes_with_a_rollback(rt: HostRuntime) -> Result<(), Fail> {
     let alloc = rt.alloc();
     let mut tree = Tree::make(alloc);
-    let press = tree.insert_root(
-        alloc,
-        name("press"),
-        1,
-        None,
-        name("push"),
-        None,
-        Shape::Event,
-    )?;
-    let lamp = Some(name("lamp"));
-    let lit = tree.insert_child(
-        alloc,
-        press,
-        name("light"),
-        2,
-        Bound::Finite(5),
-        name("on"),
-        lamp,
-        Shape::Persistence,
-    )?;
-    let occ = tree.occ_of(alloc, lit)?;
-    assert_eq!(rt; tree.find(&occ), Some(lit));
-    let mut word = Seq::make(alloc);
-    tree.name_into(alloc, lit, &mut word)?;
-    assert_eq!(rt; word.items(), b"press/light".as_slice());
-    let row = tree.row(lit);
-    assert_eq!(rt; row.low, 2);
-    assert_eq!(rt; row.parent, Some(press));
-    assert_eq!(rt; tree.tokens(name("lamp")).len(), 1);
-    assert_eq!(rt; tree.children(press), [lit].as_slice());
+    let press = name("press");
+    let push = name("push");
+    let event = tree.insert_root(alloc, press, 1, None, push, None, Shape::Event, 5)?;
+    assert_eq!(rt; tree.is_live(event), true);
+    assert_eq!(rt; tree.first_root(), Some(event));
+    tree.rollback();
+    assert_eq!(rt; tree.is_live(event), false);
+    assert_eq!(rt; tree.first_root(), None);
     Ok(())
 }
 
 #[test]
-fn an_event_leaves_with_its_effect(rt: HostRuntime) -> Result<(), Fail> {
+fn a_root_is_found_by_its_occurrence(rt: HostRuntime) -> Result<(), Fail> {
     let alloc = rt.alloc();
     let mut tree = Tree::make(alloc);
+    let press = name("press");
     let push = name("push");
-    let press = tree.insert_root(alloc, name("press"), 1, None, push, None, Shape::Event)?;
-    let rule = name("ring");
-    let once = Bound::Finite(1);
-    let bell = tree.insert_child(alloc, press, rule, 1, once, push, None, Shape::Event)?;
-    let lamp = name("lamp");
-    let shape = Shape::Persistence;
-    let lit = tree.insert_child(alloc, bell, rule, 1, once, push, Some(lamp), shape)?;
-    let bell_occ = tree.occ_of(alloc, bell)?;
-    let lit_occ = tree.occ_of(alloc, lit)?;
-    tree.withdraw(alloc, bell)?;
-    assert_eq!(rt; tree.find(&bell_occ), None);
-    assert_eq!(rt; tree.find(&lit_occ), None);
-    assert_eq!(rt; tree.tokens(lamp).len(), 0);
-    assert_eq!(rt; tree.children(press).len(), 0);
-    let again = tree.insert_child(alloc, press, rule, 1, once, push, None, Shape::Event)?;
-    assert_eq!(rt; tree.find(&bell_occ), Some(again));
-    assert_eq!(rt; again, lit);
+    let event = tree.insert_root(alloc, press, 1, None, push, None, Shape::Event, 5)?;
+    let occ = tree.occ_of(alloc, event)?;
+    assert_eq!(rt; tree.find(&occ), Some(event));
+    assert_eq!(rt; tree.row(event).root, event);
+    tree.rollback();
+    assert_eq!(rt; tree.find(&occ), None);
+    Ok(())
+}
+
+// Two roots, and what a rule of the name of the second leads to from the first.
+#[derive(Drop)]
+struct Sample {
+    tree: Tree,
+    first: u32,
+    second: u32,
+    effect: u32,
+}
+
+fn two_roots(alloc: Global, first: Name, second: Name) -> Result<Sample, NoMemory>
+    requires first { IsTrue (is_name first) }
+    requires second { IsTrue (is_name second) }
+    requires differ { first ≢ second }
+    ensures first { IfOk result (λ s. IsLive (forest (present s.tree)) s.first) }
+    ensures second { IfOk result (λ s. IsLive (forest (present s.tree)) s.second) }
+    ensures effect { IfOk result (λ s. IsLive (forest (present s.tree)) s.effect) }
+{
+    let mut tree = Tree::make(alloc);
+    let what = first;
+    let event = tree.insert_root(alloc, first, 1, None, what, None, Shape::Event, 5)?;
+    let other = tree.insert_root(alloc, second, 2, None, what, None, Shape::Event, 5)?;
+    let hi = Bound::Finite(2);
+    let effect = tree.insert_child(alloc, event, second, 1, hi, what, None, Shape::Event)?;
+    Ok(Sample {
+        tree,
+        first: event,
+        second: other,
+        effect,
+    })
+}
+
+#[test]
+fn nodes_of_another_tree_are_found_by_their_names(rt: HostRuntime) -> Result<(), Fail> {
+    let alloc = rt.alloc();
+    let press = name("press");
+    let ring = name("ring");
+    assert!(rt; press != ring);
+    let one = two_roots(alloc, press, ring)?;
+    let two = two_roots(alloc, ring, press)?;
+    let index = ByName::of(alloc, &two.tree)?;
+    assert_eq!(rt; index.find_same(&one.tree, one.first), Some(two.second));
+    assert_eq!(rt; index.find_same(&one.tree, one.second), Some(two.first));
+    assert_eq!(rt; index.find_same(&one.tree, one.effect), None);
+    assert_eq!(rt; index.find_same(&two.tree, two.effect), Some(two.effect));
+    Ok(())
+}
+
+#[test]
+fn an_occurrence_is_found_by_its_names(rt: HostRuntime) -> Result<(), Fail> {
+    let alloc = rt.alloc();
+    let press = name("press");
+    let ring = name("ring");
+    assert!(rt; press != ring);
+    let roots = two_roots(alloc, press, ring)?;
+    let occ = roots.tree.occ_of(alloc, roots.effect)?;
+    let index = ByName::of(alloc, &roots.tree)?;
+    assert_eq!(rt; index.find(&occ), Some(roots.effect));
+    Ok(())
+}
+
+#[test]
+fn all_numbers_are_told(rt: HostRuntime) -> Result<(), Fail> {
+    let alloc = rt.alloc();
+    let press = name("press");
+    let ring = name("ring");
+    assert!(rt; press != ring);
+    let roots = two_roots(alloc, press, ring)?;
+    let numbers = roots.tree.numbers(alloc)?;
+    let want = [roots.first, roots.second, roots.effect];
+    assert_eq!(rt; numbers.as_slice(), want.as_slice());
     Ok(())
 }

@@ -8,6 +8,7 @@ ghost use Rattle.tmm_model.specs.Sorts.{class_in};
 ghost use Rattle.tmm_model.specs.Standing.{far_in};
 ghost use Rattle.spots.specs.Forest.{IsLive, moment_at};
 ghost use Rattle.spots.specs.Seen.{IsSeen, Holds};
+ghost use Rattle.occ_tree.specs.OfLists.{IsTreeOf};
 ghost use Rattle.occ_tree.specs.Places.{forest};
 ghost use Rattle.projection.specs.Decisions.{outcome_at, AreLive, tried_at};
 ghost use Rattle.projection.specs.Places.{name_at, IsRuleAt};
@@ -15,7 +16,7 @@ ghost use Rattle.projection.specs.Places.{name_at, IsRuleAt};
 use crate::rule::{due_by, text_at};
 use arrayvec::ArrayVec;
 use dist_net::DistNet;
-use occ_tree::Tree;
+use occ_tree::{Order, Tree};
 use premise_list::Standing;
 use spots::Spot;
 use std::marker::Model;
@@ -81,7 +82,7 @@ pub fn decide(
     rule: Name,
     counter: &mut Counter,
 ) -> Decision
-    requires seen { IsSeen standing.now.present net.now.present (forest tree.now) }
+    requires seen { IsTreeOf standing.now.present net.now.present tree.now }
     requires trigger { IsLive (forest tree.now) trigger }
     requires rule { Contains (rules_at standing.now.present (moment_at (forest tree.now) trigger)) rule }
     ensures outcome { (b : List Moment) → Holds b (forest tree.now) → outcome_at (forest tree.now) result ≡ outcome standing.now.present (far_in standing.now.present.premises) b (moment_at (forest tree.now) trigger) rule }
@@ -90,7 +91,7 @@ pub fn decide(
     ensures kept { counter.old ≤ counter.new }
 {
     counter.raise();
-    let early = tree.early(net, trigger);
+    let early = Order { tree, net }.early(trigger);
     let text = rule_text(standing, rule);
     if due_by(standing.horizon(), early, text.lo).is_none() {
         return Decision::Beyond;
@@ -106,7 +107,7 @@ fn try_given(
     trigger: u32,
     given: &[Name],
 ) -> Decision
-    requires seen { IsSeen standing.now.present net.now.present (forest tree.now) }
+    requires seen { IsTreeOf standing.now.present net.now.present tree.now }
     requires trigger { IsLive (forest tree.now) trigger }
     requires facts { All (λ fact. IsSome (class_in standing.now.present.premises fact)) given.now }
     requires few { length given.now ≤ 4 }
@@ -133,7 +134,7 @@ pub(crate) fn is_free(
     trigger: u32,
     place: u32,
 ) -> bool
-    requires seen { IsSeen standing.now.present net.now.present (forest tree.now) }
+    requires seen { IsTreeOf standing.now.present net.now.present tree.now }
     requires trigger { IsLive (forest tree.now) trigger }
     requires place { IsRuleAt standing.now.present place }
     requires rule { Contains (rules_at standing.now.present (moment_at (forest tree.now) trigger)) (name_at standing.now.present place) }

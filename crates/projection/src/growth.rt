@@ -9,7 +9,10 @@ ghost use Rattle.dist_net.specs.Net.{Net};
 ghost use Rattle.list_net.specs.Fits.{IsNetOf};
 ghost use Rattle.spots.specs.Forest.{IsLive, moment_at};
 ghost use Rattle.spots.specs.Seen.{IsSeen, Holds};
+ghost use Rattle.occ_tree.specs.Dated.{IsDatedBy};
+ghost use Rattle.occ_tree.specs.OfLists.{IsTreeOf};
 ghost use Rattle.occ_tree.specs.Places.{forest};
+ghost use Rattle.occ_tree.specs.Standing.{present};
 ghost use Rattle.projection.specs.Counted.{decisions_due};
 ghost use Rattle.supports.specs.Growing.{Adds, effect_shape, MayEnter};
 ghost use Rattle.projection.specs.Kinds.{AreRules};
@@ -22,7 +25,7 @@ use crate::kinds::RulesByKind;
 use crate::pending::{Pending, Queue};
 use crate::rule::{due_by, text_at};
 use dist_net::DistNet;
-use occ_tree::Tree;
+use occ_tree::{Order, Tree};
 use premise_list::Standing;
 use std::alloc::Global;
 use std::cmp::Reverse;
@@ -60,7 +63,8 @@ fn add_effect(
     requires trigger { IsLive (forest tree.old) trigger }
     requires place { IsRuleAt standing.now.present place }
     requires enters { MayEnter standing.now.present (forest tree.old) trigger (name_at standing.now.present place) }
-    ensures { IfOk result (λ x. (net : Net) → IsSeen standing.now.present net (forest tree.old) → Adds standing.now.present net.names (forest tree.old) (forest tree.new) x (After (moment_at (forest tree.old) trigger) (name_at standing.now.present place))) }
+    ensures adds { IfOk result (λ x. (net : Net) → IsSeen standing.now.present net (forest tree.old) → Adds standing.now.present net.names (forest tree.old) (forest tree.new) x (After (moment_at (forest tree.old) trigger) (name_at standing.now.present place))) }
+    ensures dated { OnOk result ((net : Net) → IsTreeOf standing.now.present net tree.old → IsDatedBy net (present tree.new)) }
 {
     // It tells the proof that names are distinct.
     let _ = standing.len();
@@ -90,14 +94,14 @@ fn wait_for(
     queue: &mut Queue,
     x: u32,
 ) -> Result<(), NoMemory>
-    requires seen { IsSeen standing.now.present net.now.present (forest tree.now) }
+    requires seen { IsTreeOf standing.now.present net.now.present tree.now }
     requires live { IsLive (forest tree.now) x }
     requires rules { map (name_at standing.now.present) places.now ≡ rules_at standing.now.present (moment_at (forest tree.now) x) }
     requires places { All (IsRuleAt standing.now.present) places.now }
     ensures { OnOk result (Queues standing.now.present (forest tree.now) x (rules_at standing.now.present (moment_at (forest tree.now) x)) queue.old queue.new) }
 {
     let horizon = standing.horizon();
-    let early = tree.early(net, x);
+    let early = Order { tree, net }.early(x);
     for place in places {
         let text = text_at(standing, *place);
         if let Some(due) = due_by(horizon, early, text.lo) {
@@ -127,7 +131,7 @@ fn count_in(
     growing: &mut Growing,
     x: u32,
 ) -> Result<(), Stop>
-    requires seen { IsSeen standing.now.present net.now.present (forest growing.old.tree) }
+    requires seen { IsTreeOf standing.now.present net.now.present growing.old.tree }
     requires live { IsLive (forest growing.old.tree) x }
     requires rules { AreRules standing.now.present rules.now }
     requires size { growing.old.size ≤ most_size }
@@ -163,7 +167,9 @@ fn declare(
     requires rules { AreRules standing.now.present rules.now }
     requires place { place < length standing.now.present.premises }
     requires before { IsStarted standing.now.present net.now.present (take place standing.now.present.premises) (forest growing.old.tree) growing.old.queue growing.old.size }
+    requires dated { IsDatedBy net.now.present (present growing.old.tree) }
     ensures after { OnOk result (IsStarted standing.now.present net.now.present (take (place + 1) standing.now.present.premises) (forest growing.new.tree) growing.new.queue growing.new.size) }
+    ensures dated { OnOk result (IsDatedBy net.now.present (present growing.new.tree)) }
     ensures stops { IfErr result (IsTooLarge (size (built standing.now.present))) }
 {
     let Some(premise) = standing.at(place) else {
@@ -188,8 +194,10 @@ fn settle(
 ) -> Result<(), Stop>
     requires rules { AreRules standing.now.present rules.now }
     requires before { (made : ℕ) × IsGrowingWith standing.now.present net.now.present (forest growing.old.tree) pending.now growing.old.queue growing.old.size made }
+    requires dated { IsDatedBy net.now.present (present growing.old.tree) }
     ensures after { OnOk result (Settles standing.now.present net.now.present growing.old pending.now growing.new) }
     ensures nearer { OnOk result (left growing.new.queue growing.new.size ≤ left growing.old.queue growing.old.size) }
+    ensures dated { OnOk result (IsDatedBy net.now.present (present growing.new.tree)) }
     ensures stops { IfErr result (IsTooLarge (size (built standing.now.present))) }
     ensures counted { counter.new ≡ min (counter.old + 1) 18446744073709551615 }
     ensures kept { counter.old ≤ counter.new }
@@ -214,8 +222,10 @@ fn bring_about(
     requires rules { AreRules standing.now.present rules.now }
     requires before { (made : ℕ) × IsGrowingWith standing.now.present net.now.present (forest growing.old.tree) pending.now growing.old.queue growing.old.size made }
     requires fires { FiresAmong standing.now.present (forest growing.old.tree) pending.now }
+    requires dated { IsDatedBy net.now.present (present growing.old.tree) }
     ensures after { OnOk result (Settles standing.now.present net.now.present growing.old pending.now growing.new) }
     ensures nearer { OnOk result (left growing.new.queue growing.new.size ≤ left growing.old.queue growing.old.size) }
+    ensures dated { OnOk result (IsDatedBy net.now.present (present growing.new.tree)) }
     ensures stops { IfErr result (IsTooLarge (size (built standing.now.present))) }
 {
     match add_effect(
@@ -239,7 +249,7 @@ pub fn rebuild(
     counter: &mut Counter,
 ) -> Result<Projected, Stop>
     requires network { IsNetOf standing.now.present net.now.present }
-    ensures seen { IfOk result (λ projected. IsSeen standing.now.present net.now.present (forest projected.tree)) }
+    ensures seen { IfOk result (λ projected. IsTreeOf standing.now.present net.now.present projected.tree) }
     ensures holds { IfOk result (λ projected. Holds (built standing.now.present).believed (forest projected.tree)) }
     ensures size { IfOk result (λ projected. projected.size ≡ size (built standing.now.present)) }
     ensures small { IfOk result (λ projected. projected.size ≤ most_size) }

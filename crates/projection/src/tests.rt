@@ -4,7 +4,7 @@ ghost use Rattle.std.specs.List.{All};
 ghost use Rattle.std.specs.Option.{ForSome};
 ghost use Rattle.tmm_model.specs.Lines.{IsName, IsWellFormedPremise};
 ghost use Rattle.spots.specs.Forest.{IsLive};
-ghost use Rattle.spots.specs.Seen.{HasList};
+ghost use Rattle.occ_tree.specs.OfLists.{IsTreeIn};
 ghost use Rattle.occ_tree.specs.Places.{forest};
 ghost use Rattle.list_net.specs.Fits.{IsNetOf, IsSettled};
 ghost use Rattle.projection.specs.Places.{name_at, IsRuleAt};
@@ -14,7 +14,7 @@ use crate::kinds::RulesByKind;
 use arrayvec::ArrayVec;
 use dist_net::DistNet;
 use list_net::add_premise;
-use occ_tree::{Ranked, Tree, in_order};
+use occ_tree::{Order, Ranked, Tree, in_order};
 use premise_list::Standing;
 use std::alloc::Global;
 use std::test::Fail;
@@ -217,7 +217,7 @@ fn decisions_are_those_of_what_is_believed(rt: HostRuntime) -> Result<(), Fail> 
 }
 
 // Whether the nodes begin at the dates 0, 1, 2 and so on.
-fn are_one_apart(ranked: &[Ranked<'_>]) -> bool {
+fn are_one_apart(ranked: &[Ranked]) -> bool {
     let mut date: i64 = 0;
     for row in ranked {
         if row.early != date {
@@ -259,10 +259,10 @@ fn clipped_one_apart(
     net: &DistNet,
     fact: Name,
 ) -> Result<Option<usize>, NoMemory>
-    requires { HasList net.now.present (forest tree.now) }
+    requires { IsTreeIn net.now.present tree.now }
 {
     let nodes = tree.numbers(alloc)?;
-    let ranked = in_order(alloc, tree, net, nodes.as_slice())?;
+    let ranked = in_order(alloc, &Order { tree, net }, nodes.as_slice())?;
     let clips = clips(alloc, tree, net, ranked.as_slice())?;
     if are_one_apart(ranked.as_slice()) {
         Ok(clipped_by(tree, clips.as_slice(), fact))

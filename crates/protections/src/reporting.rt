@@ -5,6 +5,7 @@ ghost use Rattle.std.specs.List.{Contains};
 ghost use Rattle.tmm_model.specs.Answers.{broken, reports, report_of};
 ghost use Rattle.tmm_model.specs.Maps.{built};
 ghost use Rattle.spots.specs.Seen.{IsSeen, Holds};
+ghost use Rattle.occ_tree.specs.OfLists.{IsTreeOf};
 ghost use Rattle.occ_tree.specs.Places.{forest};
 
 use crate::lists::push_some;
@@ -24,7 +25,7 @@ pub fn report(
     tree: &Tree,
     net: &DistNet,
 ) -> Result<Seq<Report>, NoMemory>
-    requires seen { IsSeen standing.now.present net.now.present (forest tree.now) }
+    requires seen { IsTreeOf standing.now.present net.now.present tree.now }
     requires holds { Holds (built standing.now.present).believed (forest tree.now) }
     ensures { IfOk result (λ found. map report_of found.items ≡ reports (built standing.now.present)) }
 {
@@ -46,7 +47,7 @@ fn broken(
     net: &DistNet,
     premise: &Premise,
 ) -> Result<Option<Report>, NoMemory>
-    requires seen { IsSeen standing.now.present net.now.present (forest tree.now) }
+    requires seen { IsTreeOf standing.now.present net.now.present tree.now }
     requires holds { Holds (built standing.now.present).believed (forest tree.now) }
     requires stands { Contains standing.now.present.premises premise.now }
     ensures { IfOk result (λ found. option_map report_of found ≡ broken (built standing.now.present) premise.now) }

@@ -1,6 +1,6 @@
 -- What a rule brings about, as a node.
 use Rattle.std.proofs.Common.{◌≡◌, ◌≢◌, ◌∙◌, inl, inr, ℕ, List, [], ◌∷◌, ◌++◌, refl, sym, ap, subst}
-use Rattle.std.specs.Prelude.{Option, Some, None, IsSome, ℤ, pos, ◌≤ℤ◌}
+use Rattle.std.specs.Prelude.{true, Option, Some, None, IsSome, ℤ, pos, ◌≤ℤ◌}
 use Rattle.std.specs.List.{Contains}
 use Rattle.std.proofs.lemmas.List.{map-append}
 use Rattle.std.proofs.lemmas.List.Elements.{All-contains, All-push}
@@ -12,6 +12,7 @@ use Rattle.tmm_model.specs.declared.token.Shape.{Shape}
 use Rattle.tmm_model.specs.declared.token.Shape.TheVariants.{Span}
 use Rattle.tmm_model.specs.Beliefs.{is_of, as_effect, rules_at}
 use Rattle.tmm_model.specs.Lines.{IsWellFormedPremise, IsNumber, IsBound, IsRange}
+use Rattle.tmm_model.specs.Names.{is_name}
 use Rattle.tmm_model.specs.Moments.{At, After, along, as_rule}
 use Rattle.belief_theory.specs.Right.{Occurs}
 use Rattle.tmm_model.specs.Sorts.{sort_in, class_in}
@@ -25,6 +26,7 @@ use Rattle.spots.specs.Forest.{Forest, Member, member, moment, moment_at, rules_
 use Rattle.spots.specs.Seen.{IsLinkOf, class_for, IsSeen}
 use Rattle.spots.proofs.Nodes.{moment_at-is}
 use Rattle.supports.specs.Growing.{Adds, effect_shape, MayEnter}
+use Rattle.supports.proofs.Facts.{premise_formed}
 use Rattle.supports.proofs.Effects.{effect_is}
 use Rattle.supports.proofs.Grown.{class_is}
 use Rattle.supports.proofs.OnKinds.{event_of_rules}
@@ -56,7 +58,13 @@ module _ (s : Standing) (net : Net) (f : Forest) (seen : IsSeen s net f) (x : �
     stands = (finds s.premises r (Rule name trigger lo hi effect given) there).0
 
     formed : IsWellFormedPremise (Rule name trigger lo hi effect given)
-    formed = All-contains IsWellFormedPremise s.premises (Rule name trigger lo hi effect given) seen.network.sound.well_formed (Contains-from_In s.premises (Rule name trigger lo hi effect given) stands)
+    formed = premise_formed s seen.network.sound (Rule name trigger lo hi effect given) stands
+
+    pub rule_named : is_name name ≡ true
+    rule_named = formed.0
+
+    pub word_is : is_name r ≡ true
+    word_is = subst (λ n. is_name n ≡ true) (finds s.premises r (Rule name trigger lo hi effect given) there).1 rule_named
 
     pub delay_is : IsNumber lo × IsBound hi × (pos 1 ≤ℤ lo) × IsRange (Finite lo) hi
     delay_is = (formed.2, formed.3, formed.4, formed.5)

@@ -5,15 +5,17 @@ use Rattle.std.specs.List.{list_any}
 use Rattle.std.specs.Map.{lookup}
 use Rattle.std.specs.Option.{option_or}
 use Rattle.std.proofs.lemmas.Grind.{flat_map-append}
+use Rattle.std.proofs.lemmas.List.Elements.{All-contains}
 use Rattle.tmm_model.specs.declared.premise.Premise.{Premise}
 use Rattle.tmm_model.specs.declared.premise.Premise.TheVariants.{Class, Kind, Point, Event, Token, Span, Dist, Rule, Protect}
 use Rattle.tmm_model.specs.Points.{same_name}
 use Rattle.tmm_model.specs.Sorts.{Sort, a_class, a_fact, a_kind, a_point, an_event, a_token, a_span, a_dist, a_rule, a_protection, is_fact, fact_declaration, declarations_of, declarations_in, sort_in, class_in, Use, a_name, fact_use, uses_of}
-use Rattle.tmm_model.specs.Standing.{name_of}
+use Rattle.tmm_model.specs.Lines.{IsWellFormedPremise}
+use Rattle.tmm_model.specs.Standing.{Standing, name_of}
 use Rattle.tmm_model.specs.Verdicts.{Cause, unknown, ill_sorted, name_cause, use_cause, uses_cause}
-use Rattle.list_theory.specs.WellNamed.{AllFollow, IsWellNamed}
+use Rattle.list_theory.specs.WellNamed.{AllFollow, IsWellNamed, IsSound}
 use Rattle.list_theory.proofs.Adding.{uses_none}
-use Rattle.list_theory.proofs.Elements.{In}
+use Rattle.list_theory.proofs.Elements.{In, Contains-from_In}
 use Rattle.list_theory.proofs.WellNamed.{lookup-append}
 use Rattle.premise_list.specs.Words.{facts_of, own_sort}
 use Rattle.premise_list.proofs.Lookups.{declarations_parted}
@@ -132,3 +134,7 @@ pub fact_known : (premises : List Premise) → IsWellNamed premises → (p : Pre
 fact_known premises h p at fact use_ =
     let (sort, declared, as_fact) = used_after [] premises h p at fact is_fact use_ in
     fact-class fact premises (declared ∙ ap Some (only_fact sort as_fact))
+
+-- a premise of a sound list is well formed
+pub premise_formed : (s : Standing) → IsSound s → (p : Premise) → In p s.premises → IsWellFormedPremise p
+premise_formed s sound p at = All-contains IsWellFormedPremise s.premises p sound.well_formed (Contains-from_In s.premises p at)

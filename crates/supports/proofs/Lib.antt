@@ -13,3 +13,4 @@ pub mod OnKinds
 pub mod Effects
 pub mod Grown
 pub mod Entering
+pub mod ByDate

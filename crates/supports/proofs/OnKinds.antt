@@ -1,5 +1,5 @@
 -- The rules on a kind, as they stand at an event.
-use Rattle.std.proofs.Common.{◌≡◌, ◌∙◌, ℕ, List, refl, ap, subst, arith}
+use Rattle.std.proofs.Common.{◌≡◌, ◌∙◌, ℕ, List, [], refl, ap, subst, arith}
 use Rattle.std.specs.Prelude.{Some}
 use Rattle.std.specs.List.{Contains}
 use Rattle.tmm_model.specs.declared.token.Shape.{Shape}
@@ -27,3 +27,12 @@ module _ (s : Standing) (net : Net) (f : Forest) (seen : IsSeen s net f) (x : �
       by Event h = refl
       by Persistence h = absurd (omega (arith, h.1))
       by Span h = absurd (omega (arith, h.1))
+
+  -- at what is no event stand none
+  pub no_rules : (m.shape ≡ Event → ⊥) → rules_at s (moment_at f x) ≡ []
+  no_rules other = rules_is ∙ by m.shape other
+    where
+      by : (shape : Shape) → (shape ≡ Event → ⊥) → rules_for s (Some (shape, m.what)) ≡ []
+      by Event h = absurd (h refl)
+      by Persistence h = refl
+      by Span h = refl

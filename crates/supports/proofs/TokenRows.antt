@@ -21,8 +21,12 @@ use Rattle.spots.proofs.Seen.{tokens_are, IsRowOf, member_of_token, token_is, ro
 use Rattle.spots.specs.declared.spot.Spot.{Spot}
 use Rattle.spots.specs.declared.spot.Spot.TheVariants.{Declared, Node}
 use Rattle.spots.specs.Forest.{Forest, Member, member, moment, moment_at, IsLive}
-use Rattle.spots.specs.Seen.{IsSeen, Holds, HasList}
+use Rattle.spots.specs.Seen.{IsSeen, Holds}
 use Rattle.spots.specs.Spots.{IsSpot, AreTokens, token_row, row_moment}
+use Rattle.occ_tree.specs.Dated.{IsKnown}
+use Rattle.occ_tree.specs.OfLists.{IsTreeOf}
+use Rattle.occ_tree.specs.Places.{forest}
+use Rattle.occ_tree.specs.Standing.{Kept, present}
 use Rattle.supports.specs.Nodes.{IsOfNode, HasNode}
 
 -- what is read beyond the end of the rows
@@ -79,12 +83,6 @@ module _ {s : Standing} {net : Net} {f : Forest} (seen : IsSeen s net f) {class 
   pub rows_of_nodes : All IsOfNode rows
   rows_of_nodes i d lt = let (x, _, is, _) = node_of (slice_index_or rows i d) (at_place i d lt) in (x, is.spot)
 
-  -- rows are live to the order of the tree
-  pub rows_live : All (HasLiveSpots (λ p. HasList net f × IsSpot net.names f p)) rows
-  rows_live i d lt =
-      let there = spots_there (slice_index_or rows i d) (at_place i d lt) in
-      record { begin = ((s, seen), there.begin); «end» = λ e is. ((s, seen), there.«end» e is) }
-
   -- the node at a place is live
   pub live_at_place : (i x : ℕ) → i < length rows → ((d : TokenRow Spot) → (slice_index_or rows i d).spot ≡ Node x) → IsLive f x
   live_at_place i x lt spot = subst (IsSpot net.names f) (spot no_row) (spots_there (slice_index_or rows i no_row) (at_place i no_row lt)).begin
@@ -109,6 +107,13 @@ module _ {s : Standing} {net : Net} {f : Forest} (seen : IsSeen s net f) {class 
     row_of k at own =
         let same : same_name class k.class ≡ true = subst (λ z. same_name class z ≡ true) (sym own) (nat_list_eq_equiv.refl class) in
         In-map (row_moment net.names f) rows k ((tokens_are s net f seen b holds class rows are k).1 (at, same))
+
+-- rows are live to the order of the tree
+pub rows_live : {s : Standing} {net : Net} {k : Kept} → IsTreeOf s net k → {class : List ℕ} {rows : List (TokenRow Spot)} → AreTokens (forest k) class rows
+    → All (HasLiveSpots (IsKnown net (present k))) rows
+rows_live {s} {net} {k} tree {class} {rows} are i d lt =
+    let there = spots_there tree.seen are (slice_index_or rows i d) (at_place tree.seen are i d lt) in
+    record { begin = ((s, tree.seen), tree.dated, there.begin); «end» = λ e is. ((s, tree.seen), tree.dated, there.«end» e is) }
 
 -- tokens among the occurrences of nodes are spelt
 pub tokens_spelt : {s : Standing} {net : Net} {f : Forest} → IsSeen s net f → {b : List Moment} → Holds b f → (k : TokenRow Moment) → In k (tokens s b) → IsSpelt k.spot

@@ -12,6 +12,7 @@ ghost use Rattle.occ_tree.specs.Ranks.{nodes_of};
 ghost use Rattle.spots.specs.Forest.{IsLive, moment_at};
 ghost use Rattle.spots.specs.Seen.{IsSeen, HasList, Holds, map_of};
 ghost use Rattle.spots.specs.Spots.{IsSpot, spot_distance, node_cmp};
+ghost use Rattle.occ_tree.specs.OfLists.{IsTreeIn};
 ghost use Rattle.occ_tree.specs.Places.{forest};
 ghost use Rattle.supports.specs.Behind.{AreBehind, IsClip, IsLastNode, token_at};
 ghost use Rattle.supports.specs.Nodes.{IsOfNode};
@@ -31,9 +32,9 @@ pub fn clips(
     alloc: Global,
     tree: &Tree,
     net: &DistNet,
-    ranked: &[Ranked<'_>],
+    ranked: &[Ranked],
 ) -> Result<Vec<Option<u32>>, NoMemory>
-    requires list { HasList net.now.present (forest tree.now) }
+    requires dates { IsTreeIn net.now.present tree.now }
     requires live { All (IsLive (forest tree.now)) (nodes_of ranked.now) }
     requires all { (x : ℕ) → IsLive (forest tree.now) x → Contains (nodes_of ranked.now) x }
     requires in_order { IsStrictlySortedBy (node_cmp net.now.present (forest tree.now)) (nodes_of ranked.now) }
@@ -55,11 +56,11 @@ fn clip_at(
     alloc: Global,
     tree: &Tree,
     net: &DistNet,
-    ranked: &[Ranked<'_>],
+    ranked: &[Ranked],
     i: usize,
     behind: &mut NameLists<TokenRow<Spot>>,
 ) -> Result<Option<u32>, NoMemory>
-    requires list { HasList net.now.present (forest tree.now) }
+    requires dates { IsTreeIn net.now.present tree.now }
     requires live { All (IsLive (forest tree.now)) (nodes_of ranked.now) }
     requires all { (x : ℕ) → IsLive (forest tree.now) x → Contains (nodes_of ranked.now) x }
     requires in_order { IsStrictlySortedBy (node_cmp net.now.present (forest tree.now)) (nodes_of ranked.now) }
@@ -99,7 +100,7 @@ fn next_clip(
     behind: &[TokenRow<Spot>],
     k: &TokenRow<Spot>,
 ) -> Option<u32>
-    requires list { HasList net.now.present (forest tree.now) }
+    requires dates { IsTreeIn net.now.present tree.now }
     requires nodes { All IsOfNode behind.now }
     requires live { All (λ row. IsSpot net.now.present.names (forest tree.now) row.spot × ForSome row.end (IsSpot net.now.present.names (forest tree.now))) behind.now }
     requires k_live { IsSpot net.now.present.names (forest tree.now) k.now.spot }

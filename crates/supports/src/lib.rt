@@ -19,8 +19,13 @@ ghost use Rattle.tmm_model.specs.Standing.{far_in};
 ghost use Rattle.spots.specs.Forest.{Member, member, IsLive, moment_at};
 ghost use Rattle.spots.specs.Seen.{IsSeen, Holds, map_of};
 ghost use Rattle.spots.specs.declared.spot.Spot.{Spot};
-ghost use Rattle.spots.specs.Spots.{IsSpot, spot_moment};
+ghost use Rattle.spots.specs.Spots.{IsSpot, spot_moment, spot_early, spot_cmp};
+ghost use Rattle.clipping.specs.ByDate.{IsByDate};
+ghost use Rattle.clipping.specs.Live.{IsLive as HasLiveSpots};
+ghost use Rattle.occ_tree.specs.Dated.{IsKnown};
+ghost use Rattle.occ_tree.specs.OfLists.{IsTreeOf};
 ghost use Rattle.occ_tree.specs.Places.{forest};
+ghost use Rattle.occ_tree.specs.Standing.{present};
 ghost use Rattle.supports.specs.Faults.{fault_at};
 ghost use Rattle.supports.specs.Nodes.{IsOfNode, HasNode};
 
@@ -29,7 +34,7 @@ mod root;
 mod rule;
 
 pub use all_clips::clips;
-use clipping::{Fault, first_clipper, holder, is_held};
+use clipping::{Fault, by_date};
 use dist_net::DistNet;
 use occ_tree::{Order, Tree};
 use premise_list::Standing;
@@ -51,17 +56,18 @@ fn node_at(rows: &[TokenRow<Spot>], place: usize) -> u32
 }
 
 // The place of the token of a node.
-fn place_of(rows: &[TokenRow<Spot>], x: u32) -> usize
-    requires { HasNode rows.now x }
+fn place_of(order: &Order<'_>, rows: &[TokenRow<Spot>], x: u32) -> usize
+    requires live { All (HasLiveSpots (IsKnown order.now.net.now.present (present order.now.tree.now))) rows.now }
+    requires by_date { IsByDate (spot_early order.now.net.now.present (forest order.now.tree.now)) (spot_cmp order.now.net.now.present (forest order.now.tree.now)) rows.now }
+    requires x_live { IsKnown order.now.net.now.present (present order.now.tree.now) (Spot.Node x) }
+    requires node { HasNode rows.now x }
     ensures within { result < length rows.now }
     ensures at { (d : TokenRow Spot) → (slice_index_or rows.now result d).spot ≡ Spot.Node x }
 {
-    for (i, row) in rows.iter().enumerate() {
-        if row.spot == Spot::Node(x) {
-            return i;
-        }
+    match by_date::place_of(order, rows, Spot::Node(x)) {
+        Some(place) => place,
+        None => unreachable!(),
     }
-    unreachable!()
 }
 
 /// The node of the first token that supports the fact throughout `p` to `q`, none exactly where no
@@ -74,7 +80,7 @@ pub fn supporter(
     p: Spot,
     q: Spot,
 ) -> Option<u32>
-    requires seen { IsSeen standing.now.present net.now.present (forest tree.now) }
+    requires seen { IsTreeOf standing.now.present net.now.present tree.now }
     requires fact { IsSome (class_in standing.now.present.premises fact) }
     requires p { IsSpot net.now.present.names (forest tree.now) p }
     requires q { IsSpot net.now.present.names (forest tree.now) q }
@@ -84,8 +90,8 @@ pub fn supporter(
     let Some(class) = standing.class_of(fact) else {
         unreachable!()
     };
-    let rows = tree.tokens(class);
-    let place = holder(&Order { tree, net }, rows, fact, p, q)?;
+    let rows = tree.tokens(&class);
+    let place = by_date::holder(&Order { tree, net }, rows, fact, p, q)?;
     Some(node_at(rows, place))
 }
 
@@ -98,7 +104,7 @@ pub fn is_supported(
     p: Spot,
     q: Spot,
 ) -> bool
-    requires seen { IsSeen standing.now.present net.now.present (forest tree.now) }
+    requires seen { IsTreeOf standing.now.present net.now.present tree.now }
     requires fact { IsSome (class_in standing.now.present.premises fact) }
     requires p { IsSpot net.now.present.names (forest tree.now) p }
     requires q { IsSpot net.now.present.names (forest tree.now) q }
@@ -107,21 +113,22 @@ pub fn is_supported(
     let Some(class) = standing.class_of(fact) else {
         unreachable!()
     };
-    is_held(&Order { tree, net }, tree.tokens(class), fact, p, q)
+    by_date::is_held(&Order { tree, net }, tree.tokens(&class), fact, p, q)
 }
 
 /// The node of the first token that clips the one at `x`, none exactly where no token does. A span
 /// and an event have none.
 pub fn clip(standing: &Standing, tree: &Tree, net: &DistNet, x: u32) -> Option<u32>
-    requires seen { IsSeen standing.now.present net.now.present (forest tree.now) }
+    requires seen { IsTreeOf standing.now.present net.now.present tree.now }
     requires live { IsLive (forest tree.now) x }
     ensures live { IfSome result (IsLive (forest tree.now)) }
     ensures first { (b : List Moment) → Holds b (forest tree.now) → option_map (moment_at (forest tree.now)) result ≡ clip (map_of standing.now.present b) (moment_at (forest tree.now) x) }
 {
     let class = tree.row(x).class?;
-    let rows = tree.tokens(class);
-    let place = place_of(rows, x);
-    let clipper = first_clipper(&Order { tree, net }, rows, place)?;
+    let rows = tree.tokens(&class);
+    let order = Order { tree, net };
+    let place = place_of(&order, rows, x);
+    let clipper = by_date::first_clipper(&order, rows, place)?;
     Some(node_at(rows, clipper))
 }
 
@@ -138,7 +145,7 @@ pub enum NodeFault {
 
 /// Why the token at `x` does not support its fact throughout `p` to `q`, where no token does.
 pub fn blame(standing: &Standing, tree: &Tree, net: &DistNet, x: u32, p: Spot, q: Spot) -> NodeFault
-    requires seen { IsSeen standing.now.present net.now.present (forest tree.now) }
+    requires seen { IsTreeOf standing.now.present net.now.present tree.now }
     requires p { IsSpot net.now.present.names (forest tree.now) p }
     requires q { IsSpot net.now.present.names (forest tree.now) q }
     requires no_supporter { (b : List Moment) × (m : Member) × Holds b (forest tree.now) × (member (forest tree.now) x ≡ Some m) × IsSome m.class
@@ -150,9 +157,10 @@ pub fn blame(standing: &Standing, tree: &Tree, net: &DistNet, x: u32, p: Spot, q
     let Some(class) = tree.row(x).class else {
         unreachable!()
     };
-    let rows = tree.tokens(class);
-    let place = place_of(rows, x);
-    match clipping::blame(&Order { tree, net }, rows, place, p, q) {
+    let rows = tree.tokens(&class);
+    let order = Order { tree, net };
+    let place = place_of(&order, rows, x);
+    match by_date::blame(&order, rows, place, p, q) {
         Fault::Late => NodeFault::Late,
         Fault::Clipped(c) => NodeFault::Clipped(node_at(rows, c)),
         Fault::Ends => NodeFault::Ends,

@@ -10,6 +10,7 @@ ghost use Rattle.tmm_model.specs.Standing.{far_in};
 ghost use Rattle.spots.specs.Forest.{IsLive};
 ghost use Rattle.spots.specs.Seen.{IsSeen, HasList, Holds};
 ghost use Rattle.spots.specs.Spots.{IsSpot, spot_moment, spot_distance};
+ghost use Rattle.occ_tree.specs.OfLists.{IsTreeIn, IsTreeOf};
 ghost use Rattle.occ_tree.specs.Places.{forest};
 ghost use Rattle.supports.specs.Faults.{fault_at};
 ghost use Rattle.tt_query.specs.Firsts.{blame_at, failing_of, HasNoSupporter};
@@ -35,7 +36,7 @@ pub fn ask(
     p: Spot,
     q: Spot,
 ) -> Result<Answer, NoMemory>
-    requires seen { IsSeen standing.now.present net.now.present (forest tree.now) }
+    requires seen { IsTreeOf standing.now.present net.now.present tree.now }
     requires holds { Holds (built standing.now.present).believed (forest tree.now) }
     requires fact { IsSome (class_in standing.now.present.premises fact) }
     requires p { IsSpot net.now.present.names (forest tree.now) p }
@@ -56,7 +57,7 @@ pub fn ask(
 
 // Whether the first spot is surely at or before the second.
 fn is_by(tree: &Tree, net: &DistNet, p: Spot, q: Spot) -> bool
-    requires list { HasList net.now.present (forest tree.now) }
+    requires dates { IsTreeIn net.now.present tree.now }
     requires p { IsSpot net.now.present.names (forest tree.now) p }
     requires q { IsSpot net.now.present.names (forest tree.now) q }
     ensures { result ≡ bound_at_most (spot_distance net.now.present (forest tree.now) q p) (pos 0) }
@@ -77,7 +78,7 @@ fn blamed(
     p: Spot,
     q: Spot,
 ) -> Result<Answer, NoMemory>
-    requires seen { IsSeen standing.now.present net.now.present (forest tree.now) }
+    requires seen { IsTreeOf standing.now.present net.now.present tree.now }
     requires holds { Holds (built standing.now.present).believed (forest tree.now) }
     requires fact { IsSome (class_in standing.now.present.premises fact) }
     requires p { IsSpot net.now.present.names (forest tree.now) p }
@@ -89,7 +90,7 @@ fn blamed(
         Some(class) => class,
         None => unreachable!(),
     };
-    let rows = tree.tokens(class);
+    let rows = tree.tokens(&class);
     let first = first_tokens(tree, net, class, rows, fact);
     let blames = blames(alloc, standing, tree, net, first.nodes.as_slice(), p, q)?;
     Ok(Answer::No {
@@ -108,7 +109,7 @@ fn blames(
     p: Spot,
     q: Spot,
 ) -> Result<Seq<Blame>, NoMemory>
-    requires seen { IsSeen standing.now.present net.now.present (forest tree.now) }
+    requires seen { IsTreeOf standing.now.present net.now.present tree.now }
     requires holds { Holds (built standing.now.present).believed (forest tree.now) }
     requires p { IsSpot net.now.present.names (forest tree.now) p }
     requires q { IsSpot net.now.present.names (forest tree.now) q }
@@ -144,7 +145,7 @@ fn blame_node(
     p: Spot,
     q: Spot,
 ) -> Result<Blame, NoMemory>
-    requires seen { IsSeen standing.now.present net.now.present (forest tree.now) }
+    requires seen { IsTreeOf standing.now.present net.now.present tree.now }
     requires holds { Holds (built standing.now.present).believed (forest tree.now) }
     requires p { IsSpot net.now.present.names (forest tree.now) p }
     requires q { IsSpot net.now.present.names (forest tree.now) q }

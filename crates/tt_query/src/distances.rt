@@ -5,6 +5,7 @@ ghost use Rattle.tmm_model.specs.Maps.{built, gap};
 ghost use Rattle.tmm_model.specs.Standing.{Standing};
 ghost use Rattle.spots.specs.Seen.{IsSeen, HasList};
 ghost use Rattle.spots.specs.Spots.{IsSpot, spot_moment};
+ghost use Rattle.occ_tree.specs.OfLists.{IsTreeIn};
 ghost use Rattle.occ_tree.specs.Places.{forest};
 
 use dist_net::DistNet;
@@ -15,7 +16,7 @@ use tmm_model::Bound;
 /// The lower and the upper bound on the date of the second spot less that of the first, in whole time
 /// units.
 pub fn bounds(tree: &Tree, net: &DistNet, p: Spot, q: Spot) -> (Bound, Bound)
-    requires list { HasList net.now.present (forest tree.now) }
+    requires dates { IsTreeIn net.now.present tree.now }
     requires p { IsSpot net.now.present.names (forest tree.now) p }
     requires q { IsSpot net.now.present.names (forest tree.now) q }
     ensures low { (s : Standing) → IsSeen s net.now.present (forest tree.now) → result.0 ≡ bound_negated (gap (built s) (spot_moment net.now.present.names (forest tree.now) q) (spot_moment net.now.present.names (forest tree.now) p)) }

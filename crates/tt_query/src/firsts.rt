@@ -5,12 +5,13 @@ ghost use Rattle.tmm_model.specs.Firsts.{placed};
 ghost use Rattle.spots.specs.Forest.{IsLive};
 ghost use Rattle.spots.specs.Seen.{HasList};
 ghost use Rattle.spots.specs.Spots.{AreTokens, node_cmp};
+ghost use Rattle.occ_tree.specs.OfLists.{IsTreeIn};
 ghost use Rattle.occ_tree.specs.Places.{forest};
 ghost use Rattle.tt_query.specs.Firsts.{node_for, nodes_of, firsts};
 
 use arrayvec::ArrayVec;
 use dist_net::DistNet;
-use occ_tree::Tree;
+use occ_tree::{Order, Tree};
 use spots::Spot;
 use std::cmp::Ordering;
 use tmm_model::{MOST_BLAMES, Name, TokenRow};
@@ -35,7 +36,7 @@ pub(crate) fn first_tokens(
     rows: &[TokenRow<Spot>],
     fact: Name,
 ) -> Firsts
-    requires list { HasList net.now.present (forest tree.now) }
+    requires dates { IsTreeIn net.now.present tree.now }
     requires rows { AreTokens (forest tree.now) class rows.now }
     ensures nodes { result.nodes.items ≡ firsts net.now.present (forest tree.now) (nodes_of fact rows.now) }
     ensures count { result.count ≡ length (nodes_of fact rows.now) }
@@ -69,7 +70,7 @@ fn node_for(row: &TokenRow<Spot>, fact: Name) -> Option<u32>
 
 // Puts a node in its place among those in order, and keeps the first.
 fn place(nodes: &mut ArrayVec<u32, BLAMES>, tree: &Tree, net: &DistNet, x: u32)
-    requires list { HasList net.now.present (forest tree.now) }
+    requires dates { IsTreeIn net.now.present tree.now }
     requires live { IsLive (forest tree.now) x }
     requires all { All (IsLive (forest tree.now)) nodes.old.items }
     ensures { nodes.new.items ≡ take BLAMES (placed (node_cmp net.now.present (forest tree.now)) x nodes.old.items) }
@@ -83,7 +84,7 @@ fn place(nodes: &mut ArrayVec<u32, BLAMES>, tree: &Tree, net: &DistNet, x: u32)
 
 // How many of the nodes that are in order come before another.
 fn place_of(tree: &Tree, net: &DistNet, nodes: &[u32], x: u32) -> usize
-    requires list { HasList net.now.present (forest tree.now) }
+    requires dates { IsTreeIn net.now.present tree.now }
     requires live { IsLive (forest tree.now) x }
     requires all { All (IsLive (forest tree.now)) nodes.now }
     ensures within { result ≤ length nodes.now }
@@ -92,7 +93,8 @@ fn place_of(tree: &Tree, net: &DistNet, nodes: &[u32], x: u32) -> usize
     match nodes {
         [] => 0,
         [first, rest @ ..] => {
-            if tree.cmp_order(net, x, *first) == Ordering::Greater {
+            let order = Order { tree, net };
+            if order.cmp_order(x, *first) == Ordering::Greater {
                 1 + place_of(tree, net, rest, x)
             } else {
                 0

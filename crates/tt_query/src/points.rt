@@ -8,6 +8,7 @@ ghost use Rattle.dist_net.specs.Net.{Net};
 ghost use Rattle.spots.specs.Forest.{IsLive, moment_at};
 ghost use Rattle.spots.specs.Seen.{IsSeen, Holds};
 ghost use Rattle.spots.specs.Spots.{IsSpot, spot_moment};
+ghost use Rattle.occ_tree.specs.OfLists.{IsTreeOf};
 ghost use Rattle.occ_tree.specs.Places.{forest};
 ghost use Rattle.tt_query.specs.Stops.{StopsPoint, StopsWhy, StopsUnknown};
 
@@ -28,7 +29,7 @@ pub fn resolve(
     net: &DistNet,
     point: &QueryPoint,
 ) -> Result<Spot, Stop>
-    requires seen { IsSeen standing.now.present net.now.present (forest tree.now) }
+    requires seen { IsTreeOf standing.now.present net.now.present tree.now }
     requires holds { Holds (built standing.now.present).believed (forest tree.now) }
     requires well_formed { IsWellFormedQueryPoint point.now }
     ensures known { IfOk result (λ spot. point_cause (built standing.now.present) point.now ≡ None) }

@@ -8,5 +8,5 @@ use Rattle.belief_list.proofs.changes.clipped.Given as goal
 
 abbrev pub invariant-loop-row : goal.invariant-loop-row
 invariant-loop-row l =
-    map clip_pair l.clips.items ++ filter_map (clip_row (map (row_at (forest l.before.tree.now)) l.before.rows.now)) (map (row_at (forest l.tree)) (drop l.row-index l.rows))
-    ≡ filter_map (clip_row (map (row_at (forest l.before.tree.now)) l.before.rows.now)) (map (row_at (forest l.tree)) l.rows)
+    map clip_pair l.clips.items ++ filter_map (clip_row (map (row_at (forest l.before.names.now)) l.before.rows.now)) (map (row_at (forest l.tree)) (drop l.row-index l.rows))
+    ≡ filter_map (clip_row (map (row_at (forest l.before.names.now)) l.before.rows.now)) (map (row_at (forest l.tree)) l.rows)

@@ -16,7 +16,7 @@ none_listed f none = record {
 }
 
 pub compare-requires-clause-old : goal.compare-requires-clause-old
-compare-requires-clause-old g c = none_listed _ c.make-tree.ensures
+compare-requires-clause-old g c = none_listed _ c.make-tree.ensures.none
 
 pub compare-requires-clause-new : goal.compare-requires-clause-new
-compare-requires-clause-new g c = none_listed _ c.make-tree.ensures
+compare-requires-clause-new g c = none_listed _ c.make-tree.ensures.none

@@ -1,4 +1,4 @@
-use Rattle.std.proofs.Common.{◌≡◌, ◌∙◌, sym, subst, rules, arith, w64, to_z, of_z}
+use Rattle.std.proofs.Common.{◌≡◌, ◌∙◌, sym, ap, subst, rules, arith, w64, to_z, of_z}
 use Rattle.std.proofs.lemmas.Int.{ints, to_z-of_z}
 use Rattle.std.proofs.lemmas.Result.{on_ok_weaker}
 use Rattle.std.specs.Prelude.{ℤ, pos, ◌-ℤ◌, ◌≤ℤ◌, ◌<ℤ◌, FitsSigned}
@@ -6,8 +6,8 @@ use Rattle.belief_theory.proofs.SoundBeliefs.{sound_timed}
 use Rattle.spots.specs.Forest.{moment_at}
 use Rattle.occ_tree.specs.Places.{forest}
 use Rattle.spots.proofs.Seen.{early_is, occurs_at}
-use Rattle.just_check.specs.Audited.{date_of, DecidesThrough, IsChecked}
-use Rattle.just_check.proofs.Deciding.{checked_through}
+use Rattle.just_check.specs.Audited.{date_of, rows_of, DecidesThrough, IsChecked}
+use Rattle.just_check.proofs.Deciding.{same_rows, rows_in, checked_through}
 use Rattle.just_check.proofs.auditing.decide_before.Goals as goal
 
 fits_less : (z : ℤ) → FitsSigned w64 z → pos 0 ≤ℤ z → FitsSigned w64 (z -ℤ pos 1)
@@ -43,4 +43,16 @@ returns-clause-checked c =
     let still : FitsSigned w64 (early -ℤ pos 1) = subst (λ z. FitsSigned w64 (z -ℤ pos 1)) (sym (to_z-of_z w64 c.early-date.result fits)) (fits_less c.early-date.result fits (subst (λ z. pos 0 ≤ℤ z) (sym date_at) from_start)) in
     let before : date <ℤ date_of s (moment_at (forest old.tree) c.args.x) = subst (λ z. z <ℤ date_of s (moment_at (forest old.tree) c.args.x)) (sym (to_z-of_z w64 (early -ℤ pos 1) still)) (less early (date_of s (moment_at (forest old.tree) c.args.x)) date_is) in
     let go : DecidesThrough s net old new date → IsChecked s net new = checked_through s net old new c.requires.before c.args.x c.requires.live date before in
+    on_ok_weaker c.decide_through.result go c.decide_through.ensures
+
+pub early-date-requires-clause-dates : goal.early-date-requires-clause-dates
+early-date-requires-clause-dates c = rows_in c.requires.before.taken
+
+pub returns-clause-rows : goal.returns-clause-rows
+returns-clause-rows c =
+    let old = c.args.checked.now in
+    let new = c.decide_through.new.checked in
+    let early = to_z w64 (of_z w64 c.early-date.result) in
+    let date = to_z w64 (of_z w64 (early -ℤ pos 1)) in
+    let go : DecidesThrough c.args.standing.now.present c.args.net.now.present old new date → rows_of new ≡ rows_of old = λ through. same_rows new old (ap forest through.tree) through.nodes in
     on_ok_weaker c.decide_through.result go c.decide_through.ensures

@@ -6,7 +6,7 @@ use Rattle.spots.specs.Forest.{moment_at}
 use Rattle.occ_tree.specs.Places.{forest}
 use Rattle.spots.proofs.Seen.{early_is}
 use Rattle.just_check.specs.Audited.{date_of, decided_in, DecidesThrough}
-use Rattle.just_check.proofs.Deciding.{decided_node, decided_more, through_next}
+use Rattle.just_check.proofs.Deciding.{rows_in, decided_node, decided_more, through_next}
 use Rattle.just_check.proofs.auditing.decide_through.Goals as goal
 
 no_later : (a b : ℤ) → int_lt a b ≡ false → b ≤ℤ a
@@ -57,3 +57,6 @@ returns-then-early-date c =
     let date_is : early ≡ date_of s (moment_at (forest old.tree) x) = to_z-of_z w64 c.early.result fits ∙ c.early.ensures ∙ early_is s net (forest old.tree) inv.taken.so_far.seen x live in
     subst (DecidesThrough s net first old) (to_z-of_z w64 c.args.date date_fits)
     (through_next s net first old date inv.taken inv.tree inv.nodes inv.own x below c.index.ensures (subst (λ z. date <ℤ z) date_is (later date early c.if-early-date.true)))
+
+pub early-requires-clause-dates : goal.early-requires-clause-dates
+early-requires-clause-dates c = rows_in c.loop-checked.invariant.taken

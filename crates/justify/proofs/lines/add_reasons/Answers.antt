@@ -7,8 +7,13 @@ use Rattle.walk_theory.proofs.Members.{All-from_contains, Contains-map}
 use Rattle.spots.specs.Forest.{moment_at}
 use Rattle.occ_tree.specs.Places.{forest}
 use Rattle.justify.specs.Lines.{IsInOrder}
+use Rattle.justify.proofs.Origins.{rule_at}
 use Rattle.justify.proofs.Supported.{supports_in_order}
 use Rattle.justify.proofs.lines.add_reasons.Goals as goal
+
+pub supports_at-supports-requires-clause-rule : goal.supports_at-supports-requires-clause-rule
+supports_at-supports-requires-clause-rule c =
+    rule_at c.args.standing.now.present c.args.net.now.present (forest c.args.tree.now) c.requires.seen.seen c.args.x c.in-Effect.event c.in-Effect.rule c.requires.live c.in-Effect.ensures.1
 
 pub add_orders-requires-clause-in_order : goal.add_orders-requires-clause-in_order
 add_orders-requires-clause-in_order c =

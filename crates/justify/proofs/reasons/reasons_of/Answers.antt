@@ -30,7 +30,7 @@ returns c =
     (λ lines. AreReasons (built s) (map (moment_at f) (nodes_of c.as_slice-2.result.now)) (map reason_of lines.items))
     (λ lines. IsWhy (built s) (moment_at f c.args.x) (map reason_of lines.items))
     (λ lines told.
-    reasons_are s c.args.net.now.present f c.requires.seen c.args.x keys (nodes_of ranked) c.in_ok-found.ensures
+    reasons_are s c.args.net.now.present f c.requires.seen.seen c.args.x keys (nodes_of ranked) c.in_ok-found.ensures
     (subst (λ (l : List ℕ). IsPermutation l (nodes_of ranked)) c.as_slice.ensures.keys c.in_ok-ranked.ensures.same) c.in_ok-ranked.ensures.in_order
     (map reason_of lines.items)
     (subst (λ (ps : List Ranked). AreReasons (built s) (map (moment_at f) (nodes_of ps)) (map reason_of lines.items)) c.as_slice-2.ensures.value told))

@@ -9,7 +9,12 @@ use Rattle.indexmap.specs.IndexSet.{insert_all}
 use Rattle.spots.specs.Forest.{IsLive, moment_at}
 use Rattle.occ_tree.specs.Places.{forest}
 use Rattle.justify.specs.Grounds.{AreGrounds}
+use Rattle.justify.proofs.Origins.{rule_at}
 use Rattle.justify.proofs.upholders.add_grounds.Goals as goal
+
+pub supports_at-supports-requires-clause-rule : goal.supports_at-supports-requires-clause-rule
+supports_at-supports-requires-clause-rule c =
+    rule_at c.args.standing.now.present c.args.net.now.present (forest c.args.tree.now) c.requires.seen.seen c.args.x c.in-Effect.event c.in-Effect.rule c.requires.live c.in-Effect.ensures.1
 
 pub returns-in_ok-add-in-Effect : goal.returns-in_ok-add-in-Effect
 returns-in_ok-add-in-Effect c =

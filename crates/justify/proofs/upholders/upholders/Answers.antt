@@ -1,4 +1,4 @@
-use Rattle.std.proofs.Common.{◌∙◌, ◌<◌, ◌≤◌, length, ap, subst, arith}
+use Rattle.std.proofs.Common.{◌∙◌, ◌<◌, ◌≤◌, ap, subst, arith}
 use Rattle.std.specs.Prelude.{nat_eq}
 use Rattle.std.proofs.lemmas.List.Elements.{All-contains}
 use Rattle.tmm_model.specs.Maps.{built}
@@ -6,7 +6,7 @@ use Rattle.list_theory.proofs.Elements.{Contains-from_In}
 use Rattle.indexmap.specs.IndexSet.{insert_key}
 use Rattle.spots.specs.Forest.{IsLive}
 use Rattle.occ_tree.specs.Places.{forest}
-use Rattle.justify.proofs.Reached.{walked_first, live_next, walked_more, walked_all, walked_below, below_places}
+use Rattle.justify.proofs.Reached.{walked_first, live_next, walked_more, walked_all, walked_below}
 use Rattle.justify.proofs.upholders.upholders.Goals as goal
 
 pub loop-next-init : goal.loop-next-init
@@ -23,8 +23,8 @@ add_grounds-requires-clause-live c =
 
 pub loop-next-smaller : goal.loop-next-smaller
 loop-next-smaller c =
-    let low : c.loop-next.next < length c.args.tree.now =
-    walked_below (built c.args.standing.now.present) (forest c.args.tree.now) c.args.x (length c.args.tree.now) (below_places c.args.tree.now) c.loop-next.found.keys c.loop-next.next c.index-y.result.now c.loop-next.invariant c.index-y.ensures in
+    let low : c.loop-next.next < c.limit-limit.result =
+    walked_below (built c.args.standing.now.present) (forest c.args.tree.now) c.args.x c.limit-limit.result c.limit-limit.ensures c.loop-next.found.keys c.loop-next.next c.index-y.result.now c.loop-next.invariant c.index-y.ensures in
     omega arith
 
 pub loop-next-preserved : goal.loop-next-preserved

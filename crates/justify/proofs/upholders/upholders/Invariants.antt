@@ -1,4 +1,4 @@
-use Rattle.std.proofs.Common.{◌-◌, length}
+use Rattle.std.proofs.Common.{◌-◌}
 use Rattle.tmm_model.specs.Maps.{built}
 use Rattle.justify.proofs.Reached.{IsWalked}
 use Rattle.occ_tree.specs.Places.{forest}
@@ -7,6 +7,6 @@ use Rattle.justify.proofs.upholders.upholders.Given as goal
 abbrev pub invariant-loop-next : goal.invariant-loop-next
 invariant-loop-next l = IsWalked (built l.standing.present) (forest l.tree) l.x l.found.keys l.next
 
--- the nodes that are still to come are no more than the places behind
+-- the nodes that are still to come are no more than the numbers left
 abbrev pub decreases-loop-next : goal.decreases-loop-next
-decreases-loop-next l = length l.tree - l.next
+decreases-loop-next l = l._limit - l.next

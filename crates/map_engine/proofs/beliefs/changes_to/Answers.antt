@@ -1,10 +1,10 @@
-use Rattle.std.proofs.Common.{List, refl, ap, map, ◌∙◌}
+use Rattle.std.proofs.Common.{List, refl, ap, map, sym, subst, ◌∙◌}
 use Rattle.tmm_model.specs.declared.answer.Report.{Report}
 use Rattle.tmm_model.specs.Answers.{report_of}
 use Rattle.tmm_model.specs.Maps.{built}
 use Rattle.belief_list.specs.declared.list.BeliefRow.{BeliefRow}
 use Rattle.belief_list.specs.Compared.{AreChanges}
-use Rattle.belief_list.specs.Rows.{row_at}
+use Rattle.belief_list.specs.Rows.{row_at, IsListing}
 use Rattle.map_engine.proofs.Told.{told}
 use Rattle.occ_tree.specs.Places.{forest}
 use Rattle.map_engine.proofs.beliefs.changes_to.Goals as goal
@@ -30,3 +30,6 @@ returns c = λ list old_net net old new left_out.
       mended = c.in_ok-broken.mended;
     })
     left_out between.left between.entered between.loose between.clips reported.0 reported.1
+
+pub compare-requires-clause-old : goal.compare-requires-clause-old
+compare-requires-clause-old c = subst (IsListing (forest c.args.old.now.tree)) (sym c.items.ensures) c.requires.old

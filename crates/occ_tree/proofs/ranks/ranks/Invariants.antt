@@ -9,5 +9,5 @@ invariant-loop-node l = record {
   capacity : vec_capacity l.ranked ≡ length l.nodes;
   long : vec_len l.ranked ≡ l.node-index;
   nodes : nodes_of l.ranked.items ≡ take l.node-index l.nodes;
-  ranked : All (IsRanked l.net.present (forest l.tree)) l.ranked.items;
+  ranked : All (IsRanked l.order.net.now.present (forest l.order.tree.now)) l.ranked.items;
 }

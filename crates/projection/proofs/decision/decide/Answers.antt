@@ -14,18 +14,18 @@ use Rattle.projection.proofs.decision.decide.Goals as goal
 
 pub rule_text-text-requires : goal.rule_text-text-requires
 rule_text-text-requires c =
-    rule_there c.args.standing.now.present c.requires.seen.network.sound (moment_at (forest c.args.tree.now) c.args.trigger) c.args.rule c.requires.rule
+    rule_there c.args.standing.now.present c.requires.seen.seen.network.sound (moment_at (forest c.args.tree.now) c.args.trigger) c.args.rule c.requires.rule
 
 pub due_by-requires-clause-early : goal.due_by-requires-clause-early
 due_by-requires-clause-early c =
     let fits : FitsSigned w64 c.early-early.result = search rules in
-    early_seen c.args.standing.now.present c.args.net.now.present (forest c.args.tree.now) c.requires.seen c.args.trigger c.requires.trigger c.early-early.result fits c.early-early.ensures
+    early_seen c.args.standing.now.present c.args.net.now.present (forest c.args.tree.now) c.requires.seen.seen c.args.trigger c.requires.trigger c.early-early.result fits c.early-early.ensures
 
 pub due_by-requires-clause-delay : goal.due_by-requires-clause-delay
 due_by-requires-clause-delay c =
     let fits : FitsSigned w64 c.early-early.result = search rules in
     let fits_lo : FitsSigned w64 c.rule_text-text.result.lo = search rules in
-    delay_seen c.args.standing.now.present c.args.net.now.present (forest c.args.tree.now) c.requires.seen c.args.trigger c.requires.trigger c.early-early.result fits c.early-early.ensures
+    delay_seen c.args.standing.now.present c.args.net.now.present (forest c.args.tree.now) c.requires.seen.seen c.args.trigger c.requires.trigger c.early-early.result fits c.early-early.ensures
     c.args.rule c.rule_text-text.result.lo fits_lo c.rule_text-text.ensures.lo c.requires.rule
 
 pub try_given-requires-clause-facts : goal.try_given-requires-clause-facts
@@ -33,7 +33,7 @@ try_given-requires-clause-facts c =
     let s = c.args.standing.now.present in
     let t = moment_at (forest c.args.tree.now) c.args.trigger in
     subst (All (λ fact. IsSome (class_in s.premises fact))) (sym c.rule_text-text.ensures.given)
-    (facts_known s c.requires.seen.network.sound c.args.rule (rule_there s c.requires.seen.network.sound t c.args.rule c.requires.rule))
+    (facts_known s c.requires.seen.seen.network.sound c.args.rule (rule_there s c.requires.seen.seen.network.sound t c.args.rule c.requires.rule))
 
 pub returns-then-is_none-clause-outcome : goal.returns-then-is_none-clause-outcome
 returns-then-is_none-clause-outcome c b holds =
@@ -44,7 +44,7 @@ returns-then-is_none-clause-outcome c b holds =
     let fits_lo : FitsSigned w64 c.rule_text-text.result.lo = search rules in
     is_beyond s (far_in s.premises) b t c.args.rule
     (untold_late s.horizon (due s (far_in s.premises) t c.args.rule) c.due_by.result
-    (due_is s c.args.net.now.present (forest c.args.tree.now) c.requires.seen c.args.trigger c.requires.trigger c.early-early.result fits c.early-early.ensures
+    (due_is s c.args.net.now.present (forest c.args.tree.now) c.requires.seen.seen c.args.trigger c.requires.trigger c.early-early.result fits c.early-early.ensures
     c.args.rule c.rule_text-text.result.lo fits_lo c.rule_text-text.ensures.lo c.horizon.result c.horizon.ensures c.due_by.result c.due_by.ensures) none)
 
 pub returns-clause-outcome : goal.returns-clause-outcome
@@ -58,5 +58,5 @@ returns-clause-outcome c b holds =
     ∙ ap (tried_at s b t) c.rule_text-text.ensures.given
     ∙ is_tried s (far_in s.premises) b t c.args.rule
     (told_in_time s.horizon (due s (far_in s.premises) t c.args.rule) c.due_by.result
-    (due_is s c.args.net.now.present (forest c.args.tree.now) c.requires.seen c.args.trigger c.requires.trigger c.early-early.result fits c.early-early.ensures
+    (due_is s c.args.net.now.present (forest c.args.tree.now) c.requires.seen.seen c.args.trigger c.requires.trigger c.early-early.result fits c.early-early.ensures
     c.args.rule c.rule_text-text.result.lo fits_lo c.rule_text-text.ensures.lo c.horizon.result c.horizon.ensures c.due_by.result c.due_by.ensures) some)

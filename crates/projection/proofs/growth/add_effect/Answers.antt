@@ -1,6 +1,6 @@
 use Rattle.std.proofs.Common.{◌≡◌, ◌∙◌, sym, ap, subst, rules, w64, to_z, of_z}
 use Rattle.std.proofs.lemmas.Int.{to_z-of_z}
-use Rattle.std.specs.Prelude.{Some, slice_get, Result, Ok, Err, IfOk, pos, ◌≤ℤ◌, FitsSigned}
+use Rattle.std.specs.Prelude.{Some, slice_get, Result, Ok, Err, IfOk, OnOk, ◌+ℤ◌, pos, ◌≤ℤ◌, FitsSigned}
 use Rattle.tmm_model.specs.declared.bound.Bound.TheVariants.{Finite}
 use Rattle.tmm_model.specs.declared.premise.Premise.TheVariants.{Rule}
 use Rattle.tmm_model.specs.Lines.{IsNumber, IsBound, IsRange}
@@ -10,20 +10,36 @@ use Rattle.tmm_model.specs.Standing.{premise_in}
 use Rattle.dist_net.specs.Net.{Net}
 use Rattle.spots.specs.Forest.{Member, member, Enters, child_member, moment_at, IsTrigger}
 use Rattle.spots.specs.Seen.{IsSeen}
+use Rattle.occ_tree.specs.Dated.{IsDatedBy}
+use Rattle.occ_tree.specs.Edits.{Enters as EntersTree}
+use Rattle.occ_tree.specs.OfLists.{IsTreeOf}
 use Rattle.occ_tree.specs.Places.{forest}
+use Rattle.occ_tree.specs.Standing.{present, early}
+use Rattle.occ_tree.proofs.KeptDates.{effects_keep_dates}
+use Rattle.occ_tree.proofs.Members.{growing_enters}
+use Rattle.spots.specs.declared.link.Link.{Link}
 use Rattle.spots.proofs.Nodes.{node_at}
 use Rattle.supports.specs.Growing.{Adds, effect_shape}
 use Rattle.projection.specs.Places.{name_at}
 use Rattle.projection.proofs.AtPlaces.{named_at, found_at}
-use Rattle.supports.proofs.Entering.{is_trigger, delay_is, effect_adds}
+use Rattle.supports.proofs.Entering.{is_trigger, delay_is, effect_adds, rule_named}
+use Rattle.supports.proofs.Grown.{adds_seen}
 use Rattle.projection.proofs.growth.add_effect.Goals as goal
 
 ok_kept : {T E : Type 0} (P Q : T → Type 0) (r : Result T E) → ((x : T) → P x → Q x) → IfOk r P → IfOk r Q
 ok_kept P Q (Ok x) f h = f x h
 ok_kept P Q (Err e) f h = tt
 
-pub returns : goal.returns
-returns c =
+ok_on : {T E : Type 0} (P : T → Type 0) (Q : Type 0) (r : Result T E) → ((x : T) → P x → Q) → IfOk r P → OnOk r Q
+ok_on P Q (Ok x) f h = f x h
+ok_on P Q (Err e) f h = tt
+
+ok_both : {T E : Type 0} (P Q : T → Type 0) (r : Result T E) → IfOk r P → IfOk r Q → IfOk r (λ x. P x × Q x)
+ok_both P Q (Ok x) p q = (p, q)
+ok_both P Q (Err e) p q = tt
+
+pub returns-clause-adds : goal.returns-clause-adds
+returns-clause-adds c =
     let s = c.args.standing.now.present in
     let f = forest c.args.tree.now in
     let new = forest c.insert_child.new.self in
@@ -42,14 +58,35 @@ returns c =
     let named : name ≡ r = sym (named_at s c.args.place rule at_place) in
     let (m, at) = node_at f t c.requires.trigger in
     let same_shape : shape ≡ effect_shape (class_in s.premises effect) = c.effect_shape-shape.ensures ∙ ap effect_shape c.class_of-class.ensures in
-    ok_kept (λ x. (n : Member) → member f t ≡ Some n → Enters f new x (child_member n (record { rule = name; lo = to_z w64 (of_z w64 lo); hi = hi }) effect class shape))
+    let link : Link = record { rule = name; lo = to_z w64 (of_z w64 lo); hi = hi } in
+    ok_kept (λ x. (n : Member) → member f t ≡ Some n → EntersTree c.args.tree.now c.insert_child.new.self x (child_member n link effect class shape) (Some t) (early (present c.args.tree.now) t +ℤ to_z w64 (of_z w64 lo)))
     (λ x. (net : Net) → IsSeen s net f → Adds s net.names f new x (After (moment_at f t) r)) c.insert_child.result
     (λ x enters net seen. effect_adds s net f seen t m at r c.requires.enters name c.in-Some-Rule.field-0-1 lo hi effect c.in-Some-Rule.field-0-5 there new x
     (subst (λ z. Enters f new x (child_member m (record { rule = r; lo = z; hi = hi }) effect (class_in s.premises effect) (effect_shape (class_in s.premises effect)))) (to_z-of_z w64 lo fits)
     (subst (λ o. Enters f new x (child_member m (record { rule = r; lo = to_z w64 (of_z w64 lo); hi = hi }) effect o (effect_shape (class_in s.premises effect)))) c.class_of-class.ensures
     (subst (λ k. Enters f new x (child_member m (record { rule = r; lo = to_z w64 (of_z w64 lo); hi = hi }) effect class k)) same_shape
-    (subst (λ n. Enters f new x (child_member m (record { rule = n; lo = to_z w64 (of_z w64 lo); hi = hi }) effect class shape)) named (enters m at))))))
+    (subst (λ n. Enters f new x (child_member m (record { rule = n; lo = to_z w64 (of_z w64 lo); hi = hi }) effect class shape)) named (growing_enters _ _ _ _ _ _ (enters m at).grows))))))
     c.insert_child.ensures.ok
+
+pub returns-clause-dated : goal.returns-clause-dated
+returns-clause-dated c =
+    let s = c.args.standing.now.present in
+    let old = c.args.tree.now in
+    let new = c.insert_child.new.self in
+    let t = c.args.trigger in
+    let lo = c.in-Some-Rule.lo in
+    let (m, at) = node_at (forest old) t c.requires.trigger in
+    let link : Link = record { rule = c.in-Some-Rule.name; lo = to_z w64 (of_z w64 lo); hi = c.in-Some-Rule.hi } in
+    let effect = c.in-Some-Rule.effect in
+    let class = c.class_of-class.result in
+    let shape = c.effect_shape-shape.result in
+    ok_on (λ x. ((n : Member) → member (forest old) t ≡ Some n → EntersTree old new x (child_member n link effect class shape) (Some t) (early (present old) t +ℤ to_z w64 (of_z w64 lo)))
+    × ((net : Net) → IsSeen s net (forest old) → Adds s net.names (forest old) (forest new) x (After (moment_at (forest old) t) (name_at s c.args.place))))
+    ((net : Net) → IsTreeOf s net old → IsDatedBy net (present new)) c.insert_child.result
+    (λ x (enters, adds) net tree.
+    effects_keep_dates net (present old) (present new) t x m link effect class shape at (enters m at).grows
+    (s, adds_seen s net (forest old) (forest new) x (After (moment_at (forest old) t) (name_at s c.args.place)) (adds net tree.seen) c.requires.enters.new tree.seen) tree.dated)
+    (ok_both _ _ c.insert_child.result c.insert_child.ensures.ok (returns-clause-adds c))
 
 pub insert_child-requires-clause-trigger : goal.insert_child-requires-clause-trigger
 insert_child-requires-clause-trigger c =
@@ -72,3 +109,13 @@ insert_child-requires-clause-delay c =
     let (m, at) = node_at f c.args.trigger c.requires.trigger in
     subst (λ z. IsNumber z × IsBound c.in-Some-Rule.hi × (pos 1 ≤ℤ z) × IsRange (Finite z) c.in-Some-Rule.hi) (sym (to_z-of_z w64 lo fits))
     (delay_is s c.requires.seen.0 f c.requires.seen.1 c.args.trigger m at (name_at s c.args.place) c.requires.enters c.in-Some-Rule.name c.in-Some-Rule.field-0-1 lo c.in-Some-Rule.hi c.in-Some-Rule.effect c.in-Some-Rule.field-0-5 there)
+
+pub insert_child-requires-clause-word : goal.insert_child-requires-clause-word
+insert_child-requires-clause-word c =
+    let s = c.args.standing.now.present in
+    let f = forest c.args.tree.now in
+    let rule = Rule c.in-Some-Rule.name c.in-Some-Rule.field-0-1 c.in-Some-Rule.lo c.in-Some-Rule.hi c.in-Some-Rule.effect c.in-Some-Rule.field-0-5 in
+    let at_place : slice_get s.premises c.args.place ≡ Some rule = sym c.in-Some-Rule.ensures ∙ ap Some c.in-Some-Rule.field-0-is in
+    let (m, at) = node_at f c.args.trigger c.requires.trigger in
+    rule_named s c.requires.seen.0 f c.requires.seen.1 c.args.trigger m at (name_at s c.args.place) c.requires.enters c.in-Some-Rule.name c.in-Some-Rule.field-0-1 c.in-Some-Rule.lo c.in-Some-Rule.hi c.in-Some-Rule.effect c.in-Some-Rule.field-0-5
+    (found_at s c.len.ensures.well_named c.args.place rule at_place)

@@ -4,7 +4,9 @@ use Rattle.tmm_model.specs.Beliefs.{rules_at}
 use Rattle.tmm_model.specs.Maps.{built}
 use Rattle.tmm_model.specs.Moments.{After}
 use Rattle.spots.specs.Forest.{moment_at}
+use Rattle.occ_tree.specs.Dated.{IsDatedBy}
 use Rattle.occ_tree.specs.Places.{forest}
+use Rattle.occ_tree.specs.Standing.{present}
 use Rattle.projection.specs.Places.{rule_at}
 use Rattle.projection.specs.Projecting.{IsGrowing, Settles, left}
 use Rattle.projection.specs.Queues.{Queues, weight_at, IsTooLarge}
@@ -34,7 +36,10 @@ count_in-requires-clause-seen c =
     let f = forest c.args.growing.now.tree in
     let seen = c.requires.before.1.growing.grown.seen in
     let may = may_enter s net f c.requires.before.1.queue c.args.growing.now.size c.requires.before.1.growing c.args.pending.now c.args.growing.now.queue c.requires.before.1.next in
-    adds_seen s net f (forest c.add_effect.new.tree) c.in-Ok.x (After (moment_at f c.args.pending.now.trigger) (rule_at c.args.standing.now.present c.args.pending.now)) (c.in-Ok.ensures net seen) may.new seen
+    record {
+      seen = adds_seen s net f (forest c.add_effect.new.tree) c.in-Ok.x (After (moment_at f c.args.pending.now.trigger) (rule_at c.args.standing.now.present c.args.pending.now)) (c.in-Ok.ensures.adds net seen) may.new seen;
+      dated = c.in-Ok.ensures.dated net (record { seen = seen; dated = c.requires.dated });
+    }
 
 pub count_in-requires-clause-live : goal.count_in-requires-clause-live
 count_in-requires-clause-live c =
@@ -42,7 +47,7 @@ count_in-requires-clause-live c =
     let net = c.args.net.now.present in
     let f = forest c.args.growing.now.tree in
     let seen = c.requires.before.1.growing.grown.seen in
-    new_live s net f (forest c.add_effect.new.tree) c.in-Ok.x (After (moment_at f c.args.pending.now.trigger) (rule_at c.args.standing.now.present c.args.pending.now)) (c.in-Ok.ensures net seen)
+    new_live s net f (forest c.add_effect.new.tree) c.in-Ok.x (After (moment_at f c.args.pending.now.trigger) (rule_at c.args.standing.now.present c.args.pending.now)) (c.in-Ok.ensures.adds net seen)
 
 pub returns-in-Ok : goal.returns-in-Ok
 returns-in-Ok c =
@@ -56,7 +61,7 @@ returns-in-Ok c =
     let fires = c.requires.fires now.growing.entered now.growing.grown.holds in
     let new = forest c.add_effect.new.tree in
     let x = c.in-Ok.x in
-    let adds = c.in-Ok.ensures net now.growing.grown.seen in
+    let adds = c.in-Ok.ensures.adds net now.growing.grown.seen in
     let grown = c.count_in.new.growing in
     record {
       after =
@@ -66,7 +71,12 @@ returns-in-Ok c =
           subst (λ t. IsGrowing s net (forest t) grown.queue grown.size (made + 1)) (sym same)
           (subst (λ m. IsGrowing s net new grown.queue m (made + 1)) (sym counted)
           (decided_fires s net f before.queue n before.growing p rest before.next (c.requires.fires before.growing.entered before.growing.grown.holds) new x
-          (c.in-Ok.ensures net before.growing.grown.seen) grown.queue queues small)));
+          (c.in-Ok.ensures.adds net before.growing.grown.seen) grown.queue queues small)));
+      dated =
+          ok_four c.count_in.result (grown.tree ≡ c.add_effect.new.tree) (grown.size ≡ n + weight_at s new x) (n + weight_at s new x ≤ most_size) (Queues s new x (rules_at s (moment_at new x)) rest grown.queue)
+          (IsDatedBy net (present grown.tree)) c.count_in.ensures.tree c.count_in.ensures.size c.count_in.ensures.small c.count_in.ensures.queued
+          (λ same counted small queues.
+          subst (λ t. IsDatedBy net (present t)) (sym same) (c.in-Ok.ensures.dated net (record { seen = now.growing.grown.seen; dated = c.requires.dated })));
       nearer =
           ok_four c.count_in.result (grown.tree ≡ c.add_effect.new.tree) (grown.size ≡ n + weight_at s new x) (n + weight_at s new x ≤ most_size) (Queues s new x (rules_at s (moment_at new x)) rest grown.queue)
           (left grown.queue grown.size ≤ left rest n) c.count_in.ensures.tree c.count_in.ensures.size c.count_in.ensures.small c.count_in.ensures.queued

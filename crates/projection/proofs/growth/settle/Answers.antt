@@ -20,3 +20,9 @@ returns-else-is_free-clause-after c made before =
     let blocked : c.is_free.result ≡ false = search rules in
     decided_blocked c.args.standing.now.present c.args.net.now.present (forest c.args.growing.now.tree) before.queue c.args.growing.now.size before.growing c.args.pending.now c.args.growing.now.queue before.next
     (sym (c.is_free.ensures before.growing.entered before.growing.grown.holds) ∙ blocked)
+
+pub is_free-requires-clause-seen : goal.is_free-requires-clause-seen
+is_free-requires-clause-seen c = record { seen = c.requires.before.1.growing.grown.seen; dated = c.requires.dated }
+
+pub bring_about-requires-clause-fires : goal.bring_about-requires-clause-fires
+bring_about-requires-clause-fires c b holds = sym (c.is_free.ensures b holds) ∙ c.if-is_free.true

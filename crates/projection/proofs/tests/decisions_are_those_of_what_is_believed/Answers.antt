@@ -11,3 +11,6 @@ decide-requires-clause-rule g c =
     let s = c.in-Ok.made.0.present in
     let names = rules_at s (moment_at (forest c.in-Ok-rebuild.projected.tree) c.loop-x.x) in
     subst (Contains names) (sym c.rule_name-rule.ensures) (named_there s c.at-place-items.result.now names c.at-place-items.ensures.value c.loop-place.place-index c.loop-place-test.true)
+
+pub rule_name-rule-requires : goal.rule_name-rule-requires
+rule_name-rule-requires g c = c.at-place-items.ensures.places c.loop-place.place-index _ c.loop-place-test.true

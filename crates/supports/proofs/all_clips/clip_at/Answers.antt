@@ -37,7 +37,7 @@ next_clip-clip-requires-clause-nodes c =
 pub next_clip-clip-requires-clause-live : goal.next_clip-clip-requires-clause-live
 next_clip-clip-requires-clause-live c =
     subst (All (λ row. IsSpot c.args.net.now.present.names (forest c.args.tree.now) row.spot × ForSome row.end (IsSpot c.args.net.now.present.names (forest c.args.tree.now)))) (sym (c.of.ensures ∙ c.requires.behind c.in-Some.token.class))
-    (behind_there (forest c.args.tree.now) c.in-Some.token.class c.requires.list.0 c.args.net.now.present c.requires.list.1 (drop (c.args.i + 1) (nodes_of c.args.ranked.now)))
+    (behind_there (forest c.args.tree.now) c.in-Some.token.class c.requires.dates.list.0 c.args.net.now.present c.requires.dates.list.1 (drop (c.args.i + 1) (nodes_of c.args.ranked.now)))
 
 pub returns-clause-clip : goal.returns-clause-clip
 returns-clause-clip c s b seen holds =

@@ -14,7 +14,7 @@ returns-then-not-is_by c =
     let n = c.args.net.now.present in
     let f = forest c.args.tree.now in
     sym (ask_unordered (built s) c.args.fact (spot_moment n.names f c.args.p) (spot_moment n.names f c.args.q)
-    (sym (surely s n f c.requires.seen c.args.p c.args.q c.requires.p c.requires.q) ∙ sym c.is_by.ensures ∙ c.if-not-is_by.true))
+    (sym (surely s n f c.requires.seen.seen c.args.p c.args.q c.requires.p c.requires.q) ∙ sym c.is_by.ensures ∙ c.if-not-is_by.true))
 
 pub returns-in-Ok : goal.returns-in-Ok
 returns-in-Ok c =
@@ -23,7 +23,7 @@ returns-in-Ok c =
     let f = forest c.args.tree.now in
     ap holds c.in-Ok.ensures
     ∙ sym (ask_holds (built s) c.args.fact (spot_moment n.names f c.args.p) (spot_moment n.names f c.args.q) (moment_at f c.in-Some.x)
-    (sym (surely s n f c.requires.seen c.args.p c.args.q c.requires.p c.requires.q) ∙ sym c.is_by.ensures ∙ c.if-not-is_by.false)
+    (sym (surely s n f c.requires.seen.seen c.args.p c.args.q c.requires.p c.requires.q) ∙ sym c.is_by.ensures ∙ c.if-not-is_by.false)
     (sym (c.in-Some.ensures.first (built s).believed c.requires.holds)))
 
 pub returns-in-None : goal.returns-in-None
@@ -33,6 +33,6 @@ returns-in-None c =
     let f = forest c.args.tree.now in
     subst (λ (z : Finding). IfOk c.blamed.result (λ answer. finding_of answer ≡ z))
     (sym (ask_fails (built s) c.args.fact (spot_moment n.names f c.args.p) (spot_moment n.names f c.args.q)
-    (sym (surely s n f c.requires.seen c.args.p c.args.q c.requires.p c.requires.q) ∙ sym c.is_by.ensures ∙ c.if-not-is_by.false)
+    (sym (surely s n f c.requires.seen.seen c.args.p c.args.q c.requires.p c.requires.q) ∙ sym c.is_by.ensures ∙ c.if-not-is_by.false)
     (sym (c.in-None.ensures.first (built s).believed c.requires.holds))))
     c.blamed.ensures

@@ -10,7 +10,7 @@ use Rattle.tt_query.proofs.points.resolve.Goals as goal
 
 pub number_of-requires : goal.number_of-requires
 number_of-requires c =
-    c.requires.seen.network.fits.stands.numbered c.in-Declared.place (place_known c.args.standing.now.present.premises c.in-Declared.place (c.in-Ok.ensures.ok.0 refl))
+    c.requires.seen.seen.network.fits.stands.numbered c.in-Declared.place (place_known c.args.standing.now.present.premises c.in-Declared.place (c.in-Ok.ensures.ok.0 refl))
 
 pub returns-in-Some-clause-known : goal.returns-in-Some-clause-known
 returns-in-Some-clause-known c =

@@ -9,7 +9,7 @@ use Rattle.belief_list.proofs.changes.Before.is_clip_of.Goals as goal
 
 pub returns-in-Some : goal.returns-in-Some
 returns-in-Some c =
-    let f = forest c.args.self.now.tree.now in
+    let f = forest c.args.self.now.names.now in
     let by = moment_at (forest c.args.other.now) c.args.by in
     c.eq.ensures
     ∙ same_clip f by c.find_same.result c.in-Some.clip c.requires.listing.apart c.in-Some.ensures.live c.find_same.ensures

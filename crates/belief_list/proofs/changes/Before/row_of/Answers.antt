@@ -12,7 +12,7 @@ use Rattle.belief_list.proofs.changes.Before.row_of.Goals as goal
 
 pub returns-in_err-x-clause-row : goal.returns-in_err-x-clause-row
 returns-in_err-x-clause-row c =
-    let f = forest c.args.self.now.tree.now in
+    let f = forest c.args.self.now.names.now in
     let k = moment_at (forest c.args.other.now) c.args.node in
     let none : c.find_same.result ≡ None = cc in
     let left : c.from_residual.result ≡ None = cc in
@@ -21,7 +21,7 @@ returns-in_err-x-clause-row c =
 
 pub returns-clause-row : goal.returns-clause-row
 returns-clause-row c =
-    let f = forest c.args.self.now.tree.now in
+    let f = forest c.args.self.now.names.now in
     let rows = c.args.self.now.rows.now in
     let x = c.in_ok-x.x in
     let k = moment_at (forest c.args.other.now) c.args.node in

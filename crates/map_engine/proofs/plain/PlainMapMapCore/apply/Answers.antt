@@ -1,7 +1,8 @@
-use Rattle.std.proofs.Common.{refl, ◌≡◌, ap, sym, subst, ◌∙◌}
-use Rattle.tmm_model.specs.Answers.{size}
+use Rattle.std.proofs.Common.{refl, ◌≡◌, ◌≤◌, ap, sym, subst, ◌∙◌}
+use Rattle.tmm_model.specs.Answers.{size, most_size}
 use Rattle.tmm_model.specs.Changes.{changes}
 use Rattle.tmm_model.specs.Edits.{next_list}
+use Rattle.tmm_model.specs.Kept.{IsAccepted}
 use Rattle.tmm_model.specs.Maps.{built}
 use Rattle.tmm_model.specs.Standing.{Standing}
 use Rattle.projection.specs.Queues.{IsTooLarge}
@@ -11,6 +12,19 @@ use Rattle.map_engine.specs.Plain.{MapState}
 use Rattle.map_engine.specs.Stops.{StopsEdit}
 use Rattle.map_engine.proofs.Told.{none_pending, too_large}
 use Rattle.map_engine.proofs.plain.PlainMapMapCore.apply.Goals as goal
+
+pub returns-in-Ok-clause-accepted : goal.returns-in-Ok-clause-accepted
+returns-in-Ok-clause-accepted c =
+    let lists = c.self.inside.standing in
+    let edit = c.args.edit.now in
+    let settled = c.self.invariant.settled (none_pending lists.present c.self.inside.next (ap (λ (m : MapState). m.pending) c.self.view_is ∙ c.requires.idle)) in
+    let present : lists.present ≡ c.args.self.now.list = settled.list ∙ ap (λ (m : MapState). m.list) c.self.view_is in
+    subst (λ (s : Standing). IsAccepted s edit) present
+    (record {
+      no_cause = c.in_default.ensures.ok.0 refl;
+      dates = c.in_ok-erased.ensures.dates;
+      small = subst (λ (s : States). size (built s.present) ≤ most_size) c.in_ok-erased.ensures.list c.in-Ok.ensures.beliefs.small;
+    })
 
 pub returns-in-Ok-clause-changes : goal.returns-in-Ok-clause-changes
 returns-in-Ok-clause-changes c =

@@ -1,12 +1,11 @@
-use Rattle.std.proofs.Common.{◌≡◌, take, Some}
-use Rattle.tmm_model.specs.declared.point.PointName.TheVariants.{Begin}
-use Rattle.tmm_model.specs.Moments.{At, along}
-use Rattle.spots.specs.Forest.{Member, member, moment}
-use Rattle.occ_tree.specs.Places.{forest}
+use Rattle.std.proofs.Common.{◌≡◌, ◌∷◌, take}
+use Rattle.occ_tree.specs.Standing.{nodes_in, present_rows}
+use Rattle.occ_tree.proofs.Finding.{Spells}
 use Rattle.occ_tree.proofs.tree.Tree.find.Given as goal
 
+-- the names on the way to the node are that of the root and those of the rules so far
 abbrev pub invariant-loop-rule : goal.invariant-loop-rule
 invariant-loop-rule l = record {
   items : l.rule-items ≡ l.occ.rules.items;
-  here : (m : Member) × (member (forest l.self) l.x ≡ Some m) × (moment m ≡ along (At (Begin l.occ.root)) (take l.rule-index l.rule-items));
+  here : Spells (nodes_in (present_rows l.nodes)) l.x (l.occ.root ∷ take l.rule-index l.rule-items);
 }

@@ -1,17 +1,16 @@
-use Rattle.std.proofs.Common.{◌≡◌, true, ◌++◌, ◌∷◌, [], ◌∙◌, ap, subst, sym, arith}
-use Rattle.spots.specs.Forest.{Forest, IsLive}
-use Rattle.occ_tree.specs.Places.{forest}
-use Rattle.occ_tree.proofs.NodeLists.{live_node}
-use Rattle.occ_tree.proofs.Numbers.{first_none, first_skip, first_more}
+use Rattle.std.proofs.Common.{◌≡◌, true, ◌++◌, ◌∷◌, [], ◌∙◌, ap, arith}
+use Rattle.spots.specs.Forest.{IsLive}
+use Rattle.occ_tree.specs.Standing.{present, forest}
+use Rattle.occ_tree.proofs.FirstNodes.{first_none, first_skip, first_more}
 use Rattle.occ_tree.proofs.tree.Tree.numbers.Goals as goal
 use Rattle.occ_tree.proofs.tree.Tree.numbers.Goals.{then-is_live+in_ok-reserve, else-is_live}
 
 pub loop-x-init : goal.loop-x-init
-loop-x-init c = first_none (forest c.args.self.now) c.new-numbers.result.items c.new-numbers.ensures.items
+loop-x-init c = first_none (forest (present c.args.self.now)) c.new-numbers.result.items c.new-numbers.ensures.items
 
 pub loop-x-preserved : goal.loop-x-preserved
 loop-x-preserved c =
-    let f = forest c.args.self.now in
+    let f = forest (present c.args.self.now) in
     let xs = c.loop-x.numbers.items in
     let n = c.loop-x.x in
     elim c.if-is_live.branch [
@@ -26,6 +25,5 @@ loop-x-preserved c =
 
 pub returns-clause-all : goal.returns-clause-all
 returns-clause-all c x live =
-    let (n, at) = live_node c.self.inside.nodes.slots x (subst (λ (f : Forest). IsLive f x) (sym (ap forest c.self.view_is)) live) in
-    let below = c.self.invariant.below x n at in
-    c.loop-x.invariant.all x (omega arith) live
+    let below = c.limit-x-end.ensures x live in
+    c.loop-x.invariant.all x (omega (arith, below)) live

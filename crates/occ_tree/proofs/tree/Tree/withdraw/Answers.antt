@@ -1,42 +1,53 @@
-use Rattle.std.proofs.Common.{◌≡◌, ℕ, Some, None, ap, sym, subst}
-use Rattle.std.specs.Prelude.{Option, is_some, IfSome, MatchOption}
-use Rattle.slab.specs.Slab.{Slab, ContainsKey}
-use Rattle.spots.specs.Forest.{Forest, IsLive}
+use Rattle.std.proofs.Common.{◌≡◌, ◌∙◌, ap, sym, subst}
+use Rattle.undo_lists.specs.Changes as lists
+use Rattle.undo_rows.specs.Changes.{table_in}
+use Rattle.undo_rows.specs.Tables.{Table}
+use Rattle.occ_tree.specs.Below.{ListsBelow, without_rows}
 use Rattle.occ_tree.specs.declared.node.Node.{Node}
-use Rattle.occ_tree.specs.Nodes.{node_at}
-use Rattle.occ_tree.specs.Places.{forest}
-use Rattle.occ_tree.proofs.NodeLists.{live_node}
-use Rattle.occ_tree.proofs.Unlisted.{parent_there}
-use Rattle.occ_tree.proofs.Withdrawn.{listed_there, AreRight-withdrawn, Withdraws-withdrawn}
+use Rattle.occ_tree.specs.Edits.{Withdraws}
+use Rattle.spots.specs.Forest.{IsLive}
+use Rattle.occ_tree.specs.Standing.{Kept, nodes_in, present_rows, committed_rows, tokens_under, present, forest}
+use Rattle.occ_tree.proofs.Entered.{committed_same}
+use Rattle.occ_tree.proofs.Gone.{kept_left, shrinks}
+use Rattle.occ_tree.proofs.Keeping.{kept_same, node_if_live}
+use Rattle.occ_tree.proofs.Listed.{siblings_are}
+use Rattle.occ_tree.proofs.Numbered.{no_more}
 use Rattle.occ_tree.proofs.tree.Tree.withdraw.Goals as goal
 
-pub classes_of-requires : goal.classes_of-requires
-classes_of-requires c =
-    let inside = c.self.inside in
-    let (n, at) = live_node inside.nodes.slots c.args.x (subst (λ (f : Forest). IsLive f c.args.x) (sym (ap forest c.self.view_is)) c.requires.live) in
-    rw c.as_slice.ensures.value (listed_there inside.nodes (forest c.args.self.now) (ap forest c.self.view_is) c.args.x n at c.in_ok-gone.gone.items c.in_ok-gone.ensures)
+pub leave_all-requires-clause-below : goal.leave_all-requires-clause-below
+leave_all-requires-clause-below c =
+    (c.args.x, subst (λ (t : Table Node 1). ListsBelow (nodes_in t) c.args.x c.in_ok-numbers.numbers.items) (sym c.in_ok-numbers.ensures.keeps.present_is) c.in_ok-numbers.ensures.below)
 
-there : (nodes : Slab Node) (parent : Option ℕ) → MatchOption parent (Unit {0}) (λ y. (m : Node) × (node_at nodes.slots y ≡ Some m)) → IfSome parent (ContainsKey nodes)
-there nodes None h = tt
-there nodes (Some y) (m, m_at) = ap is_some m_at
-
-pub unlist-requires : goal.unlist-requires
-unlist-requires c =
-    let inside = c.self.inside in
-    there inside.nodes c.index.result.now.parent (parent_there inside.nodes inside.roots.items inside.classes.items inside.limit c.self.invariant c.args.x c.index.result.now c.index.ensures)
-
-pub invariant_of-self : goal.invariant_of-self
-invariant_of-self c =
-    let inside = c.self.inside in
-    AreRight-withdrawn inside.nodes (forest c.args.self.now) (ap forest c.self.view_is) c.args.x c.index.result.now c.index.ensures c.in_ok-gone.gone.items c.in_ok-gone.ensures c.unlist.new.nodes c.remove_all.new.nodes
-    inside.roots.items c.unlist.new.roots.items inside.classes.items c.drop_gone.new.classes.items inside.limit c.self.invariant c.in_ok-touched.touched.items
-    (rw c.as_slice.ensures.value at c.in_ok-touched.ensures) c.unlist.ensures.nodes c.unlist.ensures.roots (rw c.as_slice-2.ensures.value at c.remove_all.ensures.gone)
-    (rw c.as_slice-2.ensures.value at c.remove_all.ensures.others) c.drop_gone.ensures.each (rw c.as_slice-3.ensures.value at c.drop_gone.ensures.touched)
+pub invariant_of-self-2 : goal.invariant_of-self-2
+invariant_of-self-2 c =
+    let r = c.in_ok-numbers.ensures in
+    let a = c.leave_all.ensures in
+    let names = c.self.inside.classes in
+    let t = present_rows c.self.inside.nodes in
+    let u = present_rows c.leave_all.new.nodes in
+    let then = committed_rows c.self.inside.nodes in
+    let numbers = c.in_ok-numbers.numbers.items in
+    let is : u ≡ without_rows numbers t = a.rows ∙ ap (without_rows numbers) r.keeps.present_is in
+    record {
+      now = kept_left t u c.args.x numbers r.below is r.stands.placed names (lists.present c.self.inside.tokens) (lists.present c.leave_all.new.tokens) c.self.invariant.now a.tokens;
+      then_ = kept_same names then (committed_rows c.leave_all.new.nodes) (lists.committed c.self.inside.tokens) (lists.committed c.leave_all.new.tokens) (a.committed_rows ∙ r.keeps.committed_is) (a.committed ∙ r.committed) c.self.invariant.then_;
+    }
 
 pub returns-clause-ok : goal.returns-clause-ok
 returns-clause-ok c =
-    let inside = c.self.inside in
-    Withdraws-withdrawn inside.nodes (forest c.args.self.now) (ap forest c.self.view_is) c.args.x c.index.result.now c.index.ensures c.in_ok-gone.gone.items c.in_ok-gone.ensures c.unlist.new.nodes c.remove_all.new.nodes
-    inside.roots.items c.unlist.new.roots.items inside.classes.items c.drop_gone.new.classes.items inside.limit c.self.invariant c.in_ok-touched.touched.items
-    (rw c.as_slice.ensures.value at c.in_ok-touched.ensures) c.unlist.ensures.nodes c.unlist.ensures.roots (rw c.as_slice-2.ensures.value at c.remove_all.ensures.gone)
-    (rw c.as_slice-2.ensures.value at c.remove_all.ensures.others) c.drop_gone.ensures.each (rw c.as_slice-3.ensures.value at c.drop_gone.ensures.touched)
+    let r = c.in_ok-numbers.ensures in
+    let a = c.leave_all.ensures in
+    let names = c.self.inside.classes in
+    let rows = c.self.inside.nodes.rows in
+    let t = present_rows c.self.inside.nodes in
+    let u = present_rows c.leave_all.new.nodes in
+    let numbers = c.in_ok-numbers.numbers.items in
+    let is : u ≡ without_rows numbers t = a.rows ∙ ap (without_rows numbers) r.keeps.present_is in
+    let old : Kept = record { nodes = c.self.inside.nodes; classes = names; tokens = c.self.inside.tokens } in
+    let new : Kept = record { nodes = c.leave_all.new.nodes; classes = names; tokens = c.leave_all.new.tokens } in
+    let (n, at) = node_if_live (nodes_in t) c.args.x (subst (λ (k : Kept). IsLive (forest (present k)) c.args.x) (sym c.self.view_is) c.requires) in
+    subst (λ (k : Kept). Withdraws k new c.args.x) c.self.view_is (record {
+      shrinks = shrinks t u c.args.x numbers r.below is r.stands.placed n at (λ parent y. (siblings_are (table_in rows.rows rows.families) r.listed c.self.inside.nodes.limit r.stands parent y).0) (r.listed.once 0)
+          (tokens_under names (lists.present c.self.inside.tokens)) (tokens_under names (lists.present c.leave_all.new.tokens));
+      committed_is = committed_same old new c.self.invariant (no_more names) (a.committed_rows ∙ r.keeps.committed_is) (a.committed ∙ r.committed);
+    })

@@ -4,7 +4,7 @@ use Rattle.tmm_model.specs.Beliefs.{on_kind, rules_on}
 use Rattle.spots.proofs.Nodes.{node_at}
 use Rattle.projection.specs.Places.{name_at, IsRuleAt}
 use Rattle.projection.proofs.AtPlaces.{placed}
-use Rattle.supports.proofs.OnKinds.{rules_of_event}
+use Rattle.supports.proofs.OnKinds.{rules_of_event, no_rules}
 use Rattle.projection.proofs.OnKinds.{length-filter_map-le}
 use Rattle.occ_tree.specs.Places.{forest}
 use Rattle.projection.proofs.kinds.RulesByKind.at.Goals as goal
@@ -26,3 +26,15 @@ returns-in-Event-clause-few c =
     let kind = c.row-row.result.what in
     let is = placed s c.of.result.now (rules_on s kind) (ap (map (name_at s)) c.of.ensures ∙ c.requires.rules.named kind) in
     omega (arith, is, length-filter_map-le (on_kind kind) s.premises, c.len.ensures.few, c.len.ensures.value)
+
+pub returns-in_default : goal.returns-in_default
+returns-in_default c =
+    let s = c.args.standing.now.present in
+    let f = forest c.args.tree.now in
+    let (m, at) = node_at f c.args.x c.requires.live in
+    let row = c.row-row.ensures m at in
+    record {
+      value = sym (no_rules s c.requires.members.0 f c.requires.members.1 c.args.x m at (λ event. c.in_default.not-Event (row.shape ∙ event)));
+      places = λ i d lt. absurd (omega (arith, lt));
+      few = omega arith;
+    }

@@ -1,0 +1,170 @@
+#!/usr/bin/env python3
+"""For each kind of line the script that makes it longest, of those that are known: the processor time of that
+one line, the length of its reply, and the most memory that the program takes. Outside the gate.
+
+Time is the difference of two runs, with and without the line, the best of three of each. The word N makes
+maps N times smaller than the limits allow. Compare figures of one machine and one run alone.
+"""
+
+import datetime
+import os
+import subprocess
+import sys
+import tempfile
+from pathlib import Path
+from typing import List, NamedTuple, Tuple
+
+os.chdir(Path(__file__).resolve().parents[1])
+PROGRAM = os.environ.get("TMM", "./tmm")
+RUNS = 3
+
+
+class Case(NamedTuple):
+    """A line of a kind, behind a map that is told in words."""
+
+    map: str
+    before: List[str]
+    line: str
+
+
+def chain(points: int, name: str = "p") -> List[str]:
+    """Points, each 1 to 4 after the one before."""
+    declared = [f"point {name}{i}" for i in range(1, points + 1)]
+    return declared + [f"dist {name}d{i} {name}{i} {name}{i + 1} 1 4" for i in range(1, points)]
+
+
+def hub(points: int) -> List[str]:
+    """Points before one, points behind another, and nothing between the two."""
+    lines = ["point a", "point b"]
+    for i in range(points):
+        lines += [f"point l{i}", f"dist la{i} l{i} a 0 10", f"point r{i}", f"dist br{i} b r{i} 0 10"]
+    return lines
+
+
+def crowded(events: int, rules: int, tokens: int) -> List[str]:
+    """Rules that ask for a fact of many tokens, at many events; their effects are beyond the horizon."""
+    lines = ["class asked f", "class made h", "kind k", "point o", "horizon 0"]
+    for i in range(tokens):
+        lines += [f"token t{i} f", f"dist td{i} o t{i} 0 0"]
+    for i in range(events):
+        lines += [f"event e{i} k", f"dist ed{i} o e{i} 10 10"]
+    return lines + [f"rule r{i} k 1 2 h if f" for i in range(rules)]
+
+
+def contradicting(events: int, rules: int) -> List[str]:
+    """Effects of two facts in turn, all tokens of one class."""
+    lines = ["class c f g", "kind k", "horizon 0"]
+    for i in range(events):
+        lines += [f"event e{i} k", f"dist ed{i} start e{i} {i} {i}"]
+    lines += [f"rule r{i} k {1 + i} {2 + i} {'fg'[i % 2]}" for i in range(rules)]
+    return lines + ["horizon 1000"]
+
+
+def ticks(number: int) -> List[str]:
+    """A chain of effects, each of the one before."""
+    return ["kind t", "event e t", "dist z start e 0 0", f"horizon {number}", "rule r t 1 1 t"]
+
+
+def far_reasons(points: int, number: int) -> List[str]:
+    """A chain of effects, each with four spans that hold by a long walk, of names as long as they may be."""
+    facts = ["one", "two", "three", "four"]
+    lines = [f"class of-{fact} {fact}" for fact in facts] + ["kind t", "event e t", f"horizon {number}"]
+    names = [f"a-point-on-the-way--{i:04}" for i in range(points)]
+    lines += [f"point {name}" for name in names]
+    lines += [f"dist a-distance-on-the-wa{i:03} {names[i - 1]} {names[i]} 1 1" for i in range(1, points)]
+    for fact in facts:
+        lines += [
+            f"span s-{fact} {fact}",
+            f"dist b-{fact} s-{fact} {names[0]} 0 0",
+            f"dist e-{fact} {names[0]} s-{fact}.end 100000 100000",
+        ]
+    return lines + [f"dist last {names[-1]} e 0 0", f"rule r t 1 1 t if {' '.join(facts)}"]
+
+
+def broken(protections: int) -> List[str]:
+    """Protections that no token keeps, each with eight blames and more."""
+    lines = ["class c f g", *(f"token t{i} f" for i in range(20))]
+    return lines + [f"protect x{i} f start start" for i in range(protections)]
+
+
+def cases(part: int) -> List[Tuple[str, Case]]:
+    crowd = crowded(100 // part, 300 // part, 80 // part)
+    full = [*crowd, "horizon 1000"]
+    many = contradicting(40 // part, 250 // part)
+    deep = "e" + "/r" * (190 // part)
+    way = far_reasons(240 // part, 240 // part + 190 // part)
+    no_event = [line for line in ticks(444 // part) if not line.startswith(("event", "dist"))]
+    return [
+        ("point", Case("crowded", full, "point x")),
+        ("dist", Case("a hub", hub(126 // part), "dist x a b 0 5")),
+        ("dist", Case("crowded, all dated anew", full, "dist x start o 7 7")),
+        ("dist", Case("a chain, refused", chain(255 // part), f"dist x p1 p{255 // part} 0 1")),
+        ("class", Case("crowded", full, "class y ya yb")),
+        ("token", Case("contradicting", many, "token y f")),
+        ("span", Case("contradicting", many, "span y f")),
+        ("kind", Case("crowded", full, "kind y")),
+        ("event", Case("crowded", full, "event y k")),
+        ("event", Case("ticks, by the event", no_event, "event e t")),
+        ("rule", Case("crowded", full, "rule y k 1 2 h")),
+        ("protect", Case("contradicting", many, "protect y f e0 e0")),
+        ("horizon", Case("crowded", crowd, "horizon 1000")),
+        ("erase", Case("crowded", full, "erase k")),
+        ("erase", Case("a chain", chain(255 // part), f"erase p{100 // part}")),
+        ("bounds", Case("ticks", ticks(444 // part), f"bounds {deep} e")),
+        ("path", Case("a chain", chain(255 // part), f"path p1 p{255 // part}")),
+        ("ask", Case("contradicting", many, "ask g e0 e0")),
+        ("why", Case("ticks, far reasons", way, f"why {deep}")),
+        ("check", Case("broken", broken(1900 // part), "check")),
+        ("list", Case("crowded", full, "list")),
+        ("list", Case("contradicting", many, "list")),
+        ("dump", Case("broken", broken(1900 // part), "dump")),
+        ("size", Case("crowded", full, "size")),
+        ("audit", Case("crowded", full, "audit")),
+        ("audit", Case("contradicting", many, "audit")),
+    ]
+
+
+class Run(NamedTuple):
+    seconds: float
+    output: bytes
+    memory: int
+
+
+def run(lines: List[str]) -> Run:
+    """One run over a script: processor time of both sides, output, and the most memory in kilobytes."""
+    with tempfile.TemporaryFile() as script:
+        script.write("".join(f"{line}\n" for line in lines).encode("ascii"))
+        script.seek(0)
+        program = subprocess.Popen([PROGRAM], stdin=script, stdout=subprocess.PIPE)
+        assert program.stdout is not None
+        output = program.stdout.read()
+        _, _, used = os.wait4(program.pid, 0)
+    return Run(used.ru_utime + used.ru_stime, output, used.ru_maxrss)
+
+
+def best(lines: List[str]) -> Run:
+    return min((run(lines) for _ in range(RUNS)), key=lambda it: it.seconds)
+
+
+def main(words: List[str]) -> int:
+    part = int(words[0]) if words else 1
+    commit = subprocess.run(["git", "rev-parse", "--short", "HEAD"], stdout=subprocess.PIPE, text=True).stdout.strip()
+    print(f"commit {commit}, {datetime.date.today()}, {os.cpu_count()} processors, maps of 1/{part}\n")
+    print("| Line | Map | time | reply | memory |")
+    print("|---|---|---|---|---|")
+    wrong = 0
+    for kind, case in cases(part):
+        without, with_line = best(case.before), best([*case.before, case.line])
+        reply = with_line.output[len(without.output):]
+        first = reply.split(b"\n", 1)[0].decode("ascii")
+        refused = " no " in first and " no cycle" not in first
+        if b" no " in without.output or b" memory" in with_line.output or refused:
+            print(f"worst.py: {kind} over {case.map}: {first}", file=sys.stderr)
+            wrong = 1
+        milliseconds = max(0.0, with_line.seconds - without.seconds) * 1000
+        print(f"| `{kind}` | {case.map} | {milliseconds:.1f} ms | {len(reply):,} bytes | {with_line.memory / 1024:.0f} MB |", flush=True)
+    return wrong
+
+
+if __name__ == "__main__":
+    sys.exit(main(sys.argv[1:]))

@@ -1,0 +1,52 @@
+-- What an effect is that enters.
+use Rattle.std.proofs.Common.{◌≡◌, ◌∙◌, ◌<◌, ℕ, List, length, Option, Some, None, refl, sym, ap, subst}
+use Rattle.std.specs.Option.{option_map_or}
+use Rattle.tmm_model.specs.declared.token.Shape.{Shape}
+use Rattle.tmm_model.specs.declared.token.Shape.TheVariants.{Event, Persistence, Span}
+use Rattle.tmm_model.specs.Beliefs.{rules_at, rules_on}
+use Rattle.tmm_model.specs.Standing.{Standing}
+use Rattle.list_theory.proofs.Distinct.{Distinct}
+use Rattle.dist_net.specs.Net.{Net}
+use Rattle.spots.specs.Forest.{Forest, Member, member, moment_at}
+use Rattle.spots.specs.Seen.{IsSeen, class_for}
+use Rattle.spots.proofs.Believed.{rules_once}
+use Rattle.supports.proofs.OnKinds.{rules_of_event}
+use Rattle.occ_tree.specs.Places.{forest}
+use Rattle.occ_tree.specs.Standing.{Kept, State}
+use Rattle.belief_net.specs.declared.state.Decisions.{Decisions}
+use Rattle.belief_net.specs.Decided.{table_of, AreUnder, KeepsLast}
+use Rattle.belief_net.specs.Entering.{MarksClass, class_at}
+use Rattle.belief_net.proofs.Named.{under_more}
+use Rattle.occ_tree.proofs.Numbered.{no_more}
+
+module _ (s : Standing) (net : Net) (f : Forest) (seen : IsSeen s net f) (y : ℕ) (m : Member) (at : member f y ≡ Some m) where
+  pub event_of_none : m.class ≡ None → m.shape ≡ Event
+  event_of_none none = by m.shape (sym (seen.members y m at).class ∙ none)
+    where
+      by : (shape : Shape) → class_for s shape m.what ≡ None → shape ≡ Event
+      by Event e = refl
+      by Persistence e = absurd (cc)
+      by Span e = absurd (cc)
+
+  pub no_event_of_some : (class : List ℕ) → m.class ≡ Some class → m.shape ≡ Event → ⊥
+  no_event_of_some class some event = let e : None ≡ Some class = ap (λ shape. class_for s shape m.what) (sym event) ∙ sym (seen.members y m at).class ∙ some in cc
+
+  pub once_on_kind : m.class ≡ None → Distinct (rules_on s m.what)
+  once_on_kind none = subst Distinct (rules_of_event s net f seen y m at (event_of_none none)) (rules_once s seen.network.sound (moment_at f y))
+
+  pub rules_on_kind : m.class ≡ None → rules_at s (moment_at f y) ≡ rules_on s m.what
+  rules_on_kind none = rules_of_event s net f seen y m at (event_of_none none)
+
+pub class_is_at : (tree : Kept) (y : ℕ) (m : Member) → member (forest tree) y ≡ Some m → class_at tree y ≡ m.class
+class_is_at tree y m at = ap (λ (o : Option Member). option_map_or (λ (k : Member). k.class) o None) at
+
+-- rows stay under their classes where a class is marked
+pub marks_under : (s : Standing) (t : State) (class : List ℕ) (from : _) (old new : Decisions) → MarksClass t class from old new → KeepsLast old new → AreUnder s old → AreUnder s new
+marks_under s t class from old new marks last under = record {
+  classes = λ i row at.
+      let was = ap (λ rows. (table_of (record old { rows = rows })).row i) (sym marks.rows) ∙ at in
+      under_more s old.rules new.rules old.classes new.classes row last.rules last.classes (under.named i row was) (under.classes i row was);
+  named = λ i row at.
+      let was = ap (λ rows. (table_of (record old { rows = rows })).row i) (sym marks.rows) ∙ at in
+      subst (λ l. row.value.rule < length l) (sym marks.rules) (under.named i row was);
+}

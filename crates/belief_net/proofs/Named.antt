@@ -1,0 +1,92 @@
+-- Names that keep their numbers.
+use Rattle.std.proofs.Common.{◌≡◌, ◌∙◌, ℕ, suc, ◌+◌, ◌<◌, Bool, true, false, cond, List, [], ◌∷◌, ◌++◌, length, map, take, Some, None, refl, sym, ap, subst, arith}
+use Rattle.std.specs.Prelude.{slice_index_or}
+use Rattle.std.specs.List.{position_from}
+use Rattle.std.specs.Cmp.Lexicographic.{bytes_decides}
+use Rattle.std.proofs.lemmas.Iterator.Adapters.{position_from-zero}
+use Rattle.std.proofs.lemmas.List.{append_assoc, get_or_append_left, map-append}
+use Rattle.tmm_model.specs.Beliefs.{class_of}
+use Rattle.tmm_model.specs.Moments.{rule_of}
+use Rattle.tmm_model.specs.Points.{same_name}
+use Rattle.tmm_model.specs.Sorts.{class_in}
+use Rattle.tmm_model.specs.Standing.{Standing}
+use Rattle.undo_rows.specs.declared.row.Row.{Row as TableRow}
+use Rattle.decision_rows.specs.declared.row.Pair.{Pair}
+use Rattle.occ_tree.specs.Classes.{place_in, HaveMore}
+use Rattle.occ_tree.proofs.Numbered.{place_stays, no_more, one_class}
+use Rattle.supports.proofs.Taken.{next_taken}
+use Rattle.joined.specs.Listed.{AreNumbered, IsUnderClasses}
+use Rattle.belief_net.specs.declared.state.Decisions.{Decisions}
+use Rattle.belief_net.specs.Decided.{KeepsLast}
+use Rattle.belief_net.specs.Numbers.{name_in}
+
+pub more_more : (a b c : List (List ℕ)) → HaveMore a b → HaveMore b c → HaveMore a c
+more_more a b c (xs, is) (ys, then_) = (xs ++ ys, then_ ∙ ap (λ l. l ++ ys) is ∙ append_assoc a xs ys)
+
+pub name_stays : (old new : List (List ℕ)) (k : ℕ) → HaveMore old new → k < length old → name_in new k ≡ name_in old k
+name_stays old new k (more, is) within = ap (λ l. slice_index_or l k []) is ∙ get_or_append_left old more [] k within
+
+-- the name under a number that was given is the one to which it was given
+named_from : (i : ℕ) (names : List (List ℕ)) (n : List ℕ) (k : ℕ) → position_from (same_name n) i names ≡ Some k → (j : ℕ) × (k ≡ i + j) × (slice_index_or names j [] ≡ n)
+named_from i [] n k at = absurd (cc)
+named_from i (m ∷ names) n k at = by (same_name n m) refl (named_from (i + 1) names n k) at
+  where
+    by : (t : Bool) → same_name n m ≡ t → (position_from (same_name n) (i + 1) names ≡ Some k → (j : ℕ) × (k ≡ i + 1 + j) × (slice_index_or names j [] ≡ n))
+        → cond t (Some i) (position_from (same_name n) (i + 1) names) ≡ Some k → (j : ℕ) × (k ≡ i + j) × (slice_index_or (m ∷ names) j [] ≡ n)
+    by true is again at = let same : i ≡ k = cc in (0, omega (arith, same), sym ((bytes_decides n m).0 is))
+    by false is again at = let (j, here, name) = again at in (suc j, omega (arith, here), name)
+
+pub placed_name : (names : List (List ℕ)) (n : List ℕ) (k : ℕ) → place_in names n ≡ Some k → name_in names k ≡ n
+placed_name names n k at =
+    let (j, is, name) = named_from 0 names n k (sym (position_from-zero (same_name n) names) ∙ at) in
+    let same : k ≡ j = omega (arith, is) in
+    ap (λ z. slice_index_or names z []) same ∙ name
+
+pub are_numbered : (names : List (List ℕ)) → AreNumbered (place_in names)
+are_numbered names = one_class names
+
+-- numbers of classes stay
+pub numbers_stay : {X : Type 0} (class : X → List ℕ) (old new : List (List ℕ)) (xs : List X) (numbers : List ℕ) → HaveMore old new
+    → map (λ x. place_in old (class x)) xs ≡ map Some numbers → map (λ x. place_in new (class x)) xs ≡ map Some numbers
+numbers_stay class old new [] [] more is = refl
+numbers_stay class old new [] (k ∷ numbers) more is = absurd (cc)
+numbers_stay class old new (x ∷ xs) [] more is = absurd (cc)
+numbers_stay class old new (x ∷ xs) (k ∷ numbers) more is =
+    let here : place_in old (class x) ≡ Some k = cc in
+    let rest : map (λ x. place_in old (class x)) xs ≡ map Some numbers = cc in
+    λ i. place_stays old new more (class x) k here i ∷ numbers_stay class old new xs numbers more rest i
+
+-- the number of the class of a fact more
+pub numbers_next : (s : Standing) (old new : List (List ℕ)) (facts : List (List ℕ)) (i : ℕ) (fact class : List ℕ) (k : ℕ) (numbers more : List ℕ)
+    → map (λ f. place_in old (class_of s f)) (take i facts) ≡ map Some numbers → HaveMore old new → i < length facts → fact ≡ slice_index_or facts i fact
+    → class_in s.premises fact ≡ Some class → place_in new class ≡ Some k → more ≡ numbers ++ k ∷ []
+    → map (λ f. place_in new (class_of s f)) (take (i + 1) facts) ≡ map Some more
+numbers_next s old new facts i fact class k numbers more before have within is of numbered pushed =
+    let class_is : class_of s fact ≡ class = ap (λ o. elim o as (λ _. List ℕ) [ Some c ↦ c | None ↦ [] ]) of in
+    ap (map (λ f. place_in new (class_of s f))) (next_taken facts i fact within is)
+    ∙ map-append (λ f. place_in new (class_of s f)) (take i facts) (fact ∷ [])
+    ∙ (λ j. numbers_stay (class_of s) old new (take i facts) numbers have before j ++ (ap (place_in new) class_is ∙ numbered) j ∷ [])
+    ∙ sym (map-append Some numbers (k ∷ []))
+    ∙ ap (map Some) (sym pushed)
+
+pub under_more : (s : Standing) (rules rules_after classes classes_after : List (List ℕ)) (row : TableRow Pair 6) → HaveMore rules rules_after → HaveMore classes classes_after
+    → row.value.rule < length rules → IsUnderClasses s (name_in rules) (place_in classes) row → IsUnderClasses s (name_in rules_after) (place_in classes_after) row
+under_more s rules rules_after classes classes_after row more_rules more_classes named u = record {
+  classes = u.classes;
+  few = u.few;
+  numbers = subst (λ name. map (λ fact. place_in classes_after (class_of s fact)) (rule_of s name).given ≡ map Some u.classes) (sym (name_stays rules rules_after row.value.rule more_rules named))
+      (numbers_stay (class_of s) classes classes_after (rule_of s (name_in rules row.value.rule)).given u.classes more_classes u.numbers);
+  heads = u.heads;
+}
+
+-- ---- what a rollback leads back to
+
+pub last_stays : (d : Decisions) → KeepsLast d d
+last_stays d = record { rows = refl; rules = no_more d.rules; classes = no_more d.classes }
+
+pub last_on : (a b c : Decisions) → KeepsLast a b → KeepsLast b c → KeepsLast a c
+last_on a b c first then_ = record {
+  rows = then_.rows ∙ first.rows;
+  rules = more_more a.rules b.rules c.rules first.rules then_.rules;
+  classes = more_more a.classes b.classes c.classes first.classes then_.classes;
+}

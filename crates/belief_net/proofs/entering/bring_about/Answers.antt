@@ -1,0 +1,68 @@
+use Rattle.std.proofs.Common.{◌≡◌, ◌∙◌, sym, ap, subst, rules, w64, to_z, of_z}
+use Rattle.std.specs.Prelude.{FitsSigned}
+use Rattle.std.proofs.lemmas.Int.{to_z-of_z}
+use Rattle.tmm_model.specs.Beliefs.{rules_at, rules_on}
+use Rattle.list_theory.proofs.Distinct.{Distinct}
+use Rattle.spots.specs.Forest.{moment_at}
+use Rattle.occ_tree.specs.Places.{forest}
+use Rattle.occ_tree.specs.Standing.{present, early}
+use Rattle.supports.proofs.Rules.{rule_there}
+use Rattle.belief_net.specs.Decided.{AddsRows}
+use Rattle.belief_net.specs.Entering.{MarksClass, a_token, an_event}
+use Rattle.belief_net.proofs.Brought.{once_on_kind, rules_on_kind, class_is_at, marks_under}
+use Rattle.belief_net.proofs.entering.bring_about.Goals as goal
+
+pub enter_effect-requires-clause-rule : goal.enter_effect-requires-clause-rule
+enter_effect-requires-clause-rule c =
+    rule_there c.args.standing.now.present c.requires.tree.1.seen.network.sound (moment_at (forest c.args.beliefs.now.tree) c.args.trigger) c.args.rule c.requires.enters.stands
+
+pub add_rows-requires-clause-once : goal.add_rows-requires-clause-once
+add_rows-requires-clause-once c =
+    let s = c.args.standing.now.present in
+    let (net, tree) = c.requires.tree in
+    let en = c.in_ok-effect.ensures.ok net tree in
+    let row = c.row-row.ensures en.adds.node en.adds.enters.entered in
+    subst (λ w. Distinct (rules_on s w)) (sym row.what)
+    (once_on_kind s net (forest c.enter_effect.new.tree) en.tree.seen c.in_ok-effect.effect en.adds.node en.adds.enters.entered (sym row.class ∙ c.in-None.is))
+
+pub returns-in_ok-mark_token-in-Some-clause-ok : goal.returns-in_ok-mark_token-in-Some-clause-ok
+returns-in_ok-mark_token-in-Some-clause-ok c = λ net tree.
+    let s = c.args.standing.now.present in
+    let old = c.args.beliefs.now.decisions in
+    let new = c.mark_token.new.decisions in
+    let t = c.enter_effect.new.tree in
+    let y = c.in_ok-effect.effect in
+    let en = c.in_ok-effect.ensures.ok net tree in
+    let row = c.row-row.ensures en.adds.node en.adds.enters.entered in
+    let fits : FitsSigned w64 c.early-early.result = search rules in
+    let marks : MarksClass (present t) c.in-Some.class (early (present t) y) old new =
+    subst (λ z. MarksClass (present t) c.in-Some.class z old new) (to_z-of_z w64 c.early-early.result fits ∙ c.early-early.ensures.date) c.in_ok-mark_token-in-Some.ensures.ok in
+    record {
+      number = y;
+      enters = en;
+      follows = a_token c.in-Some.class (class_is_at t y en.adds.node en.adds.enters.entered ∙ sym row.class ∙ c.in-Some.is) marks;
+      under = marks_under s (present t) c.in-Some.class (early (present t) y) old new marks c.in_ok-mark_token-in-Some.ensures.last c.requires.under;
+      listed = c.first.ensures.listed;
+    }
+
+pub returns-in_ok-add_rows-in-None-clause-ok : goal.returns-in_ok-add_rows-in-None-clause-ok
+returns-in_ok-add_rows-in-None-clause-ok c = λ net tree.
+    let s = c.args.standing.now.present in
+    let old = c.args.beliefs.now.decisions in
+    let new = c.add_rows.new.decisions in
+    let t = c.enter_effect.new.tree in
+    let y = c.in_ok-effect.effect in
+    let en = c.in_ok-effect.ensures.ok net tree in
+    let row = c.row-row.ensures en.adds.node en.adds.enters.entered in
+    let none = sym row.class ∙ c.in-None.is in
+    let fits : FitsSigned w64 c.early-early.result = search rules in
+    let rules_are = ap (rules_on s) row.what ∙ sym (rules_on_kind s net (forest t) en.tree.seen y en.adds.node en.adds.enters.entered none) in
+    record {
+      number = y;
+      enters = en;
+      follows = an_event (class_is_at t y en.adds.node en.adds.enters.entered ∙ none)
+          (subst (λ l. AddsRows l y (early (present t) y) old new) rules_are
+          (subst (λ z. AddsRows (rules_on s c.row-row.result.what) y z old new) (to_z-of_z w64 c.early-early.result fits ∙ c.early-early.ensures.date) c.in_ok-add_rows-in-None.ensures.adds));
+      under = c.in_ok-add_rows-in-None.ensures.under;
+      listed = c.first.ensures.listed;
+    }

@@ -1,0 +1,113 @@
+// Effects that enter.
+ghost use Rattle.std.specs.Prelude.{◌≡◌, IfOk, OnOk};
+ghost use Rattle.tmm_model.specs.Moments.{After};
+ghost use Rattle.dist_net.specs.Net.{Net};
+ghost use Rattle.spots.specs.Forest.{IsLive, moment_at};
+ghost use Rattle.spots.specs.Seen.{IsSeen};
+ghost use Rattle.occ_tree.specs.OfLists.{IsTreeOf};
+ghost use Rattle.occ_tree.specs.Places.{forest};
+ghost use Rattle.occ_tree.specs.Standing.{present, committed};
+ghost use Rattle.supports.specs.Growing.{Adds, effect_shape, MayEnter};
+ghost use Rattle.supports.specs.Rules.{IsRuleOf};
+ghost use Rattle.undo_rows.specs.Changes.{present as table};
+ghost use Rattle.belief_net.specs.Decided.{AreUnder, KeepsLast};
+ghost use Rattle.belief_net.specs.Entering.{MarksClass, Brings, KeepLast, EntersIn};
+ghost use Rattle.belief_net.specs.Marks.{HaveEvents};
+
+use crate::marking::mark_class;
+use crate::rows::add_rows;
+use crate::state::{BeliefNet, Decisions};
+use occ_tree::Tree;
+use premise_list::Standing;
+use std::alloc::Global;
+use tmm_model::{Name, NoMemory, Premise, Shape};
+
+// Adds the effect of a rule that fires at the event of a node. If that is an event, its rules get rows, which
+// wait; if it is a token, those rows wait that may read it.
+pub(crate) fn bring_about(
+    alloc: Global,
+    standing: &Standing,
+    beliefs: &mut BeliefNet,
+    trigger: u32,
+    rule: Name,
+) -> Result<(), NoMemory>
+    requires tree { (net : Net) × IsTreeOf standing.now.present net beliefs.old.tree }
+    requires trigger { IsLive (forest beliefs.old.tree) trigger }
+    requires enters { MayEnter standing.now.present (forest beliefs.old.tree) trigger rule }
+    requires events { HaveEvents beliefs.old.tree (table beliefs.old.decisions.rows) }
+    requires under { AreUnder standing.now.present beliefs.old.decisions }
+    ensures ok { OnOk result ((net : Net) → IsTreeOf standing.now.present net beliefs.old.tree → Brings standing.now.present net trigger rule beliefs.old beliefs.new) }
+    ensures last { KeepLast beliefs.old beliefs.new }
+{
+    // it tells the proof that rows are on their lists
+    let _ = beliefs.decisions.rows.first(0, trigger);
+    let effect = enter_effect(alloc, standing, &mut beliefs.tree, trigger, rule)?;
+    let row = beliefs.tree.row(effect);
+    let early = beliefs.tree.early(effect);
+    match row.class {
+        Some(class) => {
+            mark_token(&beliefs.tree, &mut beliefs.decisions, class, early)?;
+            Ok(())
+        }
+        None => {
+            add_rows(
+                alloc,
+                standing,
+                &mut beliefs.decisions,
+                effect,
+                early,
+                row.what,
+            )?;
+            Ok(())
+        }
+    }
+}
+
+// Adds what a rule leads to from the event of a node, and answers its number.
+fn enter_effect(
+    alloc: Global,
+    standing: &Standing,
+    tree: &mut Tree,
+    trigger: u32,
+    rule: Name,
+) -> Result<u32, NoMemory>
+    requires seen { (net : Net) × IsSeen standing.now.present net (forest tree.old) }
+    requires trigger { IsLive (forest tree.old) trigger }
+    requires rule { IsRuleOf standing.now.present rule }
+    requires enters { MayEnter standing.now.present (forest tree.old) trigger rule }
+    ensures ok { IfOk result (λ x. (net : Net) → IsTreeOf standing.now.present net tree.old → EntersIn standing.now.present net trigger rule tree.old tree.new x) }
+    ensures committed { committed tree.new ≡ committed tree.old }
+{
+    let Some(Premise::Rule { lo, hi, effect, .. }) = standing.get(rule) else {
+        unreachable!()
+    };
+    let class = standing.class_of(*effect);
+    let shape = effect_shape(&class);
+    tree.insert_child(alloc, trigger, rule, *lo, *hi, *effect, class, shape)
+}
+
+// What a rule brings about, by the class of its effect, which a kind hasn't.
+fn effect_shape(class: &Option<Name>) -> Shape
+    ensures { result ≡ effect_shape class.now }
+{
+    match class {
+        Some(_) => Shape::Persistence,
+        None => Shape::Event,
+    }
+}
+
+// Lets those rows wait that may read a token of a class from this date on.
+pub(crate) fn mark_token(
+    tree: &Tree,
+    decisions: &mut Decisions,
+    class: Name,
+    from: i64,
+) -> Result<(), NoMemory>
+    requires { HaveEvents tree.now (table decisions.old.rows) }
+    ensures ok { OnOk result (MarksClass (present tree.now) class from decisions.old decisions.new) }
+    ensures last { KeepsLast decisions.old decisions.new }
+{
+    let number = decisions.classes.enter(class)?;
+    mark_class(tree, &decisions.rows, &mut decisions.waiting, number, from)?;
+    Ok(())
+}

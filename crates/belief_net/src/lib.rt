@@ -1,0 +1,16 @@
+//! What is believed, kept current: a tree of the believed occurrences with a row for each decision of a rule
+//! at an event, of which after an edit only those are made again that the edit touches.
+#![tactic(auto)]
+
+mod deciding;
+mod entering;
+mod marking;
+mod numbers;
+mod rows;
+mod state;
+mod turn;
+mod turn_laws;
+mod undo;
+mod waiting;
+
+pub use state::BeliefNet;

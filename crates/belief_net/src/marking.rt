@@ -1,0 +1,72 @@
+// Rows that are let wait.
+ghost use Rattle.std.specs.Prelude.{◌≡◌, ◌≤ℤ◌, IsSome, OnOk};
+ghost use Rattle.row_links.specs.Lists.{IsOn};
+ghost use Rattle.occ_tree.specs.Standing.{present};
+ghost use Rattle.undo_rows.specs.Changes.{present as table};
+ghost use Rattle.joined.specs.Listed.{IsListedUnder};
+ghost use Rattle.belief_net.specs.Marks.{HaveEvents, Marks, IsAsLate};
+ghost use Rattle.belief_net.specs.Waiting.{dates_in};
+
+use crate::waiting::Waiting;
+use decision_rows::Rows;
+use occ_tree::Tree;
+use tmm_model::NoMemory;
+
+// Lets those rows wait that read a class, by its number, at events no earlier than the date.
+pub(crate) fn mark_class(
+    tree: &Tree,
+    rows: &Rows,
+    waiting: &mut Waiting,
+    class: u32,
+    from: i64,
+) -> Result<(), NoMemory>
+    requires { HaveEvents tree.now (table rows.now) }
+    ensures { OnOk result (Marks (present tree.now) (table rows.now) (λ i row. IsListedUnder (table rows.now) class i × IsAsLate (present tree.now) from row) (dates_in waiting.old) (dates_in waiting.new)) }
+{
+    // the families of rows by the classes of their antecedents follow those by trigger and by rule
+    for antecedent in 0..4 {
+        mark_list(tree, rows, waiting, antecedent + 2, class, from)?;
+    }
+    Ok(())
+}
+
+// Lets those rows of a list wait whose events are no earlier than the date.
+fn mark_list(
+    tree: &Tree,
+    rows: &Rows,
+    waiting: &mut Waiting,
+    family: usize,
+    head: u32,
+    from: i64,
+) -> Result<(), NoMemory>
+    requires { HaveEvents tree.now (table rows.now) }
+    ensures { OnOk result (Marks (present tree.now) (table rows.now) (λ i row. IsOn ((table rows.now).list family head) i × IsAsLate (present tree.now) from row) (dates_in waiting.old) (dates_in waiting.new)) }
+{
+    let mut next = rows.first(family, head);
+    while let Some(i) = next {
+        mark_row(tree, rows, waiting, i, from)?;
+        next = rows.next(family, i);
+    }
+    Ok(())
+}
+
+// Lets a row wait if its event is no earlier than the date.
+fn mark_row(
+    tree: &Tree,
+    rows: &Rows,
+    waiting: &mut Waiting,
+    i: u32,
+    from: i64,
+) -> Result<(), NoMemory>
+    requires events { HaveEvents tree.now (table rows.now) }
+    requires row { IsSome ((table rows.now).row i) }
+    ensures { OnOk result (Marks (present tree.now) (table rows.now) (λ j row. (j ≡ i) × IsAsLate (present tree.now) from row) (dates_in waiting.old) (dates_in waiting.new)) }
+{
+    let (trigger, _) = rows.pair(i);
+    let early = tree.early(trigger);
+    if early < from {
+        Ok(())
+    } else {
+        waiting.push(i, early)
+    }
+}

@@ -1,0 +1,146 @@
+// Rows that enter with an event and go with it.
+ghost use Rattle.std.specs.Prelude.{◌≡◌, ◌≤◌, ℕ, [], ◌∷◌, map, length, Some, IsSome, IfOk, OnOk};
+ghost use Rattle.std.specs.List.{All, filter_map};
+ghost use Rattle.tmm_model.specs.Beliefs.{class_of, on_kind, rules_on};
+ghost use Rattle.tmm_model.specs.Moments.{rule_of};
+ghost use Rattle.tmm_model.specs.Sorts.{class_in};
+ghost use Rattle.list_theory.proofs.Distinct.{Distinct};
+ghost use Rattle.list_theory.proofs.Elements.{In};
+ghost use Rattle.list_theory.specs.WellNamed.{IsSound};
+ghost use Rattle.occ_tree.specs.Classes.{place_in, HaveMore};
+ghost use Rattle.belief_net.specs.Decided.{AreUnder, AreOfSome, KeepsLast, AddsRows, DropsRows};
+
+use crate::numbers::Numbers;
+use crate::state::Decisions;
+use arrayvec::ArrayVec;
+use premise_list::Standing;
+use std::alloc::Global;
+use tmm_model::{Name, NoMemory, Premise};
+
+// Adds a row for each standing rule on a kind at the node of an event of that kind. None is decided yet, so all
+// of them wait, for the date of the event.
+pub(crate) fn add_rows(
+    alloc: Global,
+    standing: &Standing,
+    decisions: &mut Decisions,
+    event: u32,
+    date: i64,
+    kind: Name,
+) -> Result<(), NoMemory>
+    requires sound { IsSound standing.now.present }
+    requires once { Distinct (rules_on standing.now.present kind) }
+    requires under { AreUnder standing.now.present decisions.old }
+    ensures adds { OnOk result (AddsRows (rules_on standing.now.present kind) event date decisions.old decisions.new) }
+    ensures under { OnOk result (AreUnder standing.now.present decisions.new) }
+    ensures last { KeepsLast decisions.old decisions.new }
+{
+    for place in 0..standing.len() {
+        let Some(premise) = standing.at(place) else {
+            unreachable!()
+        };
+        add_premise(alloc, standing, decisions, event, date, kind, premise)?;
+    }
+    Ok(())
+}
+
+// Adds a row where the premise is a rule on the kind.
+fn add_premise(
+    alloc: Global,
+    standing: &Standing,
+    decisions: &mut Decisions,
+    event: u32,
+    date: i64,
+    kind: Name,
+    premise: &Premise,
+) -> Result<(), NoMemory>
+    requires sound { IsSound standing.now.present }
+    requires stands { In premise.now standing.now.present.premises }
+    requires under { AreUnder standing.now.present decisions.old }
+    ensures adds { OnOk result (AddsRows (filter_map (on_kind kind) (premise.now ∷ [])) event date decisions.old decisions.new) }
+    ensures under { OnOk result (AreUnder standing.now.present decisions.new) }
+    ensures last { KeepsLast decisions.old decisions.new }
+{
+    match premise {
+        Premise::Rule {
+            name,
+            trigger,
+            given,
+            ..
+        } if *trigger == kind => add_row(
+            alloc,
+            standing,
+            decisions,
+            event,
+            date,
+            *name,
+            given.as_slice(),
+        ),
+        _ => Ok(()),
+    }
+}
+
+// Adds a row of the rule of this name and these antecedents.
+fn add_row(
+    alloc: Global,
+    standing: &Standing,
+    decisions: &mut Decisions,
+    event: u32,
+    date: i64,
+    rule: Name,
+    given: &[Name],
+) -> Result<(), NoMemory>
+    requires given { given.now ≡ (rule_of standing.now.present rule).given }
+    requires few { length given.now ≤ 4 }
+    requires facts { All (λ fact. IsSome (class_in standing.now.present.premises fact)) given.now }
+    requires under { AreUnder standing.now.present decisions.old }
+    ensures adds { OnOk result (AddsRows (rule ∷ []) event date decisions.old decisions.new) }
+    ensures under { OnOk result (AreUnder standing.now.present decisions.new) }
+    ensures last { KeepsLast decisions.old decisions.new }
+{
+    let number = decisions.rules.enter(rule)?;
+    let classes = numbers_of(standing, &mut decisions.classes, given)?;
+    let row = decisions
+        .rows
+        .add(alloc, event, number, classes.as_slice())?;
+    decisions.waiting.push(row, date)?;
+    Ok(())
+}
+
+// The numbers of the classes of facts.
+fn numbers_of(
+    standing: &Standing,
+    classes: &mut Numbers,
+    facts: &[Name],
+) -> Result<ArrayVec<u32, 4>, NoMemory>
+    requires few { length facts.now ≤ 4 }
+    requires facts { All (λ fact. IsSome (class_in standing.now.present.premises fact)) facts.now }
+    ensures numbers { IfOk result (λ numbers. map (λ fact. place_in classes.new (class_of standing.now.present fact)) facts.now ≡ map Some numbers.items) }
+    ensures few { IfOk result (λ numbers. length numbers.items ≤ 4) }
+    ensures more { HaveMore classes.old classes.new }
+{
+    let mut numbers = ArrayVec::new();
+    for i in 0..facts.len() {
+        let Some(class) = standing.class_of(facts[i]) else {
+            unreachable!()
+        };
+        numbers.push(classes.enter(class)?);
+    }
+    Ok(numbers)
+}
+
+// Takes out all rows at the node of an event.
+pub(crate) fn drop_rows(
+    alloc: Global,
+    decisions: &mut Decisions,
+    event: u32,
+) -> Result<(), NoMemory>
+    requires { AreOfSome decisions.old }
+    ensures drops { OnOk result (DropsRows event decisions.old decisions.new) }
+    ensures last { KeepsLast decisions.old decisions.new }
+{
+    while let Some(row) = decisions.rows.first(0, event) {
+        decisions.rows.remove(alloc, row)?;
+        decisions.waiting.remove(row);
+    }
+    Ok(())
+}

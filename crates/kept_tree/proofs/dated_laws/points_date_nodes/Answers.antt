@@ -1,5 +1,0 @@
-use Rattle.kept_tree.proofs.KeptDates.{points_date_nodes}
-use Rattle.kept_tree.proofs.dated_laws.points_date_nodes.Goals as goal
-
-pub returns : goal.returns
-returns c = points_date_nodes

@@ -1,5 +1,0 @@
-use Rattle.kept_tree.proofs.KeptDates.{roots_keep_dates}
-use Rattle.kept_tree.proofs.dated_laws.roots_keep_dates.Goals as goal
-
-pub returns : goal.returns
-returns c = roots_keep_dates

@@ -1,5 +1,0 @@
-use Rattle.kept_tree.proofs.Members.{shrinking_withdraws}
-use Rattle.kept_tree.proofs.edit_laws.shrinking_withdraws.Goals as goal
-
-pub returns : goal.returns
-returns c = shrinking_withdraws

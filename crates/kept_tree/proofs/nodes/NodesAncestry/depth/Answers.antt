@@ -1,6 +1,0 @@
-use Rattle.kept_tree.specs.Standing.{nodes_in, present_rows}
-use Rattle.kept_tree.proofs.Ways.{length-way}
-use Rattle.kept_tree.proofs.nodes.NodesAncestry.depth.Goals as goal
-
-pub returns : goal.returns
-returns c = length-way (nodes_in (present_rows c.args.self.now)) c.args.x c.get.result.now c.get.ensures.node

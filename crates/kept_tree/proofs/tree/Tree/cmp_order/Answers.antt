@@ -1,7 +1,0 @@
-use Rattle.std.proofs.Common.{◌≡◌, subst}
-use Rattle.kept_tree.specs.Standing.{Grove, nodes_in, present_rows}
-use Rattle.kept_tree.specs.Words.{node_cmp}
-use Rattle.kept_tree.proofs.tree.Tree.cmp_order.Goals as goal
-
-pub returns : goal.returns
-returns c = subst (λ (g : Grove). c.cmp_order.result ≡ node_cmp (nodes_in (present_rows g)) c.args.x c.args.y) c.nodes.ensures c.cmp_order.ensures

@@ -1,0 +1,12 @@
+use Rattle.std.proofs.Common.{◌∙◌, ap, sym, subst}
+use Rattle.tmm_model.specs.Maps.{built}
+use Rattle.tmm_model.specs.Standing.{Standing}
+use Rattle.spots.specs.Seen.{Holds}
+use Rattle.occ_tree.specs.Places.{forest}
+use Rattle.map_engine.specs.Plain.{MapState}
+use Rattle.map_engine.proofs.net_map.NetMapMapCore.ask.Goals as goal
+
+pub ask_between-requires-clause-holds : goal.ask_between-requires-clause-holds
+ask_between-requires-clause-holds c =
+    let settled = c.self.invariant.settled (ap (λ (m : MapState). m.pending) c.self.view_is ∙ c.requires.idle) in
+    subst (λ (s : Standing). Holds (built s).believed (forest c.self.inside.beliefs.tree)) (sym settled.list) c.self.invariant.believed.holds

@@ -1,0 +1,46 @@
+-- Dates that are those of a network.
+use Rattle.std.specs.Prelude.{◌≡◌, ℕ, ℤ, ◌+ℤ◌, List, [], Some, None}
+use Rattle.row_links.specs.Lists.{IsOn, AreOnce}
+use Rattle.tmm_model.specs.Moments.{negated}
+use Rattle.dist_net.specs.Net.{Net}
+use Rattle.spots.specs.Forest.{Forest, Member, IsLive}
+use Rattle.spots.specs.Seen.{HasList}
+use Rattle.spots.specs.Spots.{IsSpot, net_far, links_low, node_early}
+use Rattle.spots.specs.declared.spot.Spot.{Spot}
+use Rattle.occ_tree.specs.Below.{IsBelow}
+use Rattle.occ_tree.specs.Standing.{State, forest, early, below, IsChildOf}
+
+-- the date that is kept of each node is its earliest date in the network
+abbrev pub IsDatedBy : Net → State → Type 0
+IsDatedBy net s = (x : ℕ) → IsLive (forest s) x → early s x ≡ node_early net (forest s) x
+
+-- The spot is there, the nodes and the network are those of a list, and the dates of the nodes are those of
+-- the network.
+abbrev pub IsKnown : Net → State → Spot → Type 0
+IsKnown net s p = HasList net (forest s) × IsDatedBy net s × IsSpot net.names (forest s) p
+
+-- ---- roots, and what is below them
+
+-- the earliest date of a declared point
+abbrev pub point_early : Net → ℕ → ℤ
+point_early net p = negated (net_far net p 0)
+
+-- the date of each node is that of its root and the least delays on the way
+abbrev pub DatesFollow : State → Type 0
+DatesFollow s = (x y : ℕ) (b : IsBelow (forest s) x y) → b.above.links ≡ [] → early s y ≡ early s x +ℤ links_low b.below.links
+
+-- no rule leads to those on the list of roots, which has each once, and each node is one of them or below it
+pub record HaveRoots (s : State) : Type 0 where
+  pub once : AreOnce (below s None)
+  pub roots : (x : ℕ) → IsChildOf s None x → (m : Member) × (forest s x ≡ Some m) × (m.links ≡ [])
+  pub above : (y : ℕ) → IsLive (forest s) y → (x : ℕ) × IsChildOf s None x × IsBelow (forest s) x y
+
+-- node y is none of these and below none of them
+abbrev pub IsBelowNone : Forest → List ℕ → ℕ → Type 0
+IsBelowNone f roots y = (x : ℕ) → IsOn roots x → IsBelow f x y → ⊥
+
+-- The date of each node is its earliest date in the network, but for these roots and what is below them. All
+-- dates are those of the roots and the least delays on the way.
+pub record IsDatedBut (net : Net) (roots : List ℕ) (s : State) : Type 0 where
+  pub follow : DatesFollow s
+  pub dated : (x : ℕ) → IsLive (forest s) x → IsBelowNone (forest s) roots x → early s x ≡ node_early net (forest s) x
