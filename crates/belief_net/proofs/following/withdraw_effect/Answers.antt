@@ -1,0 +1,29 @@
+use Rattle.std.proofs.Common.{subst}
+use Rattle.std.specs.Prelude.{Result, Ok, Err, OnOk}
+use Rattle.belief_net.specs.Leaving.{TakesAway}
+use Rattle.belief_net.specs.Telling.{TellsExits}
+use Rattle.belief_net.specs.Turns.{Withdraws}
+use Rattle.belief_net.proofs.following.withdraw_effect.Goals as goal
+
+on_kept : {T E : Type 0} (r : Result T E) (P Q : Type 0) → (P → Q) → OnOk r P → OnOk r Q
+on_kept (Ok x) P Q f h = f h
+on_kept (Err e) P Q f h = tt
+
+pub returns-clause-ok : goal.returns-clause-ok
+returns-clause-ok c =
+    let old = c.args.beliefs.now in
+    let new = c.take_away.new.beliefs in
+    let (m, at, is) = c.in-Some.ensures in
+    let numbers = c.in_ok-numbers.numbers.items in
+    on_kept c.take_away.result (TakesAway c.in-Some.effect c.as_slice-2.result.now old new) (Withdraws c.args.trigger c.args.rule.now old new c.args.told.now c.leave.new.self)
+    (λ takes. record {
+      number = c.in-Some.effect;
+      node = m;
+      here = at;
+      is = is;
+      numbers = numbers;
+      takes = subst (λ l. TakesAway c.in-Some.effect l old new) c.as_slice-2.ensures.value takes;
+      once = c.in_ok-numbers.ensures.once;
+      tells = subst (λ l. TellsExits old.tree l c.args.told.now c.leave.new.self) c.as_slice.ensures.value c.in_ok-leave.ensures;
+    })
+    c.take_away.ensures.ok
