@@ -94,6 +94,6 @@ counted_none before few = omega (arith, few)
 -- a turn that ends without its work counts no more than is touched
 pub counts_within : (before made most count_before count : ℕ) (b : BeliefNet) → count_before ≡ counted before made → made ≤ most
     → (IsFirst (dates_in b.decisions.waiting) → made + 1 ≤ most) → CountsOne b count_before count → count ≤ counted before most
-counts_within before made most count_before count b is within more (inl same) = subst (λ n. n ≤ counted before most) (sym (same ∙ is)) (counted_below before made most within)
+counts_within before made most count_before count b is within more (inl (same, none)) = subst (λ n. n ≤ counted before most) (sym (same ∙ is)) (counted_below before made most within)
 counts_within before made most count_before count b is within more (inr (one, first)) =
     subst (λ n. n ≤ counted before most) (sym (one ∙ ap one_more is ∙ counted_more before made)) (counted_below before (suc made) most (let h = more first in omega (arith, h)))

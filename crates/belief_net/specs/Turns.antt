@@ -29,9 +29,9 @@ one_more count = min (count + 1) 18446744073709551615
 abbrev pub IsFirst : Dates → Type 0
 IsFirst dates = (i : ℕ) × (date : ℤ) × (dates i ≡ Some date) × ((j : ℕ) (other : ℤ) → dates j ≡ Some other → date ≤ℤ other)
 
--- no decision was counted, or one, where a row waited
+-- one decision was counted where a row waited, and none where none did
 abbrev pub CountsOne : BeliefNet → ℕ → ℕ → Type 0
-CountsOne b old new = (new ≡ old) ⊎ ((new ≡ one_more old) × IsFirst (dates_in b.decisions.waiting))
+CountsOne b old new = ((new ≡ old) × ((i : ℕ) → dates_in b.decisions.waiting i ≡ None)) ⊎ ((new ≡ one_more old) × IsFirst (dates_in b.decisions.waiting))
 
 -- ---- what follows of a decision
 

@@ -1,5 +1,5 @@
 use Rattle.std.proofs.Common.{◌+◌, sym, subst}
-use Rattle.std.specs.Prelude.{Result, Ok, Err, OnOk}
+use Rattle.std.proofs.lemmas.Result.{on_ok_weaker}
 use Rattle.occ_tree.specs.Places.{forest}
 use Rattle.projection.specs.Queues.{weight_at, IsTooLarge}
 use Rattle.projection.proofs.Ends.{err_kept}
@@ -8,10 +8,6 @@ use Rattle.belief_net.specs.Turns.{IsTurned, IsStopped}
 use Rattle.belief_net.proofs.After.{fit_after, enters_after}
 use Rattle.belief_net.proofs.Telling.{entry_turned, entry_stops}
 use Rattle.belief_net.proofs.following.bring_effect.Goals as goal
-
-on_kept : {T E : Type 0} (r : Result T E) (P Q : Type 0) → (P → Q) → OnOk r P → OnOk r Q
-on_kept (Ok x) P Q f h = f h
-on_kept (Err e) P Q f h = tt
 
 pub bring_about-requires-clause-enters : goal.bring_about-requires-clause-enters
 bring_about-requires-clause-enters c =
@@ -34,7 +30,7 @@ returns-in-Ok-clause-ok c =
     let old = c.args.beliefs.now in
     let e = c.bring_about.new.beliefs in
     let due = c.args.due.now in
-    on_kept c.enter.result (TellsEntry s e.tree c.in-Ok.effect c.args.told.now c.enter.new.self) (IsTurned s old e due c.args.told.now c.enter.new.self)
+    on_ok_weaker {P = TellsEntry s e.tree c.in-Ok.effect c.args.told.now c.enter.new.self} {Q = IsTurned s old e due c.args.told.now c.enter.new.self} c.enter.result
     (λ tells net b after.
     let (brings, same) = c.in-Ok.ensures.number net (fit_after s net b old due after).tree in
     entry_turned s net b old e due after c.requires.fires c.requires.fired brings c.in-Ok.ensures.last.decisions c.args.told.now c.enter.new.self

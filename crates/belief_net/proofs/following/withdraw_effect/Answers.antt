@@ -1,13 +1,9 @@
 use Rattle.std.proofs.Common.{subst}
-use Rattle.std.specs.Prelude.{Result, Ok, Err, OnOk}
+use Rattle.std.proofs.lemmas.Result.{on_ok_weaker}
 use Rattle.belief_net.specs.Leaving.{TakesAway}
 use Rattle.belief_net.specs.Telling.{TellsExits}
 use Rattle.belief_net.specs.Turns.{Withdraws}
 use Rattle.belief_net.proofs.following.withdraw_effect.Goals as goal
-
-on_kept : {T E : Type 0} (r : Result T E) (P Q : Type 0) → (P → Q) → OnOk r P → OnOk r Q
-on_kept (Ok x) P Q f h = f h
-on_kept (Err e) P Q f h = tt
 
 pub returns-clause-ok : goal.returns-clause-ok
 returns-clause-ok c =
@@ -15,7 +11,7 @@ returns-clause-ok c =
     let new = c.take_away.new.beliefs in
     let (m, at, is) = c.in-Some.ensures in
     let numbers = c.in_ok-numbers.numbers.items in
-    on_kept c.take_away.result (TakesAway c.in-Some.effect c.as_slice-2.result.now old new) (Withdraws c.args.trigger c.args.rule.now old new c.args.told.now c.leave.new.self)
+    on_ok_weaker {P = TakesAway c.in-Some.effect c.as_slice-2.result.now old new} {Q = Withdraws c.args.trigger c.args.rule.now old new c.args.told.now c.leave.new.self} c.take_away.result
     (λ takes. record {
       number = c.in-Some.effect;
       node = m;

@@ -1,6 +1,7 @@
 use Rattle.std.proofs.Common.{◌∙◌, refl, sym, subst, rules, w64, to_z, of_z}
+use Rattle.std.proofs.lemmas.Result.{on_ok_weaker}
 use Rattle.std.proofs.lemmas.Int.{to_z-of_z}
-use Rattle.std.specs.Prelude.{FitsSigned, Result, Ok, Err, OnOk}
+use Rattle.std.specs.Prelude.{FitsSigned}
 use Rattle.spots.proofs.Nodes.{node_at}
 use Rattle.occ_tree.specs.Places.{forest}
 use Rattle.occ_tree.specs.Standing.{present}
@@ -8,10 +9,6 @@ use Rattle.belief_net.specs.Entering.{MarksClass}
 use Rattle.belief_net.specs.Leaving.{LosesNode, a_token, an_event}
 use Rattle.belief_net.proofs.Brought.{class_is_at}
 use Rattle.belief_net.proofs.leaving.lose_node.Goals as goal
-
-on_kept : {T E : Type 0} (r : Result T E) (P Q : Type 0) → (P → Q) → OnOk r P → OnOk r Q
-on_kept (Ok x) P Q f h = f h
-on_kept (Err e) P Q f h = tt
 
 pub returns-in-Some-clause-ok : goal.returns-in-Some-clause-ok
 returns-in-Some-clause-ok c =
@@ -22,7 +19,7 @@ returns-in-Some-clause-ok c =
     let (m, at) = node_at (forest tree) y c.requires.live in
     let row = c.row.ensures m at in
     let fits : FitsSigned w64 c.early.result = search rules in
-    on_kept c.mark_token.result (MarksClass (present tree) c.in-Some.class (to_z w64 (of_z w64 c.early.result)) mid new) (LosesNode tree y c.args.decisions.now new)
+    on_ok_weaker {P = MarksClass (present tree) c.in-Some.class (to_z w64 (of_z w64 c.early.result)) mid new} {Q = LosesNode tree y c.args.decisions.now new} c.mark_token.result
     (λ marks. record {
       mid = mid;
       drops = c.in_ok-drop_rows.ensures.drops;
