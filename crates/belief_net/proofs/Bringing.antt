@@ -1,13 +1,13 @@
 -- A turn that brings an effect.
-use Rattle.std.proofs.Common.{◌≡◌, ◌≢◌, ◌∙◌, ℕ, Bool, true, false, eqb, List, [], ◌∷◌, Option, Some, None, IsSome, refl, sym, ap, subst, inl, inr, ◌⊎◌, arith}
+use Rattle.std.proofs.Common.{◌≡◌, ◌∙◌, ℕ, true, false, List, [], ◌∷◌, Option, Some, None, refl, sym, ap, subst, inl, inr, ◌⊎◌, arith}
 use Rattle.std.proofs.lemmas.Bool.Decides.{eqb_tells}
 use Rattle.std.proofs.lemmas.Int.{ints}
-use Rattle.std.specs.Prelude.{ℤ, pos, ◌+ℤ◌, ◌≤ℤ◌, ◌<ℤ◌, ◌↔◌, is_some}
+use Rattle.std.specs.Prelude.{ℤ, pos, ◌+ℤ◌, ◌≤ℤ◌, ◌<ℤ◌, is_some}
 use Rattle.std.specs.List.{Contains}
 use Rattle.tmm_model.specs.declared.token.Shape.{Shape}
 use Rattle.tmm_model.specs.Beliefs.{rules_at, is_of}
 use Rattle.tmm_model.specs.Moments.{Moment, After, rule_of}
-use Rattle.tmm_model.specs.Standing.{Standing, far_in}
+use Rattle.tmm_model.specs.Standing.{Standing}
 use Rattle.list_theory.proofs.Elements.{In, In-from_Contains, Contains-from_In}
 use Rattle.belief_theory.proofs.SoundBeliefs.{sound_timed}
 use Rattle.dist_net.specs.Net.{Net}
@@ -25,16 +25,15 @@ use Rattle.occ_tree.specs.Places.{forest}
 use Rattle.occ_tree.specs.Standing.{Kept, present, early}
 use Rattle.joined.specs.Listed.{IsListedUnder}
 use Rattle.joined.specs.Marking.{Mark}
-use Rattle.joined.specs.Rows.{Row, fires_by}
+use Rattle.joined.specs.Rows.{fires_by}
 use Rattle.joined.specs.Turning.{TreeTurns, enters, Moved, came, went, effect_of}
 use Rattle.belief_net.specs.declared.deciding.Due.{Due}
 use Rattle.belief_net.specs.declared.state.BeliefNet.{BeliefNet}
-use Rattle.belief_net.specs.declared.state.Decisions.{Decisions}
 use Rattle.belief_net.specs.Decided.{table_of, rule_in, AddsRows, IsNewRow, IsSameRow, KeepsLast}
-use Rattle.belief_net.specs.Entering.{Brings, EntersIn, MarksClass, Follows, a_token, an_event, class_at}
-use Rattle.belief_net.specs.Moving.{date_at, IsMarkAt, AreMarksFor, IsMarkedAt, IsKeptRow, IsComing, Moves, TurnsOn, row_due}
+use Rattle.belief_net.specs.Entering.{Brings, MarksClass, Follows, a_token, an_event, class_at}
+use Rattle.belief_net.specs.Moving.{date_at, IsMarkAt, IsMarkedAt, Moves, TurnsOn, row_due}
 use Rattle.belief_net.specs.Turning.{IsFit, IsDecided}
-use Rattle.belief_net.specs.Waiting.{dates_in, waits_in}
+use Rattle.belief_net.specs.Waiting.{waits_in}
 use Rattle.belief_net.proofs.Brought.{class_is_at, no_event_of_some}
 use Rattle.belief_net.proofs.Entered.{one_row}
 use Rattle.belief_net.proofs.Turned.{date_is, fit_decided}
@@ -43,7 +42,7 @@ none_some : {X : Type 0} (x : X) → None ≡ Some x → ⊥
 none_some x e = cc
 
 -- an occurrence has one class
-one_class : (s : Standing) (names : Names) (m n : Member) → IsMemberOf s names m → IsMemberOf s names n → moment m ≡ moment n → m.class ≡ n.class
+pub one_class : (s : Standing) (names : Names) (m n : Member) → IsMemberOf s names m → IsMemberOf s names n → moment m ≡ moment n → m.class ≡ n.class
 one_class s names m n own_m own_n same =
     let both : Some (m.shape, m.what) ≡ Some (n.shape, n.what) = sym own_m.is ∙ ap (is_of s) same ∙ own_n.is in
     own_m.class ∙ (λ i. of_kind (both i)) ∙ sym own_n.class

@@ -17,7 +17,6 @@ use Rattle.belief_net.specs.declared.state.Decisions.{Decisions}
 use Rattle.belief_net.specs.Decided.{table_of, AreUnder, KeepsLast}
 use Rattle.belief_net.specs.Entering.{MarksClass, class_at}
 use Rattle.belief_net.proofs.Named.{under_more}
-use Rattle.occ_tree.proofs.Numbered.{no_more}
 
 module _ (s : Standing) (net : Net) (f : Forest) (seen : IsSeen s net f) (y : ℕ) (m : Member) (at : member f y ≡ Some m) where
   pub event_of_none : m.class ≡ None → m.shape ≡ Event

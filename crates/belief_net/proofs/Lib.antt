@@ -9,3 +9,9 @@ pub mod Turned
 pub mod Moved
 pub mod Brought
 pub mod Bringing
+pub mod Lost
+pub mod Withdrawn
+pub mod Telling
+pub mod Counted
+pub mod Settled
+pub mod After

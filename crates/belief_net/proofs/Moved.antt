@@ -1,9 +1,9 @@
 -- A turn in which nodes enter or go keeps what nodes and rows say of the revision.
-use Rattle.std.proofs.Common.{◌≡◌, ◌≢◌, ◌∙◌, ℕ, Bool, true, false, eqb, List, ◌∷◌, Option, Some, None, IsSome, refl, sym, ap, subst, inl, inr, ◌⊎◌, arith}
+use Rattle.std.proofs.Common.{◌≡◌, ◌≢◌, ◌∙◌, ℕ, true, false, eqb, List, ◌∷◌, Option, Some, None, IsSome, refl, sym, ap, subst, inl, inr, ◌⊎◌, arith}
 use Rattle.std.proofs.lemmas.Bool.{cases_Bool}
 use Rattle.std.proofs.lemmas.Bool.Decides.{eqb_tells}
 use Rattle.std.proofs.lemmas.Int.{ints}
-use Rattle.std.specs.Prelude.{ℤ, ◌≤ℤ◌, ◌<ℤ◌, ◌↔◌, is_some}
+use Rattle.std.specs.Prelude.{ℤ, ◌≤ℤ◌, ◌<ℤ◌, is_some}
 use Rattle.std.specs.List.{Contains}
 use Rattle.std.specs.Option.{option_map}
 use Rattle.tmm_model.specs.declared.premise.Edit.{Edit}
@@ -11,10 +11,9 @@ use Rattle.tmm_model.specs.Beliefs.{rules_at}
 use Rattle.tmm_model.specs.Edits.{next_list}
 use Rattle.tmm_model.specs.Maps.{built}
 use Rattle.tmm_model.specs.Moments.{Moment}
-use Rattle.tmm_model.specs.Standing.{Standing, far_in}
-use Rattle.list_theory.proofs.Elements.{In}
+use Rattle.tmm_model.specs.Standing.{Standing}
 use Rattle.dist_net.specs.Net.{Net}
-use Rattle.spots.specs.Forest.{Forest, Member, member, IsLive, moment, moment_at, IsBelow}
+use Rattle.spots.specs.Forest.{Forest, Member, member, IsLive, moment_at}
 use Rattle.spots.proofs.Nodes.{node_at, moment_at-is}
 use Rattle.undo_rows.specs.declared.row.Row.{Row as TableRow}
 use Rattle.undo_rows.specs.Changes.{present as table}
@@ -25,20 +24,19 @@ use Rattle.occ_tree.specs.Classes.{place_in, HaveMore}
 use Rattle.occ_tree.specs.Places.{forest}
 use Rattle.revisions.specs.Maps.{revision}
 use Rattle.revisions.specs.Revisions.{Revision}
-use Rattle.joined.specs.Kept.{IsKeptBy}
-use Rattle.joined.specs.Marking.{Mark, AreMarksOf, IsMarkedBy}
+use Rattle.joined.specs.Marking.{AreMarksOf, IsMarkedBy}
 use Rattle.joined.specs.Netted.{IsNetted}
 use Rattle.joined.specs.Rows.{Row}
-use Rattle.joined.specs.Turning.{IsCodeTurn, ComesFrom, decided, kept, new, TreeTurns, stays, enters, withdraws, Moved}
+use Rattle.joined.specs.Turning.{IsCodeTurn, ComesFrom, decided, kept, new, TreeTurns, stays, enters, withdraws}
 use Rattle.joined.proofs.CodeTurns.{code_turned}
 use Rattle.joined.proofs.Marking.{marked_row}
 use Rattle.belief_net.specs.declared.deciding.Due.{Due}
 use Rattle.belief_net.specs.declared.state.BeliefNet.{BeliefNet}
-use Rattle.belief_net.specs.Decided.{table_of, rule_in}
+use Rattle.belief_net.specs.Decided.{table_of}
 use Rattle.belief_net.specs.Moving.{date_at, IsMarkedAt, IsKeptRow, IsComing, TurnsOn, row_due}
 use Rattle.belief_net.specs.Numbers.{name_in}
 use Rattle.belief_net.specs.Turning.{rows_of, IsUnderway}
-use Rattle.belief_net.specs.Waiting.{dates_in, waits_in}
+use Rattle.belief_net.specs.Waiting.{waits_in}
 use Rattle.belief_net.proofs.Entered.{one_row}
 use Rattle.belief_net.proofs.Named.{name_stays, are_numbered}
 use Rattle.belief_net.proofs.Turned.{seen_row, row_there, row_of, decided_row, other_row, row_cases, due_first, found_right}
@@ -188,7 +186,7 @@ module _ (old : Standing) (edit : Edit) (net : Net) (b c e : BeliefNet) (due : D
           some_then i (with_found due.found t.decided.row) (ap (table_of c.decisions).row same.1 ∙ decided_row s net b c due t.fit t.decided) (subst (λ (z : TableRow Pair 6). IsLive g z.value.trigger) one row_live)
       by row there row_live (inr apart) = some_then i row (other_row s net b c due t.fit t.decided i apart.1 ∙ there) row_live
 
-  turn : IsCodeTurn (revision (built old) (built (next_list old edit))) (next_list old edit) net.names f g (rows_of b) (rows_of e) x p due.found
+  pub turn : IsCodeTurn (revision (built old) (built (next_list old edit))) (next_list old edit) net.names f g (rows_of b) (rows_of e) x p due.found
   turn = record {
     first = due_first s net b c due t.fit t.decided old edit taken refl k;
     right = found_right s net b c due t.fit t.decided old edit taken refl k;

@@ -1,5 +1,5 @@
 -- The row that is due first, decided again.
-use Rattle.std.proofs.Common.{◌≡◌, ◌≢◌, ◌∙◌, ℕ, Bool, true, false, cond, eqb, List, ◌∷◌, Option, Some, None, refl, sym, ap, subst, inl, inr, ◌⊎◌, ◌<◌, length}
+use Rattle.std.proofs.Common.{◌≡◌, ◌≢◌, ◌∙◌, ℕ, true, cond, List, ◌∷◌, Option, Some, None, refl, sym, ap, subst, inl, inr, ◌⊎◌, ◌<◌, length}
 use Rattle.std.proofs.lemmas.Bool.{eq-eqb}
 use Rattle.std.proofs.lemmas.Bool.Decides.{eqb_tells}
 use Rattle.std.specs.Prelude.{ℤ, ◌≤ℤ◌, is_some}
@@ -18,9 +18,8 @@ use Rattle.spots.proofs.Seen.{early_is}
 use Rattle.undo_rows.specs.declared.row.Row.{Row as TableRow}
 use Rattle.undo_rows.specs.Changes.{present as table}
 use Rattle.undo_rows.specs.Tables.{Table}
-use Rattle.decision_rows.specs.Decisions.{Decides, decided as with_found}
+use Rattle.decision_rows.specs.Decisions.{decided as with_found}
 use Rattle.decision_rows.specs.declared.row.Pair.{Pair}
-use Rattle.decision_rows.specs.declared.row.Decision.{Decision}
 use Rattle.occ_tree.specs.OfLists.{IsTreeOf}
 use Rattle.occ_tree.specs.Places.{forest}
 use Rattle.occ_tree.specs.Standing.{Kept, present, early}
@@ -28,15 +27,15 @@ use Rattle.revisions.specs.Maps.{revision}
 use Rattle.occ_tree.specs.Classes.{place_in}
 use Rattle.joined.specs.Listed.{IsUnderClasses}
 use Rattle.joined.specs.Kept.{IsKeptBy, WaitsNoMore}
-use Rattle.joined.specs.Rows.{Row, Rows, as_row, rows_in, fires_by, outcome_at}
+use Rattle.joined.specs.Rows.{Row, as_row, fires_by, outcome_at}
 use Rattle.joined.specs.Turning.{IsDueFirst, IsFound}
 use Rattle.joined.proofs.Kept.{decides_is, kept_on}
 use Rattle.belief_net.specs.declared.deciding.Due.{Due}
 use Rattle.belief_net.specs.declared.state.BeliefNet.{BeliefNet}
-use Rattle.belief_net.specs.Decided.{table_of, rule_in, AreUnder}
+use Rattle.belief_net.specs.Decided.{table_of, rule_in}
 use Rattle.belief_net.specs.Numbers.{name_in}
-use Rattle.belief_net.specs.Turning.{rows_of, IsFit, IsUnderway, IsRevising, IsRight, IsDecided}
-use Rattle.belief_net.specs.Waiting.{dates_in, waits_in, Takes}
+use Rattle.belief_net.specs.Turning.{rows_of, IsFit, IsUnderway, IsRevising, IsDecided}
+use Rattle.belief_net.specs.Waiting.{dates_in, waits_in}
 use Rattle.belief_net.proofs.Entered.{one_row}
 
 -- ---- rows of a table as rows of a revision

@@ -5,4 +5,8 @@ pub mod Decided
 pub mod Entering
 pub mod Turning
 pub mod Moving
+pub mod Leaving
 pub mod TurnLaws
+pub mod Telling
+pub mod Turns
+pub mod Settling

@@ -1,19 +1,20 @@
 -- Laws of turns: what keeps nodes and rows standing for a revision.
-use Rattle.std.specs.Prelude.{◌≡◌, ℕ, true, false, List, ◌∷◌}
+use Rattle.std.specs.Prelude.{◌≡◌, ℕ, true, false, List, ◌∷◌, Some}
 use Rattle.std.specs.List.{Contains}
 use Rattle.tmm_model.specs.declared.premise.Edit.{Edit}
 use Rattle.tmm_model.specs.Beliefs.{rules_at}
 use Rattle.tmm_model.specs.Edits.{next_list}
-use Rattle.tmm_model.specs.Moments.{Moment}
+use Rattle.tmm_model.specs.Moments.{Moment, After}
 use Rattle.tmm_model.specs.Standing.{Standing}
 use Rattle.dist_net.specs.Net.{Net}
-use Rattle.spots.specs.Forest.{moment_at}
+use Rattle.spots.specs.Forest.{Member, member, moment, moment_at}
 use Rattle.occ_tree.specs.Places.{forest}
 use Rattle.joined.specs.Rows.{fires_by}
 use Rattle.belief_net.specs.declared.deciding.Due.{Due}
 use Rattle.belief_net.specs.declared.state.BeliefNet.{BeliefNet}
 use Rattle.belief_net.specs.Decided.{KeepsLast}
 use Rattle.belief_net.specs.Entering.{Brings}
+use Rattle.belief_net.specs.Leaving.{TakesAway}
 use Rattle.belief_net.specs.Moving.{TurnsOn}
 use Rattle.belief_net.specs.Turning.{IsFit, IsDecided, IsUnderway}
 
@@ -41,4 +42,14 @@ BringingTurnsKeep =
     → IsFit s net b → IsDecided s b c due → fires_by due.found ≡ true → fires_by due.before ≡ false
     → Contains (rules_at s (moment_at (forest b.tree) due.trigger)) due.rule
     → Brings s net due.trigger due.rule c e → KeepsLast c.decisions e.decisions
+    → IsFit s net e × StandsOn s net b e due
+
+-- **Where the rule fires no more, the turn is done once its effect is gone with all below it, and rows have followed.**
+abbrev pub LeavingTurnsKeep : Type 0
+LeavingTurnsKeep =
+    (s : Standing) (net : Net) (b c e : BeliefNet) (due : Due) (x : ℕ) (m : Member) (numbers : List ℕ)
+    → IsFit s net b → IsDecided s b c due → fires_by due.found ≡ false → fires_by due.before ≡ true
+    → Contains (rules_at s (moment_at (forest b.tree) due.trigger)) due.rule
+    → member (forest c.tree) x ≡ Some m → moment m ≡ After (moment_at (forest c.tree) due.trigger) due.rule
+    → TakesAway x numbers c e → KeepsLast c.decisions e.decisions
     → IsFit s net e × StandsOn s net b e due

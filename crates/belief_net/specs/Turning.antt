@@ -1,17 +1,15 @@
 -- A turn of the loop: the row that is due first is decided again.
-use Rattle.std.specs.Prelude.{◌≡◌, ℕ, ℤ, List, Some, None, MatchOption}
+use Rattle.std.specs.Prelude.{◌≡◌, ℕ, ℤ, List, Some}
 use Rattle.belief_theory.specs.Outcomes.{outcome}
 use Rattle.tmm_model.specs.declared.premise.Edit.{Edit}
-use Rattle.tmm_model.specs.Beliefs.{rules_at}
 use Rattle.tmm_model.specs.Edits.{next_list}
 use Rattle.tmm_model.specs.Moments.{Moment}
 use Rattle.tmm_model.specs.Standing.{Standing, far_in}
 use Rattle.dist_net.specs.Net.{Net}
-use Rattle.spots.specs.Forest.{IsLive, moment_at}
+use Rattle.spots.specs.Forest.{moment_at}
 use Rattle.spots.specs.Seen.{Holds}
 use Rattle.undo_rows.specs.declared.row.Row.{Row as TableRow}
 use Rattle.undo_rows.specs.Changes.{present as table}
-use Rattle.undo_rows.specs.Tables.{AreListed}
 use Rattle.decision_rows.specs.Decisions.{Decides}
 use Rattle.decision_rows.specs.declared.row.Pair.{Pair}
 use Rattle.decision_rows.specs.declared.row.Decision.{Decision}
@@ -19,11 +17,11 @@ use Rattle.occ_tree.specs.OfLists.{IsTreeOf}
 use Rattle.occ_tree.specs.Places.{forest}
 use Rattle.occ_tree.specs.Standing.{present, early}
 use Rattle.joined.specs.Kept.{IsKeptBy}
-use Rattle.joined.specs.Rows.{Row, Rows, rows_in, outcome_at, AreLive}
+use Rattle.joined.specs.Rows.{Rows, rows_in, outcome_at, AreLive}
 use Rattle.belief_net.specs.declared.deciding.Due.{Due}
 use Rattle.belief_net.specs.declared.state.BeliefNet.{BeliefNet}
 use Rattle.belief_net.specs.Decided.{table_of, rule_in, AreUnder}
-use Rattle.belief_net.specs.Marks.{HaveEvents, WaitsAt}
+use Rattle.belief_net.specs.Marks.{HaveEvents}
 use Rattle.belief_net.specs.Numbers.{name_in}
 use Rattle.belief_net.specs.Waiting.{dates_in, waits_in, Takes}
 

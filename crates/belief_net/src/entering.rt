@@ -22,21 +22,22 @@ use premise_list::Standing;
 use std::alloc::Global;
 use tmm_model::{Name, NoMemory, Premise, Shape};
 
-// Adds the effect of a rule that fires at the event of a node. If that is an event, its rules get rows, which
-// wait; if it is a token, those rows wait that may read it.
+// Adds the effect of a rule that fires at the event of a node, and answers its number. If that is an event, its
+// rules get rows, which wait; if it is a token, those rows wait that may read it.
 pub(crate) fn bring_about(
     alloc: Global,
     standing: &Standing,
     beliefs: &mut BeliefNet,
     trigger: u32,
     rule: Name,
-) -> Result<(), NoMemory>
+) -> Result<u32, NoMemory>
     requires tree { (net : Net) × IsTreeOf standing.now.present net beliefs.old.tree }
     requires trigger { IsLive (forest beliefs.old.tree) trigger }
     requires enters { MayEnter standing.now.present (forest beliefs.old.tree) trigger rule }
     requires events { HaveEvents beliefs.old.tree (table beliefs.old.decisions.rows) }
     requires under { AreUnder standing.now.present beliefs.old.decisions }
     ensures ok { OnOk result ((net : Net) → IsTreeOf standing.now.present net beliefs.old.tree → Brings standing.now.present net trigger rule beliefs.old beliefs.new) }
+    ensures number { IfOk result (λ x. (net : Net) → IsTreeOf standing.now.present net beliefs.old.tree → (b : Brings standing.now.present net trigger rule beliefs.old beliefs.new) × (b.number ≡ x)) }
     ensures last { KeepLast beliefs.old beliefs.new }
 {
     // it tells the proof that rows are on their lists
@@ -47,7 +48,7 @@ pub(crate) fn bring_about(
     match row.class {
         Some(class) => {
             mark_token(&beliefs.tree, &mut beliefs.decisions, class, early)?;
-            Ok(())
+            Ok(effect)
         }
         None => {
             add_rows(
@@ -58,7 +59,7 @@ pub(crate) fn bring_about(
                 early,
                 row.what,
             )?;
-            Ok(())
+            Ok(effect)
         }
     }
 }

@@ -4,13 +4,18 @@
 
 mod deciding;
 mod entering;
+mod following;
+mod leaving;
 mod marking;
 mod numbers;
 mod rows;
+mod settling;
 mod state;
+mod told;
 mod turn;
 mod turn_laws;
 mod undo;
 mod waiting;
 
 pub use state::BeliefNet;
+pub use told::{DatedOcc, Told};

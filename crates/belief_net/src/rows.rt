@@ -8,7 +8,8 @@ ghost use Rattle.list_theory.proofs.Distinct.{Distinct};
 ghost use Rattle.list_theory.proofs.Elements.{In};
 ghost use Rattle.list_theory.specs.WellNamed.{IsSound};
 ghost use Rattle.occ_tree.specs.Classes.{place_in, HaveMore};
-ghost use Rattle.belief_net.specs.Decided.{AreUnder, AreOfSome, KeepsLast, AddsRows, DropsRows};
+ghost use Rattle.undo_rows.specs.Tables.{AreListed};
+ghost use Rattle.belief_net.specs.Decided.{table_of, AreUnder, AreOfSome, KeepsLast, AddsRows, DropsRows};
 
 use crate::numbers::Numbers;
 use crate::state::Decisions;
@@ -136,6 +137,7 @@ pub(crate) fn drop_rows(
 ) -> Result<(), NoMemory>
     requires { AreOfSome decisions.old }
     ensures drops { OnOk result (DropsRows event decisions.old decisions.new) }
+    ensures listed { OnOk result (AreListed (table_of decisions.new)) }
     ensures last { KeepsLast decisions.old decisions.new }
 {
     while let Some(row) = decisions.rows.first(0, event) {

@@ -1,16 +1,50 @@
 // A turn of the loop: the row that is due first is decided again.
-ghost use Rattle.std.specs.Prelude.{◌≡◌, ◌+◌, ℕ, min, None, IsSome, MatchOption, IfOk};
+ghost use Rattle.std.specs.Prelude.{◌≡◌, ◌+◌, ◌≤◌, ℕ, min, None, IsSome, MatchOption, IfOk, IfErr};
+ghost use Rattle.tmm_model.specs.Answers.{most_size};
+ghost use Rattle.belief_theory.specs.KeptLists.{last_horizon};
 ghost use Rattle.belief_net.specs.Entering.{KeepLast};
 ghost use Rattle.belief_net.specs.Turning.{IsFit, IsRevising, IsDecided};
+ghost use Rattle.belief_net.specs.Turns.{CountsOne, Rests, TurnsOrRests, StopsTurn};
 ghost use Rattle.belief_net.specs.Waiting.{dates_in};
 
 use crate::deciding::{Due, decide};
+use crate::following::follow;
 use crate::state::BeliefNet;
+use crate::told::Told;
 use dist_net::DistNet;
 use premise_list::Standing;
 use projection::Counter;
 use std::alloc::Global;
-use tmm_model::NoMemory;
+use tmm_model::{NoMemory, Stop};
+
+// A turn: the row that is due first is decided again, and its effect enters or is withdrawn where that is
+// decided; whether a row waited. What entered may not count more than 100,000.
+pub(crate) fn turn(
+    alloc: Global,
+    standing: &Standing,
+    net: &DistNet,
+    beliefs: &mut BeliefNet,
+    told: &mut Told,
+    counter: &mut Counter,
+) -> Result<bool, Stop>
+    requires fit { IsFit standing.now.present net.now.present beliefs.old }
+    requires revising { IsRevising standing.now.present net.now.present beliefs.old }
+    requires horizon { standing.now.present.horizon ≤ last_horizon }
+    requires small { told.old.weight ≤ most_size }
+    ensures ok { IfOk result (TurnsOrRests standing.now.present net.now.present beliefs.old beliefs.new told.old told.new counter.old counter.new) }
+    ensures stops { IfErr result (StopsTurn standing.now.present net.now.present beliefs.old told.old) }
+    ensures counted { CountsOne beliefs.old counter.old counter.new }
+    ensures last { KeepLast beliefs.old beliefs.new }
+{
+    match decide_first(alloc, standing, net, beliefs, counter) {
+        Ok(Some(due)) => {
+            follow(alloc, standing, beliefs, told, &due)?;
+            Ok(true)
+        }
+        Ok(None) => Ok(false),
+        Err(_) => Err(Stop::NoMemory),
+    }
+}
 
 // Decides the row again that is due first, keeps what is decided and counts the decision; none where no row
 // waits.
@@ -26,6 +60,8 @@ fn decide_first(
     ensures decided { IfOk result (λ due. MatchOption due ((i : ℕ) → dates_in beliefs.old.decisions.waiting i ≡ None) (IsDecided standing.now.present beliefs.old beliefs.new)) }
     ensures none { IfOk result (λ due. due ≡ None → counter.new ≡ counter.old) }
     ensures counted { IfOk result (λ due. IsSome due → counter.new ≡ min (counter.old + 1) 18446744073709551615) }
+    ensures one { CountsOne beliefs.old counter.old counter.new }
+    ensures rests { IfOk result (λ due. due ≡ None → Rests beliefs.old beliefs.new) }
     ensures last { KeepLast beliefs.old beliefs.new }
 {
     let Some(entry) = beliefs.decisions.waiting.pop() else {

@@ -1,5 +1,5 @@
 // Laws of turns: what keeps nodes and rows standing for a revision.
-ghost use Rattle.belief_net.specs.TurnLaws.{SameTurnsKeep, MovingTurnsKeep, BringingTurnsKeep};
+ghost use Rattle.belief_net.specs.TurnLaws.{SameTurnsKeep, MovingTurnsKeep, BringingTurnsKeep, LeavingTurnsKeep};
 
 // Where a rule fires as before, a turn is done once its row keeps what was decided.
 fn same_turns_keep()
@@ -14,4 +14,9 @@ fn moving_turns_keep()
 // Where a rule fires that did not, a turn is done once its effect has entered, and rows have followed.
 fn bringing_turns_keep()
     ensures { BringingTurnsKeep }
+{}
+
+// Where a rule fires no more, a turn is done once its effect is gone with all below it, and rows have followed.
+fn leaving_turns_keep()
+    ensures { LeavingTurnsKeep }
 {}

@@ -134,7 +134,8 @@ impl Waiting {
 
     // A row of which no other waits for an earlier date. It waits no more.
     pub(crate) fn pop(&mut self) -> Option<Entry>
-        ensures { MatchOption result ((i : ℕ) → dates_in self.old i ≡ None) (λ e. Takes (dates_in self.old) (dates_in self.new) e.row e.early.0) }
+        ensures first { MatchOption result ((i : ℕ) → dates_in self.old i ≡ None) (λ e. Takes (dates_in self.old) (dates_in self.new) e.row e.early.0) }
+        ensures rests { result ≡ None → (i : ℕ) → dates_in self.new i ≡ None }
     {
         pop_first(&mut self.dates, &mut self.queue)
     }
@@ -182,6 +183,7 @@ fn pop_first(dates: &mut [Option<i64>], queue: &mut Queue) -> Option<Entry>
     requires { AreQueued (dates_in dates.old) queue.old }
     ensures queued { AreQueued (dates_in dates.new) queue.new }
     ensures first { MatchOption result ((i : ℕ) → dates_in dates.old i ≡ None) (λ e. Takes (dates_in dates.old) (dates_in dates.new) e.row e.early.0) }
+    ensures rests { result ≡ None → dates.new ≡ dates.old }
 {
     while let Some(entry) = queue.pop() {
         if date_at(dates, entry.row) == Some(entry.early.0) {

@@ -1,7 +1,7 @@
-use Rattle.std.proofs.Common.{◌≡◌, ◌∙◌, sym, ap, subst, rules, w64, to_z, of_z}
+use Rattle.std.proofs.Common.{◌∙◌, refl, sym, ap, subst, rules, w64}
 use Rattle.std.specs.Prelude.{FitsSigned}
 use Rattle.std.proofs.lemmas.Int.{to_z-of_z}
-use Rattle.tmm_model.specs.Beliefs.{rules_at, rules_on}
+use Rattle.tmm_model.specs.Beliefs.{rules_on}
 use Rattle.list_theory.proofs.Distinct.{Distinct}
 use Rattle.spots.specs.Forest.{moment_at}
 use Rattle.occ_tree.specs.Places.{forest}
@@ -66,3 +66,11 @@ returns-in_ok-add_rows-in-None-clause-ok c = λ net tree.
       under = c.in_ok-add_rows-in-None.ensures.under;
       listed = c.first.ensures.listed;
     }
+
+pub returns-in_ok-mark_token-in-Some-clause-number : goal.returns-in_ok-mark_token-in-Some-clause-number
+unfolding returns-in_ok-mark_token-in-Some-clause-ok
+returns-in_ok-mark_token-in-Some-clause-number c = λ net tree. (returns-in_ok-mark_token-in-Some-clause-ok c net tree, refl)
+
+pub returns-in_ok-add_rows-in-None-clause-number : goal.returns-in_ok-add_rows-in-None-clause-number
+unfolding returns-in_ok-add_rows-in-None-clause-ok
+returns-in_ok-add_rows-in-None-clause-number c = λ net tree. (returns-in_ok-add_rows-in-None-clause-ok c net tree, refl)

@@ -1,4 +1,4 @@
-use Rattle.std.proofs.Common.{◌≡◌, ◌≢◌, ◌∙◌, ℕ, sym, ap, subst, rules, w64, to_z, of_z}
+use Rattle.std.proofs.Common.{◌≡◌, ◌∙◌, sym, ap, subst, rules, w64, to_z, of_z}
 use Rattle.std.proofs.lemmas.Int.{to_z-of_z}
 use Rattle.std.specs.Prelude.{Some, None, Result, Ok, Err, IfOk, OnErr, ◌+ℤ◌, pos, ◌≤ℤ◌, FitsSigned}
 use Rattle.tmm_model.specs.declared.bound.Bound.TheVariants.{Finite}
@@ -8,7 +8,7 @@ use Rattle.tmm_model.specs.Moments.{After}
 use Rattle.tmm_model.specs.Sorts.{class_in}
 use Rattle.tmm_model.specs.Standing.{premise_in}
 use Rattle.dist_net.specs.Net.{Net}
-use Rattle.spots.specs.Forest.{Member, member, Enters, child_member, moment_at, IsLive}
+use Rattle.spots.specs.Forest.{Member, member, Enters, child_member, moment_at}
 use Rattle.spots.specs.declared.link.Link.{Link}
 use Rattle.spots.proofs.Nodes.{node_at}
 use Rattle.occ_tree.specs.Edits.{Enters as EntersTree}

@@ -1,4 +1,4 @@
-use Rattle.std.proofs.Common.{◌≡◌, ◌∙◌, List, ℕ, ap, sym, subst}
+use Rattle.std.proofs.Common.{◌≡◌, ◌∙◌, ap, sym, subst}
 use Rattle.std.specs.Prelude.{IfSome}
 use Rattle.std.specs.List.{Contains}
 use Rattle.tmm_model.specs.Beliefs.{rules_at}
@@ -14,7 +14,7 @@ pub decide-found-requires-clause-rule : goal.decide-found-requires-clause-rule
 decide-found-requires-clause-rule c =
     let s = c.args.standing.now.present in
     let b = c.args.beliefs.now in
-    let (row, at, is) = c.requires.fit.dated c.in-Some.entry.row c.in-Some.entry.early.0 c.in-Some.ensures.waited in
+    let (row, at, is) = c.requires.fit.dated c.in-Some.entry.row c.in-Some.entry.early.0 c.in-Some.ensures.first.waited in
     let pair = subst (λ o. IfSome o (λ (r : TableRow Pair 6). (c.pair-trigger.result.0 ≡ r.value.trigger) × (c.pair-trigger.result.1 ≡ r.value.rule))) at c.pair-trigger.ensures in
     let named = c.name-rule.ensures ∙ ap (name_in b.decisions.rules) pair.1 in
     subst (λ t. Contains (rules_at s (moment_at (forest b.tree) t)) c.name-rule.result) (sym pair.0)

@@ -1,0 +1,25 @@
+use Rattle.std.proofs.Common.{subst}
+use Rattle.std.proofs.lemmas.Result.{on_ok_weaker}
+use Rattle.belief_net.specs.Leaving.{TakesAway}
+use Rattle.belief_net.specs.Telling.{TellsExits}
+use Rattle.belief_net.specs.Turns.{Withdraws}
+use Rattle.belief_net.proofs.following.withdraw_effect.Goals as goal
+
+pub returns-clause-ok : goal.returns-clause-ok
+returns-clause-ok c =
+    let old = c.args.beliefs.now in
+    let new = c.take_away.new.beliefs in
+    let (m, at, is) = c.in-Some.ensures in
+    let numbers = c.in_ok-numbers.numbers.items in
+    on_ok_weaker {P = TakesAway c.in-Some.effect c.as_slice-2.result.now old new} {Q = Withdraws c.args.trigger c.args.rule.now old new c.args.told.now c.leave.new.self} c.take_away.result
+    (λ takes. record {
+      number = c.in-Some.effect;
+      node = m;
+      here = at;
+      is = is;
+      numbers = numbers;
+      takes = subst (λ l. TakesAway c.in-Some.effect l old new) c.as_slice-2.ensures.value takes;
+      once = c.in_ok-numbers.ensures.once;
+      tells = subst (λ l. TellsExits old.tree l c.args.told.now c.leave.new.self) c.as_slice.ensures.value c.in_ok-leave.ensures;
+    })
+    c.take_away.ensures.ok

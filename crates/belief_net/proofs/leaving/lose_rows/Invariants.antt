@@ -1,0 +1,13 @@
+use Rattle.std.proofs.Common.{take}
+use Rattle.belief_net.specs.Decided.{table_of, AreOfSome, KeepsLast}
+use Rattle.belief_net.specs.Leaving.{LosesRows}
+use Rattle.belief_net.specs.Marks.{HaveEvents}
+use Rattle.belief_net.proofs.leaving.lose_rows.Given as goal
+
+abbrev pub invariant-loop-y : goal.invariant-loop-y
+invariant-loop-y l = record {
+  lost : LosesRows l.tree (take l.y-index l.numbers) l.fn.decisions l.decisions;
+  events : HaveEvents l.tree (table_of l.decisions);
+  under : AreOfSome l.decisions;
+  last : KeepsLast l.fn.decisions l.decisions;
+}

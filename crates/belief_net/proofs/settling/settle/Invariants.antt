@@ -1,0 +1,14 @@
+use Rattle.belief_net.specs.Entering.{KeepLast}
+use Rattle.belief_net.specs.Settling.{IfBegun, IsSoFar}
+use Rattle.belief_net.specs.Telling.{IsWeighed}
+use Rattle.belief_net.specs.Turning.{IsFit, IsRevising}
+use Rattle.belief_net.proofs.settling.settle.Given as goal
+
+abbrev pub invariant-loop : goal.invariant-loop
+invariant-loop l = record {
+  fit : IsFit l.standing.present l.net.present l.beliefs;
+  revising : IsRevising l.standing.present l.net.present l.beliefs;
+  weighed : IsWeighed l.standing.present l.told;
+  so_far : IfBegun l.standing.present l.net.present l.fn.beliefs l.fn.told (IsSoFar l.net.present l.beliefs l.told l.fn.count l.count);
+  last : KeepLast l.fn.beliefs l.beliefs;
+}

@@ -1,0 +1,89 @@
+-- What goes where a rule fires no more: nodes with their rows; and rows wait that read what went.
+use Rattle.std.specs.Prelude.{◌≡◌, ◌⊎◌, ◌↔◌, ℕ, List, Option, Some, None}
+use Rattle.list_theory.proofs.Elements.{In}
+use Rattle.row_links.specs.Lists.{IsOn}
+use Rattle.undo_rows.specs.declared.row.Row.{Row as TableRow}
+use Rattle.undo_rows.specs.Tables.{Table, AreListed}
+use Rattle.decision_rows.specs.declared.row.Pair.{Pair}
+use Rattle.occ_tree.specs.Below.{IsBelow}
+use Rattle.occ_tree.specs.Classes.{place_in}
+use Rattle.occ_tree.specs.Edits.{Withdraws}
+use Rattle.occ_tree.specs.Places.{forest}
+use Rattle.occ_tree.specs.Standing.{Kept, State, present, early}
+use Rattle.joined.specs.Listed.{IsListedUnder}
+use Rattle.joined.specs.Marking.{Mark}
+use Rattle.belief_net.specs.declared.state.BeliefNet.{BeliefNet}
+use Rattle.belief_net.specs.declared.state.Decisions.{Decisions}
+use Rattle.belief_net.specs.Decided.{table_of, DropsRows}
+use Rattle.belief_net.specs.Entering.{MarksClass, class_at}
+use Rattle.belief_net.specs.Marks.{IsAsLate, WaitsAt}
+use Rattle.belief_net.specs.Waiting.{dates_in}
+
+-- ---- one node
+
+-- what a node marks that goes: a token those rows that read it, and an event none
+pub data MarksNode (tree : Kept) (y : ℕ) (old new : Decisions) : Type 0 where
+  a_token : (class : List ℕ) → class_at tree y ≡ Some class → MarksClass (present tree) class (early (present tree) y) old new → MarksNode tree y old new
+  an_event : class_at tree y ≡ None → new ≡ old → MarksNode tree y old new
+
+-- all rows at the node are gone, and rows wait that read it
+pub record LosesNode (tree : Kept) (y : ℕ) (old new : Decisions) : Type 0 where
+  pub mid : Decisions
+  pub drops : DropsRows y old mid
+  pub listed : AreListed (table_of mid)
+  pub marks : MarksNode tree y mid new
+
+-- ---- some nodes
+
+-- the mark is that of the token at this node
+pub record IsMarkOn (tree : Kept) (number : List ℕ → Option ℕ) (y : ℕ) (mark : Mark) : Type 0 where
+  pub class : List ℕ
+  pub has_class : class_at tree y ≡ Some class
+  pub numbered : number class ≡ Some mark.class
+  pub from : mark.from ≡ early (present tree) y
+
+-- the marks are those of the tokens among these nodes
+pub record AreMarksOn (tree : Kept) (gone : List ℕ) (number : List ℕ → Option ℕ) (marks : List Mark) : Type 0 where
+  pub own : (mark : Mark) → In mark marks → (y : ℕ) × IsOn gone y × IsMarkOn tree number y mark
+  pub all : (y : ℕ) (class : List ℕ) → IsOn gone y → class_at tree y ≡ Some class → (mark : Mark) × In mark marks × IsMarkOn tree number y mark
+
+-- a mark is for the row of number i: it is on a list of the class, and its event is no earlier
+abbrev pub IsMarkedFor : State → Table Pair 6 → List Mark → ℕ → TableRow Pair 6 → Type 0
+IsMarkedFor s t marks i row = (mark : Mark) × In mark marks × IsListedUnder t mark.class i × IsAsLate s mark.from row
+
+-- the row of number i was one at these nodes, and is gone
+pub record IsLost (gone : List ℕ) (old new : Decisions) (i : ℕ) : Type 0 where
+  pub row : TableRow Pair 6
+  pub was : (table_of old).row i ≡ Some row
+  pub at_gone : IsOn gone row.value.trigger
+  pub lost : (table_of new).row i ≡ None
+  pub rests : dates_in new.waiting i ≡ None
+
+-- the row of number i stays, and waits as before or for a mark
+pub record IsLeft (s : State) (marks : List Mark) (old new : Decisions) (i : ℕ) : Type 0 where
+  pub row : (table_of new).row i ≡ (table_of old).row i
+  pub waits : (dates_in new.waiting i ≡ dates_in old.waiting i)
+      ⊎ ((r : TableRow Pair 6) × ((table_of old).row i ≡ Some r) × IsMarkedFor s (table_of old) marks i r × WaitsAt s (dates_in new.waiting) i r)
+
+-- all rows at these nodes are gone; the others stay, and wait where a token among the nodes marks them
+pub record LosesRows (tree : Kept) (gone : List ℕ) (old new : Decisions) : Type 0 where
+  pub rules : new.rules ≡ old.rules
+  pub listed : AreListed (table_of old)
+  pub marks : List Mark
+  pub are : AreMarksOn tree gone (place_in new.classes) marks
+  pub each : (i : ℕ) → IsLeft (present tree) marks old new i ⊎ IsLost gone old new i
+  pub none : (i : ℕ) (row : TableRow Pair 6) → (table_of new).row i ≡ Some row → IsOn gone row.value.trigger → ⊥
+  pub all : (i : ℕ) (row : TableRow Pair 6) → (table_of new).row i ≡ Some row → IsMarkedFor (present tree) (table_of old) marks i row
+      → WaitsAt (present tree) (dates_in new.waiting) i row
+
+-- ---- a node with all below it
+
+-- the numbers are those of node x and of all below it
+abbrev pub AreBelow : Kept → ℕ → List ℕ → Type 0
+AreBelow tree x numbers = (y : ℕ) → IsOn numbers y ↔ IsBelow (forest tree) x y
+
+-- node x is gone with all below it, which are these, and their rows; and rows wait that read what went
+pub record TakesAway (x : ℕ) (numbers : List ℕ) (old new : BeliefNet) : Type 0 where
+  pub below : AreBelow old.tree x numbers
+  pub tree : Withdraws old.tree new.tree x
+  pub rows : LosesRows old.tree numbers old.decisions new.decisions

@@ -1,0 +1,102 @@
+// What follows of a decision: an effect enters, or is withdrawn.
+ghost use Rattle.std.specs.Prelude.{◌≡◌, ◌≤◌, true, false, OnOk, IfErr};
+ghost use Rattle.tmm_model.specs.Answers.{most_size};
+ghost use Rattle.belief_theory.specs.KeptLists.{last_horizon};
+ghost use Rattle.spots.specs.Forest.{IsLive};
+ghost use Rattle.occ_tree.specs.Places.{forest};
+ghost use Rattle.undo_rows.specs.Changes.{present as table};
+ghost use Rattle.joined.specs.Rows.{fires_by};
+ghost use Rattle.belief_net.specs.Decided.{AreOfSome};
+ghost use Rattle.belief_net.specs.Entering.{KeepLast};
+ghost use Rattle.belief_net.specs.Marks.{HaveEvents};
+ghost use Rattle.belief_net.specs.Turns.{IsAfterSome, IsTurned, IsStopped, HasEffect, Withdraws};
+
+use crate::deciding::Due;
+use crate::entering::bring_about;
+use crate::leaving::take_away;
+use crate::state::BeliefNet;
+use crate::told::Told;
+use decision_rows::Decision;
+use premise_list::Standing;
+use std::alloc::Global;
+use tmm_model::{Name, NoMemory, Stop};
+
+// Lets follow what was decided: where the rule fires that did not, its effect enters; where it fires no more,
+// that is withdrawn with all below it. Both are told. What entered may not count more than 100,000.
+pub(crate) fn follow(
+    alloc: Global,
+    standing: &Standing,
+    beliefs: &mut BeliefNet,
+    told: &mut Told,
+    due: &Due,
+) -> Result<(), Stop>
+    requires after { IsAfterSome standing.now.present beliefs.old due.now }
+    requires horizon { standing.now.present.horizon ≤ last_horizon }
+    requires small { told.old.weight ≤ most_size }
+    ensures ok { OnOk result (IsTurned standing.now.present beliefs.old beliefs.new due.now told.old told.new) }
+    ensures stops { IfErr result (IsStopped standing.now.present beliefs.old due.now told.old) }
+    ensures last { KeepLast beliefs.old beliefs.new }
+{
+    match (fires(&due.before), fires(&due.found)) {
+        (false, true) => bring_effect(alloc, standing, beliefs, told, due),
+        (true, false) => match withdraw_effect(alloc, beliefs, told, due.trigger, &due.rule) {
+            Ok(()) => Ok(()),
+            Err(_) => Err(Stop::NoMemory),
+        },
+        (false, false) => Ok(()),
+        (true, true) => Ok(()),
+    }
+}
+
+// Whether it was decided that the rule fires.
+fn fires(decision: &Decision) -> bool
+    ensures { result ≡ fires_by decision.now }
+{
+    matches!(decision, Decision::Fires { .. })
+}
+
+// Adds the effect of a rule that fires and did not, and tells that it entered.
+fn bring_effect(
+    alloc: Global,
+    standing: &Standing,
+    beliefs: &mut BeliefNet,
+    told: &mut Told,
+    due: &Due,
+) -> Result<(), Stop>
+    requires after { IsAfterSome standing.now.present beliefs.old due.now }
+    requires fires { fires_by due.now.found ≡ true }
+    requires fired { fires_by due.now.before ≡ false }
+    requires horizon { standing.now.present.horizon ≤ last_horizon }
+    requires small { told.old.weight ≤ most_size }
+    ensures ok { OnOk result (IsTurned standing.now.present beliefs.old beliefs.new due.now told.old told.new) }
+    ensures stops { IfErr result (IsStopped standing.now.present beliefs.old due.now told.old) }
+    ensures last { KeepLast beliefs.old beliefs.new }
+{
+    match bring_about(alloc, standing, beliefs, due.trigger, due.rule) {
+        Ok(effect) => told.enter(alloc, standing, &beliefs.tree, effect),
+        Err(_) => Err(Stop::NoMemory),
+    }
+}
+
+// Withdraws the effect of a rule at the event of a node with all below it, and tells that they left.
+fn withdraw_effect(
+    alloc: Global,
+    beliefs: &mut BeliefNet,
+    told: &mut Told,
+    trigger: u32,
+    rule: &Name,
+) -> Result<(), NoMemory>
+    requires trigger { IsLive (forest beliefs.old.tree) trigger }
+    requires there { HasEffect beliefs.old.tree trigger rule.now }
+    requires events { HaveEvents beliefs.old.tree (table beliefs.old.decisions.rows) }
+    requires under { AreOfSome beliefs.old.decisions }
+    ensures ok { OnOk result (Withdraws trigger rule.now beliefs.old beliefs.new told.old told.new) }
+    ensures last { KeepLast beliefs.old beliefs.new }
+{
+    let Some(effect) = beliefs.tree.find_effect(trigger, rule) else {
+        unreachable!()
+    };
+    let numbers = beliefs.tree.numbers_below(alloc, effect)?;
+    told.leave(alloc, &beliefs.tree, numbers.as_slice())?;
+    take_away(alloc, beliefs, effect, numbers.as_slice())
+}

@@ -1,0 +1,48 @@
+// Turns until no row waits.
+ghost use Rattle.std.specs.Prelude.{◌≤◌, OnOk, IfErr};
+ghost use Rattle.belief_theory.specs.KeptLists.{last_horizon};
+ghost use Rattle.belief_net.specs.Entering.{KeepLast};
+ghost use Rattle.belief_net.specs.Settling.{IfBegun, IsCountedIn, IsSettled, IsAtRest, StopsFor};
+ghost use Rattle.belief_net.specs.Telling.{IsWeighed};
+ghost use Rattle.belief_net.specs.Turning.{IsFit, IsRevising};
+
+use crate::state::BeliefNet;
+use crate::told::Told;
+use crate::turn::turn;
+use dist_net::DistNet;
+use premise_list::Standing;
+use projection::Counter;
+use std::alloc::Global;
+use tmm_model::Stop;
+
+// Decides rows again, the earliest first, until none waits, and tells what enters and leaves. Then nodes and
+// rows are those of the list after the edit; each decision that the edit changed is counted, and none that it
+// does not touch. It refuses only a list whose map is larger than 100,000; that 2^64 - 1 turns do not end it
+// counts as want of memory.
+pub(crate) fn settle(
+    alloc: Global,
+    standing: &Standing,
+    net: &DistNet,
+    beliefs: &mut BeliefNet,
+    told: &mut Told,
+    count: &mut Counter,
+) -> Result<(), Stop>
+    requires fit { IsFit standing.now.present net.now.present beliefs.old }
+    requires revising { IsRevising standing.now.present net.now.present beliefs.old }
+    requires horizon { standing.now.present.horizon ≤ last_horizon }
+    requires weighed { IsWeighed standing.now.present told.old }
+    ensures rests { OnOk result (IsAtRest standing.now.present net.now.present beliefs.new told.new) }
+    ensures settled { OnOk result (IfBegun standing.now.present net.now.present beliefs.old told.old (IsSettled net.now.present beliefs.new told.new count.old count.new)) }
+    ensures stops { IfErr result (λ stop. IfBegun standing.now.present net.now.present beliefs.old told.old (StopsFor stop)) }
+    ensures counted { IfBegun standing.now.present net.now.present beliefs.old told.old (IsCountedIn count.old count.new) }
+    ensures last { KeepLast beliefs.old beliefs.new }
+{
+    // it tells the proof that no count is above the greatest
+    let _ = count.value();
+    for _ in 0..u64::MAX {
+        if !turn(alloc, standing, net, beliefs, told, count)? {
+            return Ok(());
+        }
+    }
+    Err(Stop::NoMemory)
+}

@@ -1,0 +1,171 @@
+// What is told of the occurrences that enter and leave.
+ghost use Rattle.std.specs.Prelude.{◌≡◌, ◌+◌, ◌≤◌, ℕ, [], ◌∷◌, ◌++◌, length, map, OnOk, IfErr};
+ghost use Rattle.std.specs.List.{filter_map};
+ghost use Rattle.tmm_model.specs.Answers.{most_size};
+ghost use Rattle.tmm_model.specs.Beliefs.{on_kind, rules_at, rules_on};
+ghost use Rattle.dist_net.specs.Net.{Net};
+ghost use Rattle.row_links.specs.Lists.{IsOn};
+ghost use Rattle.spots.specs.Forest.{IsLive, moment_at};
+ghost use Rattle.spots.specs.Seen.{IsSeen};
+ghost use Rattle.occ_tree.specs.Places.{forest};
+ghost use Rattle.projection.specs.Queues.{weight_at, IsTooLarge};
+ghost use Rattle.belief_net.specs.Telling.{seen_dated, seen_node, entered_in, left_in, TellsEntry, TellsExits};
+
+use occ_tree::Tree;
+use premise_list::Standing;
+use std::alloc::Global;
+use tmm_model::{MOST_SIZE, Name, NoMemory, Occ, Premise, Refusal, Seq, Shape, Stop};
+
+/// An occurrence that entered or left.
+#[derive(Drop)]
+pub struct DatedOcc {
+    /// Its earliest date then, in whole time units.
+    pub early: i64,
+    /// The occurrence.
+    pub occ: Occ,
+}
+
+/// The derived occurrences that entered and left so far, the first first.
+#[derive(Drop)]
+pub struct Told {
+    /// Those that entered.
+    pub entered: Seq<DatedOcc>,
+    /// Those that left.
+    pub left: Seq<DatedOcc>,
+    /// What those that entered count of the size of a map.
+    pub(crate) weight: u64,
+}
+
+impl Told {
+    // Nothing is told yet. It takes no memory.
+    pub(crate) fn make(alloc: Global) -> Told
+        ensures entered { entered_in result ≡ [] }
+        ensures left { left_in result ≡ [] }
+        ensures weight { result.weight ≡ 0 }
+    {
+        Told {
+            entered: Seq::make(alloc),
+            left: Seq::make(alloc),
+            weight: 0,
+        }
+    }
+
+    // Tells of the occurrence at a node that it entered. What entered may not count more than 100,000.
+    pub(crate) fn enter(
+        &mut self,
+        alloc: Global,
+        standing: &Standing,
+        tree: &Tree,
+        x: u32,
+    ) -> Result<(), Stop>
+        requires seen { (net : Net) × IsSeen standing.now.present net (forest tree.now) }
+        requires live { IsLive (forest tree.now) x }
+        requires small { self.old.weight ≤ most_size }
+        ensures ok { OnOk result (TellsEntry standing.now.present tree.now x self.old self.new) }
+        ensures stops { IfErr result (IsTooLarge (self.old.weight + weight_at standing.now.present (forest tree.now) x)) }
+    {
+        let weight = self.weight + weight_of(standing, tree, x);
+        if weight > MOST_SIZE {
+            return Err(Stop::Refused(Refusal::LimitSize));
+        }
+        match tell(alloc, tree, &mut self.entered, x) {
+            Ok(()) => {
+                self.weight = weight;
+                Ok(())
+            }
+            Err(_) => Err(Stop::NoMemory),
+        }
+    }
+
+    // Tells of the occurrences at some nodes that they leave.
+    pub(crate) fn leave(
+        &mut self,
+        alloc: Global,
+        tree: &Tree,
+        numbers: &[u32],
+    ) -> Result<(), NoMemory>
+        requires live { (y : ℕ) → IsOn numbers.now y → IsLive (forest tree.now) y }
+        ensures { OnOk result (TellsExits tree.now numbers.now self.old self.new) }
+    {
+        tell_all(alloc, tree, &mut self.left, numbers)
+    }
+}
+
+// Tells of the occurrences at some nodes.
+fn tell_all(
+    alloc: Global,
+    tree: &Tree,
+    moved: &mut Seq<DatedOcc>,
+    numbers: &[u32],
+) -> Result<(), NoMemory>
+    requires live { (y : ℕ) → IsOn numbers.now y → IsLive (forest tree.now) y }
+    ensures { OnOk result (map seen_dated moved.new.items ≡ map seen_dated moved.old.items ++ map (seen_node tree.now) numbers.now) }
+{
+    for y in numbers {
+        tell(alloc, tree, moved, *y)?;
+    }
+    Ok(())
+}
+
+// Tells of the occurrence at a node.
+fn tell(alloc: Global, tree: &Tree, moved: &mut Seq<DatedOcc>, x: u32) -> Result<(), NoMemory>
+    requires live { IsLive (forest tree.now) x }
+    ensures { OnOk result (map seen_dated moved.new.items ≡ map seen_dated moved.old.items ++ seen_node tree.now x ∷ []) }
+{
+    let occ = tree.occ_of(alloc, x)?;
+    let early = tree.early(x);
+    match moved.push(DatedOcc { early, occ }) {
+        Ok(()) => Ok(()),
+        Err(_) => Err(NoMemory),
+    }
+}
+
+// What the occurrence at a node counts of the size of a map: itself, its rules, and the rules on it.
+fn weight_of(standing: &Standing, tree: &Tree, x: u32) -> u64
+    requires seen { (net : Net) × IsSeen standing.now.present net (forest tree.now) }
+    requires live { IsLive (forest tree.now) x }
+    ensures value { result ≡ weight_at standing.now.present (forest tree.now) x }
+    ensures few { result ≤ 4294969296 }
+{
+    1 + u64::from(tree.row(x).rules) + count_at(standing, tree, x)
+}
+
+// How many standing rules are on the occurrence at a node.
+fn count_at(standing: &Standing, tree: &Tree, x: u32) -> u64
+    requires seen { (net : Net) × IsSeen standing.now.present net (forest tree.now) }
+    requires live { IsLive (forest tree.now) x }
+    ensures value { result ≡ length (rules_at standing.now.present (moment_at (forest tree.now) x)) }
+    ensures few { result ≤ 2000 }
+{
+    let row = tree.row(x);
+    match row.shape {
+        Shape::Event => count_on(standing, row.what),
+        _ => 0,
+    }
+}
+
+// How many standing rules are on a kind.
+fn count_on(standing: &Standing, kind: Name) -> u64
+    ensures value { result ≡ length (rules_on standing.now.present kind) }
+    ensures few { result ≤ 2000 }
+{
+    let mut count = 0;
+    for place in 0..standing.len() {
+        let Some(premise) = standing.at(place) else {
+            unreachable!()
+        };
+        count += count_one(premise, kind);
+    }
+    count
+}
+
+// One for a rule on a kind, and nothing for any other premise.
+fn count_one(premise: &Premise, kind: Name) -> u64
+    ensures value { result ≡ length (filter_map (on_kind kind) (premise.now ∷ [])) }
+    ensures few { result ≤ 1 }
+{
+    match premise {
+        Premise::Rule { trigger, .. } if *trigger == kind => 1,
+        _ => 0,
+    }
+}
