@@ -9,3 +9,10 @@ pub mod Turned
 pub mod Moved
 pub mod Brought
 pub mod Bringing
+pub mod Redated
+pub mod OfRules
+pub mod Sets
+pub mod Pairs
+pub mod Reached
+pub mod Touched
+pub mod MarkedRight

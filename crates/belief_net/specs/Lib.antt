@@ -6,3 +6,11 @@ pub mod Entering
 pub mod Turning
 pub mod Moving
 pub mod TurnLaws
+pub mod Dating
+pub mod ByEvent
+pub mod Horizons
+pub mod PointSets
+pub mod MovedPairs
+pub mod Reach
+pub mod Touching
+pub mod MarkLaws

@@ -2,12 +2,20 @@
 //! at an event, of which after an edit only those are made again that the edit touches.
 #![tactic(auto)]
 
+mod by_event;
+mod dates;
 mod deciding;
 mod entering;
+mod horizons;
+mod mark_laws;
 mod marking;
+mod moved_pairs;
 mod numbers;
+mod point_sets;
+mod reach;
 mod rows;
 mod state;
+mod touching;
 mod turn;
 mod turn_laws;
 mod undo;
