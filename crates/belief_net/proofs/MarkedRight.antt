@@ -1,11 +1,9 @@
 -- Rows that wait are those that the edit touches.
-use Rattle.std.proofs.Common.{◌≡◌, ◌≢◌, ◌∙◌, ℕ, Bool, true, false, not, List, [], ◌∷◌, ◌++◌, Option, Some, None, refl, sym, ap, subst, inl, inr, ◌⊎◌}
+use Rattle.std.proofs.Common.{◌≡◌, ◌≢◌, ◌∙◌, ℕ, Bool, true, false, not, List, [], ◌∷◌, ◌++◌, Option, Some, None, refl, sym, ap, subst, inl, inr}
 use Rattle.std.specs.Prelude.{◌+ℤ◌, ℤ, pos, int_le, slice_index_or, is_some}
 use Rattle.std.specs.Option.{option_map_or}
-use Rattle.std.specs.List.{Contains}
 use Rattle.std.specs.Cmp.Lexicographic.{bytes_decides}
 use Rattle.tmm_model.specs.declared.point.PointName.{PointName}
-use Rattle.tmm_model.specs.declared.point.PointName.TheVariants.{Start, Begin, End}
 use Rattle.tmm_model.specs.declared.premise.Edit.{Edit}
 use Rattle.tmm_model.specs.declared.premise.Edit.TheVariants.{Add, Erase, Horizon}
 use Rattle.tmm_model.specs.declared.premise.Premise.{Premise}
@@ -22,7 +20,6 @@ use Rattle.list_theory.proofs.KnownNames.{fresh}
 use Rattle.list_theory.proofs.WellNamed.{points_in-push, AllFollow-append}
 use Rattle.dist_net.specs.Net.{Net, Nets, IsInUse}
 use Rattle.list_net.specs.Fits.{IsNetOf}
-use Rattle.list_net.specs.Network.{PointsKeepNumbers}
 use Rattle.list_net.specs.Represents.{Names, IsNumberOf}
 use Rattle.spots.specs.Forest.{IsLive, moment_at}
 use Rattle.spots.specs.Spots.{net_far}
@@ -34,7 +31,7 @@ use Rattle.joined.specs.Gaps.{TellsMoves}
 use Rattle.joined.proofs.Gaps.{moved_points_touch}
 use Rattle.belief_net.specs.ByEvent.{differ, is_between}
 use Rattle.belief_net.specs.MarkLaws.{added_by, PointsWereThere, MovedRowsAreTouched, DueRowsChange}
-use Rattle.belief_net.specs.MovedPairs.{is_of_premise, is_kept, WereThere, is_moved}
+use Rattle.belief_net.specs.MovedPairs.{is_of_premise, is_kept, is_moved}
 use Rattle.belief_net.proofs.Pairs.{not_of_one, moved_parts, moved_by_far, bounds_differ, same_bound_is}
 
 -- ---- points of the premise that is added

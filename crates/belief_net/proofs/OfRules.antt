@@ -1,5 +1,5 @@
 -- Rows that are let wait by their events, one rule after the other.
-use Rattle.std.proofs.Common.{◌≡◌, ◌∙◌, ℕ, Bool, true, false, ◌+◌, ◌<◌, List, [], ◌∷◌, ◌++◌, Option, Some, refl, sym, ap, subst, inl, inr, arith, ◌⊎◌, ◌||◌, eqb, eqb-true}
+use Rattle.std.proofs.Common.{◌≡◌, ◌∙◌, ℕ, true, false, ◌+◌, ◌<◌, List, [], ◌∷◌, ◌++◌, Option, Some, sym, ap, subst, inl, inr, arith, ◌⊎◌, ◌||◌, eqb, eqb-true}
 use Rattle.std.specs.Prelude.{◌↔◌}
 use Rattle.std.proofs.lemmas.Bool.{cases_order, cases_Bool}
 use Rattle.std.specs.Option.{option_map_or}
@@ -22,7 +22,7 @@ use Rattle.belief_net.specs.declared.by_event.Events.{Events}
 use Rattle.belief_net.specs.declared.state.Decisions.{Decisions}
 use Rattle.belief_net.specs.ByEvent.{is_event_of, IsOfRuleAt}
 use Rattle.belief_net.specs.Decided.{table_of, AreUnder}
-use Rattle.belief_net.specs.Marks.{Marks, WaitsAt}
+use Rattle.belief_net.specs.Marks.{Marks}
 use Rattle.belief_net.specs.Waiting.{Dates}
 use Rattle.belief_net.proofs.Marked.{marks_none, marks_both}
 

@@ -1,5 +1,5 @@
 -- Points of spots that are put in, some after the others.
-use Rattle.std.proofs.Common.{◌≡◌, ◌≢◌, ◌∙◌, ℕ, ℤ, true, false, ◌+◌, ◌<◌, ◌≤◌, List, [], length, get_or, Option, Some, None, refl, sym, ap, subst, inl, inr, ◌⊎◌, arith}
+use Rattle.std.proofs.Common.{◌≡◌, ◌≢◌, ◌∙◌, ℕ, ℤ, false, ◌+◌, ◌<◌, ◌≤◌, List, [], length, get_or, Option, Some, None, refl, sym, ap, subst, inl, inr, ◌⊎◌, arith}
 use Rattle.std.proofs.lemmas.Bool.{cases_order}
 use Rattle.std.proofs.lemmas.List.{get_or_default, get_or_past}
 use Rattle.std.specs.Prelude.{MatchOption, IsSome}
@@ -28,12 +28,12 @@ use Rattle.dist_net.specs.Net.{Net}
 use Rattle.list_net.specs.Represents.{IsNumberOf}
 use Rattle.spots.specs.declared.spot.Spot.{Spot}
 use Rattle.spots.specs.declared.spot.Spot.TheVariants.{Declared, Node}
-use Rattle.spots.specs.Forest.{Forest, Member, member, IsLive}
+use Rattle.spots.specs.Forest.{Forest, Member, member}
 use Rattle.spots.specs.Seen.{IsSeen}
-use Rattle.spots.specs.Spots.{base_of, links_of, links_high, AreTokens, token_row}
+use Rattle.spots.specs.Spots.{base_of, links_of, links_high, AreTokens}
 use Rattle.spots.proofs.Rows.{IsRowOf, member_of_token}
 use Rattle.spots.proofs.Nodes.{live_at}
-use Rattle.joined.specs.Gaps.{reads_class, IsClassSpot, begin, an_end, IsReadSpot, start, read}
+use Rattle.joined.specs.Gaps.{IsClassSpot, begin, an_end, IsReadSpot, start, read}
 use Rattle.belief_net.specs.declared.reach.Reach.{Reach}
 use Rattle.belief_net.specs.PointSets.{is_in, PutsIn, AreThose}
 use Rattle.belief_net.specs.Reach.{IsBaseOf, IsBoundedBaseOf, Notes, HasPlaces, AreBelow256, IsSpotBelow256}

@@ -1,12 +1,12 @@
 -- Roots that get the dates of their points, one after the other.
-use Rattle.std.proofs.Common.{◌≡◌, ◌∙◌, ℕ, ℤ, List, [], ◌∷◌, Option, Some, None, refl, sym, ap, subst, inl, inr, ◌⊎◌}
+use Rattle.std.proofs.Common.{◌≡◌, ◌∙◌, ℕ, ℤ, List, [], ◌∷◌, Option, Some, None, refl, sym, ap, subst, inl, inr}
 use Rattle.std.specs.Prelude.{false, true}
 use Rattle.std.specs.List.{Contains}
-use Rattle.row_links.specs.Lists.{IsOn, AreOnce, first_or, row_after}
+use Rattle.row_links.specs.Lists.{IsOn, first_or, row_after}
 use Rattle.tmm_model.specs.Moments.{negated}
 use Rattle.dist_net.specs.Net.{Net, Nets, IsMovedAt, IsInUse}
 use Rattle.list_theory.proofs.Elements.{In-from_Contains}
-use Rattle.spots.specs.Forest.{Forest, Member, member, IsLive}
+use Rattle.spots.specs.Forest.{Member, member, IsLive}
 use Rattle.spots.specs.Seen.{HasList}
 use Rattle.spots.proofs.InUse.{begin_in_use, zero_in_use}
 use Rattle.occ_tree.specs.Dated.{IsDatedBut, DatesFollow, HaveRoots, point_early}

@@ -1,5 +1,5 @@
 -- Events at which a rule depends on points that moved.
-use Rattle.std.proofs.Common.{◌≡◌, ◌∙◌, ℕ, Bool, true, false, ◌&&◌, ◌||◌, ◌+◌, ◌<◌, ◌≤◌, List, [], length, Option, Some, None, refl, sym, ap, subst, inl, inr, ◌⊎◌, arith}
+use Rattle.std.proofs.Common.{◌≡◌, ◌∙◌, ℕ, Bool, true, false, ◌&&◌, ◌||◌, ◌<◌, ◌≤◌, List, length, Option, Some, None, refl, sym, ap, subst, inl, inr, ◌⊎◌, arith}
 use Rattle.std.proofs.lemmas.Bool.{cases_order}
 use Rattle.std.proofs.lemmas.List.{get_or_past}
 use Rattle.std.specs.Prelude.{◌↔◌, ℤ}
@@ -10,7 +10,7 @@ use Rattle.tmm_model.specs.Standing.{Standing}
 use Rattle.list_theory.proofs.Elements.{both}
 use Rattle.dist_net.specs.Net.{Nets}
 use Rattle.spots.specs.declared.spot.Spot.{Spot}
-use Rattle.spots.specs.declared.spot.Spot.TheVariants.{Declared, Node}
+use Rattle.spots.specs.declared.spot.Spot.TheVariants.{Node}
 use Rattle.spots.specs.Forest.{Forest, Member, member}
 use Rattle.spots.specs.Spots.{base_of, links_of, links_high}
 use Rattle.occ_tree.specs.Standing.{State, forest}

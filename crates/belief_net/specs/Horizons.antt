@@ -1,5 +1,5 @@
 -- Another horizon: which rows wait.
-use Rattle.std.specs.Prelude.{◌≡◌, ℕ, ◌<◌, ◌+ℤ◌, true}
+use Rattle.std.specs.Prelude.{◌≡◌, ℕ, ◌+ℤ◌, true}
 use Rattle.tmm_model.specs.Moments.{rule_of}
 use Rattle.tmm_model.specs.Standing.{Standing}
 use Rattle.undo_rows.specs.declared.row.Row.{Row as TableRow}

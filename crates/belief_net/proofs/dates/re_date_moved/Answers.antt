@@ -1,6 +1,5 @@
 use Rattle.std.proofs.Common.{◌≡◌, ◌∙◌, List, ℕ, [], ◌∷◌, length, None, Some, refl, sym, arith, eqb-true}
 use Rattle.row_links.specs.Lists.{first_or}
-use Rattle.dist_net.specs.Net.{IsMovedAt}
 use Rattle.spots.proofs.Nodes.{live_at}
 use Rattle.occ_tree.specs.Places.{forest}
 use Rattle.occ_tree.specs.Standing.{present, below}

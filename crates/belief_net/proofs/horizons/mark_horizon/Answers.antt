@@ -1,4 +1,4 @@
-use Rattle.std.proofs.Common.{◌≡◌, ◌∙◌, ℕ, List, true, sym, ap, subst, rules, w64, to_z, of_z}
+use Rattle.std.proofs.Common.{◌≡◌, ◌∙◌, true, sym, ap, subst, rules, w64, to_z, of_z}
 use Rattle.std.specs.Prelude.{◌+ℤ◌, FitsSigned}
 use Rattle.std.proofs.lemmas.Int.{to_z-of_z}
 use Rattle.tmm_model.specs.Moments.{rule_of}
@@ -8,8 +8,8 @@ use Rattle.decision_rows.specs.declared.row.Pair.{Pair}
 use Rattle.occ_tree.specs.Standing.{present, early}
 use Rattle.belief_net.specs.declared.by_event.Events.TheVariants.{DueBetween}
 use Rattle.belief_net.specs.declared.state.Decisions.{Decisions}
-use Rattle.belief_net.specs.ByEvent.{is_between, is_event_of, IsOfRuleAt}
-use Rattle.belief_net.specs.Decided.{table_of, rule_in}
+use Rattle.belief_net.specs.ByEvent.{is_between, IsOfRuleAt}
+use Rattle.belief_net.specs.Decided.{rule_in}
 use Rattle.belief_net.specs.Horizons.{IsDueBetween}
 use Rattle.belief_net.specs.Marks.{Marks}
 use Rattle.belief_net.specs.Numbers.{name_in}

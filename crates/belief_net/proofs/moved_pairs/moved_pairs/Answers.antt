@@ -1,4 +1,4 @@
-use Rattle.std.proofs.Common.{◌≡◌, ◌∙◌, List, ℕ, ◌<◌, length, get_or, ap, sym, subst, arith}
+use Rattle.std.proofs.Common.{◌≡◌, List, ℕ, ◌<◌, length, get_or, ap, sym, subst, arith}
 use Rattle.belief_net.specs.MovedPairs.{PutsPairs}
 use Rattle.belief_net.proofs.Pairs.{HasFirst, listed_none, listed_next, are_moved}
 use Rattle.belief_net.proofs.Sets.{none_of}

@@ -1,5 +1,5 @@
-use Rattle.std.proofs.Common.{◌≡◌, arith}
-use Rattle.belief_net.proofs.Pairs.{point_none, point_next, point_all}
+use Rattle.std.proofs.Common.{arith}
+use Rattle.belief_net.proofs.Pairs.{point_none, point_all}
 use Rattle.belief_net.proofs.moved_pairs.note_point.Goals as goal
 
 pub loop-q-init : goal.loop-q-init

@@ -1,4 +1,4 @@
-use Rattle.std.proofs.Common.{◌≡◌, ◌∙◌, ℕ, List, [], Bool, length, true, sym, ap, subst, arith, eqb-true}
+use Rattle.std.proofs.Common.{◌≡◌, ◌∙◌, ℕ, List, Bool, length, sym, ap, subst, arith, eqb-true}
 use Rattle.undo_rows.specs.declared.row.Row.{Row as TableRow}
 use Rattle.undo_rows.specs.Changes.{present as table}
 use Rattle.decision_rows.specs.declared.row.Pair.{Pair}
@@ -9,7 +9,7 @@ use Rattle.belief_net.specs.declared.state.Decisions.{Decisions}
 use Rattle.belief_net.specs.ByEvent.{IsOfRuleAt}
 use Rattle.belief_net.specs.Decided.{table_of, rule_in}
 use Rattle.belief_net.specs.Marks.{Marks}
-use Rattle.belief_net.specs.MovedPairs.{is_moved, AreMoved}
+use Rattle.belief_net.specs.MovedPairs.{is_moved}
 use Rattle.belief_net.specs.Numbers.{name_in}
 use Rattle.belief_net.specs.Touching.{IsTouchedAt, IsRowMoved}
 use Rattle.belief_net.specs.Waiting.{dates_in}

@@ -1,7 +1,6 @@
-use Rattle.std.proofs.Common.{◌≡◌, ◌<◌, true, false, sym, ◌∙◌, subst, arith}
-use Rattle.belief_net.specs.PointSets.{has_pair, PutsIn}
-use Rattle.belief_net.specs.Touching.{LeadsTo}
-use Rattle.belief_net.proofs.Sets.{puts_none, puts_next, puts_alike}
+use Rattle.std.proofs.Common.{◌≡◌, ◌<◌, true, arith}
+use Rattle.belief_net.specs.PointSets.{has_pair}
+use Rattle.belief_net.proofs.Sets.{puts_none, puts_next}
 use Rattle.belief_net.proofs.touching.put_before_one.Goals as goal
 
 pub loop-p-init : goal.loop-p-init

@@ -1,5 +1,4 @@
-use Rattle.std.proofs.Common.{◌≡◌, ◌<◌, true, subst, arith}
-use Rattle.belief_net.specs.PointSets.{PutsIn}
+use Rattle.std.proofs.Common.{◌≡◌, ◌<◌, true, arith}
 use Rattle.belief_net.proofs.Sets.{puts_none, puts_next}
 use Rattle.belief_net.proofs.touching.put_every.Goals as goal
 

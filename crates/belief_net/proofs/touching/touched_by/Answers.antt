@@ -1,4 +1,4 @@
-use Rattle.std.proofs.Common.{◌≡◌, ◌∙◌, List, Bool, true, length, sym, subst, arith}
+use Rattle.std.proofs.Common.{◌≡◌, List, Bool, true, subst, arith}
 use Rattle.std.specs.Prelude.{◌↔◌}
 use Rattle.belief_net.specs.PointSets.{PutsIn, Meet}
 use Rattle.belief_net.specs.Touching.{LeadsInto, IsLedToFrom}
