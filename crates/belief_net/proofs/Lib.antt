@@ -15,3 +15,10 @@ pub mod Telling
 pub mod Counted
 pub mod Settled
 pub mod After
+pub mod Redated
+pub mod OfRules
+pub mod Sets
+pub mod Pairs
+pub mod Reached
+pub mod Touched
+pub mod MarkedRight

@@ -10,3 +10,11 @@ pub mod TurnLaws
 pub mod Telling
 pub mod Turns
 pub mod Settling
+pub mod Dating
+pub mod ByEvent
+pub mod Horizons
+pub mod PointSets
+pub mod MovedPairs
+pub mod Reach
+pub mod Touching
+pub mod MarkLaws

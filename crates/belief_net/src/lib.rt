@@ -2,16 +2,24 @@
 //! at an event, of which after an edit only those are made again that the edit touches.
 #![tactic(auto)]
 
+mod by_event;
+mod dates;
 mod deciding;
 mod entering;
 mod following;
+mod horizons;
 mod leaving;
+mod mark_laws;
 mod marking;
+mod moved_pairs;
 mod numbers;
+mod point_sets;
+mod reach;
 mod rows;
 mod settling;
 mod state;
 mod told;
+mod touching;
 mod turn;
 mod turn_laws;
 mod undo;

@@ -34,6 +34,13 @@ impl Numbers {
         }
     }
 
+    // How many names there are: their numbers are those below it.
+    pub(crate) fn len(&self) -> u32
+        ensures { result ≡ length self.now }
+    {
+        self.names.len() as u32
+    }
+
     // The number of a name, none exactly where it has none.
     pub(crate) fn find(&self, name: &Name) -> Option<u32>
         ensures { result ≡ place_in self.now name.now }

@@ -13,3 +13,4 @@ pub mod Kept
 pub mod Listed
 pub mod Marking
 pub mod Touching
+pub mod Gaps

@@ -8,3 +8,4 @@ pub mod Kept
 pub mod Listed
 pub mod Marking
 pub mod Touching
+pub mod Gaps

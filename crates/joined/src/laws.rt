@@ -1,4 +1,5 @@
 // Laws of how nodes and rows stand for a revision.
+ghost use Rattle.joined.specs.Gaps.{MovedPointsTouch};
 ghost use Rattle.joined.specs.Kept.{EffectsAreThere, EffectsMayEnter, SameDecisionsKeep};
 ghost use Rattle.joined.specs.Listed.{PairsAreListed, ReadersAreListed};
 ghost use Rattle.joined.specs.Marking.{ClassMarksMark};
@@ -52,6 +53,12 @@ pub fn touched_are_marked()
 /// Where the horizon alone changes, those are to wait whose effects it brings into time or puts beyond.
 pub fn horizons_mark()
     ensures { HorizonsMark }
+{}
+
+/// The points on which a decision depends are as far apart as they were exactly where no declared points
+/// moved from which rules lead to them.
+pub fn moved_points_touch()
+    ensures { MovedPointsTouch }
 {}
 
 /// What fires now and did not may enter: there is room for it, and no node is of it yet.

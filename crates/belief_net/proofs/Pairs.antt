@@ -1,0 +1,221 @@
+-- Pairs of points that moved, put into a set.
+use Rattle.std.proofs.Common.{◌≡◌, ◌≢◌, ◌∙◌, ℕ, Bool, true, false, not, ◌&&◌, ◌==◌, ◌+◌, ◌*◌, ◌<◌, List, length, get_or, set, Option, Some, None, refl, sym, ap, subst, inl, inr, ◌⊎◌, arith}
+use Rattle.std.proofs.lemmas.Bool.{cases_order}
+use Rattle.std.proofs.lemmas.Bool.Decides.{eqb_tells, Decides-int_eq}
+use Rattle.std.proofs.lemmas.List.{get_or-set_same, get_or-set_other, get_or_default, length-set}
+use Rattle.std.specs.Prelude.{IsSome, slice_index_or}
+use Rattle.std.specs.Option.{option_map_or}
+use Rattle.std.specs.Cmp.{both_ways}
+use Rattle.std.specs.List.{Contains}
+use Rattle.tmm_model.specs.declared.bound.Bound.{Bound}
+use Rattle.tmm_model.specs.declared.bound.Bound.TheVariants.{Finite, Free}
+use Rattle.tmm_model.specs.declared.point.PointName.{PointName}
+use Rattle.belief_theory.specs.Touched.{same_bound}
+use Rattle.dist_net.specs.Net.{Nets, IsInUse, IsMovedAt}
+use Rattle.list_net.specs.Represents.{Names}
+use Rattle.spots.specs.Spots.{net_far}
+use Rattle.list_theory.proofs.Elements.{both}
+use Rattle.belief_net.specs.MovedPairs.{is_of_premise, is_kept, WereThere, is_moved, PutsPairs, AreMoved}
+use Rattle.belief_net.specs.PointSets.{is_in, has_pair}
+
+module _ (nets : Nets) (added : Option (List ℕ)) where
+  pub pairs_none : (P : ℕ → ℕ → Type 0) (s : List Bool) → ((a b : ℕ) → a < 256 → b < 256 → P a b → is_moved nets added a b ≡ true → ⊥) → PutsPairs nets added P s s
+  pairs_none P s none = record { own = λ a b la lb is. inl is; kept = λ a b la lb is. is; all = λ a b la lb p is. absurd (none a b la lb p is); places = refl }
+
+  pub pairs_both : (P Q R : ℕ → ℕ → Type 0) (old mid new : List Bool) → ((a b : ℕ) → a < 256 → b < 256 → R a b → P a b ⊎ Q a b)
+      → PutsPairs nets added P old mid → PutsPairs nets added Q mid new → PutsPairs nets added R old new
+  pairs_both P Q R old mid new apart first then_ = record {
+    own = λ a b la lb is. elim (then_.own a b la lb is) [ inl was ↦ first.own a b la lb was | inr moved ↦ inr moved ];
+    kept = λ a b la lb is. then_.kept a b la lb (first.kept a b la lb is);
+    all = λ a b la lb r moved. elim (apart a b la lb r) [ inl here ↦ then_.kept a b la lb (first.all a b la lb here moved) | inr here ↦ then_.all a b la lb here moved ];
+    places = then_.places ∙ first.places;
+  }
+
+  pub pairs_one : (s : List Bool) (a b : ℕ) → a < 256 → b < 256 → length s ≡ 65536 → is_moved nets added a b ≡ true → PutsPairs nets added (λ c d. (c ≡ a) × (d ≡ b)) s (set s (a * 256 + b) true)
+  pairs_one s a b la lb places moved = record { own = own; kept = kept; all = λ c d lc ld same _. here c d same; places = length-set s (a * 256 + b) true }
+    where
+      apart : (c d : ℕ) → d < 256 → (c * 256 + d) ≡ (a * 256 + b) → (c ≡ a) × (d ≡ b)
+      apart c d ld same = (omega (arith, same, ld, lb), omega (arith, same, ld, lb))
+
+      here : (c d : ℕ) → (c ≡ a) × (d ≡ b) → has_pair (set s (a * 256 + b) true) c d ≡ true
+      here c d same =
+          let one : (c * 256 + d) ≡ (a * 256 + b) = λ i. same.0 i * 256 + same.1 i in
+          subst (λ k. is_in (set s (a * 256 + b) true) k ≡ true) (sym one) (get_or-set_same s (a * 256 + b) true false (let less : (a * 256 + b) < length s = omega (arith, la, lb, places) in less))
+
+      own : (c d : ℕ) → c < 256 → d < 256 → has_pair (set s (a * 256 + b) true) c d ≡ true → (has_pair s c d ≡ true) ⊎ (is_moved nets added c d ≡ true)
+      own c d lc ld is = elim (eqb_tells (c * 256 + d) (a * 256 + b)) [
+        | inl same ↦ inr (let e = apart c d ld same.1 in subst (λ k. is_moved nets added k d ≡ true) (sym e.0) (subst (λ k. is_moved nets added a k ≡ true) (sym e.1) moved))
+        | inr other ↦ inl (sym (get_or-set_other s (a * 256 + b) (c * 256 + d) true false other.1) ∙ is)
+      ]
+
+      kept : (c d : ℕ) → c < 256 → d < 256 → has_pair s c d ≡ true → has_pair (set s (a * 256 + b) true) c d ≡ true
+      kept c d lc ld is = elim (eqb_tells (c * 256 + d) (a * 256 + b)) [
+        | inl same ↦ here c d (apart c d ld same.1)
+        | inr other ↦ get_or-set_other s (a * 256 + b) (c * 256 + d) true false other.1 ∙ is
+      ]
+
+  -- ---- what it says that a pair moved
+
+  pub record Moved (a b : ℕ) : Type 0 where
+    pub apart : (a == b) ≡ false
+    pub from : is_kept nets.present.names added a ≡ true
+    pub to : is_kept nets.present.names added b ≡ true
+    pub far : same_bound (net_far nets.committed a b) (net_far nets.present a b) ≡ false
+
+  not_true : (v : Bool) → not v ≡ true → v ≡ false
+  not_true false e = refl
+  not_true true e = cc
+
+  pub moved_parts : (a b : ℕ) → is_moved nets added a b ≡ true → Moved a b
+  moved_parts a b is =
+      let first = both (not (a == b)) (is_kept nets.present.names added a && (is_kept nets.present.names added b && not (same_bound (net_far nets.committed a b) (net_far nets.present a b)))) is in
+      let second = both (is_kept nets.present.names added a) (is_kept nets.present.names added b && not (same_bound (net_far nets.committed a b) (net_far nets.present a b))) first.1 in
+      let third = both (is_kept nets.present.names added b) (not (same_bound (net_far nets.committed a b) (net_far nets.present a b))) second.1 in
+      record { apart = not_true (a == b) first.0; from = second.0; to = third.0; far = not_true (same_bound (net_far nets.committed a b) (net_far nets.present a b)) third.1 }
+
+  -- ---- what is found for a pair
+
+  pub not_of_one : (a b : ℕ) → a ≡ b → is_moved nets added a b ≡ false
+  not_of_one a b same = elim (eqb_tells a b) [
+    | inl one ↦ ap (λ v. not v && (is_kept nets.present.names added a && (is_kept nets.present.names added b && not (same_bound (net_far nets.committed a b) (net_far nets.present a b))))) one.0
+    | inr other ↦ absurd (other.1 same)
+  ]
+
+  pub not_kept_from : (a b : ℕ) → is_kept nets.present.names added a ≡ false → is_moved nets added a b ≡ false
+  not_kept_from a b none =
+      ap (λ v. not (a == b) && (v && (is_kept nets.present.names added b && not (same_bound (net_far nets.committed a b) (net_far nets.present a b))))) none ∙ and_false (not (a == b))
+    where
+      and_false : (v : Bool) → (v && false) ≡ false
+      and_false true = refl
+      and_false false = refl
+
+  pub not_kept_to : (a b : ℕ) → is_kept nets.present.names added b ≡ false → is_moved nets added a b ≡ false
+  not_kept_to a b none =
+      ap (λ v. not (a == b) && (is_kept nets.present.names added a && (v && not (same_bound (net_far nets.committed a b) (net_far nets.present a b))))) none
+      ∙ by (not (a == b)) (is_kept nets.present.names added a)
+    where
+      by : (v w : Bool) → (v && (w && false)) ≡ false
+      by true true = refl
+      by true false = refl
+      by false w = refl
+
+  pub moved_by_far : (a b : ℕ) → a ≢ b → is_kept nets.present.names added a ≡ true → is_kept nets.present.names added b ≡ true
+      → is_moved nets added a b ≡ not (same_bound (net_far nets.committed a b) (net_far nets.present a b))
+  moved_by_far a b other from to = elim (eqb_tells a b) [
+    | inl one ↦ absurd (other one.1)
+    | inr two ↦ (λ i. not (two.0 i) && (from i && (to i && not (same_bound (net_far nets.committed a b) (net_far nets.present a b)))))
+  ]
+
+-- a number that is kept is that of a point
+kept_point : (added : Option (List ℕ)) (o : Option PointName) → option_map_or (λ point. not (is_of_premise added point)) o false ≡ true → IsSome o
+kept_point added (Some point) is = refl
+kept_point added None is = cc
+
+pub kept_in_use : (names : Names) (added : Option (List ℕ)) (n : ℕ) → is_kept names added n ≡ true → IsInUse names n
+kept_in_use names added n is = kept_point added (slice_index_or names n None) is
+
+-- ---- bounds
+
+pub same_bound_is : (x y : Bound) → same_bound x y ≡ true → x ≡ y
+same_bound_is (Finite x) (Finite y) e = ap Finite ((Decides-int_eq x y).0 e)
+same_bound_is (Finite x) Free e = cc
+same_bound_is Free (Finite y) e = cc
+same_bound_is Free Free e = refl
+
+bound_itself : (x : Bound) → same_bound x x ≡ true
+bound_itself (Finite x) = (Decides-int_eq x x).1 refl
+bound_itself Free = refl
+
+-- the test of two bounds is as the definition has it
+pub same_bound_by : (x y : Bound) (v : Bool) → ((v ≡ true) → x ≡ y) → (x ≡ y → v ≡ true) → v ≡ same_bound x y
+same_bound_by x y v to from = both_ways v (same_bound x y) (λ h. subst (λ z. same_bound x z ≡ true) (to h) (bound_itself x)) (λ h. from (same_bound_is x y h))
+
+pub bounds_differ : (x y : Bound) → same_bound x y ≡ false → x ≢ y
+bounds_differ x y differ same = let both : true ≡ false = sym (bound_itself x) ∙ ap (same_bound x) same ∙ differ in cc
+
+-- ---- the pairs of one point
+
+-- of a point and one of the numbers below n
+abbrev pub OfPoint : ℕ → ℕ → ℕ → ℕ → Type 0
+OfPoint p n a b = ((a ≡ p) × (b < n)) ⊎ ((b ≡ p) × (a < n))
+
+module _ (nets : Nets) (added : Option (List ℕ)) (p : ℕ) where
+  pub point_none : (s : List Bool) → PutsPairs nets added (OfPoint p 0) s s
+  point_none s = pairs_none nets added (OfPoint p 0) s (λ a b la lb of moved. elim of [ inl first ↦ (let no = first.1 in omega (arith, no)) | inr second ↦ (let no = second.1 in omega (arith, no)) ])
+
+  pub point_next : (n : ℕ) (old mid then_ new : List Bool) → PutsPairs nets added (OfPoint p n) old mid → PutsPairs nets added (λ c d. (c ≡ p) × (d ≡ n)) mid then_
+      → PutsPairs nets added (λ c d. (c ≡ n) × (d ≡ p)) then_ new → PutsPairs nets added (OfPoint p (n + 1)) old new
+  point_next n old mid then_ new first second third =
+      pairs_both nets added (λ c d. OfPoint p n c d ⊎ ((c ≡ p) × (d ≡ n))) (λ c d. (c ≡ n) × (d ≡ p)) (OfPoint p (n + 1)) old then_ new apart
+      (pairs_both nets added (OfPoint p n) (λ c d. (c ≡ p) × (d ≡ n)) (λ c d. OfPoint p n c d ⊎ ((c ≡ p) × (d ≡ n))) old mid then_ (λ c d lc ld h. h) first second) third
+    where
+      by_place : (k : ℕ) → k < n + 1 → (k < n) ⊎ (k ≡ n)
+      by_place k less = elim (cases_order k n) [
+        | inl same ↦ inr same
+        | inr other ↦ elim other [ inl below ↦ inl below | inr above ↦ absurd (omega (arith, less, above)) ]
+      ]
+
+      apart : (c d : ℕ) → c < 256 → d < 256 → OfPoint p (n + 1) c d → (OfPoint p n c d ⊎ ((c ≡ p) × (d ≡ n))) ⊎ ((c ≡ n) × (d ≡ p))
+      apart c d lc ld (inl (is, less)) = elim (by_place d less) [ inl below ↦ inl (inl (inl (is, below))) | inr same ↦ inl (inr (is, same)) ]
+      apart c d lc ld (inr (is, less)) = elim (by_place c less) [ inl below ↦ inl (inl (inr (is, below))) | inr same ↦ inr (same, is) ]
+
+  pub point_all : (n : ℕ) (old new : List Bool) → n ≡ 256 → PutsPairs nets added (OfPoint p n) old new → PutsPairs nets added (λ a b. (a ≡ p) ⊎ (b ≡ p)) old new
+  point_all n old new whole puts = record {
+    own = puts.own;
+    kept = puts.kept;
+    all = λ a b la lb h moved. puts.all a b la lb (elim h [ inl is ↦ inl (is, omega (arith, lb, whole)) | inr is ↦ inr (is, omega (arith, la, whole)) ]) moved;
+    places = puts.places;
+  }
+
+-- ---- the listed points, one after the other
+
+-- some of the first of the listed points is one of the pair
+abbrev pub HasFirst : List ℕ → ℕ → ℕ → ℕ → Type 0
+HasFirst listed n a b = (k : ℕ) × (k < n) × ((get_or listed k 0 ≡ a) ⊎ (get_or listed k 0 ≡ b))
+
+module _ (nets : Nets) (added : Option (List ℕ)) (listed : List ℕ) where
+  pub listed_none : (s : List Bool) → PutsPairs nets added (HasFirst listed 0) s s
+  listed_none s = pairs_none nets added (HasFirst listed 0) s (λ a b la lb of moved. (let no = of.1 in omega (arith, no)))
+
+  pub listed_next : (n p : ℕ) (old mid new : List Bool) → p ≡ get_or listed n 0 → PutsPairs nets added (HasFirst listed n) old mid
+      → PutsPairs nets added (λ a b. (a ≡ p) ⊎ (b ≡ p)) mid new → PutsPairs nets added (HasFirst listed (n + 1)) old new
+  listed_next n p old mid new is = pairs_both nets added (HasFirst listed n) (λ a b. (a ≡ p) ⊎ (b ≡ p)) (HasFirst listed (n + 1)) old mid new
+      (λ a b la lb (k, less, at). elim (cases_order k n) [
+        | inl same ↦ inr (
+            let here : get_or listed k 0 ≡ p = ap (λ j. get_or listed j 0) same ∙ sym is in
+            elim at [ inl one ↦ inl (sym one ∙ here) | inr two ↦ inr (sym two ∙ here) ])
+        | inr other ↦ elim other [ inl below ↦ inl (k, below, at) | inr above ↦ absurd (omega (arith, less, above)) ]
+      ])
+
+-- ---- at the end
+
+module _ (nets : Nets) (added : Option (List ℕ)) (were : WereThere nets added) (moved_at : IsMovedAt nets.moved nets.committed nets.present) where
+  -- each pair that moved has one of the points that are listed
+  pub one_listed : (a b : ℕ) → is_moved nets added a b ≡ true → Contains nets.moved a ⊎ Contains nets.moved b
+  one_listed a b is =
+      let m = moved_parts nets added a b is in
+      elim (moved_at a b (were a m.from) (were b m.to) (kept_in_use nets.present.names added a m.from) (kept_in_use nets.present.names added b m.to)) [
+        | inl same ↦ absurd (bounds_differ (net_far nets.committed a b) (net_far nets.present a b) m.far same)
+        | inr listed ↦ listed
+      ]
+
+  -- none did where none is listed
+  pub none_listed : length nets.moved ≡ 0 → (a b : ℕ) → is_moved nets added a b ≡ true → ⊥
+  none_listed none a b is = elim (one_listed a b is) [ inl (k, less, at) ↦ omega (arith, less, none) | inr (k, less, at) ↦ omega (arith, less, none) ]
+
+  at_place : (a k : ℕ) → k < length nets.moved → get_or nets.moved k a ≡ a → get_or nets.moved k 0 ≡ a
+  at_place a k less is = get_or_default nets.moved k 0 a less ∙ is
+
+  pub all_listed : (a b : ℕ) → is_moved nets added a b ≡ true → HasFirst nets.moved (length nets.moved) a b
+  all_listed a b is = elim (one_listed a b is) [
+    | inl (k, less, at) ↦ (k, less, inl (at_place a k less at))
+    | inr (k, less, at) ↦ (k, less, inr (at_place b k less at))
+  ]
+
+  pub are_moved : (pairs start : List Bool) → ((p : ℕ) → is_in start p ≡ false) → length start ≡ 65536 → PutsPairs nets added (HasFirst nets.moved (length nets.moved)) start pairs → AreMoved nets added pairs
+  are_moved pairs start none places puts = record {
+    each = λ a b la lb. both_ways (has_pair pairs a b) (is_moved nets added a b)
+        (λ is. elim (puts.own a b la lb is) [ inl was ↦ absurd (let both : true ≡ false = sym was ∙ none (a * 256 + b) in cc) | inr moved ↦ moved ])
+        (λ is. puts.all a b la lb (all_listed a b is) is);
+    places = puts.places ∙ places;
+  }

@@ -1,0 +1,233 @@
+-- Points of spots that are put in, some after the others.
+use Rattle.std.proofs.Common.{◌≡◌, ◌≢◌, ◌∙◌, ℕ, ℤ, false, ◌+◌, ◌<◌, ◌≤◌, List, [], length, get_or, Option, Some, None, refl, sym, ap, subst, inl, inr, ◌⊎◌, arith}
+use Rattle.std.proofs.lemmas.Bool.{cases_order}
+use Rattle.std.proofs.lemmas.List.{get_or_default, get_or_past}
+use Rattle.std.specs.Prelude.{MatchOption, IsSome}
+use Rattle.std.proofs.lemmas.List.Elements.{All-nil}
+use Rattle.std.specs.Option.{option_map}
+use Rattle.std.specs.List.{All, Contains}
+use Rattle.std.specs.Cmp.Lexicographic.{bytes_decides}
+use Rattle.tmm_model.specs.declared.bound.Bound.{Bound}
+use Rattle.tmm_model.specs.declared.bound.Bound.TheVariants.{Finite}
+use Rattle.tmm_model.specs.declared.point.PointName.{PointName}
+use Rattle.tmm_model.specs.declared.point.PointName.TheVariants.{Begin, End}
+use Rattle.tmm_model.specs.declared.token.Shape.{Shape}
+use Rattle.tmm_model.specs.declared.token.Shape.TheVariants.{Span}
+use Rattle.tmm_model.specs.declared.token.TokenRow.{TokenRow}
+use Rattle.tmm_model.specs.declared.premise.Premise.{Premise}
+use Rattle.tmm_model.specs.declared.premise.Premise.TheVariants.{Class, Kind, Point, Event, Token, Span as APremiseSpan, Dist, Rule, Protect}
+use Rattle.tmm_model.specs.Beliefs.{class_of}
+use Rattle.tmm_model.specs.Moments.{as_rule, rule_of}
+use Rattle.tmm_model.specs.Points.{same_name}
+use Rattle.tmm_model.specs.Sorts.{class_in}
+use Rattle.tmm_model.specs.Standing.{Standing, premise_in}
+use Rattle.list_theory.specs.WellNamed.{IsSound}
+use Rattle.supports.proofs.Rules.{facts_known}
+use Rattle.list_theory.proofs.Elements.{In, Contains-from_In, In-from_Contains, list_any-In, In-list_any}
+use Rattle.dist_net.specs.Net.{Net}
+use Rattle.list_net.specs.Represents.{IsNumberOf}
+use Rattle.spots.specs.declared.spot.Spot.{Spot}
+use Rattle.spots.specs.declared.spot.Spot.TheVariants.{Declared, Node}
+use Rattle.spots.specs.Forest.{Forest, Member, member}
+use Rattle.spots.specs.Seen.{IsSeen}
+use Rattle.spots.specs.Spots.{base_of, links_of, links_high, AreTokens}
+use Rattle.spots.proofs.Rows.{IsRowOf, member_of_token}
+use Rattle.spots.proofs.Nodes.{live_at}
+use Rattle.joined.specs.Gaps.{IsClassSpot, begin, an_end, IsReadSpot, start, read}
+use Rattle.belief_net.specs.declared.reach.Reach.{Reach}
+use Rattle.belief_net.specs.PointSets.{is_in, PutsIn, AreThose}
+use Rattle.belief_net.specs.Reach.{IsBaseOf, IsBoundedBaseOf, Notes, HasPlaces, AreBelow256, IsSpotBelow256}
+use Rattle.belief_net.proofs.Sets.{puts_none, puts_both, puts_alike, puts_into_none}
+
+-- numbers of points are below 256 where so many have a place
+pub numbers_below : (s : Standing) (net : Net) (f : Forest) → IsSeen s net f → length net.names ≡ 256 → AreBelow256 f
+numbers_below s net f seen places = record { begin = λ x m at. in_place m.begin (Begin m.root) (seen.members x m at).begin; «end» = λ x m e at ends. by m.shape m.root m.end (seen.members x m at).end e ends }
+  where
+    in_place : (n : ℕ) (p : PointName) → IsNumberOf net.names n p → n < 256
+    in_place n p is = elim (cases_order n 256) [
+      | inl same ↦ absurd (beyond (omega (arith, same, places)))
+      | inr other ↦ elim other [ inl below ↦ below | inr above ↦ absurd (beyond (omega (arith, above, places))) ]
+    ]
+      where
+        beyond : length net.names ≤ n → ⊥
+        beyond past = let both : Some p ≡ None = sym is ∙ get_or_past net.names n None past in cc
+
+    by : (shape : Shape) (root : List ℕ) (o : Option ℕ) → MatchOption o (shape ≢ Span) (λ e. (shape ≡ Span) × IsNumberOf net.names e (End root)) → (e : ℕ) → o ≡ Some e → e < 256
+    by shape root None h e is = cc
+    by shape root (Some k) h e is = let same : k ≡ e = cc in subst (λ z. z < 256) same (in_place k (End root) h.1)
+
+-- each antecedent of a rule has a class
+pub facts_have_classes : (s : Standing) → IsSound s → (r : List ℕ) → All (λ fact. IsSome (class_in s.premises fact)) (rule_of s r).given
+facts_have_classes s sound r = by (premise_in s.premises r) refl
+  where
+    by : (o : Option Premise) → premise_in s.premises r ≡ o → All (λ fact. IsSome (class_in s.premises fact)) (as_rule o).given
+    by (Some (Rule name trigger lo hi effect given)) is = subst (λ o. All (λ fact. IsSome (class_in s.premises fact)) (as_rule o).given) is (facts_known s sound r (Rule name trigger lo hi effect given, is, tt))
+    by (Some (Class name facts)) is = All-nil (λ fact. IsSome (class_in s.premises fact))
+    by (Some (Kind name)) is = All-nil (λ fact. IsSome (class_in s.premises fact))
+    by (Some (Point name)) is = All-nil (λ fact. IsSome (class_in s.premises fact))
+    by (Some (Event name kind)) is = All-nil (λ fact. IsSome (class_in s.premises fact))
+    by (Some (Token name fact)) is = All-nil (λ fact. IsSome (class_in s.premises fact))
+    by (Some (APremiseSpan name fact)) is = All-nil (λ fact. IsSome (class_in s.premises fact))
+    by (Some (Dist name from to lo hi)) is = All-nil (λ fact. IsSome (class_in s.premises fact))
+    by (Some (Protect name fact from to)) is = All-nil (λ fact. IsSome (class_in s.premises fact))
+    by None is = All-nil (λ fact. IsSome (class_in s.premises fact))
+
+module _ (f : Forest) where
+  pub notes_none : (S : Spot → Type 0) (r : Reach) → ((s : Spot) → S s → ⊥) → Notes f S r r
+  notes_none S r none = record {
+    all = puts_none (IsBaseOf f S) r.all.items (λ p (s, at, is). none s at);
+    bounded = puts_none (IsBoundedBaseOf f S) r.bounded.items (λ p (s, at, is, most, in_time). none s at);
+  }
+
+  pub notes_alike : (S T : Spot → Type 0) (old new : Reach) → ((s : Spot) → S s → T s) → ((s : Spot) → T s → S s) → Notes f S old new → Notes f T old new
+  notes_alike S T old new to from notes = record {
+    all = puts_alike (IsBaseOf f S) (IsBaseOf f T) old.all.items new.all.items (λ p (s, at, is). (s, to s at, is)) (λ p (s, at, is). (s, from s at, is)) notes.all;
+    bounded = puts_alike (IsBoundedBaseOf f S) (IsBoundedBaseOf f T) old.bounded.items new.bounded.items
+        (λ p (s, at, is, most, in_time). (s, to s at, is, most, in_time)) (λ p (s, at, is, most, in_time). (s, from s at, is, most, in_time)) notes.bounded;
+  }
+
+  pub notes_both : (S T R : Spot → Type 0) (old mid new : Reach) → ((s : Spot) → R s → S s ⊎ T s) → ((s : Spot) → S s → R s) → ((s : Spot) → T s → R s)
+      → Notes f S old mid → Notes f T mid new → Notes f R old new
+  notes_both S T R old mid new apart from_s from_t first then_ = record {
+    all = puts_both (IsBaseOf f S) (IsBaseOf f T) (IsBaseOf f R) old.all.items mid.all.items new.all.items
+        (λ p (s, at, is). elim (apart s at) [ inl here ↦ inl (s, here, is) | inr here ↦ inr (s, here, is) ])
+        (λ p (s, at, is). (s, from_s s at, is)) (λ p (s, at, is). (s, from_t s at, is)) first.all then_.all;
+    bounded = puts_both (IsBoundedBaseOf f S) (IsBoundedBaseOf f T) (IsBoundedBaseOf f R) old.bounded.items mid.bounded.items new.bounded.items
+        (λ p (s, at, is, most, in_time). elim (apart s at) [ inl here ↦ inl (s, here, is, most, in_time) | inr here ↦ inr (s, here, is, most, in_time) ])
+        (λ p (s, at, is, most, in_time). (s, from_s s at, is, most, in_time)) (λ p (s, at, is, most, in_time). (s, from_t s at, is, most, in_time)) first.bounded then_.bounded;
+  }
+
+  pub notes_places : (S : Spot → Type 0) (old new : Reach) → Notes f S old new → HasPlaces old → HasPlaces new
+  notes_places S old new notes has = record { all = notes.all.places ∙ has.all; bounded = notes.bounded.places ∙ has.bounded }
+
+  -- a spot by its point, and the time that rules take from there
+  pub notes_spot : (spot : Spot) (point : ℕ) (most : Bound) (old new : Reach) → base_of f spot ≡ point → links_high (links_of f spot) ≡ most
+      → PutsIn (λ p. p ≡ point) old.all.items new.all.items → PutsIn (λ p. (p ≡ point) × (x : ℤ) × (most ≡ Finite x)) old.bounded.items new.bounded.items
+      → Notes f (λ p. p ≡ spot) old new
+  notes_spot spot point most old new base high all bounded = record {
+    all = puts_alike (λ p. p ≡ point) (IsBaseOf f (λ p. p ≡ spot)) old.all.items new.all.items
+        (λ p is. (spot, refl, base ∙ sym is)) (λ p (s, is, at). sym at ∙ ap (base_of f) is ∙ base) all;
+    bounded = puts_alike (λ p. (p ≡ point) × (x : ℤ) × (most ≡ Finite x)) (IsBoundedBaseOf f (λ p. p ≡ spot)) old.bounded.items new.bounded.items
+        (λ p (is, x, in_time). (spot, refl, base ∙ sym is, x, high ∙ in_time))
+        (λ p (s, is, at, x, in_time). (sym at ∙ ap (base_of f) is ∙ base, x, sym high ∙ sym (ap (λ z. links_high (links_of f z)) is) ∙ in_time)) bounded;
+  }
+
+  -- ---- tokens of a class
+
+  pub spot_below : (below : AreBelow256 f) (row : TokenRow Spot) (x : ℕ) (m : Member) → IsRowOf f row x m → IsSpotBelow256 f row.spot
+  spot_below below row x m is = subst (IsSpotBelow256 f) (sym is.spot) (live_at f x m is.here)
+
+  pub end_below : (below : AreBelow256 f) (row : TokenRow Spot) (x : ℕ) (m : Member) → IsRowOf f row x m → (e : Spot) → row.end ≡ Some e → IsSpotBelow256 f e
+  end_below below row x m is e ends = by m.end refl (sym is.end ∙ ends)
+    where
+      by : (o : Option ℕ) → m.end ≡ o → option_map Declared o ≡ Some e → IsSpotBelow256 f e
+      by None at same = cc
+      by (Some k) at same = let one : Declared k ≡ e = cc in subst (IsSpotBelow256 f) one (below.end x m k is.here at)
+
+  -- the spots of the first n rows
+  abbrev pub OfFirstRows : List (TokenRow Spot) → ℕ → Spot → Type 0
+  OfFirstRows rows n p = (k : ℕ) × (row : TokenRow Spot) × (k < n) × (row ≡ get_or rows k row) × ((p ≡ row.spot) ⊎ (row.end ≡ Some p))
+
+  module _ (class : List ℕ) (rows : List (TokenRow Spot)) (are : AreTokens f class rows) where
+    pub row_at : (k : ℕ) (row : TokenRow Spot) → k < length rows → row ≡ get_or rows k row → (x : ℕ) × (m : Member) × IsRowOf f row x m
+    row_at k row less is = let (x, m, at, one) = member_of_token f class rows are row (k, less, sym is) in (x, m, at)
+
+    of_class : (p : Spot) → OfFirstRows rows (length rows) p → IsClassSpot f class p
+    of_class p (k, row, less, is, at) =
+        let (x, m, of, one) = member_of_token f class rows are row (k, less, sym is) in
+        let class_is : m.class ≡ Some class = of.class ∙ ap Some one in
+        elim at [
+          | inl here ↦ begin x m of.here class_is (here ∙ of.spot)
+          | inr ends ↦ by x m of.here class_is m.end refl (sym of.end ∙ ends)
+        ]
+      where
+        by : (x : ℕ) (m : Member) → member f x ≡ Some m → m.class ≡ Some class → (o : Option ℕ) → m.end ≡ o → option_map Declared o ≡ Some p → IsClassSpot f class p
+        by x m here class_is None at same = cc
+        by x m here class_is (Some e) at same = an_end x m e here class_is at cc
+
+    -- the row of a token
+    abbrev row_of : ℕ → Member → TokenRow Spot
+    row_of x m = record { spot = Node x; end = option_map Declared m.end; fact = m.what; class = class }
+
+    found : (x : ℕ) (m : Member) → member f x ≡ Some m → m.class ≡ Some class → Contains rows (row_of x m)
+    found x m here is = are.all x m (row_of x m) here (ap (λ (o : Option (List ℕ)). option_map (λ class. record { spot = Node x; end = option_map Declared m.end; fact = m.what; class = class }) o) is) refl
+
+    in_class : (p : Spot) → IsClassSpot f class p → OfFirstRows rows (length rows) p
+    in_class p (begin x m here is at) = let (k, less, same) = found x m here is in (k, row_of x m, less, sym same, inl at)
+    in_class p (an_end x m e here is ends at) =
+        let (k, less, same) = found x m here is in
+        (k, row_of x m, less, sym same, inr (ap (option_map Declared) ends ∙ ap Some (sym at)))
+
+    pub class_noted : (old new : Reach) → Notes f (OfFirstRows rows (length rows)) old new → Notes f (IsClassSpot f class) old new
+    class_noted old new = notes_alike (OfFirstRows rows (length rows)) (IsClassSpot f class) old new of_class in_class
+
+  pub rows_none : (rows : List (TokenRow Spot)) (r : Reach) → Notes f (OfFirstRows rows 0) r r
+  rows_none rows r = notes_none (OfFirstRows rows 0) r (λ s (k, row, less, is, at). (let no = less in omega (arith, no)))
+
+  pub rows_next : (rows : List (TokenRow Spot)) (n : ℕ) (row : TokenRow Spot) (old mid new : Reach) → row ≡ get_or rows n row → n < length rows → Notes f (OfFirstRows rows n) old mid
+      → Notes f (λ p. (p ≡ row.spot) ⊎ (row.end ≡ Some p)) mid new → Notes f (OfFirstRows rows (n + 1)) old new
+  rows_next rows n row old mid new is short = notes_both (OfFirstRows rows n) (λ p. (p ≡ row.spot) ⊎ (row.end ≡ Some p)) (OfFirstRows rows (n + 1)) old mid new
+      apart
+      (λ p (k, other, less, at, spot). (k, other, omega (arith, less), at, spot))
+      (λ p spot. (n, row, omega arith, is, spot))
+    where
+      apart : (p : Spot) → OfFirstRows rows (n + 1) p → OfFirstRows rows n p ⊎ ((p ≡ row.spot) ⊎ (row.end ≡ Some p))
+      apart p (k, other, less, at, spot) = elim (cases_order k n) [
+        | inl same ↦ inr (
+            let one : other ≡ row = at ∙ ap (λ j. get_or rows j other) same ∙ get_or_default rows n other row short ∙ sym is in
+            subst (λ z. (p ≡ z.spot) ⊎ (z.end ≡ Some p)) one spot)
+        | inr more ↦ elim more [ inl below ↦ inl (k, other, below, at, spot) | inr above ↦ absurd (omega (arith, less, above)) ]
+      ]
+
+  -- ---- facts
+
+  -- the spots of the classes of the first n facts
+  abbrev pub OfFirstFacts : Standing → List (List ℕ) → ℕ → Spot → Type 0
+  OfFirstFacts s facts n p = (k : ℕ) × (k < n) × (IsClassSpot f (class_of s (get_or facts k [])) p)
+
+  pub facts_none : (s : Standing) (facts : List (List ℕ)) (r : Reach) → Notes f (OfFirstFacts s facts 0) r r
+  facts_none s facts r = notes_none (OfFirstFacts s facts 0) r (λ p (k, less, at). (let no = less in omega (arith, no)))
+
+  pub facts_next : (s : Standing) (facts : List (List ℕ)) (n : ℕ) (class : List ℕ) (old mid new : Reach) → class ≡ class_of s (get_or facts n [])
+      → Notes f (OfFirstFacts s facts n) old mid → Notes f (IsClassSpot f class) mid new → Notes f (OfFirstFacts s facts (n + 1)) old new
+  facts_next s facts n class old mid new is = notes_both (OfFirstFacts s facts n) (IsClassSpot f class) (OfFirstFacts s facts (n + 1)) old mid new
+      (λ p (k, less, at). elim (cases_order k n) [
+        | inl same ↦ inr (subst (λ c. IsClassSpot f c p) (ap (λ j. class_of s (get_or facts j [])) same ∙ sym is) at)
+        | inr other ↦ elim other [ inl below ↦ inl (k, below, at) | inr above ↦ absurd (omega (arith, less, above)) ]
+      ])
+      (λ p (k, less, at). (k, omega (arith, less), at))
+      (λ p at. (n, omega arith, subst (λ c. IsClassSpot f c p) is at))
+
+  -- the spots of the classes of the facts
+  abbrev pub OfFacts : Standing → List (List ℕ) → Spot → Type 0
+  OfFacts s facts p = (fact : List ℕ) × In fact facts × IsClassSpot f (class_of s fact) p
+
+  pub facts_noted : (s : Standing) (facts : List (List ℕ)) (n : ℕ) (old new : Reach) → n ≡ length facts → Notes f (OfFirstFacts s facts n) old new → Notes f (OfFacts s facts) old new
+  facts_noted s facts n old new whole = notes_alike (OfFirstFacts s facts n) (OfFacts s facts) old new
+      (λ p (k, less, at). (
+        get_or facts k [],
+        In-from_Contains facts (get_or facts k []) (k, subst (λ z. k < z) whole less, get_or_default facts k (get_or facts k []) [] (subst (λ z. k < z) whole less)),
+        at,
+      ))
+      (λ p (fact, on, at).
+      (let (k, less, is) = Contains-from_In facts fact on in
+      (k, subst (λ z. k < z) (sym whole) less, subst (λ c. IsClassSpot f (class_of s c) p) (sym is ∙ get_or_default facts k fact [] less) at)))
+
+  -- ---- what a rule reads
+
+  pub rule_noted : (s : Standing) (r : List ℕ) (old mid new : Reach) → Notes f (λ p. p ≡ Declared 0) old mid → Notes f (OfFacts s (rule_of s r).given) mid new → Notes f (IsReadSpot s f r) old new
+  rule_noted s r old mid new = notes_both (λ p. p ≡ Declared 0) (OfFacts s (rule_of s r).given) (IsReadSpot s f r) old mid new
+      apart (λ p is. start is) (λ p (fact, on, at). read (class_of s fact) (In-list_any (λ g. same_name (class_of s g) (class_of s fact)) (rule_of s r).given fact on ((bytes_decides (class_of s fact) (class_of s fact)).1 refl)) at)
+    where
+      apart : (p : Spot) → IsReadSpot s f r p → (p ≡ Declared 0) ⊎ OfFacts s (rule_of s r).given p
+      apart p (start is) = inl is
+      apart p (read class reads at) =
+          let (fact, on, same) = list_any-In (λ g. same_name (class_of s g) class) (rule_of s r).given reads in
+          inr (fact, on, subst (λ c. IsClassSpot f c p) (sym ((bytes_decides (class_of s fact) class).0 same)) at)
+
+  pub rule_reached : (S : Spot → Type 0) (old new : Reach) → ((p : ℕ) → is_in old.all.items p ≡ false) → ((p : ℕ) → is_in old.bounded.items p ≡ false) → HasPlaces old → Notes f S old new
+      → AreThose (IsBaseOf f S) new.all.items × AreThose (IsBoundedBaseOf f S) new.bounded.items
+  rule_reached S old new none none_bounded has notes = (
+    puts_into_none (IsBaseOf f S) old.all.items new.all.items none has.all notes.all,
+    puts_into_none (IsBoundedBaseOf f S) old.bounded.items new.bounded.items none_bounded has.bounded notes.bounded,
+  )

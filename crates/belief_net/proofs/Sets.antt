@@ -1,0 +1,82 @@
+-- Sets of points into which numbers are put.
+use Rattle.std.proofs.Common.{◌≡◌, ◌∙◌, ℕ, Bool, true, false, ◌+◌, ◌<◌, ◌≤◌, List, length, set, replicate, refl, sym, ap, subst, inl, inr, ◌⊎◌, arith}
+use Rattle.std.proofs.lemmas.Bool.{cases_order}
+use Rattle.std.proofs.lemmas.Bool.Decides.{eqb_tells}
+use Rattle.std.proofs.lemmas.List.{get_or-set_same, get_or-set_other, get_or-replicate, get_or_past, length-set, length-replicate}
+use Rattle.belief_net.specs.PointSets.{is_in, PutsIn, AreThose}
+
+pub puts_none : (P : ℕ → Type 0) (s : List Bool) → ((p : ℕ) → P p → ⊥) → PutsIn P s s
+puts_none P s none = record { own = λ p is. inl is; kept = λ p is. is; all = λ p is. absurd (none p is); places = refl }
+
+pub puts_alike : (P Q : ℕ → Type 0) (old new : List Bool) → ((p : ℕ) → P p → Q p) → ((p : ℕ) → Q p → P p) → PutsIn P old new → PutsIn Q old new
+puts_alike P Q old new to from puts = record {
+  own = λ p is. elim (puts.own p is) [ inl was ↦ inl was | inr new ↦ inr (to p new) ];
+  kept = puts.kept;
+  all = λ p q. puts.all p (from p q);
+  places = puts.places;
+}
+
+pub puts_both : (P Q R : ℕ → Type 0) (old mid new : List Bool) → ((p : ℕ) → R p → P p ⊎ Q p) → ((p : ℕ) → P p → R p) → ((p : ℕ) → Q p → R p)
+    → PutsIn P old mid → PutsIn Q mid new → PutsIn R old new
+puts_both P Q R old mid new apart from_p from_q first then_ = record {
+  own = λ p is. elim (then_.own p is) [
+    | inl was ↦ elim (first.own p was) [ inl before ↦ inl before | inr here ↦ inr (from_p p here) ]
+    | inr here ↦ inr (from_q p here)
+  ];
+  kept = λ p is. then_.kept p (first.kept p is);
+  all = λ p r. elim (apart p r) [ inl here ↦ then_.kept p (first.all p here) | inr here ↦ then_.all p here ];
+  places = then_.places ∙ first.places;
+}
+
+pub puts_one : (s : List Bool) (q : ℕ) → q < length s → PutsIn (λ p. p ≡ q) s (set s q true)
+puts_one s q less = record { own = own; kept = kept; all = all; places = length-set s q true }
+  where
+    own : (p : ℕ) → is_in (set s q true) p ≡ true → (is_in s p ≡ true) ⊎ (p ≡ q)
+    own p is = elim (eqb_tells p q) [ inl same ↦ inr same.1 | inr other ↦ inl (sym (get_or-set_other s q p true false other.1) ∙ is) ]
+
+    all : (p : ℕ) → p ≡ q → is_in (set s q true) p ≡ true
+    all p same = subst (λ k. is_in (set s q true) k ≡ true) (sym same) (get_or-set_same s q true false less)
+
+    kept : (p : ℕ) → is_in s p ≡ true → is_in (set s q true) p ≡ true
+    kept p is = elim (eqb_tells p q) [ inl same ↦ all p same.1 | inr other ↦ get_or-set_other s q p true false other.1 ∙ is ]
+
+-- one number after the other
+pub puts_next : (F : ℕ → Type 0) (n : ℕ) (old mid new : List Bool) → PutsIn (λ k. (k < n) × F k) old mid → PutsIn (λ k. (k ≡ n) × F n) mid new → PutsIn (λ k. (k < n + 1) × F k) old new
+puts_next F n old mid new = puts_both (λ k. (k < n) × F k) (λ k. (k ≡ n) × F n) (λ k. (k < n + 1) × F k) old mid new
+    (λ k (less, f). elim (cases_order k n) [
+      | inl same ↦ inr (same, subst F same f)
+      | inr other ↦ elim other [ inl below ↦ inl (below, f) | inr above ↦ absurd (omega (arith, less, above)) ]
+    ])
+    (λ k (less, f). (omega (arith, less), f))
+    (λ k (same, f). (omega (arith, same), subst F (sym same) f))
+
+-- what is put in for one number after the other
+pub puts_more : (G : ℕ → ℕ → Type 0) (n : ℕ) (old mid new : List Bool) → PutsIn (λ p. (q : ℕ) × (q < n) × (G q p)) old mid → PutsIn (G n) mid new
+    → PutsIn (λ p. (q : ℕ) × (q < n + 1) × (G q p)) old new
+puts_more G n old mid new = puts_both (λ p. (q : ℕ) × (q < n) × (G q p)) (G n) (λ p. (q : ℕ) × (q < n + 1) × (G q p)) old mid new
+    (λ p (q, less, g). elim (cases_order q n) [
+      | inl same ↦ inr (subst (λ k. G k p) same g)
+      | inr other ↦ elim other [ inl below ↦ inl (q, below, g) | inr above ↦ absurd (omega (arith, less, above)) ]
+    ])
+    (λ p (q, less, g). (q, omega (arith, less), g))
+    (λ p g. (n, omega arith, g))
+
+-- into a set of none
+pub puts_into_none : (P : ℕ → Type 0) (old new : List Bool) → ((p : ℕ) → is_in old p ≡ false) → length old ≡ 256 → PutsIn P old new → AreThose P new
+puts_into_none P old new none places puts = record {
+  own = λ p is. elim (puts.own p is) [ inl was ↦ absurd (let both : true ≡ false = sym was ∙ none p in cc) | inr here ↦ here ];
+  all = puts.all;
+  places = puts.places ∙ places;
+}
+
+pub none_in : (n p : ℕ) → is_in (replicate n false) p ≡ false
+none_in n p = elim (cases_order p n) [
+  | inl same ↦ beyond n p (omega (arith, same))
+  | inr other ↦ elim other [ inl below ↦ get_or-replicate n p false false below | inr above ↦ beyond n p (omega (arith, above)) ]
+]
+  where
+    beyond : (n p : ℕ) → n ≤ p → is_in (replicate n false) p ≡ false
+    beyond n p past = get_or_past (replicate n false) p false (subst (λ k. k ≤ p) (sym (length-replicate n false)) past)
+
+pub none_of : (s : List Bool) (n : ℕ) → s ≡ replicate n false → (p : ℕ) → is_in s p ≡ false
+none_of s n is p = ap (λ l. is_in l p) is ∙ none_in n p

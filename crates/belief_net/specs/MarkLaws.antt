@@ -1,0 +1,57 @@
+-- Laws of marks: rows that wait since points moved, or for another horizon, are those that the edit touches.
+use Rattle.std.specs.Prelude.{◌≡◌, ◌≢◌, ◌+ℤ◌, ℕ, pos, int_le, true, false, List, Option, Some, None}
+use Rattle.std.specs.List.{Contains}
+use Rattle.tmm_model.specs.declared.premise.Edit.{Edit}
+use Rattle.tmm_model.specs.declared.premise.Edit.TheVariants.{Add, Erase, Horizon}
+use Rattle.tmm_model.specs.Beliefs.{due}
+use Rattle.tmm_model.specs.Edits.{next_list}
+use Rattle.tmm_model.specs.Maps.{built}
+use Rattle.tmm_model.specs.Moments.{Moment, rule_of}
+use Rattle.tmm_model.specs.Standing.{Standing, points_in, name_of, far_in}
+use Rattle.dist_net.specs.Net.{Net, Nets}
+use Rattle.list_net.specs.Fits.{IsNetOf}
+use Rattle.list_net.specs.Network.{PointsKeepNumbers}
+use Rattle.spots.specs.Forest.{Forest, IsLive, moment_at}
+use Rattle.spots.specs.Seen.{IsSeen, Holds}
+use Rattle.occ_tree.specs.OfLists.{IsTreeOf}
+use Rattle.occ_tree.specs.Places.{forest}
+use Rattle.occ_tree.specs.Standing.{Kept, present, early}
+use Rattle.revisions.specs.Maps.{watches}
+use Rattle.joined.specs.Gaps.{SameGaps, MovesAt}
+use Rattle.belief_net.specs.ByEvent.{is_between}
+use Rattle.belief_net.specs.MovedPairs.{WereThere, is_moved}
+
+-- the name of the premise that the edit adds
+abbrev pub added_by : Edit → Option (List ℕ)
+added_by (Add premise) = Some (name_of premise)
+added_by (Erase name) = None
+added_by (Horizon n) = None
+
+-- **But for those of the premise that the edit adds, all points were there at the last commit.**
+abbrev pub PointsWereThere : Type 0
+PointsWereThere =
+    (old : Standing) (edit : Edit) (nets : Nets) → IsNetOf old nets.committed → IsNetOf (next_list old edit) nets.present
+    → PointsKeepNumbers (points_in (next_list old edit).premises) nets.committed.names nets.present.names
+    → WereThere nets (added_by edit)
+
+-- **Of a decision that was there, and of which no token that it reads entered, points moved exactly where the points on which it
+-- depends are not as far apart as they were.**
+abbrev pub MovedRowsAreTouched : Type 0
+MovedRowsAreTouched =
+    (old : Standing) (edit : Edit) (nets : Nets) (f : Forest) (b : List Moment) (r : List ℕ) (x : ℕ)
+    → IsNetOf old nets.committed → IsSeen (next_list old edit) nets.present f
+    → PointsKeepNumbers (points_in (next_list old edit).premises) nets.committed.names nets.present.names
+    → Holds b f → IsLive f x
+    → Contains (built old).believed (moment_at f x)
+    → ((y : Moment) → Contains b y → watches (next_list old edit) r y ≡ true → Contains (built old).believed y)
+    → (SameGaps old (next_list old edit) b (moment_at f x) r → MovesAt (is_moved nets (added_by edit)) (next_list old edit) f r x → ⊥)
+    × ((MovesAt (is_moved nets (added_by edit)) (next_list old edit) f r x → ⊥) → SameGaps old (next_list old edit) b (moment_at f x) r)
+
+-- **An effect is due between two horizons exactly where one of them has it in time and the other has not.**
+abbrev pub DueRowsChange : Type 0
+DueRowsChange =
+    (s : Standing) (net : Net) (k : Kept) (x : ℕ) (r : List ℕ) (before after : ℕ) → IsTreeOf s net k → IsLive (forest k) x
+    → (is_between (early (present k) x +ℤ (rule_of s r).lo) before after ≡ false
+    → int_le (due s (far_in s.premises) (moment_at (forest k) x) r) (pos before) ≡ int_le (due s (far_in s.premises) (moment_at (forest k) x) r) (pos after))
+    × (is_between (early (present k) x +ℤ (rule_of s r).lo) before after ≡ true
+    → int_le (due s (far_in s.premises) (moment_at (forest k) x) r) (pos before) ≢ int_le (due s (far_in s.premises) (moment_at (forest k) x) r) (pos after))

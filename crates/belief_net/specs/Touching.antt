@@ -1,0 +1,47 @@
+-- Events at which a rule depends on points that moved.
+use Rattle.std.specs.Prelude.{◌≡◌, ◌⊎◌, ℕ, ◌<◌, Bool, true, List, Option}
+use Rattle.undo_rows.specs.declared.row.Row.{Row as TableRow}
+use Rattle.decision_rows.specs.declared.row.Pair.{Pair}
+use Rattle.tmm_model.specs.Standing.{Standing}
+use Rattle.dist_net.specs.Net.{Nets}
+use Rattle.spots.specs.Forest.{Forest}
+use Rattle.joined.specs.Gaps.{MovesAt}
+use Rattle.belief_net.specs.declared.by_event.Events.{Events}
+use Rattle.belief_net.specs.declared.by_event.Events.TheVariants.{DueBetween, BeginAt}
+use Rattle.belief_net.specs.declared.reach.Reach.{Reach}
+use Rattle.belief_net.specs.declared.state.Decisions.{Decisions}
+use Rattle.belief_net.specs.Decided.{rule_in}
+use Rattle.belief_net.specs.MovedPairs.{is_moved}
+use Rattle.belief_net.specs.PointSets.{is_in, has_pair, AreThose}
+
+-- a pair leads from p to q, which is in the set
+abbrev pub LeadsTo : List Bool → List Bool → ℕ → ℕ → Type 0
+LeadsTo pairs set q p = (p < 256) × (is_in set q ≡ true) × (has_pair pairs p q ≡ true)
+
+-- a pair leads from q, which is in the set, to p
+abbrev pub LeadsFrom : List Bool → List Bool → ℕ → ℕ → Type 0
+LeadsFrom pairs set q p = (p < 256) × (is_in set q ≡ true) × (has_pair pairs q p ≡ true)
+
+-- from p a pair leads to a point of the set
+abbrev pub LeadsInto : List Bool → List Bool → ℕ → Type 0
+LeadsInto pairs set p = (q : ℕ) × (q < 256) × (LeadsTo pairs set q p)
+
+-- to p a pair leads from a point of the set
+abbrev pub IsLedToFrom : List Bool → List Bool → ℕ → Type 0
+IsLedToFrom pairs set p = (q : ℕ) × (q < 256) × (LeadsFrom pairs set q p)
+
+-- there is a pair between points of the rule itself: then all events are touched
+abbrev pub TouchAll : List Bool → Reach → Type 0
+TouchAll pairs reach = (p : ℕ) × (is_in reach.all.items p ≡ true) × (LeadsInto pairs reach.bounded.items p)
+
+-- points moved on which the decision of the row depends
+abbrev pub IsRowMoved : Nets → Option (List ℕ) → Standing → Forest → Decisions → TableRow Pair 6 → Type 0
+IsRowMoved nets added s f d row = MovesAt (is_moved nets added) s f (rule_in d row) row.value.trigger
+
+-- these are the events at which a rule of these points depends on one of the pairs: all, where that is a pair of its own points;
+-- else those from whose points a pair leads to one of its own, and those to which rules lead in bounded time from points to which
+-- one leads from one of its own
+abbrev pub IsTouchedAt : List Bool → Reach → Events → Type 0
+IsTouchedAt pairs reach (DueBetween delay before after) = ⊥
+IsTouchedAt pairs reach (BeginAt all bounded) =
+    AreThose (λ p. (p < 256) × (TouchAll pairs reach ⊎ LeadsInto pairs reach.bounded.items p)) all.items × AreThose (IsLedToFrom pairs reach.all.items) bounded.items

@@ -1,0 +1,85 @@
+// Which distances are others now than at the last commit.
+ghost use Rattle.std.specs.Prelude.{◌≡◌, ◌⊎◌, ◌<◌, length, IfOk};
+ghost use Rattle.belief_net.specs.MovedPairs.{is_of_premise, is_kept, WereThere, is_moved, PutsPairs, AreMoved};
+
+use dist_net::{DistNet, POINTS};
+use std::alloc::Global;
+use tmm_model::{Name, NoMemory, PointName};
+
+// The pairs of points, by their numbers, of which the distance is another one now. Points of the premise
+// that is added were not there.
+pub(crate) fn moved_pairs(
+    alloc: Global,
+    net: &DistNet,
+    added: Option<Name>,
+) -> Result<Vec<bool>, NoMemory>
+    requires { WereThere net.now added }
+    ensures { IfOk result (λ pairs. AreMoved net.now added pairs.items) }
+{
+    let mut pairs = vec![in alloc; false; POINTS * POINTS]?;
+    let moved = net.moved();
+    for p in moved {
+        note_point(net, &added, *p, &mut pairs);
+    }
+    Ok(pairs)
+}
+
+// Puts those pairs of a point in that moved.
+fn note_point(net: &DistNet, added: &Option<Name>, p: u16, pairs: &mut Vec<bool>)
+    requires there { WereThere net.now added.now }
+    requires point { p < 256 }
+    requires places { length pairs.old.items ≡ 65536 }
+    ensures { PutsPairs net.now added.now (λ a b. (a ≡ p) ⊎ (b ≡ p)) pairs.old.items pairs.new.items }
+{
+    for q in 0..POINTS as u16 {
+        note_pair(net, added, p, q, pairs);
+        note_pair(net, added, q, p, pairs);
+    }
+}
+
+// Puts a pair in if it moved.
+fn note_pair(net: &DistNet, added: &Option<Name>, a: u16, b: u16, pairs: &mut Vec<bool>)
+    requires there { WereThere net.now added.now }
+    requires from { a < 256 }
+    requires to { b < 256 }
+    requires places { length pairs.old.items ≡ 65536 }
+    ensures { PutsPairs net.now added.now (λ c d. (c ≡ a) × (d ≡ b)) pairs.old.items pairs.new.items }
+{
+    if is_moved(net, added, a, b) {
+        pairs[a as usize * POINTS + b as usize] = true;
+    }
+}
+
+// Whether the distance from one point to another is another one now, where both were there.
+fn is_moved(net: &DistNet, added: &Option<Name>, a: u16, b: u16) -> bool
+    requires { WereThere net.now added.now }
+    ensures { result ≡ is_moved net.now added.now a b }
+{
+    if a == b || !is_kept(net, added, a) || !is_kept(net, added, b) {
+        return false;
+    }
+    !net.was(a, b).is(net.far(a, b))
+}
+
+// Whether a number is that of a point, and of none of the premise that is added.
+fn is_kept(net: &DistNet, added: &Option<Name>, p: u16) -> bool
+    ensures { result ≡ is_kept net.now.present.names added.now p }
+{
+    match net.name_of(p) {
+        Some(point) => !is_of_premise(added, &point),
+        None => false,
+    }
+}
+
+// Whether a point is one of the premise of this name, where there is one.
+fn is_of_premise(premise: &Option<Name>, point: &PointName) -> bool
+    ensures { result ≡ is_of_premise premise.now point.now }
+{
+    let Some(name) = premise else {
+        return false;
+    };
+    match point {
+        PointName::Start => false,
+        PointName::Begin(owner) | PointName::End(owner) => name == owner,
+    }
+}
