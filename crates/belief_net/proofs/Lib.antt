@@ -9,3 +9,15 @@ pub mod Turned
 pub mod Moved
 pub mod Brought
 pub mod Bringing
+pub mod Without
+pub mod Thinned
+pub mod Withdrawn
+pub mod Erased
+pub mod Cleared
+pub mod Fitting
+pub mod Noted
+pub mod Ruled
+pub mod Declared
+pub mod Gains
+pub mod Gained
+pub mod Begun

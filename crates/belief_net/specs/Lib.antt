@@ -6,3 +6,7 @@ pub mod Entering
 pub mod Turning
 pub mod Moving
 pub mod TurnLaws
+pub mod Erasing
+pub mod Clearing
+pub mod Adding
+pub mod Beginning

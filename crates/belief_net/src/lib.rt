@@ -2,12 +2,16 @@
 //! at an event, of which after an edit only those are made again that the edit touches.
 #![tactic(auto)]
 
+mod beginning_laws;
 mod deciding;
 mod entering;
+mod erasing;
 mod marking;
 mod numbers;
+mod readers;
 mod rows;
 mod state;
+mod told;
 mod turn;
 mod turn_laws;
 mod undo;
