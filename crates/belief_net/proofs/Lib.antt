@@ -21,3 +21,4 @@ pub mod Declared
 pub mod Gains
 pub mod Gained
 pub mod Begun
+pub mod Rooted

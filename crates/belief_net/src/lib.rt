@@ -9,6 +9,7 @@ mod erasing;
 mod marking;
 mod numbers;
 mod readers;
+mod rooting;
 mod rows;
 mod state;
 mod told;
