@@ -4,6 +4,7 @@ use Rattle.std.specs.Prelude.{ℤ, pos}
 use Rattle.tmm_model.specs.Standing.{Standing}
 use Rattle.dist_net.specs.Net.{Net}
 use Rattle.spots.specs.Forest.{IsLive}
+use Rattle.spots.proofs.Nodes.{live_at}
 use Rattle.undo_rows.specs.declared.row.Row.{Row as TableRow}
 use Rattle.decision_rows.specs.declared.row.Pair.{Pair}
 use Rattle.occ_tree.specs.OfLists.{IsTreeOf}
@@ -11,7 +12,7 @@ use Rattle.occ_tree.specs.Places.{forest}
 use Rattle.occ_tree.specs.Standing.{Kept, present, early}
 use Rattle.belief_net.specs.declared.state.BeliefNet.{BeliefNet}
 use Rattle.belief_net.specs.declared.state.Decisions.{Decisions}
-use Rattle.belief_net.specs.Adding.{MarksClasses}
+use Rattle.belief_net.specs.Adding.{AddsRule}
 use Rattle.belief_net.specs.Decided.{table_of, AreUnder, AddsRows, KeepsLast}
 use Rattle.belief_net.specs.Marks.{Marks}
 use Rattle.belief_net.specs.Turning.{IsFit}
@@ -68,5 +69,25 @@ module _ (s : Standing) (net : Net) (b : BeliefNet) (fit : IsFit s net b) where
           let both : Some (early (present b.tree) y) ≡ Some date = sym added.1.waits ∙ at in
           let one : early (present b.tree) y ≡ date = cc in
           (added.0, added.1.there, sym one ∙ ap (early (present b.tree)) (sym added.1.at_event)))
+    ];
+  }
+
+  pub fit_with_rule : (d : Decisions) (rule kind : List ℕ) → AddsRule b.tree rule kind b.decisions d → AreUnder s d → IsFit s net (record b { decisions = d })
+  fit_with_rule d rule kind adds under = record {
+    tree = fit.tree;
+    events = λ i row at. elim (adds.each i) [
+      | inl same ↦ fit.events i row (sym same.row ∙ at)
+      | inr (x, other, is, added, named) ↦ (
+          let both : Some other ≡ Some row = sym added.there ∙ at in
+          let one : other ≡ row = cc in
+          subst (IsLive (forest b.tree)) (sym added.at_event ∙ ap (λ (z : TableRow Pair 6). z.value.trigger) one) (live_at (forest b.tree) x is.node is.at))
+    ];
+    under = under;
+    dated = λ i date at. elim (adds.each i) [
+      | inl same ↦ (let (row, there, is) = fit.dated i date (sym same.waits ∙ at) in (row, same.row ∙ there, is))
+      | inr (x, other, event, added, named) ↦ (
+          let both : Some (early (present b.tree) x) ≡ Some date = sym added.waits ∙ at in
+          let one : early (present b.tree) x ≡ date = cc in
+          (other, added.there, sym one ∙ ap (early (present b.tree)) (sym added.at_event)))
     ];
   }

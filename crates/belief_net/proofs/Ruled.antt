@@ -1,8 +1,11 @@
 -- The rows of a rule, node after node.
-use Rattle.std.proofs.Common.{◌≡◌, ◌≢◌, ◌∙◌, ℕ, Bool, true, false, eqb, eqb-true, List, [], ◌∷◌, ◌++◌, Option, Some, None, IsSome, refl, sym, ap, subst, inl, inr, ◌⊎◌}
+use Rattle.std.proofs.Common.{◌≡◌, ◌≢◌, ◌∙◌, ℕ, zero, suc, ◌<◌, length, take, arith, Bool, true, false, eqb, eqb-true, List, [], ◌∷◌, ◌++◌, Option, Some, None, IsSome, refl, sym, ap, subst, inl, inr, ◌⊎◌}
 use Rattle.std.proofs.lemmas.Bool.{cases_Bool, both_ways}
-use Rattle.std.specs.Prelude.{◌||◌, ℤ}
-use Rattle.list_theory.proofs.Elements.{In}
+use Rattle.std.specs.Prelude.{◌||◌, ℤ, nat_eq, slice_index_or}
+use Rattle.std.specs.List.{IsDistinct}
+use Rattle.std.proofs.lemmas.Cmp.{nat_eq_equiv}
+use Rattle.std.proofs.lemmas.Map.Keys.{IsDistinct-head, IsDistinct-tail}
+use Rattle.list_theory.proofs.Elements.{In, each_in}
 use Rattle.row_links.specs.Lists.{IsOn, AreOnce}
 use Rattle.row_links.proofs.Lists.{IsOn-first, IsOn-append_left, IsOn-append_right, IsOn-append_cases}
 use Rattle.undo_rows.specs.declared.row.Row.{Row as TableRow}
@@ -21,8 +24,27 @@ use Rattle.belief_net.proofs.Named.{name_stays}
 none_some : {X : Type 0} (x : X) → None ≡ Some x → ⊥
 none_some x e = cc
 
-alone : (y t : ℕ) → IsOn (y ∷ []) t → t ≡ y
+pub alone : (y t : ℕ) → IsOn (y ∷ []) t → t ≡ y
 alone y t on = elim (cases_Bool (eqb t y)) [ inl same ↦ eqb-true t y same | inr other ↦ (let never : false ≡ true = sym (ap (λ b. b || false) other) ∙ on in cc) ]
+
+in_at : (ys : List ℕ) (k : ℕ) → k < length ys → In (slice_index_or ys k 0) ys
+in_at [] k within = absurd (omega (arith, within))
+in_at (y ∷ ys) zero within = inl refl
+in_at (y ∷ ys) (suc k) within = inr (in_at ys k (omega (arith, within)))
+
+-- what stands at a place of a list without repeats does not stand before
+pub not_before : (xs : List ℕ) → IsDistinct nat_eq xs → (i : ℕ) → i < length xs → IsOn (take i xs) (slice_index_or xs i 0) → ⊥
+not_before [] once i within on = omega (arith, within)
+not_before (x ∷ xs) once zero within on = (let never : false ≡ true = on in cc)
+not_before (x ∷ xs) once (suc i) within on =
+    let less : i < length xs = omega (arith, within) in
+    elim (IsOn-append_cases (x ∷ []) (take i xs) (slice_index_or xs i 0) on) [
+      | inl here ↦ (
+          let same : slice_index_or xs i 0 ≡ x = alone x (slice_index_or xs i 0) here in
+          let other = each_in (λ y. nat_eq x y ≡ false) xs (IsDistinct-head nat_eq x xs once) (slice_index_or xs i 0) (in_at xs i less) in
+          both_ways (nat_eq x (slice_index_or xs i 0)) other (ap (nat_eq x) same ∙ nat_eq_equiv.refl x))
+      | inr there ↦ not_before xs (IsDistinct-tail nat_eq x xs once) i less there
+    ]
 
 module _ (tree : Kept) (rule kind : List ℕ) where
   -- no row is new where all stay

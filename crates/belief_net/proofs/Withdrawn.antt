@@ -50,10 +50,10 @@ none_some x e = cc
 alone : (y t : ℕ) → IsOn (y ∷ []) t → t ≡ y
 alone y t on = elim (cases_Bool (eqb t y)) [ inl same ↦ eqb-true t y same | inr other ↦ (let never : false ≡ true = sym (ap (λ b. b || false) other) ∙ on in cc) ]
 
-in_on : (xs : List ℕ) (x : ℕ) → IsOn xs x → In x xs
+pub in_on : (xs : List ℕ) (x : ℕ) → IsOn xs x → In x xs
 in_on xs x on = let (y, at, same) = list_any-In (eqb x) xs on in subst (λ z. In z xs) (sym (eqb-true x y same)) at
 
-on_in : (xs : List ℕ) (x : ℕ) → In x xs → IsOn xs x
+pub on_in : (xs : List ℕ) (x : ℕ) → In x xs → IsOn xs x
 on_in [] x at = absurd at
 on_in (y ∷ xs) x (inl is) = subst (IsOn (y ∷ xs)) is (IsOn-first y xs)
 on_in (y ∷ xs) x (inr at) = IsOn-append_right (y ∷ []) xs x (on_in xs x at)

@@ -11,6 +11,7 @@ mod numbers;
 mod readers;
 mod rooting;
 mod rows;
+mod ruling;
 mod state;
 mod told;
 mod turn;
