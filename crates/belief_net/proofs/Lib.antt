@@ -22,3 +22,16 @@ pub mod Pairs
 pub mod Reached
 pub mod Touched
 pub mod MarkedRight
+pub mod Without
+pub mod Thinned
+pub mod Parted
+pub mod Erased
+pub mod Cleared
+pub mod Fitting
+pub mod Noted
+pub mod Ruled
+pub mod Declared
+pub mod Gains
+pub mod Gained
+pub mod Begun
+pub mod Rooted

@@ -1,7 +1,9 @@
 -- Names that keep their numbers.
-use Rattle.std.proofs.Common.{◌≡◌, ◌∙◌, ℕ, suc, ◌+◌, ◌<◌, Bool, true, false, cond, List, [], ◌∷◌, ◌++◌, length, map, take, Some, None, refl, sym, ap, subst, arith}
-use Rattle.std.specs.Prelude.{slice_index_or}
-use Rattle.std.specs.List.{position_from}
+use Rattle.std.proofs.Common.{◌≡◌, ◌∙◌, ℕ, zero, suc, ◌+◌, ◌<◌, Bool, true, false, cond, List, [], ◌∷◌, ◌++◌, length, map, take, Some, None, refl, sym, ap, subst, inl, inr, ◌⊎◌, arith}
+use Rattle.std.proofs.lemmas.Bool.{cases_Bool, both_ways}
+use Rattle.std.proofs.lemmas.Map.Keys.{IsDistinct-head, IsDistinct-tail}
+use Rattle.std.specs.Prelude.{slice_index_or, if◌then◌else◌}
+use Rattle.std.specs.List.{list_any, position_from, IsDistinct}
 use Rattle.std.specs.Cmp.Lexicographic.{bytes_decides}
 use Rattle.std.proofs.lemmas.Iterator.Adapters.{position_from-zero}
 use Rattle.std.proofs.lemmas.List.{append_assoc, get_or_append_left, map-append}
@@ -10,6 +12,7 @@ use Rattle.tmm_model.specs.Moments.{rule_of}
 use Rattle.tmm_model.specs.Points.{same_name}
 use Rattle.tmm_model.specs.Sorts.{class_in}
 use Rattle.tmm_model.specs.Standing.{Standing}
+use Rattle.list_theory.proofs.Elements.{In, In-cases, each_in}
 use Rattle.undo_rows.specs.declared.row.Row.{Row as TableRow}
 use Rattle.decision_rows.specs.declared.row.Pair.{Pair}
 use Rattle.occ_tree.specs.Classes.{place_in, HaveMore}
@@ -18,7 +21,7 @@ use Rattle.supports.proofs.Taken.{next_taken}
 use Rattle.joined.specs.Listed.{AreNumbered, IsUnderClasses}
 use Rattle.belief_net.specs.declared.state.Decisions.{Decisions}
 use Rattle.belief_net.specs.Decided.{KeepsLast}
-use Rattle.belief_net.specs.Numbers.{name_in}
+use Rattle.belief_net.specs.Numbers.{name_in, HaveOwnNumbers}
 
 pub more_more : (a b c : List (List ℕ)) → HaveMore a b → HaveMore b c → HaveMore a c
 more_more a b c (xs, is) (ys, then_) = (xs ++ ys, then_ ∙ ap (λ l. l ++ ys) is ∙ append_assoc a xs ys)
@@ -90,3 +93,44 @@ last_on a b c first then_ = record {
   rules = more_more a.rules b.rules c.rules first.rules then_.rules;
   classes = more_more a.classes b.classes c.classes first.classes then_.classes;
 }
+
+-- ---- names that stand once
+
+pub in_at : (names : List (List ℕ)) (k : ℕ) → k < length names → In (slice_index_or names k []) names
+in_at [] k within = absurd (omega (arith, within))
+in_at (n ∷ names) zero within = inl refl
+in_at (n ∷ names) (suc k) within = inr (in_at names k (omega (arith, within)))
+
+own_from : (i : ℕ) (names : List (List ℕ)) → IsDistinct same_name names → (k : ℕ) → k < length names → position_from (same_name (slice_index_or names k [])) i names ≡ Some (i + k)
+own_from i [] once k within = absurd (omega (arith, within))
+own_from i (n ∷ names) once zero within =
+    let here : i + 0 ≡ i = omega arith in
+    ap (λ t. cond t (Some i) (position_from (same_name n) (i + 1) names)) ((bytes_decides n n).1 refl) ∙ ap Some (sym here)
+own_from i (n ∷ names) once (suc k) within =
+    let less : k < length names = omega (arith, within) in
+    let other = each_in (λ m. same_name n m ≡ false) names (IsDistinct-head same_name n names once) (slice_index_or names k []) (in_at names k less) in
+    let later : i + 1 + k ≡ i + suc k = omega arith in
+    ap (λ t. cond t (Some i) (position_from (same_name (slice_index_or names k [])) (i + 1) names)) (turned n (slice_index_or names k []) other)
+    ∙ own_from (i + 1) names (IsDistinct-tail same_name n names once) k less ∙ ap Some later
+  where
+    turned : (a b : List ℕ) → same_name a b ≡ false → same_name b a ≡ false
+    turned a b other = elim (cases_Bool (same_name b a)) [
+      | inl same ↦ absurd (both_ways (same_name a b) other ((bytes_decides a b).1 (sym ((bytes_decides b a).0 same))))
+      | inr off ↦ off
+    ]
+
+pub own_numbers : (names : List (List ℕ)) → IsDistinct same_name names → HaveOwnNumbers names
+own_numbers names once = λ k within. position_from-zero (same_name (name_in names k)) names ∙ own_from 0 names once k within ∙ (let e : 0 + k ≡ k = omega arith in ap Some e)
+
+-- ---- a name more
+
+pub only_pushed : (names new : List (List ℕ)) (name : List ℕ) → new ≡ (if list_any (same_name name) names then names else (names ++ name ∷ []))
+    → (other : List ℕ) → In other new → In other names ⊎ (other ≡ name)
+only_pushed names new name is other at = by (list_any (same_name name) names) (subst (In other) is at)
+  where
+    by : (b : Bool) → In other (if b then names else (names ++ name ∷ [])) → In other names ⊎ (other ≡ name)
+    by true there = inl there
+    by false there = elim (In-cases names (name ∷ []) other there) [
+      | inl was ↦ inl was
+      | inr new_one ↦ elim new_one [ inl same ↦ inr (sym same) | inr none ↦ absurd none ]
+    ]

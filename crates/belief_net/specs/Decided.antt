@@ -1,5 +1,5 @@
 -- Rows of decisions by the names of rules and classes, and which of them wait.
-use Rattle.std.specs.Prelude.{◌≡◌, ◌⊎◌, ℕ, ℤ, ◌<◌, List, length, Some, None}
+use Rattle.std.specs.Prelude.{◌≡◌, ◌⊎◌, ℕ, ℤ, ◌<◌, ◌≤◌, List, length, Some, None}
 use Rattle.tmm_model.specs.Standing.{Standing}
 use Rattle.list_theory.proofs.Elements.{In}
 use Rattle.undo_rows.specs.declared.row.Row.{Row as TableRow}
@@ -69,3 +69,7 @@ pub record DropsRows (event : ℕ) (old new : Decisions) : Type 0 where
   pub classes : new.classes ≡ old.classes
   pub each : (i : ℕ) → IsSameRow old new i ⊎ IsDropped event old new i
   pub none : (i : ℕ) (row : TableRow Pair 6) → (table_of new).row i ≡ Some row → row.value.trigger ≡ event → ⊥
+
+-- no list of rows is longer
+abbrev pub AreNoLonger : Decisions → Decisions → Type 0
+AreNoLonger old new = (f h : ℕ) → length ((table_of new).list f h) ≤ length ((table_of old).list f h)

@@ -18,3 +18,7 @@ pub mod MovedPairs
 pub mod Reach
 pub mod Touching
 pub mod MarkLaws
+pub mod Erasing
+pub mod Clearing
+pub mod Adding
+pub mod Beginning

@@ -2,10 +2,12 @@
 //! at an event, of which after an edit only those are made again that the edit touches.
 #![tactic(auto)]
 
+mod beginning_laws;
 mod by_event;
 mod dates;
 mod deciding;
 mod entering;
+mod erasing;
 mod following;
 mod horizons;
 mod leaving;
@@ -15,7 +17,10 @@ mod moved_pairs;
 mod numbers;
 mod point_sets;
 mod reach;
+mod readers;
+mod rooting;
 mod rows;
+mod ruling;
 mod settling;
 mod state;
 mod told;

@@ -1,7 +1,8 @@
 // Names under small numbers.
-ghost use Rattle.std.specs.Prelude.{◌≡◌, ◌<◌, [], None, Some, IfOk, length};
+ghost use Rattle.std.specs.Prelude.{◌≡◌, ◌⊎◌, ℕ, ◌<◌, List, [], None, Some, IfOk, OnOk, length};
+ghost use Rattle.list_theory.proofs.Elements.{In};
 ghost use Rattle.occ_tree.specs.Classes.{place_in, HaveMore};
-ghost use Rattle.belief_net.specs.Numbers.{name_in};
+ghost use Rattle.belief_net.specs.Numbers.{name_in, HaveOwnNumbers};
 
 use indexmap::IndexSet;
 use std::alloc::Global;
@@ -43,8 +44,11 @@ impl Numbers {
 
     // The number of a name, none exactly where it has none.
     pub(crate) fn find(&self, name: &Name) -> Option<u32>
-        ensures { result ≡ place_in self.now name.now }
+        ensures place { result ≡ place_in self.now name.now }
+        ensures own { HaveOwnNumbers self.now }
     {
+        // it tells the proof that no name stands twice
+        let _ = self.names.len();
         Some(self.names.get_index_of(name)? as u32)
     }
 
@@ -64,6 +68,7 @@ impl Numbers {
     pub(crate) fn enter(&mut self, name: Name) -> Result<u32, NoMemory>
         ensures entered { IfOk result (λ k. place_in self.new name ≡ Some k) }
         ensures more { HaveMore self.old self.new }
+        ensures only { OnOk result ((other : List ℕ) → In other self.new → In other self.old ⊎ (other ≡ name)) }
     {
         match self.find(&name) {
             Some(k) => Ok(k),
@@ -85,6 +90,7 @@ impl Numbers {
         requires { place_in self.old name ≡ None }
         ensures entered { IfOk result (λ k. place_in self.new name ≡ Some k) }
         ensures more { HaveMore self.old self.new }
+        ensures only { OnOk result ((other : List ℕ) → In other self.new → In other self.old ⊎ (other ≡ name)) }
     {
         let k = self.names.len();
         if k >= u32::MAX as usize {

@@ -9,7 +9,7 @@ ghost use Rattle.list_theory.proofs.Elements.{In};
 ghost use Rattle.list_theory.specs.WellNamed.{IsSound};
 ghost use Rattle.occ_tree.specs.Classes.{place_in, HaveMore};
 ghost use Rattle.undo_rows.specs.Tables.{AreListed};
-ghost use Rattle.belief_net.specs.Decided.{table_of, AreUnder, AreOfSome, KeepsLast, AddsRows, DropsRows};
+ghost use Rattle.belief_net.specs.Decided.{table_of, AreUnder, AreOfSome, KeepsLast, AddsRows, DropsRows, AreNoLonger};
 
 use crate::numbers::Numbers;
 use crate::state::Decisions;
@@ -81,7 +81,7 @@ fn add_premise(
 }
 
 // Adds a row of the rule of this name and these antecedents.
-fn add_row(
+pub(crate) fn add_row(
     alloc: Global,
     standing: &Standing,
     decisions: &mut Decisions,
@@ -138,6 +138,7 @@ pub(crate) fn drop_rows(
     requires { AreOfSome decisions.old }
     ensures drops { OnOk result (DropsRows event decisions.old decisions.new) }
     ensures listed { OnOk result (AreListed (table_of decisions.new)) }
+    ensures fewer { OnOk result (AreNoLonger decisions.old decisions.new) }
     ensures last { KeepsLast decisions.old decisions.new }
 {
     while let Some(row) = decisions.rows.first(0, event) {

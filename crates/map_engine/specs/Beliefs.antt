@@ -1,9 +1,9 @@
 -- When what the map keeps are the beliefs of a list.
-use Rattle.std.specs.Prelude.{◌≡◌, ℕ, ◌≤◌, List, map, filter}
-use Rattle.std.specs.Option.{is_none}
+pub use Rattle.revisions.specs.Standing.{IsLeftOut}
+use Rattle.std.specs.Prelude.{◌≡◌, ◌≤◌, map}
 use Rattle.tmm_model.specs.Answers.{rows, reports, report_of, size, most_size}
 use Rattle.tmm_model.specs.Maps.{built}
-use Rattle.tmm_model.specs.Standing.{Standing, name_of, premise_in}
+use Rattle.tmm_model.specs.Standing.{Standing}
 use Rattle.dist_net.specs.Net.{Net}
 use Rattle.spots.specs.Seen.{Holds}
 use Rattle.occ_tree.specs.OfLists.{IsTreeOf}
@@ -20,7 +20,3 @@ pub record AreBeliefs (s : Standing) (net : Net) (b : Beliefs) : Type 0 where
   pub broken : map report_of b.reports.items ≡ reports (built s)
   pub counted : b.size ≡ size (built s)
   pub small : size (built s) ≤ most_size
-
--- the names are those of the premises of the first list that are not in the second, in their order
-abbrev pub IsLeftOut : Standing → Standing → List (List ℕ) → Type 0
-IsLeftOut old new names = names ≡ filter (λ name. is_none (premise_in new.premises name)) (map name_of old.premises)

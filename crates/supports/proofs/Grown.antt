@@ -138,7 +138,8 @@ same_begin : (a b : List ℕ) → Begin a ≡ Begin b → a ≡ b
 same_begin a b e = cc
 
 module _ (s : Standing) (sound : IsSound s) (front : List Premise) (p : Premise) (back : List Premise) (whole : front ++ p ∷ back ≡ s.premises) where
-  apart_from : (q : Premise) → In q front → name_of p ≡ name_of q → ⊥
+  -- no premise before has its name
+  pub apart_from : (q : Premise) → In q front → name_of p ≡ name_of q → ⊥
   apart_from q before same =
       let follow : AllFollow front (p ∷ back) = (AllFollow-append [] front (p ∷ back) (subst (AllFollow []) (sym whole) sound.well_named)).1 in
       fresh front (p ∷ back) follow p (inl refl) q before (subst (λ n. same_name (name_of p) n ≡ true) same (nat_list_eq_equiv.refl (name_of p)))

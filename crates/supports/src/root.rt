@@ -1,16 +1,17 @@
 // The declared events, tokens and spans.
-ghost use Rattle.std.specs.Prelude.{◌≡◌, IfOk, OnOk};
+ghost use Rattle.std.specs.Prelude.{◌≡◌, ℤ, None, MatchOption, IfOk, OnOk};
 ghost use Rattle.tmm_model.specs.Moments.{negated};
 ghost use Rattle.tmm_model.specs.Bounds.{IsWithin};
 ghost use Rattle.tmm_model.specs.Standing.{name_of};
 ghost use Rattle.list_theory.proofs.Elements.{In};
 ghost use Rattle.dist_net.specs.Net.{IsInUse};
-ghost use Rattle.spots.specs.Forest.{IsNoRoot};
+ghost use Rattle.spots.specs.Forest.{Member, IsNoRoot};
 ghost use Rattle.spots.specs.Seen.{HasList};
 ghost use Rattle.spots.specs.Spots.{net_far};
 ghost use Rattle.occ_tree.specs.Dated.{IsDatedBy};
+ghost use Rattle.occ_tree.specs.Edits.{Enters};
 ghost use Rattle.occ_tree.specs.Places.{forest};
-ghost use Rattle.occ_tree.specs.Standing.{present};
+ghost use Rattle.occ_tree.specs.Standing.{present, committed};
 ghost use Rattle.list_net.specs.Fits.{IsNetOf};
 ghost use Rattle.supports.specs.Growing.{AddsRoot};
 
@@ -22,7 +23,7 @@ use std::alloc::Global;
 use tmm_model::{Bound, Name, NoMemory, PointName, Premise, Shape};
 
 /// Adds what a standing premise declares to occur, and answers its number, none where it declares
-/// nothing. Without memory nothing is answered.
+/// nothing, where the tree stays. Without memory nothing is answered, and the last commit stays.
 pub fn add_root(
     alloc: Global,
     standing: &Standing,
@@ -34,6 +35,8 @@ pub fn add_root(
     requires stands { In premise.now standing.now.present.premises }
     requires new { IsNoRoot (forest tree.old) (name_of premise.now) }
     ensures adds { IfOk result (AddsRoot standing.now.present net.now.present.names premise.now (forest tree.old) (forest tree.new)) }
+    ensures enters { IfOk result (λ o. MatchOption o (tree.new ≡ tree.old) (λ x. (m : Member) × (date : ℤ) × Enters tree.old tree.new x m None date)) }
+    ensures last { committed tree.new ≡ committed tree.old }
     ensures dated { OnOk result (HasList net.now.present (forest tree.new) → IsDatedBy net.now.present (present tree.old) → IsDatedBy net.now.present (present tree.new)) }
 {
     match premise {

@@ -1,4 +1,4 @@
-use Rattle.std.proofs.Common.{◌∙◌, sym, ap, refl, subst, length, ◌<◌}
+use Rattle.std.proofs.Common.{◌∙◌, sym, ap, refl, subst, length, ◌<◌, ◌≤◌, arith}
 use Rattle.std.specs.Prelude.{is_some}
 use Rattle.undo_rows.specs.Changes.{present}
 use Rattle.undo_rows.specs.Tables.{Table}
@@ -7,6 +7,7 @@ use Rattle.decision_rows.specs.declared.row.Pair.{Pair}
 use Rattle.occ_tree.proofs.Walked.{first_is_on}
 use Rattle.belief_net.proofs.Dropped.{dropping_next, first_at, all_dropped}
 use Rattle.belief_net.proofs.Marked.{listed_row}
+use Rattle.belief_net.proofs.Without.{without_no_longer}
 use Rattle.belief_net.proofs.rows.drop_rows.Goals as goal
 
 pub remove-requires : goal.remove-requires
@@ -32,6 +33,10 @@ loop-row-preserved c =
     record {
       dropping = dropping_next c.args.event c.args.decisions.now mid _ c.in-Some.row r d at (first_at s c.args.event c.args.decisions.now mid under d c.first.ensures.listed c.in-Some.row r at first) c.in_ok-remove.ensures.ok c.remove-in-Some.ensures refl refl;
       last = record { rows = c.in_ok-remove.ensures.ok.committed_is ∙ c.loop-row.invariant.last.rows; rules = c.loop-row.invariant.last.rules; classes = c.loop-row.invariant.last.classes };
+      fewer = λ f h.
+          let less = c.loop-row.invariant.fewer f h in
+          let now = subst (λ (z : Table Pair 6). length (z.list f h) ≤ length (t.list f h)) (sym c.in_ok-remove.ensures.ok.present_is) (without_no_longer c.in-Some.row (t.list f h)) in
+          omega (arith, less, now);
     }
 
 pub returns-clause-drops : goal.returns-clause-drops

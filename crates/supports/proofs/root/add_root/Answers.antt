@@ -115,3 +115,12 @@ pub returns-in_ok-x-in-Span-clause-dated : goal.returns-in_ok-x-in-Span-clause-d
 returns-in_ok-x-in-Span-clause-dated c list dated =
     let fits : FitsSigned w64 c.early_at-early-in-Span.result = search rules in
     roots_keep_dates c.args.net.now.present (present c.args.tree.now) (present c.insert_root-in-Span.new.self) c.in_ok-x-in-Span.x _ _ refl (to_z-of_z w64 c.early_at-early-in-Span.result fits ∙ c.early_at-early-in-Span.ensures.early) c.in_ok-x-in-Span.ensures.ok.grows list dated
+
+pub returns-in_ok-x-in-Event-clause-enters : goal.returns-in_ok-x-in-Event-clause-enters
+returns-in_ok-x-in-Event-clause-enters c = (_, _, c.in_ok-x-in-Event.ensures.ok)
+
+pub returns-in_ok-x-in-Token-clause-enters : goal.returns-in_ok-x-in-Token-clause-enters
+returns-in_ok-x-in-Token-clause-enters c = (_, _, c.in_ok-x-in-Token.ensures.ok)
+
+pub returns-in_ok-x-in-Span-clause-enters : goal.returns-in_ok-x-in-Span-clause-enters
+returns-in_ok-x-in-Span-clause-enters c = (_, _, c.in_ok-x-in-Span.ensures.ok)

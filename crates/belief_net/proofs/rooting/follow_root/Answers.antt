@@ -1,0 +1,50 @@
+use Rattle.std.proofs.Common.{◌≡◌, ◌∙◌, sym, ap, subst, rules, w64, to_z, of_z}
+use Rattle.std.specs.Prelude.{FitsSigned}
+use Rattle.std.proofs.lemmas.Int.{to_z-of_z}
+use Rattle.tmm_model.specs.Beliefs.{rules_at, rules_on}
+use Rattle.list_theory.proofs.Distinct.{Distinct}
+use Rattle.spots.proofs.Nodes.{node_at}
+use Rattle.occ_tree.specs.Places.{forest}
+use Rattle.occ_tree.specs.Standing.{present, early}
+use Rattle.belief_net.specs.Adding.{a_token, an_event}
+use Rattle.belief_net.specs.Decided.{AddsRows}
+use Rattle.belief_net.proofs.Brought.{once_on_kind, rules_on_kind, class_is_at, marks_under}
+use Rattle.belief_net.proofs.rooting.follow_root.Goals as goal
+
+pub add_rows-requires-clause-once : goal.add_rows-requires-clause-once
+add_rows-requires-clause-once c =
+    let s = c.args.standing.now.present in
+    let (net, fit) = c.requires.fit in
+    let f = forest c.args.tree.now in
+    let (m, at) = node_at f c.args.x c.requires.node in
+    let row = c.row-row.ensures m at in
+    subst (λ w. Distinct (rules_on s w)) (sym row.what) (once_on_kind s net f fit.tree.seen c.args.x m at (sym row.class ∙ c.in-None.is))
+
+pub returns-in_ok-mark_token-in-Some-clause-follows : goal.returns-in_ok-mark_token-in-Some-clause-follows
+returns-in_ok-mark_token-in-Some-clause-follows c =
+    let f = forest c.args.tree.now in
+    let (m, at) = node_at f c.args.x c.requires.node in
+    let row = c.row-row.ensures m at in
+    a_token c.in-Some.class (class_is_at c.args.tree.now c.args.x m at ∙ sym row.class ∙ c.in-Some.is) c.in_ok-mark_token-in-Some.ensures.ok
+
+pub returns-in_ok-mark_token-in-Some-clause-under : goal.returns-in_ok-mark_token-in-Some-clause-under
+returns-in_ok-mark_token-in-Some-clause-under c =
+    let (net, fit) = c.requires.fit in
+    marks_under c.args.standing.now.present (present c.args.tree.now) c.in-Some.class _ c.args.decisions.now c.mark_token.new.decisions c.in_ok-mark_token-in-Some.ensures.ok c.in_ok-mark_token-in-Some.ensures.last fit.under
+
+pub returns-in_ok-add_rows-in-None-clause-follows : goal.returns-in_ok-add_rows-in-None-clause-follows
+returns-in_ok-add_rows-in-None-clause-follows c =
+    let s = c.args.standing.now.present in
+    let t = c.args.tree.now in
+    let y = c.args.x in
+    let old = c.args.decisions.now in
+    let new = c.add_rows.new.decisions in
+    let (net, fit) = c.requires.fit in
+    let (m, at) = node_at (forest t) y c.requires.node in
+    let row = c.row-row.ensures m at in
+    let none = sym row.class ∙ c.in-None.is in
+    let fits : FitsSigned w64 c.early.result = search rules in
+    let rules_are = ap (rules_on s) row.what ∙ sym (rules_on_kind s net (forest t) fit.tree.seen y m at none) in
+    an_event (class_is_at t y m at ∙ none)
+    (subst (λ l. AddsRows l y (early (present t) y) old new) rules_are
+    (subst (λ z. AddsRows (rules_on s c.row-row.result.what) y z old new) (to_z-of_z w64 c.early.result fits ∙ c.early.ensures.date) c.in_ok-add_rows-in-None.ensures.adds))

@@ -1,0 +1,47 @@
+use Rattle.std.proofs.Common.{◌≡◌, ◌<◌, false, true, [], ◌∷◌, ◌++◌, length, take, sym, subst, arith}
+use Rattle.std.proofs.lemmas.List.{take_more, take_all}
+use Rattle.belief_net.specs.Adding.{AddsRuleAt}
+use Rattle.belief_net.proofs.Named.{last_on, last_stays}
+use Rattle.belief_net.proofs.Ruled.{rule_nowhere, rule_next, not_before}
+use Rattle.belief_net.proofs.Parted.{on_at}
+use Rattle.belief_net.proofs.ruling.add_rule_along.Goals as goal
+
+pub loop-x-init : goal.loop-x-init
+loop-x-init c = record {
+  adds = rule_nowhere c.args.tree.now c.args.rule c.args.kind [] c.args.decisions.now (λ y on is. (let never : false ≡ true = on in cc));
+  under = c.requires.under;
+  last = last_stays c.args.decisions.now;
+}
+
+pub add_rule_at-requires-clause-under : goal.add_rule_at-requires-clause-under
+add_rule_at-requires-clause-under c = c.loop-x.invariant.under
+
+pub add_rule_at-requires-clause-node : goal.add_rule_at-requires-clause-node
+add_rule_at-requires-clause-node c = c.requires.live _ (on_at c.args.numbers.now c.loop-x.x-index (omega (arith, c.loop-x-test.true)))
+
+pub loop-x-preserved : goal.loop-x-preserved
+loop-x-preserved c =
+    let t = c.args.tree.now in
+    let numbers = c.args.numbers.now in
+    let i = c.loop-x.x-index in
+    let inv = c.loop-x.invariant in
+    let e = c.in_ok-add_rule_at.ensures in
+    let old = c.args.decisions.now in
+    let mid = c.loop-x.decisions in
+    let new = c.add_rule_at.new.decisions in
+    let within : i < length numbers = omega (arith, c.loop-x-test.true) in
+    record {
+      adds = subst (λ l. AddsRuleAt t c.args.rule c.args.kind l old new) (sym (take_more numbers i 0 within))
+          (rule_next t c.args.rule c.args.kind c.args.standing.now.present (take i numbers) _ old mid new (not_before numbers c.requires.once i within) inv.under e.last inv.adds e.adds);
+      under = e.under;
+      last = last_on old mid new inv.last e.last;
+    }
+
+pub returns-in_err-add_rule_at-clause-last : goal.returns-in_err-add_rule_at-clause-last
+returns-in_err-add_rule_at-clause-last c = last_on c.args.decisions.now c.loop-x.decisions c.add_rule_at.new.decisions c.loop-x.invariant.last c.add_rule_at.ensures.last
+
+pub returns-clause-adds : goal.returns-clause-adds
+returns-clause-adds c =
+    let numbers = c.args.numbers.now in
+    let all : take c.loop-x.x-index numbers ≡ numbers = take_all c.loop-x.x-index numbers (omega (arith, c.loop-x-test.false)) in
+    subst (λ l. AddsRuleAt c.args.tree.now c.args.rule c.args.kind l c.args.decisions.now c.loop-x.decisions) all c.loop-x.invariant.adds

@@ -1,0 +1,74 @@
+-- How the loop begins: nodes and rows of the list before are made those of the list after an edit.
+use Rattle.std.specs.Prelude.{◌≡◌, ◌⊎◌, ℕ, true, Option, Some, None}
+use Rattle.tmm_model.specs.declared.premise.Edit.{Edit}
+use Rattle.tmm_model.specs.declared.premise.Edit.TheVariants.{Add, Erase, Horizon}
+use Rattle.tmm_model.specs.declared.premise.Premise.{Premise}
+use Rattle.tmm_model.specs.Edits.{next_list}
+use Rattle.tmm_model.specs.Standing.{Standing}
+use Rattle.dist_net.specs.Net.{Net}
+use Rattle.spots.specs.Forest.{Forest, Member, member, moment, SameMembers}
+use Rattle.spots.specs.Seen.{IsSeen}
+use Rattle.occ_tree.specs.Places.{forest}
+use Rattle.occ_tree.specs.Standing.{present}
+use Rattle.revisions.specs.Maps.{watches}
+use Rattle.joined.specs.Netted.{IsCurrent}
+use Rattle.joined.specs.Rows.{Row, Rows}
+use Rattle.joined.specs.Starting.{NodesBegin, RowsBegin}
+use Rattle.belief_net.specs.declared.erasing.Departed.{Departed}
+use Rattle.belief_net.specs.declared.state.BeliefNet.{BeliefNet}
+use Rattle.belief_net.specs.Adding.{MarksClasses, StayAll, EntersRoot, EntersRule}
+use Rattle.belief_net.specs.Clearing.{IsCleared}
+use Rattle.belief_net.specs.Decided.{KeepsLast}
+use Rattle.belief_net.specs.Erasing.{ShedsAll}
+use Rattle.belief_net.specs.Turning.{rows_of, IsFit}
+
+-- the premise that the edit adds, if it adds one
+abbrev pub added_by : Edit → Option Premise
+added_by (Add premise) = Some premise
+added_by (Erase name) = None
+added_by (Horizon n) = None
+
+-- what the premise declares to occur has entered in r, and in n the rows of the rule that it is
+abbrev pub EntersAdded : Standing → Net → Option Premise → BeliefNet → BeliefNet → BeliefNet → Type 0
+EntersAdded s net None m r n = StayAll m r × StayAll r n
+EntersAdded s net (Some premise) m r n = EntersRoot s net premise m r × EntersRule s premise r n
+
+-- The steps from b, which has nodes and rows of the list before: in e those are left that still occur; in c roots have the dates
+-- of the new network; in m the rows wait that may read what left; in r and n what the edit adds has entered.
+pub record IsBegun (old : Standing) (edit : Edit) (before net : Net) (b e c m r n : BeliefNet) (all : Departed) : Type 0 where
+  pub fit_before : IsFit old before b
+  pub current : IsCurrent old before (forest b.tree) (rows_of b)
+  pub sheds : ShedsAll b e all
+  pub cleared : IsCleared old (next_list old edit) b e
+  pub same_nodes : SameMembers (forest e.tree) (forest c.tree)
+  pub same_rows : c.decisions ≡ e.decisions
+  pub same_tree : m.tree ≡ c.tree
+  pub marks : MarksClasses (present c.tree) all.classes c.decisions m.decisions
+  pub fit : IsFit (next_list old edit) net m
+  pub enters : EntersAdded (next_list old edit) net (added_by edit) m r n
+  pub fit_root : IsFit (next_list old edit) net r
+  pub fit_after : IsFit (next_list old edit) net n
+  pub names_root : KeepsLast m.decisions r.decisions
+  pub names_after : KeepsLast r.decisions n.decisions
+
+-- Every row waits that reads a token that left or entered, and no other row that was there begins to wait.
+pub record WaitForMoved (old new : Standing) (f g : Forest) (rows after : Rows) : Type 0 where
+  pub left : (i x : ℕ) (q : Row) (m : Member) → after i ≡ Some q → member f x ≡ Some m → member g x ≡ None → watches old q.rule (moment m) ≡ true → q.waits ≡ true
+  pub entered : (i x : ℕ) (q : Row) (m : Member) → after i ≡ Some q → member f x ≡ None → member g x ≡ Some m → watches new q.rule (moment m) ≡ true → q.waits ≡ true
+  pub only : (i : ℕ) (q : Row) → after i ≡ Some q → q.waits ≡ true → (rows i ≡ None)
+      ⊎ (((x : ℕ) × (m : Member) × (member f x ≡ Some m) × (member g x ≡ None) × (watches old q.rule (moment m) ≡ true))
+      ⊎ ((x : ℕ) × (m : Member) × (member f x ≡ None) × (member g x ≡ Some m) × (watches new q.rule (moment m) ≡ true)))
+
+-- nodes and rows are made ready for the list after, but for marks of what moved
+pub record IsReady (old new : Standing) (net : Net) (f g : Forest) (rows after : Rows) : Type 0 where
+  pub seen : IsSeen new net g
+  pub nodes_begin : NodesBegin new f g
+  pub rows_begin : RowsBegin new g rows after
+  pub waits : WaitForMoved old new f g rows after
+
+-- **So begun, nodes and rows are ready for the list after.**
+abbrev pub BegunAreReady : Type 0
+BegunAreReady =
+    (old : Standing) (edit : Edit) (before net : Net) (b e c m r n : BeliefNet) (all : Departed)
+    → IsBegun old edit before net b e c m r n all
+    → IsReady old (next_list old edit) net (forest b.tree) (forest n.tree) (rows_of b) (rows_of n)

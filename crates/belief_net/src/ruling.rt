@@ -1,0 +1,157 @@
+// Rows of a rule that is declared anew.
+ghost use Rattle.std.specs.Prelude.{◌≡◌, ℕ, ◌≤◌, [], ◌∷◌, length, true, nat_eq, IsSome, OnOk};
+ghost use Rattle.std.specs.List.{All, IsDistinct};
+ghost use Rattle.row_links.specs.Lists.{IsOn};
+ghost use Rattle.tmm_model.specs.Moments.{rule_of};
+ghost use Rattle.tmm_model.specs.Sorts.{class_in};
+ghost use Rattle.list_theory.proofs.Elements.{In};
+ghost use Rattle.spots.specs.Forest.{IsLive};
+ghost use Rattle.occ_tree.specs.Places.{forest};
+ghost use Rattle.belief_net.specs.Adding.{EntersRule, IsEventOf, AddsRule, AddsRuleAt};
+ghost use Rattle.belief_net.specs.Decided.{AreUnder, KeepsLast};
+ghost use Rattle.belief_net.specs.Entering.{KeepLast};
+ghost use Rattle.belief_net.specs.Turning.{IsFit};
+
+use crate::rows::add_row;
+use crate::state::{BeliefNet, Decisions};
+use dist_net::DistNet;
+use occ_tree::Tree;
+use premise_list::Standing;
+use std::alloc::Global;
+use tmm_model::{Name, NoMemory, Premise};
+
+// Adds a row at each event of its kind for a premise that is a rule. None is decided yet, so all of them wait.
+pub(crate) fn enter_rule(
+    alloc: Global,
+    standing: &Standing,
+    net: &DistNet,
+    beliefs: &mut BeliefNet,
+    premise: &Premise,
+) -> Result<(), NoMemory>
+    requires fit { IsFit standing.now.present net.now.present beliefs.old }
+    requires stands { In premise.now standing.now.present.premises }
+    ensures enters { OnOk result (EntersRule standing.now.present premise.now beliefs.old beliefs.new) }
+    ensures fit { OnOk result (IsFit standing.now.present net.now.present beliefs.new) }
+    ensures last { KeepLast beliefs.old beliefs.new }
+{
+    match premise {
+        Premise::Rule {
+            name,
+            trigger,
+            given,
+            ..
+        } => {
+            add_rule(
+                alloc,
+                standing,
+                &beliefs.tree,
+                &mut beliefs.decisions,
+                *name,
+                *trigger,
+                given.as_slice(),
+            )?;
+            Ok(())
+        }
+        _ => Ok(()),
+    }
+}
+
+// Adds a row of a rule of these antecedents at each event of a kind.
+fn add_rule(
+    alloc: Global,
+    standing: &Standing,
+    tree: &Tree,
+    decisions: &mut Decisions,
+    rule: Name,
+    kind: Name,
+    given: &[Name],
+) -> Result<(), NoMemory>
+    requires given { given.now ≡ (rule_of standing.now.present rule).given }
+    requires few { length given.now ≤ 4 }
+    requires facts { All (λ fact. IsSome (class_in standing.now.present.premises fact)) given.now }
+    requires under { AreUnder standing.now.present decisions.old }
+    ensures adds { OnOk result (AddsRule tree.now rule kind decisions.old decisions.new) }
+    ensures under { OnOk result (AreUnder standing.now.present decisions.new) }
+    ensures last { KeepsLast decisions.old decisions.new }
+{
+    let numbers = tree.numbers(alloc)?;
+    add_rule_along(
+        alloc,
+        standing,
+        tree,
+        decisions,
+        numbers.as_slice(),
+        rule,
+        kind,
+        given,
+    )?;
+    Ok(())
+}
+
+// Adds a row of a rule at each of these nodes that is an event of the kind.
+fn add_rule_along(
+    alloc: Global,
+    standing: &Standing,
+    tree: &Tree,
+    decisions: &mut Decisions,
+    numbers: &[u32],
+    rule: Name,
+    kind: Name,
+    given: &[Name],
+) -> Result<(), NoMemory>
+    requires live { (x : ℕ) → IsOn numbers.now x → IsLive (forest tree.now) x }
+    requires once { IsDistinct nat_eq numbers.now }
+    requires given { given.now ≡ (rule_of standing.now.present rule).given }
+    requires few { length given.now ≤ 4 }
+    requires facts { All (λ fact. IsSome (class_in standing.now.present.premises fact)) given.now }
+    requires under { AreUnder standing.now.present decisions.old }
+    ensures adds { OnOk result (AddsRuleAt tree.now rule kind numbers.now decisions.old decisions.new) }
+    ensures under { OnOk result (AreUnder standing.now.present decisions.new) }
+    ensures last { KeepsLast decisions.old decisions.new }
+{
+    for x in numbers {
+        add_rule_at(alloc, standing, tree, decisions, *x, rule, kind, given)?;
+    }
+    Ok(())
+}
+
+// Adds a row of a rule at a node, if that is an event of this kind.
+fn add_rule_at(
+    alloc: Global,
+    standing: &Standing,
+    tree: &Tree,
+    decisions: &mut Decisions,
+    x: u32,
+    rule: Name,
+    kind: Name,
+    given: &[Name],
+) -> Result<(), NoMemory>
+    requires given { given.now ≡ (rule_of standing.now.present rule).given }
+    requires few { length given.now ≤ 4 }
+    requires facts { All (λ fact. IsSome (class_in standing.now.present.premises fact)) given.now }
+    requires under { AreUnder standing.now.present decisions.old }
+    requires node { IsLive (forest tree.now) x }
+    ensures adds { OnOk result (AddsRuleAt tree.now rule kind (x ∷ []) decisions.old decisions.new) }
+    ensures under { OnOk result (AreUnder standing.now.present decisions.new) }
+    ensures last { KeepsLast decisions.old decisions.new }
+{
+    if is_event_of(tree, x, kind) {
+        add_row(alloc, standing, decisions, x, tree.early(x), rule, given)?;
+        Ok(())
+    } else {
+        Ok(())
+    }
+}
+
+// Whether a node is an event of this kind.
+fn is_event_of(tree: &Tree, x: u32, kind: Name) -> bool
+    requires { IsLive (forest tree.now) x }
+    ensures event { result ≡ true → IsEventOf tree.now kind x }
+    ensures other { IsEventOf tree.now kind x → result ≡ true }
+{
+    let row = tree.row(x);
+    match row.class {
+        Some(_) => false,
+        None => row.what == kind,
+    }
+}
