@@ -1,9 +1,8 @@
 -- What is left of the list before, when the erased premises are gone.
-use Rattle.std.proofs.Common.{◌≡◌, ◌≢◌, ◌∙◌, ℕ, Bool, true, false, List, [], ◌∷◌, ◌++◌, map, filter, Option, Some, None, refl, sym, ap, subst, inl, inr, ◌⊎◌}
-use Rattle.std.specs.Prelude.{◌↔◌, IsSome, is_some}
+use Rattle.std.proofs.Common.{◌≡◌, ◌∙◌, ℕ, true, false, List, [], ◌∷◌, map, Option, Some, None, refl, sym, ap, subst, inl, inr, ◌⊎◌}
+use Rattle.std.specs.Prelude.{IsSome, is_some}
 use Rattle.std.specs.List.{Contains}
 use Rattle.std.specs.Option.{is_none}
-use Rattle.tmm_model.specs.declared.point.PointName.{PointName}
 use Rattle.tmm_model.specs.declared.point.PointName.TheVariants.{Start, Begin, End}
 use Rattle.tmm_model.specs.declared.premise.Edit.{Edit}
 use Rattle.tmm_model.specs.declared.premise.Premise.{Premise}
@@ -41,10 +40,10 @@ use Rattle.belief_net.specs.declared.state.BeliefNet.{BeliefNet}
 use Rattle.belief_net.specs.declared.told.DatedOcc.{DatedOcc}
 use Rattle.belief_net.specs.Clearing.{IsCleared, AreSeenAfter}
 use Rattle.belief_net.specs.Decided.{table_of, rule_in, AreUnder}
-use Rattle.belief_net.specs.Erasing.{moments_of, HasLeft, ShedsAll, Spares, IsFreeOf, IsRuledOut}
+use Rattle.belief_net.specs.Erasing.{moments_of, HasLeft, ShedsAll, Spares, IsFreeOf}
 use Rattle.belief_net.specs.Numbers.{name_in}
 use Rattle.belief_net.specs.Turning.{rows_of, IsFit}
-use Rattle.belief_net.proofs.Thinned.{one_node, moment_stays, was_live, under_less}
+use Rattle.belief_net.proofs.Thinned.{one_node, moment_stays, under_less}
 use Rattle.belief_net.proofs.Turned.{row_there, row_of, seen_row}
 
 none_some : {X : Type 0} (x : X) → None ≡ Some x → ⊥

@@ -2,7 +2,6 @@
 use Rattle.std.proofs.Common.{◌≡◌, ◌∙◌, ℕ, List, [], ◌∷◌, Option, Some, None, refl, sym, ap, subst, inl, inr, ◌⊎◌}
 use Rattle.std.specs.Prelude.{IsSome, is_some}
 use Rattle.std.specs.List.{Contains}
-use Rattle.tmm_model.specs.declared.point.PointName.TheVariants.{Start, Begin, End}
 use Rattle.tmm_model.specs.declared.premise.Edit.{Edit}
 use Rattle.tmm_model.specs.declared.premise.Edit.TheVariants.{Add, Erase, Horizon}
 use Rattle.tmm_model.specs.declared.premise.Premise.{Premise}
@@ -21,7 +20,7 @@ use Rattle.belief_theory.proofs.Sound.{rule_stands}
 use Rattle.supports.proofs.Grown.{root_name}
 use Rattle.revisions.specs.Standing.{Stands}
 use Rattle.revisions.proofs.Standing.{standing_occurs}
-use Rattle.revisions.proofs.Tokens.{is_of_stays, root_named}
+use Rattle.revisions.proofs.Tokens.{is_of_stays}
 
 -- a premise of the list after stood before, or is added
 pub premise_cases : (old : Standing) (edit : Edit) (p : Premise) → In p (next_list old edit).premises → In p old.premises ⊎ (edit ≡ Add p)

@@ -1,9 +1,9 @@
 -- What is gone of an erased premise: its root, the effects of its rule, and its rows.
-use Rattle.std.proofs.Common.{◌≡◌, ◌≢◌, ◌∙◌, ℕ, ◌+◌, ◌<◌, ◌≤◌, Bool, true, false, cond, eqb, List, [], ◌∷◌, ◌++◌, map, length, Option, Some, None, refl, sym, ap, subst, inl, inr, ◌⊎◌, arith}
+use Rattle.std.proofs.Common.{◌≡◌, ◌≢◌, ◌∙◌, ℕ, ◌+◌, Bool, true, false, cond, eqb, List, [], ◌∷◌, ◌++◌, map, length, Some, None, refl, sym, ap, subst, inl, inr, arith}
 use Rattle.std.proofs.lemmas.Bool.Decides.{eqb_tells}
 use Rattle.std.proofs.lemmas.List.{append-nil, length-append}
 use Rattle.tmm_model.specs.declared.point.PointName.TheVariants.{Begin}
-use Rattle.tmm_model.specs.Moments.{Moment, At, After, along, base, rules}
+use Rattle.tmm_model.specs.Moments.{At, After, along, base, rules}
 use Rattle.tmm_model.specs.Standing.{Standing, premise_in}
 use Rattle.row_links.specs.Lists.{IsOn, first_or}
 use Rattle.spots.specs.declared.link.Link.{Link}
@@ -24,9 +24,9 @@ use Rattle.belief_net.specs.declared.erasing.Departed.{Departed}
 use Rattle.belief_net.specs.declared.state.BeliefNet.{BeliefNet}
 use Rattle.belief_net.specs.declared.state.Decisions.{Decisions}
 use Rattle.belief_net.specs.Decided.{table_of, rule_in, AreUnder}
-use Rattle.belief_net.specs.Erasing.{HasNoRowOf, Thins, Sheds, Spares, TakesNode}
+use Rattle.belief_net.specs.Erasing.{HasNoRowOf, Sheds, Spares, TakesNode}
 use Rattle.belief_net.specs.Marks.{HaveEvents}
-use Rattle.belief_net.specs.Numbers.{name_in, HaveOwnNumbers}
+use Rattle.belief_net.specs.Numbers.{HaveOwnNumbers}
 use Rattle.belief_net.proofs.Entered.{one_row}
 use Rattle.belief_net.proofs.Thinned.{one_node, tells_none, notes_none}
 

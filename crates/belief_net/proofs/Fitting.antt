@@ -1,6 +1,5 @@
 -- Nodes and rows stay fit where a node enters, where rows enter at it, and where rows are let wait.
-use Rattle.std.proofs.Common.{◌≡◌, ◌≢◌, ◌∙◌, ℕ, ◌<◌, Bool, true, List, [], ◌∷◌, ◌++◌, length, take, Option, Some, None, refl, sym, ap, subst, inl, inr, ◌⊎◌, arith}
-use Rattle.std.specs.Prelude.{ℤ, pos}
+use Rattle.std.proofs.Common.{◌≡◌, ◌∙◌, ℕ, List, Some, sym, ap, subst, inl, inr}
 use Rattle.tmm_model.specs.Standing.{Standing}
 use Rattle.dist_net.specs.Net.{Net}
 use Rattle.spots.specs.Forest.{IsLive}
@@ -13,11 +12,10 @@ use Rattle.occ_tree.specs.Standing.{Kept, present, early}
 use Rattle.belief_net.specs.declared.state.BeliefNet.{BeliefNet}
 use Rattle.belief_net.specs.declared.state.Decisions.{Decisions}
 use Rattle.belief_net.specs.Adding.{AddsRule}
-use Rattle.belief_net.specs.Decided.{table_of, AreUnder, AddsRows, KeepsLast}
+use Rattle.belief_net.specs.Decided.{table_of, AreUnder, AddsRows}
 use Rattle.belief_net.specs.Marks.{Marks}
 use Rattle.belief_net.specs.Turning.{IsFit}
 use Rattle.belief_net.specs.Waiting.{dates_in}
-use Rattle.belief_net.proofs.Named.{under_more}
 
 module _ (s : Standing) (net : Net) (b : BeliefNet) (fit : IsFit s net b) where
   pub fit_grown : (t : Kept) → IsTreeOf s net t → ((x : ℕ) → IsLive (forest b.tree) x → IsLive (forest t) x)

@@ -1,10 +1,9 @@
 -- A premise that is added gains its root, or the rows of its rule; without one nothing is gained.
-use Rattle.std.proofs.Common.{◌≡◌, ◌≢◌, ◌∙◌, ℕ, ◌<◌, Bool, true, false, List, [], ◌∷◌, Option, Some, None, IsSome, refl, sym, ap, subst, inl, inr, ◌⊎◌}
-use Rattle.std.specs.Prelude.{◌↔◌, is_some, pos, ℤ, ◌≤ℤ◌}
+use Rattle.std.proofs.Common.{◌≡◌, ◌∙◌, ℕ, true, false, List, [], ◌∷◌, Option, Some, None, refl, sym, ap, subst, inl, inr, ◌⊎◌}
+use Rattle.std.specs.Prelude.{◌↔◌, is_some, pos, ◌≤ℤ◌}
 use Rattle.std.specs.List.{Contains}
-use Rattle.std.specs.Cmp.Lexicographic.{bytes_decides}
 use Rattle.tmm_model.specs.declared.premise.Edit.{Edit}
-use Rattle.tmm_model.specs.declared.premise.Edit.TheVariants.{Add, Erase, Horizon}
+use Rattle.tmm_model.specs.declared.premise.Edit.TheVariants.{Add}
 use Rattle.tmm_model.specs.declared.premise.Premise.{Premise}
 use Rattle.tmm_model.specs.declared.premise.Premise.TheVariants.{Class, Kind, Point, Event, Token, Span, Dist, Rule, Protect}
 use Rattle.tmm_model.specs.declared.token.Shape.{Shape}
@@ -12,8 +11,7 @@ use Rattle.tmm_model.specs.declared.token.Shape.TheVariants.{Event as AnEvent, P
 use Rattle.tmm_model.specs.Beliefs.{is_of, root_of, roots, on_kind, rules_on, rules_at}
 use Rattle.tmm_model.specs.Edits.{next_list}
 use Rattle.tmm_model.specs.Moments.{Moment}
-use Rattle.tmm_model.specs.Points.{same_name}
-use Rattle.tmm_model.specs.Standing.{Standing, far_in, name_of}
+use Rattle.tmm_model.specs.Standing.{Standing, name_of}
 use Rattle.list_theory.specs.WellNamed.{IsSound}
 use Rattle.list_theory.proofs.Elements.{In, In-right, In-from_Contains, Contains-from_In, filter_map-In}
 use Rattle.belief_theory.specs.Right.{Occurs}
@@ -28,26 +26,24 @@ use Rattle.supports.proofs.Grown.{node_cases, node_kept, apart_from}
 use Rattle.supports.proofs.OnKinds.{no_rules, rules_of_event}
 use Rattle.undo_rows.specs.declared.row.Row.{Row as TableRow}
 use Rattle.decision_rows.specs.declared.row.Pair.{Pair}
-use Rattle.occ_tree.specs.Classes.{place_in, HaveMore}
+use Rattle.occ_tree.specs.Classes.{place_in}
 use Rattle.occ_tree.specs.Places.{forest}
-use Rattle.occ_tree.specs.Standing.{Kept, present, early}
+use Rattle.occ_tree.specs.Standing.{present, early}
 use Rattle.revisions.specs.Maps.{watches}
-use Rattle.joined.specs.Listed.{IsUnderClasses, IsListedUnder}
-use Rattle.joined.specs.Rows.{HasRow}
+use Rattle.joined.specs.Listed.{IsListedUnder}
 use Rattle.joined.proofs.Listed.{readers_listed}
 use Rattle.belief_net.specs.declared.state.BeliefNet.{BeliefNet}
 use Rattle.belief_net.specs.declared.state.Decisions.{Decisions}
 use Rattle.belief_net.specs.Adding.{FollowsRoot, a_token, an_event, EntersAs, IsEventOf, AddsRule}
-use Rattle.belief_net.specs.Decided.{table_of, rule_in, AreUnder, AddsRows, IsNewRow, IsSameRow, KeepsLast}
+use Rattle.belief_net.specs.Decided.{table_of, rule_in, AddsRows, IsNewRow, IsSameRow, KeepsLast}
 use Rattle.belief_net.specs.Entering.{MarksClass, class_at}
 use Rattle.belief_net.specs.Numbers.{name_in}
-use Rattle.belief_net.specs.Turning.{rows_of, IsFit}
-use Rattle.belief_net.specs.Waiting.{dates_in, waits_in}
+use Rattle.belief_net.specs.Turning.{IsFit}
 use Rattle.belief_net.proofs.Brought.{class_is_at, no_event_of_some}
-use Rattle.belief_net.proofs.Declared.{root_cases, rule_cases, IsAddedRule}
+use Rattle.belief_net.proofs.Declared.{root_cases, rule_cases}
 use Rattle.belief_net.proofs.Entered.{one_row}
-use Rattle.belief_net.proofs.Gains.{IsAddition, IsFresh, Gains, unread}
-use Rattle.belief_net.proofs.Named.{name_stays, are_numbered, under_more}
+use Rattle.belief_net.proofs.Gains.{IsAddition, Gains, unread}
+use Rattle.belief_net.proofs.Named.{name_stays, are_numbered}
 use Rattle.belief_net.proofs.Turned.{date_is, seen_row, row_there}
 
 none_some : {X : Type 0} (x : X) → None ≡ Some x → ⊥

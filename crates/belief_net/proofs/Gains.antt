@@ -1,21 +1,17 @@
 -- What an edit adds to nodes and rows, and that so begun they are ready for the list after.
-use Rattle.std.proofs.Common.{◌≡◌, ◌≢◌, ◌∙◌, ℕ, ◌<◌, Bool, true, false, List, [], ◌∷◌, Option, Some, None, IsSome, refl, sym, ap, subst, inl, inr, ◌⊎◌}
-use Rattle.std.proofs.lemmas.Int.{ints}
-use Rattle.std.specs.Prelude.{◌↔◌, is_some, pos, ℤ, ◌≤ℤ◌}
+use Rattle.std.proofs.Common.{◌≡◌, ◌∙◌, ℕ, true, false, List, Option, Some, None, IsSome, refl, sym, ap, subst, inl, inr, ◌⊎◌}
+use Rattle.std.specs.Prelude.{◌↔◌, is_some, pos, ◌≤ℤ◌}
 use Rattle.std.specs.List.{Contains, list_any}
 use Rattle.std.specs.Option.{option_map, option_map_or}
-use Rattle.tmm_model.specs.declared.point.PointName.{PointName}
 use Rattle.tmm_model.specs.declared.premise.Edit.{Edit}
 use Rattle.tmm_model.specs.declared.premise.Edit.TheVariants.{Add}
 use Rattle.tmm_model.specs.declared.premise.Premise.{Premise}
 use Rattle.tmm_model.specs.Beliefs.{class_of, roots, rules_at}
 use Rattle.tmm_model.specs.Edits.{next_list}
-use Rattle.tmm_model.specs.Maps.{built}
 use Rattle.tmm_model.specs.Moments.{Moment, At, After, rule_of}
 use Rattle.tmm_model.specs.Points.{same_name}
-use Rattle.tmm_model.specs.Standing.{Standing, far_in}
+use Rattle.tmm_model.specs.Standing.{Standing}
 use Rattle.list_theory.specs.WellNamed.{IsSound}
-use Rattle.list_theory.proofs.Elements.{In}
 use Rattle.belief_theory.specs.Right.{Occurs}
 use Rattle.belief_theory.proofs.SoundBeliefs.{believed_right, sound_timed}
 use Rattle.dist_net.specs.Net.{Net}
@@ -25,7 +21,6 @@ use Rattle.spots.specs.Seen.{IsMemberOf}
 use Rattle.spots.proofs.Nodes.{node_at, live_at, moment_at-is}
 use Rattle.spots.proofs.Seen.{occurs_at}
 use Rattle.undo_rows.specs.declared.row.Row.{Row as TableRow}
-use Rattle.undo_rows.specs.Tables.{AreListed}
 use Rattle.decision_rows.specs.declared.row.Pair.{Pair}
 use Rattle.decision_rows.specs.declared.row.Decision.TheVariants.{Beyond}
 use Rattle.occ_tree.specs.Classes.{place_in, HaveMore}
@@ -35,25 +30,23 @@ use Rattle.occ_tree.proofs.Numbered.{no_more}
 use Rattle.revisions.specs.Maps.{watches}
 use Rattle.joined.specs.Listed.{IsUnderClasses, IsListedUnder}
 use Rattle.joined.specs.Netted.{IsCurrent}
-use Rattle.joined.specs.Rows.{Row, Rows, HasRow, HasNoRow}
+use Rattle.joined.specs.Rows.{Row, HasRow, HasNoRow}
 use Rattle.joined.specs.Starting.{BeginsFrom, was, is_new, NodesBegin, RowsBegin}
 use Rattle.joined.proofs.Listed.{readers_listed}
 use Rattle.joined.proofs.Starting.{reads_by_class}
 use Rattle.belief_net.specs.declared.erasing.Departed.{Departed}
 use Rattle.belief_net.specs.declared.state.BeliefNet.{BeliefNet}
-use Rattle.belief_net.specs.declared.state.Decisions.{Decisions}
-use Rattle.belief_net.specs.Adding.{ReadsOneOf, MarksClasses}
+use Rattle.belief_net.specs.Adding.{MarksClasses}
 use Rattle.belief_net.specs.Beginning.{WaitForMoved, IsReady}
 use Rattle.belief_net.specs.Clearing.{IsCleared}
-use Rattle.belief_net.specs.Decided.{table_of, rule_in, AreUnder}
+use Rattle.belief_net.specs.Decided.{table_of, rule_in}
 use Rattle.belief_net.specs.Erasing.{HasLeft, ShedsAll}
 use Rattle.belief_net.specs.Numbers.{name_in}
 use Rattle.belief_net.specs.Turning.{rows_of, IsFit}
 use Rattle.belief_net.specs.Waiting.{dates_in, waits_in}
 use Rattle.belief_net.proofs.Declared.{occurs_still}
-use Rattle.belief_net.proofs.Entered.{one_row}
 use Rattle.belief_net.proofs.Named.{are_numbered, under_more}
-use Rattle.belief_net.proofs.Thinned.{one_node, under_less}
+use Rattle.belief_net.proofs.Thinned.{under_less}
 use Rattle.belief_net.proofs.Turned.{date_is, seen_row, row_there, row_of}
 
 none_some : {X : Type 0} (x : X) → None ≡ Some x → ⊥

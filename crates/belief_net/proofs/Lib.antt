@@ -35,3 +35,7 @@ pub mod Gains
 pub mod Gained
 pub mod Begun
 pub mod Rooted
+pub mod Readied
+pub mod Opened
+pub mod KeptAgain
+pub mod Updated

@@ -1,7 +1,7 @@
 -- Rows that read a class of some, one class after the other.
 use Rattle.std.proofs.Common.{◌≡◌, ◌∙◌, ℕ, List, [], ◌∷◌, ◌++◌, Some, refl, sym, ap, subst, inl, inr, ◌⊎◌}
 use Rattle.std.specs.Prelude.{pos}
-use Rattle.list_theory.proofs.Elements.{In, In-left, In-right, In-cases}
+use Rattle.list_theory.proofs.Elements.{In-left, In-right, In-cases}
 use Rattle.undo_rows.specs.declared.row.Row.{Row as TableRow}
 use Rattle.undo_rows.specs.Changes.{Logged, present as table}
 use Rattle.undo_rows.specs.Tables.{AreListed}

@@ -1,20 +1,20 @@
 -- Nodes that are withdrawn, told and noted, with the rows at their events.
-use Rattle.std.proofs.Common.{◌≡◌, ◌≢◌, ◌∙◌, ℕ, zero, suc, ◌+◌, ◌<◌, ◌≤◌, Bool, true, false, cond, eqb, eqb-true, List, [], ◌∷◌, ◌++◌, map, filter, length, Option, Some, None, refl, sym, ap, subst, inl, inr, ◌⊎◌, arith}
+use Rattle.std.proofs.Common.{◌≡◌, ◌≢◌, ◌∙◌, ℕ, zero, suc, ◌<◌, true, false, cond, eqb, eqb-true, List, [], ◌∷◌, ◌++◌, map, filter, length, Some, None, refl, sym, ap, subst, inl, inr, ◌⊎◌, arith}
 use Rattle.std.proofs.lemmas.Bool.{cases_Bool, both_ways}
 use Rattle.std.proofs.lemmas.List.{append_assoc, append-nil, map-append}
 use Rattle.std.proofs.lemmas.List.Elements.{filter-append}
 use Rattle.std.specs.Prelude.{◌↔◌, ◌||◌, slice_index_or}
 use Rattle.std.specs.List.{list_any}
 use Rattle.tmm_model.specs.declared.point.PointName.TheVariants.{Begin}
-use Rattle.tmm_model.specs.Moments.{Moment, At, After, along, rules, moment_of, is_derived}
+use Rattle.tmm_model.specs.Moments.{Moment, At, After, along, moment_of, is_derived}
 use Rattle.tmm_model.specs.Standing.{Standing}
 use Rattle.list_theory.proofs.Distinct.{Distinct, Distinct-filter}
-use Rattle.list_theory.proofs.Elements.{In, In-left, In-right, In-cases, In-map, map-In, In-filter, filter-In, list_any-In, In-list_any}
-use Rattle.row_links.specs.Lists.{IsOn, AreOnce, without}
+use Rattle.list_theory.proofs.Elements.{In, In-left, In-cases, In-map, map-In, In-filter, filter-In, list_any-In}
+use Rattle.row_links.specs.Lists.{IsOn, AreOnce}
 use Rattle.row_links.proofs.Lists.{IsOn-first, IsOn-append_left, IsOn-append_right, IsOn-append_cases}
 use Rattle.spots.specs.declared.link.Link.{Link}
-use Rattle.spots.specs.Forest.{Forest, Member, member, IsLive, moment, moment_at, rules_of, IsOnce, IsBelow as IsMemberBelow, Withdraws as WithdrawsFrom}
-use Rattle.spots.proofs.Nodes.{node_at, live_at, moment_at-is, rules-moment}
+use Rattle.spots.specs.Forest.{Forest, Member, member, IsLive, moment, moment_at, IsOnce, IsBelow as IsMemberBelow}
+use Rattle.spots.proofs.Nodes.{node_at, live_at, moment_at-is}
 use Rattle.undo_rows.specs.declared.row.Row.{Row as TableRow}
 use Rattle.decision_rows.specs.declared.row.Pair.{Pair}
 use Rattle.occ_tree.specs.Below.{IsBelow}
@@ -33,10 +33,9 @@ use Rattle.belief_net.specs.declared.state.Decisions.{Decisions}
 use Rattle.belief_net.specs.declared.told.DatedOcc.{DatedOcc}
 use Rattle.belief_net.specs.Decided.{table_of, AreUnder, DropsRows}
 use Rattle.belief_net.specs.Entering.{class_at}
-use Rattle.belief_net.specs.Erasing.{DropsRowsAt, moments_of, TellsOf, NotesOf, HasLeft, Tells, Notes, Thins, Sheds, Spares, KeepRows, TakesNode}
+use Rattle.belief_net.specs.Erasing.{DropsRowsAt, TellsOf, NotesOf, HasLeft, Tells, Notes, Thins, Sheds, Spares, KeepRows}
 use Rattle.belief_net.specs.Marks.{HaveEvents}
 use Rattle.belief_net.specs.Numbers.{name_in}
-use Rattle.belief_net.specs.Waiting.{dates_in}
 use Rattle.belief_net.proofs.Brought.{class_is_at}
 use Rattle.belief_net.proofs.Entered.{one_row}
 use Rattle.belief_net.proofs.Named.{placed_name, in_at}

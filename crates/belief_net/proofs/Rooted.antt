@@ -1,13 +1,13 @@
 -- A root that enters, with its rows or marks.
-use Rattle.std.proofs.Common.{◌≡◌, ◌≢◌, ◌∙◌, ℕ, List, Option, Some, None, refl, sym, ap, subst}
-use Rattle.std.specs.Prelude.{ℤ, MatchOption, pos}
+use Rattle.std.proofs.Common.{◌≡◌, ◌≢◌, ◌∙◌, ℕ, Option, Some, None, refl, sym, ap, subst}
+use Rattle.std.specs.Prelude.{ℤ, MatchOption}
 use Rattle.tmm_model.specs.declared.point.PointName.TheVariants.{Begin}
 use Rattle.tmm_model.specs.declared.premise.Premise.{Premise}
 use Rattle.tmm_model.specs.Beliefs.{root_of}
-use Rattle.tmm_model.specs.Moments.{Moment, At, base}
+use Rattle.tmm_model.specs.Moments.{Moment, base}
 use Rattle.tmm_model.specs.Standing.{Standing, name_of}
 use Rattle.dist_net.specs.Net.{Net}
-use Rattle.spots.specs.Forest.{Forest, Member, member, IsLive, moment, IsNoRoot}
+use Rattle.spots.specs.Forest.{Member, member, IsLive, moment, IsNoRoot}
 use Rattle.spots.specs.Seen.{IsSeen, HasList}
 use Rattle.spots.proofs.Nodes.{node_at, live_at, base-moment}
 use Rattle.supports.specs.Growing.{Adds, AddsRoot}
@@ -15,7 +15,6 @@ use Rattle.supports.proofs.Grown.{adds_seen, node_kept, root_name, root_added, r
 use Rattle.undo_rows.specs.Tables.{AreListed}
 use Rattle.occ_tree.specs.Dated.{IsDatedBy}
 use Rattle.occ_tree.specs.Edits.{Enters}
-use Rattle.occ_tree.specs.OfLists.{IsTreeOf}
 use Rattle.occ_tree.specs.Places.{forest}
 use Rattle.occ_tree.specs.Standing.{Kept, present, early}
 use Rattle.belief_net.specs.declared.state.BeliefNet.{BeliefNet}

@@ -1,12 +1,12 @@
 -- The rows of a rule, node after node.
-use Rattle.std.proofs.Common.{◌≡◌, ◌≢◌, ◌∙◌, ℕ, zero, suc, ◌<◌, length, take, arith, Bool, true, false, eqb, eqb-true, List, [], ◌∷◌, ◌++◌, Option, Some, None, IsSome, refl, sym, ap, subst, inl, inr, ◌⊎◌}
+use Rattle.std.proofs.Common.{◌≡◌, ◌∙◌, ℕ, zero, suc, ◌<◌, length, take, arith, true, false, eqb, eqb-true, List, [], ◌∷◌, ◌++◌, Some, None, refl, sym, ap, subst, inl, inr, ◌⊎◌}
 use Rattle.std.proofs.lemmas.Bool.{cases_Bool, both_ways}
-use Rattle.std.specs.Prelude.{◌||◌, ℤ, nat_eq, slice_index_or}
+use Rattle.std.specs.Prelude.{◌||◌, nat_eq, slice_index_or}
 use Rattle.std.specs.List.{IsDistinct}
 use Rattle.std.proofs.lemmas.Cmp.{nat_eq_equiv}
 use Rattle.std.proofs.lemmas.Map.Keys.{IsDistinct-head, IsDistinct-tail}
 use Rattle.list_theory.proofs.Elements.{In, each_in}
-use Rattle.row_links.specs.Lists.{IsOn, AreOnce}
+use Rattle.row_links.specs.Lists.{IsOn}
 use Rattle.row_links.proofs.Lists.{IsOn-first, IsOn-append_left, IsOn-append_right, IsOn-append_cases}
 use Rattle.undo_rows.specs.declared.row.Row.{Row as TableRow}
 use Rattle.decision_rows.specs.declared.row.Pair.{Pair}
@@ -17,7 +17,6 @@ use Rattle.spots.proofs.Nodes.{live_at}
 use Rattle.belief_net.specs.declared.state.Decisions.{Decisions}
 use Rattle.belief_net.specs.Adding.{IsEventOf, AddsRuleAt, AddsRule}
 use Rattle.belief_net.specs.Decided.{table_of, rule_in, AreUnder, IsNewRow, IsSameRow, AddsRows, KeepsLast}
-use Rattle.belief_net.specs.Numbers.{name_in}
 use Rattle.belief_net.proofs.Entered.{one_row}
 use Rattle.belief_net.proofs.Named.{name_stays}
 

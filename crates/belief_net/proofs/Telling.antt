@@ -11,7 +11,7 @@ use Rattle.tmm_model.specs.Answers.{weight, size, most_size}
 use Rattle.tmm_model.specs.Beliefs.{rules_at}
 use Rattle.tmm_model.specs.Edits.{next_list}
 use Rattle.tmm_model.specs.Maps.{built}
-use Rattle.tmm_model.specs.Moments.{Moment, After}
+use Rattle.tmm_model.specs.Moments.{Moment, After, moment_of}
 use Rattle.tmm_model.specs.Standing.{Standing}
 use Rattle.list_theory.proofs.Distinct.{Distinct, Distinct-append}
 use Rattle.list_theory.proofs.Elements.{In, In-from_Contains, Contains-from_In, In-cases, In-map, map-In, list_any-In, In-list_any}
@@ -27,17 +27,19 @@ use Rattle.projection.specs.Queues.{weight_at, IsTooLarge}
 use Rattle.projection.proofs.Settled.{larger}
 use Rattle.revisions.specs.Steps.{IsUnder}
 use Rattle.joined.specs.Rows.{Row, fires_by}
-use Rattle.joined.specs.Telling.{IsToldOf, TellsMore, an_entry, leaving}
+use Rattle.joined.specs.Telling.{IsToldOf, LeaveFirst, TellsMore, an_entry, leaving}
 use Rattle.joined.specs.Turning.{effect_of}
 use Rattle.joined.proofs.Leaving.{below_under, under_below}
 use Rattle.joined.proofs.Telling.{turn_tells, netted_tell}
 use Rattle.belief_net.specs.declared.deciding.Due.{Due}
 use Rattle.belief_net.specs.declared.state.BeliefNet.{BeliefNet}
+use Rattle.belief_net.specs.declared.told.DatedOcc.{DatedOcc}
 use Rattle.belief_net.specs.declared.told.Told.{Told}
 use Rattle.belief_net.specs.Decided.{table_of, KeepsLast}
 use Rattle.belief_net.specs.Entering.{Brings}
+use Rattle.belief_net.specs.Erasing.{moments_of as moments_told}
 use Rattle.belief_net.specs.Moving.{date_at, TurnsOn, row_due}
-use Rattle.belief_net.specs.Telling.{seen_node, entered_in, left_in, moments_of, ins, outs, IsWeighed, TellsEntry}
+use Rattle.belief_net.specs.Telling.{seen_dated, seen_node, entered_in, left_in, moments_of, ins, outs, IsWeighed, TellsEntry}
 use Rattle.belief_net.specs.Turning.{rows_of, IsUnderway, IsDecided}
 use Rattle.belief_net.specs.Turns.{IsAfter, Withdraws, TurnsTo, StopsTurn}
 use Rattle.belief_net.proofs.Bringing.{brings_turn}
@@ -287,3 +289,27 @@ none_weighed s t none zero = record {
   weight = zero ∙ sym (ap (λ l. sum_by (weight (built s)) (moments_of l)) none);
   small = subst (λ n. n ≤ most_size) (sym zero) (omega arith);
 }
+
+-- what leaves at the beginning is so also the last first
+pub left_first : (old new : Standing) (t : Told) (left : List DatedOcc) → t.left.items ≡ left → LeaveFirst old new (moments_told left) → LeaveFirst old new (outs t)
+left_first old new t left is first = record {
+  each = λ u r. (
+    (λ at. (first.each u r).0 (from (After u r) at)),
+    (λ h. into (After u r) ((first.each u r).1 h)),
+  );
+  derived = λ y at. first.derived y (from y at);
+  once = subst Distinct (sym outs_are) (Distinct-reverse (moments_told left) first.once);
+}
+  where
+    moments_are : (l : List DatedOcc) → map (λ (m : ℤ × Moment). m.1) (map seen_dated l) ≡ moments_told l
+    moments_are [] = refl
+    moments_are (o ∷ l) = ap (λ k. moment_of o.occ ∷ k) (moments_are l)
+
+    outs_are : outs t ≡ reverse (moments_told left)
+    outs_are = ap (λ l. reverse (map (λ (m : ℤ × Moment). m.1) (map seen_dated l))) is ∙ ap reverse (moments_are left)
+
+    from : (y : Moment) → In y (outs t) → In y (moments_told left)
+    from y at = reverse-In (moments_told left) y (subst (In y) outs_are at)
+
+    into : (y : Moment) → In y (moments_told left) → In y (outs t)
+    into y at = subst (In y) (sym outs_are) (In-reverse (moments_told left) y at)

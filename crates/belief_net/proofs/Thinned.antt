@@ -1,26 +1,22 @@
 -- Nodes and rows that leave, some after the others.
-use Rattle.std.proofs.Common.{◌≡◌, ◌≢◌, ◌∙◌, ℕ, zero, suc, ◌<◌, Bool, true, false, List, [], ◌∷◌, ◌++◌, map, length, Option, Some, None, refl, sym, ap, subst, inl, inr, ◌⊎◌}
+use Rattle.std.proofs.Common.{◌≡◌, ◌∙◌, ℕ, ◌<◌, List, [], ◌++◌, length, Option, Some, None, refl, sym, ap, subst, inl, inr, ◌⊎◌}
 use Rattle.std.proofs.lemmas.List.{append_assoc, append-nil, map-append}
-use Rattle.std.specs.Prelude.{is_some}
-use Rattle.tmm_model.specs.Moments.{Moment, After, moment_of, is_derived}
+use Rattle.tmm_model.specs.Moments.{Moment, After, moment_of}
 use Rattle.tmm_model.specs.Standing.{Standing, premise_in}
 use Rattle.list_theory.proofs.Distinct.{Distinct, Distinct-append}
 use Rattle.list_theory.proofs.Elements.{In, In-left, In-right, In-cases, In-map}
 use Rattle.spots.specs.Forest.{Forest, Member, member, IsLive, moment, moment_at, IsOnce}
 use Rattle.spots.proofs.Nodes.{node_at, live_at, moment_at-is}
-use Rattle.undo_rows.specs.declared.row.Row.{Row as TableRow}
-use Rattle.decision_rows.specs.declared.row.Pair.{Pair}
 use Rattle.occ_tree.specs.Classes.{place_in}
 use Rattle.occ_tree.specs.Places.{forest}
-use Rattle.occ_tree.specs.Standing.{Kept, present, early}
+use Rattle.occ_tree.specs.Standing.{Kept}
 use Rattle.joined.specs.Listed.{IsUnderClasses}
-use Rattle.revisions.specs.Standing.{Stands}
 use Rattle.belief_net.specs.declared.erasing.Departed.{Departed}
 use Rattle.belief_net.specs.declared.state.BeliefNet.{BeliefNet}
 use Rattle.belief_net.specs.declared.told.DatedOcc.{DatedOcc}
 use Rattle.belief_net.specs.Decided.{table_of, rule_in, AreUnder}
 use Rattle.belief_net.specs.Entering.{KeepLast}
-use Rattle.belief_net.specs.Erasing.{moments_of, HasLeft, Tells, Notes, Thins, Sheds, Spares, IsRuledOut, IsFreeOf}
+use Rattle.belief_net.specs.Erasing.{moments_of, HasLeft, Tells, Notes, Thins, Sheds, Spares, IsFreeOf}
 use Rattle.belief_net.specs.Marks.{HaveEvents}
 use Rattle.belief_net.specs.Numbers.{name_in}
 use Rattle.belief_net.proofs.Named.{last_stays, last_on}

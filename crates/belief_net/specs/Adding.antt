@@ -1,5 +1,5 @@
 -- What is declared anew: roots with their rows or marks, and rows of a rule.
-use Rattle.std.specs.Prelude.{◌≡◌, ◌⊎◌, ℕ, ℤ, pos, List, Some, None, Option, MatchOption}
+use Rattle.std.specs.Prelude.{◌≡◌, ◌⊎◌, ℕ, pos, List, Some, None, MatchOption}
 use Rattle.tmm_model.specs.declared.premise.Premise.{Premise}
 use Rattle.tmm_model.specs.declared.premise.Premise.TheVariants.{Rule}
 use Rattle.tmm_model.specs.Beliefs.{root_of, rules_at}

@@ -22,3 +22,4 @@ pub mod Erasing
 pub mod Clearing
 pub mod Adding
 pub mod Beginning
+pub mod Updating

@@ -15,6 +15,7 @@ mod mark_laws;
 mod marking;
 mod moved_pairs;
 mod numbers;
+mod opening;
 mod point_sets;
 mod reach;
 mod readers;
@@ -28,6 +29,7 @@ mod touching;
 mod turn;
 mod turn_laws;
 mod undo;
+mod update;
 mod waiting;
 
 pub use state::BeliefNet;

@@ -37,15 +37,15 @@ pub struct Told {
 }
 
 impl Told {
-    // Nothing is told yet. It takes no memory.
-    pub(crate) fn make(alloc: Global) -> Told
+    // These left, and nothing entered yet. It takes no memory.
+    pub(crate) fn of_left(alloc: Global, left: Seq<DatedOcc>) -> Told
         ensures entered { entered_in result ≡ [] }
-        ensures left { left_in result ≡ [] }
+        ensures left { result.left.items ≡ left.items }
         ensures weight { result.weight ≡ 0 }
     {
         Told {
             entered: Seq::make(alloc),
-            left: Seq::make(alloc),
+            left,
             weight: 0,
         }
     }

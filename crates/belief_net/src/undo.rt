@@ -3,6 +3,7 @@ ghost use Rattle.std.specs.Prelude.{◌≡◌, ℕ, [], None};
 ghost use Rattle.occ_tree.specs.Places.{forest};
 ghost use Rattle.occ_tree.specs.Standing.{present, committed};
 ghost use Rattle.undo_rows.specs.Changes.{present as rows_now, committed as rows_then};
+ghost use Rattle.belief_net.specs.Updating.{CommitsKept, LeadsBack};
 
 use crate::numbers::Numbers;
 use crate::state::{BeliefNet, Decisions};
@@ -29,8 +30,8 @@ impl BeliefNet {
         }
     }
 
-    // Makes nodes and rows those of the last commit. It takes no memory.
-    pub(crate) fn commit(&mut self)
+    /// Makes nodes and rows those of the last commit. It takes no memory.
+    pub fn commit(&mut self)
         ensures nodes { present self.new.tree ≡ present self.old.tree }
         ensures nodes_at_commit { committed self.new.tree ≡ present self.old.tree }
         ensures rows { rows_now self.new.decisions.rows ≡ rows_now self.old.decisions.rows }
@@ -38,14 +39,15 @@ impl BeliefNet {
         ensures rules { self.new.decisions.rules ≡ self.old.decisions.rules }
         ensures classes { self.new.decisions.classes ≡ self.old.decisions.classes }
         ensures waits { self.new.decisions.waiting ≡ self.old.decisions.waiting }
+        ensures kept { CommitsKept self.old self.new }
     {
         self.tree.commit();
         self.decisions.rows.commit();
     }
 
-    // Makes nodes and rows those of the last commit again, of which none waits. Numbers of names stay. It
-    // takes no memory.
-    pub(crate) fn rollback(&mut self)
+    /// Makes nodes and rows those of the last commit again, of which none waits. Numbers of names stay. It
+    /// takes no memory.
+    pub fn rollback(&mut self)
         ensures nodes { present self.new.tree ≡ committed self.old.tree }
         ensures nodes_at_commit { committed self.new.tree ≡ committed self.old.tree }
         ensures rows { rows_now self.new.decisions.rows ≡ rows_then self.old.decisions.rows }
@@ -53,6 +55,7 @@ impl BeliefNet {
         ensures rules { self.new.decisions.rules ≡ self.old.decisions.rules }
         ensures classes { self.new.decisions.classes ≡ self.old.decisions.classes }
         ensures waits { self.new.decisions.waiting ≡ [] }
+        ensures kept { LeadsBack self.old self.new }
     {
         self.tree.rollback();
         self.decisions.rows.rollback();

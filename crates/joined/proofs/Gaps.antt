@@ -1,5 +1,5 @@
 -- Points that moved, and decisions that depend on their distances.
-use Rattle.std.proofs.Common.{◌≡◌, ◌≢◌, ◌∙◌, ℕ, Bool, true, false, List, [], ◌∷◌, refl, sym, ap, subst, inl, inr, ◌⊎◌, arith}
+use Rattle.std.proofs.Common.{◌≡◌, ◌≢◌, ◌∙◌, ℕ, Bool, true, false, List, [], ◌∷◌, refl, sym, ap, subst, inl, inr, arith}
 use Rattle.std.proofs.lemmas.Bool.Decides.{eqb_tells}
 use Rattle.std.proofs.lemmas.Int.{ints}
 use Rattle.std.specs.Prelude.{ℤ, pos, ◌+ℤ◌, ◌-ℤ◌, Option, Some, None, MatchOption, map}
@@ -23,7 +23,7 @@ use Rattle.list_theory.proofs.Elements.{In, In-from_Contains, Contains-from_In, 
 use Rattle.belief_theory.specs.Right.{Occurs}
 use Rattle.belief_theory.specs.Touched.{watched, watched_points}
 use Rattle.belief_theory.proofs.SoundBeliefs.{believed_occurs}
-use Rattle.dist_net.specs.Net.{Net, Nets}
+use Rattle.dist_net.specs.Net.{Nets}
 use Rattle.list_net.specs.Fits.{IsNetOf}
 use Rattle.list_net.specs.Network.{PointsKeepNumbers}
 use Rattle.list_net.specs.Represents.{Names, IsNumberOf}
@@ -34,7 +34,7 @@ use Rattle.spots.specs.declared.spot.Spot.{Spot}
 use Rattle.spots.specs.declared.spot.Spot.TheVariants.{Declared, Node}
 use Rattle.spots.specs.Forest.{Forest, Member, member, IsLive, moment, moment_at}
 use Rattle.spots.specs.Seen.{IsSeen, Holds, map_of}
-use Rattle.spots.specs.Spots.{IsSpot, spot_moment, spot_distance, base_of, links_of, links_low, links_high, links_apart, net_far, row_moment}
+use Rattle.spots.specs.Spots.{IsSpot, spot_moment, spot_distance, base_of, links_of, links_low, links_high, net_far, row_moment}
 use Rattle.spots.proofs.Distances.{distance-one_base, distance-two_bases}
 use Rattle.spots.proofs.Links.{low_is, high_is, apart_is}
 use Rattle.spots.proofs.Nodes.{node_at, live_at, moment_at-is, base-moment, point_is, links_are, rules_are}
@@ -44,7 +44,7 @@ use Rattle.revisions.proofs.Alike.{span_at}
 use Rattle.revisions.proofs.Lawful.{text, token_watched}
 use Rattle.revisions.proofs.StillEdits.{anchor_point, base_root}
 use Rattle.revisions.proofs.Tokens.{is_of_stays}
-use Rattle.joined.specs.Gaps.{SameGaps, reads_class, IsClassSpot, begin, an_end, IsReadSpot, start, read, IsSpotAt, TellsMoves, MovesAt, MovedPointsTouch}
+use Rattle.joined.specs.Gaps.{SameGaps, reads_class, begin, an_end, start, read, IsSpotAt, TellsMoves, MovesAt, MovedPointsTouch}
 
 -- ---- rules that say the same in two lists
 

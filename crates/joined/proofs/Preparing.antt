@@ -29,7 +29,7 @@ use Rattle.revisions.specs.Revisions.{is_firing}
 use Rattle.revisions.proofs.Lawful.{decided}
 use Rattle.joined.specs.Netted.{IsNetted, IsCurrent}
 use Rattle.joined.specs.Rows.{Row, Rows, fires_by, outcome_at, AreLive, HasRow, HasNoRow, AreApart, AreRowsOf}
-use Rattle.joined.specs.Starting.{StartsAs, stood, comes, BeginsFrom, was, is_new, IsPrepared}
+use Rattle.joined.specs.Starting.{StartsAs, stood, comes, NodesBegin, BeginsFrom, RowsBegin, was, is_new, IsPrepared}
 use Rattle.joined.proofs.Deciding.{fires_is, some_row, live_or}
 use Rattle.joined.proofs.Starting.{started}
 use Rattle.joined.proofs.Supporters.{decision_stays}
@@ -67,6 +67,64 @@ no_root s t r at =
     let (p, there, e) = In-filter_map root_of s.premises (After t r) (In-from_Contains (roots s) (After t r) at) in
     let same = root_name p (After t r) e in
     cc
+
+-- ---- nodes and rows that begin
+
+-- a node that stays is of the same occurrence
+pub stays_same : (new : Standing) (f g : Forest) → NodesBegin new f g → (y : ℕ) → IsLive f y → IsLive g y → moment_at g y ≡ moment_at f y
+stays_same new f g begin y before now =
+    let (m, there) = node_at f y before in
+    let (o, here) = node_at g y now in
+    elim (begin.own y o here) [
+      | inl same ↦ moment_at-is g y o here ∙ sym (moment_at-is f y o same)
+      | inr is ↦ (let e : None ≡ Some m = sym is.0 ∙ there in cc)
+    ]
+
+-- each decision of the list after has one row
+module _ (old new : Standing) (f g : Forest) (rows after : Rows) (are : AreRowsOf old f rows) (begin : RowsBegin new g rows after) where
+  pub begun_rows : AreRowsOf new g after
+  begun_rows = record { each = each; own = begin.own; apart = apart }
+    where
+      -- a row that stays is of its decision still
+      stayed : (i : ℕ) (q o : Row) → rows i ≡ Some o → BeginsFrom rows i q → (q.trigger ≡ o.trigger) × (q.rule ≡ o.rule)
+      stayed i q o at (was o2 at2 is) =
+          let there : Some o2 ≡ Some o = sym at2 ∙ at in
+          let one : o2 ≡ o = cc in
+          (ap (λ (z : Row). z.trigger) is ∙ ap (λ (z : Row). z.trigger) one, ap (λ (z : Row). z.rule) is ∙ ap (λ (z : Row). z.rule) one)
+      stayed i q o at (is_new free none blank waits) = let e : None ≡ Some o = sym free ∙ at in cc
+
+      each : (y : ℕ) (rule : List ℕ) → IsLive g y → Contains (rules_at new (moment_at g y)) rule → HasRow after y rule
+      each y rule now stands = by (live_or f y)
+        where
+          had : (v : Bool) → IsLive f y → list_any (same_name rule) (rules_at old (moment_at f y)) ≡ v → HasRow after y rule
+          had true before e =
+              let (i, o, at, tr, ru) = are.each y rule before ((in_test same_name bytes_decides (rules_at old (moment_at f y)) rule).0 e) in
+              let live = subst (IsLive g) (sym tr) now in
+              let (q, there) = some_row (after i) (begin.stay i o at live (subst (λ z. Contains (rules_at new (moment_at g z)) o.rule) (sym tr) (subst (Contains (rules_at new (moment_at g y))) (sym ru) stands))) in
+              let same = stayed i q o at (begin.from i q there) in
+              (i, q, there, same.0 ∙ tr, same.1 ∙ ru)
+          had false before e = begin.all y rule now stands (λ i q at tr ru.
+              (let was_there = subst (λ z. Contains (rules_at old (moment_at f z)) rule) tr (subst (Contains (rules_at old (moment_at f q.trigger))) ru (are.own i q at).1) in
+              let h : true ≡ false = sym ((in_test same_name bytes_decides (rules_at old (moment_at f y)) rule).1 was_there) ∙ e in
+              cc))
+
+          by : IsLive f y ⊎ (IsLive f y → ⊥) → HasRow after y rule
+          by (inl before) = had (list_any (same_name rule) (rules_at old (moment_at f y))) before refl
+          by (inr dead) = begin.all y rule now stands (λ i q at tr ru. dead (subst (IsLive f) tr (are.own i q at).0))
+
+      apart : AreApart after
+      apart i j q o at_q at_o trigger rule = by (begin.from i q at_q) (begin.from j o at_o)
+        where
+          by : BeginsFrom rows i q → BeginsFrom rows j o → i ≡ j
+          by (was q2 here is_q) (was o2 there is_o) =
+              are.apart i j q2 o2 here there
+              (sym (ap (λ (z : Row). z.trigger) is_q) ∙ trigger ∙ ap (λ (z : Row). z.trigger) is_o)
+              (sym (ap (λ (z : Row). z.rule) is_q) ∙ rule ∙ ap (λ (z : Row). z.rule) is_o)
+          by (was q2 here is_q) (is_new free none blank waits) =
+              absurd (none i q2 here (sym (ap (λ (z : Row). z.trigger) is_q) ∙ trigger) (sym (ap (λ (z : Row). z.rule) is_q) ∙ rule))
+          by (is_new free none blank waits) (was o2 there is_o) =
+              absurd (none j o2 there (sym (ap (λ (z : Row). z.trigger) is_o) ∙ sym trigger) (sym (ap (λ (z : Row). z.rule) is_o) ∙ sym rule))
+          by (is_new free none blank waits) (is_new free2 none2 blank2 waits2) = begin.apart i j q o at_q at_o free free2 trigger rule
 
 module _ (old : Standing) (edit : Edit) (net_before net : Net) (f g : Forest) (rows after : Rows) (sound_old : IsSound old) (sound_new : IsSound (next_list old edit))
     (current : IsCurrent old net_before f rows) (prepared : IsPrepared old (next_list old edit) net f g rows after) where
@@ -127,62 +185,6 @@ module _ (old : Standing) (edit : Edit) (net_before net : Net) (f g : Forest) (r
   pub holds : Holds seeds g
   holds = record { own = own_seed; all = node_of; once = prepared.seen.once }
 
-  -- a node that stays is of the same occurrence
-  same_both : (y : ℕ) → IsLive f y → IsLive g y → moment_at g y ≡ moment_at f y
-  same_both y before now =
-      let (m, there) = node_at f y before in
-      let (o, here) = node_at g y now in
-      elim (prepared.nodes_begin.own y o here) [
-        | inl same ↦ moment_at-is g y o here ∙ sym (moment_at-is f y o same)
-        | inr is ↦ (let e : None ≡ Some m = sym is.0 ∙ there in cc)
-      ]
-
-  -- ---- the rows
-
-  rows_are : AreRowsOf new g after
-  rows_are = record { each = each; own = prepared.rows_begin.own; apart = apart }
-    where
-      -- a row that stays is of its decision still
-      stayed : (i : ℕ) (q o : Row) → rows i ≡ Some o → BeginsFrom rows i q → (q.trigger ≡ o.trigger) × (q.rule ≡ o.rule)
-      stayed i q o at (was o2 at2 is) =
-          let there : Some o2 ≡ Some o = sym at2 ∙ at in
-          let one : o2 ≡ o = cc in
-          (ap (λ (z : Row). z.trigger) is ∙ ap (λ (z : Row). z.trigger) one, ap (λ (z : Row). z.rule) is ∙ ap (λ (z : Row). z.rule) one)
-      stayed i q o at (is_new free none blank waits) = let e : None ≡ Some o = sym free ∙ at in cc
-
-      each : (y : ℕ) (rule : List ℕ) → IsLive g y → Contains (rules_at new (moment_at g y)) rule → HasRow after y rule
-      each y rule now stands = by (live_or f y)
-        where
-          had : (v : Bool) → IsLive f y → list_any (same_name rule) (rules_at old (moment_at f y)) ≡ v → HasRow after y rule
-          had true before e =
-              let (i, o, at, tr, ru) = current.rows_are.each y rule before ((in_test same_name bytes_decides (rules_at old (moment_at f y)) rule).0 e) in
-              let live = subst (IsLive g) (sym tr) now in
-              let (q, there) = some_row (after i) (prepared.rows_begin.stay i o at live (subst (λ z. Contains (rules_at new (moment_at g z)) o.rule) (sym tr) (subst (Contains (rules_at new (moment_at g y))) (sym ru) stands))) in
-              let same = stayed i q o at (prepared.rows_begin.from i q there) in
-              (i, q, there, same.0 ∙ tr, same.1 ∙ ru)
-          had false before e = prepared.rows_begin.all y rule now stands (λ i q at tr ru.
-              (let was_there = subst (λ z. Contains (rules_at old (moment_at f z)) rule) tr (subst (Contains (rules_at old (moment_at f q.trigger))) ru (current.rows_are.own i q at).1) in
-              let h : true ≡ false = sym ((in_test same_name bytes_decides (rules_at old (moment_at f y)) rule).1 was_there) ∙ e in
-              cc))
-
-          by : IsLive f y ⊎ (IsLive f y → ⊥) → HasRow after y rule
-          by (inl before) = had (list_any (same_name rule) (rules_at old (moment_at f y))) before refl
-          by (inr dead) = prepared.rows_begin.all y rule now stands (λ i q at tr ru. dead (subst (IsLive f) tr (current.rows_are.own i q at).0))
-
-      apart : AreApart after
-      apart i j q o at_q at_o trigger rule = by (prepared.rows_begin.from i q at_q) (prepared.rows_begin.from j o at_o)
-        where
-          by : BeginsFrom rows i q → BeginsFrom rows j o → i ≡ j
-          by (was q2 here is_q) (was o2 there is_o) =
-              current.rows_are.apart i j q2 o2 here there
-              (sym (ap (λ (z : Row). z.trigger) is_q) ∙ trigger ∙ ap (λ (z : Row). z.trigger) is_o)
-              (sym (ap (λ (z : Row). z.rule) is_q) ∙ rule ∙ ap (λ (z : Row). z.rule) is_o)
-          by (was q2 here is_q) (is_new free none blank waits) =
-              absurd (none i q2 here (sym (ap (λ (z : Row). z.trigger) is_q) ∙ trigger) (sym (ap (λ (z : Row). z.rule) is_q) ∙ rule))
-          by (is_new free none blank waits) (was o2 there is_o) =
-              absurd (none j o2 there (sym (ap (λ (z : Row). z.trigger) is_o) ∙ sym trigger) (sym (ap (λ (z : Row). z.rule) is_o) ∙ sym rule))
-          by (is_new free none blank waits) (is_new free2 none2 blank2 waits2) = prepared.rows_begin.apart i j q o at_q at_o free free2 trigger rule
-
   -- ---- what each row is
 
   abbrev outcome_before : Moment → List ℕ → Outcome
@@ -227,14 +229,14 @@ module _ (old : Standing) (edit : Edit) (net_before net : Net) (f g : Forest) (r
 
           -- event and rule are those before
           event : moment_at g q.trigger ≡ moment_at f o.trigger
-          event = same_both q.trigger live now ∙ ap (λ (z : Row). moment_at f z.trigger) is
+          event = stays_same new f g prepared.nodes_begin q.trigger live now ∙ ap (λ (z : Row). moment_at f z.trigger) is
 
           over : (P : Moment → List ℕ → Type 0) → P (moment_at f o.trigger) o.rule → P (moment_at g q.trigger) q.rule
           over P h = subst (λ z. P z q.rule) (sym event) (subst (P (moment_at f o.trigger)) (sym (ap (λ (z : Row). z.rule) is)) h)
 
           believed : Contains (built old).believed (moment_at g q.trigger)
           believed = let (m, there) = node_at f q.trigger live in
-              subst (Contains (built old).believed) (sym (same_both q.trigger live now ∙ moment_at-is f q.trigger m there)) (current.holds.own q.trigger m there)
+              subst (Contains (built old).believed) (sym (stays_same new f g prepared.nodes_begin q.trigger live now ∙ moment_at-is f q.trigger m there)) (current.holds.own q.trigger m there)
 
           stands : Contains (rules_at old (moment_at g q.trigger)) q.rule
           stands = over (λ t r. Contains (rules_at old t) r) (current.rows_are.own i o at_o).1
@@ -252,7 +254,7 @@ module _ (old : Standing) (edit : Edit) (net_before net : Net) (f g : Forest) (r
     seen = prepared.seen;
     holds = holds;
     seeds = are_seeds;
-    rows_are = rows_are;
+    rows_are = begun_rows old new f g rows after current.rows_are prepared.rows_begin;
     start_as = start_as;
     marked = prepared.marked seeds holds are_seeds;
   })

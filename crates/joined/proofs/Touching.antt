@@ -141,6 +141,21 @@ touched_marked old edit b f rows sound_old sound_new seeds are all only = record
 
 -- ---- another horizon
 
+-- what is believed of the list before is what the nodes are at the beginning, if the horizon alone changes
+module _ (old : Standing) (n : ℕ) (b : List Moment) (sound_old : IsSound old) (seeds : AreSeeds old (list_until old n) b) where
+  -- the same occurs
+  occurs_until : (x : Moment) → Occurs old x → Occurs (list_until old n) x
+  occurs_until (At p) h = h
+  occurs_until (After t r) h = (occurs_until t h.0, h.1)
+
+  pub believed_among : (x : Moment) → Contains (built old).believed x → Contains b x
+  believed_among (At p) at = (seeds.root p).1 ((believed_right old sound_old (At p)).0 at)
+  believed_among (After t r) at = (seeds.derived t r).1 (at, occurs_until (After t r) (believed_occurs old sound_old (After t r) at))
+
+  pub among_believed : (x : Moment) → Contains b x → Contains (built old).believed x
+  among_believed (At p) at = (believed_right old sound_old (At p)).1 ((seeds.root p).0 at)
+  among_believed (After t r) at = ((seeds.derived t r).0 at).0
+
 module _ (old : Standing) (n : ℕ) (b : List Moment) (f : Forest) (rows : Rows) (sound_old : IsSound old) (sound_new : IsSound (list_until old n)) (in_b : Holds b f)
     (seeds : AreSeeds old (list_until old n) b) (are : AreRowsOf (list_until old n) f rows)
     (all : (i : ℕ) (q : Row) → rows i ≡ Some q → (q.waits ≡ true)
@@ -148,20 +163,6 @@ module _ (old : Standing) (n : ℕ) (b : List Moment) (f : Forest) (rows : Rows)
     (only : (i : ℕ) (q : Row) → rows i ≡ Some q → q.waits ≡ true → old.horizon ≢ n) where
   abbrev R : Revision
   R = revision (built old) (built (list_until old n))
-
-  -- the same occurs
-  occurs_until : (x : Moment) → Occurs old x → Occurs (list_until old n) x
-  occurs_until (At p) h = h
-  occurs_until (After t r) h = (occurs_until t h.0, h.1)
-
-  -- the nodes are what was believed
-  into : (x : Moment) → Contains (built old).believed x → Contains b x
-  into (At p) at = (seeds.root p).1 ((believed_right old sound_old (At p)).0 at)
-  into (After t r) at = (seeds.derived t r).1 (at, occurs_until (After t r) (believed_occurs old sound_old (After t r) at))
-
-  back : (x : Moment) → Contains b x → Contains (built old).believed x
-  back (At p) at = (believed_right old sound_old (At p)).1 ((seeds.root p).0 at)
-  back (After t r) at = ((seeds.derived t r).0 at).0
 
   is_of : (x : Moment) → Contains b x → IsOf R x
   is_of x at = occurs_of old (Horizon n) sound_old sound_new x (seed_occurs old (Horizon n) sound_old sound_new b seeds x at)
@@ -174,8 +175,8 @@ module _ (old : Standing) (n : ℕ) (b : List Moment) (f : Forest) (rows : Rows)
         let (m, there) = node_at f q.trigger (are.own i q at).0 in
         let live = subst (Contains b) (sym (moment_at-is f q.trigger m there)) (in_b.own q.trigger m there) in
         horizons_keep old n (far_in old.premises) (built old).believed (moment_at f q.trigger) q.rule same
-        ∙ (lawful old (Horizon n) sound_old sound_new).rests (built old).believed b (λ x here. is_of x (into x here)) is_of
-        (moment_at f q.trigger) q.rule (is_of (moment_at f q.trigger) live) (are.own i q at).1 (λ x _ _. (into x, back x)))
+        ∙ (lawful old (Horizon n) sound_old sound_new).rests (built old).believed b (λ x here. is_of x (believed_among old n b sound_old seeds x here)) is_of
+        (moment_at f q.trigger) q.rule (is_of (moment_at f q.trigger) live) (are.own i q at).1 (λ x _ _. (believed_among old n b sound_old seeds x, among_believed old n b sound_old seeds x)))
   ]
 
   touched : (i : ℕ) (q : Row) → rows i ≡ Some q → q.waits ≡ true → is_touched (built old) (map_of (list_until old n) b) (moment_at f q.trigger, q.rule) ≡ true

@@ -10,7 +10,6 @@ use Rattle.tmm_model.specs.Maps.{built, gap}
 use Rattle.tmm_model.specs.Moments.{Moment, rule_of}
 use Rattle.tmm_model.specs.Points.{same_name}
 use Rattle.tmm_model.specs.Standing.{Standing, points_in}
-use Rattle.list_theory.specs.WellNamed.{IsSound}
 use Rattle.list_theory.proofs.Elements.{In}
 use Rattle.belief_theory.specs.Touched.{watched_points}
 use Rattle.dist_net.specs.Net.{Nets}

@@ -1,10 +1,10 @@
-use Rattle.std.proofs.Common.{◌≡◌, ◌∙◌, ◌<◌, ◌≤◌, ℕ, ◌+◌, List, [], ◌∷◌, ◌++◌, length, take, None, refl, sym, ap, subst, inl, inr, arith}
+use Rattle.std.proofs.Common.{◌≡◌, ◌<◌, ℕ, ◌+◌, List, [], ◌∷◌, ◌++◌, length, take, None, refl, sym, subst, inl, inr, arith}
 use Rattle.std.proofs.lemmas.List.{take_all}
 use Rattle.supports.proofs.Taken.{next_taken}
 use Rattle.tmm_model.specs.Standing.{Standing, premise_in}
 use Rattle.list_theory.proofs.Elements.{In, In-left, In-right, In-cases}
 use Rattle.belief_net.specs.declared.state.BeliefNet.{BeliefNet}
-use Rattle.belief_net.specs.Erasing.{Tells, Notes, Spares, IsFreeOf}
+use Rattle.belief_net.specs.Erasing.{Tells, Notes, IsFreeOf}
 use Rattle.belief_net.proofs.Thinned.{once_less, under_less, free_less, thins_none, tells_none, notes_none, spares_none, keep_stays, thins_on, tells_on, notes_on, spares_on, keep_on}
 use Rattle.belief_net.proofs.erasing.erase.Goals as goal
 

@@ -1,4 +1,4 @@
-use Rattle.std.proofs.Common.{◌≡◌, ◌≢◌, ◌∙◌, ◌+◌, ◌≤◌, ℕ, length, Some, None, sym, ap, subst, arith}
+use Rattle.std.proofs.Common.{◌≡◌, ◌∙◌, ◌+◌, ◌≤◌, length, sym, ap, subst, arith}
 use Rattle.std.specs.Prelude.{IfSome, is_some}
 use Rattle.tmm_model.specs.Moments.{After}
 use Rattle.tmm_model.specs.Standing.{premise_in}

@@ -1,6 +1,5 @@
-use Rattle.std.proofs.Common.{◌≡◌, ◌∙◌, [], ◌∷◌, Some, None, sym, ap, subst, inl, inr}
+use Rattle.std.proofs.Common.{◌∙◌, sym}
 use Rattle.occ_tree.specs.Places.{forest}
-use Rattle.occ_tree.specs.Classes.{place_in, HaveMore}
 use Rattle.spots.proofs.Nodes.{node_at}
 use Rattle.belief_net.proofs.Brought.{class_is_at}
 use Rattle.belief_net.proofs.Parted.{notes_one, notes_no_token}

@@ -1,4 +1,4 @@
-use Rattle.std.proofs.Common.{◌≡◌, ◌≢◌, ◌∙◌, length, sym, ap, subst, w64, to_z, of_z, rules}
+use Rattle.std.proofs.Common.{◌≢◌, ◌∙◌, length, sym, w64, rules}
 use Rattle.std.specs.Prelude.{FitsSigned}
 use Rattle.std.proofs.lemmas.Int.{to_z-of_z}
 use Rattle.occ_tree.specs.Places.{forest}

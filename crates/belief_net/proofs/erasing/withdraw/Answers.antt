@@ -1,4 +1,4 @@
-use Rattle.std.proofs.Common.{◌≡◌, ℕ, subst}
+use Rattle.std.proofs.Common.{subst}
 use Rattle.row_links.specs.Lists.{IsOn}
 use Rattle.spots.proofs.Nodes.{live_at}
 use Rattle.occ_tree.specs.Places.{forest}

@@ -1,4 +1,4 @@
-use Rattle.std.proofs.Common.{◌≡◌, ◌∙◌, Bool, true, false, None, Option, sym, ap, subst, arith}
+use Rattle.std.proofs.Common.{◌≡◌, ◌∙◌, true, false, Option, sym, ap, subst, arith}
 use Rattle.std.specs.Prelude.{is_some}
 use Rattle.tmm_model.specs.declared.premise.Premise.{Premise}
 use Rattle.spots.proofs.Nodes.{moment_at-is}

@@ -1,4 +1,4 @@
-use Rattle.std.proofs.Common.{◌≡◌, ◌∙◌, ◌<◌, [], ◌∷◌, length, take, sym, subst, arith}
+use Rattle.std.proofs.Common.{◌≡◌, ◌<◌, [], length, take, sym, subst, arith}
 use Rattle.std.specs.Prelude.{pos}
 use Rattle.std.proofs.lemmas.List.{take_more, take_all}
 use Rattle.undo_rows.specs.Changes.{Logged, present as table}

@@ -1,7 +1,7 @@
-use Rattle.std.proofs.Common.{◌≡◌, ◌∙◌, sym, ap, subst, rules, w64, to_z, of_z}
+use Rattle.std.proofs.Common.{◌∙◌, sym, ap, subst, rules, w64}
 use Rattle.std.specs.Prelude.{FitsSigned}
 use Rattle.std.proofs.lemmas.Int.{to_z-of_z}
-use Rattle.tmm_model.specs.Beliefs.{rules_at, rules_on}
+use Rattle.tmm_model.specs.Beliefs.{rules_on}
 use Rattle.list_theory.proofs.Distinct.{Distinct}
 use Rattle.spots.proofs.Nodes.{node_at}
 use Rattle.occ_tree.specs.Places.{forest}

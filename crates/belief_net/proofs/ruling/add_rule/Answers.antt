@@ -1,5 +1,5 @@
-use Rattle.std.proofs.Common.{◌≡◌, ℕ, sym, subst, nat_eq}
-use Rattle.std.specs.List.{Contains, IsDistinct}
+use Rattle.std.proofs.Common.{sym, subst, nat_eq}
+use Rattle.std.specs.List.{IsDistinct}
 use Rattle.std.proofs.lemmas.List.Elements.{All-contains}
 use Rattle.list_theory.proofs.Elements.{In-from_Contains, Contains-from_In}
 use Rattle.row_links.specs.Lists.{IsOn}

@@ -1,7 +1,6 @@
-use Rattle.std.proofs.Common.{◌≡◌, ◌∙◌, true, false, [], ◌∷◌, refl, sym, subst, rules, w64, to_z, of_z}
+use Rattle.std.proofs.Common.{◌≡◌, ◌∙◌, true, false, [], ◌∷◌, refl, subst, rules, w64}
 use Rattle.std.specs.Prelude.{FitsSigned}
 use Rattle.std.proofs.lemmas.Int.{to_z-of_z}
-use Rattle.occ_tree.specs.Standing.{present, early}
 use Rattle.belief_net.specs.Adding.{IsEventOf}
 use Rattle.belief_net.specs.Decided.{AddsRows}
 use Rattle.belief_net.proofs.Ruled.{alone, rule_here, rule_nowhere}
