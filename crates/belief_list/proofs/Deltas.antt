@@ -4,15 +4,16 @@ use Rattle.std.specs.Prelude.{not, ◌&&◌, ◌||◌, filter, cond, Option, Som
 use Rattle.std.specs.Option.{is_some, is_none, option_eq, option_and_then}
 use Rattle.std.specs.List.{filter_map, cons_option}
 use Rattle.tmm_model.specs.Answers.{Row, row, rows, clip}
-use Rattle.tmm_model.specs.Changes.{delta, in_order, new_clip}
+use Rattle.tmm_model.specs.Changes.{delta, in_order, new_clip, clip_pair}
 use Rattle.tmm_model.specs.Maps.{TimeMap, is_among, is_believed}
-use Rattle.tmm_model.specs.Moments.{Moment, same_moment, is_derived}
+use Rattle.tmm_model.specs.Moments.{Moment, same_moment, is_derived, moment_of}
 use Rattle.list_theory.proofs.Elements.{In, In-from_Contains, Contains-from_In}
 use Rattle.belief_theory.proofs.Moments.{Decides-same_moment}
 use Rattle.belief_theory.proofs.Order.{ordered}
 use Rattle.belief_theory.proofs.Sorts.{sorted_in}
 use Rattle.belief_theory.proofs.Upholding.{among, is_among-Contains}
-use Rattle.belief_list.specs.Compared.{row_in, clip_in, gone_row, loose_row, new_clip_row, clip_row}
+use Rattle.belief_list.specs.Compared.{row_in, clip_in, gone_row, loose_row, new_clip_row, clip_row, AreChanges}
+use Rattle.belief_list.specs.declared.changes.BeliefChanges.{BeliefChanges}
 
 -- ---- members
 
@@ -77,13 +78,13 @@ unlisted m x = ap is_none (row_among m (in_order m) x) ∙ by (is_among (in_orde
     by false = refl
 
 -- of the maps m and n
-pub gone_rows : (m n : TimeMap) → filter_map (gone_row (rows n)) (rows m) ≡ filter (λ x. is_derived x && not (is_believed n x)) (in_order m)
+gone_rows : (m n : TimeMap) → filter_map (gone_row (rows n)) (rows m) ≡ filter (λ x. is_derived x && not (is_believed n x)) (in_order m)
 gone_rows m n =
     filter_rows m (gone_row (rows n)) (λ x. is_derived x && not (is_believed n x))
     (λ x. ap (λ b. elim (is_derived x && b) as (λ _. Option Moment) [ true ↦ Some x | false ↦ None ]) (unlisted n x))
     (in_order m)
 
-pub loose_rows : (old new : TimeMap) → filter_map (loose_row (rows old)) (rows new) ≡ (delta old new).loose
+loose_rows : (old new : TimeMap) → filter_map (loose_row (rows old)) (rows new) ≡ (delta old new).loose
 loose_rows old new =
     filter_rows new (loose_row (rows old)) (λ x. is_believed old x && is_some (clip old x) && is_none (clip new x))
     (λ x. ap (λ c. elim (is_some c && is_none (clip new x)) as (λ _. Option Moment) [ true ↦ Some x | false ↦ None ]) (clip_among old x) ∙ by x (is_believed old x))
@@ -94,7 +95,7 @@ loose_rows old new =
     by x true = refl
     by x false = refl
 
-pub clip_rows : (old new : TimeMap) → filter_map (clip_row (rows old)) (rows new) ≡ (delta old new).clips
+clip_rows : (old new : TimeMap) → filter_map (clip_row (rows old)) (rows new) ≡ (delta old new).clips
 clip_rows old new =
     map_rows new (clip_row (rows old)) (λ x. new_clip old new x (clip new x))
     (λ x. ap (λ o. new_clip_row x o (clip new x)) (clip_among old x) ∙ by x (clip new x) (is_believed old x) refl)
@@ -104,3 +105,14 @@ clip_rows old new =
     by x None b e = refl
     by x (Some c) true e = ap (λ z. elim (z && option_eq same_moment (clip old x) (Some c)) as (λ _. Option (Moment × Moment)) [ true ↦ None | false ↦ Some (x, c) ]) (sym e)
     by x (Some c) false e = ap (λ z. elim (z && option_eq same_moment (clip old x) (Some c)) as (λ _. Option (Moment × Moment)) [ true ↦ None | false ↦ Some (x, c) ]) (sym e)
+
+-- **What changed from the rows of one map to those of another is what changed of belief between them.**
+pub are_changes : (old new : List Row) (c : BeliefChanges) → map moment_of c.left.items ≡ filter_map (gone_row new) old → map moment_of c.entered.items ≡ filter_map (gone_row old) new
+    → map moment_of c.loose.items ≡ filter_map (loose_row old) new → map clip_pair c.clips.items ≡ filter_map (clip_row old) new
+    → (m n : TimeMap) → old ≡ rows m → new ≡ rows n → AreChanges m n c
+are_changes old new c left entered loose clips m n of_m of_n = record {
+  left = left ∙ (λ i. filter_map (gone_row (of_n i)) (of_m i)) ∙ gone_rows m n;
+  entered = entered ∙ (λ i. filter_map (gone_row (of_m i)) (of_n i)) ∙ gone_rows n m;
+  loose = loose ∙ (λ i. filter_map (loose_row (of_m i)) (of_n i)) ∙ loose_rows m n;
+  clips = clips ∙ (λ i. filter_map (clip_row (of_m i)) (of_n i)) ∙ clip_rows m n;
+}

@@ -1,4 +1,7 @@
+pub mod Tables
 pub mod Lookups
 pub mod Deltas
-pub mod Tables
+pub mod Matches
+pub mod Kept
 pub mod Ordered
+pub mod Empty

@@ -1,7 +1,7 @@
 -- Nodes and rows that are found by their occurrences.
 use Rattle.std.proofs.Common.{◌≡◌, ℕ, Bool, true, false, List, [], ◌∷◌, ◌++◌, map, refl, sym, ◌∙◌, ap, subst, inl, inr, nat_eq}
-use Rattle.std.specs.Prelude.{◌≢◌, Option, Some, None}
-use Rattle.std.specs.Option.{is_some, is_none, option_eq}
+use Rattle.std.specs.Prelude.{◌≢◌, Option, Some, None, IfSome}
+use Rattle.std.specs.Option.{is_some, option_eq, option_map}
 use Rattle.std.specs.List.{Contains}
 use Rattle.std.proofs.lemmas.List.Elements.{All-contains}
 use Rattle.std.proofs.lemmas.Bool.Decides.{Decides-eqb}
@@ -10,35 +10,32 @@ use Rattle.tmm_model.specs.Answers.{Row}
 use Rattle.tmm_model.specs.Moments.{Moment, At, After, same_moment, rules, is_derived}
 use Rattle.list_theory.proofs.Elements.{In, In-map, map-In, In-from_Contains, Contains-from_In}
 use Rattle.belief_theory.proofs.Moments.{Decides-same_moment}
-use Rattle.spots.specs.Forest.{Forest, Member, member, IsLive, moment, moment_at, rules_of, IsFound, IsOnce, IsParent}
+use Rattle.spots.specs.Forest.{Forest, Member, member, IsLive, moment, moment_at, rules_of, IsOnce, IsParent}
 use Rattle.spots.specs.declared.link.Link.{Link}
-use Rattle.spots.proofs.Nodes.{node_at, live_at, moment_at-is, rules-moment}
+use Rattle.spots.proofs.Nodes.{node_at, moment_at-is, rules-moment}
 use Rattle.belief_list.specs.declared.list.BeliefRow.{BeliefRow}
 use Rattle.belief_list.specs.Rows.{row_at, IsLiveRow, IsListing}
 use Rattle.belief_list.specs.Compared.{row_in}
 
 -- ---- nodes
 
--- a node is found under a number where the moment is that of the number's node
-pub same_clip : (f : Forest) (k : Moment) (found : Option ℕ) (by : ℕ) → IsOnce f → IsLive f by → IsFound f k found → option_eq nat_eq found (Some by) ≡ same_moment (moment_at f by) k
-same_clip f k None by once live none = each (same_moment (moment_at f by) k) refl
+-- a node clips under a number where it clips as an occurrence
+pub same_clip : (f : Forest) (clip : Option ℕ) (x : ℕ) → IsOnce f → IfSome clip (IsLive f) → IsLive f x → option_eq nat_eq clip (Some x) ≡ option_eq same_moment (option_map (moment_at f) clip) (Some (moment_at f x))
+same_clip f None x once live_y live_x = refl
+same_clip f (Some y) x once live_y live_x = each (nat_eq y x) (same_moment (moment_at f y) (moment_at f x)) refl refl
   where
-    each : (b : Bool) → same_moment (moment_at f by) k ≡ b → false ≡ b
-    each false e = refl
-    each true e = let (m, here) = node_at f by live in absurd (none by m here (sym (moment_at-is f by m here) ∙ (Decides-same_moment (moment_at f by) k).0 e))
-same_clip f k (Some x) by once live (n, there, is) = each (nat_eq x by) (same_moment (moment_at f by) k) refl refl
-  where
-    each : (a b : Bool) → nat_eq x by ≡ a → same_moment (moment_at f by) k ≡ b → a ≡ b
+    each : (a b : Bool) → nat_eq y x ≡ a → same_moment (moment_at f y) (moment_at f x) ≡ b → a ≡ b
     each true true e g = refl
     each false false e g = refl
     each true false e g =
-        let one : x ≡ by = (Decides-eqb x by).0 e in
-        let t : same_moment (moment_at f by) k ≡ true = (Decides-same_moment (moment_at f by) k).1 (ap (moment_at f) (sym one) ∙ moment_at-is f x n there ∙ is) in
+        let t : same_moment (moment_at f y) (moment_at f x) ≡ true = (Decides-same_moment (moment_at f y) (moment_at f x)).1 (ap (moment_at f) ((Decides-eqb y x).0 e)) in
         cc
     each false true e g =
-        let (m, here) = node_at f by live in
-        let one : x ≡ by = once x by n m there here (is ∙ sym ((Decides-same_moment (moment_at f by) k).0 g) ∙ moment_at-is f by m here) in
-        let t : nat_eq x by ≡ true = (Decides-eqb x by).1 one in
+        let (m, here) = node_at f y live_y in
+        let (n, there) = node_at f x live_x in
+        let same : moment_at f y ≡ moment_at f x = (Decides-same_moment (moment_at f y) (moment_at f x)).0 g in
+        let one : y ≡ x = once y x m n here there (sym (moment_at-is f y m here) ∙ same ∙ moment_at-is f x n there) in
+        let t : nat_eq y x ≡ true = (Decides-eqb y x).1 one in
         cc
 
 -- ---- effects of rules
@@ -74,6 +71,15 @@ row_in-none (r ∷ rs) x none = by (same_moment x r.occ) refl (row_in-none rs x 
     by true e rest = absurd (none r (inl refl) (sym ((Decides-same_moment x r.occ).0 e)))
     by false e rest = rest
 
+-- the row of an occurrence is its own
+pub row_in-own : (rs : List Row) (x : Moment) (r : Row) → row_in rs x ≡ Some r → r.occ ≡ x
+row_in-own [] x r at = cc
+row_in-own (q ∷ rs) x r at = by (same_moment x q.occ) refl at (row_in-own rs x r)
+  where
+    by : (b : Bool) → same_moment x q.occ ≡ b → elim b as (λ _. Option Row) [ true ↦ Some q | false ↦ row_in rs x ] ≡ Some r → (row_in rs x ≡ Some r → r.occ ≡ x) → r.occ ≡ x
+    by true e at rest = let is : q ≡ r = cc in ap (λ (w : Row). w.occ) (sym is) ∙ sym ((Decides-same_moment x q.occ).0 e)
+    by false e at rest = rest at
+
 pub row_in-some : (rs : List Row) (x : Moment) (q : Row) → In q rs → q.occ ≡ x → ((r : Row) → In r rs → r.occ ≡ x → r ≡ q) → row_in rs x ≡ Some q
 row_in-some [] x q at is one = absurd at
 row_in-some (r ∷ rs) x q at is one = by (same_moment x r.occ) refl at (λ there. row_in-some rs x q there is (λ w at. one w (inr at)))
@@ -89,14 +95,11 @@ module _ (f : Forest) (rows : List BeliefRow) (listing : IsListing f rows) where
   live_node : (r : BeliefRow) → In r rows → IsLive f r.node
   live_node r at = (All-contains (IsLiveRow f) rows r listing.live (Contains-from_In rows r at)).node
 
-  pub no_row : (x : Moment) → IsFound f x None → row_in (map (row_at f) rows) x ≡ None
-  no_row x none = row_in-none (map (row_at f) rows) x apart
+  pub no_row : (x : Moment) → ((r : BeliefRow) → In r rows → moment_at f r.node ≡ x → ⊥) → row_in (map (row_at f) rows) x ≡ None
+  no_row x apart = row_in-none (map (row_at f) rows) x others
     where
-      apart : (r : Row) → In r (map (row_at f) rows) → r.occ ≢ x
-      apart r at is =
-          let (q, there, e) = In-map (row_at f) rows r at in
-          let (m, here) = node_at f q.node (live_node q there) in
-          none q.node m here (sym (moment_at-is f q.node m here) ∙ ap (λ (w : Row). w.occ) e ∙ is)
+      others : (r : Row) → In r (map (row_at f) rows) → r.occ ≢ x
+      others r at is = let (q, there, e) = In-map (row_at f) rows r at in apart q there (ap (λ (w : Row). w.occ) e ∙ is)
 
   -- two rows of one occurrence are one
   one_row : (r q : BeliefRow) → In r rows → In q rows → moment_at f r.node ≡ moment_at f q.node → r ≡ q
@@ -113,10 +116,3 @@ module _ (f : Forest) (rows : List BeliefRow) (listing : IsListing f rows) where
       one r there same =
           let (w, at_w, e) = In-map (row_at f) rows r there in
           sym e ∙ ap (row_at f) (one_row w q at_w at (ap (λ (z : Row). z.occ) e ∙ same ∙ sym is))
-
-  -- an occurrence is listed exactly where it is found
-  pub listed_is : (x : Moment) (found : Option ℕ) → IsFound f x found → is_none (row_in (map (row_at f) rows) x) ≡ is_none found
-  listed_is x None none = ap is_none (no_row x none)
-  listed_is x (Some y) (m, here, is) =
-      let (r, there, same) = listing.all y (live_at f y m here) in
-      ap is_none (one_found r x (In-from_Contains rows r there) (ap (moment_at f) same ∙ moment_at-is f y m here ∙ is))

@@ -1,3 +1,5 @@
 pub mod Rows
 pub mod Compared
 pub mod Tables
+pub mod Matches
+pub mod Kept

@@ -2,14 +2,19 @@
 //! between two such lists. It stands on `supports`.
 //!
 //! `listed` answers the rows of the map of a standing list; `compare` answers what of belief changed
-//! from one list of rows to another, as it is defined for their maps; `list_rows` tells the rows for a
-//! reply. Without memory a call answers `NoMemory`.
+//! from one list of rows to another, as it is defined for their maps, and `compare_kept` the same from the
+//! rows of the last commit of a tree to its present ones; `list_rows` tells the rows for a reply. Without
+//! memory a call answers `NoMemory`.
 #![tactic(auto)]
 
 mod changes;
+mod kept_changes;
 mod list;
+mod matched;
+mod places;
 #[cfg(test)]
 mod tests;
 
 pub use changes::{BeliefChanges, compare};
+pub use kept_changes::{LeftNode, compare_kept};
 pub use list::{BeliefRow, list_rows, listed};
