@@ -16,13 +16,14 @@ ghost use Rattle.std.specs.Option.{ForSome};
 ghost use Rattle.clipping.specs.Live.{IsLive};
 ghost use Rattle.clipping.specs.Ahead.{IsAhead};
 ghost use Rattle.clipping.specs.Cutters.{BeginsBy, clips_until};
-ghost use Rattle.clipping.specs.Lasts.{IsLastPlace};
 ghost use Rattle.clipping.specs.Faults.{IsClipPlace, IsFault};
 
 pub mod by_date;
 mod dated;
+mod stretches;
 
 pub use dated::Dated;
+pub use stretches::{Stretched, last_clipper, stretch_behind};
 use tmm_model::{Name, Sure, TokenRow};
 
 // Whether `c` contradicts `k`, and surely begins after it and at or before `q`.
@@ -311,24 +312,6 @@ pub fn first_clipper<S: Sure>(order: &S, tokens: &[TokenRow<S::Spot>], k: usize)
         Some(_) => None,
         None => first_clip(order, tokens, row, None),
     }
-}
-
-/// The place of the last of the tokens that clips `k`, none exactly where no token does.
-pub fn last_clipper<S: Sure>(
-    order: &S,
-    tokens: &[TokenRow<S::Spot>],
-    k: &TokenRow<S::Spot>,
-) -> Option<usize>
-    requires all_live { All (IsLive (S.live order.now)) tokens.now }
-    requires k_live { S.live order.now k.now.spot }
-    ensures { IsLastPlace (clips of_one_class (S.distance order.now) k.now) tokens.now result }
-{
-    for i in (0..tokens.len()).rev() {
-        if clips_after(order, k, &tokens[i]) {
-            return Some(i);
-        }
-    }
-    None
 }
 
 /// Why a token does not support its fact.

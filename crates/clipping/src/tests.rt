@@ -1,7 +1,10 @@
 //! Tokens at plain dates.
+ghost use Rattle.std.specs.Prelude.{IfOk};
 ghost use Rattle.clipping.specs.Dates.{date_far, date_cmp, itself, triangle, ordered, dated};
+ghost use Rattle.clipping.specs.Stretches.{HaveStretches};
 
 use super::*;
+use std::alloc::Global;
 use std::cmp::Ordering;
 use std::test::Fail;
 
@@ -132,6 +135,51 @@ fn tokens_of_a_door(rt: HostRuntime) -> Result<(), Fail> {
     for (k, found) in [(0, Some(5)), (2, Some(1)), (3, None), (4, None), (5, None)] {
         assert_eq!(rt; clipper_of(&tokens, k), found);
     }
+    for (k, p, q, fault) in [
+        (2, -1, -1, Fault::Late),
+        (2, 4, 5, Fault::Clipped(1)),
+        (5, 6, 11, Fault::Late),
+        (5, 7, 12, Fault::Ends),
+    ] {
+        assert_eq!(rt; fault_of(&tokens, k, p, q), Some(fault));
+    }
+    Ok(())
+}
+
+// The tokens, each with its stretch.
+fn with_stretches(
+    alloc: Global,
+    tokens: &[TokenRow<(u8, i32, usize)>],
+) -> Result<Vec<Stretched<(u8, i32, usize)>>, Fail>
+    ensures { IfOk result (λ list. HaveStretches list.items) }
+{
+    let mut list = Vec::new(alloc);
+    for row in tokens {
+        let first = stretch_behind(&list, &row.fact);
+        list.push(Stretched { row: *row, first })?;
+    }
+    Ok(list)
+}
+
+#[test]
+fn the_last_that_clips_a_token_of_a_door(rt: HostRuntime) -> Result<(), Fail> {
+    let door = Name::of(b"door").ok_or("name")?;
+    let open = Name::of(b"open").ok_or("name")?;
+    let shut = Name::of(b"shut").ok_or("name")?;
+    let tokens = [
+        token(0, 5, 2, shut, door),
+        token(0, 5, 1, shut, door),
+        token(0, 0, 3, open, door),
+        token(0, 5, 4, open, door),
+        token(1, 2, 0, shut, door),
+        span(7, 12, 5, open, door),
+    ];
+    let list = with_stretches(rt.alloc(), &tokens)?;
+    let firsts = [0, 0, 2, 2, 4, 5];
+    assert_eq!(rt; list.len(), firsts.len());
+    for (token, first) in list.iter().zip(firsts) {
+        assert_eq!(rt; token.first, first);
+    }
     for (line, date, fact, last) in [
         // by those that are open at 5 and at 7, of which the span stands last
         (0, 4, shut, Some(5)),
@@ -144,17 +192,9 @@ fn tokens_of_a_door(rt: HostRuntime) -> Result<(), Fail> {
         (1, 0, shut, None),
     ] {
         assert_eq!(rt;
-            last_clipper(&Dates, &tokens, &token(line, date, 7, fact, door)),
+            last_clipper(&Dates, &list, &token(line, date, 7, fact, door)),
             last
         );
-    }
-    for (k, p, q, fault) in [
-        (2, -1, -1, Fault::Late),
-        (2, 4, 5, Fault::Clipped(1)),
-        (5, 6, 11, Fault::Late),
-        (5, 7, 12, Fault::Ends),
-    ] {
-        assert_eq!(rt; fault_of(&tokens, k, p, q), Some(fault));
     }
     Ok(())
 }

@@ -8,7 +8,7 @@ use Rattle.std.specs.Ordering.{on}
 use Rattle.std.specs.declared.cmp.Ordering.{Ordering}
 use Rattle.std.specs.declared.cmp.Ordering.TheVariants.{Less}
 use Rattle.std.specs.Cmp.Lexicographic.{nat_list_eq_equiv}
-use Rattle.std.proofs.lemmas.List.{append-nil, length-map, get_or-map, drop_more}
+use Rattle.std.proofs.lemmas.List.{append-nil, length-map, get_or-map, map-append, drop_more}
 use Rattle.std.proofs.lemmas.Map.Keys.{sorted_tail}
 use Rattle.tmm_model.specs.declared.token.TokenRow.{TokenRow}
 use Rattle.tmm_model.specs.Points.{same_name}
@@ -17,6 +17,9 @@ use Rattle.list_theory.proofs.Elements.{In, In-from_Contains, In-left, In-right,
 use Rattle.walk_theory.proofs.Members.{All-from_contains}
 use Rattle.walk_theory.proofs.Points.{same_name-is}
 use Rattle.dist_net.specs.Net.{Net}
+use Rattle.clipping.specs.declared.stretches.Stretched.{Stretched}
+use Rattle.clipping.specs.Stretches.{rows_of, IsStretch, HaveStretches}
+use Rattle.clipping.proofs.OneFact.{stretched_push}
 use Rattle.name_lists.specs.Lists.{Appends}
 use Rattle.occ_tree.specs.Ranks.{nodes_of}
 use Rattle.occ_tree.specs.declared.ranks.Ranked.{Ranked}
@@ -138,26 +141,36 @@ module _ (f : Forest) (nodes : List ℕ) (i : ℕ) (lt : i < length nodes) where
   from_here = drop_more nodes i 0 lt
 
   -- an event adds no token
-  pub behind_event : token_at f (slice_index_or nodes i 0) ≡ None → (lists : List ℕ → List (TokenRow Spot)) → AreBehind f (drop (i + 1) nodes) lists → AreBehind f (drop i nodes) lists
+  pub behind_event : token_at f (slice_index_or nodes i 0) ≡ None → (lists : List ℕ → List (Stretched Spot)) → AreBehind f (drop (i + 1) nodes) lists → AreBehind f (drop i nodes) lists
   behind_event none lists are class =
-      are class
-      ∙ sym (append-nil (rows_behind f class (drop (i + 1) nodes)))
+      let same : rows_behind f class (drop (i + 1) nodes) ≡ rows_behind f class (drop i nodes) =
+      sym (append-nil (rows_behind f class (drop (i + 1) nodes)))
       ∙ ap (λ o. rows_behind f class (drop (i + 1) nodes) ++ of_class class o) (sym none)
-      ∙ ap (rows_behind f class) (sym from_here)
+      ∙ ap (rows_behind f class) (sym from_here) in
+      ((are class).0 ∙ same, (are class).1)
 
   -- a token stands last in its class
-  pub behind_token : (row : TokenRow Spot) → token_at f (slice_index_or nodes i 0) ≡ Some row → (old new : List ℕ → List (TokenRow Spot)) → AreBehind f (drop (i + 1) nodes) old → Appends old new row.class row
-      → AreBehind f (drop i nodes) new
-  behind_token row is old new are appends class =
-      by (same_name class row.class) refl
-      ∙ ap (λ o. rows_behind f class (drop (i + 1) nodes) ++ of_class class o) (sym is)
-      ∙ ap (rows_behind f class) (sym from_here)
+  pub behind_token : (row : TokenRow Spot) → token_at f (slice_index_or nodes i 0) ≡ Some row → (first : ℕ) → (old new : List ℕ → List (Stretched Spot)) → AreBehind f (drop (i + 1) nodes) old
+      → IsStretch (rows_of (old row.class)) row.fact first (length (old row.class)) → Appends old new row.class (record { row = row; first = first }) → AreBehind f (drop i nodes) new
+  behind_token row is first old new are stretch appends class =
+      let (rows, stretches) = by (same_name class row.class) refl in
+      (rows ∙ ap (λ o. rows_behind f class (drop (i + 1) nodes) ++ of_class class o) (sym is) ∙ ap (rows_behind f class) (sym from_here), stretches)
     where
-      by : (v : Bool) → same_name class row.class ≡ v → new class ≡ rows_behind f class (drop (i + 1) nodes) ++ elim v [ true ↦ row ∷ [] | false ↦ [] ]
-      by true e = let same : class ≡ row.class = same_name-is class row.class e in ap new same ∙ appends.own ∙ ap (λ c. old c ++ row ∷ []) (sym same) ∙ ap (λ l. l ++ row ∷ []) (are class)
+      token : Stretched Spot
+      token = record { row = row; first = first }
+
+      by : (v : Bool) → same_name class row.class ≡ v → (rows_of (new class) ≡ rows_behind f class (drop (i + 1) nodes) ++ elim v [ true ↦ row ∷ [] | false ↦ [] ]) × HaveStretches (new class)
+      by true e =
+          let same : class ≡ row.class = same_name-is class row.class e in
+          let pushed : new class ≡ old class ++ token ∷ [] = ap new same ∙ appends.own ∙ ap (λ c. old c ++ token ∷ []) (sym same) in
+          let own : IsStretch (rows_of (old class)) row.fact first (length (old class)) = subst (λ c. IsStretch (rows_of (old c)) row.fact first (length (old c))) (sym same) stretch in (
+            ap rows_of pushed ∙ map-append (λ (t : Stretched Spot). t.row) (old class) (token ∷ []) ∙ ap (λ l. l ++ row ∷ []) (are class).0,
+            subst HaveStretches (sym pushed) (stretched_push (old class) (are class).1 token own),
+          )
       by false e =
           let other : class ≢ row.class = λ same. (let t : same_name class row.class ≡ true = subst (λ z. same_name class z ≡ true) same (nat_list_eq_equiv.refl class) in cc) in
-          appends.others class other ∙ are class ∙ sym (append-nil (rows_behind f class (drop (i + 1) nodes)))
+          let stays : new class ≡ old class = appends.others class other in
+          (ap rows_of stays ∙ (are class).0 ∙ sym (append-nil (rows_behind f class (drop (i + 1) nodes))), subst HaveStretches (sym stays) (are class).1)
 
 -- ---- nodes by their places
 

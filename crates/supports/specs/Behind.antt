@@ -7,6 +7,8 @@ use Rattle.tmm_model.specs.Moments.{Moment}
 use Rattle.tmm_model.specs.Points.{same_name}
 use Rattle.tmm_model.specs.Standing.{Standing}
 use Rattle.clipping.specs.Lasts.{IsLast}
+use Rattle.clipping.specs.Stretches.{rows_of, HaveStretches}
+use Rattle.clipping.specs.declared.stretches.Stretched.{Stretched}
 use Rattle.dist_net.specs.Net.{Net}
 use Rattle.spots.specs.declared.spot.Spot.{Spot}
 use Rattle.spots.specs.declared.spot.Spot.TheVariants.{Node}
@@ -28,9 +30,10 @@ abbrev pub rows_behind : Forest → List ℕ → List ℕ → List (TokenRow Spo
 rows_behind f class [] = []
 rows_behind f class (x ∷ xs) = rows_behind f class xs ++ of_class class (token_at f x)
 
--- under each class stand its tokens among the nodes, that of the first node last
-abbrev pub AreBehind : Forest → List ℕ → (List ℕ → List (TokenRow Spot)) → Type 0
-AreBehind f xs behind = (class : List ℕ) → behind class ≡ rows_behind f class xs
+-- under each class stand its tokens among the nodes, that of the first node last, and beside each where
+-- the stretch of tokens of its fact begins that goes up to it
+abbrev pub AreBehind : Forest → List ℕ → (List ℕ → List (Stretched Spot)) → Type 0
+AreBehind f xs behind = (class : List ℕ) → (rows_of (behind class) ≡ rows_behind f class xs) × HaveStretches (behind class)
 
 -- it is the node of the last of the tokens that pass, none exactly where none does
 abbrev pub IsLastNode : (TokenRow Spot → Bool) → List (TokenRow Spot) → Option ℕ → Type 0

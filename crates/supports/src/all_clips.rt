@@ -7,6 +7,7 @@ ghost use Rattle.tmm_model.specs.Answers.{clip};
 ghost use Rattle.tmm_model.specs.Moments.{Moment};
 ghost use Rattle.tmm_model.specs.Standing.{Standing};
 ghost use Rattle.tmm_model.specs.Tokens.{of_one_class, clips};
+ghost use Rattle.clipping.specs.Stretches.{rows_of, HaveStretches};
 ghost use Rattle.name_lists.specs.Lists.{list_of};
 ghost use Rattle.occ_tree.specs.Ranks.{nodes_of};
 ghost use Rattle.spots.specs.Forest.{IsLive, moment_at};
@@ -17,8 +18,8 @@ ghost use Rattle.occ_tree.specs.Places.{forest};
 ghost use Rattle.supports.specs.Behind.{AreBehind, IsClip, IsLastNode, token_at};
 ghost use Rattle.supports.specs.Nodes.{IsOfNode};
 
-use crate::node_at;
-use clipping::last_clipper;
+use crate::node_of;
+use clipping::{Stretched, last_clipper, stretch_behind};
 use dist_net::DistNet;
 use name_lists::NameLists;
 use occ_tree::{Order, Ranked, Tree};
@@ -58,7 +59,7 @@ fn clip_at(
     net: &DistNet,
     ranked: &[Ranked],
     i: usize,
-    behind: &mut NameLists<TokenRow<Spot>>,
+    behind: &mut NameLists<Stretched<Spot>>,
 ) -> Result<Option<u32>, NoMemory>
     requires dates { IsTreeIn net.now.present tree.now }
     requires live { All (IsLive (forest tree.now)) (nodes_of ranked.now) }
@@ -73,8 +74,10 @@ fn clip_at(
     let Some(token) = token_at(tree, ranked[i].node) else {
         return Ok(None);
     };
-    let clip = next_clip(tree, net, behind.of(&token.class), &token);
-    behind.push(alloc, token.class, token)?;
+    let others = behind.of(&token.class);
+    let clip = next_clip(tree, net, others, &token);
+    let first = stretch_behind(others, &token.fact);
+    behind.push(alloc, token.class, Stretched { row: token, first })?;
     Ok(clip)
 }
 
@@ -97,19 +100,20 @@ fn token_at(tree: &Tree, x: u32) -> Option<TokenRow<Spot>>
 fn next_clip(
     tree: &Tree,
     net: &DistNet,
-    behind: &[TokenRow<Spot>],
+    behind: &[Stretched<Spot>],
     k: &TokenRow<Spot>,
 ) -> Option<u32>
     requires dates { IsTreeIn net.now.present tree.now }
-    requires nodes { All IsOfNode behind.now }
-    requires live { All (λ row. IsSpot net.now.present.names (forest tree.now) row.spot × ForSome row.end (IsSpot net.now.present.names (forest tree.now))) behind.now }
+    requires nodes { All IsOfNode (rows_of behind.now) }
+    requires live { All (λ row. IsSpot net.now.present.names (forest tree.now) row.spot × ForSome row.end (IsSpot net.now.present.names (forest tree.now))) (rows_of behind.now) }
+    requires stretches { HaveStretches behind.now }
     requires k_live { IsSpot net.now.present.names (forest tree.now) k.now.spot }
     ensures live { IfSome result (IsLive (forest tree.now)) }
-    ensures last { MatchOption k.now.end (IsLastNode (clips of_one_class (spot_distance net.now.present (forest tree.now)) k.now) behind.now result) (λ _. IsNone result) }
+    ensures last { MatchOption k.now.end (IsLastNode (clips of_one_class (spot_distance net.now.present (forest tree.now)) k.now) (rows_of behind.now) result) (λ _. IsNone result) }
 {
     if k.end.is_some() {
         return None;
     }
     let place = last_clipper(&Order { tree, net }, behind, k)?;
-    Some(node_at(behind, place))
+    Some(node_of(&behind[place].row))
 }

@@ -43,16 +43,24 @@ pub use rule::{RuleText, rule_text};
 use spots::Spot;
 use tmm_model::{Name, TokenRow};
 
+// The node of a token.
+fn node_of(row: &TokenRow<Spot>) -> u32
+    requires { IsOfNode row.now }
+    ensures { row.now.spot ≡ Spot.Node result }
+{
+    match row.spot {
+        Spot::Node(x) => x,
+        Spot::Declared(_) => unreachable!(),
+    }
+}
+
 // The node of the token at a place.
 fn node_at(rows: &[TokenRow<Spot>], place: usize) -> u32
     requires within { place < length rows.now }
     requires nodes { All IsOfNode rows.now }
     ensures { (d : TokenRow Spot) → (slice_index_or rows.now place d).spot ≡ Spot.Node result }
 {
-    match rows[place].spot {
-        Spot::Node(x) => x,
-        Spot::Declared(_) => unreachable!(),
-    }
+    node_of(&rows[place])
 }
 
 // The place of the token of a node.

@@ -1,7 +1,8 @@
 use Rattle.std.proofs.Common.{◌+◌, ◌∙◌, sym, ap, subst}
-use Rattle.std.specs.Prelude.{drop, slice_index_or}
+use Rattle.std.specs.Prelude.{drop, length, slice_index_or}
 use Rattle.std.specs.List.{All}
 use Rattle.std.specs.Option.{ForSome}
+use Rattle.clipping.specs.Stretches.{rows_of, IsStretch, HaveStretches}
 use Rattle.occ_tree.specs.Ranks.{nodes_of}
 use Rattle.spots.specs.Spots.{IsSpot}
 use Rattle.supports.specs.Behind.{token_at}
@@ -32,22 +33,30 @@ returns-in_default-clause-behind c =
 
 pub next_clip-clip-requires-clause-nodes : goal.next_clip-clip-requires-clause-nodes
 next_clip-clip-requires-clause-nodes c =
-    subst (All IsOfNode) (sym (c.of.ensures ∙ c.requires.behind c.in-Some.token.class)) (behind_of_nodes (forest c.args.tree.now) c.in-Some.token.class (drop (c.args.i + 1) (nodes_of c.args.ranked.now)))
+    subst (All IsOfNode) (sym (ap rows_of c.of-others.ensures ∙ (c.requires.behind c.in-Some.token.class).0)) (behind_of_nodes (forest c.args.tree.now) c.in-Some.token.class (drop (c.args.i + 1) (nodes_of c.args.ranked.now)))
 
 pub next_clip-clip-requires-clause-live : goal.next_clip-clip-requires-clause-live
 next_clip-clip-requires-clause-live c =
-    subst (All (λ row. IsSpot c.args.net.now.present.names (forest c.args.tree.now) row.spot × ForSome row.end (IsSpot c.args.net.now.present.names (forest c.args.tree.now)))) (sym (c.of.ensures ∙ c.requires.behind c.in-Some.token.class))
+    subst (All (λ row. IsSpot c.args.net.now.present.names (forest c.args.tree.now) row.spot × ForSome row.end (IsSpot c.args.net.now.present.names (forest c.args.tree.now)))) (sym (ap rows_of c.of-others.ensures ∙ (c.requires.behind c.in-Some.token.class).0))
     (behind_there (forest c.args.tree.now) c.in-Some.token.class c.requires.dates.list.0 c.args.net.now.present c.requires.dates.list.1 (drop (c.args.i + 1) (nodes_of c.args.ranked.now)))
+
+pub next_clip-clip-requires-clause-stretches : goal.next_clip-clip-requires-clause-stretches
+next_clip-clip-requires-clause-stretches c = subst HaveStretches (sym c.of-others.ensures) (c.requires.behind c.in-Some.token.class).1
+
+pub stretch_behind-first-requires : goal.stretch_behind-first-requires
+stretch_behind-first-requires c = record { stretches = subst HaveStretches (sym c.of-others.ensures) (c.requires.behind c.in-Some.token.class).1 }
 
 pub returns-clause-clip : goal.returns-clause-clip
 returns-clause-clip c s b seen holds =
     nearest_is seen holds (nodes_of c.args.ranked.now) c.args.i (within_nodes c.args.ranked.now c.args.i c.requires.within) c.requires.in_order c.requires.all c.in-Some.token
     (ap (token_at (forest c.args.tree.now)) (place_node c.args.ranked.now c.args.i _ c.requires.within) ∙ sym c.token_at.ensures ∙ c.in-Some.is) c.next_clip-clip.result
     (subst (λ rows. MatchOption c.in-Some.token.end (IsLastNode (clips of_one_class (spot_distance c.args.net.now.present (forest c.args.tree.now)) c.in-Some.token) rows c.next_clip-clip.result) (λ _. IsNone c.next_clip-clip.result))
-    (c.of.ensures ∙ c.requires.behind c.in-Some.token.class) c.next_clip-clip.ensures.last)
+    (ap rows_of c.of-others.ensures ∙ (c.requires.behind c.in-Some.token.class).0) c.next_clip-clip.ensures.last)
 
 pub returns-clause-behind : goal.returns-clause-behind
 returns-clause-behind c =
     behind_token (forest c.args.tree.now) (nodes_of c.args.ranked.now) c.args.i (within_nodes c.args.ranked.now c.args.i c.requires.within) c.in-Some.token
-    (ap (token_at (forest c.args.tree.now)) (place_node c.args.ranked.now c.args.i _ c.requires.within) ∙ sym c.token_at.ensures ∙ c.in-Some.is)
-    (list_of c.args.behind.now) (list_of c.push.new.self) c.requires.behind c.in_ok-push.ensures.ok
+    (ap (token_at (forest c.args.tree.now)) (place_node c.args.ranked.now c.args.i _ c.requires.within) ∙ sym c.token_at.ensures ∙ c.in-Some.is) c.stretch_behind-first.result
+    (list_of c.args.behind.now) (list_of c.push.new.self) c.requires.behind
+    (subst (λ others. IsStretch (rows_of others) c.in-Some.token.fact c.stretch_behind-first.result (length others)) c.of-others.ensures c.stretch_behind-first.ensures)
+    c.in_ok-push.ensures.ok
