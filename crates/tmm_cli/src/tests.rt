@@ -5,7 +5,7 @@ use std::alloc::Global;
 use std::process::Abort;
 use std::test::Fail;
 use tmm_drive::{Status, drive};
-use tmm_io::{MemSink, MemSource, Source, SteadySource};
+use tmm_io::{MemSink, MemSource, RepeatSource, Source, SteadySource};
 use tmm_session::Session;
 
 /// Runs a script in pieces of this many bytes, and compares its replies and its status.
@@ -106,6 +106,29 @@ fn faults_end_the_run(rt: HostRuntime) -> Result<(), Fail> {
         assert_eq!(rt; sink.bytes(), replies);
     }
     Ok(())
+}
+
+/// Runs over so many bytes of a comment of 400 bytes, again and again, and compares the status. Nothing is
+/// written.
+fn expect_long(rt: &impl Abort, alloc: Global, bytes: u64, status: Status) -> Result<(), Fail> {
+    let mut line = [b'x'; 400];
+    line[0] = b'#';
+    line[399] = b'\n';
+    let mut source = RepeatSource::make(alloc, &line, bytes)?;
+    let mut sink = MemSink::make(alloc, 1 << 10, &[])?;
+    assert_eq!(rt; run(alloc, &[], &mut source, &mut sink), status);
+    assert_eq!(rt; sink.bytes(), b"".as_slice());
+    Ok(())
+}
+
+#[test]
+fn the_longest_input_is_read(rt: HostRuntime) -> Result<(), Fail> {
+    expect_long(&rt, rt.alloc(), 1 << 30, Status::Clean)
+}
+
+#[test]
+fn a_byte_more_is_too_long(rt: HostRuntime) -> Result<(), Fail> {
+    expect_long(&rt, rt.alloc(), (1 << 30) + 1, Status::TooLong)
 }
 
 /// Runs with these words, and compares what is written and the status. The source keeps its bytes.
