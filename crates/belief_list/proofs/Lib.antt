@@ -4,3 +4,4 @@ pub mod Deltas
 pub mod Matches
 pub mod Kept
 pub mod Ordered
+pub mod Empty

@@ -17,3 +17,12 @@ fn nothing_is_told_of_empty_trees(rt: HostRuntime) -> Result<(), Fail> {
     assert_eq!(rt; changes.clips.items().len(), 0);
     Ok(())
 }
+
+#[test]
+fn nothing_changed_in_an_empty_tree(rt: HostRuntime) -> Result<(), Fail> {
+    let tree = Tree::make(rt.alloc());
+    let changes = compare_kept(rt.alloc(), &[], &[], &tree, &[])?;
+    assert_eq!(rt; changes.left.items().len(), 0);
+    assert_eq!(rt; changes.entered.items().len(), 0);
+    Ok(())
+}
