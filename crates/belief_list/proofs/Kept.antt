@@ -1,5 +1,5 @@
 -- The occurrences of nodes that are gone.
-use Rattle.std.proofs.Common.{◌≡◌, ℕ, Bool, true, false, List, [], ◌∷◌, map, refl, sym, ◌∙◌, ap, subst, inl, inr}
+use Rattle.std.proofs.Common.{◌≡◌, ℕ, Bool, true, false, List, [], ◌∷◌, map, refl, sym, ◌∙◌, ap, subst}
 use Rattle.std.specs.Prelude.{◌&&◌, Option, Some, None, is_some, IsSome}
 use Rattle.std.specs.Option.{is_none}
 use Rattle.std.specs.List.{All, Contains, filter_map, cons_option}

@@ -1,14 +1,13 @@
 -- Nodes and rows that are found by their occurrences.
-use Rattle.std.proofs.Common.{◌≡◌, ℕ, Bool, true, false, List, [], ◌∷◌, ◌++◌, map, refl, sym, ◌∙◌, ap, subst, inl, inr, nat_eq}
+use Rattle.std.proofs.Common.{◌≡◌, ℕ, Bool, true, false, List, [], ◌∷◌, ◌++◌, map, refl, sym, ◌∙◌, ap, inl, inr, nat_eq}
 use Rattle.std.specs.Prelude.{◌≢◌, Option, Some, None, IfSome}
 use Rattle.std.specs.Option.{is_some, option_eq, option_map}
-use Rattle.std.specs.List.{Contains}
 use Rattle.std.proofs.lemmas.List.Elements.{All-contains}
 use Rattle.std.proofs.lemmas.Bool.Decides.{Decides-eqb}
 use Rattle.std.proofs.lemmas.List.{map_push}
 use Rattle.tmm_model.specs.Answers.{Row}
 use Rattle.tmm_model.specs.Moments.{Moment, At, After, same_moment, rules, is_derived}
-use Rattle.list_theory.proofs.Elements.{In, In-map, map-In, In-from_Contains, Contains-from_In}
+use Rattle.list_theory.proofs.Elements.{In, In-map, map-In, Contains-from_In}
 use Rattle.belief_theory.proofs.Moments.{Decides-same_moment}
 use Rattle.spots.specs.Forest.{Forest, Member, member, IsLive, moment, moment_at, rules_of, IsOnce, IsParent}
 use Rattle.spots.specs.declared.link.Link.{Link}

@@ -1,4 +1,4 @@
-use Rattle.std.proofs.Common.{◌≡◌, ◌==◌, List, [], true, false, length, sym, ◌∙◌, ap}
+use Rattle.std.proofs.Common.{◌≡◌, ◌==◌, List, true, false, length, sym, ◌∙◌, ap}
 use Rattle.std.specs.Prelude.{ℕ}
 use Rattle.tmm_model.specs.declared.point.PointName.TheVariants.{Begin}
 use Rattle.belief_list.proofs.Kept.{if_some}
