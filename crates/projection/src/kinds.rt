@@ -17,7 +17,7 @@ use tmm_model::{NoMemory, Premise, Shape};
 
 /// The places of the rules on each kind in the standing list, in its order.
 #[derive(Drop)]
-pub(crate) struct RulesByKind {
+pub struct RulesByKind {
     rules: NameLists<u32>,
 }
 
