@@ -23,3 +23,4 @@ pub mod Clearing
 pub mod Adding
 pub mod Beginning
 pub mod Updating
+pub mod Numbered

@@ -296,6 +296,7 @@ fn tell(alloc: Global, tree: &Tree, left: &mut Seq<DatedOcc>, y: u32) -> Result<
         return Ok(());
     }
     let moved = DatedOcc {
+        node: y,
         early: tree.early(y),
         occ: tree.occ_of(alloc, y)?,
     };

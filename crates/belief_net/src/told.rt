@@ -19,6 +19,8 @@ use tmm_model::{MOST_SIZE, Name, NoMemory, Occ, Premise, Refusal, Seq, Shape, St
 /// An occurrence that entered or left.
 #[derive(Drop)]
 pub struct DatedOcc {
+    /// The number of its node then.
+    pub node: u32,
     /// Its earliest date then, in whole time units.
     pub early: i64,
     /// The occurrence.
@@ -114,7 +116,11 @@ fn tell(alloc: Global, tree: &Tree, moved: &mut Seq<DatedOcc>, x: u32) -> Result
 {
     let occ = tree.occ_of(alloc, x)?;
     let early = tree.early(x);
-    match moved.push(DatedOcc { early, occ }) {
+    match moved.push(DatedOcc {
+        node: x,
+        early,
+        occ,
+    }) {
         Ok(()) => Ok(()),
         Err(_) => Err(NoMemory),
     }
