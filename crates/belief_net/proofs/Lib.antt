@@ -39,3 +39,4 @@ pub mod Readied
 pub mod Opened
 pub mod KeptAgain
 pub mod Updated
+pub mod Numbering

@@ -72,10 +72,10 @@ Distinct-reverse (x ∷ xs) once =
       | inr none ↦ none
     ]))
 
-on_in : (numbers : List ℕ) (y : ℕ) → In y numbers → IsOn numbers y
+pub on_in : (numbers : List ℕ) (y : ℕ) → In y numbers → IsOn numbers y
 on_in numbers y at = In-list_any (eqb y) numbers y at (itself y)
 
-in_on : (numbers : List ℕ) (y : ℕ) → IsOn numbers y → In y numbers
+pub in_on : (numbers : List ℕ) (y : ℕ) → IsOn numbers y → In y numbers
 in_on numbers y on = let (x, at, same) = list_any-In (eqb y) numbers on in subst (λ z. In z numbers) (sym (eqb-true y x same)) at
 
 -- nodes that stand once in a list are occurrences that do

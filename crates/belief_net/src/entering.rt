@@ -1,12 +1,12 @@
 // Effects that enter.
-ghost use Rattle.std.specs.Prelude.{◌≡◌, IfOk, OnOk};
+ghost use Rattle.std.specs.Prelude.{◌≡◌, None, IfOk, OnOk};
 ghost use Rattle.tmm_model.specs.Moments.{After};
 ghost use Rattle.dist_net.specs.Net.{Net};
 ghost use Rattle.spots.specs.Forest.{IsLive, moment_at};
 ghost use Rattle.spots.specs.Seen.{IsSeen};
 ghost use Rattle.occ_tree.specs.OfLists.{IsTreeOf};
 ghost use Rattle.occ_tree.specs.Places.{forest};
-ghost use Rattle.occ_tree.specs.Standing.{present, committed};
+ghost use Rattle.occ_tree.specs.Standing.{present, committed, forest as forest_of};
 ghost use Rattle.supports.specs.Growing.{Adds, effect_shape, MayEnter};
 ghost use Rattle.supports.specs.Rules.{IsRuleOf};
 ghost use Rattle.undo_rows.specs.Changes.{present as table};
@@ -22,8 +22,9 @@ use premise_list::Standing;
 use std::alloc::Global;
 use tmm_model::{Name, NoMemory, Premise, Shape};
 
-// Adds the effect of a rule that fires at the event of a node, and answers its number. If that is an event, its
-// rules get rows, which wait; if it is a token, those rows wait that may read it.
+// Adds the effect of a rule that fires at the event of a node, and answers its number, which no node had at the
+// last commit either. If that is an event, its rules get rows, which wait; if it is a token, those rows wait that
+// may read it.
 pub(crate) fn bring_about(
     alloc: Global,
     standing: &Standing,
@@ -38,6 +39,7 @@ pub(crate) fn bring_about(
     requires under { AreUnder standing.now.present beliefs.old.decisions }
     ensures ok { OnOk result ((net : Net) → IsTreeOf standing.now.present net beliefs.old.tree → Brings standing.now.present net trigger rule beliefs.old beliefs.new) }
     ensures number { IfOk result (λ x. (net : Net) → IsTreeOf standing.now.present net beliefs.old.tree → (b : Brings standing.now.present net trigger rule beliefs.old beliefs.new) × (b.number ≡ x)) }
+    ensures was_free { IfOk result (λ x. forest_of (committed beliefs.old.tree) x ≡ None) }
     ensures last { KeepLast beliefs.old beliefs.new }
 {
     // it tells the proof that rows are on their lists
@@ -64,7 +66,8 @@ pub(crate) fn bring_about(
     }
 }
 
-// Adds what a rule leads to from the event of a node, and answers its number.
+// Adds what a rule leads to from the event of a node, and answers its number, which no node had at the last commit
+// either.
 fn enter_effect(
     alloc: Global,
     standing: &Standing,
@@ -77,6 +80,7 @@ fn enter_effect(
     requires rule { IsRuleOf standing.now.present rule }
     requires enters { MayEnter standing.now.present (forest tree.old) trigger rule }
     ensures ok { IfOk result (λ x. (net : Net) → IsTreeOf standing.now.present net tree.old → EntersIn standing.now.present net trigger rule tree.old tree.new x) }
+    ensures was_free { IfOk result (λ x. forest_of (committed tree.old) x ≡ None) }
     ensures committed { committed tree.new ≡ committed tree.old }
 {
     let Some(Premise::Rule { lo, hi, effect, .. }) = standing.get(rule) else {

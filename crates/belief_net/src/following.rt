@@ -1,6 +1,7 @@
 // What follows of a decision: an effect enters, or is withdrawn.
 ghost use Rattle.std.specs.Prelude.{◌≡◌, ◌≤◌, true, false, OnOk, IfErr};
 ghost use Rattle.tmm_model.specs.Answers.{most_size};
+ghost use Rattle.tmm_model.specs.Standing.{Standing as List};
 ghost use Rattle.belief_theory.specs.KeptLists.{last_horizon};
 ghost use Rattle.spots.specs.Forest.{IsLive};
 ghost use Rattle.occ_tree.specs.Places.{forest};
@@ -9,6 +10,7 @@ ghost use Rattle.joined.specs.Rows.{fires_by};
 ghost use Rattle.belief_net.specs.Decided.{AreOfSome};
 ghost use Rattle.belief_net.specs.Entering.{KeepLast};
 ghost use Rattle.belief_net.specs.Marks.{HaveEvents};
+ghost use Rattle.belief_net.specs.Numbered.{StayNumbered};
 ghost use Rattle.belief_net.specs.Turns.{IsAfterSome, IsTurned, IsStopped, HasEffect, Withdraws};
 
 use crate::deciding::Due;
@@ -35,6 +37,7 @@ pub(crate) fn follow(
     requires small { told.old.weight ≤ most_size }
     ensures ok { OnOk result (IsTurned standing.now.present beliefs.old beliefs.new due.now told.old told.new) }
     ensures stops { IfErr result (IsStopped standing.now.present beliefs.old due.now told.old) }
+    ensures numbered { OnOk result (StayNumbered standing.now.present beliefs.old beliefs.new told.old told.new) }
     ensures last { KeepLast beliefs.old beliefs.new }
 {
     match (fires(&due.before), fires(&due.found)) {
@@ -70,6 +73,7 @@ fn bring_effect(
     requires small { told.old.weight ≤ most_size }
     ensures ok { OnOk result (IsTurned standing.now.present beliefs.old beliefs.new due.now told.old told.new) }
     ensures stops { IfErr result (IsStopped standing.now.present beliefs.old due.now told.old) }
+    ensures numbered { OnOk result (StayNumbered standing.now.present beliefs.old beliefs.new told.old told.new) }
     ensures last { KeepLast beliefs.old beliefs.new }
 {
     match bring_about(alloc, standing, beliefs, due.trigger, due.rule) {
@@ -91,6 +95,7 @@ fn withdraw_effect(
     requires events { HaveEvents beliefs.old.tree (table beliefs.old.decisions.rows) }
     requires under { AreOfSome beliefs.old.decisions }
     ensures ok { OnOk result (Withdraws trigger rule.now beliefs.old beliefs.new told.old told.new) }
+    ensures numbered { OnOk result ((s : List) → StayNumbered s beliefs.old beliefs.new told.old told.new) }
     ensures last { KeepLast beliefs.old beliefs.new }
 {
     let Some(effect) = beliefs.tree.find_effect(trigger, rule) else {

@@ -2,6 +2,7 @@
 ghost use Rattle.std.specs.Prelude.{◌≤◌, OnOk, IfErr};
 ghost use Rattle.belief_theory.specs.KeptLists.{last_horizon};
 ghost use Rattle.belief_net.specs.Entering.{KeepLast};
+ghost use Rattle.belief_net.specs.Numbered.{StayNumbered};
 ghost use Rattle.belief_net.specs.Settling.{IfBegun, IsCountedIn, IsSettled, IsAtRest, StopsFor};
 ghost use Rattle.belief_net.specs.Telling.{IsWeighed};
 ghost use Rattle.belief_net.specs.Turning.{IsFit, IsRevising};
@@ -17,8 +18,8 @@ use tmm_model::Stop;
 
 // Decides rows again, the earliest first, until none waits, and tells what enters and leaves. Then nodes and
 // rows are those of the list after the edit; each decision that the edit changed is counted, and none that it
-// does not touch. It refuses only a list whose map is larger than 100,000; that 2^64 - 1 turns do not end it
-// counts as want of memory.
+// does not touch. Nodes keep their numbers from the last commit on. It refuses only a list whose map is larger
+// than 100,000; that 2^64 - 1 turns do not end it counts as want of memory.
 pub(crate) fn settle(
     alloc: Global,
     standing: &Standing,
@@ -35,6 +36,7 @@ pub(crate) fn settle(
     ensures settled { OnOk result (IfBegun standing.now.present net.now.present beliefs.old told.old (IsSettled net.now.present beliefs.new told.new count.old count.new)) }
     ensures stops { IfErr result (λ stop. IfBegun standing.now.present net.now.present beliefs.old told.old (StopsFor stop)) }
     ensures counted { IfBegun standing.now.present net.now.present beliefs.old told.old (IsCountedIn count.old count.new) }
+    ensures numbered { OnOk result (StayNumbered standing.now.present beliefs.old beliefs.new told.old told.new) }
     ensures last { KeepLast beliefs.old beliefs.new }
 {
     // it tells the proof that no count is above the greatest

@@ -9,6 +9,7 @@ ghost use Rattle.spots.specs.Forest.{IsLive, moment_at};
 ghost use Rattle.spots.specs.Seen.{IsSeen};
 ghost use Rattle.occ_tree.specs.Places.{forest};
 ghost use Rattle.projection.specs.Queues.{weight_at, IsTooLarge};
+ghost use Rattle.belief_net.specs.Numbered.{seen_numbered, left_under};
 ghost use Rattle.belief_net.specs.Telling.{seen_dated, seen_node, entered_in, left_in, TellsEntry, TellsExits};
 
 use occ_tree::Tree;
@@ -64,6 +65,7 @@ impl Told {
         requires live { IsLive (forest tree.now) x }
         requires small { self.old.weight ≤ most_size }
         ensures ok { OnOk result (TellsEntry standing.now.present tree.now x self.old self.new) }
+        ensures left { self.new.left.items ≡ self.old.left.items }
         ensures stops { IfErr result (IsTooLarge (self.old.weight + weight_at standing.now.present (forest tree.now) x)) }
     {
         let weight = self.weight + weight_of(standing, tree, x);
@@ -79,7 +81,7 @@ impl Told {
         }
     }
 
-    // Tells of the occurrences at some nodes that they leave.
+    // Tells of the occurrences at some nodes that they leave, each under the number of its node.
     pub(crate) fn leave(
         &mut self,
         alloc: Global,
@@ -87,13 +89,14 @@ impl Told {
         numbers: &[u32],
     ) -> Result<(), NoMemory>
         requires live { (y : ℕ) → IsOn numbers.now y → IsLive (forest tree.now) y }
-        ensures { OnOk result (TellsExits tree.now numbers.now self.old self.new) }
+        ensures ok { OnOk result (TellsExits tree.now numbers.now self.old self.new) }
+        ensures numbers { OnOk result (left_under self.new.left.items ≡ left_under self.old.left.items ++ map (λ y. (y, moment_at (forest tree.now) y)) numbers.now) }
     {
         tell_all(alloc, tree, &mut self.left, numbers)
     }
 }
 
-// Tells of the occurrences at some nodes.
+// Tells of the occurrences at some nodes, each under the number of its node.
 fn tell_all(
     alloc: Global,
     tree: &Tree,
@@ -101,7 +104,8 @@ fn tell_all(
     numbers: &[u32],
 ) -> Result<(), NoMemory>
     requires live { (y : ℕ) → IsOn numbers.now y → IsLive (forest tree.now) y }
-    ensures { OnOk result (map seen_dated moved.new.items ≡ map seen_dated moved.old.items ++ map (seen_node tree.now) numbers.now) }
+    ensures dated { OnOk result (map seen_dated moved.new.items ≡ map seen_dated moved.old.items ++ map (seen_node tree.now) numbers.now) }
+    ensures numbers { OnOk result (map seen_numbered moved.new.items ≡ map seen_numbered moved.old.items ++ map (λ y. (y, moment_at (forest tree.now) y)) numbers.now) }
 {
     for y in numbers {
         tell(alloc, tree, moved, *y)?;
@@ -109,10 +113,11 @@ fn tell_all(
     Ok(())
 }
 
-// Tells of the occurrence at a node.
+// Tells of the occurrence at a node, under its number.
 fn tell(alloc: Global, tree: &Tree, moved: &mut Seq<DatedOcc>, x: u32) -> Result<(), NoMemory>
     requires live { IsLive (forest tree.now) x }
-    ensures { OnOk result (map seen_dated moved.new.items ≡ map seen_dated moved.old.items ++ seen_node tree.now x ∷ []) }
+    ensures dated { OnOk result (map seen_dated moved.new.items ≡ map seen_dated moved.old.items ++ seen_node tree.now x ∷ []) }
+    ensures number { OnOk result (map seen_numbered moved.new.items ≡ map seen_numbered moved.old.items ++ (x, moment_at (forest tree.now) x) ∷ []) }
 {
     let occ = tree.occ_of(alloc, x)?;
     let early = tree.early(x);

@@ -1,8 +1,9 @@
 // A turn of the loop: the row that is due first is decided again.
-ghost use Rattle.std.specs.Prelude.{◌≡◌, ◌+◌, ◌≤◌, ℕ, min, None, IsSome, MatchOption, IfOk, IfErr};
+ghost use Rattle.std.specs.Prelude.{◌≡◌, ◌+◌, ◌≤◌, ℕ, min, None, IsSome, MatchOption, IfOk, OnOk, IfErr};
 ghost use Rattle.tmm_model.specs.Answers.{most_size};
 ghost use Rattle.belief_theory.specs.KeptLists.{last_horizon};
 ghost use Rattle.belief_net.specs.Entering.{KeepLast};
+ghost use Rattle.belief_net.specs.Numbered.{StayNumbered};
 ghost use Rattle.belief_net.specs.Turning.{IsFit, IsRevising, IsDecided};
 ghost use Rattle.belief_net.specs.Turns.{CountsOne, Rests, TurnsOrRests, StopsTurn};
 ghost use Rattle.belief_net.specs.Waiting.{dates_in};
@@ -34,6 +35,7 @@ pub(crate) fn turn(
     ensures ok { IfOk result (TurnsOrRests standing.now.present net.now.present beliefs.old beliefs.new told.old told.new counter.old counter.new) }
     ensures stops { IfErr result (StopsTurn standing.now.present net.now.present beliefs.old told.old) }
     ensures counted { CountsOne beliefs.old counter.old counter.new }
+    ensures numbered { OnOk result (StayNumbered standing.now.present beliefs.old beliefs.new told.old told.new) }
     ensures last { KeepLast beliefs.old beliefs.new }
 {
     match decide_first(alloc, standing, net, beliefs, counter) {

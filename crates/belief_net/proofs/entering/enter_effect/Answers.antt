@@ -14,7 +14,7 @@ use Rattle.spots.proofs.Nodes.{node_at}
 use Rattle.occ_tree.specs.Edits.{Enters as EntersTree}
 use Rattle.occ_tree.specs.OfLists.{IsTreeOf}
 use Rattle.occ_tree.specs.Places.{forest}
-use Rattle.occ_tree.specs.Standing.{present, committed, early}
+use Rattle.occ_tree.specs.Standing.{present, committed, early, forest as forest_of}
 use Rattle.occ_tree.proofs.KeptDates.{effects_keep_dates}
 use Rattle.occ_tree.proofs.Members.{growing_enters}
 use Rattle.supports.specs.Growing.{Adds, effect_shape}
@@ -97,3 +97,8 @@ pub returns-clause-committed : goal.returns-clause-committed
 returns-clause-committed c =
     let (m, at) = node_at (forest c.args.tree.now) c.args.trigger c.requires.trigger in
     either c.insert_child.result _ _ (committed c.insert_child.new.self ≡ committed c.args.tree.now) (λ x enters. (enters m at).committed_is) (λ stays. stays.committed_is) c.insert_child.ensures.ok c.insert_child.ensures.err
+
+pub returns-clause-was_free : goal.returns-clause-was_free
+returns-clause-was_free c =
+    let (m, at) = node_at (forest c.args.tree.now) c.args.trigger c.requires.trigger in
+    ok_kept _ (λ x. forest_of (committed c.args.tree.now) x ≡ None) c.insert_child.result (λ x enters. (enters m at).was_free) c.insert_child.ensures.ok

@@ -1,11 +1,13 @@
-use Rattle.std.proofs.Common.{◌+◌, sym, subst}
+use Rattle.std.proofs.Common.{◌≡◌, ◌+◌, None, sym, subst}
 use Rattle.std.proofs.lemmas.Result.{on_ok_weaker}
 use Rattle.occ_tree.specs.Places.{forest}
 use Rattle.projection.specs.Queues.{weight_at, IsTooLarge}
 use Rattle.projection.proofs.Ends.{err_kept}
+use Rattle.belief_net.specs.Numbered.{StayNumbered, then_forest}
 use Rattle.belief_net.specs.Telling.{TellsEntry}
 use Rattle.belief_net.specs.Turns.{IsTurned, IsStopped}
 use Rattle.belief_net.proofs.After.{fit_after, enters_after}
+use Rattle.belief_net.proofs.Numbering.{entry_numbered}
 use Rattle.belief_net.proofs.Telling.{entry_turned, entry_stops}
 use Rattle.belief_net.proofs.following.bring_effect.Goals as goal
 
@@ -48,3 +50,16 @@ returns-in-Ok-clause-stops c =
     let (brings, same) = c.in-Ok.ensures.number net (fit_after s net b old due after).tree in
     entry_stops s net b old e due after c.requires.fires c.requires.fired brings c.in-Ok.ensures.last.decisions c.args.told.now stop
     (subst (λ x. IsTooLarge (c.args.told.now.weight + weight_at s (forest e.tree) x) stop) (sym same) large))
+
+pub returns-in-Ok-clause-numbered : goal.returns-in-Ok-clause-numbered
+returns-in-Ok-clause-numbered c =
+    let s = c.args.standing.now.present in
+    let old = c.args.beliefs.now in
+    let e = c.bring_about.new.beliefs in
+    let due = c.args.due.now in
+    let (net, b, after) = c.requires.after in
+    let (brings, same) = c.in-Ok.ensures.number net (fit_after s net b old due after).tree in
+    let free = subst (λ x. then_forest old.tree x ≡ None) (sym same) c.in-Ok.ensures.was_free in
+    on_ok_weaker {P = TellsEntry s e.tree c.in-Ok.effect c.args.told.now c.enter.new.self} {Q = StayNumbered s old e c.args.told.now c.enter.new.self} c.enter.result
+    (λ tells. entry_numbered s net due.trigger due.rule old e c.args.told.now c.enter.new.self brings free c.in-Ok.ensures.last c.enter.ensures.left)
+    c.enter.ensures.ok

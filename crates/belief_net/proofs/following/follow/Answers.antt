@@ -1,5 +1,6 @@
-use Rattle.std.proofs.Common.{◌∙◌, sym}
+use Rattle.std.proofs.Common.{◌∙◌, refl, sym}
 use Rattle.belief_net.proofs.After.{fit_after, there_after}
+use Rattle.belief_net.proofs.Numbering.{same_numbered}
 use Rattle.belief_net.proofs.Telling.{same_turned, exit_turned}
 use Rattle.belief_net.proofs.following.follow.Goals as goal
 
@@ -30,3 +31,12 @@ returns-in-false-false-clause-ok c = λ net b after.
 pub returns-in-true-true-clause-ok : goal.returns-in-true-true-clause-ok
 returns-in-true-true-clause-ok c = λ net b after.
     same_turned c.args.standing.now.present net b c.args.beliefs.now c.args.due.now c.args.told.now after (sym c.in-true-true.ensures' ∙ c.in-true-true.ensures)
+
+pub returns-in-false-false-clause-numbered : goal.returns-in-false-false-clause-numbered
+returns-in-false-false-clause-numbered c = same_numbered c.args.standing.now.present c.args.beliefs.now c.args.beliefs.now c.args.told.now refl
+
+pub returns-in-true-true-clause-numbered : goal.returns-in-true-true-clause-numbered
+returns-in-true-true-clause-numbered c = same_numbered c.args.standing.now.present c.args.beliefs.now c.args.beliefs.now c.args.told.now refl
+
+pub returns-in-Ok-clause-numbered : goal.returns-in-Ok-clause-numbered
+returns-in-Ok-clause-numbered c = c.in-Ok.ensures.numbered c.args.standing.now.present

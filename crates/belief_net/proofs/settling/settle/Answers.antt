@@ -3,6 +3,7 @@ use Rattle.std.proofs.lemmas.Result.{err_from_is_err_and}
 use Rattle.belief_net.specs.Settling.{IfBegun, IsSettled}
 use Rattle.belief_net.specs.Turns.{TurnsOrRests}
 use Rattle.belief_net.proofs.Named.{last_stays, last_on}
+use Rattle.belief_net.proofs.Numbering.{same_numbered, numbered_on}
 use Rattle.belief_net.proofs.Settled.{revising_on, so_far_on, so_far_first, so_far_within, one_within, stops_for, settled}
 use Rattle.belief_net.proofs.settling.settle.Goals as goal
 
@@ -16,6 +17,7 @@ loop-init c =
       revising = c.requires.revising;
       weighed = c.requires.weighed;
       so_far = so_far_first c.args.standing.now.present c.args.net.now.present c.args.beliefs.now c.args.told.now c.args.count.now few;
+      numbered = same_numbered c.args.standing.now.present c.args.beliefs.now c.args.beliefs.now c.args.told.now refl;
       last = record { tree = refl; decisions = last_stays c.args.beliefs.now.decisions };
     }
 
@@ -61,9 +63,14 @@ loop-preserved c =
       revising = revising_on s net b e c.loop.told c.turn.new.told inv.revising t;
       weighed = t.weighed inv.weighed;
       so_far = so_far_on s net a b e c.args.told.now c.loop.told c.turn.new.told c.args.count.now c.loop.count c.turn.new.counter inv.so_far t one;
+      numbered = numbered_on s a b e c.args.told.now c.loop.told c.turn.new.told inv.numbered c.in_ok-turn.ensures.numbered;
       last = record { tree = c.in_ok-turn.ensures.last.tree ∙ inv.last.tree; decisions = last_on a.decisions b.decisions e.decisions inv.last.decisions c.in_ok-turn.ensures.last.decisions };
     }
 
 pub returns-clause-counted : goal.returns-clause-counted
 returns-clause-counted c =
     so_far_within c.args.standing.now.present c.args.net.now.present c.args.beliefs.now c.loop.beliefs c.args.told.now c.loop.told c.args.count.now c.loop.count c.loop.invariant.so_far
+
+pub returns-then-not-branch-clause-numbered : goal.returns-then-not-branch-clause-numbered
+returns-then-not-branch-clause-numbered c =
+    numbered_on c.args.standing.now.present c.args.beliefs.now c.loop.beliefs c.turn.new.beliefs c.args.told.now c.loop.told c.turn.new.told c.loop.invariant.numbered c.in_ok-turn.ensures.numbered

@@ -1,4 +1,5 @@
 use Rattle.belief_net.specs.Entering.{KeepLast}
+use Rattle.belief_net.specs.Numbered.{StayNumbered}
 use Rattle.belief_net.specs.Settling.{IfBegun, IsSoFar}
 use Rattle.belief_net.specs.Telling.{IsWeighed}
 use Rattle.belief_net.specs.Turning.{IsFit, IsRevising}
@@ -10,5 +11,6 @@ invariant-loop l = record {
   revising : IsRevising l.standing.present l.net.present l.beliefs;
   weighed : IsWeighed l.standing.present l.told;
   so_far : IfBegun l.standing.present l.net.present l.fn.beliefs l.fn.told (IsSoFar l.net.present l.beliefs l.told l.fn.count l.count);
+  numbered : StayNumbered l.standing.present l.fn.beliefs l.beliefs l.fn.told l.told;
   last : KeepLast l.fn.beliefs l.beliefs;
 }
