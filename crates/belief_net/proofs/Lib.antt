@@ -36,6 +36,8 @@ pub mod Gained
 pub mod Begun
 pub mod Rooted
 pub mod Readied
+pub mod Numbered
 pub mod Opened
 pub mod KeptAgain
+pub mod Nothing
 pub mod Updated

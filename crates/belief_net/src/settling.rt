@@ -2,6 +2,7 @@
 ghost use Rattle.std.specs.Prelude.{◌≤◌, OnOk, IfErr};
 ghost use Rattle.belief_theory.specs.KeptLists.{last_horizon};
 ghost use Rattle.belief_net.specs.Entering.{KeepLast};
+ghost use Rattle.belief_net.specs.Numbered.{StayNumbered};
 ghost use Rattle.belief_net.specs.Settling.{IfBegun, IsCountedIn, IsSettled, IsAtRest, StopsFor};
 ghost use Rattle.belief_net.specs.Telling.{IsWeighed};
 ghost use Rattle.belief_net.specs.Turning.{IsFit, IsRevising};
@@ -35,6 +36,7 @@ pub(crate) fn settle(
     ensures settled { OnOk result (IfBegun standing.now.present net.now.present beliefs.old told.old (IsSettled net.now.present beliefs.new told.new count.old count.new)) }
     ensures stops { IfErr result (λ stop. IfBegun standing.now.present net.now.present beliefs.old told.old (StopsFor stop)) }
     ensures counted { IfBegun standing.now.present net.now.present beliefs.old told.old (IsCountedIn count.old count.new) }
+    ensures numbered { OnOk result (StayNumbered standing.now.present beliefs.old beliefs.new told.old told.new) }
     ensures last { KeepLast beliefs.old beliefs.new }
 {
     // it tells the proof that no count is above the greatest
