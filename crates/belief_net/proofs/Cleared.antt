@@ -216,7 +216,7 @@ module _ (old : Standing) (edit : Edit) (net : Net) (b e : BeliefNet) (all : Dep
   from_told : (k : Moment) → In k (moments_of all.left.items) → (x : ℕ) × (m : Member) × HasLeft b.tree e.tree x m × (moment m ≡ k) × (is_derived k ≡ true)
   from_told k at =
       let (o, there, is) = In-map (λ (z : DatedOcc). moment_of z.occ) sheds.tells.more k (subst (In k) told_is at) in
-      let (x, m, left, same, derived, _) = sheds.tells.own o there in
+      let (x, m, left, same, derived, _, _) = sheds.tells.own o there in
       (x, m, left, same ∙ is, ap is_derived (sym (same ∙ is)) ∙ derived)
 
   gone_if_no_more : (x : ℕ) (m : Member) → member f x ≡ Some m → (Occurs new (moment m) → ⊥) → HasLeft b.tree e.tree x m

@@ -36,7 +36,9 @@ pub mod Gained
 pub mod Begun
 pub mod Rooted
 pub mod Readied
+pub mod Numbered
 pub mod Opened
 pub mod KeptAgain
+pub mod Nothing
 pub mod Updated
 pub mod Numbering

@@ -48,7 +48,7 @@ use Rattle.belief_net.specs.declared.state.BeliefNet.{BeliefNet}
 use Rattle.belief_net.specs.declared.state.Decisions.{Decisions}
 use Rattle.belief_net.specs.declared.told.Told.{Told}
 use Rattle.belief_net.specs.Adding.{ReadsOneOf, MarksClasses}
-use Rattle.belief_net.specs.Beginning.{IsReady}
+use Rattle.belief_net.specs.Beginning.{IsReady, added_by}
 use Rattle.belief_net.specs.ByEvent.{is_between}
 use Rattle.belief_net.specs.Clearing.{IsCleared}
 use Rattle.belief_net.specs.Dating.{KeepsNodes, AreDatedBefore}
@@ -58,6 +58,7 @@ use Rattle.belief_net.specs.Erasing.{moments_of, ShedsAll, Spares, IsFreeOf}
 use Rattle.belief_net.specs.MarkLaws.{added_by as name_added}
 use Rattle.belief_net.specs.Marks.{Marks, IsAsLate, HaveEvents}
 use Rattle.belief_net.specs.MovedPairs.{WereThere, is_moved}
+use Rattle.belief_net.specs.Numbered.{AreNumbered, left_under}
 use Rattle.belief_net.specs.Settling.{Begins}
 use Rattle.belief_net.specs.Telling.{entered_in, outs, moments_of as last_first}
 use Rattle.belief_net.specs.Touching.{IsRowMoved}
@@ -71,6 +72,7 @@ use Rattle.belief_net.proofs.Fitting.{fit_marked}
 use Rattle.belief_net.proofs.KeptAgain.{named_more}
 use Rattle.belief_net.proofs.MarkedRight.{points_were_there, moved_rows_are_touched, due_rows_change}
 use Rattle.belief_net.proofs.Named.{under_more, last_on}
+use Rattle.belief_net.proofs.Numbered.{numbered_on, numbered_added, numbered_erased}
 use Rattle.belief_net.proofs.Readied.{WaitOn, moved_marked, due_marked, prepared_on}
 use Rattle.belief_net.proofs.Telling.{left_first}
 use Rattle.belief_net.proofs.Turned.{seen_row, row_there, row_of}
@@ -458,6 +460,16 @@ module _ (lists : States) (nets : Nets) (edit : Edit) (names : List (List ℕ)) 
 
       pub opened_stands : (told : Told) → entered_in told ≡ [] → told.left.items ≡ all.left.items → Begins lists.committed edit nets.present z told
       opened_stands = opened_begins before_edit edit nets names before b e c m n z all is_before erased_next k opened_next
+
+      -- from the last commit on nodes have kept their numbers
+      pub opened_numbered : (told : Told) → told.left.items ≡ all.left.items → KeepLast b e → committed n.tree ≡ committed m.tree → AreNumbered lists.present z.tree (left_under told.left.items)
+      opened_numbered told left first last =
+          let erased = numbered_erased lists.present b e all kept.tree first.tree kept.fit.tree.seen.once sheds (spares lists.present (none_of lists.committed lists.present names pending.left_out)) in
+          let dated = numbered_on lists.present (left_under all.left.items) e.tree c.tree k.keeps.committed_is (λ x was. ap (λ (f : Forest). member f x) k.keeps.nodes) erased in
+          let marked = subst (λ (t : Kept). AreNumbered lists.present t (left_under all.left.items)) (sym k.same_tree) dated in
+          let added = numbered_added lists.present (left_under all.left.items) nets.present (added_by edit) m o.entered.mid n o.entered.enters last marked in
+          subst (λ l. AreNumbered lists.present z.tree (left_under l)) (sym left)
+          (subst (λ (x : BeliefNet). AreNumbered lists.present x.tree (left_under all.left.items)) (sym o.others) added)
 
 -- what a rollback leads back to stays from step to step
 pub opened_last : (b e m n z : BeliefNet) → KeepLast b e → committed m.tree ≡ committed e.tree → KeepsLast e.decisions m.decisions → KeepLast m n

@@ -79,8 +79,8 @@ module _ (tree : Kept) where
         ∙ sym (filter-append is_derived (map (moment_at (forest tree)) xs) (map (moment_at (forest tree)) ys))
         ∙ ap (filter is_derived) (sym (map-append (moment_at (forest tree)) xs ys));
     own = λ o at. elim (In-cases p.more q.more o at) [
-      | inl there ↦ (let (y, on, is, date) = p.own o there in (y, IsOn-append_left xs ys y on, is, date))
-      | inr there ↦ (let (y, on, is, date) = q.own o there in (y, IsOn-append_right xs ys y on, is, date))
+      | inl there ↦ (let (y, on, is, date, number) = p.own o there in (y, IsOn-append_left xs ys y on, is, date, number))
+      | inr there ↦ (let (y, on, is, date, number) = q.own o there in (y, IsOn-append_right xs ys y on, is, date, number))
     ];
   }
 
@@ -132,13 +132,13 @@ module _ (tree : Kept) where
   }
 
   pub tells_one : (y : ℕ) (a b : List DatedOcc) (o : DatedOcc) → is_derived (moment_at (forest tree) y) ≡ true → moment_of o.occ ≡ moment_at (forest tree) y
-      → o.early ≡ early (present tree) y → b ≡ a ++ o ∷ [] → TellsOf tree (y ∷ []) a b
-  tells_one y a b o derived is date push = record {
+      → o.early ≡ early (present tree) y → o.node ≡ y → b ≡ a ++ o ∷ [] → TellsOf tree (y ∷ []) a b
+  tells_one y a b o derived is date number push = record {
     more = o ∷ [];
     is = push;
     moments = ap (λ k. k ∷ []) is ∙ sym (ap (λ v. cond v (moment_at (forest tree) y ∷ []) []) derived);
     own = λ u at. elim at [
-      | inl same ↦ (y, IsOn-first y [], ap (λ (z : DatedOcc). moment_of z.occ) (sym same) ∙ is, ap (λ (z : DatedOcc). z.early) (sym same) ∙ date)
+      | inl same ↦ (y, IsOn-first y [], ap (λ (z : DatedOcc). moment_of z.occ) (sym same) ∙ is, ap (λ (z : DatedOcc). z.early) (sym same) ∙ date, ap (λ (z : DatedOcc). z.node) (sym same) ∙ number)
       | inr none ↦ absurd none
     ];
   }
@@ -297,12 +297,12 @@ module _ (old new : BeliefNet) (before after : Departed) (x : ℕ) (numbers : Li
     more = tells.more;
     is = tells.is;
     own = λ o at.
-        let (y, on, is, date) = tells.own o at in
+        let (y, on, is, date, number) = tells.own o at in
         let (m, there) = node_at f y (live_on y on) in
         let same = sym (moment_at-is f y m there) ∙ sym is in
         let among = subst (In (moment_of o.occ)) tells.moments (map-In (λ (z : DatedOcc). moment_of z.occ) tells.more o at) in
         let derived = (In-filter is_derived (map (moment_at f) numbers) (moment_of o.occ) among).1 in
-        (y, m, record { was = there; gone = gone y on }, same, ap is_derived same ∙ derived, date);
+        (y, m, record { was = there; gone = gone y on }, same, ap is_derived same ∙ derived, date, number);
     all = λ y m left derived.
         let on = left_on y m left in
         let is = moment_at-is f y m left.was in

@@ -57,7 +57,7 @@ nodes_are : (tree : Kept) (numbers : List ℕ) → map (λ (m : ℤ × Moment). 
 nodes_are tree [] = refl
 nodes_are tree (n ∷ numbers) = ap (λ l. moment_at (forest tree) n ∷ l) (nodes_are tree numbers)
 
-In-reverse : {X : Type 0} (xs : List X) (x : X) → In x xs → In x (reverse xs)
+pub In-reverse : {X : Type 0} (xs : List X) (x : X) → In x xs → In x (reverse xs)
 In-reverse xs x at = In-from_Contains (reverse xs) x (Contains-permutation xs (reverse xs) x (IsPermutation-reverse xs) (Contains-from_In xs x at))
 
 reverse-In : {X : Type 0} (xs : List X) (x : X) → In x (reverse xs) → In x xs

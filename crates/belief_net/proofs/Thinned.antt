@@ -131,10 +131,10 @@ module _ (old mid new : BeliefNet) (first : Thins old mid) (then_ : Thins mid ne
     more = p.more ++ q.more;
     is = q.is ∙ ap (λ l. l ++ q.more) p.is ∙ append_assoc a p.more q.more;
     own = λ o at. elim (In-cases p.more q.more o at) [
-      | inl there ↦ (let (x, m, left, is, derived, date) = p.own o there in (x, m, left_first x m left, is, derived, date))
+      | inl there ↦ (let (x, m, left, is, derived, date, number) = p.own o there in (x, m, left_first x m left, is, derived, date, number))
       | inr there ↦ (
-          let (x, m, left, is, derived, date) = q.own o there in
-          (x, m, left_then x m left, is, derived, date ∙ first.dates x (live_at (forest mid.tree) x m left.was)))
+          let (x, m, left, is, derived, date, number) = q.own o there in
+          (x, m, left_then x m left, is, derived, date ∙ first.dates x (live_at (forest mid.tree) x m left.was), number))
     ];
     all = λ x m left derived. subst (In (moment m)) (sym split) (elim (left_cases x m left) [
       | inl l ↦ In-left (moments_of p.more) (moments_of q.more) (moment m) (p.all x m l derived)
@@ -150,8 +150,8 @@ module _ (old mid new : BeliefNet) (first : Thins old mid) (then_ : Thins mid ne
       apart k at there =
           let (o, in_o, is_o) = In-map (λ (z : DatedOcc). moment_of z.occ) p.more k at in
           let (u, in_u, is_u) = In-map (λ (z : DatedOcc). moment_of z.occ) q.more k there in
-          let (x, m, left, is, _, _) = p.own o in_o in
-          let (y, n, gone, was, _, _) = q.own u in_u in
+          let (x, m, left, is, _, _, _) = p.own o in_o in
+          let (y, n, gone, was, _, _, _) = q.own u in_u in
           let same = once x y m n left.was (first.nodes y n gone.was) (is ∙ is_o ∙ sym (was ∙ is_u)) in
           none_some n (sym left.gone ∙ ap (member (forest mid.tree)) same ∙ gone.was)
 

@@ -40,12 +40,12 @@ HasNoRowOf d rule = (i : ℕ) (row : TableRow Pair 6) → (table_of d).row i ≡
 abbrev pub moments_of : List DatedOcc → List Moment
 moments_of told = map (λ (o : DatedOcc). moment_of o.occ) told
 
--- of nodes that go, each that rules led to is told, with the date that is kept of it
+-- of nodes that go, each that rules led to is told, with its number and the date that is kept of it
 pub record TellsOf (tree : Kept) (numbers : List ℕ) (before after : List DatedOcc) : Type 0 where
   pub more : List DatedOcc
   pub is : after ≡ before ++ more
   pub moments : moments_of more ≡ filter is_derived (map (moment_at (forest tree)) numbers)
-  pub own : (o : DatedOcc) → In o more → (y : ℕ) × IsOn numbers y × (moment_of o.occ ≡ moment_at (forest tree) y) × (o.early ≡ early (present tree) y)
+  pub own : (o : DatedOcc) → In o more → (y : ℕ) × IsOn numbers y × (moment_of o.occ ≡ moment_at (forest tree) y) × (o.early ≡ early (present tree) y) × (o.node ≡ y)
 
 -- the classes of the tokens among these nodes are among the names, besides those before
 pub record NotesOf (tree : Kept) (numbers : List ℕ) (before after : List (List ℕ)) : Type 0 where
@@ -58,11 +58,11 @@ pub record HasLeft (old new : Kept) (x : ℕ) (m : Member) : Type 0 where
   pub was : member (forest old) x ≡ Some m
   pub gone : member (forest new) x ≡ None
 
--- of the nodes that left, each that rules led to is told once, with the date that was kept of it
+-- of the nodes that left, each that rules led to is told once, with its number and the date that was kept of it
 pub record Tells (old new : Kept) (before after : List DatedOcc) : Type 0 where
   pub more : List DatedOcc
   pub is : after ≡ before ++ more
-  pub own : (o : DatedOcc) → In o more → (x : ℕ) × (m : Member) × HasLeft old new x m × (moment m ≡ moment_of o.occ) × (is_derived (moment m) ≡ true) × (o.early ≡ early (present old) x)
+  pub own : (o : DatedOcc) → In o more → (x : ℕ) × (m : Member) × HasLeft old new x m × (moment m ≡ moment_of o.occ) × (is_derived (moment m) ≡ true) × (o.early ≡ early (present old) x) × (o.node ≡ x)
   pub all : (x : ℕ) (m : Member) → HasLeft old new x m → is_derived (moment m) ≡ true → In (moment m) (moments_of more)
   pub once : Distinct (moments_of more)
 

@@ -1,8 +1,9 @@
 -- An update: nodes and rows of the list before an edit become those of the list after it.
-use Rattle.std.specs.Prelude.{◌≡◌, ℕ, ◌≤◌, List, None, MatchOption}
+use Rattle.std.specs.Prelude.{◌≡◌, ℕ, ◌≤◌, List, [], None, MatchOption}
 use Rattle.tmm_model.specs.declared.premise.Edit.{Edit}
 use Rattle.tmm_model.specs.declared.premise.Edit.TheVariants.{Horizon}
 use Rattle.tmm_model.specs.declared.premise.Premise.{Premise}
+use Rattle.tmm_model.specs.Beliefs.{roots}
 use Rattle.tmm_model.specs.Edits.{next_list}
 use Rattle.tmm_model.specs.Standing.{Standing, points_in, name_of}
 use Rattle.list_theory.proofs.Elements.{In}
@@ -92,6 +93,12 @@ pub record IsUpdated (lists : States) (nets : Nets) (b : BeliefNet) (before coun
 -- no more decisions are counted than the edit touches
 abbrev pub IsCountedWithin : States → ℕ → ℕ → Type 0
 IsCountedWithin lists before count = count ≤ counted before (touched lists.committed lists.present)
+
+-- ---- before all updates
+
+-- it is kept of every list in which nothing is declared to occur
+abbrev pub KeepsNothing : BeliefNet → Type 0
+KeepsNothing b = (s : Standing) (net : Net) → IsNetOf s net → roots s ≡ [] → IsKept s net b
 
 -- ---- what follows an update
 

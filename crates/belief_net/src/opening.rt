@@ -6,6 +6,7 @@ ghost use Rattle.belief_net.specs.Entering.{KeepLast};
 ghost use Rattle.belief_net.specs.MarkLaws.{added_by as name_added};
 ghost use Rattle.belief_net.specs.Marks.{Marks};
 ghost use Rattle.belief_net.specs.MovedPairs.{WereThere};
+ghost use Rattle.belief_net.specs.Numbered.{AreNumbered, left_under};
 ghost use Rattle.belief_net.specs.Settling.{Begins};
 ghost use Rattle.belief_net.specs.Telling.{IsWeighed};
 ghost use Rattle.belief_net.specs.Turning.{IsFit};
@@ -43,6 +44,7 @@ pub(crate) fn open(
     ensures fit { OnOk result (IsFit standing.now.present net.now.present beliefs.new) }
     ensures begins { IfOk result (Begins standing.now.committed edit.now net.now.present beliefs.new) }
     ensures weighed { IfOk result (IsWeighed standing.now.present) }
+    ensures numbered { IfOk result (λ told. AreNumbered standing.now.present beliefs.new.tree (left_under told.left.items)) }
     ensures last { KeepLast beliefs.old beliefs.new }
 {
     let departed = erase(alloc, beliefs, erased)?;

@@ -1,4 +1,6 @@
 // What is kept of beliefs.
+ghost use Rattle.std.specs.Prelude.{◌≡◌};
+
 use crate::numbers::Numbers;
 use crate::waiting::Waiting;
 use decision_rows::Rows;
@@ -11,6 +13,15 @@ pub struct BeliefNet {
     pub(crate) tree: Tree,
     /// The decisions of rules at events.
     pub(crate) decisions: Decisions,
+}
+
+impl BeliefNet {
+    /// The occurrences as numbered nodes, now and at the last commit.
+    pub fn tree(&self) -> &Tree
+        ensures { result.now ≡ self.now.tree }
+    {
+        &self.tree
+    }
 }
 
 /// A row for each decision of a rule at an event.

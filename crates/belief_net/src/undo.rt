@@ -3,7 +3,7 @@ ghost use Rattle.std.specs.Prelude.{◌≡◌, ℕ, [], None};
 ghost use Rattle.occ_tree.specs.Places.{forest};
 ghost use Rattle.occ_tree.specs.Standing.{present, committed};
 ghost use Rattle.undo_rows.specs.Changes.{present as rows_now, committed as rows_then};
-ghost use Rattle.belief_net.specs.Updating.{CommitsKept, LeadsBack};
+ghost use Rattle.belief_net.specs.Updating.{CommitsKept, KeepsNothing, LeadsBack};
 
 use crate::numbers::Numbers;
 use crate::state::{BeliefNet, Decisions};
@@ -13,11 +13,13 @@ use occ_tree::Tree;
 use std::alloc::Global;
 
 impl BeliefNet {
-    // No occurrences and no decisions. It takes no memory.
-    pub(crate) fn make(alloc: Global) -> BeliefNet
+    /// No occurrences and no decisions: those of a list in which nothing is declared to occur. It takes no
+    /// memory.
+    pub fn make(alloc: Global) -> BeliefNet
         ensures nodes { (x : ℕ) → forest result.tree x ≡ None }
         ensures rows { (i : ℕ) → (rows_now result.decisions.rows).row i ≡ None }
         ensures waits { result.decisions.waiting ≡ [] }
+        ensures kept { KeepsNothing result }
     {
         BeliefNet {
             tree: Tree::make(alloc),

@@ -4,6 +4,7 @@ ghost use Rattle.tmm_model.specs.Answers.{size};
 ghost use Rattle.tmm_model.specs.Maps.{built};
 ghost use Rattle.projection.specs.Queues.{IsTooLarge};
 ghost use Rattle.belief_net.specs.Entering.{KeepLast};
+ghost use Rattle.belief_net.specs.Numbered.{KeepsNumbers, left_under};
 ghost use Rattle.belief_net.specs.Updating.{IsKept, IsPending, IsUpdated, IsCountedWithin};
 
 use crate::opening::open;
@@ -20,8 +21,10 @@ impl BeliefNet {
     /// Makes nodes and rows of the list before an edit those of the list after it, where list and network
     /// have the edit already. `erased` are the names that it left out, and `before` is the horizon before it.
     /// It answers which derived occurrences entered and left, and counts the decisions that it makes: no more
-    /// than the edit touches. It refuses only a list whose map is larger than 100,000; that 2^64 - 1 decisions
-    /// do not end it counts as want of memory. After an error `rollback` leads back.
+    /// than the edit touches. What occurs on keeps the number that its node had at the last commit, and
+    /// nothing else gets that number; a derived occurrence that left is told under its number. It refuses only
+    /// a list whose map is larger than 100,000; that 2^64 - 1 decisions do not end it counts as want of
+    /// memory. After an error `rollback` leads back.
     pub fn update(
         &mut self,
         alloc: Global,
@@ -36,6 +39,7 @@ impl BeliefNet {
         requires pending { IsPending standing.now net.now edit.now erased.now }
         requires before { before ≡ standing.now.committed.horizon }
         ensures ok { IfOk result (IsUpdated standing.now net.now self.new counter.old counter.new) }
+        ensures numbered { IfOk result (λ told. KeepsNumbers self.new.tree (left_under told.left.items)) }
         ensures stops { IfErr result (IsTooLarge (size (built standing.now.present))) }
         ensures counted { IsCountedWithin standing.now counter.old counter.new }
         ensures last { KeepLast self.old self.new }

@@ -1,4 +1,4 @@
-use Rattle.std.proofs.Common.{◌≢◌, ◌∙◌, length, sym, w64, rules}
+use Rattle.std.proofs.Common.{◌≢◌, ◌∙◌, length, refl, sym, w64, rules}
 use Rattle.std.specs.Prelude.{FitsSigned}
 use Rattle.std.proofs.lemmas.Int.{to_z-of_z}
 use Rattle.occ_tree.specs.Places.{forest}
@@ -18,4 +18,4 @@ returns c =
     let (m, at) = node_at (forest t) c.args.y c.requires in
     let fits : FitsSigned w64 c.early.result = search rules in
     let some : length m.links ≢ 0 = λ none. c.if-row-eq0.false ((c.row.ensures m at).rules ∙ none) in
-    tells_one t c.args.y c.args.left.now.items c.push.new.self.items _ (effect_derived t c.args.y m at some) c.in_ok-occ_of.ensures (to_z-of_z w64 c.early.result fits ∙ c.early.ensures.date) c.in-Ok.ensures.ok
+    tells_one t c.args.y c.args.left.now.items c.push.new.self.items _ (effect_derived t c.args.y m at some) c.in_ok-occ_of.ensures (to_z-of_z w64 c.early.result fits ∙ c.early.ensures.date) refl c.in-Ok.ensures.ok

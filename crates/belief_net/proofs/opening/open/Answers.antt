@@ -1,6 +1,6 @@
 use Rattle.std.proofs.Common.{refl}
 use Rattle.belief_net.specs.declared.state.BeliefNet.{BeliefNet}
-use Rattle.belief_net.proofs.Opened.{list_after, dates_before, events_after, points_there, marked_fit, marked_may_add, opened_fit, opened_stands, opened_last}
+use Rattle.belief_net.proofs.Opened.{list_after, dates_before, events_after, points_there, marked_fit, marked_may_add, opened_fit, opened_stands, opened_numbered, opened_last}
 use Rattle.belief_net.proofs.opening.open.Goals as goal
 
 pub re_date_moved-requires-clause-list : goal.re_date_moved-requires-clause-list
@@ -101,6 +101,27 @@ returns-clause-begins c =
       others = c.in_ok-mark_touched.ensures.others;
     })
     c.of_left.result c.of_left.ensures.entered c.of_left.ensures.left
+
+pub returns-clause-numbered : goal.returns-clause-numbered
+returns-clause-numbered c =
+    let dated : BeliefNet = record { tree = c.re_date_moved.new.tree; decisions = c.erase.new.beliefs.decisions } in
+    let marked : BeliefNet = record { tree = c.re_date_moved.new.tree; decisions = c.mark_classes.new.decisions } in
+    opened_numbered c.args.standing.now c.args.net.now c.args.edit.now c.args.erased.now c.args.beliefs.now c.erase.new.beliefs c.in_ok-departed.departed c.requires.kept c.requires.pending
+    c.in_ok-departed.ensures.sheds c.in_ok-departed.ensures.spares c.in_ok-departed.ensures.free
+    dated marked (record {
+      keeps = c.in_ok-re_date_moved.ensures.keeps;
+      dated = c.in_ok-re_date_moved.ensures.dated;
+      same_rows = refl;
+      same_tree = refl;
+      marks = c.in_ok-mark_classes.ensures.ok;
+      names = c.in_ok-mark_classes.ensures.last;
+    })
+    c.args.before c.enter_added.new.beliefs c.mark_touched.new.beliefs c.requires.before (record {
+      entered = c.in_ok-enter_added.ensures.ok;
+      touched = c.in_ok-mark_touched.ensures.ok;
+      others = c.in_ok-mark_touched.ensures.others;
+    })
+    c.of_left.result c.of_left.ensures.left c.in_ok-departed.ensures.last c.in_ok-enter_added.ensures.last.tree
 
 pub returns-clause-last : goal.returns-clause-last
 returns-clause-last c =

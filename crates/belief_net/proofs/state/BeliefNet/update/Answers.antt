@@ -4,6 +4,7 @@ use Rattle.tmm_model.specs.Answers.{size}
 use Rattle.tmm_model.specs.Maps.{built}
 use Rattle.tmm_model.specs.Standing.{Standing}
 use Rattle.projection.specs.Queues.{IsTooLarge}
+use Rattle.belief_net.proofs.Numbered.{keeps_numbers}
 use Rattle.belief_net.proofs.Updated.{counted_within, updated}
 use Rattle.belief_net.proofs.state.BeliefNet.update.Goals as goal
 
@@ -32,3 +33,11 @@ returns-in_ok-settle-in-Ok-clause-counted c =
     let list = c.requires.pending.list in
     counted_within c.args.standing.now c.args.edit.now c.args.counter.now c.settle.new.count list
     (c.in_ok-settle-in-Ok.ensures.counted c.args.standing.now.committed c.args.edit.now (sym list) c.in-Ok.ensures.begins)
+
+pub returns-in_ok-settle-in-Ok-clause-numbered : goal.returns-in_ok-settle-in-Ok-clause-numbered
+returns-in_ok-settle-in-Ok-clause-numbered c =
+    let list = c.requires.pending.list in
+    let u = updated c.args.standing.now c.args.net.now c.args.edit.now c.settle.new.beliefs c.settle.new.told c.args.counter.now c.settle.new.count list c.in_ok-settle-in-Ok.ensures.rests
+    (c.in_ok-settle-in-Ok.ensures.settled c.args.standing.now.committed c.args.edit.now (sym list) c.in-Ok.ensures.begins) in
+    keeps_numbers c.args.standing.now.present c.args.standing.now.committed c.args.net.now.present c.settle.new.beliefs.tree c.settle.new.told
+    (c.in_ok-settle-in-Ok.ensures.numbered c.in-Ok.ensures.numbered) u.current.seen u.current.holds u.tells
