@@ -39,3 +39,5 @@ pub mod Readied
 pub mod Opened
 pub mod KeptAgain
 pub mod Updated
+pub mod Sized
+pub mod AlikeKept
