@@ -42,3 +42,5 @@ pub mod KeptAgain
 pub mod Nothing
 pub mod Updated
 pub mod Numbering
+pub mod Sized
+pub mod AlikeKept

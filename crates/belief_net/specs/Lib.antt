@@ -24,3 +24,4 @@ pub mod Adding
 pub mod Beginning
 pub mod Updating
 pub mod Numbered
+pub mod Alike

@@ -2,6 +2,7 @@
 //! at an event, of which after an edit only those are made again that the edit touches.
 #![tactic(auto)]
 
+mod alike_laws;
 mod beginning_laws;
 mod by_event;
 mod dates;
@@ -23,6 +24,7 @@ mod rooting;
 mod rows;
 mod ruling;
 mod settling;
+mod size;
 mod state;
 mod told;
 mod touching;
@@ -32,5 +34,6 @@ mod undo;
 mod update;
 mod waiting;
 
+pub use size::size_of;
 pub use state::BeliefNet;
 pub use told::{DatedOcc, Told};

@@ -1,6 +1,6 @@
 //! What no clause says: the text of whole scripts, that calls succeed, and what faults leave.
 use crate::run::{line_buffer, run};
-use map_engine::PlainMap;
+use map_engine::{NetMap, PlainMap};
 use std::alloc::Global;
 use std::process::Abort;
 use std::test::Fail;
@@ -383,6 +383,51 @@ fn both_maps_answer_alike(rt: HostRuntime) -> Result<(), Fail> {
     }
     for (script, _, _) in ROWS {
         expect_plain(&rt, rt.alloc(), script)?;
+    }
+    Ok(())
+}
+
+/// Maps in which rules fire, and edits of each that move no point of an occurrence and bring nothing: points,
+/// constraints and protections beside them.
+const UNMOVED: &[(&[u8], &[u8])] = &[
+    // a door that a push shuts
+    (
+        b"class door open shut\nkind push\nrule shuts push 1 2 shut if open\ntoken held open\nevent e push\ndist d held e 5 10\n",
+        b"point x\ndist n held x 2 3\npoint y\ndist m x y 3 4\nbounds held y\nprotect q open held x\ncheck\nerase q\n",
+    ),
+    // an event that rules repeat
+    (
+        b"kind t\nevent e t\ndist z start e 0 0\nhorizon 35\nrule r t 10 10 t\n",
+        b"point p\ndist a e p 1 2\ndist b start p 1 2\nsize\nlist\nwhy e/r\n",
+    ),
+    // protections, of which one is broken
+    (
+        b"class door open shut\ntoken k open\ndist z start k 0 0\nkind push\nrule r push 1 1 shut if open\nevent e push\ndist x start e 10 10\n",
+        b"point p\ndist y start p 12 12\nprotect g open k p\npoint q\ndist w start q 8 8\nprotect h open k q\ncheck\nerase g\ncheck\naudit\n",
+    ),
+];
+
+/// How many decisions the map of the program makes for a script in which nothing is refused.
+fn decisions(rt: &impl Abort, alloc: Global, script: &[u8]) -> Result<u64, Fail> {
+    let mut session = Session::make(NetMap::make(alloc)?);
+    let mut buffer = line_buffer(alloc)?;
+    let mut source = MemSource::make(alloc, script, 4096, &[])?;
+    let mut sink = MemSink::make(alloc, 1 << 12, &[])?;
+    let status = drive(alloc, &mut session, &mut buffer, &mut source, &mut sink);
+    assert_eq!(rt; status, Status::Clean);
+    Ok(session.counter.value())
+}
+
+#[test]
+fn still_maps_decide_nothing(rt: HostRuntime) -> Result<(), Fail> {
+    let alloc = rt.alloc();
+    for (map, edits) in UNMOVED {
+        let mut whole = Vec::new(alloc);
+        whole.extend_from_slice(map)?;
+        whole.extend_from_slice(edits)?;
+        let made = decisions(&rt, alloc, map)?;
+        assert!(rt; made > 0);
+        assert_eq!(rt; decisions(&rt, alloc, whole.as_slice())?, made);
     }
     Ok(())
 }

@@ -1,0 +1,189 @@
+-- What is kept of a list is kept of each list that is alike in all that beliefs read.
+use Rattle.std.proofs.Common.{◌≡◌, ◌∙◌, ℕ, true, false, List, [], ◌∷◌, ◌++◌, map, refl, sym, ap, subst, inl, inr}
+use Rattle.std.specs.Prelude.{Some, filter, ◌+ℤ◌}
+use Rattle.std.specs.List.{Contains, list_any, filter_map}
+use Rattle.tmm_model.specs.declared.bound.Bound.{Bound}
+use Rattle.tmm_model.specs.declared.point.PointName.{PointName}
+use Rattle.tmm_model.specs.declared.point.PointName.TheVariants.{Start, Begin}
+use Rattle.tmm_model.specs.declared.token.TokenRow.{TokenRow}
+use Rattle.tmm_model.specs.Beliefs.{root_of, roots}
+use Rattle.tmm_model.specs.Bounds.{bound_plus, bound_less}
+use Rattle.tmm_model.specs.Maps.{built, believed_tokens}
+use Rattle.tmm_model.specs.Moments.{Moment, At, base, rules, low, high, apart, distance}
+use Rattle.tmm_model.specs.Points.{same_name, same_point}
+use Rattle.tmm_model.specs.Standing.{Standing, points_in, name_of, far_in}
+use Rattle.list_theory.specs.WellNamed.{IsSound}
+use Rattle.list_theory.proofs.Elements.{In, In-from_Contains, Contains-from_In, In-cases, In-map, In-filter, In-filter_map}
+use Rattle.belief_theory.specs.Outcomes.{outcome}
+use Rattle.belief_theory.specs.Touched.{watched, watched_points}
+use Rattle.belief_theory.proofs.NextLists.{all_spelt}
+use Rattle.belief_theory.proofs.SoundBeliefs.{believed_occurs}
+use Rattle.belief_theory.proofs.Untouched.{Alike, outcome_alike}
+use Rattle.dist_net.specs.Net.{Net}
+use Rattle.list_net.specs.Fits.{IsNetOf}
+use Rattle.list_net.specs.Network.{PointsKeepNumbers}
+use Rattle.spots.specs.Forest.{Forest, IsLive, moment_at}
+use Rattle.spots.specs.Seen.{IsSeen, Holds}
+use Rattle.spots.proofs.Nodes.{node_at, moment_at-is}
+use Rattle.spots.proofs.Seen.{early_is}
+use Rattle.supports.proofs.Grown.{root_name}
+use Rattle.occ_tree.specs.Classes.{place_in}
+use Rattle.occ_tree.specs.Dated.{IsDatedBy}
+use Rattle.occ_tree.specs.Places.{forest}
+use Rattle.occ_tree.specs.Standing.{present}
+use Rattle.revisions.specs.Alike.{IsAnchor, SayAlike, AreAlike, BelieveAlike}
+use Rattle.revisions.proofs.Alike.{IsAnchored, AreAnchored, IsBetween, tokens_between, rules_same, alike_believe}
+use Rattle.revisions.proofs.StillEdits.{base_root, stay_seen}
+use Rattle.joined.specs.Netted.{IsCurrent}
+use Rattle.joined.specs.Rows.{Row, AreLive, AreRowsOf, outcome_at}
+use Rattle.belief_net.specs.declared.state.BeliefNet.{BeliefNet}
+use Rattle.belief_net.specs.Alike.{AlikeAreKept}
+use Rattle.belief_net.specs.Decided.{rule_in, AreUnder}
+use Rattle.belief_net.specs.Turning.{rows_of, IsFit}
+use Rattle.belief_net.specs.Updating.{IsKept}
+
+-- ---- distances
+
+module _ (s t : Standing) (say : SayAlike s t) where
+  low_same : (rs : List (List ℕ)) → low s rs ≡ low t rs
+  low_same [] = refl
+  low_same (r ∷ rs) = λ i. (say.rule r i).lo +ℤ low_same rs i
+
+  high_same : (rs : List (List ℕ)) → high s rs ≡ high t rs
+  high_same [] = refl
+  high_same (r ∷ rs) = λ i. bound_plus (say.rule r i).hi (high_same rs i)
+
+  apart_same : (u v : List (List ℕ)) → apart s u v ≡ apart t u v
+  apart_same [] v = λ i. bound_less (high_same v i) (low_same [] i)
+  apart_same (r ∷ u) [] = λ i. bound_less (high_same [] i) (low_same (r ∷ u) i)
+  apart_same (r ∷ u) (q ∷ v) =
+      λ i. elim (same_name r q) as (λ _. Bound) [ true ↦ apart_same u v i | false ↦ bound_less (high_same (q ∷ v) i) (low_same (r ∷ u) i) ]
+
+module _ (s t : Standing) (alike : AreAlike s t) where
+  -- what begins along rules from points that beliefs read is as far apart in both lists
+  distance_same : (x y : Moment) → IsAnchored s x → IsAnchored s y → distance s (far_in s.premises) x y ≡ distance t (far_in t.premises) x y
+  distance_same x y at_x at_y =
+      λ i. elim (same_point (base x) (base y)) as (λ _. Bound) [
+        | true ↦ apart_same s t alike.say (rules x) (rules y) i
+        | false ↦ bound_less (bound_plus (alike.distances (base x) (base y) at_x at_y i) (high_same s t alike.say (rules y) i)) (low_same s t alike.say (rules x) i)
+      ]
+
+  -- ---- outcomes
+
+  -- what is believed is led to from such a point
+  believed_anchored : IsSound s → AreAnchored s (built s).believed
+  believed_anchored sound x at =
+      let root : Contains (roots s) (At (base x)) = base_root s x (believed_occurs s sound x (Contains-from_In (built s).believed x at)) in
+      let (p, there, made) = In-filter_map root_of s.premises (At (base x)) (In-from_Contains (roots s) (At (base x)) root) in
+      let is : base x ≡ Begin (name_of p) = ap base (root_name p (At (base x)) made) in
+      subst (IsAnchor s) (sym is) (subst (λ q. Contains (roots s) (At q)) is root)
+
+  -- and so are `start`, an event, and where tokens begin and end
+  points_anchored : (x : Moment) → IsAnchored s x → (ks : List (TokenRow Moment)) → ((k : TokenRow Moment) → In k ks → IsBetween s k)
+      → (p : Moment) → In p (At Start ∷ x ∷ map (λ k. k.spot) ks ++ filter_map (λ k. k.end) ks) → IsAnchored s p
+  points_anchored x at ks between p (inl is) = subst (IsAnchored s) is tt
+  points_anchored x at ks between p (inr (inl is)) = subst (IsAnchored s) is at
+  points_anchored x at ks between p (inr (inr there)) = elim (In-cases (map (λ k. k.spot) ks) (filter_map (λ k. k.end) ks) p there) [
+    | inl begins ↦ let (k, here, is) = In-map (λ (k : TokenRow Moment). k.spot) ks p begins in subst (IsAnchored s) is (between k here).begin
+    | inr ends ↦ let (k, here, is) = In-filter_map (λ (k : TokenRow Moment). k.end) ks p ends in (between k here).end p is
+  ]
+
+  module _ (sound : IsSound s) (sound_after : IsSound t) where
+    abbrev same : BelieveAlike s t
+    same = (alike_believe s t alike).0
+
+    watched_same : (r : List ℕ) → watched (built s) r ≡ watched (built t) r
+    watched_same r = λ i. filter (λ k. list_any (λ fact. same_name (alike.say.class fact i) k.class) (alike.say.rule r i).given) (same.tokens i)
+
+    watched_between : (r : List ℕ) (k : TokenRow Moment) → In k (watched (built s) r) → IsBetween s k
+    watched_between r k at = tokens_between s (built s).believed (believed_anchored sound) k (In-filter _ (believed_tokens (built s)) k at).0
+
+    outcome_same : (x : Moment) → Contains (built s).believed x → (r : List ℕ)
+        → outcome s (far_in s.premises) (built s).believed x r ≡ outcome t (far_in t.premises) (built t).believed x r
+    outcome_same x at r = outcome_alike (built s) (built t) x r decided (all_spelt s sound) (all_spelt t sound_after)
+      where
+        anchored : (p : Moment) → In p (watched_points (built s) x r) → IsAnchored s p
+        anchored = points_anchored x (believed_anchored sound x (In-from_Contains (built s).believed x at)) (watched (built s) r) (watched_between r)
+
+        decided : Alike (built s) (built t) x r
+        decided = record {
+          text = alike.say.rule r;
+          horizon = alike.say.horizon;
+          into = λ k there. subst (In k) (watched_same r) there;
+          back = λ k there. subst (In k) (sym (watched_same r)) there;
+          gaps = λ p q at_p at_q. distance_same p q (anchored p at_p) (anchored q at_q);
+        }
+
+-- ---- nodes and rows
+
+module _ (s t : Standing) (before net : Net) (b : BeliefNet) (alike : AreAlike s t) (of_t : IsNetOf t net)
+    (keep : PointsKeepNumbers (points_in t.premises) before.names net.names) (kept : IsKept s before b) where
+  abbrev f : Forest
+  f = forest b.tree
+
+  believe : BelieveAlike s t
+  believe = (alike_believe s t alike).0
+
+  seen : IsSeen t net f
+  seen = stay_seen s t alike.say before net f of_t keep kept.fit.tree.seen
+
+  -- the occurrence of a node was believed
+  believed : (x : ℕ) → IsLive f x → Contains (built s).believed (moment_at f x)
+  believed x live =
+      let (m, here) = node_at f x live in
+      subst (Contains (built s).believed) (sym (moment_at-is f x m here)) (kept.current.holds.own x m here)
+
+  -- each node has the same date in both networks
+  dated : IsDatedBy net (present b.tree)
+  dated x live =
+      kept.fit.tree.dated x live
+      ∙ early_is s before f kept.fit.tree.seen x live
+      ∙ believe.dates (moment_at f x) (believed x live)
+      ∙ sym (early_is t net f seen x live)
+
+  under : AreUnder t b.decisions
+  under = record {
+    classes = λ i row at.
+        let was = kept.fit.under.classes i row at in
+        record {
+          classes = was.classes;
+          few = was.few;
+          numbers = sym (λ j. map (λ fact. place_in b.decisions.classes (alike.say.class fact j)) (alike.say.rule (rule_in b.decisions row) j).given) ∙ was.numbers;
+          heads = was.heads;
+        };
+    named = kept.fit.under.named;
+  }
+
+  fit : IsFit t net b
+  fit = record { tree = record { seen = seen; dated = dated }; events = kept.fit.events; under = under; dated = kept.fit.dated }
+
+  rows_are : AreRowsOf t f (rows_of b)
+  rows_are = record {
+    each = λ x rule live stands. kept.current.rows_are.each x rule live (subst (λ l. Contains l rule) (sym (rules_same s t alike.say (moment_at f x))) stands);
+    own = λ i q at.
+        let was = kept.current.rows_are.own i q at in
+        (was.0, subst (λ l. Contains l q.rule) (rules_same s t alike.say (moment_at f q.trigger)) was.1);
+    apart = kept.current.rows_are.apart;
+  }
+
+  told : (i : ℕ) (q : Row) → rows_of b i ≡ Some q
+      → AreLive f q.found × (outcome_at f q.found ≡ outcome t (far_in t.premises) (built t).believed (moment_at f q.trigger) q.rule)
+  told i q at =
+      let was = kept.current.told i q at in
+      let live = (kept.current.rows_are.own i q at).0 in
+      (was.0, was.1 ∙ outcome_same s t alike kept.fit.tree.seen.network.sound of_t.sound (moment_at f q.trigger) (believed q.trigger live) q.rule)
+
+  current : IsCurrent t net f (rows_of b)
+  current = record {
+    seen = seen;
+    holds = subst (λ l. Holds l f) believe.believed kept.current.holds;
+    rows_are = rows_are;
+    none_waits = kept.current.none_waits;
+    told = told;
+  }
+
+  kept_of : IsKept t net b
+  kept_of = record { fit = fit; current = current; none_waits = kept.none_waits; tree = kept.tree; rows = kept.rows }
+
+pub alike_kept : AlikeAreKept
+alike_kept = kept_of
