@@ -38,4 +38,5 @@ pub mod Rooted
 pub mod Readied
 pub mod Opened
 pub mod KeptAgain
+pub mod Rises
 pub mod Updated

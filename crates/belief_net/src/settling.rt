@@ -35,6 +35,7 @@ pub(crate) fn settle(
     ensures settled { OnOk result (IfBegun standing.now.present net.now.present beliefs.old told.old (IsSettled net.now.present beliefs.new told.new count.old count.new)) }
     ensures stops { IfErr result (λ stop. IfBegun standing.now.present net.now.present beliefs.old told.old (StopsFor stop)) }
     ensures counted { IfBegun standing.now.present net.now.present beliefs.old told.old (IsCountedIn count.old count.new) }
+    ensures rises { count.old ≤ count.new }
     ensures last { KeepLast beliefs.old beliefs.new }
 {
     // it tells the proof that no count is above the greatest

@@ -3,6 +3,7 @@ use Rattle.std.proofs.lemmas.Result.{err_from_is_err_and}
 use Rattle.belief_net.specs.Settling.{IfBegun, IsSettled}
 use Rattle.belief_net.specs.Turns.{TurnsOrRests}
 use Rattle.belief_net.proofs.Named.{last_stays, last_on}
+use Rattle.belief_net.proofs.Rises.{counts_on}
 use Rattle.belief_net.proofs.Settled.{revising_on, so_far_on, so_far_first, so_far_within, one_within, stops_for, settled}
 use Rattle.belief_net.proofs.settling.settle.Goals as goal
 
@@ -16,6 +17,7 @@ loop-init c =
       revising = c.requires.revising;
       weighed = c.requires.weighed;
       so_far = so_far_first c.args.standing.now.present c.args.net.now.present c.args.beliefs.now c.args.told.now c.args.count.now few;
+      rises = (omega arith, few);
       last = record { tree = refl; decisions = last_stays c.args.beliefs.now.decisions };
     }
 
@@ -61,9 +63,16 @@ loop-preserved c =
       revising = revising_on s net b e c.loop.told c.turn.new.told inv.revising t;
       weighed = t.weighed inv.weighed;
       so_far = so_far_on s net a b e c.args.told.now c.loop.told c.turn.new.told c.args.count.now c.loop.count c.turn.new.counter inv.so_far t one;
+      rises = counts_on b c.args.count.now c.loop.count c.turn.new.counter inv.rises c.in_ok-turn.ensures.counted;
       last = record { tree = c.in_ok-turn.ensures.last.tree ∙ inv.last.tree; decisions = last_on a.decisions b.decisions e.decisions inv.last.decisions c.in_ok-turn.ensures.last.decisions };
     }
 
 pub returns-clause-counted : goal.returns-clause-counted
 returns-clause-counted c =
     so_far_within c.args.standing.now.present c.args.net.now.present c.args.beliefs.now c.loop.beliefs c.args.told.now c.loop.told c.args.count.now c.loop.count c.loop.invariant.so_far
+
+pub returns-in_err-turn-clause-rises : goal.returns-in_err-turn-clause-rises
+returns-in_err-turn-clause-rises c = (counts_on c.loop.beliefs c.args.count.now c.loop.count c.turn.new.counter c.loop.invariant.rises c.in_err-turn.ensures.counted).0
+
+pub returns-then-not-branch-clause-rises : goal.returns-then-not-branch-clause-rises
+returns-then-not-branch-clause-rises c = (counts_on c.loop.beliefs c.args.count.now c.loop.count c.turn.new.counter c.loop.invariant.rises c.in_ok-turn.ensures.counted).0
