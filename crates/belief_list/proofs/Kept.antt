@@ -39,9 +39,9 @@ if_some p (r ∷ rs) some = ap (λ b. elim b as (λ _. Option Moment) [ true ↦
 
 module _ (old new : Forest) (left : List LeftNode) (words : AreWords old new left) (x : ℕ) (live : IsLive old x) (gone : member new x ≡ None) where
   -- what is told of a node is its occurrence
-  pub told_at : (n : LeftNode) → Contains left n → n.node ≡ x → gone_at old new x ≡ if_derived (moment_of n.occ)
+  pub told_at : (n : LeftNode) → Contains left n → n.node ≡ x → gone_at old new x ≡ if_derived (moment_of n.occ.now)
   told_at n there same =
-      let own : moment_of n.occ ≡ moment_at old x = words.own n there (subst (IsLive old) (sym same) live, ap (member new) same ∙ gone) ∙ ap (moment_at old) same in
+      let own : moment_of n.occ.now ≡ moment_at old x = words.own n there (subst (IsLive old) (sym same) live, ap (member new) same ∙ gone) ∙ ap (moment_at old) same in
       ap (λ o. elim (is_derived (moment_at old x) && is_none o) as (λ _. Option Moment) [ true ↦ Some (moment_at old x) | false ↦ None ]) gone
       ∙ by (is_derived (moment_at old x))
       ∙ ap if_derived (sym own)

@@ -23,7 +23,7 @@ IsGone old new x = IsLive old x × (member new x ≡ None)
 -- occurrence.
 pub record AreWords (old new : Forest) (left : List LeftNode) : Type 0 where
   pub all : (x : ℕ) → IsGone old new x → is_derived (moment_at old x) ≡ true → Contains (map (λ n. n.node) left) x
-  pub own : (n : LeftNode) → Contains left n → IsGone old new n.node → moment_of n.occ ≡ moment_at old n.node
+  pub own : (n : LeftNode) → Contains left n → IsGone old new n.node → moment_of n.occ.now ≡ moment_at old n.node
 
 -- the occurrence, if a rule brings it about
 abbrev pub if_derived : Moment → Option Moment

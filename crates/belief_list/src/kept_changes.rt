@@ -22,12 +22,12 @@ use std::alloc::Global;
 use tmm_model::{NoMemory, Occ, Seq};
 
 /// The occurrence of a node that is gone.
-#[derive(Drop)]
-pub struct LeftNode {
+#[derive(Clone, Copy)]
+pub struct LeftNode<'a> {
     /// The number that the node had.
     pub node: u32,
     /// Its occurrence.
-    pub occ: Occ,
+    pub occ: &'a Occ,
 }
 
 /// What of belief changed from the rows of the last commit to the present ones, where nodes keep their
@@ -35,7 +35,7 @@ pub struct LeftNode {
 pub fn compare_kept(
     alloc: Global,
     old: &[BeliefRow],
-    left: &[LeftNode],
+    left: &[LeftNode<'_>],
     tree: &Tree,
     new: &[BeliefRow],
 ) -> Result<BeliefChanges, NoMemory>
@@ -66,7 +66,7 @@ pub fn compare_kept(
 fn left_occs(
     alloc: Global,
     old: &[BeliefRow],
-    left: &[LeftNode],
+    left: &[LeftNode<'_>],
     tree: &Tree,
 ) -> Result<Seq<Occ>, NoMemory>
     requires live { All (IsLiveRow (kept_forest tree.now)) old.now }
@@ -84,7 +84,7 @@ fn left_occs(
 }
 
 // The place of the occurrence of each node that is told of.
-fn places_by_left(alloc: Global, left: &[LeftNode]) -> Result<Vec<Option<usize>>, NoMemory>
+fn places_by_left(alloc: Global, left: &[LeftNode<'_>]) -> Result<Vec<Option<usize>>, NoMemory>
     ensures { IfOk result (λ places. IsTable (map (λ n. n.node) left.now) places.items) }
 {
     let nodes: Vec<u32> = left.iter().map(|gone| gone.node).collect(alloc)?;
@@ -93,7 +93,7 @@ fn places_by_left(alloc: Global, left: &[LeftNode]) -> Result<Vec<Option<usize>>
 
 // The occurrence of a node of the last commit, if it is derived and the node is gone.
 fn left_occ<'a>(
-    left: &'a [LeftNode],
+    left: &[LeftNode<'a>],
     places: &[Option<usize>],
     tree: &Tree,
     node: u32,
@@ -107,11 +107,15 @@ fn left_occ<'a>(
         return None;
     }
     let told = told_of(left, places, node)?;
-    if_derived(&told.occ)
+    if_derived(told.occ)
 }
 
 // What is told of a node.
-fn told_of<'a>(left: &'a [LeftNode], places: &[Option<usize>], node: u32) -> Option<&'a LeftNode>
+fn told_of<'b, 'a>(
+    left: &'b [LeftNode<'a>],
+    places: &[Option<usize>],
+    node: u32,
+) -> Option<&'b LeftNode<'a>>
     ensures { option_copied result ≡ item_under left.now places.now node }
 {
     left.get(place_of(places, node)?)

@@ -40,6 +40,7 @@ pub mod Numbered
 pub mod Opened
 pub mod KeptAgain
 pub mod Nothing
+pub mod Rises
 pub mod Updated
 pub mod Numbering
 pub mod Sized

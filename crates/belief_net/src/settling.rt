@@ -37,6 +37,7 @@ pub(crate) fn settle(
     ensures stops { IfErr result (λ stop. IfBegun standing.now.present net.now.present beliefs.old told.old (StopsFor stop)) }
     ensures counted { IfBegun standing.now.present net.now.present beliefs.old told.old (IsCountedIn count.old count.new) }
     ensures numbered { OnOk result (StayNumbered standing.now.present beliefs.old beliefs.new told.old told.new) }
+    ensures rises { count.old ≤ count.new }
     ensures last { KeepLast beliefs.old beliefs.new }
 {
     // it tells the proof that no count is above the greatest

@@ -1,5 +1,5 @@
 // An update: what is kept of the list before an edit becomes what is to be kept of the list after it.
-ghost use Rattle.std.specs.Prelude.{◌≡◌, [], IfOk, IfErr, OnOk};
+ghost use Rattle.std.specs.Prelude.{◌≡◌, ◌≤◌, IfOk, IfErr};
 ghost use Rattle.tmm_model.specs.Answers.{size};
 ghost use Rattle.tmm_model.specs.Maps.{built};
 ghost use Rattle.projection.specs.Queues.{IsTooLarge};
@@ -42,6 +42,7 @@ impl BeliefNet {
         ensures numbered { IfOk result (λ told. KeepsNumbers self.new.tree (left_under told.left.items)) }
         ensures stops { IfErr result (IsTooLarge (size (built standing.now.present))) }
         ensures counted { IsCountedWithin standing.now counter.old counter.new }
+        ensures rises { counter.old ≤ counter.new }
         ensures last { KeepLast self.old self.new }
     {
         // it tells the proof that no count is above the greatest

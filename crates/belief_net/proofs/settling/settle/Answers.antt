@@ -4,6 +4,7 @@ use Rattle.belief_net.specs.Settling.{IfBegun, IsSettled}
 use Rattle.belief_net.specs.Turns.{TurnsOrRests}
 use Rattle.belief_net.proofs.Named.{last_stays, last_on}
 use Rattle.belief_net.proofs.Numbering.{same_numbered, numbered_on}
+use Rattle.belief_net.proofs.Rises.{counts_on}
 use Rattle.belief_net.proofs.Settled.{revising_on, so_far_on, so_far_first, so_far_within, one_within, stops_for, settled}
 use Rattle.belief_net.proofs.settling.settle.Goals as goal
 
@@ -18,6 +19,7 @@ loop-init c =
       weighed = c.requires.weighed;
       so_far = so_far_first c.args.standing.now.present c.args.net.now.present c.args.beliefs.now c.args.told.now c.args.count.now few;
       numbered = same_numbered c.args.standing.now.present c.args.beliefs.now c.args.beliefs.now c.args.told.now refl;
+      rises = (omega arith, few);
       last = record { tree = refl; decisions = last_stays c.args.beliefs.now.decisions };
     }
 
@@ -64,6 +66,7 @@ loop-preserved c =
       weighed = t.weighed inv.weighed;
       so_far = so_far_on s net a b e c.args.told.now c.loop.told c.turn.new.told c.args.count.now c.loop.count c.turn.new.counter inv.so_far t one;
       numbered = numbered_on s a b e c.args.told.now c.loop.told c.turn.new.told inv.numbered c.in_ok-turn.ensures.numbered;
+      rises = counts_on b c.args.count.now c.loop.count c.turn.new.counter inv.rises c.in_ok-turn.ensures.counted;
       last = record { tree = c.in_ok-turn.ensures.last.tree ∙ inv.last.tree; decisions = last_on a.decisions b.decisions e.decisions inv.last.decisions c.in_ok-turn.ensures.last.decisions };
     }
 
@@ -74,3 +77,8 @@ returns-clause-counted c =
 pub returns-then-not-branch-clause-numbered : goal.returns-then-not-branch-clause-numbered
 returns-then-not-branch-clause-numbered c =
     numbered_on c.args.standing.now.present c.args.beliefs.now c.loop.beliefs c.turn.new.beliefs c.args.told.now c.loop.told c.turn.new.told c.loop.invariant.numbered c.in_ok-turn.ensures.numbered
+pub returns-in_err-turn-clause-rises : goal.returns-in_err-turn-clause-rises
+returns-in_err-turn-clause-rises c = (counts_on c.loop.beliefs c.args.count.now c.loop.count c.turn.new.counter c.loop.invariant.rises c.in_err-turn.ensures.counted).0
+
+pub returns-then-not-branch-clause-rises : goal.returns-then-not-branch-clause-rises
+returns-then-not-branch-clause-rises c = (counts_on c.loop.beliefs c.args.count.now c.loop.count c.turn.new.counter c.loop.invariant.rises c.in_ok-turn.ensures.counted).0

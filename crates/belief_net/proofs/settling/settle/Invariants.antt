@@ -1,3 +1,4 @@
+use Rattle.std.specs.Prelude.{◌≤◌}
 use Rattle.belief_net.specs.Entering.{KeepLast}
 use Rattle.belief_net.specs.Numbered.{StayNumbered}
 use Rattle.belief_net.specs.Settling.{IfBegun, IsSoFar}
@@ -12,5 +13,6 @@ invariant-loop l = record {
   weighed : IsWeighed l.standing.present l.told;
   so_far : IfBegun l.standing.present l.net.present l.fn.beliefs l.fn.told (IsSoFar l.net.present l.beliefs l.told l.fn.count l.count);
   numbered : StayNumbered l.standing.present l.fn.beliefs l.beliefs l.fn.told l.told;
+  rises : (l.fn.count ≤ l.count) × (l.count ≤ 18446744073709551615);
   last : KeepLast l.fn.beliefs l.beliefs;
 }
