@@ -3,7 +3,6 @@ use Rattle.std.proofs.Common.{◌≡◌, ◌∙◌, ℕ, true, false, List, [], 
 use Rattle.std.specs.Prelude.{Some, filter, ◌+ℤ◌}
 use Rattle.std.specs.List.{Contains, list_any, filter_map}
 use Rattle.tmm_model.specs.declared.bound.Bound.{Bound}
-use Rattle.tmm_model.specs.declared.point.PointName.{PointName}
 use Rattle.tmm_model.specs.declared.point.PointName.TheVariants.{Start, Begin}
 use Rattle.tmm_model.specs.declared.token.TokenRow.{TokenRow}
 use Rattle.tmm_model.specs.Beliefs.{root_of, roots}

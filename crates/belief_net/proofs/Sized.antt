@@ -17,19 +17,19 @@ use Rattle.spots.proofs.Nodes.{node_at, live_at, moment_at-is}
 use Rattle.projection.specs.Queues.{weight_at}
 use Rattle.projection.proofs.Steps.{inside_size}
 
--- the occurrence is that of a node below n
-abbrev pub IsBelow : Forest → ℕ → Moment → Type 0
-IsBelow f n k = (x : ℕ) × (m : Member) × (x < n) × (member f x ≡ Some m) × (moment m ≡ k)
+-- the occurrence is that of a node whose number is below n
+abbrev pub IsOfFirst : Forest → ℕ → Moment → Type 0
+IsOfFirst f n k = (x : ℕ) × (m : Member) × (x < n) × (member f x ≡ Some m) × (moment m ≡ k)
 
 -- so much the occurrences of the nodes below n count
 pub record AreCounted (s : Standing) (f : Forest) (n counted : ℕ) : Type 0 where
   pub moments : List Moment
-  pub own : (k : Moment) → In k moments → IsBelow f n k
+  pub own : (k : Moment) → In k moments → IsOfFirst f n k
   pub all : (x : ℕ) (m : Member) → x < n → member f x ≡ Some m → In (moment m) moments
   pub once : Distinct moments
   pub sum : counted ≡ sum_by (weight (built s)) moments
 
-further : (f : Forest) (n : ℕ) (k : Moment) → IsBelow f n k → IsBelow f (n + 1) k
+further : (f : Forest) (n : ℕ) (k : Moment) → IsOfFirst f n k → IsOfFirst f (n + 1) k
 further f n k (x, m, below, at, is) = (x, m, omega (arith, below), at, is)
 
 module _ (s : Standing) (f : Forest) where
