@@ -2,10 +2,6 @@
 use Rattle.std.proofs.Common.{◌≡◌, ◌∙◌, ℕ, List, [], Option, Some, None, sym, ap}
 use Rattle.std.specs.Prelude.{ℤ}
 use Rattle.std.specs.Option.{option_map}
-use Rattle.tmm_model.specs.Beliefs.{roots}
-use Rattle.tmm_model.specs.Standing.{Standing}
-use Rattle.dist_net.specs.Net.{Net}
-use Rattle.list_net.specs.Fits.{IsNetOf}
 use Rattle.spots.specs.Forest.{member}
 use Rattle.spots.proofs.Nodes.{node_at}
 use Rattle.supports.proofs.Grown.{seen_first}
@@ -18,7 +14,7 @@ use Rattle.belief_net.specs.declared.state.BeliefNet.{BeliefNet}
 use Rattle.belief_net.specs.Decided.{table_of}
 use Rattle.belief_net.specs.Numbers.{name_in}
 use Rattle.belief_net.specs.Turning.{rows_of}
-use Rattle.belief_net.specs.Updating.{IsKept, KeepsNothing}
+use Rattle.belief_net.specs.Updating.{KeepsNothing}
 use Rattle.belief_net.specs.Waiting.{dates_in, waits_in}
 
 none_some : {X : Type 0} (x : X) → None ≡ Some x → ⊥
