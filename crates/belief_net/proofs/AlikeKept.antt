@@ -31,7 +31,7 @@ use Rattle.occ_tree.specs.Dated.{IsDatedBy}
 use Rattle.occ_tree.specs.Places.{forest}
 use Rattle.occ_tree.specs.Standing.{present}
 use Rattle.revisions.specs.Alike.{IsAnchor, SayAlike, AreAlike, BelieveAlike}
-use Rattle.revisions.proofs.Alike.{IsAnchored, AreAnchored, IsBetween, tokens_between, rules_same, alike_believe}
+use Rattle.revisions.proofs.Alike.{IsAnchored, AreAnchored, IsBetween, tokens_between, rules_same, distance_same, believed_anchored, alike_believe}
 use Rattle.revisions.proofs.StillEdits.{base_root, stay_seen}
 use Rattle.joined.specs.Netted.{IsCurrent}
 use Rattle.joined.specs.Rows.{Row, AreLive, AreRowsOf, outcome_at}
@@ -41,43 +41,10 @@ use Rattle.belief_net.specs.Decided.{rule_in, AreUnder}
 use Rattle.belief_net.specs.Turning.{rows_of, IsFit}
 use Rattle.belief_net.specs.Updating.{IsKept}
 
--- ---- distances
-
-module _ (s t : Standing) (say : SayAlike s t) where
-  low_same : (rs : List (List ℕ)) → low s rs ≡ low t rs
-  low_same [] = refl
-  low_same (r ∷ rs) = λ i. (say.rule r i).lo +ℤ low_same rs i
-
-  high_same : (rs : List (List ℕ)) → high s rs ≡ high t rs
-  high_same [] = refl
-  high_same (r ∷ rs) = λ i. bound_plus (say.rule r i).hi (high_same rs i)
-
-  apart_same : (u v : List (List ℕ)) → apart s u v ≡ apart t u v
-  apart_same [] v = λ i. bound_less (high_same v i) (low_same [] i)
-  apart_same (r ∷ u) [] = λ i. bound_less (high_same [] i) (low_same (r ∷ u) i)
-  apart_same (r ∷ u) (q ∷ v) =
-      λ i. elim (same_name r q) as (λ _. Bound) [ true ↦ apart_same u v i | false ↦ bound_less (high_same (q ∷ v) i) (low_same (r ∷ u) i) ]
-
 module _ (s t : Standing) (alike : AreAlike s t) where
-  -- what begins along rules from points that beliefs read is as far apart in both lists
-  distance_same : (x y : Moment) → IsAnchored s x → IsAnchored s y → distance s (far_in s.premises) x y ≡ distance t (far_in t.premises) x y
-  distance_same x y at_x at_y =
-      λ i. elim (same_point (base x) (base y)) as (λ _. Bound) [
-        | true ↦ apart_same s t alike.say (rules x) (rules y) i
-        | false ↦ bound_less (bound_plus (alike.distances (base x) (base y) at_x at_y i) (high_same s t alike.say (rules y) i)) (low_same s t alike.say (rules x) i)
-      ]
-
   -- ---- outcomes
 
-  -- what is believed is led to from such a point
-  believed_anchored : IsSound s → AreAnchored s (built s).believed
-  believed_anchored sound x at =
-      let root : Contains (roots s) (At (base x)) = base_root s x (believed_occurs s sound x (Contains-from_In (built s).believed x at)) in
-      let (p, there, made) = In-filter_map root_of s.premises (At (base x)) (In-from_Contains (roots s) (At (base x)) root) in
-      let is : base x ≡ Begin (name_of p) = ap base (root_name p (At (base x)) made) in
-      subst (IsAnchor s) (sym is) (subst (λ q. Contains (roots s) (At q)) is root)
-
-  -- and so are `start`, an event, and where tokens begin and end
+  -- `start`, an event that is led to from a point that beliefs read, and where such tokens begin and end
   points_anchored : (x : Moment) → IsAnchored s x → (ks : List (TokenRow Moment)) → ((k : TokenRow Moment) → In k ks → IsBetween s k)
       → (p : Moment) → In p (At Start ∷ x ∷ map (λ k. k.spot) ks ++ filter_map (λ k. k.end) ks) → IsAnchored s p
   points_anchored x at ks between p (inl is) = subst (IsAnchored s) is tt
@@ -95,14 +62,14 @@ module _ (s t : Standing) (alike : AreAlike s t) where
     watched_same r = λ i. filter (λ k. list_any (λ fact. same_name (alike.say.class fact i) k.class) (alike.say.rule r i).given) (same.tokens i)
 
     watched_between : (r : List ℕ) (k : TokenRow Moment) → In k (watched (built s) r) → IsBetween s k
-    watched_between r k at = tokens_between s (built s).believed (believed_anchored sound) k (In-filter _ (believed_tokens (built s)) k at).0
+    watched_between r k at = tokens_between s (built s).believed (believed_anchored s t alike.say alike.distances) k (In-filter _ (believed_tokens (built s)) k at).0
 
-    outcome_same : (x : Moment) → Contains (built s).believed x → (r : List ℕ)
+    pub outcome_same : (x : Moment) → Contains (built s).believed x → (r : List ℕ)
         → outcome s (far_in s.premises) (built s).believed x r ≡ outcome t (far_in t.premises) (built t).believed x r
     outcome_same x at r = outcome_alike (built s) (built t) x r decided (all_spelt s sound) (all_spelt t sound_after)
       where
         anchored : (p : Moment) → In p (watched_points (built s) x r) → IsAnchored s p
-        anchored = points_anchored x (believed_anchored sound x (In-from_Contains (built s).believed x at)) (watched (built s) r) (watched_between r)
+        anchored = points_anchored x (believed_anchored s t alike.say alike.distances x (In-from_Contains (built s).believed x at)) (watched (built s) r) (watched_between r)
 
         decided : Alike (built s) (built t) x r
         decided = record {
@@ -110,7 +77,7 @@ module _ (s t : Standing) (alike : AreAlike s t) where
           horizon = alike.say.horizon;
           into = λ k there. subst (In k) (watched_same r) there;
           back = λ k there. subst (In k) (sym (watched_same r)) there;
-          gaps = λ p q at_p at_q. distance_same p q (anchored p at_p) (anchored q at_q);
+          gaps = λ p q at_p at_q. distance_same s t alike.say alike.distances p q (anchored p at_p) (anchored q at_q);
         }
 
 -- ---- nodes and rows

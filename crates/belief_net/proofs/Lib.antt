@@ -45,3 +45,4 @@ pub mod Updated
 pub mod Numbering
 pub mod Sized
 pub mod AlikeKept
+pub mod AlikeCounted

@@ -146,7 +146,7 @@ module _ (s t : Standing) (say : SayAlike s t) where
 
     -- ---- distances
 
-    distance_same : (x y : Moment) → IsAnchored s x → IsAnchored s y → distance s f x y ≡ distance t g x y
+    pub distance_same : (x y : Moment) → IsAnchored s x → IsAnchored s y → distance s f x y ≡ distance t g x y
     distance_same x y at_x at_y =
         λ i. elim (same_point (base x) (base y)) as (λ _. Bound) [
           | true ↦ apart_same (rules x) (rules y) i
@@ -230,7 +230,7 @@ module _ (s t : Standing) (say : SayAlike s t) where
     believed_same : (built s).believed ≡ (built t).believed
     believed_same = level_same s.horizon ∙ ap (level t g) say.horizon
 
-    believed_anchored : AreAnchored s (built s).believed
+    pub believed_anchored : AreAnchored s (built s).believed
     believed_anchored = level_anchored s.horizon
 
     abbrev here : List Moment

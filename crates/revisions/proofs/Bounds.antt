@@ -28,7 +28,7 @@ same_itself : (ks : List Moment) → same_moments ks ks ≡ true
 same_itself [] = refl
 same_itself (k ∷ ks) = λ i. (Decides-same_moment k k).1 refl i && same_itself ks i
 
-outcome_itself : (o : Outcome) → same_outcome o o ≡ true
+pub outcome_itself : (o : Outcome) → same_outcome o o ≡ true
 outcome_itself (fires ks) = same_itself ks
 outcome_itself (blocked n) = eq-eqb n n refl
 outcome_itself beyond = refl
