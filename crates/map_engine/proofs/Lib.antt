@@ -2,4 +2,5 @@ mod Told
 mod Rows
 mod Elsewhere
 mod Unmoved
+mod Gone
 mod NetMaps

@@ -1,47 +1,216 @@
--- What the map keeps once an edit is made.
-use Rattle.std.proofs.Common.{◌≡◌, ◌∙◌, Bool, true, false, ◌||◌, refl, sym, subst}
+-- What the map keeps where nothing is pending, and once an edit is made.
+use Rattle.std.proofs.Common.{◌≡◌, ◌∙◌, ℕ, ◌≤◌, Bool, true, false, ◌||◌, List, [], refl, sym, ap, subst}
 use Rattle.std.specs.Prelude.{Some, None}
 use Rattle.tmm_model.specs.declared.premise.Edit.{Edit}
+use Rattle.tmm_model.specs.declared.premise.Edit.TheVariants.{Add, Erase, Horizon}
 use Rattle.tmm_model.specs.Edits.{next_list}
+use Rattle.tmm_model.specs.Lines.{IsWellFormedEdit}
+use Rattle.tmm_model.specs.Standing.{Standing, points_in}
+use Rattle.belief_theory.specs.KeptLists.{last_horizon}
 use Rattle.dist_net.specs.Net.{Net, Nets}
-use Rattle.list_net.specs.Fits.{IsNetOf}
+use Rattle.list_net.specs.Fits.{IsNetOf, IsSettled}
+use Rattle.list_net.specs.Network.{PointsKeepNumbers}
 use Rattle.premise_list.specs.States.{States}
-use Rattle.map_engine.specs.declared.beliefs.Beliefs.{Beliefs}
+use Rattle.occ_tree.specs.Places.{forest}
+use Rattle.occ_tree.specs.Standing.{State, present, committed, forest as forest_of}
+use Rattle.belief_net.specs.declared.state.BeliefNet.{BeliefNet}
+use Rattle.belief_net.specs.Entering.{KeepLast}
+use Rattle.belief_net.specs.Updating.{IsPending, CommitsKept, LeadsBack}
+use Rattle.belief_net.proofs.Named.{last_stays}
 use Rattle.map_engine.specs.declared.next.Next.{Next}
-use Rattle.map_engine.specs.Beliefs.{AreBeliefs}
-use Rattle.map_engine.specs.NetMaps.{IsNetMap}
+use Rattle.map_engine.specs.declared.next.Next.TheVariants.{Nothing, Same, Reported, Anew}
+use Rattle.map_engine.specs.declared.view.View.{View}
+use Rattle.map_engine.specs.Beliefs.{IsLeftOut}
+use Rattle.map_engine.specs.NetMaps.{AreNodesOf, IsResting, MayRest, IsHeld, IsNetMap}
 use Rattle.map_engine.specs.Nexts.{after, pending_list, IsUnguarded, adds_protection}
+use Rattle.map_engine.specs.Views.{IsViewOf}
 use Rattle.map_engine.proofs.Unmoved.{still_unguarded}
+
+-- ---- where nothing is pending
+
+-- what rests is all that the map keeps
+pub at_rest : (lists : States) (nets : Nets) (b : BeliefNet) (view : View) (guarded : Bool) (next : Next) → next ≡ Nothing → IsSettled lists nets
+    → IsHeld lists.committed nets.committed guarded → IsResting lists.committed nets.committed b view → IsNetMap lists nets b view guarded next
+at_rest lists nets b view guarded next nothing settled held rests =
+    subst (IsNetMap lists nets b view guarded) (sym nothing)
+    (record {
+      held = held;
+      before = record { base = b; rests = rests; last = record { tree = refl; decisions = last_stays b.decisions } };
+      settled = λ _. settled;
+      rests = λ _. rests;
+      next_held = subst (λ (s : Standing). IsHeld s nets.present guarded) (sym settled.list) (subst (λ (n : Net). IsHeld lists.committed n guarded) (sym settled.net) held);
+      next_nodes =
+          subst (λ (s : Standing). AreNodesOf s nets.present b) (sym settled.list)
+          (subst (λ (n : Net). AreNodesOf lists.committed n b) (sym settled.net)
+          (record { fit = rests.kept.fit; current = rests.kept.current; none_waits = rests.kept.none_waits }));
+      next_view = subst (λ (s : Standing). IsViewOf s (forest b.tree) view) (sym settled.list) rests.view;
+    })
+
+-- what an edit made rests once it is committed
+pub commits : (s : Standing) (net : Net) (old new : BeliefNet) (view : View) → AreNodesOf s net old → IsViewOf s (forest old.tree) view
+    → present new.tree ≡ present old.tree → CommitsKept old new → IsResting s net new view
+commits s net old new view nodes read same kept = record {
+  kept = kept s net nodes.fit nodes.current nodes.none_waits;
+  view = subst (λ (k : State). IsViewOf s (forest_of k) view) (sym same) read;
+}
+
+-- what rested before does so again after a rollback
+pub leads_back : (s : Standing) (net : Net) (base old new : BeliefNet) (view : View) → IsResting s net base view → KeepLast base old
+    → present new.tree ≡ committed old.tree → LeadsBack old new → IsResting s net new view
+leads_back s net base old new view rests last same back = record {
+  kept = back s net base rests.kept last;
+  view = subst (λ (k : State). IsViewOf s (forest_of k) view) (sym (same ∙ last.tree ∙ rests.kept.tree)) rests.view;
+}
+
+-- the map after a commit
+pub committed_map : (lists : States) (nets : Nets) (b : BeliefNet) (view : View) (guarded : Bool) (next : Next) → IsNetMap lists nets b view guarded next
+    → (lists_new : States) (nets_new : Nets) (b_new : BeliefNet) (view_new : View) (next_new : Next)
+    → lists_new ≡ record { present = lists.present; committed = lists.present }
+    → nets_new ≡ record { present = nets.present; committed = nets.present; draft = nets.draft; moved = [] }
+    → present b_new.tree ≡ present b.tree → CommitsKept b b_new → view_new ≡ after view next → next_new ≡ Nothing
+    → IsNetMap lists_new nets_new b_new view_new guarded next_new
+committed_map lists nets b view guarded next is lists_new nets_new b_new view_new next_new list net same kept read nothing =
+    subst (λ (s : States). IsNetMap s nets_new b_new view_new guarded next_new) (sym list)
+    (subst (λ (n : Nets). IsNetMap (record { present = lists.present; committed = lists.present }) n b_new view_new guarded next_new) (sym net)
+    (at_rest (record { present = lists.present; committed = lists.present }) (record { present = nets.present; committed = nets.present; draft = nets.draft; moved = [] })
+    b_new view_new guarded next_new nothing (record { list = refl; net = refl }) is.next_held
+    (commits lists.present nets.present b b_new view_new is.next_nodes (subst (IsViewOf lists.present (forest b.tree)) (sym read) is.next_view) same kept)))
+
+-- the map after a rollback
+pub rolled_back : (lists : States) (nets : Nets) (b : BeliefNet) (view : View) (guarded : Bool) (next : Next) → IsNetMap lists nets b view guarded next
+    → (lists_new : States) (nets_new : Nets) (b_new : BeliefNet) (next_new : Next)
+    → lists_new ≡ record lists { present = lists.committed } → nets_new ≡ record nets { present = nets.committed; moved = [] }
+    → present b_new.tree ≡ committed b.tree → LeadsBack b b_new → next_new ≡ Nothing
+    → IsNetMap lists_new nets_new b_new view guarded next_new
+rolled_back lists nets b view guarded next is lists_new nets_new b_new next_new list net same back nothing =
+    subst (λ (s : States). IsNetMap s nets_new b_new view guarded next_new) (sym list)
+    (subst (λ (n : Nets). IsNetMap (record lists { present = lists.committed }) n b_new view guarded next_new) (sym net)
+    (at_rest (record lists { present = lists.committed }) (record nets { present = nets.committed; moved = [] }) b_new view guarded next_new nothing
+    (record { list = refl; net = refl }) is.held
+    (leads_back lists.committed nets.committed is.before.base b b_new view is.before.rests is.before.last same back)))
+
+-- ---- where an edit is made
 
 neither : (a b : Bool) → (a || b) ≡ false → (a ≡ false) × (b ≡ false)
 neither true b e = cc
 neither false b e = (refl, e)
 
--- where no protection was ever added, the edit leaves none
-pub next_unguarded : (lists : States) (nets : Nets) (b : Beliefs) (guarded : Bool) (next : Next) → IsNetMap lists nets b guarded next
-    → (lists_after : States) (edit : Edit) → lists_after ≡ record lists { present = next_list lists.present edit }
-    → (guarded || adds_protection edit) ≡ false → IsUnguarded lists_after.committed × IsUnguarded lists_after.present
-next_unguarded lists nets b guarded next is lists_after edit made none =
-    let (before, adds) = neither guarded (adds_protection edit) none in (
-      subst (λ (s : States). IsUnguarded s.committed) (sym made) (is.unguarded before),
-      subst (λ (s : States). IsUnguarded s.present) (sym made) (still_unguarded lists.present edit adds (is.next_unguarded before)),
-    )
+-- no edit sets a horizon beyond the last one
+within : (s : Standing) (edit : Edit) → IsWellFormedEdit edit → s.horizon ≤ last_horizon → (next_list s edit).horizon ≤ last_horizon
+within s (Add premise) well below = below
+within s (Erase name) well below = below
+within s (Horizon n) well below = well
 
-pub edited_map : (lists : States) (nets : Nets) (b : Beliefs) (guarded : Bool) (next : Next) → IsNetMap lists nets b guarded next
-    → (lists_after : States) (nets_after : Nets) (guarded_after : Bool) (next_after : Next) (edit : Edit)
-    → lists_after ≡ record lists { present = next_list lists.present edit } → nets_after.committed ≡ nets.committed
-    → guarded_after ≡ (guarded || adds_protection edit)
-    → IsNetOf lists_after.present nets_after.present
-    → AreBeliefs lists_after.present nets_after.present (after b next_after)
-    → pending_list lists_after.present next_after ≡ Some lists_after.present
-    → IsNetMap lists_after nets_after b guarded_after next_after
-edited_map lists nets b guarded next is lists_after nets_after guarded_after next_after edit made kept may network beliefs pending =
-    record {
-      network = subst (λ (s : States). IsNetOf s.committed nets_after.committed) (sym made) (subst (IsNetOf lists.committed) (sym kept) is.network);
-      believed = subst (λ (s : States). AreBeliefs s.committed nets_after.committed b) (sym made) (subst (λ (n : Net). AreBeliefs lists.committed n b) (sym kept) is.believed);
-      settled = λ none. let never : Some lists_after.present ≡ None = sym pending ∙ none in cc;
-      next_network = network;
-      next_beliefs = beliefs;
-      unguarded = λ none. (next_unguarded lists nets b guarded next is lists_after edit made (sym may ∙ none)).0;
-      next_unguarded = λ none. (next_unguarded lists nets b guarded next is lists_after edit made (sym may ∙ none)).1;
-    }
+module _ (lists : States) (nets : Nets) (b : BeliefNet) (view : View) (guarded : Bool) (next : Next) (is : IsNetMap lists nets b view guarded next)
+    (lists_after : States) (edit : Edit) (made : lists_after ≡ record lists { present = next_list lists.present edit }) (well : IsWellFormedEdit edit)
+    (nets_after : Nets) (kept : nets_after.committed ≡ nets.committed)
+    (guarded_after : Bool) (may : guarded_after ≡ (guarded || adds_protection edit)) where
+  -- the state of the last commit stays
+  held_before : IsHeld lists_after.committed nets_after.committed guarded_after
+  held_before =
+      subst (λ (s : States). IsHeld s.committed nets_after.committed guarded_after) (sym made)
+      (subst (λ (n : Net). IsHeld lists.committed n guarded_after) (sym kept)
+      (record { network = is.held.network; horizon = is.held.horizon; unguarded = λ none. is.held.unguarded (neither guarded (adds_protection edit) (sym may ∙ none)).0 }))
+
+  pub rests_before : pending_list lists.present next ≡ None → IsResting lists_after.committed nets_after.committed b view
+  rests_before idle =
+      subst (λ (s : States). IsResting s.committed nets_after.committed b view) (sym made)
+      (subst (λ (n : Net). IsResting lists.committed n b view) (sym kept) (is.rests idle))
+
+  horizon_after : lists_after.present.horizon ≤ last_horizon
+  horizon_after = subst (λ (s : States). s.present.horizon ≤ last_horizon) (sym made) (within lists.present edit well is.next_held.horizon)
+
+  -- where no protection was ever added, the edit leaves none
+  pub unguarded_before : guarded_after ≡ false → IsUnguarded lists_after.committed
+  unguarded_before = held_before.unguarded
+
+  pub unguarded_after : guarded_after ≡ false → IsUnguarded lists_after.present
+  unguarded_after none =
+      let (before, adds) = neither guarded (adds_protection edit) (sym may ∙ none) in
+      subst (λ (s : States). IsUnguarded s.present) (sym made) (still_unguarded lists.present edit adds (is.next_held.unguarded before))
+
+  -- what an update of the nodes asks of list and network
+  pub pending_edit : pending_list lists.present next ≡ None → (erased : List (List ℕ)) → IsNetOf lists_after.present nets_after.present
+      → PointsKeepNumbers (points_in (next_list lists.present edit).premises) nets.present.names nets_after.present.names
+      → IsLeftOut lists.present (next_list lists.present edit) erased
+      → IsPending lists_after nets_after edit erased
+  pending_edit idle erased network numbers left_out =
+      let settled = is.settled idle in
+      let list : lists_after.present ≡ next_list lists.present edit = ap (λ (s : States). s.present) made in
+      let old : lists_after.committed ≡ lists.present = ap (λ (s : States). s.committed) made ∙ sym settled.list in
+      let net : nets_after.committed ≡ nets.present = kept ∙ sym settled.net in
+      record {
+        list = list ∙ ap (λ (s : Standing). next_list s edit) (sym old);
+        network = network;
+        numbers =
+            subst (λ (n : Net). PointsKeepNumbers (points_in lists_after.present.premises) n.names nets_after.present.names) (sym net)
+            (subst (λ (s : Standing). PointsKeepNumbers (points_in s.premises) nets.present.names nets_after.present.names) (sym list) numbers);
+        left_out =
+            subst (λ (s : Standing). IsLeftOut s lists_after.present erased) (sym old)
+            (subst (λ (s : Standing). IsLeftOut lists.present s erased) (sym list) left_out);
+        horizon = horizon_after;
+      }
+
+  -- the map with the edit pending
+  pub edited_map : pending_list lists.present next ≡ None → (b_after : BeliefNet) (next_after : Next)
+      → IsNetOf lists_after.present nets_after.present
+      → AreNodesOf lists_after.present nets_after.present b_after
+      → IsViewOf lists_after.present (forest b_after.tree) (after view next_after)
+      → KeepLast b b_after
+      → pending_list lists_after.present next_after ≡ Some lists_after.present
+      → IsNetMap lists_after nets_after b_after view guarded_after next_after
+  edited_map idle b_after next_after network nodes read last pending =
+      let never : pending_list lists_after.present next_after ≡ None → ⊥ = λ none. (let e : Some lists_after.present ≡ None = sym pending ∙ none in cc) in
+      record {
+        held = held_before;
+        before = record { base = b; rests = rests_before idle; last = last };
+        settled = λ none. absurd (never none);
+        rests = λ none. absurd (never none);
+        next_held = record { network = network; horizon = horizon_after; unguarded = unguarded_after };
+        next_nodes = nodes;
+        next_view = read;
+      }
+
+  -- an edit that is not made in the end leaves all as it was
+  pub undone_map : pending_list lists.present next ≡ None → (mid b_new : BeliefNet) (lists_new : States) (nets_new : Nets) → next ≡ Nothing
+      → KeepLast b mid
+      → lists_new ≡ record lists_after { present = lists_after.committed } → nets_new ≡ record nets_after { present = nets_after.committed; moved = [] }
+      → present b_new.tree ≡ committed mid.tree → LeadsBack mid b_new
+      → IsNetMap lists_new nets_new b_new view guarded_after next
+  undone_map idle mid b_new lists_new nets_new nothing last list net same back =
+      subst (λ (s : States). IsNetMap s nets_new b_new view guarded_after next) (sym list)
+      (subst (λ (n : Nets). IsNetMap (record lists_after { present = lists_after.committed }) n b_new view guarded_after next) (sym net)
+      (at_rest (record lists_after { present = lists_after.committed }) (record nets_after { present = nets_after.committed; moved = [] }) b_new view guarded_after next nothing
+      (record { list = refl; net = refl }) held_before
+      (leads_back lists_after.committed nets_after.committed b mid b_new view (rests_before idle) last same back)))
+
+-- nothing is pending only where nothing is known of what a pending edit leaves
+pub is_nothing : (present_list : Standing) (next : Next) → pending_list present_list next ≡ None → next ≡ Nothing
+is_nothing s next none = by next none
+  where
+    by : (n : Next) → pending_list s n ≡ None → n ≡ Nothing
+    by Nothing e = refl
+    by Same e = cc
+    by (Reported reports) e = cc
+    by (Anew made) e = cc
+
+-- what is held is so where less is known of protections
+held_more : (s : Standing) (net : Net) (guarded guarded_new : Bool) (edit : Edit) → guarded_new ≡ (guarded || adds_protection edit) → IsHeld s net guarded → IsHeld s net guarded_new
+held_more s net guarded guarded_new edit may held =
+    record { network = held.network; horizon = held.horizon; unguarded = λ none. held.unguarded (neither guarded (adds_protection edit) (sym may ∙ none)).0 }
+
+-- where no edit is made all is as it was
+pub kept_map : (lists : States) (nets : Nets) (b : BeliefNet) (view : View) (guarded : Bool) (next : Next) → IsNetMap lists nets b view guarded next
+    → (lists_new : States) (nets_new : Nets) (guarded_new : Bool) (edit : Edit) → lists_new ≡ lists → nets_new.present ≡ nets.present → nets_new.committed ≡ nets.committed
+    → guarded_new ≡ (guarded || adds_protection edit) → IsNetMap lists_new nets_new b view guarded_new next
+kept_map lists nets b view guarded next is lists_new nets_new guarded_new edit list now then_ may =
+    subst (λ (s : States). IsNetMap s nets_new b view guarded_new next) (sym list)
+    (record {
+      held = subst (λ (n : Net). IsHeld lists.committed n guarded_new) (sym then_) (held_more lists.committed nets.committed guarded guarded_new edit may is.held);
+      before = subst (λ (n : Net). MayRest lists.committed n b view) (sym then_) is.before;
+      settled = λ idle. record { list = (is.settled idle).list; net = now ∙ (is.settled idle).net ∙ sym then_ };
+      rests = λ idle. subst (λ (n : Net). IsResting lists.committed n b view) (sym then_) (is.rests idle);
+      next_held = subst (λ (n : Net). IsHeld lists.present n guarded_new) (sym now) (held_more lists.present nets.present guarded guarded_new edit may is.next_held);
+      next_nodes = subst (λ (n : Net). AreNodesOf lists.present n b) (sym now) is.next_nodes;
+      next_view = is.next_view;
+    })

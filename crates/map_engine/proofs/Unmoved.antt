@@ -1,7 +1,7 @@
 -- What is kept where the list that an edit leaves is alike in all that beliefs read.
 use Rattle.std.proofs.Common.{◌≡◌, ◌∙◌, ℕ, false, not, List, [], ◌∷◌, ◌++◌, map, refl, sym, ap, subst, inl, inr}
 use Rattle.std.specs.Prelude.{Option, Some, None, filter, ◌≤◌}
-use Rattle.std.specs.List.{Contains, filter_map, cons_option}
+use Rattle.std.specs.List.{filter_map, cons_option}
 use Rattle.tmm_model.specs.declared.changes.Changes.{Changes as CodeChanges}
 use Rattle.tmm_model.specs.declared.premise.Edit.{Edit}
 use Rattle.tmm_model.specs.declared.premise.Edit.TheVariants.{Add, Erase, Horizon}
@@ -11,67 +11,33 @@ use Rattle.tmm_model.specs.Answers.{broken, reports, report_of, most_size}
 use Rattle.tmm_model.specs.Changes.{changes, delta_of, protection_name, is_broken}
 use Rattle.tmm_model.specs.Edits.{next_list}
 use Rattle.tmm_model.specs.Maps.{TimeMap, built}
-use Rattle.tmm_model.specs.Moments.{Moment}
-use Rattle.tmm_model.specs.Standing.{Standing, points_in}
-use Rattle.dist_net.specs.Net.{Net}
-use Rattle.list_net.specs.Fits.{IsNetOf}
-use Rattle.list_net.specs.Network.{PointsKeepNumbers}
+use Rattle.tmm_model.specs.Standing.{Standing}
 use Rattle.list_theory.proofs.Elements.{In}
 use Rattle.list_theory.proofs.Erasure.{kept_before}
-use Rattle.spots.specs.Seen.{IsSeen, Holds}
-use Rattle.spots.specs.Forest.{moment_at}
-use Rattle.spots.proofs.Nodes.{node_at, moment_at-is}
-use Rattle.spots.proofs.Seen.{early_is}
-use Rattle.occ_tree.specs.Dated.{IsDatedBy}
-use Rattle.occ_tree.specs.OfLists.{IsTreeOf}
-use Rattle.occ_tree.specs.Places.{forest}
-use Rattle.occ_tree.specs.Standing.{present}
+use Rattle.spots.specs.Forest.{Forest}
 use Rattle.revisions.specs.Alike.{AreAlike, BelieveAlike}
 use Rattle.revisions.proofs.Alike.{alike_believe}
-use Rattle.revisions.proofs.StillEdits.{stay_seen}
-use Rattle.map_engine.specs.declared.beliefs.Beliefs.{Beliefs}
-use Rattle.map_engine.specs.Beliefs.{AreBeliefs, IsLeftOut}
+use Rattle.map_engine.specs.declared.view.View.{View}
+use Rattle.map_engine.specs.Beliefs.{IsLeftOut}
+use Rattle.map_engine.specs.Views.{IsViewOf}
 use Rattle.map_engine.specs.Nexts.{IsUnguarded, is_protection, adds_protection}
 use Rattle.map_engine.proofs.Told.{told}
 
--- ---- beliefs
+-- ---- what is read of the nodes
 
-module _ (s t : Standing) (net net_after : Net) (b : Beliefs) (old : AreBeliefs s net b) (of_t : IsNetOf t net_after) (keep : PointsKeepNumbers (points_in t.premises) net.names net_after.names)
-    (alike : AreAlike s t) where
-  abbrev same : BelieveAlike s t
-  same = (alike_believe s t alike).0
-
-  nodes_still : IsSeen t net_after (forest b.tree)
-  nodes_still = stay_seen s t alike.say net net_after (forest b.tree) of_t keep old.seen.seen
-
-  -- each node has the same date in both networks
-  dates_still : IsDatedBy net_after (present b.tree)
-  dates_still x live =
-      let (m, here) = node_at (forest b.tree) x live in
-      let believed : Contains (built s).believed (moment_at (forest b.tree) x) = subst (Contains (built s).believed) (sym (moment_at-is (forest b.tree) x m here)) (old.holds.own x m here) in
-      old.seen.dated x live
-      ∙ early_is s net (forest b.tree) old.seen.seen x live
-      ∙ same.dates (moment_at (forest b.tree) x) believed
-      ∙ sym (early_is t net_after (forest b.tree) nodes_still x live)
-
-  pub seen_still : IsTreeOf t net_after b.tree
-  seen_still = record { seen = nodes_still; dated = dates_still }
-
-  pub holds_still : Holds (built t).believed (forest b.tree)
-  holds_still = subst (λ (l : List Moment). Holds l (forest b.tree)) same.believed old.holds
-
-  pub beliefs_still : (b_after : Beliefs) → b_after ≡ record b { reports = b_after.reports } → map report_of b_after.reports.items ≡ reports (built t) → AreBeliefs t net_after b_after
-  beliefs_still b_after is told =
-      subst (AreBeliefs t net_after) (sym is)
-      (record {
-        seen = seen_still;
-        holds = holds_still;
-        listing = old.listing ∙ same.listed;
-        there = old.there;
-        broken = told;
-        counted = old.counted ∙ same.sized;
-        small = subst (λ (n : ℕ). n ≤ most_size) same.sized old.small;
-      })
+-- of the same nodes the same is read, protections aside
+pub view_still : (s t : Standing) (f : Forest) (v v_after : View) → IsViewOf s f v → AreAlike s t
+    → v_after ≡ record v { reports = v_after.reports } → map report_of v_after.reports.items ≡ reports (built t) → IsViewOf t f v_after
+view_still s t f v v_after old alike is told =
+    let same : BelieveAlike s t = (alike_believe s t alike).0 in
+    subst (IsViewOf t f) (sym is)
+    (record {
+      listing = old.listing ∙ same.listed;
+      there = old.there;
+      broken = told;
+      counted = old.counted ∙ same.sized;
+      small = subst (λ (n : ℕ). n ≤ most_size) same.sized old.small;
+    })
 
 -- ---- protections
 

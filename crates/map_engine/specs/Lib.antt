@@ -1,7 +1,9 @@
 pub mod Stops
+pub mod Views
 pub mod Beliefs
 pub mod Plain
 pub mod Questions
 pub mod Still
 pub mod Nexts
+pub mod Gone
 pub mod NetMaps

@@ -1,20 +1,52 @@
--- What the map keeps whose beliefs stay where an edit touches none.
-use Rattle.std.specs.Prelude.{◌≡◌, Bool, false, None}
-use Rattle.dist_net.specs.Net.{Nets}
+-- What the map keeps whose nodes and decisions are kept current.
+use Rattle.std.specs.Prelude.{◌≡◌, ℕ, ◌≤◌, Bool, false, None}
+use Rattle.tmm_model.specs.Standing.{Standing}
+use Rattle.belief_theory.specs.KeptLists.{last_horizon}
+use Rattle.dist_net.specs.Net.{Net, Nets}
 use Rattle.list_net.specs.Fits.{IsNetOf, IsSettled}
 use Rattle.premise_list.specs.States.{States}
-use Rattle.map_engine.specs.declared.beliefs.Beliefs.{Beliefs}
+use Rattle.occ_tree.specs.Places.{forest}
+use Rattle.joined.specs.Netted.{IsCurrent}
+use Rattle.belief_net.specs.declared.state.BeliefNet.{BeliefNet}
+use Rattle.belief_net.specs.Entering.{KeepLast}
+use Rattle.belief_net.specs.Turning.{rows_of, IsFit}
+use Rattle.belief_net.specs.Updating.{IsKept}
+use Rattle.belief_net.specs.Waiting.{dates_in}
 use Rattle.map_engine.specs.declared.next.Next.{Next}
-use Rattle.map_engine.specs.Beliefs.{AreBeliefs}
+use Rattle.map_engine.specs.declared.view.View.{View}
 use Rattle.map_engine.specs.Nexts.{after, pending_list, IsUnguarded}
+use Rattle.map_engine.specs.Views.{IsViewOf}
 
--- Both states of the list have their network and their beliefs. Where nothing is pending they are one. Where it is told
--- that no protection was ever added, none stands in either.
-pub record IsNetMap (lists : States) (nets : Nets) (beliefs : Beliefs) (guarded : Bool) (next : Next) : Type 0 where
-  pub network : IsNetOf lists.committed nets.committed
-  pub believed : AreBeliefs lists.committed nets.committed beliefs
+-- nodes and decisions are those of the list, and none waits to be made again
+pub record AreNodesOf (s : Standing) (net : Net) (b : BeliefNet) : Type 0 where
+  pub fit : IsFit s net b
+  pub current : IsCurrent s net (forest b.tree) (rows_of b)
+  pub none_waits : (i : ℕ) → dates_in b.decisions.waiting i ≡ None
+
+-- nodes and decisions are those of the list, as at the last commit, and so is what is read of them
+pub record IsResting (s : Standing) (net : Net) (b : BeliefNet) (v : View) : Type 0 where
+  pub kept : IsKept s net b
+  pub view : IsViewOf s (forest b.tree) v
+
+-- a rollback leads back to what rests
+pub record MayRest (s : Standing) (net : Net) (b : BeliefNet) (v : View) : Type 0 where
+  pub base : BeliefNet
+  pub rests : IsResting s net base v
+  pub last : KeepLast base b
+
+-- the list has its network and no horizon beyond the last one; where it is told that no protection was ever added, none stands
+pub record IsHeld (s : Standing) (net : Net) (guarded : Bool) : Type 0 where
+  pub network : IsNetOf s net
+  pub horizon : s.horizon ≤ last_horizon
+  pub unguarded : guarded ≡ false → IsUnguarded s
+
+-- Both states of the list are held. Nodes, decisions and what is read of them are those of the present state, and lead back to
+-- those of the last commit. Where nothing is pending both states are one.
+pub record IsNetMap (lists : States) (nets : Nets) (nodes : BeliefNet) (view : View) (guarded : Bool) (next : Next) : Type 0 where
+  pub held : IsHeld lists.committed nets.committed guarded
+  pub before : MayRest lists.committed nets.committed nodes view
   pub settled : pending_list lists.present next ≡ None → IsSettled lists nets
-  pub next_network : IsNetOf lists.present nets.present
-  pub next_beliefs : AreBeliefs lists.present nets.present (after beliefs next)
-  pub unguarded : guarded ≡ false → IsUnguarded lists.committed
-  pub next_unguarded : guarded ≡ false → IsUnguarded lists.present
+  pub rests : pending_list lists.present next ≡ None → IsResting lists.committed nets.committed nodes view
+  pub next_held : IsHeld lists.present nets.present guarded
+  pub next_nodes : AreNodesOf lists.present nets.present nodes
+  pub next_view : IsViewOf lists.present (forest nodes.tree) (after view next)

@@ -1,4 +1,4 @@
--- What a pending edit leaves of what is believed.
+-- What is read of the believed occurrences once a pending edit is made.
 use Rattle.std.specs.Prelude.{◌≡◌, Bool, true, false, [], Option, Some, None}
 use Rattle.std.specs.List.{filter_map}
 use Rattle.tmm_model.specs.declared.premise.Edit.{Edit}
@@ -7,16 +7,16 @@ use Rattle.tmm_model.specs.declared.premise.Premise.{Premise}
 use Rattle.tmm_model.specs.declared.premise.Premise.TheVariants.{Protect}
 use Rattle.tmm_model.specs.Changes.{protection_name}
 use Rattle.tmm_model.specs.Standing.{Standing}
-use Rattle.map_engine.specs.declared.beliefs.Beliefs.{Beliefs}
 use Rattle.map_engine.specs.declared.next.Next.{Next}
 use Rattle.map_engine.specs.declared.next.Next.TheVariants.{Nothing, Same, Reported, Anew}
+use Rattle.map_engine.specs.declared.view.View.{View}
 
--- what is believed when the edit is made, and b was before
-abbrev pub after : Beliefs → Next → Beliefs
-after b Nothing = b
-after b Same = b
-after b (Reported reports) = record b { reports = reports }
-after b (Anew beliefs) = beliefs
+-- what is read when the edit is made, and v was before
+abbrev pub after : View → Next → View
+after v Nothing = v
+after v Same = v
+after v (Reported reports) = record v { reports = reports }
+after v (Anew made) = made
 
 -- the list that a pending edit leaves, none where no edit is pending
 abbrev pub pending_list : Standing → Next → Option Standing

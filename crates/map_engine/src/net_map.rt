@@ -1,13 +1,14 @@
-// The map that keeps its beliefs where an edit touches none.
+// The map whose beliefs are kept current.
 ghost use Rattle.std.specs.Prelude.{◌≡◌, None, IfOk};
 ghost use Rattle.tmm_model.specs.Standing.{empty_list};
 
-use crate::beliefs::{Beliefs, audited, believe, told_rows};
 use crate::edited::{edited, roll_back};
 use crate::map_core::{MapCore, Pending};
 use crate::next::{Known, Next, draw_next, keep, may_guard};
 use crate::questions::{ask_between, bounds_between, path_between, why_of};
 use crate::still::is_unread;
+use crate::view::{View, audited, told_rows, view_of};
+use belief_net::{BeliefNet, size_of};
 use dist_net::DistNet;
 use premise_list::Standing;
 use projection::Counter;
@@ -20,18 +21,21 @@ use tmm_model::{
     WhyLine,
 };
 
-/// A map that keeps the standing list, its distances and its beliefs. An edit that moves no point of an
-/// occurrence, and adds or retracts points, constraints and protections alone, leaves beliefs as they are; at
-/// any other they are made anew, beside those before it.
+/// A map that keeps the standing list, its distances, and the believed occurrences with the decisions on
+/// which they rest. An edit that moves no point of an occurrence, and adds or retracts points, constraints and
+/// protections alone, leaves these as they are; at any other only those decisions are made again that it
+/// touches, and what it changed is undone by a rollback.
 #[derive(Drop)]
 pub struct NetMap {
     standing: Standing,
     net: DistNet,
-    // of the list of the last commit
-    beliefs: Beliefs,
+    // the believed occurrences and the decisions, of the list that a pending edit leaves
+    nodes: BeliefNet,
+    // what is read of the believed occurrences of the last commit
+    view: View,
     // whether a protection was ever added: where none was, none stands
     guarded: bool,
-    // of the list that a pending edit leaves
+    // what is read of those of the list that a pending edit leaves
     next: Next,
 }
 
@@ -44,7 +48,7 @@ impl Model for NetMap {
 
     ghost view = { λ m. record { list = m.standing.committed; pending = pending_list m.standing.present m.next } };
 
-    ghost invariant = { λ m. IsNetMap m.standing m.net m.beliefs m.guarded m.next };
+    ghost invariant = { λ m. IsNetMap m.standing m.net m.nodes m.view m.guarded m.next };
 }
 
 impl NetMap {
@@ -57,18 +61,21 @@ impl NetMap {
         let net = DistNet::make(alloc)?;
         // it tells the proof what holds of the network
         let _ = net.edges();
-        let mut counter = Counter::zero();
-        match believe(alloc, &standing, &net, &mut counter) {
-            Ok(beliefs) => Ok(NetMap {
-                standing,
-                net,
-                beliefs,
-                guarded: false,
-                next: Next::Nothing,
-            }),
+        let nodes = BeliefNet::make(alloc);
+        let size = match size_of(alloc, &standing, nodes.tree()) {
+            Ok(size) => size,
             // The empty map is small, so only memory can be wanting.
-            Err(_) => Err(NoMemory),
-        }
+            Err(_) => return Err(NoMemory),
+        };
+        let view = view_of(alloc, &standing, &net, nodes.tree(), size)?;
+        Ok(NetMap {
+            standing,
+            net,
+            nodes,
+            view,
+            guarded: false,
+            next: Next::Nothing,
+        })
     }
 }
 
@@ -90,13 +97,16 @@ impl MapCore for NetMap {
         let known = Known {
             unread: is_unread(&self.standing, edit),
             guarded: self.guarded,
+            before: self.standing.horizon(),
         };
         let erased = edited(alloc, &mut self.standing, &mut self.net, edit)?;
         match draw_next(
             alloc,
+            edit,
             &self.standing,
             &self.net,
-            &self.beliefs,
+            &mut self.nodes,
+            &self.view,
             erased,
             known,
             counter,
@@ -107,6 +117,7 @@ impl MapCore for NetMap {
             }
             Err(stop) => {
                 roll_back(&mut self.standing, &mut self.net);
+                self.nodes.rollback();
                 Err(stop)
             }
         }
@@ -115,12 +126,14 @@ impl MapCore for NetMap {
     fn commit(&mut self) {
         self.standing.commit();
         self.net.commit();
+        self.nodes.commit();
         let next = mem::replace(&mut self.next, Next::Nothing);
-        keep(&mut self.beliefs, next);
+        keep(&mut self.view, next);
     }
 
     fn rollback(&mut self) {
         roll_back(&mut self.standing, &mut self.net);
+        self.nodes.rollback();
         self.next = Next::Nothing;
     }
 
@@ -130,7 +143,7 @@ impl MapCore for NetMap {
         p: &QueryPoint,
         q: &QueryPoint,
     ) -> Result<(Bound, Bound), Stop> {
-        bounds_between(alloc, &self.standing, &self.beliefs.tree, &self.net, p, q)
+        bounds_between(alloc, &self.standing, self.nodes.tree(), &self.net, p, q)
     }
 
     fn path(
@@ -139,7 +152,7 @@ impl MapCore for NetMap {
         p: &QueryPoint,
         q: &QueryPoint,
     ) -> Result<(Bound, Seq<WalkStep>), Stop> {
-        path_between(alloc, &self.standing, &self.beliefs.tree, &self.net, p, q)
+        path_between(alloc, &self.standing, self.nodes.tree(), &self.net, p, q)
     }
 
     fn ask(
@@ -152,7 +165,7 @@ impl MapCore for NetMap {
         ask_between(
             alloc,
             &self.standing,
-            &self.beliefs.tree,
+            self.nodes.tree(),
             &self.net,
             fact,
             p,
@@ -161,19 +174,25 @@ impl MapCore for NetMap {
     }
 
     fn why(&self, alloc: Global, occ: &Occ) -> Result<Seq<WhyLine>, Stop> {
-        why_of(alloc, &self.standing, &self.beliefs.tree, &self.net, occ)
+        why_of(alloc, &self.standing, self.nodes.tree(), &self.net, occ)
     }
 
     fn check(&self, alloc: Global) -> Result<Seq<Report>, NoMemory> {
-        copied(alloc, self.beliefs.reports.items())
+        copied(alloc, self.view.reports.items())
     }
 
     fn list(&self, alloc: Global) -> Result<Seq<ListRow>, NoMemory> {
-        told_rows(alloc, &self.beliefs)
+        told_rows(alloc, self.nodes.tree(), &self.view)
     }
 
     fn audit(&self, alloc: Global) -> Result<bool, NoMemory> {
-        audited(alloc, &self.standing, &self.net, &self.beliefs)
+        audited(
+            alloc,
+            &self.standing,
+            &self.net,
+            self.nodes.tree(),
+            &self.view,
+        )
     }
 
     fn standing(&self) -> &Standing {
@@ -181,6 +200,6 @@ impl MapCore for NetMap {
     }
 
     fn size(&self) -> u64 {
-        self.beliefs.size
+        self.view.size
     }
 }

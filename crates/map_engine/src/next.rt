@@ -1,36 +1,44 @@
-// What a pending edit leaves of what is believed.
-ghost use Rattle.std.specs.Prelude.{◌≡◌, ◌≤◌, ◌||◌, [], Some, true, false, IfOk, IfErr};
+// What is read of the believed occurrences once a pending edit is made.
+ghost use Rattle.std.specs.Prelude.{◌≡◌, ◌≤◌, ◌||◌, [], Some, true, false, IfOk, IfErr, OnOk};
 ghost use Rattle.tmm_model.specs.Answers.{size};
 ghost use Rattle.tmm_model.specs.Changes.{changes, delta_of};
 ghost use Rattle.tmm_model.specs.Maps.{built};
-ghost use Rattle.tmm_model.specs.Standing.{points_in};
-ghost use Rattle.list_net.specs.Fits.{IsNetOf};
-ghost use Rattle.list_net.specs.Network.{PointsKeepNumbers};
+ghost use Rattle.belief_net.specs.Entering.{KeepLast};
+ghost use Rattle.belief_net.specs.Updating.{IsKept, IsPending};
+ghost use Rattle.occ_tree.specs.Places.{forest};
 ghost use Rattle.projection.specs.Queues.{IsTooLarge};
 ghost use Rattle.revisions.specs.Alike.{SayAlike, AreAlike};
-ghost use Rattle.map_engine.specs.Beliefs.{AreBeliefs, IsLeftOut};
+ghost use Rattle.spots.specs.Seen.{Holds};
+ghost use Rattle.occ_tree.specs.OfLists.{IsTreeOf};
+ghost use Rattle.map_engine.specs.Beliefs.{IsLeftOut};
+ghost use Rattle.map_engine.specs.NetMaps.{AreNodesOf, IsResting};
 ghost use Rattle.map_engine.specs.Nexts.{after, pending_list, IsUnguarded, adds_protection};
+ghost use Rattle.map_engine.specs.Views.{IsViewOf};
 
-use crate::beliefs::{Beliefs, drawn};
+use crate::moved::moved;
 use crate::still::is_still;
+use crate::view::View;
+use belief_net::BeliefNet;
 use dist_net::DistNet;
+use occ_tree::Tree;
 use premise_list::Standing;
 use projection::Counter;
 use protections::{delta, report};
 use std::alloc::Global;
 use tmm_model::{Changes, Edit, Name, NoMemory, Premise, Report, Seq, Stop};
 
-// What is believed of the list that a pending edit leaves, beside what was believed before it.
+// What is read of the believed occurrences of the list that a pending edit leaves, beside what was read
+// before it.
 #[derive(Drop)]
 pub(crate) enum Next {
     // No edit is pending.
     Nothing,
-    // Beliefs and broken protections are the same.
+    // All is the same.
     Same,
     // Beliefs are the same, and these are the broken protections.
     Reported(Seq<Report>),
-    // All is made anew.
-    Anew(Beliefs),
+    // All is read anew.
+    Anew(View),
 }
 
 // What is known of an edit beside the list that it leaves.
@@ -40,40 +48,65 @@ pub(crate) struct Known {
     pub unread: bool,
     // A protection may stand before or after it.
     pub guarded: bool,
+    // The horizon before it.
+    pub before: u32,
 }
 
-// What a pending edit leaves, and what it changes. Where the same is believed of both lists, nothing
-// of the size of the map is walked, and premises only if a protection may stand.
+// Makes nodes and decisions those of the list that an edit leaves, which list and network have already, and
+// answers what is read of them then and what changes. Where the same is believed of both lists, nothing
+// of the size of the map is walked, and premises only if a protection may stand; else no more decisions are
+// made than the edit touches. After an error `rollback` of the nodes leads back.
 pub(crate) fn draw_next(
     alloc: Global,
+    edit: &Edit,
     standing: &Standing,
     net: &DistNet,
-    old: &Beliefs,
+    nodes: &mut BeliefNet,
+    old: &View,
     erased: Seq<Name>,
     known: Known,
     counter: &mut Counter,
 ) -> Result<(Next, Changes), Stop>
-    requires old { AreBeliefs standing.now.committed net.now.committed old.now }
-    requires network { IsNetOf standing.now.present net.now.present }
-    requires numbers { PointsKeepNumbers (points_in standing.now.present.premises) net.now.committed.names net.now.present.names }
+    requires rests { IsResting standing.now.committed net.now.committed nodes.old old.now }
+    requires pending { IsPending standing.now net.now edit.now erased.items }
+    requires before { known.before ≡ standing.now.committed.horizon }
     requires unread { known.unread ≡ true → SayAlike standing.now.committed standing.now.present }
     requires unguarded_before { known.guarded ≡ false → IsUnguarded standing.now.committed }
     requires unguarded_now { known.guarded ≡ false → IsUnguarded standing.now.present }
-    requires left_out { IsLeftOut standing.now.committed standing.now.present erased.items }
-    ensures beliefs { IfOk result (λ made. AreBeliefs standing.now.present net.now.present (after old.now made.0)) }
+    ensures nodes { OnOk result (AreNodesOf standing.now.present net.now.present nodes.new) }
+    ensures view { IfOk result (λ made. IsViewOf standing.now.present (forest nodes.new.tree) (after old.now made.0)) }
     ensures pending { IfOk result (λ made. pending_list standing.now.present made.0 ≡ Some standing.now.present) }
     ensures changes { IfOk result (λ made. delta_of made.1 ≡ changes standing.now.committed standing.now.present) }
     ensures stops { IfErr result (IsTooLarge (size (built standing.now.present))) }
     ensures counted { counter.old ≤ counter.new }
+    ensures last { KeepLast nodes.old nodes.new }
 {
     if is_still(standing, net, known.unread) {
-        match unmoved(alloc, standing, net, old, erased, known.guarded) {
+        match unmoved(
+            alloc,
+            standing,
+            net,
+            nodes.tree(),
+            old,
+            erased,
+            known.guarded,
+        ) {
             Ok(made) => Ok(made),
             Err(NoMemory) => Err(Stop::NoMemory),
         }
     } else {
-        let (beliefs, changes) = drawn(alloc, standing, net, old, erased, counter)?;
-        Ok((Next::Anew(beliefs), changes))
+        let (view, changes) = moved(
+            alloc,
+            edit,
+            standing,
+            net,
+            nodes,
+            old,
+            erased,
+            known.before,
+            counter,
+        )?;
+        Ok((Next::Anew(view), changes))
     }
 }
 
@@ -83,18 +116,19 @@ fn unmoved(
     alloc: Global,
     standing: &Standing,
     net: &DistNet,
-    old: &Beliefs,
+    tree: &Tree,
+    old: &View,
     erased: Seq<Name>,
     guarded: bool,
 ) -> Result<(Next, Changes), NoMemory>
-    requires old { AreBeliefs standing.now.committed net.now.committed old.now }
-    requires network { IsNetOf standing.now.present net.now.present }
-    requires numbers { PointsKeepNumbers (points_in standing.now.present.premises) net.now.committed.names net.now.present.names }
+    requires old { IsViewOf standing.now.committed (forest tree.now) old.now }
+    requires seen { IsTreeOf standing.now.present net.now.present tree.now }
+    requires holds { Holds (built standing.now.present).believed (forest tree.now) }
     requires alike { AreAlike standing.now.committed standing.now.present }
     requires unguarded_before { guarded ≡ false → IsUnguarded standing.now.committed }
     requires unguarded_now { guarded ≡ false → IsUnguarded standing.now.present }
     requires left_out { IsLeftOut standing.now.committed standing.now.present erased.items }
-    ensures beliefs { IfOk result (λ made. AreBeliefs standing.now.present net.now.present (after old.now made.0)) }
+    ensures view { IfOk result (λ made. IsViewOf standing.now.present (forest tree.now) (after old.now made.0)) }
     ensures pending { IfOk result (λ made. pending_list standing.now.present made.0 ≡ Some standing.now.present) }
     ensures changes { IfOk result (λ made. delta_of made.1 ≡ changes standing.now.committed standing.now.present) }
 {
@@ -102,7 +136,7 @@ fn unmoved(
         let changes = changes_of(alloc, erased, Seq::make(alloc), Seq::make(alloc));
         return Ok((Next::Same, changes));
     }
-    let reports = report(alloc, standing, &old.tree, net)?;
+    let reports = report(alloc, standing, tree, net)?;
     let (broken, mended) = delta(alloc, old.reports.items(), reports.items(), standing)?;
     let changes = changes_of(alloc, erased, broken, mended);
     Ok((Next::Reported(reports), changes))
@@ -129,14 +163,14 @@ fn changes_of(alloc: Global, erased: Seq<Name>, broken: Seq<Report>, mended: Seq
     }
 }
 
-// Makes what a pending edit leaves what is believed.
-pub(crate) fn keep(beliefs: &mut Beliefs, next: Next)
-    ensures { beliefs.new ≡ after beliefs.old next }
+// Makes what is read after a pending edit what is read.
+pub(crate) fn keep(view: &mut View, next: Next)
+    ensures { view.new ≡ after view.old next }
 {
     match next {
         Next::Nothing | Next::Same => {}
-        Next::Reported(reports) => beliefs.reports = reports,
-        Next::Anew(made) => *beliefs = made,
+        Next::Reported(reports) => view.reports = reports,
+        Next::Anew(made) => *view = made,
     }
 }
 

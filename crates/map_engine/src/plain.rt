@@ -2,10 +2,11 @@
 ghost use Rattle.std.specs.Prelude.{◌≡◌, None, IfOk};
 ghost use Rattle.tmm_model.specs.Standing.{empty_list};
 
-use crate::beliefs::{Beliefs, audited, believe, drawn, told_rows};
+use crate::beliefs::{Beliefs, believe, drawn};
 use crate::edited::{edited, roll_back};
 use crate::map_core::{MapCore, Pending};
 use crate::questions::{ask_between, bounds_between, path_between, why_of};
+use crate::view::{audited, told_rows};
 use dist_net::DistNet;
 use premise_list::Standing;
 use projection::Counter;
@@ -152,15 +153,21 @@ impl MapCore for PlainMap {
     }
 
     fn check(&self, alloc: Global) -> Result<Seq<Report>, NoMemory> {
-        copied(alloc, self.beliefs.reports.items())
+        copied(alloc, self.beliefs.view.reports.items())
     }
 
     fn list(&self, alloc: Global) -> Result<Seq<ListRow>, NoMemory> {
-        told_rows(alloc, &self.beliefs)
+        told_rows(alloc, &self.beliefs.tree, &self.beliefs.view)
     }
 
     fn audit(&self, alloc: Global) -> Result<bool, NoMemory> {
-        audited(alloc, &self.standing, &self.net, &self.beliefs)
+        audited(
+            alloc,
+            &self.standing,
+            &self.net,
+            &self.beliefs.tree,
+            &self.beliefs.view,
+        )
     }
 
     fn standing(&self) -> &Standing {
@@ -168,6 +175,6 @@ impl MapCore for PlainMap {
     }
 
     fn size(&self) -> u64 {
-        self.beliefs.size
+        self.beliefs.view.size
     }
 }

@@ -2,15 +2,15 @@ use Rattle.std.proofs.Common.{◌∙◌, List, map, refl, sym, ap}
 use Rattle.tmm_model.specs.declared.answer.Report.{Report}
 use Rattle.tmm_model.specs.Answers.{report_of}
 use Rattle.tmm_model.specs.Maps.{built}
-use Rattle.map_engine.proofs.Unmoved.{seen_still, holds_still, beliefs_still, none_reported, told_still, told_unguarded}
+use Rattle.occ_tree.specs.Places.{forest}
+use Rattle.map_engine.proofs.Unmoved.{view_still, none_reported, told_still, told_unguarded}
 use Rattle.map_engine.proofs.next.unmoved.Goals as goal
 
-pub returns-then-not-guarded-clause-beliefs : goal.returns-then-not-guarded-clause-beliefs
-returns-then-not-guarded-clause-beliefs c =
+pub returns-then-not-guarded-clause-view : goal.returns-then-not-guarded-clause-view
+returns-then-not-guarded-clause-view c =
     let lists = c.args.standing.now in
-    let nets = c.args.net.now in
     let none = c.if-not-guarded.true in
-    beliefs_still lists.committed lists.present nets.committed nets.present c.args.old.now c.requires.old c.requires.network c.requires.numbers c.requires.alike c.args.old.now refl
+    view_still lists.committed lists.present (forest c.args.tree.now) c.args.old.now c.args.old.now c.requires.old c.requires.alike refl
     (c.requires.old.broken ∙ none_reported lists.committed (c.requires.unguarded_before none) ∙ sym (none_reported lists.present (c.requires.unguarded_now none)))
 
 pub returns-then-not-guarded-clause-changes : goal.returns-then-not-guarded-clause-changes
@@ -21,24 +21,10 @@ returns-then-not-guarded-clause-changes c =
     told_unguarded lists.committed lists.present c.requires.alike c.changes_of-changes.result (told.erased ∙ c.requires.left_out) told.left told.entered told.loose told.clips
     (c.requires.unguarded_now none) (told.broken ∙ c.make.ensures) (told.mended ∙ c.make-then-not-guarded.ensures)
 
-pub report-requires-clause-seen : goal.report-requires-clause-seen
-report-requires-clause-seen c =
+pub returns-clause-view : goal.returns-clause-view
+returns-clause-view c =
     let lists = c.args.standing.now in
-    let nets = c.args.net.now in
-    seen_still lists.committed lists.present nets.committed nets.present c.args.old.now c.requires.old c.requires.network c.requires.numbers c.requires.alike
-
-pub report-requires-clause-holds : goal.report-requires-clause-holds
-report-requires-clause-holds c =
-    let lists = c.args.standing.now in
-    let nets = c.args.net.now in
-    holds_still lists.committed lists.present nets.committed nets.present c.args.old.now c.requires.old c.requires.network c.requires.numbers c.requires.alike
-
-pub returns-clause-beliefs : goal.returns-clause-beliefs
-returns-clause-beliefs c =
-    let lists = c.args.standing.now in
-    let nets = c.args.net.now in
-    beliefs_still lists.committed lists.present nets.committed nets.present c.args.old.now c.requires.old c.requires.network c.requires.numbers c.requires.alike
-    (record c.args.old.now { reports = c.in_ok-reports.reports }) refl c.in_ok-reports.ensures
+    view_still lists.committed lists.present (forest c.args.tree.now) c.args.old.now (record c.args.old.now { reports = c.in_ok-reports.reports }) c.requires.old c.requires.alike refl c.in_ok-reports.ensures
 
 pub returns-clause-changes : goal.returns-clause-changes
 returns-clause-changes c =

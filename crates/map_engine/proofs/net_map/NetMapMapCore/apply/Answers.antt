@@ -12,9 +12,29 @@ use Rattle.revisions.specs.Alike.{SayAlike}
 use Rattle.revisions.proofs.UnreadEdits.{unread_edit}
 use Rattle.map_engine.specs.Plain.{MapState}
 use Rattle.map_engine.specs.Stops.{StopsEdit}
-use Rattle.map_engine.proofs.NetMaps.{next_unguarded, edited_map}
+use Rattle.map_engine.proofs.NetMaps.{is_nothing, rests_before, unguarded_before, unguarded_after, pending_edit, edited_map, undone_map}
 use Rattle.map_engine.proofs.Told.{too_large}
 use Rattle.map_engine.proofs.net_map.NetMapMapCore.apply.Goals as goal
+
+pub draw_next-requires-clause-rests : goal.draw_next-requires-clause-rests
+draw_next-requires-clause-rests c =
+    let m = c.self.inside in
+    rests_before m.standing m.net m.nodes m.view m.guarded m.next c.self.invariant c.edited.new.standing c.args.edit.now c.in_ok-erased.ensures.list c.requires.well_formed
+    c.edited.new.net c.in_ok-erased.ensures.committed c.may_guard-self-inside.result c.may_guard-self-inside.ensures (ap (λ (m : MapState). m.pending) c.self.view_is ∙ c.requires.idle)
+
+pub draw_next-requires-clause-pending : goal.draw_next-requires-clause-pending
+draw_next-requires-clause-pending c =
+    let m = c.self.inside in
+    pending_edit m.standing m.net m.nodes m.view m.guarded m.next c.self.invariant c.edited.new.standing c.args.edit.now c.in_ok-erased.ensures.list c.requires.well_formed
+    c.edited.new.net c.in_ok-erased.ensures.committed c.may_guard-self-inside.result c.may_guard-self-inside.ensures (ap (λ (m : MapState). m.pending) c.self.view_is ∙ c.requires.idle)
+    c.in_ok-erased.erased.items c.in_ok-erased.ensures.network c.in_ok-erased.ensures.numbers c.in_ok-erased.ensures.erased
+
+pub draw_next-requires-clause-before : goal.draw_next-requires-clause-before
+draw_next-requires-clause-before c =
+    let settled = c.self.invariant.settled (ap (λ (m : MapState). m.pending) c.self.view_is ∙ c.requires.idle) in
+    c.horizon.ensures
+    ∙ ap (λ (s : Standing). s.horizon) settled.list
+    ∙ ap (λ (s : States). s.committed.horizon) (sym c.in_ok-erased.ensures.list)
 
 pub draw_next-requires-clause-unread : goal.draw_next-requires-clause-unread
 draw_next-requires-clause-unread c = λ unread.
@@ -23,25 +43,28 @@ draw_next-requires-clause-unread c = λ unread.
     let settled = c.self.invariant.settled (ap (λ (m : MapState). m.pending) c.self.view_is ∙ c.requires.idle) in
     let made = c.in_ok-erased.ensures.list in
     let say : SayAlike lists.present (next_list lists.present edit) =
-    unread_edit lists.present edit c.self.invariant.next_network.sound.well_named
+    unread_edit lists.present edit c.self.invariant.next_held.network.sound.well_named
     (subst (λ (s : States). IsWellNamed s.present.premises) made c.in_ok-erased.ensures.network.sound.well_named) (sym c.is_unread.ensures ∙ unread) in
     subst (λ (s : States). SayAlike s.committed s.present) (sym made) (subst (λ (s : Standing). SayAlike s (next_list lists.present edit)) settled.list say)
 
 pub draw_next-requires-clause-unguarded_now : goal.draw_next-requires-clause-unguarded_now
-draw_next-requires-clause-unguarded_now c = λ none.
+draw_next-requires-clause-unguarded_now c =
     let m = c.self.inside in
-    (next_unguarded m.standing m.net m.beliefs m.guarded m.next c.self.invariant c.edited.new.standing c.args.edit.now c.in_ok-erased.ensures.list (sym c.may_guard-self-inside.ensures ∙ none)).1
+    unguarded_after m.standing m.net m.nodes m.view m.guarded m.next c.self.invariant c.edited.new.standing c.args.edit.now c.in_ok-erased.ensures.list c.requires.well_formed
+    c.edited.new.net c.in_ok-erased.ensures.committed c.may_guard-self-inside.result c.may_guard-self-inside.ensures
 
 pub draw_next-requires-clause-unguarded_before : goal.draw_next-requires-clause-unguarded_before
-draw_next-requires-clause-unguarded_before c = λ none.
+draw_next-requires-clause-unguarded_before c =
     let m = c.self.inside in
-    (next_unguarded m.standing m.net m.beliefs m.guarded m.next c.self.invariant c.edited.new.standing c.args.edit.now c.in_ok-erased.ensures.list (sym c.may_guard-self-inside.ensures ∙ none)).0
+    unguarded_before m.standing m.net m.nodes m.view m.guarded m.next c.self.invariant c.edited.new.standing c.args.edit.now c.in_ok-erased.ensures.list c.requires.well_formed
+    c.edited.new.net c.in_ok-erased.ensures.committed c.may_guard-self-inside.result c.may_guard-self-inside.ensures
 
 pub invariant_of-self-in-Ok : goal.invariant_of-self-in-Ok
 invariant_of-self-in-Ok c =
     let m = c.self.inside in
-    edited_map m.standing m.net m.beliefs m.guarded m.next c.self.invariant c.edited.new.standing c.edited.new.net c.may_guard-self-inside.result c.in-Ok.next c.args.edit.now
-    c.in_ok-erased.ensures.list c.in_ok-erased.ensures.committed c.may_guard-self-inside.ensures c.in_ok-erased.ensures.network c.in-Ok.ensures.beliefs c.in-Ok.ensures.pending
+    edited_map m.standing m.net m.nodes m.view m.guarded m.next c.self.invariant c.edited.new.standing c.args.edit.now c.in_ok-erased.ensures.list c.requires.well_formed
+    c.edited.new.net c.in_ok-erased.ensures.committed c.may_guard-self-inside.result c.may_guard-self-inside.ensures (ap (λ (m : MapState). m.pending) c.self.view_is ∙ c.requires.idle)
+    c.draw_next.new.nodes c.in-Ok.next c.in_ok-erased.ensures.network c.in-Ok.ensures.nodes c.in-Ok.ensures.view c.in-Ok.ensures.last c.in-Ok.ensures.pending
 
 pub returns-in-Ok-clause-accepted : goal.returns-in-Ok-clause-accepted
 returns-in-Ok-clause-accepted c =
@@ -53,7 +76,7 @@ returns-in-Ok-clause-accepted c =
     (record {
       no_cause = c.in_default.ensures.ok.0 refl;
       dates = c.in_ok-erased.ensures.dates;
-      small = subst (λ (s : States). size (built s.present) ≤ most_size) c.in_ok-erased.ensures.list c.in-Ok.ensures.beliefs.small;
+      small = subst (λ (s : States). size (built s.present) ≤ most_size) c.in_ok-erased.ensures.list c.in-Ok.ensures.view.small;
     })
 
 pub returns-in-Ok-clause-changes : goal.returns-in-Ok-clause-changes
@@ -77,3 +100,12 @@ returns-in-Err-draw_next-clause-stops c =
     subst (λ (s : Standing). StopsEdit s edit c.in-Err-draw_next.stop) present
     (too_large lists.present edit (c.in_default.ensures.ok.0 refl) c.in_ok-erased.ensures.dates c.in-Err-draw_next.stop
     (subst (λ (s : Standing). IsTooLarge (size (built s)) c.in-Err-draw_next.stop) new c.in-Err-draw_next.ensures.stops))
+
+pub invariant_of-self-in-Err-draw_next : goal.invariant_of-self-in-Err-draw_next
+invariant_of-self-in-Err-draw_next c =
+    let m = c.self.inside in
+    let idle = ap (λ (m : MapState). m.pending) c.self.view_is ∙ c.requires.idle in
+    undone_map m.standing m.net m.nodes m.view m.guarded m.next c.self.invariant c.edited.new.standing c.args.edit.now c.in_ok-erased.ensures.list c.requires.well_formed
+    c.edited.new.net c.in_ok-erased.ensures.committed c.may_guard-self-inside.result c.may_guard-self-inside.ensures idle
+    c.draw_next.new.nodes c.rollback.new.self c.roll_back.new.standing c.roll_back.new.net (is_nothing m.standing.present m.next idle) c.in-Err-draw_next.ensures.last
+    c.roll_back.ensures.list c.roll_back.ensures.net c.rollback.ensures.nodes c.rollback.ensures.kept

@@ -1,12 +1,14 @@
-use Rattle.std.proofs.Common.{◌∙◌, ap, sym, subst}
+use Rattle.std.proofs.Common.{sym, subst}
 use Rattle.tmm_model.specs.Maps.{built}
-use Rattle.tmm_model.specs.Standing.{Standing}
 use Rattle.spots.specs.Seen.{Holds}
+use Rattle.occ_tree.specs.OfLists.{IsTreeOf}
 use Rattle.occ_tree.specs.Places.{forest}
-use Rattle.map_engine.specs.Plain.{MapState}
+use Rattle.occ_tree.specs.Standing.{Kept}
 use Rattle.map_engine.proofs.net_map.NetMapMapCore.bounds.Goals as goal
+
+pub bounds_between-requires-clause-seen : goal.bounds_between-requires-clause-seen
+bounds_between-requires-clause-seen c = subst (IsTreeOf c.self.inside.standing.present c.self.inside.net.present) (sym c.tree.ensures) c.self.invariant.next_nodes.fit.tree
 
 pub bounds_between-requires-clause-holds : goal.bounds_between-requires-clause-holds
 bounds_between-requires-clause-holds c =
-    let settled = c.self.invariant.settled (ap (λ (m : MapState). m.pending) c.self.view_is ∙ c.requires.idle) in
-    subst (λ (s : Standing). Holds (built s).believed (forest c.self.inside.beliefs.tree)) (sym settled.list) c.self.invariant.believed.holds
+    subst (λ (k : Kept). Holds (built c.self.inside.standing.present).believed (forest k)) (sym c.tree.ensures) c.self.invariant.next_nodes.current.holds

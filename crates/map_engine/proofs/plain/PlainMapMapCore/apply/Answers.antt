@@ -23,7 +23,7 @@ returns-in-Ok-clause-accepted c =
     (record {
       no_cause = c.in_default.ensures.ok.0 refl;
       dates = c.in_ok-erased.ensures.dates;
-      small = subst (λ (s : States). size (built s.present) ≤ most_size) c.in_ok-erased.ensures.list c.in-Ok.ensures.beliefs.small;
+      small = subst (λ (s : States). size (built s.present) ≤ most_size) c.in_ok-erased.ensures.list c.in-Ok.ensures.beliefs.view.small;
     })
 
 pub returns-in-Ok-clause-changes : goal.returns-in-Ok-clause-changes

@@ -10,4 +10,4 @@ returns c =
     let lists = c.self.inside.standing in
     if_ok (λ found. map row_of found.items ≡ rows (built lists.committed)) (λ found. map row_of found.items ≡ rows (built c.args.self.now.list))
     (λ found is. is ∙ ap (λ (m : MapState). rows (built m.list)) c.self.view_is)
-    c.told_rows.result (c.told_rows.ensures lists.committed c.self.inside.net.committed c.self.invariant.believed)
+    c.told_rows.result (c.told_rows.ensures lists.committed c.self.invariant.believed.view)

@@ -8,15 +8,15 @@ use Rattle.belief_list.specs.declared.list.BeliefRow.{BeliefRow}
 use Rattle.just_check.specs.Believed.{believed_in_order}
 use Rattle.map_engine.proofs.Rows.{rows_in_order}
 use Rattle.map_engine.proofs.Told.{if_ok}
-use Rattle.map_engine.proofs.beliefs.audited.Goals as goal
+use Rattle.map_engine.proofs.view.audited.Goals as goal
 
 pub returns : goal.returns
 returns c =
     let list = c.args.standing.now.present in
-    let tree = forest c.args.beliefs.now.tree in
+    let tree = forest c.args.tree.now in
     let is : map moment_of c.items-2.result.now ≡ believed_in_order list =
     ap (λ (l : List Occ). map moment_of l) c.items-2.ensures
     ∙ c.in_ok-rows.ensures
     ∙ ap (λ (l : List BeliefRow). map (λ r. moment_at tree r.node) l) c.items.ensures
-    ∙ rows_in_order list tree c.args.beliefs.now.rows.items c.requires.listing in
+    ∙ rows_in_order list tree c.args.view.now.rows.items c.requires.view.listing in
     if_ok (λ good. IsTrue good ↔ (map moment_of c.items-2.result.now ≡ believed_in_order list)) (λ good. IsTrue good) (λ good h. h.1 is) c.audit.result c.audit.ensures

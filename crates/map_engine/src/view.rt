@@ -1,0 +1,97 @@
+// What is read of the believed occurrences of a list.
+ghost use Rattle.std.specs.Prelude.{◌≡◌, ◌≤◌, map, IsTrue, IfOk};
+ghost use Rattle.std.specs.List.{All};
+ghost use Rattle.tmm_model.specs.Answers.{rows, row_of, size, most_size};
+ghost use Rattle.tmm_model.specs.Maps.{built};
+ghost use Rattle.tmm_model.specs.Moments.{moment_of};
+ghost use Rattle.tmm_model.specs.Standing.{Standing as List};
+ghost use Rattle.belief_list.specs.Rows.{IsLiveRow, IsListing};
+ghost use Rattle.list_net.specs.Fits.{IsNetOf};
+ghost use Rattle.occ_tree.specs.OfLists.{IsTreeOf};
+ghost use Rattle.occ_tree.specs.Places.{forest};
+ghost use Rattle.spots.specs.Forest.{moment_at};
+ghost use Rattle.spots.specs.Seen.{Holds};
+ghost use Rattle.map_engine.specs.Views.{IsViewOf};
+
+use belief_list::{BeliefRow, list_rows, listed};
+use dist_net::DistNet;
+use just_check::audit;
+use occ_tree::Tree;
+use premise_list::Standing;
+use protections::report;
+use std::alloc::Global;
+use tmm_model::{ListRow, NoMemory, Occ, Report, Seq};
+
+// What is read of a tree of the believed occurrences.
+#[derive(Drop)]
+pub(crate) struct View {
+    // The size of the map.
+    pub size: u64,
+    // The occurrences in their order, with their clips.
+    pub rows: Seq<BeliefRow>,
+    // The broken protections.
+    pub reports: Seq<Report>,
+}
+
+// What is read of the believed occurrences, where the size of their map is known.
+pub(crate) fn view_of(
+    alloc: Global,
+    standing: &Standing,
+    net: &DistNet,
+    tree: &Tree,
+    counted: u64,
+) -> Result<View, NoMemory>
+    requires seen { IsTreeOf standing.now.present net.now.present tree.now }
+    requires holds { Holds (built standing.now.present).believed (forest tree.now) }
+    requires counted { counted ≡ size (built standing.now.present) }
+    requires small { counted ≤ most_size }
+    ensures { IfOk result (IsViewOf standing.now.present (forest tree.now)) }
+{
+    let rows = listed(alloc, standing, tree, net)?;
+    let reports = report(alloc, standing, tree, net)?;
+    Ok(View {
+        size: counted,
+        rows,
+        reports,
+    })
+}
+
+// The believed occurrences, in their order.
+pub(crate) fn told_rows(alloc: Global, tree: &Tree, view: &View) -> Result<Seq<ListRow>, NoMemory>
+    requires { IsListing (forest tree.now) view.now.rows.items }
+    ensures { (list : List) → IsViewOf list (forest tree.now) view.now → IfOk result (λ found. map row_of found.items ≡ rows (built list)) }
+{
+    list_rows(alloc, tree, view.rows.items())
+}
+
+// Whether the rows are the believed occurrences of the list, in their order. They are, and it is found
+// anew from the list.
+pub(crate) fn audited(
+    alloc: Global,
+    standing: &Standing,
+    net: &DistNet,
+    tree: &Tree,
+    view: &View,
+) -> Result<bool, NoMemory>
+    requires network { IsNetOf standing.now.present net.now.present }
+    requires view { IsViewOf standing.now.present (forest tree.now) view.now }
+    ensures { IfOk result (λ good. IsTrue good) }
+{
+    let rows = occurrences(alloc, tree, view.rows.items())?;
+    audit(alloc, standing, net, rows.items())
+}
+
+// The occurrences of the rows.
+fn occurrences(alloc: Global, tree: &Tree, rows: &[BeliefRow]) -> Result<Seq<Occ>, NoMemory>
+    requires { All (IsLiveRow (forest tree.now)) rows.now }
+    ensures { IfOk result (λ occs. map moment_of occs.items ≡ map (λ r. moment_at (forest tree.now) r.node) rows.now) }
+{
+    let mut occs = Seq::make(alloc);
+    for row in rows {
+        match occs.push(tree.occ_of(alloc, row.node)?) {
+            Ok(()) => {}
+            Err(_) => return Err(NoMemory),
+        }
+    }
+    Ok(occs)
+}
