@@ -1,22 +1,18 @@
 -- What is kept of a list is kept of each list that is alike in all that beliefs read.
-use Rattle.std.proofs.Common.{◌≡◌, ◌∙◌, ℕ, true, false, List, [], ◌∷◌, ◌++◌, map, refl, sym, ap, subst, inl, inr}
-use Rattle.std.specs.Prelude.{Some, filter, ◌+ℤ◌}
+use Rattle.std.proofs.Common.{◌≡◌, ◌∙◌, ℕ, List, ◌∷◌, ◌++◌, map, sym, subst, inl, inr}
+use Rattle.std.specs.Prelude.{Some, filter}
 use Rattle.std.specs.List.{Contains, list_any, filter_map}
-use Rattle.tmm_model.specs.declared.bound.Bound.{Bound}
-use Rattle.tmm_model.specs.declared.point.PointName.TheVariants.{Start, Begin}
+use Rattle.tmm_model.specs.declared.point.PointName.TheVariants.{Start}
 use Rattle.tmm_model.specs.declared.token.TokenRow.{TokenRow}
-use Rattle.tmm_model.specs.Beliefs.{root_of, roots}
-use Rattle.tmm_model.specs.Bounds.{bound_plus, bound_less}
 use Rattle.tmm_model.specs.Maps.{built, believed_tokens}
-use Rattle.tmm_model.specs.Moments.{Moment, At, base, rules, low, high, apart, distance}
-use Rattle.tmm_model.specs.Points.{same_name, same_point}
-use Rattle.tmm_model.specs.Standing.{Standing, points_in, name_of, far_in}
+use Rattle.tmm_model.specs.Moments.{Moment, At}
+use Rattle.tmm_model.specs.Points.{same_name}
+use Rattle.tmm_model.specs.Standing.{Standing, points_in, far_in}
 use Rattle.list_theory.specs.WellNamed.{IsSound}
-use Rattle.list_theory.proofs.Elements.{In, In-from_Contains, Contains-from_In, In-cases, In-map, In-filter, In-filter_map}
+use Rattle.list_theory.proofs.Elements.{In, In-from_Contains, In-cases, In-map, In-filter, In-filter_map}
 use Rattle.belief_theory.specs.Outcomes.{outcome}
 use Rattle.belief_theory.specs.Touched.{watched, watched_points}
 use Rattle.belief_theory.proofs.NextLists.{all_spelt}
-use Rattle.belief_theory.proofs.SoundBeliefs.{believed_occurs}
 use Rattle.belief_theory.proofs.Untouched.{Alike, outcome_alike}
 use Rattle.dist_net.specs.Net.{Net}
 use Rattle.list_net.specs.Fits.{IsNetOf}
@@ -25,14 +21,13 @@ use Rattle.spots.specs.Forest.{Forest, IsLive, moment_at}
 use Rattle.spots.specs.Seen.{IsSeen, Holds}
 use Rattle.spots.proofs.Nodes.{node_at, moment_at-is}
 use Rattle.spots.proofs.Seen.{early_is}
-use Rattle.supports.proofs.Grown.{root_name}
 use Rattle.occ_tree.specs.Classes.{place_in}
 use Rattle.occ_tree.specs.Dated.{IsDatedBy}
 use Rattle.occ_tree.specs.Places.{forest}
 use Rattle.occ_tree.specs.Standing.{present}
-use Rattle.revisions.specs.Alike.{IsAnchor, SayAlike, AreAlike, BelieveAlike}
-use Rattle.revisions.proofs.Alike.{IsAnchored, AreAnchored, IsBetween, tokens_between, rules_same, distance_same, believed_anchored, alike_believe}
-use Rattle.revisions.proofs.StillEdits.{base_root, stay_seen}
+use Rattle.revisions.specs.Alike.{AreAlike, BelieveAlike}
+use Rattle.revisions.proofs.Alike.{IsAnchored, IsBetween, tokens_between, rules_same, distance_same, believed_anchored, alike_believe}
+use Rattle.revisions.proofs.StillEdits.{stay_seen}
 use Rattle.joined.specs.Netted.{IsCurrent}
 use Rattle.joined.specs.Rows.{Row, AreLive, AreRowsOf, outcome_at}
 use Rattle.belief_net.specs.declared.state.BeliefNet.{BeliefNet}

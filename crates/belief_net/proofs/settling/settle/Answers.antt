@@ -77,6 +77,7 @@ returns-clause-counted c =
 pub returns-then-not-branch-clause-numbered : goal.returns-then-not-branch-clause-numbered
 returns-then-not-branch-clause-numbered c =
     numbered_on c.args.standing.now.present c.args.beliefs.now c.loop.beliefs c.turn.new.beliefs c.args.told.now c.loop.told c.turn.new.told c.loop.invariant.numbered c.in_ok-turn.ensures.numbered
+
 pub returns-in_err-turn-clause-rises : goal.returns-in_err-turn-clause-rises
 returns-in_err-turn-clause-rises c = (counts_on c.loop.beliefs c.args.count.now c.loop.count c.turn.new.counter c.loop.invariant.rises c.in_err-turn.ensures.counted).0
 
