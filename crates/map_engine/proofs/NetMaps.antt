@@ -1,12 +1,14 @@
 -- What the map keeps where nothing is pending, and once an edit is made.
 use Rattle.std.proofs.Common.{◌≡◌, ◌∙◌, ℕ, ◌≤◌, Bool, true, false, ◌||◌, List, [], refl, sym, ap, subst}
-use Rattle.std.specs.Prelude.{Some, None}
+use Rattle.std.specs.Prelude.{Option, Some, None, MatchOption}
 use Rattle.tmm_model.specs.declared.premise.Edit.{Edit}
 use Rattle.tmm_model.specs.declared.premise.Edit.TheVariants.{Add, Erase, Horizon}
 use Rattle.tmm_model.specs.Edits.{next_list}
 use Rattle.tmm_model.specs.Lines.{IsWellFormedEdit}
 use Rattle.tmm_model.specs.Standing.{Standing, points_in}
+use Rattle.tmm_model.specs.Verdicts.{Cause, list_cause}
 use Rattle.belief_theory.specs.KeptLists.{last_horizon}
+use Rattle.belief_theory.specs.Touched.{touched}
 use Rattle.dist_net.specs.Net.{Net, Nets}
 use Rattle.list_net.specs.Fits.{IsNetOf, IsSettled}
 use Rattle.list_net.specs.Network.{PointsKeepNumbers}
@@ -15,13 +17,15 @@ use Rattle.occ_tree.specs.Places.{forest}
 use Rattle.occ_tree.specs.Standing.{State, present, committed, forest as forest_of}
 use Rattle.belief_net.specs.declared.state.BeliefNet.{BeliefNet}
 use Rattle.belief_net.specs.Entering.{KeepLast}
-use Rattle.belief_net.specs.Updating.{IsPending, CommitsKept, LeadsBack}
+use Rattle.belief_net.specs.Settling.{counted}
+use Rattle.belief_net.specs.Updating.{IsPending, IsCountedWithin, CommitsKept, LeadsBack}
 use Rattle.belief_net.proofs.Named.{last_stays}
+use Rattle.revisions.specs.Counted.{changed}
 use Rattle.map_engine.specs.declared.next.Next.{Next}
 use Rattle.map_engine.specs.declared.next.Next.TheVariants.{Nothing, Same, Reported, Anew}
 use Rattle.map_engine.specs.declared.view.View.{View}
 use Rattle.map_engine.specs.Beliefs.{IsLeftOut}
-use Rattle.map_engine.specs.NetMaps.{AreNodesOf, IsResting, MayRest, IsHeld, IsNetMap}
+use Rattle.map_engine.specs.NetMaps.{AreNodesOf, IsResting, MayRest, IsHeld, IsNetMap, CountsEdit}
 use Rattle.map_engine.specs.Nexts.{after, pending_list, IsUnguarded, adds_protection}
 use Rattle.map_engine.specs.Views.{IsViewOf}
 use Rattle.map_engine.proofs.Unmoved.{still_unguarded}
@@ -214,3 +218,25 @@ kept_map lists nets b view guarded next is lists_new nets_new guarded_new edit l
       next_nodes = subst (λ (n : Net). AreNodesOf lists.present n b) (sym now) is.next_nodes;
       next_view = is.next_view;
     })
+
+-- ---- how many decisions are counted
+
+-- where no cause stands against the edit, what is counted within what it touches is so of the list before
+pub counts_edit : (lists new : States) (edit : Edit) (s : Standing) (before count : ℕ) → new ≡ record lists { present = next_list lists.present edit }
+    → lists.present ≡ lists.committed → lists.committed ≡ s → list_cause s.premises edit ≡ None → IsCountedWithin new before count → CountsEdit s edit before count
+counts_edit lists new edit s before count made one is none within =
+    let of_new : count ≤ counted before (touched lists.committed (next_list lists.present edit)) = subst (λ (n : States). IsCountedWithin n before count) made within in
+    let of_one : count ≤ counted before (touched lists.committed (next_list lists.committed edit)) =
+    subst (λ (x : Standing). count ≤ counted before (touched lists.committed (next_list x edit))) one of_new in
+    let of_list : count ≤ counted before (touched s (next_list s edit)) = subst (λ (x : Standing). count ≤ counted before (touched x (next_list x edit))) is of_one in
+    subst (λ (o : Option Cause). MatchOption o (count ≤ counted before (touched s (next_list s edit))) (λ _. count ≡ before)) (sym none) of_list
+
+-- what is counted is at least what is changed of the list before
+pub counts_least : (lists new : States) (edit : Edit) (s : Standing) (before count : ℕ) → new ≡ record lists { present = next_list lists.present edit }
+    → lists.present ≡ lists.committed → lists.committed ≡ s → counted before (changed new.committed new.present) ≤ count
+    → counted before (changed s (next_list s edit)) ≤ count
+counts_least lists new edit s before count made one is least =
+    let of_new : counted before (changed lists.committed (next_list lists.present edit)) ≤ count =
+    subst (λ (n : States). counted before (changed n.committed n.present) ≤ count) made least in
+    subst (λ (x : Standing). counted before (changed x (next_list x edit)) ≤ count) is
+    (subst (λ (x : Standing). counted before (changed lists.committed (next_list x edit)) ≤ count) one of_new)

@@ -1,7 +1,11 @@
 -- What the map keeps whose nodes and decisions are kept current.
-use Rattle.std.specs.Prelude.{◌≡◌, ℕ, ◌≤◌, Bool, false, None}
+use Rattle.std.specs.Prelude.{◌≡◌, ℕ, ◌≤◌, Bool, false, None, MatchOption}
+use Rattle.tmm_model.specs.declared.premise.Edit.{Edit}
+use Rattle.tmm_model.specs.Edits.{next_list}
 use Rattle.tmm_model.specs.Standing.{Standing}
+use Rattle.tmm_model.specs.Verdicts.{list_cause}
 use Rattle.belief_theory.specs.KeptLists.{last_horizon}
+use Rattle.belief_theory.specs.Touched.{touched}
 use Rattle.dist_net.specs.Net.{Net, Nets}
 use Rattle.list_net.specs.Fits.{IsNetOf, IsSettled}
 use Rattle.premise_list.specs.States.{States}
@@ -9,6 +13,7 @@ use Rattle.occ_tree.specs.Places.{forest}
 use Rattle.joined.specs.Netted.{IsCurrent}
 use Rattle.belief_net.specs.declared.state.BeliefNet.{BeliefNet}
 use Rattle.belief_net.specs.Entering.{KeepLast}
+use Rattle.belief_net.specs.Settling.{counted}
 use Rattle.belief_net.specs.Turning.{rows_of, IsFit}
 use Rattle.belief_net.specs.Updating.{IsKept}
 use Rattle.belief_net.specs.Waiting.{dates_in}
@@ -50,3 +55,7 @@ pub record IsNetMap (lists : States) (nets : Nets) (nodes : BeliefNet) (view : V
   pub next_held : IsHeld lists.present nets.present guarded
   pub next_nodes : AreNodesOf lists.present nets.present nodes
   pub next_view : IsViewOf lists.present (forest nodes.tree) (after view next)
+
+-- Where a cause among names and counts stands against the edit, no decision is counted; else no more than the edit touches.
+abbrev pub CountsEdit : Standing → Edit → ℕ → ℕ → Type 0
+CountsEdit s edit before count = MatchOption (list_cause s.premises edit) (count ≤ counted before (touched s (next_list s edit))) (λ _. count ≡ before)

@@ -7,10 +7,12 @@ ghost use Rattle.tmm_model.specs.Standing.{Standing as List};
 ghost use Rattle.belief_list.specs.Rows.{IsListing};
 ghost use Rattle.belief_net.specs.Entering.{KeepLast};
 ghost use Rattle.belief_net.specs.Numbered.{KeepsNumbers, left_under, then_forest};
-ghost use Rattle.belief_net.specs.Updating.{IsKept, IsPending};
+ghost use Rattle.belief_net.specs.Settling.{counted};
+ghost use Rattle.belief_net.specs.Updating.{IsKept, IsPending, IsCountedWithin};
 ghost use Rattle.occ_tree.specs.OfLists.{IsTreeOf};
 ghost use Rattle.occ_tree.specs.Places.{forest};
 ghost use Rattle.projection.specs.Queues.{IsTooLarge};
+ghost use Rattle.revisions.specs.Counted.{changed};
 ghost use Rattle.spots.specs.Seen.{Holds};
 ghost use Rattle.map_engine.specs.Beliefs.{IsLeftOut};
 ghost use Rattle.map_engine.specs.Gone.{seen_left};
@@ -51,6 +53,8 @@ pub(crate) fn moved(
     ensures changes { IfOk result (λ made. delta_of made.1 ≡ changes standing.now.committed standing.now.present) }
     ensures stops { IfErr result (IsTooLarge (size (built standing.now.present))) }
     ensures counted { counter.old ≤ counter.new }
+    ensures within { IsCountedWithin standing.now counter.old counter.new }
+    ensures least { OnOk result (counted counter.old (changed standing.now.committed standing.now.present) ≤ counter.new) }
     ensures last { KeepLast nodes.old nodes.new }
 {
     let told = nodes.update(alloc, edit, erased.items(), net, standing, before, counter)?;

@@ -1,6 +1,14 @@
 // The map whose beliefs are kept current.
-ghost use Rattle.std.specs.Prelude.{◌≡◌, None, IfOk};
+ghost use Rattle.std.specs.Prelude.{◌≡◌, ◌≤◌, None, Some, IfOk, IfErr, OnOk, OnErr};
+ghost use Rattle.tmm_model.specs.Changes.{changes, delta_of};
+ghost use Rattle.tmm_model.specs.Edits.{next_list};
+ghost use Rattle.tmm_model.specs.Kept.{IsAccepted};
+ghost use Rattle.tmm_model.specs.Lines.{IsWellFormedEdit};
 ghost use Rattle.tmm_model.specs.Standing.{empty_list};
+ghost use Rattle.belief_net.specs.Settling.{counted};
+ghost use Rattle.revisions.specs.Counted.{changed};
+ghost use Rattle.map_engine.specs.NetMaps.{CountsEdit};
+ghost use Rattle.map_engine.specs.Stops.{StopsEdit};
 
 use crate::edited::{edited, roll_back};
 use crate::map_core::{MapCore, Pending};
@@ -84,12 +92,23 @@ impl MapCore for NetMap {
 
     ghost pending = { λ m. m.pending };
 
-    fn apply(
-        &mut self,
-        alloc: Global,
-        edit: &Edit,
-        counter: &mut Counter,
-    ) -> Result<Pending, Stop> {
+    fn apply(&mut self, alloc: Global, edit: &Edit, counter: &mut Counter) -> Result<Pending, Stop>
+        requires idle { self.old.pending ≡ None }
+        requires well_formed { IsWellFormedEdit edit.now }
+        ensures accepted { IfOk result (λ made. IsAccepted self.old.list edit.now) }
+        ensures changes { IfOk result (λ made. delta_of made.changes ≡ changes self.old.list (next_list self.old.list edit.now)) }
+        ensures pending { IfOk result (λ made. self.new.pending ≡ Some (next_list self.old.list edit.now)) }
+        ensures stops { IfErr result (StopsEdit self.old.list edit.now) }
+        ensures idle { OnErr result (self.new.pending ≡ None) }
+        ensures kept { self.new.list ≡ self.old.list }
+        ensures counted { counter.old ≤ counter.new }
+
+        // how many decisions are made: none that the edit does not touch, and all that it changes
+        ensures within { CountsEdit self.old.list edit.now counter.old counter.new }
+        ensures least { OnOk result (counted counter.old (changed self.old.list (next_list self.old.list edit.now)) ≤ counter.new) }
+    {
+        // it tells the proof that no count is above the greatest
+        let _ = counter.value();
         if let Err(refusal) = self.standing.check(edit) {
             return Err(Stop::Refused(refusal));
         }

@@ -4,10 +4,12 @@ ghost use Rattle.tmm_model.specs.Answers.{size};
 ghost use Rattle.tmm_model.specs.Changes.{changes, delta_of};
 ghost use Rattle.tmm_model.specs.Maps.{built};
 ghost use Rattle.belief_net.specs.Entering.{KeepLast};
-ghost use Rattle.belief_net.specs.Updating.{IsKept, IsPending};
+ghost use Rattle.belief_net.specs.Settling.{counted};
+ghost use Rattle.belief_net.specs.Updating.{IsPending, IsCountedWithin};
 ghost use Rattle.occ_tree.specs.Places.{forest};
 ghost use Rattle.projection.specs.Queues.{IsTooLarge};
 ghost use Rattle.revisions.specs.Alike.{SayAlike, AreAlike};
+ghost use Rattle.revisions.specs.Counted.{changed};
 ghost use Rattle.spots.specs.Seen.{Holds};
 ghost use Rattle.occ_tree.specs.OfLists.{IsTreeOf};
 ghost use Rattle.map_engine.specs.Beliefs.{IsLeftOut};
@@ -79,8 +81,12 @@ pub(crate) fn draw_next(
     ensures changes { IfOk result (λ made. delta_of made.1 ≡ changes standing.now.committed standing.now.present) }
     ensures stops { IfErr result (IsTooLarge (size (built standing.now.present))) }
     ensures counted { counter.old ≤ counter.new }
+    ensures within { IsCountedWithin standing.now counter.old counter.new }
+    ensures least { OnOk result (counted counter.old (changed standing.now.committed standing.now.present) ≤ counter.new) }
     ensures last { KeepLast nodes.old nodes.new }
 {
+    // it tells the proof that no count is above the greatest
+    let _ = counter.value();
     if is_still(standing, net, known.unread) {
         match unmoved(
             alloc,

@@ -1,9 +1,15 @@
-use Rattle.std.proofs.Common.{sym, subst}
+use Rattle.std.proofs.Common.{◌≡◌, ◌∙◌, ◌≤◌, ℕ, sym, ap, subst, arith}
+use Rattle.tmm_model.specs.Edits.{next_list}
+use Rattle.list_theory.specs.WellNamed.{IsSound}
 use Rattle.tmm_model.specs.Maps.{built}
+use Rattle.belief_net.specs.Settling.{counted}
+use Rattle.belief_net.proofs.AlikeCounted.{none_changed}
 use Rattle.belief_net.proofs.AlikeKept.{alike_kept}
 use Rattle.occ_tree.specs.OfLists.{IsTreeOf}
 use Rattle.occ_tree.specs.Places.{forest}
 use Rattle.occ_tree.specs.Standing.{Kept}
+use Rattle.revisions.specs.Alike.{AreAlike}
+use Rattle.revisions.specs.Counted.{changed}
 use Rattle.spots.specs.Seen.{Holds}
 use Rattle.map_engine.specs.Nexts.{after}
 use Rattle.map_engine.specs.Views.{IsViewOf}
@@ -36,3 +42,14 @@ returns-in-Ok-clause-nodes c =
 pub returns-in-Ok-clause-view : goal.returns-in-Ok-clause-view
 returns-in-Ok-clause-view c =
     subst (λ (k : Kept). IsViewOf c.args.standing.now.present (forest k) (after c.args.old.now c.in-Ok.made.0)) c.tree.ensures c.in-Ok.ensures.view
+
+pub returns-in-Ok-clause-least : goal.returns-in-Ok-clause-least
+returns-in-Ok-clause-least c =
+    let lists = c.args.standing.now in
+    let edit = c.args.edit.now in
+    let is : lists.present ≡ next_list lists.committed edit = c.requires.pending.list in
+    let alike : AreAlike lists.committed (next_list lists.committed edit) = subst (AreAlike lists.committed) is (c.is_still.ensures.alike c.if-is_still.true) in
+    let none : changed lists.committed lists.present ≡ 0 =
+    ap (changed lists.committed) is
+    ∙ none_changed lists.committed edit c.requires.rests.kept.fit.tree.seen.network.sound (subst IsSound is c.requires.pending.network.sound) alike in
+    subst (λ (n : ℕ). counted c.args.counter.now n ≤ c.args.counter.now) (sym none) (omega arith)

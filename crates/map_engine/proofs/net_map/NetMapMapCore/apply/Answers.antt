@@ -5,6 +5,7 @@ use Rattle.tmm_model.specs.Edits.{next_list}
 use Rattle.tmm_model.specs.Kept.{IsAccepted}
 use Rattle.tmm_model.specs.Maps.{built}
 use Rattle.tmm_model.specs.Standing.{Standing}
+use Rattle.tmm_model.specs.Verdicts.{list_cause}
 use Rattle.list_theory.specs.WellNamed.{IsWellNamed}
 use Rattle.projection.specs.Queues.{IsTooLarge}
 use Rattle.premise_list.specs.States.{States}
@@ -12,7 +13,7 @@ use Rattle.revisions.specs.Alike.{SayAlike}
 use Rattle.revisions.proofs.UnreadEdits.{unread_edit}
 use Rattle.map_engine.specs.Plain.{MapState}
 use Rattle.map_engine.specs.Stops.{StopsEdit}
-use Rattle.map_engine.proofs.NetMaps.{is_nothing, rests_before, unguarded_before, unguarded_after, pending_edit, edited_map, undone_map}
+use Rattle.map_engine.proofs.NetMaps.{counts_edit, counts_least, is_nothing, rests_before, unguarded_before, unguarded_after, pending_edit, edited_map, undone_map}
 use Rattle.map_engine.proofs.Told.{too_large}
 use Rattle.map_engine.proofs.net_map.NetMapMapCore.apply.Goals as goal
 
@@ -109,3 +110,28 @@ invariant_of-self-in-Err-draw_next c =
     c.edited.new.net c.in_ok-erased.ensures.committed c.may_guard-self-inside.result c.may_guard-self-inside.ensures idle
     c.draw_next.new.nodes c.rollback.new.self c.roll_back.new.standing c.roll_back.new.net (is_nothing m.standing.present m.next idle) c.in-Err-draw_next.ensures.last
     c.roll_back.ensures.list c.roll_back.ensures.net c.rollback.ensures.nodes c.rollback.ensures.kept
+
+pub returns-in-Ok-clause-within : goal.returns-in-Ok-clause-within
+returns-in-Ok-clause-within c =
+    let settled = c.self.invariant.settled (ap (λ (m : MapState). m.pending) c.self.view_is ∙ c.requires.idle) in
+    let committed : c.self.inside.standing.committed ≡ c.args.self.now.list = ap (λ (m : MapState). m.list) c.self.view_is in
+    counts_edit c.self.inside.standing c.edited.new.standing c.args.edit.now c.args.self.now.list c.args.counter.now c.draw_next.new.counter c.in_ok-erased.ensures.list
+    settled.list committed
+    (ap (λ (s : Standing). list_cause s.premises c.args.edit.now) (sym (settled.list ∙ committed)) ∙ c.in_default.ensures.ok.0 refl)
+    c.in-Ok.ensures.within
+
+pub returns-in-Err-draw_next-clause-within : goal.returns-in-Err-draw_next-clause-within
+returns-in-Err-draw_next-clause-within c =
+    let settled = c.self.invariant.settled (ap (λ (m : MapState). m.pending) c.self.view_is ∙ c.requires.idle) in
+    let committed : c.self.inside.standing.committed ≡ c.args.self.now.list = ap (λ (m : MapState). m.list) c.self.view_is in
+    counts_edit c.self.inside.standing c.edited.new.standing c.args.edit.now c.args.self.now.list c.args.counter.now c.draw_next.new.counter c.in_ok-erased.ensures.list
+    settled.list committed
+    (ap (λ (s : Standing). list_cause s.premises c.args.edit.now) (sym (settled.list ∙ committed)) ∙ c.in_default.ensures.ok.0 refl)
+    c.in-Err-draw_next.ensures.within
+
+pub returns-in-Ok-clause-least : goal.returns-in-Ok-clause-least
+returns-in-Ok-clause-least c =
+    let settled = c.self.invariant.settled (ap (λ (m : MapState). m.pending) c.self.view_is ∙ c.requires.idle) in
+    let committed : c.self.inside.standing.committed ≡ c.args.self.now.list = ap (λ (m : MapState). m.list) c.self.view_is in
+    counts_least c.self.inside.standing c.edited.new.standing c.args.edit.now c.args.self.now.list c.args.counter.now c.draw_next.new.counter c.in_ok-erased.ensures.list
+    settled.list committed c.in-Ok.ensures.least
