@@ -135,6 +135,14 @@ module _ (f : Forest) (class : List ℕ) where
 
 -- ---- one node more
 
+-- a token with its stretch comes behind others
+pub one_more : (old new : List (Stretched Spot)) (row : TokenRow Spot) (first : ℕ) (others all : List (TokenRow Spot)) → new ≡ old ++ record { row = row; first = first } ∷ []
+    → all ≡ others ++ row ∷ [] → rows_of old ≡ others → HaveStretches old → IsStretch (rows_of old) row.fact first (length old) → (rows_of new ≡ all) × HaveStretches new
+one_more old new row first others all pushed is same have stretch = (
+  ap rows_of pushed ∙ map-append (λ (t : Stretched Spot). t.row) old (record { row = row; first = first } ∷ []) ∙ ap (λ l. l ++ row ∷ []) same ∙ sym is,
+  subst HaveStretches (sym pushed) (stretched_push old have (record { row = row; first = first }) stretch),
+)
+
 module _ (f : Forest) (nodes : List ℕ) (i : ℕ) (lt : i < length nodes) where
   -- the nodes from a place on
   from_here : drop i nodes ≡ slice_index_or nodes i 0 ∷ drop (i + 1) nodes
@@ -163,10 +171,8 @@ module _ (f : Forest) (nodes : List ℕ) (i : ℕ) (lt : i < length nodes) where
       by true e =
           let same : class ≡ row.class = same_name-is class row.class e in
           let pushed : new class ≡ old class ++ token ∷ [] = ap new same ∙ appends.own ∙ ap (λ c. old c ++ token ∷ []) (sym same) in
-          let own : IsStretch (rows_of (old class)) row.fact first (length (old class)) = subst (λ c. IsStretch (rows_of (old c)) row.fact first (length (old c))) (sym same) stretch in (
-            ap rows_of pushed ∙ map-append (λ (t : Stretched Spot). t.row) (old class) (token ∷ []) ∙ ap (λ l. l ++ row ∷ []) (are class).0,
-            subst HaveStretches (sym pushed) (stretched_push (old class) (are class).1 token own),
-          )
+          let own : IsStretch (rows_of (old class)) row.fact first (length (old class)) = subst (λ c. IsStretch (rows_of (old c)) row.fact first (length (old c))) (sym same) stretch in
+          one_more (old class) (new class) row first (rows_behind f class (drop (i + 1) nodes)) (rows_behind f class (drop (i + 1) nodes) ++ row ∷ []) pushed refl (are class).0 (are class).1 own
       by false e =
           let other : class ≢ row.class = λ same. (let t : same_name class row.class ≡ true = subst (λ z. same_name class z ≡ true) same (nat_list_eq_equiv.refl class) in cc) in
           let stays : new class ≡ old class = appends.others class other in

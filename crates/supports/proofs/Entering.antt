@@ -3,7 +3,7 @@ use Rattle.std.proofs.Common.{◌≡◌, ◌≢◌, ◌∙◌, inl, inr, ℕ, Li
 use Rattle.std.specs.Prelude.{true, Option, Some, None, IsSome, ℤ, pos, ◌≤ℤ◌}
 use Rattle.std.specs.List.{Contains}
 use Rattle.std.proofs.lemmas.List.{map-append}
-use Rattle.std.proofs.lemmas.List.Elements.{All-contains, All-push}
+use Rattle.std.proofs.lemmas.List.Elements.{All-push}
 use Rattle.tmm_model.specs.declared.bound.Bound.{Bound}
 use Rattle.tmm_model.specs.declared.bound.Bound.TheVariants.{Finite}
 use Rattle.tmm_model.specs.declared.point.PointName.TheVariants.{Begin}
@@ -17,7 +17,7 @@ use Rattle.tmm_model.specs.Moments.{At, After, along, as_rule}
 use Rattle.belief_theory.specs.Right.{Occurs}
 use Rattle.tmm_model.specs.Sorts.{sort_in, class_in}
 use Rattle.tmm_model.specs.Standing.{Standing, premise_in}
-use Rattle.list_theory.proofs.Elements.{In, Contains-from_In}
+use Rattle.list_theory.proofs.Elements.{In}
 use Rattle.list_theory.proofs.KnownNames.{finds}
 use Rattle.belief_theory.proofs.Moments.{along-push}
 use Rattle.dist_net.specs.Net.{Net}

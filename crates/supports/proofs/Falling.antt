@@ -1,6 +1,7 @@
 -- Lists that rise, and lists that fall.
-use Rattle.std.proofs.Common.{◌≡◌, ℕ, suc, ◌+◌, ◌<◌, ◌≤◌, Bool, false, List, [], ◌∷◌, ◌++◌, map, refl, sym, ◌∙◌, ap, subst, inl, inr, arith}
+use Rattle.std.proofs.Common.{◌≡◌, ℕ, zero, suc, ◌+◌, ◌<◌, ◌≤◌, Bool, false, List, [], ◌∷◌, ◌++◌, map, refl, sym, ◌∙◌, ap, subst, inl, inr, arith}
 use Rattle.std.specs.Prelude.{Option, Some, None, length, slice_index_or, slice_set}
+use Rattle.std.specs.List.{AllByRecursion}
 use Rattle.std.specs.List.Sorted.{IsStrictlySortedBy}
 use Rattle.std.specs.Ordering.{is_gt}
 use Rattle.std.specs.declared.cmp.Ordering.{Ordering}
@@ -33,6 +34,16 @@ stands_behind cmp (z ∷ front) x back up y after other (inr at) = stands_behind
 pub sorted_back : {X : Type 0} (cmp : X → X → Ordering) (front : List X) (x : X) (back : List X) → IsStrictlySortedBy cmp (front ++ x ∷ back) → IsStrictlySortedBy cmp back
 sorted_back cmp [] x back up = sorted_tail cmp x back up
 sorted_back cmp (z ∷ front) x back up = sorted_back cmp front x back (sorted_tail cmp z (front ++ x ∷ back) up)
+
+-- a list rises where each is less than those at later places
+pub rising : {X : Type 0} (cmp : X → X → Ordering) (xs : List X) → ((i j : ℕ) (d : X) → i < j → j < length xs → cmp (slice_index_or xs i d) (slice_index_or xs j d) ≡ Less) → IsStrictlySortedBy cmp xs
+unfolding IsStrictlySortedBy
+rising cmp [] pairs = tt
+rising {X} cmp (x ∷ xs) pairs = (each xs (λ j d h. pairs zero (suc j) d (omega arith) (omega arith)), rising cmp xs (λ i j d l h. pairs (suc i) (suc j) d (omega arith) (omega arith)))
+  where
+    each : (ys : List X) → ((j : ℕ) (d : X) → j < length ys → cmp x (slice_index_or ys j d) ≡ Less) → AllByRecursion (λ y. cmp x y ≡ Less) ys
+    each [] h = tt
+    each (y ∷ ys) h = (h zero y (omega arith), each ys (λ j d low. h (suc j) d (omega arith)))
 
 -- ---- lists that fall
 

@@ -14,3 +14,4 @@ pub mod Effects
 pub mod Grown
 pub mod Entering
 pub mod ByDate
+pub mod ClassClips

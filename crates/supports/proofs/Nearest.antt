@@ -101,14 +101,14 @@ module _ {s : Standing} {net : Net} {f : Forest} (seen : IsSeen s net f) {b : Li
   -- ---- what stands behind a node
 
   module _ (front : List ℕ) (x : ℕ) (back : List ℕ) (up : IsStrictlySortedBy (node_cmp net f) (front ++ x ∷ back))
-      (all : (y : ℕ) → IsLive f y → In y (front ++ x ∷ back)) (row : TokenRow Spot) (is : token_at f x ≡ Some row) where
+      (row : TokenRow Spot) (is : token_at f x ≡ Some row) (all : (y : ℕ) (c : TokenRow Spot) → token_at f y ≡ Some c → c.class ≡ row.class → In y (front ++ x ∷ back)) where
     abbrev rows : List (TokenRow Spot)
     rows = rows_behind f row.class back
 
     -- what clips the node stands behind it
-    clips_behind : (y : ℕ) (c : TokenRow Spot) → token_at f y ≡ Some c → is_before gap (go row).spot (go c).spot ≡ true → In y back
-    clips_behind y c is_c before =
-        stands_behind (node_cmp net f) front x back up y after (λ same. after (subst (λ z. node_cmp net f z x ≡ Less) same (subst (λ z. node_cmp net f x z ≡ Less) (sym same) less))) (all y (live_token y c is_c))
+    clips_behind : (y : ℕ) (c : TokenRow Spot) → token_at f y ≡ Some c → c.class ≡ row.class → is_before gap (go row).spot (go c).spot ≡ true → In y back
+    clips_behind y c is_c own before =
+        stands_behind (node_cmp net f) front x back up y after (λ same. after (subst (λ z. node_cmp net f z x ≡ Less) same (subst (λ z. node_cmp net f x z ≡ Less) (sym same) less))) (all y c is_c own)
       where
         less : node_cmp net f x y ≡ Less
         less =
@@ -160,7 +160,7 @@ module _ {s : Standing} {net : Net} {f : Forest} (seen : IsSeen s net f) {b : Li
             let (y, a, is_a, same) = node_there k at in
             let (differ, before) = both (of_one_class (go row) (go a)) (is_before gap (go row).spot (go a).spot) (subst (λ z. clips of_one_class gap (go row) z ≡ true) (sym same) passed) in
             let one = same_name-is row.class a.class (both (same_name row.class a.class) (not (same_name row.fact a.fact)) differ).0 in
-            (a, behind-In f row.class back y a (clips_behind y a is_a before) is_a (sym one), same)
+            (a, behind-In f row.class back y a (clips_behind y a is_a (sym one) before) is_a (sym one), same)
 
     nearest : (found : Option ℕ) → MatchOption row.end (IsLastNode (clips of_one_class far row) rows found) (λ _. IsNone found)
         → option_map (moment_at f) found ≡ clip (map_of s b) (moment_at f x)
@@ -179,14 +179,20 @@ module _ {s : Standing} {net : Net} {f : Forest} (seen : IsSeen s net f) {b : Li
         by (Some e) h = no_node found h
         by None h = last found h
 
-  -- **The nearest token behind a node that clips it** is its clip.
-  pub nearest_is : (nodes : List ℕ) (i : ℕ) → i < length nodes → IsStrictlySortedBy (node_cmp net f) nodes → ((y : ℕ) → IsLive f y → Contains nodes y)
+  -- **The nearest token behind a node that clips it** is its clip, among nodes with all tokens of its class.
+  pub nearest_is : (nodes : List ℕ) (i : ℕ) → i < length nodes → IsStrictlySortedBy (node_cmp net f) nodes
       → (row : TokenRow Spot) → token_at f (slice_index_or nodes i 0) ≡ Some row
+      → ((y : ℕ) (c : TokenRow Spot) → token_at f y ≡ Some c → c.class ≡ row.class → Contains nodes y)
       → (found : Option ℕ) → MatchOption row.end (IsLastNode (clips of_one_class far row) (rows_behind f row.class (drop (i + 1) nodes)) found) (λ _. IsNone found)
       → option_map (moment_at f) found ≡ clip (map_of s b) (moment_at f (slice_index_or nodes i 0))
-  nearest_is nodes i lt up all row is =
+  nearest_is nodes i lt up row is all =
       let parted : nodes ≡ take i nodes ++ slice_index_or nodes i 0 ∷ drop (i + 1) nodes = sym (take-append-drop i nodes) ∙ ap (λ l. take i nodes ++ l) (drop_more nodes i 0 lt) in
-      nearest (take i nodes) (slice_index_or nodes i 0) (drop (i + 1) nodes) (subst (IsStrictlySortedBy (node_cmp net f)) parted up) (λ y live. subst (In y) parted (In-from_Contains nodes y (all y live))) row is
+      nearest (take i nodes) (slice_index_or nodes i 0) (drop (i + 1) nodes) (subst (IsStrictlySortedBy (node_cmp net f)) parted up) row is
+      (λ y c is_c own. subst (In y) parted (In-from_Contains nodes y (all y c is_c own)))
+
+-- among all nodes is each token of a class
+pub tokens_among : (f : Forest) (nodes : List ℕ) → ((y : ℕ) → IsLive f y → Contains nodes y) → (class : List ℕ) (y : ℕ) (c : TokenRow Spot) → token_at f y ≡ Some c → c.class ≡ class → Contains nodes y
+tokens_among f nodes all class y c is own = let (m, here, _) = node_of_token f y c is in all y (live_at f y m here)
 
 -- a node that is no token has no clip
 pub event_has_none : {s : Standing} {net : Net} {f : Forest} → IsSeen s net f → (b : List Moment) (x : ℕ) → IsLive f x → token_at f x ≡ None → clip (map_of s b) (moment_at f x) ≡ None

@@ -1,4 +1,4 @@
-// What clips the tokens of a tree, all of them at once.
+// What clips the tokens of a tree, all of them at once, or those of a class.
 ghost use Rattle.std.specs.Prelude.{◌≡◌, ◌<◌, ◌+◌, ℕ, List, map, length, drop, IfOk, IfSome, IsNone, MatchOption, OnOk, slice_index_or};
 ghost use Rattle.std.specs.List.{All, Contains};
 ghost use Rattle.std.specs.List.Sorted.{IsStrictlySortedBy};
@@ -15,7 +15,9 @@ ghost use Rattle.spots.specs.Seen.{IsSeen, HasList, Holds, map_of};
 ghost use Rattle.spots.specs.Spots.{IsSpot, spot_distance, node_cmp};
 ghost use Rattle.occ_tree.specs.OfLists.{IsTreeIn};
 ghost use Rattle.occ_tree.specs.Places.{forest};
+ghost use Rattle.occ_tree.specs.Standing.{present};
 ghost use Rattle.supports.specs.Behind.{AreBehind, IsClip, IsLastNode, token_at};
+ghost use Rattle.supports.specs.ClassClips.{AreClips};
 ghost use Rattle.supports.specs.Nodes.{IsOfNode};
 
 use crate::node_of;
@@ -25,7 +27,7 @@ use name_lists::NameLists;
 use occ_tree::{Order, Ranked, Tree};
 use spots::Spot;
 use std::alloc::Global;
-use tmm_model::{NoMemory, TokenRow};
+use tmm_model::{Name, NoMemory, TokenRow};
 
 /// What clips each node, given all nodes in their order: the node of the first token that does, none
 /// exactly where no token does. A span and an event have none. Without memory it answers that.
@@ -47,6 +49,31 @@ pub fn clips(
     let mut behind = NameLists::make(alloc);
     for i in (0..ranked.len()).rev() {
         clips[i] = clip_at(alloc, tree, net, ranked, i, &mut behind)?;
+    }
+    Ok(clips)
+}
+
+/// What clips each token of a class, in the order of its tokens: the node of the first token that does,
+/// none exactly where none does. A span has none. Without memory it answers that.
+pub fn class_clips(
+    alloc: Global,
+    tree: &Tree,
+    net: &DistNet,
+    class: &Name,
+) -> Result<Vec<Option<u32>>, NoMemory>
+    requires dates { IsTreeIn net.now.present tree.now }
+    ensures each { IfOk result (λ clips. AreClips net.now.present (forest tree.now) ((present tree.now).tokens class.now) clips.items) }
+    ensures live { IfOk result (λ clips. All (λ clip. IfSome clip (IsLive (forest tree.now))) clips.items) }
+{
+    let rows = tree.tokens(class);
+    let mut clips = Vec::from_elem(alloc, None, rows.len())?;
+    // the tokens behind, the nearest one last
+    let mut behind = Vec::with_capacity(alloc, rows.len())?;
+    for i in (0..rows.len()).rev() {
+        let row = rows[i];
+        clips[i] = next_clip(tree, net, &behind, &row);
+        let first = stretch_behind(&behind, &row.fact);
+        behind.push_reserved(Stretched { row, first });
     }
     Ok(clips)
 }

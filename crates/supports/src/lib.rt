@@ -3,8 +3,8 @@
 //! standing rule says, whose antecedents want supporters; and what a premise declares to occur, as a
 //! node of a tree. It stands on `occ_tree`, `clipping` and `name_lists`.
 //!
-//! Each call answers the definition for the list, over the occurrences that the nodes are. `clips` and
-//! `add_root` alone take memory.
+//! Each call answers the definition for the list, over the occurrences that the nodes are. `clips`,
+//! `class_clips` and `add_root` alone take memory.
 #![tactic(auto)]
 
 ghost use Rattle.std.specs.Prelude.{◌≡◌, ◌<◌, ℕ, List, length, None, Some, IsSome, IfSome, slice_index_or};
@@ -33,7 +33,7 @@ mod all_clips;
 mod root;
 mod rule;
 
-pub use all_clips::clips;
+pub use all_clips::{class_clips, clips};
 use clipping::{Fault, by_date};
 use dist_net::DistNet;
 use occ_tree::{Order, Tree};

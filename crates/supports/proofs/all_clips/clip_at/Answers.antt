@@ -14,7 +14,7 @@ use Rattle.occ_tree.specs.Places.{forest}
 use Rattle.supports.specs.Behind.{IsLastNode}
 use Rattle.name_lists.specs.Lists.{list_of}
 use Rattle.supports.proofs.Behind.{behind_event, behind_token, behind_of_nodes, behind_there, place_node, live_place, within_nodes}
-use Rattle.supports.proofs.Nearest.{nearest_is, event_has_none}
+use Rattle.supports.proofs.Nearest.{nearest_is, tokens_among, event_has_none}
 use Rattle.supports.proofs.all_clips.clip_at.Goals as goal
 
 pub token_at-requires : goal.token_at-requires
@@ -48,8 +48,9 @@ stretch_behind-first-requires c = record { stretches = subst HaveStretches (sym 
 
 pub returns-clause-clip : goal.returns-clause-clip
 returns-clause-clip c s b seen holds =
-    nearest_is seen holds (nodes_of c.args.ranked.now) c.args.i (within_nodes c.args.ranked.now c.args.i c.requires.within) c.requires.in_order c.requires.all c.in-Some.token
-    (ap (token_at (forest c.args.tree.now)) (place_node c.args.ranked.now c.args.i _ c.requires.within) ∙ sym c.token_at.ensures ∙ c.in-Some.is) c.next_clip-clip.result
+    nearest_is seen holds (nodes_of c.args.ranked.now) c.args.i (within_nodes c.args.ranked.now c.args.i c.requires.within) c.requires.in_order c.in-Some.token
+    (ap (token_at (forest c.args.tree.now)) (place_node c.args.ranked.now c.args.i _ c.requires.within) ∙ sym c.token_at.ensures ∙ c.in-Some.is)
+    (tokens_among (forest c.args.tree.now) (nodes_of c.args.ranked.now) c.requires.all c.in-Some.token.class) c.next_clip-clip.result
     (subst (λ rows. MatchOption c.in-Some.token.end (IsLastNode (clips of_one_class (spot_distance c.args.net.now.present (forest c.args.tree.now)) c.in-Some.token) rows c.next_clip-clip.result) (λ _. IsNone c.next_clip-clip.result))
     (ap rows_of c.of-others.ensures ∙ (c.requires.behind c.in-Some.token.class).0) c.next_clip-clip.ensures.last)
 

@@ -1,0 +1,19 @@
+use Rattle.std.proofs.Common.{◌≡◌, ℕ, ◌+◌, ◌<◌, ◌≤◌, vec_capacity, vec_len}
+use Rattle.std.specs.Prelude.{Option, IfSome, drop, length, slice_index_or}
+use Rattle.clipping.specs.Stretches.{rows_of, HaveStretches}
+use Rattle.occ_tree.specs.Places.{forest}
+use Rattle.occ_tree.specs.Tokens.{numbers_in}
+use Rattle.spots.specs.Forest.{IsLive}
+use Rattle.supports.specs.Behind.{rows_behind, IsClip}
+use Rattle.supports.proofs.all_clips.class_clips.Given as goal
+
+abbrev pub invariant-loop-i : goal.invariant-loop-i
+invariant-loop-i l = record {
+  count : length l.clips.items ≡ length l.rows;
+  live : (j : ℕ) (d : Option ℕ) → l.i ≤ j → j < length l.rows → IfSome (slice_index_or l.clips.items j d) (IsLive (forest l.tree));
+  clip : (j : ℕ) (d : Option ℕ) → l.i ≤ j → j < length l.rows → IsClip l.net.present (forest l.tree) (slice_index_or (numbers_in l.rows) j 0) (slice_index_or l.clips.items j d);
+  room : vec_capacity l.behind ≡ length l.rows;
+  long : vec_len l.behind + l.i ≡ length l.rows;
+  behind : rows_of l.behind.items ≡ rows_behind (forest l.tree) l.class (drop l.i (numbers_in l.rows));
+  stretches : HaveStretches l.behind.items;
+}
