@@ -49,7 +49,7 @@ use Rattle.joined.specs.Gaps.{SameGaps, reads_class, begin, an_end, start, read,
 -- ---- rules that say the same in two lists
 
 module _ (s t : Standing) where
-  abbrev Agree : List (List ℕ) → Type 0
+  abbrev pub Agree : List (List ℕ) → Type 0
   Agree rs = (r : List ℕ) → In r rs → rule_of s r ≡ rule_of t r
 
   low_on : (rs : List (List ℕ)) → Agree rs → low s rs ≡ low t rs
@@ -101,7 +101,7 @@ module _ (old : Standing) (edit : Edit) (nets : Nets) (f : Forest) (net_old : Is
   abbrev names : Names
   names = nets.present.names
 
-  abbrev at : Spot → Moment
+  abbrev pub at : Spot → Moment
   at p = spot_moment names f p
 
   -- the rules on the way to what occurs in both lists say the same in both
@@ -116,10 +116,10 @@ module _ (old : Standing) (edit : Edit) (nets : Nets) (f : Forest) (net_old : Is
   ]
 
   -- the spot is of both lists: its declared point has the same number in both, and the rules that lead to it say the same
-  record WasThere (p : Spot) : Type 0 where
-    there : IsSpot names f p
-    number : IsNumberOf nets.committed.names (base_of f p) (base (at p))
-    agree : Agree old new (rules (at p))
+  pub record WasThere (p : Spot) : Type 0 where
+    pub there : IsSpot names f p
+    pub number : IsNumberOf nets.committed.names (base_of f p) (base (at p))
+    pub agree : Agree old new (rules (at p))
 
   was_number : (p : PointName) (n : ℕ) → IsNumberOf names n p → In p (points_in old.premises) → IsNumberOf nets.committed.names n p
   was_number p n is known =
@@ -127,14 +127,14 @@ module _ (old : Standing) (edit : Edit) (nets : Nets) (f : Forest) (net_old : Is
       let now = keep k p (seen.network.fits.stands.named n p is) numbered in
       subst (λ z. IsNumberOf nets.committed.names z p) (seen.network.distinct k n p now is) numbered
 
-  start_was : WasThere (Declared 0)
+  pub start_was : WasThere (Declared 0)
   start_was = record {
     there = is_in_use names 0 Start seen.network.start;
     number = subst (λ (q : PointName). IsNumberOf nets.committed.names 0 q) (sym (name_at-is names 0 Start seen.network.start)) net_old.start;
     agree = λ r on. absurd on;
   }
 
-  node_was : (x : ℕ) → IsLive f x → Occurs old (moment_at f x) → WasThere (Node x)
+  pub node_was : (x : ℕ) → IsLive f x → Occurs old (moment_at f x) → WasThere (Node x)
   node_was x live before =
       let (m, here) = node_at f x live in
       let begins : base (moment_at f x) ≡ Begin m.root = ap base (moment_at-is f x m here) ∙ base-moment m in
@@ -159,7 +159,7 @@ module _ (old : Standing) (edit : Edit) (nets : Nets) (f : Forest) (net_old : Is
       }
 
   -- **The distance that spots of both lists had is theirs in the first list.**
-  distance_was : (p q : Spot) → WasThere p → WasThere q → spot_distance nets.committed f p q ≡ distance old (far_in old.premises) (at p) (at q)
+  pub distance_was : (p q : Spot) → WasThere p → WasThere q → spot_distance nets.committed f p q ≡ distance old (far_in old.premises) (at p) (at q)
   distance_was p q was_p was_q =
       let links_p = links_are new nets.present f seen p was_p.there in
       let links_q = links_are new nets.present f seen q was_q.there in
@@ -180,7 +180,7 @@ module _ (old : Standing) (edit : Edit) (nets : Nets) (f : Forest) (net_old : Is
       cancel (net_far nets.committed (base_of f p) (base_of f q)) (net_far nets.present (base_of f p) (base_of f q)) (links_high (links_of f q)) most (links_low (links_of f p)) bounded
       (sym (distance-two_bases nets.committed f p q two) ∙ same ∙ distance-two_bases nets.present f p q two)
 
-  one_base : (p q : Spot) → base_of f p ≡ base_of f q → spot_distance nets.committed f p q ≡ spot_distance nets.present f p q
+  pub one_base : (p q : Spot) → base_of f p ≡ base_of f q → spot_distance nets.committed f p q ≡ spot_distance nets.present f p q
   one_base p q one = distance-one_base nets.committed f p q one ∙ sym (distance-one_base nets.present f p q one)
 
   unbounded_same : (p q : Spot) → links_high (links_of f q) ≡ Free → spot_distance nets.committed f p q ≡ spot_distance nets.present f p q

@@ -14,3 +14,4 @@ pub mod Listed
 pub mod Marking
 pub mod Touching
 pub mod Gaps
+pub mod KeptClips

@@ -1,6 +1,7 @@
 // Laws of how nodes and rows stand for a revision.
 ghost use Rattle.joined.specs.Gaps.{MovedPointsTouch};
 ghost use Rattle.joined.specs.Kept.{EffectsAreThere, EffectsMayEnter, SameDecisionsKeep};
+ghost use Rattle.joined.specs.KeptClips.{NodesKeepClips};
 ghost use Rattle.joined.specs.Listed.{PairsAreListed, ReadersAreListed};
 ghost use Rattle.joined.specs.Marking.{ClassMarksMark};
 ghost use Rattle.joined.specs.Netted.{NettedAreCurrent, NettedAreCounted, NothingIsCurrent};
@@ -59,6 +60,11 @@ pub fn horizons_mark()
 /// moved from which rules lead to them.
 pub fn moved_points_touch()
     ensures { MovedPointsTouch }
+{}
+
+/// A node keeps its clip where the nodes of its class stand as before and what clipped it is there still.
+pub fn nodes_keep_clips()
+    ensures { NodesKeepClips }
 {}
 
 /// What fires now and did not may enter: there is room for it, and no node is of it yet.

@@ -1,6 +1,7 @@
--- Clips stay where the tokens of their class do.
-use Rattle.std.proofs.Common.{◌≡◌, ◌∙◌, true, not, ◌&&◌, List, [], ◌∷◌, refl, sym, ap, inl}
+-- Clips stay where the tokens of their class do, but for some that are gone.
+use Rattle.std.proofs.Common.{◌≡◌, ◌∙◌, true, not, ◌&&◌, List, [], ◌∷◌, refl, sym, ap, subst, inl}
 use Rattle.std.specs.Prelude.{Option, Some, None, negsuc, filter}
+use Rattle.std.specs.List.{Contains}
 use Rattle.std.specs.Option.{option_map, option_and_then}
 use Rattle.std.specs.Ordering.{on, is_gt, int_cmp, nat_cmp, ordering_then}
 use Rattle.std.specs.Cmp.Lexicographic.{slice_cmp, bytes_decides}
@@ -15,75 +16,128 @@ use Rattle.tmm_model.specs.Firsts.{earliest, first}
 use Rattle.tmm_model.specs.Maps.{TimeMap, built, gap, order, believed_tokens}
 use Rattle.tmm_model.specs.Moments.{Moment, negated, printed}
 use Rattle.tmm_model.specs.Points.{same_name}
-use Rattle.list_theory.specs.WellNamed.{IsSound}
 use Rattle.tmm_model.specs.Standing.{Standing}
 use Rattle.tmm_model.specs.Tokens.{is_before, clips}
-use Rattle.list_theory.proofs.Elements.{In, both, In-filter, filter-In}
+use Rattle.list_theory.specs.WellNamed.{IsSound}
+use Rattle.list_theory.proofs.Elements.{In, both, In-filter, filter-In, In-filter_map, filter_map-In, In-from_Contains, Contains-from_In}
 use Rattle.belief_theory.proofs.Firsts.{least_is, one_spot}
-use Rattle.belief_theory.proofs.Order.{IsSpelt, ordered}
-use Rattle.revisions.specs.Clips.{SameClass}
 use Rattle.belief_theory.proofs.NextLists.{all_spelt}
+use Rattle.belief_theory.proofs.OneRight.{spot-token_of}
+use Rattle.belief_theory.proofs.Order.{IsSpelt, ordered}
+use Rattle.belief_theory.proofs.Outcomes.{first_token_in}
+use Rattle.belief_theory.proofs.SoundBeliefs.{believed_occurs}
+use Rattle.revisions.specs.Clips.{FewerOfClass, ClipsStay, ClipsStayOn}
+use Rattle.revisions.proofs.Tokens.{tokens_stay}
 
 abbrev by_begin : TimeMap → TokenRow Moment → TokenRow Moment → Ordering
 by_begin m = on (λ k. k.spot) (order m)
 
--- two lists with the same members, which two maps order alike, have one first
+-- what clips an occurrence is believed
+pub clip_believed : (m : TimeMap) (x c : Moment) → clip m x ≡ Some c → Contains m.believed c
+clip_believed m x c e = by (token_of m.list x) e
+  where
+    by_end : (k : TokenRow Moment) (o : Option Moment) → (elim o as (λ _. Option Moment) [ Some end ↦ None | None ↦ first_believed m (clips (contradicts_in m.list) (gap m) k) ]) ≡ Some c → Contains m.believed c
+    by_end k (Some end) e = cc
+    by_end k None e =
+        let (d, there, passes, spot) = first_token_in m.list m.far m.believed (clips (contradicts_in m.list) (gap m) k) c e in
+        let (y, on, made) = In-filter_map (token_of m.list) m.believed d there in
+        subst (Contains m.believed) (sym (spot-token_of m.list y d made) ∙ spot) (Contains-from_In m.believed y on)
+
+    by : (o : Option (TokenRow Moment)) → option_and_then (clip_of m) o ≡ Some c → Contains m.believed c
+    by None e = cc
+    by (Some k) e = by_end k k.end e
+
+-- if the second of two lists has some members of the first, that one of them which is first by one map, and two maps order
+-- all these alike, they have one first
 one_first : (m n : TimeMap) (xs ys : List (TokenRow Moment)) → ((k : TokenRow Moment) → In k xs → IsSpelt k.spot)
-    → ((k : TokenRow Moment) → In k xs → In k ys) → ((k : TokenRow Moment) → In k ys → In k xs)
-    → ((k c : TokenRow Moment) → In k xs → In c xs → order m k.spot c.spot ≡ order n k.spot c.spot)
+    → ((k : TokenRow Moment) → In k ys → In k xs) → ((k : TokenRow Moment) → In k xs → first (by_begin m) xs ≡ Some k → In k ys)
+    → ((k c : TokenRow Moment) → In k ys → In c ys → order m k.spot c.spot ≡ order n k.spot c.spot)
     → option_map (λ k. k.spot) (first (by_begin m) xs) ≡ option_map (λ k. k.spot) (first (by_begin n) ys)
-one_first m n [] [] live into back alike = refl
-one_first m n [] (y ∷ ys) live into back alike = absurd (back y (inl refl))
-one_first m n (x ∷ xs) [] live into back alike = absurd (into x (inl refl))
-one_first m n (x ∷ xs) (y ∷ ys) live into back alike =
+one_first m n [] [] live back stays alike = refl
+one_first m n [] (y ∷ ys) live back stays alike = absurd (back y (inl refl))
+one_first m n (x ∷ xs) [] live back stays alike = absurd (stays (earliest (by_begin m) x xs) (least_is (ordered m.list m.far) x xs live).member refl)
+one_first m n (x ∷ xs) (y ∷ ys) live back stays alike =
     let one = least_is (ordered m.list m.far) x xs live in
     let two = least_is (ordered n.list n.far) y ys (λ k at. live k (back k at)) in
     let k : TokenRow Moment = earliest (by_begin m) x xs in
     let c : TokenRow Moment = earliest (by_begin n) y ys in
+    let k_in = stays k one.member refl in
     let c_in = back c two.member in
-    ap Some (one_spot (ordered m.list m.far) k.spot c.spot (live k one.member) (live c c_in) (one.below c c_in) (ap is_gt (alike c k c_in one.member) ∙ two.below k (into k one.member)))
+    ap Some (one_spot (ordered m.list m.far) k.spot c.spot (live k one.member) (live c c_in) (one.below c c_in) (ap is_gt (alike c k two.member k_in) ∙ two.below k k_in))
 
-module _ (m n : TimeMap) (spelt : (k : TokenRow Moment) → In k (believed_tokens m) → IsSpelt k.spot) (k : TokenRow Moment) (there : In k (believed_tokens m)) (same : SameClass m n k.class) where
+module _ (m n : TimeMap) (spelt : (k : TokenRow Moment) → In k (believed_tokens m) → IsSpelt k.spot) (k : TokenRow Moment) (there : In k (believed_tokens n)) (fewer : FewerOfClass m n k.class) where
   -- what clips k is of its class
   of_class : (p : TimeMap) (c : TokenRow Moment) → clips (contradicts_in p.list) (gap p) k c ≡ true → c.class ≡ k.class
   of_class p c h =
       let differ = (both (contradicts_in p.list k c) (is_before (gap p) k.spot c.spot) h).0 in
       sym ((bytes_decides k.class c.class).0 (both (same_name k.class c.class) (not (same_name k.fact c.fact)) differ).0)
 
-  clips_alike : (c : TokenRow Moment) → c.class ≡ k.class → In c (believed_tokens m) → clips (contradicts_in m.list) (gap m) k c ≡ clips (contradicts_in n.list) (gap n) k c
-  clips_alike c class at = ap (λ g. (same_name k.class c.class && not (same_name k.fact c.fact)) && bound_at_most g (negsuc 0)) (same.gaps c k class refl at there)
+  clips_alike : (c : TokenRow Moment) → c.class ≡ k.class → In c (believed_tokens n) → clips (contradicts_in m.list) (gap m) k c ≡ clips (contradicts_in n.list) (gap n) k c
+  clips_alike c class at = ap (λ g. (same_name k.class c.class && not (same_name k.fact c.fact)) && bound_at_most g (negsuc 0)) (fewer.gaps c k class refl at there)
 
-  pub first_alike : first_believed m (clips (contradicts_in m.list) (gap m) k) ≡ first_believed n (clips (contradicts_in n.list) (gap n) k)
-  first_alike = one_first m n (filter (clips (contradicts_in m.list) (gap m) k) (believed_tokens m)) (filter (clips (contradicts_in n.list) (gap n) k) (believed_tokens n))
+  -- what clips k in a map
+  abbrev clippers : TimeMap → List (TokenRow Moment)
+  clippers p = filter (clips (contradicts_in p.list) (gap p) k) (believed_tokens p)
+
+  -- the clip of k in a map, where this is its end
+  abbrev clip_by : TimeMap → Option Moment → Option Moment
+  clip_by p o = elim o as (λ _. Option Moment) [ Some end ↦ None | None ↦ first_believed p (clips (contradicts_in p.list) (gap p) k) ]
+
+  clip_is : (p : TimeMap) (x : Moment) → token_of p.list x ≡ Some k → clip p x ≡ clip_by p k.end
+  clip_is p x is = ap (option_and_then (clip_of p)) is
+
+  first_alike : ((c : TokenRow Moment) → In c (believed_tokens m) → c.class ≡ k.class → first (by_begin m) (clippers m) ≡ Some c → In c (believed_tokens n))
+      → clip_by m None ≡ clip_by n None
+  first_alike stays = one_first m n (clippers m) (clippers n)
       (λ c at. spelt c (In-filter (clips (contradicts_in m.list) (gap m) k) (believed_tokens m) c at).0)
-      (λ c at.
-      (let h = In-filter (clips (contradicts_in m.list) (gap m) k) (believed_tokens m) c at in
-      let class = of_class m c h.1 in
-      filter-In (clips (contradicts_in n.list) (gap n) k) (believed_tokens n) c (same.into c class h.0) (sym (clips_alike c class h.0) ∙ h.1)))
       (λ c at.
       (let h = In-filter (clips (contradicts_in n.list) (gap n) k) (believed_tokens n) c at in
       let class = of_class n c h.1 in
-      let here = same.back c class h.0 in
-      filter-In (clips (contradicts_in m.list) (gap m) k) (believed_tokens m) c here (clips_alike c class here ∙ h.1)))
+      filter-In (clips (contradicts_in m.list) (gap m) k) (believed_tokens m) c (fewer.back c class h.0) (clips_alike c class h.0 ∙ h.1)))
+      (λ c at is.
+      (let h = In-filter (clips (contradicts_in m.list) (gap m) k) (believed_tokens m) c at in
+      let class = of_class m c h.1 in
+      let here = stays c h.0 class is in
+      filter-In (clips (contradicts_in n.list) (gap n) k) (believed_tokens n) c here (sym (clips_alike c class here) ∙ h.1)))
       (λ c d at_c at_d.
-      (let h = In-filter (clips (contradicts_in m.list) (gap m) k) (believed_tokens m) c at_c in
-      let g = In-filter (clips (contradicts_in m.list) (gap m) k) (believed_tokens m) d at_d in
-      let date_c = same.dates c (of_class m c h.1) h.0 in
-      let date_d = same.dates d (of_class m d g.1) g.0 in
-      λ i. ordering_then (int_cmp (negated (date_c i)) (negated (date_d i))) (slice_cmp nat_cmp (printed c.spot) (printed d.spot))))
+      (let h = In-filter (clips (contradicts_in n.list) (gap n) k) (believed_tokens n) c at_c in
+      let g = In-filter (clips (contradicts_in n.list) (gap n) k) (believed_tokens n) d at_d in
+      let date_c = fewer.dates c (of_class n c h.1) h.0 in
+      let date_d = fewer.dates d (of_class n d g.1) g.0 in
+      λ i. ordering_then (int_cmp (date_c i) (date_d i)) (slice_cmp nat_cmp (printed c.spot) (printed d.spot))))
 
-  clip_alike : (o : Option Moment) → k.end ≡ o → clip_of m k ≡ clip_of n k
-  clip_alike o e = ap (λ o. elim o as (λ _. Option Moment) [ Some end ↦ None | None ↦ first_believed m (clips (contradicts_in m.list) (gap m) k) ]) e ∙ by o ∙ ap (λ o. elim o as (λ _. Option Moment) [ Some end ↦ None | None ↦ first_believed n (clips (contradicts_in n.list) (gap n) k) ]) (sym e)
+  -- **The clip stays** if the token that is the clip is among those of the second map.
+  pub clip_stays : (x : Moment) → token_of m.list x ≡ Some k → token_of n.list x ≡ Some k
+      → ((c : TokenRow Moment) → In c (believed_tokens m) → c.class ≡ k.class → clip m x ≡ Some c.spot → In c (believed_tokens n))
+      → clip m x ≡ clip n x
+  clip_stays x one two stays = clip_is m x one ∙ by k.end refl ∙ sym (clip_is n x two)
     where
-      by : (o : Option Moment) → (elim o as (λ _. Option Moment) [ Some end ↦ None | None ↦ first_believed m (clips (contradicts_in m.list) (gap m) k) ]) ≡ (elim o as (λ _. Option Moment) [ Some end ↦ None | None ↦ first_believed n (clips (contradicts_in n.list) (gap n) k) ])
-      by None = first_alike
-      by (Some end) = refl
+      by : (o : Option Moment) → k.end ≡ o → clip_by m o ≡ clip_by n o
+      by (Some end) is = refl
+      by None is = first_alike (λ c at class e. stays c at class (clip_is m x one ∙ ap (clip_by m) is ∙ ap (option_map (λ (z : TokenRow Moment). z.spot)) e))
 
-  pub clip_stays : (x : Moment) → token_of m.list x ≡ Some k → token_of n.list x ≡ Some k → clip m x ≡ clip n x
-  clip_stays x one two = ap (option_and_then (clip_of m)) one ∙ clip_alike k.end refl ∙ sym (ap (option_and_then (clip_of n)) two)
+-- a token of the list before that is believed after an edit is one of the list after
+token_there : (old : Standing) (edit : Edit) → IsSound old → IsSound (next_list old edit) → (c : TokenRow Moment) → In c (believed_tokens (built old))
+    → Contains (built (next_list old edit)).believed c.spot → In c (believed_tokens (built (next_list old edit)))
+token_there old edit sound_old sound_new c at believed =
+    let (y, on, made) = In-filter_map (token_of old) (built old).believed c at in
+    let spot : c.spot ≡ y = spot-token_of old y c made in
+    let before = believed_occurs old sound_old c.spot (subst (Contains (built old).believed) (sym spot) (Contains-from_In (built old).believed y on)) in
+    let now = believed_occurs (next_list old edit) sound_new c.spot believed in
+    filter_map-In (token_of (next_list old edit)) (built (next_list old edit)).believed c.spot c (In-from_Contains (built (next_list old edit)).believed c.spot believed)
+    (sym (tokens_stay old edit sound_old sound_new c.spot before now) ∙ ap (token_of old) spot ∙ made)
 
-pub clips_stay : (old : Standing) (edit : Edit) → IsSound old → IsSound (next_list old edit)
-    → (x : Moment) (k : TokenRow Moment) → token_of old x ≡ Some k → token_of (next_list old edit) x ≡ Some k
-    → In k (believed_tokens (built old)) → SameClass (built old) (built (next_list old edit)) k.class
-    → clip (built old) x ≡ clip (built (next_list old edit)) x
-clips_stay old edit sound_old sound_new x k one two there same = clip_stays (built old) (built (next_list old edit)) (all_spelt old sound_old) k there same x one two
+pub clips_stay_on : ClipsStayOn
+clips_stay_on old edit sound_old sound_new x k one two there fewer stays =
+    clip_stays (built old) (built (next_list old edit)) (all_spelt old sound_old) k there fewer x one two
+    (λ c at class is. token_there old edit sound_old sound_new c at (stays c.spot is))
+
+pub clips_stay : ClipsStay
+clips_stay old edit sound_old sound_new x k one two there same =
+    clip_stays (built old) (built (next_list old edit)) (all_spelt old sound_old) k (same.into k refl there)
+    (record {
+      back = same.back;
+      gaps = λ c d class_c class_d at_c at_d. same.gaps c d class_c class_d (same.back c class_c at_c) (same.back d class_d at_d);
+      dates = λ c class at. ap negated (same.dates c class (same.back c class at));
+    })
+    x one two (λ c at class is. same.into c class at)

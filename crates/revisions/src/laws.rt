@@ -3,7 +3,7 @@ ghost use Rattle.revisions.specs.Laws.{NodesAreFinal, EndIsBelieved, MadeAreTouc
 ghost use Rattle.revisions.specs.Maps.{EditsAreLawful};
 ghost use Rattle.revisions.specs.Standing.{StandingOccur};
 ghost use Rattle.revisions.specs.Alike.{AlikeBelieve, SameReadSayAlike, UnreadEditsSayAlike};
-ghost use Rattle.revisions.specs.Clips.{ClipsStay};
+ghost use Rattle.revisions.specs.Clips.{ClipsStay, ClipsStayOn};
 ghost use Rattle.revisions.specs.StillEdits.{UnmovedAreAlike, LikeListsSee};
 ghost use Rattle.revisions.specs.Whole.{RevisionsAreRight};
 ghost use Rattle.revisions.specs.Marks.{MarksMake};
@@ -72,6 +72,11 @@ pub fn revisions_are_right()
 /// A token keeps its clip where the tokens of its class are the same, as far apart.
 pub fn clips_stay()
     ensures { ClipsStay }
+{}
+
+/// A token keeps its clip where no token of its class entered, none that stays moved, and what clipped it stays.
+pub fn clips_stay_on()
+    ensures { ClipsStayOn }
 {}
 
 /// What occurred still occurs exactly where its root and its rules stand.
