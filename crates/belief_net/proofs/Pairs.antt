@@ -6,7 +6,7 @@ use Rattle.std.proofs.lemmas.List.{get_or-set_same, get_or-set_other, get_or_def
 use Rattle.std.specs.Prelude.{IsSome, slice_index_or}
 use Rattle.std.specs.Option.{option_map_or}
 use Rattle.std.specs.Cmp.{both_ways}
-use Rattle.std.specs.List.{Contains}
+use Rattle.std.specs.List.{All, Contains}
 use Rattle.tmm_model.specs.declared.bound.Bound.{Bound}
 use Rattle.tmm_model.specs.declared.bound.Bound.TheVariants.{Finite, Free}
 use Rattle.tmm_model.specs.declared.point.PointName.{PointName}
@@ -16,7 +16,7 @@ use Rattle.list_net.specs.Represents.{Names}
 use Rattle.spots.specs.Spots.{net_far}
 use Rattle.list_theory.proofs.Elements.{both}
 use Rattle.belief_net.specs.MovedPairs.{is_of_premise, is_kept, WereThere, is_moved, PutsPairs, AreMoved}
-use Rattle.belief_net.specs.PointSets.{is_in, has_pair}
+use Rattle.belief_net.specs.PointSets.{is_in, has_pair, HaveOneOf}
 
 module _ (nets : Nets) (added : Option (List ℕ)) where
   pub pairs_none : (P : ℕ → ℕ → Type 0) (s : List Bool) → ((a b : ℕ) → a < 256 → b < 256 → P a b → is_moved nets added a b ≡ true → ⊥) → PutsPairs nets added P s s
@@ -219,3 +219,6 @@ module _ (nets : Nets) (added : Option (List ℕ)) (were : WereThere nets added)
         (λ is. puts.all a b la lb (all_listed a b is) is);
     places = puts.places ∙ places;
   }
+
+  pub have_listed : (pairs : List Bool) → All (λ p. p < 256) nets.moved → AreMoved nets added pairs → HaveOneOf nets.moved pairs
+  have_listed pairs below are = record { below = below; each = λ a b la lb is. one_listed a b (sym (are.each a b la lb) ∙ is) }

@@ -1,8 +1,10 @@
 -- Sets of points into which numbers are put.
-use Rattle.std.proofs.Common.{◌≡◌, ◌∙◌, ℕ, Bool, true, false, ◌+◌, ◌<◌, ◌≤◌, List, length, set, replicate, refl, sym, ap, subst, inl, inr, ◌⊎◌, arith}
+use Rattle.std.proofs.Common.{◌≡◌, ◌∙◌, ℕ, Bool, true, false, ◌+◌, ◌<◌, ◌≤◌, List, length, get_or, set, replicate, refl, sym, ap, subst, inl, inr, ◌⊎◌, arith}
 use Rattle.std.proofs.lemmas.Bool.{cases_order}
 use Rattle.std.proofs.lemmas.Bool.Decides.{eqb_tells}
-use Rattle.std.proofs.lemmas.List.{get_or-set_same, get_or-set_other, get_or-replicate, get_or_past, length-set, length-replicate}
+use Rattle.std.proofs.lemmas.List.{get_or-set_same, get_or-set_other, get_or-replicate, get_or_default, get_or_past, length-set, length-replicate}
+use Rattle.std.specs.Prelude.{◌↔◌}
+use Rattle.std.specs.List.{All, Contains}
 use Rattle.belief_net.specs.PointSets.{is_in, PutsIn, AreThose}
 
 pub puts_none : (P : ℕ → Type 0) (s : List Bool) → ((p : ℕ) → P p → ⊥) → PutsIn P s s
@@ -60,6 +62,26 @@ puts_more G n old mid new = puts_both (λ p. (q : ℕ) × (q < n) × (G q p)) (G
     ])
     (λ p (q, less, g). (q, omega (arith, less), g))
     (λ p g. (n, omega arith, g))
+
+-- one number where something holds of it, and then others
+pub puts_one_and : (L G : ℕ → Type 0) (m : ℕ) (v : Bool) (old mid new : List Bool) → (v ≡ true) ↔ L m → PutsIn (λ k. (k ≡ m) × (v ≡ true)) old mid → PutsIn G mid new
+    → PutsIn (λ p. ((p ≡ m) × L p) ⊎ G p) old new
+puts_one_and L G m v old mid new told = puts_both (λ k. (k ≡ m) × (v ≡ true)) G (λ p. ((p ≡ m) × L p) ⊎ G p) old mid new
+    (λ p h. elim h [ inl here ↦ inl (here.0, told.1 (subst L here.0 here.1)) | inr g ↦ inr g ])
+    (λ p here. inl (here.0, subst L (sym here.0) (told.0 here.1)))
+    (λ p g. inr g)
+
+-- what is put in for all numbers that are listed is all, where it holds of none but for one that is listed
+pub puts_listed : (L : ℕ → Type 0) (G : ℕ → ℕ → Type 0) (listed : List ℕ) (n : ℕ) (old new : List Bool) → n ≡ length listed → All (λ m. m < 256) listed
+    → ((m p : ℕ) → m < 256 → G m p → L p) → ((p : ℕ) → L p → Contains listed p ⊎ ((q : ℕ) × Contains listed q × G q p))
+    → PutsIn (λ p. (k : ℕ) × (k < n) × (((p ≡ get_or listed k 0) × L p) ⊎ G (get_or listed k 0) p)) old new → PutsIn L old new
+puts_listed L G listed n old new whole below to by_one =
+    puts_alike (λ p. (k : ℕ) × (k < n) × (((p ≡ get_or listed k 0) × L p) ⊎ G (get_or listed k 0) p)) L old new
+    (λ p (k, less, h). elim h [ inl here ↦ here.1 | inr g ↦ to (get_or listed k 0) p (below k 0 (subst (λ z. k < z) whole less)) g ])
+    (λ p l. elim (by_one p l) [
+      | inl (k, less, at) ↦ (k, subst (λ z. k < z) (sym whole) less, inl (sym (get_or_default listed k 0 p less ∙ at), l))
+      | inr (q, listed_at, g) ↦ (listed_at.0, subst (λ z. listed_at.0 < z) (sym whole) listed_at.1, inr (subst (λ m. G m p) (sym (get_or_default listed listed_at.0 0 q listed_at.1 ∙ listed_at.2)) g))
+    ])
 
 -- into a set of none
 pub puts_into_none : (P : ℕ → Type 0) (old new : List Bool) → ((p : ℕ) → is_in old p ≡ false) → length old ≡ 256 → PutsIn P old new → AreThose P new

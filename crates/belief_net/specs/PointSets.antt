@@ -1,5 +1,6 @@
 -- Sets of points, by their numbers below 256.
 use Rattle.std.specs.Prelude.{◌≡◌, ◌⊎◌, ℕ, ◌<◌, ◌+◌, ◌*◌, Bool, true, false, List, length, slice_index_or}
+use Rattle.std.specs.List.{All, Contains}
 
 -- whether a number is in the set
 abbrev pub is_in : List Bool → ℕ → Bool
@@ -25,3 +26,8 @@ Meet a b = (p : ℕ) × (p < 256) × (is_in a p ≡ true) × (is_in b p ≡ true
 -- a set of pairs: whether the pair of two numbers below 256 is in it
 abbrev pub has_pair : List Bool → ℕ → ℕ → Bool
 has_pair pairs a b = is_in pairs (a * 256 + b)
+
+-- each pair has one of these points, all of which have a number below 256
+pub record HaveOneOf (points : List ℕ) (pairs : List Bool) : Type 0 where
+  pub below : All (λ p. p < 256) points
+  pub each : (a b : ℕ) → a < 256 → b < 256 → has_pair pairs a b ≡ true → Contains points a ⊎ Contains points b

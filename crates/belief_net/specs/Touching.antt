@@ -30,6 +30,14 @@ LeadsInto pairs set p = (q : ℕ) × (q < 256) × (LeadsTo pairs set q p)
 abbrev pub IsLedToFrom : List Bool → List Bool → ℕ → Type 0
 IsLedToFrom pairs set p = (q : ℕ) × (q < 256) × (LeadsFrom pairs set q p)
 
+-- from p a pair leads to a point of the set, and m is one of the two
+abbrev pub LeadsIntoBy : List Bool → List Bool → ℕ → ℕ → Type 0
+LeadsIntoBy pairs set m p = ((p ≡ m) × LeadsInto pairs set p) ⊎ LeadsTo pairs set m p
+
+-- to p a pair leads from a point of the set, and m is one of the two
+abbrev pub IsLedToFromBy : List Bool → List Bool → ℕ → ℕ → Type 0
+IsLedToFromBy pairs set m p = ((p ≡ m) × IsLedToFrom pairs set p) ⊎ LeadsFrom pairs set m p
+
 -- there is a pair between points of the rule itself: then all events are touched
 abbrev pub TouchAll : List Bool → Reach → Type 0
 TouchAll pairs reach = (p : ℕ) × (is_in reach.all.items p ≡ true) × (LeadsInto pairs reach.bounded.items p)

@@ -1,20 +1,22 @@
 // Which distances are others now than at the last commit.
 ghost use Rattle.std.specs.Prelude.{◌≡◌, ◌⊎◌, ◌<◌, length, IfOk};
 ghost use Rattle.belief_net.specs.MovedPairs.{is_of_premise, is_kept, WereThere, is_moved, PutsPairs, AreMoved};
+ghost use Rattle.belief_net.specs.PointSets.{HaveOneOf};
 
 use dist_net::{DistNet, POINTS};
 use std::alloc::Global;
 use tmm_model::{Name, NoMemory, PointName};
 
 // The pairs of points, by their numbers, of which the distance is another one now. Points of the premise
-// that is added were not there.
+// that is added were not there. Each of them has one of the points that the net lists as moved.
 pub(crate) fn moved_pairs(
     alloc: Global,
     net: &DistNet,
     added: Option<Name>,
 ) -> Result<Vec<bool>, NoMemory>
     requires { WereThere net.now added }
-    ensures { IfOk result (λ pairs. AreMoved net.now added pairs.items) }
+    ensures moved { IfOk result (λ pairs. AreMoved net.now added pairs.items) }
+    ensures listed { IfOk result (λ pairs. HaveOneOf net.now.moved pairs.items) }
 {
     let mut pairs = vec![in alloc; false; POINTS * POINTS]?;
     let moved = net.moved();

@@ -1,14 +1,14 @@
 // Rows that wait since points moved on whose distances they depend.
-ghost use Rattle.std.specs.Prelude.{◌≡◌, ◌<◌, true, length, IfOk, OnOk};
+ghost use Rattle.std.specs.Prelude.{◌≡◌, ◌<◌, ◌↔◌, true, length, IsTrue, IfOk, OnOk};
 ghost use Rattle.spots.specs.Seen.{IsSeen};
 ghost use Rattle.occ_tree.specs.Places.{forest};
 ghost use Rattle.occ_tree.specs.Standing.{present};
 ghost use Rattle.belief_net.specs.Decided.{table_of, AreUnder};
 ghost use Rattle.belief_net.specs.Marks.{HaveEvents, Marks};
 ghost use Rattle.belief_net.specs.MovedPairs.{WereThere};
-ghost use Rattle.belief_net.specs.PointSets.{PutsIn};
+ghost use Rattle.belief_net.specs.PointSets.{PutsIn, HaveOneOf};
 ghost use Rattle.belief_net.specs.Reach.{HasPlaces};
-ghost use Rattle.belief_net.specs.Touching.{LeadsTo, LeadsFrom, LeadsInto, IsLedToFrom, IsTouchedAt, IsRowMoved};
+ghost use Rattle.belief_net.specs.Touching.{LeadsTo, LeadsFrom, LeadsInto, IsLedToFrom, LeadsIntoBy, IsLedToFromBy, IsTouchedAt, IsRowMoved};
 ghost use Rattle.belief_net.specs.Waiting.{dates_in};
 
 use crate::by_event::{Events, mark_rule};
@@ -42,30 +42,42 @@ pub(crate) fn mark_moved(
     // they tell the proof that numbers are below 256, and that rows are on their lists
     let _ = net.edges();
     let _ = decisions.rows.first(1, 0);
-    if net.moved().is_empty() {
+    let moved = net.moved();
+    if moved.is_empty() {
         return Ok(());
     }
     let pairs = moved_pairs(alloc, net, added)?;
     for rule in 0..decisions.rules.len() {
+        // of a rule that was erased the number is kept, and no row: nothing is asked then
+        let Some(_) = decisions.rows.first(1, rule) else {
+            continue;
+        };
         let reach = reach_of(alloc, standing, tree, decisions.rules.name(rule))?;
-        let events = touched_by(alloc, &pairs, &reach)?;
+        let events = touched_by(alloc, &pairs, moved, &reach)?;
         mark_rule(tree, &decisions.rows, &mut decisions.waiting, rule, &events)?;
     }
     Ok(())
 }
 
-// The events at which a rule that reads these points depends on one of the pairs.
-fn touched_by(alloc: Global, pairs: &[bool], reach: &Reach) -> Result<Events, NoMemory>
+// The events at which a rule that reads these points depends on one of the pairs. Each pair has one of the
+// points that moved.
+fn touched_by(
+    alloc: Global,
+    pairs: &[bool],
+    moved: &[u16],
+    reach: &Reach,
+) -> Result<Events, NoMemory>
     requires pairs { length pairs.now ≡ 65536 }
+    requires moved { HaveOneOf moved.now pairs.now }
     requires places { HasPlaces reach.now }
     ensures { IfOk result (IsTouchedAt pairs.now reach.now) }
 {
     let mut all = vec![in alloc; false; POINTS]?;
-    put_before(pairs, &reach.bounded, &mut all);
+    put_before(pairs, moved, &reach.bounded, &mut all);
     let within = meet(&reach.all, &all);
     put_every(&mut all, within);
     let mut bounded = vec![in alloc; false; POINTS]?;
-    put_behind(pairs, &reach.all, &mut bounded);
+    put_behind(pairs, moved, &reach.all, &mut bounded);
     Ok(Events::BeginAt { all, bounded })
 }
 
@@ -79,16 +91,45 @@ fn put_every(into: &mut Vec<bool>, is: bool)
     }
 }
 
-// Puts those points in from which a pair leads to one of the set.
-fn put_before(pairs: &[bool], set: &[bool], into: &mut Vec<bool>)
+// Puts those points in from which a pair leads to one of the set. As each pair has one of the points that
+// moved, only their pairs are looked at.
+fn put_before(pairs: &[bool], moved: &[u16], set: &[bool], into: &mut Vec<bool>)
     requires pairs { length pairs.now ≡ 65536 }
+    requires moved { HaveOneOf moved.now pairs.now }
     requires set { length set.now ≡ 256 }
     requires places { length into.old.items ≡ 256 }
     ensures { PutsIn (LeadsInto pairs.now set.now) into.old.items into.new.items }
 {
-    for q in 0..POINTS {
-        put_before_one(pairs, set, q, into);
+    for p in moved {
+        put_before_by(pairs, set, *p as usize, into);
     }
+}
+
+// Puts those points in from which a pair leads to one of the set, where `m` is one of the two.
+fn put_before_by(pairs: &[bool], set: &[bool], m: usize, into: &mut Vec<bool>)
+    requires pairs { length pairs.now ≡ 65536 }
+    requires set { length set.now ≡ 256 }
+    requires point { m < 256 }
+    requires places { length into.old.items ≡ 256 }
+    ensures { PutsIn (LeadsIntoBy pairs.now set.now m) into.old.items into.new.items }
+{
+    put_if(into, m, leads_into(pairs, set, m));
+    put_before_one(pairs, set, m, into);
+}
+
+// Whether from `p` a pair leads to one of the set.
+fn leads_into(pairs: &[bool], set: &[bool], p: usize) -> bool
+    requires pairs { length pairs.now ≡ 65536 }
+    requires set { length set.now ≡ 256 }
+    requires point { p < 256 }
+    ensures { IsTrue result ↔ LeadsInto pairs.now set.now p }
+{
+    for q in 0..POINTS {
+        if set[q] && pairs[p * POINTS + q] {
+            return true;
+        }
+    }
+    false
 }
 
 // Puts those points in from which a pair leads to `q`, if that is in the set.
@@ -107,16 +148,45 @@ fn put_before_one(pairs: &[bool], set: &[bool], q: usize, into: &mut Vec<bool>)
     }
 }
 
-// Puts those points in to which a pair leads from one of the set.
-fn put_behind(pairs: &[bool], set: &[bool], into: &mut Vec<bool>)
+// Puts those points in to which a pair leads from one of the set. As each pair has one of the points that
+// moved, only their pairs are looked at.
+fn put_behind(pairs: &[bool], moved: &[u16], set: &[bool], into: &mut Vec<bool>)
     requires pairs { length pairs.now ≡ 65536 }
+    requires moved { HaveOneOf moved.now pairs.now }
     requires set { length set.now ≡ 256 }
     requires places { length into.old.items ≡ 256 }
     ensures { PutsIn (IsLedToFrom pairs.now set.now) into.old.items into.new.items }
 {
-    for q in 0..POINTS {
-        put_behind_one(pairs, set, q, into);
+    for p in moved {
+        put_behind_by(pairs, set, *p as usize, into);
     }
+}
+
+// Puts those points in to which a pair leads from one of the set, where `m` is one of the two.
+fn put_behind_by(pairs: &[bool], set: &[bool], m: usize, into: &mut Vec<bool>)
+    requires pairs { length pairs.now ≡ 65536 }
+    requires set { length set.now ≡ 256 }
+    requires point { m < 256 }
+    requires places { length into.old.items ≡ 256 }
+    ensures { PutsIn (IsLedToFromBy pairs.now set.now m) into.old.items into.new.items }
+{
+    put_if(into, m, is_led_to_from(pairs, set, m));
+    put_behind_one(pairs, set, m, into);
+}
+
+// Whether to `p` a pair leads from one of the set.
+fn is_led_to_from(pairs: &[bool], set: &[bool], p: usize) -> bool
+    requires pairs { length pairs.now ≡ 65536 }
+    requires set { length set.now ≡ 256 }
+    requires point { p < 256 }
+    ensures { IsTrue result ↔ IsLedToFrom pairs.now set.now p }
+{
+    for q in 0..POINTS {
+        if set[q] && pairs[q * POINTS + p] {
+            return true;
+        }
+    }
+    false
 }
 
 // Puts those points in to which a pair leads from `q`, if that is in the set.

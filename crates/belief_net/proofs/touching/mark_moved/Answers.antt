@@ -1,4 +1,5 @@
-use Rattle.std.proofs.Common.{◌≡◌, ◌∙◌, ℕ, List, Bool, length, sym, ap, subst, arith, eqb-true}
+use Rattle.std.proofs.Common.{◌≡◌, ◌∙◌, ℕ, List, Bool, None, length, sym, ap, subst, arith, eqb-true}
+use Rattle.row_links.specs.Lists.{first_or}
 use Rattle.undo_rows.specs.declared.row.Row.{Row as TableRow}
 use Rattle.undo_rows.specs.Changes.{present as table}
 use Rattle.decision_rows.specs.declared.row.Pair.{Pair}
@@ -14,7 +15,7 @@ use Rattle.belief_net.specs.Numbers.{name_in}
 use Rattle.belief_net.specs.Touching.{IsTouchedAt, IsRowMoved}
 use Rattle.belief_net.specs.Waiting.{dates_in}
 use Rattle.belief_net.proofs.Marked.{marks_none}
-use Rattle.belief_net.proofs.OfRules.{rules_next, rules_all}
+use Rattle.belief_net.proofs.OfRules.{rules_next, rules_skip, rules_all}
 use Rattle.belief_net.proofs.Pairs.{none_listed}
 use Rattle.belief_net.proofs.Reached.{numbers_below}
 use Rattle.belief_net.proofs.Touched.{touched_moves}
@@ -40,7 +41,7 @@ loop-rule-preserved c =
     let at : IsTouchedAt pairs reach events = subst (λ (l : List Bool). IsTouchedAt l reach events) c.deref.ensures.value c.in_ok-events.ensures in
     let named : (row : TableRow Pair 6) → row.value.rule ≡ n → rule ≡ rule_in d row =
     λ row is. c.name.ensures ∙ ap (λ (z : Decisions). name_in z.rules n) c.loop-rule.invariant.others ∙ ap (name_in d.rules) (sym is) in
-    let moves = λ (x : ℕ). touched_moves nets added list s rule pairs reach c.in_ok-pairs.ensures c.in_ok-reach.ensures.all c.in_ok-reach.ensures.bounded below x events at in
+    let moves = λ (x : ℕ). touched_moves nets added list s rule pairs reach c.in_ok-pairs.ensures.moved c.in_ok-reach.ensures.all c.in_ok-reach.ensures.bounded below x events at in
     let rows_same = ap (λ (z : Decisions). z.rows) c.loop-rule.invariant.others in
     record {
       marks = rules_next list d c.requires.under c.first.ensures.listed s (IsRowMoved nets added list f d) n events (dates_in d.waiting) (dates_in c.loop-rule.decisions.waiting) (dates_in c.mark_rule.new.waiting)
@@ -51,6 +52,18 @@ loop-rule-preserved c =
           c.loop-rule.invariant.marks
           (subst (λ r. Marks s (table r) (IsOfRuleAt (table r) n events s) (dates_in c.loop-rule.decisions.waiting) (dates_in c.mark_rule.new.waiting)) rows_same c.in_ok-mark_rule.ensures);
       others = ap (λ (z : Decisions). record z { waiting = c.mark_rule.new.waiting }) c.loop-rule.invariant.others;
+    }
+
+pub loop-rule-preserved-in_default : goal.loop-rule-preserved-in_default
+loop-rule-preserved-in_default c =
+    let list = c.args.standing.now.present in
+    let d = c.args.decisions.now in
+    let n = c.loop-rule.rule in
+    let rows_same = ap (λ (z : Decisions). z.rows) c.loop-rule.invariant.others in
+    let none : first_or None ((table_of d).list 1 n) ≡ None = subst (λ r. first_or None ((table r).list 1 n) ≡ None) rows_same (sym c.first-in-loop-rule.ensures.first ∙ c.in_default.is) in
+    record {
+      marks = rules_skip list d c.requires.under c.first.ensures.listed (present c.args.tree.now) (IsRowMoved c.args.net.now c.args.added list (forest c.args.tree.now) d) n (dates_in d.waiting) (dates_in c.loop-rule.decisions.waiting) none c.loop-rule.invariant.marks;
+      others = c.loop-rule.invariant.others;
     }
 
 pub returns-clause-ok : goal.returns-clause-ok
@@ -64,6 +77,6 @@ returns-clause-ok c =
 pub returns-then-is_empty-clause-ok : goal.returns-then-is_empty-clause-ok
 returns-then-is_empty-clause-ok c =
     let d = c.args.decisions.now in
-    let none : length c.args.net.now.moved ≡ 0 = ap length (sym c.moved.ensures.list) ∙ eqb-true (length c.moved.result.now) 0 (sym c.is_empty.ensures ∙ c.if-is_empty.true) in
+    let none : length c.args.net.now.moved ≡ 0 = ap length (sym c.moved-moved.ensures.list) ∙ eqb-true (length c.moved-moved.result.now) 0 (sym c.is_empty.ensures ∙ c.if-is_empty.true) in
     marks_none (present c.args.tree.now) (table_of d) (λ i row. IsRowMoved c.args.net.now c.args.added c.args.standing.now.present (forest c.args.tree.now) d row) (dates_in d.waiting)
-    (λ i row m. none_listed c.args.net.now c.args.added c.requires.there c.moved.ensures.moved none _ _ m.moved)
+    (λ i row m. none_listed c.args.net.now c.args.added c.requires.there c.moved-moved.ensures.moved none _ _ m.moved)

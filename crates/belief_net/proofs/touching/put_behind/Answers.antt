@@ -1,17 +1,22 @@
-use Rattle.std.proofs.Common.{◌≡◌, ℕ, ◌<◌, subst, arith}
-use Rattle.belief_net.specs.PointSets.{PutsIn}
-use Rattle.belief_net.specs.Touching.{LeadsFrom}
-use Rattle.belief_net.proofs.Sets.{puts_none, puts_more}
+use Rattle.std.proofs.Common.{◌≡◌, ℕ, ◌<◌, length, get_or, inl, inr, arith}
+use Rattle.belief_net.specs.Touching.{LeadsFrom, IsLedToFrom, IsLedToFromBy}
+use Rattle.belief_net.proofs.Sets.{puts_none, puts_more, puts_listed}
 use Rattle.belief_net.proofs.touching.put_behind.Goals as goal
 
-pub loop-q-init : goal.loop-q-init
-loop-q-init c = puts_none (λ p. (q : ℕ) × (q < 0) × (LeadsFrom c.args.pairs.now c.args.set.now q p)) c.args.into.now.items (λ p (q, less, leads). omega (arith, less))
+pub loop-p-init : goal.loop-p-init
+loop-p-init c = puts_none (λ p. (k : ℕ) × (k < 0) × (IsLedToFromBy c.args.pairs.now c.args.set.now (get_or c.args.moved.now k 0) p)) c.args.into.now.items (λ p (k, less, leads). omega (arith, less))
 
-pub loop-q-preserved : goal.loop-q-preserved
-loop-q-preserved c =
-    puts_more (LeadsFrom c.args.pairs.now c.args.set.now) c.loop-q.q c.args.into.now.items c.loop-q.into.items c.put_behind_one.new.into.items c.loop-q.invariant c.put_behind_one.ensures
+pub put_behind_by-requires-clause-point : goal.put_behind_by-requires-clause-point
+put_behind_by-requires-clause-point c = c.requires.moved.below c.loop-p.p-index 0 c.loop-p-test.true
+
+pub loop-p-preserved : goal.loop-p-preserved
+loop-p-preserved c =
+    puts_more (λ k. IsLedToFromBy c.args.pairs.now c.args.set.now (get_or c.args.moved.now k 0)) c.loop-p.p-index c.args.into.now.items c.loop-p.into.items c.put_behind_by.new.into.items c.loop-p.invariant c.put_behind_by.ensures
 
 pub returns : goal.returns
 returns c =
-    let whole : c.loop-q.q ≡ 256 = omega arith in
-    subst (λ n. PutsIn (λ p. (q : ℕ) × (q < n) × (LeadsFrom c.args.pairs.now c.args.set.now q p)) c.args.into.now.items c.loop-q.into.items) whole c.loop-q.invariant
+    let whole : c.loop-p.p-index ≡ length c.args.moved.now = omega arith in
+    puts_listed (IsLedToFrom c.args.pairs.now c.args.set.now) (LeadsFrom c.args.pairs.now c.args.set.now) c.args.moved.now c.loop-p.p-index c.args.into.now.items c.loop-p.into.items whole c.requires.moved.below
+    (λ m p lm leads. (m, lm, leads))
+    (λ p (q, lq, (lp, there, pair)). elim (c.requires.moved.each q p lq lp pair) [ inl other ↦ inr (q, other, (lp, there, pair)) | inr own ↦ inl own ])
+    c.loop-p.invariant
