@@ -46,6 +46,10 @@ pub(crate) fn mark_moved(
     if moved.is_empty() {
         return Ok(());
     }
+    // where no rule ever had a row there is none
+    if decisions.rules.len() == 0 {
+        return Ok(());
+    }
     let pairs = moved_pairs(alloc, net, added)?;
     for rule in 0..decisions.rules.len() {
         // of a rule that was erased the number is kept, and no row: nothing is asked then
