@@ -1,5 +1,5 @@
 //! The believed occurrences in order, each with its earliest date and its clip, and what changed
-//! between two such lists. It stands on `supports`.
+//! between two such lists. It stands on `supports` and `joined`.
 //!
 //! `listed` answers the rows of the map of a standing list; `compare` answers what of belief changed
 //! from one list of rows to another, as it is defined for their maps, and `compare_kept` the same from the
@@ -9,6 +9,7 @@
 
 mod changes;
 mod kept_changes;
+mod kept_clips;
 mod list;
 mod matched;
 mod places;
@@ -17,4 +18,5 @@ mod tests;
 
 pub use changes::{BeliefChanges, compare};
 pub use kept_changes::{LeftNode, compare_kept};
+pub use kept_clips::clips_after;
 pub use list::{BeliefRow, list_rows, listed};
