@@ -5,3 +5,5 @@ pub mod Matches
 pub mod Kept
 pub mod Ordered
 pub mod Empty
+pub mod TwoLists
+pub mod KeptRows

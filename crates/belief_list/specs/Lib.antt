@@ -3,3 +3,4 @@ pub mod Compared
 pub mod Tables
 pub mod Matches
 pub mod Kept
+pub mod Merging

@@ -11,6 +11,7 @@ mod changes;
 mod kept_changes;
 mod list;
 mod matched;
+mod merging;
 mod places;
 #[cfg(test)]
 mod tests;
@@ -18,3 +19,4 @@ mod tests;
 pub use changes::{BeliefChanges, compare};
 pub use kept_changes::{LeftNode, compare_kept};
 pub use list::{BeliefRow, list_rows, listed};
+pub use merging::ranked_after;
