@@ -3,7 +3,7 @@ use Rattle.std.proofs.Common.{◌≡◌, ◌≢◌, ℕ, zero, suc, ◌+◌, ◌
 use Rattle.std.specs.Prelude.{◌⊎◌, ◌&&◌, not, cond, filter, Option, Some, None}
 use Rattle.std.specs.Option.{is_some}
 use Rattle.std.specs.List.{All, Contains, AllByRecursion, IsDistinct, filter_map, cons_option}
-use Rattle.std.specs.List.Sorted.{IsStrictlySortedBy}
+use Rattle.std.specs.List.Sorted.{IsPermutation, IsStrictlySortedBy}
 use Rattle.std.specs.declared.cmp.Ordering.{Ordering}
 use Rattle.std.specs.declared.cmp.Ordering.TheVariants.{Less, Equal, Greater}
 use Rattle.std.specs.Ordering.{int_cmp, int_eq, nat_cmp, is_lt, ordering_then, ordering_reverse}
@@ -14,6 +14,7 @@ use Rattle.std.proofs.lemmas.Bool.Decides.{Decides-eqb, Decides-int_eq}
 use Rattle.std.proofs.lemmas.Cmp.{then_total, on_total, int_cmp_total}
 use Rattle.std.proofs.lemmas.List.{get_or-replicate, get_or-set_same, get_or-set_other, get_or-map, length-map, length-drop, drop_all, append-nil, append_assoc, map_push}
 use Rattle.std.proofs.lemmas.List.Elements.{All-contains, All-nil, All-cons, All-head, All-tail, Contains-get_or}
+use Rattle.std.proofs.lemmas.List.Sorted.{Contains-permutation, IsPermutation-sym}
 use Rattle.tmm_model.specs.Moments.{printed}
 use Rattle.list_theory.proofs.Distinct.{Rising}
 use Rattle.list_theory.proofs.Elements.{In, In-map, map-In, In-filter, filter-In, In-filter_map, In-left, In-right, In-cases, In-from_Contains, Contains-from_In, each_in, both}
@@ -158,6 +159,22 @@ module _ (cmp : ℕ → ℕ → Ordering) where
 
 pub cmp_total : (net : Net) (f : Forest) → IsTotalOrder (node_cmp net f)
 cmp_total net f = then_total (on_total (node_early net f) int_cmp_total) (on_total (λ x. printed (moment_at f x)) nat_list_cmp_total)
+
+-- a node of either list is one of the list that has the ranked nodes of both
+pub of_both : (ps qs all : List Ranked) → IsPermutation (ps ++ qs) all → (x : ℕ) → Contains (nodes_of ps) x ⊎ Contains (nodes_of qs) x → Contains (nodes_of all) x
+of_both ps qs all same x there = elim there [
+  | inl left ↦ let (p, at, is) = In-map (λ (r : Ranked). r.node) ps x (In-from_Contains (nodes_of ps) x left) in from p is (In-left ps qs p at)
+  | inr right ↦ let (p, at, is) = In-map (λ (r : Ranked). r.node) qs x (In-from_Contains (nodes_of qs) x right) in from p is (In-right ps qs p at)
+]
+  where
+    from : (p : Ranked) → p.node ≡ x → In p (ps ++ qs) → Contains (nodes_of all) x
+    from p is at =
+        let there = In-from_Contains all p (Contains-permutation (ps ++ qs) all p same (Contains-from_In (ps ++ qs) p at)) in
+        subst (Contains (nodes_of all)) is (Contains-from_In (nodes_of all) p.node (map-In (λ (r : Ranked). r.node) all p there))
+
+-- where no node of the one list is on the other, none is in its order
+pub apart_ranked : (ps qs : List Ranked) (rest : List ℕ) → IsPermutation rest (nodes_of qs) → AreApart (nodes_of ps) rest → AreApart (nodes_of ps) (nodes_of qs)
+apart_ranked ps qs rest same apart x left right = apart x left (Contains-permutation (nodes_of qs) rest x (IsPermutation-sym rest (nodes_of qs) same) right)
 
 -- ---- one step of merging
 
