@@ -47,7 +47,7 @@ fn kept_nodes(
     requires { IsTreeIn order.now.net.now.present order.now.tree.now }
     ensures { IfOk result (λ kept. kept.items ≡ filter_map (kept_row order.now.net.now.present (forest order.now.tree.now)) old.now) }
 {
-    let mut kept = Vec::new(alloc);
+    let mut kept = Vec::with_capacity(alloc, old.len())?;
     for row in old {
         if let Some(ranked) = kept_node(order, row) {
             push(&mut kept, ranked)?;
