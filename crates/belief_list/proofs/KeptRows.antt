@@ -1,18 +1,18 @@
 -- Nodes that keep their order, and the others.
-use Rattle.std.proofs.Common.{◌≡◌, ◌≢◌, ℕ, zero, suc, ◌+◌, ◌-◌, ◌<◌, ◌≤◌, Bool, true, false, List, [], ◌∷◌, ◌++◌, map, length, drop, set, replicate, slice_index_or, refl, sym, ◌∙◌, ap, subst, inl, inr, arith, nat_eq}
+use Rattle.std.proofs.Common.{◌≡◌, ℕ, zero, suc, ◌+◌, ◌-◌, ◌<◌, ◌≤◌, Bool, true, false, List, [], ◌∷◌, ◌++◌, length, drop, set, replicate, slice_index_or, refl, sym, ◌∙◌, ap, subst, inl, inr, arith, nat_eq}
 use Rattle.std.specs.Prelude.{◌⊎◌, ◌&&◌, not, cond, filter, Option, Some, None}
 use Rattle.std.specs.Option.{is_some}
 use Rattle.std.specs.List.{All, Contains, AllByRecursion, IsDistinct, filter_map, cons_option}
 use Rattle.std.specs.List.Sorted.{IsPermutation, IsStrictlySortedBy}
 use Rattle.std.specs.declared.cmp.Ordering.{Ordering}
-use Rattle.std.specs.declared.cmp.Ordering.TheVariants.{Less, Equal, Greater}
+use Rattle.std.specs.declared.cmp.Ordering.TheVariants.{Less, Greater}
 use Rattle.std.specs.Ordering.{int_cmp, int_eq, nat_cmp, is_lt, ordering_then, ordering_reverse}
 use Rattle.std.specs.Cmp.{IsTotalOrder}
 use Rattle.std.specs.Cmp.Lexicographic.{slice_cmp, nat_list_cmp_total}
 use Rattle.std.proofs.lemmas.Bool.{cases_eq}
 use Rattle.std.proofs.lemmas.Bool.Decides.{Decides-eqb, Decides-int_eq}
 use Rattle.std.proofs.lemmas.Cmp.{then_total, on_total, int_cmp_total}
-use Rattle.std.proofs.lemmas.List.{get_or-replicate, get_or-set_same, get_or-set_other, get_or-map, length-map, length-drop, drop_all, append-nil, append_assoc, map_push}
+use Rattle.std.proofs.lemmas.List.{get_or-set_same, get_or-set_other, length-drop, drop_all, append-nil, append_assoc}
 use Rattle.std.proofs.lemmas.List.Elements.{All-contains, All-nil, All-cons, All-head, All-tail, Contains-get_or}
 use Rattle.std.proofs.lemmas.List.Sorted.{Contains-permutation, IsPermutation-sym}
 use Rattle.tmm_model.specs.Moments.{printed}
@@ -304,8 +304,8 @@ module _ (net : Net) (f : Forest) where
         by None e rest = rest
         by (Some p) e rest = (
           λ s at. let (q, there, is) = In-filter_map (kept_row net f) rows s at in
-          kept_less r q (All-head (IsLiveRow old) r rows live) (All-contains (IsLiveRow old) rows q (All-tail (IsLiveRow old) r rows live) (Contains-from_In rows q there)) p s e is
-          (each_in (λ y. row_cmp old r y ≡ Less) rows up.0 q there),
+              kept_less r q (All-head (IsLiveRow old) r rows live) (All-contains (IsLiveRow old) rows q (All-tail (IsLiveRow old) r rows live) (Contains-from_In rows q there)) p s e is
+              (each_in (λ y. row_cmp old r y ≡ Less) rows up.0 q there),
           rest,
         )
 

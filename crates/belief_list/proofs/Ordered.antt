@@ -106,8 +106,7 @@ rows_sorted net f (r ∷ rs) (c ∷ cs) ranked up = (each rs cs (All-tail (IsRan
     each [] es own h = tt
     each (q ∷ qs) [] own h = tt
     each (q ∷ qs) (e ∷ es) own h =
-        let second = (All-head (IsRanked net f) q qs own).early in
-        (
+        let second = (All-head (IsRanked net f) q qs own).early in (
           (λ i. ordering_then (int_cmp (first i) (second i)) (slice_cmp nat_cmp (printed (moment_at f r.node)) (printed (moment_at f q.node)))) ∙ h.0,
           each qs es (All-tail (IsRanked net f) q qs own) h.1,
         )

@@ -39,11 +39,7 @@ pub fn ranked_after(
 }
 
 // The nodes of the rows that are still there with their dates.
-fn kept_nodes(
-    alloc: Global,
-    order: &Order<'_>,
-    old: &[BeliefRow],
-) -> Result<Vec<Ranked>, NoMemory>
+fn kept_nodes(alloc: Global, order: &Order<'_>, old: &[BeliefRow]) -> Result<Vec<Ranked>, NoMemory>
     requires { IsTreeIn order.now.net.now.present order.now.tree.now }
     ensures { IfOk result (λ kept. kept.items ≡ filter_map (kept_row order.now.net.now.present (forest order.now.tree.now)) old.now) }
 {

@@ -1,12 +1,9 @@
 use Rattle.std.proofs.Common.{◌≡◌, ℕ, List, Option, map, length, sym, subst, ap, ◌∙◌}
-use Rattle.std.specs.Prelude.{nat_eq}
-use Rattle.std.specs.Option.{option_map}
-use Rattle.std.specs.List.{All, Contains, zip}
+use Rattle.std.specs.List.{zip}
 use Rattle.std.specs.List.Sorted.{IsStrictlySortedBy}
 use Rattle.std.proofs.lemmas.Result.{IfOk-weaker}
-use Rattle.tmm_model.specs.Answers.{rows, clip}
+use Rattle.tmm_model.specs.Answers.{rows}
 use Rattle.tmm_model.specs.Maps.{built}
-use Rattle.spots.specs.Forest.{IsLive, moment_at}
 use Rattle.spots.specs.Spots.{node_cmp}
 use Rattle.occ_tree.specs.Ranks.{nodes_of}
 use Rattle.occ_tree.specs.Places.{forest}

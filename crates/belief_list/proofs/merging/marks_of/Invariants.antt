@@ -1,4 +1,4 @@
-use Rattle.std.proofs.Common.{◌≡◌, ℕ, true, ◌<◌, length, take}
+use Rattle.std.proofs.Common.{◌<◌, length, take}
 use Rattle.std.specs.List.{All}
 use Rattle.occ_tree.specs.Ranks.{nodes_of}
 use Rattle.belief_list.specs.Merging.{AreMarks}

@@ -1,4 +1,4 @@
-use Rattle.std.proofs.Common.{◌≡◌, ℕ, List, Bool, sym, subst, nat_eq}
+use Rattle.std.proofs.Common.{◌≡◌, ℕ, List, sym, subst, nat_eq}
 use Rattle.std.specs.Prelude.{◌⊎◌, filter, not}
 use Rattle.std.specs.List.{All, Contains, IsDistinct}
 use Rattle.std.proofs.lemmas.List.Elements.{All-filter}
