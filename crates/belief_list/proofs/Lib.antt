@@ -6,3 +6,5 @@ pub mod Kept
 pub mod KeptClips
 pub mod Ordered
 pub mod Empty
+pub mod TwoLists
+pub mod KeptRows

@@ -4,3 +4,4 @@ pub mod Tables
 pub mod Matches
 pub mod Kept
 pub mod KeptClips
+pub mod Merging
