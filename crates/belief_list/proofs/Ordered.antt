@@ -34,7 +34,7 @@ use Rattle.occ_tree.specs.Ranks.{IsRanked, nodes_of}
 use Rattle.occ_tree.proofs.Ordered.{moments_in_order}
 use Rattle.belief_list.specs.declared.list.BeliefRow.{BeliefRow}
 use Rattle.belief_list.specs.Merging.{row_cmp}
-use Rattle.belief_list.specs.Rows.{belief_row, row_at, what_at, IsLiveRow, IsListing}
+use Rattle.belief_list.specs.Rows.{belief_row, row_at, what_at, IsLiveRow, AreAllRanked, IsListing}
 
 rising : {X : Type 0} (cmp : X → X → Ordering) (xs : List X) → IsStrictlySortedBy cmp xs → Rising cmp xs
 unfolding IsStrictlySortedBy
@@ -192,3 +192,19 @@ module _ (s : Standing) (net : Net) (f : Forest) (seen : IsSeen s net f) (holds 
       → IsStrictlySortedBy (node_cmp net f) (nodes_of rs) → map (option_map (moment_at f)) cs ≡ map (λ x. clip (built s) (moment_at f x)) (nodes_of rs)
       → map (row_at f) (rows_with rs cs) ≡ rows (built s)
   rows_are rs cs ranked live all up clipped = rows_each rs cs ranked clipped ∙ ap (map (row (built s))) (in_order (nodes_of rs) live all up)
+
+  -- ---- a list of all nodes with what clips them
+
+  module _ (rs : List Ranked) (all : AreAllRanked net f rs) (cs : List (Option ℕ)) (clipped : map (option_map (moment_at f)) cs ≡ map (λ x. clip (built s) (moment_at f x)) (nodes_of rs))
+      (list : List BeliefRow) (told : list ≡ rows_with rs cs) where
+    -- **Its rows are those of the map.**
+    pub rows_told : map (row_at f) list ≡ rows (built s)
+    rows_told = ap (map (row_at f)) told ∙ rows_are rs cs all.dates all.live all.all all.in_order clipped
+
+    -- **It lists the nodes.**
+    pub nodes_listed : All (λ c. IfSome c (IsLive f)) cs → IsListing f list
+    nodes_listed live = subst (IsListing f) (sym told) (listing_is net f rs cs all.dates all.all all.once (as_many rs cs clipped) live seen.once)
+
+    -- **It is in order.**
+    pub list_sorted : IsStrictlySortedBy (row_cmp f) list
+    list_sorted = subst (IsStrictlySortedBy (row_cmp f)) (sym told) (rows_sorted net f rs cs all.dates all.in_order)
