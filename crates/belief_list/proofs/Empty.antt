@@ -1,9 +1,15 @@
 -- Forests without nodes.
 use Rattle.std.proofs.Common.{◌≡◌, ℕ, [], arith, sym, ◌∙◌, ap}
 use Rattle.std.specs.Prelude.{None, Some}
+use Rattle.std.specs.List.Sorted.{IsStrictlySortedBy}
+use Rattle.std.specs.declared.cmp.Ordering.{Ordering}
 use Rattle.std.proofs.lemmas.List.Elements.{All-nil}
+use Rattle.tmm_model.specs.Standing.{empty_list}
+use Rattle.dist_net.specs.Net.{Net}
+use Rattle.list_net.specs.Fits.{IsNetOf}
 use Rattle.spots.specs.Forest.{Forest, member}
 use Rattle.spots.proofs.Nodes.{node_at}
+use Rattle.occ_tree.specs.OfLists.{IsTreeIn}
 use Rattle.occ_tree.specs.Standing.{Kept, present, committed, forest}
 use Rattle.belief_list.specs.Kept.{kept_forest, KeepNumbers, AreWords}
 use Rattle.belief_list.specs.Rows.{IsLiveRow, IsListing}
@@ -31,3 +37,22 @@ none_kept k same none x = ap (λ s. forest s x) same ∙ none x
 -- no nodes keep their numbers
 pub none_keep : (old new : Forest) → ((x : ℕ) → member old x ≡ None) → KeepNumbers old new
 none_keep old new none x y live_x live_y = let (m, here) = node_at old x live_x in let no : Some m ≡ None = sym here ∙ none x in absurd (cc (no))
+
+-- where there are no nodes, the empty list is one that they are of
+pub none_seen : (net : Net) (k : Kept) → IsNetOf empty_list net → ((x : ℕ) → forest (present k) x ≡ None) → IsTreeIn net k
+none_seen net k network none = record {
+  list = (
+    empty_list,
+    record {
+      network = network;
+      members = λ x m here. (let no : Some m ≡ None = sym here ∙ none x in absurd (cc (no)));
+      once = λ x y m n here there same. (let no : Some m ≡ None = sym here ∙ none x in absurd (cc (no)));
+    },
+  );
+  dated = λ x live. (let (m, here) = node_at (forest (present k)) x live in let no : Some m ≡ None = sym here ∙ none x in absurd (cc (no)));
+}
+
+-- no items are in any order
+pub none_sorted : {X : Type 0} (cmp : X → X → Ordering) → IsStrictlySortedBy cmp []
+unfolding IsStrictlySortedBy
+none_sorted cmp = tt

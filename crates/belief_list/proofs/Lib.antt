@@ -3,5 +3,8 @@ pub mod Lookups
 pub mod Deltas
 pub mod Matches
 pub mod Kept
+pub mod KeptClips
 pub mod Ordered
 pub mod Empty
+pub mod TwoLists
+pub mod KeptRows

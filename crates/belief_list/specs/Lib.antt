@@ -3,3 +3,5 @@ pub mod Compared
 pub mod Tables
 pub mod Matches
 pub mod Kept
+pub mod KeptClips
+pub mod Merging

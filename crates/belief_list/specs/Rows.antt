@@ -1,10 +1,14 @@
 -- Rows of believed occurrences, by their nodes.
-use Rattle.std.specs.Prelude.{◌≡◌, ℕ, List, [], Option, IfSome}
-use Rattle.std.specs.List.{All, Contains}
+use Rattle.std.specs.Prelude.{◌≡◌, ℕ, List, [], Option, IfSome, nat_eq}
+use Rattle.std.specs.List.{All, Contains, IsDistinct}
+use Rattle.std.specs.List.Sorted.{IsStrictlySortedBy}
 use Rattle.std.specs.Option.{option_map, option_map_or}
 use Rattle.tmm_model.specs.Answers.{Row}
+use Rattle.dist_net.specs.Net.{Net}
 use Rattle.spots.specs.Forest.{Forest, member, IsLive, moment_at, IsOnce}
+use Rattle.spots.specs.Spots.{node_cmp}
 use Rattle.occ_tree.specs.declared.ranks.Ranked.{Ranked}
+use Rattle.occ_tree.specs.Ranks.{IsRanked, nodes_of}
 use Rattle.belief_list.specs.declared.list.BeliefRow.{BeliefRow}
 
 -- the kind or fact of a node
@@ -23,6 +27,14 @@ row_at f r = record { date = r.early; occ = moment_at f r.node; what = what_at f
 pub record IsLiveRow (f : Forest) (r : BeliefRow) : Type 0 where
   pub node : IsLive f r.node
   pub clip : IfSome r.clip (IsLive f)
+
+-- these are all nodes in their order, each once and with its date
+pub record AreAllRanked (net : Net) (f : Forest) (ranked : List Ranked) : Type 0 where
+  pub live : All (IsLive f) (nodes_of ranked)
+  pub all : (x : ℕ) → IsLive f x → Contains (nodes_of ranked) x
+  pub once : IsDistinct nat_eq (nodes_of ranked)
+  pub in_order : IsStrictlySortedBy (node_cmp net f) (nodes_of ranked)
+  pub dates : All (IsRanked net f) ranked
 
 -- **The rows list the nodes**: each node has one row, and no occurrence is two nodes.
 pub record IsListing (f : Forest) (rows : List BeliefRow) : Type 0 where

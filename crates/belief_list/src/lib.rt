@@ -1,20 +1,26 @@
 //! The believed occurrences in order, each with its earliest date and its clip, and what changed
-//! between two such lists. It stands on `supports`.
+//! between two such lists. It stands on `supports` and `joined`.
 //!
-//! `listed` answers the rows of the map of a standing list; `compare` answers what of belief changed
-//! from one list of rows to another, as it is defined for their maps, and `compare_kept` the same from the
-//! rows of the last commit of a tree to its present ones; `list_rows` tells the rows for a reply. Without
-//! memory a call answers `NoMemory`.
+//! `listed` answers the rows of the map of a standing list, and `listed_after` the same from the rows of the
+//! last commit of a tree, of which those keep their order whose nodes are still there with their dates
+//! (`ranked_after`), and those their clips whose classes the edit left alone (`clips_after`); `compare`
+//! answers what of belief changed from one list of rows to another, as it is defined for their maps, and
+//! `compare_kept` the same from the rows of the last commit of a tree to its present ones; `list_rows` tells
+//! the rows for a reply. Without memory a call answers `NoMemory`.
 #![tactic(auto)]
 
 mod changes;
 mod kept_changes;
+mod kept_clips;
 mod list;
 mod matched;
+mod merging;
 mod places;
 #[cfg(test)]
 mod tests;
 
 pub use changes::{BeliefChanges, compare};
 pub use kept_changes::{LeftNode, compare_kept};
-pub use list::{BeliefRow, list_rows, listed};
+pub use kept_clips::clips_after;
+pub use list::{BeliefRow, list_rows, listed, listed_after};
+pub use merging::ranked_after;

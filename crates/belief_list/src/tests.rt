@@ -2,7 +2,8 @@
 ghost use Rattle.std.specs.Prelude.{◌≡◌};
 
 use super::*;
-use occ_tree::Tree;
+use dist_net::DistNet;
+use occ_tree::{Order, Tree};
 use std::test::Fail;
 
 #[test]
@@ -24,5 +25,20 @@ fn nothing_changed_in_an_empty_tree(rt: HostRuntime) -> Result<(), Fail> {
     let changes = compare_kept(rt.alloc(), &[], &[], &tree, &[])?;
     assert_eq!(rt; changes.left.items().len(), 0);
     assert_eq!(rt; changes.entered.items().len(), 0);
+    Ok(())
+}
+
+#[test]
+fn no_nodes_are_in_order(rt: HostRuntime) -> Result<(), Fail> {
+    let tree = Tree::make(rt.alloc());
+    let net = DistNet::make(rt.alloc())?;
+    // it tells the proof what holds of the network
+    let _ = net.edges();
+    let order = Order {
+        tree: &tree,
+        net: &net,
+    };
+    let ranked = ranked_after(rt.alloc(), &order, &[])?;
+    assert_eq!(rt; ranked.len(), 0);
     Ok(())
 }

@@ -4,3 +4,4 @@ mod Elsewhere
 mod Unmoved
 mod Gone
 mod NetMaps
+mod RowsBefore

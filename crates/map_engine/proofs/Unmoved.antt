@@ -34,6 +34,7 @@ view_still s t f v v_after old alike is told =
     (record {
       listing = old.listing ∙ same.listed;
       there = old.there;
+      sorted = old.sorted;
       broken = told;
       counted = old.counted ∙ same.sized;
       small = subst (λ (n : ℕ). n ≤ most_size) same.sized old.small;

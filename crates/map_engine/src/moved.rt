@@ -1,9 +1,11 @@
 // What an edit makes of what is believed, where it may touch it.
 ghost use Rattle.std.specs.Prelude.{◌≡◌, ◌≤◌, map, IfOk, IfErr, OnOk};
+ghost use Rattle.tmm_model.specs.declared.premise.Edit.{Edit as AnEdit};
 ghost use Rattle.tmm_model.specs.Answers.{size, most_size};
 ghost use Rattle.tmm_model.specs.Changes.{changes, delta_of};
 ghost use Rattle.tmm_model.specs.Maps.{built};
 ghost use Rattle.tmm_model.specs.Standing.{Standing as List};
+ghost use Rattle.belief_list.specs.KeptClips.{AreRowsBefore};
 ghost use Rattle.belief_list.specs.Rows.{IsListing};
 ghost use Rattle.belief_net.specs.Entering.{KeepLast};
 ghost use Rattle.belief_net.specs.Numbered.{KeepsNumbers, left_under, then_forest};
@@ -20,7 +22,7 @@ ghost use Rattle.map_engine.specs.NetMaps.{AreNodesOf};
 ghost use Rattle.map_engine.specs.Views.{IsViewOf};
 
 use crate::changes::with_reports;
-use crate::view::{View, view_of};
+use crate::view::{View, view_after};
 use belief_list::{LeftNode, compare_kept};
 use belief_net::{BeliefNet, DatedOcc, size_of};
 use dist_net::DistNet;
@@ -92,11 +94,12 @@ fn read(
     requires small { counted ≤ most_size }
     requires numbers { KeepsNumbers tree.now (left_under left.now) }
     requires old { IsViewOf standing.now.committed (then_forest tree.now) old.now }
+    requires before { (edit : AnEdit) × AreRowsBefore standing.now net.now edit tree.now old.now.rows.items }
     requires left_out { IsLeftOut standing.now.committed standing.now.present erased.items }
     ensures view { IfOk result (λ made. IsViewOf standing.now.present (forest tree.now) made.0) }
     ensures changes { IfOk result (λ made. delta_of made.1 ≡ changes standing.now.committed standing.now.present) }
 {
-    let view = view_of(alloc, standing, net, tree, counted)?;
+    let view = view_after(alloc, standing, net, tree, counted, old.rows.items())?;
     let changes = changes_since(alloc, standing, tree, left, old, &view, erased)?;
     Ok((view, changes))
 }

@@ -1,10 +1,15 @@
 // What is read of the believed occurrences of a list.
 ghost use Rattle.std.specs.Prelude.{◌≡◌, ◌≤◌, map, IsTrue, IfOk};
 ghost use Rattle.std.specs.List.{All};
+ghost use Rattle.std.specs.List.Sorted.{IsStrictlySortedBy};
+ghost use Rattle.tmm_model.specs.declared.premise.Edit.{Edit as AnEdit};
 ghost use Rattle.tmm_model.specs.Answers.{rows, row_of, size, most_size};
 ghost use Rattle.tmm_model.specs.Maps.{built};
 ghost use Rattle.tmm_model.specs.Moments.{moment_of};
 ghost use Rattle.tmm_model.specs.Standing.{Standing as List};
+ghost use Rattle.belief_list.specs.Kept.{kept_forest};
+ghost use Rattle.belief_list.specs.KeptClips.{AreRowsBefore};
+ghost use Rattle.belief_list.specs.Merging.{row_cmp};
 ghost use Rattle.belief_list.specs.Rows.{IsLiveRow, IsListing};
 ghost use Rattle.list_net.specs.Fits.{IsNetOf};
 ghost use Rattle.occ_tree.specs.OfLists.{IsTreeOf};
@@ -13,7 +18,7 @@ ghost use Rattle.spots.specs.Forest.{moment_at};
 ghost use Rattle.spots.specs.Seen.{Holds};
 ghost use Rattle.map_engine.specs.Views.{IsViewOf};
 
-use belief_list::{BeliefRow, list_rows, listed};
+use belief_list::{BeliefRow, list_rows, listed, listed_after};
 use dist_net::DistNet;
 use just_check::audit;
 use occ_tree::Tree;
@@ -48,6 +53,32 @@ pub(crate) fn view_of(
     ensures { IfOk result (IsViewOf standing.now.present (forest tree.now)) }
 {
     let rows = listed(alloc, standing, tree, net)?;
+    let reports = report(alloc, standing, tree, net)?;
+    Ok(View {
+        size: counted,
+        rows,
+        reports,
+    })
+}
+
+// The same after an edit, from the rows of the last commit of the tree.
+pub(crate) fn view_after(
+    alloc: Global,
+    standing: &Standing,
+    net: &DistNet,
+    tree: &Tree,
+    counted: u64,
+    old: &[BeliefRow],
+) -> Result<View, NoMemory>
+    requires seen { IsTreeOf standing.now.present net.now.present tree.now }
+    requires holds { Holds (built standing.now.present).believed (forest tree.now) }
+    requires before { (edit : AnEdit) × AreRowsBefore standing.now net.now edit tree.now old.now }
+    requires in_order { IsStrictlySortedBy (row_cmp (kept_forest tree.now)) old.now }
+    requires counted { counted ≡ size (built standing.now.present) }
+    requires small { counted ≤ most_size }
+    ensures { IfOk result (IsViewOf standing.now.present (forest tree.now)) }
+{
+    let rows = listed_after(alloc, standing, tree, net, old)?;
     let reports = report(alloc, standing, tree, net)?;
     Ok(View {
         size: counted,

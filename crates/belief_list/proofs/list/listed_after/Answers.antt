@@ -1,0 +1,100 @@
+use Rattle.std.proofs.Common.{◌≡◌, ℕ, List, map, sym, subst, ap, ◌∙◌}
+use Rattle.std.specs.Prelude.{Option, IfSome}
+use Rattle.std.specs.Option.{option_map}
+use Rattle.std.specs.List.{All, Contains, zip}
+use Rattle.std.specs.List.Sorted.{IsStrictlySortedBy}
+use Rattle.std.proofs.lemmas.Result.{IfOk-weaker}
+use Rattle.tmm_model.specs.Answers.{rows, clip}
+use Rattle.tmm_model.specs.Maps.{built}
+use Rattle.spots.specs.Forest.{IsLive, moment_at}
+use Rattle.occ_tree.specs.declared.ranks.Ranked.{Ranked}
+use Rattle.occ_tree.specs.Ranks.{IsRanked, nodes_of}
+use Rattle.occ_tree.specs.Places.{forest}
+use Rattle.belief_list.specs.Merging.{row_cmp}
+use Rattle.belief_list.specs.Rows.{belief_row, row_at, AreAllRanked, IsListing}
+use Rattle.belief_list.proofs.KeptRows.{ranked_live}
+use Rattle.belief_list.proofs.Ordered.{as_many, rows_told, nodes_listed, list_sorted}
+use Rattle.belief_list.proofs.list.listed_after.Goals as goal
+
+pub ranked_after-requires-clause-numbers : goal.ranked_after-requires-clause-numbers
+ranked_after-requires-clause-numbers c = c.requires.before.1.numbers
+
+pub ranked_after-requires-clause-live : goal.ranked_after-requires-clause-live
+ranked_after-requires-clause-live c = c.requires.before.1.listing.live
+
+pub clips_after-requires-clause-all : goal.clips_after-requires-clause-all
+clips_after-requires-clause-all c = subst (λ (rs : List Ranked). (x : ℕ) → IsLive (forest c.args.tree.now) x → Contains (nodes_of rs) x) (sym c.as_slice-ranked.ensures.value) c.in_ok-nodes.ensures.all
+
+pub clips_after-requires-clause-ranked : goal.clips_after-requires-clause-ranked
+clips_after-requires-clause-ranked c = subst (All (IsRanked c.args.net.now.present (forest c.args.tree.now))) (sym c.as_slice-ranked.ensures.value) c.in_ok-nodes.ensures.ranked
+
+pub rows_of-requires : goal.rows_of-requires
+rows_of-requires c =
+    let s = c.args.standing.now.present in
+    let f = forest c.args.tree.now in
+    let rs = c.as_slice-ranked.result.now in
+    let cs = c.as_slice.result.now in
+    let clipped : map (option_map (moment_at f)) cs ≡ map (λ x. clip (built s) (moment_at f x)) (nodes_of rs) =
+    ap (map (option_map (moment_at f))) c.as_slice.ensures.value ∙ c.in_ok-clips.ensures.first c.args.standing.now c.requires.before.0 c.requires.before.1 in
+    as_many s c.args.net.now.present f c.requires.seen.seen c.requires.before.1.holds_now rs cs clipped
+
+pub returns-clause-rows : goal.returns-clause-rows
+returns-clause-rows c =
+    let s = c.args.standing.now.present in
+    let f = forest c.args.tree.now in
+    let rs = c.as_slice-ranked.result.now in
+    let cs = c.as_slice.result.now in
+    let made : AreAllRanked c.args.net.now.present (forest c.args.tree.now) c.in_ok-nodes.nodes.items = record {
+      live = ranked_live c.args.net.now.present (forest c.args.tree.now) c.in_ok-nodes.nodes.items c.in_ok-nodes.ensures.ranked;
+      all = c.in_ok-nodes.ensures.all;
+      once = c.in_ok-nodes.ensures.once;
+      in_order = c.in_ok-nodes.ensures.in_order;
+      dates = c.in_ok-nodes.ensures.ranked;
+    } in
+    let all = subst (AreAllRanked c.args.net.now.present (forest c.args.tree.now)) (sym c.as_slice-ranked.ensures.value) made in
+    let clipped : map (option_map (moment_at f)) cs ≡ map (λ x. clip (built s) (moment_at f x)) (nodes_of rs) =
+    ap (map (option_map (moment_at f))) c.as_slice.ensures.value ∙ c.in_ok-clips.ensures.first c.args.standing.now c.requires.before.0 c.requires.before.1 in
+    IfOk-weaker c.rows_of.result (λ list. list.items ≡ map belief_row (zip rs cs)) (λ list. map (row_at f) list.items ≡ rows (built s))
+    (λ list told. rows_told s c.args.net.now.present f c.requires.seen.seen c.requires.before.1.holds_now rs all cs clipped list.items told)
+    c.rows_of.ensures
+
+pub returns-clause-listing : goal.returns-clause-listing
+returns-clause-listing c =
+    let s = c.args.standing.now.present in
+    let f = forest c.args.tree.now in
+    let rs = c.as_slice-ranked.result.now in
+    let cs = c.as_slice.result.now in
+    let made : AreAllRanked c.args.net.now.present (forest c.args.tree.now) c.in_ok-nodes.nodes.items = record {
+      live = ranked_live c.args.net.now.present (forest c.args.tree.now) c.in_ok-nodes.nodes.items c.in_ok-nodes.ensures.ranked;
+      all = c.in_ok-nodes.ensures.all;
+      once = c.in_ok-nodes.ensures.once;
+      in_order = c.in_ok-nodes.ensures.in_order;
+      dates = c.in_ok-nodes.ensures.ranked;
+    } in
+    let all = subst (AreAllRanked c.args.net.now.present (forest c.args.tree.now)) (sym c.as_slice-ranked.ensures.value) made in
+    let clipped : map (option_map (moment_at f)) cs ≡ map (λ x. clip (built s) (moment_at f x)) (nodes_of rs) =
+    ap (map (option_map (moment_at f))) c.as_slice.ensures.value ∙ c.in_ok-clips.ensures.first c.args.standing.now c.requires.before.0 c.requires.before.1 in
+    let live : All (λ (c : Option ℕ). IfSome c (IsLive f)) cs = subst (λ (l : List (Option ℕ)). All (λ (c : Option ℕ). IfSome c (IsLive f)) l) (sym c.as_slice.ensures.value) c.in_ok-clips.ensures.live in
+    IfOk-weaker c.rows_of.result (λ list. list.items ≡ map belief_row (zip rs cs)) (λ list. IsListing f list.items)
+    (λ list told. nodes_listed s c.args.net.now.present f c.requires.seen.seen c.requires.before.1.holds_now rs all cs clipped list.items told live)
+    c.rows_of.ensures
+
+pub returns-clause-in_order : goal.returns-clause-in_order
+returns-clause-in_order c =
+    let s = c.args.standing.now.present in
+    let f = forest c.args.tree.now in
+    let rs = c.as_slice-ranked.result.now in
+    let cs = c.as_slice.result.now in
+    let made : AreAllRanked c.args.net.now.present (forest c.args.tree.now) c.in_ok-nodes.nodes.items = record {
+      live = ranked_live c.args.net.now.present (forest c.args.tree.now) c.in_ok-nodes.nodes.items c.in_ok-nodes.ensures.ranked;
+      all = c.in_ok-nodes.ensures.all;
+      once = c.in_ok-nodes.ensures.once;
+      in_order = c.in_ok-nodes.ensures.in_order;
+      dates = c.in_ok-nodes.ensures.ranked;
+    } in
+    let all = subst (AreAllRanked c.args.net.now.present (forest c.args.tree.now)) (sym c.as_slice-ranked.ensures.value) made in
+    let clipped : map (option_map (moment_at f)) cs ≡ map (λ x. clip (built s) (moment_at f x)) (nodes_of rs) =
+    ap (map (option_map (moment_at f))) c.as_slice.ensures.value ∙ c.in_ok-clips.ensures.first c.args.standing.now c.requires.before.0 c.requires.before.1 in
+    IfOk-weaker c.rows_of.result (λ list. list.items ≡ map belief_row (zip rs cs)) (λ list. IsStrictlySortedBy (row_cmp f) list.items)
+    (λ list told. list_sorted s c.args.net.now.present f c.requires.seen.seen c.requires.before.1.holds_now rs all cs clipped list.items told)
+    c.rows_of.ensures
