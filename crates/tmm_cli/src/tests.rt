@@ -1,11 +1,11 @@
 //! What no clause says: the text of whole scripts, that calls succeed, and what faults leave.
 use crate::run::{line_buffer, run};
-use map_engine::{NetMap, PlainMap};
+use map_engine::PlainMap;
 use std::alloc::Global;
 use std::process::Abort;
 use std::test::Fail;
 use tmm_drive::{Status, drive};
-use tmm_io::{MemSink, MemSource, RepeatSource, Source, SteadySource};
+use tmm_io::{MemSink, MemSource, Source, SteadySource};
 use tmm_session::Session;
 
 /// Runs a script in pieces of this many bytes, and compares its replies and its status.
@@ -106,29 +106,6 @@ fn faults_end_the_run(rt: HostRuntime) -> Result<(), Fail> {
         assert_eq!(rt; sink.bytes(), replies);
     }
     Ok(())
-}
-
-/// Runs over so many bytes of a comment of 400 bytes, again and again, and compares the status. Nothing is
-/// written.
-fn expect_long(rt: &impl Abort, alloc: Global, bytes: u64, status: Status) -> Result<(), Fail> {
-    let mut line = [b'x'; 400];
-    line[0] = b'#';
-    line[399] = b'\n';
-    let mut source = RepeatSource::make(alloc, &line, bytes)?;
-    let mut sink = MemSink::make(alloc, 1 << 10, &[])?;
-    assert_eq!(rt; run(alloc, &[], &mut source, &mut sink), status);
-    assert_eq!(rt; sink.bytes(), b"".as_slice());
-    Ok(())
-}
-
-#[test]
-fn the_longest_input_is_read(rt: HostRuntime) -> Result<(), Fail> {
-    expect_long(&rt, rt.alloc(), 1 << 30, Status::Clean)
-}
-
-#[test]
-fn a_byte_more_is_too_long(rt: HostRuntime) -> Result<(), Fail> {
-    expect_long(&rt, rt.alloc(), (1 << 30) + 1, Status::TooLong)
 }
 
 /// Runs with these words, and compares what is written and the status. The source keeps its bytes.
@@ -383,51 +360,6 @@ fn both_maps_answer_alike(rt: HostRuntime) -> Result<(), Fail> {
     }
     for (script, _, _) in ROWS {
         expect_plain(&rt, rt.alloc(), script)?;
-    }
-    Ok(())
-}
-
-/// Maps in which rules fire, and edits of each that move no point of an occurrence and bring nothing: points,
-/// constraints and protections beside them.
-const UNMOVED: &[(&[u8], &[u8])] = &[
-    // a door that a push shuts
-    (
-        b"class door open shut\nkind push\nrule shuts push 1 2 shut if open\ntoken held open\nevent e push\ndist d held e 5 10\n",
-        b"point x\ndist n held x 2 3\npoint y\ndist m x y 3 4\nbounds held y\nprotect q open held x\ncheck\nerase q\n",
-    ),
-    // an event that rules repeat
-    (
-        b"kind t\nevent e t\ndist z start e 0 0\nhorizon 35\nrule r t 10 10 t\n",
-        b"point p\ndist a e p 1 2\ndist b start p 1 2\nsize\nlist\nwhy e/r\n",
-    ),
-    // protections, of which one is broken
-    (
-        b"class door open shut\ntoken k open\ndist z start k 0 0\nkind push\nrule r push 1 1 shut if open\nevent e push\ndist x start e 10 10\n",
-        b"point p\ndist y start p 12 12\nprotect g open k p\npoint q\ndist w start q 8 8\nprotect h open k q\ncheck\nerase g\ncheck\naudit\n",
-    ),
-];
-
-/// How many decisions the map of the program makes for a script in which nothing is refused.
-fn decisions(rt: &impl Abort, alloc: Global, script: &[u8]) -> Result<u64, Fail> {
-    let mut session = Session::make(NetMap::make(alloc)?);
-    let mut buffer = line_buffer(alloc)?;
-    let mut source = MemSource::make(alloc, script, 4096, &[])?;
-    let mut sink = MemSink::make(alloc, 1 << 12, &[])?;
-    let status = drive(alloc, &mut session, &mut buffer, &mut source, &mut sink);
-    assert_eq!(rt; status, Status::Clean);
-    Ok(session.counter.value())
-}
-
-#[test]
-fn still_maps_decide_nothing(rt: HostRuntime) -> Result<(), Fail> {
-    let alloc = rt.alloc();
-    for (map, edits) in UNMOVED {
-        let mut whole = Vec::new(alloc);
-        whole.extend_from_slice(map)?;
-        whole.extend_from_slice(edits)?;
-        let made = decisions(&rt, alloc, map)?;
-        assert!(rt; made > 0);
-        assert_eq!(rt; decisions(&rt, alloc, whole.as_slice())?, made);
     }
     Ok(())
 }
