@@ -5,3 +5,4 @@ pub mod Matches
 pub mod Kept
 pub mod KeptClips
 pub mod Merging
+pub mod KeptRows

@@ -9,18 +9,26 @@
 //! the rows for a reply. Without memory a call answers `NoMemory`.
 #![tactic(auto)]
 
+mod by_number;
 mod changes;
+mod differences;
 mod kept_changes;
 mod kept_clips;
+mod kept_rows;
 mod list;
 mod matched;
 mod merging;
 mod places;
 #[cfg(test)]
 mod tests;
+mod told_changes;
 
+pub use by_number::listed_by_number;
 pub use changes::{BeliefChanges, compare};
+pub use differences::differences;
 pub use kept_changes::{LeftNode, compare_kept};
 pub use kept_clips::clips_after;
+pub use kept_rows::{Difference, KeptRow, reach, take_over};
 pub use list::{BeliefRow, list_rows, listed, listed_after};
 pub use merging::ranked_after;
+pub use told_changes::changes_told;

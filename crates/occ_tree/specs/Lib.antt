@@ -16,3 +16,4 @@ pub mod Places
 pub mod OfLists
 pub mod Ranks
 pub mod Index
+pub mod Touched

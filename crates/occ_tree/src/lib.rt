@@ -26,6 +26,7 @@ mod order;
 mod ranks;
 mod tokens;
 mod told;
+mod touched;
 mod tree;
 mod words;
 
@@ -37,6 +38,7 @@ pub use dated_laws::{
 pub use edit_laws::{growing_enters, moving_keeps_members, shrinking_withdraws};
 pub use order::Order;
 pub use ranks::{Ranked, in_order};
+pub use touched::Touched;
 pub use tree::Tree;
 
 #[cfg(test)]

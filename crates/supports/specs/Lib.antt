@@ -4,3 +4,4 @@ pub mod Faults
 pub mod Nodes
 pub mod Rules
 pub mod Growing
+pub mod Edited
