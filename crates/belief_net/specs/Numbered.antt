@@ -45,3 +45,8 @@ pub record KeepsNumbers (tree : Kept) (left : List (ℕ × Moment)) : Type 0 whe
   pub told : (x : ℕ) → IsLive (then_forest tree) x → member (forest tree) x ≡ None → is_derived (moment_at (then_forest tree) x) ≡ true
       → In (x, moment_at (then_forest tree) x) left
   pub own : (x : ℕ) (k : Moment) → In (x, k) left → IsLive (then_forest tree) x → k ≡ moment_at (then_forest tree) x
+
+-- No root of the last commit is gone that stands in the list.
+abbrev pub SparesRoots : Standing → Kept → Type 0
+SparesRoots s tree =
+    (x : ℕ) → IsLive (then_forest tree) x → is_derived (moment_at (then_forest tree) x) ≡ false → Stands s (moment_at (then_forest tree) x) → IsLive (forest tree) x

@@ -1,10 +1,10 @@
 // An update: what is kept of the list before an edit becomes what is to be kept of the list after it.
-ghost use Rattle.std.specs.Prelude.{◌≡◌, ◌≤◌, IfOk, IfErr};
+ghost use Rattle.std.specs.Prelude.{◌≡◌, ◌≤◌, IfOk, IfErr, OnOk};
 ghost use Rattle.tmm_model.specs.Answers.{size};
 ghost use Rattle.tmm_model.specs.Maps.{built};
 ghost use Rattle.projection.specs.Queues.{IsTooLarge};
 ghost use Rattle.belief_net.specs.Entering.{KeepLast};
-ghost use Rattle.belief_net.specs.Numbered.{KeepsNumbers, left_under};
+ghost use Rattle.belief_net.specs.Numbered.{KeepsNumbers, SparesRoots, left_under};
 ghost use Rattle.belief_net.specs.Updating.{IsKept, IsPending, IsUpdated, IsCountedWithin};
 
 use crate::opening::open;
@@ -22,7 +22,7 @@ impl BeliefNet {
     /// have the edit already. `erased` are the names that it left out, and `before` is the horizon before it.
     /// It answers which derived occurrences entered and left, and counts the decisions that it makes: no more
     /// than the edit touches. What occurs on keeps the number that its node had at the last commit, and
-    /// nothing else gets that number; a derived occurrence that left is told under its number. It refuses only
+    /// nothing else gets that number; a derived occurrence that left is told under its number, and no root is gone that stands. It refuses only
     /// a list whose map is larger than 100,000; that 2^64 - 1 decisions do not end it counts as want of
     /// memory. After an error `rollback` leads back.
     pub fn update(
@@ -40,6 +40,7 @@ impl BeliefNet {
         requires before { before ≡ standing.now.committed.horizon }
         ensures ok { IfOk result (IsUpdated standing.now net.now self.new counter.old counter.new) }
         ensures numbered { IfOk result (λ told. KeepsNumbers self.new.tree (left_under told.left.items)) }
+        ensures roots { OnOk result (SparesRoots standing.now.present self.new.tree) }
         ensures stops { IfErr result (IsTooLarge (size (built standing.now.present))) }
         ensures counted { IsCountedWithin standing.now counter.old counter.new }
         ensures rises { counter.old ≤ counter.new }

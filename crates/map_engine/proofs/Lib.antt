@@ -1,7 +1,9 @@
 mod Told
 mod Rows
+mod Reading
+mod Covering
+mod ToldOf
 mod Elsewhere
 mod Unmoved
 mod Gone
 mod NetMaps
-mod RowsBefore

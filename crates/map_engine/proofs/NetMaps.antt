@@ -22,18 +22,18 @@ use Rattle.belief_net.specs.Updating.{IsPending, IsCountedWithin, CommitsKept, L
 use Rattle.belief_net.proofs.Named.{last_stays}
 use Rattle.revisions.specs.Counted.{changed}
 use Rattle.map_engine.specs.declared.next.Next.{Next}
-use Rattle.map_engine.specs.declared.next.Next.TheVariants.{Nothing, Same, Reported, Anew}
-use Rattle.map_engine.specs.declared.view.View.{View}
+use Rattle.map_engine.specs.declared.next.Next.TheVariants.{Nothing, Same, Reported, Changed}
+use Rattle.map_engine.specs.declared.kept_view.KeptView.{KeptView}
 use Rattle.map_engine.specs.Beliefs.{IsLeftOut}
 use Rattle.map_engine.specs.NetMaps.{AreNodesOf, IsResting, MayRest, IsHeld, IsNetMap, CountsEdit}
-use Rattle.map_engine.specs.Nexts.{after, pending_list, IsUnguarded, adds_protection}
-use Rattle.map_engine.specs.Views.{IsViewOf}
+use Rattle.map_engine.specs.Nexts.{after, pending_list, HasPlacesIn, IsUnguarded, adds_protection}
+use Rattle.map_engine.specs.Reads.{Read, IsReadOf, read_of}
 use Rattle.map_engine.proofs.Unmoved.{still_unguarded}
 
 -- ---- where nothing is pending
 
 -- what rests is all that the map keeps
-pub at_rest : (lists : States) (nets : Nets) (b : BeliefNet) (view : View) (guarded : Bool) (next : Next) → next ≡ Nothing → IsSettled lists nets
+pub at_rest : (lists : States) (nets : Nets) (b : BeliefNet) (view : KeptView) (guarded : Bool) (next : Next) → next ≡ Nothing → IsSettled lists nets
     → IsHeld lists.committed nets.committed guarded → IsResting lists.committed nets.committed b view → IsNetMap lists nets b view guarded next
 at_rest lists nets b view guarded next nothing settled held rests =
     subst (IsNetMap lists nets b view guarded) (sym nothing)
@@ -47,41 +47,46 @@ at_rest lists nets b view guarded next nothing settled held rests =
           subst (λ (s : Standing). AreNodesOf s nets.present b) (sym settled.list)
           (subst (λ (n : Net). AreNodesOf lists.committed n b) (sym settled.net)
           (record { fit = rests.kept.fit; current = rests.kept.current; none_waits = rests.kept.none_waits }));
-      next_view = subst (λ (s : Standing). IsViewOf s (forest b.tree) view) (sym settled.list) rests.view;
+      next_view = subst (λ (s : Standing). IsReadOf s (forest b.tree) (read_of view)) (sym settled.list) rests.view;
+      next_places = tt;
     })
 
+-- what rests does so where the same is read
+pub rests_same : (s : Standing) (net : Net) (b : BeliefNet) (view view_new : KeptView) → read_of view_new ≡ read_of view → IsResting s net b view → IsResting s net b view_new
+rests_same s net b view view_new same rests = record { kept = rests.kept; view = subst (IsReadOf s (forest b.tree)) (sym same) rests.view }
+
 -- what an edit made rests once it is committed
-pub commits : (s : Standing) (net : Net) (old new : BeliefNet) (view : View) → AreNodesOf s net old → IsViewOf s (forest old.tree) view
+pub commits : (s : Standing) (net : Net) (old new : BeliefNet) (view : KeptView) → AreNodesOf s net old → IsReadOf s (forest old.tree) (read_of view)
     → present new.tree ≡ present old.tree → CommitsKept old new → IsResting s net new view
 commits s net old new view nodes read same kept = record {
   kept = kept s net nodes.fit nodes.current nodes.none_waits;
-  view = subst (λ (k : State). IsViewOf s (forest_of k) view) (sym same) read;
+  view = subst (λ (k : State). IsReadOf s (forest_of k) (read_of view)) (sym same) read;
 }
 
 -- what rested before does so again after a rollback
-pub leads_back : (s : Standing) (net : Net) (base old new : BeliefNet) (view : View) → IsResting s net base view → KeepLast base old
+pub leads_back : (s : Standing) (net : Net) (base old new : BeliefNet) (view : KeptView) → IsResting s net base view → KeepLast base old
     → present new.tree ≡ committed old.tree → LeadsBack old new → IsResting s net new view
 leads_back s net base old new view rests last same back = record {
   kept = back s net base rests.kept last;
-  view = subst (λ (k : State). IsViewOf s (forest_of k) view) (sym (same ∙ last.tree ∙ rests.kept.tree)) rests.view;
+  view = subst (λ (k : State). IsReadOf s (forest_of k) (read_of view)) (sym (same ∙ last.tree ∙ rests.kept.tree)) rests.view;
 }
 
 -- the map after a commit
-pub committed_map : (lists : States) (nets : Nets) (b : BeliefNet) (view : View) (guarded : Bool) (next : Next) → IsNetMap lists nets b view guarded next
-    → (lists_new : States) (nets_new : Nets) (b_new : BeliefNet) (view_new : View) (next_new : Next)
+pub committed_map : (lists : States) (nets : Nets) (b : BeliefNet) (view : KeptView) (guarded : Bool) (next : Next) → IsNetMap lists nets b view guarded next
+    → (lists_new : States) (nets_new : Nets) (b_new : BeliefNet) (view_new : KeptView) (next_new : Next)
     → lists_new ≡ record { present = lists.present; committed = lists.present }
     → nets_new ≡ record { present = nets.present; committed = nets.present; draft = nets.draft; moved = [] }
-    → present b_new.tree ≡ present b.tree → CommitsKept b b_new → view_new ≡ after view next → next_new ≡ Nothing
+    → present b_new.tree ≡ present b.tree → CommitsKept b b_new → read_of view_new ≡ after view next → next_new ≡ Nothing
     → IsNetMap lists_new nets_new b_new view_new guarded next_new
 committed_map lists nets b view guarded next is lists_new nets_new b_new view_new next_new list net same kept read nothing =
     subst (λ (s : States). IsNetMap s nets_new b_new view_new guarded next_new) (sym list)
     (subst (λ (n : Nets). IsNetMap (record { present = lists.present; committed = lists.present }) n b_new view_new guarded next_new) (sym net)
     (at_rest (record { present = lists.present; committed = lists.present }) (record { present = nets.present; committed = nets.present; draft = nets.draft; moved = [] })
     b_new view_new guarded next_new nothing (record { list = refl; net = refl }) is.next_held
-    (commits lists.present nets.present b b_new view_new is.next_nodes (subst (IsViewOf lists.present (forest b.tree)) (sym read) is.next_view) same kept)))
+    (commits lists.present nets.present b b_new view_new is.next_nodes (subst (IsReadOf lists.present (forest b.tree)) (sym read) is.next_view) same kept)))
 
 -- the map after a rollback
-pub rolled_back : (lists : States) (nets : Nets) (b : BeliefNet) (view : View) (guarded : Bool) (next : Next) → IsNetMap lists nets b view guarded next
+pub rolled_back : (lists : States) (nets : Nets) (b : BeliefNet) (view : KeptView) (guarded : Bool) (next : Next) → IsNetMap lists nets b view guarded next
     → (lists_new : States) (nets_new : Nets) (b_new : BeliefNet) (next_new : Next)
     → lists_new ≡ record lists { present = lists.committed } → nets_new ≡ record nets { present = nets.committed; moved = [] }
     → present b_new.tree ≡ committed b.tree → LeadsBack b b_new → next_new ≡ Nothing
@@ -105,7 +110,7 @@ within s (Add premise) well below = below
 within s (Erase name) well below = below
 within s (Horizon n) well below = well
 
-module _ (lists : States) (nets : Nets) (b : BeliefNet) (view : View) (guarded : Bool) (next : Next) (is : IsNetMap lists nets b view guarded next)
+module _ (lists : States) (nets : Nets) (b : BeliefNet) (view : KeptView) (guarded : Bool) (next : Next) (is : IsNetMap lists nets b view guarded next)
     (lists_after : States) (edit : Edit) (made : lists_after ≡ record lists { present = next_list lists.present edit }) (well : IsWellFormedEdit edit)
     (nets_after : Nets) (kept : nets_after.committed ≡ nets.committed)
     (guarded_after : Bool) (may : guarded_after ≡ (guarded || adds_protection edit)) where
@@ -156,37 +161,41 @@ module _ (lists : States) (nets : Nets) (b : BeliefNet) (view : View) (guarded :
       }
 
   -- the map with the edit pending
-  pub edited_map : pending_list lists.present next ≡ None → (b_after : BeliefNet) (next_after : Next)
+  pub edited_map : pending_list lists.present next ≡ None → (b_after : BeliefNet) (view_after : KeptView) (next_after : Next)
       → IsNetOf lists_after.present nets_after.present
       → AreNodesOf lists_after.present nets_after.present b_after
-      → IsViewOf lists_after.present (forest b_after.tree) (after view next_after)
+      → read_of view_after ≡ read_of view
+      → IsReadOf lists_after.present (forest b_after.tree) (after view_after next_after)
+      → HasPlacesIn view_after next_after
       → KeepLast b b_after
       → pending_list lists_after.present next_after ≡ Some lists_after.present
-      → IsNetMap lists_after nets_after b_after view guarded_after next_after
-  edited_map idle b_after next_after network nodes read last pending =
+      → IsNetMap lists_after nets_after b_after view_after guarded_after next_after
+  edited_map idle b_after view_after next_after network nodes same read places last pending =
       let never : pending_list lists_after.present next_after ≡ None → ⊥ = λ none. (let e : Some lists_after.present ≡ None = sym pending ∙ none in cc) in
       record {
         held = held_before;
-        before = record { base = b; rests = rests_before idle; last = last };
+        before = record { base = b; rests = rests_same lists_after.committed nets_after.committed b view view_after same (rests_before idle); last = last };
         settled = λ none. absurd (never none);
         rests = λ none. absurd (never none);
         next_held = record { network = network; horizon = horizon_after; unguarded = unguarded_after };
         next_nodes = nodes;
         next_view = read;
+        next_places = places;
       }
 
   -- an edit that is not made in the end leaves all as it was
-  pub undone_map : pending_list lists.present next ≡ None → (mid b_new : BeliefNet) (lists_new : States) (nets_new : Nets) → next ≡ Nothing
+  pub undone_map : pending_list lists.present next ≡ None → (mid b_new : BeliefNet) (view_new : KeptView) (lists_new : States) (nets_new : Nets) → next ≡ Nothing
+      → read_of view_new ≡ read_of view
       → KeepLast b mid
       → lists_new ≡ record lists_after { present = lists_after.committed } → nets_new ≡ record nets_after { present = nets_after.committed; moved = [] }
       → present b_new.tree ≡ committed mid.tree → LeadsBack mid b_new
-      → IsNetMap lists_new nets_new b_new view guarded_after next
-  undone_map idle mid b_new lists_new nets_new nothing last list net same back =
-      subst (λ (s : States). IsNetMap s nets_new b_new view guarded_after next) (sym list)
-      (subst (λ (n : Nets). IsNetMap (record lists_after { present = lists_after.committed }) n b_new view guarded_after next) (sym net)
-      (at_rest (record lists_after { present = lists_after.committed }) (record nets_after { present = nets_after.committed; moved = [] }) b_new view guarded_after next nothing
+      → IsNetMap lists_new nets_new b_new view_new guarded_after next
+  undone_map idle mid b_new view_new lists_new nets_new nothing read last list net same back =
+      subst (λ (s : States). IsNetMap s nets_new b_new view_new guarded_after next) (sym list)
+      (subst (λ (n : Nets). IsNetMap (record lists_after { present = lists_after.committed }) n b_new view_new guarded_after next) (sym net)
+      (at_rest (record lists_after { present = lists_after.committed }) (record nets_after { present = nets_after.committed; moved = [] }) b_new view_new guarded_after next nothing
       (record { list = refl; net = refl }) held_before
-      (leads_back lists_after.committed nets_after.committed b mid b_new view (rests_before idle) last same back)))
+      (leads_back lists_after.committed nets_after.committed b mid b_new view_new (rests_same lists_after.committed nets_after.committed b view view_new read (rests_before idle)) last same back)))
 
 -- nothing is pending only where nothing is known of what a pending edit leaves
 pub is_nothing : (present_list : Standing) (next : Next) → pending_list present_list next ≡ None → next ≡ Nothing
@@ -196,7 +205,7 @@ is_nothing s next none = by next none
     by Nothing e = refl
     by Same e = cc
     by (Reported reports) e = cc
-    by (Anew made) e = cc
+    by (Changed made) e = cc
 
 -- what is held is so where less is known of protections
 held_more : (s : Standing) (net : Net) (guarded guarded_new : Bool) (edit : Edit) → guarded_new ≡ (guarded || adds_protection edit) → IsHeld s net guarded → IsHeld s net guarded_new
@@ -204,7 +213,7 @@ held_more s net guarded guarded_new edit may held =
     record { network = held.network; horizon = held.horizon; unguarded = λ none. held.unguarded (neither guarded (adds_protection edit) (sym may ∙ none)).0 }
 
 -- where no edit is made all is as it was
-pub kept_map : (lists : States) (nets : Nets) (b : BeliefNet) (view : View) (guarded : Bool) (next : Next) → IsNetMap lists nets b view guarded next
+pub kept_map : (lists : States) (nets : Nets) (b : BeliefNet) (view : KeptView) (guarded : Bool) (next : Next) → IsNetMap lists nets b view guarded next
     → (lists_new : States) (nets_new : Nets) (guarded_new : Bool) (edit : Edit) → lists_new ≡ lists → nets_new.present ≡ nets.present → nets_new.committed ≡ nets.committed
     → guarded_new ≡ (guarded || adds_protection edit) → IsNetMap lists_new nets_new b view guarded_new next
 kept_map lists nets b view guarded next is lists_new nets_new guarded_new edit list now then_ may =
@@ -217,6 +226,7 @@ kept_map lists nets b view guarded next is lists_new nets_new guarded_new edit l
       next_held = subst (λ (n : Net). IsHeld lists.present n guarded_new) (sym now) (held_more lists.present nets.present guarded guarded_new edit may is.next_held);
       next_nodes = subst (λ (n : Net). AreNodesOf lists.present n b) (sym now) is.next_nodes;
       next_view = is.next_view;
+      next_places = is.next_places;
     })
 
 -- ---- how many decisions are counted

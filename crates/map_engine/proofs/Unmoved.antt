@@ -15,26 +15,25 @@ use Rattle.tmm_model.specs.Standing.{Standing}
 use Rattle.list_theory.proofs.Elements.{In}
 use Rattle.list_theory.proofs.Erasure.{kept_before}
 use Rattle.spots.specs.Forest.{Forest}
+use Rattle.spots.specs.Seen.{Holds}
 use Rattle.revisions.specs.Alike.{AreAlike, BelieveAlike}
 use Rattle.revisions.proofs.Alike.{alike_believe}
-use Rattle.map_engine.specs.declared.view.View.{View}
 use Rattle.map_engine.specs.Beliefs.{IsLeftOut}
-use Rattle.map_engine.specs.Views.{IsViewOf}
+use Rattle.map_engine.specs.Reads.{Read, IsReadOf}
 use Rattle.map_engine.specs.Nexts.{IsUnguarded, is_protection, adds_protection}
+use Rattle.map_engine.proofs.Reading.{rows_still}
 use Rattle.map_engine.proofs.Told.{told}
 
 -- ---- what is read of the nodes
 
 -- of the same nodes the same is read, protections aside
-pub view_still : (s t : Standing) (f : Forest) (v v_after : View) → IsViewOf s f v → AreAlike s t
-    → v_after ≡ record v { reports = v_after.reports } → map report_of v_after.reports.items ≡ reports (built t) → IsViewOf t f v_after
-view_still s t f v v_after old alike is told =
+pub read_still : (s t : Standing) (f : Forest) (r r_after : Read) → Holds (built s).believed f
+    → IsReadOf s f r → AreAlike s t → r_after ≡ record r { reports = r_after.reports } → map report_of r_after.reports ≡ reports (built t) → IsReadOf t f r_after
+read_still s t f r r_after holds old alike is told =
     let same : BelieveAlike s t = (alike_believe s t alike).0 in
-    subst (IsViewOf t f) (sym is)
+    subst (IsReadOf t f) (sym is)
     (record {
-      listing = old.listing ∙ same.listed;
-      there = old.there;
-      sorted = old.sorted;
+      rows = rows_still s t alike f r.rows holds old.rows;
       broken = told;
       counted = old.counted ∙ same.sized;
       small = subst (λ (n : ℕ). n ≤ most_size) same.sized old.small;

@@ -4,6 +4,8 @@ pub mod Beliefs
 pub mod Plain
 pub mod Questions
 pub mod Still
+pub mod Reads
 pub mod Nexts
+pub mod Touching
 pub mod Gone
 pub mod NetMaps

@@ -18,9 +18,9 @@ use Rattle.belief_net.specs.Turning.{rows_of, IsFit}
 use Rattle.belief_net.specs.Updating.{IsKept}
 use Rattle.belief_net.specs.Waiting.{dates_in}
 use Rattle.map_engine.specs.declared.next.Next.{Next}
-use Rattle.map_engine.specs.declared.view.View.{View}
-use Rattle.map_engine.specs.Nexts.{after, pending_list, IsUnguarded}
-use Rattle.map_engine.specs.Views.{IsViewOf}
+use Rattle.map_engine.specs.declared.kept_view.KeptView.{KeptView}
+use Rattle.map_engine.specs.Nexts.{after, pending_list, HasPlacesIn, IsUnguarded}
+use Rattle.map_engine.specs.Reads.{IsReadOf, read_of}
 
 -- nodes and decisions are those of the list, and none waits to be made again
 pub record AreNodesOf (s : Standing) (net : Net) (b : BeliefNet) : Type 0 where
@@ -29,12 +29,12 @@ pub record AreNodesOf (s : Standing) (net : Net) (b : BeliefNet) : Type 0 where
   pub none_waits : (i : ℕ) → dates_in b.decisions.waiting i ≡ None
 
 -- nodes and decisions are those of the list, as at the last commit, and so is what is read of them
-pub record IsResting (s : Standing) (net : Net) (b : BeliefNet) (v : View) : Type 0 where
+pub record IsResting (s : Standing) (net : Net) (b : BeliefNet) (v : KeptView) : Type 0 where
   pub kept : IsKept s net b
-  pub view : IsViewOf s (forest b.tree) v
+  pub view : IsReadOf s (forest b.tree) (read_of v)
 
 -- a rollback leads back to what rests
-pub record MayRest (s : Standing) (net : Net) (b : BeliefNet) (v : View) : Type 0 where
+pub record MayRest (s : Standing) (net : Net) (b : BeliefNet) (v : KeptView) : Type 0 where
   pub base : BeliefNet
   pub rests : IsResting s net base v
   pub last : KeepLast base b
@@ -47,14 +47,15 @@ pub record IsHeld (s : Standing) (net : Net) (guarded : Bool) : Type 0 where
 
 -- Both states of the list are held. Nodes, decisions and what is read of them are those of the present state, and lead back to
 -- those of the last commit. Where nothing is pending both states are one.
-pub record IsNetMap (lists : States) (nets : Nets) (nodes : BeliefNet) (view : View) (guarded : Bool) (next : Next) : Type 0 where
+pub record IsNetMap (lists : States) (nets : Nets) (nodes : BeliefNet) (view : KeptView) (guarded : Bool) (next : Next) : Type 0 where
   pub held : IsHeld lists.committed nets.committed guarded
   pub before : MayRest lists.committed nets.committed nodes view
   pub settled : pending_list lists.present next ≡ None → IsSettled lists nets
   pub rests : pending_list lists.present next ≡ None → IsResting lists.committed nets.committed nodes view
   pub next_held : IsHeld lists.present nets.present guarded
   pub next_nodes : AreNodesOf lists.present nets.present nodes
-  pub next_view : IsViewOf lists.present (forest nodes.tree) (after view next)
+  pub next_view : IsReadOf lists.present (forest nodes.tree) (after view next)
+  pub next_places : HasPlacesIn view next
 
 -- Where a cause among names and counts stands against the edit, no decision is counted; else no more than the edit touches.
 abbrev pub CountsEdit : Standing → Edit → ℕ → ℕ → Type 0

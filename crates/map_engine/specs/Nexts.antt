@@ -1,22 +1,38 @@
 -- What is read of the believed occurrences once a pending edit is made.
-use Rattle.std.specs.Prelude.{◌≡◌, Bool, true, false, [], Option, Some, None}
-use Rattle.std.specs.List.{filter_map}
+use Rattle.std.specs.Prelude.{◌≡◌, ◌<◌, Bool, true, false, [], length, Option, Some, None}
+use Rattle.std.specs.List.{All, filter_map}
 use Rattle.tmm_model.specs.declared.premise.Edit.{Edit}
 use Rattle.tmm_model.specs.declared.premise.Edit.TheVariants.{Add}
 use Rattle.tmm_model.specs.declared.premise.Premise.{Premise}
 use Rattle.tmm_model.specs.declared.premise.Premise.TheVariants.{Protect}
 use Rattle.tmm_model.specs.Changes.{protection_name}
 use Rattle.tmm_model.specs.Standing.{Standing}
+use Rattle.belief_list.specs.KeptRows.{rows_after}
+use Rattle.map_engine.specs.declared.kept_view.KeptView.{KeptView}
+use Rattle.map_engine.specs.declared.kept_view.NextView.{NextView}
 use Rattle.map_engine.specs.declared.next.Next.{Next}
-use Rattle.map_engine.specs.declared.next.Next.TheVariants.{Nothing, Same, Reported, Anew}
-use Rattle.map_engine.specs.declared.view.View.{View}
+use Rattle.map_engine.specs.declared.next.Next.TheVariants.{Nothing, Same, Reported, Changed}
+use Rattle.map_engine.specs.Reads.{Read, read_of}
 
--- what is read when the edit is made, and v was before
-abbrev pub after : View → Next → View
-after v Nothing = v
-after v Same = v
-after v (Reported reports) = record v { reports = reports }
-after v (Anew made) = made
+-- what is read once these are taken over, where v was kept before
+abbrev pub read_next : KeptView → NextView → Read
+read_next v n = record { size = n.size; rows = rows_after v.rows.items n.differences.items; reports = n.reports.items }
+
+-- each node that differs has a place in what is kept
+abbrev pub HasPlacesFor : KeptView → NextView → Type 0
+HasPlacesFor v n = All (λ d. d.node < length v.rows.items) n.differences.items
+
+-- what is read when the edit is made, and v was kept before
+abbrev pub after : KeptView → Next → Read
+after v Nothing = read_of v
+after v Same = read_of v
+after v (Reported reports) = record (read_of v) { reports = reports.items }
+after v (Changed n) = read_next v n
+
+-- what is to be taken over has its places
+abbrev pub HasPlacesIn : KeptView → Next → Type 0
+HasPlacesIn v (Changed n) = HasPlacesFor v n
+HasPlacesIn v _ = Unit {0}
 
 -- the list that a pending edit leaves, none where no edit is pending
 abbrev pub pending_list : Standing → Next → Option Standing

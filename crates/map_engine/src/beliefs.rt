@@ -93,5 +93,12 @@ fn changes_to(
         &new.tree,
         new.view.rows.items(),
     )?;
-    with_reports(alloc, standing, erased, believed, &old.view, &new.view)
+    with_reports(
+        alloc,
+        standing,
+        erased,
+        believed,
+        old.view.reports.items(),
+        new.view.reports.items(),
+    )
 }

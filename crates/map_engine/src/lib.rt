@@ -12,6 +12,7 @@
 mod beliefs;
 mod changes;
 mod edited;
+mod kept_view;
 mod map_core;
 mod moved;
 mod net_map;
@@ -19,6 +20,7 @@ mod next;
 mod plain;
 mod questions;
 mod still;
+mod touching;
 mod view;
 
 pub use map_core::{MapCore, Pending};

@@ -1,57 +1,71 @@
 // What an edit makes of what is believed, where it may touch it.
-ghost use Rattle.std.specs.Prelude.{◌≡◌, ◌≤◌, map, IfOk, IfErr, OnOk};
+ghost use Rattle.std.specs.Prelude.{◌≡◌, ◌≤◌, ◌<◌, ℕ, List, Option, false, length, map, IfOk, IfErr, OnOk};
+ghost use Rattle.std.specs.List.{All};
 ghost use Rattle.tmm_model.specs.declared.premise.Edit.{Edit as AnEdit};
-ghost use Rattle.tmm_model.specs.Answers.{size, most_size};
+ghost use Rattle.tmm_model.specs.Answers.{size, reports, report_of};
 ghost use Rattle.tmm_model.specs.Changes.{changes, delta_of};
 ghost use Rattle.tmm_model.specs.Maps.{built};
-ghost use Rattle.tmm_model.specs.Standing.{Standing as List};
-ghost use Rattle.belief_list.specs.KeptClips.{AreRowsBefore};
-ghost use Rattle.belief_list.specs.Rows.{IsListing};
+ghost use Rattle.belief_list.specs.declared.kept_rows.KeptRow.{KeptRow as AKeptRow};
+ghost use Rattle.belief_list.specs.KeptRows.{AreRowsOf, row_under, CoverTouched, AreDifferences};
 ghost use Rattle.belief_net.specs.Entering.{KeepLast};
-ghost use Rattle.belief_net.specs.Numbered.{KeepsNumbers, left_under, then_forest};
+ghost use Rattle.belief_net.specs.Numbered.{KeepsNumbers, left_under};
 ghost use Rattle.belief_net.specs.Settling.{counted};
 ghost use Rattle.belief_net.specs.Updating.{IsKept, IsPending, IsCountedWithin};
 ghost use Rattle.occ_tree.specs.OfLists.{IsTreeOf};
 ghost use Rattle.occ_tree.specs.Places.{forest};
 ghost use Rattle.projection.specs.Queues.{IsTooLarge};
 ghost use Rattle.revisions.specs.Counted.{changed};
+ghost use Rattle.revisions.specs.Ruling.{is_ruling};
 ghost use Rattle.spots.specs.Seen.{Holds};
+ghost use Rattle.supports.specs.Edited.{IsEdited, old_forest, AreOthersUntouched};
 ghost use Rattle.map_engine.specs.Beliefs.{IsLeftOut};
 ghost use Rattle.map_engine.specs.Gone.{seen_left};
 ghost use Rattle.map_engine.specs.NetMaps.{AreNodesOf};
-ghost use Rattle.map_engine.specs.Views.{IsViewOf};
+ghost use Rattle.map_engine.specs.Nexts.{IsUnguarded, read_next, HasPlacesFor};
+ghost use Rattle.map_engine.specs.Reads.{IsReadOf, read_of};
+ghost use Rattle.map_engine.specs.Touching.{IsToldOf};
 
 use crate::changes::with_reports;
-use crate::view::{View, view_after};
-use belief_list::{LeftNode, compare_kept};
-use belief_net::{BeliefNet, DatedOcc, size_of};
+use crate::kept_view::{KeptView, NextView};
+use crate::next::Known;
+use crate::touching::{roots_named, touched};
+use belief_list::{
+    Difference, KeptRow, LeftNode, changes_told, differences, reach, size_after,
+};
+use belief_net::{BeliefNet, DatedOcc, Told};
 use dist_net::DistNet;
-use occ_tree::Tree;
+use occ_tree::{Touched, Tree};
 use premise_list::Standing;
 use projection::Counter;
+use protections::report_after;
 use std::alloc::Global;
-use tmm_model::{Changes, Edit, Name, NoMemory, Seq, Stop};
+use tmm_model::{Changes, Edit, Name, NoMemory, Report, Seq, Stop};
 
 // Makes nodes and decisions those of the list that the edit leaves, which list and network have already, and
-// answers what is read of them then and what changes. A map that is too large is refused. After an error
-// `rollback` of the nodes leads back.
+// answers what is read of them then and what changes. Only what the edit may have touched is looked at. A map
+// that is too large is refused. After an error `rollback` of the nodes leads back.
 pub(crate) fn moved(
     alloc: Global,
     edit: &Edit,
     standing: &Standing,
     net: &DistNet,
     nodes: &mut BeliefNet,
-    old: &View,
+    view: &mut KeptView,
     erased: Seq<Name>,
-    before: u32,
+    known: Known,
     counter: &mut Counter,
-) -> Result<(View, Changes), Stop>
+) -> Result<(NextView, Changes), Stop>
     requires kept { IsKept standing.now.committed net.now.committed nodes.old }
-    requires old { IsViewOf standing.now.committed (forest nodes.old.tree) old.now }
+    requires view { IsReadOf standing.now.committed (forest nodes.old.tree) (read_of view.old) }
     requires pending { IsPending standing.now net.now edit.now erased.items }
-    requires before { before ≡ standing.now.committed.horizon }
+    requires before { known.before ≡ standing.now.committed.horizon }
+    requires ruling { known.ruling ≡ is_ruling standing.now.committed.premises edit.now }
+    requires unguarded_before { known.guarded ≡ false → IsUnguarded standing.now.committed }
+    requires unguarded_now { known.guarded ≡ false → IsUnguarded standing.now.present }
     ensures nodes { OnOk result (AreNodesOf standing.now.present net.now.present nodes.new) }
-    ensures view { IfOk result (λ made. IsViewOf standing.now.present (forest nodes.new.tree) made.0) }
+    ensures view { IfOk result (λ made. IsReadOf standing.now.present (forest nodes.new.tree) (read_next view.new made.0)) }
+    ensures places { IfOk result (λ made. HasPlacesFor view.new made.0) }
+    ensures same { read_of view.new ≡ read_of view.old }
     ensures changes { IfOk result (λ made. delta_of made.1 ≡ changes standing.now.committed standing.now.present) }
     ensures stops { IfErr result (IsTooLarge (size (built standing.now.present))) }
     ensures counted { counter.old ≤ counter.new }
@@ -59,77 +73,176 @@ pub(crate) fn moved(
     ensures least { OnOk result (counted counter.old (changed standing.now.committed standing.now.present) ≤ counter.new) }
     ensures last { KeepLast nodes.old nodes.new }
 {
-    let told = nodes.update(alloc, edit, erased.items(), net, standing, before, counter)?;
-    let counted = size_of(alloc, standing, nodes.tree())?;
-    match read(
+    let Ok(gone) = roots_named(alloc, nodes.tree(), erased.items()) else {
+        return Err(Stop::NoMemory);
+    };
+    let told = nodes.update(
         alloc,
+        edit,
+        erased.items(),
+        net,
+        standing,
+        known.before,
+        counter,
+    )?;
+    read(
+        alloc,
+        edit,
         standing,
         net,
         nodes.tree(),
-        counted,
-        told.left.items(),
-        old,
+        &told,
+        gone.as_slice(),
+        view,
         erased,
+        known,
+    )
+}
+
+// What is read of the nodes of a tree, and what changed since its last commit, where it is told what entered
+// and left, and these are the numbers of the roots that are gone.
+fn read(
+    alloc: Global,
+    edit: &Edit,
+    standing: &Standing,
+    net: &DistNet,
+    tree: &Tree,
+    told: &Told,
+    gone: &[u32],
+    view: &mut KeptView,
+    erased: Seq<Name>,
+    known: Known,
+) -> Result<(NextView, Changes), Stop>
+    requires seen { IsTreeOf standing.now.present net.now.present tree.now }
+    requires holds { Holds (built standing.now.present).believed (forest tree.now) }
+    requires told { IsToldOf standing.now net.now edit.now tree.now told.now gone.now }
+    requires view { IsReadOf standing.now.committed (old_forest tree.now) (read_of view.old) }
+    requires ruling { known.ruling ≡ is_ruling standing.now.committed.premises edit.now }
+    requires left_out { IsLeftOut standing.now.committed standing.now.present erased.items }
+    requires unguarded_before { known.guarded ≡ false → IsUnguarded standing.now.committed }
+    requires unguarded_now { known.guarded ≡ false → IsUnguarded standing.now.present }
+    ensures view { IfOk result (λ made. IsReadOf standing.now.present (forest tree.now) (read_next view.new made.0)) }
+    ensures places { IfOk result (λ made. HasPlacesFor view.new made.0) }
+    ensures same { read_of view.new ≡ read_of view.old }
+    ensures changes { IfOk result (λ made. delta_of made.1 ≡ changes standing.now.committed standing.now.present) }
+    ensures stops { IfErr result (IsTooLarge (size (built standing.now.present))) }
+{
+    let Ok(found) = touched(alloc, edit, net, tree, told, gone, known.ruling) else {
+        return Err(Stop::NoMemory);
+    };
+    let Ok(made) = differing(alloc, standing, net, tree, &found, &mut view.rows) else {
+        return Err(Stop::NoMemory);
+    };
+    let size = size_after(view.size, made.as_slice())?;
+    match tell(
+        alloc,
+        edit,
+        standing,
+        net,
+        tree,
+        told.left.items(),
+        found.classes.as_slice(),
+        made.as_slice(),
+        view.reports.items(),
+        erased,
+        known.guarded,
     ) {
-        Ok(made) => Ok(made),
+        Ok((reports, changes)) => Ok((
+            NextView {
+                size,
+                differences: made,
+                reports,
+            },
+            changes,
+        )),
         Err(NoMemory) => Err(Stop::NoMemory),
     }
 }
 
-// What is read of the nodes of a tree, and what changed since its last commit, where it is told which
-// occurrences left.
-fn read(
+// What the edit makes of nodes, each of which has a place then in what is kept.
+fn differing(
     alloc: Global,
     standing: &Standing,
     net: &DistNet,
     tree: &Tree,
-    counted: u64,
-    left: &[DatedOcc],
-    old: &View,
-    erased: Seq<Name>,
-) -> Result<(View, Changes), NoMemory>
+    found: &Touched,
+    rows: &mut Vec<Option<KeptRow>>,
+) -> Result<Vec<Difference>, NoMemory>
     requires seen { IsTreeOf standing.now.present net.now.present tree.now }
-    requires holds { Holds (built standing.now.present).believed (forest tree.now) }
-    requires counted { counted ≡ size (built standing.now.present) }
-    requires small { counted ≤ most_size }
-    requires numbers { KeepsNumbers tree.now (left_under left.now) }
-    requires old { IsViewOf standing.now.committed (then_forest tree.now) old.now }
-    requires before { (edit : AnEdit) × AreRowsBefore standing.now net.now edit tree.now old.now.rows.items }
-    requires left_out { IsLeftOut standing.now.committed standing.now.present erased.items }
-    ensures view { IfOk result (λ made. IsViewOf standing.now.present (forest tree.now) made.0) }
-    ensures changes { IfOk result (λ made. delta_of made.1 ≡ changes standing.now.committed standing.now.present) }
+    requires kept { AreRowsOf standing.now.committed (old_forest tree.now) (row_under rows.old.items) }
+    requires covered { CoverTouched standing.now net.now tree.now found.now.nodes.items found.now.classes.items }
+    ensures made { IfOk result (λ made. (edit : AnEdit) → IsEdited standing.now net.now edit tree.now → AreDifferences standing.now net.now edit tree.now rows.new.items made.items) }
+    ensures places { IfOk result (λ made. All (λ d. d.node < length rows.new.items) made.items) }
+    ensures same { (x : ℕ) → row_under rows.new.items x ≡ row_under rows.old.items x }
 {
-    let view = view_after(alloc, standing, net, tree, counted, old.rows.items())?;
-    let changes = changes_since(alloc, standing, tree, left, old, &view, erased)?;
-    Ok((view, changes))
+    reach(alloc, rows, tree.limit())?;
+    differences(
+        alloc,
+        standing,
+        tree,
+        net,
+        found.nodes.as_slice(),
+        found.classes.as_slice(),
+        rows.as_slice(),
+    )
 }
 
-// What changed since the last commit of the tree, from which these premises are gone.
-fn changes_since(
+// The protections that are broken after the edit, and what it changes, where these are its differences.
+fn tell(
     alloc: Global,
+    edit: &Edit,
     standing: &Standing,
+    net: &DistNet,
     tree: &Tree,
     left: &[DatedOcc],
-    old: &View,
-    new: &View,
+    classes: &[Name],
+    made: &[Difference],
+    before: &[Report],
     erased: Seq<Name>,
-) -> Result<Changes, NoMemory>
-    requires old { IsListing (then_forest tree.now) old.now.rows.items }
-    requires new { IsListing (forest tree.now) new.now.rows.items }
+    guarded: bool,
+) -> Result<(Seq<Report>, Changes), NoMemory>
+    requires seen { IsTreeOf standing.now.present net.now.present tree.now }
+    requires holds { Holds (built standing.now.present).believed (forest tree.now) }
+    requires edited { IsEdited standing.now net.now edit.now tree.now }
+    requires others { AreOthersUntouched net.now tree.now classes.now }
     requires numbers { KeepsNumbers tree.now (left_under left.now) }
-    ensures { (list : List) → IsViewOf list (then_forest tree.now) old.now → IsViewOf standing.now.present (forest tree.now) new.now
-        → IsLeftOut list standing.now.present erased.items
-        → IfOk result (λ told. delta_of told ≡ changes list standing.now.present) }
+    requires made { (kept : List (Option AKeptRow)) × AreDifferences standing.now net.now edit.now tree.now kept made.now }
+    requires before { map report_of before.now ≡ reports (built standing.now.committed) }
+    requires left_out { IsLeftOut standing.now.committed standing.now.present erased.items }
+    requires unguarded { guarded ≡ false → IsUnguarded standing.now.present }
+    ensures reports { IfOk result (λ told. map report_of told.0.items ≡ reports (built standing.now.present)) }
+    ensures changes { IfOk result (λ told. delta_of told.1 ≡ changes standing.now.committed standing.now.present) }
 {
+    let reports = broken_after(alloc, edit, standing, net, tree, classes, before, guarded)?;
     let nodes = left_nodes(alloc, left)?;
-    let believed = compare_kept(
-        alloc,
-        old.rows.items(),
-        nodes.as_slice(),
-        tree,
-        new.rows.items(),
-    )?;
-    with_reports(alloc, standing, erased, believed, old, new)
+    let believed = changes_told(alloc, tree, net, made, nodes.as_slice())?;
+    let changes = with_reports(alloc, standing, erased, believed, before, reports.items())?;
+    Ok((reports, changes))
+}
+
+// The protections that are broken after the edit. Where none stands nothing is looked at.
+fn broken_after(
+    alloc: Global,
+    edit: &Edit,
+    standing: &Standing,
+    net: &DistNet,
+    tree: &Tree,
+    classes: &[Name],
+    before: &[Report],
+    guarded: bool,
+) -> Result<Seq<Report>, NoMemory>
+    requires seen { IsTreeOf standing.now.present net.now.present tree.now }
+    requires holds { Holds (built standing.now.present).believed (forest tree.now) }
+    requires edited { IsEdited standing.now net.now edit.now tree.now }
+    requires others { AreOthersUntouched net.now tree.now classes.now }
+    requires before { map report_of before.now ≡ reports (built standing.now.committed) }
+    requires unguarded { guarded ≡ false → IsUnguarded standing.now.present }
+    ensures { IfOk result (λ told. map report_of told.items ≡ reports (built standing.now.present)) }
+{
+    if !guarded {
+        return Ok(Seq::make(alloc));
+    }
+    report_after(alloc, standing, tree, net, edit, classes, before)
 }
 
 // The nodes of these occurrences.

@@ -11,16 +11,16 @@ ghost use Rattle.map_engine.specs.NetMaps.{CountsEdit};
 ghost use Rattle.map_engine.specs.Stops.{StopsEdit};
 
 use crate::edited::{edited, roll_back};
+use crate::kept_view::{KeptView, audited_view, kept_rows};
 use crate::map_core::{MapCore, Pending};
 use crate::next::{Known, Next, draw_next, keep, may_guard};
 use crate::questions::{ask_between, bounds_between, path_between, why_of};
-use crate::still::is_unread;
-use crate::view::{View, audited, told_rows, view_of};
+use crate::still::{is_ruling, is_unread};
 use belief_net::{BeliefNet, size_of};
 use dist_net::DistNet;
 use premise_list::Standing;
 use projection::Counter;
-use protections::copied;
+use protections::{copied, report};
 use std::alloc::Global;
 use std::marker::Model;
 use std::mem;
@@ -40,7 +40,7 @@ pub struct NetMap {
     // the believed occurrences and the decisions, of the list that a pending edit leaves
     nodes: BeliefNet,
     // what is read of the believed occurrences of the last commit
-    view: View,
+    view: KeptView,
     // whether a protection was ever added: where none was, none stands
     guarded: bool,
     // what is read of those of the list that a pending edit leaves
@@ -75,7 +75,11 @@ impl NetMap {
             // The empty map is small, so only memory can be wanting.
             Err(_) => return Err(NoMemory),
         };
-        let view = view_of(alloc, &standing, &net, nodes.tree(), size)?;
+        let view = KeptView {
+            size,
+            rows: Vec::new(alloc),
+            reports: report(alloc, &standing, nodes.tree(), &net)?,
+        };
         Ok(NetMap {
             standing,
             net,
@@ -115,6 +119,7 @@ impl MapCore for NetMap {
         self.guarded = may_guard(self.guarded, edit);
         let known = Known {
             unread: is_unread(&self.standing, edit),
+            ruling: is_ruling(&self.standing, edit),
             guarded: self.guarded,
             before: self.standing.horizon(),
         };
@@ -125,7 +130,7 @@ impl MapCore for NetMap {
             &self.standing,
             &self.net,
             &mut self.nodes,
-            &self.view,
+            &mut self.view,
             erased,
             known,
             counter,
@@ -201,11 +206,17 @@ impl MapCore for NetMap {
     }
 
     fn list(&self, alloc: Global) -> Result<Seq<ListRow>, NoMemory> {
-        told_rows(alloc, self.nodes.tree(), &self.view)
+        kept_rows(
+            alloc,
+            &self.standing,
+            &self.net,
+            self.nodes.tree(),
+            &self.view,
+        )
     }
 
     fn audit(&self, alloc: Global) -> Result<bool, NoMemory> {
-        audited(
+        audited_view(
             alloc,
             &self.standing,
             &self.net,

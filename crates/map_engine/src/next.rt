@@ -10,16 +10,18 @@ ghost use Rattle.occ_tree.specs.Places.{forest};
 ghost use Rattle.projection.specs.Queues.{IsTooLarge};
 ghost use Rattle.revisions.specs.Alike.{SayAlike, AreAlike};
 ghost use Rattle.revisions.specs.Counted.{changed};
+ghost use Rattle.revisions.specs.Ruling.{is_ruling};
 ghost use Rattle.spots.specs.Seen.{Holds};
 ghost use Rattle.occ_tree.specs.OfLists.{IsTreeOf};
 ghost use Rattle.map_engine.specs.Beliefs.{IsLeftOut};
 ghost use Rattle.map_engine.specs.NetMaps.{AreNodesOf, IsResting};
-ghost use Rattle.map_engine.specs.Nexts.{after, pending_list, IsUnguarded, adds_protection};
-ghost use Rattle.map_engine.specs.Views.{IsViewOf};
+ghost use Rattle.map_engine.specs.Nexts.{after, read_next, HasPlacesFor, HasPlacesIn, pending_list, IsUnguarded, adds_protection};
+ghost use Rattle.map_engine.specs.Reads.{IsReadOf, read_of};
 
+use crate::kept_view::{KeptView, NextView};
 use crate::moved::moved;
 use crate::still::is_still;
-use crate::view::View;
+use belief_list::take_over;
 use belief_net::BeliefNet;
 use dist_net::DistNet;
 use occ_tree::Tree;
@@ -39,8 +41,8 @@ pub(crate) enum Next {
     Same,
     // Beliefs are the same, and these are the broken protections.
     Reported(Seq<Report>),
-    // All is read anew.
-    Anew(View),
+    // These are to be taken over.
+    Changed(NextView),
 }
 
 // What is known of an edit beside the list that it leaves.
@@ -48,6 +50,8 @@ pub(crate) enum Next {
 pub(crate) struct Known {
     // It added or retracted nothing that beliefs read.
     pub unread: bool,
+    // It may change which rules are on a kind.
+    pub ruling: bool,
     // A protection may stand before or after it.
     pub guarded: bool,
     // The horizon before it.
@@ -64,19 +68,22 @@ pub(crate) fn draw_next(
     standing: &Standing,
     net: &DistNet,
     nodes: &mut BeliefNet,
-    old: &View,
+    view: &mut KeptView,
     erased: Seq<Name>,
     known: Known,
     counter: &mut Counter,
 ) -> Result<(Next, Changes), Stop>
-    requires rests { IsResting standing.now.committed net.now.committed nodes.old old.now }
+    requires rests { IsResting standing.now.committed net.now.committed nodes.old view.old }
     requires pending { IsPending standing.now net.now edit.now erased.items }
     requires before { known.before ≡ standing.now.committed.horizon }
     requires unread { known.unread ≡ true → SayAlike standing.now.committed standing.now.present }
+    requires ruling { known.ruling ≡ is_ruling standing.now.committed.premises edit.now }
     requires unguarded_before { known.guarded ≡ false → IsUnguarded standing.now.committed }
     requires unguarded_now { known.guarded ≡ false → IsUnguarded standing.now.present }
     ensures nodes { OnOk result (AreNodesOf standing.now.present net.now.present nodes.new) }
-    ensures view { IfOk result (λ made. IsViewOf standing.now.present (forest nodes.new.tree) (after old.now made.0)) }
+    ensures view { IfOk result (λ made. IsReadOf standing.now.present (forest nodes.new.tree) (after view.new made.0)) }
+    ensures places { IfOk result (λ made. HasPlacesIn view.new made.0) }
+    ensures same { read_of view.new ≡ read_of view.old }
     ensures pending { IfOk result (λ made. pending_list standing.now.present made.0 ≡ Some standing.now.present) }
     ensures changes { IfOk result (λ made. delta_of made.1 ≡ changes standing.now.committed standing.now.present) }
     ensures stops { IfErr result (IsTooLarge (size (built standing.now.present))) }
@@ -93,7 +100,7 @@ pub(crate) fn draw_next(
             standing,
             net,
             nodes.tree(),
-            old,
+            view,
             erased,
             known.guarded,
         ) {
@@ -101,18 +108,10 @@ pub(crate) fn draw_next(
             Err(NoMemory) => Err(Stop::NoMemory),
         }
     } else {
-        let (view, changes) = moved(
-            alloc,
-            edit,
-            standing,
-            net,
-            nodes,
-            old,
-            erased,
-            known.before,
-            counter,
+        let (next, changes) = moved(
+            alloc, edit, standing, net, nodes, view, erased, known, counter,
         )?;
-        Ok((Next::Anew(view), changes))
+        Ok((Next::Changed(next), changes))
     }
 }
 
@@ -123,18 +122,19 @@ fn unmoved(
     standing: &Standing,
     net: &DistNet,
     tree: &Tree,
-    old: &View,
+    view: &KeptView,
     erased: Seq<Name>,
     guarded: bool,
 ) -> Result<(Next, Changes), NoMemory>
-    requires old { IsViewOf standing.now.committed (forest tree.now) old.now }
+    requires view { IsReadOf standing.now.committed (forest tree.now) (read_of view.now) }
     requires seen { IsTreeOf standing.now.present net.now.present tree.now }
     requires holds { Holds (built standing.now.present).believed (forest tree.now) }
     requires alike { AreAlike standing.now.committed standing.now.present }
     requires unguarded_before { guarded ≡ false → IsUnguarded standing.now.committed }
     requires unguarded_now { guarded ≡ false → IsUnguarded standing.now.present }
     requires left_out { IsLeftOut standing.now.committed standing.now.present erased.items }
-    ensures view { IfOk result (λ made. IsViewOf standing.now.present (forest tree.now) (after old.now made.0)) }
+    ensures view { IfOk result (λ made. IsReadOf standing.now.present (forest tree.now) (after view.now made.0)) }
+    ensures places { IfOk result (λ made. HasPlacesIn view.now made.0) }
     ensures pending { IfOk result (λ made. pending_list standing.now.present made.0 ≡ Some standing.now.present) }
     ensures changes { IfOk result (λ made. delta_of made.1 ≡ changes standing.now.committed standing.now.present) }
 {
@@ -143,7 +143,7 @@ fn unmoved(
         return Ok((Next::Same, changes));
     }
     let reports = report(alloc, standing, tree, net)?;
-    let (broken, mended) = delta(alloc, old.reports.items(), reports.items(), standing)?;
+    let (broken, mended) = delta(alloc, view.reports.items(), reports.items(), standing)?;
     let changes = changes_of(alloc, erased, broken, mended);
     Ok((Next::Reported(reports), changes))
 }
@@ -169,15 +169,26 @@ fn changes_of(alloc: Global, erased: Seq<Name>, broken: Seq<Report>, mended: Seq
     }
 }
 
-// Makes what is read after a pending edit what is read.
-pub(crate) fn keep(view: &mut View, next: Next)
-    ensures { view.new ≡ after view.old next }
+// Makes what is read after a pending edit what is kept. It takes no memory.
+pub(crate) fn keep(view: &mut KeptView, next: Next)
+    requires { HasPlacesIn view.old next }
+    ensures { read_of view.new ≡ after view.old next }
 {
     match next {
         Next::Nothing | Next::Same => {}
         Next::Reported(reports) => view.reports = reports,
-        Next::Anew(made) => *view = made,
+        Next::Changed(made) => take_over_all(view, made),
     }
+}
+
+// Takes over what an edit made another.
+fn take_over_all(view: &mut KeptView, made: NextView)
+    requires { HasPlacesFor view.old made }
+    ensures { read_of view.new ≡ read_next view.old made }
+{
+    take_over(&mut view.rows, made.differences.as_slice());
+    view.size = made.size;
+    view.reports = made.reports;
 }
 
 // Whether a protection may stand before or after the edit, where it is told whether one may before.

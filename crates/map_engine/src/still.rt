@@ -4,6 +4,7 @@ ghost use Rattle.tmm_model.specs.Standing.{points_in};
 ghost use Rattle.list_net.specs.Fits.{IsNetOf};
 ghost use Rattle.list_net.specs.Network.{PointsKeepNumbers};
 ghost use Rattle.revisions.specs.Alike.{is_read, is_unread, SayAlike, AreAlike};
+ghost use Rattle.revisions.specs.Ruling.{is_ruling};
 ghost use Rattle.map_engine.specs.Still.{occurs_in, is_anchor, is_elsewhere, are_elsewhere};
 
 use dist_net::DistNet;
@@ -20,6 +21,21 @@ pub(crate) fn is_unread(standing: &Standing, edit: &Edit) -> bool
             Some(premise) => !is_read(premise),
             None => false,
         },
+        Edit::Horizon(_) => false,
+    }
+}
+
+// Whether the edit may change which rules are on a kind: it adds a rule, or retracts a rule or what rules
+// mention.
+pub(crate) fn is_ruling(standing: &Standing, edit: &Edit) -> bool
+    ensures { result ≡ is_ruling standing.now.present.premises edit.now }
+{
+    match edit {
+        Edit::Add(premise) => matches!(premise, Premise::Rule { .. }),
+        Edit::Erase(name) => matches!(
+            standing.get(*name),
+            Some(Premise::Rule { .. } | Premise::Kind { .. } | Premise::Class { .. })
+        ),
         Edit::Horizon(_) => false,
     }
 }

@@ -1,15 +1,10 @@
 // What is read of the believed occurrences of a list.
 ghost use Rattle.std.specs.Prelude.{◌≡◌, ◌≤◌, map, IsTrue, IfOk};
 ghost use Rattle.std.specs.List.{All};
-ghost use Rattle.std.specs.List.Sorted.{IsStrictlySortedBy};
-ghost use Rattle.tmm_model.specs.declared.premise.Edit.{Edit as AnEdit};
 ghost use Rattle.tmm_model.specs.Answers.{rows, row_of, size, most_size};
 ghost use Rattle.tmm_model.specs.Maps.{built};
 ghost use Rattle.tmm_model.specs.Moments.{moment_of};
 ghost use Rattle.tmm_model.specs.Standing.{Standing as List};
-ghost use Rattle.belief_list.specs.Kept.{kept_forest};
-ghost use Rattle.belief_list.specs.KeptClips.{AreRowsBefore};
-ghost use Rattle.belief_list.specs.Merging.{row_cmp};
 ghost use Rattle.belief_list.specs.Rows.{IsLiveRow, IsListing};
 ghost use Rattle.list_net.specs.Fits.{IsNetOf};
 ghost use Rattle.occ_tree.specs.OfLists.{IsTreeOf};
@@ -18,7 +13,7 @@ ghost use Rattle.spots.specs.Forest.{moment_at};
 ghost use Rattle.spots.specs.Seen.{Holds};
 ghost use Rattle.map_engine.specs.Views.{IsViewOf};
 
-use belief_list::{BeliefRow, list_rows, listed, listed_after};
+use belief_list::{BeliefRow, list_rows, listed};
 use dist_net::DistNet;
 use just_check::audit;
 use occ_tree::Tree;
@@ -61,32 +56,6 @@ pub(crate) fn view_of(
     })
 }
 
-// The same after an edit, from the rows of the last commit of the tree.
-pub(crate) fn view_after(
-    alloc: Global,
-    standing: &Standing,
-    net: &DistNet,
-    tree: &Tree,
-    counted: u64,
-    old: &[BeliefRow],
-) -> Result<View, NoMemory>
-    requires seen { IsTreeOf standing.now.present net.now.present tree.now }
-    requires holds { Holds (built standing.now.present).believed (forest tree.now) }
-    requires before { (edit : AnEdit) × AreRowsBefore standing.now net.now edit tree.now old.now }
-    requires in_order { IsStrictlySortedBy (row_cmp (kept_forest tree.now)) old.now }
-    requires counted { counted ≡ size (built standing.now.present) }
-    requires small { counted ≤ most_size }
-    ensures { IfOk result (IsViewOf standing.now.present (forest tree.now)) }
-{
-    let rows = listed_after(alloc, standing, tree, net, old)?;
-    let reports = report(alloc, standing, tree, net)?;
-    Ok(View {
-        size: counted,
-        rows,
-        reports,
-    })
-}
-
 // The believed occurrences, in their order.
 pub(crate) fn told_rows(alloc: Global, tree: &Tree, view: &View) -> Result<Seq<ListRow>, NoMemory>
     requires { IsListing (forest tree.now) view.now.rows.items }
@@ -113,7 +82,7 @@ pub(crate) fn audited(
 }
 
 // The occurrences of the rows.
-fn occurrences(alloc: Global, tree: &Tree, rows: &[BeliefRow]) -> Result<Seq<Occ>, NoMemory>
+pub(crate) fn occurrences(alloc: Global, tree: &Tree, rows: &[BeliefRow]) -> Result<Seq<Occ>, NoMemory>
     requires { All (IsLiveRow (forest tree.now)) rows.now }
     ensures { IfOk result (λ occs. map moment_of occs.items ≡ map (λ r. moment_at (forest tree.now) r.node) rows.now) }
 {

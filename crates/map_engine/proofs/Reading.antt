@@ -1,0 +1,59 @@
+-- What is kept of nodes is that of a list's map, and stays so where the same is believed.
+use Rattle.std.proofs.Common.{◌≡◌, ◌∙◌, ℕ, ◌+◌, List, [], length, refl, sym, ap, subst}
+use Rattle.std.specs.Prelude.{Option, Some, None}
+use Rattle.std.specs.List.{Contains}
+use Rattle.std.specs.Option.{option_map_or}
+use Rattle.tmm_model.specs.declared.token.Shape.{Shape}
+use Rattle.tmm_model.specs.declared.token.Shape.TheVariants.{Event, Persistence, Span}
+use Rattle.tmm_model.specs.Answers.{row, weight}
+use Rattle.tmm_model.specs.Beliefs.{is_of, rules_on, rules_for, rules_at}
+use Rattle.tmm_model.specs.Maps.{built}
+use Rattle.tmm_model.specs.Moments.{Moment, rules}
+use Rattle.tmm_model.specs.Standing.{Standing}
+use Rattle.spots.specs.Forest.{Forest, Member, member, IsLive, moment_at}
+use Rattle.spots.specs.Seen.{Holds}
+use Rattle.spots.proofs.Nodes.{node_at, moment_at-is}
+use Rattle.belief_list.specs.declared.kept_rows.KeptRow.{KeptRow}
+use Rattle.belief_list.specs.KeptRows.{AreRowsOf, IsRowOf}
+use Rattle.revisions.specs.Alike.{AreAlike, BelieveAlike}
+use Rattle.revisions.proofs.Alike.{alike_believe}
+
+-- ---- lists that are alike
+
+module _ (s t : Standing) (alike : AreAlike s t) where
+  rules_for_same : (o : Option (Shape × List ℕ)) → rules_for s o ≡ rules_for t o
+  rules_for_same None = refl
+  rules_for_same (Some (Event, kind)) = alike.say.on kind
+  rules_for_same (Some (Persistence, fact)) = refl
+  rules_for_same (Some (Span, fact)) = refl
+
+  weight_same : (k : Moment) → weight (built s) k ≡ weight (built t) k
+  weight_same k = ap (λ (rs : List (List ℕ)). 1 + length (rules k) + length rs) (ap (rules_for s) (alike.say.is k) ∙ rules_for_same (is_of t k))
+
+  row_same : (k : Moment) → Contains (built s).believed k → row (built s) k ≡ row (built t) k
+  row_same k at = let same : BelieveAlike s t = (alike_believe s t alike).0 in λ i. record {
+    date = same.dates k at i;
+    occ = k;
+    what = option_map_or (λ (y : Shape × List ℕ). y.1) (alike.say.is k i) [];
+    clip = same.clips k at i;
+  }
+
+  -- the rows of the nodes stay
+  pub rows_still : (f : Forest) (rows : ℕ → Option KeptRow) → Holds (built s).believed f → AreRowsOf s f rows → AreRowsOf t f rows
+  rows_still f rows holds are = record {
+    own = λ x live.
+        let (r, at, is) = are.own x live in
+        let (m, here) = node_at f x live in
+        let believed : Contains (built s).believed (moment_at f x) = subst (Contains (built s).believed) (sym (moment_at-is f x m here)) (holds.own x m here) in
+        (r, at, record { told = is.told ∙ row_same (moment_at f x) believed; clip = is.clip; weight = is.weight ∙ weight_same (moment_at f x) });
+    none = are.none;
+  }
+
+-- ---- rows that are the same
+
+-- rows that agree under each number are of the same nodes
+pub rows_agree : (s : Standing) (f : Forest) (rows rows_new : ℕ → Option KeptRow) → ((x : ℕ) → rows_new x ≡ rows x) → AreRowsOf s f rows → AreRowsOf s f rows_new
+rows_agree s f rows rows_new same are = record {
+  own = λ x live. let (r, at, is) = are.own x live in (r, same x ∙ at, is);
+  none = λ x gone. same x ∙ are.none x gone;
+}

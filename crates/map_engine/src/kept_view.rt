@@ -1,0 +1,77 @@
+// What is kept of the believed occurrences, to be read and to be compared with.
+ghost use Rattle.std.specs.Prelude.{◌≡◌, ◌≤◌, map, IsTrue, IfOk};
+ghost use Rattle.tmm_model.specs.Answers.{rows, row_of, size, most_size};
+ghost use Rattle.tmm_model.specs.Maps.{built};
+ghost use Rattle.list_net.specs.Fits.{IsNetOf};
+ghost use Rattle.occ_tree.specs.OfLists.{IsTreeOf};
+ghost use Rattle.occ_tree.specs.Places.{forest};
+ghost use Rattle.spots.specs.Seen.{Holds};
+ghost use Rattle.map_engine.specs.Reads.{IsReadOf, read_of};
+
+use crate::view::occurrences;
+use belief_list::{Difference, KeptRow, list_rows, listed_by_number};
+use dist_net::DistNet;
+use just_check::audit;
+use occ_tree::Tree;
+use premise_list::Standing;
+use std::alloc::Global;
+use tmm_model::{ListRow, NoMemory, Report, Seq};
+
+// What is kept of the believed occurrences of the last commit.
+#[derive(Drop)]
+pub(crate) struct KeptView {
+    // The size of the map.
+    pub size: u64,
+    // What is kept of each node, by its number.
+    pub rows: Vec<Option<KeptRow>>,
+    // The broken protections.
+    pub reports: Seq<Report>,
+}
+
+// What of it an edit makes another.
+#[derive(Drop)]
+pub(crate) struct NextView {
+    // The size of the map after it.
+    pub size: u64,
+    // What it makes of nodes.
+    pub differences: Vec<Difference>,
+    // The protections that are broken after it.
+    pub reports: Seq<Report>,
+}
+
+// The believed occurrences of the last commit, in their order.
+pub(crate) fn kept_rows(
+    alloc: Global,
+    standing: &Standing,
+    net: &DistNet,
+    tree: &Tree,
+    view: &KeptView,
+) -> Result<Seq<ListRow>, NoMemory>
+    requires seen { IsTreeOf standing.now.present net.now.present tree.now }
+    requires holds { Holds (built standing.now.present).believed (forest tree.now) }
+    requires view { IsReadOf standing.now.present (forest tree.now) (read_of view.now) }
+    ensures { IfOk result (λ found. map row_of found.items ≡ rows (built standing.now.present)) }
+{
+    let rows = listed_by_number(alloc, standing, tree, net, &view.rows)?;
+    list_rows(alloc, tree, rows.items())
+}
+
+// Whether these are the believed occurrences of the list, in their order. They are, and it is found anew
+// from the list.
+pub(crate) fn audited_view(
+    alloc: Global,
+    standing: &Standing,
+    net: &DistNet,
+    tree: &Tree,
+    view: &KeptView,
+) -> Result<bool, NoMemory>
+    requires network { IsNetOf standing.now.present net.now.present }
+    requires seen { IsTreeOf standing.now.present net.now.present tree.now }
+    requires holds { Holds (built standing.now.present).believed (forest tree.now) }
+    requires view { IsReadOf standing.now.present (forest tree.now) (read_of view.now) }
+    ensures { IfOk result (λ good. IsTrue good) }
+{
+    let rows = listed_by_number(alloc, standing, tree, net, &view.rows)?;
+    let occs = occurrences(alloc, tree, rows.items())?;
+    audit(alloc, standing, net, occs.items())
+}

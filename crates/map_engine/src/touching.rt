@@ -1,0 +1,160 @@
+// Which nodes an edit may have touched.
+ghost use Rattle.std.specs.Prelude.{◌≡◌, ℕ, List, Some, true, IfOk, OnOk};
+ghost use Rattle.std.specs.List.{Contains};
+ghost use Rattle.tmm_model.specs.declared.point.PointName.TheVariants.{Begin};
+ghost use Rattle.tmm_model.specs.Moments.{Moment, At, moment_of};
+ghost use Rattle.list_theory.proofs.Elements.{In};
+ghost use Rattle.spots.specs.Forest.{Member, member, IsLive, IsOnce, moment_at};
+ghost use Rattle.spots.specs.Seen.{HasList};
+ghost use Rattle.spots.specs.Spots.{AreTokens};
+ghost use Rattle.occ_tree.specs.Places.{forest};
+ghost use Rattle.occ_tree.specs.Standing.{committed};
+ghost use Rattle.occ_tree.specs.Touched.{IsAtMoved};
+ghost use Rattle.supports.specs.Edited.{old_forest, AreOthersUntouched};
+ghost use Rattle.belief_net.specs.MarkLaws.{added_by as name_added};
+ghost use Rattle.belief_net.specs.Numbered.{left_under};
+ghost use Rattle.belief_net.specs.declared.told.DatedOcc.{DatedOcc as ADatedOcc};
+ghost use Rattle.map_engine.specs.Touching.{HasNodeOf, entered_of, TakesIn};
+
+use belief_net::{DatedOcc, Told};
+use dist_net::DistNet;
+use occ_tree::{Touched, Tree};
+use std::alloc::Global;
+use tmm_model::{Edit, Name, NoMemory, Occ, Seq};
+
+// The roots of these names.
+pub(crate) fn roots_named(alloc: Global, tree: &Tree, names: &[Name]) -> Result<Vec<u32>, NoMemory>
+    requires { IsOnce (forest tree.now) }
+    ensures { IfOk result (λ found. (name : List ℕ) → In name names.now → HasNodeOf (forest tree.now) (At (Begin name)) found.items) }
+{
+    let mut found = Vec::new(alloc);
+    for name in names {
+        push_root(alloc, tree, *name, &mut found)?;
+    }
+    Ok(found)
+}
+
+// All that an edit may have touched, where `gone` are the numbers of the roots that are gone: nodes that
+// entered, left or moved, and the classes of tokens; and all nodes, where the edit may have changed which rules
+// are on a kind.
+pub(crate) fn touched(
+    alloc: Global,
+    edit: &Edit,
+    net: &DistNet,
+    tree: &Tree,
+    told: &Told,
+    gone: &[u32],
+    ruling: bool,
+) -> Result<Touched, NoMemory>
+    requires list { HasList net.now.present (forest tree.now) }
+    requires once { IsOnce (forest tree.now) }
+    ensures takes { IfOk result (λ found. TakesIn (forest tree.now) told.now (name_added edit.now) gone.now found.nodes.items) }
+    ensures moved { IfOk result (λ found. (x : ℕ) (m : Member) → member (forest tree.now) x ≡ Some m → IsAtMoved net.now.moved m → Contains found.nodes.items x) }
+    ensures ruling { IfOk result (λ found. ruling ≡ true → (x : ℕ) → IsLive (forest tree.now) x → Contains found.nodes.items x) }
+    ensures classes { IfOk result (λ found. AreOthersUntouched net.now tree.now found.classes.items) }
+    ensures before { IfOk result (λ found. (class : List ℕ) → AreTokens (old_forest tree.now) class ((committed tree.now).tokens class)) }
+{
+    let moved = tree.touched(alloc, net)?;
+    let mut nodes = touched_nodes(alloc, tree, edit, told, gone)?;
+    push_numbers(moved.nodes.as_slice(), &mut nodes)?;
+    if ruling {
+        let all = tree.numbers(alloc)?;
+        push_numbers(all.as_slice(), &mut nodes)?;
+    }
+    Ok(Touched {
+        nodes,
+        classes: moved.classes,
+    })
+}
+
+// The nodes of what an update tells as entered, and of the root that the edit adds; those of what left; and
+// these others.
+fn touched_nodes(
+    alloc: Global,
+    tree: &Tree,
+    edit: &Edit,
+    told: &Told,
+    others: &[u32],
+) -> Result<Vec<u32>, NoMemory>
+    requires { IsOnce (forest tree.now) }
+    ensures { IfOk result (λ found. TakesIn (forest tree.now) told.now (name_added edit.now) others.now found.items) }
+{
+    let mut found = Vec::new(alloc);
+    push_numbers(others, &mut found)?;
+    push_left(told.left.items(), &mut found)?;
+    push_entered(tree, told.entered.items(), &mut found)?;
+    if let Edit::Add(premise) = edit {
+        push_root(alloc, tree, premise.name(), &mut found)?;
+    }
+    Ok(found)
+}
+
+// Appends these numbers.
+fn push_numbers(numbers: &[u32], found: &mut Vec<u32>) -> Result<(), NoMemory>
+    ensures kept { OnOk result ((x : ℕ) → Contains found.old.items x → Contains found.new.items x) }
+    ensures pushed { OnOk result ((x : ℕ) → Contains numbers.now x → Contains found.new.items x) }
+{
+    match found.extend_from_slice(numbers) {
+        Ok(()) => Ok(()),
+        Err(_) => Err(NoMemory),
+    }
+}
+
+// Appends the numbers that nodes of what left had.
+fn push_left(left: &[DatedOcc], found: &mut Vec<u32>) -> Result<(), NoMemory>
+    ensures kept { OnOk result ((x : ℕ) → Contains found.old.items x → Contains found.new.items x) }
+    ensures pushed { OnOk result ((x : ℕ) (k : Moment) → In (x, k) (left_under left.now) → Contains found.new.items x) }
+{
+    for gone in left {
+        push(gone.node, found)?;
+    }
+    Ok(())
+}
+
+// Appends the nodes of what entered.
+fn push_entered(tree: &Tree, entered: &[DatedOcc], found: &mut Vec<u32>) -> Result<(), NoMemory>
+    requires { IsOnce (forest tree.now) }
+    ensures kept { OnOk result ((x : ℕ) → Contains found.old.items x → Contains found.new.items x) }
+    ensures pushed { OnOk result ((m : ADatedOcc) → Contains entered.now m → HasNodeOf (forest tree.now) (moment_of m.occ) found.new.items) }
+{
+    for new in entered {
+        push_node(tree, &new.occ, found)?;
+    }
+    Ok(())
+}
+
+// Appends the root of this name, if there is one.
+fn push_root(alloc: Global, tree: &Tree, name: Name, found: &mut Vec<u32>) -> Result<(), NoMemory>
+    requires { IsOnce (forest tree.now) }
+    ensures kept { OnOk result ((x : ℕ) → Contains found.old.items x → Contains found.new.items x) }
+    ensures pushed { OnOk result (HasNodeOf (forest tree.now) (At (Begin name)) found.new.items) }
+{
+    let root = Occ {
+        root: name,
+        rules: Seq::make(alloc),
+    };
+    push_node(tree, &root, found)
+}
+
+// Appends the node of an occurrence, if there is one.
+fn push_node(tree: &Tree, occ: &Occ, found: &mut Vec<u32>) -> Result<(), NoMemory>
+    requires { IsOnce (forest tree.now) }
+    ensures kept { OnOk result ((x : ℕ) → Contains found.old.items x → Contains found.new.items x) }
+    ensures pushed { OnOk result (HasNodeOf (forest tree.now) (moment_of occ.now) found.new.items) }
+{
+    match tree.find(occ) {
+        Some(x) => push(x, found),
+        None => Ok(()),
+    }
+}
+
+// Appends a number.
+fn push(x: u32, found: &mut Vec<u32>) -> Result<(), NoMemory>
+    ensures kept { OnOk result ((y : ℕ) → Contains found.old.items y → Contains found.new.items y) }
+    ensures pushed { OnOk result (Contains found.new.items x) }
+{
+    match found.push(x) {
+        Ok(()) => Ok(()),
+        Err(_) => Err(NoMemory),
+    }
+}
