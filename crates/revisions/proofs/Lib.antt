@@ -19,3 +19,4 @@ pub mod Alike
 pub mod ReadPremises
 pub mod UnreadEdits
 pub mod StillEdits
+pub mod Ruling

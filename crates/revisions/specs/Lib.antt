@@ -11,3 +11,4 @@ pub mod Clips
 pub mod Standing
 pub mod Alike
 pub mod StillEdits
+pub mod Ruling

@@ -4,6 +4,7 @@ ghost use Rattle.revisions.specs.Maps.{EditsAreLawful};
 ghost use Rattle.revisions.specs.Standing.{StandingOccur};
 ghost use Rattle.revisions.specs.Alike.{AlikeBelieve, SameReadSayAlike, UnreadEditsSayAlike};
 ghost use Rattle.revisions.specs.Clips.{ClipsStay, ClipsStayOn};
+ghost use Rattle.revisions.specs.Ruling.{UnruledEditsKeepRules};
 ghost use Rattle.revisions.specs.StillEdits.{UnmovedAreAlike, LikeListsSee};
 ghost use Rattle.revisions.specs.Whole.{RevisionsAreRight};
 ghost use Rattle.revisions.specs.Marks.{MarksMake};
@@ -97,6 +98,11 @@ pub fn same_read_say_alike()
 /// What an edit adds or erases that beliefs do not read, it changes nothing of what they read but distances.
 pub fn unread_edits_say_alike()
     ensures { UnreadEditsSayAlike }
+{}
+
+/// An edit that adds no rule, and erases no rule, kind or class, leaves the rules on each kind as they are.
+pub fn unruled_edits_keep_rules()
+    ensures { UnruledEditsKeepRules }
 {}
 
 /// Lists that say the same are alike where no point moved whose distances beliefs read.

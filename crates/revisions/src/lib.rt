@@ -11,4 +11,5 @@ pub use laws::{
     edits_are_lawful, end_is_believed, like_lists_see, made_are_touched, marks_make,
     nodes_are_final, revisions_are_right, same_read_say_alike, seeds_are_right, seeds_keep,
     standing_occur, told_is_changed, turns_keep, unmoved_are_alike, unread_edits_say_alike,
+    unruled_edits_keep_rules,
 };
