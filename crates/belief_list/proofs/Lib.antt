@@ -8,3 +8,4 @@ pub mod Ordered
 pub mod Empty
 pub mod TwoLists
 pub mod KeptRows
+pub mod Sizes

@@ -29,11 +29,7 @@ pub struct Difference {
 }
 
 /// Makes a place for each number below a limit. No row is another then, also where there is no memory.
-pub fn reach(
-    _alloc: Global,
-    rows: &mut Vec<Option<KeptRow>>,
-    limit: u32,
-) -> Result<(), NoMemory>
+pub fn reach(_alloc: Global, rows: &mut Vec<Option<KeptRow>>, limit: u32) -> Result<(), NoMemory>
     ensures same { (x : ℕ) → row_under rows.new.items x ≡ row_under rows.old.items x }
     ensures room { OnOk result (limit ≤ length rows.new.items) }
 {
@@ -51,7 +47,8 @@ pub fn take_over(rows: &mut Vec<Option<KeptRow>>, differences: &[Difference])
     requires places { All (λ d. d.node < length rows.old.items) differences.now }
     ensures rows { (x : ℕ) → row_under rows.new.items x ≡ rows_after rows.old.items differences.now x }
 {
-    for d in differences.iter().rev() {
+    for place in (0..differences.len()).rev() {
+        let d = differences[place];
         rows[d.node as usize] = d.now;
     }
 }

@@ -19,6 +19,7 @@ mod list;
 mod matched;
 mod merging;
 mod places;
+mod size;
 #[cfg(test)]
 mod tests;
 mod told_changes;
@@ -31,4 +32,5 @@ pub use kept_clips::clips_after;
 pub use kept_rows::{Difference, KeptRow, reach, take_over};
 pub use list::{BeliefRow, list_rows, listed, listed_after};
 pub use merging::ranked_after;
+pub use size::size_after;
 pub use told_changes::changes_told;

@@ -43,6 +43,5 @@ pub mod Nothing
 pub mod Rises
 pub mod Updated
 pub mod Numbering
-pub mod Sized
 pub mod AlikeKept
 pub mod AlikeCounted

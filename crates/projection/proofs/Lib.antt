@@ -7,3 +7,4 @@ pub mod Steps
 pub mod Settled
 pub mod Decided
 pub mod Ends
+pub mod Sized

@@ -6,7 +6,7 @@ use Rattle.spots.specs.Forest.{IsLive}
 use Rattle.occ_tree.specs.Places.{forest}
 use Rattle.projection.specs.Queues.{weight_at}
 use Rattle.projection.proofs.Settled.{larger}
-use Rattle.belief_net.proofs.Sized.{AreCounted, none_counted, dead_counted, live_counted, all_counted, too_large}
+use Rattle.projection.proofs.Sized.{AreCounted, none_counted, dead_counted, live_counted, all_counted, too_large}
 use Rattle.belief_net.proofs.size.size_of.Goals as goal
 use Rattle.belief_net.proofs.size.size_of.Goals.{then-is_live+in_ok-counted, else-is_live}
 
