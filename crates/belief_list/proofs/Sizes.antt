@@ -1,5 +1,5 @@
 -- The size of a map, as the sum of what its rows count, number by number.
-use Rattle.std.proofs.Common.{◌≡◌, ◌≢◌, ◌∙◌, ℕ, zero, suc, ◌+◌, ◌<◌, ◌≤◌, ◌==◌, Bool, true, false, List, [], ◌∷◌, length, refl, sym, ap, subst, inl, inr, arith, nat_eq, slice_index_or}
+use Rattle.std.proofs.Common.{◌≡◌, ◌≢◌, ◌∙◌, ℕ, zero, suc, ◌+◌, ◌<◌, ◌≤◌, ◌==◌, Bool, true, false, List, [], ◌∷◌, length, refl, sym, ap, subst, inl, inr, arith, nat_eq}
 use Rattle.std.specs.Prelude.{Option, Some, None, sum_by}
 use Rattle.std.specs.List.{All, AllByRecursion, IsDistinct}
 use Rattle.std.proofs.lemmas.Bool.{cases_eq, cases_lt}
