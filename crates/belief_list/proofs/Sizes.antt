@@ -1,7 +1,7 @@
 -- The size of a map, as the sum of what its rows count, number by number.
-use Rattle.std.proofs.Common.{◌≡◌, ◌≢◌, ◌∙◌, ℕ, zero, suc, ◌+◌, ◌<◌, ◌≤◌, ◌==◌, Bool, true, false, List, [], ◌∷◌, length, refl, sym, ap, subst, inl, inr, arith, nat_eq, slice_index_or}
+use Rattle.std.proofs.Common.{◌≡◌, ◌≢◌, ◌∙◌, ℕ, zero, suc, ◌+◌, ◌<◌, ◌≤◌, ◌==◌, Bool, true, false, List, [], ◌∷◌, length, refl, sym, ap, subst, inl, inr, arith, nat_eq}
 use Rattle.std.specs.Prelude.{Option, Some, None, sum_by}
-use Rattle.std.specs.List.{All, Contains, AllByRecursion, IsDistinct}
+use Rattle.std.specs.List.{All, AllByRecursion, IsDistinct}
 use Rattle.std.proofs.lemmas.Bool.{cases_eq, cases_lt}
 use Rattle.std.proofs.lemmas.Bool.Decides.{Decides-eqb}
 use Rattle.std.proofs.lemmas.List.{get_or_past}
@@ -88,12 +88,12 @@ module _ (kept : List (Option KeptRow)) where
   limit (d ∷ ds) = d.node + 1 + limit ds
 
   -- **What counted before is taken away, and what counts now is added.**
-  summed : (ds : List Difference) → All (λ d. d.was ≡ row_under kept d.node) ds → IsDistinct nat_eq (numbers_of ds) → (n : ℕ) → limit ds ≤ n
+  total_after : (ds : List Difference) → All (λ d. d.was ≡ row_under kept d.node) ds → IsDistinct nat_eq (numbers_of ds) → (n : ℕ) → limit ds ≤ n
       → total (rows_after kept ds) n + sum_by (λ d. weight_kept d.was) ds ≡ total (row_under kept) n + sum_by (λ d. weight_kept d.now) ds
   unfolding limit
-  summed [] were once n within = refl
-  summed (d ∷ ds) were once n within =
-      let rest = summed ds (All-tail (λ d. d.was ≡ row_under kept d.node) d ds were) (IsDistinct-tail nat_eq d.node (numbers_of ds) once) n (omega (arith, within)) in
+  total_after [] were once n within = refl
+  total_after (d ∷ ds) were once n within =
+      let rest = total_after ds (All-tail (λ d. d.was ≡ row_under kept d.node) d ds were) (IsDistinct-tail nat_eq d.node (numbers_of ds) once) n (omega (arith, within)) in
       let one = total_changed (rows_after kept ds) (rows_after kept (d ∷ ds)) d.node (λ x apart. sym (later_count d ds x apart)) n (omega (arith, within)) in
       let was : weight_kept (rows_after kept ds d.node) ≡ weight_kept d.was =
       ap weight_kept (unchanged d.node ds (IsDistinct-head nat_eq d.node (numbers_of ds) once) ∙ sym (All-head (λ d. d.was ≡ row_under kept d.node) d ds were)) in
@@ -151,13 +151,13 @@ module _ (s : Standing) (net : Net) (f : Forest) (seen : IsSeen s net f) (rows :
   total_is holds n last = all_counted s net f seen holds n (total rows n) last (counted_below n)
 
 -- **What counts after an edit**, and what counted before of the nodes that differ, is what counted before it and what counts now of them.
-pub sizes : (lists : States) (nets : Nets) (edit : Edit) (tree : Kept) (kept : List (Option KeptRow)) (ds : List Difference) → AreDifferences lists nets edit tree kept ds
+pub size_changed : (lists : States) (nets : Nets) (edit : Edit) (tree : Kept) (kept : List (Option KeptRow)) (ds : List Difference) → AreDifferences lists nets edit tree kept ds
     → size (built lists.present) + sum_by (λ d. weight_kept d.was) ds ≡ size (built lists.committed) + sum_by (λ d. weight_kept d.now) ds
-sizes lists nets edit tree kept ds made =
+size_changed lists nets edit tree kept ds made =
     let n = limit kept ds in
     let before = total_is lists.committed nets.committed (old_forest tree) made.edited.seen_then (row_under kept) made.before made.edited.holds_then n
     (λ x live. (let (r, is, row) = made.before.own x live in before_below kept ds x (kept_below kept x r is))) in
     let after = total_is lists.present nets.present (forest (present tree)) made.edited.seen_now (rows_after kept ds) made.after made.edited.holds_now n
     (λ x live. (let (r, is, row) = made.after.own x live in after_below kept ds x r is)) in
-    let changed = summed kept ds made.were made.once n (omega arith) in
+    let changed = total_after kept ds made.were made.once n (omega arith) in
     omega (arith, before, after, changed)
