@@ -8,3 +8,5 @@ pub mod Ordered
 pub mod Empty
 pub mod TwoLists
 pub mod KeptRows
+pub mod Finding
+pub mod Untouched

@@ -11,7 +11,7 @@
 
 mod by_number;
 mod changes;
-mod differences;
+mod differing;
 mod kept_changes;
 mod kept_clips;
 mod kept_rows;
@@ -25,7 +25,7 @@ mod told_changes;
 
 pub use by_number::listed_by_number;
 pub use changes::{BeliefChanges, compare};
-pub use differences::differences;
+pub use differing::differences;
 pub use kept_changes::{LeftNode, compare_kept};
 pub use kept_clips::clips_after;
 pub use kept_rows::{Difference, KeptRow, reach, take_over};
