@@ -6,7 +6,7 @@ ghost use Rattle.tmm_model.specs.Standing.{Standing as AStanding};
 ghost use Rattle.dist_net.specs.Net.{Net};
 ghost use Rattle.spots.specs.Forest.{Member, member, IsLive};
 ghost use Rattle.spots.specs.Seen.{IsSeen};
-ghost use Rattle.occ_tree.specs.OfLists.{IsTreeIn, IsTreeOf};
+ghost use Rattle.occ_tree.specs.OfLists.{IsTreeOf};
 ghost use Rattle.occ_tree.specs.Places.{forest};
 ghost use Rattle.occ_tree.specs.Standing.{Kept};
 ghost use Rattle.occ_tree.specs.Tokens.{number_of};
