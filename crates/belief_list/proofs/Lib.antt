@@ -9,3 +9,5 @@ pub mod Empty
 pub mod TwoLists
 pub mod KeptRows
 pub mod Sizes
+pub mod Finding
+pub mod Untouched

@@ -159,7 +159,7 @@ module _ (s : Standing) (net : Net) (f : Forest) (seen : IsSeen s net f) (holds 
           (map-In (moment_at f) nodes y (In-from_Contains nodes y (all y (live_at f y m here))))
 
   -- the row of a ranked node with its clip
-  row_is : (r : Ranked) (by : Option ℕ) → IsRanked net f r → option_map (moment_at f) by ≡ clip (built s) (moment_at f r.node) → row_at f (belief_row (r, by)) ≡ row (built s) (moment_at f r.node)
+  pub row_is : (r : Ranked) (by : Option ℕ) → IsRanked net f r → option_map (moment_at f) by ≡ clip (built s) (moment_at f r.node) → row_at f (belief_row (r, by)) ≡ row (built s) (moment_at f r.node)
   row_is r by is clipped =
       let (m, here) = node_at f r.node is.live in
       let what : what_at f r.node ≡ option_map_or (λ y. y.1) (is_of s (moment_at f r.node)) [] =

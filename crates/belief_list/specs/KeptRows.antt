@@ -54,7 +54,7 @@ pub record CoverTouched (lists : States) (nets : Nets) (tree : Kept) (nodes : Li
   pub moved : (x : ℕ) (m : Member) → member (forest (present tree)) x ≡ Some m → IsAtMoved nets.moved m → Contains nodes x
   pub weights : (x : ℕ) → IsLive (old_forest tree) x → IsLive (forest (present tree)) x → (Contains nodes x → ⊥)
       → weight (built lists.committed) (moment_at (old_forest tree) x) ≡ weight (built lists.present) (moment_at (forest (present tree)) x)
-  pub classes : AreOthersUntouched nets tree classes
+  pub others : AreOthersUntouched nets tree classes
 
 -- **These are the differences that the edit makes**: with them the rows of the list before it become those of the list after it, and
 -- each is told once, with the row that was there.

@@ -7,3 +7,4 @@ pub mod KeptClips
 pub mod Merging
 pub mod KeptRows
 pub mod Sizes
+pub mod Finding

@@ -1,5 +1,5 @@
--- The rules on a kind, one premise after the other.
-use Rattle.std.proofs.Common.{◌≡◌, ◌∙◌, ℕ, ◌+◌, suc, List, [], ◌∷◌, ◌++◌, take, drop, sym, ap, subst, inl, inr, arith}
+-- No two premises are of one rule on a kind.
+use Rattle.std.proofs.Common.{◌≡◌, ◌∙◌, ℕ, suc, List, [], ◌∷◌, ◌++◌, take, drop, sym, ap, subst, inl, inr}
 use Rattle.std.specs.Prelude.{Some, slice_get}
 use Rattle.std.specs.List.{filter_map}
 use Rattle.std.proofs.lemmas.List.Elements.{filter_map-append}
@@ -7,13 +7,7 @@ use Rattle.tmm_model.specs.declared.premise.Premise.{Premise}
 use Rattle.tmm_model.specs.Beliefs.{on_kind}
 use Rattle.list_theory.proofs.Distinct.{Distinct}
 use Rattle.list_theory.proofs.Elements.{In, In-left}
-use Rattle.supports.proofs.Grown.{taken, parted}
-
-pub next_rules : (kind : List ℕ) (premises : List Premise) (i : ℕ) (p : Premise) → slice_get premises i ≡ Some p
-    → filter_map (on_kind kind) (take (i + 1) premises) ≡ filter_map (on_kind kind) (take i premises) ++ filter_map (on_kind kind) (p ∷ [])
-next_rules kind premises i p at =
-    let e : i + 1 ≡ suc i = omega arith in
-    ap (λ n. filter_map (on_kind kind) (take n premises)) e ∙ ap (filter_map (on_kind kind)) (taken premises i p at) ∙ filter_map-append (on_kind kind) (take i premises) (p ∷ [])
+use Rattle.supports.proofs.Grown.{parted}
 
 -- what stands in front in a list without repeats is not what follows
 apart_in : {X : Type 0} (xs ys : List X) → Distinct (xs ++ ys) → (x : X) → In x xs → In x ys → ⊥

@@ -1,8 +1,6 @@
 // What is told of the occurrences that enter and leave.
-ghost use Rattle.std.specs.Prelude.{◌≡◌, ◌+◌, ◌≤◌, ℕ, [], ◌∷◌, ◌++◌, length, map, OnOk, IfErr};
-ghost use Rattle.std.specs.List.{filter_map};
+ghost use Rattle.std.specs.Prelude.{◌≡◌, ◌+◌, ◌≤◌, ℕ, [], ◌∷◌, ◌++◌, map, OnOk, IfErr};
 ghost use Rattle.tmm_model.specs.Answers.{most_size};
-ghost use Rattle.tmm_model.specs.Beliefs.{on_kind, rules_at, rules_on};
 ghost use Rattle.dist_net.specs.Net.{Net};
 ghost use Rattle.row_links.specs.Lists.{IsOn};
 ghost use Rattle.spots.specs.Forest.{IsLive, moment_at};
@@ -14,8 +12,9 @@ ghost use Rattle.belief_net.specs.Telling.{seen_dated, seen_node, entered_in, le
 
 use occ_tree::Tree;
 use premise_list::Standing;
+use projection::weight_of;
 use std::alloc::Global;
-use tmm_model::{MOST_SIZE, Name, NoMemory, Occ, Premise, Refusal, Seq, Shape, Stop};
+use tmm_model::{MOST_SIZE, NoMemory, Occ, Refusal, Seq, Stop};
 
 /// An occurrence that entered or left.
 #[derive(Drop)]
@@ -128,55 +127,5 @@ fn tell(alloc: Global, tree: &Tree, moved: &mut Seq<DatedOcc>, x: u32) -> Result
     }) {
         Ok(()) => Ok(()),
         Err(_) => Err(NoMemory),
-    }
-}
-
-// What the occurrence at a node counts of the size of a map: itself, its rules, and the rules on it.
-fn weight_of(standing: &Standing, tree: &Tree, x: u32) -> u64
-    requires seen { (net : Net) × IsSeen standing.now.present net (forest tree.now) }
-    requires live { IsLive (forest tree.now) x }
-    ensures value { result ≡ weight_at standing.now.present (forest tree.now) x }
-    ensures few { result ≤ 4294969296 }
-{
-    1 + u64::from(tree.row(x).rules) + count_at(standing, tree, x)
-}
-
-// How many standing rules are on the occurrence at a node.
-fn count_at(standing: &Standing, tree: &Tree, x: u32) -> u64
-    requires seen { (net : Net) × IsSeen standing.now.present net (forest tree.now) }
-    requires live { IsLive (forest tree.now) x }
-    ensures value { result ≡ length (rules_at standing.now.present (moment_at (forest tree.now) x)) }
-    ensures few { result ≤ 2000 }
-{
-    let row = tree.row(x);
-    match row.shape {
-        Shape::Event => count_on(standing, row.what),
-        _ => 0,
-    }
-}
-
-// How many standing rules are on a kind.
-fn count_on(standing: &Standing, kind: Name) -> u64
-    ensures value { result ≡ length (rules_on standing.now.present kind) }
-    ensures few { result ≤ 2000 }
-{
-    let mut count = 0;
-    for place in 0..standing.len() {
-        let Some(premise) = standing.at(place) else {
-            unreachable!()
-        };
-        count += count_one(premise, kind);
-    }
-    count
-}
-
-// One for a rule on a kind, and nothing for any other premise.
-fn count_one(premise: &Premise, kind: Name) -> u64
-    ensures value { result ≡ length (filter_map (on_kind kind) (premise.now ∷ [])) }
-    ensures few { result ≤ 1 }
-{
-    match premise {
-        Premise::Rule { trigger, .. } if *trigger == kind => 1,
-        _ => 0,
     }
 }

@@ -208,6 +208,14 @@ impl Tree {
         }
     }
 
+    /// Tells the proof that the tokens of each class are those of its nodes. It does nothing.
+    pub fn have_tokens(&self)
+        ensures { (class : List ℕ) → AreTokens (forest (present self.now)) class ((present self.now).tokens class) }
+    {
+        // so the proof sees the fields, and what holds of them
+        let _ = self.nodes.limit();
+    }
+
     /// The same tree, and the same last commit, for changes of its own. It takes memory.
     pub fn copy(&self, alloc: Global) -> Result<Tree, NoMemory>
         ensures { IfOk result (Stays self.now) }

@@ -4,7 +4,8 @@
 //! `decide` tells the outcome of a rule at an event among the nodes of a tree. `rebuild` makes the
 //! tree of the believed occurrences, from what is declared, by deciding each rule that is due at an
 //! event once, in the order of dates; it answers also the size of the map, and refuses exactly a list whose map is
-//! too large. `RulesByKind` tells which rules are on the kind of an event. Without memory a call answers that.
+//! too large. `RulesByKind` tells which rules are on the kind of an event, and `weight_of` what an occurrence
+//! counts of that size. Without memory a call answers that.
 #![tactic(auto)]
 
 mod decision;
@@ -14,7 +15,9 @@ mod pending;
 mod rule;
 #[cfg(test)]
 mod tests;
+mod weight;
 
 pub use decision::{Counter, Decision, decide};
 pub use growth::{Projected, rebuild};
 pub use kinds::RulesByKind;
+pub use weight::weight_of;

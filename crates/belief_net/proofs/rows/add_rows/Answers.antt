@@ -5,9 +5,10 @@ use Rattle.std.proofs.lemmas.Int.{to_z-of_z}
 use Rattle.std.proofs.lemmas.List.{take_all}
 use Rattle.tmm_model.specs.Beliefs.{on_kind}
 use Rattle.supports.proofs.Grown.{stands}
+use Rattle.projection.proofs.OnKinds.{next_rules}
 use Rattle.belief_net.specs.Decided.{AddsRows}
 use Rattle.belief_net.proofs.Entered.{adds_more}
-use Rattle.belief_net.proofs.OnKinds.{next_rules, rules_apart}
+use Rattle.belief_net.proofs.OnKinds.{rules_apart}
 use Rattle.belief_net.proofs.Named.{last_on}
 use Rattle.belief_net.proofs.rows.add_rows.Goals as goal
 

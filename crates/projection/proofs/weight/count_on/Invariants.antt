@@ -1,7 +1,7 @@
 use Rattle.std.proofs.Common.{◌≡◌, ◌≤◌, length, take}
 use Rattle.std.specs.List.{filter_map}
 use Rattle.tmm_model.specs.Beliefs.{on_kind}
-use Rattle.belief_net.proofs.told.count_on.Given as goal
+use Rattle.projection.proofs.weight.count_on.Given as goal
 
 abbrev pub invariant-loop-place : goal.invariant-loop-place
 invariant-loop-place l = record {

@@ -3,7 +3,7 @@ use Rattle.tmm_model.specs.Beliefs.{rules_on}
 use Rattle.spots.proofs.Nodes.{node_at}
 use Rattle.supports.proofs.OnKinds.{rules_of_event, no_rules}
 use Rattle.occ_tree.specs.Places.{forest}
-use Rattle.belief_net.proofs.told.count_at.Goals as goal
+use Rattle.projection.proofs.weight.count_at.Goals as goal
 
 pub returns-in-Event-clause-value : goal.returns-in-Event-clause-value
 returns-in-Event-clause-value c =

@@ -3,8 +3,8 @@ use Rattle.std.proofs.lemmas.List.{length-append, take_all}
 use Rattle.std.specs.Prelude.{Some, slice_get}
 use Rattle.std.specs.List.{filter_map}
 use Rattle.tmm_model.specs.Beliefs.{on_kind}
-use Rattle.belief_net.proofs.OnKinds.{next_rules}
-use Rattle.belief_net.proofs.told.count_on.Goals as goal
+use Rattle.projection.proofs.OnKinds.{next_rules}
+use Rattle.projection.proofs.weight.count_on.Goals as goal
 
 pub loop-place-preserved : goal.loop-place-preserved
 loop-place-preserved c =

@@ -1,0 +1,301 @@
+-- What an edit makes of rows: those of nodes that it did not touch stay, and with all differences the rows are those of the list after it.
+use Rattle.std.proofs.Common.{◌≡◌, ℕ, Bool, true, false, not, ◌&&◌, List, refl, sym, ◌∙◌, ap, subst, inl, inr}
+use Rattle.std.specs.Prelude.{◌⊎◌, Option, Some, None, IfSome, MatchOption}
+use Rattle.std.specs.List.{Contains}
+use Rattle.std.specs.Option.{option_map, option_and_then}
+use Rattle.std.specs.Cmp.Lexicographic.{bytes_decides}
+use Rattle.std.proofs.lemmas.Option.{same_Some}
+use Rattle.tmm_model.specs.declared.premise.Edit.{Edit}
+use Rattle.tmm_model.specs.declared.token.TokenRow.{TokenRow}
+use Rattle.tmm_model.specs.Answers.{row, clip, clip_of, first_believed, weight}
+use Rattle.tmm_model.specs.Beliefs.{token_of, contradicts_in}
+use Rattle.tmm_model.specs.Edits.{next_list}
+use Rattle.tmm_model.specs.Maps.{TimeMap, built, gap}
+use Rattle.tmm_model.specs.Moments.{Moment}
+use Rattle.tmm_model.specs.Points.{same_name}
+use Rattle.tmm_model.specs.Standing.{Standing, points_in}
+use Rattle.tmm_model.specs.Tokens.{is_before, clips}
+use Rattle.list_theory.proofs.Elements.{both, In-filter_map}
+use Rattle.belief_theory.specs.Right.{Occurs}
+use Rattle.belief_theory.proofs.OneRight.{spot-token_of}
+use Rattle.belief_theory.proofs.Outcomes.{first_token_in}
+use Rattle.premise_list.specs.States.{States}
+use Rattle.dist_net.specs.Net.{Net, Nets, IsMovedAt}
+use Rattle.list_net.specs.Network.{PointsKeepNumbers}
+use Rattle.spots.specs.declared.spot.Spot.{Spot}
+use Rattle.spots.specs.declared.spot.Spot.TheVariants.{Declared, Node}
+use Rattle.spots.specs.Forest.{Forest, Member, member, IsLive, moment, moment_at}
+use Rattle.spots.specs.Seen.{IsSeen, Holds}
+use Rattle.spots.specs.Spots.{AreTokens, token_row, row_moment, node_early}
+use Rattle.spots.proofs.Nodes.{node_at, live_at, moment_at-is}
+use Rattle.spots.proofs.Rows.{member_of_token, token_is}
+use Rattle.spots.proofs.Seen.{early_is, occurs_at}
+use Rattle.occ_tree.specs.Dated.{IsDatedBy}
+use Rattle.occ_tree.specs.Standing.{Kept, forest, present, committed}
+use Rattle.occ_tree.specs.Touched.{IsAtMoved, IsUntouched}
+use Rattle.supports.specs.Edited.{old_forest, IsEdited}
+use Rattle.supports.proofs.Answered.{event_unclipped}
+use Rattle.revisions.proofs.Tokens.{tokens_stay}
+use Rattle.joined.specs.KeptClips.{StandsAsBefore}
+use Rattle.joined.proofs.KeptClips.{nodes_keep_clips, same_clipper, date_unmoved}
+use Rattle.belief_list.specs.declared.kept_rows.KeptRow.{KeptRow}
+use Rattle.belief_list.specs.declared.kept_rows.Difference.{Difference}
+use Rattle.belief_list.specs.KeptRows.{row_under, listed_row, IsRowOf, AreRowsOf, rows_after, CoverTouched, AreDifferences}
+use Rattle.belief_list.specs.Finding.{IsClipNow, IsNow, IsNowUnder, mark_under, AreClassesMarked, AreFound}
+use Rattle.belief_list.specs.Rows.{row_at}
+use Rattle.belief_list.proofs.Finding.{after_none, not_told}
+use Rattle.belief_list.proofs.Ordered.{row_is}
+
+-- ---- tokens and their classes
+
+-- where a class has the same tokens in two forests, a node that is one in the one is one in the other
+token_in : (f g : Forest) (class : List ℕ) (old new : List (TokenRow Spot)) → AreTokens f class old → AreTokens g class new → new ≡ old
+    → (y : ℕ) (n : Member) → member f y ≡ Some n → n.class ≡ Some class → (m : Member) × (member g y ≡ Some m) × (m.class ≡ Some class)
+token_in f g class old new are_f are_g same y n here of =
+    let token : TokenRow Spot = record { spot = Node y; end = option_map Declared n.end; fact = n.what; class = class } in
+    let is : token_row y n ≡ Some token = rw of refl in
+    let there : Contains new token = subst (λ l. Contains l token) (sym same) (are_f.all y n token here is refl) in
+    let (z, m, own, one) = member_of_token g class new are_g token there in
+    let spot : Node y ≡ Node z = own.spot in
+    let node : y ≡ z = cc in
+    (m, ap (member g) node ∙ own.here, own.class)
+
+-- the token that a node is has the class of the node
+module _ (s : Standing) (net : Net) (f : Forest) (seen : IsSeen s net f) (y : ℕ) (n : Member) (here : member f y ≡ Some n) where
+  abbrev as_token : Option (List ℕ) → Option (TokenRow Moment)
+  as_token o = option_map (row_moment net.names f) (option_map (λ class. record { spot = Node y; end = option_map Declared n.end; fact = n.what; class = class }) o)
+
+  token_there : token_of s (moment_at f y) ≡ as_token n.class
+  token_there = ap (token_of s) (moment_at-is f y n here) ∙ token_is s net f seen y n here
+
+  no_token : n.class ≡ None → token_of s (moment_at f y) ≡ None
+  no_token of = token_there ∙ ap as_token of
+
+  token_made : (class : List ℕ) → n.class ≡ Some class → (k : TokenRow Moment) × (token_of s (moment_at f y) ≡ Some k) × (k.class ≡ class)
+  token_made class of = (row_moment net.names f (record { spot = Node y; end = option_map Declared n.end; fact = n.what; class = class }), token_there ∙ ap as_token of, refl)
+
+  class_of_token : (k : TokenRow Moment) → token_of s (moment_at f y) ≡ Some k → n.class ≡ Some k.class
+  class_of_token k is = by n.class (sym token_there ∙ is)
+    where
+      by : (o : Option (List ℕ)) → as_token o ≡ Some k → o ≡ Some k.class
+      by None e = absurd (cc e)
+      by (Some class) e = ap (λ (z : Option (TokenRow Moment)). option_map (λ (k : TokenRow Moment). k.class) z) e
+
+-- **What clips a token is a token of its class.**
+clip_in_class : (m : TimeMap) (x c : Moment) (k : TokenRow Moment) → token_of m.list x ≡ Some k → clip m x ≡ Some c → (d : TokenRow Moment) × (token_of m.list c ≡ Some d) × (d.class ≡ k.class)
+clip_in_class m x c k token e = by k.end (sym (ap (option_and_then (clip_of m)) token) ∙ e)
+  where
+    by : (o : Option Moment) → elim o as (λ _. Option Moment) [ Some end ↦ None | None ↦ first_believed m (clips (contradicts_in m.list) (gap m) k) ] ≡ Some c → (d : TokenRow Moment) × (token_of m.list c ≡ Some d) × (d.class ≡ k.class)
+    by (Some end) e = absurd (cc e)
+    by None e =
+        let (d, there, passes, spot) = first_token_in m.list m.far m.believed (clips (contradicts_in m.list) (gap m) k) c e in
+        let (y, on, made) = In-filter_map (token_of m.list) m.believed d there in
+        let differ = (both (contradicts_in m.list k d) (is_before (gap m) k.spot d.spot) passes).0 in
+        let same : k.class ≡ d.class = (bytes_decides k.class d.class).0 (both (same_name k.class d.class) (not (same_name k.fact d.fact)) differ).0 in
+        (d, ap (token_of m.list) (sym spot ∙ spot-token_of m.list y d made) ∙ made, sym same)
+
+none_mapped : (h : ℕ → Moment) (o : Option ℕ) → option_map h o ≡ None → o ≡ None
+none_mapped h None e = refl
+none_mapped h (Some y) e = absurd (cc e)
+
+-- ---- after an edit
+
+module _ (lists : States) (nets : Nets) (edit : Edit) (tree : Kept) (kept : List (Option KeptRow)) (nodes : List ℕ) (classes : List (List ℕ))
+    (edited : IsEdited lists nets edit tree) (before : AreRowsOf lists.committed (old_forest tree) (row_under kept)) (covered : CoverTouched lists nets tree nodes classes)
+    (moved : IsMovedAt nets.moved nets.committed nets.present) (tokens : (class : List ℕ) → AreTokens (forest (present tree)) class ((present tree).tokens class))
+    (dated : IsDatedBy nets.present (present tree)) where
+  abbrev f : Forest
+  f = old_forest tree
+
+  abbrev g : Forest
+  g = forest (present tree)
+
+  abbrev s : Standing
+  s = lists.committed
+
+  seen_g : IsSeen (next_list s edit) nets.present g
+  seen_g = subst (λ z. IsSeen z nets.present g) edited.list edited.seen_now
+
+  holds_g : Holds (built (next_list s edit)).believed g
+  holds_g = subst (λ (z : Standing). Holds (built z).believed g) edited.list edited.holds_now
+
+  points : PointsKeepNumbers (points_in (next_list s edit).premises) nets.committed.names nets.present.names
+  points = subst (λ (z : Standing). PointsKeepNumbers (points_in z.premises) nets.committed.names nets.present.names) edited.list edited.points
+
+  numbers : (y : ℕ) → IsLive f y → IsLive g y → moment_at f y ≡ moment_at g y
+  numbers y live_f live_g = (edited.numbers y y live_f live_g).1 refl
+
+  -- a node of both lists has its date where neither its begin nor `start` moved
+  date_stays : (y : ℕ) (m : Member) → member g y ≡ Some m → IsLive f y → (IsAtMoved nets.moved m → ⊥) → node_early nets.committed f y ≡ node_early nets.present g y
+  date_stays y m here live still =
+      date_unmoved s edit nets.committed nets.present nets.moved f g edited.seen_then edited.holds_then seen_g holds_g numbers points moved y m here live
+      (λ there. still (inr (inl there))) (λ there. still (inl there))
+
+  -- ---- the row that was kept
+
+  module _ (x : ℕ) (live : IsLive f x) (r : KeptRow) (is : IsRowOf s f x r) where
+    date_was : r.early ≡ node_early nets.committed f x
+    date_was = ap (λ w. w.date) is.told ∙ sym (early_is s nets.committed f edited.seen_then x live)
+
+    clip_was : option_map (moment_at f) r.clip ≡ clip (built s) (moment_at f x)
+    clip_was = ap (λ w. w.clip) is.told
+
+    -- of an event of both lists it has no clip
+    event_was : (m : Member) → member g x ≡ Some m → m.class ≡ None → r.clip ≡ None
+    event_was m here of =
+        let live_g = live_at g x m here in
+        let word = numbers x live live_g in
+        let occurs : Occurs s (moment_at g x) = subst (Occurs s) word (occurs_at s nets.committed f edited.seen_then x live) in
+        let stays = tokens_stay s edit edited.seen_then.network.sound seen_g.network.sound (moment_at g x) occurs (occurs_at (next_list s edit) nets.present g seen_g x live_g) in
+        let none : token_of s (moment_at f x) ≡ None = ap (token_of s) word ∙ stays ∙ no_token (next_list s edit) nets.present g seen_g x m here of in
+        none_mapped (moment_at f) r.clip (clip_was ∙ ap (option_and_then (clip_of (built s))) none)
+
+  -- ---- a class that is untouched
+
+  module _ (class : List ℕ) (untouched : IsUntouched nets tree class) where
+    -- its tokens were those at the last commit
+    was : (y : ℕ) (m : Member) → member g y ≡ Some m → m.class ≡ Some class → (n : Member) × (member f y ≡ Some n) × (n.class ≡ Some class)
+    was = token_in g f class ((present tree).tokens class) ((committed tree).tokens class) (tokens class) (edited.tokens_then class) (sym untouched.tokens)
+
+    stays : (y : ℕ) (n : Member) → member f y ≡ Some n → n.class ≡ Some class → (m : Member) × (member g y ≡ Some m) × (m.class ≡ Some class)
+    stays = token_in f g class ((committed tree).tokens class) ((present tree).tokens class) (edited.tokens_then class) (tokens class) untouched.tokens
+
+    stands : (y : ℕ) (m : Member) → member g y ≡ Some m → m.class ≡ Some class → StandsAsBefore nets.committed nets.present nets.moved f g y m
+    stands y m here of =
+        let (n, there, _) = was y m here of in
+        let live = live_at f y n there in record {
+          was = live;
+          unmoved = λ at. untouched.unmoved y m here of (inr (inl at));
+          date = date_stays y m here live (untouched.unmoved y m here of);
+        }
+
+    -- what clipped a token of it is there
+    clipper_stays : (x : ℕ) (m : Member) → member g x ≡ Some m → m.class ≡ Some class → (o : Option ℕ) → option_map (moment_at f) o ≡ clip (built s) (moment_at f x) → IfSome o (IsLive f) → IfSome o (IsLive g)
+    clipper_stays x m here of None clipped live = tt
+    clipper_stays x m here of (Some y) clipped live =
+        let (n, there, of_n) = was x m here of in
+        let (k, token, in_class) = token_made s nets.committed f edited.seen_then x n there class of_n in
+        let (d, clipper, same) = clip_in_class (built s) (moment_at f x) (moment_at f y) k token (sym clipped) in
+        let (c, here_c) = node_at f y live in
+        let of_c : c.class ≡ Some class = class_of_token s nets.committed f edited.seen_then y c here_c d clipper ∙ ap Some (same ∙ in_class) in
+        let (c_now, here_now, _) = stays y c here_c of_c in
+        live_at g y c_now here_now
+
+    -- **The clip of a token of it stays.**
+    clip_stays : (x : ℕ) (m : Member) → member g x ≡ Some m → m.class ≡ Some class → (o : Option ℕ) → option_map (moment_at f) o ≡ clip (built s) (moment_at f x) → IfSome o (IsLive f)
+        → option_map (moment_at g) o ≡ clip (built (next_list s edit)) (moment_at g x)
+    clip_stays x m here of o clipped live =
+        let there = clipper_stays x m here of o clipped live in
+        same_clipper s edit nets.committed nets.present nets.moved f g edited.seen_then edited.holds_then seen_g holds_g numbers points moved (moment_at f x) o clipped there
+        ∙ sym (nodes_keep_clips s edit nets.committed nets.present nets.moved f g edited.seen_then edited.holds_then seen_g holds_g numbers points moved x m class here of stands o clipped there)
+
+  -- ---- rows of the list after the edit
+
+  -- a clip is that of now where the list after the edit says so
+  abbrev IsRightClip : ℕ → Option ℕ → Type 0
+  IsRightClip x o = (option_map (moment_at g) o ≡ clip (built lists.present) (moment_at g x)) × IfSome o (IsLive g)
+
+  -- a row with the date, the clip and the count of now
+  row_now : (x : ℕ) → IsLive g x → (r : KeptRow) → r.early ≡ node_early nets.present g x → IsRightClip x r.clip → r.weight ≡ weight (built lists.present) (moment_at g x) → IsRowOf lists.present g x r
+  row_now x live r date right counted = record {
+    told = row_is lists.present nets.present g edited.seen_now edited.holds_now (record { early = r.early; node = x }) r.clip (record { live = live; early = date }) right.0;
+    clip = right.1;
+    weight = counted;
+  }
+
+  -- the clip that was kept of a token of a class that is not among those that may have been touched
+  kept_clip : (x : ℕ) (m : Member) (class : List ℕ) → member g x ≡ Some m → m.class ≡ Some class → (Contains classes class → ⊥) → (r : KeptRow) → IsRowOf s f x r → IsLive f x → IsRightClip x r.clip
+  kept_clip x m class here of other r is live =
+      let untouched = covered.others class other in
+      let clipped = clip_was x live r is in (
+        clip_stays class untouched x m here of r.clip clipped is.clip ∙ ap (λ (z : Standing). clip (built z) (moment_at g x)) (sym edited.list),
+        clipper_stays class untouched x m here of r.clip clipped is.clip,
+      )
+
+  event_clip : (x : ℕ) (m : Member) → member g x ≡ Some m → m.class ≡ None → (o : Option ℕ) → o ≡ None → IsRightClip x o
+  event_clip x m here of o none = subst (IsRightClip x) (sym none) (sym (event_unclipped edited.seen_now (built lists.present).believed x m here of), tt)
+
+  -- a number was looked at, or the node is none that may have been touched
+  module _ (marks : List Bool) (found : List Difference) (are : AreFound lists.present nets.present tree classes kept marks found)
+      (nodes_marked : (x : ℕ) → Contains nodes x → mark_under marks x ≡ true) (classes_marked : AreClassesMarked g marks classes) where
+    -- the row of a node that was looked at
+    row_told : (x : ℕ) (m : Member) (r : KeptRow) → member g x ≡ Some m → IsNow lists.present nets.present tree classes (row_under kept x) x m r → IsRowOf lists.present g x r
+    row_told x m r here is = row_now x live r (is.date ∙ dated x live) (by m.class refl is.clip) is.weight
+      where
+        live : IsLive g x
+        live = live_at g x m here
+
+        by : (o : Option (List ℕ)) → m.class ≡ o → IsClipNow nets.present g classes (row_under kept x) x o r.clip → IsRightClip x r.clip
+        by None of none = event_clip x m here of r.clip none
+        by (Some class) of (inl (anew, there)) = (anew lists.present (built lists.present).believed edited.seen_now edited.holds_now, there)
+        by (Some class) of (inr (other, same)) =
+            let (n, there, _) = was class (covered.others class other) x m here of in
+            let live_f = live_at f x n there in
+            let (q, at, own) = before.own x live_f in
+            let one : r.clip ≡ q.clip = same ∙ ap (option_and_then (λ (w : KeptRow). w.clip)) at in
+            subst (IsRightClip x) (sym one) (kept_clip x m class here of other q own live_f)
+
+    module _ (x : ℕ) (free : mark_under marks x ≡ false) where
+      untold : Contains nodes x → ⊥
+      untold there = let no : true ≡ false = sym (nodes_marked x there) ∙ free in absurd (cc no)
+
+      other_class : (m : Member) (class : List ℕ) → member g x ≡ Some m → m.class ≡ Some class → Contains classes class → ⊥
+      other_class m class here of there = let no : true ≡ false = sym (classes_marked class there x m here of) ∙ free in absurd (cc no)
+
+      row_stays : rows_after kept found x ≡ row_under kept x
+      row_stays = after_none kept found x (not_told marks found x are.marked free)
+
+      -- the row of a node that was not looked at
+      row_kept : (m : Member) → member g x ≡ Some m → (live : IsLive f x) (r : KeptRow) → IsRowOf s f x r → IsRowOf lists.present g x r
+      row_kept m here live r is = row_now x live_g r (date_was x live r is ∙ date_stays x m here live (λ at. untold (covered.moved x m here at))) (by m.class refl) (is.weight ∙ covered.weights x live live_g untold)
+        where
+          live_g : IsLive g x
+          live_g = live_at g x m here
+
+          by : (o : Option (List ℕ)) → m.class ≡ o → IsRightClip x r.clip
+          by None of = event_clip x m here of r.clip (event_was x live r is m here of)
+          by (Some class) of = kept_clip x m class here of (other_class m class here of) r is live
+
+    -- **The rows with the differences are those of the list after the edit.**
+    own_after : (x : ℕ) → IsLive g x → (r : KeptRow) × (rows_after kept found x ≡ Some r) × IsRowOf lists.present g x r
+    own_after x live = let (m, here) = node_at g x live in by m here (mark_under marks x) refl
+      where
+        told : (m : Member) → member g x ≡ Some m → (o : Option KeptRow) → rows_after kept found x ≡ o → IsNowUnder lists.present nets.present tree classes (row_under kept x) x o
+            → (r : KeptRow) × (rows_after kept found x ≡ Some r) × IsRowOf lists.present g x r
+        told m here None e none = absurd (let no : Some m ≡ None = sym here ∙ none in cc no)
+        told m here (Some r) e (n, there, is) = (r, e, row_told x n r there is)
+
+        kept_row : (m : Member) → member g x ≡ Some m → mark_under marks x ≡ false → (o : Option Member) → member f x ≡ o → (r : KeptRow) × (rows_after kept found x ≡ Some r) × IsRowOf lists.present g x r
+        kept_row m here free None none = absurd (untold x free (covered.entered x live none))
+        kept_row m here free (Some n) there =
+            let live_f = live_at f x n there in
+            let (r, at, is) = before.own x live_f in
+            (r, row_stays x free ∙ at, row_kept x free m here live_f r is)
+
+        by : (m : Member) → member g x ≡ Some m → (b : Bool) → mark_under marks x ≡ b → (r : KeptRow) × (rows_after kept found x ≡ Some r) × IsRowOf lists.present g x r
+        by m here true e = told m here (rows_after kept found x) refl (are.told x e)
+        by m here false e = kept_row m here e (member f x) refl
+
+    none_after : (x : ℕ) → member g x ≡ None → rows_after kept found x ≡ None
+    none_after x none = by (mark_under marks x) refl
+      where
+        told : (o : Option KeptRow) → IsNowUnder lists.present nets.present tree classes (row_under kept x) x o → o ≡ None
+        told None is = refl
+        told (Some r) (m, here, is) = absurd (let no : Some m ≡ None = sym here ∙ none in cc no)
+
+        gone : mark_under marks x ≡ false → (o : Option Member) → member f x ≡ o → rows_after kept found x ≡ None
+        gone free None e = row_stays x free ∙ before.none x e
+        gone free (Some n) e = absurd (untold x free (covered.left x (live_at f x n e) none))
+
+        by : (b : Bool) → mark_under marks x ≡ b → rows_after kept found x ≡ None
+        by true e = told (rows_after kept found x) (are.told x e)
+        by false e = gone e (member f x) refl
+
+    pub differences_are : AreDifferences lists nets edit tree kept found
+    differences_are = record {
+      edited = edited;
+      before = before;
+      after = record { own = own_after; none = none_after };
+      were = are.were;
+      once = are.once;
+    }

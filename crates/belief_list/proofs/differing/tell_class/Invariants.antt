@@ -1,0 +1,14 @@
+use Rattle.std.proofs.Common.{◌≡◌, ℕ, ◌<◌, true, List, length}
+use Rattle.std.specs.Prelude.{slice_index_or}
+use Rattle.occ_tree.specs.Tokens.{numbers_in}
+use Rattle.belief_list.specs.Finding.{mark_under, MarksStay, AreFound}
+use Rattle.belief_list.proofs.differing.tell_class.Given as goal
+
+abbrev pub invariant-loop-i : goal.invariant-loop-i
+invariant-loop-i l = record {
+  long : length l.found.marks.items ≡ length l.kept;
+  found : (classes : List (List ℕ)) → AreFound l.standing.present l.net.present l.tree classes l.kept l.fn.found.marks.items l.fn.found.differences.items
+      → AreFound l.standing.present l.net.present l.tree classes l.kept l.found.marks.items l.found.differences.items;
+  done : (j d : ℕ) → j < l.i → mark_under l.found.marks.items (slice_index_or (numbers_in l.rows) j d) ≡ true;
+  stay : MarksStay l.fn.found.marks.items l.found.marks.items;
+}

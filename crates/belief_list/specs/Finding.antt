@@ -1,0 +1,62 @@
+-- Differences of what is kept of nodes, as they are found.
+use Rattle.std.specs.Prelude.{◌≡◌, ◌⊎◌, ℕ, ◌<◌, Bool, true, List, length, Option, Some, None, IfSome, MatchOption, nat_eq, slice_index_or}
+use Rattle.std.specs.List.{All, Contains, IsDistinct}
+use Rattle.std.specs.Option.{option_and_then}
+use Rattle.tmm_model.specs.Standing.{Standing}
+use Rattle.dist_net.specs.Net.{Net}
+use Rattle.spots.specs.Forest.{Forest, Member, member, IsLive}
+use Rattle.occ_tree.specs.Standing.{Kept, forest, present, early}
+use Rattle.projection.specs.Queues.{weight_at}
+use Rattle.supports.specs.Behind.{IsClip}
+use Rattle.belief_list.specs.declared.kept_rows.KeptRow.{KeptRow}
+use Rattle.belief_list.specs.declared.kept_rows.Difference.{Difference}
+use Rattle.belief_list.specs.KeptRows.{row_under, rows_after, numbers_of}
+
+-- ---- what is to be kept of a node
+
+-- What clips the node, whose class this is: nothing clips an event; of a token it is found anew, or it is what clipped it, where
+-- its class is not among those that may have been touched.
+abbrev pub IsClipNow : Net → Forest → List (List ℕ) → Option KeptRow → ℕ → Option (List ℕ) → Option ℕ → Type 0
+IsClipNow net g classes was x None clip = clip ≡ None
+IsClipNow net g classes was x (Some class) clip =
+    (IsClip net g x clip × IfSome clip (IsLive g)) ⊎ ((Contains classes class → ⊥) × (clip ≡ option_and_then (λ r. r.clip) was))
+
+-- the row has the date of the node, what it counts, and what clips it
+pub record IsNow (s : Standing) (net : Net) (tree : Kept) (classes : List (List ℕ)) (was : Option KeptRow) (x : ℕ) (m : Member) (r : KeptRow) : Type 0 where
+  pub date : r.early ≡ early (present tree) x
+  pub weight : r.weight ≡ weight_at s (forest (present tree)) x
+  pub clip : IsClipNow net (forest (present tree)) classes was x m.class r.clip
+
+-- what is to be kept under a number: the row of the node, nothing where none is
+abbrev pub IsNowUnder : Standing → Net → Kept → List (List ℕ) → Option KeptRow → ℕ → Option KeptRow → Type 0
+IsNowUnder s net tree classes was x now =
+    MatchOption now (member (forest (present tree)) x ≡ None) (λ r. (m : Member) × (member (forest (present tree)) x ≡ Some m) × IsNow s net tree classes was x m r)
+
+-- ---- marks of numbers that were looked at
+
+-- whether the number was looked at; one beyond the marks was, as no node has it
+abbrev pub mark_under : List Bool → ℕ → Bool
+mark_under marks x = slice_index_or marks x true
+
+-- what is marked stays marked
+abbrev pub MarksStay : List Bool → List Bool → Type 0
+MarksStay old new = (x : ℕ) → mark_under old x ≡ true → mark_under new x ≡ true
+
+-- each token of the class is marked
+abbrev pub IsClassMarked : Forest → List Bool → List ℕ → Type 0
+IsClassMarked g marks class = (x : ℕ) (m : Member) → member g x ≡ Some m → m.class ≡ Some class → mark_under marks x ≡ true
+
+-- each token of each of the classes is
+abbrev pub AreClassesMarked : Forest → List Bool → List (List ℕ) → Type 0
+AreClassesMarked g marks classes = (class : List ℕ) → Contains classes class → IsClassMarked g marks class
+
+-- ---- both together
+
+-- **These are the differences of the numbers that were looked at**: with them the rows are what is to be kept under each of
+-- these, and each is told once, with the row that was there.
+pub record AreFound (s : Standing) (net : Net) (tree : Kept) (classes : List (List ℕ)) (kept : List (Option KeptRow)) (marks : List Bool) (found : List Difference) : Type 0 where
+  pub told : (x : ℕ) → mark_under marks x ≡ true → IsNowUnder s net tree classes (row_under kept x) x (rows_after kept found x)
+  pub marked : All (λ d. mark_under marks d.node ≡ true) found
+  pub places : All (λ d. d.node < length kept) found
+  pub were : All (λ d. d.was ≡ row_under kept d.node) found
+  pub once : IsDistinct nat_eq (numbers_of found)

@@ -1,0 +1,216 @@
+// What an edit makes of the nodes that it may have touched.
+ghost use Rattle.std.specs.Prelude.{◌≡◌, ◌<◌, ℕ, List, [], false, true, length, Some, IfOk, OnOk, replicate};
+ghost use Rattle.std.specs.List.{All, Contains};
+ghost use Rattle.tmm_model.specs.declared.premise.Edit.{Edit as AnEdit};
+ghost use Rattle.tmm_model.specs.Standing.{Standing as AStanding};
+ghost use Rattle.dist_net.specs.Net.{Net};
+ghost use Rattle.spots.specs.Forest.{Member, member, IsLive};
+ghost use Rattle.spots.specs.Seen.{IsSeen};
+ghost use Rattle.occ_tree.specs.OfLists.{IsTreeOf};
+ghost use Rattle.occ_tree.specs.Places.{forest};
+ghost use Rattle.occ_tree.specs.Standing.{Kept};
+ghost use Rattle.occ_tree.specs.Tokens.{number_of};
+ghost use Rattle.supports.specs.Edited.{IsEdited, old_forest};
+ghost use Rattle.belief_list.specs.KeptRows.{row_under, AreRowsOf, CoverTouched, AreDifferences};
+ghost use Rattle.belief_list.specs.Finding.{IsClipNow, IsNowUnder, mark_under, MarksStay, IsClassMarked, AreClassesMarked, AreFound};
+
+use crate::kept_rows::{Difference, KeptRow};
+use dist_net::DistNet;
+use occ_tree::Tree;
+use premise_list::Standing;
+use projection::weight_of;
+use spots::Spot;
+use std::alloc::Global;
+use supports::class_clips;
+use tmm_model::{Name, NoMemory, TokenRow};
+
+/// The differences that an edit makes, given nodes and classes that are all it may have touched, and what is
+/// kept of the nodes of the last commit, with a place for each present one. Only those nodes and the tokens of
+/// those classes are looked at. Without memory it answers that.
+pub fn differences(
+    alloc: Global,
+    standing: &Standing,
+    tree: &Tree,
+    net: &DistNet,
+    nodes: &[u32],
+    classes: &[Name],
+    kept: &[Option<KeptRow>],
+) -> Result<Vec<Difference>, NoMemory>
+    requires seen { IsTreeOf standing.now.present net.now.present tree.now }
+    requires room { (x : ℕ) → IsLive (forest tree.now) x → x < length kept.now }
+    requires kept { AreRowsOf standing.now.committed (old_forest tree.now) (row_under kept.now) }
+    requires covered { CoverTouched standing.now net.now tree.now nodes.now classes.now }
+    ensures made { IfOk result (λ made. (edit : AnEdit) → IsEdited standing.now net.now edit tree.now → AreDifferences standing.now net.now edit tree.now kept.now made.items) }
+    ensures places { IfOk result (λ made. All (λ d. d.node < length kept.now) made.items) }
+{
+    // they tell the proof what holds of points that moved, and of the tokens of all classes
+    let _ = net.moved();
+    tree.have_tokens();
+    let mut found = Found::make(alloc, kept.len())?;
+    for class in classes {
+        tell_class(alloc, standing, tree, net, class, kept, &mut found)?;
+    }
+    for x in nodes {
+        tell_node(standing, tree, *x, kept, &mut found)?;
+    }
+    Ok(found.differences)
+}
+
+// Differences as they are found, with a mark for each number that was looked at.
+#[derive(Drop)]
+struct Found {
+    marks: Vec<bool>,
+    differences: Vec<Difference>,
+}
+
+impl Found {
+    // No number was looked at yet, of so many that have a place.
+    fn make(alloc: Global, places: usize) -> Result<Found, NoMemory>
+        ensures marks { IfOk result (λ found. found.marks.items ≡ replicate places false) }
+        ensures none { IfOk result (λ found. found.differences.items ≡ []) }
+    {
+        Ok(Found {
+            marks: Vec::from_elem(alloc, false, places)?,
+            differences: Vec::new(alloc),
+        })
+    }
+
+    // Whether the number was looked at, or has no place.
+    fn is_marked(&self, x: u32) -> bool
+        ensures { result ≡ mark_under self.now.marks.items x }
+    {
+        self.marks.get(x as usize).copied().unwrap_or(true)
+    }
+
+    // Tells what is to be kept under a number, where it was not looked at. A row that stays is no difference.
+    fn tell(
+        &mut self,
+        kept: &[Option<KeptRow>],
+        x: u32,
+        now: Option<KeptRow>,
+    ) -> Result<(), NoMemory>
+        requires long { length self.old.marks.items ≡ length kept.now }
+        ensures long { length self.new.marks.items ≡ length self.old.marks.items }
+        ensures found { OnOk result ((s : AStanding) (net : Net) (tree : Kept) (classes : List (List ℕ)) → AreFound s net tree classes kept.now self.old.marks.items self.old.differences.items
+            → IsNowUnder s net tree classes (row_under kept.now x) x now → AreFound s net tree classes kept.now self.new.marks.items self.new.differences.items) }
+        ensures marked { OnOk result (mark_under self.new.marks.items x ≡ true) }
+        ensures stay { OnOk result (MarksStay self.old.marks.items self.new.marks.items) }
+    {
+        if self.is_marked(x) {
+            return Ok(());
+        }
+        let was = kept[x as usize];
+        self.marks[x as usize] = true;
+        if is_same(&was, &now) {
+            return Ok(());
+        }
+        match self.differences.push(Difference { node: x, was, now }) {
+            Ok(()) => Ok(()),
+            Err(_) => Err(NoMemory),
+        }
+    }
+}
+
+// Whether the same is kept.
+fn is_same(was: &Option<KeptRow>, now: &Option<KeptRow>) -> bool
+    ensures { result ≡ true → was.now ≡ now.now }
+{
+    was == now
+}
+
+// Tells what is to be kept of each token of a class, with its clip found anew.
+fn tell_class(
+    alloc: Global,
+    standing: &Standing,
+    tree: &Tree,
+    net: &DistNet,
+    class: &Name,
+    kept: &[Option<KeptRow>],
+    found: &mut Found,
+) -> Result<(), NoMemory>
+    requires seen { IsTreeOf standing.now.present net.now.present tree.now }
+    requires long { length found.old.marks.items ≡ length kept.now }
+    ensures long { OnOk result (length found.new.marks.items ≡ length kept.now) }
+    ensures found { OnOk result ((classes : List (List ℕ)) → AreFound standing.now.present net.now.present tree.now classes kept.now found.old.marks.items found.old.differences.items
+        → AreFound standing.now.present net.now.present tree.now classes kept.now found.new.marks.items found.new.differences.items) }
+    ensures marked { OnOk result (IsClassMarked (forest tree.now) found.new.marks.items class.now) }
+    ensures stay { OnOk result (MarksStay found.old.marks.items found.new.marks.items) }
+{
+    let clips = class_clips(alloc, tree, net, class)?;
+    let rows = tree.tokens(class);
+    for i in 0..rows.len() {
+        let x = node_of(&rows[i]);
+        let now = KeptRow {
+            early: tree.early(x),
+            clip: clips[i],
+            weight: weight_of(standing, tree, x),
+        };
+        found.tell(kept, x, Some(now))?;
+    }
+    Ok(())
+}
+
+// The number of the node at which a token begins.
+fn node_of(row: &TokenRow<Spot>) -> u32
+    ensures { result ≡ number_of row.now.spot }
+{
+    match row.spot {
+        Spot::Node(x) => x,
+        Spot::Declared(p) => u32::from(p),
+    }
+}
+
+// Tells what is to be kept of a node, if it was not looked at, so that its class was not touched.
+fn tell_node(
+    standing: &Standing,
+    tree: &Tree,
+    x: u32,
+    kept: &[Option<KeptRow>],
+    found: &mut Found,
+) -> Result<(), NoMemory>
+    requires seen { (net : Net) × IsSeen standing.now.present net (forest tree.now) }
+    requires long { length found.old.marks.items ≡ length kept.now }
+    ensures long { OnOk result (length found.new.marks.items ≡ length kept.now) }
+    ensures found { OnOk result ((net : Net) (classes : List (List ℕ)) → AreClassesMarked (forest tree.now) found.old.marks.items classes → AreFound standing.now.present net tree.now classes kept.now found.old.marks.items found.old.differences.items
+        → AreFound standing.now.present net tree.now classes kept.now found.new.marks.items found.new.differences.items) }
+    ensures marked { OnOk result (mark_under found.new.marks.items x ≡ true) }
+    ensures stay { OnOk result (MarksStay found.old.marks.items found.new.marks.items) }
+{
+    if found.is_marked(x) {
+        return Ok(());
+    }
+    let now = row_now(standing, tree, &kept[x as usize], x);
+    found.tell(kept, x, now)
+}
+
+// What is to be kept under a number, given what was kept: nothing where no node is, and else a row with the clip that
+// was.
+fn row_now(standing: &Standing, tree: &Tree, was: &Option<KeptRow>, x: u32) -> Option<KeptRow>
+    requires seen { (net : Net) × IsSeen standing.now.present net (forest tree.now) }
+    ensures { (net : Net) (classes : List (List ℕ)) → ((m : Member) (class : List ℕ) → member (forest tree.now) x ≡ Some m → m.class ≡ Some class → Contains classes class → ⊥)
+        → IsNowUnder standing.now.present net tree.now classes was.now x result }
+{
+    if !tree.is_live(x) {
+        return None;
+    }
+    Some(KeptRow {
+        early: tree.early(x),
+        clip: clip_before(tree, was, x),
+        weight: weight_of(standing, tree, x),
+    })
+}
+
+// What clipped the token that the node is, none for an event.
+fn clip_before(tree: &Tree, was: &Option<KeptRow>, x: u32) -> Option<u32>
+    requires live { IsLive (forest tree.now) x }
+    ensures { (net : Net) (classes : List (List ℕ)) (m : Member) → member (forest tree.now) x ≡ Some m → ((class : List ℕ) → m.class ≡ Some class → Contains classes class → ⊥)
+        → IsClipNow net (forest tree.now) classes was.now x m.class result }
+{
+    if tree.row(x).class.is_none() {
+        return None;
+    }
+    match was {
+        Some(row) => row.clip,
+        None => None,
+    }
+}
