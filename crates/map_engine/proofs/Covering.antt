@@ -186,5 +186,5 @@ module _ (lists : States) (nets : Nets) (edit : Edit) (tree : Kept) (told : Told
     left = has_left;
     moved = moved;
     weights = weighs_same;
-    classes = others;
+    others = others;
   }
