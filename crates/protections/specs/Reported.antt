@@ -1,5 +1,5 @@
 -- Which of the reported protections are newly broken, and which are mended.
-use Rattle.std.specs.Prelude.{ℕ, Bool, true, false, not, ◌&&◌, List, filter, Option, Some, None}
+use Rattle.std.specs.Prelude.{ℕ, Bool, true, false, not, ◌&&◌, List, filter, find, Option, Some, None}
 use Rattle.std.specs.List.{list_any, filter_map}
 use Rattle.tmm_model.specs.declared.premise.Premise.{Premise}
 use Rattle.tmm_model.specs.Answers.{Finding}
@@ -13,6 +13,10 @@ Reports = List (List ℕ × Finding)
 -- a protection of this name is reported
 abbrev pub is_reported : Reports → List ℕ → Bool
 is_reported reports name = list_any (λ r. same_name r.0 name) reports
+
+-- what is reported under this name
+abbrev pub report_in : Reports → List ℕ → Option (List ℕ × Finding)
+report_in reports name = find (λ r. same_name name r.0) reports
 
 module _ (before : Reports) where
   -- the report, none where it was broken before
