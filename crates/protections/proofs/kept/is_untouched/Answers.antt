@@ -8,7 +8,7 @@ use Rattle.occ_tree.specs.Standing.{forest, present}
 use Rattle.protections.proofs.kept.is_untouched.Goals as goal
 
 pub returns : goal.returns
-returns c yes nets others =
+returns c passed nets others =
     let class = c.in-Some.class in
     let classes = c.args.classes.now in
     record {
@@ -17,7 +17,7 @@ returns c yes nets others =
       untouched = others class
           (λ at.
           (let there : list_any (λ y. same_name y class) classes ≡ true = In-list_any (λ y. same_name y class) classes class (In-from_Contains classes class at) (nat_list_eq_equiv.refl class) in
-          let wrong : false ≡ true = ap not (sym (c.contains.ensures.value ∙ there)) ∙ yes in
+          let wrong : false ≡ true = ap not (sym (c.contains.ensures.value ∙ there)) ∙ passed in
           cc));
       tokens = subst (AreTokens (forest (present c.args.tree.now)) class) c.tokens.ensures.list c.tokens.ensures.rows;
     }
