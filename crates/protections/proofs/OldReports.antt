@@ -1,8 +1,11 @@
 -- The report of a standing protection is found by its name.
-use Rattle.std.proofs.Common.{◌≡◌, ◌∙◌, ℕ, zero, suc, ◌+◌, ◌<◌, Bool, true, false, List, [], ◌∷◌, ◌++◌, map, take, length, get_or, cond, refl, sym, ap, subst, inl, inr, arith}
-use Rattle.std.specs.Prelude.{Option, Some, None}
+use Rattle.std.proofs.Common.{◌≡◌, ◌∙◌, ℕ, ◌+◌, ◌<◌, Bool, true, false, List, [], ◌∷◌, ◌++◌, map, take, length, get_or, cond, refl, sym, ap, subst, inl, inr, arith}
+use Rattle.std.specs.Prelude.{Option, Some, None, slice_get}
 use Rattle.std.specs.List.{filter_map, cons_option}
+use Rattle.std.specs.Option.{option_map, option_or}
 use Rattle.std.specs.Cmp.Lexicographic.{bytes_decides}
+use Rattle.std.proofs.lemmas.List.{get_or_default, take_all}
+use Rattle.tmm_model.specs.declared.answer.Answer.TheVariants.{Unordered}
 use Rattle.tmm_model.specs.declared.answer.Report.{Report}
 use Rattle.tmm_model.specs.declared.premise.Premise.{Premise}
 use Rattle.tmm_model.specs.declared.premise.Premise.TheVariants.{Class, Kind, Point, Event, Token, Span, Dist, Rule, Protect}
@@ -14,7 +17,8 @@ use Rattle.tmm_model.specs.Standing.{name_of, premise_in}
 use Rattle.list_theory.specs.WellNamed.{IsWellNamed}
 use Rattle.list_theory.proofs.Elements.{In}
 use Rattle.list_theory.proofs.KnownNames.{found}
-use Rattle.protections.specs.Reported.{report_in}
+use Rattle.name_lists.specs.Lists.{Appends}
+use Rattle.protections.specs.Reported.{report_in, ArePlaces}
 use Rattle.protections.proofs.Turns.{take_next}
 
 -- a report has the name of its protection
@@ -87,30 +91,91 @@ report_found m named p at = by (broken m p) refl
     by None e = none_found m p e m.list.premises only
     by (Some r) e = some_found m p r e m.list.premises only at
 
--- ---- reports that are gone through one by one
+-- ---- places of reports
 
-module _ (name : List ℕ) where
-  abbrev reported : List Report → Option (List ℕ × Finding)
-  reported rs = report_in (map report_of rs) name
+-- one more report is found where none of its name was before it
+report_push : (rs : List Report) (r : Report) (name : List ℕ) (b : Bool) → same_name name r.name ≡ b
+    → report_in (map report_of (rs ++ r ∷ [])) name ≡ option_or (report_in (map report_of rs) name) (cond b (Some (report_of r)) None)
+report_push [] r name b e = ap (λ v. cond v (Some (report_of r)) None) e
+report_push (x ∷ rs) r name b e = by (same_name name x.name) (report_push rs r name b e)
+  where
+    by : (v : Bool) → report_in (map report_of (rs ++ r ∷ [])) name ≡ option_or (report_in (map report_of rs) name) (cond b (Some (report_of r)) None)
+        → cond v (Some (report_of x)) (report_in (map report_of (rs ++ r ∷ [])) name) ≡ option_or (cond v (Some (report_of x)) (report_in (map report_of rs) name)) (cond b (Some (report_of r)) None)
+    by true again = refl
+    by false again = again
 
-  -- a report of the name comes first, or is among the others
-  none_first : (r : Report) (rest : Option (List ℕ × Finding)) (b : Bool) → cond b (Some (report_of r)) rest ≡ None → (b ≡ false) × (rest ≡ None)
-  none_first r rest true e = cc
-  none_first r rest false e = (refl, e)
+or_none : {X : Type 0} (o : Option X) → option_or o None ≡ o
+or_none None = refl
+or_none (Some x) = refl
 
-  none_push : (rs : List Report) (r : Report) → reported rs ≡ None → same_name name r.name ≡ false → reported (rs ++ r ∷ []) ≡ None
-  none_push [] r none other = ap (λ b. cond b (Some (report_of r)) None) other
-  none_push (x ∷ rs) r none other =
-      let first = none_first x (reported rs) (same_name name x.name) none in
-      (λ i. cond (first.0 i) (Some (report_of x)) (reported (rs ++ r ∷ []))) ∙ none_push rs r first.1 other
+-- the first of a list with one more
+first_push : {X : Type 0} (f : ℕ → X) (ks : List ℕ) (i : ℕ) → option_map f (slice_get (ks ++ i ∷ []) 0) ≡ option_or (option_map f (slice_get ks 0)) (Some (f i))
+first_push f [] i = refl
+first_push f (k ∷ ks) i = refl
 
-  pub none_next : (rs : List Report) (i : ℕ) (r d : Report) → i < length rs → get_or rs i d ≡ r → reported (take i rs) ≡ None → same_name name r.name ≡ false → reported (take (i + 1) rs) ≡ None
-  none_next rs i r d within is none other = ap reported (take_next rs i r d within is) ∙ none_push (take i rs) r none other
+pub placed_none : (rs : List Report) (places : List ℕ → List ℕ) → ((name : List ℕ) → places name ≡ []) → ArePlaces rs 0 places
+placed_none rs places none = record {
+  found = λ name d. ap (λ (l : List ℕ). option_map (λ k. report_of (get_or rs k d)) (slice_get l 0)) (none name);
+  within = λ name k is. (let both : None ≡ Some k = sym (ap (λ (l : List ℕ). slice_get l 0) (none name)) ∙ is in cc);
+}
 
-  pub first_found : (rs : List Report) (i : ℕ) (r d : Report) → i < length rs → get_or rs i d ≡ r → reported (take i rs) ≡ None → same_name name r.name ≡ true → reported rs ≡ Some (report_of r)
-  first_found [] i r d within is none same = absurd (omega arith)
-  first_found (x ∷ rs) zero r d within is none same =
-      ap (λ b. cond b (Some (report_of x)) (reported rs)) (ap (λ (z : Report). same_name name z.name) is ∙ same) ∙ ap (λ z. Some (report_of z)) is
-  first_found (x ∷ rs) (suc i) r d within is none same =
-      let first = none_first x (reported (take i rs)) (same_name name x.name) none in
-      ap (λ b. cond b (Some (report_of x)) (reported rs)) first.0 ∙ first_found rs i r d (omega arith) is first.1 same
+module _ (rs : List Report) (i : ℕ) (r : Report) (old new : List ℕ → List ℕ) (short : i < length rs) (is : get_or rs i r ≡ r) (placed : ArePlaces rs i old) (adds : Appends old new r.name i) where
+  -- the report under the place
+  abbrev at : Report → ℕ → List ℕ × Finding
+  at d k = report_of (get_or rs k d)
+
+  here : (d : Report) → at d i ≡ report_of r
+  here d = ap report_of (get_or_default rs i d r short ∙ is)
+
+  -- the places of the name with this one
+  own_places : (name : List ℕ) → same_name name r.name ≡ true → new name ≡ old name ++ i ∷ []
+  own_places name same =
+      let named = (bytes_decides name r.name).0 same in
+      ap new named ∙ adds.own ∙ ap (λ z. old z ++ i ∷ []) (sym named)
+
+  other_places : (name : List ℕ) → same_name name r.name ≡ false → new name ≡ old name
+  other_places name other = adds.others name (λ e. (let same : same_name name r.name ≡ true = (bytes_decides name r.name).1 e in cc))
+
+  found_next : (name : List ℕ) (d : Report) (b : Bool) → same_name name r.name ≡ b → option_map (at d) (slice_get (new name) 0) ≡ report_in (map report_of (take (i + 1) rs)) name
+  found_next name d b e = by b e ∙ sym (report_push (take i rs) r name b e) ∙ ap (λ l. report_in (map report_of l) name) (sym (take_next rs i r r short is))
+    where
+      by : (b : Bool) → same_name name r.name ≡ b → option_map (at d) (slice_get (new name) 0) ≡ option_or (report_in (map report_of (take i rs)) name) (cond b (Some (report_of r)) None)
+      by true same =
+          ap (λ (l : List ℕ). option_map (at d) (slice_get l 0)) (own_places name same)
+          ∙ first_push (at d) (old name) i
+          ∙ (λ j. option_or (placed.found name d j) (Some (here d j)))
+      by false other =
+          ap (λ (l : List ℕ). option_map (at d) (slice_get l 0)) (other_places name other)
+          ∙ placed.found name d
+          ∙ sym (or_none (report_in (map report_of (take i rs)) name))
+
+  within_next : (name : List ℕ) (k : ℕ) (b : Bool) → same_name name r.name ≡ b → slice_get (new name) 0 ≡ Some k → k < i + 1
+  within_next name k true same found = by (old name) refl (sym (ap (λ (l : List ℕ). slice_get l 0) (own_places name same)) ∙ found)
+    where
+      by : (ks : List ℕ) → old name ≡ ks → slice_get (ks ++ i ∷ []) 0 ≡ Some k → k < i + 1
+      by [] e h = let one : i ≡ k = cc in omega arith
+      by (x ∷ ks) e h =
+          let below : k < i = placed.within name k (ap (λ (l : List ℕ). slice_get l 0) e ∙ h) in
+          omega arith
+  within_next name k false other found =
+      let below : k < i = placed.within name k (sym (ap (λ (l : List ℕ). slice_get l 0) (other_places name other)) ∙ found) in
+      omega arith
+
+  pub placed_next : ArePlaces rs (i + 1) new
+  placed_next = record {
+    found = λ name d. found_next name d (same_name name r.name) refl;
+    within = λ name k. within_next name k (same_name name r.name) refl;
+  }
+
+module _ (rs : List Report) (places : List ℕ → List ℕ) (placed : ArePlaces rs (length rs) places) (name : List ℕ) where
+  whole : report_in (map report_of (take (length rs) rs)) name ≡ report_in (map report_of rs) name
+  whole = ap (λ l. report_in (map report_of l) name) (take_all (length rs) rs (omega arith))
+
+  -- **The report at the first place under a name is that of the name.**
+  pub placed_report : (k : ℕ) (d : Report) → slice_get (places name) 0 ≡ Some k → Some (report_of (get_or rs k d)) ≡ report_in (map report_of rs) name
+  placed_report k d is = sym (ap (option_map (λ z. report_of (get_or rs z d))) is) ∙ placed.found name d ∙ whole
+
+  pub no_report : slice_get (places name) 0 ≡ None → None ≡ report_in (map report_of rs) name
+  no_report none =
+      let any : Report = record { name = []; answer = Unordered } in
+      sym (ap (option_map (λ z. report_of (get_or rs z any))) none) ∙ placed.found name any ∙ whole

@@ -1,5 +1,5 @@
 // The broken protections after an edit, with what the edit left alone not looked at again.
-ghost use Rattle.std.specs.Prelude.{◌≡◌, true, false, map, IfOk, IsSome};
+ghost use Rattle.std.specs.Prelude.{◌≡◌, true, false, map, length, IfOk, IsSome};
 ghost use Rattle.std.specs.Option.{option_map};
 ghost use Rattle.std.specs.List.{Contains};
 ghost use Rattle.tmm_model.specs.Answers.{broken, reports, report_of};
@@ -14,13 +14,15 @@ ghost use Rattle.occ_tree.specs.OfLists.{IsTreeOf};
 ghost use Rattle.occ_tree.specs.Places.{forest};
 ghost use Rattle.supports.specs.Edited.{IsEdited, AreOthersUntouched};
 ghost use Rattle.protections.specs.Kept.{IsStill, IsOfUntouched};
-ghost use Rattle.protections.specs.Reported.{report_in};
+ghost use Rattle.name_lists.specs.Lists.{list_of};
+ghost use Rattle.protections.specs.Reported.{ArePlaces};
 
-use crate::copies::copy;
 use crate::lists::push_some;
+use crate::old_reports::{old_report, places_by_name};
 use crate::reporting::broken;
 use dist_net::DistNet;
 use list_net::number_of;
+use name_lists::NameLists;
 use occ_tree::Tree;
 use premise_list::Standing;
 use std::alloc::Global;
@@ -44,12 +46,15 @@ pub fn report_after(
     requires old { map report_of old.now ≡ reports (built standing.now.committed) }
     ensures { IfOk result (λ found. map report_of found.items ≡ reports (built standing.now.present)) }
 {
+    let places = places_by_name(alloc, old)?;
     let mut found = Seq::make(alloc);
     for i in 0..standing.len() {
         match standing.at(i) {
             Some(premise) => push_some(
                 &mut found,
-                broken_after(alloc, standing, tree, net, edit, classes, old, premise)?,
+                broken_after(
+                    alloc, standing, tree, net, edit, classes, old, &places, premise,
+                )?,
             )?,
             None => unreachable!(),
         }
@@ -66,6 +71,7 @@ fn broken_after(
     edit: &Edit,
     classes: &[Name],
     old: &[Report],
+    places: &NameLists<usize>,
     premise: &Premise,
 ) -> Result<Option<Report>, NoMemory>
     requires seen { IsTreeOf standing.now.present net.now.present tree.now }
@@ -73,31 +79,20 @@ fn broken_after(
     requires edited { IsEdited standing.now net.now edit.now tree.now }
     requires others { AreOthersUntouched net.now tree.now classes.now }
     requires old { map report_of old.now ≡ reports (built standing.now.committed) }
+    requires places { ArePlaces old.now (length old.now) (list_of places.now) }
     requires stands { Contains standing.now.present.premises premise.now }
     ensures { IfOk result (λ found. option_map report_of found ≡ broken (built standing.now.present) premise.now) }
 {
     match premise {
         Premise::Protect { name, .. } => {
             if is_left_alone(standing, tree, net, edit, classes, premise) {
-                old_report(alloc, old, *name)
+                old_report(alloc, old, places, *name)
             } else {
                 broken(alloc, standing, tree, net, premise)
             }
         }
         _ => Ok(None),
     }
-}
-
-// What was reported under the name.
-fn old_report(alloc: Global, old: &[Report], name: Name) -> Result<Option<Report>, NoMemory>
-    ensures { IfOk result (λ found. option_map report_of found ≡ report_in (map report_of old.now) name) }
-{
-    for report in old {
-        if report.name == name {
-            return Ok(Some(copy(alloc, report)?));
-        }
-    }
-    Ok(None)
 }
 
 // Whether the edit left a protection alone: it stood before, neither of its points moved, and the class of

@@ -12,6 +12,7 @@ mod comparing;
 mod copies;
 mod kept;
 mod lists;
+mod old_reports;
 mod reporting;
 
 pub use comparing::delta;
