@@ -1,28 +1,27 @@
 -- What is found of a fact rests on the tokens of its class alone, and on how far they are apart and from the points.
-use Rattle.std.proofs.Common.{◌≡◌, ◌∙◌, ℕ, Bool, true, false, not, ◌&&◌, List, [], ◌∷◌, map, take, length, ◌-◌, refl, sym, ap, subst, inl, inr, pos}
+use Rattle.std.proofs.Common.{◌≡◌, ◌∙◌, ℕ, Bool, true, false, not, ◌&&◌, List, [], ◌∷◌, map, take, length, ◌-◌, refl, sym, ap, subst, inl, pos}
 use Rattle.std.specs.Prelude.{Option, Some, None, negsuc, filter}
-use Rattle.std.specs.List.{Contains, list_any}
+use Rattle.std.specs.List.{list_any}
 use Rattle.std.specs.Option.{option_map, option_map_or}
 use Rattle.std.specs.Ordering.{on, is_gt, int_cmp, nat_cmp, ordering_then, ordering_reverse}
 use Rattle.std.specs.Cmp.{both_ways}
 use Rattle.std.specs.Cmp.Lexicographic.{slice_cmp, bytes_decides}
 use Rattle.std.specs.declared.cmp.Ordering.{Ordering}
 use Rattle.std.specs.declared.cmp.Ordering.TheVariants.{Less, Greater}
-use Rattle.tmm_model.specs.declared.point.PointName.TheVariants.{Start}
 use Rattle.tmm_model.specs.declared.token.TokenRow.{TokenRow}
 use Rattle.tmm_model.specs.Answers.{Fault, Finding, late, clipped, ends, holds, fails, unordered, first_believed, fault, fault_before, tokens_for, failing, most_blames, ask}
 use Rattle.tmm_model.specs.Beliefs.{class_of, token_of, holder}
 use Rattle.tmm_model.specs.Bounds.{bound_at_most}
 use Rattle.tmm_model.specs.Firsts.{earliest, first, sorted}
 use Rattle.tmm_model.specs.Maps.{TimeMap, built, gap, order, believed_tokens}
-use Rattle.tmm_model.specs.Moments.{Moment, At, negated, printed}
+use Rattle.tmm_model.specs.Moments.{Moment, negated, printed}
 use Rattle.tmm_model.specs.Points.{same_name}
 use Rattle.tmm_model.specs.Standing.{Standing, far_in}
 use Rattle.tmm_model.specs.Tokens.{of_one_class, is_by, is_before, clips, cuts, lasts_to, supports}
 use Rattle.tmm_model.specs.Types.{IsOrderOn}
 use Rattle.list_theory.specs.WellNamed.{IsSound}
 use Rattle.list_theory.proofs.Distinct.{Distinct, Distinct-filter, one_order}
-use Rattle.list_theory.proofs.Elements.{In, both, list_any-In, In-list_any, In-filter, filter-In, In-filter_map, In-from_Contains, Contains-from_In}
+use Rattle.list_theory.proofs.Elements.{In, both, list_any-In, In-list_any, In-filter, filter-In, In-filter_map}
 use Rattle.belief_theory.proofs.Firsts.{least_is, one_spot}
 use Rattle.belief_theory.proofs.NextLists.{all_spelt}
 use Rattle.belief_theory.proofs.OneRight.{spot-token_of}

@@ -25,7 +25,7 @@ use Rattle.belief_theory.specs.Right.{Occurs}
 use Rattle.belief_theory.proofs.NextLists.{one_way}
 use Rattle.dist_net.specs.Net.{Nets, IsMovedAt}
 use Rattle.list_net.specs.Network.{PointsKeepNumbers, IsThere}
-use Rattle.list_net.specs.Represents.{IsNumberOf, name_at}
+use Rattle.list_net.specs.Represents.{IsNumberOf}
 use Rattle.list_net.proofs.Named.{name_at-is}
 use Rattle.list_net.proofs.Nets.{is_in_use}
 use Rattle.spots.specs.declared.spot.Spot.{Spot}
@@ -35,15 +35,15 @@ use Rattle.spots.specs.Seen.{IsSeen, Holds}
 use Rattle.spots.specs.Spots.{spot_moment, spot_distance, base_of, links_of, links_low, links_high, net_far, AreTokens, row_moment, token_row}
 use Rattle.spots.proofs.Distances.{distance-two_bases}
 use Rattle.spots.proofs.Nodes.{live_at, moment_at-is, base-moment, point_is}
-use Rattle.spots.proofs.Seen.{IsRowOf, member_of_token, distance_is, start_is, occurs_at, token_is, tokens_are}
+use Rattle.spots.proofs.Seen.{IsRowOf, member_of_token, distance_is, start_is, token_is, tokens_are}
 use Rattle.occ_tree.specs.Standing.{forest, present}
 use Rattle.occ_tree.specs.Touched.{IsAtMoved}
-use Rattle.supports.specs.Edited.{IsEdited, old_forest}
+use Rattle.supports.specs.Edited.{old_forest}
 use Rattle.revisions.proofs.Names.{classes_within}
 use Rattle.revisions.proofs.Tokens.{tokens_stay}
 use Rattle.joined.proofs.Gaps.{WasThere, start_was, node_was, distance_was, one_base}
 use Rattle.protections.specs.Asks.{SameForPoints}
-use Rattle.protections.specs.Kept.{IsStill, IsLeftAlone, LeftAloneStay}
+use Rattle.protections.specs.Kept.{IsStill, LeftAloneStay}
 use Rattle.protections.proofs.Asks.{asks_stay}
 use Rattle.protections.proofs.Protected.{grounded}
 

@@ -1,5 +1,5 @@
 -- Premises that stood before an edit.
-use Rattle.std.proofs.Common.{◌≡◌, true, false, List, [], ◌∷◌, ◌++◌, refl, ap, inl, inr}
+use Rattle.std.proofs.Common.{◌≡◌, true, false, [], ◌∷◌, ◌++◌, refl, ap, inl, inr}
 use Rattle.std.specs.List.{Contains}
 use Rattle.tmm_model.specs.declared.premise.Edit.{Edit}
 use Rattle.tmm_model.specs.declared.premise.Edit.TheVariants.{Add, Erase, Horizon}
@@ -8,7 +8,7 @@ use Rattle.tmm_model.specs.Edits.{next_list}
 use Rattle.tmm_model.specs.Points.{same_name}
 use Rattle.tmm_model.specs.Standing.{Standing, name_of}
 use Rattle.std.specs.Cmp.Lexicographic.{bytes_decides}
-use Rattle.list_theory.proofs.Elements.{In, In-cases, In-from_Contains, Contains-from_In}
+use Rattle.list_theory.proofs.Elements.{In-cases, In-from_Contains, Contains-from_In}
 use Rattle.list_theory.proofs.Erasure.{kept_before}
 
 -- **A premise of another name than the one that is added stood before.**
