@@ -40,7 +40,7 @@ pub fn report(
 }
 
 // The report of a premise that is a broken protection.
-fn broken(
+pub(crate) fn broken(
     alloc: Global,
     standing: &Standing,
     tree: &Tree,

@@ -1,0 +1,334 @@
+-- Of a protection that an edit left alone the same is found as before.
+use Rattle.std.proofs.Common.{◌≡◌, ◌∙◌, ℕ, true, false, List, [], map, refl, sym, ap, subst, inl, inr}
+use Rattle.std.proofs.lemmas.Bool.Decides.{eqb_tells}
+use Rattle.std.specs.Prelude.{◌↔◌, ◌≢◌, Option, Some, None, IsSome, MatchOption}
+use Rattle.std.specs.List.{Contains}
+use Rattle.std.specs.Option.{option_map, option_map_or}
+use Rattle.std.specs.Cmp.Lexicographic.{bytes_decides}
+use Rattle.tmm_model.specs.declared.point.PointName.{PointName}
+use Rattle.tmm_model.specs.declared.point.PointName.TheVariants.{Start, Begin, End}
+use Rattle.tmm_model.specs.declared.premise.Edit.{Edit}
+use Rattle.tmm_model.specs.declared.premise.Premise.TheVariants.{Protect}
+use Rattle.tmm_model.specs.declared.token.Shape.TheVariants.{Span as ASpan}
+use Rattle.tmm_model.specs.declared.token.TokenRow.{TokenRow}
+use Rattle.tmm_model.specs.Answers.{Finding, does_hold, ask, broken}
+use Rattle.tmm_model.specs.Beliefs.{token_of, class_of}
+use Rattle.tmm_model.specs.Bounds.{bound_plus, bound_less}
+use Rattle.tmm_model.specs.Edits.{next_list}
+use Rattle.tmm_model.specs.Maps.{built, gap, believed_tokens}
+use Rattle.tmm_model.specs.Moments.{Moment, At, base}
+use Rattle.tmm_model.specs.Sorts.{class_in}
+use Rattle.tmm_model.specs.Standing.{Standing, points_in}
+use Rattle.list_theory.specs.WellNamed.{IsWellNamed}
+use Rattle.list_theory.proofs.Elements.{In, Contains-from_In, In-map, map-In}
+use Rattle.belief_theory.specs.Right.{Occurs}
+use Rattle.belief_theory.proofs.NextLists.{one_way}
+use Rattle.dist_net.specs.Net.{Nets, IsMovedAt}
+use Rattle.list_net.specs.Network.{PointsKeepNumbers, IsThere}
+use Rattle.list_net.specs.Represents.{IsNumberOf}
+use Rattle.list_net.proofs.Named.{name_at-is}
+use Rattle.list_net.proofs.Nets.{is_in_use}
+use Rattle.spots.specs.declared.spot.Spot.{Spot}
+use Rattle.spots.specs.declared.spot.Spot.TheVariants.{Declared, Node}
+use Rattle.spots.specs.Forest.{Forest, Member, member, IsLive, moment, moment_at}
+use Rattle.spots.specs.Seen.{IsSeen, Holds}
+use Rattle.spots.specs.Spots.{spot_moment, spot_distance, base_of, links_of, links_low, links_high, net_far, AreTokens, row_moment, token_row}
+use Rattle.spots.proofs.Distances.{distance-two_bases}
+use Rattle.spots.proofs.Nodes.{live_at, moment_at-is, base-moment, point_is}
+use Rattle.spots.proofs.Seen.{IsRowOf, member_of_token, distance_is, start_is, token_is, tokens_are}
+use Rattle.occ_tree.specs.Standing.{forest, present}
+use Rattle.occ_tree.specs.Touched.{IsAtMoved}
+use Rattle.supports.specs.Edited.{old_forest}
+use Rattle.revisions.proofs.Names.{classes_within}
+use Rattle.revisions.proofs.Tokens.{tokens_stay}
+use Rattle.joined.proofs.Gaps.{WasThere, start_was, node_was, distance_was, one_base}
+use Rattle.protections.specs.Asks.{SameForPoints}
+use Rattle.protections.specs.Kept.{IsStill, LeftAloneStay}
+use Rattle.protections.proofs.Asks.{asks_stay}
+use Rattle.protections.proofs.Protected.{grounded}
+
+module _ (old : Standing) (edit : Edit) (nets : Nets) (f g : Forest)
+    (seen_f : IsSeen old nets.committed f) (holds_f : Holds (built old).believed f)
+    (seen_g : IsSeen (next_list old edit) nets.present g) (holds_g : Holds (built (next_list old edit)).believed g)
+    (numbers : (x y : ℕ) → IsLive f x → IsLive g y → (moment_at f x ≡ moment_at g y) ↔ (x ≡ y))
+    (keep : PointsKeepNumbers (points_in (next_list old edit).premises) nets.committed.names nets.present.names)
+    (apart : IsMovedAt nets.moved nets.committed nets.present) where
+  abbrev new : Standing
+  new = next_list old edit
+
+  abbrev at : Spot → Moment
+  at p = spot_moment nets.present.names g p
+
+  -- ---- points that did not move
+
+  -- the moment is that of a spot of both lists whose declared point did not move
+  record IsFixed (x : Moment) : Type 0 where
+    spot : Spot
+    was : WasThere old edit nets g seen_f.network seen_g keep spot
+    unmoved : Contains nets.moved (base_of g spot) → ⊥
+    is : at spot ≡ x
+
+  spots_same : (p q : Spot) → WasThere old edit nets g seen_f.network seen_g keep p → WasThere old edit nets g seen_f.network seen_g keep q
+      → (Contains nets.moved (base_of g p) → ⊥) → (Contains nets.moved (base_of g q) → ⊥) → spot_distance nets.committed g p q ≡ spot_distance nets.present g p q
+  spots_same p q was_p was_q not_p not_q = elim (eqb_tells (base_of g p) (base_of g q)) [
+    | inl one ↦ one_base old edit nets g seen_f.network seen_g keep p q one.1
+    | inr two ↦ distance-two_bases nets.committed g p q two.1
+        ∙ ap (λ d. bound_less (bound_plus d (links_high (links_of g q))) (links_low (links_of g p))) far
+        ∙ sym (distance-two_bases nets.present g p q two.1)
+  ]
+    where
+      far : net_far nets.committed (base_of g p) (base_of g q) ≡ net_far nets.present (base_of g p) (base_of g q)
+      far =
+          elim (apart (base_of g p) (base_of g q)
+          (is_in_use nets.committed.names (base_of g p) (base (spot_moment nets.present.names g p)) was_p.number)
+          (is_in_use nets.committed.names (base_of g q) (base (spot_moment nets.present.names g q)) was_q.number)
+          (is_in_use nets.present.names (base_of g p) (base (spot_moment nets.present.names g p)) (point_is new nets.present g seen_g p was_p.there))
+          (is_in_use nets.present.names (base_of g q) (base (spot_moment nets.present.names g q)) (point_is new nets.present g seen_g q was_q.there))) [
+            | inl same ↦ same
+            | inr either ↦ elim either [ inl first ↦ absurd (not_p first) | inr second ↦ absurd (not_q second) ]
+          ]
+
+  -- **Such moments are as far apart as they were.**
+  gap_same : (x y : Moment) → IsFixed x → IsFixed y → gap (built old) x y ≡ gap (built new) x y
+  gap_same x y fix_x fix_y =
+      let p = fix_x.spot in
+      let q = fix_y.spot in
+      let same : gap (built old) (at p) (at q) ≡ gap (built new) (at p) (at q) =
+      sym (distance_was old edit nets g seen_f.network seen_g keep p q fix_x.was fix_y.was)
+      ∙ spots_same p q fix_x.was fix_y.was fix_x.unmoved fix_y.unmoved
+      ∙ distance_is new nets.present g seen_g p q fix_x.was.there fix_y.was.there in
+      subst (λ z. gap (built old) z y ≡ gap (built new) z y) fix_x.is (subst (λ z. gap (built old) (at p) z ≡ gap (built new) (at p) z) fix_y.is same)
+
+  -- a declared point of both lists
+  point_was : (n : ℕ) (p : PointName) → IsNumberOf nets.committed.names n p → IsNumberOf nets.present.names n p → WasThere old edit nets g seen_f.network seen_g keep (Declared n)
+  point_was n p before now = record {
+    there = is_in_use nets.present.names n p now;
+    number = subst (λ (z : PointName). IsNumberOf nets.committed.names n z) (sym (name_at-is nets.present.names n p now)) before;
+    agree = λ r on. absurd on;
+  }
+
+  point_fixed : (n : ℕ) (p : PointName) → IsNumberOf nets.committed.names n p → IsNumberOf nets.present.names n p → (Contains nets.moved n → ⊥) → IsFixed (At p)
+  point_fixed n p before now unmoved = record {
+    spot = Declared n;
+    was = point_was n p before now;
+    unmoved = unmoved;
+    is = ap (λ (z : PointName). At z) (name_at-is nets.present.names n p now);
+  }
+
+  -- a point of both lists that did not move
+  still_fixed : (p : PointName) → IsThere nets.committed.names p → IsStill nets p → IsFixed (At p)
+  still_fixed p (k, numbered) still =
+      let now = keep k p (seen_g.network.fits.stands.named still.number p still.is) numbered in
+      let one : k ≡ still.number = seen_g.network.distinct k still.number p now still.is in
+      point_fixed still.number p (subst (λ z. IsNumberOf nets.committed.names z p) one numbered) still.is still.unmoved
+
+  -- ---- a class that is untouched
+
+  module _ (class : List ℕ) (rows : List (TokenRow Spot)) (tokens_f : AreTokens f class rows) (tokens_g : AreTokens g class rows)
+      (unmoved : (y : ℕ) (m : Member) → member g y ≡ Some m → m.class ≡ Some class → IsAtMoved nets.moved m → ⊥) where
+    -- the node of a row before the edit and after it
+    record IsNodeOf (row : TokenRow Spot) : Type 0 where
+      number : ℕ
+      before : Member
+      now : Member
+      row_f : IsRowOf f row number before
+      row_g : IsRowOf g row number now
+      of_class : now.class ≡ Some class
+      same : moment before ≡ moment now
+      occurred : Occurs old (moment now)
+
+    node_of : (row : TokenRow Spot) → In row rows → IsNodeOf row
+    node_of row on =
+        let (x, n, row_f, one_f) = member_of_token f class rows tokens_f row (Contains-from_In rows row on) in
+        let (y, m, row_g, one_g) = member_of_token g class rows tokens_g row (Contains-from_In rows row on) in
+        let spots : Node x ≡ Node y = sym row_f.spot ∙ row_g.spot in
+        let number : x ≡ y = cc in
+        let same : moment n ≡ moment m =
+        sym (moment_at-is f x n row_f.here) ∙ (numbers x y (live_at f x n row_f.here) (live_at g y m row_g.here)).1 number ∙ moment_at-is g y m row_g.here in
+        record {
+          number = x;
+          before = n;
+          now = m;
+          row_f = row_f;
+          row_g = subst (λ z. IsRowOf g row z m) (sym number) row_g;
+          of_class = row_g.class ∙ ap (λ (z : List ℕ). Some z) one_g;
+          same = same;
+          occurred = subst (Occurs old) same (seen_f.members x n row_f.here).occurs;
+        }
+
+    abbrev token : TokenRow Spot → TokenRow Moment
+    token row = row_moment nets.present.names g row
+
+    -- the token of a row at its moment
+    made : (h : Forest) (row : TokenRow Spot) (y : ℕ) (m : Member) → IsRowOf h row y m → token_row y m ≡ Some row
+    made h row y m is =
+        let spot = sym is.spot in
+        let last = sym is.end in
+        let fact = sym is.fact in
+        ap (λ (o : Option (List ℕ)). option_map (λ class. record { spot = Node y; end = option_map Declared m.end; fact = m.what; class = class }) o) is.class
+        ∙ (λ i. Some (record { spot = spot i; end = last i; fact = fact i; class = row.class }))
+
+    row_same : (row : TokenRow Spot) → In row rows → row_moment nets.committed.names f row ≡ token row
+    row_same row on =
+        let n = node_of row on in
+        let before : token_of old (moment n.before) ≡ Some (row_moment nets.committed.names f row) =
+        token_is old nets.committed f seen_f n.number n.before n.row_f.here ∙ ap (option_map (row_moment nets.committed.names f)) (made f row n.number n.before n.row_f) in
+        let now : token_of new (moment n.now) ≡ Some (token row) =
+        token_is new nets.present g seen_g n.number n.now n.row_g.here ∙ ap (option_map (row_moment nets.present.names g)) (made g row n.number n.now n.row_g) in
+        let stays = tokens_stay old edit seen_f.network.sound seen_g.network.sound (moment n.now) n.occurred (seen_g.members n.number n.now n.row_g.here).occurs in
+        let both : Some (row_moment nets.committed.names f row) ≡ Some (token row) = sym before ∙ ap (token_of old) n.same ∙ stays ∙ now in
+        cc
+
+    -- the row of a token of the class that was believed
+    record IsRowFor (k : TokenRow Moment) : Type 0 where
+      row : TokenRow Spot
+      on : In row rows
+      is : token row ≡ k
+
+    row_of : (k : TokenRow Moment) → k.class ≡ class → In k (believed_tokens (built old)) → IsRowFor k
+    row_of k own believed =
+        let there = (tokens_are old nets.committed f seen_f (built old).believed holds_f class rows tokens_f k).1 (believed, (bytes_decides class k.class).1 (sym own)) in
+        let (row, on, is) = In-map (row_moment nets.committed.names f) rows k there in
+        record { row = row; on = on; is = sym (row_same row on) ∙ is }
+
+    -- **The tokens of the class that are believed are the same.**
+    into : (k : TokenRow Moment) → k.class ≡ class → In k (believed_tokens (built old)) → In k (believed_tokens (built new))
+    into k own believed =
+        let r = row_of k own believed in
+        ((tokens_are new nets.present g seen_g (built new).believed holds_g class rows tokens_g k).0
+        (subst (λ z. In z (map (row_moment nets.present.names g) rows)) r.is (map-In (row_moment nets.present.names g) rows r.row r.on))).0
+
+    back : (k : TokenRow Moment) → k.class ≡ class → In k (believed_tokens (built new)) → In k (believed_tokens (built old))
+    back k own believed =
+        let there = (tokens_are new nets.present g seen_g (built new).believed holds_g class rows tokens_g k).1 (believed, (bytes_decides class k.class).1 (sym own)) in
+        let (row, on, is) = In-map (row_moment nets.present.names g) rows k there in
+        ((tokens_are old nets.committed f seen_f (built old).believed holds_f class rows tokens_f k).0
+        (subst (λ z. In z (map (row_moment nets.committed.names f) rows)) (row_same row on ∙ is) (map-In (row_moment nets.committed.names f) rows row on))).0
+
+    -- ---- the points of the class are fixed
+
+    node_fixed : (row : TokenRow Spot) → In row rows → IsFixed (token row).spot
+    node_fixed row on =
+        let n = node_of row on in
+        let live = live_at g n.number n.now n.row_g.here in
+        record {
+          spot = Node n.number;
+          was = node_was old edit nets g seen_f.network seen_g keep n.number live (subst (Occurs old) (sym (moment_at-is g n.number n.now n.row_g.here)) n.occurred);
+          unmoved = λ moved. unmoved n.number n.now n.row_g.here n.of_class
+              (inr (inl (subst (Contains nets.moved) (ap (λ (o : Option Member). option_map_or (λ k. k.begin) o 0) n.row_g.here) moved)));
+          is = ap at (sym n.row_g.spot);
+        }
+
+    -- the end of a span has the same number and the same name before the edit and after it
+    end_fixed : (row : TokenRow Spot) → In row rows → (e : Moment) → (token row).end ≡ Some e → IsFixed e
+    end_fixed row on e ends = by n.now.end refl n.before.end refl (sym n.row_f.end ∙ n.row_g.end) (ap (option_map at) (sym n.row_g.end) ∙ ends)
+      where
+        n : IsNodeOf row
+        n = node_of row on
+
+        roots : n.before.root ≡ n.now.root
+        roots = let both : Begin n.before.root ≡ Begin n.now.root = sym (base-moment n.before) ∙ ap base n.same ∙ base-moment n.now in cc
+
+        named : (names : List (Option PointName)) (m : Member) (k : ℕ) → m.end ≡ Some k
+            → MatchOption m.end (m.shape ≢ ASpan) (λ e. (m.shape ≡ ASpan) × IsNumberOf names e (End m.root)) → IsNumberOf names k (End m.root)
+        named names m k is own = (subst (λ o. MatchOption o (m.shape ≢ ASpan) (λ e. (m.shape ≡ ASpan) × IsNumberOf names e (End m.root))) is own).1
+
+        by : (o : Option ℕ) → n.now.end ≡ o → (b : Option ℕ) → n.before.end ≡ b → option_map Declared n.before.end ≡ option_map Declared n.now.end → option_map at (option_map Declared n.now.end) ≡ Some e → IsFixed e
+        by None is b was same told =
+            let none : option_map at (option_map Declared n.now.end) ≡ None = ap (λ (o : Option ℕ). option_map at (option_map Declared o)) is in
+            cc
+        by (Some k) is None was same told =
+            let none : option_map Declared n.before.end ≡ None = ap (option_map Declared) was in
+            let some : option_map Declared n.now.end ≡ Some (Declared k) = ap (option_map Declared) is in
+            cc
+        by (Some k) is (Some j) was same told =
+            let first : option_map Declared n.before.end ≡ Some (Declared j) = ap (option_map Declared) was in
+            let second : option_map Declared n.now.end ≡ Some (Declared k) = ap (option_map Declared) is in
+            let number : j ≡ k = cc in
+            let end_is : Some (at (Declared k)) ≡ Some e = ap (λ (o : Option ℕ). option_map at (option_map Declared o)) (sym is) ∙ told in
+            let moment_is : at (Declared k) ≡ e = cc in
+            let now : IsNumberOf nets.present.names k (End n.now.root) = named nets.present.names n.now k is (seen_g.members n.number n.now n.row_g.here).end in
+            let before : IsNumberOf nets.committed.names j (End n.before.root) = named nets.committed.names n.before j was (seen_f.members n.number n.before n.row_f.here).end in
+            let before_now : IsNumberOf nets.committed.names k (End n.now.root) =
+            subst (λ z. IsNumberOf nets.committed.names z (End n.now.root)) number (subst (λ z. IsNumberOf nets.committed.names j (End z)) roots before) in
+            record {
+              spot = Declared k;
+              was = point_was k (End n.now.root) before_now now;
+              unmoved = λ moved. unmoved n.number n.now n.row_g.here n.of_class (inr (inr (k, is, moved)));
+              is = moment_is;
+            }
+
+    -- where the class has a token `start` did not move
+    start_fixed : (row : TokenRow Spot) → In row rows → IsFixed (At Start)
+    start_fixed row on =
+        let n = node_of row on in
+        record {
+          spot = Declared 0;
+          was = start_was old edit nets g seen_f.network seen_g keep;
+          unmoved = λ moved. unmoved n.number n.now n.row_g.here n.of_class (inl moved);
+          is = start_is new nets.present g seen_g;
+        }
+
+    token_fixed : (k : TokenRow Moment) → k.class ≡ class → In k (believed_tokens (built old)) → IsFixed k.spot
+    token_fixed k own believed = let r = row_of k own believed in subst (λ (z : TokenRow Moment). IsFixed z.spot) r.is (node_fixed r.row r.on)
+
+    -- **The class is the same for points that did not move.**
+    same_for : (p q : Moment) → IsFixed p → IsFixed q → SameForPoints (built old) (built new) class p q
+    same_for p q fix_p fix_q = record {
+      tokens = record {
+        into = into;
+        back = back;
+        gaps = λ k c own_k own_c at_k at_c. gap_same k.spot c.spot (token_fixed k own_k at_k) (token_fixed c own_c at_c);
+        dates = λ k own on. (let r = row_of k own on in gap_same k.spot (At Start) (token_fixed k own on) (start_fixed r.row r.on));
+      };
+      points = gap_same q p fix_q fix_p;
+      first = λ k own on. gap_same p k.spot fix_p (token_fixed k own on);
+      last = λ k own on. gap_same q k.spot fix_q (token_fixed k own on);
+      ends = λ k e own on ends. (let r = row_of k own on in gap_same e q (end_fixed r.row r.on e (ap (λ (z : TokenRow Moment). z.end) r.is ∙ ends)) fix_q);
+    }
+
+-- ---- the class of a fact
+
+some_class : (o : Option (List ℕ)) → IsSome o → (c : List ℕ) × (o ≡ Some c)
+some_class None h = cc
+some_class (Some c) h = (c, refl)
+
+-- a fact that both lists declare is of one class
+one_class : (old : Standing) (edit : Edit) → IsWellNamed old.premises → IsWellNamed (next_list old edit).premises
+    → (fact class : List ℕ) → IsSome (class_in old.premises fact) → class_in (next_list old edit).premises fact ≡ Some class → class_in old.premises fact ≡ Some class
+one_class old edit named_old named_new fact class known is =
+    elim (one_way old edit) [
+      | inl more ↦ (
+          let (c, was) = some_class (class_in old.premises fact) known in
+          was ∙ sym (classes_within old.premises (next_list old edit).premises more named_new fact c was) ∙ is)
+      | inr fewer ↦ classes_within (next_list old edit).premises old.premises fewer named_old fact class is
+    ]
+
+class_is : (s : Standing) (fact class : List ℕ) → class_in s.premises fact ≡ Some class → class_of s fact ≡ class
+class_is s fact class is = ap (λ (o : Option (List ℕ)). elim o as (λ _. List ℕ) [ Some c ↦ c | None ↦ [] ]) is
+
+pub left_alone_stay : LeftAloneStay
+left_alone_stay lists nets edit tree is apart name fact from to alone =
+    let old = lists.committed in
+    let g = forest (present tree) in
+    let class = alone.of_fact.class in
+    let seen_g : IsSeen (next_list old edit) nets.present g = subst (λ s. IsSeen s nets.present g) is.list is.seen_now in
+    let holds_g : Holds (built (next_list old edit)).believed g = subst (λ s. Holds (built s).believed g) is.list is.holds_now in
+    let keep : PointsKeepNumbers (points_in (next_list old edit).premises) nets.committed.names nets.present.names =
+    subst (λ s. PointsKeepNumbers (points_in s.premises) nets.committed.names nets.present.names) is.list is.points in
+    let known = grounded old nets.committed is.seen_then.network name fact from to alone.stood in
+    let now : class_in (next_list old edit).premises fact ≡ Some class = subst (λ s. class_in s.premises fact ≡ Some class) is.list alone.of_fact.of_class in
+    let was = one_class old edit is.seen_then.network.sound.well_named seen_g.network.sound.well_named fact class known.known now in
+    let class_was = class_is old fact class was in
+    let tokens_f = subst (AreTokens (old_forest tree) class) (sym alone.of_fact.untouched.tokens) (is.tokens_then class) in
+    let first = still_fixed old edit nets (old_forest tree) g is.seen_then is.holds_then seen_g holds_g is.numbers keep apart from known.first alone.first in
+    let last = still_fixed old edit nets (old_forest tree) g is.seen_then is.holds_then seen_g holds_g is.numbers keep apart to known.last alone.last in
+    let same =
+    same_for old edit nets (old_forest tree) g is.seen_then is.holds_then seen_g holds_g is.numbers keep apart
+    class ((present tree).tokens class) tokens_f alone.of_fact.tokens alone.of_fact.untouched.unmoved (At from) (At to) first last in
+    let stays : ask (built old) fact (At from) (At to) ≡ ask (built (next_list old edit)) fact (At from) (At to) =
+    asks_stay old (next_list old edit) is.seen_then.network.sound seen_g.network.sound fact (At from) (At to)
+    (class_was ∙ sym (class_is (next_list old edit) fact class now))
+    (subst (λ c. SameForPoints (built old) (built (next_list old edit)) c (At from) (At to)) (sym class_was) same) in
+    subst (λ s. broken (built s) (Protect name fact from to) ≡ broken (built old) (Protect name fact from to)) (sym is.list)
+    (ap (λ (found : Finding). elim (does_hold found) as (λ _. Option (List ℕ × Finding)) [ true ↦ None | false ↦ Some (name, found) ]) (sym stays))
