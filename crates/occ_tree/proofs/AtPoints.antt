@@ -91,7 +91,7 @@ module _ (f : Forest) where
     where
       by : (p ≡ q) ⊎ ⊥ → q ≡ p
       by (inl is) = sym is
-      by (inr no) = absurd no
+      by (inr none) = absurd none
 
   -- those below the root at a point are the nodes at it
   pub nodes_below : (p root : ℕ) (numbers : List ℕ) → IsRootAt f p (Some root) → ((y : ℕ) → IsOn numbers y ↔ IsBelow f root y) → HaveNodesAt f (p ∷ []) numbers

@@ -18,7 +18,6 @@ if_ok : {A E : Type 0} (P Q : A → Type 0) → ((a : A) → P a → Q a) → (r
 if_ok P Q f (Ok a) p = f a p
 if_ok P Q f (Err e) p = tt
 
-
 live_nodes : (node : Nodes) (numbers : List ℕ) → All (λ x. IsSome (forest_in node x)) numbers → All (λ x. IsSome (node x)) numbers
 live_nodes node numbers all k d within =
     let y = slice_index_or numbers k d in
@@ -31,25 +30,31 @@ mark_lists-requires c =
     (live_nodes (nodes_in (present_rows c.args.self.now.nodes)) c.args.nodes.now c.requires)
 
 -- the classes whose numbers are marked are told
-TellsMarked : List (List ℕ) → List Bool → Vec (List ℕ) → Type 0
+abbrev TellsMarked : List (List ℕ) → List Bool → Vec (List ℕ) → Type 0
 TellsMarked names marks told = (class : List ℕ) (k : ℕ) → place_in names class ≡ Some k → IsMarked marks k → Contains told.items class
 
-long : (c : goal.After-marked) → length c.mark_lists.new.marks.items ≡ length c.args.self.now.classes
+long : (c : goal.After-drop-marks-2) → length c.mark_lists.new.marks.items ≡ length c.args.self.now.classes
 long c =
     let first = c.mark_all.ensures.keeps.long in
     let second = c.mark_lists.ensures.keeps.long in
     let count = c.len.ensures in
     let made = c.in_ok-marks.ensures.len in
     let own = ap (λ (l : List (List ℕ)). length l) c.classes-classes.ensures.classes in
-    omega (arith, first, second, count, made, own)
+    omega (arith, first, second, count, made, own, c.in_ok-marks.marks.ok.0)
 
-tells : (c : goal.After-marked) → IfOk c.marked.result (TellsMarked c.args.self.now.classes c.mark_lists.new.marks.items)
+tells : (c : goal.After-drop-marks-2) → IfOk c.marked.result (TellsMarked c.args.self.now.classes c.mark_lists.new.marks.items)
 tells c =
     subst (λ marks. IfOk c.marked.result (TellsMarked c.args.self.now.classes marks)) c.as_slice-2.ensures.value
     (subst (λ names. IfOk c.marked.result (TellsMarked names c.as_slice-2.result.now)) c.classes-classes.ensures.classes c.marked.ensures.all)
 
 pub marked-requires : goal.marked-requires
-marked-requires c = ?
+marked-requires c =
+    let first = c.mark_all.ensures.keeps.long in
+    let second = c.mark_lists.ensures.keeps.long in
+    let count = c.len.ensures in
+    let made = c.in_ok-marks.ensures.len in
+    let own = ap (λ (l : List Bool). length l) c.as_slice-2.ensures.value in
+    omega (arith, first, second, count, made, own, c.in_ok-marks.marks.ok.0)
 
 pub returns-clause-others : goal.returns-clause-others
 returns-clause-others c =
