@@ -17,3 +17,5 @@ pub mod OfLists
 pub mod Ranks
 pub mod Index
 pub mod Touched
+pub mod Marks
+pub mod AtPoints

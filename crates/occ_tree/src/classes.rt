@@ -1,6 +1,9 @@
 // Classes under small numbers.
-ghost use Rattle.std.specs.Prelude.{◌≡◌, [], Some, None, IfOk};
+ghost use Rattle.std.specs.Prelude.{◌≡◌, ℕ, List, [], Some, None, IfOk, length};
+ghost use Rattle.std.specs.List.{Contains, IsDistinct};
+ghost use Rattle.tmm_model.specs.Points.{same_name};
 ghost use Rattle.occ_tree.specs.Classes.{place_in, HaveMore};
+ghost use Rattle.occ_tree.specs.Marks.{IsMarked};
 
 use indexmap::IndexSet;
 use std::alloc::Global;
@@ -38,6 +41,30 @@ impl Classes {
         ensures { result ≡ place_in self.now class.now }
     {
         Some(self.names.get_index_of(class)? as u32)
+    }
+
+    // How many classes there are: their numbers are those below it.
+    pub(crate) fn len(&self) -> usize
+        ensures { result ≡ length self.now }
+    {
+        self.names.len()
+    }
+
+    // The classes whose numbers are marked, each once.
+    pub(crate) fn marked(&self, alloc: Global, marks: &[bool]) -> Result<Vec<Name>, NoMemory>
+        requires { length marks.now ≡ length self.now }
+        ensures all { IfOk result (λ classes. (class : List ℕ) (k : ℕ) → place_in self.now class ≡ Some k → IsMarked marks.now k → Contains classes.items class) }
+        ensures once { IfOk result (λ classes. IsDistinct same_name classes.items) }
+    {
+        let names = self.names.as_slice();
+        let mut classes = Vec::new(alloc);
+        for k in 0..names.len() {
+            if marks[k] {
+                classes.reserve(1)?;
+                classes.push_reserved(names[k]);
+            }
+        }
+        Ok(classes)
     }
 
     // The number of a class, which is the next one where it has none. Those of others stay, also without

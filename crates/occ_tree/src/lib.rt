@@ -7,7 +7,8 @@
 //! to their dates in another network leave the dates those of the network (`roots_keep_dates`,
 //! `effects_keep_dates`, `withdrawals_keep_dates`, `moves_keep_dates`).
 //!
-//! `ByName` finds the occurrences of one tree among those of another.
+//! `ByName` finds the occurrences of one tree among those of another. `Tree::touched` tells which nodes and
+//! classes the edits since the last commit may have touched, where they moved points of the network.
 #![tactic(auto)]
 
 mod below;

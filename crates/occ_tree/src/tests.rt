@@ -5,6 +5,7 @@ ghost use Rattle.spots.specs.Forest.{IsLive};
 ghost use Rattle.occ_tree.specs.Standing.{present, forest};
 
 use super::*;
+use dist_net::DistNet;
 use std::alloc::Global;
 use std::test::Fail;
 use tmm_model::{Bound, Name, NoMemory, Shape};
@@ -118,5 +119,18 @@ fn all_numbers_are_told(rt: HostRuntime) -> Result<(), Fail> {
     let numbers = roots.tree.numbers(alloc)?;
     let want = [roots.first, roots.second, roots.effect];
     assert_eq!(rt; numbers.as_slice(), want.as_slice());
+    Ok(())
+}
+
+#[test]
+fn nothing_is_touched_at_first(rt: HostRuntime) -> Result<(), Fail> {
+    let alloc = rt.alloc();
+    let tree = Tree::make(alloc);
+    let net = DistNet::make(alloc)?;
+    // it tells the proof that the network is that of no premises
+    let _ = net.edges();
+    let touched = tree.touched(alloc, &net)?;
+    assert!(rt; touched.nodes.is_empty());
+    assert!(rt; touched.classes.is_empty());
     Ok(())
 }

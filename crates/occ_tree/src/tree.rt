@@ -6,7 +6,9 @@ ghost use Rattle.tmm_model.specs.Lines.{IsNumber, IsBound, IsRange};
 ghost use Rattle.tmm_model.specs.Names.{is_name};
 ghost use Rattle.tmm_model.specs.declared.bound.Bound.TheVariants.{Finite};
 ghost use Rattle.spots.specs.Forest.{Member, IsLive, root_member, child_member, IsNoRoot, HasClass, HasEnd, IsTrigger, IsOnce};
-ghost use Rattle.occ_tree.specs.Standing.{present, committed, forest, early, below, IsChildOf, order};
+ghost use Rattle.std.specs.List.{Contains};
+ghost use Rattle.undo_lists.specs.Changes.{present as tokens_now, committed as tokens_then};
+ghost use Rattle.occ_tree.specs.Standing.{present, committed, forest, early, below, IsChildOf, order, IsTree};
 ghost use Rattle.spots.specs.Spots.{AreTokens};
 ghost use Rattle.occ_tree.specs.Tokens.{IsInOrder, numbers_in};
 ghost use Rattle.occ_tree.specs.Dated.{DatesFollow, HaveRoots};
@@ -251,5 +253,19 @@ impl Tree {
         ensures { result.now ≡ self.now.nodes }
     {
         &self.nodes
+    }
+    // The classes under their numbers.
+    pub(crate) fn classes(&self) -> &Classes
+        ensures classes { result.now ≡ self.now.classes }
+        ensures stands { IsTree self.now.nodes self.now.classes self.now.tokens }
+    {
+        &self.classes
+    }
+
+    // The numbers of the classes of which a token entered or left since the last commit. It takes memory.
+    pub(crate) fn changed_lists(&self, alloc: Global) -> Result<Vec<u32>, NoMemory>
+        ensures { IfOk result (λ numbers. (k : ℕ) → (Contains numbers.items k → ⊥) → tokens_now self.now.tokens k ≡ tokens_then self.now.tokens k) }
+    {
+        self.tokens.changed(alloc)
     }
 }

@@ -1,5 +1,5 @@
 -- What a log leads back to.
-use Rattle.std.specs.Prelude.{ℕ, ◌<◌, ◌≤◌, List, [], ◌∷◌, length}
+use Rattle.std.specs.Prelude.{ℕ, ◌<◌, ◌≤◌, List, [], ◌∷◌, length, map, reverse}
 use Rattle.undo_lists.specs.declared.change.Change.{Change}
 use Rattle.undo_lists.specs.declared.change.Change.TheVariants.{Inserted, Removed}
 use Rattle.undo_lists.specs.Rooms.{ListRoom, items_in, rooms_in, with_item, without_item}
@@ -29,6 +29,15 @@ present l = items_in l.lists
 -- the lists as they were at the last commit
 abbrev pub committed : {T : Type 0} → Logged T → ℕ → List T
 committed l = undone l.log (items_in l.lists)
+
+-- the number of the list that a change was made to
+abbrev pub list_of : {T : Type 0} → Change T → ℕ
+list_of (Inserted n place) = n
+list_of (Removed n place item) = n
+
+-- the numbers of the lists that changes were made to since the last commit, the latest first
+abbrev pub changed : {T : Type 0} → Logged T → List ℕ
+changed l = reverse (map list_of l.log)
 
 -- for how many items each list has room
 abbrev pub rooms : {T : Type 0} → Logged T → ℕ → ℕ

@@ -3,8 +3,8 @@
 //! It stands on `tmm_model` and `undo_log`. A `Lists` is seen as the lists now, as those at the last
 //! commit, and as the room that there is for more. An item enters and leaves a list at a place that the
 //! caller states, and each change is logged as it is made; `rollback` undoes what is logged, latest
-//! first, and takes no memory; `commit` forgets the log. A list's room never shrinks, so an item that
-//! comes back finds room.
+//! first, and takes no memory; `commit` forgets the log. `changed` tells which lists the log has changes of.
+//! A list's room never shrinks, so an item that comes back finds room.
 #![tactic(auto)]
 
 mod change;

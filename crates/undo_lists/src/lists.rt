@@ -1,7 +1,8 @@
 // The lists.
 ghost use Rattle.std.specs.Prelude.{◌≡◌, ℕ, ◌+◌, ◌<◌, ◌≤◌, [], length, slice_index_or, IfOk, OnOk, OnErr};
 ghost use Rattle.undo_lists.specs.Rooms.{with_item, without_item};
-ghost use Rattle.undo_lists.specs.Changes.{present, committed, rooms};
+ghost use Rattle.std.specs.List.{Contains};
+ghost use Rattle.undo_lists.specs.Changes.{present, committed, rooms, changed};
 
 use crate::change::Change;
 use crate::item_list::ItemList;
@@ -135,6 +136,20 @@ impl<T: Copy> Lists<T> {
     {
         self.reserve(alloc, number, 0, 1)?;
         Ok(self.remove(number, place))
+    }
+
+    /// The numbers of the lists that changes were made to since the last commit, one for each change, the
+    /// latest first. Every other list is that of the last commit. It takes memory.
+    pub fn changed(&self, alloc: Global) -> Result<Vec<u32>, NoMemory>
+        ensures numbers { IfOk result (λ numbers. numbers.items ≡ changed self.now) }
+        ensures others { IfOk result (λ numbers. (n : ℕ) → (Contains numbers.items n → ⊥) → present self.now n ≡ committed self.now n) }
+    {
+        let mut log = self.log.copy(alloc)?;
+        let mut numbers = Vec::with_capacity(alloc, log.mark())?;
+        while let Some(change) = log.pop_since(0) {
+            numbers.push_reserved(change.list());
+        }
+        Ok(numbers)
     }
 
     /// Makes the lists those of the last commit. It takes no memory.

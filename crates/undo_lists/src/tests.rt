@@ -47,6 +47,16 @@ fn a_copy_goes_its_own_way(rt: HostRuntime) -> Result<(), Fail> {
     Ok(())
 }
 
+#[test]
+fn changed_lists_are_told(rt: HostRuntime) -> Result<(), Fail> {
+    let alloc = rt.alloc();
+    let mut lists = changed(alloc)?;
+    assert_eq!(rt; lists.changed(alloc)?.as_slice(), [0, 2].as_slice());
+    lists.commit();
+    assert!(rt; lists.changed(alloc)?.is_empty());
+    Ok(())
+}
+
 // Items 20, 30 and 10 on list 2, committed.
 fn three_in_one(alloc: Global) -> Result<Lists<u32>, Fail> {
     let mut lists = Lists::make(alloc);
