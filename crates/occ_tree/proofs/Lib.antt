@@ -32,3 +32,6 @@ pub mod Members
 pub mod KeptDates
 pub mod Following
 pub mod Effect
+pub mod SortedBelow
+pub mod RoomLeft
+pub mod InTurn

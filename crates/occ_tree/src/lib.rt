@@ -24,6 +24,7 @@ mod nodes;
 mod numbers;
 mod order;
 mod ranks;
+mod sorting;
 mod tokens;
 mod told;
 mod touched;
