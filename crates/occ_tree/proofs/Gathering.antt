@@ -19,7 +19,7 @@ apart_from : (x : ℕ) (rows : List ℕ) → list_any (eqb x) rows ≡ false →
 apart_from x [] none = tt
 apart_from x (y ∷ rows) none = let (first, rest) = or_parts (eqb x y) (list_any (eqb x) rows) none in (first, apart_from x rows rest)
 
-distinct_from_once : (rows : List ℕ) → AreOnce rows → IsDistinct eqb rows
+pub distinct_from_once : (rows : List ℕ) → AreOnce rows → IsDistinct eqb rows
 unfolding IsDistinct
 distinct_from_once [] once = tt
 distinct_from_once (x ∷ rows) (new, once) = (apart_from x rows new, distinct_from_once rows once)

@@ -35,3 +35,6 @@ pub mod Effect
 pub mod Marking
 pub mod AtPoints
 pub mod Touching
+pub mod SortedBelow
+pub mod RoomLeft
+pub mod InTurn

@@ -1,5 +1,5 @@
 -- Nodes that have other dates.
-use Rattle.std.proofs.Common.{◌≡◌, ◌≢◌, ℕ, ◌+◌, ◌*◌, ◌<◌, zero, suc, true, false, List, [], ◌∷◌, ◌++◌, length, take, Option, Some, None, IsSome, eqb, refl, sym, ap, ◌∙◌, subst, inl, inr, arith, option_map, ◌⊎◌, w64, of_z, to_z}
+use Rattle.std.proofs.Common.{◌≡◌, ◌≢◌, ℕ, ◌+◌, ◌*◌, ◌<◌, zero, suc, Bool, true, false, List, [], ◌∷◌, ◌++◌, length, take, Option, Some, None, IsSome, eqb, refl, sym, ap, ◌∙◌, subst, inl, inr, arith, option_map, ◌⊎◌, w64, of_z, to_z}
 use Rattle.std.specs.List.{list_any}
 use Rattle.std.specs.Int.RustNames.{FitsSigned}
 use Rattle.std.specs.Prelude.{ℤ, pos, ◌+ℤ◌, ◌-ℤ◌, ◌≤ℤ◌, MatchOption, IfSome}
@@ -24,16 +24,16 @@ use Rattle.occ_tree.specs.Nodes.{Nodes, Way, parent_of, root_of, way_to, member_
 use Rattle.spots.specs.Spots.{links_low}
 use Rattle.occ_tree.specs.Classes.{IsNumberOf}
 use Rattle.occ_tree.specs.Standing.{nodes_in, head_for, IsStanding, AreKept}
-use Rattle.occ_tree.specs.Tokens.{HasList, AreTokensBut}
+use Rattle.occ_tree.specs.Tokens.{is_of, AreTokensBut}
 use Rattle.occ_tree.proofs.Beneath.{below_from_way, way_from_below}
 use Rattle.spots.proofs.Delays.{low_within, low_small}
 use Rattle.occ_tree.proofs.Effects.{seen, member_at, way_root}
-use Rattle.occ_tree.proofs.Grown.{row_at, node_at}
+use Rattle.occ_tree.proofs.Grown.{row_at, node_at, some_node}
 use Rattle.occ_tree.proofs.InOrder.{on_one, on_front}
 use Rattle.occ_tree.proofs.Keeping.{date_at, root_there, node_of_member}
 use Rattle.occ_tree.proofs.OnWays.{on_own, on_way_cases, parent_there, way_right_below, way_leads}
 use Rattle.occ_tree.proofs.Placing.{have_parents, placed_stays}
-use Rattle.occ_tree.proofs.TokenLists.{tokens_same}
+use Rattle.occ_tree.proofs.TokenLists.{some_is, tokens_same}
 use Rattle.occ_tree.proofs.Ways.{fixed, Extends, HaveParents, way-same, length-way, length-links}
 
 -- ---- the date of one node
@@ -168,19 +168,6 @@ module _ (t u : Table Node 1) (x : ℕ) (date : ℤ) (n : Node) (at : nodes_in t
     ];
   }
 
-  -- a node that is out has another date
-  pub tokens_dated : ArePlaced (nodes_in t) → (lists : ℕ → List (TokenRow Spot)) → AreTokensBut (nodes_in t) lists (x ∷ []) → AreTokensBut (nodes_in u) lists (x ∷ [])
-  tokens_dated placed lists tokens =
-      tokens_same (nodes_in t) (nodes_in u) lists (x ∷ []) (λ y free. dated_other y (λ same. free (subst (IsOn (x ∷ [])) (sym same) (IsOn-first x []))))
-      (λ y free. members_same (nodes_in t) (nodes_in u) (have_parents (nodes_in t) placed) extends_dated none_dated y) tokens
-
-  -- it is of the same class
-  pub list_dated : (k : ℕ) → HasList (nodes_in u) x k → HasList (nodes_in t) x k
-  list_dated k (m, m_at, list) =
-      let both : Some (dated date n) ≡ Some m = sym dated_at ∙ m_at in
-      let one : dated date n ≡ m = cc in
-      (n, at, ap (λ (q : Node). q.list) one ∙ list)
-
 -- ---- one date after another
 
 pub dated_more : (t u v : Table Node 1) (numbers : List ℕ) (x : ℕ) (date : ℤ) (n : Node) → nodes_in u x ≡ Some n → v ≡ with_value u x (dated date n) → AreDated t u numbers date → AreDated t v (numbers ++ x ∷ []) date
@@ -202,6 +189,43 @@ dated_more t u v numbers x date n at is d = record {
     own : (list_any (eqb x) numbers ≡ true) ⊎ (list_any (eqb x) numbers ≡ false) → option_map (dated date) (nodes_in t x) ≡ Some (dated date n)
     own (inl there) = again (nodes_in t x) (sym at ∙ d.on x there)
     own (inr free) = ap (option_map (dated date)) (sym (d.others x (both_ways (list_any (eqb x) numbers) free)) ∙ at)
+
+-- ---- all of them
+
+module _ (t u : Table Node 1) (date : ℤ) (numbers : List ℕ) (d : AreDated t u numbers date) where
+  pub extends_all : Extends (nodes_in t) (nodes_in u)
+  extends_all y n at = elim (cases_Bool (list_any (eqb y) numbers)) [
+    | inl on ↦ (dated date n, d.on y on ∙ ap (option_map (dated date)) at, refl)
+    | inr off ↦ (n, d.others y (both_ways (list_any (eqb y) numbers) off) ∙ at, refl)
+  ]
+
+  pub none_all : (y : ℕ) → nodes_in t y ≡ None → nodes_in u y ≡ None
+  none_all y at = elim (cases_Bool (list_any (eqb y) numbers)) [
+    | inl on ↦ d.on y on ∙ ap (option_map (dated date)) at
+    | inr off ↦ d.others y (both_ways (list_any (eqb y) numbers) off) ∙ at
+  ]
+
+  pub live_all : (y : ℕ) → IsSome (nodes_in t y) → IsSome (nodes_in u y)
+  live_all y live = let (n, at) = some_node (nodes_in t) y live in let (m, here, same) = extends_all y n at in some_is (nodes_in u y) m here
+
+  -- they are of the same classes
+  pub class_all : (k y : ℕ) → is_of (nodes_in u) k y ≡ is_of (nodes_in t) k y
+  class_all k y = elim (cases_Bool (list_any (eqb y) numbers)) [
+    | inl on ↦ ap of_list (d.on y on) ∙ by (nodes_in t y)
+    | inr off ↦ ap of_list (d.others y (both_ways (list_any (eqb y) numbers) off))
+  ]
+    where
+      of_list : Option Node → Bool
+      of_list o = option_map_or (λ (n : Node). option_map_or (eqb k) n.list false) o false
+
+      by : (o : Option Node) → of_list (option_map (dated date) o) ≡ of_list o
+      by None = refl
+      by (Some n) = refl
+
+  -- nodes that are out have other dates
+  pub tokens_all : ArePlaced (nodes_in t) → (lists : ℕ → List (TokenRow Spot)) → AreTokensBut (nodes_in t) lists numbers → AreTokensBut (nodes_in u) lists numbers
+  tokens_all placed lists tokens =
+      tokens_same (nodes_in t) (nodes_in u) lists numbers d.others (λ y free. members_same (nodes_in t) (nodes_in u) (have_parents (nodes_in t) placed) extends_all none_all y) tokens
 
 -- ---- all below a root
 
@@ -259,16 +283,10 @@ module _ (t u : Table Node 1) (x : ℕ) (date : ℤ) (numbers : List ℕ) (below
   elsewhere y free = d.others y (λ on. free ((below.each y).0 on))
 
   extends : Extends (nodes_in t) (nodes_in u)
-  extends y n at = elim (cases_Bool (list_any (eqb y) numbers)) [
-    | inl on ↦ (dated date n, here y n at on, refl)
-    | inr off ↦ (n, d.others y (both_ways (list_any (eqb y) numbers) off) ∙ at, refl)
-  ]
+  extends = extends_all t u date numbers d
 
   none : (y : ℕ) → nodes_in t y ≡ None → nodes_in u y ≡ None
-  none y at = elim (cases_Bool (list_any (eqb y) numbers)) [
-    | inl on ↦ d.on y on ∙ ap (option_map (dated date)) at
-    | inr off ↦ d.others y (both_ways (list_any (eqb y) numbers) off) ∙ at
-  ]
+  none = none_all t u date numbers d
 
   -- the node as it was
   before : (y : ℕ) (k : Node) → nodes_in u y ≡ Some k → (n : Node) × (nodes_in t y ≡ Some n)

@@ -1,15 +1,13 @@
 -- Nodes that are sorted by date and word are in the order of their occurrences.
-use Rattle.std.proofs.Common.{◌≡◌, ◌∙◌, ℕ, zero, suc, ◌<◌, true, false, List, [], ◌∷◌, map, length, refl, sym, ap, subst, arith}
+use Rattle.std.proofs.Common.{◌≡◌, ◌∙◌, ℕ, zero, suc, ◌<◌, true, false, List, [], ◌∷◌, map, length, IsSome, refl, sym, ap, subst, arith}
 use Rattle.std.specs.Prelude.{nat_eq, slice_index_or}
 use Rattle.std.specs.List.{All, AllByRecursion, IsDistinct}
 use Rattle.std.specs.List.Sorted.{IsSortedBy, IsStrictlySortedBy}
-use Rattle.std.specs.Option.{is_some}
 use Rattle.std.specs.declared.cmp.Ordering.{Ordering}
 use Rattle.std.specs.declared.cmp.Ordering.TheVariants.{Less, Equal, Greater}
-use Rattle.std.specs.Ordering.{bool_cmp, ordering_then, ordering_reverse, is_lt}
-use Rattle.std.specs.Cmp.{IsStrictWeakOrder, bool_cmp_total}
+use Rattle.std.specs.Ordering.{ordering_reverse, is_lt}
+use Rattle.std.specs.Cmp.{IsStrictWeakOrder}
 use Rattle.std.proofs.lemmas.Bool.Decides.{Decides-eqb}
-use Rattle.std.proofs.lemmas.Cmp.{then_total, on_total}
 use Rattle.std.proofs.lemmas.List.{get_or-map, length-map}
 use Rattle.std.proofs.lemmas.List.Elements.{All-contains, All-head, All-tail, Contains-get_or}
 use Rattle.std.proofs.lemmas.List.Sorted.{sorted_far, ranks_by}
@@ -29,15 +27,17 @@ use Rattle.occ_tree.specs.declared.ranks.Ranked.{Ranked}
 use Rattle.occ_tree.specs.Dated.{IsDatedBy}
 use Rattle.occ_tree.specs.Known.{dated_cmp}
 use Rattle.occ_tree.specs.Ranks.{rank_cmp, IsRanked, nodes_of}
-use Rattle.occ_tree.specs.Standing.{State, nodes_in, forest, order}
-use Rattle.occ_tree.proofs.Ranking.{nodes_total}
+use Rattle.occ_tree.specs.Standing.{State, nodes_in, forest}
+use Rattle.occ_tree.proofs.Keeping.{node_if_live}
+use Rattle.occ_tree.proofs.Ranking.{rank_total, rank_of_nodes}
+use Rattle.occ_tree.proofs.TokenLists.{some_is}
 
 -- the order in which they are sorted
 abbrev pub rank_by : State → Ranked → Ranked → Ordering
 rank_by s p q = rank_cmp s p.node q.node
 
 pub rank_order : (s : State) → IsStrictWeakOrder (λ p q. is_lt (rank_by s p q))
-rank_order s = ranks_by (then_total (on_total (λ x. is_some (forest s x)) bool_cmp_total) (nodes_total (nodes_in s.rows))) (λ (p : Ranked). p.node)
+rank_order s = ranks_by (rank_total (nodes_in s.rows)) (λ (p : Ranked). p.node)
 
 -- each before all that follow
 strictly_sorted : {X : Type 0} (cmp : X → X → Ordering) (xs : List X) → ((i j : ℕ) (d : X) → i < j → j < length xs → cmp (slice_index_or xs i d) (slice_index_or xs j d) ≡ Less) → IsStrictlySortedBy cmp xs
@@ -74,7 +74,10 @@ module _ (net : Net) (s : State) (list : HasList net (forest s)) (dated : IsDate
 
   -- a node that is before another is sorted before it
   rank_before : (x y : ℕ) → IsLive (forest s) x → IsLive (forest s) y → node_cmp net (forest s) x y ≡ Less → rank_cmp s x y ≡ Less
-  rank_before x y live_x live_y e = (λ i. ordering_then (bool_cmp (live_x i) (live_y i)) (order s x y)) ∙ dated_cmp net s dated x y live_x live_y ∙ e
+  rank_before x y live_x live_y e = rank_of_nodes (nodes_in s.rows) x y (there x live_x) (there y live_y) ∙ dated_cmp net s dated x y live_x live_y ∙ e
+    where
+      there : (z : ℕ) → IsLive (forest s) z → IsSome (nodes_in s.rows z)
+      there z live = let (n, at) = node_if_live (nodes_in s.rows) z live in some_is (nodes_in s.rows z) n at
 
   -- **Sorted nodes are in order.**
   pub in_order : (ps : List Ranked) → All (IsRanked net (forest s)) ps → IsDistinct nat_eq (nodes_of ps) → IsSortedBy (λ p q. is_lt (rank_by s p q)) ps → IsStrictlySortedBy (node_cmp net (forest s)) (nodes_of ps)

@@ -2,8 +2,9 @@
 use Rattle.std.proofs.Common.{◌≡◌, ℕ, true, false, List, [], ◌∷◌, ◌++◌, map, Option, Some, None, IsSome, refl, sym, ap, ◌∙◌, subst, inl, inr}
 use Rattle.std.specs.declared.cmp.Ordering.{Ordering}
 use Rattle.std.specs.declared.cmp.Ordering.TheVariants.{Less, Equal, Greater}
-use Rattle.std.specs.Ordering.{int_cmp, nat_cmp, ordering_then, is_eq}
-use Rattle.std.specs.Cmp.{IsTotalOrder, unsigned_ties}
+use Rattle.std.specs.Option.{is_some}
+use Rattle.std.specs.Ordering.{bool_cmp, int_cmp, nat_cmp, ordering_then, is_eq}
+use Rattle.std.specs.Cmp.{IsTotalOrder, bool_cmp_total, unsigned_ties}
 use Rattle.std.specs.Cmp.Lexicographic.{slice_cmp, lists_ties, bytes_decides, nat_list_cmp_total}
 use Rattle.std.proofs.lemmas.Cmp.{then_total, on_total, int_cmp_total}
 use Rattle.tmm_model.specs.Names.{is_name}
@@ -13,13 +14,20 @@ use Rattle.list_theory.proofs.Elements.{In}
 use Rattle.belief_theory.proofs.Spelt.{no_slash}
 use Rattle.occ_tree.specs.Ends.{way_ends}
 use Rattle.occ_tree.specs.Nodes.{Nodes, name_at, date_in, way_to, ArePlaced}
-use Rattle.occ_tree.specs.Words.{word_in, node_cmp}
+use Rattle.occ_tree.specs.Words.{word_in, node_cmp, rank_in}
 use Rattle.occ_tree.proofs.Ways.{way_of_live}
 use Rattle.occ_tree.proofs.Grown.{some_node}
 use Rattle.occ_tree.proofs.Wording.{Follows, LeadsDown, leads_down, text_on, word-on, tail_follows, name_word, name_of}
 
 pub nodes_total : (node : Nodes) → IsTotalOrder (node_cmp node)
 nodes_total node = then_total (on_total (date_in node) int_cmp_total) (on_total (word_in node) nat_list_cmp_total)
+
+pub rank_total : (node : Nodes) → IsTotalOrder (rank_in node)
+rank_total node = then_total (on_total (λ x. is_some (node x)) bool_cmp_total) (nodes_total node)
+
+-- numbers of nodes are in the order of nodes
+pub rank_of_nodes : (node : Nodes) (x y : ℕ) → IsSome (node x) → IsSome (node y) → rank_in node x y ≡ node_cmp node x y
+rank_of_nodes node x y x_live y_live = λ i. ordering_then (bool_cmp (x_live i) (y_live i)) (node_cmp node x y)
 
 -- texts that tie are one
 tied_text : (a b : List ℕ) → slice_cmp nat_cmp a b ≡ Equal → a ≡ b

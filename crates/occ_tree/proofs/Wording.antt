@@ -100,7 +100,7 @@ slashed-push : (names : List (List ℕ)) (r : List ℕ) → slashed (names ++ r 
 slashed-push [] r = ap (λ (t : List ℕ). 47 ∷ t) (append-nil r)
 slashed-push (q ∷ names) r = ap (λ (t : List ℕ). 47 ∷ (q ++ t)) (slashed-push names r) ∙ ap (λ (t : List ℕ). 47 ∷ t) (sym (append_assoc q (slashed names) (47 ∷ r)))
 
-text_on-push : (node : Nodes) (u : List ℕ) (x : ℕ) → 0 < length u → text_on node (u ++ x ∷ []) ≡ text_on node u ++ 47 ∷ name_at node x
+pub text_on-push : (node : Nodes) (u : List ℕ) (x : ℕ) → 0 < length u → text_on node (u ++ x ∷ []) ≡ text_on node u ++ 47 ∷ name_at node x
 text_on-push node [] x some = absurd (omega (arith, some))
 text_on-push node (y ∷ u) x some =
     ap (λ names. name_at node y ++ slashed names) (map_push (name_at node) u x)

@@ -84,6 +84,10 @@ forest_in node x = option_map (member_of (way_to node x)) (node x)
 abbrev pub date_in : Nodes → ℕ → ℤ
 date_in node x = option_map_or (λ (n : Node). n.early) (node x) (pos 0)
 
+-- each date that is kept is that of the root and the least delays on the way
+abbrev pub FollowRoots : Nodes → Type 0
+FollowRoots node = (x : ℕ) (n : Node) → node x ≡ Some n → n.early ≡ date_in node (root_of x n) +ℤ n.sums.low
+
 -- ---- what holds of nodes
 
 -- the node right above is there, and has one rule less

@@ -1,5 +1,5 @@
 -- Nodes with the lists of their children and the tokens of each class, as they are and as they were.
-use Rattle.std.specs.Prelude.{◌≡◌, ℕ, ℤ, ◌+◌, ◌+ℤ◌, ◌<◌, ◌≤◌, List, [], ◌∷◌, Option, Some, None}
+use Rattle.std.specs.Prelude.{◌≡◌, ℕ, ℤ, ◌+◌, ◌<◌, ◌≤◌, List, [], ◌∷◌, Option, Some, None}
 use Rattle.std.specs.Option.{option_map, option_map_or}
 use Rattle.std.specs.declared.cmp.Ordering.{Ordering}
 use Rattle.row_links.specs.Lists.{IsOn}
@@ -13,7 +13,7 @@ use Rattle.tmm_model.specs.declared.token.TokenRow.{TokenRow}
 use Rattle.occ_tree.specs.declared.node.Node.{Node}
 use Rattle.spots.specs.declared.spot.Spot.{Spot}
 use Rattle.spots.specs.Forest.{Forest}
-use Rattle.occ_tree.specs.Nodes.{Nodes, parent_of, root_of, forest_in, date_in, ArePlaced}
+use Rattle.occ_tree.specs.Nodes.{Nodes, parent_of, forest_in, date_in, FollowRoots, ArePlaced}
 use Rattle.occ_tree.specs.Classes.{place_in, IsNumberOf}
 use Rattle.occ_tree.specs.Tokens.{AreTokensBut}
 use Rattle.occ_tree.specs.Words.{node_cmp}
@@ -67,7 +67,7 @@ tokens_under names rows class = option_map_or rows (place_in names class) []
 pub record AreKept (names : List (List ℕ)) (node : Nodes) (rows : ℕ → List (TokenRow Spot)) : Type 0 where
   pub tokens : AreTokensBut node rows []
   pub numbers : (x : ℕ) (n : Node) → node x ≡ Some n → IsNumberOf names n.class n.list
-  pub dates : (x : ℕ) (n : Node) → node x ≡ Some n → n.early ≡ date_in node (root_of x n) +ℤ n.sums.low
+  pub dates : FollowRoots node
 
 -- the nodes, the names of classes, and the lists of their tokens, with those of the last commit
 pub record Kept : Type 0 where

@@ -1,5 +1,5 @@
 -- The tokens of each class, in the order of occurrences.
-use Rattle.std.specs.Prelude.{◌≡◌, ◌≢◌, ℕ, ◌<◌, ◌≤◌, ◌↔◌, List, [], ◌∷◌, map, take, drop, length, Some, None, IsSome}
+use Rattle.std.specs.Prelude.{◌≡◌, ◌≢◌, ℕ, Bool, false, cond, eqb, ◌+◌, ◌<◌, ◌≤◌, ◌↔◌, List, [], ◌∷◌, map, take, drop, length, Some, None, IsSome}
 use Rattle.std.specs.Option.{option_map, option_map_or}
 use Rattle.std.specs.declared.cmp.Ordering.{Ordering}
 use Rattle.std.specs.declared.cmp.Ordering.TheVariants.{Less}
@@ -48,6 +48,19 @@ HasList node x k = (n : Node) × (node x ≡ Some n) × (n.list ≡ Some k)
 -- the list has room for a token more, and so has the log for a change
 abbrev pub HasRoom : Logged (TokenRow Spot) → ℕ → Type 0
 HasRoom tokens k = (length (present tokens k) < rooms tokens k) × (0 < tokens.spare)
+
+-- whether the node is a token of the class of this small number
+abbrev pub is_of : Nodes → ℕ → ℕ → Bool
+is_of node k x = option_map_or (λ (n : Node). option_map_or (eqb k) n.list false) (node x) false
+
+-- how many of the nodes are tokens of that class
+abbrev pub count_of : Nodes → ℕ → List ℕ → ℕ
+count_of node k [] = 0
+count_of node k (x ∷ xs) = cond (is_of node k x) (count_of node k xs + 1) (count_of node k xs)
+
+-- the list of each class that some of the nodes are of has room for these
+abbrev pub HaveRoomFor : Nodes → Logged (TokenRow Spot) → List ℕ → Type 0
+HaveRoomFor node tokens xs = (k : ℕ) → 0 < count_of node k xs → length (present tokens k) + count_of node k xs ≤ rooms tokens k
 
 -- the lists are of the tokens of each class but those of some nodes, in the order of their nodes
 pub record AreTokensBut (node : Nodes) (lists : ℕ → List (TokenRow Spot)) (out : List ℕ) : Type 0 where

@@ -1,7 +1,8 @@
 -- Words of occurrences, and the order of nodes by their dates and words.
 use Rattle.std.specs.Prelude.{ℕ, Bool, true, false, List, [], ◌∷◌, ◌++◌, map, drop}
 use Rattle.std.specs.declared.cmp.Ordering.{Ordering}
-use Rattle.std.specs.Ordering.{int_cmp, nat_cmp, on, then_cmp}
+use Rattle.std.specs.Option.{is_some}
+use Rattle.std.specs.Ordering.{bool_cmp, int_cmp, nat_cmp, on, then_cmp}
 use Rattle.std.specs.Cmp.Lexicographic.{slice_cmp}
 use Rattle.tmm_model.specs.Moments.{printed}
 use Rattle.spots.specs.Forest.{moment_at}
@@ -14,6 +15,10 @@ word_in node x = printed (moment_at (forest_in node) x)
 -- nodes by their earliest dates, and then by the bytes of their words
 abbrev pub node_cmp : Nodes → ℕ → ℕ → Ordering
 node_cmp node = then_cmp (on (date_in node) int_cmp) (on (word_in node) (slice_cmp nat_cmp))
+
+-- numbers of nodes in the order of nodes, behind all other numbers
+abbrev pub rank_in : Nodes → ℕ → ℕ → Ordering
+rank_in node = then_cmp (on (λ x. is_some (node x)) bool_cmp) (node_cmp node)
 
 -- `/`, where there is more
 abbrev pub slash_if : Bool → List ℕ

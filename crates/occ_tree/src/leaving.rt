@@ -4,25 +4,31 @@ ghost use Rattle.undo_lists.specs.Changes.{present, committed};
 ghost use Rattle.undo_rows.specs.Tables.{AreListed};
 ghost use Rattle.occ_tree.specs.Below.{IsRightBelow, ListsBelow, without_rows};
 ghost use Rattle.occ_tree.specs.Edits.{Keeps, Takes};
+ghost use Rattle.occ_tree.specs.Nodes.{FollowRoots};
 ghost use Rattle.occ_tree.specs.Standing.{nodes_in, present_rows, committed_rows, IsStanding};
-ghost use Rattle.occ_tree.specs.Tokens.{AreTokensBut};
+ghost use Rattle.occ_tree.specs.Tokens.{IsInOrder, AreTokensBut};
+ghost use Rattle.occ_tree.specs.Words.{node_cmp};
 
 use crate::below::list_below;
 use crate::nodes::Nodes;
+use crate::sorting::sort_below;
 use crate::tokens::{Tokens, take_out};
 use std::alloc::Global;
 use tmm_model::NoMemory;
 
-// The numbers of a node and of all below it, each before those below it, with room for two changes of each
-// node and of each token among them. All stays, also where there is no memory.
+// The numbers of a node and of all below it in the order of nodes, so that each is before those below it,
+// with room for two changes of each node and of each token among them. All stays, also where there is no
+// memory.
 pub(crate) fn room_below(
     alloc: Global,
     nodes: &mut Nodes,
     tokens: &mut Tokens,
     x: u32,
 ) -> Result<Vec<u32>, NoMemory>
-    requires { IsSome (nodes_in (present_rows nodes.old) x) }
+    requires live { IsSome (nodes_in (present_rows nodes.old) x) }
+    requires dates { FollowRoots (nodes_in (present_rows nodes.old)) }
     ensures below { IfOk result (λ numbers. ListsBelow (nodes_in (present_rows nodes.old)) x numbers.items) }
+    ensures in_order { IfOk result (λ numbers. IsInOrder (node_cmp (nodes_in (present_rows nodes.old))) numbers.items) }
     ensures room { IfOk result (λ numbers. (2 * length numbers.items ≤ nodes.new.rows.spare) × (2 * length numbers.items ≤ tokens.new.spare)) }
     ensures stands { IsStanding nodes.old.limit (present_rows nodes.old) }
     ensures listed { AreListed (present_rows nodes.old) }
@@ -33,14 +39,16 @@ pub(crate) fn room_below(
     // each node stands where it says, and on the list of its parent
     let _ = nodes.limit();
     let _ = nodes.first(None);
-    let numbers = list_below(alloc, nodes, x)?;
+    let mut numbers = list_below(alloc, nodes, x)?;
+    sort_below(nodes, &mut numbers);
     let changes = 2 * numbers.len();
     nodes.reserve(alloc, changes)?;
     tokens.reserve(alloc, 0, 0, changes)?;
     Ok(numbers)
 }
 
-// Takes out all these nodes, the last one first. It takes no memory.
+// Takes out all these nodes, the last one first: in the order of nodes few tokens of a class are behind the
+// one that goes then. It takes no memory.
 pub(crate) fn leave_all(nodes: &mut Nodes, tokens: &mut Tokens, numbers: Vec<u32>)
     requires below { (x : ℕ) × ListsBelow (nodes_in (present_rows nodes.old)) x numbers.items }
     requires tokens { AreTokensBut (nodes_in (present_rows nodes.old)) (present tokens.old) [] }

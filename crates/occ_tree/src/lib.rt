@@ -25,6 +25,7 @@ mod nodes;
 mod numbers;
 mod order;
 mod ranks;
+mod sorting;
 mod tokens;
 mod told;
 mod touched;

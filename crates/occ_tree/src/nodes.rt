@@ -10,7 +10,7 @@ ghost use Rattle.occ_tree.specs.Nodes.{forest_in, way_to, ArePlaced, WillBePlace
 ghost use Rattle.std.specs.Ordering.{nat_cmp};
 ghost use Rattle.std.specs.Cmp.Lexicographic.{slice_cmp};
 ghost use Rattle.ancestors.specs.Ways.{shared_front};
-ghost use Rattle.occ_tree.specs.Words.{word_in, node_cmp, piece_at};
+ghost use Rattle.occ_tree.specs.Words.{word_in, node_cmp, rank_in, piece_at};
 ghost use Rattle.occ_tree.specs.Standing.{nodes_in, siblings_in, head_for, present_rows, committed_rows, IsStanding};
 ghost use Rattle.occ_tree.specs.Edits.{Adds, Keeps, Takes, Dates};
 ghost use Rattle.occ_tree.specs.Below.{IsRightBelow};
@@ -215,6 +215,16 @@ impl Nodes {
         match self.get(x).early.cmp(&self.get(y).early) {
             Ordering::Equal => self.cmp_words(x, y),
             other => other,
+        }
+    }
+
+    // The order of two numbers: those of nodes in the order of nodes, behind all others.
+    pub(crate) fn rank(&self, x: u32, y: u32) -> Ordering
+        ensures { result ≡ rank_in (nodes_in (present_rows self.now)) x y }
+    {
+        match (self.is_live(x), self.is_live(y)) {
+            (true, true) => self.cmp_order(x, y),
+            (first, second) => first.cmp(&second),
         }
     }
 

@@ -30,10 +30,7 @@ impl Tree {
     pub(crate) fn rank(&self, x: u32, y: u32) -> Ordering
         ensures { result ≡ rank_cmp (present self.now) x y }
     {
-        match (self.is_live(x), self.is_live(y)) {
-            (true, true) => self.cmp_order(x, y),
-            (first, second) => first.cmp(&second),
-        }
+        self.nodes().rank(x, y)
     }
 
     /// The earliest date of a spot in a network whose dates are kept, in whole time units.

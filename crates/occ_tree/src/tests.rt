@@ -1,11 +1,12 @@
-//! A root that comes and goes, and what two trees have in common.
-ghost use Rattle.std.specs.Prelude.{◌≢◌, IsTrue, IfOk};
+//! A root that comes and goes with its tokens, and what two trees have in common.
+ghost use Rattle.std.specs.Prelude.{◌≡◌, ◌≢◌, [], Some, IsTrue, IfOk, OnOk};
 ghost use Rattle.tmm_model.specs.Names.{is_name};
-ghost use Rattle.spots.specs.Forest.{IsLive};
+ghost use Rattle.spots.specs.Forest.{Member, IsLive};
 ghost use Rattle.occ_tree.specs.Standing.{present, forest};
 
 use super::*;
 use dist_net::DistNet;
+use spots::Spot;
 use std::alloc::Global;
 use std::test::Fail;
 use tmm_model::{Bound, Name, NoMemory, Shape};
@@ -132,5 +133,86 @@ fn nothing_is_touched_at_first(rt: HostRuntime) -> Result<(), Fail> {
     let touched = tree.touched(alloc, &net)?;
     assert!(rt; touched.nodes.is_empty());
     assert!(rt; touched.classes.is_empty());
+    Ok(())
+}
+
+// A name of its own for each number below 1000.
+fn numbered(number: u32) -> Name
+    ensures { IsTrue (is_name result) }
+{
+    let digits = [number / 100 % 10, number / 10 % 10, number % 10];
+    let word = [b't', digit(digits[0]), digit(digits[1]), digit(digits[2])];
+    match Name::of(word.as_slice()) {
+        Some(name) => name,
+        None => Name::default(),
+    }
+}
+
+fn digit(value: u32) -> u8 {
+    b'0' + (value % 10) as u8
+}
+
+// Adds a token of a class below a root, by a rule by which nothing is there.
+fn add_token(
+    alloc: Global,
+    tree: &mut Tree,
+    event: u32,
+    rule: Name,
+    class: Name,
+) -> Result<(), NoMemory>
+    requires event { (m : Member) × (forest (present tree.old) event ≡ Some m) × (m.shape ≡ Shape.Event) × (m.links ≡ []) }
+    requires word { IsTrue (is_name rule) }
+    ensures event { OnOk result ((m : Member) × (forest (present tree.new) event ≡ Some m) × (m.shape ≡ Shape.Event) × (m.links ≡ [])) }
+{
+    match tree.find_effect(event, &rule) {
+        Some(_) => Ok(()),
+        None => {
+            let hi = Bound::Finite(2);
+            let class = Some(class);
+            tree.insert_child(alloc, event, rule, 1, hi, rule, class, Shape::Persistence)?;
+            Ok(())
+        }
+    }
+}
+
+// Whether so many tokens of a class are there, each before the one behind it.
+fn are_in_order(tree: &Tree, class: &Name, count: usize) -> bool {
+    let rows = tree.tokens(class);
+    for i in 1..rows.len() {
+        if !is_before(tree, rows[i - 1].spot, rows[i].spot) {
+            return false;
+        }
+    }
+    rows.len() == count
+}
+
+fn is_before(tree: &Tree, first: Spot, second: Spot) -> bool {
+    match (first, second) {
+        (Spot::Node(x), Spot::Node(y)) => tree.rank(x, y).is_lt(),
+        _ => false,
+    }
+}
+
+#[test]
+fn the_tokens_of_a_root_stay_in_order(rt: HostRuntime) -> Result<(), Fail> {
+    let alloc = rt.alloc();
+    let mut tree = Tree::make(alloc);
+    let press = name("press");
+    let class = name("light");
+    let event = tree.insert_root(alloc, press, 1, None, press, None, Shape::Event, 5)?;
+    for i in 0..300 {
+        add_token(alloc, &mut tree, event, numbered(i * 7 % 300), class)?;
+    }
+    tree.commit();
+    tree.re_date(alloc, event, 50)?;
+    assert_eq!(rt; are_in_order(&tree, &class, 300), true);
+    tree.rollback();
+    assert_eq!(rt; are_in_order(&tree, &class, 300), true);
+    if tree.is_live(event) {
+        tree.withdraw(alloc, event)?;
+    }
+    assert_eq!(rt; are_in_order(&tree, &class, 0), true);
+    tree.rollback();
+    assert_eq!(rt; are_in_order(&tree, &class, 300), true);
     Ok(())
 }

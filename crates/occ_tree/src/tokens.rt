@@ -9,7 +9,7 @@ ghost use Rattle.occ_tree.specs.Nodes.{ArePlaced, WillBePlaced};
 ghost use Rattle.occ_tree.specs.declared.node.Node.{Node as ANode};
 ghost use Rattle.spots.specs.declared.spot.Spot.TheVariants.{Node as OfNode};
 ghost use Rattle.occ_tree.specs.Standing.{nodes_in, present_rows};
-ghost use Rattle.occ_tree.specs.Tokens.{row_in, number_of, numbers_in, IsPlaceFor, HasList, HasRoom, AreRowsOf, AreTokensBut};
+ghost use Rattle.occ_tree.specs.Tokens.{row_in, number_of, numbers_in, IsPlaceFor, HasList, HasRoom, HaveRoomFor, AreRowsOf, AreTokensBut};
 ghost use Rattle.occ_tree.specs.Words.{node_cmp};
 
 use crate::classes::Classes;
@@ -60,8 +60,8 @@ pub(crate) fn put_in(nodes: &Nodes, tokens: &mut Tokens, x: u32)
     requires rows { (k : ℕ) → AreRowsOf (nodes_in (present_rows nodes.now)) (present tokens.old k) }
     requires room { (k : ℕ) → HasList (nodes_in (present_rows nodes.now)) x k → HasRoom tokens.old k }
     ensures tokens { (out : List ℕ) → (IsOn out x → ⊥) → AreTokensBut (nodes_in (present_rows nodes.now)) (present tokens.old) (x ∷ out) → AreTokensBut (nodes_in (present_rows nodes.now)) (present tokens.new) out }
+    ensures room { (out : List ℕ) → HaveRoomFor (nodes_in (present_rows nodes.now)) tokens.old (x ∷ out) → HaveRoomFor (nodes_in (present_rows nodes.now)) tokens.new out }
     ensures committed { committed tokens.new ≡ committed tokens.old }
-    ensures rooms { rooms tokens.new ≡ rooms tokens.old }
     ensures spare { tokens.old.spare ≤ tokens.new.spare + 1 }
 {
     let node = nodes.get(x);
@@ -71,13 +71,14 @@ pub(crate) fn put_in(nodes: &Nodes, tokens: &mut Tokens, x: u32)
     }
 }
 
-// Takes a node out of the tokens of its class, if it is one. It takes no memory, and leaves room for it.
+// Takes a node that is in out of the tokens of its class, if it is one. It takes no memory, and leaves room for
+// it.
 pub(crate) fn take_out(nodes: &Nodes, tokens: &mut Tokens, x: u32)
     requires live { IsSome (nodes_in (present_rows nodes.now) x) }
-    requires tokens { AreTokensBut (nodes_in (present_rows nodes.now)) (present tokens.old) [] }
+    requires tokens { (out : List ℕ) × (IsOn out x → ⊥) × AreTokensBut (nodes_in (present_rows nodes.now)) (present tokens.old) out }
     requires spare { 0 < tokens.old.spare }
-    ensures tokens { AreTokensBut (nodes_in (present_rows nodes.now)) (present tokens.new) (x ∷ []) }
-    ensures room { (k : ℕ) → HasList (nodes_in (present_rows nodes.now)) x k → length (present tokens.new k) < rooms tokens.new k }
+    ensures tokens { (out : List ℕ) → (IsOn out x → ⊥) → AreTokensBut (nodes_in (present_rows nodes.now)) (present tokens.old) out → AreTokensBut (nodes_in (present_rows nodes.now)) (present tokens.new) (x ∷ out) }
+    ensures room { (out : List ℕ) → HaveRoomFor (nodes_in (present_rows nodes.now)) tokens.old out → HaveRoomFor (nodes_in (present_rows nodes.now)) tokens.new (x ∷ out) }
     ensures committed { committed tokens.new ≡ committed tokens.old }
     ensures spare { tokens.old.spare ≤ tokens.new.spare + 1 }
 {

@@ -1,5 +1,5 @@
 // The tree of occurrences.
-ghost use Rattle.std.specs.Prelude.{◌≡◌, ◌≢◌, ℕ, List, [], ◌<◌, Option, pos, ◌+ℤ◌, ◌≤ℤ◌, None, Some, IsSome, IfOk, OnOk, OnErr, IfSome, IsTrue, ◌↔◌};
+ghost use Rattle.std.specs.Prelude.{◌≡◌, ◌≢◌, ℕ, List, [], ◌<◌, Option, pos, ◌+ℤ◌, ◌≤ℤ◌, None, Some, IsSome, IfOk, OnOk, OnErr, IfSome, IsTrue, ◌↔◌, ◌≤◌};
 ghost use Rattle.row_links.specs.Lists.{first_or, row_after};
 ghost use Rattle.tmm_model.specs.Bounds.{IsWithin};
 ghost use Rattle.tmm_model.specs.Lines.{IsNumber, IsBound, IsRange};
@@ -154,7 +154,8 @@ impl Tree {
 
     /// Every number of a node is below it.
     pub fn limit(&self) -> u32
-        ensures { (x : ℕ) → IsLive (forest (present self.now)) x → x < result }
+        ensures above { (x : ℕ) → IsLive (forest (present self.now)) x → x < result }
+        ensures few { result ≤ 4294967295 }
     {
         self.nodes.limit()
     }

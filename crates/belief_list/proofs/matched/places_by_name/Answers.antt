@@ -32,5 +32,5 @@ loop-x-preserved c =
 pub returns : goal.returns
 returns c = record {
   listing = c.requires;
-  same = λ x live. c.loop-x.invariant.matched x (omega (arith, c.limit-limit.ensures x live)) live;
+  same = λ x live. c.loop-x.invariant.matched x (omega (arith, c.limit-limit.ensures.above x live)) live;
 }

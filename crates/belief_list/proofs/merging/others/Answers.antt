@@ -11,7 +11,7 @@ use Rattle.belief_list.proofs.KeptRows.{live_at_place, distinct_filter, unmarked
 use Rattle.belief_list.proofs.merging.others.Goals as goal
 
 pub marks_of-requires : goal.marks_of-requires
-marks_of-requires c k d h = c.limit.ensures _ (live_at_place (forest c.args.tree.now) c.args.kept.now c.requires k d h)
+marks_of-requires c k d h = c.limit.ensures.above _ (live_at_place (forest c.args.tree.now) c.args.kept.now c.requires k d h)
 
 pub returns-clause-live : goal.returns-clause-live
 returns-clause-live c =

@@ -38,7 +38,7 @@ returns-clause-size c =
     let s = c.args.standing.now.present in
     let f = forest c.args.tree.now in
     let (net, tree) = c.requires.seen in
-    λ holds. all_counted s net f tree.seen holds c.loop-x.x c.loop-x.counted (λ x live. (let below = c.limit-x-end.ensures x live in omega (arith, below))) c.loop-x.invariant.0
+    λ holds. all_counted s net f tree.seen holds c.loop-x.x c.loop-x.counted (λ x live. (let below = c.limit-x-end.ensures.above x live in omega (arith, below))) c.loop-x.invariant.0
 
 pub returns-clause-small : goal.returns-clause-small
 returns-clause-small c = c.loop-x.invariant.1

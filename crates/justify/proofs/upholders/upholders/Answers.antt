@@ -24,7 +24,7 @@ add_grounds-requires-clause-live c =
 pub loop-next-smaller : goal.loop-next-smaller
 loop-next-smaller c =
     let low : c.loop-next.next < c.limit-limit.result =
-    walked_below (built c.args.standing.now.present) (forest c.args.tree.now) c.args.x c.limit-limit.result c.limit-limit.ensures c.loop-next.found.keys c.loop-next.next c.index-y.result.now c.loop-next.invariant c.index-y.ensures in
+    walked_below (built c.args.standing.now.present) (forest c.args.tree.now) c.args.x c.limit-limit.result c.limit-limit.ensures.above c.loop-next.found.keys c.loop-next.next c.index-y.result.now c.loop-next.invariant c.index-y.ensures in
     omega arith
 
 pub loop-next-preserved : goal.loop-next-preserved

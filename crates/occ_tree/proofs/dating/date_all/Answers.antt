@@ -1,26 +1,21 @@
-use Rattle.std.proofs.Common.{◌∙◌, ◌<◌, length, take, sym, subst, arith, w64, of_z, to_z}
-use Rattle.std.proofs.lemmas.List.{take_more}
-use Rattle.occ_tree.specs.Edits.{AreDated}
-use Rattle.occ_tree.specs.Standing.{present_rows}
-use Rattle.occ_tree.proofs.Moved.{dated_more}
+use Rattle.std.proofs.Common.{w64, of_z, to_z}
+use Rattle.undo_lists.specs.Changes.{present}
+use Rattle.occ_tree.specs.Standing.{nodes_in, present_rows}
+use Rattle.occ_tree.proofs.Moved.{live_all, class_all, tokens_all}
+use Rattle.occ_tree.proofs.RoomLeft.{room_kept}
 use Rattle.occ_tree.proofs.dating.date_all.Goals as goal
 
-pub loop-x-preserved : goal.loop-x-preserved
-loop-x-preserved c =
+pub put_all_in-requires-clause-live : goal.put_all_in-requires-clause-live
+put_all_in-requires-clause-live c = λ y on.
+    live_all (present_rows c.args.nodes.now) (present_rows c.date_nodes.new.nodes) (to_z w64 (of_z w64 c.args.root_date)) c.args.numbers.now c.date_nodes.ensures.dated y (c.requires.live y on)
+
+pub put_all_in-requires-clause-tokens : goal.put_all_in-requires-clause-tokens
+put_all_in-requires-clause-tokens c =
+    tokens_all (present_rows c.args.nodes.now) (present_rows c.date_nodes.new.nodes) (to_z w64 (of_z w64 c.args.root_date)) c.args.numbers.now c.date_nodes.ensures.dated c.limit.ensures.stands.placed
+    (present c.take_all_out.new.tokens) c.take_all_out.ensures.tokens
+
+pub put_all_in-requires-clause-room : goal.put_all_in-requires-clause-room
+put_all_in-requires-clause-room c =
     let t = present_rows c.args.nodes.now in
-    let u = present_rows c.loop-x.nodes in
-    let v = present_rows c.date_one.new.nodes in
-    let numbers = c.args.numbers.now in
-    let i = c.loop-x.x-index in
-    let inv = c.loop-x.invariant in
-    let e = c.date_one.ensures in
-    let d = e.dated in
-    let date = to_z w64 (of_z w64 c.args.root_date) in
-    let within : i < length numbers = omega (arith, c.loop-x-test.true) in
-    record {
-      dated = subst (λ l. AreDated t v l date) (sym (take_more numbers i _ within)) (dated_more t u v (take i numbers) _ date d.node d.at d.present_is inv.dated);
-      committed_rows = d.committed_is ∙ inv.committed_rows;
-      tokens = e.tokens;
-      committed = e.committed ∙ inv.committed;
-      room = (let a = e.room.0 in let b = inv.room.0 in omega (arith, a, b), let a = e.room.1 in let b = inv.room.1 in omega (arith, a, b));
-    }
+    let u = present_rows c.date_nodes.new.nodes in
+    room_kept (nodes_in t) (nodes_in u) c.take_all_out.new.tokens c.args.numbers.now (class_all t u (to_z w64 (of_z w64 c.args.root_date)) c.args.numbers.now c.date_nodes.ensures.dated) c.take_all_out.ensures.room

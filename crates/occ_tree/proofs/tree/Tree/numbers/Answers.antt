@@ -25,5 +25,5 @@ loop-x-preserved c =
 
 pub returns-clause-all : goal.returns-clause-all
 returns-clause-all c x live =
-    let below = c.limit-x-end.ensures x live in
+    let below = c.limit-x-end.ensures.above x live in
     c.loop-x.invariant.all x (omega (arith, below)) live

@@ -1,6 +1,6 @@
 use Rattle.std.proofs.Common.{◌≡◌, ◌∙◌, [], Some, sym, subst, w64, of_z, to_z, IsSome}
 use Rattle.std.proofs.lemmas.Int.{to_z-of_z}
-use Rattle.row_links.specs.Lists.{IsOn}
+use Rattle.row_links.specs.Lists.{IsOn, AreOnce}
 use Rattle.undo_lists.specs.Changes as lists
 use Rattle.undo_rows.specs.Tables.{Table}
 use Rattle.occ_tree.specs.Edits.{AreDated, ReDates}
@@ -20,6 +20,9 @@ date_all-requires-clause-live c = λ y on.
     let t = present_rows c.self.inside.nodes in
     let (n, at) = way_leads (nodes_in t) c.args.root y ((r.below.each y).0 (subst (λ l. IsOn l y) c.as_slice.ensures.value on)) in
     subst (λ (u : Table _ 1). IsSome (nodes_in u y)) (sym r.keeps.present_is) (some_is (nodes_in t y) n at)
+
+pub date_all-requires-clause-once : goal.date_all-requires-clause-once
+date_all-requires-clause-once c = subst AreOnce (sym c.as_slice.ensures.value) c.in_ok-numbers.ensures.below.once
 
 pub invariant_of-self-2 : goal.invariant_of-self-2
 invariant_of-self-2 c =
