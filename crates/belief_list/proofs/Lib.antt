@@ -8,3 +8,6 @@ pub mod Ordered
 pub mod Empty
 pub mod TwoLists
 pub mod KeptRows
+pub mod Rising
+pub mod Told
+pub mod ByNumber

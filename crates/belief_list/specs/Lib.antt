@@ -6,3 +6,4 @@ pub mod Kept
 pub mod KeptClips
 pub mod Merging
 pub mod KeptRows
+pub mod Told
