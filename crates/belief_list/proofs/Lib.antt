@@ -11,3 +11,6 @@ pub mod KeptRows
 pub mod Sizes
 pub mod Finding
 pub mod Untouched
+pub mod Rising
+pub mod Told
+pub mod ByNumber

@@ -8,3 +8,4 @@ pub mod Merging
 pub mod KeptRows
 pub mod Sizes
 pub mod Finding
+pub mod Told

@@ -5,18 +5,21 @@ ghost use Rattle.tmm_model.specs.Maps.{built};
 ghost use Rattle.spots.specs.Seen.{Holds};
 ghost use Rattle.occ_tree.specs.OfLists.{IsTreeOf};
 ghost use Rattle.occ_tree.specs.Places.{forest};
+ghost use Rattle.occ_tree.specs.Ranks.{nodes_of};
 ghost use Rattle.belief_list.specs.KeptRows.{row_under, AreRowsOf};
 ghost use Rattle.belief_list.specs.Rows.{row_at, IsListing};
+ghost use Rattle.belief_list.specs.Told.{clip_of};
 
 use crate::kept_rows::KeptRow;
-use crate::list::BeliefRow;
+use crate::list::{BeliefRow, all_ranked, rows_of};
 use dist_net::DistNet;
-use occ_tree::Tree;
+use occ_tree::{Ranked, Tree};
 use premise_list::Standing;
 use std::alloc::Global;
 use tmm_model::{NoMemory, Seq};
 
-/// The believed occurrences, in order, from what is kept of each.
+/// The believed occurrences, in order, from what is kept of each under its number. Without memory it answers
+/// that.
 pub fn listed_by_number(
     alloc: Global,
     standing: &Standing,
@@ -30,5 +33,37 @@ pub fn listed_by_number(
     ensures rows { IfOk result (λ list. map (row_at (forest tree.now)) list.items ≡ rows (built standing.now.present)) }
     ensures listing { IfOk result (λ list. IsListing (forest tree.now) list.items) }
 {
-    Err(NoMemory)
+    let nodes = all_ranked(alloc, tree, net)?;
+    let ranked = nodes.as_slice();
+    let clips = clips_kept(alloc, ranked, kept)?;
+    rows_of(alloc, ranked, clips.as_slice())
+}
+
+// What clips each of the nodes, as it is kept.
+fn clips_kept(
+    alloc: Global,
+    ranked: &[Ranked],
+    kept: &[Option<KeptRow>],
+) -> Result<Vec<Option<u32>>, NoMemory>
+    ensures { IfOk result (λ clips. clips.items ≡ map (λ x. clip_of (row_under kept.now x)) (nodes_of ranked.now)) }
+{
+    let mut clips = Vec::with_capacity(alloc, ranked.len())?;
+    for r in ranked {
+        clips.push_reserved(clip_of(kept_row(kept, r.node)));
+    }
+    Ok(clips)
+}
+
+// What is kept of a node.
+fn kept_row(kept: &[Option<KeptRow>], x: u32) -> Option<KeptRow>
+    ensures { result ≡ row_under kept.now x }
+{
+    kept.get(x as usize).copied().flatten()
+}
+
+// What clips a node, by what is kept of it.
+pub(crate) fn clip_of(row: Option<KeptRow>) -> Option<u32>
+    ensures { result ≡ clip_of row }
+{
+    row?.clip
 }

@@ -149,7 +149,12 @@ fn new_clip(row: &BeliefRow, before: &Matched<'_>) -> Option<u32>
 }
 
 // Appends the occurrence of a node.
-fn push_occ(alloc: Global, tree: &Tree, node: u32, occs: &mut Seq<Occ>) -> Result<(), NoMemory>
+pub(crate) fn push_occ(
+    alloc: Global,
+    tree: &Tree,
+    node: u32,
+    occs: &mut Seq<Occ>,
+) -> Result<(), NoMemory>
     requires { IsLive (forest tree.now) node }
     ensures { OnOk result (map moment_of occs.new.items ≡ map moment_of occs.old.items ++ moment_at (forest tree.now) node ∷ []) }
 {
@@ -159,7 +164,7 @@ fn push_occ(alloc: Global, tree: &Tree, node: u32, occs: &mut Seq<Occ>) -> Resul
     }
 }
 
-fn push_clip(
+pub(crate) fn push_clip(
     alloc: Global,
     tree: &Tree,
     token: u32,

@@ -84,7 +84,10 @@ fn left_occs(
 }
 
 // The place of the occurrence of each node that is told of.
-fn places_by_left(alloc: Global, left: &[LeftNode<'_>]) -> Result<Vec<Option<usize>>, NoMemory>
+pub(crate) fn places_by_left(
+    alloc: Global,
+    left: &[LeftNode<'_>],
+) -> Result<Vec<Option<usize>>, NoMemory>
     ensures { IfOk result (λ places. IsTable (map (λ n. n.node) left.now) places.items) }
 {
     let nodes: Vec<u32> = left.iter().map(|gone| gone.node).collect(alloc)?;
@@ -111,7 +114,7 @@ fn left_occ<'a>(
 }
 
 // What is told of a node.
-fn told_of<'b, 'a>(
+pub(crate) fn told_of<'b, 'a>(
     left: &'b [LeftNode<'a>],
     places: &[Option<usize>],
     node: u32,
@@ -122,7 +125,7 @@ fn told_of<'b, 'a>(
 }
 
 // The occurrence, if a rule brings it about.
-fn if_derived(occ: &Occ) -> Option<&Occ>
+pub(crate) fn if_derived(occ: &Occ) -> Option<&Occ>
     ensures { option_map moment_of (option_copied result) ≡ if_derived (moment_of occ.now) }
 {
     if occ.rules.items().is_empty() {
@@ -133,7 +136,7 @@ fn if_derived(occ: &Occ) -> Option<&Occ>
 }
 
 // Appends the occurrence once more.
-fn push_copy(alloc: Global, occ: &Occ, occs: &mut Seq<Occ>) -> Result<(), NoMemory>
+pub(crate) fn push_copy(alloc: Global, occ: &Occ, occs: &mut Seq<Occ>) -> Result<(), NoMemory>
     ensures { OnOk result (map moment_of occs.new.items ≡ map moment_of occs.old.items ++ moment_of occ.now ∷ []) }
 {
     match occs.push(occ.copy(alloc)?) {

@@ -79,7 +79,7 @@ pub fn listed_after(
 }
 
 // All nodes in their order, with their dates.
-fn all_ranked(alloc: Global, tree: &Tree, net: &DistNet) -> Result<Vec<Ranked>, NoMemory>
+pub(crate) fn all_ranked(alloc: Global, tree: &Tree, net: &DistNet) -> Result<Vec<Ranked>, NoMemory>
     requires { IsTreeIn net.now.present tree.now }
     ensures { IfOk result (λ ranked. AreAllRanked net.now.present (forest tree.now) ranked.items) }
 {
@@ -89,7 +89,7 @@ fn all_ranked(alloc: Global, tree: &Tree, net: &DistNet) -> Result<Vec<Ranked>, 
 }
 
 // The row of each node.
-fn rows_of(
+pub(crate) fn rows_of(
     alloc: Global,
     ranked: &[Ranked],
     clips: &[Option<u32>],

@@ -161,7 +161,7 @@ fn takes_left(order: &Order<'_>, left: &[Ranked], i: usize, right: &[Ranked], j:
 }
 
 // Appends an item.
-fn push<T: Drop>(items: &mut Vec<T>, item: T) -> Result<(), NoMemory>
+pub(crate) fn push<T: Drop>(items: &mut Vec<T>, item: T) -> Result<(), NoMemory>
     ensures { OnOk result (items.new.items ≡ items.old.items ++ item ∷ []) }
 {
     match items.push(item) {

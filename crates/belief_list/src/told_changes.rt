@@ -1,8 +1,14 @@
 // What of belief changed, as differences tell it.
-ghost use Rattle.std.specs.Prelude.{List, Option, IfOk};
+ghost use Rattle.std.specs.Prelude.{◌≡◌, ◌++◌, ◌∷◌, List, map, filter, Option, Some, IfOk, OnOk};
+ghost use Rattle.std.specs.List.{All, filter_map};
+ghost use Rattle.std.specs.List.Sorted.{IsPermutation};
+ghost use Rattle.std.specs.Option.{option_map, option_copied, is_some};
 ghost use Rattle.tmm_model.specs.declared.premise.Edit.{Edit as AnEdit};
+ghost use Rattle.tmm_model.specs.Changes.{clip_pair};
 ghost use Rattle.tmm_model.specs.Maps.{built};
+ghost use Rattle.tmm_model.specs.Moments.{moment_of, printed};
 ghost use Rattle.premise_list.specs.States.{States};
+ghost use Rattle.spots.specs.Forest.{IsLive};
 ghost use Rattle.occ_tree.specs.OfLists.{IsTreeIn};
 ghost use Rattle.occ_tree.specs.Places.{forest};
 ghost use Rattle.supports.specs.Edited.{old_forest};
@@ -10,14 +16,43 @@ ghost use Rattle.belief_list.specs.declared.kept_rows.KeptRow.{KeptRow as AKeptR
 ghost use Rattle.belief_list.specs.Compared.{AreChanges};
 ghost use Rattle.belief_list.specs.Kept.{AreWords};
 ghost use Rattle.belief_list.specs.KeptRows.{AreDifferences};
+ghost use Rattle.belief_list.specs.Told.{
+  is_entered,
+  is_loosened,
+  new_clip,
+  is_told,
+  entered_at,
+  loosened_at,
+  clipped_at,
+  left_at,
+  differences_of,
+  told_cmp,
+  AreInOrder,
+  IsToldNow,
+  IsToldThen,
+};
 
-use crate::changes::BeliefChanges;
-use crate::kept_changes::LeftNode;
+use crate::by_number::clip_of;
+use crate::changes::{BeliefChanges, push_clip, push_occ};
+use crate::kept_changes::{LeftNode, if_derived, places_by_left, push_copy, told_of};
 use crate::kept_rows::Difference;
+use crate::merging::push;
 use dist_net::DistNet;
-use occ_tree::Tree;
+use occ_tree::{Order, Tree};
 use std::alloc::Global;
-use tmm_model::NoMemory;
+use std::cmp::Ordering;
+use tmm_model::{Clip, Name, NoMemory, Occ, Seq};
+
+// A difference of which something is told.
+#[derive(Drop)]
+struct Told {
+    // The earliest date of the occurrence.
+    early: i64,
+    // The bytes of its word.
+    word: Seq<u8>,
+    // What an edit makes of its node.
+    difference: Difference,
+}
 
 /// What of belief changed, where these are the differences that an edit makes, and `left` tells the
 /// occurrences of the derived nodes that are gone, in any order. Only what changed is sorted. Without memory
@@ -33,5 +68,265 @@ pub fn changes_told(
     requires left { AreWords (old_forest tree.now) (forest tree.now) left.now }
     ensures { IfOk result (λ changes. (lists : States) (edit : AnEdit) (kept : List (Option AKeptRow)) → AreDifferences lists net.now edit tree.now kept differences.now → AreChanges (built lists.committed) (built lists.present) changes) }
 {
-    Err(NoMemory)
+    let places = places_by_left(alloc, left)?;
+    let places = places.as_slice();
+    let gone = gone_in_order(alloc, left, places, differences)?;
+    let present = present_in_order(alloc, &Order { tree, net }, differences)?;
+    let present = present.as_slice();
+    Ok(BeliefChanges {
+        left: left_told(alloc, left, places, gone.as_slice())?,
+        entered: entered_told(alloc, tree, present)?,
+        loose: loosened_told(alloc, tree, present)?,
+        clips: clips_told(alloc, tree, present)?,
+    })
+}
+
+// ---- present nodes
+
+// The present nodes of which something is told, in their order.
+fn present_in_order(
+    alloc: Global,
+    order: &Order<'_>,
+    differences: &[Difference],
+) -> Result<Vec<Told>, NoMemory>
+    requires { IsTreeIn order.now.net.now.present order.now.tree.now }
+    ensures same { IfOk result (λ told. IsPermutation (filter (is_told (forest order.now.tree.now)) differences.now) (differences_of told.items)) }
+    ensures dated { IfOk result (λ told. All (IsToldNow order.now.net.now.present (forest order.now.tree.now)) told.items) }
+    ensures in_order { IfOk result (λ told. AreInOrder told.items) }
+{
+    let mut told = present_nodes(alloc, order, differences)?;
+    sort(&mut told);
+    Ok(told)
+}
+
+// The present nodes of which something is told.
+fn present_nodes(
+    alloc: Global,
+    order: &Order<'_>,
+    differences: &[Difference],
+) -> Result<Vec<Told>, NoMemory>
+    requires { IsTreeIn order.now.net.now.present order.now.tree.now }
+    ensures same { IfOk result (λ told. differences_of told.items ≡ filter (is_told (forest order.now.tree.now)) differences.now) }
+    ensures dated { IfOk result (λ told. All (IsToldNow order.now.net.now.present (forest order.now.tree.now)) told.items) }
+{
+    let mut told = Vec::new(alloc);
+    for d in differences {
+        if is_told(order.tree, d) {
+            push(&mut told, present_node(alloc, order, d)?)?;
+        }
+    }
+    Ok(told)
+}
+
+// A present node with its date and its word.
+fn present_node(alloc: Global, order: &Order<'_>, d: &Difference) -> Result<Told, NoMemory>
+    requires dates { IsTreeIn order.now.net.now.present order.now.tree.now }
+    requires live { IsLive (forest order.now.tree.now) d.now.node }
+    ensures dated { IfOk result (IsToldNow order.now.net.now.present (forest order.now.tree.now)) }
+    ensures difference { IfOk result (λ told. told.difference ≡ d.entry.now) }
+{
+    let mut word = Seq::make(alloc);
+    order.tree.name_into(alloc, d.node, &mut word)?;
+    Ok(Told {
+        early: order.early(d.node),
+        word,
+        difference: *d,
+    })
+}
+
+// Whether something is told of the node.
+fn is_told(tree: &Tree, d: &Difference) -> bool
+    ensures { result ≡ is_told (forest tree.now) d.entry.now }
+{
+    if !tree.is_live(d.node) {
+        return false;
+    }
+    is_entered(tree, d) || is_loosened(d) || new_clip(tree, d).is_some()
+}
+
+// Whether the node was not there, and a rule brings it about.
+fn is_entered(tree: &Tree, d: &Difference) -> bool
+    requires { IsLive (forest tree.now) d.now.node }
+    ensures { result ≡ is_entered (forest tree.now) d.entry.now }
+{
+    d.was.is_none() && tree.row(d.node).parent.is_some()
+}
+
+// Whether the node was clipped, and is no longer.
+fn is_loosened(d: &Difference) -> bool
+    ensures { result ≡ is_loosened d.entry.now }
+{
+    clip_of(d.was).is_some() && clip_of(d.now).is_none()
+}
+
+// What clips the node, if that is new.
+fn new_clip(tree: &Tree, d: &Difference) -> Option<u32>
+    ensures { result ≡ new_clip (forest tree.now) d.entry.now }
+{
+    let by = clip_of(d.now)?;
+    if tree.is_live(by) && clip_of(d.was) != Some(by) {
+        Some(by)
+    } else {
+        None
+    }
+}
+
+// The derived occurrences that are newly believed.
+fn entered_told(alloc: Global, tree: &Tree, told: &[Told]) -> Result<Seq<Occ>, NoMemory>
+    requires { All (λ t. IsLive (forest tree.now) t.difference.node) told.now }
+    ensures { IfOk result (λ occs. map moment_of occs.items ≡ filter_map (entered_at (forest tree.now)) (differences_of told.now)) }
+{
+    let mut occs = Seq::make(alloc);
+    for t in told {
+        if is_entered(tree, &t.difference) {
+            push_occ(alloc, tree, t.difference.node, &mut occs)?;
+        }
+    }
+    Ok(occs)
+}
+
+// The tokens that are clipped no longer.
+fn loosened_told(alloc: Global, tree: &Tree, told: &[Told]) -> Result<Seq<Occ>, NoMemory>
+    requires { All (λ t. IsLive (forest tree.now) t.difference.node) told.now }
+    ensures { IfOk result (λ occs. map moment_of occs.items ≡ filter_map (loosened_at (forest tree.now)) (differences_of told.now)) }
+{
+    let mut occs = Seq::make(alloc);
+    for t in told {
+        if is_loosened(&t.difference) {
+            push_occ(alloc, tree, t.difference.node, &mut occs)?;
+        }
+    }
+    Ok(occs)
+}
+
+// The tokens that are newly clipped, or by another token.
+fn clips_told(alloc: Global, tree: &Tree, told: &[Told]) -> Result<Seq<Clip>, NoMemory>
+    requires { All (λ t. IsLive (forest tree.now) t.difference.node) told.now }
+    ensures { IfOk result (λ clips. map clip_pair clips.items ≡ filter_map (clipped_at (forest tree.now)) (differences_of told.now)) }
+{
+    let mut clips = Seq::make(alloc);
+    for t in told {
+        if let Some(by) = new_clip(tree, &t.difference) {
+            push_clip(alloc, tree, t.difference.node, by, &mut clips)?;
+        }
+    }
+    Ok(clips)
+}
+
+// ---- nodes that are gone
+
+// The derived nodes that are gone, in the order in which they were.
+fn gone_in_order(
+    alloc: Global,
+    left: &[LeftNode<'_>],
+    places: &[Option<usize>],
+    differences: &[Difference],
+) -> Result<Vec<Told>, NoMemory>
+    ensures same { IfOk result (λ told. IsPermutation (filter (λ d. is_some (left_at left.now places.now d)) differences.now) (differences_of told.items)) }
+    ensures dated { IfOk result (λ told. All (IsToldThen left.now places.now) told.items) }
+    ensures in_order { IfOk result (λ told. AreInOrder told.items) }
+{
+    let mut told = gone_nodes(alloc, left, places, differences)?;
+    sort(&mut told);
+    Ok(told)
+}
+
+// The derived nodes that are gone.
+fn gone_nodes(
+    alloc: Global,
+    left: &[LeftNode<'_>],
+    places: &[Option<usize>],
+    differences: &[Difference],
+) -> Result<Vec<Told>, NoMemory>
+    ensures same { IfOk result (λ told. differences_of told.items ≡ filter (λ d. is_some (left_at left.now places.now d)) differences.now) }
+    ensures dated { IfOk result (λ told. All (IsToldThen left.now places.now) told.items) }
+{
+    let mut told = Vec::new(alloc);
+    for d in differences {
+        if let Some(occ) = left_occ(left, places, d) {
+            push(&mut told, gone_node(alloc, d, occ)?)?;
+        }
+    }
+    Ok(told)
+}
+
+// A node that is gone with the date that was kept of it, and the word of its occurrence.
+fn gone_node(alloc: Global, d: &Difference, occ: &Occ) -> Result<Told, NoMemory>
+    ensures early { IfOk result (λ told. (r : AKeptRow) → d.entry.now.was ≡ Some r → told.early ≡ r.early) }
+    ensures word { IfOk result (λ told. told.word.items ≡ printed (moment_of occ.now)) }
+    ensures difference { IfOk result (λ told. told.difference ≡ d.entry.now) }
+{
+    Ok(Told {
+        early: d.was.map_or(0, |row| row.early),
+        word: word_of(alloc, occ)?,
+        difference: *d,
+    })
+}
+
+// The occurrence of a node that was there and is gone, if a rule brings it about.
+fn left_occ<'a>(left: &[LeftNode<'a>], places: &[Option<usize>], d: &Difference) -> Option<&'a Occ>
+    ensures { option_map moment_of (option_copied result) ≡ left_at left.now places.now d.entry.now }
+{
+    if d.was.is_none() || d.now.is_some() {
+        return None;
+    }
+    if_derived(told_of(left, places, d.node)?.occ)
+}
+
+// The derived occurrences that are believed no longer.
+fn left_told(
+    alloc: Global,
+    left: &[LeftNode<'_>],
+    places: &[Option<usize>],
+    told: &[Told],
+) -> Result<Seq<Occ>, NoMemory>
+    ensures { IfOk result (λ occs. map moment_of occs.items ≡ filter_map (left_at left.now places.now) (differences_of told.now)) }
+{
+    let mut occs = Seq::make(alloc);
+    for t in told {
+        if let Some(occ) = left_occ(left, places, &t.difference) {
+            push_copy(alloc, occ, &mut occs)?;
+        }
+    }
+    Ok(occs)
+}
+
+// The word of an occurrence.
+fn word_of(alloc: Global, occ: &Occ) -> Result<Seq<u8>, NoMemory>
+    ensures { IfOk result (λ word. word.items ≡ printed (moment_of occ.now)) }
+{
+    let mut word = Seq::make(alloc);
+    word.extend(occ.root.bytes())?;
+    for rule in occ.rules.items() {
+        push_rule(&mut word, rule)?;
+    }
+    Ok(word)
+}
+
+// Appends a rule to the word of what it leads on from.
+fn push_rule(word: &mut Seq<u8>, rule: &Name) -> Result<(), NoMemory>
+    ensures { OnOk result (word.new.items ≡ word.old.items ++ 47 ∷ rule.now) }
+{
+    word.extend(b"/")?;
+    word.extend(rule.bytes())
+}
+
+// ---- order
+
+// Sorts by dates, and then by words.
+fn sort(told: &mut Vec<Told>)
+    ensures same { IsPermutation told.old.items told.new.items }
+    ensures in_order { AreInOrder told.new.items }
+{
+    told.sort_unstable_by(|p, q| cmp_told(p, q));
+}
+
+// The order of two: by their dates, and then by the bytes of their words.
+fn cmp_told(p: &Told, q: &Told) -> Ordering
+    ensures { result ≡ told_cmp p.now q.now }
+{
+    match p.early.cmp(&q.early) {
+        Ordering::Equal => p.word.items().cmp(q.word.items()),
+        other => other,
+    }
 }
