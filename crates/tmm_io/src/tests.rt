@@ -1,5 +1,7 @@
 //! Sources and sinks, in memory and over streams, with faults.
 use super::*;
+use std::io;
+use std::io::{Read, Write};
 use std::test::Fail;
 
 #[test]
@@ -44,5 +46,63 @@ fn std_ends_pass_bytes_on(rt: HostRuntime) -> Result<(), Fail> {
         sink.write_all(&buf[..count])?;
     }
     assert_eq!(rt; source.read(&mut buf)?, 0);
+    Ok(())
+}
+
+/// A reader whose second call fails, and a writer whose second call does; the others pass bytes on.
+#[derive(Drop)]
+struct FailsOnce<T> {
+    inner: T,
+    calls: u64,
+}
+
+impl<T> FailsOnce<T> {
+    // Counts the call, and fails if it is the second.
+    fn call(&mut self) -> io::Result<()> {
+        self.calls = self.calls.saturating_add(1);
+        if self.calls == 2 {
+            return Err(io::Error::from(io::ErrorKind::TimedOut));
+        }
+        Ok(())
+    }
+}
+
+impl<R: Read> Read for FailsOnce<R> {
+    fn read(&mut self, buf: &mut [u8]) -> io::Result<usize> {
+        self.call()?;
+        self.inner.read(buf)
+    }
+}
+
+impl<W: Write> Write for FailsOnce<W> {
+    fn write(&mut self, buf: &[u8]) -> io::Result<usize> {
+        self.call()?;
+        self.inner.write(buf)
+    }
+
+    fn flush(&mut self) -> io::Result<()> {
+        self.inner.flush()
+    }
+}
+
+// No error is hidden by a second call.
+#[test]
+fn a_fault_of_std_is_told_once(rt: HostRuntime) -> Result<(), Fail> {
+    let mut source = StdSource::make(FailsOnce {
+        inner: b"abcd".as_slice(),
+        calls: 0,
+    });
+    let mut buf = [0u8; 2];
+    assert_eq!(rt; source.read(&mut buf)?, 2);
+    assert!(rt; source.read(&mut buf).is_err());
+    assert_eq!(rt; source.read(&mut buf)?, 2);
+    assert!(rt; buf == *b"cd");
+    let mut sink = StdSink::make(FailsOnce {
+        inner: Vec::new(rt.alloc()),
+        calls: 0,
+    });
+    assert!(rt; sink.write_all(b"ab").is_ok());
+    assert!(rt; sink.write_all(b"cd").is_err());
+    assert!(rt; sink.write_all(b"ef").is_ok());
     Ok(())
 }
