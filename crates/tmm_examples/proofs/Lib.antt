@@ -11,6 +11,7 @@ mod WorkedReplies
 mod WorkedScripts
 mod WorkedSizes
 mod WorkedSpans
+mod WorkedTerms
 mod WorkedTouched
 mod WorkedTranscript
 mod WorkedWorkshop

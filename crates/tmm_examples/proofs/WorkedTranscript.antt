@@ -62,7 +62,7 @@ read_as : (line : List ℕ) (l : Line) → length line ≤ 400 → line_of (word
 read_as line l short is = record { short = short; reads = line_of-sound (words line) l is }
 
 -- what holds of one after the other holds of all
-each : {X : Type 0} (F : X → Type 0) (xs : List X) → AllByRecursion F xs → All F xs
+pub each : {X : Type 0} (F : X → Type 0) (xs : List X) → AllByRecursion F xs → All F xs
 each F [] h = All-nil F
 each F (x ∷ xs) h = All-cons F x xs h.0 (each F xs h.1)
 
