@@ -15,6 +15,7 @@ use Rattle.tmm_model.specs.Edits.{next_list}
 use Rattle.tmm_model.specs.Lines.{edit_words, query_words, IsWellFormedPremise}
 use Rattle.tmm_model.specs.Maps.{built}
 use Rattle.tmm_model.specs.Moments.{Moment}
+use Rattle.tmm_model.specs.Reasons.{rests_on}
 use Rattle.tmm_model.specs.Sorts.{a_name, is_kind, is_effect, fact_use, uses_of}
 use Rattle.tmm_model.specs.Points.{same_point}
 use Rattle.tmm_model.specs.Standing.{Standing, empty_list, arcs_in}
@@ -67,3 +68,10 @@ there_are_dates = record {
   met = each (λ e. (date e.to -ℤ date e.from) ≤ℤ e.weight) (arcs_in push)
       (omega (arith, ints), (omega (arith, ints), (omega (arith, ints), (omega (arith, ints), (omega (arith, ints), (omega (arith, ints), tt))))));
 }
+
+-- an effect rests on its event and on the first supporter of its antecedent; a root on nothing
+the_effect_rests_on : rests_on (built pushed) (effect (codes "e") (codes "r")) ≡ root (codes "e") ∷ root (codes "k") ∷ []
+the_effect_rests_on = of_map (λ m. rests_on m (effect (codes "e") (codes "r"))) pushed
+
+a_root_rests_on_nothing : rests_on (built pushed) (root (codes "k")) ≡ []
+a_root_rests_on_nothing = of_map (λ m. rests_on m (root (codes "k"))) pushed
