@@ -2,7 +2,7 @@
 """For each kind of line the script that makes it longest, of those that are known: the processor time of that
 one line, the length of its reply, and the most memory that the program takes. Outside the gate.
 
-Time is the difference of two runs, with and without the line, the best of three of each. The word N makes
+Time is what the kernel accounts to the program from the line before to its own reply, the best of three runs. The word N makes
 maps N times smaller than the limits allow. Compare figures of one machine and one run alone.
 """
 
@@ -10,7 +10,7 @@ import datetime
 import os
 import subprocess
 import sys
-import tempfile
+import threading
 from pathlib import Path
 from typing import List, NamedTuple, Tuple
 
@@ -126,24 +126,62 @@ def cases(part: int) -> List[Tuple[str, Case]]:
 
 class Run(NamedTuple):
     seconds: float
-    output: bytes
+    refused: bool
+    reply: bytes
     memory: int
 
 
-def run(lines: List[str]) -> Run:
-    """One run over a script: processor time of both sides, output, and the most memory in kilobytes."""
-    with tempfile.TemporaryFile() as script:
-        script.write("".join(f"{line}\n" for line in lines).encode("ascii"))
-        script.seek(0)
-        program = subprocess.Popen([PROGRAM], stdin=script, stdout=subprocess.PIPE)
-        assert program.stdout is not None
-        output = program.stdout.read()
-        _, _, used = os.wait4(program.pid, 0)
-    return Run(used.ru_utime + used.ru_stime, output, used.ru_maxrss)
+class Session:
+    """The program with its pipes. A question behind other lines shows when they are answered."""
+
+    def __init__(self) -> None:
+        self.program = subprocess.Popen([PROGRAM], stdin=subprocess.PIPE, stdout=subprocess.PIPE, bufsize=0)
+        self.lines = 0
+        self.output = bytearray()
+        self.more = threading.Condition()
+        threading.Thread(target=self.read, daemon=True).start()
+
+    def read(self) -> None:
+        assert self.program.stdout is not None
+        while piece := self.program.stdout.read(1 << 16):
+            with self.more:
+                self.output += piece
+                self.more.notify()
+
+    def say(self, lines: List[str]) -> bytes:
+        """Says these lines and a question, and returns the replies to the lines once that is answered."""
+        assert self.program.stdin is not None
+        begin = len(self.output)
+        self.lines += len(lines) + 1
+        last = f"{self.lines} bounds 0 0\n".encode("ascii")
+        self.program.stdin.write("".join(f"{line}\n" for line in [*lines, "bounds start start"]).encode("ascii"))
+        with self.more:
+            while not self.output.endswith(last):
+                self.more.wait()
+            return bytes(self.output[begin : -len(last)])
+
+    def seconds(self) -> float:
+        """The processor time so far."""
+        with open(f"/proc/{self.program.pid}/schedstat", encoding="ascii") as account:
+            return int(account.read().split()[0]) / 1e9
+
+    def memory(self) -> int:
+        """The most memory so far, in kilobytes."""
+        with open(f"/proc/{self.program.pid}/status", encoding="ascii") as status:
+            return next(int(line.split()[1]) for line in status if line.startswith("VmHWM:"))
 
 
-def best(lines: List[str]) -> Run:
-    return min((run(lines) for _ in range(RUNS)), key=lambda it: it.seconds)
+def run(case: Case) -> Run:
+    """One run: the processor time of the line alone, its reply, and the most memory."""
+    session = Session()
+    before = session.say(case.before)
+    started = session.seconds()
+    reply = session.say([case.line])
+    seconds, memory = session.seconds() - started, session.memory()
+    assert session.program.stdin is not None
+    session.program.stdin.close()
+    session.program.wait()
+    return Run(seconds, b" no " in before or b" memory" in before + reply, reply, memory)
 
 
 def main(words: List[str]) -> int:
@@ -154,15 +192,13 @@ def main(words: List[str]) -> int:
     print("|---|---|---|---|---|")
     wrong = 0
     for kind, case in cases(part):
-        without, with_line = best(case.before), best([*case.before, case.line])
-        reply = with_line.output[len(without.output):]
-        first = reply.split(b"\n", 1)[0].decode("ascii")
-        refused = " no " in first and " no cycle" not in first
-        if b" no " in without.output or b" memory" in with_line.output or refused:
+        made = min((run(case) for _ in range(RUNS)), key=lambda it: it.seconds)
+        first = made.reply.split(b"\n", 1)[0].decode("ascii")
+        if made.refused or (" no " in first and " no cycle" not in first):
             print(f"worst.py: {kind} over {case.map}: {first}", file=sys.stderr)
             wrong = 1
-        milliseconds = max(0.0, with_line.seconds - without.seconds) * 1000
-        print(f"| `{kind}` | {case.map} | {milliseconds:.1f} ms | {len(reply):,} bytes | {with_line.memory / 1024:.0f} MB |", flush=True)
+        row = f"{made.seconds * 1000:.2f} ms | {len(made.reply):,} bytes | {made.memory / 1024:.0f} MB"
+        print(f"| `{kind}` | {case.map} | {row} |", flush=True)
     return wrong
 
 
