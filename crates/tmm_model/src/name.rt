@@ -1,5 +1,6 @@
 // Names of a script.
 ghost use Rattle.std.specs.Prelude.{◌≡◌, ◌+◌, ◌-◌, ◌<◌, ◌≤◌, ℕ, List, [], ◌∷◌, ◌++◌, take, drop, replicate, length, IsTrue, IsSome, IfSome, IsNone, ◌↔◌, nat_eq, refl};
+ghost use Rattle.std.specs.Int.{w64, from_le_bytes, to_le_bytes};
 ghost use Rattle.std.specs.List.{list_all};
 ghost use Rattle.std.specs.Ordering.{nat_cmp, as_partial_cmp};
 ghost use Rattle.std.specs.Cmp.{partial_equiv_from_equiv, partial_order_from_agreeing_total, unsigned_ties};
@@ -97,6 +98,33 @@ fn name_byte(b: u8) -> bool
     letter(b) || b.is_ascii_digit() || b == b'_' || b == b'-'
 }
 
+// `==` at an array would scan it by a call.
+#[inline]
+fn same_bytes(a: &[u8; LONGEST_NAME], b: &[u8; LONGEST_NAME]) -> bool
+    ensures { result ≡ pointwise nat_eq a.now b.now }
+{
+    word(a, 0) == word(b, 0) && word(a, 8) == word(b, 8) && word(a, 16) == word(b, 16)
+}
+
+// Eight bytes as a number, the first the lowest. LLVM makes one load of it.
+#[inline]
+fn word(bytes: &[u8; LONGEST_NAME], at: usize) -> u64
+    requires { at ≤ 16 }
+    ensures value { result ≡ from_le_bytes w64 (take 8 (drop at bytes.now)) }
+    ensures bytes { to_le_bytes w64 result ≡ take 8 (drop at bytes.now) }
+{
+    u64::from_le_bytes([
+        bytes[at],
+        bytes[at + 1],
+        bytes[at + 2],
+        bytes[at + 3],
+        bytes[at + 4],
+        bytes[at + 5],
+        bytes[at + 6],
+        bytes[at + 7],
+    ])
+}
+
 /// The name `a`.
 impl Default for Name {
     ghost use Rattle.std.specs.Prelude.{◌≡◌, codes};
@@ -114,8 +142,7 @@ impl PartialEq for Name {
     ghost laws = { partial_equiv_from_equiv nat_list_eq_equiv };
 
     fn eq(&self, other: &Name) -> bool {
-        // whole arrays are compared without a call
-        self.len == other.len && self.bytes == other.bytes
+        self.len == other.len && same_bytes(&self.bytes, &other.bytes)
     }
 }
 
