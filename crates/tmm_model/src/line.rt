@@ -20,7 +20,7 @@ pub enum Query {
     List,
     /// The standing premises, as a script.
     Dump,
-    /// Whether the kept beliefs are right. It is read, and not answered yet.
+    /// Whether the kept beliefs are those of the list, found anew from it.
     Audit,
     /// The size of the map.
     Size,
