@@ -30,14 +30,15 @@ pub(crate) fn is_unread(standing: &Standing, edit: &Edit) -> bool
 pub(crate) fn is_ruling(standing: &Standing, edit: &Edit) -> bool
     ensures { result ≡ is_ruling standing.now.present.premises edit.now }
 {
-    match edit {
-        Edit::Add(premise) => matches!(premise, Premise::Rule { .. }),
-        Edit::Erase(name) => matches!(
-            standing.get(*name),
-            Some(Premise::Rule { .. } | Premise::Kind { .. } | Premise::Class { .. })
-        ),
-        Edit::Horizon(_) => false,
-    }
+    let erased = match edit {
+        Edit::Add(premise) => return matches!(premise, Premise::Rule { .. }),
+        Edit::Erase(name) => standing.get(*name),
+        Edit::Horizon(_) => None,
+    };
+    matches!(
+        erased,
+        Some(Premise::Rule { .. } | Premise::Kind { .. } | Premise::Class { .. })
+    )
 }
 
 // Whether beliefs read the premise itself. Of points and constraints they know distances alone.
