@@ -29,9 +29,7 @@ use crate::changes::with_reports;
 use crate::kept_view::{KeptView, NextView};
 use crate::next::Known;
 use crate::touching::{roots_named, touched};
-use belief_list::{
-    Difference, KeptRow, LeftNode, changes_told, differences, reach, size_after,
-};
+use belief_list::{Difference, KeptRow, LeftNode, changes_told, differences, reach, size_after};
 use belief_net::{BeliefNet, DatedOcc, Told};
 use dist_net::DistNet;
 use occ_tree::{Touched, Tree};

@@ -82,7 +82,11 @@ pub(crate) fn audited(
 }
 
 // The occurrences of the rows.
-pub(crate) fn occurrences(alloc: Global, tree: &Tree, rows: &[BeliefRow]) -> Result<Seq<Occ>, NoMemory>
+pub(crate) fn occurrences(
+    alloc: Global,
+    tree: &Tree,
+    rows: &[BeliefRow],
+) -> Result<Seq<Occ>, NoMemory>
     requires { All (IsLiveRow (forest tree.now)) rows.now }
     ensures { IfOk result (λ occs. map moment_of occs.items ≡ map (λ r. moment_at (forest tree.now) r.node) rows.now) }
 {
