@@ -41,3 +41,6 @@ returns-in_ok-settle-in-Ok-clause-numbered c =
     (c.in_ok-settle-in-Ok.ensures.settled c.args.standing.now.committed c.args.edit.now (sym list) c.in-Ok.ensures.begins) in
     keeps_numbers c.args.standing.now.present c.args.standing.now.committed c.args.net.now.present c.settle.new.beliefs.tree c.settle.new.told
     (c.in_ok-settle-in-Ok.ensures.numbered c.in-Ok.ensures.numbered) u.current.seen u.current.holds u.tells
+
+pub returns-in_ok-settle-in-Ok-clause-roots : goal.returns-in_ok-settle-in-Ok-clause-roots
+returns-in_ok-settle-in-Ok-clause-roots c = (c.in_ok-settle-in-Ok.ensures.numbered c.in-Ok.ensures.numbered).roots
