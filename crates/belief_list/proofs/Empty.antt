@@ -1,8 +1,6 @@
 -- Forests without nodes.
 use Rattle.std.proofs.Common.{◌≡◌, ℕ, [], arith, sym, ◌∙◌, ap}
 use Rattle.std.specs.Prelude.{None, Some}
-use Rattle.std.specs.List.Sorted.{IsStrictlySortedBy}
-use Rattle.std.specs.declared.cmp.Ordering.{Ordering}
 use Rattle.std.proofs.lemmas.List.Elements.{All-nil}
 use Rattle.tmm_model.specs.Standing.{empty_list}
 use Rattle.dist_net.specs.Net.{Net}
@@ -11,7 +9,8 @@ use Rattle.spots.specs.Forest.{Forest, member}
 use Rattle.spots.proofs.Nodes.{node_at}
 use Rattle.occ_tree.specs.OfLists.{IsTreeIn}
 use Rattle.occ_tree.specs.Standing.{Kept, present, committed, forest}
-use Rattle.belief_list.specs.Kept.{kept_forest, KeepNumbers, AreWords}
+use Rattle.supports.specs.Edited.{old_forest}
+use Rattle.belief_list.specs.LeftNodes.{AreWords}
 use Rattle.belief_list.specs.Rows.{IsLiveRow, IsListing}
 
 -- no rows list no nodes
@@ -31,12 +30,8 @@ none_told old new none = record {
 }
 
 -- there was no node at the last commit either
-pub none_kept : (k : Kept) → committed k ≡ present k → ((x : ℕ) → forest (present k) x ≡ None) → (x : ℕ) → member (kept_forest k) x ≡ None
-none_kept k same none x = ap (λ s. forest s x) same ∙ none x
-
--- no nodes keep their numbers
-pub none_keep : (old new : Forest) → ((x : ℕ) → member old x ≡ None) → KeepNumbers old new
-none_keep old new none x y live_x live_y = let (m, here) = node_at old x live_x in let no : Some m ≡ None = sym here ∙ none x in absurd (cc (no))
+pub none_then : (k : Kept) → committed k ≡ present k → ((x : ℕ) → forest (present k) x ≡ None) → (x : ℕ) → member (old_forest k) x ≡ None
+none_then k same none x = ap (λ s. forest s x) same ∙ none x
 
 -- where there are no nodes, the empty list is one that they are of
 pub none_seen : (net : Net) (k : Kept) → IsNetOf empty_list net → ((x : ℕ) → forest (present k) x ≡ None) → IsTreeIn net k
@@ -51,8 +46,3 @@ none_seen net k network none = record {
   );
   dated = λ x live. (let (m, here) = node_at (forest (present k)) x live in let no : Some m ≡ None = sym here ∙ none x in absurd (cc (no)));
 }
-
--- no items are in any order
-pub none_sorted : {X : Type 0} (cmp : X → X → Ordering) → IsStrictlySortedBy cmp []
-unfolding IsStrictlySortedBy
-none_sorted cmp = tt

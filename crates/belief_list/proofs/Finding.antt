@@ -1,6 +1,6 @@
 -- Differences as they are found: what was told stays told, and one more number is.
-use Rattle.std.proofs.Common.{◌≡◌, ℕ, zero, suc, ◌+◌, ◌<◌, ◌≤◌, ◌==◌, Bool, true, false, List, [], ◌∷◌, ◌++◌, map, length, replicate, refl, sym, ◌∙◌, ap, subst, arith, inl, inr}
-use Rattle.std.specs.Prelude.{Option, Some, None, IfSome, MatchOption, nat_eq, slice_index_or, slice_set}
+use Rattle.std.proofs.Common.{◌≡◌, ℕ, zero, suc, ◌+◌, ◌<◌, ◌≤◌, ◌==◌, Bool, true, false, List, [], ◌∷◌, ◌++◌, length, replicate, refl, sym, ◌∙◌, ap, subst, arith, inl, inr}
+use Rattle.std.specs.Prelude.{Option, Some, None, IfSome, nat_eq, slice_index_or, slice_set}
 use Rattle.std.specs.List.{All, Contains, IsDistinct, list_any}
 use Rattle.std.specs.Option.{is_some, option_map, option_and_then}
 use Rattle.std.proofs.lemmas.Bool.{cases_eq}
@@ -9,7 +9,6 @@ use Rattle.std.proofs.lemmas.Cmp.{nat_eq_equiv}
 use Rattle.std.proofs.lemmas.List.{length-map, map-append, get_or-map, get_or-set_same, get_or-set_other, get_or_default, get_or_past}
 use Rattle.std.proofs.lemmas.List.Elements.{All-contains, All-nil, All-push, All-weaker, Contains-get_or}
 use Rattle.std.proofs.lemmas.Map.Keys.{IsDistinct-push}
-use Rattle.std.proofs.lemmas.Option.{same_Some}
 use Rattle.tmm_model.specs.declared.token.TokenRow.{TokenRow}
 use Rattle.tmm_model.specs.Standing.{Standing}
 use Rattle.list_theory.proofs.Elements.{In, In-map, map-In, In-from_Contains, Contains-from_In, list_any-In}
@@ -27,7 +26,7 @@ use Rattle.supports.specs.Behind.{IsClip}
 use Rattle.belief_list.specs.declared.kept_rows.KeptRow.{KeptRow}
 use Rattle.belief_list.specs.declared.kept_rows.Difference.{Difference}
 use Rattle.belief_list.specs.KeptRows.{row_under, rows_after, numbers_of}
-use Rattle.belief_list.specs.Finding.{IsClipNow, IsNow, IsNowUnder, mark_under, MarksStay, IsClassMarked, AreClassesMarked, AreFound}
+use Rattle.belief_list.specs.Finding.{IsClipNow, IsNowUnder, mark_under, MarksStay, IsClassMarked, AreClassesMarked, AreFound}
 
 -- ---- marks
 

@@ -2,12 +2,9 @@ pub mod Tables
 pub mod Lookups
 pub mod Deltas
 pub mod Matches
-pub mod Kept
-pub mod KeptClips
+pub mod LeftNodes
 pub mod Ordered
 pub mod Empty
-pub mod TwoLists
-pub mod KeptRows
 pub mod Sizes
 pub mod Finding
 pub mod Untouched

@@ -15,7 +15,6 @@ use Rattle.spots.proofs.Nodes.{node_at, live_at, moment_at-is}
 use Rattle.belief_list.specs.declared.list.BeliefRow.{BeliefRow}
 use Rattle.belief_list.specs.Rows.{row_at, IsLiveRow, IsListing}
 use Rattle.belief_list.specs.Compared.{row_in, clip_in}
-use Rattle.belief_list.specs.Kept.{KeepNumbers}
 use Rattle.belief_list.specs.Matches.{IsMatch, AreMatched}
 use Rattle.belief_list.specs.Tables.{place_in, item_at, item_under, IsTable}
 use Rattle.belief_list.proofs.Tables.{at-In, under_own, under_all}
@@ -59,25 +58,6 @@ matched_more f other rows places x place room own first y below live = elim (cas
       subst (λ k. IsMatch k other rows (place_in (set places x place) y)) there (subst (IsMatch (moment_at f x) other rows) here (own live_x))
   | inr apart ↦ subst (IsMatch (moment_at f y) other rows) (sym (get_or-set_other places x y place None apart)) (first y (omega arith) live)
 ]
-
--- **Where nodes keep their numbers, the old row of a node stands under its number.**
-pub kept_match : (old new : Forest) (rows : List BeliefRow) (places : List (Option ℕ)) → IsListing old rows → KeepNumbers old new → IsTable (map (λ r. r.node) rows) places → AreMatched new old rows places
-kept_match old new rows places listing keep table = record { listing = listing; same = λ x live. by x live (item_under rows places x) refl }
-  where
-    live_row : (r : BeliefRow) → In r rows → IsLive old r.node
-    live_row r at = (All-contains (IsLiveRow old) rows r listing.live (Contains-from_In rows r at)).node
-
-    by : (x : ℕ) → IsLive new x → (o : Option BeliefRow) → item_under rows places x ≡ o → IsMatch (moment_at new x) old rows (place_in places x)
-    by x live None e = match_none old rows listing (moment_at new x) (place_in places x) e apart
-      where
-        apart : (r : BeliefRow) → In r rows → moment_at old r.node ≡ moment_at new x → ⊥
-        apart r at is =
-            let (q, under) = under_all (λ (w : BeliefRow). w.node) rows places table x (numbered rows r x at ((keep r.node x (live_row r at) live).0 is)) in
-            let no : None ≡ Some q = sym e ∙ under in
-            cc
-    by x live (Some r) e =
-        match_some old rows listing (moment_at new x) (place_in places x) r e
-        ((keep r.node x (live_row r (at-In rows (place_in places x) r e)) live).1 (under_own (λ (w : BeliefRow). w.node) rows places table x r e))
 
 -- ---- what matched rows tell
 

@@ -2,12 +2,11 @@
 use Rattle.std.proofs.Common.{◌≡◌, ℕ, zero, suc, ◌+◌, ◌<◌, true, false, List, [], ◌∷◌, ◌++◌, map, length, take, get_or, add-one, arith, refl, sym, ◌∙◌, ap, subst, inl, inr}
 use Rattle.std.specs.Prelude.{ℤ, Option, nat_eq, IfSome}
 use Rattle.std.specs.Option.{option_map, option_map_or}
-use Rattle.std.specs.List.{All, AllByRecursion, Contains, IsDistinct, zip}
+use Rattle.std.specs.List.{All, Contains, IsDistinct, zip}
 use Rattle.std.specs.List.Sorted.{IsStrictlySortedBy}
 use Rattle.std.specs.declared.cmp.Ordering.{Ordering}
 use Rattle.std.specs.declared.cmp.Ordering.TheVariants.{Less, Greater}
-use Rattle.std.specs.Ordering.{int_cmp, nat_cmp, ordering_then, ordering_reverse}
-use Rattle.std.specs.Cmp.Lexicographic.{slice_cmp}
+use Rattle.std.specs.Ordering.{ordering_reverse}
 use Rattle.std.proofs.lemmas.Bool.Decides.{Decides-eqb}
 use Rattle.std.proofs.lemmas.List.{length-map}
 use Rattle.std.proofs.lemmas.List.Elements.{All-contains, All-nil, All-cons, All-head, All-tail}
@@ -16,7 +15,7 @@ use Rattle.tmm_model.specs.Answers.{row, rows, clip}
 use Rattle.tmm_model.specs.Beliefs.{is_of}
 use Rattle.tmm_model.specs.Firsts.{sorted}
 use Rattle.tmm_model.specs.Maps.{built, order}
-use Rattle.tmm_model.specs.Moments.{Moment, printed}
+use Rattle.tmm_model.specs.Moments.{Moment}
 use Rattle.tmm_model.specs.Standing.{Standing, far_in}
 use Rattle.list_theory.proofs.Distinct.{Rising, one_order}
 use Rattle.list_theory.proofs.Elements.{In, In-map, map-In, In-from_Contains, Contains-from_In, each_in}
@@ -26,14 +25,13 @@ use Rattle.belief_theory.proofs.Spelt.{spelt}
 use Rattle.dist_net.specs.Net.{Net}
 use Rattle.spots.specs.Forest.{Forest, Member, IsLive, IsOnce, moment, moment_at}
 use Rattle.spots.specs.Seen.{IsSeen, Holds}
-use Rattle.spots.specs.Spots.{node_early, node_cmp}
+use Rattle.spots.specs.Spots.{node_cmp}
 use Rattle.spots.proofs.Nodes.{node_at, live_at, moment_at-is}
 use Rattle.spots.proofs.Seen.{early_is, believed_once}
 use Rattle.occ_tree.specs.declared.ranks.Ranked.{Ranked}
 use Rattle.occ_tree.specs.Ranks.{IsRanked, nodes_of}
 use Rattle.occ_tree.proofs.Ordered.{moments_in_order}
 use Rattle.belief_list.specs.declared.list.BeliefRow.{BeliefRow}
-use Rattle.belief_list.specs.Merging.{row_cmp}
 use Rattle.belief_list.specs.Rows.{belief_row, row_at, what_at, IsLiveRow, AreAllRanked, IsListing}
 
 rising : {X : Type 0} (cmp : X → X → Ordering) (xs : List X) → IsStrictlySortedBy cmp xs → Rising cmp xs
@@ -91,25 +89,6 @@ rows_once (x ∷ list) once r q at_r at_q one = by at_r at_q (rows_once list (Is
     by (inl e) (inr at) rest = absurd (no_other q at (ap (λ (w : BeliefRow). w.node) e ∙ one))
     by (inr at) (inl g) rest = absurd (no_other r at (ap (λ (w : BeliefRow). w.node) g ∙ sym one))
     by (inr at) (inr too) rest = rest at too one
-
--- **The rows of nodes in order are in order.**
-pub rows_sorted : (net : Net) (f : Forest) (rs : List Ranked) (cs : List (Option ℕ)) → All (IsRanked net f) rs → IsStrictlySortedBy (node_cmp net f) (nodes_of rs) → IsStrictlySortedBy (row_cmp f) (rows_with rs cs)
-unfolding IsStrictlySortedBy
-rows_sorted net f [] cs ranked up = tt
-rows_sorted net f (r ∷ rs) [] ranked up = tt
-rows_sorted net f (r ∷ rs) (c ∷ cs) ranked up = (each rs cs (All-tail (IsRanked net f) r rs ranked) up.0, rows_sorted net f rs cs (All-tail (IsRanked net f) r rs ranked) up.1)
-  where
-    first : r.early ≡ node_early net f r.node
-    first = (All-head (IsRanked net f) r rs ranked).early
-
-    each : (qs : List Ranked) (es : List (Option ℕ)) → All (IsRanked net f) qs → AllByRecursion (λ y. node_cmp net f r.node y ≡ Less) (nodes_of qs) → AllByRecursion (λ q. row_cmp f (belief_row (r, c)) q ≡ Less) (rows_with qs es)
-    each [] es own h = tt
-    each (q ∷ qs) [] own h = tt
-    each (q ∷ qs) (e ∷ es) own h =
-        let second = (All-head (IsRanked net f) q qs own).early in (
-          (λ i. ordering_then (int_cmp (first i) (second i)) (slice_cmp nat_cmp (printed (moment_at f r.node)) (printed (moment_at f q.node)))) ∙ h.0,
-          each qs es (All-tail (IsRanked net f) q qs own) h.1,
-        )
 
 -- **The rows of all nodes list them.**
 pub listing_is : (net : Net) (f : Forest) (rs : List Ranked) (cs : List (Option ℕ)) → All (IsRanked net f) rs → ((x : ℕ) → IsLive f x → Contains (nodes_of rs) x) → IsDistinct nat_eq (nodes_of rs)
@@ -204,7 +183,3 @@ module _ (s : Standing) (net : Net) (f : Forest) (seen : IsSeen s net f) (holds 
     -- **It lists the nodes.**
     pub nodes_listed : All (λ c. IfSome c (IsLive f)) cs → IsListing f list
     nodes_listed live = subst (IsListing f) (sym told) (listing_is net f rs cs all.dates all.all all.once (as_many rs cs clipped) live seen.once)
-
-    -- **It is in order.**
-    pub list_sorted : IsStrictlySortedBy (row_cmp f) list
-    list_sorted = subst (IsStrictlySortedBy (row_cmp f)) (sym told) (rows_sorted net f rs cs all.dates all.in_order)

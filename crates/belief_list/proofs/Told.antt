@@ -10,7 +10,7 @@ use Rattle.std.specs.Cmp.{IsTotalOrder}
 use Rattle.std.specs.Cmp.Lexicographic.{slice_cmp, nat_list_cmp_total}
 use Rattle.std.proofs.lemmas.Bool.Decides.{Decides-eqb}
 use Rattle.std.proofs.lemmas.Cmp.{then_total, on_total, int_cmp_total, nat_eq_equiv}
-use Rattle.std.proofs.lemmas.List.{append_assoc, map_push, take_more}
+use Rattle.std.proofs.lemmas.List.{append_assoc, map_push, take_more, drop_more}
 use Rattle.std.proofs.lemmas.List.Elements.{All-contains}
 use Rattle.std.proofs.lemmas.List.Sorted.{Contains-permutation, IsPermutation-map, IsPermutation-sym}
 use Rattle.std.proofs.lemmas.Option.{same_Some}
@@ -37,16 +37,15 @@ use Rattle.spots.proofs.Nodes.{node_at, live_at, moment_at-is}
 use Rattle.spots.proofs.Seen.{early_is, occurs_at, believed_once}
 use Rattle.occ_tree.specs.Standing.{Kept, forest, present}
 use Rattle.supports.specs.Edited.{old_forest}
-use Rattle.belief_list.specs.declared.kept_changes.LeftNode.{LeftNode}
+use Rattle.belief_list.specs.declared.left_nodes.LeftNode.{LeftNode}
 use Rattle.belief_list.specs.declared.kept_rows.KeptRow.{KeptRow}
 use Rattle.belief_list.specs.declared.kept_rows.Difference.{Difference}
 use Rattle.belief_list.specs.declared.told_changes.Told.{Told}
-use Rattle.belief_list.specs.Kept.{AreWords, gone_at, if_derived}
+use Rattle.belief_list.specs.LeftNodes.{AreWords, if_derived}
 use Rattle.belief_list.specs.KeptRows.{row_under, rows_after, numbers_of, IsRowOf, AreRowsOf, AreDifferences}
 use Rattle.belief_list.specs.Tables.{place_in, item_under, IsTable}
 use Rattle.belief_list.specs.Told.{clip_of, is_entered, is_loosened, if_new, new_clip, is_told, entered_at, loosened_at, clipped_at, left_at, differences_of, told_cmp, AreInOrder, IsToldNow, IsToldThen}
-use Rattle.belief_list.proofs.Kept.{told_at, untold_at}
-use Rattle.belief_list.proofs.TwoLists.{drop_next}
+use Rattle.belief_list.proofs.LeftNodes.{gone_at, told_at, untold_at}
 use Rattle.belief_list.proofs.Tables.{at-In, under_own, under_all}
 use Rattle.belief_list.proofs.Rising.{rising_sorted, rising_map, filter_some, same_told}
 
@@ -200,7 +199,7 @@ pushed_same test told more t ds i d within grown is passes before =
     ∙ append_assoc (differences_of told) (t.difference ∷ []) (filter test (drop (i + 1) ds))
     ∙ (λ j. differences_of told ++ (is j ∷ filter test (drop (i + 1) ds)))
     ∙ (λ j. differences_of told ++ cond (sym passes j) (slice_index_or ds i d ∷ filter test (drop (i + 1) ds)) (filter test (drop (i + 1) ds)))
-    ∙ ap (λ l. differences_of told ++ filter test l) (sym (drop_next ds i d within))
+    ∙ ap (λ l. differences_of told ++ filter test l) (sym (drop_more ds i d within))
     ∙ before
 
 -- and one that does not is not
@@ -209,7 +208,7 @@ pub passed_same : (test : Difference → Bool) (told more : List Told) (ds : Lis
 passed_same test told more ds i d within stayed fails before =
     ap (λ l. differences_of l ++ filter test (drop (i + 1) ds)) stayed
     ∙ (λ j. differences_of told ++ cond (sym fails j) (slice_index_or ds i d ∷ filter test (drop (i + 1) ds)) (filter test (drop (i + 1) ds)))
-    ∙ ap (λ l. differences_of told ++ filter test l) (sym (drop_next ds i d within))
+    ∙ ap (λ l. differences_of told ++ filter test l) (sym (drop_more ds i d within))
     ∙ before
 
 -- what is told of a node that is gone has its date and its word

@@ -1,10 +1,9 @@
 -- What an edit makes of rows: those of nodes that it did not touch stay, and with all differences the rows are those of the list after it.
-use Rattle.std.proofs.Common.{◌≡◌, ℕ, Bool, true, false, not, ◌&&◌, List, refl, sym, ◌∙◌, ap, subst, inl, inr}
-use Rattle.std.specs.Prelude.{◌⊎◌, Option, Some, None, IfSome, MatchOption}
+use Rattle.std.proofs.Common.{◌≡◌, ℕ, Bool, true, false, not, List, refl, sym, ◌∙◌, ap, subst, inl, inr}
+use Rattle.std.specs.Prelude.{Option, Some, None, IfSome}
 use Rattle.std.specs.List.{Contains}
 use Rattle.std.specs.Option.{option_map, option_and_then}
 use Rattle.std.specs.Cmp.Lexicographic.{bytes_decides}
-use Rattle.std.proofs.lemmas.Option.{same_Some}
 use Rattle.tmm_model.specs.declared.premise.Edit.{Edit}
 use Rattle.tmm_model.specs.declared.token.TokenRow.{TokenRow}
 use Rattle.tmm_model.specs.Answers.{row, clip, clip_of, first_believed, weight}
@@ -24,7 +23,7 @@ use Rattle.dist_net.specs.Net.{Net, Nets, IsMovedAt}
 use Rattle.list_net.specs.Network.{PointsKeepNumbers}
 use Rattle.spots.specs.declared.spot.Spot.{Spot}
 use Rattle.spots.specs.declared.spot.Spot.TheVariants.{Declared, Node}
-use Rattle.spots.specs.Forest.{Forest, Member, member, IsLive, moment, moment_at}
+use Rattle.spots.specs.Forest.{Forest, Member, member, IsLive, moment_at}
 use Rattle.spots.specs.Seen.{IsSeen, Holds}
 use Rattle.spots.specs.Spots.{AreTokens, token_row, row_moment, node_early}
 use Rattle.spots.proofs.Nodes.{node_at, live_at, moment_at-is}
@@ -40,9 +39,8 @@ use Rattle.joined.specs.KeptClips.{StandsAsBefore}
 use Rattle.joined.proofs.KeptClips.{nodes_keep_clips, same_clipper, date_unmoved}
 use Rattle.belief_list.specs.declared.kept_rows.KeptRow.{KeptRow}
 use Rattle.belief_list.specs.declared.kept_rows.Difference.{Difference}
-use Rattle.belief_list.specs.KeptRows.{row_under, listed_row, IsRowOf, AreRowsOf, rows_after, CoverTouched, AreDifferences}
+use Rattle.belief_list.specs.KeptRows.{row_under, IsRowOf, AreRowsOf, rows_after, CoverTouched, AreDifferences}
 use Rattle.belief_list.specs.Finding.{IsClipNow, IsNow, IsNowUnder, mark_under, AreClassesMarked, AreFound}
-use Rattle.belief_list.specs.Rows.{row_at}
 use Rattle.belief_list.proofs.Finding.{after_none, not_told}
 use Rattle.belief_list.proofs.Ordered.{row_is}
 

@@ -2,9 +2,7 @@ pub mod Rows
 pub mod Compared
 pub mod Tables
 pub mod Matches
-pub mod Kept
-pub mod KeptClips
-pub mod Merging
+pub mod LeftNodes
 pub mod KeptRows
 pub mod Sizes
 pub mod Finding

@@ -9,11 +9,11 @@ use Rattle.tmm_model.specs.Moments.{Moment, is_derived, moment_of, printed}
 use Rattle.dist_net.specs.Net.{Net}
 use Rattle.spots.specs.Forest.{Forest, member, IsLive, moment_at}
 use Rattle.spots.specs.Spots.{node_early}
-use Rattle.belief_list.specs.declared.kept_changes.LeftNode.{LeftNode}
+use Rattle.belief_list.specs.declared.left_nodes.LeftNode.{LeftNode}
 use Rattle.belief_list.specs.declared.kept_rows.KeptRow.{KeptRow}
 use Rattle.belief_list.specs.declared.kept_rows.Difference.{Difference}
 use Rattle.belief_list.specs.declared.told_changes.Told.{Told}
-use Rattle.belief_list.specs.Kept.{if_derived}
+use Rattle.belief_list.specs.LeftNodes.{if_derived}
 use Rattle.belief_list.specs.Tables.{item_under}
 
 -- what clips a node, by what is kept of it

@@ -1,5 +1,5 @@
 // What of belief changed between two lists.
-ghost use Rattle.std.specs.Prelude.{◌≡◌, ◌++◌, ◌∷◌, [], List, map, ◌&&◌, IfOk, OnOk, IfSome, Some};
+ghost use Rattle.std.specs.Prelude.{◌≡◌, ◌++◌, ◌∷◌, [], map, ◌&&◌, IfOk, OnOk, IfSome, Some};
 ghost use Rattle.std.specs.List.{All, filter_map};
 ghost use Rattle.std.specs.Option.{option_map, is_some, is_none};
 ghost use Rattle.tmm_model.specs.Answers.{rows};
@@ -66,7 +66,7 @@ pub fn compare(
 }
 
 // The derived occurrences that are not among the other rows.
-pub(crate) fn gone(
+fn gone(
     alloc: Global,
     tree: &Tree,
     rows: &[BeliefRow],
@@ -92,7 +92,7 @@ fn is_gone(tree: &Tree, node: u32, others: &Matched<'_>) -> bool
 }
 
 // The tokens that are clipped no longer.
-pub(crate) fn loosened(
+fn loosened(
     alloc: Global,
     tree: &Tree,
     rows: &[BeliefRow],
@@ -117,7 +117,7 @@ fn is_loosened(row: &BeliefRow, before: &Matched<'_>) -> bool
 }
 
 // The tokens that are newly clipped, or by another token.
-pub(crate) fn clipped(
+fn clipped(
     alloc: Global,
     tree: &Tree,
     rows: &[BeliefRow],

@@ -1,7 +1,7 @@
 // What is kept of each node, by its number, and what an edit makes of it.
 ghost use Rattle.std.specs.Prelude.{◌≡◌, ◌≤◌, ◌<◌, ℕ, length, OnOk};
 ghost use Rattle.std.specs.List.{All};
-ghost use Rattle.belief_list.specs.KeptRows.{row_under, rows_after, numbers_of};
+ghost use Rattle.belief_list.specs.KeptRows.{row_under, rows_after};
 
 use std::alloc::Global;
 use tmm_model::NoMemory;

@@ -1,23 +1,16 @@
 // The believed occurrences in order.
 ghost use Rattle.std.specs.Prelude.{◌≡◌, map, length, IfOk};
 ghost use Rattle.std.specs.List.{All, zip};
-ghost use Rattle.std.specs.List.Sorted.{IsStrictlySortedBy};
 ghost use Rattle.std.specs.Option.{option_map};
-ghost use Rattle.tmm_model.specs.declared.premise.Edit.{Edit as AnEdit};
 ghost use Rattle.tmm_model.specs.Answers.{row_of, rows};
 ghost use Rattle.tmm_model.specs.Maps.{built};
 ghost use Rattle.tmm_model.specs.Moments.{moment_of};
-ghost use Rattle.spots.specs.Forest.{IsLive, moment_at};
-ghost use Rattle.spots.specs.Seen.{IsSeen, Holds};
+ghost use Rattle.spots.specs.Forest.{moment_at};
+ghost use Rattle.spots.specs.Seen.{Holds};
 ghost use Rattle.occ_tree.specs.OfLists.{IsTreeIn, IsTreeOf};
 ghost use Rattle.occ_tree.specs.Places.{forest};
-ghost use Rattle.belief_list.specs.Kept.{kept_forest};
-ghost use Rattle.belief_list.specs.KeptClips.{AreRowsBefore};
-ghost use Rattle.belief_list.specs.Merging.{row_cmp};
 ghost use Rattle.belief_list.specs.Rows.{belief_row, row_at, IsLiveRow, AreAllRanked, IsListing};
 
-use crate::kept_clips::clips_after;
-use crate::merging::ranked_after;
 use dist_net::DistNet;
 use occ_tree::{Order, Ranked, Tree, in_order};
 use premise_list::Standing;
@@ -47,34 +40,10 @@ pub fn listed(
     requires holds { Holds (built standing.now.present).believed (forest tree.now) }
     ensures rows { IfOk result (λ list. map (row_at (forest tree.now)) list.items ≡ rows (built standing.now.present)) }
     ensures listing { IfOk result (λ list. IsListing (forest tree.now) list.items) }
-    ensures in_order { IfOk result (λ list. IsStrictlySortedBy (row_cmp (forest tree.now)) list.items) }
 {
     let nodes = all_ranked(alloc, tree, net)?;
     let ranked = nodes.as_slice();
     let clips = clips(alloc, tree, net, ranked)?;
-    rows_of(alloc, ranked, clips.as_slice())
-}
-
-/// The same after an edit, from the rows of the last commit of the tree: those of nodes that are still there
-/// with their dates keep their order, and only the other nodes are sorted; clips of classes that the edit left
-/// alone are taken over, and only the others are found anew.
-pub fn listed_after(
-    alloc: Global,
-    standing: &Standing,
-    tree: &Tree,
-    net: &DistNet,
-    old: &[BeliefRow],
-) -> Result<Seq<BeliefRow>, NoMemory>
-    requires seen { IsTreeOf standing.now.present net.now.present tree.now }
-    requires before { (edit : AnEdit) × AreRowsBefore standing.now net.now edit tree.now old.now }
-    requires in_order { IsStrictlySortedBy (row_cmp (kept_forest tree.now)) old.now }
-    ensures rows { IfOk result (λ list. map (row_at (forest tree.now)) list.items ≡ rows (built standing.now.present)) }
-    ensures listing { IfOk result (λ list. IsListing (forest tree.now) list.items) }
-    ensures in_order { IfOk result (λ list. IsStrictlySortedBy (row_cmp (forest tree.now)) list.items) }
-{
-    let nodes = ranked_after(alloc, &Order { tree, net }, old)?;
-    let ranked = nodes.as_slice();
-    let clips = clips_after(alloc, tree, net, old, ranked)?;
     rows_of(alloc, ranked, clips.as_slice())
 }
 

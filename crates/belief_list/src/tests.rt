@@ -3,7 +3,7 @@ ghost use Rattle.std.specs.Prelude.{◌≡◌};
 
 use super::*;
 use dist_net::DistNet;
-use occ_tree::{Order, Tree};
+use occ_tree::Tree;
 use std::test::Fail;
 
 #[test]
@@ -22,23 +22,11 @@ fn nothing_is_told_of_empty_trees(rt: HostRuntime) -> Result<(), Fail> {
 #[test]
 fn nothing_changed_in_an_empty_tree(rt: HostRuntime) -> Result<(), Fail> {
     let tree = Tree::make(rt.alloc());
-    let changes = compare_kept(rt.alloc(), &[], &[], &tree, &[])?;
-    assert_eq!(rt; changes.left.items().len(), 0);
-    assert_eq!(rt; changes.entered.items().len(), 0);
-    Ok(())
-}
-
-#[test]
-fn no_nodes_are_in_order(rt: HostRuntime) -> Result<(), Fail> {
-    let tree = Tree::make(rt.alloc());
     let net = DistNet::make(rt.alloc())?;
     // it tells the proof what holds of the network
     let _ = net.edges();
-    let order = Order {
-        tree: &tree,
-        net: &net,
-    };
-    let ranked = ranked_after(rt.alloc(), &order, &[])?;
-    assert_eq!(rt; ranked.len(), 0);
+    let changes = changes_told(rt.alloc(), &tree, &net, &[], &[])?;
+    assert_eq!(rt; changes.left.items().len(), 0);
+    assert_eq!(rt; changes.entered.items().len(), 0);
     Ok(())
 }

@@ -1,5 +1,5 @@
 // What of belief changed, as differences tell it.
-ghost use Rattle.std.specs.Prelude.{◌≡◌, ◌++◌, ◌∷◌, List, map, filter, Option, Some, IfOk, OnOk};
+ghost use Rattle.std.specs.Prelude.{◌≡◌, ◌++◌, ◌∷◌, [], List, map, filter, Option, Some, IfOk, OnOk};
 ghost use Rattle.std.specs.List.{All, filter_map};
 ghost use Rattle.std.specs.List.Sorted.{IsPermutation};
 ghost use Rattle.std.specs.Option.{option_map, option_copied, is_some};
@@ -14,7 +14,7 @@ ghost use Rattle.occ_tree.specs.Places.{forest};
 ghost use Rattle.supports.specs.Edited.{old_forest};
 ghost use Rattle.belief_list.specs.declared.kept_rows.KeptRow.{KeptRow as AKeptRow};
 ghost use Rattle.belief_list.specs.Compared.{AreChanges};
-ghost use Rattle.belief_list.specs.Kept.{AreWords};
+ghost use Rattle.belief_list.specs.LeftNodes.{AreWords};
 ghost use Rattle.belief_list.specs.KeptRows.{AreDifferences};
 ghost use Rattle.belief_list.specs.Told.{
   is_entered,
@@ -34,9 +34,8 @@ ghost use Rattle.belief_list.specs.Told.{
 
 use crate::by_number::clip_of;
 use crate::changes::{BeliefChanges, push_clip, push_occ};
-use crate::kept_changes::{LeftNode, if_derived, places_by_left, push_copy, told_of};
 use crate::kept_rows::Difference;
-use crate::merging::push;
+use crate::left_nodes::{LeftNode, if_derived, places_by_left, push_copy, told_of};
 use dist_net::DistNet;
 use occ_tree::{Order, Tree};
 use std::alloc::Global;
@@ -309,6 +308,16 @@ fn push_rule(word: &mut Seq<u8>, rule: &Name) -> Result<(), NoMemory>
 {
     word.extend(b"/")?;
     word.extend(rule.bytes())
+}
+
+// Appends one of which something is told.
+fn push(told: &mut Vec<Told>, one: Told) -> Result<(), NoMemory>
+    ensures { OnOk result (told.new.items ≡ told.old.items ++ one ∷ []) }
+{
+    match told.push(one) {
+        Ok(()) => Ok(()),
+        Err(_) => Err(NoMemory),
+    }
 }
 
 // ---- order

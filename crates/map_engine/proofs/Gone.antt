@@ -5,8 +5,8 @@ use Rattle.list_theory.proofs.Elements.{In, In-from_Contains, Contains-from_In, 
 use Rattle.spots.specs.Forest.{moment_at}
 use Rattle.occ_tree.specs.Places.{forest}
 use Rattle.occ_tree.specs.Standing.{Kept}
-use Rattle.belief_list.specs.declared.kept_changes.LeftNode.{LeftNode}
-use Rattle.belief_list.specs.Kept.{AreWords}
+use Rattle.belief_list.specs.declared.left_nodes.LeftNode.{LeftNode}
+use Rattle.belief_list.specs.LeftNodes.{AreWords}
 use Rattle.belief_net.specs.declared.told.DatedOcc.{DatedOcc}
 use Rattle.belief_net.specs.Numbered.{KeepsNumbers, then_forest, left_under}
 use Rattle.map_engine.specs.Gone.{seen_left}

@@ -2,7 +2,6 @@ use Rattle.std.proofs.Common.{◌≡◌, ◌<◌, true, false, length, sym, ◌�
 use Rattle.std.specs.Prelude.{None}
 use Rattle.std.proofs.lemmas.List.{get_or_default}
 use Rattle.std.proofs.lemmas.Result.{on_ok_weaker}
-use Rattle.belief_list.specs.KeptRows.{row_under}
 use Rattle.belief_list.specs.Finding.{IsNowUnder, mark_under}
 use Rattle.belief_list.proofs.Finding.{unmarked_within}
 use Rattle.belief_list.proofs.differing.tell_node.Goals as goal

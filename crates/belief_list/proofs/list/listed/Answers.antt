@@ -2,16 +2,14 @@ use Rattle.std.proofs.Common.{◌≡◌, ℕ, List, map, sym, subst, ap, ◌∙�
 use Rattle.std.specs.Prelude.{Option, IfSome}
 use Rattle.std.specs.Option.{option_map}
 use Rattle.std.specs.List.{All, zip}
-use Rattle.std.specs.List.Sorted.{IsStrictlySortedBy}
 use Rattle.std.proofs.lemmas.Result.{IfOk-weaker}
 use Rattle.tmm_model.specs.Answers.{rows, clip}
 use Rattle.tmm_model.specs.Maps.{built}
 use Rattle.spots.specs.Forest.{IsLive, moment_at}
 use Rattle.occ_tree.specs.Ranks.{nodes_of}
 use Rattle.occ_tree.specs.Places.{forest}
-use Rattle.belief_list.specs.Merging.{row_cmp}
 use Rattle.belief_list.specs.Rows.{belief_row, row_at, AreAllRanked, IsListing}
-use Rattle.belief_list.proofs.Ordered.{as_many, rows_told, nodes_listed, list_sorted}
+use Rattle.belief_list.proofs.Ordered.{as_many, rows_told, nodes_listed}
 use Rattle.belief_list.proofs.list.listed.Goals as goal
 
 pub clips-requires-clause-live : goal.clips-requires-clause-live
@@ -58,17 +56,4 @@ returns-clause-listing c =
     let live : All (λ (c : Option ℕ). IfSome c (IsLive f)) cs = subst (λ (l : List (Option ℕ)). All (λ (c : Option ℕ). IfSome c (IsLive f)) l) (sym c.as_slice.ensures.value) c.in_ok-clips.ensures.live in
     IfOk-weaker c.rows_of.result (λ list. list.items ≡ map belief_row (zip rs cs)) (λ list. IsListing f list.items)
     (λ list told. nodes_listed s c.args.net.now.present f c.requires.seen.seen c.requires.holds rs all cs clipped list.items told live)
-    c.rows_of.ensures
-
-pub returns-clause-in_order : goal.returns-clause-in_order
-returns-clause-in_order c =
-    let s = c.args.standing.now.present in
-    let f = forest c.args.tree.now in
-    let rs = c.as_slice-ranked.result.now in
-    let cs = c.as_slice.result.now in
-    let all = subst (AreAllRanked c.args.net.now.present (forest c.args.tree.now)) (sym c.as_slice-ranked.ensures.value) c.in_ok-nodes.ensures in
-    let clipped : map (option_map (moment_at f)) cs ≡ map (λ x. clip (built s) (moment_at f x)) (nodes_of rs) =
-    ap (map (option_map (moment_at f))) c.as_slice.ensures.value ∙ c.in_ok-clips.ensures.first s (built s).believed c.requires.seen.seen c.requires.holds in
-    IfOk-weaker c.rows_of.result (λ list. list.items ≡ map belief_row (zip rs cs)) (λ list. IsStrictlySortedBy (row_cmp f) list.items)
-    (λ list told. list_sorted s c.args.net.now.present f c.requires.seen.seen c.requires.holds rs all cs clipped list.items told)
     c.rows_of.ensures

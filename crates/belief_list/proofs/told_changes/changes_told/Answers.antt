@@ -1,7 +1,7 @@
 use Rattle.std.proofs.Common.{◌∙◌, map, sym, ap, subst}
 use Rattle.std.specs.List.{filter_map}
 use Rattle.occ_tree.specs.Places.{forest}
-use Rattle.belief_list.specs.declared.kept_changes.LeftNode.{LeftNode}
+use Rattle.belief_list.specs.declared.left_nodes.LeftNode.{LeftNode}
 use Rattle.belief_list.specs.Tables.{IsTable}
 use Rattle.belief_list.specs.Told.{entered_at, loosened_at, clipped_at, left_at, differences_of}
 use Rattle.belief_list.proofs.Told.{entered_is, loosened_is, clipped_is, gone_told}

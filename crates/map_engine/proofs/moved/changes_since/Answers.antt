@@ -1,8 +1,8 @@
 use Rattle.std.proofs.Common.{List, map, ap, sym, subst, ◌∙◌}
 use Rattle.tmm_model.specs.Maps.{built}
-use Rattle.belief_list.specs.declared.kept_changes.LeftNode.{LeftNode}
+use Rattle.belief_list.specs.declared.left_nodes.LeftNode.{LeftNode}
 use Rattle.belief_list.specs.declared.list.BeliefRow.{BeliefRow}
-use Rattle.belief_list.specs.Kept.{AreWords}
+use Rattle.belief_list.specs.LeftNodes.{AreWords}
 use Rattle.belief_list.specs.Rows.{row_at}
 use Rattle.belief_net.specs.Numbered.{then_forest}
 use Rattle.occ_tree.specs.Places.{forest}

@@ -1,8 +1,8 @@
 use Rattle.std.proofs.Common.{◌≡◌, ◌==◌, List, true, false, length, sym, ◌∙◌, ap}
 use Rattle.std.specs.Prelude.{ℕ}
 use Rattle.tmm_model.specs.declared.point.PointName.TheVariants.{Begin}
-use Rattle.belief_list.proofs.Kept.{if_some}
-use Rattle.belief_list.proofs.kept_changes.if_derived.Goals as goal
+use Rattle.belief_list.proofs.LeftNodes.{if_some}
+use Rattle.belief_list.proofs.left_nodes.if_derived.Goals as goal
 
 pub returns-else-is_empty : goal.returns-else-is_empty
 returns-else-is_empty c =
