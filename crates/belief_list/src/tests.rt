@@ -30,3 +30,24 @@ fn nothing_changed_in_an_empty_tree(rt: HostRuntime) -> Result<(), Fail> {
     assert_eq!(rt; changes.entered.items().len(), 0);
     Ok(())
 }
+
+#[test]
+fn what_differs_is_taken_over(rt: HostRuntime) -> Result<(), Fail> {
+    let row = KeptRow {
+        early: 3,
+        clip: None,
+        weight: 2,
+    };
+    let entered = [Difference {
+        node: 1,
+        was: None,
+        now: Some(row),
+    }];
+    let mut rows = Vec::new(rt.alloc());
+    reach(rt.alloc(), &mut rows, 2)?;
+    take_over(&mut rows, &entered);
+    assert!(rt; rows.get(0).copied().flatten().is_none());
+    assert!(rt; rows.get(1).copied().flatten() == Some(row));
+    assert!(rt; matches!(size_after(1, &entered), Ok(3)));
+    Ok(())
+}
