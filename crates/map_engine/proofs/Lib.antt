@@ -1,9 +1,11 @@
 mod Told
 mod Rows
+mod Finding
 mod Reading
 mod Covering
 mod ToldOf
 mod Elsewhere
 mod Unmoved
+mod StillEdited
 mod Gone
 mod NetMaps

@@ -6,15 +6,18 @@ use Rattle.std.specs.Option.{option_map_or}
 use Rattle.tmm_model.specs.declared.token.Shape.{Shape}
 use Rattle.tmm_model.specs.declared.token.Shape.TheVariants.{Event, Persistence, Span}
 use Rattle.tmm_model.specs.Answers.{row, weight}
-use Rattle.tmm_model.specs.Beliefs.{is_of, rules_on, rules_for, rules_at}
+use Rattle.tmm_model.specs.Beliefs.{is_of, roots, rules_on, rules_for, rules_at}
 use Rattle.tmm_model.specs.Maps.{built}
-use Rattle.tmm_model.specs.Moments.{Moment, rules}
+use Rattle.tmm_model.specs.Moments.{Moment, At, After, rules}
 use Rattle.tmm_model.specs.Standing.{Standing}
-use Rattle.spots.specs.Forest.{Forest, Member, member, IsLive, moment_at}
-use Rattle.spots.specs.Seen.{Holds}
+use Rattle.list_theory.proofs.Elements.{In-from_Contains}
+use Rattle.belief_theory.specs.Right.{Occurs}
+use Rattle.dist_net.specs.Net.{Net}
+use Rattle.spots.specs.Forest.{Forest, Member, member, moment, IsLive, moment_at}
+use Rattle.spots.specs.Seen.{IsSeen, Holds}
 use Rattle.spots.proofs.Nodes.{node_at, moment_at-is}
 use Rattle.belief_list.specs.declared.kept_rows.KeptRow.{KeptRow}
-use Rattle.belief_list.specs.KeptRows.{AreRowsOf, IsRowOf}
+use Rattle.belief_list.specs.KeptRows.{AreRowsOf, IsRowOf, row_under}
 use Rattle.revisions.specs.Alike.{AreAlike, BelieveAlike}
 use Rattle.revisions.proofs.Alike.{alike_believe}
 
@@ -48,6 +51,21 @@ module _ (s t : Standing) (alike : AreAlike s t) where
         (r, at, record { told = is.told ∙ row_same (moment_at f x) believed; clip = is.clip; weight = is.weight ∙ weight_same (moment_at f x) });
     none = are.none;
   }
+
+-- ---- a list in which nothing is declared to occur
+
+nothing_occurs : (s : Standing) → roots s ≡ [] → (k : Moment) → Occurs s k → ⊥
+nothing_occurs s none (At p) at = absurd (In-from_Contains [] (At p) (subst (λ (l : List Moment). Contains l (At p)) none at))
+nothing_occurs s none (After t r) at = nothing_occurs s none t at.0
+
+-- has no node, and no row is kept
+pub no_rows : (s : Standing) (net : Net) (f : Forest) (rows : List (Option KeptRow)) → IsSeen s net f → roots s ≡ [] → rows ≡ [] → AreRowsOf s f (row_under rows)
+no_rows s net f rows seen none empty =
+    subst (λ (l : List (Option KeptRow)). AreRowsOf s f (row_under l)) (sym empty)
+    (record {
+      own = λ x live. (let (m, here) = node_at f x live in absurd (nothing_occurs s none (moment m) (seen.members x m here).occurs));
+      none = λ x gone. refl;
+    })
 
 -- ---- rows that are the same
 

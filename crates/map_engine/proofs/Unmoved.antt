@@ -1,16 +1,18 @@
 -- What is kept where the list that an edit leaves is alike in all that beliefs read.
-use Rattle.std.proofs.Common.{◌≡◌, ◌∙◌, ℕ, false, not, List, [], ◌∷◌, ◌++◌, map, refl, sym, ap, subst, inl, inr}
+use Rattle.std.proofs.Common.{◌≡◌, ◌∙◌, ℕ, Bool, false, not, ◌&&◌, List, [], ◌∷◌, ◌++◌, map, refl, sym, ap, subst, inl, inr}
 use Rattle.std.specs.Prelude.{Option, Some, None, filter, ◌≤◌}
-use Rattle.std.specs.List.{filter_map, cons_option}
+use Rattle.std.specs.List.{filter_map, cons_option, list_any}
 use Rattle.tmm_model.specs.declared.changes.Changes.{Changes as CodeChanges}
 use Rattle.tmm_model.specs.declared.premise.Edit.{Edit}
 use Rattle.tmm_model.specs.declared.premise.Edit.TheVariants.{Add, Erase, Horizon}
 use Rattle.tmm_model.specs.declared.premise.Premise.{Premise}
 use Rattle.tmm_model.specs.declared.premise.Premise.TheVariants.{Class, Kind, Point, Event, Token, Span, Dist, Rule, Protect}
-use Rattle.tmm_model.specs.Answers.{broken, reports, report_of, most_size}
-use Rattle.tmm_model.specs.Changes.{changes, delta_of, protection_name, is_broken}
+use Rattle.tmm_model.specs.Answers.{Finding, broken, reports, report_of, most_size}
+use Rattle.tmm_model.specs.Changes.{changes, delta, delta_of, protection_name, is_broken}
 use Rattle.tmm_model.specs.Edits.{next_list}
 use Rattle.tmm_model.specs.Maps.{TimeMap, built}
+use Rattle.tmm_model.specs.Moments.{Moment}
+use Rattle.tmm_model.specs.Points.{same_name}
 use Rattle.tmm_model.specs.Standing.{Standing}
 use Rattle.list_theory.proofs.Elements.{In}
 use Rattle.list_theory.proofs.Erasure.{kept_before}
@@ -25,6 +27,10 @@ use Rattle.map_engine.proofs.Reading.{rows_still}
 use Rattle.map_engine.proofs.Told.{told}
 
 -- ---- what is read of the nodes
+
+-- the nodes of what is believed after the edit are those of what was believed
+pub holds_before : (s t : Standing) (f : Forest) → AreAlike s t → Holds (built t).believed f → Holds (built s).believed f
+holds_before s t f alike holds = subst (λ (b : List Moment). Holds b f) (sym (alike_believe s t alike).0.believed) holds
 
 -- of the same nodes the same is read, protections aside
 pub read_still : (s t : Standing) (f : Forest) (r r_after : Read) → Holds (built s).believed f
@@ -97,6 +103,20 @@ pub still_unguarded : (s : Standing) (edit : Edit) → adds_protection edit ≡ 
 still_unguarded s (Add p) e none = added_unguarded s.premises p e none
 still_unguarded s (Erase name) e none = all_unguarded (next_list s (Erase name)).premises (λ p at. each_unguarded s.premises none p (kept_before name [] s.premises p at))
 still_unguarded s (Horizon n) e none = none
+
+-- ---- between reports of which there are none
+
+none_mended : (p : List ℕ → Bool) (names : List (List ℕ)) → filter (λ name. list_any (λ (r : List ℕ × Finding). same_name r.0 name) [] && p name) names ≡ []
+none_mended p [] = refl
+none_mended p (name ∷ names) = none_mended p names
+
+-- no protection becomes broken or mended
+pub none_between : (old new : TimeMap) → reports old ≡ [] → reports new ≡ [] → ((delta old new).broken ≡ []) × ((delta old new).mended ≡ [])
+none_between old new before after = (
+  ap (filter (λ r. not (is_broken old r.0))) after,
+  ap (λ (l : List (List ℕ × Finding)). filter (λ name. list_any (λ r. same_name r.0 name) l && not (is_broken new name)) (filter_map protection_name new.list.premises)) before
+      ∙ none_mended (λ name. not (is_broken new name)) (filter_map protection_name new.list.premises),
+)
 
 -- ---- what is told
 

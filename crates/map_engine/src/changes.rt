@@ -1,8 +1,8 @@
 // What an edit changes, of beliefs and of protections.
 ghost use Rattle.std.specs.Prelude.{◌≡◌, map, IfOk};
 ghost use Rattle.tmm_model.specs.Answers.{reports, report_of};
-ghost use Rattle.tmm_model.specs.Changes.{changes, delta_of};
-ghost use Rattle.tmm_model.specs.Maps.{built};
+ghost use Rattle.tmm_model.specs.Changes.{changes, delta, delta_of};
+ghost use Rattle.tmm_model.specs.Maps.{TimeMap, built};
 ghost use Rattle.tmm_model.specs.Standing.{Standing as List};
 ghost use Rattle.belief_list.specs.Compared.{AreChanges};
 ghost use Rattle.map_engine.specs.Beliefs.{IsLeftOut};
@@ -27,7 +27,7 @@ pub(crate) fn with_reports(
         → AreChanges (built list) (built standing.now.present) believed → IsLeftOut list standing.now.present erased.items
         → IfOk result (λ told. delta_of told ≡ changes list standing.now.present) }
 {
-    let (broken, mended) = delta(alloc, before, after, standing)?;
+    let (broken, mended) = reports_between(alloc, before, after, standing)?;
     let BeliefChanges {
         left,
         entered,
@@ -43,4 +43,21 @@ pub(crate) fn with_reports(
         broken,
         mended,
     })
+}
+
+// The protections that are newly broken, and the names of those that stand and are broken no longer, between
+// these reports. Where there are none, no premise is looked at.
+pub(crate) fn reports_between(
+    alloc: Global,
+    before: &[Report],
+    after: &[Report],
+    standing: &Standing,
+) -> Result<(Seq<Report>, Seq<Name>), NoMemory>
+    ensures { (old new : TimeMap) → map report_of before.now ≡ reports old → map report_of after.now ≡ reports new → new.list ≡ standing.now.present
+        → IfOk result (λ found. (map report_of found.0.items ≡ (delta old new).broken) × (found.1.items ≡ (delta old new).mended)) }
+{
+    if before.is_empty() && after.is_empty() {
+        return Ok((Seq::make(alloc), Seq::make(alloc)));
+    }
+    delta(alloc, before, after, standing)
 }

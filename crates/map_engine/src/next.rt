@@ -12,12 +12,14 @@ ghost use Rattle.revisions.specs.Alike.{SayAlike, AreAlike};
 ghost use Rattle.revisions.specs.Counted.{changed};
 ghost use Rattle.revisions.specs.Ruling.{is_ruling};
 ghost use Rattle.spots.specs.Seen.{Holds};
+ghost use Rattle.supports.specs.Edited.{IsEdited, AreOthersUntouched};
 ghost use Rattle.occ_tree.specs.OfLists.{IsTreeOf};
 ghost use Rattle.map_engine.specs.Beliefs.{IsLeftOut};
 ghost use Rattle.map_engine.specs.NetMaps.{AreNodesOf, IsResting};
 ghost use Rattle.map_engine.specs.Nexts.{after, read_next, HasPlacesFor, HasPlacesIn, pending_list, IsUnguarded, adds_protection};
 ghost use Rattle.map_engine.specs.Reads.{IsReadOf, read_of};
 
+use crate::changes::reports_between;
 use crate::kept_view::{KeptView, NextView};
 use crate::moved::moved;
 use crate::still::is_still;
@@ -27,7 +29,7 @@ use dist_net::DistNet;
 use occ_tree::Tree;
 use premise_list::Standing;
 use projection::Counter;
-use protections::{delta, report};
+use protections::report_after;
 use std::alloc::Global;
 use tmm_model::{Changes, Edit, Name, NoMemory, Premise, Report, Seq, Stop};
 
@@ -95,8 +97,11 @@ pub(crate) fn draw_next(
     // it tells the proof that no count is above the greatest
     let _ = counter.value();
     if is_still(standing, net, known.unread) {
+        // it tells the proof that the tokens of each class are those of the nodes
+        nodes.tree().have_tokens();
         match unmoved(
             alloc,
+            edit,
             standing,
             net,
             nodes.tree(),
@@ -115,10 +120,11 @@ pub(crate) fn draw_next(
     }
 }
 
-// The same where the list that the edit leaves is alike in all that beliefs read: protections are
-// looked at again, where one may stand.
+// The same where the list that the edit leaves is alike in all that beliefs read, and no class is touched: those
+// protections are looked at again that the edit adds, or of which a point moved.
 fn unmoved(
     alloc: Global,
+    edit: &Edit,
     standing: &Standing,
     net: &DistNet,
     tree: &Tree,
@@ -130,6 +136,8 @@ fn unmoved(
     requires seen { IsTreeOf standing.now.present net.now.present tree.now }
     requires holds { Holds (built standing.now.present).believed (forest tree.now) }
     requires alike { AreAlike standing.now.committed standing.now.present }
+    requires edited { IsEdited standing.now net.now edit.now tree.now }
+    requires others { AreOthersUntouched net.now tree.now [] }
     requires unguarded_before { guarded ≡ false → IsUnguarded standing.now.committed }
     requires unguarded_now { guarded ≡ false → IsUnguarded standing.now.present }
     requires left_out { IsLeftOut standing.now.committed standing.now.present erased.items }
@@ -142,8 +150,9 @@ fn unmoved(
         let changes = changes_of(alloc, erased, Seq::make(alloc), Seq::make(alloc));
         return Ok((Next::Same, changes));
     }
-    let reports = report(alloc, standing, tree, net)?;
-    let (broken, mended) = delta(alloc, view.reports.items(), reports.items(), standing)?;
+    let before = view.reports.items();
+    let reports = report_after(alloc, standing, tree, net, edit, &[], before)?;
+    let (broken, mended) = reports_between(alloc, before, reports.items(), standing)?;
     let changes = changes_of(alloc, erased, broken, mended);
     Ok((Next::Reported(reports), changes))
 }

@@ -1,5 +1,5 @@
 // Which nodes an edit may have touched.
-ghost use Rattle.std.specs.Prelude.{◌≡◌, ℕ, List, Some, true, IfOk, OnOk};
+ghost use Rattle.std.specs.Prelude.{◌≡◌, ℕ, List, Some, true, MatchOption, IfOk, OnOk};
 ghost use Rattle.std.specs.List.{Contains};
 ghost use Rattle.tmm_model.specs.declared.point.PointName.TheVariants.{Begin};
 ghost use Rattle.tmm_model.specs.Moments.{Moment, At, moment_of};
@@ -57,10 +57,7 @@ pub(crate) fn touched(
     let moved = tree.touched(alloc, net)?;
     let mut nodes = touched_nodes(alloc, tree, edit, told, gone)?;
     push_numbers(moved.nodes.as_slice(), &mut nodes)?;
-    if ruling {
-        let all = tree.numbers(alloc)?;
-        push_numbers(all.as_slice(), &mut nodes)?;
-    }
+    push_ruled(alloc, tree, ruling, &mut nodes)?;
     Ok(Touched {
         nodes,
         classes: moved.classes,
@@ -83,10 +80,42 @@ fn touched_nodes(
     push_numbers(others, &mut found)?;
     push_left(told.left.items(), &mut found)?;
     push_entered(tree, told.entered.items(), &mut found)?;
-    if let Edit::Add(premise) = edit {
-        push_root(alloc, tree, premise.name(), &mut found)?;
-    }
+    push_added(alloc, tree, edit, &mut found)?;
     Ok(found)
+}
+
+// Appends all nodes, where the edit may have changed which rules are on a kind.
+fn push_ruled(
+    alloc: Global,
+    tree: &Tree,
+    ruling: bool,
+    found: &mut Vec<u32>,
+) -> Result<(), NoMemory>
+    ensures kept { OnOk result ((x : ℕ) → Contains found.old.items x → Contains found.new.items x) }
+    ensures pushed { OnOk result (ruling ≡ true → (x : ℕ) → IsLive (forest tree.now) x → Contains found.new.items x) }
+{
+    if !ruling {
+        return Ok(());
+    }
+    let all = tree.numbers(alloc)?;
+    push_numbers(all.as_slice(), found)
+}
+
+// Appends the root that the edit adds, if it adds one.
+fn push_added(
+    alloc: Global,
+    tree: &Tree,
+    edit: &Edit,
+    found: &mut Vec<u32>,
+) -> Result<(), NoMemory>
+    requires { IsOnce (forest tree.now) }
+    ensures kept { OnOk result ((x : ℕ) → Contains found.old.items x → Contains found.new.items x) }
+    ensures pushed { OnOk result (MatchOption (name_added edit.now) (Unit {0}) (λ name. HasNodeOf (forest tree.now) (At (Begin name)) found.new.items)) }
+{
+    match edit {
+        Edit::Add(premise) => push_root(alloc, tree, premise.name(), found),
+        Edit::Erase(_) | Edit::Horizon(_) => Ok(()),
+    }
 }
 
 // Appends these numbers.

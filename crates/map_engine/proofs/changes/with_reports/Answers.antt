@@ -1,15 +1,11 @@
-use Rattle.std.proofs.Common.{List, refl, ap, map, ◌∙◌}
-use Rattle.tmm_model.specs.declared.answer.Report.{Report}
-use Rattle.tmm_model.specs.Answers.{report_of}
+use Rattle.std.proofs.Common.{refl}
 use Rattle.tmm_model.specs.Maps.{built}
 use Rattle.map_engine.proofs.Told.{told}
 use Rattle.map_engine.proofs.changes.with_reports.Goals as goal
 
 pub returns : goal.returns
-returns c = λ list f g old new between left_out.
-    let old_broken = ap (λ (l : List Report). map report_of l) c.items.ensures ∙ old.broken in
-    let new_broken = ap (λ (l : List Report). map report_of l) c.items-2.ensures ∙ new.broken in
-    let reported = c.in_ok-broken.ensures.delta (built list) (built c.args.standing.now.present) old_broken new_broken refl in
+returns c = λ list old new between left_out.
+    let reported = c.in_ok-broken.ensures.delta (built list) (built c.args.standing.now.present) old new refl in
     told list c.args.standing.now.present
     (record {
       erased = c.args.erased;

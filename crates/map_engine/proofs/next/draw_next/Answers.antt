@@ -12,11 +12,11 @@ use Rattle.revisions.specs.Alike.{AreAlike}
 use Rattle.revisions.specs.Counted.{changed}
 use Rattle.spots.specs.Seen.{Holds}
 use Rattle.map_engine.specs.Nexts.{after}
-use Rattle.map_engine.specs.Views.{IsViewOf}
+use Rattle.map_engine.specs.Reads.{IsReadOf, read_of}
 use Rattle.map_engine.proofs.next.draw_next.Goals as goal
 
-pub unmoved-requires-clause-old : goal.unmoved-requires-clause-old
-unmoved-requires-clause-old c = subst (λ (k : Kept). IsViewOf c.args.standing.now.committed (forest k) c.args.old.now) (sym c.tree.ensures) c.requires.rests.view
+pub unmoved-requires-clause-view : goal.unmoved-requires-clause-view
+unmoved-requires-clause-view c = subst (λ (k : Kept). IsReadOf c.args.standing.now.committed (forest k) (read_of c.args.view.now)) (sym c.tree.ensures) c.requires.rests.view
 
 pub unmoved-requires-clause-seen : goal.unmoved-requires-clause-seen
 unmoved-requires-clause-seen c =
@@ -41,7 +41,7 @@ returns-in-Ok-clause-nodes c =
 
 pub returns-in-Ok-clause-view : goal.returns-in-Ok-clause-view
 returns-in-Ok-clause-view c =
-    subst (λ (k : Kept). IsViewOf c.args.standing.now.present (forest k) (after c.args.old.now c.in-Ok.made.0)) c.tree.ensures c.in-Ok.ensures.view
+    subst (λ (k : Kept). IsReadOf c.args.standing.now.present (forest k) (after c.args.view.now c.in-Ok.made.0)) c.tree.ensures c.in-Ok.ensures.view
 
 pub returns-in-Ok-clause-least : goal.returns-in-Ok-clause-least
 returns-in-Ok-clause-least c =

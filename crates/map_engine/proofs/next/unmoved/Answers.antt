@@ -3,15 +3,18 @@ use Rattle.tmm_model.specs.declared.answer.Report.{Report}
 use Rattle.tmm_model.specs.Answers.{report_of}
 use Rattle.tmm_model.specs.Maps.{built}
 use Rattle.occ_tree.specs.Places.{forest}
-use Rattle.map_engine.proofs.Unmoved.{view_still, none_reported, told_still, told_unguarded}
+use Rattle.map_engine.specs.Reads.{read_of}
+use Rattle.map_engine.proofs.Unmoved.{holds_before, read_still, none_reported, told_still, told_unguarded}
 use Rattle.map_engine.proofs.next.unmoved.Goals as goal
 
 pub returns-then-not-guarded-clause-view : goal.returns-then-not-guarded-clause-view
 returns-then-not-guarded-clause-view c =
     let lists = c.args.standing.now in
     let none = c.if-not-guarded.true in
-    view_still lists.committed lists.present (forest c.args.tree.now) c.args.old.now c.args.old.now c.requires.old c.requires.alike refl
-    (c.requires.old.broken ∙ none_reported lists.committed (c.requires.unguarded_before none) ∙ sym (none_reported lists.present (c.requires.unguarded_now none)))
+    let f = forest c.args.tree.now in
+    let read = read_of c.args.view.now in
+    read_still lists.committed lists.present f read read (holds_before lists.committed lists.present f c.requires.alike c.requires.holds) c.requires.view c.requires.alike refl
+    (c.requires.view.broken ∙ none_reported lists.committed (c.requires.unguarded_before none) ∙ sym (none_reported lists.present (c.requires.unguarded_now none)))
 
 pub returns-then-not-guarded-clause-changes : goal.returns-then-not-guarded-clause-changes
 returns-then-not-guarded-clause-changes c =
@@ -24,13 +27,15 @@ returns-then-not-guarded-clause-changes c =
 pub returns-clause-view : goal.returns-clause-view
 returns-clause-view c =
     let lists = c.args.standing.now in
-    view_still lists.committed lists.present (forest c.args.tree.now) c.args.old.now (record c.args.old.now { reports = c.in_ok-reports.reports }) c.requires.old c.requires.alike refl c.in_ok-reports.ensures
+    let f = forest c.args.tree.now in
+    let read = read_of c.args.view.now in
+    read_still lists.committed lists.present f read (record read { reports = c.in_ok-reports.reports.items }) (holds_before lists.committed lists.present f c.requires.alike c.requires.holds) c.requires.view c.requires.alike refl c.in_ok-reports.ensures
 
 pub returns-clause-changes : goal.returns-clause-changes
 returns-clause-changes c =
     let lists = c.args.standing.now in
     let told = c.changes_of-changes-2.ensures in
-    let before = ap (λ (l : List Report). map report_of l) c.items.ensures ∙ c.requires.old.broken in
+    let before = ap (λ (l : List Report). map report_of l) c.items.ensures ∙ c.requires.view.broken in
     let now = ap (λ (l : List Report). map report_of l) c.items-2.ensures ∙ c.in_ok-reports.ensures in
     let differ = c.in_ok-broken.ensures.delta (built lists.committed) (built lists.present) before now refl in
     told_still lists.committed lists.present c.requires.alike c.changes_of-changes-2.result (told.erased ∙ c.requires.left_out) told.left told.entered told.loose told.clips

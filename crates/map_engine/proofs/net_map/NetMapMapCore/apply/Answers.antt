@@ -10,6 +10,7 @@ use Rattle.list_theory.specs.WellNamed.{IsWellNamed}
 use Rattle.projection.specs.Queues.{IsTooLarge}
 use Rattle.premise_list.specs.States.{States}
 use Rattle.revisions.specs.Alike.{SayAlike}
+use Rattle.revisions.specs.Ruling.{is_ruling}
 use Rattle.revisions.proofs.UnreadEdits.{unread_edit}
 use Rattle.map_engine.specs.Plain.{MapState}
 use Rattle.map_engine.specs.Stops.{StopsEdit}
@@ -48,6 +49,14 @@ draw_next-requires-clause-unread c = λ unread.
     (subst (λ (s : States). IsWellNamed s.present.premises) made c.in_ok-erased.ensures.network.sound.well_named) (sym c.is_unread.ensures ∙ unread) in
     subst (λ (s : States). SayAlike s.committed s.present) (sym made) (subst (λ (s : Standing). SayAlike s (next_list lists.present edit)) settled.list say)
 
+pub draw_next-requires-clause-ruling : goal.draw_next-requires-clause-ruling
+draw_next-requires-clause-ruling c =
+    let edit = c.args.edit.now in
+    let settled = c.self.invariant.settled (ap (λ (m : MapState). m.pending) c.self.view_is ∙ c.requires.idle) in
+    c.is_ruling.ensures
+    ∙ ap (λ (s : Standing). is_ruling s.premises edit) settled.list
+    ∙ ap (λ (s : States). is_ruling s.committed.premises edit) (sym c.in_ok-erased.ensures.list)
+
 pub draw_next-requires-clause-unguarded_now : goal.draw_next-requires-clause-unguarded_now
 draw_next-requires-clause-unguarded_now c =
     let m = c.self.inside in
@@ -65,7 +74,8 @@ invariant_of-self-in-Ok c =
     let m = c.self.inside in
     edited_map m.standing m.net m.nodes m.view m.guarded m.next c.self.invariant c.edited.new.standing c.args.edit.now c.in_ok-erased.ensures.list c.requires.well_formed
     c.edited.new.net c.in_ok-erased.ensures.committed c.may_guard-self-inside.result c.may_guard-self-inside.ensures (ap (λ (m : MapState). m.pending) c.self.view_is ∙ c.requires.idle)
-    c.draw_next.new.nodes c.in-Ok.next c.in_ok-erased.ensures.network c.in-Ok.ensures.nodes c.in-Ok.ensures.view c.in-Ok.ensures.last c.in-Ok.ensures.pending
+    c.draw_next.new.nodes c.draw_next.new.view c.in-Ok.next c.in_ok-erased.ensures.network c.in-Ok.ensures.nodes c.in-Ok.ensures.same c.in-Ok.ensures.view c.in-Ok.ensures.places
+    c.in-Ok.ensures.last c.in-Ok.ensures.pending
 
 pub returns-in-Ok-clause-accepted : goal.returns-in-Ok-clause-accepted
 returns-in-Ok-clause-accepted c =
@@ -108,7 +118,8 @@ invariant_of-self-in-Err-draw_next c =
     let idle = ap (λ (m : MapState). m.pending) c.self.view_is ∙ c.requires.idle in
     undone_map m.standing m.net m.nodes m.view m.guarded m.next c.self.invariant c.edited.new.standing c.args.edit.now c.in_ok-erased.ensures.list c.requires.well_formed
     c.edited.new.net c.in_ok-erased.ensures.committed c.may_guard-self-inside.result c.may_guard-self-inside.ensures idle
-    c.draw_next.new.nodes c.rollback.new.self c.roll_back.new.standing c.roll_back.new.net (is_nothing m.standing.present m.next idle) c.in-Err-draw_next.ensures.last
+    c.draw_next.new.nodes c.rollback.new.self c.draw_next.new.view c.roll_back.new.standing c.roll_back.new.net (is_nothing m.standing.present m.next idle)
+    c.in-Err-draw_next.ensures.same c.in-Err-draw_next.ensures.last
     c.roll_back.ensures.list c.roll_back.ensures.net c.rollback.ensures.nodes c.rollback.ensures.kept
 
 pub returns-in-Ok-clause-within : goal.returns-in-Ok-clause-within

@@ -1,0 +1,47 @@
+use Rattle.std.proofs.Common.{◌∙◌, List, ℕ, sym, ap, subst}
+use Rattle.tmm_model.specs.Maps.{built}
+use Rattle.belief_net.specs.Updating.{IsPending}
+use Rattle.occ_tree.specs.OfLists.{IsTreeOf}
+use Rattle.occ_tree.specs.Places.{forest}
+use Rattle.occ_tree.specs.Standing.{Kept, State, forest as forest_of}
+use Rattle.spots.specs.Forest.{IsOnce}
+use Rattle.spots.specs.Seen.{Holds}
+use Rattle.supports.specs.Edited.{old_forest}
+use Rattle.map_engine.specs.Nexts.{read_next}
+use Rattle.map_engine.specs.Reads.{IsReadOf, read_of}
+use Rattle.map_engine.specs.Touching.{IsToldOf}
+use Rattle.map_engine.proofs.ToldOf.{told_of}
+use Rattle.map_engine.proofs.moved.moved.Goals as goal
+
+pub roots_named-requires : goal.roots_named-requires
+roots_named-requires c = subst (λ (k : Kept). IsOnce (forest k)) (sym c.tree.ensures) c.requires.kept.fit.tree.seen.once
+
+pub update-requires-clause-pending : goal.update-requires-clause-pending
+update-requires-clause-pending c =
+    subst (λ (names : List (List ℕ)). IsPending c.args.standing.now c.args.net.now c.args.edit.now names) (sym c.items-2.ensures) c.requires.pending
+
+pub read-requires-clause-seen : goal.read-requires-clause-seen
+read-requires-clause-seen c = subst (IsTreeOf c.args.standing.now.present c.args.net.now.present) (sym c.tree-2.ensures) c.in_ok-told.ensures.ok.rests.fit.tree
+
+pub read-requires-clause-holds : goal.read-requires-clause-holds
+read-requires-clause-holds c =
+    subst (λ (k : Kept). Holds (built c.args.standing.now.present).believed (forest k)) (sym c.tree-2.ensures) c.in_ok-told.ensures.ok.current.holds
+
+pub read-requires-clause-told : goal.read-requires-clause-told
+read-requires-clause-told c =
+    let lists = c.args.standing.now in
+    let nets = c.args.net.now in
+    let erased = c.args.erased.items in
+    subst (λ (k : Kept). IsToldOf lists nets c.args.edit.now k c.in_ok-told.told c.as_slice.result.now) (sym c.tree-2.ensures)
+    (told_of lists nets c.args.edit.now erased c.args.nodes.now c.update.new.self c.args.counter.now c.update.new.counter c.in_ok-told.told c.as_slice.result.now
+    c.requires.kept c.requires.pending c.update.ensures.last c.in_ok-told.ensures.ok c.in_ok-told.ensures.numbered c.in_ok-told.ensures.roots
+    c.TODO)
+
+pub read-requires-clause-view : goal.read-requires-clause-view
+read-requires-clause-view c =
+    let list = c.args.standing.now.committed in
+    subst (λ (k : Kept). IsReadOf list (old_forest k) (read_of c.args.view.now)) (sym c.tree-2.ensures)
+    (subst (λ (s : State). IsReadOf list (forest_of s) (read_of c.args.view.now)) (sym (c.in_ok-told.ensures.last.tree ∙ c.requires.kept.tree)) c.requires.view)
+
+pub returns-clause-view : goal.returns-clause-view
+returns-clause-view c = c.TODO
