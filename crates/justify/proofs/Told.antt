@@ -6,7 +6,7 @@ use Rattle.std.specs.Option.{option_map, option_and_then}
 use Rattle.std.proofs.Math.Seq.{take-suc}
 use Rattle.std.proofs.lemmas.Grind.{flat_map-append}
 use Rattle.std.proofs.lemmas.List.{map_push}
-use Rattle.std.proofs.lemmas.List.Elements.{All-contains, Contains-get_or}
+use Rattle.std.proofs.lemmas.List.Elements.{All-contains, All-push, Contains-get_or}
 use Rattle.tmm_model.specs.declared.changes.WhyLine.{WhyLine}
 use Rattle.tmm_model.specs.declared.token.Shape.{Shape}
 use Rattle.tmm_model.specs.declared.token.Shape.TheVariants.{Event, Persistence, Span}
@@ -29,6 +29,7 @@ use Rattle.spots.proofs.Nodes.{moment_at-is}
 use Rattle.spots.proofs.Rows.{token_is}
 use Rattle.occ_tree.specs.declared.ranks.Ranked.{Ranked}
 use Rattle.justify.specs.Lines.{AddsOrders, AddsReasons}
+use Rattle.justify.specs.Shapes.{IsShapedLine, StayShaped}
 use Rattle.occ_tree.specs.Ranks.{nodes_of}
 
 AllZip-append : {A B : Type 0} (R : A → B → Type 0) (xs : List A) (us : List B) (ys : List A) (vs : List B) → AllZip R xs us → AllZip R ys vs → AllZip R (xs ++ ys) (us ++ vs)
@@ -36,6 +37,10 @@ AllZip-append R [] [] ys vs h g = g
 AllZip-append R [] (u ∷ us) ys vs h g = absurd h
 AllZip-append R (x ∷ xs) [] ys vs h g = absurd h
 AllZip-append R (x ∷ xs) (u ∷ us) ys vs h g = (h.0, AllZip-append R xs us ys vs h.1 g)
+
+-- one line more, told as a question names what it tells
+pub one_shaped : (lines new : List WhyLine) (line : WhyLine) → new ≡ lines ++ line ∷ [] → IsShapedLine line → StayShaped lines new
+one_shaped lines new line grown is all = subst (All IsShapedLine) (sym grown) (All-push IsShapedLine lines line all is)
 
 module _ (m : TimeMap) where
   pub no_orders : (lines : List WhyLine) → AddsOrders m [] lines lines

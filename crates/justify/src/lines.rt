@@ -1,13 +1,14 @@
 // The lines of occurrences.
-ghost use Rattle.std.specs.Prelude.{◌≡◌, [], ◌∷◌, ◌++◌, map, IfOk, OnOk};
+ghost use Rattle.std.specs.Prelude.{◌≡◌, [], ◌∷◌, ◌++◌, map, IsTrue, IfOk, OnOk};
 ghost use Rattle.std.specs.List.{All, flat_map};
 ghost use Rattle.tmm_model.specs.Maps.{built};
-ghost use Rattle.tmm_model.specs.Moments.{moment_of, moment_of_point};
+ghost use Rattle.tmm_model.specs.Moments.{is_derived, moment_of, moment_of_point};
 ghost use Rattle.tmm_model.specs.Reasons.{AreReasons, IsOrderLine, by_rule, pairs_of, reason_of};
 ghost use Rattle.spots.specs.Forest.{IsLive, moment_at};
 ghost use Rattle.spots.specs.Seen.{Holds};
 ghost use Rattle.spots.specs.Spots.{IsSpot, spot_moment};
 ghost use Rattle.justify.specs.Lines.{IsInOrder, AddsOrders, AddsReasons};
+ghost use Rattle.justify.specs.Shapes.{IsShapedLine, IsShapedPoint, StayShaped};
 ghost use Rattle.occ_tree.specs.Ranks.{nodes_of};
 ghost use Rattle.occ_tree.specs.OfLists.{IsTreeOf};
 ghost use Rattle.occ_tree.specs.Places.{forest};
@@ -32,7 +33,8 @@ pub(crate) fn lines_of(
     requires seen { IsTreeOf standing.now.present net.now.present tree.now }
     requires holds { Holds (built standing.now.present).believed (forest tree.now) }
     requires live { All (IsLive (forest tree.now)) (nodes_of ranked.now) }
-    ensures { IfOk result (λ lines. AreReasons (built standing.now.present) (map (moment_at (forest tree.now)) (nodes_of ranked.now)) (map reason_of lines.items)) }
+    ensures reasons { IfOk result (λ lines. AreReasons (built standing.now.present) (map (moment_at (forest tree.now)) (nodes_of ranked.now)) (map reason_of lines.items)) }
+    ensures shaped { IfOk result (λ lines. All IsShapedLine lines.items) }
 {
     let mut lines = Seq::make(alloc);
     for rank in ranked {
@@ -53,7 +55,8 @@ fn add_reasons(
     requires seen { IsTreeOf standing.now.present net.now.present tree.now }
     requires holds { Holds (built standing.now.present).believed (forest tree.now) }
     requires live { IsLive (forest tree.now) x }
-    ensures { OnOk result (AddsReasons (built standing.now.present) (moment_at (forest tree.now) x) lines.old.items lines.new.items) }
+    ensures reasons { OnOk result (AddsReasons (built standing.now.present) (moment_at (forest tree.now) x) lines.old.items lines.new.items) }
+    ensures shaped { OnOk result (StayShaped lines.old.items lines.new.items) }
 {
     match origin_of(tree, x) {
         Origin::Declared(name) => push(lines, WhyLine::Premise(name)),
@@ -78,7 +81,8 @@ fn derived_line(
     requires live { IsLive (forest tree.now) x }
     requires event { IsLive (forest tree.now) event }
     requires supports { All (IsLive (forest tree.now)) supports.now }
-    ensures { IfOk result (λ line. reason_of line ≡ by_rule (moment_at (forest tree.now) x) rule (moment_at (forest tree.now) event) (map (moment_at (forest tree.now)) supports.now)) }
+    ensures reason { IfOk result (λ line. reason_of line ≡ by_rule (moment_at (forest tree.now) x) rule (moment_at (forest tree.now) event) (map (moment_at (forest tree.now)) supports.now)) }
+    ensures shaped { IfOk result (λ line. IsTrue (is_derived (moment_at (forest tree.now) x)) → IsShapedLine line) }
 {
     Ok(WhyLine::Derived {
         occ: tree.occ_of(alloc, x)?,
@@ -117,7 +121,8 @@ fn add_orders(
     requires event { IsLive (forest tree.now) event }
     requires supports { All (IsLive (forest tree.now)) supports.now }
     requires in_order { All (λ x. All (IsInOrder (built standing.now.present)) (pairs_of (built standing.now.present) (moment_at (forest tree.now) event) (moment_at (forest tree.now) x))) supports.now }
-    ensures { OnOk result (AddsOrders (built standing.now.present) (flat_map (pairs_of (built standing.now.present) (moment_at (forest tree.now) event)) (map (moment_at (forest tree.now)) supports.now)) lines.old.items lines.new.items) }
+    ensures orders { OnOk result (AddsOrders (built standing.now.present) (flat_map (pairs_of (built standing.now.present) (moment_at (forest tree.now) event)) (map (moment_at (forest tree.now)) supports.now)) lines.old.items lines.new.items) }
+    ensures shaped { OnOk result (StayShaped lines.old.items lines.new.items) }
 {
     for x in supports {
         add_orders_of(alloc, standing, tree, net, event, *x, lines)?;
@@ -140,7 +145,8 @@ fn add_orders_of(
     requires event { IsLive (forest tree.now) event }
     requires live { IsLive (forest tree.now) x }
     requires in_order { All (IsInOrder (built standing.now.present)) (pairs_of (built standing.now.present) (moment_at (forest tree.now) event) (moment_at (forest tree.now) x)) }
-    ensures { OnOk result (AddsOrders (built standing.now.present) (pairs_of (built standing.now.present) (moment_at (forest tree.now) event) (moment_at (forest tree.now) x)) lines.old.items lines.new.items) }
+    ensures orders { OnOk result (AddsOrders (built standing.now.present) (pairs_of (built standing.now.present) (moment_at (forest tree.now) event) (moment_at (forest tree.now) x)) lines.old.items lines.new.items) }
+    ensures shaped { OnOk result (StayShaped lines.old.items lines.new.items) }
 {
     let at = Spot::Node(event);
     add_order(alloc, standing, tree, net, Spot::Node(x), at, lines)?;
@@ -164,7 +170,8 @@ fn add_order(
     requires first { IsSpot net.now.present.names (forest tree.now) first }
     requires second { IsSpot net.now.present.names (forest tree.now) second }
     requires in_order { IsInOrder (built standing.now.present) (spot_moment net.now.present.names (forest tree.now) first, spot_moment net.now.present.names (forest tree.now) second) }
-    ensures { OnOk result (AddsOrders (built standing.now.present) ((spot_moment net.now.present.names (forest tree.now) first, spot_moment net.now.present.names (forest tree.now) second) ∷ []) lines.old.items lines.new.items) }
+    ensures orders { OnOk result (AddsOrders (built standing.now.present) ((spot_moment net.now.present.names (forest tree.now) first, spot_moment net.now.present.names (forest tree.now) second) ∷ []) lines.old.items lines.new.items) }
+    ensures shaped { OnOk result (StayShaped lines.old.items lines.new.items) }
 {
     push(
         lines,
@@ -185,7 +192,8 @@ fn order_line(
     requires first { IsSpot net.now.present.names (forest tree.now) first }
     requires second { IsSpot net.now.present.names (forest tree.now) second }
     requires in_order { IsInOrder (built standing.now.present) (spot_moment net.now.present.names (forest tree.now) first, spot_moment net.now.present.names (forest tree.now) second) }
-    ensures { IfOk result (λ line. IsOrderLine (built standing.now.present) (spot_moment net.now.present.names (forest tree.now) first, spot_moment net.now.present.names (forest tree.now) second) (reason_of line)) }
+    ensures order { IfOk result (λ line. IsOrderLine (built standing.now.present) (spot_moment net.now.present.names (forest tree.now) first, spot_moment net.now.present.names (forest tree.now) second) (reason_of line)) }
+    ensures shaped { IfOk result IsShapedLine }
 {
     let bound = tree.far(net, second, first);
     let steps = steps_between(alloc, standing, tree, net, second, first, bound)?;
@@ -203,7 +211,8 @@ fn order_line(
 // A spot as a question names it.
 fn point_at(alloc: Global, tree: &Tree, net: &DistNet, spot: Spot) -> Result<QueryPoint, NoMemory>
     requires { IsSpot net.now.present.names (forest tree.now) spot }
-    ensures { IfOk result (λ point. moment_of_point point ≡ spot_moment net.now.present.names (forest tree.now) spot) }
+    ensures moment { IfOk result (λ point. moment_of_point point ≡ spot_moment net.now.present.names (forest tree.now) spot) }
+    ensures shaped { IfOk result IsShapedPoint }
 {
     match spot {
         Spot::Declared(p) => Ok(QueryPoint::Declared(net.name_of(p).unwrap_or(PointName::Start))),

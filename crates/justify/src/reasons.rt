@@ -1,5 +1,6 @@
 // The reasons of an occurrence.
 ghost use Rattle.std.specs.Prelude.{◌≡◌, None, map, IfOk, IfErr};
+ghost use Rattle.std.specs.List.{All};
 ghost use Rattle.tmm_model.specs.Lines.{IsWellFormedOcc};
 ghost use Rattle.tmm_model.specs.Maps.{built};
 ghost use Rattle.tmm_model.specs.Moments.{moment_of};
@@ -9,6 +10,7 @@ ghost use Rattle.spots.specs.Forest.{IsLive, moment_at};
 ghost use Rattle.spots.specs.Seen.{Holds};
 ghost use Rattle.occ_tree.specs.OfLists.{IsTreeOf};
 ghost use Rattle.occ_tree.specs.Places.{forest};
+ghost use Rattle.justify.specs.Shapes.{IsShapedLine};
 ghost use Rattle.justify.specs.Stops.{StopsReasons};
 
 use crate::lines::lines_of;
@@ -35,6 +37,7 @@ pub fn why(
     requires well_formed { IsWellFormedOcc occ.now }
     ensures known { IfOk result (λ lines. why_cause (built standing.now.present) occ.now occ.now.rules.items ≡ None) }
     ensures reasons { IfOk result (λ lines. IsWhy (built standing.now.present) (moment_of occ.now) (map reason_of lines.items)) }
+    ensures shaped { IfOk result (λ lines. All IsShapedLine lines.items) }
     ensures stops { IfErr result (StopsReasons (built standing.now.present) occ.now) }
 {
     let x = resolve_why(alloc, standing, tree, occ)?;
@@ -55,7 +58,8 @@ fn reasons_of(
     requires seen { IsTreeOf standing.now.present net.now.present tree.now }
     requires holds { Holds (built standing.now.present).believed (forest tree.now) }
     requires live { IsLive (forest tree.now) x }
-    ensures { IfOk result (λ lines. IsWhy (built standing.now.present) (moment_at (forest tree.now) x) (map reason_of lines.items)) }
+    ensures reasons { IfOk result (λ lines. IsWhy (built standing.now.present) (moment_at (forest tree.now) x) (map reason_of lines.items)) }
+    ensures shaped { IfOk result (λ lines. All IsShapedLine lines.items) }
 {
     let found = upholders(alloc, standing, tree, net, x)?;
     let ranked = in_order(alloc, &Order { tree, net }, found.as_slice())?;

@@ -26,6 +26,9 @@ loop-x-preserved c =
     let i = c.loop-x.x-index in
     let x = get_or c.args.supports.now i 0 in
     let xs = c.args.supports.now in
-    subst (λ (ps : List (Moment × Moment)). AddsOrders m ps c.args.lines.now.items c.add_orders_of.new.lines.items) (sym (flat_more (moment_at f) (pairs_of m t) xs i 0 c.loop-x-test.true))
-    (more_orders m (flat_map (pairs_of m t) (map (moment_at f) (take i xs))) (pairs_of m t (moment_at f x)) c.args.lines.now.items c.loop-x.lines.items c.add_orders_of.new.lines.items
-    c.loop-x.invariant c.in_ok-add_orders_of.ensures)
+    record {
+      orders = subst (λ (ps : List (Moment × Moment)). AddsOrders m ps c.args.lines.now.items c.add_orders_of.new.lines.items) (sym (flat_more (moment_at f) (pairs_of m t) xs i 0 c.loop-x-test.true))
+          (more_orders m (flat_map (pairs_of m t) (map (moment_at f) (take i xs))) (pairs_of m t (moment_at f x)) c.args.lines.now.items c.loop-x.lines.items c.add_orders_of.new.lines.items
+          c.loop-x.invariant.orders c.in_ok-add_orders_of.ensures.orders);
+      shaped = λ all. c.in_ok-add_orders_of.ensures.shaped (c.loop-x.invariant.shaped all);
+    }

@@ -5,8 +5,11 @@ use Rattle.tmm_model.specs.Reasons.{pairs_of}
 use Rattle.spots.specs.Forest.{moment_at}
 use Rattle.occ_tree.specs.Places.{forest}
 use Rattle.justify.specs.Lines.{AddsOrders}
+use Rattle.justify.specs.Shapes.{StayShaped}
 use Rattle.justify.proofs.lines.add_orders.Given as goal
 
 abbrev pub invariant-loop-x : goal.invariant-loop-x
-invariant-loop-x l =
-    AddsOrders (built l.standing.present) (flat_map (pairs_of (built l.standing.present) (moment_at (forest l.tree) l.event)) (map (moment_at (forest l.tree)) (take l.x-index l.supports))) l.fn.lines.items l.lines.items
+invariant-loop-x l = record {
+  orders : AddsOrders (built l.standing.present) (flat_map (pairs_of (built l.standing.present) (moment_at (forest l.tree) l.event)) (map (moment_at (forest l.tree)) (take l.x-index l.supports))) l.fn.lines.items l.lines.items;
+  shaped : StayShaped l.fn.lines.items l.lines.items;
+}

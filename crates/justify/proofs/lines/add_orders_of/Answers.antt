@@ -43,8 +43,8 @@ add_order-requires-in-Some-clause-in_order c =
     let last : Moment × Moment = (t, spot_moment net.names f (Declared c.in-Some.end)) in
     All-head (IsInOrder (built s)) last [] (All-tail (IsInOrder (built s)) (k, t) (last ∷ []) both)
 
-pub returns-in-Some : goal.returns-in-Some
-returns-in-Some c =
+pub returns-in-Some-clause-orders : goal.returns-in-Some-clause-orders
+returns-in-Some-clause-orders c =
     let s = c.args.standing.now.present in
     let net = c.args.net.now.present in
     let f = forest c.args.tree.now in
@@ -58,15 +58,18 @@ returns-in-Some c =
     on_ok_weaker c.add_order-in-Some.result
     (λ second.
     subst (λ (ps : List (Moment × Moment)). AddsOrders (built s) ps old new) (sym (pairs_are s net f c.requires.seen.seen c.args.x m here t (Some c.in-Some.end) ends))
-    (more_orders (built s) ((k, t) ∷ []) ((t, spot_moment net.names f (Declared c.in-Some.end)) ∷ []) old mid new c.in_ok-add_order.ensures second))
-    c.add_order-in-Some.ensures
+    (more_orders (built s) ((k, t) ∷ []) ((t, spot_moment net.names f (Declared c.in-Some.end)) ∷ []) old mid new c.in_ok-add_order.ensures.orders second))
+    c.add_order-in-Some.ensures.orders
 
-pub returns-in-None : goal.returns-in-None
-returns-in-None c =
+pub returns-in-Some-clause-shaped : goal.returns-in-Some-clause-shaped
+returns-in-Some-clause-shaped c = on_ok_weaker c.add_order-in-Some.result (λ second all. second (c.in_ok-add_order.ensures.shaped all)) c.add_order-in-Some.ensures.shaped
+
+pub returns-in-None-clause-orders : goal.returns-in-None-clause-orders
+returns-in-None-clause-orders c =
     let s = c.args.standing.now.present in
     let net = c.args.net.now.present in
     let f = forest c.args.tree.now in
     let (m, here) = node_at f c.args.x c.requires.live in
     let ends = sym (c.row.ensures m here).end ∙ c.in-None.is in
     subst (λ (ps : List (Moment × Moment)). AddsOrders (built s) ps c.args.lines.now.items c.add_order.new.lines.items)
-    (sym (pairs_are s net f c.requires.seen.seen c.args.x m here (moment_at f c.args.event) None ends)) c.in_ok-add_order.ensures
+    (sym (pairs_are s net f c.requires.seen.seen c.args.x m here (moment_at f c.args.event) None ends)) c.in_ok-add_order.ensures.orders

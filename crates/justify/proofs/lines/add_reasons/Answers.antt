@@ -1,7 +1,8 @@
-use Rattle.std.proofs.Common.{◌∙◌, List, map, ap, subst}
+use Rattle.std.proofs.Common.{◌∙◌, List, map, ap, subst, rules}
 use Rattle.std.specs.List.{All, Contains}
+use Rattle.std.proofs.lemmas.Result.{on_ok_weaker}
 use Rattle.tmm_model.specs.Maps.{built}
-use Rattle.tmm_model.specs.Moments.{Moment}
+use Rattle.tmm_model.specs.Moments.{Moment, is_derived}
 use Rattle.tmm_model.specs.Reasons.{pairs_of}
 use Rattle.walk_theory.proofs.Members.{All-from_contains, Contains-map}
 use Rattle.spots.specs.Forest.{moment_at}
@@ -9,6 +10,7 @@ use Rattle.occ_tree.specs.Places.{forest}
 use Rattle.justify.specs.Lines.{IsInOrder}
 use Rattle.justify.proofs.Origins.{rule_at}
 use Rattle.justify.proofs.Supported.{supports_in_order}
+use Rattle.justify.proofs.Told.{one_shaped}
 use Rattle.justify.proofs.lines.add_reasons.Goals as goal
 
 pub supports_at-supports-requires-clause-rule : goal.supports_at-supports-requires-clause-rule
@@ -25,3 +27,14 @@ add_orders-requires-clause-in_order c =
     (λ x at.
     supports_in_order s t c.in-Effect.rule (moment_at f x)
     (subst (λ (l : List Moment). Contains l (moment_at f x)) (ap (map (moment_at f)) c.as_slice-nodes.ensures.value ∙ c.supports_at-supports.ensures.first) (Contains-map (moment_at f) nodes x at)))
+
+pub returns-in-Declared-clause-shaped : goal.returns-in-Declared-clause-shaped
+returns-in-Declared-clause-shaped c = search (rules, on_ok_weaker, one_shaped)
+
+pub returns-in_ok-derived_line-in-Effect-clause-shaped : goal.returns-in_ok-derived_line-in-Effect-clause-shaped
+returns-in_ok-derived_line-in-Effect-clause-shaped c =
+    let line = c.in_ok-derived_line-in-Effect.field-0 in
+    let is = c.in_ok-derived_line-in-Effect.ensures.shaped (ap is_derived c.in-Effect.ensures.1) in
+    on_ok_weaker c.push-in-Effect.result
+    (λ grown all. one_shaped c.add_orders.new.lines.items c.push-in-Effect.new.lines.items line grown is (c.in_ok-add_orders-in-Effect.ensures.shaped all))
+    c.push-in-Effect.ensures

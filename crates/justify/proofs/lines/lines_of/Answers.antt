@@ -9,5 +9,8 @@ add_reasons-requires-clause-live c =
 
 pub loop-rank-preserved : goal.loop-rank-preserved
 loop-rank-preserved c =
-    more_ranked (built c.args.standing.now.present) (forest c.args.tree.now) c.args.ranked.now c.loop-rank.rank-index _ c.loop-rank-test.true
-    c.loop-rank.lines.items c.add_reasons.new.lines.items c.loop-rank.invariant c.in_ok-add_reasons.ensures
+    record {
+      reasons = more_ranked (built c.args.standing.now.present) (forest c.args.tree.now) c.args.ranked.now c.loop-rank.rank-index _ c.loop-rank-test.true
+          c.loop-rank.lines.items c.add_reasons.new.lines.items c.loop-rank.invariant.reasons c.in_ok-add_reasons.ensures.reasons;
+      shaped = c.in_ok-add_reasons.ensures.shaped c.loop-rank.invariant.shaped;
+    }

@@ -24,16 +24,16 @@ unreachable-requires c =
     let never : true ≡ false = sym c.requires.in_order ∙ ap (λ d. bound_at_most d (pos 0)) (sym exact ∙ c.in-Free.is) in
     cc
 
-pub returns : goal.returns
-returns c =
+pub returns-clause-order : goal.returns-clause-order
+returns-clause-order c =
     let s = c.args.standing.now.present in
     let net = c.args.net.now.present in
     let f = forest c.args.tree.now in
     let exact = c.far-bound.ensures.exact ∙ distance_is s net f c.requires.seen.seen c.args.second c.args.first c.requires.second c.requires.first in
     let fits : FitsSigned w64 c.in-Finite.far = search rules in
     let far = to_z-of_z w64 c.in-Finite.far fits in
-    let first = c.in_ok-point_at-in-Finite.ensures in
-    let second = c.in_ok-point_at-in-Finite-2.ensures in
+    let first = c.in_ok-point_at-in-Finite.ensures.moment in
+    let second = c.in_ok-point_at-in-Finite-2.ensures.moment in
     let steps = c.in_ok-steps.steps.items in
     record {
       far = c.in-Finite.far;

@@ -20,8 +20,8 @@ lines_of-requires-clause-live c =
     subst (λ (ps : List Ranked). All (IsLive f) (nodes_of ps)) (sym c.as_slice-2.ensures.value)
     (All-permutation (IsLive f) keys (nodes_of ranked) (subst (λ (l : List ℕ). IsPermutation l (nodes_of ranked)) c.as_slice.ensures.keys c.in_ok-ranked.ensures.same) c.in_ok-found.ensures.live)
 
-pub returns : goal.returns
-returns c =
+pub returns-clause-reasons : goal.returns-clause-reasons
+returns-clause-reasons c =
     let s = c.args.standing.now.present in
     let f = forest c.args.tree.now in
     let keys = c.in_ok-found.found.keys in
@@ -34,4 +34,4 @@ returns c =
     (subst (λ (l : List ℕ). IsPermutation l (nodes_of ranked)) c.as_slice.ensures.keys c.in_ok-ranked.ensures.same) c.in_ok-ranked.ensures.in_order
     (map reason_of lines.items)
     (subst (λ (ps : List Ranked). AreReasons (built s) (map (moment_at f) (nodes_of ps)) (map reason_of lines.items)) c.as_slice-2.ensures.value told))
-    c.lines_of.ensures
+    c.lines_of.ensures.reasons
