@@ -106,7 +106,7 @@ module _ (lists : States) (nets : Nets) (edit : Edit) (tree : Kept) (told : Told
           let begins : At p ≡ At (Begin m.root) = ap At (sym (ap base is) ∙ ap base (moment_at-is g x m here) ∙ base-moment m) in
           let named : name_of premise ≡ m.root = root_named premise m.root (of ∙ ap Some begins) in
           let has : HasNodeOf g (At (Begin (name_of premise))) numbers =
-          subst (λ (e : Edit). MatchOption (name_added e) (Unit {0}) (λ name. HasNodeOf g (At (Begin name)) numbers)) is_add takes.added in
+          subst (λ (e : Edit). MatchOption (name_added e) (Unit {0}) (λ name. HasNodeOf g (At (Begin name)) numbers)) is_add takes.root in
           has x live (is ∙ begins ∙ ap (λ name. At (Begin name)) (sym named))
 
   has_entered : (x : ℕ) → IsLive g x → member f x ≡ None → (k : Moment) → moment_at g x ≡ k → Contains numbers x
@@ -123,7 +123,7 @@ module _ (lists : States) (nets : Nets) (edit : Edit) (tree : Kept) (told : Told
   root_gone x live none m here root (At p) is =
       let begins : At p ≡ At (Begin m.root) = ap At (sym (ap base is) ∙ ap base (moment_at-is f x m here) ∙ base-moment m) in
       let occurs : Contains (roots old) (At (Begin m.root)) =
-      subst (Contains (roots old)) (sym (moment_at-is f x m here) ∙ is ∙ begins) (subst (Occurs old) refl (root_occurs)) in
+      subst (Contains (roots old)) (sym (moment_at-is f x m here) ∙ is ∙ begins) root_occurs in
       let (premise, there, of) = In-filter_map root_of old.premises (At (Begin m.root)) (In-from_Contains (roots old) (At (Begin m.root)) occurs) in
       let stood : premise_in old.premises m.root ≡ Some premise = subst (λ n. premise_in old.premises n ≡ Some premise) (root_named premise m.root of) (found old.premises sound_old.well_named premise there) in
       by (premise_in new.premises m.root) refl (ap (λ (o : Option Premise). is_some o) stood) (is ∙ begins)
@@ -136,7 +136,7 @@ module _ (lists : States) (nets : Nets) (edit : Edit) (tree : Kept) (told : Told
           by_moment (After t r) e derived = (let never : true ≡ false = sym (ap is_derived e) ∙ derived in absurd (cc))
 
       by : (o : Option Premise) → premise_in new.premises m.root ≡ o → IsSome (premise_in old.premises m.root) → moment_at f x ≡ At (Begin m.root) → Contains numbers x
-      by None e was k_is = takes.others x (h.gone m.root was (subst (λ (o : Option Premise). IsNone o) (sym e) refl) x live k_is)
+      by None e was k_is = takes.beside x (h.erased m.root was (subst (λ (o : Option Premise). IsNone o) (sym e) refl) x live k_is)
       by (Some q) e was k_is =
           let stands : Stands new (moment_at f x) = subst (Stands new) (sym k_is) (ap (λ (o : Option Premise). is_some o) e) in
           let (n, now) = node_at g x (h.roots x live root stands) in

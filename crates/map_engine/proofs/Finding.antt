@@ -1,12 +1,14 @@
 -- The numbers of nodes that are looked for.
 use Rattle.std.proofs.Common.{◌≡◌, ◌∙◌, ℕ, List, [], ◌∷◌, ◌++◌, sym, subst, inl, inr}
-use Rattle.std.specs.Prelude.{◌⊎◌, ◌≢◌}
+use Rattle.std.specs.Prelude.{◌⊎◌, ◌≢◌, Option, None, MatchOption, Some, Result, Ok, Err, OnOk}
 use Rattle.std.specs.List.{Contains}
-use Rattle.tmm_model.specs.Moments.{Moment}
+use Rattle.tmm_model.specs.declared.point.PointName.TheVariants.{Begin}
+use Rattle.tmm_model.specs.Moments.{Moment, At}
 use Rattle.list_theory.proofs.Elements.{In, In-cases}
 use Rattle.spots.specs.Forest.{Forest, Member, member, moment, IsOnce}
 use Rattle.spots.proofs.Nodes.{node_at, moment_at-is}
-use Rattle.map_engine.specs.Touching.{HasNodeOf}
+use Rattle.belief_net.specs.declared.told.Told.{Told}
+use Rattle.map_engine.specs.Touching.{HasNodeOf, TakesIn}
 
 -- the node of an occurrence is the only one
 pub found_node : (f : Forest) (k : Moment) (x : ℕ) (m : Member) (numbers : List ℕ) → IsOnce f → member f x ≡ Some m → moment m ≡ k → Contains numbers x → HasNodeOf f k numbers
@@ -28,3 +30,22 @@ in_more front more x y is at = elim (In-cases front (y ∷ []) x (subst (In x) i
   | inl there ↦ inl there
   | inr here ↦ elim here [ inl same ↦ inr same | inr none ↦ absurd none ]
 ]
+
+-- what is said of success follows from what was said of it
+pub on_ok : {T E : Type 0} (P Q : Type 0) → (P → Q) → (r : Result T E) → OnOk r P → OnOk r Q
+on_ok P Q step (Ok x) p = step p
+on_ok P Q step (Err e) p = p
+
+-- more numbers take in what some do
+pub takes_more : (f : Forest) (told : Told) (added : Option (List ℕ)) (others numbers more : List ℕ) → ((x : ℕ) → Contains numbers x → Contains more x)
+    → TakesIn f told added others numbers → TakesIn f told added others more
+takes_more f told added others numbers more kept takes = record {
+  entered = λ k at x live is. kept x (takes.entered k at x live is);
+  left = λ x k at. kept x (takes.left x k at);
+  root = root added takes.root;
+  beside = λ x at. kept x (takes.beside x at);
+}
+  where
+    root : (o : Option (List ℕ)) → MatchOption o (Unit {0}) (λ name. HasNodeOf f (At (Begin name)) numbers) → MatchOption o (Unit {0}) (λ name. HasNodeOf f (At (Begin name)) more)
+    root None free = free
+    root (Some name) has = λ x live is. kept x (has x live is)

@@ -61,7 +61,7 @@ told_of lists nets edit erased b b_after before count told gone kept pending las
   tells = updated.tells;
   numbers = numbers;
   roots = spares;
-  gone = λ name was out x live is.
+  erased = λ name was out x live is.
       named name (is_left_out lists.committed lists.present erased pending.left_out name was out) x
       (subst (λ (s : State). IsLive (forest_of s) x) (sym same) live)
       (ap (λ (s : State). moment_at (forest_of s) x) same ∙ is);

@@ -30,8 +30,8 @@ entered_of told = map (λ m. moment_of m.occ) told.entered.items
 pub record TakesIn (f : Forest) (told : Told) (added : Option (List ℕ)) (others numbers : List ℕ) : Type 0 where
   pub entered : (k : Moment) → In k (entered_of told) → HasNodeOf f k numbers
   pub left : (x : ℕ) (k : Moment) → In (x, k) (left_under told.left.items) → Contains numbers x
-  pub added : MatchOption added (Unit {0}) (λ name. HasNodeOf f (At (Begin name)) numbers)
-  pub others : (x : ℕ) → Contains others x → Contains numbers x
+  pub root : MatchOption added (Unit {0}) (λ name. HasNodeOf f (At (Begin name)) numbers)
+  pub beside : (x : ℕ) → Contains others x → Contains numbers x
 
 -- The update of the edit told these occurrences as entered and left: list, network and nodes are those before and after it; the
 -- derived occurrences that are told are those that changed, and what left is told under its numbers; a root that stands stays;
@@ -41,5 +41,5 @@ pub record IsToldOf (lists : States) (nets : Nets) (edit : Edit) (tree : Kept) (
   pub tells : TellsAll lists.committed lists.present (ins told) (outs told)
   pub numbers : KeepsNumbers tree (left_under told.left.items)
   pub roots : SparesRoots lists.present tree
-  pub gone : (name : List ℕ) → IsSome (premise_in lists.committed.premises name) → IsNone (premise_in lists.present.premises name)
+  pub erased : (name : List ℕ) → IsSome (premise_in lists.committed.premises name) → IsNone (premise_in lists.present.premises name)
       → HasNodeOf (old_forest tree) (At (Begin name)) gone

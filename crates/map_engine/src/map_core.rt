@@ -1,6 +1,7 @@
 // What the program asks of a map.
 ghost use Rattle.std.specs.Prelude.{◌≡◌, ◌≤◌, None, Some, map, IsTrue, IfOk, IfErr, OnErr};
 ghost use Rattle.std.specs.declared.option.Option.{Option};
+ghost use Rattle.std.specs.List.{All};
 ghost use Rattle.tmm_model.specs.Answers.{ask, finding_of, reports, report_of, rows, row_of, size};
 ghost use Rattle.tmm_model.specs.Bounds.{bound_negated};
 ghost use Rattle.tmm_model.specs.Changes.{changes, delta_of};
@@ -13,6 +14,7 @@ ghost use Rattle.tmm_model.specs.Paths.{GivesPath};
 ghost use Rattle.tmm_model.specs.Questions.{query_cause};
 ghost use Rattle.tmm_model.specs.Reasons.{IsWhy, reason_of};
 ghost use Rattle.tmm_model.specs.Standing.{Standing as List};
+ghost use Rattle.justify.specs.Shapes.{IsShapedLine};
 ghost use Rattle.map_engine.specs.Stops.{StopsEdit, StopsQuery};
 
 use premise_list::Standing;
@@ -100,13 +102,15 @@ pub trait MapCore {
         ensures answer { IfOk result (λ answer. finding_of answer ≡ ask (built (list self.now)) fact (moment_of_point p.now) (moment_of_point q.now)) }
         ensures stops { IfErr result (StopsQuery (list self.now) (Query.Ask fact p.now q.now)) };
 
-    /// The reasons of a declared or derived occurrence: all that it rests on, each before what rests on it.
+    /// The reasons of a declared or derived occurrence: all that it rests on, each before what rests on it, and
+    /// each point told as a question names it.
     /// A word with a cause against it is refused; without memory it answers that.
     fn why(&self, alloc: Global, occ: &Occ) -> Result<Seq<WhyLine>, Stop>
         requires idle { pending self.now ≡ None }
         requires well_formed { IsWellFormedQuery (Query.Why occ.now) }
         ensures known { IfOk result (λ lines. query_cause (built (list self.now)) (Query.Why occ.now) ≡ None) }
         ensures reasons { IfOk result (λ lines. IsWhy (built (list self.now)) (moment_of occ.now) (map reason_of lines.items)) }
+        ensures shaped { IfOk result (λ lines. All IsShapedLine lines.items) }
         ensures stops { IfErr result (StopsQuery (list self.now) (Query.Why occ.now)) };
 
     /// The broken protections, in the order of premises. Without memory it answers that.

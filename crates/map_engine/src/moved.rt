@@ -71,6 +71,8 @@ pub(crate) fn moved(
     ensures least { OnOk result (counted counter.old (changed standing.now.committed standing.now.present) ≤ counter.new) }
     ensures last { KeepLast nodes.old nodes.new }
 {
+    // it tells the proof that no count is above the greatest
+    let _ = counter.value();
     let Ok(gone) = roots_named(alloc, nodes.tree(), erased.items()) else {
         return Err(Stop::NoMemory);
     };

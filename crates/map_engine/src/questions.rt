@@ -1,6 +1,7 @@
 // Questions of points, and of an occurrence.
 ghost use Rattle.std.specs.Prelude.{◌≡◌, None, map, IfOk, IfErr};
 ghost use Rattle.tmm_model.specs.declared.line.Query.TheVariants.{Bounds as BoundsLine, Path as PathLine, Ask as AskLine, Why as WhyQuery};
+ghost use Rattle.std.specs.List.{All};
 ghost use Rattle.tmm_model.specs.Answers.{ask, finding_of};
 ghost use Rattle.tmm_model.specs.Bounds.{bound_negated};
 ghost use Rattle.tmm_model.specs.Lines.{IsWellFormedQueryPoint, IsWellFormedOcc};
@@ -13,6 +14,7 @@ ghost use Rattle.spots.specs.Seen.{IsSeen, Holds};
 ghost use Rattle.spots.specs.Spots.{IsSpot, spot_moment};
 ghost use Rattle.occ_tree.specs.OfLists.{IsTreeOf};
 ghost use Rattle.occ_tree.specs.Places.{forest};
+ghost use Rattle.justify.specs.Shapes.{IsShapedLine};
 ghost use Rattle.map_engine.specs.Questions.{points_cause, StopsPoints};
 ghost use Rattle.map_engine.specs.Stops.{StopsQuery};
 
@@ -137,6 +139,7 @@ pub(crate) fn why_of(
     requires well_formed { IsWellFormedOcc occ.now }
     ensures known { IfOk result (λ lines. query_cause (built standing.now.present) (WhyQuery occ.now) ≡ None) }
     ensures reasons { IfOk result (λ lines. IsWhy (built standing.now.present) (moment_of occ.now) (map reason_of lines.items)) }
+    ensures shaped { IfOk result (λ lines. All IsShapedLine lines.items) }
     ensures stops { IfErr result (StopsQuery standing.now.present (WhyQuery occ.now)) }
 {
     why(alloc, standing, net, tree, occ)

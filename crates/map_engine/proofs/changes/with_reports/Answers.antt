@@ -5,7 +5,7 @@ use Rattle.map_engine.proofs.changes.with_reports.Goals as goal
 
 pub returns : goal.returns
 returns c = λ list old new between left_out.
-    let reported = c.in_ok-broken.ensures.delta (built list) (built c.args.standing.now.present) old new refl in
+    let reported = c.in_ok-broken.ensures (built list) (built c.args.standing.now.present) old new refl in
     told list c.args.standing.now.present
     (record {
       erased = c.args.erased;

@@ -1,5 +1,8 @@
-use Rattle.std.proofs.Common.{◌∙◌, List, ℕ, sym, ap, subst}
+use Rattle.std.proofs.Common.{◌∙◌, List, ℕ, IfOk, sym, subst}
+use Rattle.tmm_model.specs.declared.point.PointName.TheVariants.{Begin}
 use Rattle.tmm_model.specs.Maps.{built}
+use Rattle.tmm_model.specs.Moments.{At}
+use Rattle.list_theory.proofs.Elements.{In}
 use Rattle.belief_net.specs.Updating.{IsPending}
 use Rattle.occ_tree.specs.OfLists.{IsTreeOf}
 use Rattle.occ_tree.specs.Places.{forest}
@@ -9,7 +12,7 @@ use Rattle.spots.specs.Seen.{Holds}
 use Rattle.supports.specs.Edited.{old_forest}
 use Rattle.map_engine.specs.Nexts.{read_next}
 use Rattle.map_engine.specs.Reads.{IsReadOf, read_of}
-use Rattle.map_engine.specs.Touching.{IsToldOf}
+use Rattle.map_engine.specs.Touching.{HasNodeOf, IsToldOf}
 use Rattle.map_engine.proofs.ToldOf.{told_of}
 use Rattle.map_engine.proofs.moved.moved.Goals as goal
 
@@ -35,7 +38,9 @@ read-requires-clause-told c =
     subst (λ (k : Kept). IsToldOf lists nets c.args.edit.now k c.in_ok-told.told c.as_slice.result.now) (sym c.tree-2.ensures)
     (told_of lists nets c.args.edit.now erased c.args.nodes.now c.update.new.self c.args.counter.now c.update.new.counter c.in_ok-told.told c.as_slice.result.now
     c.requires.kept c.requires.pending c.update.ensures.last c.in_ok-told.ensures.ok c.in_ok-told.ensures.numbered c.in_ok-told.ensures.roots
-    c.TODO)
+    (λ name at.
+    subst (HasNodeOf (forest c.args.nodes.now.tree) (At (Begin name))) (sym c.as_slice.ensures.value)
+    (subst (λ (k : Kept). HasNodeOf (forest k) (At (Begin name)) c.in-Ok.gone.items) c.tree.ensures (c.in-Ok.ensures name (subst (In name) (sym c.items.ensures) at)))))
 
 pub read-requires-clause-view : goal.read-requires-clause-view
 read-requires-clause-view c =
@@ -43,5 +48,7 @@ read-requires-clause-view c =
     subst (λ (k : Kept). IsReadOf list (old_forest k) (read_of c.args.view.now)) (sym c.tree-2.ensures)
     (subst (λ (s : State). IsReadOf list (forest_of s) (read_of c.args.view.now)) (sym (c.in_ok-told.ensures.last.tree ∙ c.requires.kept.tree)) c.requires.view)
 
+
 pub returns-clause-view : goal.returns-clause-view
-returns-clause-view c = c.TODO
+returns-clause-view c =
+    subst (λ (k : Kept). IfOk c.read.result (λ made. IsReadOf c.args.standing.now.present (forest k) (read_next c.read.new.view made.0))) c.tree-2.ensures c.read.ensures.view

@@ -1,6 +1,47 @@
-use Rattle.std.proofs.Common.{◌∙◌, sym, ap, subst}
+use Rattle.std.proofs.Common.{◌≡◌, ◌∙◌, ◌≤◌, ℕ, List, sym, subst}
+use Rattle.std.proofs.lemmas.Result.{err_from_is_err_and}
+use Rattle.tmm_model.specs.Answers.{most_size}
+use Rattle.belief_list.specs.declared.kept_rows.Difference.{Difference}
+use Rattle.belief_list.specs.KeptRows.{AreDifferences}
+use Rattle.supports.specs.Edited.{AreOthersUntouched}
 use Rattle.map_engine.proofs.Covering.{covers}
 use Rattle.map_engine.proofs.moved.read.Goals as goal
 
-pub returns : goal.returns
-returns c = c.TODO
+pub differing-requires-clause-covered : goal.differing-requires-clause-covered
+differing-requires-clause-covered c =
+    let found = c.in-Ok.found in
+    let are = c.in-Ok.ensures in
+    covers c.args.standing.now c.args.net.now c.args.edit.now c.args.tree.now c.args.told.now c.args.gone.now found.nodes.items found.classes.items
+    c.requires.told (c.requires.told.edited are.before) are.takes are.moved (λ ruling. are.ruling (c.requires.ruling ∙ ruling)) are.classes
+
+pub tell-requires-clause-others : goal.tell-requires-clause-others
+tell-requires-clause-others c =
+    subst (λ (classes : List (List ℕ)). AreOthersUntouched c.args.net.now c.args.tree.now classes) (sym c.as_slice-2.ensures.value) c.in-Ok.ensures.classes
+
+pub returns-in_err-size-clause-stops : goal.returns-in_err-size-clause-stops
+returns-in_err-size-clause-stops c =
+    let lists = c.args.standing.now in
+    let nets = c.args.net.now in
+    let edit = c.args.edit.now in
+    let tree = c.args.tree.now in
+    let rows = c.differing.new.rows.items in
+    let made = c.in-Ok-differing.ensures.made edit (c.requires.told.edited c.in-Ok.ensures.before) in
+    let p = err_from_is_err_and c.from_residual.result c.from_residual.ensures.1 in
+    rw (p.1, p.2)
+    (c.in_err-size.ensures.stops lists nets edit tree rows (subst (λ (ds : List Difference). AreDifferences lists nets edit tree rows ds) (sym c.as_slice.ensures.value) made) c.requires.view.counted)
+
+pub returns-in-Ok-tell-clause-view : goal.returns-in-Ok-tell-clause-view
+returns-in-Ok-tell-clause-view c =
+    let lists = c.args.standing.now in
+    let nets = c.args.net.now in
+    let edit = c.args.edit.now in
+    let tree = c.args.tree.now in
+    let rows = c.differing.new.rows.items in
+    let made = c.in-Ok-differing.ensures.made edit (c.requires.told.edited c.in-Ok.ensures.before) in
+    let sized = c.in_ok-size.ensures.size lists nets edit tree rows (subst (λ (ds : List Difference). AreDifferences lists nets edit tree rows ds) (sym c.as_slice.ensures.value) made) c.requires.view.counted in
+    record {
+      rows = made.after;
+      broken = c.in-Ok-tell.ensures.reports;
+      counted = sized;
+      small = subst (λ (n : ℕ). n ≤ most_size) sized c.in_ok-size.ensures.small;
+    }

@@ -35,8 +35,8 @@ pub returns-clause-changes : goal.returns-clause-changes
 returns-clause-changes c =
     let lists = c.args.standing.now in
     let told = c.changes_of-changes-2.ensures in
-    let before = ap (λ (l : List Report). map report_of l) c.items.ensures ∙ c.requires.view.broken in
-    let now = ap (λ (l : List Report). map report_of l) c.items-2.ensures ∙ c.in_ok-reports.ensures in
-    let differ = c.in_ok-broken.ensures.delta (built lists.committed) (built lists.present) before now refl in
+    let before = ap (λ (l : List Report). map report_of l) c.items-before.ensures ∙ c.requires.view.broken in
+    let now = ap (λ (l : List Report). map report_of l) c.items.ensures ∙ c.in_ok-reports.ensures in
+    let differ = c.in_ok-broken.ensures (built lists.committed) (built lists.present) before now refl in
     told_still lists.committed lists.present c.requires.alike c.changes_of-changes-2.result (told.erased ∙ c.requires.left_out) told.left told.entered told.loose told.clips
     (ap (λ (l : List Report). map report_of l) told.broken ∙ differ.0) (told.mended ∙ differ.1)
