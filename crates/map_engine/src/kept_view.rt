@@ -1,5 +1,5 @@
 // What is kept of the believed occurrences, to be read and to be compared with.
-ghost use Rattle.std.specs.Prelude.{◌≡◌, ◌≤◌, map, IsTrue, IfOk};
+ghost use Rattle.std.specs.Prelude.{◌≡◌, ◌≤◌, [], map, IsTrue, IfOk};
 ghost use Rattle.tmm_model.specs.Answers.{rows, row_of, size, most_size};
 ghost use Rattle.tmm_model.specs.Maps.{built};
 ghost use Rattle.list_net.specs.Fits.{IsNetOf};
@@ -37,6 +37,19 @@ pub(crate) struct NextView {
     pub differences: Vec<Difference>,
     // The protections that are broken after it.
     pub reports: Seq<Report>,
+}
+
+// What is kept where there is no node.
+pub(crate) fn empty_view(alloc: Global, size: u64, reports: Seq<Report>) -> KeptView
+    ensures size { result.size ≡ size }
+    ensures rows { result.rows.items ≡ [] }
+    ensures reports { result.reports.items ≡ reports.items }
+{
+    KeptView {
+        size,
+        rows: Vec::new(alloc),
+        reports,
+    }
 }
 
 // The believed occurrences of the last commit, in their order.

@@ -11,7 +11,7 @@ ghost use Rattle.map_engine.specs.NetMaps.{CountsEdit};
 ghost use Rattle.map_engine.specs.Stops.{StopsEdit};
 
 use crate::edited::{edited, roll_back};
-use crate::kept_view::{KeptView, audited_view, kept_rows};
+use crate::kept_view::{KeptView, audited_view, empty_view, kept_rows};
 use crate::map_core::{MapCore, Pending};
 use crate::next::{Known, Next, draw_next, keep, may_guard};
 use crate::questions::{ask_between, bounds_between, path_between, why_of};
@@ -75,11 +75,8 @@ impl NetMap {
             // The empty map is small, so only memory can be wanting.
             Err(_) => return Err(NoMemory),
         };
-        let view = KeptView {
-            size,
-            rows: Vec::new(alloc),
-            reports: report(alloc, &standing, nodes.tree(), &net)?,
-        };
+        let reports = report(alloc, &standing, nodes.tree(), &net)?;
+        let view = empty_view(alloc, size, reports);
         Ok(NetMap {
             standing,
             net,
