@@ -34,7 +34,7 @@ insert_child-requires-clause-trigger c =
       },
     )
 
-pub returns-in-None-clause-event : goal.returns-in-None-clause-event
-returns-in-None-clause-event c =
+pub returns-in_ok-insert_child-in-None : goal.returns-in_ok-insert_child-in-None
+returns-in_ok-insert_child-in-None c =
     let (m, at, event, none) = c.requires.event in
-    (m, stays _ _ _ _ _ _ (c.in_ok-insert_child.ensures.ok m at).grows c.args.event m at, event, none)
+    record { event = (m, stays _ _ _ _ _ _ (c.in_ok-insert_child-in-None.ensures.ok m at).grows c.args.event m at, event, none) }

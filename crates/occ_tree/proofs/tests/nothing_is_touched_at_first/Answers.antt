@@ -9,13 +9,16 @@ no_member : (f : Forest) → ((x : ℕ) → f x ≡ None) → (x : ℕ) (m : Mem
 no_member f none x m at = let both : None ≡ Some m = sym (none x) ∙ at in cc
 
 pub touched-requires : goal.touched-requires
-touched-requires c =
+touched-requires g c =
     let e = c.edges.ensures in
-    let none = no_member (forest (present c.make-tree.result)) c.make-tree.ensures.none in (
-      empty_list,
-      record {
-        network = at_start empty_list c.in_ok-net.net.present refl c.in_ok-net.ensures.present e.distinct e.start e.in_use e.dates;
-        members = λ x m at. absurd (none x m at);
-        once = λ x y m n at. absurd (none x m at);
-      },
-    )
+    let none = no_member (forest (present c.make-tree.result)) c.make-tree.ensures.none in
+    record {
+      list = (
+        empty_list,
+        record {
+          network = at_start empty_list c.in_ok-net.net.present refl c.in_ok-net.ensures.present e.distinct e.start e.in_use e.dates;
+          members = λ x m at. absurd (none x m at);
+          once = λ x y m n at. absurd (none x m at);
+        },
+      );
+    }

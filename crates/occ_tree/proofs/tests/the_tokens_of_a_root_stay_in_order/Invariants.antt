@@ -5,4 +5,4 @@ use Rattle.occ_tree.specs.Standing.{present, forest}
 use Rattle.occ_tree.proofs.tests.the_tokens_of_a_root_stay_in_order.Given as goal
 
 abbrev pub invariant-loop-i : goal.invariant-loop-i
-invariant-loop-i l = (m : Member) × (forest (present l.tree) l.event ≡ Some m) × (m.shape ≡ Event) × (m.links ≡ [])
+invariant-loop-i g l = (m : Member) × (forest (present l.tree) l.event ≡ Some m) × (m.shape ≡ Event) × (m.links ≡ [])
