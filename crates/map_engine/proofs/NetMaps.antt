@@ -1,11 +1,11 @@
 -- What the map keeps where nothing is pending, and once an edit is made.
-use Rattle.std.proofs.Common.{◌≡◌, ◌∙◌, ℕ, ◌≤◌, Bool, true, false, ◌||◌, List, [], refl, sym, ap, subst}
+use Rattle.std.proofs.Common.{◌≡◌, ◌∙◌, ℕ, ◌≤◌, Bool, true, false, ◌||◌, List, [], refl, sym, ap, subst, arith}
 use Rattle.std.specs.Prelude.{Option, Some, None, MatchOption}
 use Rattle.tmm_model.specs.declared.premise.Edit.{Edit}
 use Rattle.tmm_model.specs.declared.premise.Edit.TheVariants.{Add, Erase, Horizon}
 use Rattle.tmm_model.specs.Edits.{next_list}
 use Rattle.tmm_model.specs.Lines.{IsWellFormedEdit}
-use Rattle.tmm_model.specs.Standing.{Standing, points_in}
+use Rattle.tmm_model.specs.Standing.{Standing, points_in, empty_list}
 use Rattle.tmm_model.specs.Verdicts.{Cause, list_cause}
 use Rattle.belief_theory.specs.KeptLists.{last_horizon}
 use Rattle.belief_theory.specs.Touched.{touched}
@@ -18,7 +18,7 @@ use Rattle.occ_tree.specs.Standing.{State, present, committed, forest as forest_
 use Rattle.belief_net.specs.declared.state.BeliefNet.{BeliefNet}
 use Rattle.belief_net.specs.Entering.{KeepLast}
 use Rattle.belief_net.specs.Settling.{counted}
-use Rattle.belief_net.specs.Updating.{IsPending, IsCountedWithin, CommitsKept, LeadsBack}
+use Rattle.belief_net.specs.Updating.{IsKept, IsPending, IsCountedWithin, CommitsKept, LeadsBack}
 use Rattle.belief_net.proofs.Named.{last_stays}
 use Rattle.revisions.specs.Counted.{changed}
 use Rattle.map_engine.specs.declared.next.Next.{Next}
@@ -50,6 +50,23 @@ at_rest lists nets b view guarded next nothing settled held rests =
       next_view = subst (λ (s : Standing). IsReadOf s (forest b.tree) (read_of view)) (sym settled.list) rests.view;
       next_places = tt;
     })
+
+-- the map of a list in which nothing is declared to occur
+pub first_map : (lists : States) (nets : Nets) (b : BeliefNet) (view : KeptView) → IsSettled lists nets → IsHeld lists.present nets.present false
+    → IsKept lists.present nets.present b → IsReadOf lists.present (forest b.tree) (read_of view)
+    → IsNetMap lists nets b view false Nothing
+first_map lists nets b view settled held kept read =
+    at_rest lists nets b view false Nothing refl settled
+    (subst (λ (t : Standing). IsHeld t nets.committed false) settled.list (subst (λ (m : Net). IsHeld lists.present m false) settled.net held))
+    (subst (λ (t : Standing). IsResting t nets.committed b view) settled.list (subst (λ (m : Net). IsResting lists.present m b view) settled.net (record { kept = kept; view = read })))
+
+-- the empty list is held
+pub empty_held : (s : Standing) (net : Net) → s ≡ empty_list → IsNetOf s net → IsHeld s net false
+empty_held s net empty network = record {
+  network = network;
+  horizon = subst (λ (t : Standing). t.horizon ≤ last_horizon) (sym empty) (omega arith);
+  unguarded = λ _. subst IsUnguarded (sym empty) refl;
+}
 
 -- what rests does so where the same is read
 pub rests_same : (s : Standing) (net : Net) (b : BeliefNet) (view view_new : KeptView) → read_of view_new ≡ read_of view → IsResting s net b view → IsResting s net b view_new

@@ -58,12 +58,20 @@ nothing_occurs : (s : Standing) → roots s ≡ [] → (k : Moment) → Occurs s
 nothing_occurs s none (At p) at = absurd (In-from_Contains [] (At p) (subst (λ (l : List Moment). Contains l (At p)) none at))
 nothing_occurs s none (After t r) at = nothing_occurs s none t at.0
 
--- has no node, and no row is kept
-pub no_rows : (s : Standing) (net : Net) (f : Forest) (rows : List (Option KeptRow)) → IsSeen s net f → roots s ≡ [] → rows ≡ [] → AreRowsOf s f (row_under rows)
-no_rows s net f rows seen none empty =
+-- has no node
+pub no_nodes : (s : Standing) (net : Net) (f : Forest) → IsSeen s net f → roots s ≡ [] → (x : ℕ) → member f x ≡ None
+no_nodes s net f seen none x = by (member f x) refl
+  where
+    by : (o : Option Member) → member f x ≡ o → o ≡ None
+    by None here = refl
+    by (Some m) here = absurd (nothing_occurs s none (moment m) (seen.members x m here).occurs)
+
+-- where there is no node, no row is kept
+pub no_rows : (s : Standing) (f : Forest) (rows : List (Option KeptRow)) → ((x : ℕ) → member f x ≡ None) → rows ≡ [] → AreRowsOf s f (row_under rows)
+no_rows s f rows none empty =
     subst (λ (l : List (Option KeptRow)). AreRowsOf s f (row_under l)) (sym empty)
     (record {
-      own = λ x live. (let (m, here) = node_at f x live in absurd (nothing_occurs s none (moment m) (seen.members x m here).occurs));
+      own = λ x live. (let (m, here) = node_at f x live in let never : None ≡ Some m = sym (none x) ∙ here in absurd (cc));
       none = λ x gone. refl;
     })
 

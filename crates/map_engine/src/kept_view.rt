@@ -1,10 +1,11 @@
 // What is kept of the believed occurrences, to be read and to be compared with.
-ghost use Rattle.std.specs.Prelude.{◌≡◌, ◌≤◌, [], map, IsTrue, IfOk};
+ghost use Rattle.std.specs.Prelude.{◌≡◌, ◌≤◌, ℕ, None, map, IsTrue, IfOk};
 ghost use Rattle.tmm_model.specs.Answers.{rows, row_of, size, most_size};
 ghost use Rattle.tmm_model.specs.Maps.{built};
 ghost use Rattle.list_net.specs.Fits.{IsNetOf};
 ghost use Rattle.occ_tree.specs.OfLists.{IsTreeOf};
 ghost use Rattle.occ_tree.specs.Places.{forest};
+ghost use Rattle.spots.specs.Forest.{member};
 ghost use Rattle.spots.specs.Seen.{Holds};
 ghost use Rattle.map_engine.specs.Reads.{IsReadOf, read_of};
 
@@ -14,6 +15,7 @@ use dist_net::DistNet;
 use just_check::audit;
 use occ_tree::Tree;
 use premise_list::Standing;
+use protections::report;
 use std::alloc::Global;
 use tmm_model::{ListRow, NoMemory, Report, Seq};
 
@@ -39,17 +41,27 @@ pub(crate) struct NextView {
     pub reports: Seq<Report>,
 }
 
-// What is kept where there is no node.
-pub(crate) fn empty_view(alloc: Global, size: u64, reports: Seq<Report>) -> KeptView
-    ensures size { result.size ≡ size }
-    ensures rows { result.rows.items ≡ [] }
-    ensures reports { result.reports.items ≡ reports.items }
+// What is kept where there is no node, and the size of the map is known.
+pub(crate) fn first_view(
+    alloc: Global,
+    standing: &Standing,
+    net: &DistNet,
+    tree: &Tree,
+    counted: u64,
+) -> Result<KeptView, NoMemory>
+    requires seen { IsTreeOf standing.now.present net.now.present tree.now }
+    requires holds { Holds (built standing.now.present).believed (forest tree.now) }
+    requires empty { (x : ℕ) → member (forest tree.now) x ≡ None }
+    requires counted { counted ≡ size (built standing.now.present) }
+    requires small { counted ≤ most_size }
+    ensures { IfOk result (λ view. IsReadOf standing.now.present (forest tree.now) (read_of view)) }
 {
-    KeptView {
-        size,
+    let reports = report(alloc, standing, tree, net)?;
+    Ok(KeptView {
+        size: counted,
         rows: Vec::new(alloc),
         reports,
-    }
+    })
 }
 
 // The believed occurrences of the last commit, in their order.

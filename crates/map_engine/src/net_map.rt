@@ -1,17 +1,21 @@
 // The map whose beliefs are kept current.
-ghost use Rattle.std.specs.Prelude.{◌≡◌, ◌≤◌, None, Some, IfOk, IfErr, OnOk, OnErr};
+ghost use Rattle.std.specs.Prelude.{◌≡◌, ◌≤◌, ℕ, false, None, Some, IfOk, IfErr, OnOk, OnErr};
 ghost use Rattle.tmm_model.specs.Changes.{changes, delta_of};
 ghost use Rattle.tmm_model.specs.Edits.{next_list};
 ghost use Rattle.tmm_model.specs.Kept.{IsAccepted};
 ghost use Rattle.tmm_model.specs.Lines.{IsWellFormedEdit};
 ghost use Rattle.tmm_model.specs.Standing.{empty_list};
 ghost use Rattle.belief_net.specs.Settling.{counted};
+ghost use Rattle.belief_net.specs.Updating.{IsKept};
+ghost use Rattle.occ_tree.specs.Places.{forest};
+ghost use Rattle.spots.specs.Forest.{member};
+ghost use Rattle.list_net.specs.Fits.{IsSettled};
 ghost use Rattle.revisions.specs.Counted.{changed};
-ghost use Rattle.map_engine.specs.NetMaps.{CountsEdit};
+ghost use Rattle.map_engine.specs.NetMaps.{CountsEdit, IsHeld};
 ghost use Rattle.map_engine.specs.Stops.{StopsEdit};
 
 use crate::edited::{edited, roll_back};
-use crate::kept_view::{KeptView, audited_view, empty_view, kept_rows};
+use crate::kept_view::{KeptView, audited_view, first_view, kept_rows};
 use crate::map_core::{MapCore, Pending};
 use crate::next::{Known, Next, draw_next, keep, may_guard};
 use crate::questions::{ask_between, bounds_between, path_between, why_of};
@@ -20,7 +24,7 @@ use belief_net::{BeliefNet, size_of};
 use dist_net::DistNet;
 use premise_list::Standing;
 use projection::Counter;
-use protections::{copied, report};
+use protections::copied;
 use std::alloc::Global;
 use std::marker::Model;
 use std::mem;
@@ -70,22 +74,38 @@ impl NetMap {
         // it tells the proof what holds of the network
         let _ = net.edges();
         let nodes = BeliefNet::make(alloc);
-        let size = match size_of(alloc, &standing, nodes.tree()) {
-            Ok(size) => size,
-            // The empty map is small, so only memory can be wanting.
-            Err(_) => return Err(NoMemory),
-        };
-        let reports = report(alloc, &standing, nodes.tree(), &net)?;
-        let view = empty_view(alloc, size, reports);
-        Ok(NetMap {
-            standing,
-            net,
-            nodes,
-            view,
-            guarded: false,
-            next: Next::Nothing,
-        })
+        first_map(alloc, standing, net, nodes)
     }
+}
+
+// The map of a list in which nothing is declared to occur, so that there is no node, and no protection stands.
+fn first_map(
+    alloc: Global,
+    standing: Standing,
+    net: DistNet,
+    nodes: BeliefNet,
+) -> Result<NetMap, NoMemory>
+    requires settled { IsSettled standing net }
+    requires held { IsHeld standing.present net.present false }
+    requires kept { IsKept standing.present net.present nodes }
+    requires empty { (x : ℕ) → member (forest nodes.tree) x ≡ None }
+    ensures list { IfOk result (λ m. m.list ≡ standing.committed) }
+    ensures idle { IfOk result (λ m. m.pending ≡ None) }
+{
+    let size = match size_of(alloc, &standing, nodes.tree()) {
+        Ok(size) => size,
+        // The map is small, so only memory can be wanting.
+        Err(_) => return Err(NoMemory),
+    };
+    let view = first_view(alloc, &standing, &net, nodes.tree(), size)?;
+    Ok(NetMap {
+        standing,
+        net,
+        nodes,
+        view,
+        guarded: false,
+        next: Next::Nothing,
+    })
 }
 
 impl MapCore for NetMap {
