@@ -1,12 +1,13 @@
 //! The projection of a list without premises, and decisions compared with what is believed.
-ghost use Rattle.std.specs.Prelude.{◌≡◌, pos, ◌≤ℤ◌, IfOk, OnOk, IfSome};
+ghost use Rattle.std.specs.Prelude.{◌≡◌, ◌≤◌, length, pos, ◌≤ℤ◌, IfOk, OnOk, IfSome};
 ghost use Rattle.std.specs.List.{All};
 ghost use Rattle.std.specs.Option.{ForSome};
-ghost use Rattle.tmm_model.specs.Lines.{IsName, IsWellFormedPremise};
+ghost use Rattle.tmm_model.specs.Lines.{IsName, AreNames, IsWellFormedPremise};
 ghost use Rattle.spots.specs.Forest.{IsLive};
-ghost use Rattle.occ_tree.specs.OfLists.{IsTreeIn};
+ghost use Rattle.occ_tree.specs.OfLists.{IsTreeIn, IsTreeOf};
 ghost use Rattle.occ_tree.specs.Places.{forest};
 ghost use Rattle.list_net.specs.Fits.{IsNetOf, IsSettled};
+ghost use Rattle.projection.specs.Kinds.{AreRules};
 ghost use Rattle.projection.specs.Places.{name_at, IsRuleAt};
 
 use super::*;
@@ -17,25 +18,43 @@ use list_net::add_premise;
 use occ_tree::{Order, Ranked, Tree, in_order};
 use premise_list::Standing;
 use std::alloc::Global;
+use std::process::Abort;
 use std::test::Fail;
 use supports::clips;
-use tmm_model::{Bound, Edit, Name, NoMemory, Premise, Stop};
+use tmm_model::{Bound, Edit, MOST_ANTECEDENTS, Name, NoMemory, Premise, Stop};
+
+// What was made of a list that is let through.
+fn let_through<T>(rt: &impl Abort, answer: Result<T, Stop>) -> Result<T, Fail> {
+    match answer {
+        Ok(made) => Ok(made),
+        Err(Stop::NoMemory) => Err(Fail::from(NoMemory)),
+        Err(Stop::Refused(_)) => panic!(rt; "the premises or their map are refused"),
+    }
+}
+
+// The limit of the projected tree, the size of the map and the count of decisions.
+fn measured(alloc: Global, standing: &Standing, net: &DistNet) -> Result<(u32, u64, u64), Stop>
+    requires { IsNetOf standing.now.present net.now.present }
+{
+    let mut counter = Counter::zero();
+    let projected = rebuild(alloc, standing, net, &mut counter)?;
+    Ok((projected.tree.limit(), projected.size, counter.value()))
+}
+
+// The same of a list without premises.
+fn measured_without_premises(alloc: Global) -> Result<(u32, u64, u64), Stop> {
+    let standing = Standing::make(alloc);
+    let Ok(net) = DistNet::make(alloc) else {
+        return Err(Stop::NoMemory);
+    };
+    let _ = net.edges();
+    measured(alloc, &standing, &net)
+}
 
 #[test]
 fn no_premises_project_nothing(rt: HostRuntime) -> Result<(), Fail> {
-    let alloc = rt.alloc();
-    let standing = Standing::make(alloc);
-    let net = DistNet::make(alloc)?;
-    let _ = net.edges();
-    let mut counter = Counter::zero();
-    let projected = match rebuild(alloc, &standing, &net, &mut counter) {
-        Ok(projected) => projected,
-        Err(Stop::NoMemory) => return Err(Fail::from(NoMemory)),
-        Err(Stop::Refused(_)) => panic!(rt; "an empty list is refused"),
-    };
-    assert_eq!(rt; projected.tree.limit(), 0);
-    assert_eq!(rt; projected.size, 0);
-    assert_eq!(rt; counter.value(), 0);
+    let told = let_through(&rt, measured_without_premises(rt.alloc()))?;
+    assert_eq!(rt; told, (0, 0, 0));
     Ok(())
 }
 
@@ -62,27 +81,54 @@ fn lamp() -> Premise
     }
 }
 
-// A rule on the kind `trigger`, with this delay and at most one antecedent.
-fn rule(word: Name, trigger: Name, delay: i64, effect: Name, fact: Option<Name>) -> Premise
-    requires name { IsName word }
-    requires trigger { IsName trigger }
-    requires least { pos 1 ≤ℤ delay }
-    requires most { delay ≤ℤ pos 9 }
-    requires effect { IsName effect }
-    requires fact { ForSome fact IsName }
+fn kind(word: &[u8]) -> Premise
+    requires { IsName word.now }
     ensures { IsWellFormedPremise result }
+{
+    Premise::Kind { name: name(word) }
+}
+
+fn event(word: &[u8], kind: &[u8]) -> Premise
+    requires name { IsName word.now }
+    requires kind { IsName kind.now }
+    ensures { IsWellFormedPremise result }
+{
+    Premise::Event {
+        name: name(word),
+        kind: name(kind),
+    }
+}
+
+// The antecedents of a rule that has at most one.
+fn antecedents(fact: Option<Name>) -> ArrayVec<Name, MOST_ANTECEDENTS>
+    requires { ForSome fact IsName }
+    ensures names { AreNames result.items }
+    ensures few { length result.items ≤ 1 }
 {
     let mut given = ArrayVec::new();
     if let Some(fact) = fact {
         given.push(fact);
     }
+    given
+}
+
+// A rule on the kind `trigger`, with this delay and at most one antecedent.
+fn rule(word: &[u8], trigger: &[u8], delay: i64, effect: &[u8], fact: Option<Name>) -> Premise
+    requires name { IsName word.now }
+    requires trigger { IsName trigger.now }
+    requires least { pos 1 ≤ℤ delay }
+    requires most { delay ≤ℤ pos 9 }
+    requires effect { IsName effect.now }
+    requires fact { ForSome fact IsName }
+    ensures { IsWellFormedPremise result }
+{
     Premise::Rule {
-        name: word,
-        trigger,
+        name: name(word),
+        trigger: name(trigger),
         lo: delay,
         hi: Bound::Finite(delay),
-        effect,
-        given,
+        effect: name(effect),
+        given: antecedents(fact),
     }
 }
 
@@ -115,32 +161,31 @@ fn add(
 }
 
 // An event lights the lamp and rings. At the ring the rule that wants the lamp on fires, and the one that
-// wants it off is blocked.
+// wants it off is blocked. This is the premise at a place of their list.
+fn premise(place: usize) -> Premise
+    ensures { IsWellFormedPremise result }
+{
+    match place {
+        0 => lamp(),
+        1 => kind(b"press"),
+        2 => kind(b"ring"),
+        3 => event(b"first", b"press"),
+        4 => rule(b"lights", b"press", 1, b"on", None),
+        5 => rule(b"rings", b"press", 2, b"ring", None),
+        6 => rule(b"darkens", b"ring", 1, b"off", Some(name(b"on"))),
+        _ => rule(b"stays", b"ring", 1, b"on", Some(name(b"off"))),
+    }
+}
+
+// Adds them in their order.
 fn add_all(alloc: Global, standing: &mut Standing, net: &mut DistNet) -> Result<(), Stop>
     requires network { IsNetOf standing.old.present net.old.present }
     requires settled { IsSettled standing.old net.old }
     ensures { OnOk result (IsNetOf standing.new.present net.new.present) }
 {
-    let press = name(b"press");
-    let ring = name(b"ring");
-    let on = name(b"on");
-    let off = name(b"off");
-    let first = Premise::Event {
-        name: name(b"first"),
-        kind: press,
-    };
-    let lights = rule(name(b"lights"), press, 1, on, None);
-    let rings = rule(name(b"rings"), press, 2, ring, None);
-    let darkens = rule(name(b"darkens"), ring, 1, off, Some(on));
-    let stays = rule(name(b"stays"), ring, 1, on, Some(off));
-    add(alloc, standing, net, lamp())?;
-    add(alloc, standing, net, Premise::Kind { name: press })?;
-    add(alloc, standing, net, Premise::Kind { name: ring })?;
-    add(alloc, standing, net, first)?;
-    add(alloc, standing, net, lights)?;
-    add(alloc, standing, net, rings)?;
-    add(alloc, standing, net, darkens)?;
-    add(alloc, standing, net, stays)?;
+    for place in 0..8 {
+        add(alloc, standing, net, premise(place))?;
+    }
     Ok(())
 }
 
@@ -181,38 +226,76 @@ fn has_effect(tree: &Tree, x: u32, rule: Name) -> bool {
     false
 }
 
-#[test]
-fn decisions_are_those_of_what_is_believed(rt: HostRuntime) -> Result<(), Fail> {
-    let alloc = rt.alloc();
-    let (standing, net) = match premises(alloc) {
-        Ok(made) => made,
-        Err(Stop::NoMemory) => return Err(Fail::from(NoMemory)),
-        Err(Stop::Refused(_)) => panic!(rt; "the premises are refused"),
-    };
-    let mut projecting = Counter::zero();
-    let projected = match rebuild(alloc, &standing, &net, &mut projecting) {
-        Ok(projected) => projected,
-        Err(Stop::NoMemory) => return Err(Fail::from(NoMemory)),
-        Err(Stop::Refused(_)) => panic!(rt; "the map is refused"),
-    };
-    let tree = &projected.tree;
-    let rules = RulesByKind::of(alloc, &standing)?;
-    let mut deciding = Counter::zero();
-    for x in 0..tree.limit() {
-        if tree.is_live(x) {
-            for place in rules.at(&standing, tree, x) {
-                let rule = rule_name(&standing, *place);
-                let fires = match decide(tree, &net, &standing, x, rule, &mut deciding) {
-                    Decision::Fires { .. } => true,
-                    _ => false,
-                };
-                assert_eq!(rt; fires, has_effect(tree, x, rule));
-            }
+// Whether the rules on the event of a node fire there just where they have an effect at it.
+fn is_decided_as_believed(
+    standing: &Standing,
+    net: &DistNet,
+    tree: &Tree,
+    rules: &RulesByKind,
+    x: u32,
+    deciding: &mut Counter,
+) -> bool
+    requires seen { IsTreeOf standing.now.present net.now.present tree.now }
+    requires rules { AreRules standing.now.present rules.now }
+    requires live { IsLive (forest tree.now) x }
+{
+    for place in rules.at(standing, tree, x) {
+        let rule = rule_name(standing, *place);
+        let fires = match decide(tree, net, standing, x, rule, deciding) {
+            Decision::Fires { .. } => true,
+            _ => false,
+        };
+        if fires != has_effect(tree, x, rule) {
+            return false;
         }
     }
-    assert_eq!(rt; deciding.value(), projecting.value());
-    assert_eq!(rt; deciding.value(), 4);
-    assert_eq!(rt; projected.size, 12);
+    true
+}
+
+// Whether that is so at each node.
+fn are_decided_as_believed(
+    standing: &Standing,
+    net: &DistNet,
+    tree: &Tree,
+    rules: &RulesByKind,
+    deciding: &mut Counter,
+) -> bool
+    requires seen { IsTreeOf standing.now.present net.now.present tree.now }
+    requires rules { AreRules standing.now.present rules.now }
+{
+    for x in 0..tree.limit() {
+        if tree.is_live(x) && !is_decided_as_believed(standing, net, tree, rules, x, deciding) {
+            return false;
+        }
+    }
+    true
+}
+
+// Whether each node's rules are decided as is believed, how many decisions that takes, how many the
+// projection takes, and the size of the map.
+fn decided(alloc: Global, standing: &Standing, net: &DistNet) -> Result<(bool, u64, u64, u64), Stop>
+    requires { IsNetOf standing.now.present net.now.present }
+{
+    let mut projecting = Counter::zero();
+    let projected = rebuild(alloc, standing, net, &mut projecting)?;
+    let Ok(rules) = RulesByKind::of(alloc, standing) else {
+        return Err(Stop::NoMemory);
+    };
+    let mut deciding = Counter::zero();
+    let same = are_decided_as_believed(standing, net, &projected.tree, &rules, &mut deciding);
+    Ok((same, deciding.value(), projecting.value(), projected.size))
+}
+
+// The same of the lamp's premises.
+fn decided_of_premises(alloc: Global) -> Result<(bool, u64, u64, u64), Stop> {
+    let (standing, net) = premises(alloc)?;
+    decided(alloc, &standing, &net)
+}
+
+#[test]
+fn decisions_are_those_of_what_is_believed(rt: HostRuntime) -> Result<(), Fail> {
+    let told = let_through(&rt, decided_of_premises(rt.alloc()))?;
+    assert_eq!(rt; told, (true, 4, 4, 12));
     Ok(())
 }
 
@@ -271,21 +354,27 @@ fn clipped_one_apart(
     }
 }
 
+// The same of the tree that is projected.
+fn clipped(alloc: Global, standing: &Standing, net: &DistNet) -> Result<Option<usize>, Stop>
+    requires { IsNetOf standing.now.present net.now.present }
+{
+    let projected = rebuild(alloc, standing, net, &mut Counter::zero())?;
+    match clipped_one_apart(alloc, &projected.tree, net, name(b"off")) {
+        Ok(clipped) => Ok(clipped),
+        Err(_) => Err(Stop::NoMemory),
+    }
+}
+
+// The same of the lamp's premises.
+fn clipped_of_premises(alloc: Global) -> Result<Option<usize>, Stop> {
+    let (standing, net) = premises(alloc)?;
+    clipped(alloc, &standing, &net)
+}
+
 #[test]
 fn a_token_is_clipped_by_the_next_of_another_fact(rt: HostRuntime) -> Result<(), Fail> {
-    let alloc = rt.alloc();
-    let (standing, net) = match premises(alloc) {
-        Ok(made) => made,
-        Err(Stop::NoMemory) => return Err(Fail::from(NoMemory)),
-        Err(Stop::Refused(_)) => panic!(rt; "the premises are refused"),
-    };
-    let projected = match rebuild(alloc, &standing, &net, &mut Counter::zero()) {
-        Ok(projected) => projected,
-        Err(Stop::NoMemory) => return Err(Fail::from(NoMemory)),
-        Err(Stop::Refused(_)) => panic!(rt; "the map is refused"),
-    };
     // the event, the lamp on, the ring, the lamp off
-    let clipped = clipped_one_apart(alloc, &projected.tree, &net, name(b"off"))?;
-    assert_eq!(rt; clipped, Some(1));
+    let told = let_through(&rt, clipped_of_premises(rt.alloc()))?;
+    assert_eq!(rt; told, Some(1));
     Ok(())
 }
