@@ -11,6 +11,7 @@ ghost use Rattle.map_engine.specs.Reads.{IsReadOf, read_of};
 
 use crate::view::occurrences;
 use belief_list::{Difference, KeptRow, list_rows, listed_by_number};
+use belief_net::size_of;
 use dist_net::DistNet;
 use just_check::audit;
 use occ_tree::Tree;
@@ -41,24 +42,26 @@ pub(crate) struct NextView {
     pub reports: Seq<Report>,
 }
 
-// What is kept where there is no node, and the size of the map is known.
+// What is kept where there is no node.
 pub(crate) fn first_view(
     alloc: Global,
     standing: &Standing,
     net: &DistNet,
     tree: &Tree,
-    counted: u64,
 ) -> Result<KeptView, NoMemory>
     requires seen { IsTreeOf standing.now.present net.now.present tree.now }
     requires holds { Holds (built standing.now.present).believed (forest tree.now) }
     requires empty { (x : ℕ) → member (forest tree.now) x ≡ None }
-    requires counted { counted ≡ size (built standing.now.present) }
-    requires small { counted ≤ most_size }
     ensures { IfOk result (λ view. IsReadOf standing.now.present (forest tree.now) (read_of view)) }
 {
+    let size = match size_of(alloc, standing, tree) {
+        Ok(size) => size,
+        // The map is small, so only memory can be wanting.
+        Err(_) => return Err(NoMemory),
+    };
     let reports = report(alloc, standing, tree, net)?;
     Ok(KeptView {
-        size: counted,
+        size,
         rows: Vec::new(alloc),
         reports,
     })

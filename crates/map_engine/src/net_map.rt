@@ -20,7 +20,7 @@ use crate::map_core::{MapCore, Pending};
 use crate::next::{Known, Next, draw_next, keep, may_guard};
 use crate::questions::{ask_between, bounds_between, path_between, why_of};
 use crate::still::{is_ruling, is_unread};
-use belief_net::{BeliefNet, size_of};
+use belief_net::BeliefNet;
 use dist_net::DistNet;
 use premise_list::Standing;
 use projection::Counter;
@@ -92,12 +92,7 @@ fn first_map(
     ensures list { IfOk result (λ m. m.list ≡ standing.committed) }
     ensures idle { IfOk result (λ m. m.pending ≡ None) }
 {
-    let size = match size_of(alloc, &standing, nodes.tree()) {
-        Ok(size) => size,
-        // The map is small, so only memory can be wanting.
-        Err(_) => return Err(NoMemory),
-    };
-    let view = first_view(alloc, &standing, &net, nodes.tree(), size)?;
+    let view = first_view(alloc, &standing, &net, nodes.tree())?;
     Ok(NetMap {
         standing,
         net,
