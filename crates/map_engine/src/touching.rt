@@ -102,12 +102,7 @@ fn push_ruled(
 }
 
 // Appends the root that the edit adds, if it adds one.
-fn push_added(
-    alloc: Global,
-    tree: &Tree,
-    edit: &Edit,
-    found: &mut Vec<u32>,
-) -> Result<(), NoMemory>
+fn push_added(alloc: Global, tree: &Tree, edit: &Edit, found: &mut Vec<u32>) -> Result<(), NoMemory>
     requires { IsOnce (forest tree.now) }
     ensures kept { OnOk result ((x : ℕ) → Contains found.old.items x → Contains found.new.items x) }
     ensures pushed { OnOk result (MatchOption (name_added edit.now) (Unit {0}) (λ name. HasNodeOf (forest tree.now) (At (Begin name)) found.new.items)) }

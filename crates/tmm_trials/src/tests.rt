@@ -23,8 +23,7 @@ fn decisions(rt: &impl Abort, alloc: Global, script: &[u8], end: &[u8]) -> Resul
 }
 
 /// An event that a rule repeats every ten units, three times up to the horizon.
-const REPEATED: &[u8] =
-    b"kind t\nevent e t\ndist z start e 0 0\nhorizon 35\nrule r t 10 10 t\n";
+const REPEATED: &[u8] = b"kind t\nevent e t\ndist z start e 0 0\nhorizon 35\nrule r t 10 10 t\n";
 
 /// The same, and then a nearer horizon.
 const CUT_SHORT: &[u8] =

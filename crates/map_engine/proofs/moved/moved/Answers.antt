@@ -48,7 +48,6 @@ read-requires-clause-view c =
     subst (λ (k : Kept). IsReadOf list (old_forest k) (read_of c.args.view.now)) (sym c.tree-2.ensures)
     (subst (λ (s : State). IsReadOf list (forest_of s) (read_of c.args.view.now)) (sym (c.in_ok-told.ensures.last.tree ∙ c.requires.kept.tree)) c.requires.view)
 
-
 pub returns-clause-view : goal.returns-clause-view
 returns-clause-view c =
     subst (λ (k : Kept). IfOk c.read.result (λ made. IsReadOf c.args.standing.now.present (forest k) (read_next c.read.new.view made.0))) c.tree-2.ensures c.read.ensures.view
