@@ -21,8 +21,6 @@ mod list;
 mod matched;
 mod places;
 mod size;
-#[cfg(test)]
-mod tests;
 mod told_changes;
 
 pub use by_number::listed_by_number;

@@ -353,6 +353,3 @@ pub fn blame<S: Sure>(
         },
     }
 }
-
-#[cfg(test)]
-mod tests;

@@ -11,7 +11,5 @@ mod auditing;
 mod expected;
 mod rows;
 mod rules;
-#[cfg(test)]
-mod tests;
 
 pub use auditing::audit;

@@ -9,8 +9,6 @@
 
 mod check;
 mod ranks;
-#[cfg(test)]
-mod tests;
 mod trail;
 
 pub use check::check_cycle;

@@ -42,6 +42,3 @@ pub use order::Order;
 pub use ranks::{Ranked, in_order};
 pub use touched::Touched;
 pub use tree::Tree;
-
-#[cfg(test)]
-mod tests;

@@ -14,6 +14,3 @@ mod standing;
 mod table;
 
 pub use standing::Standing;
-
-#[cfg(test)]
-mod tests;

@@ -13,8 +13,6 @@ mod growth;
 mod kinds;
 mod pending;
 mod rule;
-#[cfg(test)]
-mod tests;
 mod weight;
 
 pub use decision::{Counter, Decision, decide};

@@ -19,6 +19,3 @@ pub use comparing::delta;
 pub use copies::copied;
 pub use kept::report_after;
 pub use reporting::report;
-
-#[cfg(test)]
-mod tests;

@@ -20,6 +20,3 @@ pub use memory::memory_reply;
 pub use questions::{
     Word, reply_answer, reply_bounds, reply_check, reply_list, reply_number, reply_path, reply_why,
 };
-
-#[cfg(test)]
-mod tests;

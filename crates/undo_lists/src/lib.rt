@@ -14,6 +14,3 @@ mod steps;
 
 pub use change::Change;
 pub use lists::Lists;
-
-#[cfg(test)]
-mod tests;

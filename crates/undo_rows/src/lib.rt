@@ -15,6 +15,3 @@ mod stored;
 pub use change::Change;
 pub use row::Row;
 pub use rows::Rows;
-
-#[cfg(test)]
-mod tests;

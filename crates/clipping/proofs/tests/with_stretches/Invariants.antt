@@ -1,5 +1,0 @@
-use Rattle.clipping.specs.Stretches.{HaveStretches}
-use Rattle.clipping.proofs.tests.with_stretches.Given as goal
-
-abbrev pub invariant-loop-row : goal.invariant-loop-row
-invariant-loop-row l = HaveStretches l.list.items
