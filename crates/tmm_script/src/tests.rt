@@ -3,8 +3,9 @@ mod data;
 
 use super::*;
 use std::alloc::Global;
+use std::process::Abort;
 use std::test::Fail;
-use tmm_model::{Edit, Line, Refusal, Seq, Stop};
+use tmm_model::{Edit, Line, NoMemory, Refusal, Seq, Stop};
 
 fn told(alloc: Global, line: &[u8]) -> &'static str {
     match parse_line(alloc, line) {
@@ -32,20 +33,27 @@ fn lines_are_read(rt: HostRuntime) {
     }
 }
 
-fn printed(alloc: Global, line: &Line) -> Option<Seq<u8>> {
+// Prints the premise that a line adds; nothing where it adds none.
+fn print_added(alloc: Global, line: &Line, out: &mut Seq<u8>) -> Result<(), NoMemory> {
     let Line::Change(Edit::Add(premise)) = line else {
-        return None;
+        return Ok(());
     };
-    let mut out = Seq::make(alloc);
-    print_premise(alloc, premise, &mut out).ok()?;
-    Some(out)
+    print_premise(alloc, premise, out)
+}
+
+// Reads a line, and prints the premise that it adds.
+fn print_again(alloc: Global, line: &[u8], out: &mut Seq<u8>) -> Result<(), NoMemory> {
+    match parse_line(alloc, line) {
+        Ok(read) => print_added(alloc, &read, out),
+        Err(_) => Ok(()),
+    }
 }
 
 #[test]
 fn premises_are_read_and_printed(rt: HostRuntime) -> Result<(), Fail> {
     for line in data::PREMISES.split(|b| *b == b'\n') {
-        let read = parse_line(rt.alloc(), line).ok().ok_or("no line")?;
-        let out = printed(rt.alloc(), &read).ok_or("no premise")?;
+        let mut out = Seq::make(rt.alloc());
+        print_again(rt.alloc(), line, &mut out)?;
         assert_eq!(rt; out.items(), line);
     }
     Ok(())
@@ -69,13 +77,30 @@ fn blanks_part_words(rt: HostRuntime) {
     }
 }
 
+// Whether a line that begins so, and goes on with blanks up to this length, is told as this.
+fn is_told(
+    rt: &impl Abort,
+    alloc: Global,
+    start: &[u8],
+    length: usize,
+    wanted: &str,
+) -> Result<(), Fail> {
+    let mut line = Vec::new(alloc);
+    line.extend_from_slice(start)?;
+    line.resize(length, b' ')?;
+    assert_eq!(rt; told(alloc, line.as_slice()), wanted);
+    Ok(())
+}
+
 #[test]
-fn long_lines_are_refused(rt: HostRuntime) {
-    let alloc = rt.alloc();
-    let mut line = [b' '; 401];
-    assert_eq!(rt; told(alloc, &line[..400]), "silent");
-    assert_eq!(rt; told(alloc, &line), "limit");
-    line[..6].copy_from_slice(b"kind T");
-    assert_eq!(rt; told(alloc, &line[..400]), "premise");
-    assert_eq!(rt; told(alloc, &line), "limit");
+fn long_lines_are_refused(rt: HostRuntime) -> Result<(), Fail> {
+    for (start, length, wanted) in [
+        (b"".as_slice(), 400, "silent"),
+        (b"".as_slice(), 401, "limit"),
+        (b"kind T".as_slice(), 400, "premise"),
+        (b"kind T".as_slice(), 401, "limit"),
+    ] {
+        is_told(&rt, rt.alloc(), start, length, wanted)?;
+    }
+    Ok(())
 }
