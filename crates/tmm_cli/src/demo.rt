@@ -94,9 +94,9 @@ pub struct Counts {
     pub lines: u64,
     /// Edits that were made.
     pub ok: u64,
-    /// Questions whether a fact holds, or what is broken, that were answered `yes`.
+    /// Questions whether a fact holds that were answered `yes`.
     pub yes: u64,
-    /// Such questions that were answered `no` with its blames.
+    /// Such questions that were answered `no`, with blames.
     pub no: u64,
     /// Lines that were refused.
     pub refused: u64,

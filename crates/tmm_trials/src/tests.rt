@@ -1,4 +1,6 @@
 //! Decisions that are counted, and a long history.
+ghost use Rattle.std.specs.Prelude.{[], ◌≡◌, ◌≤◌, IfOk};
+
 use map_engine::NetMap;
 use std::alloc::{AllocError, Global};
 use std::fmt::Write;
@@ -6,20 +8,44 @@ use std::process::Abort;
 use std::test::Fail;
 use tmm_drive::{Status, drive};
 use tmm_io::{MemSink, MemSource};
-use tmm_model::Seq;
+use tmm_model::{NoMemory, Seq};
 use tmm_session::Session;
+
+/// Room for the part of a line that is kept.
+fn line_buffer(alloc: Global) -> Result<Seq<u8>, NoMemory>
+    ensures empty { IfOk result (λ buffer. buffer.items ≡ []) }
+    ensures room { IfOk result (λ buffer. 401 ≤ buffer.room) }
+{
+    let mut buffer = Seq::make(alloc);
+    buffer.reserve(401)?;
+    Ok(buffer)
+}
+
+/// Answers a script over the map of the program, and tells how that ended and how many decisions the map
+/// made.
+fn answered(
+    alloc: Global,
+    buffer: &mut Seq<u8>,
+    source: &mut MemSource,
+    sink: &mut MemSink,
+) -> Result<(Status, u64), NoMemory>
+    requires empty { buffer.old.items ≡ [] }
+    requires room { 401 ≤ buffer.old.room }
+{
+    let mut session = Session::make(NetMap::make(alloc)?);
+    let status = drive(alloc, &mut session, buffer, source, sink);
+    Ok((status, session.counter.value()))
+}
 
 /// How many decisions the map of the program makes for a script, whose replies end so.
 fn decisions(rt: &impl Abort, alloc: Global, script: &[u8], end: &[u8]) -> Result<u64, Fail> {
-    let mut session = Session::make(NetMap::make(alloc)?);
-    let mut buffer = Seq::make(alloc);
-    buffer.reserve(401)?;
+    let mut buffer = line_buffer(alloc)?;
     let mut source = MemSource::make(alloc, script, 4096, &[])?;
     let mut sink = MemSink::make(alloc, 1 << 20, &[])?;
-    let status = drive(alloc, &mut session, &mut buffer, &mut source, &mut sink);
+    let (status, made) = answered(alloc, &mut buffer, &mut source, &mut sink)?;
     assert_eq!(rt; status, Status::Clean);
     assert!(rt; sink.bytes().ends_with(end));
-    Ok(session.counter.value())
+    Ok(made)
 }
 
 /// An event that a rule repeats every ten units, three times up to the horizon.
