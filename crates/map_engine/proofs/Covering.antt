@@ -1,23 +1,23 @@
--- What an update tells, what moved and, where rules may have changed, all nodes: these are all that an edit may have touched.
-use Rattle.std.proofs.Common.{◌≡◌, ◌∙◌, ℕ, ◌+◌, Bool, true, false, List, [], map, length, reverse, refl, sym, ap, subst, inl, inr}
+-- What an update tells, what moved, and the events on which rules may have changed: these are all that an edit may have touched.
+use Rattle.std.proofs.Common.{◌≡◌, ◌∙◌, ℕ, ◌+◌, true, false, List, map, length, reverse, refl, sym, ap, subst, inl, inr}
 use Rattle.std.proofs.lemmas.Bool.{cases_Bool}
 use Rattle.std.proofs.lemmas.List.{reverse-reverse}
 use Rattle.std.specs.Prelude.{ℤ, Option, Some, None, IsSome, IsNone, MatchOption, is_some}
 use Rattle.std.specs.List.{Contains}
 use Rattle.tmm_model.specs.declared.point.PointName.{PointName}
-use Rattle.tmm_model.specs.declared.point.PointName.TheVariants.{Start, Begin, End}
+use Rattle.tmm_model.specs.declared.point.PointName.TheVariants.{Begin}
 use Rattle.tmm_model.specs.declared.premise.Edit.{Edit}
-use Rattle.tmm_model.specs.declared.premise.Edit.TheVariants.{Add, Erase, Horizon}
+use Rattle.tmm_model.specs.declared.premise.Edit.TheVariants.{Add}
 use Rattle.tmm_model.specs.declared.premise.Premise.{Premise}
 use Rattle.tmm_model.specs.declared.token.Shape.{Shape}
 use Rattle.tmm_model.specs.declared.token.Shape.TheVariants.{Event, Persistence, Span}
 use Rattle.tmm_model.specs.Answers.{weight}
-use Rattle.tmm_model.specs.Beliefs.{is_of, root_of, roots, rules_on, rules_for, rules_at}
+use Rattle.tmm_model.specs.Beliefs.{is_of, root_of, roots, rules_for, rules_at}
 use Rattle.tmm_model.specs.Edits.{next_list}
 use Rattle.tmm_model.specs.Maps.{built}
 use Rattle.tmm_model.specs.Moments.{Moment, At, After, base, rules, is_derived, moment_of}
 use Rattle.tmm_model.specs.Standing.{Standing, name_of, premise_in}
-use Rattle.list_theory.proofs.Elements.{In, In-from_Contains, Contains-from_In, In-map, map-In, In-filter_map}
+use Rattle.list_theory.proofs.Elements.{In, In-from_Contains, In-map, map-In, In-filter_map}
 use Rattle.list_theory.proofs.KnownNames.{found}
 use Rattle.list_theory.specs.WellNamed.{IsSound}
 use Rattle.belief_theory.specs.Right.{Occurs}
@@ -29,9 +29,7 @@ use Rattle.spots.proofs.Nodes.{node_at, live_at, moment_at-is, base-moment}
 use Rattle.occ_tree.specs.Standing.{Kept, forest, present}
 use Rattle.occ_tree.specs.Touched.{IsAtMoved}
 use Rattle.supports.specs.Edited.{IsEdited, old_forest, AreOthersUntouched}
-use Rattle.revisions.specs.Ruling.{is_ruling}
 use Rattle.revisions.specs.Standing.{Stands}
-use Rattle.revisions.proofs.Ruling.{unruled_edit}
 use Rattle.revisions.proofs.Tokens.{root_named, is_of_stays}
 use Rattle.belief_list.specs.KeptRows.{CoverTouched}
 use Rattle.belief_net.specs.declared.told.DatedOcc.{DatedOcc}
@@ -40,7 +38,9 @@ use Rattle.belief_net.specs.MarkLaws.{added_by as name_added}
 use Rattle.belief_net.specs.Telling.{seen_dated, entered_in, ins}
 use Rattle.belief_net.proofs.Declared.{root_cases}
 use Rattle.belief_net.proofs.Telling.{In-reverse}
+use Rattle.map_engine.specs.Ruled.{changes_rules_on, HasRuled}
 use Rattle.map_engine.specs.Touching.{HasNodeOf, entered_of, TakesIn, IsToldOf}
+use Rattle.map_engine.proofs.Ruled.{same_rules_on}
 
 -- what entered, as it is told and as its occurrences
 entered_among : (told : Told) (k : Moment) → In k (ins told) → In k (entered_of told)
@@ -55,7 +55,7 @@ module _ (lists : States) (nets : Nets) (edit : Edit) (tree : Kept) (told : Told
     (h : IsToldOf lists nets edit tree told gone) (edited : IsEdited lists nets edit tree)
     (takes : TakesIn (forest (present tree)) told (name_added edit) gone numbers)
     (moved : (x : ℕ) (m : Member) → member (forest (present tree)) x ≡ Some m → IsAtMoved nets.moved m → Contains numbers x)
-    (all : is_ruling lists.committed.premises edit ≡ true → (x : ℕ) → IsLive (forest (present tree)) x → Contains numbers x)
+    (ruled : HasRuled (forest (present tree)) lists.committed.premises edit numbers)
     (others : AreOthersUntouched nets tree classes) where
   abbrev f : Forest
   f = old_forest tree
@@ -151,33 +151,34 @@ module _ (lists : States) (nets : Nets) (edit : Edit) (tree : Kept) (told : Told
 
   -- ---- what counts more or less
 
-  rules_for_same : ((kind : List ℕ) → rules_on (next_list old edit) kind ≡ rules_on old kind) → (o : Option (Shape × List ℕ)) → rules_for old o ≡ rules_for (next_list old edit) o
-  rules_for_same same None = refl
-  rules_for_same same (Some (Event, kind)) = sym (same kind)
-  rules_for_same same (Some (Persistence, fact)) = refl
-  rules_for_same same (Some (Span, fact)) = refl
+  -- beside the numbers the rules for what a node is are the same
+  rules_same : (x : ℕ) (m : Member) → member g x ≡ Some m → (Contains numbers x → ⊥) → rules_for old (Some (m.shape, m.what)) ≡ rules_for (next_list old edit) (Some (m.shape, m.what))
+  rules_same x m here out = by m.shape refl
+    where
+      by : (shape : Shape) → m.shape ≡ shape → rules_for old (Some (shape, m.what)) ≡ rules_for (next_list old edit) (Some (shape, m.what))
+      by Event is = elim (cases_Bool (changes_rules_on old.premises edit m.what)) [
+        | inl changes ↦ absurd (out (ruled m.what changes x (m, here, is, refl)))
+        | inr same ↦ sym (same_rules_on old edit sound_old.well_named m.what same)
+      ]
+      by Persistence is = refl
+      by Span is = refl
 
   weighs_same : (x : ℕ) → IsLive f x → IsLive g x → (Contains numbers x → ⊥) → weight (built old) (moment_at f x) ≡ weight (built new) (moment_at g x)
-  weighs_same x live_f live_g out = elim (cases_Bool (is_ruling old.premises edit)) [
-    | inl ruling ↦ absurd (out (all ruling x live_g))
-    | inr unruled ↦ by unruled
-  ]
-    where
-      by : is_ruling old.premises edit ≡ false → weight (built old) (moment_at f x) ≡ weight (built new) (moment_at g x)
-      by unruled =
-          let (m, here_f) = node_at f x live_f in
-          let (n, here_g) = node_at g x live_g in
-          let k : Moment = moment_at f x in
-          let same_k : k ≡ moment_at g x = (edited.numbers x x live_f live_g).1 refl in
-          let occurs_old : Occurs old k = subst (Occurs old) (sym (moment_at-is f x m here_f)) (edited.seen_then.members x m here_f).occurs in
-          let occurs_new : Occurs new k = subst (Occurs new) (sym (same_k ∙ moment_at-is g x n here_g)) (edited.seen_now.members x n here_g).occurs in
-          let occurs_next : Occurs (next_list old edit) k = subst (λ (s : Standing). Occurs s k) edited.list occurs_new in
-          let sound_next : IsSound (next_list old edit) = subst IsSound edited.list sound_new in
-          let is_same = is_of_stays old edit sound_old sound_next k occurs_old occurs_next in
-          let rules_same : rules_at old k ≡ rules_at (next_list old edit) k =
-          rules_for_same (unruled_edit old edit sound_old.well_named unruled) (is_of old k) ∙ ap (rules_for (next_list old edit)) is_same in
-          ap (λ (rs : List (List ℕ)). 1 + length (rules k) + length rs) (rules_same ∙ ap (λ (s : Standing). rules_at s k) (sym edited.list))
-          ∙ ap (weight (built new)) same_k
+  weighs_same x live_f live_g out =
+      let (m, here_f) = node_at f x live_f in
+      let (n, here_g) = node_at g x live_g in
+      let k : Moment = moment_at f x in
+      let same_k : k ≡ moment_at g x = (edited.numbers x x live_f live_g).1 refl in
+      let seen = edited.seen_now.members x n here_g in
+      let k_is : k ≡ moment n = same_k ∙ moment_at-is g x n here_g in
+      let occurs_old : Occurs old k = subst (Occurs old) (sym (moment_at-is f x m here_f)) (edited.seen_then.members x m here_f).occurs in
+      let occurs_next : Occurs (next_list old edit) k = subst (λ (s : Standing). Occurs s k) edited.list (subst (Occurs new) (sym k_is) seen.occurs) in
+      let sound_next : IsSound (next_list old edit) = subst IsSound edited.list sound_new in
+      let is_next : is_of (next_list old edit) k ≡ Some (n.shape, n.what) = subst (λ (s : Standing). is_of s k ≡ Some (n.shape, n.what)) edited.list (ap (is_of new) k_is ∙ seen.is) in
+      let is_old : is_of old k ≡ Some (n.shape, n.what) = is_of_stays old edit sound_old sound_next k occurs_old occurs_next ∙ is_next in
+      let same : rules_at old k ≡ rules_at (next_list old edit) k = ap (rules_for old) is_old ∙ rules_same x n here_g out ∙ sym (ap (rules_for (next_list old edit)) is_next) in
+      ap (λ (rs : List (List ℕ)). 1 + length (rules k) + length rs) (same ∙ ap (λ (s : Standing). rules_at s k) (sym edited.list))
+      ∙ ap (weight (built new)) same_k
 
   -- **These are all that the edit may have touched.**
   pub covers : CoverTouched lists nets tree numbers classes

@@ -2,6 +2,7 @@ mod Told
 mod Rows
 mod Finding
 mod Reading
+mod Ruled
 mod Covering
 mod ToldOf
 mod Elsewhere

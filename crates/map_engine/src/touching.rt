@@ -1,26 +1,29 @@
 // Which nodes an edit may have touched.
-ghost use Rattle.std.specs.Prelude.{◌≡◌, ℕ, List, Some, true, MatchOption, IfOk, OnOk};
+ghost use Rattle.std.specs.Prelude.{◌≡◌, ◌↔◌, ℕ, List, Some, MatchOption, IfOk, OnOk, IsTrue};
 ghost use Rattle.std.specs.List.{Contains};
+ghost use Rattle.tmm_model.specs.declared.premise.Premise.{Premise as APremise};
 ghost use Rattle.tmm_model.specs.declared.point.PointName.TheVariants.{Begin};
 ghost use Rattle.tmm_model.specs.Moments.{Moment, At, moment_of};
 ghost use Rattle.list_theory.proofs.Elements.{In};
-ghost use Rattle.spots.specs.Forest.{Member, member, IsLive, IsOnce, moment_at};
+ghost use Rattle.spots.specs.Forest.{Member, member, IsOnce};
 ghost use Rattle.spots.specs.Seen.{HasList};
 ghost use Rattle.spots.specs.Spots.{AreTokens};
 ghost use Rattle.occ_tree.specs.Places.{forest};
 ghost use Rattle.occ_tree.specs.Standing.{committed};
 ghost use Rattle.occ_tree.specs.Touched.{IsAtMoved};
 ghost use Rattle.supports.specs.Edited.{old_forest, AreOthersUntouched};
+ghost use Rattle.revisions.specs.Ruling.{is_ruling};
 ghost use Rattle.belief_net.specs.MarkLaws.{added_by as name_added};
 ghost use Rattle.belief_net.specs.Numbered.{left_under};
 ghost use Rattle.belief_net.specs.declared.told.DatedOcc.{DatedOcc as ADatedOcc};
+ghost use Rattle.map_engine.specs.Ruled.{trigger_of, kind_of_added, IsEventOf, HasEventsOf, HasRuled};
 ghost use Rattle.map_engine.specs.Touching.{HasNodeOf, entered_of, TakesIn};
 
 use belief_net::{DatedOcc, Told};
 use dist_net::DistNet;
 use occ_tree::{Touched, Tree};
 use std::alloc::Global;
-use tmm_model::{Edit, Name, NoMemory, Occ, Seq};
+use tmm_model::{Edit, Name, NoMemory, Occ, Premise, Seq, Shape};
 
 // The roots of these names.
 pub(crate) fn roots_named(alloc: Global, tree: &Tree, names: &[Name]) -> Result<Vec<u32>, NoMemory>
@@ -35,8 +38,8 @@ pub(crate) fn roots_named(alloc: Global, tree: &Tree, names: &[Name]) -> Result<
 }
 
 // All that an edit may have touched, where `gone` are the numbers of the roots that are gone: nodes that
-// entered, left or moved, and the classes of tokens; and all nodes, where the edit may have changed which rules
-// are on a kind.
+// entered, left or moved, and the classes of tokens; and the events of the kind of a rule that it adds, or all
+// nodes where rules may have fallen with what it erased.
 pub(crate) fn touched(
     alloc: Global,
     edit: &Edit,
@@ -50,14 +53,14 @@ pub(crate) fn touched(
     requires once { IsOnce (forest tree.now) }
     ensures takes { IfOk result (λ found. TakesIn (forest tree.now) told.now (name_added edit.now) gone.now found.nodes.items) }
     ensures moved { IfOk result (λ found. (x : ℕ) (m : Member) → member (forest tree.now) x ≡ Some m → IsAtMoved net.now.moved m → Contains found.nodes.items x) }
-    ensures ruling { IfOk result (λ found. ruling ≡ true → (x : ℕ) → IsLive (forest tree.now) x → Contains found.nodes.items x) }
+    ensures ruled { IfOk result (λ found. (premises : List APremise) → ruling ≡ is_ruling premises edit.now → HasRuled (forest tree.now) premises edit.now found.nodes.items) }
     ensures classes { IfOk result (λ found. AreOthersUntouched net.now tree.now found.classes.items) }
     ensures before { IfOk result (λ found. (class : List ℕ) → AreTokens (old_forest tree.now) class ((committed tree.now).tokens class)) }
 {
     let moved = tree.touched(alloc, net)?;
     let mut nodes = touched_nodes(alloc, tree, edit, told, gone)?;
     push_numbers(moved.nodes.as_slice(), &mut nodes)?;
-    push_ruled(alloc, tree, ruling, &mut nodes)?;
+    push_ruled(alloc, tree, edit, ruling, &mut nodes)?;
     Ok(Touched {
         nodes,
         classes: moved.classes,
@@ -84,21 +87,83 @@ fn touched_nodes(
     Ok(found)
 }
 
-// Appends all nodes, where the edit may have changed which rules are on a kind.
+// Appends the nodes on which the edit may have changed the rules: the events of the kind of a rule that it adds,
+// and all nodes where rules may have fallen with what it erased, of whatever kinds they were.
 fn push_ruled(
     alloc: Global,
     tree: &Tree,
+    edit: &Edit,
     ruling: bool,
     found: &mut Vec<u32>,
 ) -> Result<(), NoMemory>
     ensures kept { OnOk result ((x : ℕ) → Contains found.old.items x → Contains found.new.items x) }
-    ensures pushed { OnOk result (ruling ≡ true → (x : ℕ) → IsLive (forest tree.now) x → Contains found.new.items x) }
+    ensures pushed { OnOk result ((premises : List APremise) → ruling ≡ is_ruling premises edit.now → HasRuled (forest tree.now) premises edit.now found.new.items) }
 {
     if !ruling {
         return Ok(());
     }
+    if let Some(kind) = kind_of_added(edit) {
+        return push_events(tree, kind, found);
+    }
     let all = tree.numbers(alloc)?;
     push_numbers(all.as_slice(), found)
+}
+
+// The kind of the rule that the edit adds, none where it adds no rule.
+fn kind_of_added(edit: &Edit) -> Option<Name>
+    ensures { result ≡ kind_of_added edit.now }
+{
+    match edit {
+        Edit::Add(premise) => trigger_of(premise),
+        Edit::Erase(_) | Edit::Horizon(_) => None,
+    }
+}
+
+// The kind that a premise is a rule on, none where it is no rule.
+fn trigger_of(premise: &Premise) -> Option<Name>
+    ensures { result ≡ trigger_of premise.now }
+{
+    match premise {
+        Premise::Rule { trigger, .. } => Some(*trigger),
+        _ => None,
+    }
+}
+
+// Appends the events of a kind.
+fn push_events(tree: &Tree, kind: Name, found: &mut Vec<u32>) -> Result<(), NoMemory>
+    ensures kept { OnOk result ((x : ℕ) → Contains found.old.items x → Contains found.new.items x) }
+    ensures pushed { OnOk result (HasEventsOf (forest tree.now) kind found.new.items) }
+{
+    for x in 0..tree.limit() {
+        push_event(tree, kind, x, found)?;
+    }
+    Ok(())
+}
+
+// Appends a number, if it is of an event of this kind.
+fn push_event(tree: &Tree, kind: Name, x: u32, found: &mut Vec<u32>) -> Result<(), NoMemory>
+    ensures kept { OnOk result ((y : ℕ) → Contains found.old.items y → Contains found.new.items y) }
+    ensures pushed { OnOk result (IsEventOf (forest tree.now) kind x → Contains found.new.items x) }
+{
+    if is_event_of(tree, kind, x) {
+        push(x, found)
+    } else {
+        Ok(())
+    }
+}
+
+// Whether the number is of an event of this kind.
+fn is_event_of(tree: &Tree, kind: Name, x: u32) -> bool
+    ensures { IsTrue result ↔ IsEventOf (forest tree.now) kind x }
+{
+    if !tree.is_live(x) {
+        return false;
+    }
+    let row = tree.row(x);
+    match row.shape {
+        Shape::Event => row.what == kind,
+        _ => false,
+    }
 }
 
 // Appends the root that the edit adds, if it adds one.

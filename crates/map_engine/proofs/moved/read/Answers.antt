@@ -1,4 +1,4 @@
-use Rattle.std.proofs.Common.{◌≡◌, ◌∙◌, ◌≤◌, ℕ, List, sym, subst}
+use Rattle.std.proofs.Common.{◌≤◌, ℕ, List, sym, subst}
 use Rattle.std.proofs.lemmas.Result.{err_from_is_err_and}
 use Rattle.tmm_model.specs.Answers.{most_size}
 use Rattle.belief_list.specs.declared.kept_rows.Difference.{Difference}
@@ -12,7 +12,7 @@ differing-requires-clause-covered c =
     let found = c.in-Ok.found in
     let are = c.in-Ok.ensures in
     covers c.args.standing.now c.args.net.now c.args.edit.now c.args.tree.now c.args.told.now c.args.gone.now found.nodes.items found.classes.items
-    c.requires.told (c.requires.told.edited are.before) are.takes are.moved (λ ruling. are.ruling (c.requires.ruling ∙ ruling)) are.classes
+    c.requires.told (c.requires.told.edited are.before) are.takes are.moved (are.ruled c.args.standing.now.committed.premises c.requires.ruling) are.classes
 
 pub tell-requires-clause-others : goal.tell-requires-clause-others
 tell-requires-clause-others c =
