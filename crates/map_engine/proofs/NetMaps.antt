@@ -27,7 +27,7 @@ use Rattle.map_engine.specs.declared.kept_view.KeptView.{KeptView}
 use Rattle.map_engine.specs.Beliefs.{IsLeftOut}
 use Rattle.map_engine.specs.NetMaps.{AreNodesOf, IsResting, MayRest, IsHeld, IsNetMap, CountsEdit}
 use Rattle.map_engine.specs.Nexts.{after, pending_list, HasPlacesIn, IsUnguarded, adds_protection}
-use Rattle.map_engine.specs.Reads.{Read, IsReadOf, read_of}
+use Rattle.map_engine.specs.Reads.{IsReadOf, read_of}
 use Rattle.map_engine.proofs.Unmoved.{still_unguarded}
 
 -- ---- where nothing is pending

@@ -6,18 +6,18 @@ use Rattle.std.specs.Option.{option_map_or}
 use Rattle.tmm_model.specs.declared.token.Shape.{Shape}
 use Rattle.tmm_model.specs.declared.token.Shape.TheVariants.{Event, Persistence, Span}
 use Rattle.tmm_model.specs.Answers.{row, weight}
-use Rattle.tmm_model.specs.Beliefs.{is_of, roots, rules_on, rules_for, rules_at}
+use Rattle.tmm_model.specs.Beliefs.{is_of, roots, rules_for}
 use Rattle.tmm_model.specs.Maps.{built}
 use Rattle.tmm_model.specs.Moments.{Moment, At, After, rules}
 use Rattle.tmm_model.specs.Standing.{Standing}
 use Rattle.list_theory.proofs.Elements.{In-from_Contains}
 use Rattle.belief_theory.specs.Right.{Occurs}
 use Rattle.dist_net.specs.Net.{Net}
-use Rattle.spots.specs.Forest.{Forest, Member, member, moment, IsLive, moment_at}
+use Rattle.spots.specs.Forest.{Forest, Member, member, moment, moment_at}
 use Rattle.spots.specs.Seen.{IsSeen, Holds}
 use Rattle.spots.proofs.Nodes.{node_at, moment_at-is}
 use Rattle.belief_list.specs.declared.kept_rows.KeptRow.{KeptRow}
-use Rattle.belief_list.specs.KeptRows.{AreRowsOf, IsRowOf, row_under}
+use Rattle.belief_list.specs.KeptRows.{AreRowsOf, row_under}
 use Rattle.revisions.specs.Alike.{AreAlike, BelieveAlike}
 use Rattle.revisions.proofs.Alike.{alike_believe}
 

@@ -1,6 +1,6 @@
 -- An edit that leaves alike what beliefs read touches no node and no class.
-use Rattle.std.proofs.Common.{◌≡◌, ◌∙◌, ℕ, List, [], refl, sym, ap, subst, inl, inr}
-use Rattle.std.specs.Prelude.{◌≢◌, ◌↔◌, Option, Some, None, MatchOption}
+use Rattle.std.proofs.Common.{◌≡◌, ◌∙◌, ℕ, List, [], sym, ap, subst, inl, inr}
+use Rattle.std.specs.Prelude.{◌≢◌, ◌↔◌, Option, Some, MatchOption}
 use Rattle.std.specs.List.{Contains}
 use Rattle.tmm_model.specs.declared.point.PointName.{PointName}
 use Rattle.tmm_model.specs.declared.point.PointName.TheVariants.{Start, Begin, End}

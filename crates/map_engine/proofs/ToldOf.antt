@@ -1,23 +1,20 @@
 -- What an update tells, beside the numbers that the roots of erased names had, is what the edit made of the list.
-use Rattle.std.proofs.Common.{◌≡◌, ◌∙◌, ℕ, true, List, map, refl, sym, ap, subst}
+use Rattle.std.proofs.Common.{◌≡◌, ◌∙◌, ℕ, List, map, refl, sym, ap, subst}
 use Rattle.std.specs.Prelude.{Option, Some, None, IsSome, IsNone, filter}
 use Rattle.std.specs.Option.{is_none}
 use Rattle.tmm_model.specs.declared.point.PointName.TheVariants.{Begin}
 use Rattle.tmm_model.specs.declared.premise.Edit.{Edit}
-use Rattle.tmm_model.specs.declared.premise.Premise.{Premise}
 use Rattle.tmm_model.specs.Maps.{built}
-use Rattle.tmm_model.specs.Moments.{Moment, At}
+use Rattle.tmm_model.specs.Moments.{At}
 use Rattle.tmm_model.specs.Standing.{Standing, name_of, premise_in}
 use Rattle.list_theory.proofs.Elements.{In, map-In, filter-In}
 use Rattle.list_theory.proofs.KnownNames.{finds}
 use Rattle.premise_list.specs.States.{States}
 use Rattle.dist_net.specs.Net.{Nets}
-use Rattle.spots.specs.Forest.{Forest, IsLive, moment_at}
+use Rattle.spots.specs.Forest.{IsLive, moment_at}
 use Rattle.spots.specs.Seen.{IsSeen, Holds}
-use Rattle.spots.specs.Spots.{AreTokens}
 use Rattle.occ_tree.specs.Places.{forest}
 use Rattle.occ_tree.specs.Standing.{State, present, committed, forest as forest_of}
-use Rattle.supports.specs.Edited.{IsEdited, old_forest}
 use Rattle.belief_net.specs.declared.state.BeliefNet.{BeliefNet}
 use Rattle.belief_net.specs.declared.told.Told.{Told}
 use Rattle.belief_net.specs.Entering.{KeepLast}

@@ -1,4 +1,4 @@
-use Rattle.std.proofs.Common.{◌≡◌, ◌∙◌, List, Option, map, ap, sym, subst}
+use Rattle.std.proofs.Common.{◌≡◌, ◌∙◌, List, map, ap, sym, subst}
 use Rattle.std.specs.List.{All}
 use Rattle.tmm_model.specs.Answers.{rows, row_of}
 use Rattle.tmm_model.specs.Maps.{built}

@@ -1,4 +1,4 @@
-use Rattle.std.proofs.Common.{◌≡◌, ℕ, None, refl, sym, subst}
+use Rattle.std.proofs.Common.{◌≡◌, ℕ, None, sym, subst}
 use Rattle.tmm_model.specs.Maps.{built}
 use Rattle.occ_tree.specs.OfLists.{IsTreeOf}
 use Rattle.occ_tree.specs.Places.{forest}

@@ -1,4 +1,4 @@
-use Rattle.std.proofs.Common.{◌<◌, ℕ, ◌+◌, List, length, take, sym, subst, inl, inr, arith}
+use Rattle.std.proofs.Common.{◌<◌, ◌+◌, length, take, sym, subst, inl, inr, arith}
 use Rattle.std.proofs.lemmas.List.{take_all}
 use Rattle.tmm_model.specs.Moments.{moment_of}
 use Rattle.list_theory.proofs.Elements.{In, In-from_Contains}

@@ -1,6 +1,6 @@
-use Rattle.std.proofs.Common.{◌∙◌, List, ap, map, sym, subst}
+use Rattle.std.proofs.Common.{◌∙◌, List, sym, subst}
 use Rattle.std.specs.List.{Contains}
-use Rattle.tmm_model.specs.Moments.{Moment, moment_of}
+use Rattle.tmm_model.specs.Moments.{moment_of}
 use Rattle.list_theory.proofs.Elements.{In, In-map, Contains-from_In}
 use Rattle.occ_tree.specs.Places.{forest}
 use Rattle.belief_net.specs.Numbered.{left_under}
