@@ -7,7 +7,7 @@ use std::alloc::Global;
 use std::process::Abort;
 use std::test::Fail;
 use tmm_drive::{Status, drive};
-use tmm_io::{MemSink, MemSource, Source, SteadySource};
+use tmm_io::{MemSink, MemSource, RepeatSource, Source, SteadySource};
 use tmm_model::{NoMemory, Seq};
 use tmm_session::Session;
 
@@ -109,6 +109,29 @@ fn faults_end_the_run(rt: HostRuntime) -> Result<(), Fail> {
         assert_eq!(rt; sink.bytes(), replies);
     }
     Ok(())
+}
+
+/// A comment of 400 bytes with its line feed: the longest line.
+const COMMENT: &[u8] =
+    b"#xxxxxxxxxxxxxxxxxxxxxxxxxxxxxxxxxxxxxxxxxxxxxxxxxxxxxxxxxxxxxxxxxxxxxxxxxxxxxxxxxxxxxxxxxxxxxxxxxxxxxxxxxxxxxxxxxxxxxxxxxxxxxxxxxxxxxxxxxxxxxxxxxxxxxxxxxxxxxxxxxxxxxxxxxxxxxxxxxxxxxxxxxxxxxxxxxxxxxxxxxxxxxxxxxxxxxxxxxxxxxxxxxxxxxxxxxxxxxxxxxxxxxxxxxxxxxxxxxxxxxxxxxxxxxxxxxxxxxxxxxxxxxxxxxxxxxxxxxxxxxxxxxxxxxxxxxxxxxxxxxxxxxxxxxxxxxxxxxxxxxxxxxxxxxxxxxxxxxxxxxxxxxxxxxxxxxxxxxxxxxxxxxxxxxxxxxxxxxx\n";
+
+/// Runs over this many bytes of comments, which have no replies, and compares the status.
+fn expect_silent(rt: &impl Abort, alloc: Global, total: u64, status: Status) -> Result<(), Fail> {
+    let mut source = RepeatSource::make(alloc, COMMENT, total)?;
+    let mut sink = MemSink::make(alloc, 1 << 10, &[])?;
+    assert_eq!(rt; run(alloc, &[], &mut source, &mut sink), status);
+    assert_eq!(rt; sink.bytes(), b"".as_slice());
+    Ok(())
+}
+
+#[test]
+fn the_longest_input_is_read(rt: HostRuntime) -> Result<(), Fail> {
+    expect_silent(&rt, rt.alloc(), 1 << 30, Status::Clean)
+}
+
+#[test]
+fn a_longer_input_is_told(rt: HostRuntime) -> Result<(), Fail> {
+    expect_silent(&rt, rt.alloc(), (1 << 30) + 1, Status::TooLong)
 }
 
 /// Runs with these words, and compares what is written and the status. The source keeps its bytes.
