@@ -2,7 +2,7 @@
 //! distances and order of spots. Facts persist by default until they are clipped (Dean and McDermott
 //! 1987); the exact rules are this project's own.
 //!
-//! It stands on `tmm_model` alone. Each call answers exactly as the definitions of support and clip
+//! Each call answers exactly as the definitions of support and clip
 //! say: the first token by the order of spots (`last_clipper`: the last as they stand), and none exactly
 //! where no token is such. No call takes memory.
 #![tactic(auto)]

@@ -1,6 +1,6 @@
-//! The time map (after Dean and McDermott 1987): a standing list with its distances, its beliefs and its broken protections, of which one
-//! edit may be pending. It stands on `list_net`, `projection`, `belief_net`, `belief_list`,
-//! `protections`, `tt_query` and `justify`, and is known to the program alone.
+//! The time map (after Dean and McDermott 1987): a standing list with its distances, its beliefs and its
+//! broken protections, of which one edit may be pending. `list_net` keeps the first two, `belief_net` the
+//! beliefs; `belief_list` and `protections` tell what an edit changes, `tt_query` and `justify` answer.
 //!
 //! `MapCore` is its contract: every answer is that of the map which is built of the list from scratch,
 //! an edit is accepted exactly where the definitions say so, and a refusal or want of memory changes

@@ -7,7 +7,7 @@ use crate::lists::push;
 use std::alloc::Global;
 use tmm_model::{Answer, Blame, Cause, NoMemory, Occ, Report, Seq};
 
-// The same reports once more.
+/// The same reports once more.
 pub fn copied(alloc: Global, reports: &[Report]) -> Result<Seq<Report>, NoMemory>
     ensures { IfOk result (λ copies. map report_of copies.items ≡ map report_of reports.now) }
 {

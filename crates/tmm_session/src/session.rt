@@ -159,7 +159,7 @@ fn change<M: MapCore>(
     }
 }
 
-// Answers a question about the map's list, under this line number.
+/// Answers a question about the map's list, under this line number.
 pub fn answer<M: MapCore>(alloc: Global, line: u64, query: &Query, core: &M) -> Told
     requires idle { M.pending core.now ≡ None }
     requires well_formed { IsWellFormedQuery query.now }
