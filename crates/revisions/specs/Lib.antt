@@ -13,3 +13,4 @@ pub mod Alike
 pub mod StillEdits
 pub mod Ruling
 pub mod Walls
+pub mod Shifts

@@ -4,6 +4,7 @@ ghost use Rattle.revisions.specs.Maps.{EditsAreLawful};
 ghost use Rattle.revisions.specs.Standing.{StandingOccur};
 ghost use Rattle.revisions.specs.Alike.{AlikeBelieve, SameReadSayAlike, UnreadEditsSayAlike};
 ghost use Rattle.revisions.specs.Clips.{ClipsStay, ClipsStayOn};
+ghost use Rattle.revisions.specs.Shifts.{ShiftsKeep};
 ghost use Rattle.revisions.specs.Ruling.{UnruledEditsKeepRules};
 ghost use Rattle.revisions.specs.StillEdits.{UnmovedAreAlike, LikeListsSee};
 ghost use Rattle.revisions.specs.Whole.{RevisionsAreRight};
@@ -113,4 +114,9 @@ pub fn unmoved_are_alike()
 /// Nodes that a list sees are seen by each list that says the same.
 pub fn like_lists_see()
     ensures { LikeListsSee }
+{}
+
+/// A decision keeps its outcome where points moved, but for tokens that bear on none there, before and after.
+pub fn shifts_keep()
+    ensures { ShiftsKeep }
 {}
