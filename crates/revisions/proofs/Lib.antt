@@ -20,3 +20,4 @@ pub mod ReadPremises
 pub mod UnreadEdits
 pub mod StillEdits
 pub mod Ruling
+pub mod Walls
