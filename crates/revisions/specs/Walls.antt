@@ -1,8 +1,9 @@
 -- Tokens that bear on no decision at an event: those that have not begun there, and those that are past there.
 use Rattle.std.specs.Prelude.{◌≡◌, ◌≢◌, ◌⊎◌, ℕ, pos, int_le, Bool, true, false, List, [], ◌∷◌, Some}
 use Rattle.std.specs.List.{Contains}
+use Rattle.tmm_model.specs.declared.bound.Bound.{Bound}
 use Rattle.tmm_model.specs.declared.token.TokenRow.{TokenRow}
-use Rattle.tmm_model.specs.Beliefs.{contradicts_in, due}
+use Rattle.tmm_model.specs.Beliefs.{due}
 use Rattle.tmm_model.specs.Maps.{TimeMap, gap, order}
 use Rattle.tmm_model.specs.Moments.{Moment, rule_of}
 use Rattle.tmm_model.specs.Standing.{Standing, far_in}
@@ -14,23 +15,40 @@ use Rattle.belief_theory.specs.Right.{Occurs}
 use Rattle.belief_theory.specs.Touched.{watched}
 use Rattle.spots.specs.Seen.{map_of}
 
+-- ---- over any spots, of which `far` tells the tightest distances
+
+module _ {P : Type 0} (far : P → P → Bound) where
+  -- whether the token has surely begun by t
+  abbrev pub begins_by : P → TokenRow P → Bool
+  begins_by t k = is_by far k.spot t
+
+  -- the token w, of the class of k, has surely begun at or after k, and by t
+  pub record IsBetween (t : P) (k w : TokenRow P) : Type 0 where
+    pub class : w.class ≡ k.class
+    pub after : is_by far k.spot w.spot ≡ true
+    pub begun : begins_by t w ≡ true
+
+  -- **Two walls between k and t**: two tokens behind k, of two different facts, among which k does not last to t. What k would
+  -- clip by t, one of the two clips as well.
+  pub record AreWallsAt (t : P) (k v w : TokenRow P) : Type 0 where
+    pub one : IsBetween t k v
+    pub other : IsBetween t k w
+    pub differ : v.fact ≢ w.fact
+    pub over : lasts_to of_one_class far (v ∷ w ∷ []) k t k.end ≡ false
+
+-- ---- in a map
+
 -- whether the token has surely begun by t
 abbrev pub has_begun : TimeMap → Moment → TokenRow Moment → Bool
-has_begun m t k = is_by (gap m) k.spot t
+has_begun m = begins_by (gap m)
 
 -- the token w, of the class of k, has surely begun at or after k, and by t
-pub record IsBehind (m : TimeMap) (t : Moment) (k w : TokenRow Moment) : Type 0 where
-  pub class : w.class ≡ k.class
-  pub after : is_by (gap m) k.spot w.spot ≡ true
-  pub begun : has_begun m t w ≡ true
+abbrev pub IsBehind : TimeMap → Moment → TokenRow Moment → TokenRow Moment → Type 0
+IsBehind m = IsBetween (gap m)
 
--- **Two walls between k and t**: two tokens behind k, of two different facts, among which k does not last to t. What k would
--- clip by t, one of the two clips as well.
-pub record AreWalls (m : TimeMap) (t : Moment) (k v w : TokenRow Moment) : Type 0 where
-  pub one : IsBehind m t k v
-  pub other : IsBehind m t k w
-  pub differ : v.fact ≢ w.fact
-  pub over : lasts_to (contradicts_in m.list) (gap m) (v ∷ w ∷ []) k t k.end ≡ false
+-- v and w are walls between k and t
+abbrev pub AreWalls : TimeMap → Moment → TokenRow Moment → TokenRow Moment → TokenRow Moment → Type 0
+AreWalls m = AreWallsAt (gap m)
 
 -- k is past at t: two of the tokens that stay are walls between k and t
 pub record IsPast (stays : TokenRow Moment → Type 0) (m : TimeMap) (t : Moment) (k : TokenRow Moment) : Type 0 where
