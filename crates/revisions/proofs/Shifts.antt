@@ -1,6 +1,6 @@
 -- A decision keeps its outcome where points moved, but none of which it needs to know.
-use Rattle.std.proofs.Common.{◌≡◌, ℕ, List, ap, inl, inr}
-use Rattle.std.specs.Prelude.{◌+ℤ◌, Some, int_le, pos, negsuc}
+use Rattle.std.proofs.Common.{ℕ, List, ap, inl, inr}
+use Rattle.std.specs.Prelude.{◌+ℤ◌, int_le, pos, negsuc}
 use Rattle.std.specs.Ordering.{int_cmp, nat_cmp, ordering_then}
 use Rattle.std.specs.Cmp.Lexicographic.{slice_cmp, bytes_decides}
 use Rattle.tmm_model.specs.declared.token.TokenRow.{TokenRow}
