@@ -1,5 +1,5 @@
 -- Nodes and rows stay fit where a node enters, where rows enter at it, and where rows are let wait.
-use Rattle.std.proofs.Common.{◌≡◌, ◌∙◌, ℕ, List, Some, sym, ap, subst, inl, inr}
+use Rattle.std.proofs.Common.{◌≡◌, ◌∙◌, ℕ, List, Some, sym, ap, subst, inl, inr, ◌⊎◌}
 use Rattle.tmm_model.specs.Standing.{Standing}
 use Rattle.dist_net.specs.Net.{Net}
 use Rattle.spots.specs.Forest.{IsLive}
@@ -13,7 +13,7 @@ use Rattle.belief_net.specs.declared.state.BeliefNet.{BeliefNet}
 use Rattle.belief_net.specs.declared.state.Decisions.{Decisions}
 use Rattle.belief_net.specs.Adding.{AddsRule}
 use Rattle.belief_net.specs.Decided.{table_of, AreUnder, AddsRows}
-use Rattle.belief_net.specs.Marks.{Marks}
+use Rattle.belief_net.specs.Marks.{Marks, WaitsAt}
 use Rattle.belief_net.specs.Turning.{IsFit}
 use Rattle.belief_net.specs.Waiting.{dates_in}
 
@@ -27,14 +27,16 @@ module _ (s : Standing) (net : Net) (b : BeliefNet) (fit : IsFit s net b) where
     dated = λ i date at. let (row, there, is) = fit.dated i date at in (row, there, is ∙ sym (dates row.value.trigger (fit.events i row there)));
   }
 
-  -- other rows and marks, on the same nodes
-  pub fit_marked : (d : Decisions) (P : ℕ → TableRow Pair 6 → Type 0) → d.rows ≡ b.decisions.rows → AreUnder s d
-      → Marks (present b.tree) (table_of b.decisions) P (dates_in b.decisions.waiting) (dates_in d.waiting) → IsFit s net (record b { decisions = d })
-  fit_marked d P rows under marks = record {
+  -- other rows and dates, on the same nodes
+  pub fit_only : (d : Decisions) (P : ℕ → TableRow Pair 6 → Type 0) → d.rows ≡ b.decisions.rows → AreUnder s d
+      → ((i : ℕ) → (dates_in d.waiting i ≡ dates_in b.decisions.waiting i)
+      ⊎ ((row : TableRow Pair 6) × ((table_of b.decisions).row i ≡ Some row) × P i row × WaitsAt (present b.tree) (dates_in d.waiting) i row))
+      → IsFit s net (record b { decisions = d })
+  fit_only d P rows under only = record {
     tree = fit.tree;
     events = λ i row at. fit.events i row (was i row at);
     under = under;
-    dated = λ i date at. elim (marks.only i) [
+    dated = λ i date at. elim (only i) [
       | inl same ↦ (let (row, there, is) = fit.dated i date (sym same ∙ at) in (row, is_there i row there, is))
       | inr marked ↦ (
           let both : Some (early (present b.tree) marked.0.value.trigger) ≡ Some date = sym marked.3 ∙ at in
@@ -48,6 +50,10 @@ module _ (s : Standing) (net : Net) (b : BeliefNet) (fit : IsFit s net b) where
 
       is_there : (i : ℕ) (row : TableRow Pair 6) → (table_of b.decisions).row i ≡ Some row → (table_of d).row i ≡ Some row
       is_there i row at = ap (λ rs. (table_of (record b.decisions { rows = rs })).row i) rows ∙ at
+
+  pub fit_marked : (d : Decisions) (P : ℕ → TableRow Pair 6 → Type 0) → d.rows ≡ b.decisions.rows → AreUnder s d
+      → Marks (present b.tree) (table_of b.decisions) P (dates_in b.decisions.waiting) (dates_in d.waiting) → IsFit s net (record b { decisions = d })
+  fit_marked d P rows under marks = fit_only d P rows under marks.only
 
   pub fit_with_rows : (d : Decisions) (rules : List (List ℕ)) (y : ℕ) → IsLive (forest b.tree) y → AddsRows rules y (early (present b.tree) y) b.decisions d → AreUnder s d
       → IsFit s net (record b { decisions = d })

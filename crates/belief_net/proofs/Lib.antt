@@ -45,3 +45,9 @@ pub mod Updated
 pub mod Numbering
 pub mod AlikeKept
 pub mod AlikeCounted
+pub mod Placed
+pub mod Stood
+pub mod Shifted
+pub mod Waking
+pub mod AtRest
+pub mod Unread

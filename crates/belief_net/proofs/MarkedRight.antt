@@ -10,6 +10,7 @@ use Rattle.tmm_model.specs.declared.premise.Premise.{Premise}
 use Rattle.tmm_model.specs.declared.premise.Premise.TheVariants.{Class, Kind, Point, Event, Token, Span, Dist, Rule, Protect}
 use Rattle.tmm_model.specs.Beliefs.{due}
 use Rattle.tmm_model.specs.Edits.{next_list}
+use Rattle.tmm_model.specs.Maps.{built}
 use Rattle.tmm_model.specs.Moments.{rule_of}
 use Rattle.tmm_model.specs.Points.{same_name}
 use Rattle.tmm_model.specs.Standing.{Standing, points_in, points_of, name_of, far_in}
@@ -18,6 +19,7 @@ use Rattle.list_theory.proofs.Elements.{In, In-from_Contains, Contains-from_In, 
 use Rattle.list_theory.proofs.Erasure.{kept_before}
 use Rattle.list_theory.proofs.KnownNames.{fresh}
 use Rattle.list_theory.proofs.WellNamed.{points_in-push, AllFollow-append}
+use Rattle.belief_theory.proofs.SoundBeliefs.{believed_occurs}
 use Rattle.dist_net.specs.Net.{Net, Nets, IsInUse}
 use Rattle.list_net.specs.Fits.{IsNetOf}
 use Rattle.list_net.specs.Represents.{Names, IsNumberOf}
@@ -29,8 +31,9 @@ use Rattle.occ_tree.specs.OfLists.{IsTreeOf}
 use Rattle.occ_tree.specs.Standing.{Kept, present, early}
 use Rattle.joined.specs.Gaps.{TellsMoves}
 use Rattle.joined.proofs.Gaps.{moved_points_touch}
+use Rattle.joined.proofs.Shifting.{resting_keep}
 use Rattle.belief_net.specs.ByEvent.{differ, is_between}
-use Rattle.belief_net.specs.MarkLaws.{added_by, PointsWereThere, MovedRowsAreTouched, DueRowsChange}
+use Rattle.belief_net.specs.MarkLaws.{added_by, PointsWereThere, MovedRowsAreTouched, RestingRowsKeep, DueRowsChange}
 use Rattle.belief_net.specs.MovedPairs.{is_of_premise, is_kept, is_moved}
 use Rattle.belief_net.proofs.Pairs.{not_of_one, moved_parts, moved_by_far, bounds_differ, same_bound_is}
 
@@ -125,6 +128,11 @@ module _ (old : Standing) (edit : Edit) (nets : Nets) (net_old : IsNetOf old net
 pub moved_rows_are_touched : MovedRowsAreTouched
 moved_rows_are_touched old edit nets f b r x net_old seen keep holds live was entered =
     moved_points_touch old edit nets (is_moved nets (added_by edit)) f b r x net_old seen keep (tells_moves old edit nets net_old seen.network.sound) holds live was entered
+
+pub resting_rows_keep : RestingRowsKeep
+resting_rows_keep old edit nets loose f b r x net_old seen keep cover holds live was stood stands same left entered rest =
+    resting_keep old edit nets (is_moved nets (added_by edit)) loose f (built old).believed b r x net_old seen keep (tells_moves old edit nets net_old seen.network.sound) cover
+    (believed_occurs old net_old.sound) holds live was stood stands same left entered rest
 
 -- ---- another horizon
 

@@ -74,7 +74,7 @@ pub rules_none : (s : State) (t : Table Pair 6) (P : TableRow Pair 6 → Type 0)
 rules_none s t P dates = marks_none s t (OfFirst P 0) dates (λ i row of. (let less = of.0 in omega (arith, less)))
 
 module _ (list : Standing) (d : Decisions) (under : AreUnder list d) (listed : AreListed (table_of d)) where
-  on_rule : (i n : ℕ) (row : TableRow Pair 6) → (table_of d).row i ≡ Some row → IsOn ((table_of d).list 1 n) i ↔ (row.value.rule ≡ n)
+  pub on_rule : (i n : ℕ) (row : TableRow Pair 6) → (table_of d).row i ≡ Some row → IsOn ((table_of d).list 1 n) i ↔ (row.value.rule ≡ n)
   on_rule i n row at = let u = under.classes i row at in (pairs_listed d.rows i n row (classes_in u.classes) listed at u.heads).1
 
   pub rules_next : (s : State) (P : TableRow Pair 6 → Type 0) (n : ℕ) (events : Events) (old mid new : Dates)

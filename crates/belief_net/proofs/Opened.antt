@@ -9,11 +9,12 @@ use Rattle.tmm_model.specs.declared.point.PointName.TheVariants.{Begin}
 use Rattle.tmm_model.specs.declared.premise.Edit.{Edit}
 use Rattle.tmm_model.specs.declared.premise.Edit.TheVariants.{Add, Erase, Horizon}
 use Rattle.tmm_model.specs.declared.premise.Premise.{Premise}
-use Rattle.tmm_model.specs.Beliefs.{due, root_of, roots}
+use Rattle.tmm_model.specs.Beliefs.{due, root_of, roots, rules_at}
 use Rattle.tmm_model.specs.Edits.{next_list}
 use Rattle.tmm_model.specs.Maps.{built}
 use Rattle.tmm_model.specs.Moments.{Moment, At, rule_of}
 use Rattle.tmm_model.specs.Standing.{Standing, points_in, name_of, far_in, premise_in}
+use Rattle.belief_theory.specs.Outcomes.{outcome}
 use Rattle.list_theory.specs.WellNamed.{IsSound}
 use Rattle.list_theory.proofs.Elements.{In, In-right, In-from_Contains, In-filter, In-filter_map}
 use Rattle.list_theory.proofs.KnownNames.{fresh}
@@ -38,6 +39,7 @@ use Rattle.revisions.specs.Standing.{IsLeftOut}
 use Rattle.revisions.proofs.StillEdits.{base_root}
 use Rattle.revisions.proofs.Tokens.{root_named}
 use Rattle.joined.specs.Gaps.{SameGaps, MovesAt}
+use Rattle.joined.specs.Shifting.{AreLoose, MayRest}
 use Rattle.joined.specs.Rows.{Row}
 use Rattle.joined.specs.Starting.{IsPrepared}
 use Rattle.joined.specs.Telling.{IsToldOf, LeaveFirst}
@@ -56,21 +58,22 @@ use Rattle.belief_net.specs.Decided.{table_of, rule_in, AreUnder, KeepsLast}
 use Rattle.belief_net.specs.Entering.{KeepLast}
 use Rattle.belief_net.specs.Erasing.{moments_of, ShedsAll, Spares, IsFreeOf}
 use Rattle.belief_net.specs.MarkLaws.{added_by as name_added}
-use Rattle.belief_net.specs.Marks.{Marks, IsAsLate, HaveEvents}
+use Rattle.belief_net.specs.Marks.{IsAsLate, HaveEvents, Wakes}
 use Rattle.belief_net.specs.MovedPairs.{WereThere, is_moved}
 use Rattle.belief_net.specs.Numbered.{AreNumbered, left_under}
 use Rattle.belief_net.specs.Settling.{Begins}
 use Rattle.belief_net.specs.Telling.{entered_in, outs, moments_of as last_first}
 use Rattle.belief_net.specs.Touching.{IsRowMoved}
 use Rattle.belief_net.specs.Turning.{rows_of, IsFit}
-use Rattle.belief_net.specs.Updating.{IsKept, IsPending, MayAdd, Entered, IsTouchedBy}
+use Rattle.belief_net.specs.Updating.{IsKept, IsPending, MayAdd, Entered, IsTouchedBy, IsLeftBy}
 use Rattle.belief_net.specs.Waiting.{dates_in, waits_in}
+use Rattle.belief_net.specs.Woken.{IsRowAtRest}
 use Rattle.belief_net.proofs.Begun.{begun_ready}
 use Rattle.belief_net.proofs.Cleared.{cleared, seen_after, told_first}
 use Rattle.belief_net.proofs.Entered.{one_row}
-use Rattle.belief_net.proofs.Fitting.{fit_marked}
+use Rattle.belief_net.proofs.Fitting.{fit_only, fit_marked}
 use Rattle.belief_net.proofs.KeptAgain.{named_more}
-use Rattle.belief_net.proofs.MarkedRight.{points_were_there, moved_rows_are_touched, due_rows_change}
+use Rattle.belief_net.proofs.MarkedRight.{points_were_there, moved_rows_are_touched, resting_rows_keep, due_rows_change}
 use Rattle.belief_net.proofs.Named.{under_more, last_on}
 use Rattle.belief_net.proofs.Numbered.{numbered_on, numbered_added, numbered_erased}
 use Rattle.belief_net.proofs.Readied.{WaitOn, moved_marked, due_marked, prepared_on}
@@ -205,18 +208,18 @@ module _ (old : Standing) (edit : Edit) (nets : Nets) (names : List (List ℕ)) 
 
 -- ---- rows that the edit touches
 
--- in n what the edit adds has entered, and in z besides rows wait that it touches
+-- in n what the edit adds has entered, and in z besides rows wait that it touches, and all others may rest
 pub record IsOpened (s : Standing) (nets : Nets) (edit : Edit) (before : ℕ) (m n z : BeliefNet) : Type 0 where
   pub entered : Entered s nets.present edit m n
-  pub touched : Marks (present n.tree) (table_of n.decisions) (λ i row. IsTouchedBy edit s nets before n row) (dates_in n.decisions.waiting) (dates_in z.decisions.waiting)
+  pub touched : Wakes (present n.tree) (table_of n.decisions) (λ i row. IsTouchedBy edit s nets before n row) (λ i row. IsLeftBy edit s nets before n row) (dates_in n.decisions.waiting) (dates_in z.decisions.waiting)
   pub others : z ≡ record n { decisions = record n.decisions { waiting = z.decisions.waiting } }
 
 -- other dates for which rows wait
 abbrev waiting_with : BeliefNet → List (Option ℤ) → BeliefNet
 waiting_with n dates = record n { decisions = record n.decisions { waiting = dates } }
 
-module _ (n : BeliefNet) (dates : List (Option ℤ)) (P : ℕ → TableRow Pair 6 → Type 0)
-    (touched : Marks (present n.tree) (table_of n.decisions) P (dates_in n.decisions.waiting) (dates_in dates)) where
+module _ (n : BeliefNet) (dates : List (Option ℤ)) (P R : ℕ → TableRow Pair 6 → Type 0)
+    (touched : Wakes (present n.tree) (table_of n.decisions) P R (dates_in n.decisions.waiting) (dates_in dates)) where
   wait_still : (i : ℕ) → waits_in n.decisions.waiting i ≡ true → waits_in dates i ≡ true
   wait_still i waited = elim (touched.only i) [ inl same ↦ ap is_some same ∙ waited | inr marked ↦ ap is_some marked.3 ]
 
@@ -248,12 +251,12 @@ module _ (n : BeliefNet) (dates : List (Option ℤ)) (P : ℕ → TableRow Pair 
         | inr (r, stands, marked, _) ↦ inr (row, here, is, subst (P i) (one_row (table_of n.decisions) i r row stands here) marked)
       ]
 
-  -- each that is marked waits
-  marked_waits : (i : ℕ) (q : Row) → rows_of (waiting_with n dates) i ≡ Some q
-      → (row : TableRow Pair 6) × ((table_of n.decisions).row i ≡ Some row) × (q ≡ seen_row (waiting_with n dates) i row) × (P i row → q.waits ≡ true)
-  marked_waits i q at =
+  -- each waits, or may rest
+  waits_or : (i : ℕ) (q : Row) → rows_of (waiting_with n dates) i ≡ Some q
+      → (row : TableRow Pair 6) × ((table_of n.decisions).row i ≡ Some row) × (q ≡ seen_row (waiting_with n dates) i row) × ((q.waits ≡ true) ⊎ R i row)
+  waits_or i q at =
       let (row, here, is) = row_of (waiting_with n dates) i q at in
-      (row, here, is, λ marked. ap (λ (r : Row). r.waits) is ∙ ap is_some (touched.all i row here marked))
+      (row, here, is, elim (touched.rests i row here) [ inl waits ↦ inl (ap (λ (r : Row). r.waits) is ∙ waits) | inr rests ↦ inr rests ])
 
 module _ (old : Standing) (edit : Edit) (nets : Nets) (names : List (List ℕ)) (before : ℕ) (b e c m n z : BeliefNet) (all : Departed) (is_before : before ≡ old.horizon)
     (h : IsErased old (next_list old edit) nets names b e all) (k : IsMarked nets e c m all) (o : IsOpened (next_list old edit) nets edit before m n z) where
@@ -294,29 +297,45 @@ module _ (old : Standing) (edit : Edit) (nets : Nets) (names : List (List ℕ)) 
   })
 
   on : WaitOn (rows_of n) (rows_of (waiting_with n z.decisions.waiting))
-  on = wait_on n z.decisions.waiting (λ i row. IsTouchedBy edit (next_list old edit) nets before n row) o.touched
+  on = wait_on n z.decisions.waiting (λ i row. IsTouchedBy edit (next_list old edit) nets before n row) (λ i row. IsLeftBy edit (next_list old edit) nets before n row) o.touched
+
+  -- what may rest though points moved, by a rule and the node of an event
+  abbrev MayRestAt : List ℕ → ℕ → Type 0
+  MayRestAt r x = (loose : ℕ → Bool) × AreLoose (is_moved nets (name_added edit)) loose × MayRest (is_moved nets (name_added edit)) loose (next_list old edit) nets (forest n.tree) r x
 
   prepared_moved : ((row : TableRow Pair 6) → IsTouchedBy edit (next_list old edit) nets before n row ≡ IsRowMoved nets (name_added edit) (next_list old edit) (forest n.tree) n.decisions row)
+      → ((row : TableRow Pair 6) → IsLeftBy edit (next_list old edit) nets before n row ≡ IsRowAtRest nets (name_added edit) (next_list old edit) (forest n.tree) n.decisions row)
       → old.horizon ≡ (next_list old edit).horizon
       → IsPrepared old (next_list old edit) nets.present (forest b.tree) (forest n.tree) (rows_of b) (rows_of (waiting_with n z.decisions.waiting))
-  prepared_moved by_move same =
+  prepared_moved by_move by_rest same =
       prepared_on old edit nets.committed nets.present f g (rows_of b) (rows_of n) (rows_of y) sound_before sound_after h.kept.current ready on
       (λ l holds seeds. moved_marked old edit nets.committed nets.present f g (rows_of b) (rows_of n) (rows_of y) sound_before sound_after h.kept.current ready on
-      (is_moved nets (name_added edit)) same gaps all_wait only_wait l holds seeds)
+      (is_moved nets (name_added edit)) MayRestAt same apart keeps all_wait only_wait l holds seeds)
     where
-      gaps : (l : List Moment) (r : List ℕ) (x : ℕ) → Holds l g → IsLive g x → Contains (built old).believed (moment_at g x)
+      apart : (l : List Moment) (r : List ℕ) (x : ℕ) → Holds l g → IsLive g x → Contains (built old).believed (moment_at g x)
           → ((u : Moment) → Contains l u → watches (next_list old edit) r u ≡ true → Contains (built old).believed u)
-          → (SameGaps old (next_list old edit) l (moment_at g x) r → MovesAt (is_moved nets (name_added edit)) (next_list old edit) g r x → ⊥)
-          × ((MovesAt (is_moved nets (name_added edit)) (next_list old edit) g r x → ⊥) → SameGaps old (next_list old edit) l (moment_at g x) r)
-      gaps l r x holds live was entered = moved_rows_are_touched old edit nets g l r x h.kept.fit.tree.seen.network ready.seen h.numbers holds live was entered
+          → SameGaps old (next_list old edit) l (moment_at g x) r → MovesAt (is_moved nets (name_added edit)) (next_list old edit) g r x → ⊥
+      apart l r x holds live was entered = (moved_rows_are_touched old edit nets g l r x h.kept.fit.tree.seen.network ready.seen h.numbers holds live was entered).0
 
-      all_wait : (i : ℕ) (q : Row) → rows_of y i ≡ Some q → MovesAt (is_moved nets (name_added edit)) (next_list old edit) g q.rule q.trigger → q.waits ≡ true
-      all_wait i q at moved =
-          let (row, here, is, waits) = marked_waits n z.decisions.waiting (λ j r. IsTouchedBy edit (next_list old edit) nets before n r) o.touched i q at in
-          waits (subst (λ T. T) (sym (by_move row)) (subst (λ (r : Row). MovesAt (is_moved nets (name_added edit)) (next_list old edit) g r.rule r.trigger) is moved))
+      keeps : (l : List Moment) (r : List ℕ) (x : ℕ) → Holds l g → IsLive g x → Contains (built old).believed (moment_at g x)
+          → Contains (rules_at old (moment_at g x)) r → Contains (rules_at (next_list old edit) (moment_at g x)) r
+          → ((u : Moment) → Contains (built old).believed u → watches old r u ≡ true → Contains l u)
+          → ((u : Moment) → Contains l u → watches (next_list old edit) r u ≡ true → Contains (built old).believed u)
+          → MayRestAt r x
+          → outcome old (far_in old.premises) (built old).believed (moment_at g x) r ≡ outcome (next_list old edit) (far_in (next_list old edit).premises) l (moment_at g x) r
+      keeps l r x holds live was stood stands left entered (loose, cover, rest) =
+          resting_rows_keep old edit nets loose g l r x h.kept.fit.tree.seen.network ready.seen h.numbers cover holds live was stood stands same left entered rest
+
+      all_wait : (i : ℕ) (q : Row) → rows_of y i ≡ Some q → (q.waits ≡ true) ⊎ MayRestAt q.rule q.trigger
+      all_wait i q at =
+          let (row, here, is, waits) = waits_or n z.decisions.waiting (λ j r. IsTouchedBy edit (next_list old edit) nets before n r) (λ j r. IsLeftBy edit (next_list old edit) nets before n r) o.touched i q at in
+          elim waits [
+            | inl waiting ↦ inl waiting
+            | inr left ↦ inr (subst (λ (r : Row). MayRestAt r.rule r.trigger) (sym is) (subst (λ T. T) (by_rest row) left))
+          ]
 
       only_wait : (i : ℕ) (p q : Row) → rows_of n i ≡ Some p → rows_of y i ≡ Some q → q.waits ≡ true → (p.waits ≡ true) ⊎ MovesAt (is_moved nets (name_added edit)) (next_list old edit) g q.rule q.trigger
-      only_wait i p q there at waits = elim (waited_or n z.decisions.waiting (λ j r. IsTouchedBy edit (next_list old edit) nets before n r) o.touched i p q there at waits) [
+      only_wait i p q there at waits = elim (waited_or n z.decisions.waiting (λ j r. IsTouchedBy edit (next_list old edit) nets before n r) (λ j r. IsLeftBy edit (next_list old edit) nets before n r) o.touched i p q there at waits) [
         | inl waited ↦ inl waited
         | inr (row, here, is, marked) ↦ inr (subst (λ (r : Row). MovesAt (is_moved nets (name_added edit)) (next_list old edit) g r.rule r.trigger) (sym is) (subst (λ T. T) (by_move row) marked))
       ]
@@ -349,16 +368,16 @@ module _ (old : Standing) (k : ℕ) (nets : Nets) (names : List (List ℕ)) (bef
 
   all_due : (i : ℕ) (q : Row) → rows_of v i ≡ Some q → q.waits ≡ false → is_in_time q old.horizon ≡ is_in_time q k
   all_due i q at rests =
-      let (row, here, is, waits) = marked_waits n z.decisions.waiting (λ j r. IsTouchedBy (Horizon k) until nets before n r) o.touched i q at in
-      let same = (due_changes row (o.entered.fit.events i row here)).0 (not_between row q waits rests (between row) refl) in
+      let (row, here, is, waits) = waits_or n z.decisions.waiting (λ j r. IsTouchedBy (Horizon k) until nets before n r) (λ j r. IsLeftBy (Horizon k) until nets before n r) o.touched i q at in
+      let same = (due_changes row (o.entered.fit.events i row here)).0 (elim waits [ inl waiting ↦ true_false (sym waiting ∙ rests) | inr left ↦ not_between row left (between row) refl ]) in
       subst (λ d. is_in_time q d ≡ is_in_time q k) is_before (subst (λ (r : Row). is_in_time r before ≡ is_in_time r k) (sym is) same)
     where
-      not_between : (row : TableRow Pair 6) (q : Row) → (between row ≡ true → q.waits ≡ true) → q.waits ≡ false → (t : Bool) → between row ≡ t → between row ≡ false
-      not_between row q waits rests false is = is
-      not_between row q waits rests true is = true_false (sym (waits is) ∙ rests)
+      not_between : (row : TableRow Pair 6) → (between row ≡ true → ⊥) → (t : Bool) → between row ≡ t → between row ≡ false
+      not_between row left false is = is
+      not_between row left true is = absurd (left is)
 
   only_due : (i : ℕ) (p q : Row) → rows_of n i ≡ Some p → rows_of v i ≡ Some q → q.waits ≡ true → (p.waits ≡ true) ⊎ (old.horizon ≢ k)
-  only_due i p q there at waits = elim (waited_or n z.decisions.waiting (λ j r. IsTouchedBy (Horizon k) until nets before n r) o.touched i p q there at waits) [
+  only_due i p q there at waits = elim (waited_or n z.decisions.waiting (λ j r. IsTouchedBy (Horizon k) until nets before n r) (λ j r. IsLeftBy (Horizon k) until nets before n r) o.touched i p q there at waits) [
     | inl waited ↦ inl waited
     | inr (row, here, is, marked) ↦ inr (λ same.
         (due_changes row (o.entered.fit.events i row here)).1 marked (ap (λ d. is_in_time (seen_row v 0 row) d) (is_before ∙ same)))
@@ -376,8 +395,8 @@ module _ (old : Standing) (k : ℕ) (nets : Nets) (names : List (List ℕ)) (bef
 opened_prepared : (old : Standing) (edit : Edit) (nets : Nets) (names : List (List ℕ)) (before : ℕ) (b e c m n z : BeliefNet) (all : Departed) → before ≡ old.horizon
     → IsErased old (next_list old edit) nets names b e all → IsMarked nets e c m all → IsOpened (next_list old edit) nets edit before m n z
     → IsPrepared old (next_list old edit) nets.present (forest b.tree) (forest n.tree) (rows_of b) (rows_of (waiting_with n z.decisions.waiting))
-opened_prepared old (Add p) nets names before b e c m n z all is_before h k o = prepared_moved old (Add p) nets names before b e c m n z all is_before h k o (λ row. refl) refl
-opened_prepared old (Erase x) nets names before b e c m n z all is_before h k o = prepared_moved old (Erase x) nets names before b e c m n z all is_before h k o (λ row. refl) refl
+opened_prepared old (Add p) nets names before b e c m n z all is_before h k o = prepared_moved old (Add p) nets names before b e c m n z all is_before h k o (λ row. refl) (λ row. refl) refl
+opened_prepared old (Erase x) nets names before b e c m n z all is_before h k o = prepared_moved old (Erase x) nets names before b e c m n z all is_before h k o (λ row. refl) (λ row. refl) refl
 opened_prepared old (Horizon d) nets names before b e c m n z all is_before h k o = prepared_until old d nets names before b e c m n z all is_before h k o
 
 module _ (old : Standing) (edit : Edit) (nets : Nets) (names : List (List ℕ)) (before : ℕ) (b e c m n z : BeliefNet) (all : Departed) (is_before : before ≡ old.horizon)
@@ -390,8 +409,8 @@ module _ (old : Standing) (edit : Edit) (nets : Nets) (names : List (List ℕ)) 
 
   pub fit_opened : IsFit (next_list old edit) nets.present z
   fit_opened = subst (IsFit (next_list old edit) nets.present) (sym o.others)
-      (fit_marked (next_list old edit) nets.present n o.entered.fit w.decisions (λ i row. IsTouchedBy edit (next_list old edit) nets before n row) refl
-      (record { classes = o.entered.fit.under.classes; named = o.entered.fit.under.named }) o.touched)
+      (fit_only (next_list old edit) nets.present n o.entered.fit w.decisions (λ i row. IsTouchedBy edit (next_list old edit) nets before n row) refl
+      (record { classes = o.entered.fit.under.classes; named = o.entered.fit.under.named }) o.touched.only)
 
   pub opened_begins : (told : Told) → entered_in told ≡ [] → told.left.items ≡ all.left.items → Begins old edit nets.present z told
   opened_begins told none left = subst (λ (x : BeliefNet). Begins old edit nets.present x told) (sym o.others) (record {

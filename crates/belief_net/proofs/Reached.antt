@@ -33,7 +33,8 @@ use Rattle.spots.specs.Seen.{IsSeen}
 use Rattle.spots.specs.Spots.{base_of, links_of, links_high, AreTokens}
 use Rattle.spots.proofs.Rows.{IsRowOf, member_of_token}
 use Rattle.spots.proofs.Nodes.{live_at}
-use Rattle.joined.specs.Gaps.{IsClassSpot, begin, an_end, IsReadSpot, start, read}
+use Rattle.joined.specs.Gaps.{IsClassSpot, begin, an_end}
+use Rattle.joined.specs.Shifting.{IsSpotOf}
 use Rattle.belief_net.specs.declared.reach.Reach.{Reach}
 use Rattle.belief_net.specs.PointSets.{is_in, PutsIn, AreThose}
 use Rattle.belief_net.specs.Reach.{IsBaseOf, IsBoundedBaseOf, Notes, HasPlaces, AreBelow256, IsSpotBelow256}
@@ -55,22 +56,6 @@ numbers_below s net f seen places = record { begin = λ x m at. in_place m.begin
     by : (shape : Shape) (root : List ℕ) (o : Option ℕ) → MatchOption o (shape ≢ Span) (λ e. (shape ≡ Span) × IsNumberOf net.names e (End root)) → (e : ℕ) → o ≡ Some e → e < 256
     by shape root None h e is = cc
     by shape root (Some k) h e is = let same : k ≡ e = cc in subst (λ z. z < 256) same (in_place k (End root) h.1)
-
--- each antecedent of a rule has a class
-pub facts_have_classes : (s : Standing) → IsSound s → (r : List ℕ) → All (λ fact. IsSome (class_in s.premises fact)) (rule_of s r).given
-facts_have_classes s sound r = by (premise_in s.premises r) refl
-  where
-    by : (o : Option Premise) → premise_in s.premises r ≡ o → All (λ fact. IsSome (class_in s.premises fact)) (as_rule o).given
-    by (Some (Rule name trigger lo hi effect given)) is = subst (λ o. All (λ fact. IsSome (class_in s.premises fact)) (as_rule o).given) is (facts_known s sound r (Rule name trigger lo hi effect given, is, tt))
-    by (Some (Class name facts)) is = All-nil (λ fact. IsSome (class_in s.premises fact))
-    by (Some (Kind name)) is = All-nil (λ fact. IsSome (class_in s.premises fact))
-    by (Some (Point name)) is = All-nil (λ fact. IsSome (class_in s.premises fact))
-    by (Some (Event name kind)) is = All-nil (λ fact. IsSome (class_in s.premises fact))
-    by (Some (Token name fact)) is = All-nil (λ fact. IsSome (class_in s.premises fact))
-    by (Some (APremiseSpan name fact)) is = All-nil (λ fact. IsSome (class_in s.premises fact))
-    by (Some (Dist name from to lo hi)) is = All-nil (λ fact. IsSome (class_in s.premises fact))
-    by (Some (Protect name fact from to)) is = All-nil (λ fact. IsSome (class_in s.premises fact))
-    by None is = All-nil (λ fact. IsSome (class_in s.premises fact))
 
 module _ (f : Forest) where
   pub notes_none : (S : Spot → Type 0) (r : Reach) → ((s : Spot) → S s → ⊥) → Notes f S r r
@@ -179,55 +164,15 @@ module _ (f : Forest) where
         | inr more ↦ elim more [ inl below ↦ inl (k, other, below, at, spot) | inr above ↦ absurd (omega (arith, less, above)) ]
       ]
 
-  -- ---- facts
+  -- ---- `start` and a class
 
-  -- the spots of the classes of the first n facts
-  abbrev pub OfFirstFacts : Standing → List (List ℕ) → ℕ → Spot → Type 0
-  OfFirstFacts s facts n p = (k : ℕ) × (k < n) × (IsClassSpot f (class_of s (get_or facts k [])) p)
+  pub class_noted_too : (class : List ℕ) (old mid new : Reach) → Notes f (λ p. p ≡ Declared 0) old mid → Notes f (IsClassSpot f class) mid new → Notes f (IsSpotOf f class) old new
+  class_noted_too class old mid new =
+      notes_both (λ p. p ≡ Declared 0) (IsClassSpot f class) (IsSpotOf f class) old mid new (λ p is. is) (λ p is. inl is) (λ p is. inr is)
 
-  pub facts_none : (s : Standing) (facts : List (List ℕ)) (r : Reach) → Notes f (OfFirstFacts s facts 0) r r
-  facts_none s facts r = notes_none (OfFirstFacts s facts 0) r (λ p (k, less, at). (let no = less in omega (arith, no)))
-
-  pub facts_next : (s : Standing) (facts : List (List ℕ)) (n : ℕ) (class : List ℕ) (old mid new : Reach) → class ≡ class_of s (get_or facts n [])
-      → Notes f (OfFirstFacts s facts n) old mid → Notes f (IsClassSpot f class) mid new → Notes f (OfFirstFacts s facts (n + 1)) old new
-  facts_next s facts n class old mid new is = notes_both (OfFirstFacts s facts n) (IsClassSpot f class) (OfFirstFacts s facts (n + 1)) old mid new
-      (λ p (k, less, at). elim (cases_order k n) [
-        | inl same ↦ inr (subst (λ c. IsClassSpot f c p) (ap (λ j. class_of s (get_or facts j [])) same ∙ sym is) at)
-        | inr other ↦ elim other [ inl below ↦ inl (k, below, at) | inr above ↦ absurd (omega (arith, less, above)) ]
-      ])
-      (λ p (k, less, at). (k, omega (arith, less), at))
-      (λ p at. (n, omega arith, subst (λ c. IsClassSpot f c p) is at))
-
-  -- the spots of the classes of the facts
-  abbrev pub OfFacts : Standing → List (List ℕ) → Spot → Type 0
-  OfFacts s facts p = (fact : List ℕ) × In fact facts × IsClassSpot f (class_of s fact) p
-
-  pub facts_noted : (s : Standing) (facts : List (List ℕ)) (n : ℕ) (old new : Reach) → n ≡ length facts → Notes f (OfFirstFacts s facts n) old new → Notes f (OfFacts s facts) old new
-  facts_noted s facts n old new whole = notes_alike (OfFirstFacts s facts n) (OfFacts s facts) old new
-      (λ p (k, less, at). (
-        get_or facts k [],
-        In-from_Contains facts (get_or facts k []) (k, subst (λ z. k < z) whole less, get_or_default facts k (get_or facts k []) [] (subst (λ z. k < z) whole less)),
-        at,
-      ))
-      (λ p (fact, on, at).
-      (let (k, less, is) = Contains-from_In facts fact on in
-      (k, subst (λ z. k < z) (sym whole) less, subst (λ c. IsClassSpot f (class_of s c) p) (sym is ∙ get_or_default facts k fact [] less) at)))
-
-  -- ---- what a rule reads
-
-  pub rule_noted : (s : Standing) (r : List ℕ) (old mid new : Reach) → Notes f (λ p. p ≡ Declared 0) old mid → Notes f (OfFacts s (rule_of s r).given) mid new → Notes f (IsReadSpot s f r) old new
-  rule_noted s r old mid new = notes_both (λ p. p ≡ Declared 0) (OfFacts s (rule_of s r).given) (IsReadSpot s f r) old mid new
-      apart (λ p is. start is) (λ p (fact, on, at). read (class_of s fact) (In-list_any (λ g. same_name (class_of s g) (class_of s fact)) (rule_of s r).given fact on ((bytes_decides (class_of s fact) (class_of s fact)).1 refl)) at)
-    where
-      apart : (p : Spot) → IsReadSpot s f r p → (p ≡ Declared 0) ⊎ OfFacts s (rule_of s r).given p
-      apart p (start is) = inl is
-      apart p (read class reads at) =
-          let (fact, on, same) = list_any-In (λ g. same_name (class_of s g) class) (rule_of s r).given reads in
-          inr (fact, on, subst (λ c. IsClassSpot f c p) (sym ((bytes_decides (class_of s fact) class).0 same)) at)
-
-  pub rule_reached : (S : Spot → Type 0) (old new : Reach) → ((p : ℕ) → is_in old.all.items p ≡ false) → ((p : ℕ) → is_in old.bounded.items p ≡ false) → HasPlaces old → Notes f S old new
+  pub reached : (S : Spot → Type 0) (old new : Reach) → ((p : ℕ) → is_in old.all.items p ≡ false) → ((p : ℕ) → is_in old.bounded.items p ≡ false) → HasPlaces old → Notes f S old new
       → AreThose (IsBaseOf f S) new.all.items × AreThose (IsBoundedBaseOf f S) new.bounded.items
-  rule_reached S old new none none_bounded has notes = (
+  reached S old new none none_bounded has notes = (
     puts_into_none (IsBaseOf f S) old.all.items new.all.items none has.all notes.all,
     puts_into_none (IsBoundedBaseOf f S) old.bounded.items new.bounded.items none_bounded has.bounded notes.bounded,
   )

@@ -10,6 +10,7 @@ use Rattle.tmm_model.specs.Maps.{built}
 use Rattle.tmm_model.specs.Moments.{Moment}
 use Rattle.tmm_model.specs.Standing.{Standing, far_in}
 use Rattle.list_theory.specs.WellNamed.{IsSound}
+use Rattle.belief_theory.specs.Outcomes.{outcome}
 use Rattle.belief_theory.specs.Right.{Occurs}
 use Rattle.dist_net.specs.Net.{Net}
 use Rattle.spots.specs.Forest.{Forest, Member, member, moment, moment_at, IsLive}
@@ -24,7 +25,7 @@ use Rattle.joined.specs.Starting.{BeginsFrom, was, is_new, RowsBegin, IsPrepared
 use Rattle.joined.specs.Touching.{IsUntouched}
 use Rattle.joined.proofs.Deciding.{some_row}
 use Rattle.joined.proofs.Preparing.{stays_same, begun_rows}
-use Rattle.joined.proofs.Touching.{touched_marked, believed_among, among_believed, horizons_marked}
+use Rattle.joined.proofs.Touching.{resting_marked, believed_among, among_believed, horizons_marked}
 use Rattle.belief_net.specs.Beginning.{IsReady}
 
 none_some : {X : Type 0} (x : X) → None ≡ Some x → ⊥
@@ -91,17 +92,23 @@ module _ (old : Standing) (edit : Edit) (before net : Net) (f g : Forest) (rows 
       let same : k ≡ m = cc in
       ap (member f) (sym one) ∙ there ∙ ap Some same
 
-  -- where points moved, and what the marks of moved points say of rows
-  module _ (moves : ℕ → ℕ → Bool) (same_horizon : old.horizon ≡ (next_list old edit).horizon)
-      (gaps : (b : List Moment) (r : List ℕ) (x : ℕ) → Holds b g → IsLive g x → Contains (built old).believed (moment_at g x)
+  -- where points moved, and what the marks of moved points say of rows: each that waits newly is at an event for which points moved,
+  -- and each that does not wait may rest
+  module _ (moves : ℕ → ℕ → Bool) (rests : List ℕ → ℕ → Type 0) (same_horizon : old.horizon ≡ (next_list old edit).horizon)
+      (apart : (b : List Moment) (r : List ℕ) (x : ℕ) → Holds b g → IsLive g x → Contains (built old).believed (moment_at g x)
       → ((y : Moment) → Contains b y → watches (next_list old edit) r y ≡ true → Contains (built old).believed y)
-      → (SameGaps old (next_list old edit) b (moment_at g x) r → MovesAt moves (next_list old edit) g r x → ⊥)
-      × ((MovesAt moves (next_list old edit) g r x → ⊥) → SameGaps old (next_list old edit) b (moment_at g x) r))
-      (all : (i : ℕ) (q : Row) → after i ≡ Some q → MovesAt moves (next_list old edit) g q.rule q.trigger → q.waits ≡ true)
+      → SameGaps old (next_list old edit) b (moment_at g x) r → MovesAt moves (next_list old edit) g r x → ⊥)
+      (keeps : (b : List Moment) (r : List ℕ) (x : ℕ) → Holds b g → IsLive g x → Contains (built old).believed (moment_at g x)
+      → Contains (rules_at old (moment_at g x)) r → Contains (rules_at (next_list old edit) (moment_at g x)) r
+      → ((y : Moment) → Contains (built old).believed y → watches old r y ≡ true → Contains b y)
+      → ((y : Moment) → Contains b y → watches (next_list old edit) r y ≡ true → Contains (built old).believed y)
+      → rests r x
+      → outcome old (far_in old.premises) (built old).believed (moment_at g x) r ≡ outcome (next_list old edit) (far_in (next_list old edit).premises) b (moment_at g x) r)
+      (all : (i : ℕ) (q : Row) → after i ≡ Some q → (q.waits ≡ true) ⊎ rests q.rule q.trigger)
       (only : (i : ℕ) (o q : Row) → mid i ≡ Some o → after i ≡ Some q → q.waits ≡ true → (o.waits ≡ true) ⊎ MovesAt moves (next_list old edit) g q.rule q.trigger)
       (b : List Moment) (holds : Holds b g) where
-    -- a row that does not wait is untouched
-    module _ (i : ℕ) (q : Row) (at : after i ≡ Some q) (rests : q.waits ≡ false) where
+    -- a row that does not wait keeps its outcome
+    module _ (i : ℕ) (q : Row) (at : after i ≡ Some q) (still : q.waits ≡ false) where
       true_false : {P : Type 0} → true ≡ false → P
       true_false e = cc
 
@@ -115,13 +122,13 @@ module _ (old : Standing) (edit : Edit) (before net : Net) (f g : Forest) (rows 
       is = (on.was i q at).2
 
       rested : o.waits ≡ true → ⊥
-      rested waits = true_false (sym ((on.was i q at).3 waits) ∙ rests)
+      rested waits = true_false (sym ((on.was i q at).3 waits) ∙ still)
 
       live : IsLive g q.trigger
       live = (begun.own i q at).0
 
       stood : BeginsFrom rows i q → Contains (built old).believed (moment_at g q.trigger) × Contains (rules_at old (moment_at g q.trigger)) q.rule
-      stood (is_new free none blank waits) = true_false (sym waits ∙ rests)
+      stood (is_new free none blank waits) = true_false (sym waits ∙ still)
       stood (was r at_r is_r) =
           let h = current.rows_are.own i r at_r in
           let live_before = subst (λ (z : Row). IsLive f z.trigger) (sym is_r) h.0 in
@@ -160,16 +167,11 @@ module _ (old : Standing) (edit : Edit) (before net : Net) (f g : Forest) (rows 
             | inr added ↦ absurd (none_some k (sym added.0 ∙ before))
           ]
 
-      rest_untouched : IsUntouched old (next_list old edit) b (moment_at g q.trigger) q.rule
-      rest_untouched =
+      row_keeps : rests q.rule q.trigger → outcome old (far_in old.premises) (built old).believed (moment_at g q.trigger) q.rule
+          ≡ outcome (next_list old edit) (far_in (next_list old edit).premises) b (moment_at g q.trigger) q.rule
+      row_keeps rest =
           let stands = stood (begun.from i q at) in
-          record {
-            was = stands;
-            horizon = same_horizon;
-            left = watched_stays;
-            entered = watched_was;
-            gaps = (gaps b q.rule q.trigger holds live stands.0 watched_was).1 (λ moved. true_false (sym (all i q at moved) ∙ rests));
-          }
+          keeps b q.rule q.trigger holds live stands.0 stands.1 (begun.own i q at).1 watched_stays watched_was rest
 
     -- a row that waits is touched
     module _ (i : ℕ) (q : Row) (at : after i ≡ Some q) (waits : q.waits ≡ true) (u : IsUntouched old (next_list old edit) b (moment_at g q.trigger) q.rule) where
@@ -210,16 +212,18 @@ module _ (old : Standing) (edit : Edit) (before net : Net) (f g : Forest) (rows 
       wait_touched : ⊥
       wait_touched = elim (only i o2 q there2 at waits) [
         | inl waited ↦ waited_touched (ready.waits.only i o2 there2 waited)
-        | inr moved ↦ (gaps b q.rule q.trigger holds live2 u.was.0 u.entered).0 u.gaps moved
+        | inr moved ↦ apart b q.rule q.trigger holds live2 u.was.0 u.entered u.gaps moved
       ]
 
-    rests_or_waits : (i : ℕ) (q : Row) → after i ≡ Some q → (v : Bool) → q.waits ≡ v → (q.waits ≡ true) ⊎ IsUntouched old (next_list old edit) b (moment_at g q.trigger) q.rule
-    rests_or_waits i q at true waits = inl waits
-    rests_or_waits i q at false rests = inr (rest_untouched i q at rests)
+    waits_or_keeps : (i : ℕ) (q : Row) → after i ≡ Some q → (v : Bool) → q.waits ≡ v → (q.waits ≡ true)
+        ⊎ (IsUntouched old (next_list old edit) b (moment_at g q.trigger) q.rule
+        ⊎ (outcome old (far_in old.premises) (built old).believed (moment_at g q.trigger) q.rule ≡ outcome (next_list old edit) (far_in (next_list old edit).premises) b (moment_at g q.trigger) q.rule))
+    waits_or_keeps i q at true waits = inl waits
+    waits_or_keeps i q at false still = elim (all i q at) [ inl waits ↦ inl waits | inr rest ↦ inr (inr (row_keeps i q at still rest)) ]
 
     pub moved_marked : AreSeeds old (next_list old edit) b → AreMarked old (next_list old edit) b g after
-    moved_marked seeds = touched_marked old edit b g after sound_old sound_new seeds rows_are
-        (λ i q at. rests_or_waits i q at q.waits refl)
+    moved_marked seeds = resting_marked old edit b g after sound_old sound_new seeds rows_are
+        (λ i q at. waits_or_keeps i q at q.waits refl)
         (λ i q at waits u. wait_touched i q at waits u)
 
   pub prepared_on : ((b : List Moment) → Holds b g → AreSeeds old (next_list old edit) b → AreMarked old (next_list old edit) b g after)

@@ -52,6 +52,10 @@ puts_next F n old mid new = puts_both (λ k. (k < n) × F k) (λ k. (k ≡ n) ×
     (λ k (less, f). (omega (arith, less), f))
     (λ k (same, f). (omega (arith, same), subst F (sym same) f))
 
+-- one number, where a test tells whether something holds of it
+pub puts_told : (F : ℕ → Type 0) (n : ℕ) (v : Bool) (old new : List Bool) → (v ≡ true) ↔ F n → PutsIn (λ k. (k ≡ n) × (v ≡ true)) old new → PutsIn (λ k. (k ≡ n) × F n) old new
+puts_told F n v old new told = puts_alike (λ k. (k ≡ n) × (v ≡ true)) (λ k. (k ≡ n) × F n) old new (λ k h. (h.0, told.0 h.1)) (λ k h. (h.0, told.1 h.1))
+
 -- what is put in for one number after the other
 pub puts_more : (G : ℕ → ℕ → Type 0) (n : ℕ) (old mid new : List Bool) → PutsIn (λ p. (q : ℕ) × (q < n) × (G q p)) old mid → PutsIn (G n) mid new
     → PutsIn (λ p. (q : ℕ) × (q < n + 1) × (G q p)) old new

@@ -6,28 +6,24 @@ use Rattle.std.specs.Prelude.{◌↔◌, ℤ}
 use Rattle.std.specs.Option.{option_map_or}
 use Rattle.tmm_model.specs.declared.bound.Bound.{Bound}
 use Rattle.tmm_model.specs.declared.bound.Bound.TheVariants.{Finite, Free}
-use Rattle.tmm_model.specs.Standing.{Standing}
 use Rattle.list_theory.proofs.Elements.{both}
-use Rattle.dist_net.specs.Net.{Nets}
 use Rattle.spots.specs.declared.spot.Spot.{Spot}
 use Rattle.spots.specs.declared.spot.Spot.TheVariants.{Node}
 use Rattle.spots.specs.Forest.{Forest, Member, member}
 use Rattle.spots.specs.Spots.{base_of, links_of, links_high}
 use Rattle.occ_tree.specs.Standing.{State, forest}
-use Rattle.joined.specs.Gaps.{IsReadSpot, IsSpotAt, MovesAt}
+use Rattle.joined.specs.Shifting.{MovesAmong}
 use Rattle.belief_net.specs.declared.by_event.Events.{Events}
 use Rattle.belief_net.specs.declared.by_event.Events.TheVariants.{DueBetween, BeginAt}
 use Rattle.belief_net.specs.declared.reach.Reach.{Reach}
 use Rattle.belief_net.specs.ByEvent.{is_number, is_event_of}
-use Rattle.belief_net.specs.MovedPairs.{is_moved, AreMoved}
 use Rattle.belief_net.specs.PointSets.{is_in, has_pair, PutsIn, AreThose, Meet}
 use Rattle.belief_net.specs.Reach.{IsBaseOf, IsBoundedBaseOf, AreBelow256}
 use Rattle.belief_net.specs.Touching.{LeadsInto, IsLedToFrom, TouchAll, IsTouchedAt}
-use Rattle.belief_net.proofs.Pairs.{not_of_one}
 use Rattle.belief_net.proofs.Sets.{puts_both, puts_into_none}
 
 -- what is in a set is below its length
-below_length : (s : List Bool) (p : ℕ) → is_in s p ≡ true → length s ≡ 256 → p < 256
+pub below_length : (s : List Bool) (p : ℕ) → is_in s p ≡ true → length s ≡ 256 → p < 256
 below_length s p is places = elim (cases_order p 256) [
   | inl same ↦ absurd (beyond (omega (arith, same, places)))
   | inr other ↦ elim other [ inl below ↦ below | inr above ↦ absurd (beyond (omega (arith, above, places))) ]
@@ -51,10 +47,10 @@ number_of : (b : Bound) → is_number b ≡ true → (most : ℤ) × (b ≡ Fini
 number_of (Finite x) is = (x, refl)
 number_of Free is = cc
 
-module _ (nets : Nets) (added : Option (List ℕ)) (list : Standing) (s : State) (r : List ℕ) (pairs : List Bool) (reach : Reach)
-    (moved : AreMoved nets added pairs)
-    (all_are : AreThose (IsBaseOf (forest s) (IsReadSpot list (forest s) r)) reach.all.items)
-    (bounded_are : AreThose (IsBoundedBaseOf (forest s) (IsReadSpot list (forest s) r)) reach.bounded.items)
+module _ (s : State) (are : Spot → Type 0) (pairs : List Bool) (reach : Reach)
+    (itself : (a : ℕ) → a < 256 → has_pair pairs a a ≡ false)
+    (all_are : AreThose (IsBaseOf (forest s) are) reach.all.items)
+    (bounded_are : AreThose (IsBoundedBaseOf (forest s) are) reach.bounded.items)
     (below : AreBelow256 (forest s)) (x : ℕ) where
   abbrev f : Forest
   f = forest s
@@ -69,30 +65,26 @@ module _ (nets : Nets) (added : Option (List ℕ)) (list : Standing) (s : State)
       by None is = subst (λ o. option_map_or (λ (m : Member). m.begin) o 0 < 256) (sym is) (omega arith)
       by (Some m) is = subst (λ o. option_map_or (λ (m : Member). m.begin) o 0 < 256) (sym is) (below.begin x m is)
 
-  pair_moved : (p q : ℕ) → p < 256 → q < 256 → has_pair pairs p q ≡ true → (from to : Spot) → base_of f from ≡ p → base_of f to ≡ q → is_moved nets added (base_of f from) (base_of f to) ≡ true
-  pair_moved p q lp lq is from to from_is to_is =
-      (λ i. is_moved nets added (from_is i) (to_is i)) ∙ sym (moved.each p q lp lq) ∙ is
-
-  moved_pair : (from to : Spot) → base_of f from < 256 → base_of f to < 256 → is_moved nets added (base_of f from) (base_of f to) ≡ true → has_pair pairs (base_of f from) (base_of f to) ≡ true
-  moved_pair from to lp lq is = moved.each (base_of f from) (base_of f to) lp lq ∙ is
+  pair_moved : (p q : ℕ) → has_pair pairs p q ≡ true → (from to : Spot) → base_of f from ≡ p → base_of f to ≡ q → has_pair pairs (base_of f from) (base_of f to) ≡ true
+  pair_moved p q is from to from_is to_is = (λ i. has_pair pairs (from_is i) (to_is i)) ∙ is
 
   -- ---- what moves at a touched event
 
-  by_all : TouchAll pairs reach → MovesAt (is_moved nets added) list f r x
+  by_all : TouchAll pairs reach → MovesAmong (has_pair pairs) f are x
   by_all (p, in_all, (q, lq, (lp, in_bounded, pair))) =
       let (from, from_is, from_at) = all_are.own p in_all in
       let (to, to_is, to_at, most, in_time) = bounded_are.own q in_bounded in
-      record { from = from; to = to; from_is = inl from_is; to_is = inl to_is; most = most; bounded = in_time; moved = pair_moved p q lp lq pair from to from_at to_at }
+      record { from = from; to = to; from_is = inl from_is; to_is = inl to_is; most = most; bounded = in_time; moved = pair_moved p q pair from to from_at to_at }
 
-  by_into : LeadsInto pairs reach.bounded.items here → MovesAt (is_moved nets added) list f r x
+  by_into : LeadsInto pairs reach.bounded.items here → MovesAmong (has_pair pairs) f are x
   by_into (q, lq, (lp, in_bounded, pair)) =
       let (to, to_is, to_at, most, in_time) = bounded_are.own q in_bounded in
-      record { from = Node x; to = to; from_is = inr refl; to_is = inl to_is; most = most; bounded = in_time; moved = pair_moved here q lp lq pair (Node x) to refl to_at }
+      record { from = Node x; to = to; from_is = inr refl; to_is = inl to_is; most = most; bounded = in_time; moved = pair_moved here q pair (Node x) to refl to_at }
 
-  by_from : (most : ℤ) → links_high (links_of f (Node x)) ≡ Finite most → IsLedToFrom pairs reach.all.items here → MovesAt (is_moved nets added) list f r x
+  by_from : (most : ℤ) → links_high (links_of f (Node x)) ≡ Finite most → IsLedToFrom pairs reach.all.items here → MovesAmong (has_pair pairs) f are x
   by_from most in_time (q, lq, (lp, in_all, pair)) =
       let (from, from_is, from_at) = all_are.own q in_all in
-      record { from = from; to = Node x; from_is = inl from_is; to_is = inr refl; most = most; bounded = in_time; moved = pair_moved q here lq lp pair from (Node x) from_at refl }
+      record { from = from; to = Node x; from_is = inl from_is; to_is = inr refl; most = most; bounded = in_time; moved = pair_moved q here pair from (Node x) from_at refl }
 
   -- ---- what is touched where points moved
 
@@ -100,7 +92,7 @@ module _ (nets : Nets) (added : Option (List ℕ)) (list : Standing) (s : State)
     abbrev test : Bool
     test = is_in all here || (is_number (links_high (links_of f (Node x))) && is_in bounded here)
 
-    to : test ≡ true → MovesAt (is_moved nets added) list f r x
+    to : test ≡ true → MovesAmong (has_pair pairs) f are x
     to is = elim (or_cases (is_in all here) (is_number (links_high (links_of f (Node x))) && is_in bounded here) is) [
       | inl first ↦ elim (all_at.own here first).1 [ inl touch ↦ by_all touch | inr leads ↦ by_into leads ]
       | inr second ↦ (
@@ -112,32 +104,36 @@ module _ (nets : Nets) (added : Option (List ℕ)) (list : Standing) (s : State)
     in_all : TouchAll pairs reach ⊎ LeadsInto pairs reach.bounded.items here → test ≡ true
     in_all h = or_left (is_in all here) (is_number (links_high (links_of f (Node x))) && is_in bounded here) (all_at.all here (here_below, h))
 
-    from : MovesAt (is_moved nets added) list f r x → test ≡ true
+    from : MovesAmong (has_pair pairs) f are x → test ≡ true
     from m = by m.from_is m.to_is
       where
-        by : IsSpotAt list f r x m.from → IsSpotAt list f r x m.to → test ≡ true
+        by : are m.from ⊎ (m.from ≡ Node x) → are m.to ⊎ (m.to ≡ Node x) → test ≡ true
         by (inl p_is) (inl q_is) =
             let p_in = all_are.all (base_of f m.from) (m.from, p_is, refl) in
             let q_in = bounded_are.all (base_of f m.to) (m.to, q_is, refl, m.most, m.bounded) in
             let lp = below_length reach.all.items (base_of f m.from) p_in all_are.places in
             let lq = below_length reach.bounded.items (base_of f m.to) q_in bounded_are.places in
-            in_all (inl (base_of f m.from, p_in, (base_of f m.to, lq, (lp, q_in, moved_pair m.from m.to lp lq m.moved))))
+            in_all (inl (base_of f m.from, p_in, (base_of f m.to, lq, (lp, q_in, m.moved))))
         by (inr p_is) (inl q_is) =
             let q_in = bounded_are.all (base_of f m.to) (m.to, q_is, refl, m.most, m.bounded) in
             let lq = below_length reach.bounded.items (base_of f m.to) q_in bounded_are.places in
-            let pair = moved_pair (Node x) m.to here_below lq (subst (λ z. is_moved nets added (base_of f z) (base_of f m.to) ≡ true) p_is m.moved) in
+            let pair : has_pair pairs here (base_of f m.to) ≡ true = subst (λ z. has_pair pairs (base_of f z) (base_of f m.to) ≡ true) p_is m.moved in
             in_all (inr (base_of f m.to, lq, (here_below, q_in, pair)))
         by (inl p_is) (inr q_is) =
             let p_in = all_are.all (base_of f m.from) (m.from, p_is, refl) in
             let lp = below_length reach.all.items (base_of f m.from) p_in all_are.places in
-            let pair = moved_pair m.from (Node x) lp here_below (subst (λ z. is_moved nets added (base_of f m.from) (base_of f z) ≡ true) q_is m.moved) in
+            let pair : has_pair pairs (base_of f m.from) here ≡ true = subst (λ z. has_pair pairs (base_of f m.from) (base_of f z) ≡ true) q_is m.moved in
             let in_time : links_high (links_of f (Node x)) ≡ Finite m.most = subst (λ z. links_high (links_of f z) ≡ Finite m.most) q_is m.bounded in
             or_right (is_in all here) (is_number (links_high (links_of f (Node x))) && is_in bounded here)
             (λ i. is_number (in_time i) && bounded_at.all here (base_of f m.from, lp, (here_below, p_in, pair)) i)
         by (inr p_is) (inr q_is) =
-            absurd (let one : true ≡ false = sym m.moved ∙ not_of_one nets added (base_of f m.from) (base_of f m.to) (ap (base_of f) (p_is ∙ sym q_is)) in cc)
+            absurd (
+            let from_is : base_of f m.from ≡ here = ap (base_of f) p_is in
+            let to_is : base_of f m.to ≡ here = ap (base_of f) q_is in
+            let one : true ≡ false = sym m.moved ∙ (λ i. has_pair pairs (from_is i) (to_is i)) ∙ itself here here_below in
+            cc)
 
-  pub touched_moves : (events : Events) → IsTouchedAt pairs reach events → (is_event_of events s x ≡ true) ↔ MovesAt (is_moved nets added) list f r x
+  pub touched_moves : (events : Events) → IsTouchedAt pairs reach events → (is_event_of events s x ≡ true) ↔ MovesAmong (has_pair pairs) f are x
   touched_moves (DueBetween delay before after) none = absurd none
   touched_moves (BeginAt all bounded) at = (to all.items bounded.items at.0 at.1, from all.items bounded.items at.0 at.1)
 

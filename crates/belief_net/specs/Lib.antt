@@ -16,6 +16,10 @@ pub mod Horizons
 pub mod PointSets
 pub mod MovedPairs
 pub mod Reach
+pub mod Places
+pub mod Fast
+pub mod Shifts
+pub mod Woken
 pub mod Touching
 pub mod MarkLaws
 pub mod Erasing

@@ -1,13 +1,14 @@
 -- Laws of marks: rows that wait since points moved, or for another horizon, are those that the edit touches.
-use Rattle.std.specs.Prelude.{◌≡◌, ◌≢◌, ◌+ℤ◌, ℕ, pos, int_le, true, false, List, Option, Some, None}
+use Rattle.std.specs.Prelude.{◌≡◌, ◌≢◌, ◌+ℤ◌, ℕ, pos, int_le, Bool, true, false, List, Option, Some, None}
 use Rattle.std.specs.List.{Contains}
 use Rattle.tmm_model.specs.declared.premise.Edit.{Edit}
 use Rattle.tmm_model.specs.declared.premise.Edit.TheVariants.{Add, Erase, Horizon}
-use Rattle.tmm_model.specs.Beliefs.{due}
+use Rattle.tmm_model.specs.Beliefs.{due, rules_at}
 use Rattle.tmm_model.specs.Edits.{next_list}
 use Rattle.tmm_model.specs.Maps.{built}
 use Rattle.tmm_model.specs.Moments.{Moment, rule_of}
 use Rattle.tmm_model.specs.Standing.{Standing, points_in, name_of, far_in}
+use Rattle.belief_theory.specs.Outcomes.{outcome}
 use Rattle.dist_net.specs.Net.{Net, Nets}
 use Rattle.list_net.specs.Fits.{IsNetOf}
 use Rattle.list_net.specs.Network.{PointsKeepNumbers}
@@ -18,6 +19,7 @@ use Rattle.occ_tree.specs.Places.{forest}
 use Rattle.occ_tree.specs.Standing.{Kept, present, early}
 use Rattle.revisions.specs.Maps.{watches}
 use Rattle.joined.specs.Gaps.{SameGaps, MovesAt}
+use Rattle.joined.specs.Shifting.{AreLoose, MayRest}
 use Rattle.belief_net.specs.ByEvent.{is_between}
 use Rattle.belief_net.specs.MovedPairs.{WereThere, is_moved}
 
@@ -46,6 +48,21 @@ MovedRowsAreTouched =
     → ((y : Moment) → Contains b y → watches (next_list old edit) r y ≡ true → Contains (built old).believed y)
     → (SameGaps old (next_list old edit) b (moment_at f x) r → MovesAt (is_moved nets (added_by edit)) (next_list old edit) f r x → ⊥)
     × ((MovesAt (is_moved nets (added_by edit)) (next_list old edit) f r x → ⊥) → SameGaps old (next_list old edit) b (moment_at f x) r)
+
+-- **A decision that may rest though points moved keeps its outcome**, if it was there, the horizon is the same, and no token that
+-- it reads left or entered.
+abbrev pub RestingRowsKeep : Type 0
+RestingRowsKeep =
+    (old : Standing) (edit : Edit) (nets : Nets) (loose : ℕ → Bool) (f : Forest) (b : List Moment) (r : List ℕ) (x : ℕ)
+    → IsNetOf old nets.committed → IsSeen (next_list old edit) nets.present f
+    → PointsKeepNumbers (points_in (next_list old edit).premises) nets.committed.names nets.present.names
+    → AreLoose (is_moved nets (added_by edit)) loose → Holds b f → IsLive f x
+    → Contains (built old).believed (moment_at f x) → Contains (rules_at old (moment_at f x)) r → Contains (rules_at (next_list old edit) (moment_at f x)) r
+    → old.horizon ≡ (next_list old edit).horizon
+    → ((y : Moment) → Contains (built old).believed y → watches old r y ≡ true → Contains b y)
+    → ((y : Moment) → Contains b y → watches (next_list old edit) r y ≡ true → Contains (built old).believed y)
+    → MayRest (is_moved nets (added_by edit)) loose (next_list old edit) nets f r x
+    → outcome old (far_in old.premises) (built old).believed (moment_at f x) r ≡ outcome (next_list old edit) (far_in (next_list old edit).premises) b (moment_at f x) r
 
 -- **An effect is due between two horizons exactly where one of them has it in time and the other has not.**
 abbrev pub DueRowsChange : Type 0

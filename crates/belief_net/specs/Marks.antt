@@ -1,5 +1,5 @@
 -- Rows that are let wait, for the dates of their events.
-use Rattle.std.specs.Prelude.{◌≡◌, ◌⊎◌, ℕ, ℤ, ◌≤ℤ◌, Some}
+use Rattle.std.specs.Prelude.{◌≡◌, ◌⊎◌, ℕ, ℤ, ◌≤ℤ◌, true, Some, is_some}
 use Rattle.spots.specs.Forest.{IsLive}
 use Rattle.undo_rows.specs.declared.row.Row.{Row as TableRow}
 use Rattle.undo_rows.specs.Tables.{Table}
@@ -24,3 +24,8 @@ WaitsAt s dates i row = dates i ≡ Some (early s row.value.trigger)
 pub record Marks (s : State) (t : Table Pair 6) (P : ℕ → TableRow Pair 6 → Type 0) (old new : Dates) : Type 0 where
   pub all : (i : ℕ) (row : TableRow Pair 6) → t.row i ≡ Some row → P i row → WaitsAt s new i row
   pub only : (i : ℕ) → (new i ≡ old i) ⊎ ((row : TableRow Pair 6) × (t.row i ≡ Some row) × P i row × WaitsAt s new i row)
+
+-- Rows have been looked at: those that wait newly are of the first kind, and those that do not wait are of the second.
+pub record Wakes (s : State) (t : Table Pair 6) (P R : ℕ → TableRow Pair 6 → Type 0) (old new : Dates) : Type 0 where
+  pub only : (i : ℕ) → (new i ≡ old i) ⊎ ((row : TableRow Pair 6) × (t.row i ≡ Some row) × P i row × WaitsAt s new i row)
+  pub rests : (i : ℕ) (row : TableRow Pair 6) → t.row i ≡ Some row → (is_some (new i) ≡ true) ⊎ R i row

@@ -35,6 +35,7 @@ use Rattle.belief_net.specs.Telling.{ins, outs}
 use Rattle.belief_net.specs.Touching.{IsRowMoved}
 use Rattle.belief_net.specs.Turning.{rows_of, IsFit}
 use Rattle.belief_net.specs.Waiting.{dates_in}
+use Rattle.belief_net.specs.Woken.{IsRowAtRest}
 
 -- ---- what an update asks for
 
@@ -79,6 +80,11 @@ pub record Entered (s : Standing) (net : Net) (edit : Edit) (old new : BeliefNet
 abbrev pub IsTouchedBy : Edit → Standing → Nets → ℕ → BeliefNet → TableRow Pair 6 → Type 0
 IsTouchedBy (Horizon n) s nets before b row = IsDueBetween s (present b.tree) b.decisions before s.horizon row
 IsTouchedBy edit s nets before b row = IsRowMoved nets (name_added edit) s (forest b.tree) b.decisions row
+
+-- It leaves the row as it is, beside what left and entered: another horizon does not touch it, and points that moved let it rest.
+abbrev pub IsLeftBy : Edit → Standing → Nets → ℕ → BeliefNet → TableRow Pair 6 → Type 0
+IsLeftBy (Horizon n) s nets before b row = IsDueBetween s (present b.tree) b.decisions before s.horizon row → ⊥
+IsLeftBy edit s nets before b row = IsRowAtRest nets (name_added edit) s (forest b.tree) b.decisions row
 
 -- ---- what an update does
 

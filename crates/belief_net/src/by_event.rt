@@ -27,7 +27,7 @@ pub(crate) enum Events {
 
 impl Events {
     // Whether the event of a node is one of these.
-    fn has(&self, tree: &Tree, x: u32) -> bool
+    pub(crate) fn has(&self, tree: &Tree, x: u32) -> bool
         requires { IsLive (forest tree.now) x }
         ensures { result ≡ is_event_of self.now (present tree.now) x }
     {

@@ -64,7 +64,7 @@ fn is_moved(net: &DistNet, added: &Option<Name>, a: u16, b: u16) -> bool
 }
 
 // Whether a number is that of a point, and of none of the premise that is added.
-fn is_kept(net: &DistNet, added: &Option<Name>, p: u16) -> bool
+pub(crate) fn is_kept(net: &DistNet, added: &Option<Name>, p: u16) -> bool
     ensures { result ≡ is_kept net.now.present.names added.now p }
 {
     match net.name_of(p) {

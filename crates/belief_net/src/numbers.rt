@@ -52,6 +52,14 @@ impl Numbers {
         Some(self.names.get_index_of(name)? as u32)
     }
 
+    // Tells the proof that each name has the number of its place. It does nothing.
+    pub(crate) fn have_own(&self)
+        ensures { HaveOwnNumbers self.now }
+    {
+        // no name stands twice
+        let _ = self.names.len();
+    }
+
     // The name of a number.
     pub(crate) fn name(&self, k: u32) -> Name
         requires { k < length self.now }

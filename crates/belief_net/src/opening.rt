@@ -4,24 +4,24 @@ ghost use Rattle.occ_tree.specs.Standing.{present};
 ghost use Rattle.belief_net.specs.Decided.{table_of};
 ghost use Rattle.belief_net.specs.Entering.{KeepLast};
 ghost use Rattle.belief_net.specs.MarkLaws.{added_by as name_added};
-ghost use Rattle.belief_net.specs.Marks.{Marks};
+ghost use Rattle.belief_net.specs.Marks.{Wakes};
 ghost use Rattle.belief_net.specs.MovedPairs.{WereThere};
 ghost use Rattle.belief_net.specs.Numbered.{AreNumbered, left_under};
 ghost use Rattle.belief_net.specs.Settling.{Begins};
 ghost use Rattle.belief_net.specs.Telling.{IsWeighed};
 ghost use Rattle.belief_net.specs.Turning.{IsFit};
-ghost use Rattle.belief_net.specs.Updating.{IsKept, IsPending, MayAdd, Entered, IsTouchedBy};
+ghost use Rattle.belief_net.specs.Updating.{IsKept, IsPending, MayAdd, Entered, IsTouchedBy, IsLeftBy};
 ghost use Rattle.belief_net.specs.Waiting.{dates_in};
 
 use crate::dates::re_date_moved;
 use crate::erasing::erase;
 use crate::horizons::mark_horizon;
+use crate::moving::mark_moved;
 use crate::readers::mark_classes;
 use crate::rooting::enter_root;
 use crate::ruling::enter_rule;
 use crate::state::BeliefNet;
 use crate::told::Told;
-use crate::touching::mark_moved;
 use dist_net::DistNet;
 use premise_list::Standing;
 use std::alloc::Global;
@@ -77,7 +77,8 @@ fn enter_added(
     }
 }
 
-// Lets those rows wait that the edit touches, beside those that read what left or entered.
+// Lets those rows wait that the edit touches and that may not rest, beside those that read what left or
+// entered.
 fn mark_touched(
     alloc: Global,
     standing: &Standing,
@@ -88,14 +89,15 @@ fn mark_touched(
 ) -> Result<(), NoMemory>
     requires fit { IsFit standing.now.present net.now.present beliefs.old }
     requires there { WereThere net.now (name_added edit.now) }
-    ensures ok { OnOk result (Marks (present beliefs.old.tree) (table_of beliefs.old.decisions) (λ i row. IsTouchedBy edit.now standing.now.present net.now before beliefs.old row) (dates_in beliefs.old.decisions.waiting) (dates_in beliefs.new.decisions.waiting)) }
+    ensures ok { OnOk result (Wakes (present beliefs.old.tree) (table_of beliefs.old.decisions) (λ i row. IsTouchedBy edit.now standing.now.present net.now before beliefs.old row) (λ i row. IsLeftBy edit.now standing.now.present net.now before beliefs.old row) (dates_in beliefs.old.decisions.waiting) (dates_in beliefs.new.decisions.waiting)) }
     ensures others { beliefs.new ≡ record beliefs.old { decisions = record beliefs.old.decisions { waiting = beliefs.new.decisions.waiting } } }
 {
     let added = match edit {
         Edit::Add(premise) => Some(premise.name()),
         Edit::Erase(_) => None,
         Edit::Horizon(_) => {
-            return mark_horizon(standing, &beliefs.tree, &mut beliefs.decisions, before);
+            mark_horizon(standing, &beliefs.tree, &mut beliefs.decisions, before)?;
+            return Ok(());
         }
     };
     mark_moved(

@@ -1,27 +1,22 @@
-// The declared points of spots that a rule reads.
-ghost use Rattle.std.specs.Prelude.{◌≡◌, ◌⊎◌, ℕ, ℤ, ◌<◌, Some, IsSome, IfOk, List};
-ghost use Rattle.std.specs.List.{All};
-ghost use Rattle.list_theory.proofs.Elements.{In};
-ghost use Rattle.list_theory.specs.WellNamed.{IsSound};
+// The declared points of `start` and of the tokens of a class.
+ghost use Rattle.std.specs.Prelude.{◌≡◌, ◌⊎◌, ℕ, ℤ, ◌<◌, false, Some, IfOk};
 ghost use Rattle.tmm_model.specs.declared.bound.Bound.TheVariants.{Finite};
-ghost use Rattle.tmm_model.specs.Beliefs.{class_of};
-ghost use Rattle.tmm_model.specs.Moments.{rule_of};
-ghost use Rattle.tmm_model.specs.Sorts.{class_in};
+ghost use Rattle.spots.specs.declared.spot.Spot.TheVariants.{Declared};
 ghost use Rattle.spots.specs.Forest.{Member};
 ghost use Rattle.spots.proofs.Rows.{IsRowOf};
 ghost use Rattle.occ_tree.specs.Places.{forest};
-ghost use Rattle.joined.specs.Gaps.{IsClassSpot, IsReadSpot};
-ghost use Rattle.belief_net.specs.PointSets.{PutsIn, AreThose};
+ghost use Rattle.joined.specs.Gaps.{IsClassSpot};
+ghost use Rattle.joined.specs.Shifting.{IsSpotOf};
+ghost use Rattle.belief_net.specs.PointSets.{is_in, PutsIn, AreThose};
 ghost use Rattle.belief_net.specs.Reach.{IsBaseOf, IsBoundedBaseOf, Notes, HasPlaces, AreBelow256, IsSpotBelow256};
 
 use crate::by_event::is_number;
 use crate::point_sets::put_if;
 use dist_net::POINTS;
 use occ_tree::Tree;
-use premise_list::Standing;
 use spots::Spot;
 use std::alloc::Global;
-use tmm_model::{Bound, Name, NoMemory, Premise, TokenRow};
+use tmm_model::{Bound, Name, NoMemory, TokenRow};
 
 /// The declared points from which rules lead to some spots.
 #[derive(Drop)]
@@ -32,50 +27,39 @@ pub(crate) struct Reach {
     pub bounded: Vec<bool>,
 }
 
-// The points of the spots that a rule reads.
-pub(crate) fn reach_of(
-    alloc: Global,
-    standing: &Standing,
-    tree: &Tree,
-    rule: Name,
-) -> Result<Reach, NoMemory>
-    requires sound { IsSound standing.now.present }
+// The point `start`.
+pub(crate) fn reach_of_start(alloc: Global, tree: &Tree) -> Result<Reach, NoMemory>
     requires below { AreBelow256 (forest tree.now) }
-    ensures all { IfOk result (λ reach. AreThose (IsBaseOf (forest tree.now) (IsReadSpot standing.now.present (forest tree.now) rule)) reach.all.items) }
-    ensures bounded { IfOk result (λ reach. AreThose (IsBoundedBaseOf (forest tree.now) (IsReadSpot standing.now.present (forest tree.now) rule)) reach.bounded.items) }
+    ensures all { IfOk result (λ reach. AreThose (IsBaseOf (forest tree.now) (λ p. p ≡ Declared 0)) reach.all.items) }
+    ensures bounded { IfOk result (λ reach. AreThose (IsBoundedBaseOf (forest tree.now) (λ p. p ≡ Declared 0)) reach.bounded.items) }
 {
-    let mut reach = Reach {
-        all: vec![in alloc; false; POINTS]?,
-        bounded: vec![in alloc; false; POINTS]?,
-    };
+    let mut reach = reach_of_none(alloc)?;
     note_spot(tree, Spot::Declared(0), &mut reach);
-    note_facts(standing, tree, given_of(standing, rule), &mut reach);
     Ok(reach)
 }
 
-// The antecedents of a rule, none where it does not stand.
-fn given_of(standing: &Standing, rule: Name) -> &[Name]
-    ensures { result.now ≡ (rule_of standing.now.present rule).given }
+// The points of `start` and of the tokens of a class.
+pub(crate) fn reach_of(alloc: Global, tree: &Tree, class: &Name) -> Result<Reach, NoMemory>
+    requires below { AreBelow256 (forest tree.now) }
+    ensures all { IfOk result (λ reach. AreThose (IsBaseOf (forest tree.now) (IsSpotOf (forest tree.now) class.now)) reach.all.items) }
+    ensures bounded { IfOk result (λ reach. AreThose (IsBoundedBaseOf (forest tree.now) (IsSpotOf (forest tree.now) class.now)) reach.bounded.items) }
 {
-    match standing.get(rule) {
-        Some(Premise::Rule { given, .. }) => given.as_slice(),
-        _ => &[],
-    }
+    let mut reach = reach_of_none(alloc)?;
+    note_spot(tree, Spot::Declared(0), &mut reach);
+    note_class(tree, class, &mut reach);
+    Ok(reach)
 }
 
-// Puts the points of the tokens of the classes of facts in.
-fn note_facts(standing: &Standing, tree: &Tree, facts: &[Name], reach: &mut Reach)
-    requires facts { All (λ fact. IsSome (class_in standing.now.present.premises fact)) facts.now }
-    requires below { AreBelow256 (forest tree.now) }
-    requires places { HasPlaces reach.old }
-    ensures { Notes (forest tree.now) (λ p. (fact : List ℕ) × In fact facts.now × IsClassSpot (forest tree.now) (class_of standing.now.present fact) p) reach.old reach.new }
+// No points.
+fn reach_of_none(alloc: Global) -> Result<Reach, NoMemory>
+    ensures places { IfOk result HasPlaces }
+    ensures all { IfOk result (λ reach. (p : ℕ) → is_in reach.all.items p ≡ false) }
+    ensures bounded { IfOk result (λ reach. (p : ℕ) → is_in reach.bounded.items p ≡ false) }
 {
-    for i in 0..facts.len() {
-        let Some(class) = standing.class_of(facts[i]) else {
-            unreachable!()
-        };
-        note_class(tree, &class, reach);
-    }
+    Ok(Reach {
+        all: vec![in alloc; false; POINTS]?,
+        bounded: vec![in alloc; false; POINTS]?,
+    })
 }
 
 // Puts the points of the tokens of a class in.

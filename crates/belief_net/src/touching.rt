@@ -1,71 +1,19 @@
-// Rows that wait since points moved on whose distances they depend.
-ghost use Rattle.std.specs.Prelude.{◌≡◌, ◌<◌, ◌↔◌, true, length, IsTrue, IfOk, OnOk};
-ghost use Rattle.spots.specs.Seen.{IsSeen};
-ghost use Rattle.occ_tree.specs.Places.{forest};
-ghost use Rattle.occ_tree.specs.Standing.{present};
-ghost use Rattle.belief_net.specs.Decided.{table_of, AreUnder};
-ghost use Rattle.belief_net.specs.Marks.{HaveEvents, Marks};
-ghost use Rattle.belief_net.specs.MovedPairs.{WereThere};
+// Events at which what reads some points depends on distances that are others now.
+ghost use Rattle.std.specs.Prelude.{◌≡◌, ◌<◌, ◌↔◌, true, length, IsTrue, IfOk};
 ghost use Rattle.belief_net.specs.PointSets.{PutsIn, HaveOneOf};
 ghost use Rattle.belief_net.specs.Reach.{HasPlaces};
-ghost use Rattle.belief_net.specs.Touching.{LeadsTo, LeadsFrom, LeadsInto, IsLedToFrom, LeadsIntoBy, IsLedToFromBy, IsTouchedAt, IsRowMoved};
-ghost use Rattle.belief_net.specs.Waiting.{dates_in};
+ghost use Rattle.belief_net.specs.Touching.{LeadsTo, LeadsFrom, LeadsInto, IsLedToFrom, LeadsIntoBy, IsLedToFromBy, IsTouchedAt};
 
-use crate::by_event::{Events, mark_rule};
-use crate::moved_pairs::moved_pairs;
+use crate::by_event::Events;
 use crate::point_sets::{meet, put_if};
-use crate::reach::{Reach, reach_of};
-use crate::state::Decisions;
-use dist_net::{DistNet, POINTS};
-use occ_tree::Tree;
-use premise_list::Standing;
+use crate::reach::Reach;
+use dist_net::POINTS;
 use std::alloc::Global;
-use tmm_model::{Name, NoMemory};
+use tmm_model::NoMemory;
 
-// Lets those rows wait that depend on the distance of two points that is another one now. Points of the
-// premise that is added were not there. None waits where nothing moved.
-pub(crate) fn mark_moved(
-    alloc: Global,
-    standing: &Standing,
-    net: &DistNet,
-    tree: &Tree,
-    decisions: &mut Decisions,
-    added: Option<Name>,
-) -> Result<(), NoMemory>
-    requires seen { IsSeen standing.now.present net.now.present (forest tree.now) }
-    requires there { WereThere net.now added }
-    requires events { HaveEvents tree.now (table_of decisions.old) }
-    requires under { AreUnder standing.now.present decisions.old }
-    ensures ok { OnOk result (Marks (present tree.now) (table_of decisions.old) (λ i row. IsRowMoved net.now added standing.now.present (forest tree.now) decisions.old row) (dates_in decisions.old.waiting) (dates_in decisions.new.waiting)) }
-    ensures others { decisions.new ≡ record decisions.old { waiting = decisions.new.waiting } }
-{
-    // they tell the proof that numbers are below 256, and that rows are on their lists
-    let _ = net.edges();
-    let _ = decisions.rows.first(1, 0);
-    let moved = net.moved();
-    if moved.is_empty() {
-        return Ok(());
-    }
-    // where no rule ever had a row there is none
-    if decisions.rules.len() == 0 {
-        return Ok(());
-    }
-    let pairs = moved_pairs(alloc, net, added)?;
-    for rule in 0..decisions.rules.len() {
-        // of a rule that was erased the number is kept, and no row: nothing is asked then
-        let Some(_) = decisions.rows.first(1, rule) else {
-            continue;
-        };
-        let reach = reach_of(alloc, standing, tree, decisions.rules.name(rule))?;
-        let events = touched_by(alloc, &pairs, moved, &reach)?;
-        mark_rule(tree, &decisions.rows, &mut decisions.waiting, rule, &events)?;
-    }
-    Ok(())
-}
-
-// The events at which a rule that reads these points depends on one of the pairs. Each pair has one of the
-// points that moved.
-fn touched_by(
+// The events at which what reads these points depends on one of the pairs. Each pair has one of the points
+// that moved.
+pub(crate) fn touched_by(
     alloc: Global,
     pairs: &[bool],
     moved: &[u16],

@@ -194,16 +194,16 @@ module _ (old : Standing) (edit : Edit) (nets : Nets) (f : Forest) (net_old : Is
 
   -- ---- what the rule reads at an event
 
-  module _ (b : List Moment) (r : List ℕ) (x : ℕ) (holds : Holds b f) (live : IsLive f x) (was : Contains (built old).believed (moment_at f x))
-      (entered : (y : Moment) → Contains b y → watches new r y ≡ true → Contains (built old).believed y) where
-    abbrev tokens_read : List (TokenRow Moment)
+  module _ (b : List Moment) (r : List ℕ) (x : ℕ) (holds : Holds b f) (live : IsLive f x) (was : Occurs old (moment_at f x))
+      (entered : (y : Moment) → Contains b y → watches new r y ≡ true → Occurs old y) where
+    abbrev pub tokens_read : List (TokenRow Moment)
     tokens_read = watched (map_of new b) r
 
     abbrev points : List Moment
     points = watched_points (map_of new b) (moment_at f x) r
 
     -- the token that a node is
-    abbrev token : ℕ → Member → List ℕ → TokenRow Moment
+    abbrev pub token : ℕ → Member → List ℕ → TokenRow Moment
     token y m class = row_moment names f (record { spot = Node y; end = option_map Declared m.end; fact = m.what; class = class })
 
     made : (y : ℕ) (m : Member) (class : List ℕ) → member f y ≡ Some m → m.class ≡ Some class → token_of new (moment m) ≡ Some (token y m class)
@@ -211,17 +211,17 @@ module _ (old : Standing) (edit : Edit) (nets : Nets) (f : Forest) (net_old : Is
         token_is new nets.present f seen y m here
         ∙ ap (λ (o : Option (List ℕ)). option_map (row_moment names f) (option_map (λ class. record { spot = Node y; end = option_map Declared m.end; fact = m.what; class = class }) o)) is
 
-    is_read : (y : ℕ) (m : Member) (class : List ℕ) → member f y ≡ Some m → m.class ≡ Some class → reads_class new r class ≡ true → In (token y m class) tokens_read
+    pub is_read : (y : ℕ) (m : Member) (class : List ℕ) → member f y ≡ Some m → m.class ≡ Some class → reads_class new r class ≡ true → In (token y m class) tokens_read
     is_read y m class here is reads =
         filter-In (is_watched new r) (tokens new b) (token y m class)
         (filter_map-In (token_of new) b (moment m) (token y m class) (In-from_Contains b (moment m) (holds.own y m here)) (made y m class here is)) reads
 
     was_token : (y : ℕ) (m : Member) (class : List ℕ) → member f y ≡ Some m → m.class ≡ Some class → reads_class new r class ≡ true → Occurs old (moment m)
     was_token y m class here is reads =
-        believed_occurs old net_old.sound (moment m) (entered (moment m) (holds.own y m here) (token_watched new r (moment m) (token y m class) (made y m class here is) reads))
+        entered (moment m) (holds.own y m here) (token_watched new r (moment m) (token y m class) (made y m class here is) reads)
 
-    spot_was : (p : Spot) → IsSpotAt new f r x p → WasThere p
-    spot_was p (inr is) = subst WasThere (sym is) (node_was x live (believed_occurs old net_old.sound (moment_at f x) was))
+    pub spot_was : (p : Spot) → IsSpotAt new f r x p → WasThere p
+    spot_was p (inr is) = subst WasThere (sym is) (node_was x live was)
     spot_was p (inl (start is)) = subst WasThere (sym is) start_was
     spot_was p (inl (read class reads (begin y m here of is))) =
         subst WasThere (sym is) (node_was y (live_at f y m here) (subst (Occurs old) (sym (moment_at-is f y m here)) (was_token y m class here of reads)))
@@ -239,16 +239,16 @@ module _ (old : Standing) (edit : Edit) (nets : Nets) (f : Forest) (net_old : Is
         (filter_map-In (λ k. k.end) tokens_read (token y m class) (at (Declared e)) (is_read y m class here of reads) (ap (λ o. option_map at (option_map Declared o)) ends)))))
 
     -- the node of a token that is read
-    record IsTokenAt (k : TokenRow Moment) : Type 0 where
-      number : ℕ
-      node : Member
-      class : List ℕ
-      here : member f number ≡ Some node
-      of : node.class ≡ Some class
-      reads : reads_class new r class ≡ true
-      is : token number node class ≡ k
+    pub record IsTokenAt (k : TokenRow Moment) : Type 0 where
+      pub number : ℕ
+      pub node : Member
+      pub class : List ℕ
+      pub here : member f number ≡ Some node
+      pub of : node.class ≡ Some class
+      pub reads : reads_class new r class ≡ true
+      pub is : token number node class ≡ k
 
-    token_at : (k : TokenRow Moment) → In k tokens_read → IsTokenAt k
+    pub token_at : (k : TokenRow Moment) → In k tokens_read → IsTokenAt k
     token_at k on =
         let h = In-filter (is_watched new r) (tokens new b) k on in
         let (z, there, e) = In-filter_map (token_of new) b k h.0 in
@@ -299,25 +299,29 @@ module _ (old : Standing) (edit : Edit) (nets : Nets) (f : Forest) (net_old : Is
                 (far_same m.from m.to two.1 m.most m.bounded equal)
           ]
 
-      spots_same : (MovesAt moves new f r x → ⊥) → (p q : Spot) → IsSpotAt new f r x p → IsSpotAt new f r x q → spot_distance nets.committed f p q ≡ spot_distance nets.present f p q
-      spots_same none p q at_p at_q = by (links_high (links_of f q)) refl
+      -- what did not move is as far apart as it was
+      pub unmoved_same : (p q : Spot) → WasThere p → WasThere q
+          → ((most : ℤ) → links_high (links_of f q) ≡ Finite most → moves (base_of f p) (base_of f q) ≡ false)
+          → spot_distance nets.committed f p q ≡ spot_distance nets.present f p q
+      unmoved_same p q was_p was_q unmoved = by (links_high (links_of f q)) refl
         where
-          by_moves : (most : ℤ) → links_high (links_of f q) ≡ Finite most → (v : Bool) → moves (base_of f p) (base_of f q) ≡ v → spot_distance nets.committed f p q ≡ spot_distance nets.present f p q
-          by_moves most bounded true moved = absurd (none (record { from = p; to = q; from_is = at_p; to_is = at_q; most = most; bounded = bounded; moved = moved }))
-          by_moves most bounded false unmoved = elim (eqb_tells (base_of f p) (base_of f q)) [
+          by : (h : Bound) → links_high (links_of f q) ≡ h → spot_distance nets.committed f p q ≡ spot_distance nets.present f p q
+          by Free free = unbounded_same p q free
+          by (Finite most) bounded = elim (eqb_tells (base_of f p) (base_of f q)) [
             | inl one ↦ one_base p q one.1
             | inr two ↦ (
-                let was_p = spot_was p at_p in
-                let was_q = spot_was q at_q in
-                let far = tells.same (base_of f p) (base_of f q) (base (at p)) (base (at q)) was_p.number (now_number p was_p) was_q.number (now_number q was_q) two.1 unmoved in
+                let far = tells.same (base_of f p) (base_of f q) (base (at p)) (base (at q)) was_p.number (now_number p was_p) was_q.number (now_number q was_q) two.1 (unmoved most bounded) in
                 distance-two_bases nets.committed f p q two.1
                 ∙ ap (λ d. bound_less (bound_plus d (links_high (links_of f q))) (links_low (links_of f p))) far
                 ∙ sym (distance-two_bases nets.present f p q two.1))
           ]
 
-          by : (h : Bound) → links_high (links_of f q) ≡ h → spot_distance nets.committed f p q ≡ spot_distance nets.present f p q
-          by (Finite most) bounded = by_moves most bounded (moves (base_of f p) (base_of f q)) refl
-          by Free free = unbounded_same p q free
+      spots_same : (MovesAt moves new f r x → ⊥) → (p q : Spot) → IsSpotAt new f r x p → IsSpotAt new f r x q → spot_distance nets.committed f p q ≡ spot_distance nets.present f p q
+      spots_same none p q at_p at_q = unmoved_same p q (spot_was p at_p) (spot_was q at_q) (λ most bounded. by most bounded (moves (base_of f p) (base_of f q)) refl)
+        where
+          by : (most : ℤ) → links_high (links_of f q) ≡ Finite most → (v : Bool) → moves (base_of f p) (base_of f q) ≡ v → moves (base_of f p) (base_of f q) ≡ false
+          by most bounded true moved = absurd (none (record { from = p; to = q; from_is = at_p; to_is = at_q; most = most; bounded = bounded; moved = moved }))
+          by most bounded false unmoved = unmoved
 
       none_same : (MovesAt moves new f r x → ⊥) → SameGaps old new b (moment_at f x) r
       none_same none w v on_w on_v =
@@ -330,7 +334,10 @@ module _ (old : Standing) (edit : Edit) (nets : Nets) (f : Forest) (net_old : Is
           subst (λ z. gap (built old) z v ≡ gap (map_of new b) z v) is_w (subst (λ z. gap (built old) (at p) z ≡ gap (map_of new b) (at p) z) is_v same)
 
 pub moved_points_touch : MovedPointsTouch
-moved_points_touch old edit nets moves f b r x net_old seen keep tells holds live was entered = (
-  moved_apart old edit nets f net_old seen keep b r x holds live was entered moves tells,
-  none_same old edit nets f net_old seen keep b r x holds live was entered moves tells,
-)
+moved_points_touch old edit nets moves f b r x net_old seen keep tells holds live was entered =
+    let occurs = believed_occurs old net_old.sound in
+    let was_there = occurs (moment_at f x) was in
+    let were_there : (y : Moment) → Contains b y → watches (next_list old edit) r y ≡ true → Occurs old y = λ y at reads. occurs y (entered y at reads) in (
+      moved_apart old edit nets f net_old seen keep b r x holds live was_there were_there moves tells,
+      none_same old edit nets f net_old seen keep b r x holds live was_there were_there moves tells,
+    )

@@ -15,3 +15,4 @@ pub mod Marking
 pub mod Touching
 pub mod Gaps
 pub mod KeptClips
+pub mod Shifting

@@ -2,7 +2,6 @@
 use Rattle.std.proofs.Common.{◌≡◌, ◌∙◌, ℕ, zero, suc, ◌+◌, ◌<◌, Bool, true, false, List, [], ◌∷◌, map, refl, sym, ap, subst, inl, inr, arith}
 use Rattle.std.proofs.lemmas.Option.{slice_get_within}
 use Rattle.std.specs.Prelude.{◌↔◌, Option, Some, None, cond, slice_get, slice_index_or}
-use Rattle.std.specs.List.{list_any}
 use Rattle.std.specs.Option.{option_map_or}
 use Rattle.std.specs.Cmp.Lexicographic.{bytes_decides}
 use Rattle.tmm_model.specs.Beliefs.{class_of}
@@ -10,9 +9,6 @@ use Rattle.tmm_model.specs.Moments.{rule_of}
 use Rattle.tmm_model.specs.Points.{same_name}
 use Rattle.tmm_model.specs.Standing.{Standing}
 use Rattle.list_theory.proofs.Elements.{In, In-map, map-In, list_any-In, In-list_any}
-use Rattle.list_net.specs.Represents.{Names}
-use Rattle.spots.specs.Forest.{Member, moment}
-use Rattle.spots.specs.Seen.{IsMemberOf}
 use Rattle.supports.proofs.Grown.{stands}
 use Rattle.row_links.specs.Lists.{IsOn}
 use Rattle.undo_rows.specs.declared.row.Row.{Row as TableRow}
@@ -20,8 +16,8 @@ use Rattle.undo_rows.specs.Changes.{Logged, present}
 use Rattle.undo_rows.specs.Tables.{AreListed, head_of, live}
 use Rattle.decision_rows.specs.Decisions.{classes_in, heads_of}
 use Rattle.decision_rows.specs.declared.row.Pair.{Pair}
-use Rattle.revisions.specs.Maps.{watches}
-use Rattle.joined.specs.Listed.{AreNumbered, IsUnderClasses, IsListedUnder}
+use Rattle.joined.specs.Gaps.{reads_class}
+use Rattle.joined.specs.Listed.{AreNumbered, IsUnderClasses, IsListedUnder, ReadersAreListed}
 use Rattle.joined.proofs.Starting.{reads_by_class}
 
 -- ---- places of a list
@@ -85,33 +81,28 @@ pairs_listed rows i h r classes listed here heads = (
     second : head_of r 1 ≡ Some r.value.rule
     second = ap (λ z. slice_index_or z 1 None) heads
 
-module _ (s : Standing) (names : Names) (m : Member) (rows : Logged Pair 6) (name : ℕ → List ℕ) (number : List ℕ → Option ℕ)
-    (class : List ℕ) (k i : ℕ) (r : TableRow Pair 6)
-    (own : IsMemberOf s names m) (is_class : m.class ≡ Some class) (is_number : number class ≡ Some k) (numbered : AreNumbered number)
+module _ (s : Standing) (rows : Logged Pair 6) (name : ℕ → List ℕ) (number : List ℕ → Option ℕ) (class : List ℕ) (k i : ℕ) (r : TableRow Pair 6)
+    (is_number : number class ≡ Some k) (numbered : AreNumbered number)
     (listed : AreListed (present rows)) (here : (present rows).row i ≡ Some r) (under : IsUnderClasses s name number r) where
   abbrev given : List (List ℕ)
   given = (rule_of s (name r.value.rule)).given
 
-  -- the row reads the node where an antecedent is of its class
-  reads_is : watches s (name r.value.rule) (moment m) ≡ list_any (λ fact. same_name (class_of s fact) class) given
-  reads_is = reads_by_class s names m (name r.value.rule) own ∙ ap (λ o. option_map_or (λ c. list_any (λ fact. same_name (class_of s fact) c) given) o false) is_class
-
-  -- so where its number is among those of the row
-  to_class : watches s (name r.value.rule) (moment m) ≡ true → In k under.classes
+  -- an antecedent is of the class where its number is among those of the row
+  to_class : reads_class s (name r.value.rule) class ≡ true → In k under.classes
   to_class reads =
-      let (fact, at, same) = list_any-In (λ fact. same_name (class_of s fact) class) given (sym reads_is ∙ reads) in
+      let (fact, at, same) = list_any-In (λ fact. same_name (class_of s fact) class) given reads in
       let named : number (class_of s fact) ≡ Some k = ap number ((bytes_decides (class_of s fact) class).0 same) ∙ is_number in
       let among = subst (In (Some k)) under.numbers (subst (λ o. In o (map (λ fact. number (class_of s fact)) given)) named (map-In (λ fact. number (class_of s fact)) given fact at)) in
       let (j, there, e) = In-map Some under.classes (Some k) among in
       let one : j ≡ k = cc in
       subst (λ z. In z under.classes) one there
 
-  of_class : In k under.classes → watches s (name r.value.rule) (moment m) ≡ true
+  of_class : In k under.classes → reads_class s (name r.value.rule) class ≡ true
   of_class at =
       let among = subst (In (Some k)) (sym under.numbers) (map-In Some under.classes k at) in
       let (fact, there, named) = In-map (λ fact. number (class_of s fact)) given (Some k) among in
       let same = numbered (class_of s fact) class k named is_number in
-      reads_is ∙ In-list_any (λ fact. same_name (class_of s fact) class) given fact there ((bytes_decides (class_of s fact) class).1 same)
+      In-list_any (λ fact. same_name (class_of s fact) class) given fact there ((bytes_decides (class_of s fact) class).1 same)
 
   -- the head of the row for an antecedent
   head_for : (a : ℕ) → a < 4 → head_of r (a + 2) ≡ slice_get under.classes a
@@ -126,5 +117,12 @@ module _ (s : Standing) (names : Names) (m : Member) (rows : Logged Pair 6) (nam
   of_list : IsListedUnder (present rows) k i → In k under.classes
   of_list (a, lt, on) = stands under.classes a k (sym (head_for a lt) ∙ (on_list rows i (a + 2) k r listed here).0 on)
 
-  pub readers_listed : (watches s (name r.value.rule) (moment m) ≡ true) ↔ IsListedUnder (present rows) k i
-  readers_listed = ((λ reads. to_list (to_class reads)), (λ on. of_class (of_list on)))
+  -- **A row is on a list of a class exactly where its rule reads the class.**
+  pub class_listed : (reads_class s (name r.value.rule) class ≡ true) ↔ IsListedUnder (present rows) k i
+  class_listed = ((λ reads. to_list (to_class reads)), (λ on. of_class (of_list on)))
+
+pub readers_listed : ReadersAreListed
+readers_listed s names m rows name number class k i r own is_class is_number numbered listed here under =
+    let reads = reads_by_class s names m (name r.value.rule) own ∙ ap (λ o. option_map_or (λ c. reads_class s (name r.value.rule) c) o false) is_class in
+    let listed_by = class_listed s rows name number class k i r is_number numbered listed here under in
+    ((λ h. listed_by.0 (sym reads ∙ h)), λ on. reads ∙ listed_by.1 on)

@@ -31,23 +31,26 @@ use Rattle.revisions.proofs.SeedsRight.{keeps, seed_occurs, untouched_from, amon
 use Rattle.revisions.proofs.Tokens.{tokens_stay, classes_stay}
 use Rattle.joined.specs.Rows.{Row, Rows, AreRowsOf}
 use Rattle.joined.specs.Starting.{AreMarked}
-use Rattle.joined.specs.Touching.{IsUntouched}
+use Rattle.joined.specs.Touching.{IsUntouched, TouchedAreMarked, RestingAreMarked}
 use Rattle.joined.proofs.Starting.{horizons_keep}
 
 -- ---- a decision is not touched exactly where it is said so
+
+-- a token that a rule of both lists reads by the old one it reads by the new one
+pub watched_on : (old : Standing) (edit : Edit) → IsSound old → IsSound (next_list old edit) → (t : Moment) (r : List ℕ) (k : TokenRow Moment)
+    → Contains (rules_at old t) r → Contains (rules_at (next_list old edit) t) r → rule_of old r ≡ rule_of (next_list old edit) r
+    → is_watched old r k ≡ true → is_watched (next_list old edit) r k ≡ true
+watched_on old edit sound_old sound_new t r k before stands same h =
+    let new = next_list old edit in
+    let (f, at, of_class) = list_any-In (λ fact. same_name (class_of old fact) k.class) (rule_of old r).given h in
+    let at_new : In f (rule_of new r).given = subst (λ (x : RuleText). In f x.given) same at in
+    let class : class_of old f ≡ class_of new f = classes_stay old edit sound_old sound_new t r f before stands at at_new in
+    In-list_any (λ fact. same_name (class_of new fact) k.class) (rule_of new r).given f at_new (subst (λ c. same_name c k.class ≡ true) class of_class)
 
 module _ (old : Standing) (edit : Edit) (sound_old : IsSound old) (sound_new : IsSound (next_list old edit)) (b : List Moment) (seeds : AreSeeds old (next_list old edit) b)
     (t : Moment) (r : List ℕ) (stands : Contains (rules_at (next_list old edit) t) r) where
   abbrev new : Standing
   new = next_list old edit
-
-  -- a token that the rule reads by the old list it reads by the new one
-  watched_on : (k : TokenRow Moment) → Contains (rules_at old t) r → rule_of old r ≡ rule_of new r → is_watched old r k ≡ true → is_watched new r k ≡ true
-  watched_on k before same h =
-      let (f, at, of_class) = list_any-In (λ fact. same_name (class_of old fact) k.class) (rule_of old r).given h in
-      let at_new : In f (rule_of new r).given = subst (λ (x : RuleText). In f x.given) same at in
-      let class : class_of old f ≡ class_of new f = classes_stay old edit sound_old sound_new t r f before stands at at_new in
-      In-list_any (λ fact. same_name (class_of new fact) k.class) (rule_of new r).given f at_new (subst (λ c. same_name c k.class ≡ true) class of_class)
 
   old_token : (x : Moment) (k : TokenRow Moment) → Contains (built old).believed x → token_of old x ≡ Some k → is_watched old r k ≡ true → In k (watched (built old) r)
   old_token x k believed e h = filter-In (is_watched old r) (believed_tokens (built old)) k (filter_map-In (token_of old) (built old).believed x k (In-from_Contains (built old).believed x believed) e) h
@@ -81,7 +84,7 @@ module _ (old : Standing) (edit : Edit) (sound_old : IsSound old) (sound_new : I
       into k at =
           let (x, believed, e, h) = of_old k at in
           let there = u.left x believed (token_watched old r x k e h) in
-          new_token x k there (sym (one_token x believed there) ∙ e) (watched_on k u.was.1 same h)
+          new_token x k there (sym (one_token x believed there) ∙ e) (watched_on old edit sound_old sound_new t r k u.was.1 stands same h)
 
       back : (k : TokenRow Moment) → In k (watched (map_of new b) r) → In k (watched (built old) r)
       back k at =
@@ -114,20 +117,19 @@ module _ (old : Standing) (edit : Edit) (sound_old : IsSound old) (sound_new : I
       gaps p q at_p at_q =
           alike.gaps p q (among_more t (watched (map_of new b) r) (watched (built old) r) alike.back p at_p) (among_more t (watched (map_of new b) r) (watched (built old) r) alike.back q at_q)
 
-pub touched_marked : (old : Standing) (edit : Edit) (b : List Moment) (f : Forest) (rows : Rows)
-    → IsSound old → IsSound (next_list old edit) → AreSeeds old (next_list old edit) b → AreRowsOf (next_list old edit) f rows
-    → ((i : ℕ) (q : Row) → rows i ≡ Some q → (q.waits ≡ true) ⊎ IsUntouched old (next_list old edit) b (moment_at f q.trigger) q.rule)
-    → ((i : ℕ) (q : Row) → rows i ≡ Some q → q.waits ≡ true → IsUntouched old (next_list old edit) b (moment_at f q.trigger) q.rule → ⊥)
-    → AreMarked old (next_list old edit) b f rows
-touched_marked old edit b f rows sound_old sound_new seeds are all only = record { right = right; touched = touched }
+pub resting_marked : RestingAreMarked
+resting_marked old edit b f rows sound_old sound_new seeds are all only = record { right = right; touched = touched }
   where
     right : (i : ℕ) (q : Row) → rows i ≡ Some q → (q.waits ≡ true)
         ⊎ (outcome old (far_in old.premises) (built old).believed (moment_at f q.trigger) q.rule ≡ outcome (next_list old edit) (far_in (next_list old edit).premises) b (moment_at f q.trigger) q.rule)
     right i q at = elim (all i q at) [
       | inl waits ↦ inl waits
-      | inr free ↦ inr (
-          let stands = (are.own i q at).1 in
-          keeps old edit sound_old sound_new b seeds (moment_at f q.trigger) q.rule stands (untouched_false old edit sound_old sound_new b seeds (moment_at f q.trigger) q.rule stands free))
+      | inr rests ↦ inr (elim rests [
+        | inl free ↦
+            let stands = (are.own i q at).1 in
+            keeps old edit sound_old sound_new b seeds (moment_at f q.trigger) q.rule stands (untouched_false old edit sound_old sound_new b seeds (moment_at f q.trigger) q.rule stands free)
+        | inr same ↦ same
+      ])
     ]
 
     touched : (i : ℕ) (q : Row) → rows i ≡ Some q → q.waits ≡ true
@@ -138,6 +140,10 @@ touched_marked old edit b f rows sound_old sound_new seeds are all only = record
             → (is_touched (built old) (map_of (next_list old edit) b) (moment_at f q.trigger, q.rule) ≡ true) ⊎ (is_touched (built old) (built (next_list old edit)) (moment_at f q.trigger, q.rule) ≡ true)
         by true e = inl e
         by false e = absurd (only i q at waits (false_untouched old edit sound_old sound_new b seeds (moment_at f q.trigger) q.rule (are.own i q at).1 e))
+
+pub touched_marked : TouchedAreMarked
+touched_marked old edit b f rows sound_old sound_new seeds are all only =
+    resting_marked old edit b f rows sound_old sound_new seeds are (λ i q at. elim (all i q at) [ inl waits ↦ inl waits | inr free ↦ inr (inl free) ]) only
 
 -- ---- another horizon
 

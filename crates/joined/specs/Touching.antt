@@ -9,6 +9,7 @@ use Rattle.tmm_model.specs.Maps.{built, gap}
 use Rattle.tmm_model.specs.Moments.{Moment}
 use Rattle.tmm_model.specs.Standing.{Standing, far_in}
 use Rattle.list_theory.specs.WellNamed.{IsSound}
+use Rattle.belief_theory.specs.Outcomes.{outcome}
 use Rattle.list_theory.proofs.Elements.{In}
 use Rattle.belief_theory.specs.Touched.{watched_points}
 use Rattle.spots.specs.Forest.{Forest, moment_at}
@@ -33,6 +34,17 @@ TouchedAreMarked =
     (old : Standing) (edit : Edit) (b : List Moment) (f : Forest) (rows : Rows)
     → IsSound old → IsSound (next_list old edit) → AreSeeds old (next_list old edit) b → AreRowsOf (next_list old edit) f rows
     → ((i : ℕ) (q : Row) → rows i ≡ Some q → (q.waits ≡ true) ⊎ IsUntouched old (next_list old edit) b (moment_at f q.trigger) q.rule)
+    → ((i : ℕ) (q : Row) → rows i ≡ Some q → q.waits ≡ true → IsUntouched old (next_list old edit) b (moment_at f q.trigger) q.rule → ⊥)
+    → AreMarked old (next_list old edit) b f rows
+
+-- **So they are too where others do not wait that keep their outcomes** for some other reason.
+abbrev pub RestingAreMarked : Type 0
+RestingAreMarked =
+    (old : Standing) (edit : Edit) (b : List Moment) (f : Forest) (rows : Rows)
+    → IsSound old → IsSound (next_list old edit) → AreSeeds old (next_list old edit) b → AreRowsOf (next_list old edit) f rows
+    → ((i : ℕ) (q : Row) → rows i ≡ Some q → (q.waits ≡ true)
+    ⊎ (IsUntouched old (next_list old edit) b (moment_at f q.trigger) q.rule
+    ⊎ (outcome old (far_in old.premises) (built old).believed (moment_at f q.trigger) q.rule ≡ outcome (next_list old edit) (far_in (next_list old edit).premises) b (moment_at f q.trigger) q.rule)))
     → ((i : ℕ) (q : Row) → rows i ≡ Some q → q.waits ≡ true → IsUntouched old (next_list old edit) b (moment_at f q.trigger) q.rule → ⊥)
     → AreMarked old (next_list old edit) b f rows
 

@@ -8,7 +8,8 @@ ghost use Rattle.joined.specs.Netted.{NettedAreCurrent, NettedAreCounted, Nothin
 ghost use Rattle.joined.specs.Nodes.{WithdrawalsLeave, NodesStaySeen, ReadsByClass};
 ghost use Rattle.joined.specs.Starting.{StartsAreNetted, PreparedAreNetted, HorizonsKeep};
 ghost use Rattle.joined.specs.Telling.{PreparedAreTold, TurnsTell, NettedTell};
-ghost use Rattle.joined.specs.Touching.{TouchedAreMarked, HorizonsMark};
+ghost use Rattle.joined.specs.Shifting.{RestingKeep};
+ghost use Rattle.joined.specs.Touching.{TouchedAreMarked, RestingAreMarked, HorizonsMark};
 ghost use Rattle.joined.specs.Turning.{CodeTurnsKeep};
 
 /// A withdrawal takes out a node with all below it, and nothing else.
@@ -51,6 +52,11 @@ pub fn touched_are_marked()
     ensures { TouchedAreMarked }
 {}
 
+/// So they are too where others do not wait that keep their outcomes.
+pub fn resting_are_marked()
+    ensures { RestingAreMarked }
+{}
+
 /// Where the horizon alone changes, those are to wait whose effects it brings into time or puts beyond.
 pub fn horizons_mark()
     ensures { HorizonsMark }
@@ -60,6 +66,12 @@ pub fn horizons_mark()
 /// moved from which rules lead to them.
 pub fn moved_points_touch()
     ensures { MovedPointsTouch }
+{}
+
+/// A decision keeps its outcome though points moved, where what moved of the tokens that it reads bears on none
+/// there, before and after.
+pub fn resting_keep()
+    ensures { RestingKeep }
 {}
 
 /// A node keeps its clip where the nodes of its class stand as before and what clipped it is there still.

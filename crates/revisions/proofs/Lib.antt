@@ -20,3 +20,5 @@ pub mod ReadPremises
 pub mod UnreadEdits
 pub mod StillEdits
 pub mod Ruling
+pub mod Walls
+pub mod Shifts

@@ -12,3 +12,5 @@ pub mod Standing
 pub mod Alike
 pub mod StillEdits
 pub mod Ruling
+pub mod Walls
+pub mod Shifts

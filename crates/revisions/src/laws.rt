@@ -4,11 +4,13 @@ ghost use Rattle.revisions.specs.Maps.{EditsAreLawful};
 ghost use Rattle.revisions.specs.Standing.{StandingOccur};
 ghost use Rattle.revisions.specs.Alike.{AlikeBelieve, SameReadSayAlike, UnreadEditsSayAlike};
 ghost use Rattle.revisions.specs.Clips.{ClipsStay, ClipsStayOn};
+ghost use Rattle.revisions.specs.Shifts.{ShiftsKeep};
 ghost use Rattle.revisions.specs.Ruling.{UnruledEditsKeepRules};
 ghost use Rattle.revisions.specs.StillEdits.{UnmovedAreAlike, LikeListsSee};
 ghost use Rattle.revisions.specs.Whole.{RevisionsAreRight};
 ghost use Rattle.revisions.specs.Marks.{MarksMake};
 ghost use Rattle.revisions.specs.Counted.{EditsAreCounted, SeedsAreRight};
+ghost use Rattle.revisions.specs.Walls.{OutcomesStayBut};
 
 /// Up to the date from which all decisions wait, the nodes are those that are believed in the end.
 pub fn nodes_are_final()
@@ -113,4 +115,14 @@ pub fn unmoved_are_alike()
 /// Nodes that a list sees are seen by each list that says the same.
 pub fn like_lists_see()
     ensures { LikeListsSee }
+{}
+
+/// In two maps that are alike for a decision but for tokens that bear on none at its event, it has one outcome.
+pub fn outcomes_stay_but()
+    ensures { OutcomesStayBut }
+{}
+
+/// A decision keeps its outcome where points moved, but for tokens that bear on none there, before and after.
+pub fn shifts_keep()
+    ensures { ShiftsKeep }
 {}

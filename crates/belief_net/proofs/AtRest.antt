@@ -1,0 +1,229 @@
+-- Rows that may rest though points moved, and rows at events for which points moved.
+use Rattle.std.proofs.Common.{◌≡◌, ◌∙◌, ℕ, Bool, true, false, ◌+◌, ◌<◌, List, [], ◌∷◌, map, length, Option, Some, None, refl, sym, ap, subst, inl, inr, ◌⊎◌, arith}
+use Rattle.std.proofs.lemmas.List.Quantifiers.{position-Some}
+use Rattle.std.specs.Prelude.{pos}
+use Rattle.std.specs.Option.{option_map_or}
+use Rattle.std.specs.List.{list_any}
+use Rattle.std.specs.Cmp.Lexicographic.{bytes_decides}
+use Rattle.tmm_model.specs.declared.bound.Bound.TheVariants.{Finite}
+use Rattle.tmm_model.specs.Beliefs.{class_of}
+use Rattle.tmm_model.specs.Moments.{rule_of}
+use Rattle.tmm_model.specs.Points.{same_name}
+use Rattle.tmm_model.specs.Standing.{Standing}
+use Rattle.list_theory.proofs.Elements.{In, In-map, map-In, list_any-In, In-list_any}
+use Rattle.dist_net.specs.Net.{Nets, IsMovedAt}
+use Rattle.spots.specs.declared.spot.Spot.{Spot}
+use Rattle.spots.specs.declared.spot.Spot.TheVariants.{Declared, Node}
+use Rattle.spots.specs.Forest.{Forest, Member, member}
+use Rattle.spots.specs.Spots.{base_of, links_of, links_high}
+use Rattle.undo_rows.specs.declared.row.Row.{Row as TableRow}
+use Rattle.undo_rows.specs.Tables.{AreListed}
+use Rattle.decision_rows.specs.declared.row.Pair.{Pair}
+use Rattle.occ_tree.specs.Classes.{place_in}
+use Rattle.occ_tree.specs.Standing.{State, forest}
+use Rattle.joined.specs.Gaps.{reads_class, IsClassSpot, begin, an_end, start, read, IsReadSpot, MovesAt}
+use Rattle.joined.specs.Listed.{IsListedUnder}
+use Rattle.joined.specs.Shifting.{IsSpotOf, MovesAmong, AreLoose, SparesClass, MayRest}
+use Rattle.joined.proofs.Listed.{class_listed}
+use Rattle.belief_net.specs.declared.fast.Moves.{Moves}
+use Rattle.belief_net.specs.declared.state.Decisions.{Decisions}
+use Rattle.belief_net.specs.Decided.{table_of, rule_in, AreUnder}
+use Rattle.belief_net.specs.Fast.{is_out, StandFast}
+use Rattle.belief_net.specs.Marks.{Wakes}
+use Rattle.belief_net.specs.MovedPairs.{WereThere, is_moved, AreMoved}
+use Rattle.belief_net.specs.Numbers.{name_in, HaveOwnNumbers}
+use Rattle.belief_net.specs.PointSets.{is_in, has_pair}
+use Rattle.belief_net.specs.Reach.{AreBelow256}
+use Rattle.belief_net.specs.Touching.{IsRowMoved}
+use Rattle.belief_net.specs.Waiting.{Dates}
+use Rattle.belief_net.specs.Woken.{MovesFor, RestsFor, MovesFrom, KeepsDate, RestsForFirst, MovesForSome, WakesForAll, IsRowAtRest}
+use Rattle.belief_net.proofs.Named.{are_numbered, placed_name}
+use Rattle.belief_net.proofs.Pairs.{none_listed}
+use Rattle.belief_net.proofs.Waking.{wakes_none, wakes_both}
+
+true_or : (v : Bool) → (v ≡ true) ⊎ (v ≡ false)
+true_or true = inl refl
+true_or false = inr refl
+
+-- ---- where nothing moved
+
+pub all_rest : (nets : Nets) (added : Option (List ℕ)) (s : Standing) (f : Forest) (d : Decisions) (row : TableRow Pair 6) → WereThere nets added
+    → IsMovedAt nets.moved nets.committed nets.present → length nets.moved ≡ 0 → IsRowAtRest nets added s f d row
+all_rest nets added s f d row were moved_at none = (
+  λ n. false,
+  record { each = λ a b is. absurd (none_listed nets added were moved_at none a b is); start = refl },
+  record {
+    date = elim (true_or (is_moved nets added (base_of f (Node row.value.trigger)) 0)) [
+      | inl is ↦ absurd (none_listed nets added were moved_at none (base_of f (Node row.value.trigger)) 0 is)
+      | inr off ↦ off
+    ];
+    each = λ class reads. inl (λ m. none_listed nets added were moved_at none (base_of f m.from) (base_of f m.to) m.moved);
+  },
+)
+
+-- ---- where points moved
+
+-- what moved among some spots of a rule moved for it
+among_at : (moves : ℕ → ℕ → Bool) (s : Standing) (f : Forest) (r : List ℕ) (are : Spot → Type 0) (x : ℕ) → ((p : Spot) → are p → IsReadSpot s f r p)
+    → MovesAmong moves f are x → MovesAt moves s f r x
+among_at moves s f r are x read_of m = record {
+  from = m.from;
+  to = m.to;
+  from_is = elim m.from_is [ inl is ↦ inl (read_of m.from is) | inr is ↦ inr is ];
+  to_is = elim m.to_is [ inl is ↦ inl (read_of m.to is) | inr is ↦ inr is ];
+  most = m.most;
+  bounded = m.bounded;
+  moved = m.moved;
+}
+
+module _ (nets : Nets) (added : Option (List ℕ)) (s : Standing) (st : State) (d : Decisions) (moves : Moves) (under : AreUnder s d) (listed : AreListed (table_of d))
+    (below : AreBelow256 (forest st)) (moved : AreMoved nets added moves.pairs.items) where
+  abbrev f : Forest
+  f = forest st
+
+  -- ---- pairs, and what moved
+
+  abbrev Small : Spot → Type 0
+  Small p = base_of f p < 256
+
+  node_small : (x : ℕ) → Small (Node x)
+  node_small x = by (member f x) refl
+    where
+      by : (o : Option Member) → member f x ≡ o → option_map_or (λ m. m.begin) (member f x) 0 < 256
+      by None is = subst (λ o. option_map_or (λ (m : Member). m.begin) o 0 < 256) (sym is) (omega arith)
+      by (Some m) is = subst (λ o. option_map_or (λ (m : Member). m.begin) o 0 < 256) (sym is) (below.begin x m is)
+
+  class_small : (class : List ℕ) (p : Spot) → IsSpotOf f class p → Small p
+  class_small class p (inl is) = subst Small (sym is) (omega arith)
+  class_small class p (inr (begin y m here of is)) = subst Small (sym is) (node_small y)
+  class_small class p (inr (an_end y m e here of ends is)) = subst Small (sym is) (below.end y m e here ends)
+
+  small_or : (are : Spot → Type 0) → ((p : Spot) → are p → Small p) → (x : ℕ) (p : Spot) → are p ⊎ (p ≡ Node x) → Small p
+  small_or are small x p (inl is) = small p is
+  small_or are small x p (inr is) = subst Small (sym is) (node_small x)
+
+  pair_is : (p q : Spot) → Small p → Small q → has_pair moves.pairs.items (base_of f p) (base_of f q) ≡ is_moved nets added (base_of f p) (base_of f q)
+  pair_is p q small_p small_q = moved.each (base_of f p) (base_of f q) small_p small_q
+
+  to_moved : (are : Spot → Type 0) → ((p : Spot) → are p → Small p) → (x : ℕ) → MovesAmong (has_pair moves.pairs.items) f are x → MovesAmong (is_moved nets added) f are x
+  to_moved are small x m = record {
+    from = m.from;
+    to = m.to;
+    from_is = m.from_is;
+    to_is = m.to_is;
+    most = m.most;
+    bounded = m.bounded;
+    moved = sym (pair_is m.from m.to (small_or are small x m.from m.from_is) (small_or are small x m.to m.to_is)) ∙ m.moved;
+  }
+
+  from_moved : (are : Spot → Type 0) → ((p : Spot) → are p → Small p) → (x : ℕ) → MovesAmong (is_moved nets added) f are x → MovesAmong (has_pair moves.pairs.items) f are x
+  from_moved are small x m = record {
+    from = m.from;
+    to = m.to;
+    from_is = m.from_is;
+    to_is = m.to_is;
+    most = m.most;
+    bounded = m.bounded;
+    moved = pair_is m.from m.to (small_or are small x m.from m.from_is) (small_or are small x m.to m.to_is) ∙ m.moved;
+  }
+
+  -- ---- classes by their numbers
+
+  -- the number of a class that a row reads
+  class_number : (i : ℕ) (row : TableRow Pair 6) → (table_of d).row i ≡ Some row → (class : List ℕ) → reads_class s (rule_in d row) class ≡ true
+      → (k : ℕ) × (place_in d.classes class ≡ Some k)
+  class_number i row at class reads =
+      let u = under.classes i row at in
+      let (fact, on, same) = list_any-In (λ fact. same_name (class_of s fact) class) (rule_of s (rule_in d row)).given reads in
+      let among = subst (λ l. In (place_in d.classes (class_of s fact)) l) u.numbers (map-In (λ fact. place_in d.classes (class_of s fact)) (rule_of s (rule_in d row)).given fact on) in
+      let (k, there, is) = In-map Some u.classes (place_in d.classes (class_of s fact)) among in
+      (k, sym (ap (place_in d.classes) ((bytes_decides (class_of s fact) class).0 same)) ∙ sym is)
+
+  on_lists : (i k : ℕ) (row : TableRow Pair 6) (class : List ℕ) → (table_of d).row i ≡ Some row → place_in d.classes class ≡ Some k → reads_class s (rule_in d row) class ≡ true → IsListedUnder (table_of d) k i
+  on_lists i k row class at is reads = (class_listed s d.rows (name_in d.rules) (place_in d.classes) class k i row is (are_numbered d.classes) listed at (under.classes i row at)).0 reads
+
+  off_lists : (i k : ℕ) (row : TableRow Pair 6) (class : List ℕ) → (table_of d).row i ≡ Some row → place_in d.classes class ≡ Some k → IsListedUnder (table_of d) k i → reads_class s (rule_in d row) class ≡ true
+  off_lists i k row class at is on = (class_listed s d.rows (name_in d.rules) (place_in d.classes) class k i row is (are_numbered d.classes) listed at (under.classes i row at)).1 on
+
+  -- ---- rows at events for which points moved
+
+  from_start : (row : TableRow Pair 6) → MovesFrom moves (forest st) row.value.trigger → IsRowMoved nets added s (forest st) d row
+  from_start row m =
+      among_at (is_moved nets added) s f (rule_in d row) (λ p. p ≡ Declared 0) row.value.trigger (λ p is. start is)
+      (to_moved (λ p. p ≡ Declared 0) (λ p is. subst Small (sym is) (omega arith)) row.value.trigger m)
+
+  module _ (own : HaveOwnNumbers d.classes) where
+    for_some : (i : ℕ) (row : TableRow Pair 6) → (table_of d).row i ≡ Some row → MovesForSome st moves d i row → IsRowMoved nets added s (forest st) d row
+    for_some i row at (k, less, on, m) =
+        let class = name_in d.classes k in
+        let reads = off_lists i k row class at (own k less) on in
+        among_at (is_moved nets added) s f (rule_in d row) (IsSpotOf f class) row.value.trigger (λ p is. elim is [ inl first ↦ start first | inr spot ↦ read class reads spot ])
+        (to_moved (IsSpotOf f class) (class_small class) row.value.trigger m)
+
+    -- ---- rows that may rest
+
+    module _ (fast : StandFast nets added moves.fast.items) (i : ℕ) (row : TableRow Pair 6) (at : (table_of d).row i ≡ Some row)
+        (dated : KeepsDate moves s (forest st) d row) (rests : RestsForFirst st nets moves d (length d.classes) i row) where
+      abbrev x : ℕ
+      x = row.value.trigger
+
+      abbrev r : List ℕ
+      r = rule_in d row
+
+      by_class : (class : List ℕ) → reads_class s r class ≡ true → RestsFor nets moves f class x
+      by_class class reads =
+          let (k, is) = class_number i row at class reads in
+          let name = placed_name d.classes class k is in
+          subst (λ z. RestsFor nets moves f z x) name (rests k (small_number class k is) (on_lists i k row class at is reads))
+        where
+          small_number : (class : List ℕ) (k : ℕ) → place_in d.classes class ≡ Some k → k < length d.classes
+          small_number class k is = (position-Some (same_name class) d.classes k [] is).0
+
+      unmoved_date : (class : List ℕ) → RestsFor nets moves f class x → is_moved nets added (base_of f (Node x)) 0 ≡ false
+      unmoved_date class rest = elim (true_or (is_moved nets added (base_of f (Node x)) 0)) [
+        | inr off ↦ off
+        | inl is ↦ absurd (by rest is)
+      ]
+        where
+          by : RestsFor nets moves f class x → is_moved nets added (base_of f (Node x)) 0 ≡ true → ⊥
+          by (inl still) is = still (from_moved (IsSpotOf f class) (class_small class) x
+              (record { from = Node x; to = Declared 0; from_is = inr refl; to_is = inl (inl refl); most = pos 0; bounded = refl; moved = is }))
+          by (inr spares) is = elim (fast.loose.each (base_of f (Node x)) 0 is) [
+            | inl out ↦ (let no : true ≡ false = sym out ∙ spares.event in cc)
+            | inr out ↦ (let no : true ≡ false = sym out ∙ fast.loose.start in cc)
+          ]
+
+      same_date : is_moved nets added (base_of f (Node x)) 0 ≡ false
+      same_date = by (rule_of s r).given refl
+        where
+          by : (given : List (List ℕ)) → (rule_of s r).given ≡ given → is_moved nets added (base_of f (Node x)) 0 ≡ false
+          by [] none = sym (pair_is (Node x) (Declared 0) (node_small x) (omega arith)) ∙ dated none
+          by (fact ∷ given) some =
+              let class = class_of s fact in
+              let reads : reads_class s r class ≡ true =
+              In-list_any (λ z. same_name (class_of s z) class) (rule_of s r).given fact (subst (In fact) (sym some) (inl refl)) ((bytes_decides class class).1 refl) in
+              unmoved_date class (by_class class reads)
+
+      at_rest : IsRowAtRest nets added s (forest st) d row
+      at_rest = (
+        is_out moves.fast.items,
+        fast.loose,
+        record {
+          date = same_date;
+          each = λ class reads. elim (by_class class reads) [
+            | inl still ↦ inl (λ m. still (from_moved (IsSpotOf f class) (class_small class) x m))
+            | inr spares ↦ inr spares
+          ];
+        },
+      )
+
+    -- **All rows have been looked at**: those of rules that read nothing, and those on the lists of classes.
+    pub all_woken : StandFast nets added moves.fast.items → (old mid new : Dates)
+        → Wakes st (table_of d) (λ i row. MovesFrom moves (forest st) row.value.trigger) (λ i row. KeepsDate moves s (forest st) d row) old mid
+        → WakesForAll st nets moves d (length d.classes) mid new
+        → Wakes st (table_of d) (λ i row. IsRowMoved nets added s (forest st) d row) (λ i row. IsRowAtRest nets added s (forest st) d row) old new
+    all_woken fast old mid new =
+        wakes_both st (table_of d) (λ i row. MovesFrom moves f row.value.trigger) (λ i row. KeepsDate moves s f d row)
+        (MovesForSome st moves d) (RestsForFirst st nets moves d (length d.classes))
+        (λ i row. IsRowMoved nets added s f d row) (λ i row. IsRowAtRest nets added s f d row) old mid new
+        (λ i row at m. from_start row m) (λ i row at m. for_some i row at m) (λ i row at dated rests. at_rest fast i row at dated rests)

@@ -1,0 +1,41 @@
+-- How far apart nodes are, by their places.
+use Rattle.std.proofs.Common.{◌≡◌, ◌≢◌, ◌∙◌, ℕ, Bool, sym, ap, subst}
+use Rattle.std.specs.Prelude.{ℤ}
+use Rattle.tmm_model.specs.declared.bound.Bound.{Bound}
+use Rattle.tmm_model.specs.Bounds.{bound_plus, bound_less, bound_at_most}
+use Rattle.dist_net.specs.Net.{Net}
+use Rattle.spots.specs.declared.node_row.NodeRow.{NodeRow}
+use Rattle.spots.specs.declared.spot.Spot.TheVariants.{Node}
+use Rattle.spots.specs.Forest.{Forest, Member, IsLive}
+use Rattle.spots.specs.Rows.{IsRowOf}
+use Rattle.spots.specs.Spots.{base_of, links_of, links_low, links_high, net_far}
+use Rattle.std.specs.Option.{option_map_or}
+use Rattle.std.proofs.Common.{Option, []}
+use Rattle.spots.proofs.Distances.{distance-two_bases}
+use Rattle.spots.proofs.Nodes.{node_at}
+use Rattle.belief_net.specs.declared.places.Place.{Place}
+use Rattle.belief_net.specs.Places.{IsPlaceOf, TellsWithin}
+use Rattle.belief_net.proofs.OfRules.{row_base, row_high}
+
+pub row_low : (f : Forest) (x : ℕ) (row : NodeRow) → IsLive f x → IsRowOf f x row → links_low (links_of f (Node x)) ≡ row.low
+row_low f x row live told = let (m, at) = node_at f x live in ap (λ (o : Option Member). links_low (option_map_or (λ (m : Member). m.links) o [])) at ∙ sym (told m at).low
+
+-- what is told of a node is its place
+pub row_place : (f : Forest) (x : ℕ) (row : NodeRow) → IsLive f x → IsRowOf f x row → IsPlaceOf f x (record { base = row.begin; low = row.low; high = row.high })
+row_place f x row live told = record { base = row_base f x row live told; low = row_low f x row live told; high = row_high f x row live told }
+
+-- from the places of two points the distance of nodes follows
+pub tells_within : (net : Net) (from to : Place) (most : ℤ) → from.base ≢ to.base
+    → TellsWithin net from to most (bound_at_most (bound_less (bound_plus (net_far net from.base to.base) to.high) from.low) most)
+tells_within net from to most two f a b of_a of_b =
+    let apart : base_of f (Node a) ≢ base_of f (Node b) = λ one. two (sym of_a.base ∙ one ∙ of_b.base) in
+    ap (λ d. bound_at_most d most)
+    (distance-two_bases net f (Node a) (Node b) apart ∙ (λ i. bound_less (bound_plus (net_far net (of_a.base i) (of_b.base i)) (of_b.high i)) (of_a.low i)))
+
+-- so it does from what is computed of them
+pub within_told : (net : Net) (from to : Place) (most low : ℤ) (far : Bound) (v : Bool) → from.base ≢ to.base → far ≡ net_far net from.base to.base → low ≡ from.low
+    → v ≡ bound_at_most (bound_less (bound_plus far to.high) low) most → TellsWithin net from to most v
+within_told net from to most low far v two is_far is_low is =
+    let same : bound_at_most (bound_less (bound_plus (net_far net from.base to.base) to.high) from.low) most ≡ v =
+    sym (is ∙ (λ i. bound_at_most (bound_less (bound_plus (is_far i) to.high) (is_low i)) most)) in
+    subst (TellsWithin net from to most) same (tells_within net from to most two)

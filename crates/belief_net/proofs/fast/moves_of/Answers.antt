@@ -1,0 +1,30 @@
+use Rattle.std.proofs.Common.{◌∙◌, ℕ, Bool, true, ◌<◌, List, length, sym, ap, subst, inl, arith}
+use Rattle.belief_net.specs.Fast.{IsFastBy}
+use Rattle.belief_net.specs.PointSets.{AreThose, HaveOneOf}
+use Rattle.belief_net.proofs.Stood.{kept_both, fast_stand}
+use Rattle.belief_net.proofs.fast.moves_of.Goals as goal
+
+pub fast_points-requires-clause-pairs : goal.fast_points-requires-clause-pairs
+fast_points-requires-clause-pairs c = ap length c.deref.ensures.value ∙ c.in_ok-pairs.ensures.moved.places
+
+pub fast_points-requires-clause-kept : goal.fast_points-requires-clause-kept
+fast_points-requires-clause-kept c = ap length c.deref-2.ensures.value ∙ c.in_ok-kept.ensures.places
+
+pub returns-clause-kept : goal.returns-clause-kept
+returns-clause-kept c = kept_both c.args.net.now c.args.added c.in_ok-kept.kept.items c.requires.there c.in_ok-kept.ensures
+
+pub returns-clause-fast : goal.returns-clause-fast
+returns-clause-fast c =
+    let nets = c.args.net.now in
+    let added = c.args.added in
+    let listed = c.moved.result.now in
+    let pairs = c.in_ok-pairs.pairs.items in
+    let kept = c.in_ok-kept.kept.items in
+    let fast = c.in_ok-fast.fast.items in
+    let by_pairs = subst (λ (l : List Bool). AreThose (λ p. (p < 256) × IsFastBy listed l c.deref-2.result.now p) fast) c.deref.ensures.value c.in_ok-fast.ensures in
+    let are = subst (λ (l : List Bool). AreThose (λ p. (p < 256) × IsFastBy listed pairs l p) fast) c.deref-2.ensures.value by_pairs in
+    fast_stand nets added listed pairs kept fast c.in_ok-pairs.ensures.moved
+    (subst (λ (l : List ℕ). HaveOneOf l pairs) (sym c.moved.ensures.list) c.in_ok-pairs.ensures.listed)
+    (kept_both nets added kept c.requires.there c.in_ok-kept.ensures)
+    (c.in_ok-kept.ensures.all 0 (omega arith, c.requires.start))
+    are

@@ -1,0 +1,34 @@
+use Rattle.std.proofs.Common.{◌≡◌, ◌∙◌, ◌<◌, length, ap, subst, sym, arith}
+use Rattle.undo_rows.specs.Changes.{present as table}
+use Rattle.occ_tree.specs.Standing.{present}
+use Rattle.joined.specs.Listed.{IsListedUnder}
+use Rattle.belief_net.specs.declared.state.Decisions.{Decisions}
+use Rattle.belief_net.specs.Decided.{table_of}
+use Rattle.belief_net.specs.Numbers.{name_in}
+use Rattle.belief_net.specs.Waiting.{dates_in}
+use Rattle.belief_net.specs.Woken.{WakesFor, WakesForAll}
+use Rattle.belief_net.proofs.Waking.{classes_none, classes_next}
+use Rattle.belief_net.proofs.moving.wake_classes.Goals as goal
+
+pub loop-class-init : goal.loop-class-init
+loop-class-init c = ?
+
+pub loop-class-preserved : goal.loop-class-preserved
+loop-class-preserved c =
+    let s = present c.args.tree.now in
+    let d = c.args.decisions.now in
+    let n = c.loop-class.class in
+    let mid = dates_in c.loop-class.decisions.waiting in
+    let new = dates_in c.wake_class.new.waiting in
+    let others = c.loop-class.invariant.others in
+    let name = c.name-name.ensures ∙ ap (λ (z : Decisions). name_in z.classes n) others in
+    let short : n < length d.classes = ? in
+    record {
+      wakes = classes_next s c.args.net.now c.args.moves.now d n (dates_in d.waiting) mid new short c.loop-class.invariant.wakes
+          (subst (λ class. WakesFor s (table_of d) c.args.net.now c.args.moves.now class (IsListedUnder (table_of d) n) mid new) name
+          (subst (λ r. WakesFor s (table r) c.args.net.now c.args.moves.now c.name-name.result (IsListedUnder (table r) n) mid new) (ap (λ (z : Decisions). z.rows) others) c.in_ok-wake_class.ensures));
+      others = ap (λ (z : Decisions). record z { waiting = c.wake_class.new.waiting }) others;
+    }
+
+pub returns-clause-ok : goal.returns-clause-ok
+returns-clause-ok c = subst (λ n. WakesForAll (present c.args.tree.now) c.args.net.now c.args.moves.now c.args.decisions.now n (dates_in c.args.decisions.now.waiting) (dates_in c.loop-class.decisions.waiting)) ? c.loop-class.invariant.wakes

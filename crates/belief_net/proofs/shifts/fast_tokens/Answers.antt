@@ -1,0 +1,22 @@
+use Rattle.std.proofs.Common.{List, ℕ, subst}
+use Rattle.std.proofs.lemmas.List.Elements.{All-nil}
+use Rattle.std.specs.List.{All}
+use Rattle.occ_tree.specs.Places.{forest}
+use Rattle.belief_net.specs.Fast.{is_out}
+use Rattle.belief_net.specs.Shifts.{IsFastToken}
+use Rattle.belief_net.proofs.Shifted.{row_node, row_class}
+use Rattle.belief_net.proofs.shifts.fast_tokens.Goals as goal
+
+pub loop-i-init : goal.loop-i-init
+loop-i-init c = All-nil (IsFastToken (forest c.args.tree.now) (is_out c.args.fast.now) c.args.class.now)
+
+pub note_fast-requires : goal.note_fast-requires
+note_fast-requires c = row_node (forest c.args.tree.now) c.args.class.now c.tokens-rows.result.now c.tokens-rows.ensures.rows c.loop-i.i c.index-rows-i.result c.loop-i-test.true c.index-rows-i.is
+
+pub loop-i-preserved : goal.loop-i-preserved
+loop-i-preserved c =
+    let f = forest c.args.tree.now in
+    let old = c.loop-i.tokens.items in
+    let new = c.note_fast.new.tokens.items in
+    let class_is = row_class f c.args.class.now c.tokens-rows.result.now c.tokens-rows.ensures.rows c.loop-i.i c.index-rows-i.result c.loop-i-test.true c.index-rows-i.is in
+    (subst (λ (class : List ℕ). All (IsFastToken f (is_out c.args.fast.now) class) old → All (IsFastToken f (is_out c.args.fast.now) class) new) class_is c.in_ok-note_fast.ensures) c.loop-i.invariant

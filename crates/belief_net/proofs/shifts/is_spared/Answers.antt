@@ -1,0 +1,18 @@
+use Rattle.std.proofs.Common.{List, sym, subst}
+use Rattle.belief_net.specs.declared.walls.FastToken.{FastToken}
+use Rattle.belief_net.specs.Shifts.{IsSparedBy, TokensHaveBoth}
+use Rattle.belief_net.proofs.shifts.is_spared.Goals as goal
+
+pub is_spared_at-requires-clause-behind : goal.is_spared_at-requires-clause-behind
+is_spared_at-requires-clause-behind c = subst (TokensHaveBoth c.args.net.now) (sym c.deref.ensures.value) c.requires.shift.before
+
+pub is_spared_at-requires-clause-behind-2 : goal.is_spared_at-requires-clause-behind-2
+is_spared_at-requires-clause-behind-2 c = ?
+
+pub returns-clause-before : goal.returns-clause-before
+returns-clause-before c is =
+    subst (λ (l : List FastToken). IsSparedBy c.args.net.now.committed c.args.shift.now.place l c.args.event.now) c.deref.ensures.value (c.is_spared_at.ensures c.if-is_spared_at.false)
+
+pub returns-clause-after : goal.returns-clause-after
+returns-clause-after c is =
+    subst (λ (l : List FastToken). IsSparedBy c.args.net.now.present c.args.shift.now.place l c.args.event.now) c.deref-2.ensures.value (c.is_spared_at-2.ensures is)

@@ -1,0 +1,130 @@
+// Tokens that stand fast, and which of them are walls between another one and an event.
+ghost use Rattle.std.specs.Prelude.{◌≡◌, true, false, List, IfOk, OnOk, IfSome};
+ghost use Rattle.std.specs.List.{Contains};
+ghost use Rattle.belief_net.specs.declared.walls.FastToken.{FastToken};
+ghost use Rattle.belief_net.specs.Fast.{IsInBoth};
+ghost use Rattle.belief_net.specs.Places.{net_at};
+ghost use Rattle.belief_net.specs.Shifts.{HasBegunBy, AreWallsBy, AreBehind, TokensHaveBoth, is_of};
+
+use crate::lists::push;
+use crate::places::{Place, is_surely_within};
+use dist_net::DistNet;
+use std::alloc::Global;
+use tmm_model::{Name, NoMemory};
+
+/// How many tokens are looked at behind another one.
+pub(crate) const LIMIT: usize = 32;
+
+/// A token that stands fast.
+#[derive(Clone, Copy)]
+pub(crate) struct FastToken {
+    /// Where it begins.
+    pub place: Place,
+    /// Its fact.
+    pub fact: Name,
+}
+
+// The first of the tokens that surely began or begin after the node at a place, no more than `LIMIT`.
+pub(crate) fn tokens_behind(
+    alloc: Global,
+    net: &DistNet,
+    before: bool,
+    tokens: &[FastToken],
+    place: &Place,
+) -> Result<Vec<FastToken>, NoMemory>
+    requires tokens { TokensHaveBoth net.now tokens.now }
+    requires place { IsInBoth net.now place.now.base }
+    ensures { IfOk result (λ behind. AreBehind (net_at net.now before) place.now tokens.now behind.items) }
+{
+    let mut behind = Vec::new(alloc);
+    for i in 0..tokens.len() {
+        note_behind(net, before, &tokens[i], place, &mut behind)?;
+    }
+    Ok(behind)
+}
+
+// Adds a token if it surely began or begins after the node at a place, and there is room.
+fn note_behind(
+    net: &DistNet,
+    before: bool,
+    token: &FastToken,
+    place: &Place,
+    behind: &mut Vec<FastToken>,
+) -> Result<(), NoMemory>
+    requires token { IsInBoth net.now token.now.place.base }
+    requires place { IsInBoth net.now place.now.base }
+    ensures { OnOk result ((tokens : List FastToken) → Contains tokens token.now → AreBehind (net_at net.now before) place.now tokens behind.old.items → AreBehind (net_at net.now before) place.now tokens behind.new.items) }
+{
+    if behind.len() >= LIMIT {
+        return Ok(());
+    }
+    if !is_surely_within(net, before, &token.place, place, true) {
+        return Ok(());
+    }
+    push(behind, *token)?;
+    Ok(())
+}
+
+// Whether two of the tokens, of different facts, have surely begun by the event at a place.
+pub(crate) fn are_walls(net: &DistNet, before: bool, tokens: &[FastToken], event: &Place) -> bool
+    requires tokens { TokensHaveBoth net.now tokens.now }
+    requires event { IsInBoth net.now event.now.base }
+    ensures { result ≡ true → AreWallsBy (net_at net.now before) tokens.now event.now }
+{
+    let Some(one) = begun_beside(net, before, tokens, event, &None) else {
+        return false;
+    };
+    begun_beside(net, before, tokens, event, &Some(one.fact)).is_some()
+}
+
+// The first of the tokens that has surely begun by the event at a place, and is not of this fact.
+fn begun_beside(
+    net: &DistNet,
+    before: bool,
+    tokens: &[FastToken],
+    event: &Place,
+    fact: &Option<Name>,
+) -> Option<FastToken>
+    requires tokens { TokensHaveBoth net.now tokens.now }
+    requires event { IsInBoth net.now event.now.base }
+    ensures listed { IfSome result (Contains tokens.now) }
+    ensures begun { IfSome result (HasBegunBy (net_at net.now before) event.now) }
+    ensures beside { IfSome result (λ t. is_of fact.now t.fact ≡ false) }
+{
+    for i in 0..tokens.len() {
+        let token = tokens[i];
+        if has_begun_beside(net, before, &token, event, fact) {
+            return Some(token);
+        }
+    }
+    None
+}
+
+// Whether a token has surely begun by the event at a place, and is not of this fact.
+fn has_begun_beside(
+    net: &DistNet,
+    before: bool,
+    token: &FastToken,
+    event: &Place,
+    fact: &Option<Name>,
+) -> bool
+    requires token { IsInBoth net.now token.now.place.base }
+    requires event { IsInBoth net.now event.now.base }
+    ensures begun { result ≡ true → HasBegunBy (net_at net.now before) event.now token.now }
+    ensures beside { result ≡ true → is_of fact.now token.now.fact ≡ false }
+{
+    if is_of(fact, &token.fact) {
+        return false;
+    }
+    is_surely_within(net, before, event, &token.place, false)
+}
+
+// Whether a fact is this one.
+fn is_of(fact: &Option<Name>, name: &Name) -> bool
+    ensures { result ≡ is_of fact.now name.now }
+{
+    match fact {
+        Some(fact) => fact == name,
+        None => false,
+    }
+}
