@@ -33,6 +33,7 @@ mod turn_laws;
 mod undo;
 mod update;
 mod waiting;
+mod windows;
 
 pub use size::size_of;
 pub use state::BeliefNet;

@@ -1,5 +1,5 @@
 // Rows that wait to be decided again, the earliest first.
-ghost use Rattle.std.specs.Prelude.{◌≡◌, ℕ, ◌<◌, ◌≤ℤ◌, [], ◌∷◌, None, Some, length, MatchOption, OnOk, OnErr};
+ghost use Rattle.std.specs.Prelude.{◌≡◌, ◌↔◌, ℕ, ◌<◌, ◌≤ℤ◌, [], ◌∷◌, None, Some, length, IsTrue, MatchOption, OnOk, OnErr};
 ghost use Rattle.std.specs.List.{All};
 ghost use Rattle.std.specs.List.Sorted.{IsPermutation};
 ghost use Rattle.belief_net.specs.Waiting.{dates_in, waits_in, AreQueued, Puts, Takes};
@@ -109,6 +109,13 @@ impl Waiting {
         ensures { result ≡ waits_in self.now row }
     {
         date_at(&self.dates, row).is_some()
+    }
+
+    // Whether a row waits for this date.
+    pub(crate) fn is_for(&self, row: u32, date: i64) -> bool
+        ensures { IsTrue result ↔ (dates_in self.now row ≡ Some date) }
+    {
+        date_at(&self.dates, row) == Some(date)
     }
 
     // Lets a row wait for a date. Without memory all wait as before.

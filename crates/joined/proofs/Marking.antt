@@ -109,7 +109,7 @@ module _ (old : Standing) (edit : Edit) (net : Net) (f g : Forest) (p : Row) (fo
         by_mark : R.early (moment m) ≤ℤ R.early u → (v : Bool) → (mark : Mark) → In mark marks → IsMarkOf R net number f g m mark → mark.spares q.trigger ≡ v
             → IsSpared (IsInBoth new b c) (map_of new b) u k
         by_mark by_u true mark at of spares =
-            spared_at new net f g seen seen_after b c holds_b holds_c q.trigger stays_there.node stays_there.before stays_there.after m (of.spared q.trigger spares) k is
+            spared_at new net f g seen seen_after b c holds_b holds_c q.trigger stays_there.node stays_there.before stays_there.after (moment m) (of.spared q.trigger spares) k is
         by_mark by_u false mark at of spares =
             let on = (readers_listed new net.names m rows name number of.class mark.class i row own of.has_class of.numbered numbered listed here under).0
             (subst (λ z. watches new z (moment m) ≡ true) rule_is reads_m) in

@@ -206,15 +206,15 @@ module _ (s : Standing) (net : Net) (f g nodes : Forest) (seen : IsSeen s net no
 
 -- **What is spared at a node is spared at its moment.**
 pub spared_at : (s : Standing) (net : Net) (f g : Forest) → IsSeen s net f → IsSeen s net g → (b c : List Moment) → Holds b f → Holds c g
-    → (t : ℕ) (node : Member) → member f t ≡ Some node → member g t ≡ Some node → (m : Member) → IsSparedAt net f g m t
-    → (k : TokenRow Moment) → token_of s (moment m) ≡ Some k → IsSpared (IsInBoth s b c) (map_of s b) (moment_at g t) k
-spared_at s net f g seen_f seen_g b c holds_b holds_c t node at_f at_g m of k is = by of.of_turn
+    → (t : ℕ) (node : Member) → member f t ≡ Some node → member g t ≡ Some node → (x : Moment) → IsSparedAt net f g x t
+    → (k : TokenRow Moment) → token_of s x ≡ Some k → IsSpared (IsInBoth s b c) (map_of s b) (moment_at g t) k
+spared_at s net f g seen_f seen_g b c holds_b holds_c t node at_f at_g x of k is = by of.of_turn
   where
     at : (nodes : Forest) → of.nodes ≡ nodes → IsSeen s net nodes → member nodes t ≡ Some node
         → ((y : ℕ) (n : Member) → member f y ≡ Some n → member g y ≡ Some n → member nodes y ≡ Some n) → IsSpared (IsInBoth s b c) (map_of s b) (moment_at nodes t) k
     at nodes same seen here has =
-        spared_node s net f g nodes seen b c holds_b holds_c has t (live_at nodes t node here) of.number m of.row (ap (λ (z : Forest). member z of.number) (sym same) ∙ of.here) of.is
-        (subst (λ (z : Forest). (begins_by (spot_distance net z) (Node t) of.row ≡ false) ⊎ HasWalls net f g z t of.row) same of.spared) k is
+        spared_node s net f g nodes seen b c holds_b holds_c has t (live_at nodes t node here) of.number of.node of.row (ap (λ (z : Forest). member z of.number) (sym same) ∙ of.here) of.is
+        (subst (λ (z : Forest). (begins_by (spot_distance net z) (Node t) of.row ≡ false) ⊎ HasWalls net f g z t of.row) same of.spared) k (ap (token_of s) of.begins ∙ is)
 
     one : moment_at f t ≡ moment_at g t
     one = ap (λ (o : Option Member). at_some o) (at_f ∙ sym at_g)

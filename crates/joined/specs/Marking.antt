@@ -34,7 +34,7 @@ pub record IsMarkOf (r : Revision) (net : Net) (number : List ℕ → Option ℕ
   pub has_class : m.class ≡ Some class
   pub numbered : number class ≡ Some mark.class
   pub early : mark.from ≡ r.early (moment m)
-  pub spared : (t : ℕ) → mark.spares t ≡ true → IsSparedAt net f g m t
+  pub spared : (t : ℕ) → mark.spares t ≡ true → IsSparedAt net f g (moment m) t
 
 -- the marks are those of the tokens that move in the turn
 pub record AreMarksOf (r : Revision) (s : Standing) (net : Net) (number : List ℕ → Option ℕ) (f g : Forest) (p : Row) (found : Decision) (marks : List Mark) : Type 0 where
