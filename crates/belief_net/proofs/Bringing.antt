@@ -5,6 +5,7 @@ use Rattle.std.proofs.lemmas.Int.{ints}
 use Rattle.std.specs.Prelude.{ℤ, pos, ◌+ℤ◌, ◌≤ℤ◌, ◌<ℤ◌, is_some}
 use Rattle.std.specs.List.{Contains}
 use Rattle.tmm_model.specs.declared.token.Shape.{Shape}
+use Rattle.tmm_model.specs.declared.token.TokenRow.{TokenRow}
 use Rattle.tmm_model.specs.Beliefs.{rules_at, is_of}
 use Rattle.tmm_model.specs.Moments.{Moment, After, rule_of}
 use Rattle.tmm_model.specs.Standing.{Standing}
@@ -12,6 +13,9 @@ use Rattle.list_theory.proofs.Elements.{In, In-from_Contains, Contains-from_In}
 use Rattle.belief_theory.proofs.SoundBeliefs.{sound_timed}
 use Rattle.dist_net.specs.Net.{Net}
 use Rattle.list_net.specs.Represents.{Names}
+use Rattle.row_links.specs.Lists.{IsOn}
+use Rattle.row_links.proofs.Lists.{IsOn-first}
+use Rattle.spots.specs.declared.spot.Spot.{Spot}
 use Rattle.spots.specs.Forest.{Forest, Member, member, IsLive, moment, moment_at}
 use Rattle.spots.specs.Seen.{IsMemberOf, IsSeen, class_for}
 use Rattle.spots.proofs.Nodes.{node_at, live_at, moment_at-is}
@@ -26,14 +30,16 @@ use Rattle.occ_tree.specs.Standing.{Kept, present, early}
 use Rattle.joined.specs.Listed.{IsListedUnder}
 use Rattle.joined.specs.Marking.{Mark}
 use Rattle.joined.specs.Rows.{fires_by}
+use Rattle.joined.specs.Sparing.{StaysIn, IsSparedAt}
 use Rattle.joined.specs.Turning.{TreeTurns, enters, Moved, came, went, effect_of}
 use Rattle.belief_net.specs.declared.deciding.Due.{Due}
 use Rattle.belief_net.specs.declared.state.BeliefNet.{BeliefNet}
 use Rattle.belief_net.specs.Decided.{table_of, rule_in, AddsRows, IsNewRow, IsSameRow, KeepsLast}
-use Rattle.belief_net.specs.Entering.{Brings, MarksClass, Follows, a_token, an_event, class_at}
+use Rattle.belief_net.specs.Entering.{Brings, MarksReaders, Follows, a_token, an_event, class_at}
 use Rattle.belief_net.specs.Moving.{date_at, IsMarkAt, IsMarkedAt, Moves, TurnsOn, row_due}
 use Rattle.belief_net.specs.Turning.{IsFit, IsDecided}
 use Rattle.belief_net.specs.Waiting.{waits_in}
+use Rattle.belief_net.specs.Windows.{IsOfOther, IsSparedBy}
 use Rattle.belief_net.proofs.Brought.{class_is_at, no_event_of_some}
 use Rattle.belief_net.proofs.Entered.{one_row}
 use Rattle.belief_net.proofs.Turned.{date_is, fit_decided}
@@ -110,9 +116,9 @@ module _ (s : Standing) (net : Net) (c e : BeliefNet) (trigger : ℕ) (rule : Li
   class_is : (class : Option (List ℕ)) → class_at e.tree y ≡ class → node.class ≡ class
   class_is class is = sym (class_is_at e.tree y node here) ∙ is
 
-  module _ (class : List ℕ) (of : class_at e.tree y ≡ Some class) (m : MarksClass (present e.tree) class (early (present e.tree) y) c.decisions e.decisions) where
+  module _ (class : List ℕ) (of : class_at e.tree y ≡ Some class) (m : MarksReaders net e.tree (y ∷ []) y class c.decisions e.decisions) where
     abbrev mark : Mark
-    mark = record { class = m.number; from = early (present e.tree) y }
+    mark = record { class = m.number; from = early (present e.tree) y; spares = m.spares }
 
     row_was : (i : ℕ) (row : TableRow Pair 6) → (table_of e.decisions).row i ≡ Some row → (table_of c.decisions).row i ≡ Some row
     row_was i row at = ap (λ rows. (table_of (record c.decisions { rows = rows })).row i) (sym m.rows) ∙ at
@@ -148,7 +154,7 @@ module _ (s : Standing) (net : Net) (c e : BeliefNet) (trigger : ℕ) (rule : Li
       | inl same ↦ inl (sym (ap is_some same) ∙ waits)
       | inr marked ↦ (
           let one = one_row (table_of c.decisions) i marked.0 row marked.1 there in
-          inr (mark, inl refl, marked.2.0, subst (λ z. early (present e.tree) y ≤ℤ z) (ap (λ (r : TableRow Pair 6). early (present e.tree) r.value.trigger) one ∙ later_is i row there) marked.2.1))
+          inr (mark, inl refl, marked.2.0, subst (λ z. early (present e.tree) y ≤ℤ z) (ap (λ (r : TableRow Pair 6). early (present e.tree) r.value.trigger) one ∙ later_is i row there) marked.2.1, subst (λ (r : TableRow Pair 6). m.spares r.value.trigger ≡ false) one marked.2.2))
     ]
 
     from_mark : (i : ℕ) (row : TableRow Pair 6) → (table_of c.decisions).row i ≡ Some row → (waits_in c.decisions.waiting i ≡ true) ⊎ IsMarkedAt s g (table_of c.decisions) (mark ∷ []) i row → waits_in e.decisions.waiting i ≡ true
@@ -156,11 +162,12 @@ module _ (s : Standing) (net : Net) (c e : BeliefNet) (trigger : ℕ) (rule : Li
       | inl same ↦ ap is_some same ∙ waited
       | inr marked ↦ ap is_some marked.3
     ]
-    from_mark i row there (inr (k, inr none, listed, late)) = absurd none
-    from_mark i row there (inr (k, inl is, listed, late)) =
+    from_mark i row there (inr (k, inr none, listed, late, unspared)) = absurd none
+    from_mark i row there (inr (k, inl is, listed, late, unspared)) =
         let listed_here = subst (λ (z : Mark). IsListedUnder (table_of c.decisions) z.class i) (sym is) listed in
         let late_here = subst (λ (z : Mark). z.from ≤ℤ date_at s (moment_at g row.value.trigger)) (sym is) late in
-        ap is_some (m.marks.all i row there (listed_here, subst (λ z. early (present e.tree) y ≤ℤ z) (sym (later_is i row there)) late_here))
+        let unspared_here = subst (λ (z : Mark). z.spares row.value.trigger ≡ false) (sym is) unspared in
+        ap is_some (m.marks.all i row there (listed_here, subst (λ z. early (present e.tree) y ≤ℤ z) (sym (later_is i row there)) late_here, unspared_here))
 
     pub token_moves : Moves s f g (mark ∷ []) c.decisions e.decisions
     token_moves = record {
@@ -176,12 +183,43 @@ module _ (s : Standing) (net : Net) (c e : BeliefNet) (trigger : ℕ) (rule : Li
       apart = λ i j row other at there dead. absurd (no_new i row at dead);
     }
 
-    pub token_mark : IsMarkAt s (place_in e.decisions.classes) node mark
+    -- a token of another node stays
+    other_stays : (k : TokenRow Spot) → IsOfOther (forest e.tree) (y ∷ []) k → StaysIn (forest c.tree) (forest e.tree) k
+    other_stays k o = record {
+      number = o.number;
+      node = o.node;
+      before = elim (eqb_tells o.number y) [
+        | inl same ↦ absurd (o.stays (subst (IsOn (y ∷ [])) (sym same.1) (IsOn-first y [])))
+        | inr other ↦ sym (brings.enters.adds.enters.others o.number other.1) ∙ o.here
+      ];
+      after = o.here;
+      is = o.is;
+    }
+
+    -- what is spared of the node that entered is spared in the turn
+    spared_in_turn : (t : ℕ) → IsSparedBy net (forest e.tree) (y ∷ []) y t → IsSparedAt net (forest c.tree) (forest e.tree) (moment node) t
+    spared_in_turn t by = record {
+      nodes = forest e.tree;
+      of_turn = inr refl;
+      number = y;
+      node = by.node;
+      here = by.here;
+      begins = (let both : Some by.node ≡ Some node = sym by.here ∙ here in let one : by.node ≡ node = cc in ap moment one);
+      row = by.row;
+      is = by.is;
+      spared = elim by.spared [
+        | inl not_begun ↦ inl not_begun
+        | inr off ↦ inr (record { one = off.one; other = off.other; one_stays = other_stays off.one off.one_stays; other_stays = other_stays off.other off.other_stays; walls = off.walls })
+      ];
+    }
+
+    pub token_mark : IsMarkAt s net (place_in e.decisions.classes) f g node mark
     token_mark = record {
       class = class;
       has_class = class_is (Some class) of;
       numbered = m.numbered;
       from = date_is s net e token_fit y y_live ∙ ap (date_at s) (moment_at-is g y node here);
+      spared = λ t spares. spared_in_turn t (m.spared t spares);
     }
 
   module _ (of : class_at e.tree y ≡ None) (a : AddsRows (rules_at s (moment_at g y)) y (early (present e.tree) y) c.decisions e.decisions) where
@@ -285,35 +323,37 @@ module _ (s : Standing) (net : Net) (b c e : BeliefNet) (due : Due) (fit : IsFit
   of_b : (marks : List Mark) → Moves s (forest c.tree) (forest e.tree) marks c.decisions e.decisions → Moves s (forest b.tree) (forest e.tree) marks c.decisions e.decisions
   of_b marks m = subst (λ (t : Kept). Moves s (forest t) (forest e.tree) marks c.decisions e.decisions) d.tree m
 
-  by_kind : Follows s number e.tree c.decisions e.decisions → TurnsOn s net b c e due
+  by_kind : Follows s net number e.tree c.decisions e.decisions → TurnsOn s net b c e due
   by_kind (a_token class of m) = record {
     fit = fit;
     decided = d;
     fit_after = token_fit s net c e due.trigger due.rule fit_c live_c on_c brings last class of m;
     tree = tree;
-    marks = record { class = m.number; from = early (present e.tree) number } ∷ [];
-    moves = of_b (record { class = m.number; from = early (present e.tree) number } ∷ []) (token_moves s net c e due.trigger due.rule fit_c live_c on_c brings last class of m);
+    marks = record { class = m.number; from = early (present e.tree) number; spares = m.spares } ∷ [];
+    moves = of_b (record { class = m.number; from = early (present e.tree) number; spares = m.spares } ∷ []) (token_moves s net c e due.trigger due.rule fit_c live_c on_c brings last class of m);
     are = record {
       own = λ k at. (entered, brings.enters.adds.own, moves_node, marked k at);
       all = λ n other own moved has. (
-        record { class = m.number; from = early (present e.tree) number },
+        record { class = m.number; from = early (present e.tree) number; spares = m.spares },
         inl refl,
         record {
           class = class;
           has_class = one_class s net.names n entered own brings.enters.adds.own (moved_is (moment n) moved) ∙ (sym (class_is_at e.tree number entered brings.enters.adds.enters.entered) ∙ of);
           numbered = m.numbered;
           from = is_mark.from ∙ ap (date_at s) (sym (moved_is (moment n) moved));
+          spared = λ t spares. subst (λ x. IsSparedAt net (forest b.tree) (forest e.tree) x t) (sym (moved_is (moment n) moved)) (is_mark.spared t spares);
         },
       );
     };
     later = later;
   }
     where
-      is_mark : IsMarkAt s (place_in e.decisions.classes) entered (record { class = m.number; from = early (present e.tree) number })
-      is_mark = token_mark s net c e due.trigger due.rule fit_c live_c on_c brings last class of m
+      is_mark : IsMarkAt s net (place_in e.decisions.classes) (forest b.tree) (forest e.tree) entered (record { class = m.number; from = early (present e.tree) number; spares = m.spares })
+      is_mark = subst (λ (t : Kept). IsMarkAt s net (place_in e.decisions.classes) (forest t) (forest e.tree) entered (record { class = m.number; from = early (present e.tree) number; spares = m.spares })) d.tree
+          (token_mark s net c e due.trigger due.rule fit_c live_c on_c brings last class of m)
 
-      marked : (k : Mark) → In k (record { class = m.number; from = early (present e.tree) number } ∷ []) → IsMarkAt s (place_in e.decisions.classes) entered k
-      marked k (inl is) = subst (IsMarkAt s (place_in e.decisions.classes) entered) is is_mark
+      marked : (k : Mark) → In k (record { class = m.number; from = early (present e.tree) number; spares = m.spares } ∷ []) → IsMarkAt s net (place_in e.decisions.classes) (forest b.tree) (forest e.tree) entered k
+      marked k (inl is) = subst (IsMarkAt s net (place_in e.decisions.classes) (forest b.tree) (forest e.tree) entered) is is_mark
       marked k (inr none) = absurd none
 
       first : date_at s (moment_at (forest b.tree) due.trigger) <ℤ early (present e.tree) number
@@ -322,7 +362,7 @@ module _ (s : Standing) (net : Net) (b c e : BeliefNet) (due : Due) (fit : IsFit
           (subst (λ (t : Kept). date_at s (moment_at (forest t) due.trigger) <ℤ date_at s (After (moment_at (forest c.tree) due.trigger) due.rule)) d.tree
           (effect_later s net (forest c.tree) due.trigger due.rule fit_c.tree.seen live_c on_c))
 
-      later : (k : Mark) → In k (record { class = m.number; from = early (present e.tree) number } ∷ []) → date_at s (moment_at (forest b.tree) due.trigger) <ℤ k.from
+      later : (k : Mark) → In k (record { class = m.number; from = early (present e.tree) number; spares = m.spares } ∷ []) → date_at s (moment_at (forest b.tree) due.trigger) <ℤ k.from
       later k (inl is) = subst (λ (z : Mark). date_at s (moment_at (forest b.tree) due.trigger) <ℤ z.from) is first
       later k (inr none) = absurd none
   by_kind (an_event of a) = record {

@@ -12,10 +12,10 @@ use Rattle.spots.specs.Seen.{IsSeen, class_for}
 use Rattle.spots.proofs.Believed.{rules_once}
 use Rattle.supports.proofs.OnKinds.{rules_of_event}
 use Rattle.occ_tree.specs.Places.{forest}
-use Rattle.occ_tree.specs.Standing.{Kept, State}
+use Rattle.occ_tree.specs.Standing.{Kept}
 use Rattle.belief_net.specs.declared.state.Decisions.{Decisions}
 use Rattle.belief_net.specs.Decided.{table_of, AreUnder, KeepsLast}
-use Rattle.belief_net.specs.Entering.{MarksClass, class_at}
+use Rattle.belief_net.specs.Entering.{class_at}
 use Rattle.belief_net.proofs.Named.{under_more}
 
 module _ (s : Standing) (net : Net) (f : Forest) (seen : IsSeen s net f) (y : ℕ) (m : Member) (at : member f y ≡ Some m) where
@@ -39,13 +39,13 @@ module _ (s : Standing) (net : Net) (f : Forest) (seen : IsSeen s net f) (y : �
 pub class_is_at : (tree : Kept) (y : ℕ) (m : Member) → member (forest tree) y ≡ Some m → class_at tree y ≡ m.class
 class_is_at tree y m at = ap (λ (o : Option Member). option_map_or (λ (k : Member). k.class) o None) at
 
--- rows stay under their classes where a class is marked
-pub marks_under : (s : Standing) (t : State) (class : List ℕ) (from : _) (old new : Decisions) → MarksClass t class from old new → KeepsLast old new → AreUnder s old → AreUnder s new
-marks_under s t class from old new marks last under = record {
+-- rows stay under their classes where some are marked
+pub marks_under : (s : Standing) (old new : Decisions) → new.rows ≡ old.rows → new.rules ≡ old.rules → KeepsLast old new → AreUnder s old → AreUnder s new
+marks_under s old new rows_stay rules_stay last under = record {
   classes = λ i row at.
-      let was = ap (λ rows. (table_of (record old { rows = rows })).row i) (sym marks.rows) ∙ at in
+      let was = ap (λ rows. (table_of (record old { rows = rows })).row i) (sym rows_stay) ∙ at in
       under_more s old.rules new.rules old.classes new.classes row last.rules last.classes (under.named i row was) (under.classes i row was);
   named = λ i row at.
-      let was = ap (λ rows. (table_of (record old { rows = rows })).row i) (sym marks.rows) ∙ at in
-      subst (λ l. row.value.rule < length l) (sym marks.rules) (under.named i row was);
+      let was = ap (λ rows. (table_of (record old { rows = rows })).row i) (sym rows_stay) ∙ at in
+      subst (λ l. row.value.rule < length l) (sym rules_stay) (under.named i row was);
 }

@@ -4,6 +4,7 @@ use Rattle.std.proofs.lemmas.Bool.{cases_Bool}
 use Rattle.std.specs.Prelude.{◌≤ℤ◌}
 use Rattle.tmm_model.specs.Standing.{Standing}
 use Rattle.list_theory.proofs.Elements.{In, In-left, In-right, In-cases}
+use Rattle.dist_net.specs.Net.{Net}
 use Rattle.row_links.specs.Lists.{IsOn}
 use Rattle.row_links.proofs.Lists.{IsOn-first, IsOn-rest, IsOn-append_left, IsOn-append_right, IsOn-append_cases}
 use Rattle.undo_rows.specs.declared.row.Row.{Row as TableRow}
@@ -41,17 +42,17 @@ listed_same t u in_t in_u i k same (a, less, on) = (a, less, (in_u.each i (a + 2
 
 -- ---- what a node marks
 
-record Marked (tree : Kept) (y : ℕ) (old new : Decisions) : Type 0 where
+record Marked (net : Net) (tree : Kept) (going : List ℕ) (y : ℕ) (old new : Decisions) : Type 0 where
   rows : new.rows ≡ old.rows
   rules : new.rules ≡ old.rules
   marks : List Mark
-  are : AreMarksOn tree (y ∷ []) (place_in new.classes) marks
+  are : AreMarksOn net tree going (y ∷ []) (place_in new.classes) marks
   only : (i : ℕ) → (dates_in new.waiting i ≡ dates_in old.waiting i)
       ⊎ ((r : TableRow Pair 6) × ((table_of old).row i ≡ Some r) × IsMarkedFor (present tree) (table_of old) marks i r × WaitsAt (present tree) (dates_in new.waiting) i r)
   all : (i : ℕ) (row : TableRow Pair 6) → (table_of old).row i ≡ Some row → IsMarkedFor (present tree) (table_of old) marks i row → WaitsAt (present tree) (dates_in new.waiting) i row
 
-node_marks : (tree : Kept) (y : ℕ) (old new : Decisions) → MarksNode tree y old new → Marked tree y old new
-node_marks tree y old new (an_event none same) = record {
+node_marks : (net : Net) (tree : Kept) (going : List ℕ) (y : ℕ) (old new : Decisions) → MarksNode net tree going y old new → Marked net tree going y old new
+node_marks net tree going y old new (an_event none same) = record {
   rows = ap (λ (d : Decisions). d.rows) same;
   rules = ap (λ (d : Decisions). d.rules) same;
   marks = [];
@@ -62,40 +63,41 @@ node_marks tree y old new (an_event none same) = record {
   only = λ i. inl (ap (λ (d : Decisions). dates_in d.waiting i) same);
   all = λ i row at marked. absurd marked.1;
 }
-node_marks tree y old new (a_token class of m) = record {
+node_marks net tree going y old new (a_token class of m) = record {
   rows = m.rows;
   rules = m.rules;
   marks = mark ∷ [];
   are = record {
-    own = λ k at. (y, IsOn-first y [], subst (IsMarkOn tree (place_in new.classes) y) (is k at) this);
+    own = λ k at. (y, IsOn-first y [], subst (IsMarkOn net tree going (place_in new.classes) y) (is k at) this);
     all = λ z other on has. (
       mark,
       inl refl,
-      subst (λ w. IsMarkOn tree (place_in new.classes) w mark) (sym (alone y z on)) this,
+      subst (λ w. IsMarkOn net tree going (place_in new.classes) w mark) (sym (alone y z on)) this,
     );
   };
-  only = λ i. elim (m.marks.only i) [ inl same ↦ inl same | inr marked ↦ inr (marked.0, marked.1, (mark, inl refl, marked.2.0, marked.2.1), marked.3) ];
-  all = λ i row at (k, there, listed, late).
+  only = λ i. elim (m.marks.only i) [ inl same ↦ inl same | inr marked ↦ inr (marked.0, marked.1, (mark, inl refl, marked.2.0, marked.2.1, marked.2.2), marked.3) ];
+  all = λ i row at (k, there, listed, late, unspared).
       m.marks.all i row at (
         subst (λ (z : Mark). IsListedUnder (table_of old) z.class i) (sym (is k there)) listed,
         subst (λ (z : Mark). z.from ≤ℤ early (present tree) row.value.trigger) (sym (is k there)) late,
+        subst (λ (z : Mark). z.spares row.value.trigger ≡ false) (sym (is k there)) unspared,
       );
 }
   where
     mark : Mark
-    mark = record { class = m.number; from = early (present tree) y }
+    mark = record { class = m.number; from = early (present tree) y; spares = m.spares }
 
-    this : IsMarkOn tree (place_in new.classes) y (record { class = m.number; from = early (present tree) y })
-    this = record { class = class; has_class = of; numbered = m.numbered; from = refl }
+    this : IsMarkOn net tree going (place_in new.classes) y (record { class = m.number; from = early (present tree) y; spares = m.spares })
+    this = record { class = class; has_class = of; numbered = m.numbered; from = refl; spared = m.spared }
 
-    is : (k : Mark) → In k (record { class = m.number; from = early (present tree) y } ∷ []) → record { class = m.number; from = early (present tree) y } ≡ k
+    is : (k : Mark) → In k (record { class = m.number; from = early (present tree) y; spares = m.spares } ∷ []) → record { class = m.number; from = early (present tree) y; spares = m.spares } ≡ k
     is k (inl same) = same
     is k (inr none) = absurd none
 
 -- ---- none, and more
 
-pub lost_none : (tree : Kept) (d : Decisions) → AreListed (table_of d) → LosesRows tree [] d d
-lost_none tree d listed = record {
+pub lost_none : (net : Net) (tree : Kept) (going : List ℕ) (d : Decisions) → AreListed (table_of d) → LosesRows net tree going [] d d
+lost_none net tree going d listed = record {
   rules = refl;
   listed = listed;
   marks = [];
@@ -105,12 +107,12 @@ lost_none tree d listed = record {
   all = λ i row at marked. absurd marked.1;
 }
 
-module _ (tree : Kept) (front : List ℕ) (y : ℕ) (old d new : Decisions) (l : LosesRows tree front old d) (n : LosesNode tree y d new) (more : HaveMore d.classes new.classes) where
+module _ (net : Net) (tree : Kept) (going front : List ℕ) (y : ℕ) (old d new : Decisions) (l : LosesRows net tree going front old d) (n : LosesNode net tree going y d new) (more : HaveMore d.classes new.classes) where
   abbrev mid : Decisions
   mid = n.mid
 
-  m : Marked tree y n.mid new
-  m = node_marks tree y n.mid new n.marks
+  m : Marked net tree going y n.mid new
+  m = node_marks net tree going y n.mid new n.marks
 
   -- the row of each number, from the node on
   new_is : (i : ℕ) → (table_of new).row i ≡ (table_of n.mid).row i
@@ -130,17 +132,17 @@ module _ (tree : Kept) (front : List ℕ) (y : ℕ) (old d new : Decisions) (l :
   ]
 
   on_old : (i : ℕ) (row : TableRow Pair 6) → (table_of n.mid).row i ≡ Some row → IsMarkedFor (present tree) (table_of n.mid) m.marks i row → IsMarkedFor (present tree) (table_of old) (l.marks ++ m.marks) i row
-  on_old i row at (mark, there, listed, late) =
+  on_old i row at (mark, there, listed, late, unspared) =
       let before = (was_there i row at).0 in
       let same : (table_of n.mid).row i ≡ (table_of old).row i = at ∙ sym before ∙ sym (was_first i row before) in
-      (mark, In-right l.marks m.marks mark there, listed_same (table_of n.mid) (table_of old) n.listed l.listed i mark.class same listed, late)
+      (mark, In-right l.marks m.marks mark there, listed_same (table_of n.mid) (table_of old) n.listed l.listed i mark.class same listed, late, unspared)
 
   on_mid : (i : ℕ) (row : TableRow Pair 6) → (table_of n.mid).row i ≡ Some row → (mark : Mark) → IsListedUnder (table_of old) mark.class i → IsListedUnder (table_of n.mid) mark.class i
   on_mid i row at mark listed =
       let before = (was_there i row at).0 in
       listed_same (table_of old) (table_of n.mid) l.listed n.listed i mark.class (was_first i row before ∙ before ∙ sym at) listed
 
-  are : AreMarksOn tree (front ++ y ∷ []) (place_in new.classes) (l.marks ++ m.marks)
+  are : AreMarksOn net tree going (front ++ y ∷ []) (place_in new.classes) (l.marks ++ m.marks)
   are = record {
     own = λ mark at. elim (In-cases l.marks m.marks mark at) [
       | inl there ↦ (let (z, on, is) = l.are.own mark there in (z, IsOn-append_left front (y ∷ []) z on, on_more z mark is))
@@ -152,8 +154,8 @@ module _ (tree : Kept) (front : List ℕ) (y : ℕ) (old d new : Decisions) (l :
     ];
   }
     where
-      on_more : (z : ℕ) (mark : Mark) → IsMarkOn tree (place_in d.classes) z mark → IsMarkOn tree (place_in new.classes) z mark
-      on_more z mark is = record { class = is.class; has_class = is.has_class; numbered = place_stays d.classes new.classes more is.class mark.class is.numbered; from = is.from }
+      on_more : (z : ℕ) (mark : Mark) → IsMarkOn net tree going (place_in d.classes) z mark → IsMarkOn net tree going (place_in new.classes) z mark
+      on_more z mark is = record { class = is.class; has_class = is.has_class; numbered = place_stays d.classes new.classes more is.class mark.class is.numbered; from = is.from; spared = is.spared }
 
   each : (i : ℕ) → IsLeft (present tree) (l.marks ++ m.marks) old new i ⊎ IsLost (front ++ y ∷ []) old new i
   each i = elim (l.each i) [
@@ -163,7 +165,7 @@ module _ (tree : Kept) (front : List ℕ) (y : ℕ) (old d new : Decisions) (l :
         waits = elim (m.only i) [
           | inl keeps ↦ elim left.waits [
             | inl before ↦ inl (keeps ∙ same.waits ∙ before)
-            | inr (r, at, (mark, there, listed, late), waits) ↦ inr (r, at, (mark, In-left l.marks m.marks mark there, listed, late), keeps ∙ same.waits ∙ waits)
+            | inr (r, at, (mark, there, listed, late, unspared), waits) ↦ inr (r, at, (mark, In-left l.marks m.marks mark there, listed, late, unspared), keeps ∙ same.waits ∙ waits)
           ]
           | inr (r, at, marked, waits) ↦ inr (r, sym left.row ∙ sym same.row ∙ at, on_old i r at marked, waits)
         ];
@@ -200,23 +202,23 @@ module _ (tree : Kept) (front : List ℕ) (y : ℕ) (old d new : Decisions) (l :
       ]
 
   all : (i : ℕ) (row : TableRow Pair 6) → (table_of new).row i ≡ Some row → IsMarkedFor (present tree) (table_of old) (l.marks ++ m.marks) i row → WaitsAt (present tree) (dates_in new.waiting) i row
-  all i row at (mark, there, listed, late) =
+  all i row at (mark, there, listed, late, unspared) =
       let here : (table_of n.mid).row i ≡ Some row = sym (new_is i) ∙ at in
       let (before, waits) = was_there i row here in
       elim (In-cases l.marks m.marks mark there) [
         | inl first ↦ elim (m.only i) [
-          | inl keeps ↦ keeps ∙ waits ∙ l.all i row before (mark, first, listed, late)
+          | inl keeps ↦ keeps ∙ waits ∙ l.all i row before (mark, first, listed, late, unspared)
           | inr (r, at_r, marked, waits_r) ↦ subst (WaitsAt (present tree) (dates_in new.waiting) i) (one_row (table_of n.mid) i r row at_r here) waits_r
         ]
-        | inr last ↦ m.all i row here (mark, last, on_mid i row here mark listed, late)
+        | inr last ↦ m.all i row here (mark, last, on_mid i row here mark listed, late, unspared)
       ]
 
-  pub lost_next : LosesRows tree (front ++ y ∷ []) old new
+  pub lost_next : LosesRows net tree going (front ++ y ∷ []) old new
   lost_next = record { rules = m.rules ∙ n.drops.rules ∙ l.rules; listed = l.listed; marks = l.marks ++ m.marks; are = are; each = each; none = none; all = all }
 
 -- ---- what stays
 
-module _ (tree : Kept) (gone : List ℕ) (old new : Decisions) (l : LosesRows tree gone old new) where
+module _ (net : Net) (tree : Kept) (going gone : List ℕ) (old new : Decisions) (l : LosesRows net tree going gone old new) where
   pub left_row : (i : ℕ) (row : TableRow Pair 6) → (table_of new).row i ≡ Some row → (table_of old).row i ≡ Some row
   left_row i row at = elim (l.each i) [
     | inl left ↦ sym left.row ∙ at

@@ -53,43 +53,57 @@ module _ (s : State) (t : Table Pair 6) where
         | inr marked ↦ inr (marked.0, marked.1, from_q i marked.0 marked.2, marked.3)
       ]
 
-  -- ---- along a list
+  module _ (from : ℤ) (spares : ℕ → Bool) where
+    -- ---- along a list
 
-  -- the rows of the front of a list that are late enough
-  abbrev pub OnFront : List ℕ → ℤ → ℕ → TableRow Pair 6 → Type 0
-  OnFront front from i row = IsOn front i × IsAsLate s from row
+    -- the rows of the front of a list that are late enough, at events that are not spared
+    abbrev pub OnFront : List ℕ → ℕ → TableRow Pair 6 → Type 0
+    OnFront front i row = IsOn front i × IsAsLate s from row × (spares row.value.trigger ≡ false)
 
-  pub marks_start : (from : ℤ) (dates : Dates) → Marks s t (OnFront [] from) dates dates
-  marks_start from dates = marks_none (OnFront [] from) dates (λ i row on. (let no : false ≡ true = on.0 in cc))
+    pub marks_start : (dates : Dates) → Marks s t (OnFront []) dates dates
+    marks_start dates = marks_none (OnFront []) dates (λ i row on. (let no : false ≡ true = on.0 in cc))
 
-  pub marks_next : (front : List ℕ) (i : ℕ) (from : ℤ) (old mid new : Dates) → Marks s t (OnFront front from) old mid → Marks s t (λ j row. (j ≡ i) × IsAsLate s from row) mid new
-      → Marks s t (OnFront (front ++ i ∷ []) from) old new
-  marks_next front i from old mid new = marks_both (OnFront front from) (λ j row. (j ≡ i) × IsAsLate s from row) (OnFront (front ++ i ∷ []) from) old mid new
-      (λ j row on. elim (IsOn-append_cases front (i ∷ []) j on.0) [ inl there ↦ inl (there, on.1) | inr here ↦ inr (alone i j here, on.1) ])
-      (λ j row on. (IsOn-append_left front (i ∷ []) j on.0, on.1))
-      (λ j row is. (IsOn-append_right front (i ∷ []) j (subst (λ k. IsOn (i ∷ []) k) (sym is.0) (IsOn-first i [])), is.1))
-    where
-      alone : (i j : ℕ) → IsOn (i ∷ []) j → j ≡ i
-      alone i j on = elim (cases_Bool (eqb j i)) [ inl same ↦ eqb-true j i same | inr other ↦ (let no : false ≡ true = sym (ap (λ b. b || false) other) ∙ on in cc) ]
+    pub marks_next : (front : List ℕ) (i : ℕ) (old mid new : Dates) → Marks s t (OnFront front) old mid
+        → Marks s t (λ j row. (j ≡ i) × IsAsLate s from row × (spares row.value.trigger ≡ false)) mid new
+        → Marks s t (OnFront (front ++ i ∷ [])) old new
+    marks_next front i old mid new =
+        marks_both (OnFront front) (λ j row. (j ≡ i) × IsAsLate s from row × (spares row.value.trigger ≡ false)) (OnFront (front ++ i ∷ [])) old mid new
+        (λ j row on. elim (IsOn-append_cases front (i ∷ []) j on.0) [ inl there ↦ inl (there, on.1, on.2) | inr here ↦ inr (alone i j here, on.1, on.2) ])
+        (λ j row on. (IsOn-append_left front (i ∷ []) j on.0, on.1, on.2))
+        (λ j row is. (IsOn-append_right front (i ∷ []) j (subst (λ k. IsOn (i ∷ []) k) (sym is.0) (IsOn-first i [])), is.1, is.2))
+      where
+        alone : (i j : ℕ) → IsOn (i ∷ []) j → j ≡ i
+        alone i j on = elim (cases_Bool (eqb j i)) [ inl same ↦ eqb-true j i same | inr other ↦ (let no : false ≡ true = sym (ap (λ b. b || false) other) ∙ on in cc) ]
 
-  -- ---- by the lists of an antecedent after the other
+    -- ---- by the lists of an antecedent after the other
 
-  -- the row is on a list of the class for one of the first antecedents
-  abbrev pub UnderFirst : ℕ → ℕ → ℤ → ℕ → TableRow Pair 6 → Type 0
-  UnderFirst n class from i row = ((antecedent : ℕ) × (antecedent < n) × IsOn (t.list (antecedent + 2) class) i) × IsAsLate s from row
+    -- the row is on a list of the class for one of the first antecedents, late enough, and its event not spared
+    abbrev pub UnderFirst : ℕ → ℕ → ℕ → TableRow Pair 6 → Type 0
+    UnderFirst n class i row = ((antecedent : ℕ) × (antecedent < n) × IsOn (t.list (antecedent + 2) class) i) × IsAsLate s from row × (spares row.value.trigger ≡ false)
 
-  pub under_none : (class : ℕ) (from : ℤ) (dates : Dates) → Marks s t (UnderFirst 0 class from) dates dates
-  under_none class from dates = marks_none (UnderFirst 0 class from) dates (λ i row under. (let less = under.0.1 in omega (arith, less)))
+    pub under_none : (class : ℕ) (dates : Dates) → Marks s t (UnderFirst 0 class) dates dates
+    under_none class dates = marks_none (UnderFirst 0 class) dates (λ i row under. (let less = under.0.1 in omega (arith, less)))
 
-  pub under_next : (n class : ℕ) (from : ℤ) (old mid new : Dates) → Marks s t (UnderFirst n class from) old mid
-      → Marks s t (λ i row. IsOn (t.list (n + 2) class) i × IsAsLate s from row) mid new → Marks s t (UnderFirst (n + 1) class from) old new
-  under_next n class from old mid new = marks_both (UnderFirst n class from) (λ i row. IsOn (t.list (n + 2) class) i × IsAsLate s from row) (UnderFirst (n + 1) class from) old mid new
-      apart
-      (λ i row ((a, less, on), late). ((a, omega (arith, less), on), late))
-      (λ i row (on, late). ((n, omega arith, on), late))
-    where
-      apart : (i : ℕ) (row : TableRow Pair 6) → UnderFirst (n + 1) class from i row → UnderFirst n class from i row ⊎ (IsOn (t.list (n + 2) class) i × IsAsLate s from row)
-      apart i row ((a, less, on), late) = elim (cases_order a n) [
-        | inl same ↦ inr (subst (λ k. IsOn (t.list (k + 2) class) i) same on, late)
-        | inr other ↦ elim other [ inl below ↦ inl ((a, below, on), late) | inr above ↦ absurd (omega (arith, less, above)) ]
-      ]
+    pub under_next : (n class : ℕ) (old mid new : Dates) → Marks s t (UnderFirst n class) old mid
+        → Marks s t (λ i row. IsOn (t.list (n + 2) class) i × IsAsLate s from row × (spares row.value.trigger ≡ false)) mid new
+        → Marks s t (UnderFirst (n + 1) class) old new
+    under_next n class old mid new =
+        marks_both (UnderFirst n class) (λ i row. IsOn (t.list (n + 2) class) i × IsAsLate s from row × (spares row.value.trigger ≡ false)) (UnderFirst (n + 1) class) old mid new
+        apart
+        (λ i row ((a, less, on), late, unspared). ((a, omega (arith, less), on), late, unspared))
+        (λ i row (on, late, unspared). ((n, omega arith, on), late, unspared))
+      where
+        apart : (i : ℕ) (row : TableRow Pair 6) → UnderFirst (n + 1) class i row
+            → UnderFirst n class i row ⊎ (IsOn (t.list (n + 2) class) i × IsAsLate s from row × (spares row.value.trigger ≡ false))
+        apart i row ((a, less, on), late, unspared) = elim (cases_order a n) [
+          | inl same ↦ inr (subst (λ k. IsOn (t.list (k + 2) class) i) same on, late, unspared)
+          | inr other ↦ elim other [ inl below ↦ inl ((a, below, on), late, unspared) | inr above ↦ absurd (omega (arith, less, above)) ]
+        ]
+
+-- where no event is spared, those rows are meant that are late enough
+pub none_spared : (s : State) (t : Table Pair 6) (On : ℕ → Type 0) (from : ℤ) (old new : Dates)
+    → Marks s t (λ i row. On i × IsAsLate s from row × (◌≡◌ {A = Bool} false false)) old new → Marks s t (λ i row. On i × IsAsLate s from row) old new
+none_spared s t On from old new m = record {
+  all = λ i row at (on, late). m.all i row at (on, late, refl);
+  only = λ i. elim (m.only i) [ inl same ↦ inl same | inr (row, at, (on, late, _), waits) ↦ inr (row, at, (on, late), waits) ];
+}

@@ -27,6 +27,7 @@ use Rattle.revisions.specs.Revisions.{Revision}
 use Rattle.joined.specs.Marking.{AreMarksOf, IsMarkedBy}
 use Rattle.joined.specs.Netted.{IsNetted}
 use Rattle.joined.specs.Rows.{Row}
+use Rattle.joined.specs.Sparing.{StaysNode}
 use Rattle.joined.specs.Turning.{IsCodeTurn, ComesFrom, decided, kept, new, TreeTurns, stays, enters, withdraws}
 use Rattle.joined.proofs.CodeTurns.{code_turned}
 use Rattle.joined.proofs.Marking.{marked_row}
@@ -105,7 +106,7 @@ module _ (old : Standing) (edit : Edit) (net : Net) (b c e : BeliefNet) (due : D
 
       by : (waits_in c.decisions.waiting x ≡ true) ⊎ IsMarkedAt s g (table_of c.decisions) t.marks x row → ⊥
       by (inl waited) = (let no : false ≡ true = sym (ap is_some t.decided.takes.puts.at) ∙ waited in cc)
-      by (inr (mark, at, on, late)) =
+      by (inr (mark, at, on, late, _)) =
           let early = t.later mark at in
           let no_later = subst (λ z. mark.from ≤ℤ date_at s z) here late in
           ordered (date_at s (moment_at f due.trigger)) mark.from early no_later
@@ -113,10 +114,10 @@ module _ (old : Standing) (edit : Edit) (net : Net) (b c e : BeliefNet) (due : D
           ordered : (a b : ℤ) → a <ℤ b → b ≤ℤ a → ⊥
           ordered a b less more = omega (arith, ints, less, more)
 
-  marks_are : AreMarksOf (revision (built old) (built (next_list old edit))) (next_list old edit) net.names (place_in e.decisions.classes) f p due.found t.marks
+  marks_are : AreMarksOf (revision (built old) (built (next_list old edit))) (next_list old edit) net (place_in e.decisions.classes) f g p due.found t.marks
   marks_are = record {
-    own = λ mark at. let (m, own, moves, of) = t.are.own mark at in (m, own, moves, record { class = of.class; has_class = of.has_class; numbered = of.numbered; early = of.from });
-    all = λ m class own moves has. let (mark, at, of) = t.are.all m class own moves has in (mark, at, record { class = of.class; has_class = of.has_class; numbered = of.numbered; early = of.from });
+    own = λ mark at. let (m, own, moves, of) = t.are.own mark at in (m, own, moves, record { class = of.class; has_class = of.has_class; numbered = of.numbered; early = of.from; spared = of.spared });
+    all = λ m class own moves has. let (mark, at, of) = t.are.all m class own moves has in (mark, at, record { class = of.class; has_class = of.has_class; numbered = of.numbered; early = of.from; spared = of.spared });
   }
 
   -- where a row comes from
@@ -136,7 +137,7 @@ module _ (old : Standing) (edit : Edit) (net : Net) (b c e : BeliefNet) (due : D
         | inl same ↦ decided same.0 (is ∙ ap (seen_row e i) same.1 ∙ then_decided (rested same.0 same.1) (name_is x t.decided.row t.decided.at))
         | inr other ↦ kept (seen_row b i row) other.0 (row_there b i row other.1) (is ∙ then_kept (sym (ap (λ (z : Row). z.waits) is)) (name_is i row other.1))
             (marked_row old edit net f g p due.found c.decisions.rows (name_in e.decisions.rules) (place_in e.decisions.classes) t.marks i row (seen_row b i row) q
-            t.fit.tree.seen t.tree (are_numbered e.decisions.classes) t.moves.listed keeps.there (t.fit_after.under.classes i row there) (ap (λ (z : Row). z.rule) is) marks_are
+            t.fit.tree.seen t.fit_after.tree.seen t.tree (stays_there other.1) (are_numbered e.decisions.classes) t.moves.listed keeps.there (t.fit_after.under.classes i row there) (ap (λ (z : Row). z.rule) is) marks_are
             (to_marks other.0, from_marks other.0))
       ]
         where
@@ -153,19 +154,27 @@ module _ (old : Standing) (edit : Edit) (net : Net) (b c e : BeliefNet) (due : D
               → seen_row e i row ≡ record (seen_row b i row) { waits = q.waits }
           then_kept waits named = λ j. record { trigger = row.value.trigger; rule = named j; found = row.value.decision; waits = waits j }
 
+          -- its event is there before and after
+          stays_there : (table_of b.decisions).row i ≡ Some row → StaysNode f g q.trigger
+          stays_there at_b =
+              let (m, here) = node_at f row.value.trigger (t.fit.events i row at_b) in
+              let then_ = member_stays s net.names f g p due.found t.tree row.value.trigger m here (t.fit_after.events i row there) in
+              subst (λ (z : Row). StaysNode f g z.trigger) (sym is) (record { node = m; before = here; after = then_ })
+
           as_before : i ≢ x → waits_in c.decisions.waiting i ≡ waits_in b.decisions.waiting i
           as_before other = ap is_some (t.decided.takes.puts.others i other)
 
           to_marks : i ≢ x → q.waits ≡ true → (waits_in b.decisions.waiting i ≡ true) ⊎ IsMarkedBy (revision (built old) (built (next_list old edit))) g (table c.decisions.rows) t.marks i q
           to_marks other waits = elim (keeps.waits.0 (sym (ap (λ (z : Row). z.waits) is) ∙ waits)) [
             | inl waited ↦ inl (sym (as_before other) ∙ waited)
-            | inr marked ↦ inr (marked.0, marked.1, marked.2, subst (λ (z : Row). marked.0.from ≤ℤ date_at s (moment_at g z.trigger)) (sym is) marked.3)
+            | inr marked ↦ inr (marked.0, marked.1, marked.2, subst (λ (z : Row). marked.0.from ≤ℤ date_at s (moment_at g z.trigger)) (sym is) marked.3, subst (λ (z : Row). marked.0.spares z.trigger ≡ false) (sym is) marked.4)
           ]
 
           from_marks : i ≢ x → (waits_in b.decisions.waiting i ≡ true) ⊎ IsMarkedBy (revision (built old) (built (next_list old edit))) g (table c.decisions.rows) t.marks i q → q.waits ≡ true
           from_marks other (inl waited) = ap (λ (z : Row). z.waits) is ∙ keeps.waits.1 (inl (as_before other ∙ waited))
-          from_marks other (inr (mark, at, on, late)) =
-              ap (λ (z : Row). z.waits) is ∙ keeps.waits.1 (inr (mark, at, on, subst (λ (z : Row). mark.from ≤ℤ date_at s (moment_at g z.trigger)) is late))
+          from_marks other (inr (mark, at, on, late, unspared)) =
+              ap (λ (z : Row). z.waits) is
+              ∙ keeps.waits.1 (inr (mark, at, on, subst (λ (z : Row). mark.from ≤ℤ date_at s (moment_at g z.trigger)) is late, subst (λ (z : Row). mark.spares z.trigger ≡ false) is unspared))
 
   live : (i : ℕ) (q : Row) → rows_of e i ≡ Some q → IsLive g q.trigger
   live i q at = let (row, there, is) = row_of e i q at in subst (λ (z : Row). IsLive g z.trigger) (sym is) (t.fit_after.events i row there)

@@ -3,6 +3,7 @@ use Rattle.std.proofs.Common.{◌≡◌, ◌∙◌, ℕ, true, false, List, Opti
 use Rattle.std.proofs.lemmas.Int.{ints}
 use Rattle.std.specs.Prelude.{ℤ, ◌≤ℤ◌, ◌<ℤ◌, is_some}
 use Rattle.std.specs.List.{Contains}
+use Rattle.tmm_model.specs.declared.token.TokenRow.{TokenRow}
 use Rattle.tmm_model.specs.Beliefs.{rules_at}
 use Rattle.tmm_model.specs.Moments.{Moment, At, After}
 use Rattle.tmm_model.specs.Standing.{Standing, far_in}
@@ -13,6 +14,7 @@ use Rattle.belief_theory.proofs.OneRight.{later as effect_after}
 use Rattle.belief_theory.proofs.SoundBeliefs.{sound_timed}
 use Rattle.dist_net.specs.Net.{Net}
 use Rattle.row_links.specs.Lists.{IsOn}
+use Rattle.spots.specs.declared.spot.Spot.{Spot}
 use Rattle.spots.specs.Forest.{Forest, Member, member, IsLive, moment, moment_at, Withdraws, IsOnce}
 use Rattle.spots.specs.Seen.{IsSeen, IsMemberOf}
 use Rattle.spots.proofs.Nodes.{node_at, live_at, moment_at-is}
@@ -27,6 +29,7 @@ use Rattle.occ_tree.proofs.Members.{shrinking_withdraws, members_below, below_by
 use Rattle.revisions.specs.Steps.{IsUnder}
 use Rattle.joined.specs.Marking.{Mark}
 use Rattle.joined.specs.Rows.{Row, fires_by}
+use Rattle.joined.specs.Sparing.{StaysIn, IsSparedAt}
 use Rattle.joined.specs.Turning.{TreeTurns, withdraws, Moved, came, went, effect_of}
 use Rattle.joined.proofs.Leaving.{below_under, under_below}
 use Rattle.belief_net.specs.declared.deciding.Due.{Due}
@@ -36,6 +39,7 @@ use Rattle.belief_net.specs.Leaving.{TakesAway}
 use Rattle.belief_net.specs.Moving.{date_at, IsMarkAt, IsMarkedAt, Moves, TurnsOn, row_due}
 use Rattle.belief_net.specs.Turning.{IsFit, IsDecided}
 use Rattle.belief_net.specs.Waiting.{dates_in, waits_in}
+use Rattle.belief_net.specs.Windows.{IsOfOther, IsSparedBy}
 use Rattle.belief_net.proofs.Bringing.{one_class}
 use Rattle.belief_net.proofs.Brought.{class_is_at}
 use Rattle.belief_net.proofs.Entered.{one_row}
@@ -66,7 +70,7 @@ under_late s sound t r (After u q) of (inr under) = by (date_at s (After t r)) (
 
 -- ---- a node with all below it is taken away
 
-module _ (s : Standing) (net : Net) (c e : BeliefNet) (x : ℕ) (m : Member) (numbers : List ℕ) (fit : IsFit s net c) (at_x : member (forest c.tree) x ≡ Some m) (takes : TakesAway x numbers c e)
+module _ (s : Standing) (net : Net) (c e : BeliefNet) (x : ℕ) (m : Member) (numbers : List ℕ) (fit : IsFit s net c) (at_x : member (forest c.tree) x ≡ Some m) (takes : TakesAway net x numbers c e)
     (last : KeepsLast c.decisions e.decisions) where
   abbrev f : Forest
   f = forest c.tree
@@ -112,13 +116,13 @@ module _ (s : Standing) (net : Net) (c e : BeliefNet) (x : ℕ) (m : Member) (nu
   -- ---- rows
 
   was_row : (i : ℕ) (row : TableRow Pair 6) → (table_of e.decisions).row i ≡ Some row → (table_of c.decisions).row i ≡ Some row
-  was_row = left_row c.tree numbers c.decisions e.decisions takes.rows
+  was_row = left_row net c.tree numbers numbers c.decisions e.decisions takes.rows
 
   pub fit_taken : IsFit s net e
   fit_taken = record {
     tree = record { seen = seen; dated = withdrawals_keep_dates net (present c.tree) (present e.tree) x takes.tree.shrinks fit.tree.dated };
     events = λ i row at. is_live row.value.trigger (takes.rows.none i row at) (fit.events i row (was_row i row at));
-    under = lost_under c.tree numbers c.decisions e.decisions takes.rows last s fit.under;
+    under = lost_under net c.tree numbers numbers c.decisions e.decisions takes.rows last s fit.under;
     dated = dated;
   }
     where
@@ -147,9 +151,9 @@ module _ (s : Standing) (net : Net) (c e : BeliefNet) (x : ℕ) (m : Member) (nu
   to_mark i row at waits = elim (takes.rows.each i) [
     | inl left ↦ elim left.waits [
       | inl same ↦ inl (sym (ap is_some same) ∙ waits)
-      | inr (r, there, (mark, on, listed, late), _) ↦ (
+      | inr (r, there, (mark, on, listed, late, unspared), _) ↦ (
           let one = one_row (table_of c.decisions) i r row there (was_row i row at) in
-          inr (mark, on, listed, subst (λ z. mark.from ≤ℤ z) (ap (λ (z : TableRow Pair 6). early (present c.tree) z.value.trigger) one ∙ later_is i row at) late))
+          inr (mark, on, listed, subst (λ z. mark.from ≤ℤ z) (ap (λ (z : TableRow Pair 6). early (present c.tree) z.value.trigger) one ∙ later_is i row at) late, subst (λ (z : TableRow Pair 6). mark.spares z.value.trigger ≡ false) one unspared))
     ]
     | inr lost ↦ absurd (none_some ((table_of e.decisions).row i) row lost.lost at)
   ]
@@ -160,8 +164,8 @@ module _ (s : Standing) (net : Net) (c e : BeliefNet) (x : ℕ) (m : Member) (nu
     | inl left ↦ elim left.waits [ inl same ↦ ap is_some same ∙ waited | inr marked ↦ ap is_some marked.3 ]
     | inr lost ↦ absurd (none_some ((table_of e.decisions).row i) row lost.lost at)
   ]
-  from_mark i row at (inr (mark, on, listed, late)) =
-      ap is_some (takes.rows.all i row at (mark, on, listed, subst (λ z. mark.from ≤ℤ z) (sym (later_is i row at)) late))
+  from_mark i row at (inr (mark, on, listed, late, unspared)) =
+      ap is_some (takes.rows.all i row at (mark, on, listed, subst (λ z. mark.from ≤ℤ z) (sym (later_is i row at)) late, unspared))
 
   pub moves_taken : Moves s (forest c.tree) (forest e.tree) takes.rows.marks c.decisions e.decisions
   moves_taken = record {
@@ -181,9 +185,30 @@ module _ (s : Standing) (net : Net) (c e : BeliefNet) (x : ℕ) (m : Member) (nu
 
   -- ---- marks
 
+  -- a token of a node that does not go stays
+  other_stays : (k : TokenRow Spot) → IsOfOther (forest c.tree) numbers k → StaysIn (forest c.tree) (forest e.tree) k
+  other_stays k o = record { number = o.number; node = o.node; before = o.here; after = node_stays o.number o.stays ∙ o.here; is = o.is }
+
+  -- what is spared of a node that goes is spared in the turn
+  spared_in_turn : (y : ℕ) (n : Member) → member (forest c.tree) y ≡ Some n → (t : ℕ) → IsSparedBy net (forest c.tree) numbers y t → IsSparedAt net (forest c.tree) (forest e.tree) (moment n) t
+  spared_in_turn y n at t by = record {
+    nodes = forest c.tree;
+    of_turn = inl refl;
+    number = y;
+    node = by.node;
+    here = by.here;
+    begins = (let both : Some by.node ≡ Some n = sym by.here ∙ at in let one : by.node ≡ n = cc in ap moment one);
+    row = by.row;
+    is = by.is;
+    spared = elim by.spared [
+      | inl not_begun ↦ inl not_begun
+      | inr off ↦ inr (record { one = off.one; other = off.other; one_stays = other_stays off.one off.one_stays; other_stays = other_stays off.other off.other_stays; walls = off.walls })
+    ];
+  }
+
   -- the node of a mark
   marked_node : (mark : Mark) → In mark takes.rows.marks
-      → (y : ℕ) × (n : Member) × (member (forest c.tree) y ≡ Some n) × IsUnder (moment m) (moment n) × IsMarkAt s (place_in e.decisions.classes) n mark
+      → (y : ℕ) × (n : Member) × (member (forest c.tree) y ≡ Some n) × IsUnder (moment m) (moment n) × IsMarkAt s net (place_in e.decisions.classes) (forest c.tree) (forest e.tree) n mark
   marked_node mark at =
       let (y, on, is) = takes.rows.are.own mark at in
       let below = (takes.below y).0 on in
@@ -197,12 +222,13 @@ module _ (s : Standing) (net : Net) (c e : BeliefNet) (x : ℕ) (m : Member) (nu
           has_class = sym (class_is_at c.tree y n below.below_at) ∙ is.has_class;
           numbered = is.numbered;
           from = is.from ∙ date_is s net c fit y (live_at f y n below.below_at) ∙ ap (date_at s) (moment_at-is f y n below.below_at);
+          spared = λ t spares. spared_in_turn y n below.below_at t (is.spared t spares);
         },
       )
 
   -- the mark of a token that goes
   mark_of : (n : Member) (class : List ℕ) (y : ℕ) (k : Member) → member (forest c.tree) y ≡ Some k → moment k ≡ moment n → n.class ≡ k.class → IsUnder (moment m) (moment n) → n.class ≡ Some class
-      → (mark : Mark) × In mark takes.rows.marks × IsMarkAt s (place_in e.decisions.classes) n mark
+      → (mark : Mark) × In mark takes.rows.marks × IsMarkAt s net (place_in e.decisions.classes) (forest c.tree) (forest e.tree) n mark
   mark_of n class y k at_y same alike under has =
       let on = (takes.below y).1 (below_by_members f x y m k at_x at_y (under_below m k (subst (IsUnder (moment m)) (sym same) under))) in
       let (mark, at, is) = takes.rows.are.all y class on (class_is_at c.tree y k at_y ∙ sym alike ∙ has) in (
@@ -213,6 +239,7 @@ module _ (s : Standing) (net : Net) (c e : BeliefNet) (x : ℕ) (m : Member) (nu
           has_class = alike ∙ sym (class_is_at c.tree y k at_y) ∙ is.has_class;
           numbered = is.numbered;
           from = is.from ∙ date_is s net c fit y (live_at f y k at_y) ∙ ap (date_at s) (moment_at-is f y k at_y ∙ same);
+          spared = λ t spares. subst (λ z. IsSparedAt net (forest c.tree) (forest e.tree) z t) same (spared_in_turn y k at_y t (is.spared t spares));
         },
       )
 
@@ -220,7 +247,7 @@ module _ (s : Standing) (net : Net) (c e : BeliefNet) (x : ℕ) (m : Member) (nu
 
 module _ (s : Standing) (net : Net) (b c e : BeliefNet) (due : Due) (x : ℕ) (m : Member) (numbers : List ℕ) (fit : IsFit s net b) (d : IsDecided s b c due) (now : fires_by due.found ≡ false) (before : fires_by due.before ≡ true)
     (on : Contains (rules_at s (moment_at (forest b.tree) due.trigger)) due.rule) (at_x : member (forest c.tree) x ≡ Some m) (is_effect : moment m ≡ After (moment_at (forest c.tree) due.trigger) due.rule)
-    (takes : TakesAway x numbers c e) (last : KeepsLast c.decisions e.decisions) where
+    (takes : TakesAway net x numbers c e) (last : KeepsLast c.decisions e.decisions) where
   fit_c : IsFit s net c
   fit_c = fit_decided s net b c due fit d
 
@@ -252,11 +279,11 @@ module _ (s : Standing) (net : Net) (b c e : BeliefNet) (due : Due) (x : ℕ) (m
 
   -- what moves goes
   class_moved : (n : Member) (class : List ℕ) → IsMemberOf s net.names n → Moved (forest b.tree) (row_due b due.row d.row) due.found (moment n) → n.class ≡ Some class
-      → (mark : Mark) × In mark takes.rows.marks × IsMarkAt s (place_in e.decisions.classes) n mark
+      → (mark : Mark) × In mark takes.rows.marks × IsMarkAt s net (place_in e.decisions.classes) (forest b.tree) (forest e.tree) n mark
   class_moved n class own (came fires fired_not is) has = true_false (sym fires ∙ now)
   class_moved n class own (went fires_not fires y k at same under) has =
       let at_k = at_c y k at in
-      mark_of s net c e x m numbers fit_c at_x takes last n class y k at_k same (one_class s net.names n k own (fit_c.tree.seen.members y k at_k) (sym same)) (subst (λ z. IsUnder z (moment n)) (sym effect_is) under) has
+      subst (λ (t : Kept). (mark : Mark) × In mark takes.rows.marks × IsMarkAt s net (place_in e.decisions.classes) (forest t) (forest e.tree) n mark) d.tree (mark_of s net c e x m numbers fit_c at_x takes last n class y k at_k same (one_class s net.names n k own (fit_c.tree.seen.members y k at_k) (sym same)) (subst (λ z. IsUnder z (moment n)) (sym effect_is) under) has)
 
   later : (mark : Mark) → In mark takes.rows.marks → date_at s (moment_at (forest b.tree) due.trigger) <ℤ mark.from
   later mark at =
@@ -284,8 +311,12 @@ module _ (s : Standing) (net : Net) (b c e : BeliefNet) (due : Due) (x : ℕ) (m
     moves = subst (λ (t : Kept). Moves s (forest t) (forest e.tree) takes.rows.marks c.decisions e.decisions) d.tree (moves_taken s net c e x m numbers fit_c at_x takes last);
     are = record {
       own = λ mark at.
-          let (y, n, at_y, under, is) = marked_node s net c e x m numbers fit_c at_x takes last mark at in
-          (n, fit_c.tree.seen.members y n at_y, went now fired y n (at_b y n at_y) refl (subst (λ z. IsUnder z (moment n)) effect_is under), is);
+          let (y, n, at_y, under, is) = marked_node s net c e x m numbers fit_c at_x takes last mark at in (
+            n,
+            fit_c.tree.seen.members y n at_y,
+            went now fired y n (at_b y n at_y) refl (subst (λ z. IsUnder z (moment n)) effect_is under),
+            subst (λ (t : Kept). IsMarkAt s net (place_in e.decisions.classes) (forest t) (forest e.tree) n mark) d.tree is,
+          );
       all = λ n class own moved has. class_moved n class own moved has;
     };
     later = later;

@@ -1,6 +1,7 @@
 -- What goes where a rule fires no more: nodes with their rows; and rows wait that read what went.
-use Rattle.std.specs.Prelude.{◌≡◌, ◌⊎◌, ◌↔◌, ℕ, List, Option, Some, None}
+use Rattle.std.specs.Prelude.{◌≡◌, ◌⊎◌, ◌↔◌, ℕ, true, false, List, Option, Some, None}
 use Rattle.list_theory.proofs.Elements.{In}
+use Rattle.dist_net.specs.Net.{Net}
 use Rattle.row_links.specs.Lists.{IsOn}
 use Rattle.undo_rows.specs.declared.row.Row.{Row as TableRow}
 use Rattle.undo_rows.specs.Tables.{Table, AreListed}
@@ -15,41 +16,43 @@ use Rattle.joined.specs.Marking.{Mark}
 use Rattle.belief_net.specs.declared.state.BeliefNet.{BeliefNet}
 use Rattle.belief_net.specs.declared.state.Decisions.{Decisions}
 use Rattle.belief_net.specs.Decided.{table_of, DropsRows}
-use Rattle.belief_net.specs.Entering.{MarksClass, class_at}
+use Rattle.belief_net.specs.Entering.{MarksReaders, class_at}
 use Rattle.belief_net.specs.Marks.{IsAsLate, WaitsAt}
 use Rattle.belief_net.specs.Waiting.{dates_in}
+use Rattle.belief_net.specs.Windows.{IsSparedBy}
 
 -- ---- one node
 
--- what a node marks that goes: a token those rows that read it, and an event none
-pub data MarksNode (tree : Kept) (y : ℕ) (old new : Decisions) : Type 0 where
-  a_token : (class : List ℕ) → class_at tree y ≡ Some class → MarksClass (present tree) class (early (present tree) y) old new → MarksNode tree y old new
-  an_event : class_at tree y ≡ None → new ≡ old → MarksNode tree y old new
+-- what a node marks that goes with these: a token those rows that read it, but where it is spared, and an event none
+pub data MarksNode (net : Net) (tree : Kept) (going : List ℕ) (y : ℕ) (old new : Decisions) : Type 0 where
+  a_token : (class : List ℕ) → class_at tree y ≡ Some class → MarksReaders net tree going y class old new → MarksNode net tree going y old new
+  an_event : class_at tree y ≡ None → new ≡ old → MarksNode net tree going y old new
 
 -- all rows at the node are gone, and rows wait that read it
-pub record LosesNode (tree : Kept) (y : ℕ) (old new : Decisions) : Type 0 where
+pub record LosesNode (net : Net) (tree : Kept) (going : List ℕ) (y : ℕ) (old new : Decisions) : Type 0 where
   pub mid : Decisions
   pub drops : DropsRows y old mid
   pub listed : AreListed (table_of mid)
-  pub marks : MarksNode tree y mid new
+  pub marks : MarksNode net tree going y mid new
 
 -- ---- some nodes
 
--- the mark is that of the token at this node
-pub record IsMarkOn (tree : Kept) (number : List ℕ → Option ℕ) (y : ℕ) (mark : Mark) : Type 0 where
+-- the mark is that of the token at this node, which goes with these
+pub record IsMarkOn (net : Net) (tree : Kept) (going : List ℕ) (number : List ℕ → Option ℕ) (y : ℕ) (mark : Mark) : Type 0 where
   pub class : List ℕ
   pub has_class : class_at tree y ≡ Some class
   pub numbered : number class ≡ Some mark.class
   pub from : mark.from ≡ early (present tree) y
+  pub spared : (t : ℕ) → mark.spares t ≡ true → IsSparedBy net (forest tree) going y t
 
--- the marks are those of the tokens among these nodes
-pub record AreMarksOn (tree : Kept) (gone : List ℕ) (number : List ℕ → Option ℕ) (marks : List Mark) : Type 0 where
-  pub own : (mark : Mark) → In mark marks → (y : ℕ) × IsOn gone y × IsMarkOn tree number y mark
-  pub all : (y : ℕ) (class : List ℕ) → IsOn gone y → class_at tree y ≡ Some class → (mark : Mark) × In mark marks × IsMarkOn tree number y mark
+-- the marks are those of the tokens among these nodes, of all that go
+pub record AreMarksOn (net : Net) (tree : Kept) (going gone : List ℕ) (number : List ℕ → Option ℕ) (marks : List Mark) : Type 0 where
+  pub own : (mark : Mark) → In mark marks → (y : ℕ) × IsOn gone y × IsMarkOn net tree going number y mark
+  pub all : (y : ℕ) (class : List ℕ) → IsOn gone y → class_at tree y ≡ Some class → (mark : Mark) × In mark marks × IsMarkOn net tree going number y mark
 
--- a mark is for the row of number i: it is on a list of the class, and its event is no earlier
+-- a mark is for the row of number i: it is on a list of the class, and its event is no earlier and not spared
 abbrev pub IsMarkedFor : State → Table Pair 6 → List Mark → ℕ → TableRow Pair 6 → Type 0
-IsMarkedFor s t marks i row = (mark : Mark) × In mark marks × IsListedUnder t mark.class i × IsAsLate s mark.from row
+IsMarkedFor s t marks i row = (mark : Mark) × In mark marks × IsListedUnder t mark.class i × IsAsLate s mark.from row × (mark.spares row.value.trigger ≡ false)
 
 -- the row of number i was one at these nodes, and is gone
 pub record IsLost (gone : List ℕ) (old new : Decisions) (i : ℕ) : Type 0 where
@@ -65,12 +68,12 @@ pub record IsLeft (s : State) (marks : List Mark) (old new : Decisions) (i : ℕ
   pub waits : (dates_in new.waiting i ≡ dates_in old.waiting i)
       ⊎ ((r : TableRow Pair 6) × ((table_of old).row i ≡ Some r) × IsMarkedFor s (table_of old) marks i r × WaitsAt s (dates_in new.waiting) i r)
 
--- all rows at these nodes are gone; the others stay, and wait where a token among the nodes marks them
-pub record LosesRows (tree : Kept) (gone : List ℕ) (old new : Decisions) : Type 0 where
+-- All rows at these nodes, of all that go, are gone. The others stay, and wait where a token among the nodes marks them.
+pub record LosesRows (net : Net) (tree : Kept) (going gone : List ℕ) (old new : Decisions) : Type 0 where
   pub rules : new.rules ≡ old.rules
   pub listed : AreListed (table_of old)
   pub marks : List Mark
-  pub are : AreMarksOn tree gone (place_in new.classes) marks
+  pub are : AreMarksOn net tree going gone (place_in new.classes) marks
   pub each : (i : ℕ) → IsLeft (present tree) marks old new i ⊎ IsLost gone old new i
   pub none : (i : ℕ) (row : TableRow Pair 6) → (table_of new).row i ≡ Some row → IsOn gone row.value.trigger → ⊥
   pub all : (i : ℕ) (row : TableRow Pair 6) → (table_of new).row i ≡ Some row → IsMarkedFor (present tree) (table_of old) marks i row
@@ -83,7 +86,7 @@ abbrev pub AreBelow : Kept → ℕ → List ℕ → Type 0
 AreBelow tree x numbers = (y : ℕ) → IsOn numbers y ↔ IsBelow (forest tree) x y
 
 -- node x is gone with all below it, which are these, and their rows; and rows wait that read what went
-pub record TakesAway (x : ℕ) (numbers : List ℕ) (old new : BeliefNet) : Type 0 where
+pub record TakesAway (net : Net) (x : ℕ) (numbers : List ℕ) (old new : BeliefNet) : Type 0 where
   pub below : AreBelow old.tree x numbers
   pub tree : Withdraws old.tree new.tree x
-  pub rows : LosesRows old.tree numbers old.decisions new.decisions
+  pub rows : LosesRows net old.tree numbers numbers old.decisions new.decisions

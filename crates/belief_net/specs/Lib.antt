@@ -1,5 +1,6 @@
 pub mod Numbers
 pub mod Waiting
+pub mod Windows
 pub mod Marks
 pub mod Decided
 pub mod Entering

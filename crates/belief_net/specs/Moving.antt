@@ -1,12 +1,11 @@
 -- A turn in which nodes enter or go: rows come, go, and wait for marks.
-use Rattle.std.specs.Prelude.{◌≡◌, ◌↔◌, ◌⊎◌, ℕ, ℤ, ◌≤ℤ◌, ◌<ℤ◌, true, List, Option, Some, None, IsSome}
+use Rattle.std.specs.Prelude.{◌≡◌, ◌↔◌, ◌⊎◌, ℕ, ℤ, ◌≤ℤ◌, ◌<ℤ◌, true, false, List, Option, Some, None, IsSome}
 use Rattle.std.specs.List.{Contains}
 use Rattle.tmm_model.specs.Beliefs.{rules_at}
 use Rattle.tmm_model.specs.Moments.{Moment, early}
 use Rattle.tmm_model.specs.Standing.{Standing, far_in}
 use Rattle.list_theory.proofs.Elements.{In}
 use Rattle.dist_net.specs.Net.{Net}
-use Rattle.list_net.specs.Represents.{Names}
 use Rattle.spots.specs.Forest.{Forest, Member, IsLive, moment, moment_at}
 use Rattle.spots.specs.Seen.{IsMemberOf}
 use Rattle.undo_rows.specs.declared.row.Row.{Row as TableRow}
@@ -18,6 +17,7 @@ use Rattle.occ_tree.specs.Places.{forest}
 use Rattle.joined.specs.Listed.{IsListedUnder}
 use Rattle.joined.specs.Marking.{Mark}
 use Rattle.joined.specs.Rows.{Row, as_row}
+use Rattle.joined.specs.Sparing.{IsSparedAt}
 use Rattle.joined.specs.Turning.{Moved, TreeTurns}
 use Rattle.belief_net.specs.declared.deciding.Due.{Due}
 use Rattle.belief_net.specs.declared.state.BeliefNet.{BeliefNet}
@@ -33,21 +33,23 @@ date_at s = early s (far_in s.premises)
 
 -- ---- marks
 
--- the mark is that of the token that this node is
-pub record IsMarkAt (s : Standing) (number : List ℕ → Option ℕ) (m : Member) (mark : Mark) : Type 0 where
+-- the mark is that of the token that this node is, where nodes f become nodes g, and spares only where that bears on no decision
+pub record IsMarkAt (s : Standing) (net : Net) (number : List ℕ → Option ℕ) (f g : Forest) (m : Member) (mark : Mark) : Type 0 where
   pub class : List ℕ
   pub has_class : m.class ≡ Some class
   pub numbered : number class ≡ Some mark.class
   pub from : mark.from ≡ date_at s (moment m)
+  pub spared : (t : ℕ) → mark.spares t ≡ true → IsSparedAt net f g (moment m) t
 
 -- the marks are those of the tokens that moved
-pub record AreMarksFor (s : Standing) (names : Names) (number : List ℕ → Option ℕ) (moved : Moment → Type 0) (marks : List Mark) : Type 0 where
-  pub own : (mark : Mark) → In mark marks → (m : Member) × IsMemberOf s names m × moved (moment m) × IsMarkAt s number m mark
-  pub all : (m : Member) (class : List ℕ) → IsMemberOf s names m → moved (moment m) → m.class ≡ Some class → (mark : Mark) × In mark marks × IsMarkAt s number m mark
+pub record AreMarksFor (s : Standing) (net : Net) (number : List ℕ → Option ℕ) (f g : Forest) (moved : Moment → Type 0) (marks : List Mark) : Type 0 where
+  pub own : (mark : Mark) → In mark marks → (m : Member) × IsMemberOf s net.names m × moved (moment m) × IsMarkAt s net number f g m mark
+  pub all : (m : Member) (class : List ℕ) → IsMemberOf s net.names m → moved (moment m) → m.class ≡ Some class → (mark : Mark) × In mark marks × IsMarkAt s net number f g m mark
 
--- a mark is for the row of number i: it is on a list of the class, and its event is no earlier
+-- a mark is for the row of number i: it is on a list of the class, and its event is no earlier and not spared
 abbrev pub IsMarkedAt : Standing → Forest → Table Pair 6 → List Mark → ℕ → TableRow Pair 6 → Type 0
-IsMarkedAt s g t marks i row = (mark : Mark) × In mark marks × IsListedUnder t mark.class i × (mark.from ≤ℤ date_at s (moment_at g row.value.trigger))
+IsMarkedAt s g t marks i row =
+    (mark : Mark) × In mark marks × IsListedUnder t mark.class i × (mark.from ≤ℤ date_at s (moment_at g row.value.trigger)) × (mark.spares row.value.trigger ≡ false)
 
 -- ---- rows
 
@@ -92,5 +94,5 @@ pub record TurnsOn (s : Standing) (net : Net) (b c e : BeliefNet) (due : Due) : 
   pub tree : TreeTurns s net.names (forest b.tree) (forest e.tree) (row_due b due.row decided.row) due.found
   pub marks : List Mark
   pub moves : Moves s (forest b.tree) (forest e.tree) marks c.decisions e.decisions
-  pub are : AreMarksFor s net.names (place_in e.decisions.classes) (Moved (forest b.tree) (row_due b due.row decided.row) due.found) marks
+  pub are : AreMarksFor s net (place_in e.decisions.classes) (forest b.tree) (forest e.tree) (Moved (forest b.tree) (row_due b due.row decided.row) due.found) marks
   pub later : (mark : Mark) → In mark marks → date_at s (moment_at (forest b.tree) due.trigger) <ℤ mark.from

@@ -46,13 +46,13 @@ abbrev pub HasEffect : Kept → ℕ → List ℕ → Type 0
 HasEffect tree trigger rule = (x : ℕ) × (m : Member) × (member (forest tree) x ≡ Some m) × (moment m ≡ After (moment_at (forest tree) trigger) rule)
 
 -- that node is gone with all below it, and told
-pub record Withdraws (trigger : ℕ) (rule : List ℕ) (old new : BeliefNet) (told told_after : Told) : Type 0 where
+pub record Withdraws (net : Net) (trigger : ℕ) (rule : List ℕ) (old new : BeliefNet) (told told_after : Told) : Type 0 where
   pub number : ℕ
   pub node : Member
   pub here : member (forest old.tree) number ≡ Some node
   pub is : moment node ≡ After (moment_at (forest old.tree) trigger) rule
   pub numbers : List ℕ
-  pub takes : TakesAway number numbers old new
+  pub takes : TakesAway net number numbers old new
   pub once : AreOnce numbers
   pub tells : TellsExits old.tree numbers told told_after
 
@@ -73,16 +73,16 @@ StopsTurn s net b told stop =
     → IsTooLarge (size (built s)) stop
 
 -- some beliefs are these, but that the row due first was decided
-abbrev pub IsAfterSome : Standing → BeliefNet → Due → Type 0
-IsAfterSome s c due = (net : Net) × (b : BeliefNet) × IsAfter s net b c due
+abbrev pub IsAfterSome : Standing → Net → BeliefNet → Due → Type 0
+IsAfterSome s net c due = (b : BeliefNet) × IsAfter s net b c due
 
 -- the turn is done, whatever the beliefs were before the row was decided
-abbrev pub IsTurned : Standing → BeliefNet → BeliefNet → Due → Told → Told → Type 0
-IsTurned s c e due told told_after = (net : Net) (b : BeliefNet) → IsAfter s net b c due → TurnsTo s net b e told told_after
+abbrev pub IsTurned : Standing → Net → BeliefNet → BeliefNet → Due → Told → Told → Type 0
+IsTurned s net c e due told told_after = (b : BeliefNet) → IsAfter s net b c due → TurnsTo s net b e told told_after
 
 -- the turn stops, whatever they were
-abbrev pub IsStopped : Standing → BeliefNet → Due → Told → Stop → Type 0
-IsStopped s c due told stop = (net : Net) (b : BeliefNet) → IsAfter s net b c due → StopsTurn s net b told stop
+abbrev pub IsStopped : Standing → Net → BeliefNet → Due → Told → Stop → Type 0
+IsStopped s net c due told stop = (b : BeliefNet) → IsAfter s net b c due → StopsTurn s net b told stop
 
 -- no row waits, and all stays
 pub record Rests (b e : BeliefNet) : Type 0 where

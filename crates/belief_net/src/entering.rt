@@ -1,44 +1,47 @@
 // Effects that enter.
-ghost use Rattle.std.specs.Prelude.{◌≡◌, None, IfOk, OnOk};
+ghost use Rattle.std.specs.Prelude.{◌≡◌, Some, None, IfOk, OnOk};
 ghost use Rattle.tmm_model.specs.Moments.{After};
 ghost use Rattle.dist_net.specs.Net.{Net};
-ghost use Rattle.spots.specs.Forest.{IsLive, moment_at};
+ghost use Rattle.spots.specs.Forest.{Member, member, IsLive, moment_at};
 ghost use Rattle.spots.specs.Seen.{IsSeen};
-ghost use Rattle.occ_tree.specs.OfLists.{IsTreeOf};
+ghost use Rattle.occ_tree.specs.OfLists.{IsTreeIn, IsTreeOf};
 ghost use Rattle.occ_tree.specs.Places.{forest};
 ghost use Rattle.occ_tree.specs.Standing.{present, committed, forest as forest_of};
 ghost use Rattle.supports.specs.Growing.{Adds, effect_shape, MayEnter};
 ghost use Rattle.supports.specs.Rules.{IsRuleOf};
 ghost use Rattle.undo_rows.specs.Changes.{present as table};
 ghost use Rattle.belief_net.specs.Decided.{AreUnder, KeepsLast};
-ghost use Rattle.belief_net.specs.Entering.{MarksClass, Brings, KeepLast, EntersIn};
+ghost use Rattle.belief_net.specs.Entering.{MarksClass, MarksReaders, Brings, KeepLast, EntersIn};
 ghost use Rattle.belief_net.specs.Marks.{HaveEvents};
 
 use crate::marking::mark_class;
 use crate::rows::add_rows;
 use crate::state::{BeliefNet, Decisions};
+use crate::windows::window_of;
+use dist_net::DistNet;
 use occ_tree::Tree;
 use premise_list::Standing;
 use std::alloc::Global;
 use tmm_model::{Name, NoMemory, Premise, Shape};
 
 // Adds the effect of a rule that fires at the event of a node, and answers its number, which no node had at the
-// last commit either. If that is an event, its rules get rows, which wait; if it is a token, those rows wait that
-// may read it.
+// last commit either. If that is an event, its rules get rows, which wait; if it is a token, those rows wait on
+// which it may bear.
 pub(crate) fn bring_about(
     alloc: Global,
     standing: &Standing,
+    net: &DistNet,
     beliefs: &mut BeliefNet,
     trigger: u32,
     rule: Name,
 ) -> Result<u32, NoMemory>
-    requires tree { (net : Net) × IsTreeOf standing.now.present net beliefs.old.tree }
+    requires tree { IsTreeOf standing.now.present net.now.present beliefs.old.tree }
     requires trigger { IsLive (forest beliefs.old.tree) trigger }
     requires enters { MayEnter standing.now.present (forest beliefs.old.tree) trigger rule }
     requires events { HaveEvents beliefs.old.tree (table beliefs.old.decisions.rows) }
     requires under { AreUnder standing.now.present beliefs.old.decisions }
-    ensures ok { OnOk result ((net : Net) → IsTreeOf standing.now.present net beliefs.old.tree → Brings standing.now.present net trigger rule beliefs.old beliefs.new) }
-    ensures number { IfOk result (λ x. (net : Net) → IsTreeOf standing.now.present net beliefs.old.tree → (b : Brings standing.now.present net trigger rule beliefs.old beliefs.new) × (b.number ≡ x)) }
+    ensures ok { OnOk result (Brings standing.now.present net.now.present trigger rule beliefs.old beliefs.new) }
+    ensures number { IfOk result (λ x. (b : Brings standing.now.present net.now.present trigger rule beliefs.old beliefs.new) × (b.number ≡ x)) }
     ensures was_free { IfOk result (λ x. forest_of (committed beliefs.old.tree) x ≡ None) }
     ensures last { KeepLast beliefs.old beliefs.new }
 {
@@ -46,13 +49,21 @@ pub(crate) fn bring_about(
     let _ = beliefs.decisions.rows.first(0, trigger);
     let effect = enter_effect(alloc, standing, &mut beliefs.tree, trigger, rule)?;
     let row = beliefs.tree.row(effect);
-    let early = beliefs.tree.early(effect);
     match row.class {
         Some(class) => {
-            mark_token(&beliefs.tree, &mut beliefs.decisions, class, early)?;
+            mark_readers(
+                alloc,
+                &beliefs.tree,
+                net,
+                &mut beliefs.decisions,
+                class,
+                effect,
+                &[effect],
+            )?;
             Ok(effect)
         }
         None => {
+            let early = beliefs.tree.early(effect);
             add_rows(
                 alloc,
                 standing,
@@ -113,6 +124,42 @@ pub(crate) fn mark_token(
     ensures last { KeepsLast decisions.old decisions.new }
 {
     let number = decisions.classes.enter(class)?;
-    mark_class(tree, &decisions.rows, &mut decisions.waiting, number, from)?;
+    mark_class(
+        tree,
+        &decisions.rows,
+        &mut decisions.waiting,
+        number,
+        from,
+        None,
+    )?;
+    Ok(())
+}
+
+// Lets those rows wait on which the token of a class at a node may bear, which enters or leaves with these nodes.
+pub(crate) fn mark_readers(
+    alloc: Global,
+    tree: &Tree,
+    net: &DistNet,
+    decisions: &mut Decisions,
+    class: Name,
+    x: u32,
+    moving: &[u32],
+) -> Result<(), NoMemory>
+    requires tree { IsTreeIn net.now.present tree.now }
+    requires token { (m : Member) × (member (forest tree.now) x ≡ Some m) × (m.class ≡ Some class) }
+    requires events { HaveEvents tree.now (table decisions.old.rows) }
+    ensures ok { OnOk result (MarksReaders net.now.present tree.now moving.now x class decisions.old decisions.new) }
+    ensures last { KeepsLast decisions.old decisions.new }
+{
+    let number = decisions.classes.enter(class)?;
+    let window = window_of(alloc, tree, net, class, x, moving)?;
+    mark_class(
+        tree,
+        &decisions.rows,
+        &mut decisions.waiting,
+        number,
+        tree.early(x),
+        Some(&window),
+    )?;
     Ok(())
 }

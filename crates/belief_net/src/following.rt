@@ -4,6 +4,7 @@ ghost use Rattle.tmm_model.specs.Answers.{most_size};
 ghost use Rattle.tmm_model.specs.Standing.{Standing as List};
 ghost use Rattle.belief_theory.specs.KeptLists.{last_horizon};
 ghost use Rattle.spots.specs.Forest.{IsLive};
+ghost use Rattle.occ_tree.specs.OfLists.{IsTreeIn};
 ghost use Rattle.occ_tree.specs.Places.{forest};
 ghost use Rattle.undo_rows.specs.Changes.{present as table};
 ghost use Rattle.joined.specs.Rows.{fires_by};
@@ -19,6 +20,7 @@ use crate::leaving::take_away;
 use crate::state::BeliefNet;
 use crate::told::Told;
 use decision_rows::Decision;
+use dist_net::DistNet;
 use premise_list::Standing;
 use std::alloc::Global;
 use tmm_model::{Name, NoMemory, Stop};
@@ -28,21 +30,22 @@ use tmm_model::{Name, NoMemory, Stop};
 pub(crate) fn follow(
     alloc: Global,
     standing: &Standing,
+    net: &DistNet,
     beliefs: &mut BeliefNet,
     told: &mut Told,
     due: &Due,
 ) -> Result<(), Stop>
-    requires after { IsAfterSome standing.now.present beliefs.old due.now }
+    requires after { IsAfterSome standing.now.present net.now.present beliefs.old due.now }
     requires horizon { standing.now.present.horizon ≤ last_horizon }
     requires small { told.old.weight ≤ most_size }
-    ensures ok { OnOk result (IsTurned standing.now.present beliefs.old beliefs.new due.now told.old told.new) }
-    ensures stops { IfErr result (IsStopped standing.now.present beliefs.old due.now told.old) }
+    ensures ok { OnOk result (IsTurned standing.now.present net.now.present beliefs.old beliefs.new due.now told.old told.new) }
+    ensures stops { IfErr result (IsStopped standing.now.present net.now.present beliefs.old due.now told.old) }
     ensures numbered { OnOk result (StayNumbered standing.now.present beliefs.old beliefs.new told.old told.new) }
     ensures last { KeepLast beliefs.old beliefs.new }
 {
     match (fires(&due.before), fires(&due.found)) {
-        (false, true) => bring_effect(alloc, standing, beliefs, told, due),
-        (true, false) => match withdraw_effect(alloc, beliefs, told, due.trigger, &due.rule) {
+        (false, true) => bring_effect(alloc, standing, net, beliefs, told, due),
+        (true, false) => match withdraw_effect(alloc, net, beliefs, told, due.trigger, &due.rule) {
             Ok(()) => Ok(()),
             Err(_) => Err(Stop::NoMemory),
         },
@@ -62,21 +65,22 @@ fn fires(decision: &Decision) -> bool
 fn bring_effect(
     alloc: Global,
     standing: &Standing,
+    net: &DistNet,
     beliefs: &mut BeliefNet,
     told: &mut Told,
     due: &Due,
 ) -> Result<(), Stop>
-    requires after { IsAfterSome standing.now.present beliefs.old due.now }
+    requires after { IsAfterSome standing.now.present net.now.present beliefs.old due.now }
     requires fires { fires_by due.now.found ≡ true }
     requires fired { fires_by due.now.before ≡ false }
     requires horizon { standing.now.present.horizon ≤ last_horizon }
     requires small { told.old.weight ≤ most_size }
-    ensures ok { OnOk result (IsTurned standing.now.present beliefs.old beliefs.new due.now told.old told.new) }
-    ensures stops { IfErr result (IsStopped standing.now.present beliefs.old due.now told.old) }
+    ensures ok { OnOk result (IsTurned standing.now.present net.now.present beliefs.old beliefs.new due.now told.old told.new) }
+    ensures stops { IfErr result (IsStopped standing.now.present net.now.present beliefs.old due.now told.old) }
     ensures numbered { OnOk result (StayNumbered standing.now.present beliefs.old beliefs.new told.old told.new) }
     ensures last { KeepLast beliefs.old beliefs.new }
 {
-    match bring_about(alloc, standing, beliefs, due.trigger, due.rule) {
+    match bring_about(alloc, standing, net, beliefs, due.trigger, due.rule) {
         Ok(effect) => told.enter(alloc, standing, &beliefs.tree, effect),
         Err(_) => Err(Stop::NoMemory),
     }
@@ -85,16 +89,18 @@ fn bring_effect(
 // Withdraws the effect of a rule at the event of a node with all below it, and tells that they left.
 fn withdraw_effect(
     alloc: Global,
+    net: &DistNet,
     beliefs: &mut BeliefNet,
     told: &mut Told,
     trigger: u32,
     rule: &Name,
 ) -> Result<(), NoMemory>
+    requires tree { IsTreeIn net.now.present beliefs.old.tree }
     requires trigger { IsLive (forest beliefs.old.tree) trigger }
     requires there { HasEffect beliefs.old.tree trigger rule.now }
     requires events { HaveEvents beliefs.old.tree (table beliefs.old.decisions.rows) }
     requires under { AreOfSome beliefs.old.decisions }
-    ensures ok { OnOk result (Withdraws trigger rule.now beliefs.old beliefs.new told.old told.new) }
+    ensures ok { OnOk result (Withdraws net.now.present trigger rule.now beliefs.old beliefs.new told.old told.new) }
     ensures numbered { OnOk result ((s : List) → StayNumbered s beliefs.old beliefs.new told.old told.new) }
     ensures last { KeepLast beliefs.old beliefs.new }
 {
@@ -103,5 +109,5 @@ fn withdraw_effect(
     };
     let numbers = beliefs.tree.numbers_below(alloc, effect)?;
     told.leave(alloc, &beliefs.tree, numbers.as_slice())?;
-    take_away(alloc, beliefs, effect, numbers.as_slice())
+    take_away(alloc, net, beliefs, effect, numbers.as_slice())
 }

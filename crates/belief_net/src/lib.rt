@@ -40,6 +40,7 @@ mod update;
 mod waiting;
 mod walls;
 mod woken;
+mod windows;
 
 pub use size::size_of;
 pub use state::BeliefNet;

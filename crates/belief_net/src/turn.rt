@@ -40,7 +40,7 @@ pub(crate) fn turn(
 {
     match decide_first(alloc, standing, net, beliefs, counter) {
         Ok(Some(due)) => {
-            follow(alloc, standing, beliefs, told, &due)?;
+            follow(alloc, standing, net, beliefs, told, &due)?;
             Ok(true)
         }
         Ok(None) => Ok(false),

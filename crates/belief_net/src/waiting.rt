@@ -1,5 +1,5 @@
 // Rows that wait to be decided again, the earliest first.
-ghost use Rattle.std.specs.Prelude.{◌≡◌, ℕ, ◌<◌, ◌≤ℤ◌, [], ◌∷◌, None, Some, true, length, MatchOption, OnOk, OnErr};
+ghost use Rattle.std.specs.Prelude.{◌≡◌, ◌↔◌, ℕ, ◌<◌, ◌≤ℤ◌, [], ◌∷◌, None, Some, length, IsTrue, MatchOption, OnOk, OnErr};
 ghost use Rattle.std.specs.List.{All};
 ghost use Rattle.std.specs.List.Sorted.{IsPermutation};
 ghost use Rattle.belief_net.specs.Waiting.{dates_in, waits_in, AreQueued, Puts, Takes};
@@ -111,6 +111,13 @@ impl Waiting {
         date_at(&self.dates, row).is_some()
     }
 
+    // Whether a row waits for this date.
+    pub(crate) fn is_for(&self, row: u32, date: i64) -> bool
+        ensures { IsTrue result ↔ (dates_in self.now row ≡ Some date) }
+    {
+        date_at(&self.dates, row) == Some(date)
+    }
+
     // Lets a row wait for a date. Without memory all wait as before. Where it waits for that date already nothing
     // is done: a token that moves lets all rows of its class wait, and many may move in one edit.
     pub(crate) fn push(&mut self, row: u32, date: i64) -> Result<(), NoMemory>
@@ -122,13 +129,6 @@ impl Waiting {
         } else {
             self.enter(row, date)
         }
-    }
-
-    // Whether a row waits for this date.
-    fn is_for(&self, row: u32, date: i64) -> bool
-        ensures { result ≡ true → dates_in self.now row ≡ Some date }
-    {
-        date_at(&self.dates, row) == Some(date)
     }
 
     // Puts a row among those that wait, for a date.

@@ -11,6 +11,7 @@ pub mod Telling
 pub mod Entering
 pub mod Kept
 pub mod Listed
+pub mod Sparing
 pub mod Marking
 pub mod Touching
 pub mod Gaps

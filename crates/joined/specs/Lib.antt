@@ -6,6 +6,7 @@ pub mod Turning
 pub mod Telling
 pub mod Kept
 pub mod Listed
+pub mod Sparing
 pub mod Marking
 pub mod Touching
 pub mod Gaps

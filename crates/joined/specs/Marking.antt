@@ -1,12 +1,11 @@
 -- Marking by classes: which rows wait in a turn, by the lists of the classes of which tokens moved.
-use Rattle.std.specs.Prelude.{◌≡◌, ◌↔◌, ◌⊎◌, ℕ, ℤ, ◌≤ℤ◌, true, List, Option, Some}
+use Rattle.std.specs.Prelude.{◌≡◌, ◌↔◌, ◌⊎◌, ℕ, ℤ, ◌≤ℤ◌, Bool, true, false, List, Option, Some}
 use Rattle.tmm_model.specs.declared.premise.Edit.{Edit}
 use Rattle.tmm_model.specs.Edits.{next_list}
 use Rattle.tmm_model.specs.Maps.{built}
 use Rattle.tmm_model.specs.Standing.{Standing}
 use Rattle.list_theory.proofs.Elements.{In}
 use Rattle.dist_net.specs.Net.{Net}
-use Rattle.list_net.specs.Represents.{Names}
 use Rattle.spots.specs.Forest.{Forest, Member, moment, moment_at}
 use Rattle.spots.specs.Seen.{IsSeen, IsMemberOf}
 use Rattle.undo_rows.specs.declared.row.Row.{Row as TableRow}
@@ -18,37 +17,43 @@ use Rattle.revisions.specs.Maps.{revision}
 use Rattle.revisions.specs.Revisions.{Revision}
 use Rattle.joined.specs.Listed.{AreNumbered, IsUnderClasses, IsListedUnder}
 use Rattle.joined.specs.Rows.{Row}
+use Rattle.joined.specs.Sparing.{IsSparedAt, StaysNode}
 use Rattle.joined.specs.Turning.{Moved, TreeTurns, IsMarkedRow}
 
--- a mark: the number of a class, and a date from which on decisions that read this class are to be made again
+-- a mark: the number of a class, a date from which on decisions that read this class are to be made again, and at which events,
+-- by their nodes, it spares them
 pub record Mark : Type 0 where
   pub class : ℕ
   pub from : ℤ
+  pub spares : ℕ → Bool
 
--- the mark is that of the token that this node is
-pub record IsMarkOf (r : Revision) (number : List ℕ → Option ℕ) (m : Member) (mark : Mark) : Type 0 where
+-- The mark is that of the token that this node is, where nodes f become nodes g. It spares no event but where that token bears
+-- on no decision.
+pub record IsMarkOf (r : Revision) (net : Net) (number : List ℕ → Option ℕ) (f g : Forest) (m : Member) (mark : Mark) : Type 0 where
   pub class : List ℕ
   pub has_class : m.class ≡ Some class
   pub numbered : number class ≡ Some mark.class
   pub early : mark.from ≡ r.early (moment m)
+  pub spared : (t : ℕ) → mark.spares t ≡ true → IsSparedAt net f g (moment m) t
 
 -- the marks are those of the tokens that move in the turn
-pub record AreMarksOf (r : Revision) (s : Standing) (names : Names) (number : List ℕ → Option ℕ) (f : Forest) (p : Row) (found : Decision) (marks : List Mark) : Type 0 where
-  pub own : (mark : Mark) → In mark marks → (m : Member) × IsMemberOf s names m × Moved f p found (moment m) × IsMarkOf r number m mark
-  pub all : (m : Member) (class : List ℕ) → IsMemberOf s names m → Moved f p found (moment m) → m.class ≡ Some class → (mark : Mark) × In mark marks × IsMarkOf r number m mark
+pub record AreMarksOf (r : Revision) (s : Standing) (net : Net) (number : List ℕ → Option ℕ) (f g : Forest) (p : Row) (found : Decision) (marks : List Mark) : Type 0 where
+  pub own : (mark : Mark) → In mark marks → (m : Member) × IsMemberOf s net.names m × Moved f p found (moment m) × IsMarkOf r net number f g m mark
+  pub all : (m : Member) (class : List ℕ) → IsMemberOf s net.names m → Moved f p found (moment m) → m.class ≡ Some class → (mark : Mark) × In mark marks × IsMarkOf r net number f g m mark
 
--- a mark is for the row q of number i: it is on a list of the class, and its event is no earlier
+-- a mark is for the row q of number i: it is on a list of the class, and its event is no earlier and not spared
 abbrev pub IsMarkedBy : Revision → Forest → Table Pair 6 → List Mark → ℕ → Row → Type 0
-IsMarkedBy r g t marks i q = (mark : Mark) × In mark marks × IsListedUnder t mark.class i × (mark.from ≤ℤ r.early (moment_at g q.trigger))
+IsMarkedBy r g t marks i q =
+    (mark : Mark) × In mark marks × IsListedUnder t mark.class i × (mark.from ≤ℤ r.early (moment_at g q.trigger)) × (mark.spares q.trigger ≡ false)
 
 -- **So rows are marked as a turn asks**: where besides those that waited exactly those wait for which there is a mark.
 abbrev pub ClassMarksMark : Type 0
 ClassMarksMark =
     (old : Standing) (edit : Edit) (net : Net) (f g : Forest) (p : Row) (found : Decision)
     (rows : Logged Pair 6) (name : ℕ → List ℕ) (number : List ℕ → Option ℕ) (marks : List Mark) (i : ℕ) (row : TableRow Pair 6) (o q : Row)
-    → IsSeen (next_list old edit) net f → TreeTurns (next_list old edit) net.names f g p found
-    → AreNumbered number → AreListed (present rows)
+    → IsSeen (next_list old edit) net f → IsSeen (next_list old edit) net g → TreeTurns (next_list old edit) net.names f g p found
+    → StaysNode f g q.trigger → AreNumbered number → AreListed (present rows)
     → (present rows).row i ≡ Some row → IsUnderClasses (next_list old edit) name number row → q.rule ≡ name row.value.rule
-    → AreMarksOf (revision (built old) (built (next_list old edit))) (next_list old edit) net.names number f p found marks
+    → AreMarksOf (revision (built old) (built (next_list old edit))) (next_list old edit) net number f g p found marks
     → (q.waits ≡ true) ↔ ((o.waits ≡ true) ⊎ IsMarkedBy (revision (built old) (built (next_list old edit))) g (present rows) marks i q)
     → IsMarkedRow (revision (built old) (built (next_list old edit))) f g p found o q

@@ -101,14 +101,14 @@ cut_short m t k c at cut lasts = not_both (list_any (cuts_at m t k) (believed_to
     not_both true e h = cc
     not_both false e h = cc
 
--- of two tokens of two facts, one is of another fact than k
-other_fact : (k v w : TokenRow Moment) → v.fact ≢ w.fact → (same_name k.fact v.fact ≡ false) ⊎ (same_name k.fact w.fact ≡ false)
-other_fact k v w differ = by (same_name k.fact v.fact) refl (same_name k.fact w.fact) refl
+-- of two facts, one is another than this
+pub other_fact : (fact one other : List ℕ) → one ≢ other → (same_name fact one ≡ false) ⊎ (same_name fact other ≡ false)
+other_fact fact one other differ = by (same_name fact one) refl (same_name fact other) refl
   where
-    by : (a : Bool) → same_name k.fact v.fact ≡ a → (b : Bool) → same_name k.fact w.fact ≡ b → (same_name k.fact v.fact ≡ false) ⊎ (same_name k.fact w.fact ≡ false)
+    by : (a : Bool) → same_name fact one ≡ a → (b : Bool) → same_name fact other ≡ b → (same_name fact one ≡ false) ⊎ (same_name fact other ≡ false)
     by false e b g = inl e
     by true e false g = inr g
-    by true e true g = absurd (differ (sym ((bytes_decides k.fact v.fact).0 e) ∙ (bytes_decides k.fact w.fact).0 g))
+    by true e true g = absurd (differ (sym ((bytes_decides fact one).0 e) ∙ (bytes_decides fact other).0 g))
 
 contradicted : (m : TimeMap) (k w : TokenRow Moment) → k.class ≡ w.class → same_name k.fact w.fact ≡ false → contradicts_in m.list k w ≡ true
 contradicted m k w class differ = λ i. (bytes_decides k.class w.class).1 class i && not (differ i)
@@ -161,7 +161,7 @@ module _ (stays : TokenRow Moment → Type 0) (m n : TimeMap) (t : Moment) (r : 
       by : stays c ⊎ IsSpared stays n t c → (d : TokenRow Moment) × In d (believed_tokens m) × (cuts_at m t k d ≡ true)
       by (inl stay) = (c, among c stay, cut_back k c stays_k stay cut)
       by (inr (inl not_begun)) = let begun : has_begun n t c ≡ true = cut.begun in cc
-      by (inr (inr past)) = elim (other_fact k past.one past.other past.walls.differ) [
+      by (inr (inr past)) = elim (other_fact k.fact past.one.fact past.other.fact past.walls.differ) [
         | inl differ ↦ (past.one, among past.one past.one_stays, wall_back k c past.one stays_k past.one_stays cut past.walls.one.class past.walls.one.after past.walls.one.begun differ)
         | inr differ ↦ (past.other, among past.other past.other_stays, wall_back k c past.other stays_k past.other_stays cut past.walls.other.class past.walls.other.after past.walls.other.begun differ)
       ]

@@ -1,4 +1,4 @@
-use Rattle.std.proofs.Common.{◌∙◌, refl, sym, ap, subst, rules, w64}
+use Rattle.std.proofs.Common.{◌∙◌, [], ◌∷◌, refl, sym, ap, subst, rules, w64}
 use Rattle.std.specs.Prelude.{FitsSigned}
 use Rattle.std.proofs.lemmas.Int.{to_z-of_z}
 use Rattle.tmm_model.specs.Beliefs.{rules_on}
@@ -6,53 +6,62 @@ use Rattle.list_theory.proofs.Distinct.{Distinct}
 use Rattle.spots.specs.Forest.{moment_at}
 use Rattle.occ_tree.specs.Places.{forest}
 use Rattle.occ_tree.specs.Standing.{present, early}
+use Rattle.supports.proofs.ByDate.{tree_in}
 use Rattle.supports.proofs.Rules.{rule_there}
 use Rattle.belief_net.specs.Decided.{AddsRows}
-use Rattle.belief_net.specs.Entering.{MarksClass, a_token, an_event}
+use Rattle.belief_net.specs.Entering.{MarksReaders, a_token, an_event}
 use Rattle.belief_net.proofs.Brought.{once_on_kind, rules_on_kind, class_is_at, marks_under}
 use Rattle.belief_net.proofs.entering.bring_about.Goals as goal
 
 pub enter_effect-requires-clause-rule : goal.enter_effect-requires-clause-rule
 enter_effect-requires-clause-rule c =
-    rule_there c.args.standing.now.present c.requires.tree.1.seen.network.sound (moment_at (forest c.args.beliefs.now.tree) c.args.trigger) c.args.rule c.requires.enters.stands
+    rule_there c.args.standing.now.present c.requires.tree.seen.network.sound (moment_at (forest c.args.beliefs.now.tree) c.args.trigger) c.args.rule c.requires.enters.stands
 
 pub add_rows-requires-clause-once : goal.add_rows-requires-clause-once
 add_rows-requires-clause-once c =
     let s = c.args.standing.now.present in
-    let (net, tree) = c.requires.tree in
-    let en = c.in_ok-effect.ensures.ok net tree in
+    let net = c.args.net.now.present in
+    let en = c.in_ok-effect.ensures.ok net c.requires.tree in
     let row = c.row-row.ensures en.adds.node en.adds.enters.entered in
     subst (λ w. Distinct (rules_on s w)) (sym row.what)
     (once_on_kind s net (forest c.enter_effect.new.tree) en.tree.seen c.in_ok-effect.effect en.adds.node en.adds.enters.entered (sym row.class ∙ c.in-None.is))
 
-pub returns-in_ok-mark_token-in-Some-clause-ok : goal.returns-in_ok-mark_token-in-Some-clause-ok
-returns-in_ok-mark_token-in-Some-clause-ok c = λ net tree.
+pub mark_readers-requires-clause-tree : goal.mark_readers-requires-clause-tree
+mark_readers-requires-clause-tree c = tree_in (c.in_ok-effect.ensures.ok c.args.net.now.present c.requires.tree).tree
+
+pub mark_readers-requires-clause-token : goal.mark_readers-requires-clause-token
+mark_readers-requires-clause-token c =
+    let en = c.in_ok-effect.ensures.ok c.args.net.now.present c.requires.tree in
+    (en.adds.node, en.adds.enters.entered, sym (c.row-row.ensures en.adds.node en.adds.enters.entered).class ∙ c.in-Some.is)
+
+pub returns-in_ok-mark_readers-in-Some-clause-ok : goal.returns-in_ok-mark_readers-in-Some-clause-ok
+returns-in_ok-mark_readers-in-Some-clause-ok c =
     let s = c.args.standing.now.present in
+    let net = c.args.net.now.present in
     let old = c.args.beliefs.now.decisions in
-    let new = c.mark_token.new.decisions in
+    let new = c.mark_readers.new.decisions in
     let t = c.enter_effect.new.tree in
     let y = c.in_ok-effect.effect in
-    let en = c.in_ok-effect.ensures.ok net tree in
+    let en = c.in_ok-effect.ensures.ok net c.requires.tree in
     let row = c.row-row.ensures en.adds.node en.adds.enters.entered in
-    let fits : FitsSigned w64 c.early-early.result = search rules in
-    let marks : MarksClass (present t) c.in-Some.class (early (present t) y) old new =
-    subst (λ z. MarksClass (present t) c.in-Some.class z old new) (to_z-of_z w64 c.early-early.result fits ∙ c.early-early.ensures.date) c.in_ok-mark_token-in-Some.ensures.ok in
+    let marks : MarksReaders net t (y ∷ []) y c.in-Some.class old new = c.in_ok-mark_readers-in-Some.ensures.ok in
     record {
       number = y;
       enters = en;
       follows = a_token c.in-Some.class (class_is_at t y en.adds.node en.adds.enters.entered ∙ sym row.class ∙ c.in-Some.is) marks;
-      under = marks_under s (present t) c.in-Some.class (early (present t) y) old new marks c.in_ok-mark_token-in-Some.ensures.last c.requires.under;
+      under = marks_under s old new marks.rows marks.rules c.in_ok-mark_readers-in-Some.ensures.last c.requires.under;
       listed = c.first.ensures.listed;
     }
 
 pub returns-in_ok-add_rows-in-None-clause-ok : goal.returns-in_ok-add_rows-in-None-clause-ok
-returns-in_ok-add_rows-in-None-clause-ok c = λ net tree.
+returns-in_ok-add_rows-in-None-clause-ok c =
     let s = c.args.standing.now.present in
+    let net = c.args.net.now.present in
     let old = c.args.beliefs.now.decisions in
     let new = c.add_rows.new.decisions in
     let t = c.enter_effect.new.tree in
     let y = c.in_ok-effect.effect in
-    let en = c.in_ok-effect.ensures.ok net tree in
+    let en = c.in_ok-effect.ensures.ok net c.requires.tree in
     let row = c.row-row.ensures en.adds.node en.adds.enters.entered in
     let none = sym row.class ∙ c.in-None.is in
     let fits : FitsSigned w64 c.early-early.result = search rules in
@@ -67,10 +76,10 @@ returns-in_ok-add_rows-in-None-clause-ok c = λ net tree.
       listed = c.first.ensures.listed;
     }
 
-pub returns-in_ok-mark_token-in-Some-clause-number : goal.returns-in_ok-mark_token-in-Some-clause-number
-unfolding returns-in_ok-mark_token-in-Some-clause-ok
-returns-in_ok-mark_token-in-Some-clause-number c = λ net tree. (returns-in_ok-mark_token-in-Some-clause-ok c net tree, refl)
+pub returns-in_ok-mark_readers-in-Some-clause-number : goal.returns-in_ok-mark_readers-in-Some-clause-number
+unfolding returns-in_ok-mark_readers-in-Some-clause-ok
+returns-in_ok-mark_readers-in-Some-clause-number c = (returns-in_ok-mark_readers-in-Some-clause-ok c, refl)
 
 pub returns-in_ok-add_rows-in-None-clause-number : goal.returns-in_ok-add_rows-in-None-clause-number
 unfolding returns-in_ok-add_rows-in-None-clause-ok
-returns-in_ok-add_rows-in-None-clause-number c = λ net tree. (returns-in_ok-add_rows-in-None-clause-ok c net tree, refl)
+returns-in_ok-add_rows-in-None-clause-number c = (returns-in_ok-add_rows-in-None-clause-ok c, refl)

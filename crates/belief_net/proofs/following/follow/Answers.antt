@@ -1,4 +1,5 @@
 use Rattle.std.proofs.Common.{◌∙◌, refl, sym}
+use Rattle.supports.proofs.ByDate.{tree_in}
 use Rattle.belief_net.proofs.After.{fit_after, there_after}
 use Rattle.belief_net.proofs.Numbering.{same_numbered}
 use Rattle.belief_net.proofs.Telling.{same_turned, exit_turned}
@@ -6,31 +7,36 @@ use Rattle.belief_net.proofs.following.follow.Goals as goal
 
 pub withdraw_effect-requires-clause-there : goal.withdraw_effect-requires-clause-there
 withdraw_effect-requires-clause-there c =
-    let (net, b, after) = c.requires.after in
-    there_after c.args.standing.now.present net b c.args.beliefs.now c.args.due.now after (sym c.in-true-false.ensures)
+    let (b, after) = c.requires.after in
+    there_after c.args.standing.now.present c.args.net.now.present b c.args.beliefs.now c.args.due.now after (sym c.in-true-false.ensures)
+
+pub withdraw_effect-requires-clause-tree : goal.withdraw_effect-requires-clause-tree
+withdraw_effect-requires-clause-tree c =
+    let (b, after) = c.requires.after in
+    tree_in (fit_after c.args.standing.now.present c.args.net.now.present b c.args.beliefs.now c.args.due.now after).tree
 
 pub withdraw_effect-requires-clause-events : goal.withdraw_effect-requires-clause-events
 withdraw_effect-requires-clause-events c =
-    let (net, b, after) = c.requires.after in
-    (fit_after c.args.standing.now.present net b c.args.beliefs.now c.args.due.now after).events
+    let (b, after) = c.requires.after in
+    (fit_after c.args.standing.now.present c.args.net.now.present b c.args.beliefs.now c.args.due.now after).events
 
 pub withdraw_effect-requires-clause-under : goal.withdraw_effect-requires-clause-under
 withdraw_effect-requires-clause-under c =
-    let (net, b, after) = c.requires.after in
-    (c.args.standing.now.present, (fit_after c.args.standing.now.present net b c.args.beliefs.now c.args.due.now after).under)
+    let (b, after) = c.requires.after in
+    (c.args.standing.now.present, (fit_after c.args.standing.now.present c.args.net.now.present b c.args.beliefs.now c.args.due.now after).under)
 
 pub returns-in-Ok-clause-ok : goal.returns-in-Ok-clause-ok
-returns-in-Ok-clause-ok c = λ net b after.
-    exit_turned c.args.standing.now.present net b c.args.beliefs.now c.withdraw_effect.new.beliefs c.args.due.now after (sym c.in-true-false.ensures') (sym c.in-true-false.ensures)
+returns-in-Ok-clause-ok c = λ b after.
+    exit_turned c.args.standing.now.present c.args.net.now.present b c.args.beliefs.now c.withdraw_effect.new.beliefs c.args.due.now after (sym c.in-true-false.ensures') (sym c.in-true-false.ensures)
     c.args.told.now c.withdraw_effect.new.told c.in-Ok.ensures.ok c.in-Ok.ensures.last.decisions
 
 pub returns-in-false-false-clause-ok : goal.returns-in-false-false-clause-ok
-returns-in-false-false-clause-ok c = λ net b after.
-    same_turned c.args.standing.now.present net b c.args.beliefs.now c.args.due.now c.args.told.now after (sym c.in-false-false.ensures' ∙ c.in-false-false.ensures)
+returns-in-false-false-clause-ok c = λ b after.
+    same_turned c.args.standing.now.present c.args.net.now.present b c.args.beliefs.now c.args.due.now c.args.told.now after (sym c.in-false-false.ensures' ∙ c.in-false-false.ensures)
 
 pub returns-in-true-true-clause-ok : goal.returns-in-true-true-clause-ok
-returns-in-true-true-clause-ok c = λ net b after.
-    same_turned c.args.standing.now.present net b c.args.beliefs.now c.args.due.now c.args.told.now after (sym c.in-true-true.ensures' ∙ c.in-true-true.ensures)
+returns-in-true-true-clause-ok c = λ b after.
+    same_turned c.args.standing.now.present c.args.net.now.present b c.args.beliefs.now c.args.due.now c.args.told.now after (sym c.in-true-true.ensures' ∙ c.in-true-true.ensures)
 
 pub returns-in-false-false-clause-numbered : goal.returns-in-false-false-clause-numbered
 returns-in-false-false-clause-numbered c = same_numbered c.args.standing.now.present c.args.beliefs.now c.args.beliefs.now c.args.told.now refl

@@ -6,7 +6,7 @@ use Rattle.belief_net.proofs.leaving.lose_rows.Given as goal
 
 abbrev pub invariant-loop-y : goal.invariant-loop-y
 invariant-loop-y l = record {
-  lost : LosesRows l.tree (take l.y-index l.numbers) l.fn.decisions l.decisions;
+  lost : LosesRows l.net.present l.tree l.numbers (take l.y-index l.numbers) l.fn.decisions l.decisions;
   events : HaveEvents l.tree (table_of l.decisions);
   under : AreOfSome l.decisions;
   last : KeepsLast l.fn.decisions l.decisions;

@@ -2,8 +2,9 @@ use Rattle.occ_tree.specs.Standing.{present}
 use Rattle.undo_rows.specs.Changes.{present as table}
 use Rattle.belief_net.specs.Marks.{Marks}
 use Rattle.belief_net.specs.Waiting.{dates_in}
+use Rattle.belief_net.specs.Windows.{spares_in}
 use Rattle.belief_net.proofs.Marked.{UnderFirst}
 use Rattle.belief_net.proofs.marking.mark_class.Given as goal
 
 abbrev pub invariant-loop-antecedent : goal.invariant-loop-antecedent
-invariant-loop-antecedent l = Marks (present l.tree) (table l.rows) (UnderFirst (present l.tree) (table l.rows) l.antecedent l.class l.from) (dates_in l.fn.waiting) (dates_in l.waiting)
+invariant-loop-antecedent l = Marks (present l.tree) (table l.rows) (UnderFirst (present l.tree) (table l.rows) l.from (spares_in l.window) l.antecedent l.class) (dates_in l.fn.waiting) (dates_in l.waiting)

@@ -7,6 +7,7 @@ use Rattle.occ_tree.specs.Standing.{present}
 use Rattle.occ_tree.proofs.Walked.{from_on, from_first, from_next, first_is_on, next_is_on}
 use Rattle.belief_net.specs.Marks.{Marks}
 use Rattle.belief_net.specs.Waiting.{dates_in}
+use Rattle.belief_net.specs.Windows.{spares_in}
 use Rattle.belief_net.proofs.Marked.{OnFront, listed_row, marks_start, marks_next}
 use Rattle.belief_net.proofs.marking.mark_list.Goals as goal
 
@@ -16,7 +17,7 @@ loop-next-init c =
       [],
       sym (ap (λ o. from_on o list) c.first-next.ensures.first ∙ from_first list),
       λ i is. first_is_on list i (sym c.first-next.ensures.first ∙ is),
-      marks_start (present c.args.tree.now) (table c.args.rows.now) (to_z w64 (of_z w64 c.args.from)) (dates_in c.args.waiting.now),
+      marks_start (present c.args.tree.now) (table c.args.rows.now) (to_z w64 (of_z w64 c.args.from)) (spares_in c.args.window) (dates_in c.args.waiting.now),
     )
 
 pub mark_row-requires-clause-row : goal.mark_row-requires-clause-row
@@ -47,7 +48,7 @@ loop-next-preserved c =
       front ++ i ∷ [],
       is ∙ ap (λ l. front ++ l) here ∙ sym (append_assoc front (i ∷ []) (from_on c.next-next.result list)),
       λ j next. next_is_on list i j (sym (c.next-next.ensures c.args.head on) ∙ next),
-      marks_next (present c.args.tree.now) (table c.args.rows.now) front i (to_z w64 (of_z w64 c.args.from)) (dates_in c.args.waiting.now) (dates_in c.loop-next.waiting) (dates_in c.mark_row.new.waiting) marks c.in_ok-mark_row.ensures,
+      marks_next (present c.args.tree.now) (table c.args.rows.now) (to_z w64 (of_z w64 c.args.from)) (spares_in c.args.window) front i (dates_in c.args.waiting.now) (dates_in c.loop-next.waiting) (dates_in c.mark_row.new.waiting) marks c.in_ok-mark_row.ensures,
     )
 
 pub returns : goal.returns
@@ -56,5 +57,5 @@ returns c =
     let list = (table c.args.rows.now).list c.args.family c.args.head in
     let (front, is, there, marks) = c.loop-next.invariant in
     let whole : front ≡ list = sym (is ∙ ap (λ o. front ++ from_on o list) c.in_default.is ∙ append-nil front) in
-    subst (λ z. Marks (present c.args.tree.now) (table c.args.rows.now) (OnFront (present c.args.tree.now) (table c.args.rows.now) list z) (dates_in c.args.waiting.now) (dates_in c.loop-next.waiting)) (to_z-of_z w64 c.args.from fits)
-    (subst (λ l. Marks (present c.args.tree.now) (table c.args.rows.now) (OnFront (present c.args.tree.now) (table c.args.rows.now) l (to_z w64 (of_z w64 c.args.from))) (dates_in c.args.waiting.now) (dates_in c.loop-next.waiting)) whole marks)
+    subst (λ z. Marks (present c.args.tree.now) (table c.args.rows.now) (OnFront (present c.args.tree.now) (table c.args.rows.now) z (spares_in c.args.window) list) (dates_in c.args.waiting.now) (dates_in c.loop-next.waiting)) (to_z-of_z w64 c.args.from fits)
+    (subst (λ l. Marks (present c.args.tree.now) (table c.args.rows.now) (OnFront (present c.args.tree.now) (table c.args.rows.now) (to_z w64 (of_z w64 c.args.from)) (spares_in c.args.window) l) (dates_in c.args.waiting.now) (dates_in c.loop-next.waiting)) whole marks)

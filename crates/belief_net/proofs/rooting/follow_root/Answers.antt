@@ -30,7 +30,7 @@ returns-in_ok-mark_token-in-Some-clause-follows c =
 pub returns-in_ok-mark_token-in-Some-clause-under : goal.returns-in_ok-mark_token-in-Some-clause-under
 returns-in_ok-mark_token-in-Some-clause-under c =
     let (net, fit) = c.requires.fit in
-    marks_under c.args.standing.now.present (present c.args.tree.now) c.in-Some.class _ c.args.decisions.now c.mark_token.new.decisions c.in_ok-mark_token-in-Some.ensures.ok c.in_ok-mark_token-in-Some.ensures.last fit.under
+    marks_under c.args.standing.now.present c.args.decisions.now c.mark_token.new.decisions c.in_ok-mark_token-in-Some.ensures.ok.rows c.in_ok-mark_token-in-Some.ensures.ok.rules c.in_ok-mark_token-in-Some.ensures.last fit.under
 
 pub returns-in_ok-add_rows-in-None-clause-follows : goal.returns-in_ok-add_rows-in-None-clause-follows
 returns-in_ok-add_rows-in-None-clause-follows c =

@@ -13,7 +13,7 @@ returns-in_err-follow-in-Ok-Some-clause-stops c =
     let decided =
     subst (λ due. MatchOption due ((i : ℕ) → dates_in b.decisions.waiting i ≡ None) (IsDecided s b c.decide_first.new.beliefs)) c.in-Ok-Some.field-0-is c.in-Ok-Some.ensures.decided in
     let p = err_from_is_err_and c.from_residual.result c.from_residual.ensures.1 in
-    rw (p.1, p.2) (c.in_err-follow-in-Ok-Some.ensures.stops c.args.net.now.present b (record { fit = c.requires.fit; revising = c.requires.revising; decided = decided }))
+    rw (p.1, p.2) (c.in_err-follow-in-Ok-Some.ensures.stops b (record { fit = c.requires.fit; revising = c.requires.revising; decided = decided }))
 
 pub returns-in_ok-follow-in-Ok-Some-clause-numbered : goal.returns-in_ok-follow-in-Ok-Some-clause-numbered
 returns-in_ok-follow-in-Ok-Some-clause-numbered c =
