@@ -1,4 +1,4 @@
-use Rattle.std.proofs.Common.{◌≡◌, ◌∙◌, ℕ, [], List, Bool, ap, sym, subst, arith}
+use Rattle.std.proofs.Common.{◌≡◌, ◌∙◌, ℕ, [], List, Bool, refl, ap, sym, subst, arith}
 use Rattle.std.specs.Prelude.{OnOk}
 use Rattle.tmm_model.specs.Moments.{rule_of}
 use Rattle.spots.specs.declared.spot.Spot.TheVariants.{Declared}
@@ -16,7 +16,10 @@ use Rattle.belief_net.proofs.Unread.{unread_none, unread_next, unread_all}
 use Rattle.belief_net.proofs.moving.wake_unread.Goals as goal
 
 pub loop-rule-init : goal.loop-rule-init
-loop-rule-init c = ?
+loop-rule-init c = record {
+  wakes = unread_none c.args.standing.now.present c.args.decisions.now c.requires.under c.first.ensures.listed (present c.args.tree.now) c.args.moves.now (dates_in c.args.decisions.now.waiting);
+  others = refl;
+}
 
 pub loop-rule-preserved : goal.loop-rule-preserved
 loop-rule-preserved c =
