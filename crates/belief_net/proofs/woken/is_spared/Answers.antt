@@ -16,7 +16,7 @@ told c =
     c.requires.class.shifts
 
 pub spares-requires-clause-shifts : goal.spares-requires-clause-shifts
-spares-requires-clause-shifts c = subst (All (ShiftHasBoth c.args.net.now)) (sym c.deref-2.ensures.value) (told (goal.at.spares-requires-clause-shifts c).In-Some).have
+spares-requires-clause-shifts c = subst (All (ShiftHasBoth c.args.net.now)) (sym c.deref-in-Some.ensures.value) (told (goal.at.spares-requires-clause-shifts c).In-Some).have
 
 pub returns-in-Some : goal.returns-in-Some
 returns-in-Some c is =
@@ -27,5 +27,5 @@ returns-in-Some c is =
     let are = told (goal.at.returns-in-Some c).In-Some in
     subst (λ (l : List Bool). SparesClass nets f (is_out l) class c.args.x) c.deref.ensures.value
     (c.spares.ensures is class
-    (subst (λ (l : List Bool). AreShifts nets f (is_out l) class c.deref-2.result.now) (sym c.deref.ensures.value)
-    (subst (AreShifts nets f (is_out fast) class) (sym c.deref-2.ensures.value) are)))
+    (subst (λ (l : List Bool). AreShifts nets f (is_out l) class c.deref-in-Some.result.now) (sym c.deref.ensures.value)
+    (subst (AreShifts nets f (is_out fast) class) (sym c.deref-in-Some.ensures.value) are)))
