@@ -169,7 +169,8 @@ pub(crate) fn mark_readers(
     if marks.covers(number, from) {
         return Ok(());
     }
-    if marks.count(number)? {
+    let many = marks.count(number)?;
+    if many {
         mark_class(
             tree,
             &decisions.rows,
