@@ -72,7 +72,7 @@ returns-then-many-clause-ok c =
     let fits : FitsSigned w64 c.early-from.result = search rules in
     let date = to_z-of_z w64 c.early-from.result fits ∙ c.early-from.ensures.date in
     let net = c.args.net.now.present in
-    on_ok_weaker {P = MarksFrom c.args.marks.now c.mark.new.self number (to_z w64 (of_z w64 c.early-from.result))}
+    on_ok_weaker {P = MarksFrom c.count.new.self c.mark.new.self number (to_z w64 (of_z w64 c.early-from.result))}
     {Q = MarksReaders net c.args.tree.now c.args.moving.now c.args.x c.args.class c.args.decisions.now (record c.args.decisions.now { classes = c.enter.new.self; waiting = new })} c.mark.result
     (λ marked. record {
       rows = refl;
@@ -91,17 +91,17 @@ returns-then-many-clause-covered c =
     let s = present c.args.tree.now in
     let old = c.args.decisions.now in
     let new = record old { classes = c.enter.new.self; waiting = c.mark_class.new.waiting } in
-    let m = c.args.marks.now in
+    let m = c.count.new.self in
     let number = c.in_ok-number.number in
     let from = to_z w64 (of_z w64 c.early-from.result) in
     on_ok_weaker {P = MarksFrom m c.mark.new.self number from} {Q = Covers s new c.mark.new.self} c.mark.result
-    (λ marked. class_covered s old new m c.mark.new.self number from c.first.ensures.listed refl c.in_ok-mark_class.ensures marked c.requires.covered)
+    (λ marked. class_covered s old new m c.mark.new.self number from c.first.ensures.listed refl c.in_ok-mark_class.ensures marked (subst (Covers s old) (sym c.count.ensures) c.requires.covered))
     c.mark.ensures
 
 -- ---- where there were few
 
-pub mark_class-2-requires-clause-window : goal.mark_class-2-requires-clause-window
-mark_class-2-requires-clause-window c = ((c.args.moving.now, c.args.x, c.in_ok-window.ensures.window), c.in_ok-window.ensures.tree)
+pub mark_class-requires-2-clause-window : goal.mark_class-requires-2-clause-window
+mark_class-requires-2-clause-window c = ((c.args.moving.now, c.args.x, c.in_ok-window.ensures.window), c.in_ok-window.ensures.tree)
 
 pub returns-clause-ok : goal.returns-clause-ok
 returns-clause-ok c =
@@ -131,5 +131,5 @@ returns-clause-covered c =
     let rows = table old.rows in
     let w = c.in_ok-window.window in
     let spares : ℕ → Bool = λ t. is_spared (spot_distance (net_in w) (forest (tree_in w))) w.token w.walls.items t in
-    marks_covered s old (record old { classes = c.enter.new.self; waiting = c.mark_class-2.new.waiting }) c.args.marks.now
-    (λ i row. IsListedUnder rows c.in_ok-number.number i × IsAsLate s (to_z w64 (of_z w64 c.early-from.result)) row × (spares row.value.trigger ≡ false)) refl c.in_ok-mark_class-2.ensures c.requires.covered
+    marks_covered s old (record old { classes = c.enter.new.self; waiting = c.mark_class-2.new.waiting }) c.count.new.self
+    (λ i row. IsListedUnder rows c.in_ok-number.number i × IsAsLate s (to_z w64 (of_z w64 c.early-from.result)) row × (spares row.value.trigger ≡ false)) refl c.in_ok-mark_class-2.ensures (subst (Covers s old) (sym c.count.ensures) c.requires.covered)
