@@ -30,7 +30,7 @@ decide-found-requires-clause-rule c =
 pub returns-in_default-clause-covered : goal.returns-in_default-clause-covered
 returns-in_default-clause-covered c =
     let b = c.args.beliefs.now in
-    rest_covered (present b.tree) b.decisions (record b.decisions { waiting = c.pop.new.self }) c.args.marks.now refl c.in_default.ensures.first (c.in_default.ensures.rests c.in_default.is) c.requires.covered
+    rest_covered (present b.tree) b.decisions (record b.decisions { waiting = c.pop.new.self }) c.args.marks.now refl c.in_default.ensures.first (c.in_default.ensures.rests refl) c.requires.covered
 
 pub returns-clause-covered : goal.returns-clause-covered
 returns-clause-covered c =
