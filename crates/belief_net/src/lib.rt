@@ -5,6 +5,7 @@
 mod alike_laws;
 mod beginning_laws;
 mod by_event;
+mod class_marks;
 mod dates;
 mod deciding;
 mod entering;
