@@ -105,7 +105,9 @@ module _ (m : TimeMap) where
   -- the lines of one occurrence more
   pub more_lines : (xs : List Moment) (x : Moment) (ls ks : List WhyLine) → AreLinesOfAll m xs ls → AreLinesOf m x ks → AreLinesOfAll m (xs ++ x ∷ []) (ls ++ ks)
   more_lines xs x ls ks are (orders, its, told) =
-      subst (AreReasons m (xs ++ x ∷ [])) (sym (map-append reason_of ls ks ∙ ap (λ l. map reason_of ls ++ l) its)) (AreReasons-push xs x (map reason_of ls) orders are told)
+      subst (AreReasons m (xs ++ x ∷ []))
+      (append_assoc (map reason_of ls) orders (belief_line m x ∷ []) ∙ sym (map-append reason_of ls ks ∙ ap (λ l. map reason_of ls ++ l) its))
+      (AreReasons-push xs x (map reason_of ls) orders are told)
 
 -- ---- element by element
 

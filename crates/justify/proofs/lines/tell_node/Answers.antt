@@ -36,7 +36,7 @@ returns-in-Declared g c =
     let x = moment_at (forest c.args.tree.now) c.args.x in
     let line = PremiseLine c.in-Declared.name in
     let its : AreLinesOf m x (line ∷ []) = subst (λ k. AreLinesOf m k (line ∷ [])) (sym c.in-Declared.ensures) ([], refl, tt) in
-    on_ok_weaker c.hear-in-Declared.result (hears_one g.R.Listener.parts_of (AreLinesOf m x) line its tt _ _) c.hear-in-Declared.ensures
+    on_ok_weaker c.hear.result (hears_one g.R.Listener.parts_of (AreLinesOf m x) line its tt _ _) c.hear.ensures
 
 pub returns-in_ok-derived_line-in-Effect : goal.returns-in_ok-derived_line-in-Effect
 returns-in_ok-derived_line-in-Effect g c =
