@@ -148,7 +148,15 @@ fn tell_orders_of<R: Listener>(
     let at = Spot::Node(event);
     tell_order(alloc, standing, tree, net, Spot::Node(x), at, listener)?;
     match tree.row(x).end {
-        Some(end) => tell_order(alloc, standing, tree, net, at, Spot::Declared(end), listener),
+        Some(end) => tell_order(
+            alloc,
+            standing,
+            tree,
+            net,
+            at,
+            Spot::Declared(end),
+            listener,
+        ),
         None => Ok(()),
     }
 }

@@ -210,7 +210,14 @@ impl MapCore for NetMap {
     }
 
     fn why<R: Listener>(&self, alloc: Global, occ: &Occ, listener: &mut R) -> Result<(), Stop> {
-        tell_why(alloc, &self.standing, self.nodes.tree(), &self.net, occ, listener)
+        tell_why(
+            alloc,
+            &self.standing,
+            self.nodes.tree(),
+            &self.net,
+            occ,
+            listener,
+        )
     }
 
     fn check(&self, alloc: Global) -> Result<Seq<Report>, NoMemory> {

@@ -149,7 +149,14 @@ impl MapCore for PlainMap {
     }
 
     fn why<R: Listener>(&self, alloc: Global, occ: &Occ, listener: &mut R) -> Result<(), Stop> {
-        tell_why(alloc, &self.standing, &self.beliefs.tree, &self.net, occ, listener)
+        tell_why(
+            alloc,
+            &self.standing,
+            &self.beliefs.tree,
+            &self.net,
+            occ,
+            listener,
+        )
     }
 
     fn check(&self, alloc: Global) -> Result<Seq<Report>, NoMemory> {

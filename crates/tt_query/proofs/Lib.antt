@@ -4,4 +4,3 @@ pub mod FirstPlaces
 pub mod FirstNodes
 pub mod FirstTokens
 pub mod Asked
-pub mod Words

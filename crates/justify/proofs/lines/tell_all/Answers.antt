@@ -1,9 +1,9 @@
-use Rattle.std.proofs.Common.{◌+◌, [], refl, map, take, get_or}
+use Rattle.std.proofs.Common.{◌+◌, [], refl, map, take}
 use Rattle.tmm_model.specs.Maps.{built}
 use Rattle.spots.specs.Forest.{moment_at}
 use Rattle.occ_tree.specs.Places.{forest}
 use Rattle.occ_tree.specs.Ranks.{nodes_of}
-use Rattle.justify.specs.Lines.{AreLinesOf, AreLinesOfAll}
+use Rattle.justify.specs.Lines.{AreLinesOfAll}
 use Rattle.justify.proofs.Told.{hears_none, hears_more, live_rank, more_ranked}
 use Rattle.justify.proofs.lines.tell_all.Goals as goal
 

@@ -1,8 +1,6 @@
-use Rattle.std.proofs.Common.{◌≡◌, ◌∙◌, ◌++◌, List, ℕ, [], ap, refl}
-use Rattle.std.proofs.Common.{append_assoc}
-use Rattle.std.specs.List.{flat_map}
+use Rattle.std.proofs.Common.{refl}
 use Rattle.tmm_model.specs.declared.line.Query.TheVariants.{Why}
-use Rattle.tmm_model.specs.Replies.{Reasons, why_lines, text_of}
+use Rattle.tmm_model.specs.Replies.{Reasons}
 use Rattle.tmm_session.proofs.Turns.{TellsMeaning-refused_query, why_text}
 use Rattle.tmm_session.proofs.session.tell_why.Goals as goal
 
