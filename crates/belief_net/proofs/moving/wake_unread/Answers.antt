@@ -19,11 +19,11 @@ pub loop-rule-init : goal.loop-rule-init
 loop-rule-init c =
     let at = subst (λ (l : List Bool). IsTouchedAt l c.in_ok-reach.reach c.in_ok-events.events) c.deref.ensures.value c.in_ok-events.ensures in
     record {
-  touched = λ (x : ℕ). touched_moves (present c.args.tree.now) (λ p. p ≡ Declared 0) c.args.moves.now.pairs.items c.in_ok-reach.reach c.requires.moves.itself c.in_ok-reach.ensures.all c.in_ok-reach.ensures.bounded c.requires.below x
-      c.in_ok-events.events at;
-  wakes = unread_none c.args.standing.now.present c.args.decisions.now c.requires.under c.first.ensures.listed (present c.args.tree.now) c.args.moves.now (dates_in c.args.decisions.now.waiting);
-  others = refl;
-}
+      touched = λ (x : ℕ). touched_moves (present c.args.tree.now) (λ p. p ≡ Declared 0) c.args.moves.now.pairs.items c.in_ok-reach.reach c.requires.moves.itself c.in_ok-reach.ensures.all c.in_ok-reach.ensures.bounded c.requires.below x
+          c.in_ok-events.events at;
+      wakes = unread_none c.args.standing.now.present c.args.decisions.now c.requires.under c.first.ensures.listed (present c.args.tree.now) c.args.moves.now (dates_in c.args.decisions.now.waiting);
+      others = refl;
+    }
 
 pub loop-rule-preserved : goal.loop-rule-preserved
 loop-rule-preserved c =
