@@ -39,8 +39,8 @@ mod undo;
 mod update;
 mod waiting;
 mod walls;
-mod woken;
 mod windows;
+mod woken;
 
 pub use size::size_of;
 pub use state::BeliefNet;

@@ -1,13 +1,7 @@
-use Rattle.std.proofs.Common.{◌≡◌, ◌∙◌, ℕ, [], List, Bool, refl, ap, sym, subst, arith}
-use Rattle.std.specs.Prelude.{OnOk}
-use Rattle.tmm_model.specs.Moments.{rule_of}
+use Rattle.std.proofs.Common.{◌≡◌, ◌∙◌, ℕ, List, Bool, refl, ap, subst, arith}
 use Rattle.spots.specs.declared.spot.Spot.TheVariants.{Declared}
-use Rattle.undo_rows.specs.Changes.{present as table}
-use Rattle.occ_tree.specs.Places.{forest}
 use Rattle.occ_tree.specs.Standing.{present}
 use Rattle.belief_net.specs.declared.state.Decisions.{Decisions}
-use Rattle.belief_net.specs.ByEvent.{IsOfRuleAt}
-use Rattle.belief_net.specs.Marks.{Marks}
 use Rattle.belief_net.specs.Numbers.{name_in}
 use Rattle.belief_net.specs.Touching.{IsTouchedAt}
 use Rattle.belief_net.specs.Waiting.{dates_in}
@@ -19,11 +13,11 @@ pub loop-rule-init : goal.loop-rule-init
 loop-rule-init c =
     let at = subst (λ (l : List Bool). IsTouchedAt l c.in_ok-reach.reach c.in_ok-events.events) c.deref.ensures.value c.in_ok-events.ensures in
     record {
-  touched = λ (x : ℕ). touched_moves (present c.args.tree.now) (λ p. p ≡ Declared 0) c.args.moves.now.pairs.items c.in_ok-reach.reach c.requires.moves.itself c.in_ok-reach.ensures.all c.in_ok-reach.ensures.bounded c.requires.below x
-      c.in_ok-events.events at;
-  wakes = unread_none c.args.standing.now.present c.args.decisions.now c.requires.under c.first.ensures.listed (present c.args.tree.now) c.args.moves.now (dates_in c.args.decisions.now.waiting);
-  others = refl;
-}
+      touched = λ (x : ℕ). touched_moves (present c.args.tree.now) (λ p. p ≡ Declared 0) c.args.moves.now.pairs.items c.in_ok-reach.reach c.requires.moves.itself c.in_ok-reach.ensures.all c.in_ok-reach.ensures.bounded c.requires.below x
+          c.in_ok-events.events at;
+      wakes = unread_none c.args.standing.now.present c.args.decisions.now c.requires.under c.first.ensures.listed (present c.args.tree.now) c.args.moves.now (dates_in c.args.decisions.now.waiting);
+      others = refl;
+    }
 
 pub loop-rule-preserved : goal.loop-rule-preserved
 loop-rule-preserved c =
