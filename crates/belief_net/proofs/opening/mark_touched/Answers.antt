@@ -55,4 +55,4 @@ returns-in-Horizon-clause-ok c =
     (marks_wake (present b.tree) (table_of b.decisions) (λ i row. IsDueBetween s (present b.tree) b.decisions c.args.before s.horizon row) (λ i row. IsDueBetween s (present b.tree) b.decisions c.args.before s.horizon row → ⊥)
     (dates_in b.decisions.waiting) (dates_in new)
     (λ i row at. between_or s (present b.tree) b.decisions c.args.before s.horizon row)
-    c.in_ok-mark_horizon.ensures.ok)
+    c.in_ok-mark_horizon-in-Horizon.ensures.ok)
