@@ -33,7 +33,7 @@ loop-rule-preserved c =
     let touched = c.loop-rule.invariant.touched in
     record {
       touched = touched;
-      wakes = unread_next list d c.requires.under c.first.ensures.listed s moves n c.name-name.result named c.loop-rule.events-1 c.loop-rule.decisions.rows (dates_in d.waiting) (dates_in mid) (dates_in new) rows_same touched
+      wakes = unread_next list d c.requires.under c.first.ensures.listed s moves n c.name-name.result named _ c.loop-rule.decisions.rows (dates_in d.waiting) (dates_in mid) (dates_in new) rows_same touched
           c.loop-rule.invariant.wakes
           (λ none. c.in_ok-mark_unread.ensures.unread none)
           (λ some. ap dates_in (c.in_ok-mark_unread.ensures.other some));
