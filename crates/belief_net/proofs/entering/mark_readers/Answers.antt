@@ -1,11 +1,11 @@
-use Rattle.std.proofs.Common.{◌≡◌, ◌∙◌, ℕ, Bool, false, refl, subst, rules, w64}
+use Rattle.std.proofs.Common.{◌≡◌, ◌∙◌, ℕ, Bool, true, false, refl, sym, subst, rules, w64, to_z, of_z}
 use Rattle.std.proofs.lemmas.Int.{to_z-of_z}
 use Rattle.std.proofs.lemmas.Result.{on_ok_weaker}
 use Rattle.std.specs.Prelude.{FitsSigned}
 use Rattle.spots.specs.Spots.{spot_distance}
 use Rattle.undo_rows.specs.Changes.{present as table}
 use Rattle.occ_tree.specs.Places.{forest}
-use Rattle.occ_tree.specs.Standing.{present}
+use Rattle.occ_tree.specs.Standing.{present, early}
 use Rattle.occ_tree.proofs.Numbered.{no_more}
 use Rattle.joined.specs.Listed.{IsListedUnder}
 use Rattle.belief_net.specs.ClassMarks.{CoversFrom, MarksFrom}
