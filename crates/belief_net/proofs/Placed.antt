@@ -10,7 +10,7 @@ use Rattle.spots.specs.declared.node_row.NodeRow.{NodeRow}
 use Rattle.spots.specs.declared.spot.Spot.TheVariants.{Node}
 use Rattle.spots.specs.Forest.{Forest, Member, IsLive}
 use Rattle.spots.specs.Rows.{IsRowOf}
-use Rattle.spots.specs.Spots.{base_of, links_of, links_low, links_high, net_far}
+use Rattle.spots.specs.Spots.{base_of, links_of, links_low, net_far}
 use Rattle.std.specs.Option.{option_map_or}
 use Rattle.std.proofs.Common.{Option, []}
 use Rattle.spots.proofs.Distances.{distance-two_bases}

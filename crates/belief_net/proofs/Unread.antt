@@ -1,8 +1,8 @@
 -- Rows of rules that read nothing, one rule after the other.
-use Rattle.std.proofs.Common.{◌≡◌, ◌∙◌, ℕ, Bool, true, false, ◌+◌, ◌<◌, List, [], ◌∷◌, Option, Some, refl, sym, ap, subst, inl, inr, arith, ◌⊎◌}
+use Rattle.std.proofs.Common.{◌≡◌, ◌∙◌, ℕ, Bool, true, false, ◌+◌, ◌<◌, List, [], ◌∷◌, Some, refl, sym, ap, subst, inl, inr, arith, ◌⊎◌}
 use Rattle.std.proofs.lemmas.Bool.{cases_order}
 use Rattle.std.proofs.lemmas.Bool.Decides.{eqb_tells}
-use Rattle.std.specs.Prelude.{◌↔◌, ℤ, pos}
+use Rattle.std.specs.Prelude.{◌↔◌, pos}
 use Rattle.tmm_model.specs.Moments.{rule_of}
 use Rattle.tmm_model.specs.Standing.{Standing}
 use Rattle.spots.specs.declared.spot.Spot.TheVariants.{Declared, Node}

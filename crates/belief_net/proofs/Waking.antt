@@ -14,7 +14,7 @@ use Rattle.joined.specs.Listed.{IsListedUnder}
 use Rattle.belief_net.specs.declared.fast.Moves.{Moves}
 use Rattle.belief_net.specs.declared.state.Decisions.{Decisions}
 use Rattle.belief_net.specs.Decided.{table_of}
-use Rattle.belief_net.specs.Marks.{Marks, WaitsAt, Wakes}
+use Rattle.belief_net.specs.Marks.{Marks, Wakes}
 use Rattle.belief_net.specs.Numbers.{name_in}
 use Rattle.belief_net.specs.Waiting.{Dates, Puts}
 use Rattle.belief_net.specs.Woken.{MovesFor, RestsFor, WakesFor, MovesForSome, RestsForFirst, WakesForAll}

@@ -1,4 +1,4 @@
-use Rattle.std.proofs.Common.{◌≡◌, ◌∙◌, ◌<◌, length, refl, ap, subst, sym, arith}
+use Rattle.std.proofs.Common.{◌≡◌, ◌∙◌, ◌<◌, length, refl, ap, subst, arith}
 use Rattle.undo_rows.specs.Changes.{present as table}
 use Rattle.occ_tree.specs.Standing.{present}
 use Rattle.joined.specs.Listed.{IsListedUnder}

@@ -1,13 +1,7 @@
-use Rattle.std.proofs.Common.{◌≡◌, ◌∙◌, ℕ, [], List, Bool, refl, ap, sym, subst, arith}
-use Rattle.std.specs.Prelude.{OnOk}
-use Rattle.tmm_model.specs.Moments.{rule_of}
+use Rattle.std.proofs.Common.{◌≡◌, ◌∙◌, ℕ, List, Bool, refl, ap, subst, arith}
 use Rattle.spots.specs.declared.spot.Spot.TheVariants.{Declared}
-use Rattle.undo_rows.specs.Changes.{present as table}
-use Rattle.occ_tree.specs.Places.{forest}
 use Rattle.occ_tree.specs.Standing.{present}
 use Rattle.belief_net.specs.declared.state.Decisions.{Decisions}
-use Rattle.belief_net.specs.ByEvent.{IsOfRuleAt}
-use Rattle.belief_net.specs.Marks.{Marks}
 use Rattle.belief_net.specs.Numbers.{name_in}
 use Rattle.belief_net.specs.Touching.{IsTouchedAt}
 use Rattle.belief_net.specs.Waiting.{dates_in}
@@ -39,7 +33,7 @@ loop-rule-preserved c =
     let touched = c.loop-rule.invariant.touched in
     record {
       touched = touched;
-      wakes = unread_next list d c.requires.under c.first.ensures.listed s moves n c.name-name.result named c.loop-rule.events-1 c.loop-rule.decisions.rows (dates_in d.waiting) (dates_in mid) (dates_in new) rows_same touched
+      wakes = unread_next list d c.requires.under c.first.ensures.listed s moves n c.name-name.result named _ c.loop-rule.decisions.rows (dates_in d.waiting) (dates_in mid) (dates_in new) rows_same touched
           c.loop-rule.invariant.wakes
           (λ none. c.in_ok-mark_unread.ensures.unread none)
           (λ some. ap dates_in (c.in_ok-mark_unread.ensures.other some));

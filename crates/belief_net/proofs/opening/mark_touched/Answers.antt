@@ -1,6 +1,5 @@
 use Rattle.std.proofs.Common.{◌≡◌, ◌∙◌, ◌⊎◌, ℕ, Bool, true, false, OnOk, List, Option, Some, refl, sym, ap, subst, inl, inr}
 use Rattle.tmm_model.specs.declared.premise.Edit.{Edit}
-use Rattle.tmm_model.specs.declared.premise.Edit.TheVariants.{Horizon}
 use Rattle.std.specs.Prelude.{◌+ℤ◌}
 use Rattle.tmm_model.specs.Moments.{rule_of}
 use Rattle.tmm_model.specs.Standing.{Standing}

@@ -1,8 +1,7 @@
-use Rattle.std.proofs.Common.{◌≡◌, ◌∙◌, ℕ, List, Bool, [], true, ◌<◌, length, sym, ap, subst, inl, arith}
+use Rattle.std.proofs.Common.{◌≡◌, ◌∙◌, ℕ, List, Bool, true, ◌<◌, sym, ap, subst, inl, arith}
 use Rattle.std.proofs.lemmas.List.Elements.{All-nil}
 use Rattle.std.specs.List.{All}
 use Rattle.occ_tree.specs.Places.{forest}
-use Rattle.belief_net.specs.declared.shifts.Shift.{Shift}
 use Rattle.belief_net.specs.declared.walls.FastToken.{FastToken}
 use Rattle.belief_net.specs.Fast.{is_out}
 use Rattle.belief_net.specs.PointSets.{is_in}

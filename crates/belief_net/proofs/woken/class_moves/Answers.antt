@@ -1,9 +1,7 @@
-use Rattle.std.proofs.Common.{◌≡◌, List, Bool, refl, sym, ap, subst}
+use Rattle.std.proofs.Common.{List, Bool, subst}
 use Rattle.occ_tree.specs.Places.{forest}
 use Rattle.occ_tree.specs.Standing.{present}
 use Rattle.joined.specs.Shifting.{IsSpotOf}
-use Rattle.belief_net.specs.PointSets.{AreThose}
-use Rattle.belief_net.specs.Reach.{IsBaseOf}
 use Rattle.belief_net.specs.Touching.{IsTouchedAt}
 use Rattle.belief_net.proofs.Touched.{touched_moves}
 use Rattle.belief_net.proofs.woken.class_moves.Goals as goal
