@@ -44,18 +44,24 @@ fn in_range(word: &[u8]) -> Option<u32>
     }
 }
 
-/// Answers the script of `n` from this map on, and writes one line that tells of its replies.
-pub fn demo<M: MapCore + Drop, K: Sink>(alloc: Global, n: u32, core: M, sink: &mut K) -> Status
+/// Answers the script of `n` in a session that was given no line, and writes one line that tells of
+/// its replies.
+pub fn demo<M: MapCore + Drop, K: Sink>(
+    alloc: Global,
+    n: u32,
+    session: &mut Session<M>,
+    sink: &mut K,
+) -> Status
     requires number { n ≤ 1000 }
-    requires idle { M.pending core ≡ None }
+    requires first { session.old.lines ≡ 0 }
+    requires idle { M.pending session.old.core ≡ None }
     ensures ends { (output : List ℕ)
         × Appends (K.written sink.old) (K.written sink.new) output
-        × DemoEnds (M.list core) n output result }
+        × DemoEnds (M.list session.old.core) n output result }
     ensures write_fault { result ≡ Status.WriteFault → Rose (K.faults sink.old) (K.faults sink.new) }
     ensures sink_faults { result ≢ Status.WriteFault → K.faults sink.new ≡ K.faults sink.old }
 {
-    let mut session = Session::make(core);
-    let counts = answer_script(alloc, n, &mut session);
+    let counts = answer_script(alloc, n, session);
     match sink.write_all(summary(n, &counts).as_slice()) {
         Ok(()) => counts.status(),
         Err(_) => Status::WriteFault,

@@ -2,12 +2,10 @@
 ghost use Rattle.std.specs.Prelude.{[], IfOk, ◌≡◌, ◌≢◌, ◌<◌, ◌≤◌, List, ℕ, None};
 ghost use Rattle.std.specs.Io.KnownBytes.{Appends, Consumes, IsAtEnd};
 ghost use Rattle.tmm_io.specs.Causes.{Rose};
-ghost use Rattle.tmm_model.specs.Transcript.{Step};
-ghost use Rattle.tmm_drive.specs.Endings.{Ends};
 ghost use Rattle.tmm_cli.specs.Program.{ProgramEnds, ScriptEnds, SummaryEnds, UsageEnds};
 
 use crate::demo::{demo, demo_number};
-use map_engine::{MapCore, NetMap};
+use map_engine::NetMap;
 use std::alloc::Global;
 use tmm_drive::{Status, drive};
 use tmm_io::{Sink, Source};
@@ -67,40 +65,39 @@ fn run_script<S: Source, K: Sink>(alloc: Global, source: &mut S, sink: &mut K) -
     ensures source_faults { result ≢ Status.ReadFault → S.faults source.new ≡ S.faults source.old }
     ensures sink_faults { result ≢ Status.WriteFault → K.faults sink.new ≡ K.faults sink.old }
 {
+    // the room is taken before there is a map to let go
     let Ok(mut buffer) = line_buffer(alloc) else {
         return Status::NoMemory;
     };
-    let Ok(core) = NetMap::make(alloc) else {
-        return Status::NoMemory;
-    };
-    answer_lines(alloc, core, &mut buffer, source, sink)
+    answer_lines(alloc, &mut buffer, source, sink)
 }
 
-// Answers the lines of a script from this map on.
-pub(crate) fn answer_lines<M: MapCore + Drop, S: Source, K: Sink>(
+// Answers the lines of a script from the empty map on, with room for the part of a line that is kept.
+fn answer_lines<S: Source, K: Sink>(
     alloc: Global,
-    core: M,
     buffer: &mut Seq<u8>,
     source: &mut S,
     sink: &mut K,
 ) -> Status
-    requires idle { M.pending core ≡ None }
     requires empty { buffer.old.items ≡ [] }
     requires room { 401 ≤ buffer.old.room }
     ensures ends { (taken output : List ℕ)
         × Consumes (S.left source.old) (S.left source.new) taken
         × Appends (K.written sink.old) (K.written sink.new) output
-        × Ends Step (M.list core) (IsAtEnd (S.left source.new)) taken output result }
+        × ScriptEnds (IsAtEnd (S.left source.new)) taken output result }
     ensures read_fault { result ≡ Status.ReadFault → Rose (S.faults source.old) (S.faults source.new) }
     ensures write_fault { result ≡ Status.WriteFault → Rose (K.faults sink.old) (K.faults sink.new) }
     ensures source_faults { result ≢ Status.ReadFault → S.faults source.new ≡ S.faults source.old }
     ensures sink_faults { result ≢ Status.WriteFault → K.faults sink.new ≡ K.faults sink.old }
 {
+    let Ok(core) = NetMap::make(alloc) else {
+        return Status::NoMemory;
+    };
     let mut session = Session::make(core);
     drive(alloc, &mut session, buffer, source, sink)
 }
 
-// Answers a generated script from the empty map on.
+// Answers a generated script over the empty map.
 fn run_demo<K: Sink>(alloc: Global, n: u32, sink: &mut K) -> Status
     requires { n ≤ 1000 }
     ensures ends { (output : List ℕ)
@@ -112,7 +109,8 @@ fn run_demo<K: Sink>(alloc: Global, n: u32, sink: &mut K) -> Status
     let Ok(core) = NetMap::make(alloc) else {
         return Status::NoMemory;
     };
-    demo(alloc, n, core, sink)
+    let mut session = Session::make(core);
+    demo(alloc, n, &mut session, sink)
 }
 
 // Room for the part of a line that is kept.

@@ -1,11 +1,15 @@
 //! What no clause says: the text of whole scripts, that calls succeed, and what faults leave.
-use crate::run::{answer_lines, line_buffer, run};
+ghost use Rattle.std.specs.Prelude.{[], ◌≡◌, ◌≤◌};
+
+use crate::run::{line_buffer, run};
 use map_engine::PlainMap;
 use std::alloc::Global;
 use std::process::Abort;
 use std::test::Fail;
-use tmm_drive::Status;
+use tmm_drive::{Status, drive};
 use tmm_io::{MemSink, MemSource, RepeatSource, Source, SteadySource};
+use tmm_model::{NoMemory, Seq};
+use tmm_session::Session;
 
 /// Runs a script in pieces of this many bytes, and compares its replies and its status.
 fn expect(
@@ -356,12 +360,26 @@ const STILL: [&[u8]; 2] = [
     b"class c f g\nkind k\ntoken t f\nspan s f\npoint a\ndist d t a 2 2\nprotect p f t a\ntoken u g\ndist v t u 1 1\ndist w a start * -9\nerase v\ndist w t s 5 5\ndist z t a 3 3\ndist o s.end a 0 0\ndist o a s.end 9 9\nerase o\nerase d\nerase d\nerase u\nerase p\nrule r k 1 1 g if f\nevent e k\nerase a\ncheck\nlist\nsize\naudit\n",
 ];
 
-/// Answers a script over the plain map, which makes beliefs anew at each edit.
+/// Runs a script over the plain map, which makes beliefs anew at each edit.
 fn run_plain(alloc: Global, script: &[u8], sink: &mut MemSink) -> Result<Status, Fail> {
     let mut buffer = line_buffer(alloc)?;
     let mut source = MemSource::make(alloc, script, 4096, &[])?;
-    let core = PlainMap::make(alloc)?;
-    Ok(answer_lines(alloc, core, &mut buffer, &mut source, sink))
+    let status = answer_plain(alloc, &mut buffer, &mut source, sink)?;
+    Ok(status)
+}
+
+/// Answers the lines of a script over the plain map.
+fn answer_plain(
+    alloc: Global,
+    buffer: &mut Seq<u8>,
+    source: &mut MemSource,
+    sink: &mut MemSink,
+) -> Result<Status, NoMemory>
+    requires empty { buffer.old.items ≡ [] }
+    requires room { 401 ≤ buffer.old.room }
+{
+    let mut session = Session::make(PlainMap::make(alloc)?);
+    Ok(drive(alloc, &mut session, buffer, source, sink))
 }
 
 /// The map of the program answers a script as the plain map does.

@@ -1,7 +1,7 @@
 //! Decisions that are counted, and a long history.
-ghost use Rattle.std.specs.Prelude.{[], ◌≡◌, ◌≤◌, IfOk, None};
+ghost use Rattle.std.specs.Prelude.{[], ◌≡◌, ◌≤◌, IfOk};
 
-use map_engine::{MapCore, NetMap};
+use map_engine::NetMap;
 use std::alloc::{AllocError, Global};
 use std::fmt::Write;
 use std::process::Abort;
@@ -21,21 +21,20 @@ fn line_buffer(alloc: Global) -> Result<Seq<u8>, NoMemory>
     Ok(buffer)
 }
 
-/// Answers a script from this map on, and tells how that ended and how many decisions the map made.
-fn answered<M: MapCore + Drop>(
+/// Answers a script over the map of the program, and tells how that ended and how many decisions the map
+/// made.
+fn answered(
     alloc: Global,
-    core: M,
     buffer: &mut Seq<u8>,
     source: &mut MemSource,
     sink: &mut MemSink,
-) -> (Status, u64)
-    requires idle { M.pending core ≡ None }
+) -> Result<(Status, u64), NoMemory>
     requires empty { buffer.old.items ≡ [] }
     requires room { 401 ≤ buffer.old.room }
 {
-    let mut session = Session::make(core);
+    let mut session = Session::make(NetMap::make(alloc)?);
     let status = drive(alloc, &mut session, buffer, source, sink);
-    (status, session.counter.value())
+    Ok((status, session.counter.value()))
 }
 
 /// How many decisions the map of the program makes for a script, whose replies end so.
@@ -43,8 +42,7 @@ fn decisions(rt: &impl Abort, alloc: Global, script: &[u8], end: &[u8]) -> Resul
     let mut buffer = line_buffer(alloc)?;
     let mut source = MemSource::make(alloc, script, 4096, &[])?;
     let mut sink = MemSink::make(alloc, 1 << 20, &[])?;
-    let core = NetMap::make(alloc)?;
-    let (status, made) = answered(alloc, core, &mut buffer, &mut source, &mut sink);
+    let (status, made) = answered(alloc, &mut buffer, &mut source, &mut sink)?;
     assert_eq!(rt; status, Status::Clean);
     assert!(rt; sink.bytes().ends_with(end));
     Ok(made)

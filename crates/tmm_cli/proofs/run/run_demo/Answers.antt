@@ -1,4 +1,5 @@
-use Rattle.std.proofs.Common.{ℕ, List, subst}
+use Rattle.std.proofs.Common.{ℕ, List, ◌∙◌, ap, subst}
+use Rattle.map_engine.specs.Plain.{MapState}
 use Rattle.tmm_model.specs.Standing.{Standing, empty_list}
 use Rattle.tmm_drive.specs.declared.status.Status.{Status}
 use Rattle.tmm_drive.specs.declared.status.Status.TheVariants.{Clean, SomeRefused, Words, ReadFault, WriteFault, NoMemory, TooLong, SomeMemory}
@@ -22,5 +23,6 @@ returns-clause-ends g c =
     let ends = c.demo.ensures.ends in (
       ends.0,
       ends.1,
-      summary_ends c.args.n ends.0 c.demo.result (subst (λ (start : Standing). DemoEnds start c.args.n ends.0 c.demo.result) c.in-Ok.ensures.list ends.2),
+      summary_ends c.args.n ends.0 c.demo.result
+          (subst (λ (start : Standing). DemoEnds start c.args.n ends.0 c.demo.result) (ap (λ (m : MapState). m.list) c.make-session.ensures.core ∙ c.in-Ok.ensures.list) ends.2),
     )
