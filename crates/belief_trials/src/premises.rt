@@ -1,0 +1,109 @@
+//! Premises with the network of their points, as lines of a script declare them.
+ghost use Rattle.std.specs.Prelude.{◌≡◌, IfOk, OnOk};
+ghost use Rattle.tmm_model.specs.Lines.{IsWellFormedEdit};
+ghost use Rattle.tmm_model.specs.Standing.{empty_list};
+ghost use Rattle.list_net.specs.Fits.{IsNetOf, IsSettled};
+
+use dist_net::DistNet;
+use list_net::add_premise;
+use premise_list::Standing;
+use std::alloc::Global;
+use std::process::Abort;
+use std::test::Fail;
+use tmm_model::{Edit, Line, NoMemory, Refusal, Stop};
+use tmm_script::parse_line;
+
+/// A list of premises, and its network.
+#[derive(Drop)]
+pub struct Premises {
+    /// The list.
+    pub list: Standing,
+    /// Its points and their distances.
+    pub net: DistNet,
+}
+
+impl Premises {
+    /// The premises of these lines.
+    pub fn of(alloc: Global, lines: &[&[u8]]) -> Result<Premises, Stop>
+        ensures { IfOk result (λ made. IsNetOf made.list.present made.net.present) }
+    {
+        let mut list = Standing::make(alloc);
+        let Ok(mut net) = bare_net(alloc) else {
+            return Err(Stop::NoMemory);
+        };
+        add_all(alloc, &mut list, &mut net, lines)?;
+        Ok(Premises { list, net })
+    }
+}
+
+/// The network of a list without premises.
+pub fn bare_net(alloc: Global) -> Result<DistNet, NoMemory>
+    ensures network { IfOk result (λ net. IsNetOf empty_list net.present) }
+    ensures settled { IfOk result (λ net. net.present ≡ net.committed) }
+{
+    let net = DistNet::make(alloc)?;
+    // it tells the proof what holds of the network
+    let _ = net.edges();
+    Ok(net)
+}
+
+// Adds the premises of the lines in their order.
+fn add_all(
+    alloc: Global,
+    list: &mut Standing,
+    net: &mut DistNet,
+    lines: &[&[u8]],
+) -> Result<(), Stop>
+    requires network { IsNetOf list.old.present net.old.present }
+    requires settled { IsSettled list.old net.old }
+    ensures { OnOk result (IsNetOf list.new.present net.new.present) }
+{
+    for line in lines {
+        add_line(alloc, list, net, line)?;
+    }
+    Ok(())
+}
+
+// Adds the premise of a line.
+fn add_line(alloc: Global, list: &mut Standing, net: &mut DistNet, line: &[u8]) -> Result<(), Stop>
+    requires network { IsNetOf list.old.present net.old.present }
+    requires settled { IsSettled list.old net.old }
+    ensures network { OnOk result (IsNetOf list.new.present net.new.present) }
+    ensures settled { OnOk result (IsSettled list.new net.new) }
+{
+    let Line::Change(edit) = parse_line(alloc, line)? else {
+        return Err(Stop::Refused(Refusal::Form));
+    };
+    add(alloc, list, net, &edit)
+}
+
+// Adds a premise, where it is let through.
+fn add(alloc: Global, list: &mut Standing, net: &mut DistNet, edit: &Edit) -> Result<(), Stop>
+    requires well_formed { IsWellFormedEdit edit.now }
+    requires network { IsNetOf list.old.present net.old.present }
+    requires settled { IsSettled list.old net.old }
+    ensures network { OnOk result (IsNetOf list.new.present net.new.present) }
+    ensures settled { OnOk result (IsSettled list.new net.new) }
+{
+    let Edit::Add(premise) = edit else {
+        return Err(Stop::Refused(Refusal::Form));
+    };
+    if let Err(refusal) = list.check(edit) {
+        return Err(Stop::Refused(refusal));
+    }
+    add_premise(alloc, list, net, premise)?;
+    list.commit();
+    net.commit();
+    let _ = list.len();
+    let _ = net.edges();
+    Ok(())
+}
+
+/// What was made of a list that is let through.
+pub fn let_through<T>(rt: &impl Abort, answer: Result<T, Stop>) -> Result<T, Fail> {
+    match answer {
+        Ok(made) => Ok(made),
+        Err(Stop::NoMemory) => Err(Fail::from(NoMemory)),
+        Err(Stop::Refused(_)) => panic!(rt; "the premises or their map are refused"),
+    }
+}
