@@ -10,6 +10,7 @@ use clipping::{
 };
 use std::alloc::{AllocError, Global};
 use std::cmp::Ordering;
+use std::process::Abort;
 use std::test::Fail;
 use tmm_model::{Sure, TokenRow};
 
@@ -128,44 +129,74 @@ fn fault(tokens: &[TokenRow<Spot>], k: usize, p: i32, q: i32) -> Option<Fault> {
     Some(blame(&Dates, tokens, k, p, q))
 }
 
-#[test]
-fn tokens_of_a_door(rt: HostRuntime) {
-    let tokens = door();
-    for (p, q, found) in [
-        // the token at 0, until it is clipped at 5; a `shut` of the other line clips nothing for sure
-        (0, 4, Some(2)),
-        // the one at 5, which ties with those that are shut
-        (5, 20, Some(3)),
-        (4, 5, None),
-        (-1, -1, None),
-    ] {
+// Which token holds the door open from a date to another.
+type Held = (i32, i32, Option<usize>);
+
+// Why the token at a place does not support its fact from a date to another.
+type Failing = (usize, i32, i32, Fault);
+
+fn check_held(rt: &impl Abort, tokens: &[TokenRow<Spot>], cases: &[Held]) {
+    for (p, q, found) in cases {
         assert_eq!(rt;
-            held(&tokens, p, q),
-            (found, found.is_some()),
+            held(tokens, *p, *q),
+            (*found, found.is_some()),
             "from {p} to {q}"
         );
     }
-    for (k, found) in [(0, Some(5)), (2, Some(1)), (3, None), (4, None), (5, None)] {
-        assert_eq!(rt; clipper(&tokens, k), found, "of {k}");
-    }
-    for (p, q, why) in [(-1, -1, Fault::Late), (4, 5, Fault::Clipped(1))] {
-        assert_eq!(rt; fault(&tokens, 2, p, q), Some(why));
+}
+
+fn check_clippers(rt: &impl Abort, tokens: &[TokenRow<Spot>], cases: &[(usize, Option<usize>)]) {
+    for (k, found) in cases {
+        assert_eq!(rt; clipper(tokens, *k), *found, "of {k}");
     }
 }
+
+fn check_faults(rt: &impl Abort, tokens: &[TokenRow<Spot>], cases: &[Failing]) {
+    for (k, p, q, why) in cases {
+        assert_eq!(rt;
+            fault(tokens, *k, *p, *q),
+            Some(*why),
+            "of {k} from {p} to {q}"
+        );
+    }
+}
+
+const HELD: &[Held] = &[
+    // the token at 0, until it is clipped at 5; a `shut` of the other line clips nothing for sure
+    (0, 4, Some(2)),
+    // the one at 5, which ties with those that are shut
+    (5, 20, Some(3)),
+    (4, 5, None),
+    (-1, -1, None),
+];
+
+const CLIPPERS: &[(usize, Option<usize>)] = &[
+    (0, Some(5)),
+    (2, Some(1)),
+    (3, None),
+    (4, None),
+    (5, None),
+];
+
+const FAULTS: &[Failing] = &[(2, -1, -1, Fault::Late), (2, 4, 5, Fault::Clipped(1))];
+
+#[test]
+fn tokens_of_a_door(rt: HostRuntime) {
+    let tokens = door();
+    check_held(&rt, &tokens, HELD);
+    check_clippers(&rt, &tokens, CLIPPERS);
+    check_faults(&rt, &tokens, FAULTS);
+}
+
+const HELD_BY_SPAN: &[Held] = &[(7, 11, Some(1)), (7, 12, None), (6, 11, None)];
+
+const FAULTS_OF_SPAN: &[Failing] = &[(1, 6, 11, Fault::Late), (1, 7, 12, Fault::Ends)];
 
 #[test]
 fn a_span_of_a_door(rt: HostRuntime) {
     let tokens = span_of_door();
-    for (p, q, found) in [(7, 11, Some(1)), (7, 12, None), (6, 11, None)] {
-        assert_eq!(rt;
-            held(&tokens, p, q),
-            (found, found.is_some()),
-            "from {p} to {q}"
-        );
-    }
-    for (p, q, why) in [(6, 11, Fault::Late), (7, 12, Fault::Ends)] {
-        assert_eq!(rt; fault(&tokens, 1, p, q), Some(why));
-    }
+    check_held(&rt, &tokens, HELD_BY_SPAN);
+    check_faults(&rt, &tokens, FAULTS_OF_SPAN);
 }
 
 // The tokens, each with its stretch.
@@ -183,28 +214,43 @@ fn with_stretches(
     Ok(list)
 }
 
+// Where their stretches begin.
+const FIRSTS: &[usize] = &[0, 0, 2, 2, 4, 5];
+
+// The last that clips a token of a fact, by its line and date.
+const LAST_CLIPPERS: &[(u8, i32, &str, Option<usize>)] = &[
+    // by those that are open at 5 and at 7, of which the span stands last
+    (0, 4, "shut", Some(5)),
+    // by both that are shut at 5: the first by their places stands last
+    (0, 0, "open", Some(1)),
+    // a `shut` at its own date clips nothing
+    (0, 5, "open", None),
+    // by the `shut` of its own line alone
+    (1, 0, "open", Some(4)),
+    (1, 0, "shut", None),
+];
+
+fn check_stretches(rt: &impl Abort, tokens: &[Stretched<Spot>]) {
+    assert_eq!(rt; tokens.len(), FIRSTS.len());
+    for (token, first) in tokens.iter().zip(FIRSTS) {
+        assert_eq!(rt; token.first, *first);
+    }
+}
+
+fn check_last_clippers(rt: &impl Abort, tokens: &[Stretched<Spot>])
+    requires { HaveStretches tokens.now }
+{
+    for (line, date, fact, last) in LAST_CLIPPERS {
+        let found = last_clipper(&Dates, tokens, &token((*line, *date, 7), fact));
+        assert_eq!(rt; found, *last, "{fact} at {date} of line {line}");
+    }
+}
+
 #[test]
 fn the_last_that_clips_a_token_of_a_door(rt: HostRuntime) -> Result<(), Fail> {
-    let list = with_stretches(rt.alloc(), &door())?;
-    let firsts = [0, 0, 2, 2, 4, 5];
-    assert_eq!(rt; list.len(), firsts.len());
-    for (token, first) in list.iter().zip(firsts) {
-        assert_eq!(rt; token.first, first);
-    }
-    for (line, date, fact, last) in [
-        // by those that are open at 5 and at 7, of which the span stands last
-        (0, 4, "shut", Some(5)),
-        // by both that are shut at 5: the first by their places stands last
-        (0, 0, "open", Some(1)),
-        // a `shut` at its own date clips nothing
-        (0, 5, "open", None),
-        // by the `shut` of its own line alone
-        (1, 0, "open", Some(4)),
-        (1, 0, "shut", None),
-    ] {
-        let found = last_clipper(&Dates, &list, &token((line, date, 7), fact));
-        assert_eq!(rt; found, last, "{fact} at {date} of line {line}");
-    }
+    let tokens = with_stretches(rt.alloc(), &door())?;
+    check_stretches(&rt, &tokens);
+    check_last_clippers(&rt, &tokens);
     Ok(())
 }
 
@@ -245,35 +291,80 @@ fn place_by_date(tokens: &[TokenRow<Spot>], spot: Spot) -> Option<usize> {
     }
 }
 
+fn check_held_by_date(rt: &impl Abort, tokens: &[TokenRow<Spot>], cases: &[Held]) {
+    for (p, q, found) in cases {
+        let want = (*found, found.is_some());
+        assert_eq!(rt; held_by_date(tokens, *p, *q), Some(want), "from {p} to {q}");
+    }
+}
+
+fn check_clippers_by_date(
+    rt: &impl Abort,
+    tokens: &[TokenRow<Spot>],
+    cases: &[(usize, Option<usize>)],
+) {
+    for (k, found) in cases {
+        assert_eq!(rt; clipper_by_date(tokens, *k), *found, "of {k}");
+    }
+}
+
+fn check_places_by_date(
+    rt: &impl Abort,
+    tokens: &[TokenRow<Spot>],
+    cases: &[(Spot, Option<usize>)],
+) {
+    for (spot, found) in cases {
+        assert_eq!(rt; place_by_date(tokens, *spot), *found);
+    }
+}
+
+fn check_faults_by_date(rt: &impl Abort, tokens: &[TokenRow<Spot>], cases: &[Failing]) {
+    for (k, p, q, why) in cases {
+        assert_eq!(rt;
+            fault_by_date(tokens, *k, *p, *q),
+            Some(*why),
+            "of {k} from {p} to {q}"
+        );
+    }
+}
+
+const HELD_BY_DATE: &[Held] = &[
+    (0, 4, Some(0)),
+    // the one at 5, which ties with those that are shut
+    (5, 20, Some(4)),
+    (4, 5, None),
+    (-1, -1, None),
+];
+
+const CLIPPERS_BY_DATE: &[(usize, Option<usize>)] = &[
+    (0, Some(2)),
+    (1, None),
+    (2, Some(5)),
+    (4, None),
+    (5, None),
+];
+
+const PLACES_BY_DATE: &[(Spot, Option<usize>)] = &[
+    ((0, 5, 1), Some(2)),
+    ((0, 5, 3), None),
+    ((0, 9, 0), None),
+];
+
+const FAULTS_BY_DATE: &[Failing] = &[(0, -1, -1, Fault::Late), (0, 4, 5, Fault::Clipped(2))];
+
 #[test]
 fn tokens_of_a_door_by_date(rt: HostRuntime) {
     let tokens = door_by_date();
-    assert!(rt; by_date::is_by_date(&Dates, &tokens));
-    assert!(rt; !by_date::is_by_date(&Dates, &[tokens[1], tokens[0]]));
-    for (p, q, found) in [
-        (0, 4, Some(0)),
-        // the one at 5, which ties with those that are shut
-        (5, 20, Some(4)),
-        (4, 5, None),
-        (-1, -1, None),
-    ] {
-        assert_eq!(rt;
-            held_by_date(&tokens, p, q),
-            Some((found, found.is_some())),
-            "from {p} to {q}"
-        );
-    }
-    for (k, found) in [(0, Some(2)), (1, None), (2, Some(5)), (4, None), (5, None)] {
-        assert_eq!(rt; clipper_by_date(&tokens, k), found, "of {k}");
-    }
-    for (spot, found) in [((0, 5, 1), Some(2)), ((0, 5, 3), None), ((0, 9, 0), None)] {
-        assert_eq!(rt; place_by_date(&tokens, spot), found);
-    }
-    for (p, q, why) in [(-1, -1, Fault::Late), (4, 5, Fault::Clipped(2))] {
-        assert_eq!(rt; fault_by_date(&tokens, 0, p, q), Some(why));
-    }
+    check_held_by_date(&rt, &tokens, HELD_BY_DATE);
+    check_clippers_by_date(&rt, &tokens, CLIPPERS_BY_DATE);
+    check_places_by_date(&rt, &tokens, PLACES_BY_DATE);
+    check_faults_by_date(&rt, &tokens, FAULTS_BY_DATE);
+    assert!(rt; !by_date::is_by_date(&Dates, &door()));
+}
+
+#[test]
+fn a_span_of_a_door_by_date(rt: HostRuntime) {
     let tokens = span_of_door();
-    for (p, q, why) in [(6, 11, Fault::Late), (7, 12, Fault::Ends)] {
-        assert_eq!(rt; fault_by_date(&tokens, 1, p, q), Some(why));
-    }
+    check_held_by_date(&rt, &tokens, HELD_BY_SPAN);
+    check_faults_by_date(&rt, &tokens, FAULTS_OF_SPAN);
 }
