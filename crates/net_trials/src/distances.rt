@@ -1,8 +1,9 @@
 //! Distances of networks that grow, and numbers of points that come and go.
-use crate::networks::{MOST, add, add_edge, add_edges, add_point, edge, far, numbered, points};
+use crate::networks::{
+    MOST, add, add_edge, add_edges, add_point, edge, expect_far, numbered, points,
+};
 use dist_net::DistNet;
 use std::process::Abort;
-use std::test::Fail;
 use tmm_model::{Bound, PointName};
 
 /// Two points, of which the second is 3 to 7 after the first, and neither before `start`.
@@ -18,53 +19,46 @@ const FAR: &[(u16, u16, Option<Bound>)] = &[
 ];
 
 #[test]
-fn distances_are_least_sums(rt: HostRuntime) -> Result<(), Fail> {
-    let mut net = points(rt.alloc(), 2)?;
+fn distances_are_least_sums(rt: HostRuntime) {
+    let mut net = points(&rt, rt.alloc(), 2);
     expect_of_two(&rt, &mut net);
-    Ok(())
 }
 
 fn expect_of_two(rt: &impl Abort, net: &mut DistNet) {
     add_edges(net, TWO);
     net.commit();
     for (from, to, want) in FAR {
-        assert_eq!(rt; far(net, *from, *to), *want, "from {from} to {to}");
+        expect_far(rt, net, *from, *to, *want);
     }
-    expect_refused(rt, net);
-    expect_undone(rt, net);
-}
-
-/// A walk of negative sum is refused.
-fn expect_refused(rt: &impl Abort, net: &mut DistNet) {
-    let sum = match add(net, &edge(1, 2, 2, "e")) {
-        Some(found) => found.sum,
-        None => 0,
-    };
-    assert_eq!(rt; sum, -1);
-}
-
-/// A rollback takes an edge back.
-fn expect_undone(rt: &impl Abort, net: &mut DistNet) {
+    assert!(rt; closes(net, 1, 2, 2, -1));
     add_edge(net, 0, 1, 10);
-    assert_eq!(rt; far(net, 0, 2), Some(Bound::Finite(17)));
+    expect_far(rt, net, 0, 2, Some(Bound::Finite(17)));
     net.rollback();
-    assert_eq!(rt; far(net, 0, 2), Some(Bound::Free));
+    expect_far(rt, net, 0, 2, Some(Bound::Free));
+}
+
+/// Whether the edge is refused, since it closes a walk of this sum.
+fn closes(net: &mut DistNet, from: u16, to: u16, weight: i64, sum: i64) -> bool {
+    match add(net, &edge(from, to, weight, "e")) {
+        Some(found) => found.sum == sum,
+        None => false,
+    }
 }
 
 #[test]
-fn the_longest_chain_is_exact(rt: HostRuntime) -> Result<(), Fail> {
-    let mut net = points(rt.alloc(), 255)?;
+fn the_longest_chain_is_exact(rt: HostRuntime) {
+    let mut net = points(&rt, rt.alloc(), 255);
     expect_of_chain(&rt, &mut net);
-    Ok(())
 }
 
+/// Each point is exactly so much after the one before it.
 fn expect_of_chain(rt: &impl Abort, net: &mut DistNet) {
     for i in 0..255 {
         add_edge(net, i, i + 1, MOST);
         add_edge(net, i + 1, i, -MOST);
     }
-    assert_eq!(rt; far(net, 0, 255), Some(Bound::Finite(255 * MOST)));
-    assert_eq!(rt; far(net, 255, 0), Some(Bound::Finite(-255 * MOST)));
+    expect_far(rt, net, 0, 255, Some(Bound::Finite(255 * MOST)));
+    expect_far(rt, net, 255, 0, Some(Bound::Finite(-255 * MOST)));
 }
 
 /// Drops a point that is not `start`, where there are no edges.
@@ -76,10 +70,9 @@ fn drop_point(net: &mut DistNet, point: &PointName) {
 }
 
 #[test]
-fn numbers_follow_names(rt: HostRuntime) -> Result<(), Fail> {
-    let mut net = points(rt.alloc(), 2)?;
+fn numbers_follow_names(rt: HostRuntime) {
+    let mut net = points(&rt, rt.alloc(), 2);
     expect_numbers(&rt, &mut net);
-    Ok(())
 }
 
 fn expect_numbers(rt: &impl Abort, net: &mut DistNet) {
@@ -89,25 +82,29 @@ fn expect_numbers(rt: &impl Abort, net: &mut DistNet) {
     drop_point(net, &a);
     drop_point(net, &b);
     add_point(net, &b);
-    assert_eq!(rt; (net.number(a), net.number(b)), (None, Some(1)));
+    expect_number(rt, net, &a, None);
+    expect_number(rt, net, &b, Some(1));
     net.rollback();
-    assert_eq!(rt; (net.number(a), net.number(b)), (Some(1), Some(2)));
+    expect_number(rt, net, &a, Some(1));
+    expect_number(rt, net, &b, Some(2));
+}
+
+fn expect_number(rt: &impl Abort, net: &DistNet, point: &PointName, want: Option<u16>) {
+    assert_eq!(rt; net.number(*point), want);
 }
 
 #[test]
-fn numbers_outlive_names_that_come_and_go(rt: HostRuntime) -> Result<(), Fail> {
-    let mut net = points(rt.alloc(), 1)?;
-    for i in 1..1201 {
-        assert_eq!(rt; number_once(&mut net, i), Some(2));
-    }
-    Ok(())
+fn numbers_outlive_names_that_come_and_go(rt: HostRuntime) {
+    let mut net = points(&rt, rt.alloc(), 1);
+    expect_same_number(&rt, &mut net);
 }
 
-/// The number of a point that comes and goes.
-fn number_once(net: &mut DistNet, i: u16) -> Option<u16> {
-    let point = PointName::Begin(numbered(i));
-    add_point(net, &point);
-    let number = net.number(point);
-    drop_point(net, &point);
-    number
+/// Points of 1,200 names come and go, each with the number 2.
+fn expect_same_number(rt: &impl Abort, net: &mut DistNet) {
+    for i in 1..1201 {
+        let point = PointName::Begin(numbered(i));
+        add_point(net, &point);
+        expect_number(rt, net, &point, Some(2));
+        drop_point(net, &point);
+    }
 }

@@ -4,7 +4,8 @@ ghost use Rattle.dist_net.specs.Net.{AreInUse, IsConflict};
 
 use dist_net::{Conflict, DistNet, EDGES, Edge, POINTS};
 use std::alloc::Global;
-use tmm_model::{Bound, GREATEST_NUMBER, Name, NoMemory, PointName, Side};
+use std::process::Abort;
+use tmm_model::{Bound, GREATEST_NUMBER, Name, PointName, Side};
 
 /// The greatest weight of an edge.
 pub const MOST: i64 = GREATEST_NUMBER as i64;
@@ -16,9 +17,9 @@ pub fn name(word: &str) -> Name {
 
 /// One of 2,600 names, none of which is `a`.
 pub fn numbered(i: u16) -> Name {
-    let hundreds = b'a' + (i / 100 % 26) as u8;
-    let tens = b'0' + (i / 10 % 10) as u8;
-    let ones = b'0' + (i % 10) as u8;
+    let hundreds = b'a'.wrapping_add((i / 100 % 26) as u8);
+    let tens = b'0'.wrapping_add((i / 10 % 10) as u8);
+    let ones = b'0'.wrapping_add((i % 10) as u8);
     Name::of(&[hundreds, tens, ones]).unwrap_or_default()
 }
 
@@ -37,10 +38,10 @@ pub fn add_points(net: &mut DistNet, count: u16) {
 }
 
 /// A network of so many points beside `start`.
-pub fn points(alloc: Global, count: u16) -> Result<DistNet, NoMemory> {
-    let mut net = DistNet::make(alloc)?;
+pub fn points(rt: &impl Abort, alloc: Global, count: u16) -> DistNet {
+    let mut net = DistNet::make(alloc).expect(rt, "memory");
     add_points(&mut net, count);
-    Ok(net)
+    net
 }
 
 /// An edge of a premise.
@@ -91,4 +92,9 @@ pub fn far(net: &DistNet, a: u16, b: u16) -> Option<Bound> {
     } else {
         None
     }
+}
+
+/// The distance of two points is this bound, none where one of them is no point.
+pub fn expect_far(rt: &impl Abort, net: &DistNet, a: u16, b: u16, want: Option<Bound>) {
+    assert_eq!(rt; far(net, a, b), want, "from {a} to {b}");
 }

@@ -3,34 +3,24 @@ ghost use Rattle.std.specs.Prelude.{◌≡◌, None};
 ghost use Rattle.tmm_model.specs.Verdicts.{list_cause};
 
 use crate::networks::{name, numbered};
+use crate::texts::expect;
 use premise_list::Standing;
 use replies::reply_no;
 use std::alloc::Global;
 use std::process::Abort;
-use std::test::Fail;
 use tmm_model::{Edit, Line, Name, NoMemory, Premise, Seq};
 use tmm_script::parse_line;
 
 /// Makes the edits of lines, and compares what each is told.
-pub fn expect_lines(
-    rt: &impl Abort,
-    alloc: Global,
-    list: &mut Standing,
-    lines: &[(&str, &str)],
-) -> Result<(), NoMemory> {
+pub fn expect_lines(rt: &impl Abort, alloc: Global, list: &mut Standing, lines: &[(&str, &str)]) {
     for (line, want) in lines {
-        let told = told_line(alloc, list, line)?;
-        assert_eq!(rt; told.items(), want.as_bytes(), "{line}");
+        expect_line(rt, alloc, list, line, want);
     }
-    Ok(())
 }
 
-/// What the edit of a line is told, nothing where the line is none.
-fn told_line(alloc: Global, list: &mut Standing, line: &str) -> Result<Seq<u8>, NoMemory> {
-    match edit_of(alloc, line.as_bytes()) {
-        Some(edit) => told(alloc, list, &edit),
-        None => Ok(Seq::make(alloc)),
-    }
+fn expect_line(rt: &impl Abort, alloc: Global, list: &mut Standing, line: &str, want: &str) {
+    let edit = edit_of(alloc, line.as_bytes()).expect(rt, "an edit");
+    expect_edit(rt, alloc, list, &edit, want);
 }
 
 /// The edit that a line says.
@@ -40,6 +30,10 @@ fn edit_of(alloc: Global, line: &[u8]) -> Option<Edit> {
         Line::Question(_query) => None,
         Line::Silent => None,
     }
+}
+
+fn expect_edit(rt: &impl Abort, alloc: Global, list: &mut Standing, edit: &Edit, want: &str) {
+    expect(rt, &told(alloc, list, edit), want);
 }
 
 /// Makes the edit where it is let through. It is told `ok` and the names that fall, or why it is refused.
@@ -109,78 +103,55 @@ const ERASURES: &[(&str, &str)] = &[
 ];
 
 #[test]
-fn names_are_sorted_and_erased(rt: HostRuntime) -> Result<(), Fail> {
+fn names_are_sorted_and_erased(rt: HostRuntime) {
     let mut list = Standing::make(rt.alloc());
-    expect_sorts(&rt, rt.alloc(), &mut list)?;
-    Ok(())
+    expect_sorts(&rt, rt.alloc(), &mut list);
 }
 
-fn expect_sorts(rt: &impl Abort, alloc: Global, list: &mut Standing) -> Result<(), NoMemory> {
-    expect_lines(rt, alloc, list, SORTS)?;
-    expect_lookups(rt, list);
+fn expect_sorts(rt: &impl Abort, alloc: Global, list: &mut Standing) {
+    expect_lines(rt, alloc, list, SORTS);
+    expect_seven(rt, list);
     list.commit();
-    expect_lines(rt, alloc, list, ERASURES)?;
+    expect_lines(rt, alloc, list, ERASURES);
     list.set_horizon(5);
     list.rollback();
-    assert_eq!(rt; (list.len(), list.horizon()), (7, 1000));
-    Ok(())
+    expect_seven(rt, list);
+    assert!(rt; list.horizon() == 1000);
 }
 
-fn expect_lookups(rt: &impl Abort, list: &Standing) {
-    let shut = name("shut");
-    assert_eq!(rt; (list.len(), list.class_of(shut)), (7, Some(name("door"))));
-    assert!(rt; list.at(6).is_some() && list.at(7).is_none());
-    assert!(rt; list.get(name("e")).is_some() && list.get(shut).is_none());
+/// What is found in the list of the seven premises.
+fn expect_seven(rt: &impl Abort, list: &Standing) {
+    assert!(rt; list.len() == 7);
+    assert!(rt; list.at(6).is_some());
+    assert!(rt; list.at(7).is_none());
+    assert!(rt; list.get(name("e")).is_some());
+    assert!(rt; list.get(name("shut")).is_none());
+    assert!(rt; list.class_of(name("shut")) == Some(name("door")));
 }
 
 #[test]
-fn points_and_premises_have_limits(rt: HostRuntime) -> Result<(), Fail> {
+fn points_and_premises_have_limits(rt: HostRuntime) {
     let mut list = Standing::make(rt.alloc());
-    expect_limits(&rt, rt.alloc(), &mut list)?;
-    Ok(())
+    expect_limits(&rt, rt.alloc(), &mut list);
 }
 
-fn expect_limits(rt: &impl Abort, alloc: Global, list: &mut Standing) -> Result<(), NoMemory> {
+fn expect_limits(rt: &impl Abort, alloc: Global, list: &mut Standing) {
     for i in 0..255 {
-        expect_point(rt, alloc, list, i, "ok")?;
+        expect_point(rt, alloc, list, i, "ok");
     }
-    expect_point(rt, alloc, list, 255, "1 no limit points\n")?;
+    expect_point(rt, alloc, list, 255, "1 no limit points\n");
     for i in 255..2000 {
-        expect_kind(rt, alloc, list, i, "ok")?;
+        expect_kind(rt, alloc, list, i, "ok");
     }
-    expect_kind(rt, alloc, list, 2000, "1 no limit premises\n")
+    expect_kind(rt, alloc, list, 2000, "1 no limit premises\n");
 }
 
-fn expect_point(
-    rt: &impl Abort,
-    alloc: Global,
-    list: &mut Standing,
-    i: u16,
-    want: &str,
-) -> Result<(), NoMemory> {
+fn expect_point(rt: &impl Abort, alloc: Global, list: &mut Standing, i: u16, want: &str) {
     let point = Premise::Point { name: numbered(i) };
-    expect_edit(rt, alloc, list, &Edit::Add(point), want)
+    expect_edit(rt, alloc, list, &Edit::Add(point), want);
 }
 
-fn expect_kind(
-    rt: &impl Abort,
-    alloc: Global,
-    list: &mut Standing,
-    i: u16,
-    want: &str,
-) -> Result<(), NoMemory> {
+fn expect_kind(rt: &impl Abort, alloc: Global, list: &mut Standing, i: u16, want: &str) {
     let kind = Premise::Kind { name: numbered(i) };
-    expect_edit(rt, alloc, list, &Edit::Add(kind), want)
-}
-
-fn expect_edit(
-    rt: &impl Abort,
-    alloc: Global,
-    list: &mut Standing,
-    edit: &Edit,
-    want: &str,
-) -> Result<(), NoMemory> {
-    let told = told(alloc, list, edit)?;
-    assert_eq!(rt; told.items(), want.as_bytes());
-    Ok(())
+    expect_edit(rt, alloc, list, &Edit::Add(kind), want);
 }

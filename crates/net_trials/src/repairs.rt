@@ -1,11 +1,10 @@
 //! Networks from which edges are taken out, compared with networks that never had them.
-use crate::networks::{add, add_edge, add_edges, far, points};
+use crate::networks::{add, add_edge, add_edges, expect_far, far, points};
 use dist_net::DistNet;
 use dist_repair::{erase_edge, erase_from, erase_plain};
 use std::alloc::Global;
 use std::process::Abort;
-use std::test::Fail;
-use tmm_model::{Bound, NoMemory};
+use tmm_model::Bound;
 
 /// How many points there are beside `start`.
 const COUNT: u16 = 19;
@@ -31,28 +30,26 @@ const WAYS: &[(u16, u16, i64)] = &[
 const ROUND: &[(usize, i64)] = &[(0, 6), (4, 9)];
 
 #[test]
-fn a_way_round_is_found(rt: HostRuntime) -> Result<(), Fail> {
-    let mut net = points(rt.alloc(), COUNT)?;
+fn a_way_round_is_found(rt: HostRuntime) {
+    let mut net = points(&rt, rt.alloc(), COUNT);
     expect_ways(&rt, &mut net);
-    Ok(())
 }
 
 fn expect_ways(rt: &impl Abort, net: &mut DistNet) {
     add_edges(net, WAYS);
     for (place, want) in ROUND {
         erase(net, *place);
-        assert_eq!(rt; far(net, 1, 4), Some(Bound::Finite(*want)));
+        expect_far(rt, net, 1, 4, Some(Bound::Finite(*want)));
     }
-    assert_eq!(rt; far(net, 1, 2), Some(Bound::Free));
-    assert_eq!(rt; far(net, 3, 3), Some(Bound::Finite(0)));
+    expect_far(rt, net, 1, 2, Some(Bound::Free));
+    expect_far(rt, net, 3, 3, Some(Bound::Finite(0)));
 }
 
 /// Compares a network with one of the same edges that is made anew.
-fn expect_as_anew(rt: &impl Abort, alloc: Global, net: &DistNet) -> Result<(), NoMemory> {
-    let mut other = points(alloc, COUNT)?;
+fn expect_as_anew(rt: &impl Abort, alloc: Global, net: &DistNet) {
+    let mut other = points(rt, alloc, COUNT);
     add_edges_of(&mut other, net);
     expect_alike(rt, net, &other);
-    Ok(())
 }
 
 fn add_edges_of(net: &mut DistNet, other: &DistNet) {
@@ -63,8 +60,7 @@ fn add_edges_of(net: &mut DistNet, other: &DistNet) {
 
 /// All pairs of points have the same distance in both.
 fn expect_alike(rt: &impl Abort, net: &DistNet, other: &DistNet) {
-    let left = net.edges().len();
-    assert_eq!(rt; alike(net, other), 400, "{left} edges are left");
+    assert_eq!(rt; alike(net, other), 400);
 }
 
 /// How many pairs of 20 points have the same distance in both.
@@ -88,22 +84,25 @@ fn is_alike(net: &DistNet, other: &DistNet, a: u16, b: u16) -> bool {
 }
 
 #[test]
-fn distances_are_those_of_the_edges_left(rt: HostRuntime) -> Result<(), Fail> {
-    let mut net = points(rt.alloc(), COUNT)?;
-    expect_mixed(&rt, rt.alloc(), &mut net)?;
-    Ok(())
+fn distances_are_those_of_the_edges_left(rt: HostRuntime) {
+    let mut net = points(&rt, rt.alloc(), COUNT);
+    expect_mixed(&rt, rt.alloc(), &mut net);
 }
 
 /// Takes out the edge in the middle until none is left.
-fn expect_mixed(rt: &impl Abort, alloc: Global, net: &mut DistNet) -> Result<(), NoMemory> {
+fn expect_mixed(rt: &impl Abort, alloc: Global, net: &mut DistNet) {
     add_mixed(net);
     assert!(rt; net.edges().len() > 25);
     for _ in 0..40 {
         erase(net, net.edges().len() / 2);
-        expect_as_anew(rt, alloc, net)?;
+        expect_as_anew(rt, alloc, net);
     }
-    assert_eq!(rt; net.edges().len(), 0);
-    Ok(())
+    expect_left(rt, net, 0);
+}
+
+/// So many edges are left.
+fn expect_left(rt: &impl Abort, net: &DistNet, count: usize) {
+    assert_eq!(rt; net.edges().len(), count);
 }
 
 /// Adds edges between 9 points, some of them of negative weight.
@@ -147,30 +146,28 @@ fn add_ring_edge(net: &mut DistNet, from: u16, step: u16) {
 }
 
 #[test]
-fn both_ways_to_erase_agree(rt: HostRuntime) -> Result<(), Fail> {
-    let mut net = points(rt.alloc(), COUNT)?;
-    expect_both(&rt, rt.alloc(), &mut net)?;
-    Ok(())
+fn both_ways_to_erase_agree(rt: HostRuntime) {
+    let mut net = points(&rt, rt.alloc(), COUNT);
+    expect_both(&rt, rt.alloc(), &mut net);
 }
 
 /// Takes all edges out of a network and of one more like it, each in its own way.
-fn expect_both(rt: &impl Abort, alloc: Global, net: &mut DistNet) -> Result<(), NoMemory> {
-    let mut plain = points(alloc, COUNT)?;
+fn expect_both(rt: &impl Abort, alloc: Global, net: &mut DistNet) {
+    let mut plain = points(rt, alloc, COUNT);
     add_rings(net);
     add_rings(&mut plain);
     expect_in_step(rt, net, &mut plain);
-    Ok(())
 }
 
 fn expect_in_step(rt: &impl Abort, net: &mut DistNet, plain: &mut DistNet) {
-    assert_eq!(rt; net.edges().len(), 60);
+    expect_left(rt, net, 60);
     for _ in 0..60 {
         let place = net.edges().len() / 3;
         erase(net, place);
         erase_from_nothing(plain, place);
         expect_alike(rt, net, plain);
     }
-    assert_eq!(rt; net.edges().len(), 0);
+    expect_left(rt, net, 0);
 }
 
 fn erase_from_nothing(net: &mut DistNet, place: usize) {
@@ -180,21 +177,19 @@ fn erase_from_nothing(net: &mut DistNet, place: usize) {
 }
 
 #[test]
-fn many_edges_are_taken_out_at_once(rt: HostRuntime) -> Result<(), Fail> {
-    let mut net = points(rt.alloc(), COUNT)?;
-    expect_steps(&rt, rt.alloc(), &mut net)?;
-    Ok(())
+fn many_edges_are_taken_out_at_once(rt: HostRuntime) {
+    let mut net = points(&rt, rt.alloc(), COUNT);
+    expect_steps(&rt, rt.alloc(), &mut net);
 }
 
 /// Takes out more edges than are taken out one by one, and then fewer.
-fn expect_steps(rt: &impl Abort, alloc: Global, net: &mut DistNet) -> Result<(), NoMemory> {
+fn expect_steps(rt: &impl Abort, alloc: Global, net: &mut DistNet) {
     add_rings(net);
     for left in [22, 12, 12, 0] {
         erase_many(net, left);
-        assert_eq!(rt; net.edges().len(), left);
-        expect_as_anew(rt, alloc, net)?;
+        expect_left(rt, net, left);
+        expect_as_anew(rt, alloc, net);
     }
-    Ok(())
 }
 
 fn erase_many(net: &mut DistNet, first: usize) {

@@ -1,8 +1,6 @@
 //! Items that enter and leave at stated places, and lists that come back in their order.
 use std::alloc::Global;
 use std::process::Abort;
-use std::test::Fail;
-use tmm_model::NoMemory;
 use undo_lists::Lists;
 
 /// What is done to the lists.
@@ -42,93 +40,83 @@ const OF_A_COPY: Steps = &[
 const COMMITTED: Steps = &[(Step::Rollback, &[40], &[20, 10])];
 
 #[test]
-fn lists_come_back_in_their_order(rt: HostRuntime) -> Result<(), Fail> {
+fn lists_come_back_in_their_order(rt: HostRuntime) {
     let mut lists = Lists::make(rt.alloc());
-    expect_changes(&rt, rt.alloc(), &mut lists)?;
-    Ok(())
+    expect_changes(&rt, rt.alloc(), &mut lists);
 }
 
-fn expect_changes(rt: &impl Abort, alloc: Global, lists: &mut Lists<u32>) -> Result<(), NoMemory> {
-    expect_steps(rt, alloc, lists, STEPS)?;
-    assert!(rt; lists.list(9).is_empty());
-    expect_changed(rt, alloc, lists, &[0, 2])?;
-    expect_of_copy(rt, alloc, lists)?;
-    expect_changed(rt, alloc, lists, &[])?;
-    expect_steps(rt, alloc, lists, COMMITTED)
+fn expect_changes(rt: &impl Abort, alloc: Global, lists: &mut Lists<u32>) {
+    expect_steps(rt, alloc, lists, STEPS);
+    expect_items(rt, lists.list(9), &[]);
+    expect_changed(rt, alloc, lists, &[0, 2]);
+    expect_of_copy(rt, alloc, lists);
+    expect_changed(rt, alloc, lists, &[]);
+    expect_steps(rt, alloc, lists, COMMITTED);
 }
 
-fn expect_steps(
-    rt: &impl Abort,
-    alloc: Global,
-    lists: &mut Lists<u32>,
-    steps: Steps,
-) -> Result<(), NoMemory> {
+fn expect_steps(rt: &impl Abort, alloc: Global, lists: &mut Lists<u32>, steps: Steps) {
     for (step, first, last) in steps {
-        make(alloc, lists, *step)?;
-        expect_items(rt, lists, 0, first);
-        expect_items(rt, lists, 2, last);
+        make(rt, alloc, lists, *step);
+        expect_items(rt, lists.list(0), first);
+        expect_items(rt, lists.list(2), last);
     }
-    Ok(())
 }
 
-fn expect_items(rt: &impl Abort, lists: &Lists<u32>, number: u32, items: &[u32]) {
-    assert_eq!(rt; lists.list(number), items, "on list {number}");
+fn expect_items(rt: &impl Abort, items: &[u32], want: &[u32]) {
+    assert_eq!(rt; items, want);
 }
 
-fn make(alloc: Global, lists: &mut Lists<u32>, step: Step) -> Result<(), NoMemory> {
+fn make(rt: &impl Abort, alloc: Global, lists: &mut Lists<u32>, step: Step) {
     match step {
-        Step::Put(number, place, item) => put(alloc, lists, number, place, item)?,
+        Step::Put(number, place, item) => put(rt, alloc, lists, number, place, item),
         Step::Take(number, place) => {
-            let _item = take(alloc, lists, number, place)?;
+            let _item = take(rt, alloc, lists, number, place);
         }
         Step::Commit => lists.commit(),
         Step::Rollback => lists.rollback(),
     }
-    Ok(())
 }
 
 /// The numbers of the lists that were changed, the latest first.
-fn expect_changed(
-    rt: &impl Abort,
-    alloc: Global,
-    lists: &Lists<u32>,
-    numbers: &[u32],
-) -> Result<(), NoMemory> {
-    let changed = lists.changed(alloc)?;
-    assert_eq!(rt; changed.as_slice(), numbers);
-    Ok(())
+fn expect_changed(rt: &impl Abort, alloc: Global, lists: &Lists<u32>, numbers: &[u32]) {
+    let changed = lists.changed(alloc).expect(rt, "memory");
+    expect_items(rt, &changed, numbers);
 }
 
 /// A copy goes its own way while the lists are committed.
-fn expect_of_copy(rt: &impl Abort, alloc: Global, lists: &mut Lists<u32>) -> Result<(), NoMemory> {
-    let mut copy = lists.copy(alloc)?;
+fn expect_of_copy(rt: &impl Abort, alloc: Global, lists: &mut Lists<u32>) {
+    let mut copy = lists.copy(alloc).expect(rt, "memory");
     lists.commit();
-    expect_steps(rt, alloc, &mut copy, OF_A_COPY)
+    expect_steps(rt, alloc, &mut copy, OF_A_COPY);
 }
 
 /// Puts an item at a place, or last where the list is shorter.
 fn put(
+    rt: &impl Abort,
     alloc: Global,
     lists: &mut Lists<u32>,
     number: u32,
     place: usize,
     item: u32,
-) -> Result<(), NoMemory> {
+) {
     let last = lists.list(number).len();
-    lists.put(alloc, number, place.min(last), item)
+    let put = lists.put(alloc, number, place.min(last), item);
+    put.expect(rt, "memory");
 }
 
 /// Takes the item out of a place, if one stands there.
 fn take(
+    rt: &impl Abort,
     alloc: Global,
     lists: &mut Lists<u32>,
     number: u32,
     place: usize,
-) -> Result<Option<u32>, NoMemory> {
+) -> Option<u32> {
     if place < lists.list(number).len() {
-        Ok(Some(lists.take(alloc, number, place)?))
+        let taken = lists.take(alloc, number, place);
+        Some(taken.expect(rt, "memory"))
     } else {
-        Ok(None)
+        None
     }
 }
 
@@ -138,43 +126,39 @@ const ITEMS: u32 = 500;
 const LISTS: u32 = 7;
 
 #[test]
-fn every_list_comes_back(rt: HostRuntime) -> Result<(), Fail> {
+fn every_list_comes_back(rt: HostRuntime) {
     let mut lists = Lists::make(rt.alloc());
-    expect_shuffles(&rt, rt.alloc(), &mut lists)?;
-    Ok(())
+    expect_shuffles(&rt, rt.alloc(), &mut lists);
 }
 
-fn expect_shuffles(rt: &impl Abort, alloc: Global, lists: &mut Lists<u32>) -> Result<(), NoMemory> {
-    fill(alloc, lists)?;
+fn expect_shuffles(rt: &impl Abort, alloc: Global, lists: &mut Lists<u32>) {
+    fill(rt, alloc, lists);
     assert!(rt; are_filled(lists));
     for turn in 0..3 {
-        shuffle(alloc, lists, turn)?;
+        shuffle(rt, alloc, lists, turn);
         assert!(rt; !are_filled(lists));
         lists.rollback();
         assert!(rt; are_filled(lists));
     }
-    Ok(())
 }
 
 /// Puts items 0, 1, .. each last on the list of its rest, and commits them.
-fn fill(alloc: Global, lists: &mut Lists<u32>) -> Result<(), NoMemory> {
+fn fill(rt: &impl Abort, alloc: Global, lists: &mut Lists<u32>) {
     for item in 0..ITEMS {
-        put(alloc, lists, item % LISTS, ITEMS as usize, item)?;
+        put(rt, alloc, lists, item % LISTS, ITEMS as usize, item);
     }
     lists.commit();
-    Ok(())
 }
 
 /// Moves items by the hundred from list to list, and to one that had none.
-fn shuffle(alloc: Global, lists: &mut Lists<u32>, turn: u32) -> Result<(), NoMemory> {
+fn shuffle(rt: &impl Abort, alloc: Global, lists: &mut Lists<u32>, turn: u32) {
     for step in 0..ITEMS {
         let from = step.wrapping_add(turn) % LISTS;
         let place = (step / 11) as usize;
-        if let Some(item) = take(alloc, lists, from, place)? {
-            put(alloc, lists, step % 8, place / 3, item)?;
+        if let Some(item) = take(rt, alloc, lists, from, place) {
+            put(rt, alloc, lists, step % 8, place / 3, item);
         }
     }
-    Ok(())
 }
 
 /// Whether each item is on the list of its rest, in order.
