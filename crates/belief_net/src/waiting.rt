@@ -1,5 +1,5 @@
 // Rows that wait to be decided again, the earliest first.
-ghost use Rattle.std.specs.Prelude.{◌≡◌, ℕ, ◌<◌, ◌≤ℤ◌, [], ◌∷◌, None, Some, length, MatchOption, OnOk, OnErr};
+ghost use Rattle.std.specs.Prelude.{◌≡◌, ℕ, ◌<◌, ◌≤ℤ◌, [], ◌∷◌, None, Some, true, length, MatchOption, OnOk, OnErr};
 ghost use Rattle.std.specs.List.{All};
 ghost use Rattle.std.specs.List.Sorted.{IsPermutation};
 ghost use Rattle.belief_net.specs.Waiting.{dates_in, waits_in, AreQueued, Puts, Takes};
@@ -111,8 +111,28 @@ impl Waiting {
         date_at(&self.dates, row).is_some()
     }
 
-    // Lets a row wait for a date. Without memory all wait as before.
+    // Lets a row wait for a date. Without memory all wait as before. Where it waits for that date already nothing
+    // is done: a token that moves lets all rows of its class wait, and many may move in one edit.
     pub(crate) fn push(&mut self, row: u32, date: i64) -> Result<(), NoMemory>
+        ensures ok { OnOk result (Puts (dates_in self.old) (dates_in self.new) row (Some date)) }
+        ensures err { OnErr result ((i : ℕ) → dates_in self.new i ≡ dates_in self.old i) }
+    {
+        if self.is_for(row, date) {
+            Ok(())
+        } else {
+            self.enter(row, date)
+        }
+    }
+
+    // Whether a row waits for this date.
+    fn is_for(&self, row: u32, date: i64) -> bool
+        ensures { result ≡ true → dates_in self.now row ≡ Some date }
+    {
+        date_at(&self.dates, row) == Some(date)
+    }
+
+    // Puts a row among those that wait, for a date.
+    fn enter(&mut self, row: u32, date: i64) -> Result<(), NoMemory>
         ensures ok { OnOk result (Puts (dates_in self.old) (dates_in self.new) row (Some date)) }
         ensures err { OnErr result ((i : ℕ) → dates_in self.new i ≡ dates_in self.old i) }
     {

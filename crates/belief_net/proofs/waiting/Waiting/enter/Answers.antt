@@ -2,7 +2,7 @@ use Rattle.std.proofs.Common.{◌<◌, length, Some, w64, to_z, of_z, sym, subst
 use Rattle.std.specs.Prelude.{slice_set}
 use Rattle.belief_net.specs.Waiting.{dates_in}
 use Rattle.belief_net.proofs.Queued.{queued_more, dates_set}
-use Rattle.belief_net.proofs.waiting.Waiting.push.Goals as goal
+use Rattle.belief_net.proofs.waiting.Waiting.enter.Goals as goal
 
 pub invariant_of-self-2 : goal.invariant_of-self-2
 invariant_of-self-2 c =
