@@ -1,11 +1,9 @@
 -- Rows that may rest though points moved, and rows at events for which points moved.
-use Rattle.std.proofs.Common.{◌≡◌, ◌∙◌, ℕ, Bool, true, false, ◌+◌, ◌<◌, List, [], ◌∷◌, map, length, Option, Some, None, refl, sym, ap, subst, inl, inr, ◌⊎◌, arith}
+use Rattle.std.proofs.Common.{◌≡◌, ◌∙◌, ℕ, Bool, true, false, ◌<◌, List, [], ◌∷◌, length, Option, Some, None, refl, sym, ap, subst, inl, inr, ◌⊎◌, arith}
 use Rattle.std.proofs.lemmas.List.Quantifiers.{position-Some}
 use Rattle.std.specs.Prelude.{pos}
 use Rattle.std.specs.Option.{option_map_or}
-use Rattle.std.specs.List.{list_any}
 use Rattle.std.specs.Cmp.Lexicographic.{bytes_decides}
-use Rattle.tmm_model.specs.declared.bound.Bound.TheVariants.{Finite}
 use Rattle.tmm_model.specs.Beliefs.{class_of}
 use Rattle.tmm_model.specs.Moments.{rule_of}
 use Rattle.tmm_model.specs.Points.{same_name}
@@ -15,15 +13,15 @@ use Rattle.dist_net.specs.Net.{Nets, IsMovedAt}
 use Rattle.spots.specs.declared.spot.Spot.{Spot}
 use Rattle.spots.specs.declared.spot.Spot.TheVariants.{Declared, Node}
 use Rattle.spots.specs.Forest.{Forest, Member, member}
-use Rattle.spots.specs.Spots.{base_of, links_of, links_high}
+use Rattle.spots.specs.Spots.{base_of}
 use Rattle.undo_rows.specs.declared.row.Row.{Row as TableRow}
 use Rattle.undo_rows.specs.Tables.{AreListed}
 use Rattle.decision_rows.specs.declared.row.Pair.{Pair}
 use Rattle.occ_tree.specs.Classes.{place_in}
 use Rattle.occ_tree.specs.Standing.{State, forest}
-use Rattle.joined.specs.Gaps.{reads_class, IsClassSpot, begin, an_end, start, read, IsReadSpot, MovesAt}
+use Rattle.joined.specs.Gaps.{reads_class, begin, an_end, start, read, IsReadSpot, MovesAt}
 use Rattle.joined.specs.Listed.{IsListedUnder}
-use Rattle.joined.specs.Shifting.{IsSpotOf, MovesAmong, AreLoose, SparesClass, MayRest}
+use Rattle.joined.specs.Shifting.{IsSpotOf, MovesAmong}
 use Rattle.joined.proofs.Listed.{class_listed}
 use Rattle.belief_net.specs.declared.fast.Moves.{Moves}
 use Rattle.belief_net.specs.declared.state.Decisions.{Decisions}
@@ -32,14 +30,14 @@ use Rattle.belief_net.specs.Fast.{is_out, StandFast}
 use Rattle.belief_net.specs.Marks.{Wakes}
 use Rattle.belief_net.specs.MovedPairs.{WereThere, is_moved, AreMoved}
 use Rattle.belief_net.specs.Numbers.{name_in, HaveOwnNumbers}
-use Rattle.belief_net.specs.PointSets.{is_in, has_pair}
+use Rattle.belief_net.specs.PointSets.{has_pair}
 use Rattle.belief_net.specs.Reach.{AreBelow256}
 use Rattle.belief_net.specs.Touching.{IsRowMoved}
 use Rattle.belief_net.specs.Waiting.{Dates}
-use Rattle.belief_net.specs.Woken.{MovesFor, RestsFor, MovesFrom, KeepsDate, RestsForFirst, MovesForSome, WakesForAll, IsRowAtRest}
+use Rattle.belief_net.specs.Woken.{RestsFor, MovesFrom, KeepsDate, RestsForFirst, MovesForSome, WakesForAll, IsRowAtRest}
 use Rattle.belief_net.proofs.Named.{are_numbered, placed_name}
 use Rattle.belief_net.proofs.Pairs.{none_listed}
-use Rattle.belief_net.proofs.Waking.{wakes_none, wakes_both}
+use Rattle.belief_net.proofs.Waking.{wakes_both}
 
 true_or : (v : Bool) → (v ≡ true) ⊎ (v ≡ false)
 true_or true = inl refl

@@ -11,6 +11,8 @@ pub mod Moved
 pub mod Brought
 pub mod Bringing
 pub mod Lost
+pub mod Covered
+pub mod Covering
 pub mod Withdrawn
 pub mod Telling
 pub mod Counted

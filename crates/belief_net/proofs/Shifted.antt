@@ -1,34 +1,31 @@
 -- Loose tokens and the fast ones behind them.
-use Rattle.std.proofs.Common.{◌≡◌, ◌≢◌, ◌∙◌, ℕ, Bool, true, false, not, ◌&&◌, ◌+◌, ◌<◌, ◌≤◌, List, [], ◌∷◌, ◌++◌, length, get_or, Option, Some, None, refl, sym, ap, subst, inl, inr, ◌⊎◌, arith}
+use Rattle.std.proofs.Common.{◌≡◌, ◌∙◌, ℕ, Bool, true, false, not, ◌+◌, ◌<◌, List, [], ◌∷◌, ◌++◌, length, get_or, Option, Some, None, refl, sym, ap, subst, inl, inr, ◌⊎◌, arith}
 use Rattle.std.proofs.lemmas.Bool.{cases_order}
 use Rattle.std.proofs.lemmas.List.{get_or_default}
 use Rattle.std.proofs.lemmas.List.Elements.{All-nil, All-push, All-contains, Contains-append_left, Contains-append_right}
-use Rattle.std.specs.Prelude.{pos, negsuc, IfSome, is_some}
+use Rattle.std.specs.Prelude.{IfSome, is_some}
 use Rattle.std.specs.Cmp.Lexicographic.{bytes_decides}
 use Rattle.std.specs.Option.{option_map, option_map_or}
 use Rattle.std.specs.List.{All, Contains}
 use Rattle.tmm_model.specs.declared.token.TokenRow.{TokenRow}
 use Rattle.tmm_model.specs.Points.{same_name}
-use Rattle.tmm_model.specs.Tokens.{is_by, is_before}
 use Rattle.list_theory.proofs.Elements.{both}
 use Rattle.dist_net.specs.Net.{Net, Nets}
 use Rattle.spots.specs.declared.spot.Spot.{Spot}
 use Rattle.spots.specs.declared.spot.Spot.TheVariants.{Declared, Node}
-use Rattle.spots.specs.Forest.{Forest, Member, member, IsLive}
-use Rattle.spots.specs.Spots.{base_of, AreTokens, spot_distance, token_row}
-use Rattle.spots.proofs.Nodes.{live_at}
+use Rattle.spots.specs.Forest.{Forest, Member, member}
+use Rattle.spots.specs.Spots.{base_of, AreTokens, token_row}
 use Rattle.spots.proofs.Rows.{IsRowOf, member_of_token}
 use Rattle.joined.specs.Gaps.{IsClassSpot, begin, an_end}
-use Rattle.joined.specs.Shifting.{IsSpotOf, IsFast, IsWallAt, IsWalled, IsSparedAt, SparesClass}
-use Rattle.walk_theory.proofs.Members.{All-from_contains}
+use Rattle.joined.specs.Shifting.{IsSpotOf, IsFast, IsWallAt, IsSparedAt, SparesClass}
 use Rattle.belief_net.specs.declared.places.Place.{Place}
 use Rattle.belief_net.specs.declared.shifts.Shift.{Shift}
 use Rattle.belief_net.specs.declared.walls.FastToken.{FastToken}
 use Rattle.belief_net.specs.Fast.{IsInBoth, AreInBoth, is_out}
-use Rattle.belief_net.specs.Places.{IsPlaceOf, TellsWithin}
+use Rattle.belief_net.specs.Places.{IsPlaceOf}
 use Rattle.belief_net.specs.PointSets.{is_in, AreThose}
 use Rattle.belief_net.specs.Reach.{IsBaseOf}
-use Rattle.belief_net.specs.Shifts.{stands_fast, IsFastToken, HasBegunBy, AreWallsBy, IsSparedBy, AreBehind, TokensHaveBoth, ShiftHasBoth, IsShift, IsBehindNode, IsShiftOf, IsNoted, AreShifts, NotesRow}
+use Rattle.belief_net.specs.Shifts.{stands_fast, IsFastToken, HasBegunBy, AreWallsBy, IsSparedBy, AreBehind, TokensHaveBoth, ShiftHasBoth, IsShift, IsBehindNode, IsNoted, AreShifts, NotesRow}
 
 not_true : (v : Bool) → not v ≡ false → v ≡ true
 not_true true e = refl

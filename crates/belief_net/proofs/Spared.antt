@@ -11,7 +11,7 @@ use Rattle.tmm_model.specs.declared.bound.Bound.TheVariants.{Finite, Free}
 use Rattle.tmm_model.specs.declared.token.TokenRow.{TokenRow}
 use Rattle.tmm_model.specs.Bounds.{bound_at_most}
 use Rattle.tmm_model.specs.Points.{same_name}
-use Rattle.tmm_model.specs.Tokens.{of_one_class, is_by, is_before, clips, cuts, lasts_to}
+use Rattle.tmm_model.specs.Tokens.{of_one_class, cuts, lasts_to}
 use Rattle.list_theory.proofs.Elements.{In, both, Contains-from_In, In-from_Contains, In-cases, In-left, In-right, list_any-In, In-list_any}
 use Rattle.dist_net.specs.Net.{Net}
 use Rattle.spots.specs.declared.spot.Spot.{Spot}

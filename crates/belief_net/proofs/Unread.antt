@@ -1,13 +1,14 @@
 -- Rows of rules that read nothing, one rule after the other.
-use Rattle.std.proofs.Common.{◌≡◌, ◌∙◌, ℕ, Bool, true, false, ◌+◌, ◌<◌, List, [], ◌∷◌, Option, Some, refl, sym, ap, subst, inl, inr, arith, ◌⊎◌}
+use Rattle.std.proofs.Common.{◌≡◌, ◌∙◌, ℕ, Bool, true, false, ◌+◌, ◌<◌, List, [], ◌∷◌, Some, refl, sym, ap, subst, inl, inr, arith, ◌⊎◌}
 use Rattle.std.proofs.lemmas.Bool.{cases_order}
 use Rattle.std.proofs.lemmas.Bool.Decides.{eqb_tells}
-use Rattle.std.specs.Prelude.{◌↔◌, ℤ, pos}
+use Rattle.std.specs.Prelude.{◌↔◌, pos}
 use Rattle.tmm_model.specs.Moments.{rule_of}
 use Rattle.tmm_model.specs.Standing.{Standing}
 use Rattle.spots.specs.declared.spot.Spot.TheVariants.{Declared, Node}
 use Rattle.spots.specs.Spots.{base_of}
 use Rattle.undo_rows.specs.declared.row.Row.{Row as TableRow}
+use Rattle.undo_rows.specs.Changes.{Logged, present as table}
 use Rattle.undo_rows.specs.Tables.{AreListed}
 use Rattle.decision_rows.specs.declared.row.Pair.{Pair}
 use Rattle.occ_tree.specs.Standing.{State, forest}
@@ -50,12 +51,12 @@ module _ (list : Standing) (d : Decisions) (under : AreUnder list d) (listed : A
       | inr other ↦ elim other [ inl below ↦ inl below | inr above ↦ absurd (omega (arith, less, above)) ]
     ]
 
-    pub unread_next : (events : Events) (old mid new : Dates) → ((x : ℕ) → (is_event_of events s x ≡ true) ↔ MovesFrom moves (forest s) x)
+    pub unread_next : (events : Events) (rows : Logged Pair 6) (old mid new : Dates) → rows ≡ d.rows → ((x : ℕ) → (is_event_of events s x ≡ true) ↔ MovesFrom moves (forest s) x)
         → Wakes s (table_of d) (λ i row. MovesFrom moves (forest s) row.value.trigger) (KeepsFirst n) old mid
-        → ((rule_of list name).given ≡ [] → Marks s (table_of d) (IsOfRuleAt (table_of d) n events s) mid new)
+        → ((rule_of list name).given ≡ [] → Marks s (table rows) (IsOfRuleAt (table rows) n events s) mid new)
         → (((rule_of list name).given ≡ [] → ⊥) → new ≡ mid)
         → Wakes s (table_of d) (λ i row. MovesFrom moves (forest s) row.value.trigger) (KeepsFirst (n + 1)) old new
-    unread_next events old mid new touched first marks same = by (rule_of list name).given refl
+    unread_next events rows old mid new same_rows touched first marks same = by (rule_of list name).given refl
       where
         -- what makes no pair with `start` keeps its date
         dated : (x : ℕ) → is_event_of events s x ≡ false → has_pair moves.pairs.items (base_of (forest s) (Node x)) 0 ≡ false
@@ -86,7 +87,8 @@ module _ (list : Standing) (d : Decisions) (under : AreUnder list d) (listed : A
             (λ i row at of. (touched row.value.trigger).0 of.1)
             (λ i row at first_keeps here_keeps less. elim (before row less) [ inl below ↦ first_keeps below | inr is ↦ here_keeps is ])
             first
-            (marks_wake s (table_of d) (IsOfRuleAt (table_of d) n events s) (λ i row. row.value.rule ≡ n → KeepsDate moves list (forest s) d row) mid new or_rests (marks none))
+            (marks_wake s (table_of d) (IsOfRuleAt (table_of d) n events s) (λ i row. row.value.rule ≡ n → KeepsDate moves list (forest s) d row) mid new or_rests
+            (subst (λ (z : Logged Pair 6). Marks s (table z) (IsOfRuleAt (table z) n events s) mid new) same_rows (marks none)))
         by (fact ∷ given) some =
             let none_is : (rule_of list name).given ≡ [] → ⊥ = λ none. (let no : [] ≡ fact ∷ given = sym none ∙ some in cc) in
             subst (Wakes s (table_of d) Moved (KeepsFirst (n + 1)) old) (sym (same none_is))

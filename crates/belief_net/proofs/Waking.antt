@@ -1,8 +1,8 @@
 -- Rows that have been looked at, some after the others.
-use Rattle.std.proofs.Common.{◌≡◌, ◌∙◌, ℕ, true, false, ◌+◌, ◌<◌, List, [], ◌∷◌, ◌++◌, length, Option, Some, None, refl, sym, ap, subst, inl, inr, arith, ◌⊎◌, ◌||◌, eqb, eqb-true}
+use Rattle.std.proofs.Common.{◌≡◌, ◌∙◌, ℕ, true, false, ◌+◌, ◌<◌, List, [], ◌∷◌, ◌++◌, length, Option, Some, None, Result, Ok, Err, refl, sym, ap, subst, inl, inr, arith, ◌⊎◌, ◌||◌, eqb, eqb-true}
 use Rattle.std.proofs.lemmas.Bool.{cases_order, cases_Bool}
 use Rattle.std.proofs.lemmas.Bool.Decides.{eqb_tells}
-use Rattle.std.specs.Prelude.{IsSome, is_some}
+use Rattle.std.specs.Prelude.{IsSome, is_some, OnOk}
 use Rattle.row_links.specs.Lists.{IsOn}
 use Rattle.row_links.proofs.Lists.{IsOn-first, IsOn-append_left, IsOn-append_right, IsOn-append_cases}
 use Rattle.undo_rows.specs.declared.row.Row.{Row as TableRow}
@@ -14,7 +14,7 @@ use Rattle.joined.specs.Listed.{IsListedUnder}
 use Rattle.belief_net.specs.declared.fast.Moves.{Moves}
 use Rattle.belief_net.specs.declared.state.Decisions.{Decisions}
 use Rattle.belief_net.specs.Decided.{table_of}
-use Rattle.belief_net.specs.Marks.{Marks, WaitsAt, Wakes}
+use Rattle.belief_net.specs.Marks.{Marks, Wakes}
 use Rattle.belief_net.specs.Numbers.{name_in}
 use Rattle.belief_net.specs.Waiting.{Dates, Puts}
 use Rattle.belief_net.specs.Woken.{MovesFor, RestsFor, WakesFor, MovesForSome, RestsForFirst, WakesForAll}
@@ -174,6 +174,11 @@ marks_wake s t P R old new or_rests marks = record {
   only = marks.only;
   rests = λ i row at. elim (or_rests i row at) [ inl marked ↦ inl (ap is_some (marks.all i row at marked)) | inr rests ↦ inr rests ];
 }
+
+-- what follows on success from what holds on success
+pub ok_then : {T E P Q : Type 0} (r : Result T E) → (P → Q) → OnOk r P → OnOk r Q
+ok_then (Ok x) to p = to p
+ok_then (Err e) to p = p
 
 -- the row of a number that has one
 pub some_row : (o : Option (TableRow Pair 6)) → IsSome o → (row : TableRow Pair 6) × (o ≡ Some row)

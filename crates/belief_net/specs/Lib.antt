@@ -3,6 +3,8 @@ pub mod Waiting
 pub mod Windows
 pub mod Marks
 pub mod Decided
+pub mod ClassMarks
+pub mod Covered
 pub mod Entering
 pub mod Turning
 pub mod Moving

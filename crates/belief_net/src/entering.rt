@@ -10,10 +10,12 @@ ghost use Rattle.occ_tree.specs.Standing.{present, committed, forest as forest_o
 ghost use Rattle.supports.specs.Growing.{Adds, effect_shape, MayEnter};
 ghost use Rattle.supports.specs.Rules.{IsRuleOf};
 ghost use Rattle.undo_rows.specs.Changes.{present as table};
+ghost use Rattle.belief_net.specs.Covered.{Covers};
 ghost use Rattle.belief_net.specs.Decided.{AreUnder, KeepsLast};
 ghost use Rattle.belief_net.specs.Entering.{MarksClass, MarksReaders, Brings, KeepLast, EntersIn};
 ghost use Rattle.belief_net.specs.Marks.{HaveEvents};
 
+use crate::class_marks::ClassMarks;
 use crate::marking::mark_class;
 use crate::rows::add_rows;
 use crate::state::{BeliefNet, Decisions};
@@ -32,6 +34,7 @@ pub(crate) fn bring_about(
     standing: &Standing,
     net: &DistNet,
     beliefs: &mut BeliefNet,
+    marks: &mut ClassMarks,
     trigger: u32,
     rule: Name,
 ) -> Result<u32, NoMemory>
@@ -40,9 +43,11 @@ pub(crate) fn bring_about(
     requires enters { MayEnter standing.now.present (forest beliefs.old.tree) trigger rule }
     requires events { HaveEvents beliefs.old.tree (table beliefs.old.decisions.rows) }
     requires under { AreUnder standing.now.present beliefs.old.decisions }
+    requires covered { Covers (present beliefs.old.tree) beliefs.old.decisions marks.old }
     ensures ok { OnOk result (Brings standing.now.present net.now.present trigger rule beliefs.old beliefs.new) }
     ensures number { IfOk result (λ x. (b : Brings standing.now.present net.now.present trigger rule beliefs.old beliefs.new) × (b.number ≡ x)) }
     ensures was_free { IfOk result (λ x. forest_of (committed beliefs.old.tree) x ≡ None) }
+    ensures covered { OnOk result (Covers (present beliefs.new.tree) beliefs.new.decisions marks.new) }
     ensures last { KeepLast beliefs.old beliefs.new }
 {
     // it tells the proof that rows are on their lists
@@ -56,6 +61,7 @@ pub(crate) fn bring_about(
                 &beliefs.tree,
                 net,
                 &mut beliefs.decisions,
+                marks,
                 class,
                 effect,
                 &[effect],
@@ -135,12 +141,15 @@ pub(crate) fn mark_token(
     Ok(())
 }
 
-// Lets those rows wait on which the token of a class at a node may bear, which enters or leaves with these nodes.
+// Lets those rows wait on which the token of a class at a node may bear, which enters or leaves with these nodes. After the
+// first few tokens of a class all its rows wait from the date of one on, which serves those to come: an edit may move many
+// tokens of a class, and to walk over all its rows for each of them would take the square.
 pub(crate) fn mark_readers(
     alloc: Global,
     tree: &Tree,
     net: &DistNet,
     decisions: &mut Decisions,
+    marks: &mut ClassMarks,
     class: Name,
     x: u32,
     moving: &[u32],
@@ -148,17 +157,37 @@ pub(crate) fn mark_readers(
     requires tree { IsTreeIn net.now.present tree.now }
     requires token { (m : Member) × (member (forest tree.now) x ≡ Some m) × (m.class ≡ Some class) }
     requires events { HaveEvents tree.now (table decisions.old.rows) }
+    requires covered { Covers (present tree.now) decisions.old marks.old }
     ensures ok { OnOk result (MarksReaders net.now.present tree.now moving.now x class decisions.old decisions.new) }
+    ensures covered { OnOk result (Covers (present tree.now) decisions.new marks.new) }
     ensures last { KeepsLast decisions.old decisions.new }
 {
+    // it tells the proof that rows are on their lists
+    let _ = decisions.rows.first(0, 0);
     let number = decisions.classes.enter(class)?;
+    let from = tree.early(x);
+    if marks.covers(number, from) {
+        return Ok(());
+    }
+    let many = marks.count(number)?;
+    if many {
+        mark_class(
+            tree,
+            &decisions.rows,
+            &mut decisions.waiting,
+            number,
+            from,
+            None,
+        )?;
+        return marks.mark(number, from);
+    }
     let window = window_of(alloc, tree, net, class, x, moving)?;
     mark_class(
         tree,
         &decisions.rows,
         &mut decisions.waiting,
         number,
-        tree.early(x),
+        from,
         Some(&window),
     )?;
     Ok(())

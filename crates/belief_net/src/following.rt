@@ -6,14 +6,17 @@ ghost use Rattle.belief_theory.specs.KeptLists.{last_horizon};
 ghost use Rattle.spots.specs.Forest.{IsLive};
 ghost use Rattle.occ_tree.specs.OfLists.{IsTreeIn};
 ghost use Rattle.occ_tree.specs.Places.{forest};
+ghost use Rattle.occ_tree.specs.Standing.{present};
 ghost use Rattle.undo_rows.specs.Changes.{present as table};
 ghost use Rattle.joined.specs.Rows.{fires_by};
+ghost use Rattle.belief_net.specs.Covered.{Covers};
 ghost use Rattle.belief_net.specs.Decided.{AreOfSome};
 ghost use Rattle.belief_net.specs.Entering.{KeepLast};
 ghost use Rattle.belief_net.specs.Marks.{HaveEvents};
 ghost use Rattle.belief_net.specs.Numbered.{StayNumbered};
 ghost use Rattle.belief_net.specs.Turns.{IsAfterSome, IsTurned, IsStopped, HasEffect, Withdraws};
 
+use crate::class_marks::ClassMarks;
 use crate::deciding::Due;
 use crate::entering::bring_about;
 use crate::leaving::take_away;
@@ -32,20 +35,31 @@ pub(crate) fn follow(
     standing: &Standing,
     net: &DistNet,
     beliefs: &mut BeliefNet,
+    marks: &mut ClassMarks,
     told: &mut Told,
     due: &Due,
 ) -> Result<(), Stop>
     requires after { IsAfterSome standing.now.present net.now.present beliefs.old due.now }
     requires horizon { standing.now.present.horizon ≤ last_horizon }
     requires small { told.old.weight ≤ most_size }
+    requires covered { Covers (present beliefs.old.tree) beliefs.old.decisions marks.old }
     ensures ok { OnOk result (IsTurned standing.now.present net.now.present beliefs.old beliefs.new due.now told.old told.new) }
     ensures stops { IfErr result (IsStopped standing.now.present net.now.present beliefs.old due.now told.old) }
     ensures numbered { OnOk result (StayNumbered standing.now.present beliefs.old beliefs.new told.old told.new) }
+    ensures covered { OnOk result (Covers (present beliefs.new.tree) beliefs.new.decisions marks.new) }
     ensures last { KeepLast beliefs.old beliefs.new }
 {
     match (fires(&due.before), fires(&due.found)) {
-        (false, true) => bring_effect(alloc, standing, net, beliefs, told, due),
-        (true, false) => match withdraw_effect(alloc, net, beliefs, told, due.trigger, &due.rule) {
+        (false, true) => bring_effect(alloc, standing, net, beliefs, marks, told, due),
+        (true, false) => match withdraw_effect(
+            alloc,
+            net,
+            beliefs,
+            marks,
+            told,
+            due.trigger,
+            &due.rule,
+        ) {
             Ok(()) => Ok(()),
             Err(_) => Err(Stop::NoMemory),
         },
@@ -67,6 +81,7 @@ fn bring_effect(
     standing: &Standing,
     net: &DistNet,
     beliefs: &mut BeliefNet,
+    marks: &mut ClassMarks,
     told: &mut Told,
     due: &Due,
 ) -> Result<(), Stop>
@@ -75,12 +90,14 @@ fn bring_effect(
     requires fired { fires_by due.now.before ≡ false }
     requires horizon { standing.now.present.horizon ≤ last_horizon }
     requires small { told.old.weight ≤ most_size }
+    requires covered { Covers (present beliefs.old.tree) beliefs.old.decisions marks.old }
     ensures ok { OnOk result (IsTurned standing.now.present net.now.present beliefs.old beliefs.new due.now told.old told.new) }
     ensures stops { IfErr result (IsStopped standing.now.present net.now.present beliefs.old due.now told.old) }
     ensures numbered { OnOk result (StayNumbered standing.now.present beliefs.old beliefs.new told.old told.new) }
+    ensures covered { OnOk result (Covers (present beliefs.new.tree) beliefs.new.decisions marks.new) }
     ensures last { KeepLast beliefs.old beliefs.new }
 {
-    match bring_about(alloc, standing, net, beliefs, due.trigger, due.rule) {
+    match bring_about(alloc, standing, net, beliefs, marks, due.trigger, due.rule) {
         Ok(effect) => told.enter(alloc, standing, &beliefs.tree, effect),
         Err(_) => Err(Stop::NoMemory),
     }
@@ -91,6 +108,7 @@ fn withdraw_effect(
     alloc: Global,
     net: &DistNet,
     beliefs: &mut BeliefNet,
+    marks: &mut ClassMarks,
     told: &mut Told,
     trigger: u32,
     rule: &Name,
@@ -100,8 +118,10 @@ fn withdraw_effect(
     requires there { HasEffect beliefs.old.tree trigger rule.now }
     requires events { HaveEvents beliefs.old.tree (table beliefs.old.decisions.rows) }
     requires under { AreOfSome beliefs.old.decisions }
+    requires covered { Covers (present beliefs.old.tree) beliefs.old.decisions marks.old }
     ensures ok { OnOk result (Withdraws net.now.present trigger rule.now beliefs.old beliefs.new told.old told.new) }
     ensures numbered { OnOk result ((s : List) → StayNumbered s beliefs.old beliefs.new told.old told.new) }
+    ensures covered { OnOk result (Covers (present beliefs.new.tree) beliefs.new.decisions marks.new) }
     ensures last { KeepLast beliefs.old beliefs.new }
 {
     let Some(effect) = beliefs.tree.find_effect(trigger, rule) else {
@@ -109,5 +129,5 @@ fn withdraw_effect(
     };
     let numbers = beliefs.tree.numbers_below(alloc, effect)?;
     told.leave(alloc, &beliefs.tree, numbers.as_slice())?;
-    take_away(alloc, net, beliefs, effect, numbers.as_slice())
+    take_away(alloc, net, beliefs, marks, effect, numbers.as_slice())
 }

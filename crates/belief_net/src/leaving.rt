@@ -5,13 +5,15 @@ ghost use Rattle.spots.specs.Forest.{IsLive};
 ghost use Rattle.row_links.specs.Lists.{IsOn};
 ghost use Rattle.occ_tree.specs.OfLists.{IsTreeIn};
 ghost use Rattle.occ_tree.specs.Places.{forest};
-ghost use Rattle.occ_tree.specs.Standing.{committed};
+ghost use Rattle.occ_tree.specs.Standing.{present, committed};
 ghost use Rattle.undo_rows.specs.Changes.{present as table};
+ghost use Rattle.belief_net.specs.Covered.{Covers};
 ghost use Rattle.belief_net.specs.Decided.{AreOfSome, KeepsLast};
 ghost use Rattle.belief_net.specs.Entering.{KeepLast};
 ghost use Rattle.belief_net.specs.Leaving.{LosesNode, LosesRows, AreBelow, TakesAway};
 ghost use Rattle.belief_net.specs.Marks.{HaveEvents};
 
+use crate::class_marks::ClassMarks;
 use crate::entering::mark_readers;
 use crate::rows::drop_rows;
 use crate::state::{BeliefNet, Decisions};
@@ -26,6 +28,7 @@ pub(crate) fn take_away(
     alloc: Global,
     net: &DistNet,
     beliefs: &mut BeliefNet,
+    marks: &mut ClassMarks,
     x: u32,
     numbers: &[u32],
 ) -> Result<(), NoMemory>
@@ -34,10 +37,19 @@ pub(crate) fn take_away(
     requires numbers { AreBelow beliefs.old.tree x numbers.now }
     requires events { HaveEvents beliefs.old.tree (table beliefs.old.decisions.rows) }
     requires under { AreOfSome beliefs.old.decisions }
+    requires covered { Covers (present beliefs.old.tree) beliefs.old.decisions marks.old }
     ensures ok { OnOk result (TakesAway net.now.present x numbers.now beliefs.old beliefs.new) }
+    ensures covered { OnOk result (Covers (present beliefs.new.tree) beliefs.new.decisions marks.new) }
     ensures last { KeepLast beliefs.old beliefs.new }
 {
-    lose_rows(alloc, net, &beliefs.tree, &mut beliefs.decisions, numbers)?;
+    lose_rows(
+        alloc,
+        net,
+        &beliefs.tree,
+        &mut beliefs.decisions,
+        marks,
+        numbers,
+    )?;
     beliefs.tree.withdraw(alloc, x)?;
     Ok(())
 }
@@ -48,19 +60,22 @@ fn lose_rows(
     net: &DistNet,
     tree: &Tree,
     decisions: &mut Decisions,
+    marks: &mut ClassMarks,
     numbers: &[u32],
 ) -> Result<(), NoMemory>
     requires tree { IsTreeIn net.now.present tree.now }
     requires live { (y : ℕ) → IsOn numbers.now y → IsLive (forest tree.now) y }
     requires events { HaveEvents tree.now (table decisions.old.rows) }
     requires under { AreOfSome decisions.old }
+    requires covered { Covers (present tree.now) decisions.old marks.old }
     ensures ok { OnOk result (LosesRows net.now.present tree.now numbers.now numbers.now decisions.old decisions.new) }
+    ensures covered { OnOk result (Covers (present tree.now) decisions.new marks.new) }
     ensures last { KeepsLast decisions.old decisions.new }
 {
     // it tells the proof that rows are on their lists
     let _ = decisions.rows.first(0, 0);
     for y in numbers {
-        lose_node(alloc, net, tree, decisions, *y, numbers)?;
+        lose_node(alloc, net, tree, decisions, marks, *y, numbers)?;
     }
     Ok(())
 }
@@ -72,6 +87,7 @@ fn lose_node(
     net: &DistNet,
     tree: &Tree,
     decisions: &mut Decisions,
+    marks: &mut ClassMarks,
     y: u32,
     going: &[u32],
 ) -> Result<(), NoMemory>
@@ -79,12 +95,14 @@ fn lose_node(
     requires live { IsLive (forest tree.now) y }
     requires events { HaveEvents tree.now (table decisions.old.rows) }
     requires under { AreOfSome decisions.old }
+    requires covered { Covers (present tree.now) decisions.old marks.old }
     ensures ok { OnOk result (LosesNode net.now.present tree.now going.now y decisions.old decisions.new) }
+    ensures covered { OnOk result (Covers (present tree.now) decisions.new marks.new) }
     ensures last { KeepsLast decisions.old decisions.new }
 {
     drop_rows(alloc, decisions, y)?;
     match tree.row(y).class {
-        Some(class) => mark_readers(alloc, tree, net, decisions, class, y, going),
+        Some(class) => mark_readers(alloc, tree, net, decisions, marks, class, y, going),
         None => Ok(()),
     }
 }

@@ -5,6 +5,7 @@
 mod alike_laws;
 mod beginning_laws;
 mod by_event;
+mod class_marks;
 mod dates;
 mod deciding;
 mod entering;
@@ -39,8 +40,8 @@ mod undo;
 mod update;
 mod waiting;
 mod walls;
-mod woken;
 mod windows;
+mod woken;
 
 pub use size::size_of;
 pub use state::BeliefNet;

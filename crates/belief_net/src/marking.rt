@@ -28,7 +28,7 @@ pub(crate) fn mark_class(
 ) -> Result<(), NoMemory>
     requires events { HaveEvents tree.now (table rows.now) }
     requires window { IfSome window (λ w. IsWindow w.now × (tree_in w.now ≡ tree.now)) }
-    ensures { OnOk result (Marks (present tree.now) (table rows.now) (λ i row. IsListedUnder (table rows.now) class i × IsAsLate (present tree.now) from row × (spares_in window row.value.trigger ≡ false)) (dates_in waiting.old) (dates_in waiting.new)) }
+    ensures { OnOk result (Marks (present tree.now) (table rows.now) (λ i row. IsListedUnder (table rows.now) class i × IsAsLate (present tree.now) from row × (spares_in window.entry row.value.trigger ≡ false)) (dates_in waiting.old) (dates_in waiting.new)) }
 {
     // the families of rows by the classes of their antecedents follow those by trigger and by rule
     for antecedent in 0..4 {
@@ -49,7 +49,7 @@ fn mark_list(
 ) -> Result<(), NoMemory>
     requires events { HaveEvents tree.now (table rows.now) }
     requires window { IfSome window (λ w. IsWindow w.now × (tree_in w.now ≡ tree.now)) }
-    ensures { OnOk result (Marks (present tree.now) (table rows.now) (λ i row. IsOn ((table rows.now).list family head) i × IsAsLate (present tree.now) from row × (spares_in window row.value.trigger ≡ false)) (dates_in waiting.old) (dates_in waiting.new)) }
+    ensures { OnOk result (Marks (present tree.now) (table rows.now) (λ i row. IsOn ((table rows.now).list family head) i × IsAsLate (present tree.now) from row × (spares_in window.entry row.value.trigger ≡ false)) (dates_in waiting.old) (dates_in waiting.new)) }
 {
     let mut next = rows.first(family, head);
     while let Some(i) = next {
@@ -71,7 +71,7 @@ fn mark_row(
     requires events { HaveEvents tree.now (table rows.now) }
     requires row { IsSome ((table rows.now).row i) }
     requires window { IfSome window (λ w. IsWindow w.now × (tree_in w.now ≡ tree.now)) }
-    ensures { OnOk result (Marks (present tree.now) (table rows.now) (λ j row. (j ≡ i) × IsAsLate (present tree.now) from row × (spares_in window row.value.trigger ≡ false)) (dates_in waiting.old) (dates_in waiting.new)) }
+    ensures { OnOk result (Marks (present tree.now) (table rows.now) (λ j row. (j ≡ i) × IsAsLate (present tree.now) from row × (spares_in window.entry row.value.trigger ≡ false)) (dates_in waiting.old) (dates_in waiting.new)) }
 {
     let (trigger, _) = rows.pair(i);
     let early = tree.early(trigger);
@@ -91,7 +91,7 @@ fn mark_row(
 // Whether the window spares an event.
 fn is_spared(window: Option<&Window<'_>>, event: u32) -> bool
     requires window { IfSome window (λ w. IsWindow w.now × IsLive (forest (tree_in w.now)) event) }
-    ensures { result ≡ spares_in window event }
+    ensures { result ≡ spares_in window.entry event }
 {
     match window {
         Some(window) => window.spares(event),

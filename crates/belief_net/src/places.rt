@@ -82,7 +82,7 @@ fn is_within(net: &DistNet, before: bool, from: &Place, to: &Place, strictly: bo
         return None;
     }
     let far = far_at(net, before, from.base, to.base);
-    Some(is_at_most(far, to.high, from.low, strictly))
+    Some(is_at_most(far, to.high, from.low, limit(strictly)))
 }
 
 // The distance from one point to another, at the last commit or now.
@@ -98,13 +98,20 @@ fn far_at(net: &DistNet, before: bool, from: u16, to: u16) -> Bound
     }
 }
 
-// Whether a distance, and what is added to it, less something, is at most 0, or below it.
-fn is_at_most(far: Bound, more: Bound, less: i64, strictly: bool) -> bool
-    ensures { result ≡ bound_at_most (bound_less (bound_plus far more) less) (limit strictly) }
+// What the one date less the other is at most.
+fn limit(strictly: bool) -> i64
+    ensures { result ≡ limit strictly }
+{
+    if strictly { -1 } else { 0 }
+}
+
+// Whether a distance, and what is added to it, less something, is at most so much.
+fn is_at_most(far: Bound, more: Bound, less: i64, most: i64) -> bool
+    ensures { result ≡ bound_at_most (bound_less (bound_plus far more) less) most }
 {
     match far {
         Bound::Finite(far) => match more {
-            Bound::Finite(more) => is_sum_at_most(far, more, less, strictly),
+            Bound::Finite(more) => is_sum_at_most(far, more, less, most),
             Bound::Free => false,
         },
         Bound::Free => false,
@@ -112,9 +119,8 @@ fn is_at_most(far: Bound, more: Bound, less: i64, strictly: bool) -> bool
 }
 
 // The same of numbers.
-fn is_sum_at_most(far: i64, more: i64, less: i64, strictly: bool) -> bool
-    ensures { result ≡ int_le ((far +ℤ more) -ℤ less) (limit strictly) }
+fn is_sum_at_most(far: i64, more: i64, less: i64, most: i64) -> bool
+    ensures { result ≡ int_le ((far +ℤ more) -ℤ less) most }
 {
-    let sum = far as i128 + more as i128 - less as i128;
-    if strictly { sum < 0 } else { sum <= 0 }
+    far as i128 + more as i128 - less as i128 <= most as i128
 }

@@ -7,6 +7,7 @@ ghost use Rattle.belief_net.specs.Settling.{IfBegun, IsCountedIn, IsSettled, IsA
 ghost use Rattle.belief_net.specs.Telling.{IsWeighed};
 ghost use Rattle.belief_net.specs.Turning.{IsFit, IsRevising};
 
+use crate::class_marks::ClassMarks;
 use crate::state::BeliefNet;
 use crate::told::Told;
 use crate::turn::turn;
@@ -42,8 +43,9 @@ pub(crate) fn settle(
 {
     // it tells the proof that no count is above the greatest
     let _ = count.value();
+    let mut marks = ClassMarks::make(alloc);
     for _ in 0..u64::MAX {
-        if !turn(alloc, standing, net, beliefs, told, count)? {
+        if !turn(alloc, standing, net, beliefs, &mut marks, told, count)? {
             return Ok(());
         }
     }

@@ -2,12 +2,15 @@
 ghost use Rattle.std.specs.Prelude.{◌≡◌, ◌+◌, ◌≤◌, ℕ, min, None, IsSome, MatchOption, IfOk, OnOk, IfErr};
 ghost use Rattle.tmm_model.specs.Answers.{most_size};
 ghost use Rattle.belief_theory.specs.KeptLists.{last_horizon};
+ghost use Rattle.occ_tree.specs.Standing.{present};
+ghost use Rattle.belief_net.specs.Covered.{Covers};
 ghost use Rattle.belief_net.specs.Entering.{KeepLast};
 ghost use Rattle.belief_net.specs.Numbered.{StayNumbered};
 ghost use Rattle.belief_net.specs.Turning.{IsFit, IsRevising, IsDecided};
 ghost use Rattle.belief_net.specs.Turns.{CountsOne, Rests, TurnsOrRests, StopsTurn};
 ghost use Rattle.belief_net.specs.Waiting.{dates_in};
 
+use crate::class_marks::ClassMarks;
 use crate::deciding::{Due, decide};
 use crate::following::follow;
 use crate::state::BeliefNet;
@@ -25,6 +28,7 @@ pub(crate) fn turn(
     standing: &Standing,
     net: &DistNet,
     beliefs: &mut BeliefNet,
+    marks: &mut ClassMarks,
     told: &mut Told,
     counter: &mut Counter,
 ) -> Result<bool, Stop>
@@ -32,15 +36,17 @@ pub(crate) fn turn(
     requires revising { IsRevising standing.now.present net.now.present beliefs.old }
     requires horizon { standing.now.present.horizon ≤ last_horizon }
     requires small { told.old.weight ≤ most_size }
+    requires covered { Covers (present beliefs.old.tree) beliefs.old.decisions marks.old }
     ensures ok { IfOk result (TurnsOrRests standing.now.present net.now.present beliefs.old beliefs.new told.old told.new counter.old counter.new) }
     ensures stops { IfErr result (StopsTurn standing.now.present net.now.present beliefs.old told.old) }
     ensures counted { CountsOne beliefs.old counter.old counter.new }
     ensures numbered { OnOk result (StayNumbered standing.now.present beliefs.old beliefs.new told.old told.new) }
+    ensures covered { OnOk result (Covers (present beliefs.new.tree) beliefs.new.decisions marks.new) }
     ensures last { KeepLast beliefs.old beliefs.new }
 {
-    match decide_first(alloc, standing, net, beliefs, counter) {
+    match decide_first(alloc, standing, net, beliefs, marks, counter) {
         Ok(Some(due)) => {
-            follow(alloc, standing, net, beliefs, told, &due)?;
+            follow(alloc, standing, net, beliefs, marks, told, &due)?;
             Ok(true)
         }
         Ok(None) => Ok(false),
@@ -55,20 +61,24 @@ fn decide_first(
     standing: &Standing,
     net: &DistNet,
     beliefs: &mut BeliefNet,
+    marks: &mut ClassMarks,
     counter: &mut Counter,
 ) -> Result<Option<Due>, NoMemory>
     requires fit { IsFit standing.now.present net.now.present beliefs.old }
     requires revising { IsRevising standing.now.present net.now.present beliefs.old }
+    requires covered { Covers (present beliefs.old.tree) beliefs.old.decisions marks.old }
     ensures decided { IfOk result (λ due. MatchOption due ((i : ℕ) → dates_in beliefs.old.decisions.waiting i ≡ None) (IsDecided standing.now.present beliefs.old beliefs.new)) }
     ensures none { IfOk result (λ due. due ≡ None → counter.new ≡ counter.old) }
     ensures counted { IfOk result (λ due. IsSome due → counter.new ≡ min (counter.old + 1) 18446744073709551615) }
     ensures one { CountsOne beliefs.old counter.old counter.new }
     ensures rests { IfOk result (λ due. due ≡ None → Rests beliefs.old beliefs.new) }
+    ensures covered { OnOk result (Covers (present beliefs.new.tree) beliefs.new.decisions marks.new) }
     ensures last { KeepLast beliefs.old beliefs.new }
 {
     let Some(entry) = beliefs.decisions.waiting.pop() else {
         return Ok(None);
     };
+    marks.decide(entry.early.0);
     let row = entry.row;
     let (trigger, number) = beliefs.decisions.rows.pair(row);
     let rule = beliefs.decisions.rules.name(number);

@@ -182,7 +182,7 @@ impl Waiting {
 }
 
 // The date at a place, none where there is no such place.
-fn date_at(dates: &[Option<i64>], row: u32) -> Option<i64>
+pub(crate) fn date_at(dates: &[Option<i64>], row: u32) -> Option<i64>
     ensures { result ≡ dates_in dates.now row }
 {
     dates.get(row as usize).copied().flatten()

@@ -5,8 +5,8 @@ use Rattle.std.specs.List.{All, AllZip, flat_map}
 use Rattle.std.specs.Option.{option_map, option_and_then}
 use Rattle.std.proofs.Math.Seq.{take-suc}
 use Rattle.std.proofs.lemmas.Grind.{flat_map-append}
-use Rattle.std.proofs.lemmas.List.{map_push}
-use Rattle.std.proofs.lemmas.List.Elements.{All-contains, All-push, Contains-get_or}
+use Rattle.std.proofs.lemmas.List.{map_push, map-append}
+use Rattle.std.proofs.lemmas.List.Elements.{All-nil, All-cons, All-append, All-contains, Contains-get_or}
 use Rattle.tmm_model.specs.declared.changes.WhyLine.{WhyLine}
 use Rattle.tmm_model.specs.declared.token.Shape.{Shape}
 use Rattle.tmm_model.specs.declared.token.Shape.TheVariants.{Event, Persistence, Span}
@@ -14,8 +14,8 @@ use Rattle.tmm_model.specs.declared.token.TokenRow.{TokenRow}
 use Rattle.tmm_model.specs.declared.point.PointName.TheVariants.{End}
 use Rattle.tmm_model.specs.Beliefs.{token_of}
 use Rattle.tmm_model.specs.Maps.{TimeMap, built}
-use Rattle.tmm_model.specs.Moments.{Moment}
-use Rattle.tmm_model.specs.Reasons.{Reason, reason_of, belief_line, end_pair, pairs_of, pairs, IsOrderLine, AreReasons}
+use Rattle.tmm_model.specs.Moments.{Moment, After}
+use Rattle.tmm_model.specs.Reasons.{Reason, by_rule, reason_of, belief_line, end_pair, pairs_of, pairs, supports_at, IsOrderLine, AreReasons}
 use Rattle.tmm_model.specs.Standing.{Standing}
 use Rattle.walk_theory.proofs.Members.{Contains-map}
 use Rattle.dist_net.specs.Net.{Net, IsInUse}
@@ -28,8 +28,8 @@ use Rattle.spots.specs.Spots.{spot_moment, row_moment}
 use Rattle.spots.proofs.Nodes.{moment_at-is}
 use Rattle.spots.proofs.Rows.{token_is}
 use Rattle.occ_tree.specs.declared.ranks.Ranked.{Ranked}
-use Rattle.justify.specs.Lines.{AddsOrders, AddsReasons}
-use Rattle.justify.specs.Shapes.{IsShapedLine, StayShaped}
+use Rattle.justify.specs.Lines.{AreOrders, AreLinesOf, AreLinesOfAll, Hears}
+use Rattle.justify.specs.Shapes.{IsShapedLine}
 use Rattle.occ_tree.specs.Ranks.{nodes_of}
 
 AllZip-append : {A B : Type 0} (R : A → B → Type 0) (xs : List A) (us : List B) (ys : List A) (vs : List B) → AllZip R xs us → AllZip R ys vs → AllZip R (xs ++ ys) (us ++ vs)
@@ -38,33 +38,57 @@ AllZip-append R [] (u ∷ us) ys vs h g = absurd h
 AllZip-append R (x ∷ xs) [] ys vs h g = absurd h
 AllZip-append R (x ∷ xs) (u ∷ us) ys vs h g = (h.0, AllZip-append R xs us ys vs h.1 g)
 
--- one line more, told as a question names what it tells
-pub one_shaped : (lines new : List WhyLine) (line : WhyLine) → new ≡ lines ++ line ∷ [] → IsShapedLine line → StayShaped lines new
-one_shaped lines new line grown is all = subst (All IsShapedLine) (sym grown) (All-push IsShapedLine lines line all is)
+-- ---- what was heard, by the parts of lines
+
+module _ {P : Type 0} (parts : WhyLine → List P) where
+  pub hears_none : (Wanted : List WhyLine → Type 0) → Wanted [] → (old : List P) → Hears parts Wanted old old
+  hears_none Wanted none old = record { lines = []; grown = sym (append-nil old); shaped = All-nil IsShapedLine; wanted = none }
+
+  pub hears_one : (Wanted : List WhyLine → Type 0) (line : WhyLine) → Wanted (line ∷ []) → IsShapedLine line → (old new : List P) → new ≡ old ++ parts line → Hears parts Wanted old new
+  hears_one Wanted line one shaped old new grown = record {
+    lines = line ∷ [];
+    grown = grown ∙ ap (λ l. old ++ l) (sym (append-nil (parts line)));
+    shaped = All-cons IsShapedLine line [] shaped (All-nil IsShapedLine);
+    wanted = one;
+  }
+
+  pub hears_more : (First Second Both : List WhyLine → Type 0) → ((xs ys : List WhyLine) → First xs → Second ys → Both (xs ++ ys)) → (old mid new : List P)
+      → Hears parts First old mid → Hears parts Second mid new → Hears parts Both old new
+  hears_more First Second Both join old mid new first second = record {
+    lines = first.lines ++ second.lines;
+    grown =
+        second.grown
+        ∙ ap (λ l. l ++ flat_map parts second.lines) first.grown
+        ∙ append_assoc old (flat_map parts first.lines) (flat_map parts second.lines)
+        ∙ ap (λ l. old ++ l) (sym (flat_map-append parts first.lines second.lines));
+    shaped = All-append IsShapedLine first.lines second.lines first.shaped second.shaped;
+    wanted = join first.lines second.lines first.wanted second.wanted;
+  }
+
+  pub hears_so : (First Second : List WhyLine → Type 0) → ((xs : List WhyLine) → First xs → Second xs) → (old new : List P) → Hears parts First old new → Hears parts Second old new
+  hears_so First Second so old new first = record { lines = first.lines; grown = first.grown; shaped = first.shaped; wanted = so first.lines first.wanted }
+
+-- ---- lines behind lines
 
 module _ (m : TimeMap) where
-  pub no_orders : (lines : List WhyLine) → AddsOrders m [] lines lines
-  no_orders lines = ([], sym (append-nil (map reason_of lines)), tt)
-
-  pub one_order : (pair : Moment × Moment) (lines new : List WhyLine) (line : WhyLine) → new ≡ lines ++ line ∷ [] → IsOrderLine m pair (reason_of line) → AddsOrders m (pair ∷ []) lines new
-  one_order pair lines new line grown is = (reason_of line ∷ [], ap (map reason_of) grown ∙ map_push reason_of lines line, (is, tt))
-
-  pub more_orders : (ps qs : List (Moment × Moment)) (lines mid new : List WhyLine) → AddsOrders m ps lines mid → AddsOrders m qs mid new → AddsOrders m (ps ++ qs) lines new
-  more_orders ps qs lines mid new (first, grown, told) (second, further, also) = (
-    first ++ second,
-    further ∙ ap (λ l. l ++ second) grown ∙ append_assoc (map reason_of lines) first second,
-    AllZip-append (IsOrderLine m) ps first qs second told also,
-  )
+  pub more_orders : (ps qs : List (Moment × Moment)) (xs ys : List WhyLine) → AreOrders m ps xs → AreOrders m qs ys → AreOrders m (ps ++ qs) (xs ++ ys)
+  more_orders ps qs xs ys first second =
+      subst (AllZip (IsOrderLine m) (ps ++ qs)) (sym (map-append reason_of xs ys)) (AllZip-append (IsOrderLine m) ps (map reason_of xs) qs (map reason_of ys) first second)
 
   -- the orders of an occurrence, and then its own line
-  pub its_reasons : (x : Moment) (lines mid new : List WhyLine) (line : WhyLine) → AddsOrders m (pairs m x) lines mid → new ≡ mid ++ line ∷ [] → reason_of line ≡ belief_line m x → AddsReasons m x lines new
-  its_reasons x lines mid new line (orders, grown, told) further is = (
-    orders,
-    ap (map reason_of) further
-        ∙ map_push reason_of mid line
-        ∙ (λ i. grown i ++ is i ∷ []),
+  pub its_lines : (x : Moment) (line : WhyLine) → reason_of line ≡ belief_line m x → (xs ys : List WhyLine) → AreOrders m (pairs m x) xs → ys ≡ line ∷ [] → AreLinesOf m x (xs ++ ys)
+  its_lines x line is xs ys told own = (
+    map reason_of xs,
+    ap (λ l. map reason_of (xs ++ l)) own ∙ map_push reason_of xs line ∙ (λ i. map reason_of xs ++ is i ∷ []),
     told,
   )
+
+  -- those of the effect of a rule
+  pub effect_lines : (x t : Moment) (r : List ℕ) (ks : List Moment) (line : WhyLine) → x ≡ After t r → ks ≡ supports_at m t r → reason_of line ≡ by_rule x r t ks
+      → (xs ys : List WhyLine) → AreOrders m (flat_map (pairs_of m t) ks) xs → ys ≡ line ∷ [] → AreLinesOf m x (xs ++ ys)
+  effect_lines x t r ks line is same told xs ys orders own =
+      subst (λ k. AreLinesOf m k (xs ++ ys)) (sym is)
+      (its_lines (After t r) line (told ∙ (λ i. by_rule (is i) r t (same i))) xs ys (subst (λ (l : List Moment). AreOrders m (flat_map (pairs_of m t) l) xs) same orders) own)
 
   AreReasons-push : (xs : List Moment) (x : Moment) (lines orders : List Reason) → AreReasons m xs lines → AllZip (IsOrderLine m) (pairs m x) orders → AreReasons m (xs ++ x ∷ []) (lines ++ orders ++ belief_line m x ∷ [])
   AreReasons-push [] x lines orders none told = (orders, [], ap (λ l. l ++ orders ++ belief_line m x ∷ []) none, told, refl)
@@ -79,8 +103,11 @@ module _ (m : TimeMap) where
   )
 
   -- the lines of one occurrence more
-  pub more_reasons : (xs : List Moment) (x : Moment) (lines new : List WhyLine) → AreReasons m xs (map reason_of lines) → AddsReasons m x lines new → AreReasons m (xs ++ x ∷ []) (map reason_of new)
-  more_reasons xs x lines new are (orders, grown, told) = subst (AreReasons m (xs ++ x ∷ [])) (sym grown) (AreReasons-push xs x (map reason_of lines) orders are told)
+  pub more_lines : (xs : List Moment) (x : Moment) (ls ks : List WhyLine) → AreLinesOfAll m xs ls → AreLinesOf m x ks → AreLinesOfAll m (xs ++ x ∷ []) (ls ++ ks)
+  more_lines xs x ls ks are (orders, its, told) =
+      subst (AreReasons m (xs ++ x ∷ []))
+      (append_assoc (map reason_of ls) orders (belief_line m x ∷ []) ∙ sym (map-append reason_of ls ks ∙ ap (λ l. map reason_of ls ++ l) its))
+      (AreReasons-push xs x (map reason_of ls) orders are told)
 
 -- ---- element by element
 
@@ -99,18 +126,19 @@ module _ (m : TimeMap) (f : Forest) (ps : List Ranked) (i : ℕ) (d : Ranked) (b
   pub live_rank : All (IsLive f) (nodes_of ps) → IsLive f (get_or ps i d).node
   live_rank live = All-contains (IsLive f) (nodes_of ps) (get_or ps i d).node live (Contains-map (λ (p : Ranked). p.node) ps (get_or ps i d) (Contains-get_or ps i d below))
 
+  -- one occurrence more
+  pub next_node : map (moment_at f) (nodes_of (take (i + 1) ps)) ≡ map (moment_at f) (nodes_of (take i ps)) ++ moment_at f (get_or ps i d).node ∷ []
+  next_node =
+      ap (λ l. map (moment_at f) (nodes_of l)) (taken ps i d below)
+      ∙ ap (map (moment_at f)) (map_push (λ (p : Ranked). p.node) (take i ps) (get_or ps i d))
+      ∙ map_push (moment_at f) (nodes_of (take i ps)) (get_or ps i d).node
+
   -- the lines of the nodes up to one more
-  pub more_ranked : (lines new : List WhyLine) → AreReasons m (map (moment_at f) (nodes_of (take i ps))) (map reason_of lines) → AddsReasons m (moment_at f (get_or ps i d).node) lines new
-      → AreReasons m (map (moment_at f) (nodes_of (take (i + 1) ps))) (map reason_of new)
-  more_ranked lines new are adds =
-      subst (λ (xs : List Moment). AreReasons m xs (map reason_of new)) (sym next)
-      (more_reasons m (map (moment_at f) (nodes_of (take i ps))) (moment_at f (get_or ps i d).node) lines new are adds)
-    where
-      next : map (moment_at f) (nodes_of (take (i + 1) ps)) ≡ map (moment_at f) (nodes_of (take i ps)) ++ moment_at f (get_or ps i d).node ∷ []
-      next =
-          ap (λ l. map (moment_at f) (nodes_of l)) (taken ps i d below)
-          ∙ ap (map (moment_at f)) (map_push (λ (p : Ranked). p.node) (take i ps) (get_or ps i d))
-          ∙ map_push (moment_at f) (nodes_of (take i ps)) (get_or ps i d).node
+  pub more_ranked : (ls ks : List WhyLine) → AreLinesOfAll m (map (moment_at f) (nodes_of (take i ps))) ls → AreLinesOf m (moment_at f (get_or ps i d).node) ks
+      → AreLinesOfAll m (map (moment_at f) (nodes_of (take (i + 1) ps))) (ls ++ ks)
+  more_ranked ls ks are its =
+      subst (λ (xs : List Moment). AreLinesOfAll m xs (ls ++ ks)) (sym next_node)
+      (more_lines m (map (moment_at f) (nodes_of (take i ps))) (moment_at f (get_or ps i d).node) ls ks are its)
 
 -- ---- the end of what stands at a node
 

@@ -1,6 +1,5 @@
 -- The points and the lines of reasons, told as a question names them.
-use Rattle.std.specs.Prelude.{◌≢◌, List, []}
-use Rattle.std.specs.List.{All}
+use Rattle.std.specs.Prelude.{◌≢◌, []}
 use Rattle.tmm_model.specs.declared.changes.WhyLine.{WhyLine}
 use Rattle.tmm_model.specs.declared.changes.WhyLine.TheVariants.{Premise as PremiseLine, Order as OrderLine, Derived as DerivedLine}
 use Rattle.tmm_model.specs.declared.point.QueryPoint.{QueryPoint}
@@ -16,7 +15,3 @@ abbrev pub IsShapedLine : WhyLine → Type 0
 IsShapedLine (PremiseLine name) = Unit {0}
 IsShapedLine (OrderLine first second far steps) = IsShapedPoint first × IsShapedPoint second
 IsShapedLine (DerivedLine occ rule trigger supports) = occ.rules.items ≢ []
-
--- where all the old lines are told so, all the new ones are
-abbrev pub StayShaped : List WhyLine → List WhyLine → Type 0
-StayShaped old new = All IsShapedLine old → All IsShapedLine new

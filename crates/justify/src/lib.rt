@@ -3,15 +3,18 @@
 //! `tt_query` and `neg_cycle`.
 //!
 //! `why` takes the standing list with its network and the tree of the believed occurrences, and
-//! answers as the map of that list does. `steps_between` gives the constraints of a least walk between
-//! two spots. Without memory a call answers that.
+//! answers as the map of that list does. It hands each line to a `Listener` as soon as it is made.
+//! `steps_between` gives the constraints of a least walk between two spots. Without memory a call
+//! answers that.
 #![tactic(auto)]
 
 mod grounds;
 mod lines;
+mod listener;
 mod reasons;
 mod upholders;
 mod walks;
 
+pub use listener::Listener;
 pub use reasons::why;
 pub use walks::steps_between;

@@ -1,19 +1,20 @@
-// The lines of occurrences.
-ghost use Rattle.std.specs.Prelude.{◌≡◌, [], ◌∷◌, ◌++◌, map, IsTrue, IfOk, OnOk};
+// The lines of occurrences, each handed on as soon as it is made.
+ghost use Rattle.std.specs.Prelude.{◌≡◌, ◌∷◌, [], map, IsTrue, IfOk, OnOk};
 ghost use Rattle.std.specs.List.{All, flat_map};
 ghost use Rattle.tmm_model.specs.Maps.{built};
 ghost use Rattle.tmm_model.specs.Moments.{is_derived, moment_of, moment_of_point};
-ghost use Rattle.tmm_model.specs.Reasons.{AreReasons, IsOrderLine, by_rule, pairs_of, reason_of};
+ghost use Rattle.tmm_model.specs.Reasons.{IsOrderLine, by_rule, pairs_of, reason_of};
 ghost use Rattle.spots.specs.Forest.{IsLive, moment_at};
 ghost use Rattle.spots.specs.Seen.{Holds};
 ghost use Rattle.spots.specs.Spots.{IsSpot, spot_moment};
-ghost use Rattle.justify.specs.Lines.{IsInOrder, AddsOrders, AddsReasons};
-ghost use Rattle.justify.specs.Shapes.{IsShapedLine, IsShapedPoint, StayShaped};
+ghost use Rattle.justify.specs.Lines.{IsInOrder, AreOrders, AreLinesOf, AreLinesOfAll, Hears};
+ghost use Rattle.justify.specs.Shapes.{IsShapedLine, IsShapedPoint};
 ghost use Rattle.occ_tree.specs.Ranks.{nodes_of};
 ghost use Rattle.occ_tree.specs.OfLists.{IsTreeOf};
 ghost use Rattle.occ_tree.specs.Places.{forest};
 
 use crate::grounds::{Origin, origin_of, supports_at};
+use crate::listener::Listener;
 use crate::walks::steps_between;
 use dist_net::DistNet;
 use occ_tree::{Ranked, Tree};
@@ -22,49 +23,47 @@ use spots::Spot;
 use std::alloc::Global;
 use tmm_model::{Bound, Name, NoMemory, Occ, PointName, QueryPoint, Seq, WhyLine};
 
-// The lines of the nodes, one after the other: the orders that each needs, and then its own line.
-pub(crate) fn lines_of(
+// Tells the lines of the nodes, one after the other: the orders that each needs, and then its own line.
+pub(crate) fn tell_all<R: Listener>(
     alloc: Global,
     standing: &Standing,
     tree: &Tree,
     net: &DistNet,
     ranked: &[Ranked],
-) -> Result<Seq<WhyLine>, NoMemory>
+    listener: &mut R,
+) -> Result<(), NoMemory>
     requires seen { IsTreeOf standing.now.present net.now.present tree.now }
     requires holds { Holds (built standing.now.present).believed (forest tree.now) }
     requires live { All (IsLive (forest tree.now)) (nodes_of ranked.now) }
-    ensures reasons { IfOk result (λ lines. AreReasons (built standing.now.present) (map (moment_at (forest tree.now)) (nodes_of ranked.now)) (map reason_of lines.items)) }
-    ensures shaped { IfOk result (λ lines. All IsShapedLine lines.items) }
+    ensures { OnOk result (Hears R.parts_of (AreLinesOfAll (built standing.now.present) (map (moment_at (forest tree.now)) (nodes_of ranked.now))) (R.heard listener.old) (R.heard listener.new)) }
 {
-    let mut lines = Seq::make(alloc);
     for rank in ranked {
-        add_reasons(alloc, standing, tree, net, rank.node, &mut lines)?;
+        tell_node(alloc, standing, tree, net, rank.node, listener)?;
     }
-    Ok(lines)
+    Ok(())
 }
 
-// Appends the lines of a node.
-fn add_reasons(
+// Tells the lines of a node.
+fn tell_node<R: Listener>(
     alloc: Global,
     standing: &Standing,
     tree: &Tree,
     net: &DistNet,
     x: u32,
-    lines: &mut Seq<WhyLine>,
+    listener: &mut R,
 ) -> Result<(), NoMemory>
     requires seen { IsTreeOf standing.now.present net.now.present tree.now }
     requires holds { Holds (built standing.now.present).believed (forest tree.now) }
     requires live { IsLive (forest tree.now) x }
-    ensures reasons { OnOk result (AddsReasons (built standing.now.present) (moment_at (forest tree.now) x) lines.old.items lines.new.items) }
-    ensures shaped { OnOk result (StayShaped lines.old.items lines.new.items) }
+    ensures { OnOk result (Hears R.parts_of (AreLinesOf (built standing.now.present) (moment_at (forest tree.now) x)) (R.heard listener.old) (R.heard listener.new)) }
 {
     match origin_of(tree, x) {
-        Origin::Declared(name) => push(lines, WhyLine::Premise(name)),
+        Origin::Declared(name) => listener.hear(WhyLine::Premise(name)),
         Origin::Effect { event, rule } => {
             let supports = supports_at(standing, tree, net, event, rule);
             let nodes = supports.as_slice();
-            add_orders(alloc, standing, tree, net, event, nodes, lines)?;
-            push(lines, derived_line(alloc, tree, x, rule, event, nodes)?)
+            tell_orders(alloc, standing, tree, net, event, nodes, listener)?;
+            listener.hear(derived_line(alloc, tree, x, rule, event, nodes)?)
         }
     }
 }
@@ -107,76 +106,78 @@ fn occs_of(alloc: Global, tree: &Tree, nodes: &[u32]) -> Result<Seq<Occ>, NoMemo
     Ok(occs)
 }
 
-// Appends the orders that the supporters at an event need.
-fn add_orders(
+// Tells the orders that the supporters at an event need.
+fn tell_orders<R: Listener>(
     alloc: Global,
     standing: &Standing,
     tree: &Tree,
     net: &DistNet,
     event: u32,
     supports: &[u32],
-    lines: &mut Seq<WhyLine>,
+    listener: &mut R,
 ) -> Result<(), NoMemory>
     requires seen { IsTreeOf standing.now.present net.now.present tree.now }
     requires event { IsLive (forest tree.now) event }
     requires supports { All (IsLive (forest tree.now)) supports.now }
     requires in_order { All (λ x. All (IsInOrder (built standing.now.present)) (pairs_of (built standing.now.present) (moment_at (forest tree.now) event) (moment_at (forest tree.now) x))) supports.now }
-    ensures orders { OnOk result (AddsOrders (built standing.now.present) (flat_map (pairs_of (built standing.now.present) (moment_at (forest tree.now) event)) (map (moment_at (forest tree.now)) supports.now)) lines.old.items lines.new.items) }
-    ensures shaped { OnOk result (StayShaped lines.old.items lines.new.items) }
+    ensures { OnOk result (Hears R.parts_of (AreOrders (built standing.now.present) (flat_map (pairs_of (built standing.now.present) (moment_at (forest tree.now) event)) (map (moment_at (forest tree.now)) supports.now))) (R.heard listener.old) (R.heard listener.new)) }
 {
     for x in supports {
-        add_orders_of(alloc, standing, tree, net, event, *x, lines)?;
+        tell_orders_of(alloc, standing, tree, net, event, *x, listener)?;
     }
     Ok(())
 }
 
-// Appends the orders that a supporter at an event needs: it begins surely at or before the event, and
+// Tells the orders that a supporter at an event needs: it begins surely at or before the event, and
 // where it is a span the event is surely at or before its end.
-fn add_orders_of(
+fn tell_orders_of<R: Listener>(
     alloc: Global,
     standing: &Standing,
     tree: &Tree,
     net: &DistNet,
     event: u32,
     x: u32,
-    lines: &mut Seq<WhyLine>,
+    listener: &mut R,
 ) -> Result<(), NoMemory>
     requires seen { IsTreeOf standing.now.present net.now.present tree.now }
     requires event { IsLive (forest tree.now) event }
     requires live { IsLive (forest tree.now) x }
     requires in_order { All (IsInOrder (built standing.now.present)) (pairs_of (built standing.now.present) (moment_at (forest tree.now) event) (moment_at (forest tree.now) x)) }
-    ensures orders { OnOk result (AddsOrders (built standing.now.present) (pairs_of (built standing.now.present) (moment_at (forest tree.now) event) (moment_at (forest tree.now) x)) lines.old.items lines.new.items) }
-    ensures shaped { OnOk result (StayShaped lines.old.items lines.new.items) }
+    ensures { OnOk result (Hears R.parts_of (AreOrders (built standing.now.present) (pairs_of (built standing.now.present) (moment_at (forest tree.now) event) (moment_at (forest tree.now) x))) (R.heard listener.old) (R.heard listener.new)) }
 {
     let at = Spot::Node(event);
-    add_order(alloc, standing, tree, net, Spot::Node(x), at, lines)?;
+    tell_order(alloc, standing, tree, net, Spot::Node(x), at, listener)?;
     match tree.row(x).end {
-        Some(end) => add_order(alloc, standing, tree, net, at, Spot::Declared(end), lines),
+        Some(end) => tell_order(
+            alloc,
+            standing,
+            tree,
+            net,
+            at,
+            Spot::Declared(end),
+            listener,
+        ),
         None => Ok(()),
     }
 }
 
-// Appends the line that one spot is surely at or before another.
-fn add_order(
+// Tells that one spot is surely at or before another.
+fn tell_order<R: Listener>(
     alloc: Global,
     standing: &Standing,
     tree: &Tree,
     net: &DistNet,
     first: Spot,
     second: Spot,
-    lines: &mut Seq<WhyLine>,
+    listener: &mut R,
 ) -> Result<(), NoMemory>
     requires seen { IsTreeOf standing.now.present net.now.present tree.now }
     requires first { IsSpot net.now.present.names (forest tree.now) first }
     requires second { IsSpot net.now.present.names (forest tree.now) second }
     requires in_order { IsInOrder (built standing.now.present) (spot_moment net.now.present.names (forest tree.now) first, spot_moment net.now.present.names (forest tree.now) second) }
-    ensures orders { OnOk result (AddsOrders (built standing.now.present) ((spot_moment net.now.present.names (forest tree.now) first, spot_moment net.now.present.names (forest tree.now) second) ∷ []) lines.old.items lines.new.items) }
-    ensures shaped { OnOk result (StayShaped lines.old.items lines.new.items) }
+    ensures { OnOk result (Hears R.parts_of (AreOrders (built standing.now.present) ((spot_moment net.now.present.names (forest tree.now) first, spot_moment net.now.present.names (forest tree.now) second) ∷ [])) (R.heard listener.old) (R.heard listener.new)) }
 {
-    push(
-        lines,
-        order_line(alloc, standing, tree, net, first, second)?,
-    )
+    listener.hear(order_line(alloc, standing, tree, net, first, second)?)
 }
 
 // The line that one spot is surely at or before another: the distance back, and constraints that give it.
@@ -220,14 +221,5 @@ fn point_at(alloc: Global, tree: &Tree, net: &DistNet, spot: Spot) -> Result<Que
             Origin::Declared(name) => Ok(QueryPoint::Declared(PointName::Begin(name))),
             Origin::Effect { .. } => Ok(QueryPoint::Derived(tree.occ_of(alloc, x)?)),
         },
-    }
-}
-
-fn push(lines: &mut Seq<WhyLine>, line: WhyLine) -> Result<(), NoMemory>
-    ensures { OnOk result (lines.new.items ≡ lines.old.items ++ line ∷ []) }
-{
-    match lines.push(line) {
-        Ok(()) => Ok(()),
-        Err(_) => Err(NoMemory),
     }
 }

@@ -1,7 +1,6 @@
 // What the program asks of a map.
-ghost use Rattle.std.specs.Prelude.{◌≡◌, ◌≤◌, None, Some, map, IsTrue, IfOk, IfErr, OnErr};
+ghost use Rattle.std.specs.Prelude.{◌≡◌, ◌≤◌, None, Some, map, IsTrue, IfOk, IfErr, OnOk, OnErr};
 ghost use Rattle.std.specs.declared.option.Option.{Option};
-ghost use Rattle.std.specs.List.{All};
 ghost use Rattle.tmm_model.specs.Answers.{ask, finding_of, reports, report_of, rows, row_of, size};
 ghost use Rattle.tmm_model.specs.Bounds.{bound_negated};
 ghost use Rattle.tmm_model.specs.Changes.{changes, delta_of};
@@ -12,17 +11,17 @@ ghost use Rattle.tmm_model.specs.Maps.{built, gap};
 ghost use Rattle.tmm_model.specs.Moments.{moment_of, moment_of_point};
 ghost use Rattle.tmm_model.specs.Paths.{GivesPath};
 ghost use Rattle.tmm_model.specs.Questions.{query_cause};
-ghost use Rattle.tmm_model.specs.Reasons.{IsWhy, reason_of};
 ghost use Rattle.tmm_model.specs.Standing.{Standing as List};
-ghost use Rattle.justify.specs.Shapes.{IsShapedLine};
-ghost use Rattle.map_engine.specs.Stops.{StopsEdit, StopsQuery};
+ghost use Rattle.justify.specs.Lines.{AreWhy, Hears, HearsNothing};
+ghost use Rattle.map_engine.specs.Stops.{StopsEdit, StopsQuery, NamesRefused};
 
+use justify::Listener;
 use premise_list::Standing;
 use projection::Counter;
 use std::alloc::Global;
 use tmm_model::{
     Answer, Bound, Changes, Edit, ListRow, Name, NoMemory, Occ, Query, QueryPoint, Report, Seq,
-    Stop, WalkStep, WhyLine,
+    Stop, WalkStep,
 };
 
 /// An edit that is made and not yet committed, and what it changed.
@@ -76,7 +75,8 @@ pub trait MapCore {
         ensures known { IfOk result (λ found. query_cause (built (list self.now)) (Query.Bounds p.now q.now) ≡ None) }
         ensures low { IfOk result (λ found. found.0 ≡ bound_negated (gap (built (list self.now)) (moment_of_point q.now) (moment_of_point p.now))) }
         ensures high { IfOk result (λ found. found.1 ≡ gap (built (list self.now)) (moment_of_point p.now) (moment_of_point q.now)) }
-        ensures stops { IfErr result (StopsQuery (list self.now) (Query.Bounds p.now q.now)) };
+        ensures stops { IfErr result (StopsQuery (list self.now) (Query.Bounds p.now q.now)) }
+        ensures named { IfErr result (NamesRefused (list self.now) (Query.Bounds p.now q.now)) };
 
     /// The upper bound on the date of the second point less that of the first, and where there is one,
     /// the constraints of a walk between their declared points that gives the bound on these, in whole
@@ -91,7 +91,8 @@ pub trait MapCore {
         requires well_formed { IsWellFormedQuery (Query.Path p.now q.now) }
         ensures known { IfOk result (λ found. query_cause (built (list self.now)) (Query.Path p.now q.now) ≡ None) }
         ensures gives { IfOk result (λ found. GivesPath (built (list self.now)) (moment_of_point p.now) (moment_of_point q.now) found.0 found.1.items) }
-        ensures stops { IfErr result (StopsQuery (list self.now) (Query.Path p.now q.now)) };
+        ensures stops { IfErr result (StopsQuery (list self.now) (Query.Path p.now q.now)) }
+        ensures named { IfErr result (NamesRefused (list self.now) (Query.Path p.now q.now)) };
 
     /// Whether a fact holds from one point to another. A word with a cause against it is refused; without
     /// memory it answers that.
@@ -100,18 +101,20 @@ pub trait MapCore {
         requires well_formed { IsWellFormedQuery (Query.Ask fact p.now q.now) }
         ensures known { IfOk result (λ answer. query_cause (built (list self.now)) (Query.Ask fact p.now q.now) ≡ None) }
         ensures answer { IfOk result (λ answer. finding_of answer ≡ ask (built (list self.now)) fact (moment_of_point p.now) (moment_of_point q.now)) }
-        ensures stops { IfErr result (StopsQuery (list self.now) (Query.Ask fact p.now q.now)) };
+        ensures stops { IfErr result (StopsQuery (list self.now) (Query.Ask fact p.now q.now)) }
+        ensures named { IfErr result (NamesRefused (list self.now) (Query.Ask fact p.now q.now)) };
 
-    /// The reasons of a declared or derived occurrence: all that it rests on, each before what rests on it, and
-    /// each point told as a question names it.
-    /// A word with a cause against it is refused; without memory it answers that.
-    fn why(&self, alloc: Global, occ: &Occ) -> Result<Seq<WhyLine>, Stop>
+    /// Tells the reasons of a declared or derived occurrence, line by line: all that it rests on, each before
+    /// what rests on it, and each point told as a question names it. A word with a cause against it is
+    /// refused before any line is told; without memory it answers that.
+    fn why<R: Listener>(&self, alloc: Global, occ: &Occ, listener: &mut R) -> Result<(), Stop>
         requires idle { pending self.now ≡ None }
         requires well_formed { IsWellFormedQuery (Query.Why occ.now) }
-        ensures known { IfOk result (λ lines. query_cause (built (list self.now)) (Query.Why occ.now) ≡ None) }
-        ensures reasons { IfOk result (λ lines. IsWhy (built (list self.now)) (moment_of occ.now) (map reason_of lines.items)) }
-        ensures shaped { IfOk result (λ lines. All IsShapedLine lines.items) }
-        ensures stops { IfErr result (StopsQuery (list self.now) (Query.Why occ.now)) };
+        ensures known { OnOk result (query_cause (built (list self.now)) (Query.Why occ.now) ≡ None) }
+        ensures reasons { OnOk result (Hears R.parts_of (AreWhy (built (list self.now)) (moment_of occ.now)) (R.heard listener.old) (R.heard listener.new)) }
+        ensures stops { IfErr result (StopsQuery (list self.now) (Query.Why occ.now)) }
+        ensures named { IfErr result (NamesRefused (list self.now) (Query.Why occ.now)) }
+        ensures unheard { IfErr result (HearsNothing (R.heard listener.old) (R.heard listener.new)) };
 
     /// The broken protections, in the order of premises. Without memory it answers that.
     fn check(&self, alloc: Global) -> Result<Seq<Report>, NoMemory>

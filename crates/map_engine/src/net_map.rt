@@ -18,10 +18,11 @@ use crate::edited::{edited, roll_back};
 use crate::kept_view::{KeptView, audited_view, first_view, kept_rows};
 use crate::map_core::{MapCore, Pending};
 use crate::next::{Known, Next, draw_next, keep, may_guard};
-use crate::questions::{ask_between, bounds_between, path_between, why_of};
+use crate::questions::{ask_between, bounds_between, path_between, tell_why};
 use crate::still::{is_ruling, is_unread};
 use belief_net::BeliefNet;
 use dist_net::DistNet;
+use justify::Listener;
 use premise_list::Standing;
 use projection::Counter;
 use protections::copied;
@@ -30,7 +31,6 @@ use std::marker::Model;
 use std::mem;
 use tmm_model::{
     Answer, Bound, Edit, ListRow, Name, NoMemory, Occ, QueryPoint, Report, Seq, Stop, WalkStep,
-    WhyLine,
 };
 
 /// A map that keeps the standing list, its distances, and the believed occurrences with the decisions on
@@ -209,8 +209,15 @@ impl MapCore for NetMap {
         )
     }
 
-    fn why(&self, alloc: Global, occ: &Occ) -> Result<Seq<WhyLine>, Stop> {
-        why_of(alloc, &self.standing, self.nodes.tree(), &self.net, occ)
+    fn why<R: Listener>(&self, alloc: Global, occ: &Occ, listener: &mut R) -> Result<(), Stop> {
+        tell_why(
+            alloc,
+            &self.standing,
+            self.nodes.tree(),
+            &self.net,
+            occ,
+            listener,
+        )
     }
 
     fn check(&self, alloc: Global) -> Result<Seq<Report>, NoMemory> {

@@ -5,9 +5,10 @@ ghost use Rattle.tmm_model.specs.Standing.{empty_list};
 use crate::beliefs::{Beliefs, believe, drawn};
 use crate::edited::{edited, roll_back};
 use crate::map_core::{MapCore, Pending};
-use crate::questions::{ask_between, bounds_between, path_between, why_of};
+use crate::questions::{ask_between, bounds_between, path_between, tell_why};
 use crate::view::{audited, told_rows};
 use dist_net::DistNet;
+use justify::Listener;
 use premise_list::Standing;
 use projection::Counter;
 use protections::copied;
@@ -15,7 +16,6 @@ use std::alloc::Global;
 use std::marker::Model;
 use tmm_model::{
     Answer, Bound, Edit, ListRow, Name, NoMemory, Occ, QueryPoint, Report, Seq, Stop, WalkStep,
-    WhyLine,
 };
 
 /// A map that keeps the standing list, its distances and its beliefs. Those before a pending edit are
@@ -148,8 +148,15 @@ impl MapCore for PlainMap {
         )
     }
 
-    fn why(&self, alloc: Global, occ: &Occ) -> Result<Seq<WhyLine>, Stop> {
-        why_of(alloc, &self.standing, &self.beliefs.tree, &self.net, occ)
+    fn why<R: Listener>(&self, alloc: Global, occ: &Occ, listener: &mut R) -> Result<(), Stop> {
+        tell_why(
+            alloc,
+            &self.standing,
+            &self.beliefs.tree,
+            &self.net,
+            occ,
+            listener,
+        )
     }
 
     fn check(&self, alloc: Global) -> Result<Seq<Report>, NoMemory> {

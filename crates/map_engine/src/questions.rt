@@ -1,7 +1,6 @@
 // Questions of points, and of an occurrence.
-ghost use Rattle.std.specs.Prelude.{◌≡◌, None, map, IfOk, IfErr};
+ghost use Rattle.std.specs.Prelude.{◌≡◌, None, IfOk, IfErr, OnOk};
 ghost use Rattle.tmm_model.specs.declared.line.Query.TheVariants.{Bounds as BoundsLine, Path as PathLine, Ask as AskLine, Why as WhyQuery};
-ghost use Rattle.std.specs.List.{All};
 ghost use Rattle.tmm_model.specs.Answers.{ask, finding_of};
 ghost use Rattle.tmm_model.specs.Bounds.{bound_negated};
 ghost use Rattle.tmm_model.specs.Lines.{IsWellFormedQueryPoint, IsWellFormedOcc};
@@ -9,23 +8,22 @@ ghost use Rattle.tmm_model.specs.Maps.{built, gap};
 ghost use Rattle.tmm_model.specs.Moments.{moment_of, moment_of_point};
 ghost use Rattle.tmm_model.specs.Paths.{GivesPath};
 ghost use Rattle.tmm_model.specs.Questions.{query_cause};
-ghost use Rattle.tmm_model.specs.Reasons.{IsWhy, reason_of};
 ghost use Rattle.spots.specs.Seen.{IsSeen, Holds};
 ghost use Rattle.spots.specs.Spots.{IsSpot, spot_moment};
 ghost use Rattle.occ_tree.specs.OfLists.{IsTreeOf};
 ghost use Rattle.occ_tree.specs.Places.{forest};
-ghost use Rattle.justify.specs.Shapes.{IsShapedLine};
-ghost use Rattle.map_engine.specs.Questions.{points_cause, StopsPoints};
-ghost use Rattle.map_engine.specs.Stops.{StopsQuery};
+ghost use Rattle.justify.specs.Lines.{AreWhy, Hears, HearsNothing};
+ghost use Rattle.map_engine.specs.Questions.{points_cause, StopsPoints, NamesPoints};
+ghost use Rattle.map_engine.specs.Stops.{StopsQuery, NamesRefused};
 
 use dist_net::DistNet;
-use justify::{steps_between, why};
+use justify::{Listener, steps_between, why};
 use occ_tree::Tree;
 use premise_list::Standing;
 use spots::Spot;
 use std::alloc::Global;
-use tmm_model::{Answer, Bound, Name, NoMemory, Occ, QueryPoint, Seq, Stop, WalkStep, WhyLine};
-use tt_query::{ask, bounds, resolve};
+use tmm_model::{Answer, Bound, Name, NoMemory, Occ, PointName, QueryPoint, Seq, Stop, WalkStep};
+use tt_query::{ask, bounds, name_refused, resolve};
 
 // The spots of two points, the first cause from the left.
 fn resolve_both(
@@ -44,6 +42,7 @@ fn resolve_both(
     ensures from { IfOk result (λ spots. IsSpot net.now.present.names (forest tree.now) spots.0 × (spot_moment net.now.present.names (forest tree.now) spots.0 ≡ moment_of_point p.now)) }
     ensures to { IfOk result (λ spots. IsSpot net.now.present.names (forest tree.now) spots.1 × (spot_moment net.now.present.names (forest tree.now) spots.1 ≡ moment_of_point q.now)) }
     ensures stops { IfErr result (StopsPoints (built standing.now.present) p.now q.now) }
+    ensures named { IfErr result (NamesPoints (built standing.now.present) p.now q.now) }
 {
     let from = resolve(alloc, standing, tree, net, p)?;
     let to = resolve(alloc, standing, tree, net, q)?;
@@ -67,6 +66,7 @@ pub(crate) fn bounds_between(
     ensures low { IfOk result (λ found. found.0 ≡ bound_negated (gap (built standing.now.present) (moment_of_point q.now) (moment_of_point p.now))) }
     ensures high { IfOk result (λ found. found.1 ≡ gap (built standing.now.present) (moment_of_point p.now) (moment_of_point q.now)) }
     ensures stops { IfErr result (StopsQuery standing.now.present (BoundsLine p.now q.now)) }
+    ensures named { IfErr result (NamesRefused standing.now.present (BoundsLine p.now q.now)) }
 {
     let (from, to) = resolve_both(alloc, standing, tree, net, p, q)?;
     Ok(bounds(tree, net, from, to))
@@ -89,9 +89,10 @@ pub(crate) fn ask_between(
     ensures known { IfOk result (λ answer. query_cause (built standing.now.present) (AskLine fact p.now q.now) ≡ None) }
     ensures answer { IfOk result (λ answer. finding_of answer ≡ ask (built standing.now.present) fact (moment_of_point p.now) (moment_of_point q.now)) }
     ensures stops { IfErr result (StopsQuery standing.now.present (AskLine fact p.now q.now)) }
+    ensures named { IfErr result (NamesRefused standing.now.present (AskLine fact p.now q.now)) }
 {
     if let Err(refusal) = standing.check_fact(fact) {
-        return Err(Stop::Refused(refusal));
+        return Err(Stop::Refused(name_refused(refusal, PointName::Begin(fact))));
     }
     let (from, to) = resolve_both(alloc, standing, tree, net, p, q)?;
     match ask(alloc, standing, tree, net, fact, from, to) {
@@ -117,6 +118,7 @@ pub(crate) fn path_between(
     ensures known { IfOk result (λ found. query_cause (built standing.now.present) (PathLine p.now q.now) ≡ None) }
     ensures gives { IfOk result (λ found. GivesPath (built standing.now.present) (moment_of_point p.now) (moment_of_point q.now) found.0 found.1.items) }
     ensures stops { IfErr result (StopsQuery standing.now.present (PathLine p.now q.now)) }
+    ensures named { IfErr result (NamesRefused standing.now.present (PathLine p.now q.now)) }
 {
     let (from, to) = resolve_both(alloc, standing, tree, net, p, q)?;
     let (_, far) = bounds(tree, net, from, to);
@@ -126,21 +128,23 @@ pub(crate) fn path_between(
     }
 }
 
-// The reasons of an occurrence.
-pub(crate) fn why_of(
+// Tells the reasons of an occurrence.
+pub(crate) fn tell_why<R: Listener>(
     alloc: Global,
     standing: &Standing,
     tree: &Tree,
     net: &DistNet,
     occ: &Occ,
-) -> Result<Seq<WhyLine>, Stop>
+    listener: &mut R,
+) -> Result<(), Stop>
     requires seen { IsTreeOf standing.now.present net.now.present tree.now }
     requires holds { Holds (built standing.now.present).believed (forest tree.now) }
     requires well_formed { IsWellFormedOcc occ.now }
-    ensures known { IfOk result (λ lines. query_cause (built standing.now.present) (WhyQuery occ.now) ≡ None) }
-    ensures reasons { IfOk result (λ lines. IsWhy (built standing.now.present) (moment_of occ.now) (map reason_of lines.items)) }
-    ensures shaped { IfOk result (λ lines. All IsShapedLine lines.items) }
+    ensures known { OnOk result (query_cause (built standing.now.present) (WhyQuery occ.now) ≡ None) }
+    ensures reasons { OnOk result (Hears R.parts_of (AreWhy (built standing.now.present) (moment_of occ.now)) (R.heard listener.old) (R.heard listener.new)) }
     ensures stops { IfErr result (StopsQuery standing.now.present (WhyQuery occ.now)) }
+    ensures named { IfErr result (NamesRefused standing.now.present (WhyQuery occ.now)) }
+    ensures unheard { IfErr result (HearsNothing (R.heard listener.old) (R.heard listener.new)) }
 {
-    why(alloc, standing, net, tree, occ)
+    why(alloc, standing, net, tree, occ, listener)
 }

@@ -1,7 +1,8 @@
 //! The bytes of every reply to a line of a script.
 //!
 //! Each call makes the whole reply in one buffer, and ensures that its bytes are the text which the
-//! definitions of `tmm_model` give for that answer under the line's number. It stands on `tmm_model`,
+//! definitions of `tmm_model` give for that answer under the line's number. `put_reason` makes a reply to
+//! `why` longer by a line. It stands on `tmm_model`,
 //! whose types it prints, and for `dump` on `premise_list` and `tmm_script`. Without memory for the
 //! reply a call answers `NoMemory`.
 #![tactic(auto)]
@@ -20,3 +21,4 @@ pub use memory::memory_reply;
 pub use questions::{
     Word, reply_answer, reply_bounds, reply_check, reply_list, reply_number, reply_path, reply_why,
 };
+pub use reasons::put_reason;

@@ -1,6 +1,9 @@
 -- What a session tells.
 use Rattle.std.proofs.lemmas.Bool.Decides.{leb_tells}
-use Rattle.std.proofs.Common.{◌≡◌, inl, inr, ℕ, List, ◌≤◌, ◌<◌, ◌↔◌, length, Result, Ok, Err, MatchResult, IfOk, refl, sym, ap, ◌∙◌, subst, arith}
+use Rattle.std.proofs.Common.{◌≡◌, inl, inr, ℕ, List, [], ◌∷◌, ◌++◌, append-nil, ◌≤◌, ◌<◌, ◌↔◌, length, Result, Ok, Err, MatchResult, IfOk, refl, sym, ap, ◌∙◌, subst, arith}
+use Rattle.std.specs.Prelude.{codes}
+use Rattle.std.specs.List.{flat_map}
+use Rattle.tmm_model.specs.declared.changes.WhyLine.{WhyLine}
 use Rattle.tmm_model.specs.declared.line.Line.{Line}
 use Rattle.tmm_model.specs.declared.line.Line.TheVariants.{Silent as Blank, Change, Question}
 use Rattle.tmm_model.specs.declared.line.Query.{Query}
@@ -15,7 +18,7 @@ use Rattle.tmm_model.specs.Lines.{words, ReadsLine}
 use Rattle.tmm_grammar.specs.Bare.{bare_line}
 use Rattle.tmm_grammar.specs.LineLaws.{ReadingIsOne}
 use Rattle.tmm_model.specs.declared.answer.Answer.TheVariants.{Yes, No, Unordered}
-use Rattle.tmm_model.specs.Replies.{Reply, Accepted, Refused, BoundsAre, PathIs, Answered, Reasons, BrokenAre, Believed, DumpIs, AuditYes, SizeIs, text_of, is_refusal}
+use Rattle.tmm_model.specs.Replies.{Reply, Accepted, Refused, BoundsAre, PathIs, Answered, Reasons, BrokenAre, Believed, DumpIs, AuditYes, SizeIs, head_line, text_of, why_lines, is_refusal}
 use Rattle.tmm_model.specs.Standing.{Standing}
 use Rattle.tmm_model.specs.Maps.{built}
 use Rattle.tmm_model.specs.Questions.{query_cause}
@@ -54,6 +57,12 @@ pub TellsMeaning-refused_query : (old : Standing) (k : ℕ) (query : Query) (ref
 TellsMeaning-refused_query old k query refusal t refused told =
     Tells-so k (λ reply. reply ≡ Refused refusal) (λ reply. AnswersLine old (Question query) reply old) (Unit {0}) (old ≡ old)
     (λ reply e. subst (λ r. AnswersLine old (Question query) r old) (sym e) (refused, refl)) (λ _. refl) t told
+
+-- the first line of a reply to `why`, and behind it the lines of reasons
+pub why_text : (k : ℕ) (lines : List WhyLine) (old new : List ℕ) → old ≡ text_of k (Reasons []) → new ≡ old ++ flat_map why_lines lines → new ≡ text_of k (Reasons lines)
+why_text k lines old new first grown =
+    grown
+    ∙ ap (λ l. l ++ flat_map why_lines lines) (first ∙ append-nil (head_line k (codes "why" ∷ [])))
 
 -- ---- what a line is answered
 

@@ -7,6 +7,7 @@
 
 mod session;
 mod told;
+mod why_text;
 
 pub use session::{Session, answer};
 pub use told::{Kind, Told};

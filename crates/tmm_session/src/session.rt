@@ -1,7 +1,7 @@
 // One line to one reply.
-ghost use Rattle.std.specs.Prelude.{◌≡◌, ◌+◌, ◌-◌, ◌^◌, ◌<◌, None, MatchResult};
+ghost use Rattle.std.specs.Prelude.{◌≡◌, ◌+◌, ◌-◌, ◌^◌, ◌<◌, [], None, MatchResult};
 ghost use Rattle.tmm_model.specs.Lines.{IsWellFormedEdit, IsWellFormedQuery};
-ghost use Rattle.tmm_model.specs.Replies.{Refused, Answered};
+ghost use Rattle.tmm_model.specs.Replies.{Refused, Answered, Reasons, text_of};
 ghost use Rattle.tmm_model.specs.Standing.{Standing};
 ghost use Rattle.tmm_model.specs.Transcript.{Step};
 ghost use Rattle.tmm_session.specs.Kinds.{kind_of};
@@ -9,6 +9,7 @@ ghost use Rattle.tmm_session.specs.Sessions.{Tells, TellsLine, TellsMeaning};
 ghost use Rattle.tmm_session.specs.LongLines.{Step-long};
 
 use crate::told::{Kind, Told};
+use crate::why_text::WhyText;
 use map_engine::MapCore;
 use projection::Counter;
 use replies::{
@@ -255,8 +256,24 @@ fn answer_why<M: MapCore>(alloc: Global, line: u64, occ: &Occ, core: &M) -> Told
     requires well_formed { IsWellFormedQuery (Query.Why occ.now) }
     ensures { TellsMeaning (M.list core.now) line (Line.Question (Query.Why occ.now)) result (M.list core.now) }
 {
-    match core.why(alloc, occ) {
-        Ok(lines) => reply(reply_why(alloc, line, lines.items()), Kind::Other),
+    match reply_why(alloc, line, &[]) {
+        Ok(bytes) => tell_why(alloc, line, occ, core, WhyText { bytes }),
+        Err(NoMemory) => Told::Memory,
+    }
+}
+
+// Tells the reasons behind this first line. They may be many, so each is written as it comes.
+fn tell_why<M: MapCore>(alloc: Global, line: u64, occ: &Occ, core: &M, mut text: WhyText) -> Told
+    requires idle { M.pending core.now ≡ None }
+    requires well_formed { IsWellFormedQuery (Query.Why occ.now) }
+    requires first { text.bytes.items ≡ text_of line (Reasons []) }
+    ensures { TellsMeaning (M.list core.now) line (Line.Question (Query.Why occ.now)) result (M.list core.now) }
+{
+    match core.why(alloc, occ, &mut text) {
+        Ok(()) => Told::Reply {
+            bytes: text.bytes,
+            kind: Kind::Other,
+        },
         Err(Stop::Refused(refusal)) => refuse(alloc, line, &refusal),
         Err(Stop::NoMemory) => Told::Memory,
     }

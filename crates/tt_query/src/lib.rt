@@ -11,7 +11,9 @@ mod asking;
 mod distances;
 mod firsts;
 mod points;
+mod refused;
 
 pub use asking::ask;
 pub use distances::bounds;
 pub use points::{resolve, resolve_why};
+pub use refused::name_refused;

@@ -10,8 +10,9 @@ ghost use Rattle.spots.specs.Seen.{IsSeen, Holds};
 ghost use Rattle.spots.specs.Spots.{IsSpot, spot_moment};
 ghost use Rattle.occ_tree.specs.OfLists.{IsTreeOf};
 ghost use Rattle.occ_tree.specs.Places.{forest};
-ghost use Rattle.tt_query.specs.Stops.{StopsPoint, StopsWhy, StopsUnknown};
+ghost use Rattle.tt_query.specs.Stops.{StopsPoint, StopsWhy, StopsUnknown, NamesPoint, point_of};
 
+use crate::refused::name_refused;
 use dist_net::DistNet;
 use list_net::number_of;
 use occ_tree::Tree;
@@ -20,8 +21,8 @@ use spots::Spot;
 use std::alloc::Global;
 use tmm_model::{Occ, PointName, QueryPoint, Refusal, Stop};
 
-/// The spot of a point that a question names, or the cause against its word. Memory is asked for only
-/// for the word of an occurrence that is not believed.
+/// The spot of a point that a question names, or the cause against its word, with the point as the
+/// question names it. Memory is asked for only for the word of an occurrence that is not believed.
 pub fn resolve(
     alloc: Global,
     standing: &Standing,
@@ -36,11 +37,12 @@ pub fn resolve(
     ensures spot { IfOk result (IsSpot net.now.present.names (forest tree.now)) }
     ensures moment { IfOk result (λ spot. spot_moment net.now.present.names (forest tree.now) spot ≡ moment_of_point point.now) }
     ensures stops { IfErr result (StopsPoint (built standing.now.present) point.now) }
+    ensures named { IfErr result (NamesPoint point.now) }
 {
     match point {
         QueryPoint::Declared(place) => match standing.check_place(*place) {
             Ok(()) => Ok(Spot::Declared(number_of(net, *place))),
-            Err(refusal) => Err(Stop::Refused(refusal)),
+            Err(refusal) => Err(Stop::Refused(name_refused(refusal, *place))),
         },
         QueryPoint::Derived(occ) => match tree.find(occ) {
             Some(x) => Ok(Spot::Node(x)),
@@ -49,8 +51,9 @@ pub fn resolve(
     }
 }
 
-/// The node of an occurrence whose reasons are asked for, or the cause against its word. Memory is
-/// asked for only for the word of an occurrence that is not believed.
+/// The node of an occurrence whose reasons are asked for, or the cause against its word, with the
+/// occurrence as a question names it: without rules it is a declared point. Memory is asked for only for
+/// the word of an occurrence that is not believed.
 pub fn resolve_why(alloc: Global, standing: &Standing, tree: &Tree, occ: &Occ) -> Result<u32, Stop>
     requires seen { (net : Net) × IsSeen standing.now.present net (forest tree.now) }
     requires holds { Holds (built standing.now.present).believed (forest tree.now) }
@@ -59,6 +62,7 @@ pub fn resolve_why(alloc: Global, standing: &Standing, tree: &Tree, occ: &Occ) -
     ensures there { IfOk result (IsLive (forest tree.now)) }
     ensures moment { IfOk result (λ x. moment_at (forest tree.now) x ≡ moment_of occ.now) }
     ensures stops { IfErr result (StopsWhy (built standing.now.present) occ.now) }
+    ensures named { IfErr result (NamesPoint (point_of occ.now occ.now.rules.items)) }
 {
     if occ.rules.items().is_empty() {
         return resolve_root(standing, tree, occ);
@@ -78,10 +82,11 @@ fn resolve_root(standing: &Standing, tree: &Tree, occ: &Occ) -> Result<u32, Stop
     ensures there { IfOk result (IsLive (forest tree.now)) }
     ensures moment { IfOk result (λ x. moment_at (forest tree.now) x ≡ moment_of occ.now) }
     ensures stops { IfErr result (StopsWhy (built standing.now.present) occ.now) }
+    ensures named { IfErr result (NamesPoint (point_of occ.now occ.now.rules.items)) }
 {
     let root = occ.root;
     if let Err(refusal) = standing.check_place(PointName::Begin(root)) {
-        return Err(Stop::Refused(refusal));
+        return Err(Stop::Refused(name_refused(refusal, PointName::Begin(root))));
     }
     // of what begins at a point, only a plain point is no occurrence
     match tree.find(occ) {
@@ -92,7 +97,8 @@ fn resolve_root(standing: &Standing, tree: &Tree, occ: &Occ) -> Result<u32, Stop
 
 // The refusal of an occurrence that is not believed.
 fn unknown(alloc: Global, occ: &Occ) -> Stop
-    ensures { StopsUnknown occ.now result }
+    ensures stops { StopsUnknown occ.now result }
+    ensures named { NamesPoint (QueryPoint.Derived occ.now) result }
 {
     match occ.copy(alloc) {
         Ok(occ) => Stop::Refused(Refusal::Unknown(QueryPoint::Derived(occ))),

@@ -1,4 +1,4 @@
-use Rattle.std.proofs.Common.{◌∙◌, [], ◌∷◌, refl, sym, ap, subst, rules, w64}
+use Rattle.std.proofs.Common.{◌∙◌, [], ◌∷◌, refl, sym, ap, subst, rules, w64, to_z, of_z}
 use Rattle.std.specs.Prelude.{FitsSigned}
 use Rattle.std.proofs.lemmas.Int.{to_z-of_z}
 use Rattle.tmm_model.specs.Beliefs.{rules_on}
@@ -11,6 +11,7 @@ use Rattle.supports.proofs.Rules.{rule_there}
 use Rattle.belief_net.specs.Decided.{AddsRows}
 use Rattle.belief_net.specs.Entering.{MarksReaders, a_token, an_event}
 use Rattle.belief_net.proofs.Brought.{once_on_kind, rules_on_kind, class_is_at, marks_under}
+use Rattle.belief_net.proofs.Covering.{entered_covered, added_covered}
 use Rattle.belief_net.proofs.entering.bring_about.Goals as goal
 
 pub enter_effect-requires-clause-rule : goal.enter_effect-requires-clause-rule
@@ -33,6 +34,21 @@ pub mark_readers-requires-clause-token : goal.mark_readers-requires-clause-token
 mark_readers-requires-clause-token c =
     let en = c.in_ok-effect.ensures.ok c.args.net.now.present c.requires.tree in
     (en.adds.node, en.adds.enters.entered, sym (c.row-row.ensures en.adds.node en.adds.enters.entered).class ∙ c.in-Some.is)
+
+pub mark_readers-requires-clause-covered : goal.mark_readers-requires-clause-covered
+mark_readers-requires-clause-covered c =
+    let en = c.in_ok-effect.ensures.ok c.args.net.now.present c.requires.tree in
+    entered_covered c.args.beliefs.now.tree c.enter_effect.new.tree c.args.beliefs.now.decisions c.args.marks.now c.requires.events en.dates c.requires.covered
+
+pub returns-in_ok-add_rows-in-None-clause-covered : goal.returns-in_ok-add_rows-in-None-clause-covered
+returns-in_ok-add_rows-in-None-clause-covered c =
+    let old = c.args.beliefs.now.decisions in
+    let t = c.enter_effect.new.tree in
+    let en = c.in_ok-effect.ensures.ok c.args.net.now.present c.requires.tree in
+    let fits : FitsSigned w64 c.early-early.result = search rules in
+    added_covered (present t) old c.add_rows.new.decisions c.args.marks.now (rules_on c.args.standing.now.present c.row-row.result.what) c.in_ok-effect.effect (to_z w64 (of_z w64 c.early-early.result))
+    (to_z-of_z w64 c.early-early.result fits ∙ c.early-early.ensures.date) c.in_ok-add_rows-in-None.ensures.adds
+    (entered_covered c.args.beliefs.now.tree t old c.args.marks.now c.requires.events en.dates c.requires.covered)
 
 pub returns-in_ok-mark_readers-in-Some-clause-ok : goal.returns-in_ok-mark_readers-in-Some-clause-ok
 returns-in_ok-mark_readers-in-Some-clause-ok c =

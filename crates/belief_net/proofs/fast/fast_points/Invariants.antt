@@ -1,4 +1,4 @@
-use Rattle.std.proofs.Common.{◌≡◌, ◌<◌}
+use Rattle.std.proofs.Common.{◌<◌}
 use Rattle.belief_net.specs.Fast.{IsFastBy}
 use Rattle.belief_net.specs.PointSets.{PutsIn}
 use Rattle.belief_net.proofs.fast.fast_points.Given as goal

@@ -1,4 +1,4 @@
-use Rattle.std.proofs.Common.{◌∙◌, ℕ, Bool, true, ◌<◌, List, length, sym, ap, subst, inl, arith}
+use Rattle.std.proofs.Common.{◌∙◌, ℕ, Bool, ◌<◌, List, length, sym, ap, subst, arith}
 use Rattle.belief_net.specs.Fast.{IsFastBy}
 use Rattle.belief_net.specs.PointSets.{AreThose, HaveOneOf}
 use Rattle.belief_net.proofs.Stood.{kept_both, fast_stand}

@@ -1,8 +1,10 @@
 use Rattle.std.proofs.Common.{◌≡◌, ◌+◌, None, sym, subst}
 use Rattle.std.proofs.lemmas.Result.{on_ok_weaker}
 use Rattle.occ_tree.specs.Places.{forest}
+use Rattle.occ_tree.specs.Standing.{present}
 use Rattle.projection.specs.Queues.{weight_at, IsTooLarge}
 use Rattle.projection.proofs.Ends.{err_kept}
+use Rattle.belief_net.specs.Covered.{Covers}
 use Rattle.belief_net.specs.Numbered.{StayNumbered, then_forest}
 use Rattle.belief_net.specs.Telling.{TellsEntry}
 use Rattle.belief_net.specs.Turns.{IsTurned, IsStopped}
@@ -44,6 +46,12 @@ returns-in-Ok-clause-ok c =
     entry_turned s net b old e due after c.requires.fires c.requires.fired brings c.in-Ok.ensures.last.decisions c.args.told.now c.enter.new.self
     (subst (λ x. TellsEntry s e.tree x c.args.told.now c.enter.new.self) (sym same) tells))
     c.enter.ensures.ok
+
+pub returns-in-Ok-clause-covered : goal.returns-in-Ok-clause-covered
+returns-in-Ok-clause-covered c =
+    let e = c.bring_about.new.beliefs in
+    on_ok_weaker {P = TellsEntry c.args.standing.now.present e.tree c.in-Ok.effect c.args.told.now c.enter.new.self} {Q = Covers (present e.tree) e.decisions c.bring_about.new.marks} c.enter.result
+    (λ tells. c.in-Ok.ensures.covered) c.enter.ensures.ok
 
 pub returns-in-Ok-clause-stops : goal.returns-in-Ok-clause-stops
 returns-in-Ok-clause-stops c =

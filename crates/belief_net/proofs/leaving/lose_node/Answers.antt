@@ -2,15 +2,25 @@ use Rattle.std.proofs.Common.{◌∙◌, refl, sym}
 use Rattle.std.proofs.lemmas.Result.{on_ok_weaker}
 use Rattle.spots.proofs.Nodes.{node_at}
 use Rattle.occ_tree.specs.Places.{forest}
+use Rattle.occ_tree.specs.Standing.{present}
 use Rattle.belief_net.specs.Entering.{MarksReaders}
 use Rattle.belief_net.specs.Leaving.{LosesNode, a_token, an_event}
 use Rattle.belief_net.proofs.Brought.{class_is_at}
+use Rattle.belief_net.proofs.Covering.{dropped_covered}
 use Rattle.belief_net.proofs.leaving.lose_node.Goals as goal
 
 pub mark_readers-requires-clause-token : goal.mark_readers-requires-clause-token
 mark_readers-requires-clause-token c =
     let (m, at) = node_at (forest c.args.tree.now) c.args.y c.requires.live in
     (m, at, sym (c.row.ensures m at).class ∙ c.in-Some.is)
+
+pub mark_readers-requires-clause-covered : goal.mark_readers-requires-clause-covered
+mark_readers-requires-clause-covered c =
+    dropped_covered (present c.args.tree.now) c.args.decisions.now c.drop_rows.new.decisions c.args.marks.now c.args.y c.in_ok-drop_rows.ensures.drops c.requires.covered
+
+pub returns-in-None-clause-covered : goal.returns-in-None-clause-covered
+returns-in-None-clause-covered c =
+    dropped_covered (present c.args.tree.now) c.args.decisions.now c.drop_rows.new.decisions c.args.marks.now c.args.y c.in_ok-drop_rows.ensures.drops c.requires.covered
 
 pub returns-in-Some-clause-ok : goal.returns-in-Some-clause-ok
 returns-in-Some-clause-ok c =

@@ -10,6 +10,7 @@ loop-y-init c = record {
   lost = lost_none c.args.net.now.present c.args.tree.now c.args.numbers.now c.args.decisions.now c.first.ensures.listed;
   events = c.requires.events;
   under = c.requires.under;
+  covered = c.requires.covered;
   last = last_stays c.args.decisions.now;
 }
 
@@ -32,6 +33,7 @@ loop-y-preserved c =
       lost = lost;
       events = lost_events net tree numbers _ old new lost c.requires.events;
       under = (c.requires.under.0, lost_under net tree numbers _ old new lost last c.requires.under.0 c.requires.under.1);
+      covered = c.in_ok-lose_node.ensures.covered;
       last = last;
     }
 

@@ -1,4 +1,6 @@
 use Rattle.std.proofs.Common.{take}
+use Rattle.occ_tree.specs.Standing.{present}
+use Rattle.belief_net.specs.Covered.{Covers}
 use Rattle.belief_net.specs.Decided.{table_of, AreOfSome, KeepsLast}
 use Rattle.belief_net.specs.Leaving.{LosesRows}
 use Rattle.belief_net.specs.Marks.{HaveEvents}
@@ -9,5 +11,6 @@ invariant-loop-y l = record {
   lost : LosesRows l.net.present l.tree l.numbers (take l.y-index l.numbers) l.fn.decisions l.decisions;
   events : HaveEvents l.tree (table_of l.decisions);
   under : AreOfSome l.decisions;
+  covered : Covers (present l.tree) l.decisions l.marks;
   last : KeepsLast l.fn.decisions l.decisions;
 }

@@ -1,7 +1,5 @@
-use Rattle.std.proofs.Common.{◌≡◌, ◌∙◌, List, ℕ, length, sym, ap, subst, inr, arith, eqb-true}
-use Rattle.undo_rows.specs.declared.row.Row.{Row as TableRow}
+use Rattle.std.proofs.Common.{◌≡◌, ◌∙◌, length, sym, ap, subst, inr, arith, eqb-true}
 use Rattle.undo_rows.specs.Changes.{present as table}
-use Rattle.decision_rows.specs.declared.row.Pair.{Pair}
 use Rattle.occ_tree.specs.Places.{forest}
 use Rattle.occ_tree.specs.Standing.{present}
 use Rattle.belief_net.specs.declared.state.Decisions.{Decisions}
@@ -34,8 +32,8 @@ returns-then-len-eq0-clause-ok c =
     wakes_none (present c.args.tree.now) (table_of d) (λ i row. IsRowMoved c.args.net.now c.args.added list f d row) (λ i row. IsRowAtRest c.args.net.now c.args.added list f d row) (dates_in d.waiting)
     (λ i row at. (let h = c.requires.under.named i row at in absurd (omega (arith, h, c.len.ensures, c.if-len-eq0.true))))
 
-pub moves_of-moves-requires-clause-start : goal.moves_of-moves-requires-clause-start
-moves_of-moves-requires-clause-start c = start_kept c.args.net.now.present.names c.args.added c.requires.seen.network.start
+pub moves_of-requires-clause-start : goal.moves_of-requires-clause-start
+moves_of-requires-clause-start c = start_kept c.args.net.now.present.names c.args.added c.requires.seen.network.start
 
 -- what is told of what moved
 told : (c : In_ok-moves) → TellMoves c.args.net.now c.in_ok-moves.moves

@@ -1,4 +1,4 @@
-use Rattle.std.proofs.Common.{◌≡◌, ◌∙◌, ◌<◌, length, ap, subst, sym, arith}
+use Rattle.std.proofs.Common.{◌≡◌, ◌∙◌, ◌<◌, length, refl, ap, subst, arith}
 use Rattle.undo_rows.specs.Changes.{present as table}
 use Rattle.occ_tree.specs.Standing.{present}
 use Rattle.joined.specs.Listed.{IsListedUnder}
@@ -11,7 +11,7 @@ use Rattle.belief_net.proofs.Waking.{classes_none, classes_next}
 use Rattle.belief_net.proofs.moving.wake_classes.Goals as goal
 
 pub loop-class-init : goal.loop-class-init
-loop-class-init c = ?
+loop-class-init c = record { wakes = classes_none (present c.args.tree.now) c.args.net.now c.args.moves.now c.args.decisions.now (dates_in c.args.decisions.now.waiting); others = refl }
 
 pub loop-class-preserved : goal.loop-class-preserved
 loop-class-preserved c =
@@ -22,7 +22,7 @@ loop-class-preserved c =
     let new = dates_in c.wake_class.new.waiting in
     let others = c.loop-class.invariant.others in
     let name = c.name-name.ensures ∙ ap (λ (z : Decisions). name_in z.classes n) others in
-    let short : n < length d.classes = ? in
+    let short : n < length d.classes = omega (arith, c.loop-class-test.true, c.len-class-end.ensures) in
     record {
       wakes = classes_next s c.args.net.now c.args.moves.now d n (dates_in d.waiting) mid new short c.loop-class.invariant.wakes
           (subst (λ class. WakesFor s (table_of d) c.args.net.now c.args.moves.now class (IsListedUnder (table_of d) n) mid new) name
@@ -31,4 +31,6 @@ loop-class-preserved c =
     }
 
 pub returns-clause-ok : goal.returns-clause-ok
-returns-clause-ok c = subst (λ n. WakesForAll (present c.args.tree.now) c.args.net.now c.args.moves.now c.args.decisions.now n (dates_in c.args.decisions.now.waiting) (dates_in c.loop-class.decisions.waiting)) ? c.loop-class.invariant.wakes
+returns-clause-ok c =
+    let whole : c.loop-class.class ≡ length c.args.decisions.now.classes = omega (arith, c.loop-class-test.false, c.len-class-end.ensures) in
+    subst (λ n. WakesForAll (present c.args.tree.now) c.args.net.now c.args.moves.now c.args.decisions.now n (dates_in c.args.decisions.now.waiting) (dates_in c.loop-class.decisions.waiting)) whole c.loop-class.invariant.wakes

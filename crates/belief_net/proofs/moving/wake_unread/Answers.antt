@@ -1,13 +1,7 @@
-use Rattle.std.proofs.Common.{◌≡◌, ◌∙◌, ℕ, [], List, Bool, ap, sym, subst, arith}
-use Rattle.std.specs.Prelude.{OnOk}
-use Rattle.tmm_model.specs.Moments.{rule_of}
+use Rattle.std.proofs.Common.{◌≡◌, ◌∙◌, ℕ, List, Bool, refl, ap, subst, arith}
 use Rattle.spots.specs.declared.spot.Spot.TheVariants.{Declared}
-use Rattle.undo_rows.specs.Changes.{present as table}
-use Rattle.occ_tree.specs.Places.{forest}
 use Rattle.occ_tree.specs.Standing.{present}
 use Rattle.belief_net.specs.declared.state.Decisions.{Decisions}
-use Rattle.belief_net.specs.ByEvent.{IsOfRuleAt}
-use Rattle.belief_net.specs.Marks.{Marks}
 use Rattle.belief_net.specs.Numbers.{name_in}
 use Rattle.belief_net.specs.Touching.{IsTouchedAt}
 use Rattle.belief_net.specs.Waiting.{dates_in}
@@ -16,7 +10,14 @@ use Rattle.belief_net.proofs.Unread.{unread_none, unread_next, unread_all}
 use Rattle.belief_net.proofs.moving.wake_unread.Goals as goal
 
 pub loop-rule-init : goal.loop-rule-init
-loop-rule-init c = ?
+loop-rule-init c =
+    let at = subst (λ (l : List Bool). IsTouchedAt l c.in_ok-reach.reach c.in_ok-events.events) c.deref.ensures.value c.in_ok-events.ensures in
+    record {
+      touched = λ (x : ℕ). touched_moves (present c.args.tree.now) (λ p. p ≡ Declared 0) c.args.moves.now.pairs.items c.in_ok-reach.reach c.requires.moves.itself c.in_ok-reach.ensures.all c.in_ok-reach.ensures.bounded c.requires.below x
+          c.in_ok-events.events at;
+      wakes = unread_none c.args.standing.now.present c.args.decisions.now c.requires.under c.first.ensures.listed (present c.args.tree.now) c.args.moves.now (dates_in c.args.decisions.now.waiting);
+      others = refl;
+    }
 
 pub loop-rule-preserved : goal.loop-rule-preserved
 loop-rule-preserved c =
@@ -29,12 +30,12 @@ loop-rule-preserved c =
     let new = c.mark_unread.new.waiting in
     let rows_same = ap (λ (z : Decisions). z.rows) c.loop-rule.invariant.others in
     let named = c.name-name.ensures ∙ ap (λ (z : Decisions). name_in z.rules n) c.loop-rule.invariant.others in
-    let at = subst (λ (l : List Bool). IsTouchedAt l c.in_ok-reach.reach c.in_ok-events.events) c.deref.ensures.value c.in_ok-events.ensures in
-    let touched = λ (x : ℕ). touched_moves s (λ p. p ≡ Declared 0) moves.pairs.items c.in_ok-reach.reach c.requires.moves.itself c.in_ok-reach.ensures.all c.in_ok-reach.ensures.bounded c.requires.below x c.in_ok-events.events at in
+    let touched = c.loop-rule.invariant.touched in
     record {
-      wakes = unread_next list d c.requires.under c.first.ensures.listed s moves n c.name-name.result named c.in_ok-events.events (dates_in d.waiting) (dates_in mid) (dates_in new) touched
+      touched = touched;
+      wakes = unread_next list d c.requires.under c.first.ensures.listed s moves n c.name-name.result named _ c.loop-rule.decisions.rows (dates_in d.waiting) (dates_in mid) (dates_in new) rows_same touched
           c.loop-rule.invariant.wakes
-          (λ none. subst (λ r. Marks s (table r) (IsOfRuleAt (table r) n c.in_ok-events.events s) (dates_in mid) (dates_in new)) rows_same (c.in_ok-mark_unread.ensures.unread none))
+          (λ none. c.in_ok-mark_unread.ensures.unread none)
           (λ some. ap dates_in (c.in_ok-mark_unread.ensures.other some));
       others = ap (λ (z : Decisions). record z { waiting = new }) c.loop-rule.invariant.others;
     }

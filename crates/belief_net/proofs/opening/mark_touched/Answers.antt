@@ -1,6 +1,5 @@
 use Rattle.std.proofs.Common.{◌≡◌, ◌∙◌, ◌⊎◌, ℕ, Bool, true, false, OnOk, List, Option, Some, refl, sym, ap, subst, inl, inr}
 use Rattle.tmm_model.specs.declared.premise.Edit.{Edit}
-use Rattle.tmm_model.specs.declared.premise.Edit.TheVariants.{Horizon}
 use Rattle.std.specs.Prelude.{◌+ℤ◌}
 use Rattle.tmm_model.specs.Moments.{rule_of}
 use Rattle.tmm_model.specs.Standing.{Standing}
@@ -55,4 +54,4 @@ returns-in-Horizon-clause-ok c =
     (marks_wake (present b.tree) (table_of b.decisions) (λ i row. IsDueBetween s (present b.tree) b.decisions c.args.before s.horizon row) (λ i row. IsDueBetween s (present b.tree) b.decisions c.args.before s.horizon row → ⊥)
     (dates_in b.decisions.waiting) (dates_in new)
     (λ i row at. between_or s (present b.tree) b.decisions c.args.before s.horizon row)
-    c.in_ok-mark_horizon.ensures.ok)
+    c.in_ok-mark_horizon-in-Horizon.ensures.ok)

@@ -1,7 +1,12 @@
 use Rattle.std.proofs.Common.{◌∙◌, ◌≤◌, refl, sym, subst, rules, arith, Fits, w64}
 use Rattle.std.proofs.lemmas.Result.{err_from_is_err_and}
+use Rattle.occ_tree.specs.Standing.{present, early}
+use Rattle.belief_net.specs.Covered.{Covers}
+use Rattle.belief_net.specs.Decided.{table_of}
 use Rattle.belief_net.specs.Settling.{IfBegun, IsSettled}
 use Rattle.belief_net.specs.Turns.{TurnsOrRests}
+use Rattle.belief_net.specs.Waiting.{dates_in}
+use Rattle.belief_net.proofs.Covered.{none_covered}
 use Rattle.belief_net.proofs.Named.{last_stays, last_on}
 use Rattle.belief_net.proofs.Numbering.{same_numbered, numbered_on}
 use Rattle.belief_net.proofs.Rises.{counts_on}
@@ -10,6 +15,7 @@ use Rattle.belief_net.proofs.settling.settle.Goals as goal
 
 pub loop-init : goal.loop-init
 loop-init c =
+    let b = c.args.beliefs.now in
     let fits : Fits w64 c.value.result = search rules in
     let same = c.value.ensures in
     let few : c.args.count.now ≤ 18446744073709551615 = omega (arith, fits, same) in
@@ -17,6 +23,7 @@ loop-init c =
       fit = c.requires.fit;
       revising = c.requires.revising;
       weighed = c.requires.weighed;
+      covered = subst (Covers (present b.tree) b.decisions) (sym c.make-marks.ensures) (none_covered (early (present b.tree)) (table_of b.decisions).row (dates_in b.decisions.waiting));
       so_far = so_far_first c.args.standing.now.present c.args.net.now.present c.args.beliefs.now c.args.told.now c.args.count.now few;
       numbered = same_numbered c.args.standing.now.present c.args.beliefs.now c.args.beliefs.now c.args.told.now refl;
       rises = (omega arith, few);
@@ -64,6 +71,7 @@ loop-preserved c =
       fit = t.fit;
       revising = revising_on s net b e c.loop.told c.turn.new.told inv.revising t;
       weighed = t.weighed inv.weighed;
+      covered = c.in_ok-turn.ensures.covered;
       so_far = so_far_on s net a b e c.args.told.now c.loop.told c.turn.new.told c.args.count.now c.loop.count c.turn.new.counter inv.so_far t one;
       numbered = numbered_on s a b e c.args.told.now c.loop.told c.turn.new.told inv.numbered c.in_ok-turn.ensures.numbered;
       rises = counts_on b c.args.count.now c.loop.count c.turn.new.counter inv.rises c.in_ok-turn.ensures.counted;

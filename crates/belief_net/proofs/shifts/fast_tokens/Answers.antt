@@ -1,4 +1,4 @@
-use Rattle.std.proofs.Common.{List, ℕ, subst}
+use Rattle.std.proofs.Common.{List, ℕ, sym, subst}
 use Rattle.std.proofs.lemmas.List.Elements.{All-nil}
 use Rattle.std.specs.List.{All}
 use Rattle.occ_tree.specs.Places.{forest}
@@ -8,10 +8,12 @@ use Rattle.belief_net.proofs.Shifted.{row_node, row_class}
 use Rattle.belief_net.proofs.shifts.fast_tokens.Goals as goal
 
 pub loop-i-init : goal.loop-i-init
-loop-i-init c = All-nil (IsFastToken (forest c.args.tree.now) (is_out c.args.fast.now) c.args.class.now)
+loop-i-init c =
+    let is = IsFastToken (forest c.args.tree.now) (is_out c.args.fast.now) c.args.class.now in
+    subst (All is) (sym c.new-tokens.ensures.items) (All-nil is)
 
 pub note_fast-requires : goal.note_fast-requires
-note_fast-requires c = row_node (forest c.args.tree.now) c.args.class.now c.tokens-rows.result.now c.tokens-rows.ensures.rows c.loop-i.i c.index-rows-i.result c.loop-i-test.true c.index-rows-i.is
+note_fast-requires c = record { row = row_node (forest c.args.tree.now) c.args.class.now c.tokens-rows.result.now c.tokens-rows.ensures.rows c.loop-i.i c.index-rows-i.result c.loop-i-test.true c.index-rows-i.is }
 
 pub loop-i-preserved : goal.loop-i-preserved
 loop-i-preserved c =

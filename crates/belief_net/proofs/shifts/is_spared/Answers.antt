@@ -6,12 +6,12 @@ use Rattle.belief_net.proofs.shifts.is_spared.Goals as goal
 pub is_spared_at-requires-clause-behind : goal.is_spared_at-requires-clause-behind
 is_spared_at-requires-clause-behind c = subst (TokensHaveBoth c.args.net.now) (sym c.deref.ensures.value) c.requires.shift.before
 
-pub is_spared_at-requires-clause-behind-2 : goal.is_spared_at-requires-clause-behind-2
-is_spared_at-requires-clause-behind-2 c = ?
+pub is_spared_at-requires-2-clause-behind : goal.is_spared_at-requires-2-clause-behind
+is_spared_at-requires-2-clause-behind c = subst (TokensHaveBoth c.args.net.now) (sym c.deref-2.ensures.value) c.requires.shift.after
 
 pub returns-clause-before : goal.returns-clause-before
 returns-clause-before c is =
-    subst (λ (l : List FastToken). IsSparedBy c.args.net.now.committed c.args.shift.now.place l c.args.event.now) c.deref.ensures.value (c.is_spared_at.ensures c.if-is_spared_at.false)
+    subst (λ (l : List FastToken). IsSparedBy c.args.net.now.committed c.args.shift.now.place l c.args.event.now) c.deref.ensures.value (c.is_spared_at.ensures c.if-not-is_spared_at.false)
 
 pub returns-clause-after : goal.returns-clause-after
 returns-clause-after c is =

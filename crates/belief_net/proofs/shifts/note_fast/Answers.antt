@@ -10,17 +10,17 @@ use Rattle.belief_net.proofs.Shifted.{fast_row}
 use Rattle.belief_net.proofs.shifts.note_fast.Goals as goal
 
 pub place_at-place-requires : goal.place_at-place-requires
-place_at-place-requires c = let (x, m, is) = c.requires in (x, live_at (forest c.args.tree.now) x m is.here, is.spot)
+place_at-place-requires c = let (x, m, is) = c.requires.row in (x, live_at (forest c.args.tree.now) x m is.here, is.spot)
 
-pub returns-then-stands_fast : goal.returns-then-stands_fast
-returns-then-stands_fast c = λ before. before
+pub returns-then-not-stands_fast : goal.returns-then-not-stands_fast
+returns-then-not-stands_fast c = λ before. before
 
 pub returns : goal.returns
 returns c =
     let f = forest c.args.tree.now in
     let fast = c.args.fast.now in
     let row = c.args.row.now in
-    let (x, m, is) = c.requires in
+    let (x, m, is) = c.requires.row in
     let place = c.place_at-place.result in
     let at = c.place_at-place.ensures x is.spot in
     let token : FastToken = record { place = place; fact = row.fact } in
@@ -30,7 +30,7 @@ returns c =
       token = m;
       here = is.here;
       of = is.class;
-      fast = fast_row f fast row x m place is at (sym c.stands_fast.ensures ∙ c.if-stands_fast.false);
+      fast = fast_row f fast row x m place is at (sym c.stands_fast.ensures ∙ c.if-not-stands_fast.false);
       place = at;
       fact = is.fact;
     }))

@@ -16,12 +16,12 @@ returns-then-stands_fast c =
     ap (λ (l : List Bool). stands_fast l c.place_at-place.result c.args.row.now.end) (sym c.deref.ensures.value) ∙ sym c.stands_fast.ensures ∙ c.if-stands_fast.true in
     λ more. noted_fast (forest c.args.tree.now) c.args.moves.now.fast.items c.args.net.now c.args.row.now c.args.shifts.now.items c.place_at-place.result c.place_at-place.ensures stands
 
-pub shift_of-shift-requires-clause-place : goal.shift_of-shift-requires-clause-place
-shift_of-shift-requires-clause-place c =
-    c.requires.kept c.place_at-place.result.base (ap (λ (l : List Bool). is_in l c.place_at-place.result.base) (sym c.deref-2.ensures.value) ∙ sym c.is_in.ensures ∙ c.if-is_in.false)
+pub shift_of-requires-clause-place : goal.shift_of-requires-clause-place
+shift_of-requires-clause-place c =
+    c.requires.kept c.place_at-place.result.base (ap (λ (l : List Bool). is_in l c.place_at-place.result.base) (sym c.deref-2.ensures.value) ∙ sym c.is_in.ensures ∙ c.if-not-is_in.false)
 
-pub shift_of-shift-requires-clause-tokens : goal.shift_of-shift-requires-clause-tokens
-shift_of-shift-requires-clause-tokens c =
+pub shift_of-requires-clause-tokens : goal.shift_of-requires-clause-tokens
+shift_of-requires-clause-tokens c =
     tokens_both (forest c.args.tree.now) c.args.moves.now.fast.items c.args.net.now c.args.row.now.class c.args.tokens.now c.requires.fast c.requires.tokens
 
 pub returns : goal.returns
@@ -31,7 +31,7 @@ returns c =
     let nets = c.args.net.now in
     let row = c.args.row.now in
     let place = c.place_at-place.result in
-    let in_both = c.requires.kept place.base (ap (λ (l : List Bool). is_in l place.base) (sym c.deref-2.ensures.value) ∙ sym c.is_in.ensures ∙ c.if-is_in.false) in
+    let in_both = c.requires.kept place.base (ap (λ (l : List Bool). is_in l place.base) (sym c.deref-2.ensures.value) ∙ sym c.is_in.ensures ∙ c.if-not-is_in.false) in
     let have = tokens_both f fast nets row.class c.args.tokens.now c.requires.fast c.requires.tokens in
     λ more. subst (NotesRow nets f (is_out fast) row c.args.shifts.now.items) (sym c.in_ok-push.ensures)
     (noted_loose f fast nets row c.args.shifts.now.items place c.args.tokens.now c.in_ok-shift.shift c.place_at-place.ensures in_both c.requires.tokens have c.in_ok-shift.ensures)

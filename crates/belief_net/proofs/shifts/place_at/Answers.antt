@@ -12,5 +12,5 @@ one_node x y e = cc
 pub place_of-requires : goal.place_of-requires
 place_of-requires c = let (x, live, is) = c.requires in subst (IsLive (forest c.args.tree.now)) (one_node x c.in-Node.x (sym is ∙ c.in-Node.is)) live
 
-pub returns-in-Node : goal.returns-in-Node
-returns-in-Node c y is = subst (λ z. IsPlaceOf (forest c.args.tree.now) z c.place_of.result) (one_node c.in-Node.x y (sym c.in-Node.is ∙ is)) c.place_of.ensures
+pub returns : goal.returns
+returns c y is = subst (λ z. IsPlaceOf (forest c.args.tree.now) z c.place_of.result) (one_node c.in-Node.x y (sym c.in-Node.is ∙ is)) c.place_of.ensures

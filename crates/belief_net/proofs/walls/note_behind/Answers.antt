@@ -12,4 +12,4 @@ returns c tokens listed before =
     let net = net_at c.args.net.now c.args.before in
     subst (AreBehind net c.args.place.now tokens) (sym c.in_ok-push.ensures)
     (All-push (λ (t : FastToken). Contains tokens t × TellsWithin net t.place c.args.place.now (negsuc 0) true) c.args.behind.now.items c.args.token.now before
-    (listed, c.is_surely_within.ensures c.if-is_surely_within.false))
+    (listed, c.is_surely_within.ensures c.if-not-is_surely_within.false))

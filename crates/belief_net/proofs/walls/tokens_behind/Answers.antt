@@ -5,10 +5,13 @@ use Rattle.std.specs.Prelude.{negsuc}
 use Rattle.belief_net.specs.declared.walls.FastToken.{FastToken}
 use Rattle.belief_net.specs.Fast.{IsInBoth}
 use Rattle.belief_net.specs.Places.{net_at, TellsWithin}
+use Rattle.belief_net.specs.Shifts.{AreBehind}
 use Rattle.belief_net.proofs.walls.tokens_behind.Goals as goal
 
 pub loop-i-init : goal.loop-i-init
-loop-i-init c = All-nil (λ (t : FastToken). Contains c.args.tokens.now t × TellsWithin (net_at c.args.net.now c.args.before) t.place c.args.place.now (negsuc 0) true)
+loop-i-init c =
+    subst (AreBehind (net_at c.args.net.now c.args.before) c.args.place.now c.args.tokens.now) (sym c.new-behind.ensures.items)
+    (All-nil (λ (t : FastToken). Contains c.args.tokens.now t × TellsWithin (net_at c.args.net.now c.args.before) t.place c.args.place.now (negsuc 0) true))
 
 pub note_behind-requires-clause-token : goal.note_behind-requires-clause-token
 note_behind-requires-clause-token c = subst (λ (t : FastToken). IsInBoth c.args.net.now t.place.base) (sym c.index-tokens-i.is) (c.requires.tokens c.loop-i.i c.index-tokens-i.result c.loop-i-test.true)

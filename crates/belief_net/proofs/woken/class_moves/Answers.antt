@@ -1,9 +1,7 @@
-use Rattle.std.proofs.Common.{◌≡◌, List, Bool, refl, sym, ap, subst}
+use Rattle.std.proofs.Common.{List, Bool, subst}
 use Rattle.occ_tree.specs.Places.{forest}
 use Rattle.occ_tree.specs.Standing.{present}
 use Rattle.joined.specs.Shifting.{IsSpotOf}
-use Rattle.belief_net.specs.PointSets.{AreThose}
-use Rattle.belief_net.specs.Reach.{IsBaseOf}
 use Rattle.belief_net.specs.Touching.{IsTouchedAt}
 use Rattle.belief_net.proofs.Touched.{touched_moves}
 use Rattle.belief_net.proofs.woken.class_moves.Goals as goal
@@ -13,5 +11,5 @@ returns-clause-moves c = record {
   events = λ x. touched_moves (present c.args.tree.now) (IsSpotOf (forest c.args.tree.now) c.args.class) c.args.moves.now.pairs.items c.in_ok-reach.reach c.requires.moves.itself
       c.in_ok-reach.ensures.all c.in_ok-reach.ensures.bounded c.requires.below x c.in_ok-events.events
       (subst (λ (l : List Bool). IsTouchedAt l c.in_ok-reach.reach c.in_ok-events.events) c.deref.ensures.value c.in_ok-events.ensures);
-  shifts = ?;
+  shifts = c.in_ok-shifts.ensures;
 }

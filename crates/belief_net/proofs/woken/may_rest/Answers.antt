@@ -1,4 +1,4 @@
-use Rattle.std.proofs.Common.{◌≡◌, ◌∙◌, Bool, true, false, not, sym, ap, inl, inr}
+use Rattle.std.proofs.Common.{◌≡◌, ◌∙◌, Bool, true, false, not, sym, inl, inr}
 use Rattle.belief_net.proofs.woken.may_rest.Goals as goal
 
 not_both : {P : Type 0} (v : Bool) → v ≡ true → v ≡ false → P

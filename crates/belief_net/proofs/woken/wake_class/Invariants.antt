@@ -1,10 +1,15 @@
+use Rattle.std.proofs.Common.{◌≡◌}
 use Rattle.undo_rows.specs.Changes.{present as table}
 use Rattle.occ_tree.specs.Standing.{present}
 use Rattle.belief_net.specs.Waiting.{dates_in}
-use Rattle.belief_net.specs.Woken.{WakesFor}
+use Rattle.belief_net.specs.Woken.{AreMovesOf, WakesFor}
 use Rattle.belief_net.proofs.Waking.{UnderFirst}
 use Rattle.belief_net.proofs.woken.wake_class.Given as goal
 
 abbrev pub invariant-loop-antecedent : goal.invariant-loop-antecedent
-invariant-loop-antecedent l =
-    WakesFor (present l.tree) (table l.rows) l.net l.moves l.class (UnderFirst (present l.tree) (table l.rows) l.net l.moves l.class l.antecedent l.number) (dates_in l.fn.waiting) (dates_in l.waiting)
+invariant-loop-antecedent l = record {
+  class : l.of_class.class ≡ l.fn.class;
+  moves : AreMovesOf l.net l.moves (present l.tree) l.of_class;
+  wakes : WakesFor (present l.tree) (table l.rows) l.net l.moves l.fn.class (UnderFirst (present l.tree) (table l.rows) l.net l.moves l.fn.class l.antecedent l.number)
+      (dates_in l.fn.waiting) (dates_in l.waiting);
+}

@@ -21,4 +21,4 @@ pub returns-in-None-clause-stops : goal.returns-in-None-clause-stops
 returns-in-None-clause-stops c =
     let m = built c.args.standing.now.present in
     subst (λ (p : QueryPoint). StopsPoint m p c.unknown.result) (sym c.in-Derived.is)
-    (stops_derived m c.in-Derived.occ c.unknown.result (a_cause c.args.standing.now.present (forest c.args.tree.now) c.requires.holds c.in-Derived.occ c.in-None.ensures) c.unknown.ensures)
+    (stops_derived m c.in-Derived.occ c.unknown.result (a_cause c.args.standing.now.present (forest c.args.tree.now) c.requires.holds c.in-Derived.occ c.in-None.ensures) c.unknown.ensures.stops)

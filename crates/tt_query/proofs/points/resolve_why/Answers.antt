@@ -16,4 +16,4 @@ pub returns-in-None-clause-stops : goal.returns-in-None-clause-stops
 returns-in-None-clause-stops c =
     let o = c.args.occ.now in
     let some : o.rules.items ≢ [] = λ e. (let empty : true ≡ false = sym (c.is_empty.ensures ∙ ap (λ (l : List (List ℕ)). length l == 0) (c.items.ensures ∙ e)) ∙ c.if-is_empty.false in cc) in
-    stops_why (built c.args.standing.now.present) o o.rules.items c.unknown.result some (a_cause c.args.standing.now.present (forest c.args.tree.now) c.requires.holds o c.in-None.ensures) c.unknown.ensures
+    stops_why (built c.args.standing.now.present) o o.rules.items c.unknown.result some (a_cause c.args.standing.now.present (forest c.args.tree.now) c.requires.holds o c.in-None.ensures) c.unknown.ensures.stops

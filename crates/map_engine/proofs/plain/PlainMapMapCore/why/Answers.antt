@@ -7,7 +7,7 @@ use Rattle.map_engine.specs.Plain.{MapState}
 use Rattle.map_engine.proofs.Told.{none_pending}
 use Rattle.map_engine.proofs.plain.PlainMapMapCore.why.Goals as goal
 
-pub why_of-requires-clause-holds : goal.why_of-requires-clause-holds
-why_of-requires-clause-holds c =
+pub tell_why-requires-clause-holds : goal.tell_why-requires-clause-holds
+tell_why-requires-clause-holds g c =
     let settled = c.self.invariant.settled (none_pending c.self.inside.standing.present c.self.inside.next (ap (λ (m : MapState). m.pending) c.self.view_is ∙ c.requires.idle)) in
     subst (λ (s : Standing). Holds (built s).believed (forest c.self.inside.beliefs.tree)) (sym settled.list) c.self.invariant.believed.holds

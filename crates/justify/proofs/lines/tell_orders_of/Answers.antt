@@ -1,4 +1,4 @@
-use Rattle.std.proofs.Common.{◌∙◌, List, [], ◌∷◌, sym, subst}
+use Rattle.std.proofs.Common.{◌∙◌, List, [], ◌∷◌, ◌++◌, sym, subst}
 use Rattle.std.specs.Prelude.{Some, None}
 use Rattle.std.specs.List.{All}
 use Rattle.std.specs.Option.{option_and_then}
@@ -13,25 +13,25 @@ use Rattle.spots.specs.Forest.{moment_at}
 use Rattle.spots.specs.Spots.{spot_moment}
 use Rattle.occ_tree.specs.Places.{forest}
 use Rattle.spots.proofs.Nodes.{node_at}
-use Rattle.justify.specs.Lines.{IsInOrder, AddsOrders}
-use Rattle.justify.proofs.Told.{more_orders, end_in_use, pairs_are}
-use Rattle.justify.proofs.lines.add_orders_of.Goals as goal
+use Rattle.justify.specs.Lines.{IsInOrder, AreOrders, Hears}
+use Rattle.justify.proofs.Told.{end_in_use, hears_more, more_orders, pairs_are}
+use Rattle.justify.proofs.lines.tell_orders_of.Goals as goal
 
-pub add_order-requires-clause-in_order : goal.add_order-requires-clause-in_order
-add_order-requires-clause-in_order c =
+pub tell_order-requires-clause-in_order : goal.tell_order-requires-clause-in_order
+tell_order-requires-clause-in_order g c =
     let s = c.args.standing.now.present in
     let t = moment_at (forest c.args.tree.now) c.args.event in
     let k = moment_at (forest c.args.tree.now) c.args.x in
     All-head (IsInOrder (built s)) (k, t) (end_pair (built s) t (option_and_then (λ row. row.end) (token_of s k))) c.requires.in_order
 
-pub add_order-requires-in-Some-clause-second : goal.add_order-requires-in-Some-clause-second
-add_order-requires-in-Some-clause-second c =
+pub tell_order-requires-in-Some-clause-second : goal.tell_order-requires-in-Some-clause-second
+tell_order-requires-in-Some-clause-second g c =
     let f = forest c.args.tree.now in
     let (m, here) = node_at f c.args.x c.requires.live in
     end_in_use c.args.standing.now.present c.args.net.now.present f c.requires.seen.seen c.args.x m here c.in-Some.end (sym (c.row.ensures m here).end ∙ c.in-Some.is)
 
-pub add_order-requires-in-Some-clause-in_order : goal.add_order-requires-in-Some-clause-in_order
-add_order-requires-in-Some-clause-in_order c =
+pub tell_order-requires-in-Some-clause-in_order : goal.tell_order-requires-in-Some-clause-in_order
+tell_order-requires-in-Some-clause-in_order g c =
     let s = c.args.standing.now.present in
     let net = c.args.net.now.present in
     let f = forest c.args.tree.now in
@@ -43,8 +43,8 @@ add_order-requires-in-Some-clause-in_order c =
     let last : Moment × Moment = (t, spot_moment net.names f (Declared c.in-Some.end)) in
     All-head (IsInOrder (built s)) last [] (All-tail (IsInOrder (built s)) (k, t) (last ∷ []) both)
 
-pub returns-in-Some-clause-orders : goal.returns-in-Some-clause-orders
-returns-in-Some-clause-orders c =
+pub returns-in-Some : goal.returns-in-Some
+returns-in-Some g c =
     let s = c.args.standing.now.present in
     let net = c.args.net.now.present in
     let f = forest c.args.tree.now in
@@ -52,24 +52,24 @@ returns-in-Some-clause-orders c =
     let k = moment_at f c.args.x in
     let (m, here) = node_at f c.args.x c.requires.live in
     let ends = sym (c.row.ensures m here).end ∙ c.in-Some.is in
-    let old = c.args.lines.now.items in
-    let mid = c.add_order.new.lines.items in
-    let new = c.add_order-in-Some.new.lines.items in
-    on_ok_weaker c.add_order-in-Some.result
+    let begins : List (Moment × Moment) = (k, t) ∷ [] in
+    let lasts : List (Moment × Moment) = (t, spot_moment net.names f (Declared c.in-Some.end)) ∷ [] in
+    let old = g.R.Listener.heard c.args.listener.now in
+    let new = g.R.Listener.heard c.tell_order-in-Some.new.listener in
+    on_ok_weaker c.tell_order-in-Some.result
     (λ second.
-    subst (λ (ps : List (Moment × Moment)). AddsOrders (built s) ps old new) (sym (pairs_are s net f c.requires.seen.seen c.args.x m here t (Some c.in-Some.end) ends))
-    (more_orders (built s) ((k, t) ∷ []) ((t, spot_moment net.names f (Declared c.in-Some.end)) ∷ []) old mid new c.in_ok-add_order.ensures.orders second))
-    c.add_order-in-Some.ensures.orders
+    subst (λ (ps : List (Moment × Moment)). Hears g.R.Listener.parts_of (AreOrders (built s) ps) old new) (sym (pairs_are s net f c.requires.seen.seen c.args.x m here t (Some c.in-Some.end) ends))
+    (hears_more g.R.Listener.parts_of (AreOrders (built s) begins) (AreOrders (built s) lasts) (AreOrders (built s) (begins ++ lasts)) (more_orders (built s) begins lasts) _ _ _ c.in_ok-tell_order.ensures second))
+    c.tell_order-in-Some.ensures
 
-pub returns-in-Some-clause-shaped : goal.returns-in-Some-clause-shaped
-returns-in-Some-clause-shaped c = on_ok_weaker c.add_order-in-Some.result (λ second all. second (c.in_ok-add_order.ensures.shaped all)) c.add_order-in-Some.ensures.shaped
-
-pub returns-in-None-clause-orders : goal.returns-in-None-clause-orders
-returns-in-None-clause-orders c =
+pub returns-in-None : goal.returns-in-None
+returns-in-None g c =
     let s = c.args.standing.now.present in
     let net = c.args.net.now.present in
     let f = forest c.args.tree.now in
     let (m, here) = node_at f c.args.x c.requires.live in
     let ends = sym (c.row.ensures m here).end ∙ c.in-None.is in
-    subst (λ (ps : List (Moment × Moment)). AddsOrders (built s) ps c.args.lines.now.items c.add_order.new.lines.items)
-    (sym (pairs_are s net f c.requires.seen.seen c.args.x m here (moment_at f c.args.event) None ends)) c.in_ok-add_order.ensures.orders
+    let old = g.R.Listener.heard c.args.listener.now in
+    let new = g.R.Listener.heard c.tell_order.new.listener in
+    subst (λ (ps : List (Moment × Moment)). Hears g.R.Listener.parts_of (AreOrders (built s) ps) old new)
+    (sym (pairs_are s net f c.requires.seen.seen c.args.x m here (moment_at f c.args.event) None ends)) c.in_ok-tell_order.ensures

@@ -1,0 +1,122 @@
+// Classes of which all rows wait from some date on.
+ghost use Rattle.std.specs.Prelude.{◌≡◌, ◌↔◌, ℕ, ◌<◌, length, IsTrue, OnOk};
+ghost use Rattle.belief_net.specs.ClassMarks.{no_marks, later_of, IsLater, CoversFrom, MarksFrom};
+ghost use Rattle.belief_net.specs.Waiting.{dates_in};
+
+use crate::waiting::date_at;
+use std::alloc::Global;
+use std::marker::Model;
+use tmm_model::NoMemory;
+
+/// So many tokens of a class are looked at each on its own; one walk over the rows of the class serves all others.
+const FEW_TOKENS: u32 = 16;
+
+/// The classes of which all rows wait from some date on, as far as these are later than what was decided since.
+#[derive(Drop)]
+pub(crate) struct ClassMarks {
+    // how many tokens of each class were looked at, by the number of the class
+    counts: Vec<u32>,
+    // the date from which on all rows of a class wait, by its number
+    dates: Vec<Option<i64>>,
+    // the latest date of a row that was decided
+    decided: Option<i64>,
+}
+
+impl Model for ClassMarks {
+    ghost use Rattle.belief_net.specs.ClassMarks.{MarkedClasses};
+
+    ghost Value = { MarkedClasses };
+
+    ghost view = { λ m. record { dates = m.dates.items; decided = m.decided } };
+}
+
+impl ClassMarks {
+    // No class is marked. It takes no memory.
+    pub(crate) fn make(alloc: Global) -> ClassMarks
+        ensures { result ≡ no_marks }
+    {
+        ClassMarks {
+            counts: Vec::new(alloc),
+            dates: Vec::new(alloc),
+            decided: None,
+        }
+    }
+
+    // Whether all rows of a class wait whose events are no earlier than this date.
+    pub(crate) fn covers(&self, class: u32, from: i64) -> bool
+        ensures { IsTrue result ↔ CoversFrom self.now class from }
+    {
+        match date_at(&self.dates, class) {
+            Some(date) => date <= from && is_later(self.decided, from),
+            None => false,
+        }
+    }
+
+    // Counts one token more of a class; whether so many were counted before that all its rows are to wait.
+    pub(crate) fn count(&mut self, class: u32) -> Result<bool, NoMemory>
+        ensures { self.new ≡ self.old }
+    {
+        count_at(&mut self.counts, class)
+    }
+
+    // Notes that all rows of a class wait whose events are no earlier than this date.
+    pub(crate) fn mark(&mut self, class: u32, from: i64) -> Result<(), NoMemory>
+        ensures { OnOk result (MarksFrom self.old self.new class from) }
+    {
+        reach(&mut self.dates, class)?;
+        self.dates[class as usize] = Some(from);
+        Ok(())
+    }
+
+    // Notes that a row is decided that waited for this date.
+    pub(crate) fn decide(&mut self, date: i64)
+        ensures { self.new ≡ record self.old { decided = later_of self.old.decided date } }
+    {
+        self.decided = later(self.decided, date);
+    }
+}
+
+// Whether a date is later than the latest that was decided.
+fn is_later(decided: Option<i64>, date: i64) -> bool
+    ensures { IsTrue result ↔ IsLater decided date }
+{
+    match decided {
+        Some(last) => last < date,
+        None => true,
+    }
+}
+
+// The later of the latest date that was decided and this one.
+fn later(decided: Option<i64>, date: i64) -> Option<i64>
+    ensures { result ≡ later_of decided date }
+{
+    match decided {
+        Some(last) => Some(if last < date { date } else { last }),
+        None => Some(date),
+    }
+}
+
+// Counts one more at a place; whether there were a few already.
+fn count_at(counts: &mut Vec<u32>, class: u32) -> Result<bool, NoMemory> {
+    let place = class as usize;
+    if counts.len() <= place {
+        counts.resize(place + 1, 0)?;
+    }
+    if counts[place] >= FEW_TOKENS {
+        return Ok(true);
+    }
+    counts[place] += 1;
+    Ok(false)
+}
+
+// Makes a place for the class of a number.
+fn reach(dates: &mut Vec<Option<i64>>, class: u32) -> Result<(), NoMemory>
+    ensures within { OnOk result (class < length dates.new.items) }
+    ensures same { (k : ℕ) → dates_in dates.new.items k ≡ dates_in dates.old.items k }
+{
+    let places = class as usize + 1;
+    if dates.len() < places {
+        dates.resize(places, None)?;
+    }
+    Ok(())
+}
