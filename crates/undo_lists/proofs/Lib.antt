@@ -1,3 +1,4 @@
 pub mod Written
+pub mod Shifted
 pub mod Undoing
 pub mod Changed

@@ -100,6 +100,25 @@ module _ {T : Type 0} where
           rooms = rooms-set lists n l within (room ∙ ap (λ (q : ListRoom T). q.room) it);
         }
 
+  -- ---- a list more
+
+  items_more : (lists : List (ListRoom T)) (l : ListRoom T) → l.items ≡ [] → (n : ℕ) → items_in (lists ++ l ∷ []) n ≡ items_in lists n
+  items_more [] l none zero = none
+  items_more [] l none (suc n) = refl
+  items_more (first ∷ lists) l none zero = refl
+  items_more (first ∷ lists) l none (suc n) = items_more lists l none n
+
+  rooms_more : (lists : List (ListRoom T)) (l : ListRoom T) (n : ℕ) → rooms_in lists n ≤ rooms_in (lists ++ l ∷ []) n
+  rooms_more [] l n = omega arith
+  rooms_more (first ∷ lists) l zero = le_refl first.room
+  rooms_more (first ∷ lists) l (suc n) = rooms_more lists l n
+
+  pub HaveGrown-pushed : (lists after : List (ListRoom T)) (l : ListRoom T) → l.items ≡ [] → after ≡ lists ++ l ∷ [] → HaveGrown lists after
+  HaveGrown-pushed lists after l none is = subst (HaveGrown lists) (sym is) (record {
+    items = λ i n. items_more lists l none n i;
+    rooms = rooms_more lists l;
+  })
+
   -- ---- copies of the lists
 
   items_alike : (lists copies : List (ListRoom T)) (l m : ListRoom T) → length copies ≡ length lists → items_in copies ≡ items_in lists → m.items ≡ l.items → (n : ℕ) → items_in (copies ++ m ∷ []) n ≡ items_in (lists ++ l ∷ []) n

@@ -4,7 +4,8 @@
 //! commit, and as the room that there is for more. An item enters and leaves a list at a place that the
 //! caller states, and each change is logged as it is made; `rollback` undoes what is logged, latest
 //! first, and takes no memory; `commit` forgets the log. `changed` tells which lists the log has changes of.
-//! A list's room never shrinks, so an item that comes back finds room.
+//! A list's room never shrinks, so an item that comes back finds room. It is at both ends, so that fewer items
+//! move where one enters or leaves in the first half.
 #![tactic(auto)]
 
 mod change;
