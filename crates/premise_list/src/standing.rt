@@ -7,6 +7,7 @@ ghost use Rattle.tmm_model.specs.Sorts.{class_in, fact_use};
 ghost use Rattle.tmm_model.specs.Verdicts.{list_cause, place_cause, use_cause, most_premises, Tells};
 ghost use Rattle.list_theory.specs.WellNamed.{IsWellNamed};
 ghost use Rattle.tmm_model.specs.Edits.{list_with, list_without, list_until};
+ghost use Rattle.premise_list.specs.Judged.{NamesPlainly};
 
 use crate::check::Wanted;
 use crate::erase::fall_with;
@@ -54,10 +55,12 @@ impl Standing {
         }
     }
 
-    /// Whether names and counts let the edit through, and else the first cause against it.
+    /// Whether names and counts let the edit through, and else the first cause against it. A refused word is
+    /// told as the point of a name.
     pub fn check(&self, edit: &Edit) -> Result<(), Refusal>
         ensures ok { IsOk result ↔ (list_cause self.now.present.premises edit.now ≡ None) }
         ensures told { IfErr result (λ refusal. Tells refusal (list_cause self.now.present.premises edit.now)) }
+        ensures named { IfErr result NamesPlainly }
     {
         self.table.check(edit)
     }
@@ -66,6 +69,7 @@ impl Standing {
     pub fn check_place(&self, point: PointName) -> Result<(), Refusal>
         ensures ok { IsOk result ↔ (place_cause self.now.present.premises point ≡ None) }
         ensures told { IfErr result (λ refusal. Tells refusal (place_cause self.now.present.premises point)) }
+        ensures named { IfErr result NamesPlainly }
     {
         self.table.check_place(point)
     }
@@ -74,6 +78,7 @@ impl Standing {
     pub fn check_fact(&self, fact: Name) -> Result<(), Refusal>
         ensures ok { IsOk result ↔ (use_cause self.now.present.premises (fact_use fact) ≡ None) }
         ensures told { IfErr result (λ refusal. Tells refusal (use_cause self.now.present.premises (fact_use fact))) }
+        ensures named { IfErr result NamesPlainly }
     {
         self.table.check_name(fact, Wanted::Fact)
     }
