@@ -1,9 +1,10 @@
 // What an edit makes of the nodes that it may have touched.
-ghost use Rattle.std.specs.Prelude.{◌≡◌, ◌<◌, ℕ, List, [], false, true, length, Some, IfOk, OnOk, replicate};
+ghost use Rattle.std.specs.Prelude.{◌≡◌, ◌<◌, ℕ, List, [], false, true, length, Some, IfOk, IfSome, OnOk, replicate};
 ghost use Rattle.std.specs.List.{All, Contains};
 ghost use Rattle.tmm_model.specs.declared.premise.Edit.{Edit as AnEdit};
 ghost use Rattle.tmm_model.specs.Standing.{Standing as AStanding};
 ghost use Rattle.dist_net.specs.Net.{Net};
+ghost use Rattle.projection.specs.Kinds.{IsCountIn};
 ghost use Rattle.spots.specs.Forest.{Member, member, IsLive};
 ghost use Rattle.spots.specs.Seen.{IsSeen};
 ghost use Rattle.occ_tree.specs.OfLists.{IsTreeOf};
@@ -18,7 +19,7 @@ use crate::kept_rows::{Difference, KeptRow};
 use dist_net::DistNet;
 use occ_tree::Tree;
 use premise_list::Standing;
-use projection::weight_of;
+use projection::{KindCount, weight_after, weight_of};
 use spots::Spot;
 use std::alloc::Global;
 use supports::class_clips;
@@ -50,8 +51,9 @@ pub fn differences(
     for class in classes {
         tell_class(alloc, standing, tree, net, class, kept, &mut found)?;
     }
+    let mut last = None;
     for x in nodes {
-        tell_node(standing, tree, *x, kept, &mut found)?;
+        tell_node(standing, tree, *x, kept, &mut found, &mut last)?;
     }
     Ok(found.differences)
 }
@@ -167,28 +169,39 @@ fn tell_node(
     x: u32,
     kept: &[Option<KeptRow>],
     found: &mut Found,
+    last: &mut Option<KindCount>,
 ) -> Result<(), NoMemory>
     requires seen { (net : Net) × IsSeen standing.now.present net (forest tree.now) }
     requires long { length found.old.marks.items ≡ length kept.now }
+    requires last { IfSome last.old (IsCountIn standing.now.present) }
     ensures long { OnOk result (length found.new.marks.items ≡ length kept.now) }
     ensures found { OnOk result ((net : Net) (classes : List (List ℕ)) → AreClassesMarked (forest tree.now) found.old.marks.items classes → AreFound standing.now.present net tree.now classes kept.now found.old.marks.items found.old.differences.items
         → AreFound standing.now.present net tree.now classes kept.now found.new.marks.items found.new.differences.items) }
     ensures marked { OnOk result (mark_under found.new.marks.items x ≡ true) }
     ensures stay { OnOk result (MarksStay found.old.marks.items found.new.marks.items) }
+    ensures last { IfSome last.new (IsCountIn standing.now.present) }
 {
     if found.is_marked(x) {
         return Ok(());
     }
-    let now = row_now(standing, tree, &kept[x as usize], x);
+    let now = row_now(standing, tree, &kept[x as usize], x, last);
     found.tell(kept, x, now)
 }
 
 // What is to be kept under a number, given what was kept: nothing where no node is, and else a row with the clip that
 // was.
-fn row_now(standing: &Standing, tree: &Tree, was: &Option<KeptRow>, x: u32) -> Option<KeptRow>
+fn row_now(
+    standing: &Standing,
+    tree: &Tree,
+    was: &Option<KeptRow>,
+    x: u32,
+    last: &mut Option<KindCount>,
+) -> Option<KeptRow>
     requires seen { (net : Net) × IsSeen standing.now.present net (forest tree.now) }
-    ensures { (net : Net) (classes : List (List ℕ)) → ((m : Member) (class : List ℕ) → member (forest tree.now) x ≡ Some m → m.class ≡ Some class → Contains classes class → ⊥)
+    requires last { IfSome last.old (IsCountIn standing.now.present) }
+    ensures now { (net : Net) (classes : List (List ℕ)) → ((m : Member) (class : List ℕ) → member (forest tree.now) x ≡ Some m → m.class ≡ Some class → Contains classes class → ⊥)
         → IsNowUnder standing.now.present net tree.now classes was.now x result }
+    ensures last { IfSome last.new (IsCountIn standing.now.present) }
 {
     if !tree.is_live(x) {
         return None;
@@ -196,7 +209,7 @@ fn row_now(standing: &Standing, tree: &Tree, was: &Option<KeptRow>, x: u32) -> O
     Some(KeptRow {
         early: tree.early(x),
         clip: clip_before(tree, was, x),
-        weight: weight_of(standing, tree, x),
+        weight: weight_after(standing, tree, x, last),
     })
 }
 

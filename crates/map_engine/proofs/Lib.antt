@@ -1,3 +1,4 @@
+mod AtNode
 mod Told
 mod Rows
 mod Finding

@@ -9,6 +9,7 @@
 //! touches, and none where it is seen that it touches no belief.
 #![tactic(auto)]
 
+mod at_node;
 mod beliefs;
 mod changes;
 mod edited;

@@ -19,6 +19,7 @@ ghost use Rattle.belief_net.specs.declared.told.DatedOcc.{DatedOcc as ADatedOcc}
 ghost use Rattle.map_engine.specs.Ruled.{trigger_of, kind_of_added, IsEventOf, HasEventsOf, HasRuled};
 ghost use Rattle.map_engine.specs.Touching.{HasNodeOf, entered_of, TakesIn};
 
+use crate::at_node::is_at;
 use belief_net::{DatedOcc, Told};
 use dist_net::DistNet;
 use occ_tree::{Touched, Tree};
@@ -207,9 +208,22 @@ fn push_entered(tree: &Tree, entered: &[DatedOcc], found: &mut Vec<u32>) -> Resu
     ensures pushed { OnOk result ((m : ADatedOcc) → Contains entered.now m → HasNodeOf (forest tree.now) (moment_of m.occ) found.new.items) }
 {
     for new in entered {
-        push_node(tree, &new.occ, found)?;
+        push_occ(tree, new, found)?;
     }
     Ok(())
+}
+
+// Appends the node of what entered, if it stays: it is mostly the node that it had then.
+fn push_occ(tree: &Tree, new: &DatedOcc, found: &mut Vec<u32>) -> Result<(), NoMemory>
+    requires { IsOnce (forest tree.now) }
+    ensures kept { OnOk result ((x : ℕ) → Contains found.old.items x → Contains found.new.items x) }
+    ensures pushed { OnOk result (HasNodeOf (forest tree.now) (moment_of new.now.occ) found.new.items) }
+{
+    if is_at(tree, new.node, &new.occ) {
+        push(new.node, found)
+    } else {
+        push_node(tree, &new.occ, found)
+    }
 }
 
 // Appends the root of this name, if there is one.

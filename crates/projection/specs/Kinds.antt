@@ -1,11 +1,12 @@
 -- The standing rules by the kind that triggers them.
-use Rattle.std.specs.Prelude.{◌≡◌, ℕ, List, [], ◌∷◌, ◌++◌, map}
+use Rattle.std.specs.Prelude.{◌≡◌, ◌≤◌, ℕ, List, [], ◌∷◌, ◌++◌, map, length}
 use Rattle.std.specs.List.{All, filter_map}
 use Rattle.tmm_model.specs.declared.premise.Premise.{Premise}
 use Rattle.tmm_model.specs.Beliefs.{on_kind, rules_on}
 use Rattle.tmm_model.specs.Standing.{Standing}
 use Rattle.name_lists.specs.Lists.{list_of}
 use Rattle.projection.specs.declared.kinds.RulesByKind.{RulesByKind}
+use Rattle.projection.specs.declared.weight.KindCount.{KindCount}
 use Rattle.projection.specs.Places.{name_at, IsRuleAt}
 
 -- where the premise is a rule, its place stands behind the others of its kind, and all else stays
@@ -16,3 +17,8 @@ AddsPremise old new premise place = (kind : List ℕ) → list_of new.rules kind
 pub record AreRules (s : Standing) (m : RulesByKind) : Type 0 where
   pub named : (kind : List ℕ) → map (name_at s) (list_of m.rules kind) ≡ rules_on s kind
   pub places : (kind : List ℕ) → All (IsRuleAt s) (list_of m.rules kind)
+
+-- so many standing rules are on the kind
+pub record IsCountIn (s : Standing) (c : KindCount) : Type 0 where
+  pub count : c.count ≡ length (rules_on s c.kind)
+  pub few : c.count ≤ 2000

@@ -34,6 +34,7 @@ loop-x-init c = record {
   classes =
       classes_marked (forest c.args.tree.now) c.loop-class.found.marks.items c.args.classes.now
       (λ j d lt. c.loop-class.invariant.done j d (omega (arith, lt, c.loop-class-test.false)));
+  counted = tt;
   done = λ j d below. absurd (omega (arith, below));
 }
 
@@ -45,6 +46,7 @@ loop-x-preserved c =
       long = c.in_ok-tell_node.ensures.long;
       found = c.in_ok-tell_node.ensures.found c.args.net.now.present c.args.classes.now c.loop-x.invariant.classes c.loop-x.invariant.found;
       classes = λ class there x m here of. c.in_ok-tell_node.ensures.stay x (c.loop-x.invariant.classes class there x m here of);
+      counted = c.tell_node.ensures.last;
       done = each_more (λ y. mark_under marks y ≡ true) (λ y. mark_under new y ≡ true) c.args.nodes.now c.loop-x.x-index _ c.loop-x-test.true
           c.in_ok-tell_node.ensures.stay c.in_ok-tell_node.ensures.marked c.loop-x.invariant.done;
     }

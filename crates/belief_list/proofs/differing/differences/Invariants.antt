@@ -1,6 +1,7 @@
 use Rattle.std.proofs.Common.{◌≡◌, ℕ, ◌<◌, true, List, length}
-use Rattle.std.specs.Prelude.{slice_index_or}
+use Rattle.std.specs.Prelude.{slice_index_or, IfSome}
 use Rattle.occ_tree.specs.Places.{forest}
+use Rattle.projection.specs.Kinds.{IsCountIn}
 use Rattle.belief_list.specs.Finding.{mark_under, IsClassMarked, AreClassesMarked, AreFound}
 use Rattle.belief_list.proofs.differing.differences.Given as goal
 
@@ -16,5 +17,6 @@ invariant-loop-x l = record {
   long : length l.found.marks.items ≡ length l.kept;
   found : AreFound l.standing.present l.net.present l.tree l.classes l.kept l.found.marks.items l.found.differences.items;
   classes : AreClassesMarked (forest l.tree) l.found.marks.items l.classes;
+  counted : IfSome l.last (IsCountIn l.standing.present);
   done : (j d : ℕ) → j < l.x-index → mark_under l.found.marks.items (slice_index_or l.nodes j d) ≡ true;
 }

@@ -6,8 +6,8 @@ use Rattle.spots.proofs.Nodes.{node_at}
 use Rattle.occ_tree.specs.Places.{forest}
 use Rattle.belief_list.proofs.differing.row_now.Goals as goal
 
-pub returns : goal.returns
-returns c = λ net classes other.
+pub returns-clause-now : goal.returns-clause-now
+returns-clause-now c = λ net classes other.
     let f = forest c.args.tree.now in
     let live : IsLive f c.args.x = search rules in
     let fits : FitsSigned w64 c.early.result = search rules in
@@ -16,7 +16,7 @@ returns c = λ net classes other.
       here,
       record {
         date = to_z-of_z w64 c.early.result fits ∙ c.early.ensures.date;
-        weight = c.weight_of.ensures.value;
+        weight = c.weight_after.ensures.value;
         clip = c.clip_before.ensures net classes m here (λ class of there. other m class here of there);
       },
     )

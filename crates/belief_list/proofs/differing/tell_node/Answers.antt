@@ -20,7 +20,7 @@ returns-clause-found c =
     (λ told net classes marked w.
     told s net tree classes w
     (subst (λ o. IsNowUnder s net tree classes o x now) (get_or_default kept x _ None within)
-    (c.row_now-now.ensures net classes
+    (c.row_now-now.ensures.now net classes
     (λ m class here of there.
     (let no : true ≡ false = sym (marked class there x m here of) ∙ free in absurd (cc no))))))
     c.tell.ensures.found

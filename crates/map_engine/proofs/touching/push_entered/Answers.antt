@@ -17,14 +17,14 @@ loop-new-preserved c =
     let f = forest c.args.tree.now in
     let entered = c.args.entered.now in
     let i = c.loop-new.new-index in
-    let e = c.in_ok-push_node.ensures in
+    let e = c.in_ok-push_occ.ensures in
     let within : i < length entered = omega (arith, c.loop-new-test.true) in
     record {
       kept = λ x at. e.kept x (c.loop-new.invariant.kept x at);
       pushed = λ m at.
           elim (in_more (take i entered) (take (i + 1) entered) m c.new-item.result (next_taken entered i c.new-item.result within c.new-item.is) at) [
-            | inl there ↦ has_more f (moment_of m.occ) c.loop-new.found.items c.push_node.new.found.items e.kept (c.loop-new.invariant.pushed m there)
-            | inr here ↦ subst (λ (d : DatedOcc). HasNodeOf f (moment_of d.occ) c.push_node.new.found.items) here e.pushed
+            | inl there ↦ has_more f (moment_of m.occ) c.loop-new.found.items c.push_occ.new.found.items e.kept (c.loop-new.invariant.pushed m there)
+            | inr here ↦ subst (λ (d : DatedOcc). HasNodeOf f (moment_of d.occ) c.push_occ.new.found.items) here e.pushed
           ];
     }
 

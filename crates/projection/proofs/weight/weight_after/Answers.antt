@@ -2,7 +2,7 @@ use Rattle.std.proofs.Common.{arith}
 use Rattle.spots.proofs.Nodes.{node_at}
 use Rattle.occ_tree.specs.Places.{forest}
 use Rattle.projection.proofs.OnKinds.{node_weight}
-use Rattle.projection.proofs.weight.weight_of.Goals as goal
+use Rattle.projection.proofs.weight.weight_after.Goals as goal
 
 pub returns-clause-value : goal.returns-clause-value
 returns-clause-value c =
