@@ -1,6 +1,6 @@
 -- What is told of two maps is what their lists' maps differ in.
-use Rattle.std.proofs.Common.{◌≡◌, Option, Some, None, Result, Ok, Err, IfOk, refl}
-use Rattle.std.specs.Prelude.{map}
+use Rattle.std.proofs.Common.{◌≡◌, Option, Some, None, Result, Ok, Err, IfOk, refl, subst}
+use Rattle.std.specs.Prelude.{map, IsSome}
 use Rattle.tmm_model.specs.declared.changes.Changes.{Changes as CodeChanges}
 use Rattle.tmm_model.specs.declared.premise.Edit.{Edit}
 use Rattle.tmm_model.specs.declared.refusal.Refusal.TheVariants.{LimitLine, Form, Taken, Unknown, Sort, LimitPremises, LimitPoints, Cycle, LimitSize}
@@ -17,7 +17,7 @@ use Rattle.projection.specs.Queues.{IsTooLarge}
 use Rattle.std.specs.Option.{option_map}
 use Rattle.map_engine.specs.declared.beliefs.Beliefs.{Beliefs}
 use Rattle.map_engine.specs.Beliefs.{IsLeftOut}
-use Rattle.map_engine.specs.Stops.{StopsEdit}
+use Rattle.map_engine.specs.Stops.{StopsEdit, NamesEdited}
 
 -- the seven lists, one by one
 pub told : (old new : Standing) (c : CodeChanges) → IsLeftOut old new c.erased.items
@@ -61,3 +61,29 @@ too_large old edit no_cause dates (Refused LimitPremises) never = absurd never
 too_large old edit no_cause dates (Refused LimitPoints) never = absurd never
 too_large old edit no_cause dates (Refused (Cycle sum steps)) never = absurd never
 too_large old edit no_cause dates NoMemory free = tt
+
+-- an edit with no cause among names and counts is refused without a word
+pub named_without : (old : Standing) (edit : Edit) → list_cause old.premises edit ≡ None → (stop : Stop) → StopsEdit old edit stop → NamesEdited stop
+named_without old edit no_cause (Refused LimitLine) stops = tt
+named_without old edit no_cause (Refused Form) stops = tt
+named_without old edit no_cause (Refused (Taken word)) stops = absurd (subst IsSome no_cause stops.0)
+named_without old edit no_cause (Refused (Unknown word)) stops = absurd (subst IsSome no_cause stops.0)
+named_without old edit no_cause (Refused (Sort word)) stops = absurd (subst IsSome no_cause stops.0)
+named_without old edit no_cause (Refused LimitPremises) stops = tt
+named_without old edit no_cause (Refused LimitPoints) stops = tt
+named_without old edit no_cause (Refused (Cycle sum steps)) stops = tt
+named_without old edit no_cause (Refused LimitSize) stops = tt
+named_without old edit no_cause NoMemory stops = tt
+
+-- a map that is too large is refused without a word
+pub named_large : (n : ℕ) (stop : Stop) → IsTooLarge n stop → NamesEdited stop
+named_large n (Refused LimitSize) large = tt
+named_large n (Refused LimitLine) never = absurd never
+named_large n (Refused Form) never = absurd never
+named_large n (Refused (Taken word)) never = absurd never
+named_large n (Refused (Unknown word)) never = absurd never
+named_large n (Refused (Sort word)) never = absurd never
+named_large n (Refused LimitPremises) never = absurd never
+named_large n (Refused LimitPoints) never = absurd never
+named_large n (Refused (Cycle sum steps)) never = absurd never
+named_large n NoMemory large = tt
