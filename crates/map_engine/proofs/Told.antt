@@ -1,6 +1,6 @@
 -- What is told of two maps is what their lists' maps differ in.
-use Rattle.std.proofs.Common.{◌≡◌, Option, Some, None, Result, Ok, Err, IfOk, refl, subst}
-use Rattle.std.specs.Prelude.{map, IsSome}
+use Rattle.std.proofs.Common.{◌≡◌, Option, Some, None, Result, Ok, Err, IfOk, refl}
+use Rattle.std.specs.Prelude.{map}
 use Rattle.tmm_model.specs.declared.changes.Changes.{Changes as CodeChanges}
 use Rattle.tmm_model.specs.declared.premise.Edit.{Edit}
 use Rattle.tmm_model.specs.declared.refusal.Refusal.TheVariants.{LimitLine, Form, Taken, Unknown, Sort, LimitPremises, LimitPoints, Cycle, LimitSize}
@@ -61,19 +61,6 @@ too_large old edit no_cause dates (Refused LimitPremises) never = absurd never
 too_large old edit no_cause dates (Refused LimitPoints) never = absurd never
 too_large old edit no_cause dates (Refused (Cycle sum steps)) never = absurd never
 too_large old edit no_cause dates NoMemory free = tt
-
--- an edit with no cause among names and counts is refused without a word
-pub named_without : (old : Standing) (edit : Edit) → list_cause old.premises edit ≡ None → (stop : Stop) → StopsEdit old edit stop → NamesEdited stop
-named_without old edit no_cause (Refused LimitLine) stops = tt
-named_without old edit no_cause (Refused Form) stops = tt
-named_without old edit no_cause (Refused (Taken word)) stops = absurd (subst IsSome no_cause stops.0)
-named_without old edit no_cause (Refused (Unknown word)) stops = absurd (subst IsSome no_cause stops.0)
-named_without old edit no_cause (Refused (Sort word)) stops = absurd (subst IsSome no_cause stops.0)
-named_without old edit no_cause (Refused LimitPremises) stops = tt
-named_without old edit no_cause (Refused LimitPoints) stops = tt
-named_without old edit no_cause (Refused (Cycle sum steps)) stops = tt
-named_without old edit no_cause (Refused LimitSize) stops = tt
-named_without old edit no_cause NoMemory stops = tt
 
 -- a map that is too large is refused without a word
 pub named_large : (n : ℕ) (stop : Stop) → IsTooLarge n stop → NamesEdited stop
