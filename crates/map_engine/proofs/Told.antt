@@ -17,7 +17,7 @@ use Rattle.projection.specs.Queues.{IsTooLarge}
 use Rattle.std.specs.Option.{option_map}
 use Rattle.map_engine.specs.declared.beliefs.Beliefs.{Beliefs}
 use Rattle.map_engine.specs.Beliefs.{IsLeftOut}
-use Rattle.map_engine.specs.Stops.{StopsEdit}
+use Rattle.map_engine.specs.Stops.{StopsEdit, NamesEdited}
 
 -- the seven lists, one by one
 pub told : (old new : Standing) (c : CodeChanges) → IsLeftOut old new c.erased.items
@@ -61,3 +61,16 @@ too_large old edit no_cause dates (Refused LimitPremises) never = absurd never
 too_large old edit no_cause dates (Refused LimitPoints) never = absurd never
 too_large old edit no_cause dates (Refused (Cycle sum steps)) never = absurd never
 too_large old edit no_cause dates NoMemory free = tt
+
+-- a map that is too large is refused without a word
+pub named_large : (n : ℕ) (stop : Stop) → IsTooLarge n stop → NamesEdited stop
+named_large n (Refused LimitSize) large = tt
+named_large n (Refused LimitLine) never = absurd never
+named_large n (Refused Form) never = absurd never
+named_large n (Refused (Taken word)) never = absurd never
+named_large n (Refused (Unknown word)) never = absurd never
+named_large n (Refused (Sort word)) never = absurd never
+named_large n (Refused LimitPremises) never = absurd never
+named_large n (Refused LimitPoints) never = absurd never
+named_large n (Refused (Cycle sum steps)) never = absurd never
+named_large n NoMemory large = tt

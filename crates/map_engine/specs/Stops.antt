@@ -15,12 +15,18 @@ use Rattle.tmm_model.specs.Sorts.{is_fact, sort_in}
 use Rattle.tmm_model.specs.Standing.{Standing}
 use Rattle.tmm_model.specs.Transcript.{RefusesEdit}
 use Rattle.tmm_model.specs.Verdicts.{Cause, Tells, name_cause}
+use Rattle.premise_list.specs.Judged.{NamesPlainly}
 use Rattle.tt_query.specs.Stops.{Names, point_of}
 
 -- why an edit is not made: a refusal has its cause, and there may be no memory
 abbrev pub StopsEdit : Standing → Edit → Stop → Type 0
 StopsEdit list edit (Refused refusal) = RefusesEdit list edit refusal
 StopsEdit list edit NoMemory = Unit {0}
+
+-- a refusal of an edit names a word as the point of a name
+abbrev pub NamesEdited : Stop → Type 0
+NamesEdited (Refused refusal) = NamesPlainly refusal
+NamesEdited NoMemory = Unit {0}
 
 -- the point is a derived occurrence that is not believed, whose word is told
 abbrev pub IsUnbelieved : TimeMap → QueryPoint → Type 0

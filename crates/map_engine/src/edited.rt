@@ -7,7 +7,7 @@ ghost use Rattle.tmm_model.specs.Verdicts.{list_cause};
 ghost use Rattle.list_net.specs.Fits.{IsNetOf, IsSettled};
 ghost use Rattle.list_net.specs.Network.{PointsKeepNumbers};
 ghost use Rattle.map_engine.specs.Beliefs.{IsLeftOut};
-ghost use Rattle.map_engine.specs.Stops.{StopsEdit};
+ghost use Rattle.map_engine.specs.Stops.{StopsEdit, NamesEdited};
 
 use dist_net::DistNet;
 use list_net::{add_premise, erase_premise};
@@ -34,6 +34,7 @@ pub(crate) fn edited(
     ensures dates { OnOk result (IsConsistent (next_list standing.old.present edit.now).premises) }
     ensures erased { IfOk result (λ names. IsLeftOut standing.old.present (next_list standing.old.present edit.now) names.items) }
     ensures stops { IfErr result (StopsEdit standing.old.present edit.now) }
+    ensures named { IfErr result NamesEdited }
     ensures list_kept { OnErr result (standing.new ≡ standing.old) }
     ensures net_kept { OnErr result (net.new.present ≡ net.old.present) }
     ensures committed { net.new.committed ≡ net.old.committed }
@@ -70,6 +71,7 @@ fn added(
     ensures dates { OnOk result (IsConsistent (next_list standing.old.present (Edit.Add premise.now)).premises) }
     ensures erased { IfOk result (λ names. IsLeftOut standing.old.present (next_list standing.old.present (Edit.Add premise.now)) names.items) }
     ensures stops { IfErr result (StopsEdit standing.old.present (Edit.Add premise.now)) }
+    ensures named { IfErr result NamesEdited }
     ensures list_kept { OnErr result (standing.new ≡ standing.old) }
     ensures net_kept { OnErr result (net.new.present ≡ net.old.present) }
     ensures committed { net.new.committed ≡ net.old.committed }

@@ -13,7 +13,7 @@ ghost use Rattle.tmm_model.specs.Paths.{GivesPath};
 ghost use Rattle.tmm_model.specs.Questions.{query_cause};
 ghost use Rattle.tmm_model.specs.Standing.{Standing as List};
 ghost use Rattle.justify.specs.Lines.{AreWhy, Hears, HearsNothing};
-ghost use Rattle.map_engine.specs.Stops.{StopsEdit, StopsQuery, NamesRefused};
+ghost use Rattle.map_engine.specs.Stops.{StopsEdit, NamesEdited, StopsQuery, NamesRefused};
 
 use justify::Listener;
 use premise_list::Standing;
@@ -40,8 +40,8 @@ pub trait MapCore {
     /// The list that a pending edit leaves.
     ghost pending: { Self → Option List };
 
-    /// Makes an edit, and leaves it pending. A refusal is the first cause that holds. A refused edit,
-    /// or one for which there is no memory, changes nothing. The count of decisions does not
+    /// Makes an edit, and leaves it pending. A refusal is the first cause that holds, and names a word as the
+    /// point of a name. A refused edit, or one for which there is no memory, changes nothing. The count of decisions does not
     /// fall: a map may count those that it makes.
     fn apply(&mut self, alloc: Global, edit: &Edit, counter: &mut Counter) -> Result<Pending, Stop>
         requires idle { pending self.old ≡ None }
@@ -50,6 +50,7 @@ pub trait MapCore {
         ensures changes { IfOk result (λ made. delta_of made.changes ≡ changes (list self.old) (next_list (list self.old) edit.now)) }
         ensures pending { IfOk result (λ made. pending self.new ≡ Some (next_list (list self.old) edit.now)) }
         ensures stops { IfErr result (StopsEdit (list self.old) edit.now) }
+        ensures named { IfErr result NamesEdited }
         ensures idle { OnErr result (pending self.new ≡ None) }
         ensures kept { list self.new ≡ list self.old }
         ensures counted { counter.old ≤ counter.new };

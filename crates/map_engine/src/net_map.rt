@@ -12,7 +12,7 @@ ghost use Rattle.spots.specs.Forest.{member};
 ghost use Rattle.list_net.specs.Fits.{IsSettled};
 ghost use Rattle.revisions.specs.Counted.{changed};
 ghost use Rattle.map_engine.specs.NetMaps.{CountsEdit, IsHeld};
-ghost use Rattle.map_engine.specs.Stops.{StopsEdit};
+ghost use Rattle.map_engine.specs.Stops.{StopsEdit, NamesEdited};
 
 use crate::edited::{edited, roll_back};
 use crate::kept_view::{KeptView, audited_view, first_view, kept_rows};
@@ -115,6 +115,7 @@ impl MapCore for NetMap {
         ensures changes { IfOk result (λ made. delta_of made.changes ≡ changes self.old.list (next_list self.old.list edit.now)) }
         ensures pending { IfOk result (λ made. self.new.pending ≡ Some (next_list self.old.list edit.now)) }
         ensures stops { IfErr result (StopsEdit self.old.list edit.now) }
+        ensures named { IfErr result NamesEdited }
         ensures idle { OnErr result (self.new.pending ≡ None) }
         ensures kept { self.new.list ≡ self.old.list }
         ensures counted { counter.old ≤ counter.new }

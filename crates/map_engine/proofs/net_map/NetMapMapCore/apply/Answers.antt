@@ -15,7 +15,7 @@ use Rattle.revisions.proofs.UnreadEdits.{unread_edit}
 use Rattle.map_engine.specs.Plain.{MapState}
 use Rattle.map_engine.specs.Stops.{StopsEdit}
 use Rattle.map_engine.proofs.NetMaps.{counts_edit, counts_least, is_nothing, rests_before, unguarded_before, unguarded_after, pending_edit, edited_map, undone_map}
-use Rattle.map_engine.proofs.Told.{too_large}
+use Rattle.map_engine.proofs.Told.{too_large, named_large}
 use Rattle.map_engine.proofs.net_map.NetMapMapCore.apply.Goals as goal
 
 pub draw_next-requires-clause-rests : goal.draw_next-requires-clause-rests
@@ -146,3 +146,6 @@ returns-in-Ok-clause-least c =
     let committed : c.self.inside.standing.committed ≡ c.args.self.now.list = ap (λ (m : MapState). m.list) c.self.view_is in
     counts_least c.self.inside.standing c.edited.new.standing c.args.edit.now c.args.self.now.list c.args.counter.now c.draw_next.new.counter c.in_ok-erased.ensures.list
     settled.list committed c.in-Ok.ensures.least
+
+pub returns-in-Err-draw_next-clause-named : goal.returns-in-Err-draw_next-clause-named
+returns-in-Err-draw_next-clause-named c = named_large (size (built c.edited.new.standing.present)) c.in-Err-draw_next.stop c.in-Err-draw_next.ensures.stops

@@ -10,7 +10,7 @@ use Rattle.premise_list.specs.States.{States}
 use Rattle.map_engine.specs.Beliefs.{IsLeftOut}
 use Rattle.map_engine.specs.Plain.{MapState}
 use Rattle.map_engine.specs.Stops.{StopsEdit}
-use Rattle.map_engine.proofs.Told.{none_pending, too_large}
+use Rattle.map_engine.proofs.Told.{none_pending, too_large, named_large}
 use Rattle.map_engine.proofs.plain.PlainMapMapCore.apply.Goals as goal
 
 pub returns-in-Ok-clause-accepted : goal.returns-in-Ok-clause-accepted
@@ -51,3 +51,6 @@ returns-in-Err-drawn-clause-stops c =
     subst (λ (s : Standing). StopsEdit s edit c.in-Err-drawn.stop) present
     (too_large lists.present edit (c.in_default.ensures.ok.0 refl) c.in_ok-erased.ensures.dates c.in-Err-drawn.stop
     (subst (λ (s : Standing). IsTooLarge (size (built s)) c.in-Err-drawn.stop) new c.in-Err-drawn.ensures.stops))
+
+pub returns-in-Err-drawn-clause-named : goal.returns-in-Err-drawn-clause-named
+returns-in-Err-drawn-clause-named c = named_large (size (built c.edited.new.standing.present)) c.in-Err-drawn.stop c.in-Err-drawn.ensures.stops
