@@ -132,7 +132,7 @@ module _ {T : Type 0} {F : ℕ} where
       } in
       subst (λ l. IsRows l grown reserved) (sym alike) (subst (IsRows slots grown) (sym alike_log) here)
 
-  pub grown_stays : (slots same : List (Option (Row T F))) (links grown : List Lists) (log reserved : List (Change T)) (spare more : ℕ) → same ≡ slots → reserved ≡ log → GrowEach links grown → Stays (record { rows = slots; families = links; log = log; spare = spare }) (record { rows = same; families = grown; log = reserved; spare = more })
-  grown_stays slots same links grown log reserved spare more alike alike_log grow =
+  pub grown_stays : (slots same : List (Option (Row T F))) (links grown : List Lists) (log reserved : List (Change T)) (places spare more : ℕ) → same ≡ slots → reserved ≡ log → GrowEach links grown → Stays (record { rows = slots; families = links; places = places; log = log; spare = spare }) (record { rows = same; families = grown; places = places; log = reserved; spare = more })
+  grown_stays slots same links grown log reserved places spare more alike alike_log grow =
       let t : table_in same grown ≡ table_in slots links = ap (λ l. table_in l grown) alike ∙ grown_table slots links grown grow in
       record { present = ap live_table t; committed = ap (λ l. live_table (undone l (table_in same grown))) alike_log ∙ ap (λ u. live_table (undone log u)) t }

@@ -1,3 +1,4 @@
+pub mod Places
 pub mod Undoing
 pub mod Lists
 pub mod Written

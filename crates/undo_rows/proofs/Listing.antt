@@ -198,7 +198,7 @@ module _ {T : Type 0} {F : ℕ} where
     mapped-none : (row : ℕ → Option (Row T F)) (y : ℕ) (change : Row T F → Row T F) → row x ≡ None → y ≡ x → option_map change (row y) ≡ None
     mapped-none row y change none same = ap (λ z. option_map change (row z)) same ∙ ap (option_map change) none
 
-    before-none : (c : Change T) (t : Table T F) → t.row x ≡ None → (before c t).row x ≡ None
+    pub before-none : (c : Change T) (t : Table T F) → t.row x ≡ None → (before c t).row x ≡ None
     before-none (Entered y) t none = with_row-none t.row y None none (λ same. refl)
     before-none (Linked f h y) t none = none
     before-none (Unlinked f gap y) t none = none

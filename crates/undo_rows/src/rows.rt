@@ -5,6 +5,7 @@ ghost use Rattle.undo_rows.specs.Tables.{new_row, AreListed};
 ghost use Rattle.undo_rows.specs.Changes.{present, committed, Stays};
 ghost use Rattle.undo_rows.specs.Fits.{RowFits};
 ghost use Rattle.undo_rows.specs.Edits.{Adds, Removes, Sets};
+ghost use Rattle.undo_rows.specs.Places.{PlacesGrow};
 
 use crate::change::Change;
 use crate::row::Row;
@@ -21,6 +22,8 @@ use undo_log::Undo;
 #[derive(Drop)]
 pub struct Rows<T: Copy, const F: usize> {
     stored: Stored<T, F>,
+    // every number that a row had since the rows were made is below it
+    places: u32,
     // the changes since the last commit
     log: Undo<Change<T>>,
 }
@@ -31,10 +34,11 @@ impl<T: Copy, const F: usize> Model for Rows<T, F> {
     ghost Value = { Logged T F };
 
     ghost use Rattle.undo_rows.specs.RowsInside.{IsRows};
+    ghost use Rattle.undo_rows.specs.Places.{AreBelow};
 
-    ghost view = { λ r. record { rows = r.stored.rows.slots; families = r.stored.links; log = r.log.items; spare = r.log.spare } };
+    ghost view = { λ r. record { rows = r.stored.rows.slots; families = r.stored.links; places = r.places; log = r.log.items; spare = r.log.spare } };
 
-    ghost invariant = { λ r. IsRows r.stored.rows.slots r.stored.links r.log.items };
+    ghost invariant = { λ r. IsRows r.stored.rows.slots r.stored.links r.log.items × AreBelow r.stored.rows.slots r.places };
 }
 
 impl<T: Copy, const F: usize> Rows<T, F> {
@@ -44,16 +48,18 @@ impl<T: Copy, const F: usize> Rows<T, F> {
         ensures row { (x : ℕ) → (present result).row x ≡ None }
         ensures list { (f h : ℕ) → (present result).list f h ≡ [] }
         ensures committed { committed result ≡ present result }
+        ensures places { result.places ≡ 0 }
     {
         Rows {
             stored: Stored::make(alloc),
+            places: 0,
             log: Undo::make(alloc),
         }
     }
 
-    /// Adds a row that keeps a value, last on the list of each of its heads, and answers its number.
-    /// Without memory nothing has changed; it counts as want of memory that a number would be 2^32 - 1
-    /// or more.
+    /// Adds a row that keeps a value, last on the list of each of its heads, and answers its number. A place
+    /// is added only where each holds a row. Without memory nothing has changed; it counts as want of memory
+    /// that a number would be 2^32 - 1 or more.
     pub fn add(
         &mut self,
         _alloc: Global,
@@ -62,9 +68,13 @@ impl<T: Copy, const F: usize> Rows<T, F> {
     ) -> Result<u32, NoMemory>
         ensures ok { IfOk result (λ x. Adds self.old self.new x (new_row heads.entry value)) }
         ensures few { IfOk result (λ x. x < 4294967295) }
+        ensures below { IfOk result (λ x. x < self.new.places) }
+        ensures grows { OnOk result (PlacesGrow self.old self.new) }
         ensures err { OnErr result (Stays self.old self.new) }
+        ensures places { OnErr result (self.new.places ≡ self.old.places) }
     {
-        let x = next_number(self.stored.rows.vacant_key())?;
+        let rows = &self.stored.rows;
+        let x = next_number(rows.vacant_key(), rows.len(), self.places)?;
         let beyond = above_heads(&heads)?;
         self.stored.rows.reserve(1)?;
         self.stored.links.reserve_rows(x + 1, beyond)?;
@@ -74,6 +84,7 @@ impl<T: Copy, const F: usize> Rows<T, F> {
             value,
             gone: false,
         });
+        self.places = self.places.max(x + 1);
         self.log.push(Change::Entered { row: x });
         link_all(&mut self.stored.links, &mut self.log, x, &heads);
         Ok(x)
@@ -85,6 +96,7 @@ impl<T: Copy, const F: usize> Rows<T, F> {
         ensures ok { OnOk result (changes ≤ self.new.spare) }
         ensures stays { Stays self.old self.new }
         ensures spare { self.old.spare ≤ self.new.spare }
+        ensures places { self.new.places ≡ self.old.places }
     {
         self.log.reserve(changes)
     }
@@ -95,6 +107,7 @@ impl<T: Copy, const F: usize> Rows<T, F> {
         requires { IsSome ((present self.old).row x) }
         ensures ok { OnOk result (Removes self.old self.new x) }
         ensures err { OnErr result (Stays self.old self.new) }
+        ensures places { self.new.places ≡ self.old.places }
     {
         let changes = changes_of(&self.stored.rows[x as usize].heads);
         self.reserve(alloc, changes)?;
@@ -109,6 +122,7 @@ impl<T: Copy, const F: usize> Rows<T, F> {
         requires spare { F + 1 ≤ self.old.spare }
         ensures removed { Removes self.old self.new x }
         ensures spare { self.old.spare ≤ self.new.spare + (F + 1) }
+        ensures places { self.new.places ≡ self.old.places }
     {
         let heads = self.stored.rows[x as usize].heads;
         unlink_all(&mut self.stored.links, &mut self.log, x, &heads);
@@ -121,6 +135,7 @@ impl<T: Copy, const F: usize> Rows<T, F> {
         requires { IsSome ((present self.old).row x) }
         ensures ok { OnOk result (Sets self.old self.new x value) }
         ensures err { OnErr result (Stays self.old self.new) }
+        ensures places { self.new.places ≡ self.old.places }
     {
         self.reserve(alloc, 1)?;
         self.set_reserved(x, value);
@@ -133,6 +148,7 @@ impl<T: Copy, const F: usize> Rows<T, F> {
         requires spare { 0 < self.old.spare }
         ensures set { Sets self.old self.new x value }
         ensures spare { self.new.spare + 1 ≡ self.old.spare }
+        ensures places { self.new.places ≡ self.old.places }
     {
         let row = &mut self.stored.rows[x as usize];
         let before = row.value;
@@ -166,6 +182,15 @@ impl<T: Copy, const F: usize> Rows<T, F> {
         }
     }
 
+    /// How many places there are for rows: each row has a number below it, now and at the last commit.
+    pub fn places(&self) -> u32
+        ensures places { result ≡ self.now.places }
+        ensures now { (x : ℕ) → IsSome ((present self.now).row x) → x < result }
+        ensures then_ { (x : ℕ) → IsSome ((committed self.now).row x) → x < result }
+    {
+        self.places
+    }
+
     /// The first row on the list of a head in a family, none exactly where there is none.
     pub fn first(&self, family: usize, head: u32) -> Option<u32>
         ensures first { result ≡ first_or None ((present self.now).list family head) }
@@ -190,6 +215,7 @@ impl<T: Copy, const F: usize> Rows<T, F> {
     {
         Ok(Rows {
             stored: self.stored.copy(alloc)?,
+            places: self.places,
             log: self.log.copy(alloc)?,
         })
     }
@@ -199,6 +225,7 @@ impl<T: Copy, const F: usize> Rows<T, F> {
         ensures present { present self.new ≡ present self.old }
         ensures committed { committed self.new ≡ present self.old }
         ensures freed { (x : ℕ) → (present self.new).row x ≡ None → slice_index_or self.new.rows x None ≡ None }
+        ensures places { self.new.places ≡ self.old.places }
     {
         while let Some(done) = self.log.pop_since(0) {
             self.stored.finish(&done);
@@ -209,6 +236,7 @@ impl<T: Copy, const F: usize> Rows<T, F> {
     pub fn rollback(&mut self)
         ensures present { present self.new ≡ committed self.old }
         ensures committed { committed self.new ≡ committed self.old }
+        ensures places { self.new.places ≡ self.old.places }
     {
         while let Some(change) = self.log.pop_since(0) {
             self.stored.undo(&change);

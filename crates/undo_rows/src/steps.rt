@@ -1,5 +1,5 @@
 // Changes of rows and lists, each logged as it is made, and undone.
-ghost use Rattle.std.specs.Prelude.{◌≡◌, ◌≢◌, ℕ, false, cond, eqb, ◌+◌, ◌<◌, ◌≤◌, [], ◌∷◌, ◌++◌, length, Some, IfSome, IfOk};
+ghost use Rattle.std.specs.Prelude.{◌≡◌, ◌≢◌, ℕ, false, cond, eqb, ◌+◌, ◌<◌, ◌≤◌, [], ◌∷◌, ◌++◌, length, Some, IfSome, IfOk, ◌⊎◌};
 ghost use Rattle.std.specs.List.{list_any};
 ghost use Rattle.row_links.specs.Lists.{IsOn, IsOnNone, without};
 ghost use Rattle.row_links.specs.Families.{family_of, list_in, with_list_in};
@@ -128,12 +128,19 @@ pub(crate) fn unlink_all<T: Copy, const F: usize>(
     }
 }
 
-// The number of the next row, as long as it fits.
-pub(crate) fn next_number(key: usize) -> Result<u32, NoMemory>
-    ensures { IfOk result (λ x. (x ≡ key) × (x < 4294967295)) }
+// The number of the next row, as long as it fits, where `slab` would take this key next and holds so many rows:
+// that of a place, or of the next one where each place holds a row. It is always one of these, which `slab` does
+// not promise, so it is asked.
+pub(crate) fn next_number(key: usize, held: usize, places: u32) -> Result<u32, NoMemory>
+    ensures number { IfOk result (λ x. x ≡ key) }
+    ensures few { IfOk result (λ x. x < 4294967295) }
+    ensures next { IfOk result (λ x. (x < places) ⊎ ((x ≡ places) × (places ≡ held))) }
 {
-    if key < u32::MAX as usize {
+    let next = places as usize;
+    if key < next {
         Ok(key as u32)
+    } else if key == next && held == next && places < u32::MAX {
+        Ok(places)
     } else {
         Err(NoMemory)
     }

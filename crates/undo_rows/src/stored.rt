@@ -1,5 +1,5 @@
 // What is stored beside the log.
-ghost use Rattle.std.specs.Prelude.{◌≡◌, ◌≢◌, ℕ, false, List, [], ◌∷◌, ◌++◌, Some, IfOk};
+ghost use Rattle.std.specs.Prelude.{◌≡◌, ◌≢◌, ℕ, false, List, [], ◌∷◌, ◌++◌, None, Some, IfOk};
 ghost use Rattle.slab.specs.Slab.{get};
 ghost use Rattle.undo_rows.specs.declared.row.Row.{Row};
 ghost use Rattle.undo_rows.specs.declared.change.Change.{Change};
@@ -77,6 +77,7 @@ impl<T: Copy, const F: usize> Stored<T, F> {
     /// Does with a change what is left to do where it will not be undone.
     pub fn finish(&mut self, done: &Change<T>)
         ensures live { (x : ℕ) → live (get self.new.rows x) ≡ live (get self.old.rows x) }
+        ensures none { (x : ℕ) → get self.old.rows x ≡ None → get self.new.rows x ≡ None }
         ensures gone { (log : List (Change T)) → AreLogged (get self.old.rows) (log ++ done.now ∷ []) → AreLogged (get self.new.rows) log }
         ensures links { self.new.links ≡ self.old.links }
     {
@@ -100,6 +101,7 @@ impl<T: Copy, const F: usize> Stored<T, F> {
     // Takes a row out, if it was removed.
     fn free(&mut self, x: u32)
         ensures live { (y : ℕ) → live (get self.new.rows y) ≡ live (get self.old.rows y) }
+        ensures none { (y : ℕ) → get self.old.rows y ≡ None → get self.new.rows y ≡ None }
         ensures own { (r : Row T F) → get self.new.rows x ≡ Some r → r.gone ≡ false }
         ensures others { (y : ℕ) → y ≢ x → get self.new.rows y ≡ get self.old.rows y }
         ensures links { self.new.links ≡ self.old.links }

@@ -1,10 +1,12 @@
-use Rattle.std.proofs.Common.{◌≡◌, ℕ, List, refl, sym, ap, ◌∙◌, Some, None, Option}
+use Rattle.std.proofs.Common.{inl, inr, rules, ◌<◌, ◌≤◌, ◌≡◌, ℕ, List, refl, sym, ap, ◌∙◌, subst, arith, Some, None, Option}
 use Rattle.undo_rows.specs.declared.row.Row.{Row}
 use Rattle.undo_rows.specs.Tables.{live}
 use Rattle.std.proofs.Common.{◌≢◌, slice_index_or, false}
 use Rattle.std.proofs.lemmas.Result.{err_from_is_err_and}
 use Rattle.slab.specs.Slab.{Slab}
 use Rattle.undo_rows.specs.Tables.{new_row}
+use Rattle.undo_rows.specs.Places.{AreBelow}
+use Rattle.undo_rows.proofs.Places.{HoldsBelow-more, all_held}
 use Rattle.undo_rows.proofs.Edits.{adds, grown_rows, grown_stays, was_free}
 use Rattle.undo_rows.proofs.rows.Rows.add.Goals as goal
 
@@ -14,7 +16,7 @@ invariant_of-self-in_err-reserve_rows g c =
     let links = c.self.inside.stored.links in
     let log = c.self.inside.log.items in
     let alike : c.reserve.new.self.slots ≡ slots = ap (λ (s : Slab (Row g.row.T.Denot g.row.F)). s.slots) c.reserve.ensures.rest_kept in
-    grown_rows slots c.reserve.new.self.slots links c.reserve_rows.new.self log log alike refl c.reserve_rows.ensures.kept c.self.invariant
+    (grown_rows slots c.reserve.new.self.slots links c.reserve_rows.new.self log log alike refl c.reserve_rows.ensures.kept c.self.invariant.0, subst (λ l. AreBelow l c.self.inside.places) (sym alike) c.self.invariant.1)
 
 pub returns-in_err-reserve_rows-clause-err : goal.returns-in_err-reserve_rows-clause-err
 returns-in_err-reserve_rows-clause-err g c =
@@ -23,7 +25,7 @@ returns-in_err-reserve_rows-clause-err g c =
     let log = c.self.inside.log.items in
     let alike : c.reserve.new.self.slots ≡ slots = ap (λ (s : Slab (Row g.row.T.Denot g.row.F)). s.slots) c.reserve.ensures.rest_kept in
     let p = err_from_is_err_and c.from_residual-in_err-reserve_rows.result c.from_residual-in_err-reserve_rows.ensures.1 in
-    rw (p.1, ← c.self.view_is) (grown_stays slots c.reserve.new.self.slots links c.reserve_rows.new.self log log _ _ alike refl c.reserve_rows.ensures.kept)
+    rw (p.1, ← c.self.view_is) (grown_stays slots c.reserve.new.self.slots links c.reserve_rows.new.self log log _ _ _ alike refl c.reserve_rows.ensures.kept)
 
 pub invariant_of-self-in_err-reserve-2 : goal.invariant_of-self-in_err-reserve-2
 invariant_of-self-in_err-reserve-2 g c =
@@ -31,7 +33,7 @@ invariant_of-self-in_err-reserve-2 g c =
     let links = c.self.inside.stored.links in
     let log = c.self.inside.log.items in
     let alike : c.reserve.new.self.slots ≡ slots = ap (λ (s : Slab (Row g.row.T.Denot g.row.F)). s.slots) c.reserve.ensures.rest_kept in
-    grown_rows slots c.reserve.new.self.slots links c.reserve_rows.new.self log c.reserve-2.new.self.items alike c.reserve-2.ensures.items c.reserve_rows.ensures.kept c.self.invariant
+    (grown_rows slots c.reserve.new.self.slots links c.reserve_rows.new.self log c.reserve-2.new.self.items alike c.reserve-2.ensures.items c.reserve_rows.ensures.kept c.self.invariant.0, subst (λ l. AreBelow l c.self.inside.places) (sym alike) c.self.invariant.1)
 
 pub returns-in_err-reserve-2-clause-err : goal.returns-in_err-reserve-2-clause-err
 returns-in_err-reserve-2-clause-err g c =
@@ -40,7 +42,7 @@ returns-in_err-reserve-2-clause-err g c =
     let log = c.self.inside.log.items in
     let alike : c.reserve.new.self.slots ≡ slots = ap (λ (s : Slab (Row g.row.T.Denot g.row.F)). s.slots) c.reserve.ensures.rest_kept in
     let p = err_from_is_err_and c.from_residual-in_err-reserve-2.result c.from_residual-in_err-reserve-2.ensures.1 in
-    rw (p.1, ← c.self.view_is) (grown_stays slots c.reserve.new.self.slots links c.reserve_rows.new.self log c.reserve-2.new.self.items _ _ alike c.reserve-2.ensures.items c.reserve_rows.ensures.kept)
+    rw (p.1, ← c.self.view_is) (grown_stays slots c.reserve.new.self.slots links c.reserve_rows.new.self log c.reserve-2.new.self.items _ _ _ alike c.reserve-2.ensures.items c.reserve_rows.ensures.kept)
 
 pub invariant_of-self-2 : goal.invariant_of-self-2
 invariant_of-self-2 g c =
@@ -51,15 +53,18 @@ invariant_of-self-2 g c =
     let x = c.in_ok-x.x in
     let r = new_row c.args.heads c.args.value in
     let kept : c.reserve-2.new.self.items ≡ log = c.reserve-2.ensures.items in
-    let key : c.insert_reserved.result ≡ x = c.insert_reserved.ensures.key ∙ ap (λ (s : Slab (Row g.row.T.Denot g.row.F)). s.vacant_key) c.reserve.ensures.rest_kept ∙ sym c.vacant_key.ensures.value ∙ sym c.in_ok-x.ensures.0 in
+    let key : c.insert_reserved.result ≡ x = c.insert_reserved.ensures.key ∙ ap (λ (s : Slab (Row g.row.T.Denot g.row.F)). s.vacant_key) c.reserve.ensures.rest_kept ∙ sym c.vacant_key.ensures.value ∙ sym c.in_ok-x.ensures.number in
     let free : slice_index_or slots x None ≡ None = ap (λ (l : List (Option (Row g.row.T.Denot g.row.F))). slice_index_or l x None) (sym alike) ∙ ap (λ (k : ℕ). slice_index_or c.reserve.new.self.slots k None) (sym key) ∙ c.insert_reserved.ensures.was_vacant in
     let changed : slice_index_or c.insert_reserved.new.self.slots x None ≡ Some r = ap (λ (k : ℕ). slice_index_or c.insert_reserved.new.self.slots k None) (sym key) ∙ c.insert_reserved.ensures.updates.changed in
     let others : (y : ℕ) → y ≢ x → slice_index_or c.insert_reserved.new.self.slots y None ≡ slice_index_or slots y None =
     λ y other. c.insert_reserved.ensures.updates.others y (λ same. other (same ∙ key)) ∙ ap (λ (l : List (Option (Row g.row.T.Denot g.row.F))). slice_index_or l y None) alike in
     let stays : r.gone ≡ false = refl in
     let s = adds slots c.insert_reserved.new.self.slots links c.reserve_rows.new.self c.link_all.new.links x r log c.reserve-2.new.self.items c.push.new.self.items c.link_all.new.log.items
-    free changed others stays kept c.reserve_rows.ensures.kept c.link_all.ensures.lists c.push.ensures.items c.link_all.ensures.back c.self.invariant in
-    s.rows
+    free changed others stays kept c.reserve_rows.ensures.kept c.link_all.ensures.lists c.push.ensures.items c.link_all.ensures.back c.self.invariant.0 in
+    let most = c.max-self-inside.result in
+    let more : c.self.inside.places ≤ most = search rules in
+    let within : x < most = search rules in
+    (s.rows, HoldsBelow-more slots c.insert_reserved.new.self.slots c.self.inside.places most x more within others c.self.invariant.1)
 
 pub returns-clause-ok : goal.returns-clause-ok
 returns-clause-ok g c =
@@ -70,17 +75,27 @@ returns-clause-ok g c =
     let x = c.in_ok-x.x in
     let r = new_row c.args.heads c.args.value in
     let kept : c.reserve-2.new.self.items ≡ log = c.reserve-2.ensures.items in
-    let key : c.insert_reserved.result ≡ x = c.insert_reserved.ensures.key ∙ ap (λ (s : Slab (Row g.row.T.Denot g.row.F)). s.vacant_key) c.reserve.ensures.rest_kept ∙ sym c.vacant_key.ensures.value ∙ sym c.in_ok-x.ensures.0 in
+    let key : c.insert_reserved.result ≡ x = c.insert_reserved.ensures.key ∙ ap (λ (s : Slab (Row g.row.T.Denot g.row.F)). s.vacant_key) c.reserve.ensures.rest_kept ∙ sym c.vacant_key.ensures.value ∙ sym c.in_ok-x.ensures.number in
     let free : slice_index_or slots x None ≡ None = ap (λ (l : List (Option (Row g.row.T.Denot g.row.F))). slice_index_or l x None) (sym alike) ∙ ap (λ (k : ℕ). slice_index_or c.reserve.new.self.slots k None) (sym key) ∙ c.insert_reserved.ensures.was_vacant in
     let changed : slice_index_or c.insert_reserved.new.self.slots x None ≡ Some r = ap (λ (k : ℕ). slice_index_or c.insert_reserved.new.self.slots k None) (sym key) ∙ c.insert_reserved.ensures.updates.changed in
     let others : (y : ℕ) → y ≢ x → slice_index_or c.insert_reserved.new.self.slots y None ≡ slice_index_or slots y None =
     λ y other. c.insert_reserved.ensures.updates.others y (λ same. other (same ∙ key)) ∙ ap (λ (l : List (Option (Row g.row.T.Denot g.row.F))). slice_index_or l y None) alike in
     let stays : r.gone ≡ false = refl in
     let s = adds slots c.insert_reserved.new.self.slots links c.reserve_rows.new.self c.link_all.new.links x r log c.reserve-2.new.self.items c.push.new.self.items c.link_all.new.log.items
-    free changed others stays kept c.reserve_rows.ensures.kept c.link_all.ensures.lists c.push.ensures.items c.link_all.ensures.back c.self.invariant in
+    free changed others stays kept c.reserve_rows.ensures.kept c.link_all.ensures.lists c.push.ensures.items c.link_all.ensures.back c.self.invariant.0 in
     rw (← c.self.view_is) (record {
       free = ap live free;
       was_free = was_free slots links log x free;
       present_is = s.present_is;
       committed_is = s.committed_is;
     })
+
+pub returns-clause-grows : goal.returns-clause-grows
+returns-clause-grows g c =
+    let slots = c.self.inside.stored.rows.slots in
+    let places = c.self.inside.places in
+    let most = c.max-self-inside.ensures in
+    rw (← c.self.view_is) (elim c.in_ok-x.ensures.next [
+      | inl within ↦ inl (omega (arith, most, within))
+      | inr next ↦ inr (omega (arith, most, next.0), all_held slots places (next.1 ∙ c.len.ensures) c.self.invariant.1)
+    ])

@@ -7,6 +7,7 @@ use Rattle.undo_rows.specs.Tables.{head_in, is_head}
 use Rattle.undo_rows.specs.Changes.{present, table_in}
 use Rattle.std.proofs.Common.{cond, IsSome, slice_index_or, slice_set, true, false}
 use Rattle.undo_rows.specs.Changes.{Logged}
+use Rattle.undo_rows.proofs.Places.{HoldsBelow-set}
 use Rattle.undo_rows.proofs.Edits.{not_gone, on_lists, removes}
 use Rattle.undo_rows.proofs.rows.Rows.remove_reserved.Goals as goal
 
@@ -19,7 +20,7 @@ unlink_all-requires g c =
     let there : slice_index_or slots x None ≡ Some r = c.index.ensures in
     let present_before : IsSome (live (slice_index_or slots x None)) = subst (λ (l : Logged g.row.T.Denot g.row.F). IsSome ((present l).row x)) (sym c.self.view_is) c.requires.live in
     let stays : r.gone ≡ false = not_gone r (subst (λ (o : Option (Row g.row.T.Denot g.row.F)). IsSome (live o)) there present_before) in
-    (omega arith, (on_lists (table_in slots links) x r c.self.invariant.now_listed there stays, let spare : g.row.F + 1 ≤ c.self.inside.log.spare = subst (λ (l : Logged g.row.T.Denot g.row.F). g.row.F + 1 ≤ l.spare) (sym c.self.view_is) c.requires.spare in omega (arith, spare)))
+    (omega arith, (on_lists (table_in slots links) x r c.self.invariant.0.now_listed there stays, let spare : g.row.F + 1 ≤ c.self.inside.log.spare = subst (λ (l : Logged g.row.T.Denot g.row.F). g.row.F + 1 ≤ l.spare) (sym c.self.view_is) c.requires.spare in omega (arith, spare)))
 
 pub invariant_of-self : goal.invariant_of-self
 invariant_of-self g c =
@@ -39,8 +40,8 @@ invariant_of-self g c =
     let logged : log ≡ log = refl in
     let s = removes slots links new_links x r log log c.unlink_all.new.log.items c.push.new.self.items there stays logged
     (λ f h. e.lists f h ∙ ap (λ (q : Row g.row.T.Denot g.row.F). cond (is_head (head_in q.heads f) h) (without x (list_in links f h)) (list_in links f h)) read)
-    e.back c.push.ensures.items c.self.invariant in
-    s.rows
+    e.back c.push.ensures.items c.self.invariant.0 in
+    (s.rows, HoldsBelow-set slots c.self.inside.places x r (Some removed) there c.self.invariant.1)
 
 pub returns-clause-removed : goal.returns-clause-removed
 returns-clause-removed g c =
@@ -60,5 +61,5 @@ returns-clause-removed g c =
     let logged : log ≡ log = refl in
     let s = removes slots links new_links x r log log c.unlink_all.new.log.items c.push.new.self.items there stays logged
     (λ f h. e.lists f h ∙ ap (λ (q : Row g.row.T.Denot g.row.F). cond (is_head (head_in q.heads f) h) (without x (list_in links f h)) (list_in links f h)) read)
-    e.back c.push.ensures.items c.self.invariant in
+    e.back c.push.ensures.items c.self.invariant.0 in
     rw (← c.self.view_is) (record { present_is = s.present_is; committed_is = s.committed_is })

@@ -2,6 +2,7 @@ use Rattle.std.proofs.Common.{◌<◌, sym, ap, ◌∙◌, subst, arith}
 use Rattle.undo_rows.specs.Tables.{Table}
 use Rattle.undo_rows.specs.Changes.{undone, table_in}
 use Rattle.undo_rows.specs.RowsInside.{AreLogged, CanUndoAll}
+use Rattle.undo_rows.proofs.Listing.{before-none}
 use Rattle.undo_rows.proofs.Undoing.{latest, CanUndoAll-more}
 use Rattle.undo_rows.proofs.Gone.{AreLogged-before}
 use Rattle.undo_rows.proofs.rows.Rows.rollback.Goals as goal
@@ -24,5 +25,7 @@ loop-change-preserved g c =
       gone = subst (λ (t : Table g.row.T.Denot g.row.F). AreLogged t.row rest) (sym c.undo.ensures.before)
           (AreLogged-before (table_in c.loop-change.self-inside.stored.rows.slots links) rest c.in-Some.change (subst (AreLogged (table_in c.loop-change.self-inside.stored.rows.slots links).row) c.in-Some.ensures.latest c.loop-change.invariant.gone));
       listed = c.loop-change.invariant.listed;
+      places = c.loop-change.invariant.places;
+      below = λ x from. ap (λ (t : Table g.row.T.Denot g.row.F). t.row x) c.undo.ensures.before ∙ before-none x c.in-Some.change (table_in c.loop-change.self-inside.stored.rows.slots links) (c.loop-change.invariant.below x from);
       few = c.loop-change.invariant.few;
     }
