@@ -6,7 +6,7 @@ use Rattle.tmm_model.specs.declared.premise.Premise.{Premise}
 use Rattle.tmm_model.specs.declared.premise.Premise.TheVariants.{Class, Kind, Point, Event, Token, Span, Dist, Rule, Protect}
 use Rattle.std.specs.Prelude.{codes}
 use Rattle.tmm_model.specs.Points.{point_word}
-use Rattle.tmm_model.specs.Lines.{number_word, bound_word, given_words, behind_spaces, shown, shown_text}
+use Rattle.tmm_model.specs.Lines.{number_word, bound_word, facts_words, behind_spaces, shown, shown_text}
 use Rattle.tmm_script.specs.Printed.{first_word, head_words, tail_words, AppendsFront}
 
 -- the first i words were appended
@@ -55,7 +55,7 @@ pub on_err : {A E : Type 0} (r : Result A E) {P : Type 0} → P → OnErr r P
 on_err (Ok x) p = tt
 on_err (Err e) p = p
 
-behind-append : (ws vs : List (List ℕ)) → behind_spaces (ws ++ vs) ≡ behind_spaces ws ++ behind_spaces vs
+pub behind-append : (ws vs : List (List ℕ)) → behind_spaces (ws ++ vs) ≡ behind_spaces ws ++ behind_spaces vs
 behind-append [] vs = refl
 behind-append (w ∷ ws) vs = ap (λ (t : List ℕ). 32 ∷ w ++ t) (behind-append ws vs) ∙ sym (append_assoc (32 ∷ w) (behind_spaces ws) (behind_spaces vs))
 
@@ -74,11 +74,11 @@ shown_parts (Event n k) = whole (codes "event") (n ∷ k ∷ [])
 shown_parts (Token n k) = whole (codes "token") (n ∷ k ∷ [])
 shown_parts (Span n k) = whole (codes "span") (n ∷ k ∷ [])
 shown_parts (Dist n p q lo hi) = whole (codes "dist") (n ∷ point_word p ∷ point_word q ∷ bound_word lo ∷ bound_word hi ∷ [])
-shown_parts (Rule n t lo hi x given) = in_parts (codes "rule") (n ∷ t ∷ number_word lo ∷ bound_word hi ∷ x ∷ []) (given_words given.items)
+shown_parts (Rule n t lo hi x given unless_facts) = in_parts (codes "rule") (n ∷ t ∷ number_word lo ∷ bound_word hi ∷ x ∷ []) (facts_words (codes "if") given.items ++ facts_words (codes "unless") unless_facts.items)
 shown_parts (Protect n f p q) = whole (codes "protect") (n ∷ f ∷ point_word p ∷ point_word q ∷ [])
 
 -- text that was appended, and text behind it of which a front was
-front_behind : (old mid new x y : List ℕ) → mid ≡ old ++ x → AppendsFront mid new y → AppendsFront old new (x ++ y)
+pub front_behind : (old mid new x y : List ℕ) → mid ≡ old ++ x → AppendsFront mid new y → AppendsFront old new (x ++ y)
 front_behind old mid new x y e f = record {
   front = x ++ f.front;
   rest = f.rest;
@@ -86,7 +86,7 @@ front_behind old mid new x y e f = record {
   appended = f.appended ∙ ap (λ (t : List ℕ). t ++ f.front) e ∙ append_assoc old x f.front;
 }
 
-front_before : (old new x y : List ℕ) → AppendsFront old new x → AppendsFront old new (x ++ y)
+pub front_before : (old new x y : List ℕ) → AppendsFront old new x → AppendsFront old new (x ++ y)
 front_before old new x y f = record {
   front = f.front;
   rest = f.rest ++ y;
