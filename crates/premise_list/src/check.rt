@@ -87,6 +87,7 @@ impl Table {
     }
 
     // The names that the premise uses are declared, of the wanted sorts.
+    #[tactic(auto, using(crate::proofs::Parts::used_facts))]
     fn check_uses(&self, premise: &Premise) -> Result<(), Refusal>
         ensures { Judges result (uses_cause self.now.premises (uses_of premise.now)) }
     {
@@ -125,7 +126,7 @@ impl Table {
         given: &ArrayVec<Name, MOST_ANTECEDENTS>,
         exceptions: &ArrayVec<Name, MOST_EXCEPTIONS>,
     ) -> Result<(), Refusal>
-        ensures { Judges result (uses_cause self.now.premises (map fact_use (given.now.items ++ exceptions.now.items))) }
+        ensures { Judges result (option_or (uses_cause self.now.premises (map fact_use given.now.items)) (uses_cause self.now.premises (map fact_use exceptions.now.items))) }
     {
         self.check_facts(given.as_slice())?;
         self.check_facts(exceptions.as_slice())

@@ -94,6 +94,7 @@ fn mentions_point(gone: &IndexSet<Name>, point: PointName) -> bool
 }
 
 // Whether an antecedent or an exception of a rule is gone.
+#[tactic(auto, using(crate::proofs::Parts::any_of_both))]
 fn mentions_conditions(
     gone: &IndexSet<Name>,
     given: &ArrayVec<Name, MOST_ANTECEDENTS>,

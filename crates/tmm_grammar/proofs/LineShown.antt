@@ -158,9 +158,22 @@ shown_short (Dist n p q lo hi) h =
 shown_short (Rule n t lo hi x given unless_facts) h =
     let given_words = facts_words (codes "if") given.items in
     let exception_words = facts_words (codes "unless") unless_facts.items in
-    short_line (codes "rule") (n ∷ t ∷ number_word lo ∷ bound_word hi ∷ x ∷ given_words ++ exception_words) (omega arith)
-    (omega (arith, name_length n h.0), (omega (arith, name_length t h.1), (omega (arith, number_length lo h.2), (omega (arith, bound_length hi h.3), (omega (arith, name_length x h.6),
-    all_short given_words exception_words (facts_short (codes "if") (omega arith) given.items h.7) (facts_short (codes "unless") (omega arith) unless_facts.items h.9))))))
+    short_line (codes "rule") (n ∷ t ∷ number_word lo ∷ bound_word hi ∷ x ∷ given_words ++ exception_words) (omega arith) (
+      omega (arith, name_length n h.0),
+      (
+        omega (arith, name_length t h.1),
+        (
+          omega (arith, number_length lo h.2),
+          (
+            omega (arith, bound_length hi h.3),
+            (
+              omega (arith, name_length x h.6),
+              all_short given_words exception_words (facts_short (codes "if") (omega arith) given.items h.7) (facts_short (codes "unless") (omega arith) unless_facts.items h.9),
+            ),
+          ),
+        ),
+      ),
+    )
     (omega (arith, length-append given_words exception_words, length-facts (codes "if") given.items, length-facts (codes "unless") unless_facts.items, h.8, h.10))
 shown_short (Protect n f p q) h =
     short_line (codes "protect") (n ∷ f ∷ point_word p ∷ point_word q ∷ []) (omega arith)

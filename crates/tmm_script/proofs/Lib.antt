@@ -1,3 +1,4 @@
+pub mod Conditions
 pub mod Fronts
 pub mod Readings
 pub mod Printing

@@ -1,7 +1,7 @@
 // Lines that change the standing premises. Each function reads the words behind a line's first one.
 ghost use Rattle.std.specs.Prelude.{◌≡◌, option_map, codes};
 ghost use Rattle.tmm_model.specs.Lines.{words};
-ghost use Rattle.tmm_grammar.specs.Reading.{class_of, dist_of, rule_of, facts_of, ends_given, given_part, exception_part, conditions_of, protect_of, name_alone_of, two_names_of, premise_of, upgrade_of, edit_of, is_range as is_range_of};
+ghost use Rattle.tmm_grammar.specs.Reading.{class_of, dist_of, rule_of, facts_of, ends_given, given_part, exception_part, conditions_of, protect_of, name_alone_of, two_names_of, premise_of, alone, two_of, upgrade_of, edit_of, is_range as is_range_of};
 
 use crate::fields::{
     all_names, at_end, ends_given, names_before, take_bound, take_horizon, take_name, take_number, take_point,
@@ -35,9 +35,15 @@ pub fn edit(version: Version, word: &[u8], rest: &[u8]) -> Option<Edit>
 fn upgrade(version: Version, line: &[u8]) -> Option<Edit>
     ensures { result ≡ upgrade_of version (words line.now) }
 {
-    if version == Version::Two {
-        return None;
+    match version {
+        Version::One => two_alone(line),
+        Version::Two => None,
     }
+}
+
+fn two_alone(line: &[u8]) -> Option<Edit>
+    ensures { result ≡ alone two_of (words line.now) }
+{
     let (word, rest) = split_word(line)?;
     if word != b"2".as_slice() {
         return None;
