@@ -8,7 +8,7 @@ use Rattle.tmm_model.specs.declared.version.Version.{Version}
 use Rattle.tmm_model.specs.declared.version.Version.TheVariants.{One, Two}
 use Rattle.tmm_model.specs.Points.{same_name}
 use Rattle.tmm_model.specs.Lines.{AreNames, facts_words, is_unless, AreFactsOf}
-use Rattle.tmm_grammar.specs.Reading.{◌>>=◌, passing, names_of, facts_of, ends_given, given_part, exception_part, conditions_of}
+use Rattle.tmm_grammar.specs.Reading.{◌>>=◌, passing, names_of, facts_of, ends_given, given_part, exception_part, with_exceptions, conditions_of}
 use Rattle.tmm_grammar.proofs.LineReaders.{chosen, bind_some, passing_some, IsReader}
 use Rattle.walk_theory.proofs.Points.{same_name-is}
 
@@ -153,7 +153,7 @@ as_versioned Two ws fs es given exceptions = sym (none_in_given fs) ∙ ap (list
 conditions-sound : (version : Version) (ws : List (List ℕ)) (t : Conditions) → conditions_of version ws ≡ Some t → AreConditions version t × (ws ≡ condition_words t)
 unfolding conditions_of
 conditions-sound version ws t e =
-    let a = bind_some (facts_of (codes "if") 4 (given_part version ws)) (λ given. facts_of (codes "unless") 2 (exception_part version ws) >>= λ exceptions. Some (given, exceptions)) t e in
+    let a = bind_some (facts_of (codes "if") 4 (given_part version ws)) (with_exceptions (exception_part version ws)) t e in
     let b = bind_some (facts_of (codes "unless") 2 (exception_part version ws)) (λ exceptions. Some (a.0, exceptions)) t a.2 in
     let r = given_reader.sound (given_part version ws) a.0 a.1 in
     let s = exceptions_reader.sound (exception_part version ws) b.0 b.1 in
@@ -162,23 +162,30 @@ conditions-sound version ws t e =
     subst (λ (z : Conditions). AreConditions version z × (ws ≡ condition_words z)) same
     (((r.0, s.0), as_versioned version ws a.0 b.0 r.1 s.1), sym (parted version ws) ∙ (λ i. r.1 i ++ s.1 i))
 
+with_exceptions-again : (fs es : List (List ℕ)) → AreFew 2 es → with_exceptions (facts_words (codes "unless") es) fs ≡ Some (fs, es)
+with_exceptions-again fs es few = rw (exceptions_reader.complete es few) refl
+
 read_parts : (version : Version) (ws fs es : List (List ℕ)) → given_part version ws ≡ facts_words (codes "if") fs → exception_part version ws ≡ facts_words (codes "unless") es
     → AreFew 4 fs → AreFew 2 es → conditions_of version ws ≡ Some (fs, es)
 unfolding conditions_of
 read_parts version ws fs es given exceptions few few_exceptions =
-    rw (given, given_reader.complete fs few, exceptions, exceptions_reader.complete es few_exceptions) refl
+    (λ i. facts_of (codes "if") 4 (given i) >>= with_exceptions (exceptions i))
+    ∙ ap (λ (r : Option (List (List ℕ))). r >>= with_exceptions (facts_words (codes "unless") es)) (given_reader.complete fs few)
+    ∙ with_exceptions-again fs es few_exceptions
+
+-- in version 1 all words are antecedents
+no_more_given : (given : List (List ℕ)) → given ++ given_part One [] ≡ given
+unfolding given_part
+no_more_given given = append-nil given
 
 conditions-again : (version : Version) (t : Conditions) → AreConditions version t → conditions_of version (condition_words t) ≡ Some t
 conditions-again One (fs, es) h =
     let given = facts_words (codes "if") fs in
-    let none : facts_words (codes "unless") es ≡ [] = ap (facts_words (codes "unless")) h.1 in
+    let exceptions = facts_words (codes "unless") es in
+    let none : exceptions ≡ [] = ap (facts_words (codes "unless")) h.1 in
     read_parts One (condition_words (fs, es)) fs es
-    (given_part-append One given (facts_words (codes "unless") es) (never given) ∙ ap (λ (x : List (List ℕ)). given ++ given_part One x) none ∙ nothing given)
+    (given_part-append One given exceptions (never given) ∙ ap (λ (x : List (List ℕ)). given ++ given_part One x) none ∙ no_more_given given)
     (all_given (condition_words (fs, es)) ∙ sym none) h.0.0 h.0.1
-  where
-    nothing : (given : List (List ℕ)) → given ++ given_part One [] ≡ given
-    unfolding given_part
-    nothing given = append-nil given
 conditions-again Two (fs, es) h =
     let given = facts_words (codes "if") fs in
     let exceptions = facts_words (codes "unless") es in

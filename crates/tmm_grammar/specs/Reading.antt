@@ -172,10 +172,13 @@ unfoldable pub exception_part : Version → List (List ℕ) → List (List ℕ)
 exception_part version [] = []
 exception_part version (w ∷ ws) = cond (ends_given version w) (w ∷ ws) (exception_part version ws)
 
--- antecedents, and exceptions
+-- antecedents with the exceptions that these words tell
+abbrev pub with_exceptions : List (List ℕ) → List (List ℕ) → Option (List (List ℕ) × List (List ℕ))
+with_exceptions ws given = facts_of (codes "unless") 2 ws >>= λ exceptions. Some (given, exceptions)
+
+-- antecedents and exceptions
 unfoldable pub conditions_of : Version → List (List ℕ) → Option (List (List ℕ) × List (List ℕ))
-conditions_of version ws = facts_of (codes "if") 4 (given_part version ws)
-    >>= λ given. facts_of (codes "unless") 2 (exception_part version ws) >>= λ exceptions. Some (given, exceptions)
+conditions_of version ws = facts_of (codes "if") 4 (given_part version ws) >>= with_exceptions (exception_part version ws)
 
 -- a name, a kind, a delay of at least 1 and a bound that is no less, an effect, antecedents and exceptions
 unfoldable pub rule_of : Version → List (List ℕ) → Option Premise

@@ -4,7 +4,8 @@ ghost use Rattle.tmm_model.specs.Lines.{words};
 ghost use Rattle.tmm_grammar.specs.Reading.{class_of, dist_of, rule_of, facts_of, ends_given, given_part, exception_part, conditions_of, protect_of, name_alone_of, two_names_of, premise_of, alone, two_of, upgrade_of, edit_of, is_range as is_range_of};
 
 use crate::fields::{
-    all_names, at_end, ends_given, names_before, take_bound, take_horizon, take_name, take_number, take_point,
+    all_names, at_end, ends_given, names_before, take_bound, take_horizon, take_name, take_number,
+    take_point,
 };
 use arrayvec::ArrayVec;
 use tmm_model::{Bound, Edit, MOST_ANTECEDENTS, MOST_EXCEPTIONS, Name, Premise, Version};
@@ -178,7 +179,12 @@ fn rule(version: Version, line: &[u8]) -> Option<Premise>
 fn conditions(
     version: Version,
     line: &[u8],
-) -> Option<(ArrayVec<Name, MOST_ANTECEDENTS>, ArrayVec<Name, MOST_EXCEPTIONS>)>
+) -> Option<
+    (
+        ArrayVec<Name, MOST_ANTECEDENTS>,
+        ArrayVec<Name, MOST_EXCEPTIONS>,
+    ),
+>
     ensures { option_map (λ x. (x.0.items, x.1.items)) result ≡ conditions_of version (words line.now) }
 {
     let (given, rest) = given(version, line)?;

@@ -131,16 +131,20 @@ pub fn ends_given(version: Version, word: &[u8]) -> bool
 /// The words before the one at which antecedents end, where they are names and at most `N`, and the line
 /// from there on.
 #[tactic(auto, unfolding(tmm_grammar::specs::Reading::given_part, tmm_grammar::specs::Reading::exception_part))]
-pub fn names_before<const N: usize>(version: Version, line: &[u8]) -> Option<(ArrayVec<Name, N>, &[u8])>
+pub fn names_before<const N: usize>(
+    version: Version,
+    line: &[u8],
+) -> Option<(ArrayVec<Name, N>, &[u8])>
     ensures { option_map (λ x. (x.0.items, words x.1.now)) result ≡ option_map (λ names. (names, exception_part version (words line.now))) (names_of N (given_part version (words line.now))) }
 {
     let mut names = ArrayVec::new();
     let mut rest = line;
     while let Some((word, behind)) = split_word(rest) {
         if ends_given(version, word) {
-            break;
+            return Some((names, rest));
         }
-        if names.is_full() {
+        let full = names.is_full();
+        if full {
             return None;
         }
         names.push(Name::of(word)?);

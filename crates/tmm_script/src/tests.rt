@@ -45,7 +45,10 @@ fn lines_of_version_2_are_read(rt: HostRuntime) -> Result<(), Fail> {
         assert_eq!(rt; told(alloc, Version::Two, line), "form");
     }
     assert_eq!(rt; told(alloc, Version::One, b"tmm 2"), "change");
-    assert_eq!(rt; told(alloc, Version::One, b"rule r t 1 1 x unless g"), "form");
+    assert_eq!(rt;
+        told(alloc, Version::One, b"rule r t 1 1 x unless g"),
+        "form"
+    );
     Ok(())
 }
 
