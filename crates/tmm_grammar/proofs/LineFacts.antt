@@ -6,6 +6,7 @@ use Rattle.std.proofs.lemmas.List.{append-nil}
 use Rattle.std.proofs.lemmas.Bool.{and_parts, leb-true, le-leb}
 use Rattle.tmm_model.specs.declared.version.Version.{Version}
 use Rattle.tmm_model.specs.declared.version.Version.TheVariants.{One, Two}
+use Rattle.tmm_model.specs.Names.{is_name}
 use Rattle.tmm_model.specs.Points.{same_name}
 use Rattle.tmm_model.specs.Lines.{AreNames, facts_words, is_unless, AreFactsOf}
 use Rattle.tmm_grammar.specs.Reading.{◌>>=◌, passing, names_of, facts_of, ends_given, given_part, exception_part, with_exceptions, conditions_of}
@@ -69,20 +70,21 @@ module _ (version : Version) where
   parted : (ws : List (List ℕ)) → given_part version ws ++ exception_part version ws ≡ ws
   unfolding given_part exception_part
   parted [] = refl
-  parted (w ∷ ws) = by (ends_given version w)
+  parted (w ∷ ws) = by (ends_given version w) (parted ws)
     where
-      by : (b : Bool) → cond b [] (w ∷ given_part version ws) ++ cond b (w ∷ ws) (exception_part version ws) ≡ w ∷ ws
-      by true = refl
-      by false = ap (λ (x : List (List ℕ)). w ∷ x) (parted ws)
+      by : (b : Bool) → given_part version ws ++ exception_part version ws ≡ ws → cond b [] (w ∷ given_part version ws) ++ cond b (w ∷ ws) (exception_part version ws) ≡ w ∷ ws
+      by true rest = refl
+      by false rest = ap (λ (x : List (List ℕ)). w ∷ x) rest
 
   none_in_part : (ws : List (List ℕ)) → list_any (ends_given version) (given_part version ws) ≡ false
   unfolding given_part
   none_in_part [] = refl
-  none_in_part (w ∷ ws) = by (ends_given version w) refl
+  none_in_part (w ∷ ws) = by (ends_given version w) refl (none_in_part ws)
     where
-      by : (b : Bool) → ends_given version w ≡ b → list_any (ends_given version) (cond b [] (w ∷ given_part version ws)) ≡ false
-      by true e = refl
-      by false e = or_from_false e (none_in_part ws)
+      by : (b : Bool) → ends_given version w ≡ b → list_any (ends_given version) (given_part version ws) ≡ false
+          → list_any (ends_given version) (cond b [] (w ∷ given_part version ws)) ≡ false
+      by true e rest = refl
+      by false e rest = or_from_false e rest
 
   given_part-append : (xs ys : List (List ℕ)) → list_any (ends_given version) xs ≡ false → given_part version (xs ++ ys) ≡ xs ++ given_part version ys
   unfolding given_part
