@@ -1,7 +1,8 @@
 // Lines that change the standing premises. Each function reads the words behind a line's first one.
 ghost use Rattle.std.specs.Prelude.{◌≡◌, option_map, codes};
 ghost use Rattle.tmm_model.specs.Lines.{words};
-ghost use Rattle.tmm_grammar.specs.Reading.{class_of, dist_of, rule_of, facts_of, ends_given, given_part, exception_part, conditions_of, protect_of, name_alone_of, two_names_of, premise_of, alone, two_of, upgrade_of, edit_of, is_range as is_range_of};
+ghost use Rattle.tmm_grammar.specs.Reading.{class_of, dist_of, rule_of, facts_of, conditions_of, protect_of, name_alone_of, two_names_of, premise_of, alone, two_of, upgrade_of, edit_of, is_range as is_range_of};
+ghost use Rattle.tmm_script.specs.Conditions.{Cut, given_cut};
 
 use crate::fields::{
     all_names, at_end, ends_given, names_before, take_bound, take_horizon, take_name, take_number,
@@ -185,7 +186,7 @@ fn conditions(
         ArrayVec<Name, MOST_EXCEPTIONS>,
     ),
 >
-    ensures { option_map (λ x. (x.0.items, x.1.items)) result ≡ conditions_of version (words line.now) }
+    ensures { option_map {U = Cut} (λ x. (x.0.items, x.1.items)) result ≡ conditions_of version (words line.now) }
 {
     let (given, rest) = given(version, line)?;
     let unless_facts = exceptions(rest)?;
@@ -195,7 +196,7 @@ fn conditions(
 // The antecedents, and the line from where they end on.
 #[tactic(auto, unfolding(tmm_grammar::specs::Reading::facts_of, tmm_grammar::specs::Reading::given_part, tmm_grammar::specs::Reading::exception_part))]
 fn given(version: Version, line: &[u8]) -> Option<(ArrayVec<Name, MOST_ANTECEDENTS>, &[u8])>
-    ensures { option_map (λ x. (x.0.items, words x.1.now)) result ≡ option_map (λ facts. (facts, exception_part version (words line.now))) (facts_of (codes "if") 4 (given_part version (words line.now))) }
+    ensures { option_map {U = Cut} (λ x. (x.0.items, words x.1.now)) result ≡ given_cut version (words line.now) }
 {
     let Some((word, behind)) = split_word(line) else {
         return Some((ArrayVec::new(), line));

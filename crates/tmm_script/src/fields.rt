@@ -3,7 +3,8 @@
 ghost use Rattle.std.specs.Prelude.{◌≡◌, ◌∷◌, [], ℕ, List, length, take, option_map, IsSome, IsTrue, ◌↔◌};
 ghost use Rattle.tmm_model.specs.Lines.{words};
 ghost use Rattle.tmm_grammar.specs.Bare.{bare_occ, bare_point};
-ghost use Rattle.tmm_grammar.specs.Reading.{front, name_of, names_of, number_of, bound_of, point_of, horizon_of, horizon_from, occ_of, query_point_of, ends_given, given_part, exception_part};
+ghost use Rattle.tmm_grammar.specs.Reading.{front, name_of, names_of, number_of, bound_of, point_of, horizon_of, horizon_from, occ_of, query_point_of, ends_given};
+ghost use Rattle.tmm_script.specs.Conditions.{Cut, names_cut};
 ghost use Rattle.tmm_words.specs.Spelling.{begins_derived};
 ghost use Rattle.tmm_script.specs.Derived.{some_derived};
 ghost use Rattle.tmm_script.specs.Given.{Gives, OnMemory};
@@ -135,7 +136,7 @@ pub fn names_before<const N: usize>(
     version: Version,
     line: &[u8],
 ) -> Option<(ArrayVec<Name, N>, &[u8])>
-    ensures { option_map (λ x. (x.0.items, words x.1.now)) result ≡ option_map (λ names. (names, exception_part version (words line.now))) (names_of N (given_part version (words line.now))) }
+    ensures { option_map {U = Cut} (λ x. (x.0.items, words x.1.now)) result ≡ names_cut N version (words line.now) }
 {
     let mut names = ArrayVec::new();
     let mut rest = line;
