@@ -1,5 +1,5 @@
 -- Names that are read one by one up to where antecedents end.
-use Rattle.std.proofs.Common.{◌≡◌, ℕ, suc, ◌+◌, ◌≤◌, Bool, true, false, List, [], ◌∷◌, ◌++◌, length, append_assoc, Option, Some, None, refl, sym, ap, subst, ◌∙◌, arith}
+use Rattle.std.proofs.Common.{◌≡◌, ℕ, suc, ◌+◌, ◌≤◌, ◌<◌, Bool, true, false, List, [], ◌∷◌, ◌++◌, length, append_assoc, Option, Some, None, refl, sym, ap, subst, ◌∙◌, arith}
 use Rattle.std.specs.Prelude.{option_map, ◌&&◌, nat_le, codes}
 use Rattle.std.specs.List.{list_all}
 use Rattle.std.proofs.lemmas.Bool.{le-leb}
@@ -40,6 +40,9 @@ module _ (version : Version) (ws : List (List ℕ)) where
     unfolding exception_part
     exception_next goes = rw (is, goes) refl
 
+past : (m n : ℕ) → n < m → nat_le m n ≡ false
+past m n lt = grind arith
+
 -- the names before `rest` were read, and are few
 module _ (n : ℕ) (version : Version) (line rest names : List (List ℕ)) (are : AreNames names) (few : length names ≤ n)
     (given : given_part version line ≡ names ++ given_part version rest) (exceptions : exception_part version line ≡ exception_part version rest) where
@@ -48,11 +51,21 @@ module _ (n : ℕ) (version : Version) (line rest names : List (List ℕ)) (are 
   names_end ends from =
       sym (rw (given, ends, append-nil names, are, le-leb (length names) n few, exceptions, from) refl)
 
-  -- they go on with a word that is no name, or with one too many
+  -- they go on with a word that is no name
   pub names_spoilt : (w : List ℕ) (more : List (List ℕ)) → given_part version rest ≡ w ∷ more → is_name w ≡ false → None ≡ names_cut n version line
   names_spoilt w more goes none = sym (rw (given, goes, list_all-append is_name names (w ∷ more), none) (by (list_all is_name names)))
     where
       by : (b : Bool) → option_map {U = Cut} (λ ns. (ns, exception_part version line)) (passing ((b && false) && nat_le (length (names ++ w ∷ more)) n) (names ++ w ∷ more)) ≡ None
+      by true = refl
+      by false = refl
+
+  -- they go on with one too many
+  pub names_full : (w : List ℕ) (more : List (List ℕ)) → given_part version rest ≡ w ∷ more → n ≤ length names → None ≡ names_cut n version line
+  names_full w more goes full =
+      let longer : n < length (names ++ w ∷ more) = omega (arith, length-append names (w ∷ more), full) in
+      sym (rw (given, goes, past (length (names ++ w ∷ more)) n longer) (by (list_all is_name (names ++ w ∷ more))))
+    where
+      by : (b : Bool) → option_map {U = Cut} (λ ns. (ns, exception_part version line)) (passing (b && false) (names ++ w ∷ more)) ≡ None
       by true = refl
       by false = refl
 
