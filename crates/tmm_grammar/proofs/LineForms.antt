@@ -1,7 +1,6 @@
 -- What each form of a line reads as, and that a line reads as at most one thing.
 use Rattle.std.proofs.Common.{◌≡◌, ℕ, ◌≤◌, ℤ, pos, true, false, cond, List, [], ◌∷◌, length, Option, Some, None, refl, sym, ap, subst, ◌∙◌, inl, inr, arith}
 use Rattle.std.specs.Prelude.{◌≤ℤ◌, int_le, decimal, option_map, ◌&&◌, nat_le, codes}
-use Rattle.std.specs.List.{list_all}
 use Rattle.std.specs.Option.{option_or}
 use Rattle.std.proofs.lemmas.Bool.{and_parts, leb-true, le-leb, true≢false}
 use Rattle.std.proofs.lemmas.Int.{ints}
@@ -21,7 +20,6 @@ use Rattle.tmm_model.specs.declared.line.Query.{Query}
 use Rattle.tmm_model.specs.declared.line.Query.TheVariants.{Bounds, Path, Ask, Why, Check, List as Listing, Dump, Audit, Size}
 use Rattle.tmm_model.specs.declared.line.Line.{Line}
 use Rattle.tmm_model.specs.declared.line.Line.TheVariants.{Silent, Change, Question}
-use Rattle.tmm_model.specs.Names.{is_name}
 use Rattle.tmm_model.specs.Points.{same_name, point_word, occ_word, query_word}
 use Rattle.tmm_model.specs.Lines.{IsName, AreNames, number_word, bound_word, IsNumber, IsBound, IsRange, IsWellFormedPoint, IsWellFormedPremise, IsWellFormedEdit, IsWellFormedQuery, IsWellFormedQueryPoint, IsOfVersion, IsEditOf, shown, edit_words, query_words, is_comment, Reads}
 use Rattle.tmm_grammar.specs.Bare.{bare_point, bare_query, bare_line, SameLine}

@@ -1,4 +1,3 @@
-pub mod Conditions
 pub mod Fronts
 pub mod Readings
 pub mod Printing

@@ -94,6 +94,18 @@ front_before old new x y f = record {
   appended = f.appended;
 }
 
+-- two lists of words, one written behind the other
+module _ (old new : List ℕ) (ws vs : List (List ℕ)) where
+  pub wrote_both : (mid : List ℕ) → mid ≡ old ++ behind_spaces ws → new ≡ mid ++ behind_spaces vs → new ≡ old ++ behind_spaces (ws ++ vs)
+  wrote_both mid e f =
+      f ∙ ap (λ (t : List ℕ). t ++ behind_spaces vs) e ∙ append_assoc old (behind_spaces ws) (behind_spaces vs) ∙ ap (λ (t : List ℕ). old ++ t) (sym (behind-append ws vs))
+
+  pub front_of_first : AppendsFront old new (behind_spaces ws) → AppendsFront old new (behind_spaces (ws ++ vs))
+  front_of_first f = rw (behind-append ws vs) (front_before old new (behind_spaces ws) (behind_spaces vs) f)
+
+  pub front_of_second : (mid : List ℕ) → mid ≡ old ++ behind_spaces ws → AppendsFront mid new (behind_spaces vs) → AppendsFront old new (behind_spaces (ws ++ vs))
+  front_of_second mid e f = rw (behind-append ws vs) (front_behind old mid new (behind_spaces ws) (behind_spaces vs) e f)
+
 -- the same of the parts of a premise's text
 module _ (p : Premise) (old mid k : List ℕ) (heads : List (List ℕ)) (key : k ≡ first_word (shown p)) (is : heads ≡ head_words p) (begun : mid ≡ old ++ k) where
   text : shown_text p ≡ k ++ (behind_spaces heads ++ behind_spaces (tail_words p))

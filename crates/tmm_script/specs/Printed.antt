@@ -29,10 +29,14 @@ head_words (premises.Class name facts) = name ∷ []
 head_words (premises.Rule name trigger lo hi effect given unless_facts) = name ∷ trigger ∷ number_word lo ∷ bound_word hi ∷ effect ∷ []
 head_words premise = other_words (shown premise)
 
+-- antecedents and exceptions, each behind their word
+abbrev pub conditions_words : List (List ℕ) → List (List ℕ) → List (List ℕ)
+conditions_words given exceptions = facts_words (codes "if") given ++ facts_words (codes "unless") exceptions
+
 -- the words behind these
 abbrev pub tail_words : Premise → List (List ℕ)
 tail_words (premises.Class name facts) = facts.items
-tail_words (premises.Rule name trigger lo hi effect given unless_facts) = facts_words (codes "if") given.items ++ facts_words (codes "unless") unless_facts.items
+tail_words (premises.Rule name trigger lo hi effect given unless_facts) = conditions_words given.items unless_facts.items
 tail_words premise = []
 
 -- a front of the text was appended

@@ -4,12 +4,14 @@ ghost use Rattle.tmm_model.specs.Points.{point_word};
 ghost use Rattle.tmm_model.specs.Lines.{number_word, bound_word, behind_spaces, facts_words, shown, shown_text};
 ghost use Rattle.tmm_model.specs.declared.bound.Bound.TheVariants.{Free};
 ghost use Rattle.tmm_script.specs.declared.print.Field.TheVariants.{Bound as BoundField};
-ghost use Rattle.tmm_script.specs.Printed.{field_word, first_word, head_words, tail_words, AppendsFront};
+ghost use Rattle.tmm_script.specs.Printed.{field_word, first_word, head_words, conditions_words, tail_words, AppendsFront};
 
 use arrayvec::ArrayVec;
 use itoa::Buffer;
 use std::alloc::Global;
-use tmm_model::{Bound, Name, NoMemory, PointName, Premise, Seq};
+use tmm_model::{
+    Bound, MOST_ANTECEDENTS, MOST_EXCEPTIONS, Name, NoMemory, PointName, Premise, Seq,
+};
 
 /// Appends the words that declare a premise, parted by one space. The line reads as the premise in each
 /// version in which it is well formed. Without memory a front of the text may have been appended.
@@ -122,12 +124,22 @@ fn put_facts(out: &mut Seq<u8>, premise: &Premise) -> Result<(), NoMemory>
             given,
             unless_facts,
             ..
-        } => {
-            put_behind(out, b"if", given.as_slice())?;
-            put_behind(out, b"unless", unless_facts.as_slice())
-        }
+        } => put_conditions(out, given, unless_facts),
         _ => Ok(()),
     }
+}
+
+// Antecedents, and then exceptions.
+fn put_conditions(
+    out: &mut Seq<u8>,
+    given: &ArrayVec<Name, MOST_ANTECEDENTS>,
+    exceptions: &ArrayVec<Name, MOST_EXCEPTIONS>,
+) -> Result<(), NoMemory>
+    ensures ok { OnOk result (out.new.items ≡ out.old.items ++ behind_spaces (conditions_words given.now.items exceptions.now.items)) }
+    ensures err { OnErr result (AppendsFront out.old.items out.new.items (behind_spaces (conditions_words given.now.items exceptions.now.items))) }
+{
+    put_behind(out, b"if", given.as_slice())?;
+    put_behind(out, b"unless", exceptions.as_slice())
 }
 
 // Facts behind a word, and nothing where there are none.
