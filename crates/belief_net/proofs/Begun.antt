@@ -3,7 +3,7 @@ use Rattle.std.proofs.Common.{◌≡◌, ◌∙◌, ℕ, true, false, List, Opti
 use Rattle.std.specs.Cmp.Lexicographic.{bytes_decides}
 use Rattle.tmm_model.specs.declared.point.PointName.TheVariants.{Begin}
 use Rattle.tmm_model.specs.declared.premise.Edit.{Edit}
-use Rattle.tmm_model.specs.declared.premise.Edit.TheVariants.{Add, Erase, Horizon}
+use Rattle.tmm_model.specs.declared.premise.Edit.TheVariants.{Add, Erase, Horizon, Upgrade}
 use Rattle.tmm_model.specs.declared.premise.Premise.{Premise}
 use Rattle.tmm_model.specs.declared.premise.Premise.TheVariants.{Class, Kind, Point, Event, Token, Span, Dist, Rule, Protect}
 use Rattle.tmm_model.specs.Beliefs.{on_kind, root_of}
@@ -92,12 +92,12 @@ module _ (old : Standing) (p : Premise) (before net : Net) (b e c m r n : Belief
       (rule_gains old p net m n.decisions (sound_old old (Add p) before net b e c m r n all h) (sound_new old (Add p) before net b e c m r n all h) (stood old (Add p) before net b e c m r n all h) h.fit last
       name kind is_rule named only_on adds_m))
 
-on_own : (name trigger : List ℕ) (lo hi effect given : _) → on_kind trigger (Rule name trigger lo hi effect given) ≡ Some name
-on_own name trigger lo hi effect given = ap (λ v. elim v as (λ _. Option (List ℕ)) [ true ↦ Some name | false ↦ None ]) ((bytes_decides trigger trigger).1 refl)
+on_own : (name trigger : List ℕ) (lo hi effect given unless_facts : _) → on_kind trigger (Rule name trigger lo hi effect given unless_facts) ≡ Some name
+on_own name trigger lo hi effect given unless_facts = ap (λ v. elim v as (λ _. Option (List ℕ)) [ true ↦ Some name | false ↦ None ]) ((bytes_decides trigger trigger).1 refl)
 
 -- a rule is on one kind
-on_one : (name trigger : List ℕ) (lo hi effect given : _) (other rule : List ℕ) → on_kind other (Rule name trigger lo hi effect given) ≡ Some rule → (trigger ≡ other) × (name ≡ rule)
-on_one name trigger lo hi effect given other rule is = by (same_name trigger other) refl is
+on_one : (name trigger : List ℕ) (lo hi effect given unless_facts : _) (other rule : List ℕ) → on_kind other (Rule name trigger lo hi effect given unless_facts) ≡ Some rule → (trigger ≡ other) × (name ≡ rule)
+on_one name trigger lo hi effect given unless_facts other rule is = by (same_name trigger other) refl is
   where
     by : (v : _) → same_name trigger other ≡ v → elim v as (λ _. Option (List ℕ)) [ true ↦ Some name | false ↦ None ] ≡ Some rule → (trigger ≡ other) × (name ≡ rule)
     by true e some = ((bytes_decides trigger other).0 e, cc)
@@ -117,8 +117,8 @@ pub begun_ready : (old : Standing) (edit : Edit) (before net : Net) (b e c m r n
 begun_ready old (Add (Event name kind)) before net b e c m r n all h = with_root old (Event name kind) before net b e c m r n all h (At (Begin name)) refl h.enters.0 h.enters.1
 begun_ready old (Add (Token name fact)) before net b e c m r n all h = with_root old (Token name fact) before net b e c m r n all h (At (Begin name)) refl h.enters.0 h.enters.1
 begun_ready old (Add (Span name fact)) before net b e c m r n all h = with_root old (Span name fact) before net b e c m r n all h (At (Begin name)) refl h.enters.0 h.enters.1
-begun_ready old (Add (Rule name trigger lo hi effect given)) before net b e c m r n all h =
-    with_rule old (Rule name trigger lo hi effect given) before net b e c m r n all h name trigger (on_own name trigger lo hi effect given) refl (on_one name trigger lo hi effect given) h.enters.0 h.enters.1.0 h.enters.1.1
+begun_ready old (Add (Rule name trigger lo hi effect given unless_facts)) before net b e c m r n all h =
+    with_rule old (Rule name trigger lo hi effect given unless_facts) before net b e c m r n all h name trigger (on_own name trigger lo hi effect given unless_facts) refl (on_one name trigger lo hi effect given unless_facts) h.enters.0 h.enters.1.0 h.enters.1.1
 begun_ready old (Add (Class name facts)) before net b e c m r n all h = neither old (Class name facts) before net b e c m r n all h h.enters.0 h.enters.1 refl (λ kind. refl)
 begun_ready old (Add (Kind name)) before net b e c m r n all h = neither old (Kind name) before net b e c m r n all h h.enters.0 h.enters.1 refl (λ kind. refl)
 begun_ready old (Add (Point name)) before net b e c m r n all h = neither old (Point name) before net b e c m r n all h h.enters.0 h.enters.1 refl (λ kind. refl)
@@ -126,3 +126,4 @@ begun_ready old (Add (Dist name from to lo hi)) before net b e c m r n all h = n
 begun_ready old (Add (Protect name fact from to)) before net b e c m r n all h = neither old (Protect name fact from to) before net b e c m r n all h h.enters.0 h.enters.1 refl (λ kind. refl)
 begun_ready old (Erase name) before net b e c m r n all h = still old (Erase name) before net b e c m r n all h h.enters.0 h.enters.1 (λ p k is root. cc) (λ p kind rule is on. cc)
 begun_ready old (Horizon k) before net b e c m r n all h = still old (Horizon k) before net b e c m r n all h h.enters.0 h.enters.1 (λ p o is root. cc) (λ p kind rule is on. cc)
+begun_ready old Upgrade before net b e c m r n all h = still old Upgrade before net b e c m r n all h h.enters.0 h.enters.1 (λ p o is root. cc) (λ p kind rule is on. cc)

@@ -3,7 +3,7 @@ use Rattle.std.proofs.Common.{◌≡◌, ◌∙◌, ℕ, List, [], ◌∷◌, Op
 use Rattle.std.specs.Prelude.{IsSome, is_some}
 use Rattle.std.specs.List.{Contains}
 use Rattle.tmm_model.specs.declared.premise.Edit.{Edit}
-use Rattle.tmm_model.specs.declared.premise.Edit.TheVariants.{Add, Erase, Horizon}
+use Rattle.tmm_model.specs.declared.premise.Edit.TheVariants.{Add, Erase, Horizon, Upgrade}
 use Rattle.tmm_model.specs.declared.premise.Premise.{Premise}
 use Rattle.tmm_model.specs.declared.token.Shape.{Shape}
 use Rattle.tmm_model.specs.declared.token.Shape.TheVariants.{Event as AnEvent, Persistence as APersistence, Span as ASpan}
@@ -30,6 +30,7 @@ premise_cases old (Add q) p at = elim (In-cases old.premises (q ∷ []) p at) [
 ]
 premise_cases old (Erase n) p at = inl (kept_before n [] old.premises p at)
 premise_cases old (Horizon n) p at = inl at
+premise_cases old Upgrade p at = inl at
 
 -- so a root
 pub root_cases : (old : Standing) (edit : Edit) (k : Moment) → Contains (roots (next_list old edit)) k → Contains (roots old) k ⊎ ((p : Premise) × (edit ≡ Add p) × (root_of p ≡ Some k))

@@ -54,7 +54,7 @@ one_added p q e = cc
 
 -- a premise that is a rule declares nothing to occur
 no_root_of_rule : (p : Premise) (kind r : List ℕ) (k : Moment) → on_kind kind p ≡ Some r → root_of p ≡ Some k → ⊥
-no_root_of_rule (Rule name trigger lo hi effect given) kind r k on root = cc
+no_root_of_rule (Rule name trigger lo hi effect given unless_facts) kind r k on root = cc
 no_root_of_rule (Class name facts) kind r k on root = cc
 no_root_of_rule (Kind name) kind r k on root = cc
 no_root_of_rule (Point name) kind r k on root = cc

@@ -5,7 +5,7 @@ use Rattle.std.specs.Option.{option_map_or}
 use Rattle.std.specs.Cmp.Lexicographic.{bytes_decides}
 use Rattle.tmm_model.specs.declared.point.PointName.{PointName}
 use Rattle.tmm_model.specs.declared.premise.Edit.{Edit}
-use Rattle.tmm_model.specs.declared.premise.Edit.TheVariants.{Add, Erase, Horizon}
+use Rattle.tmm_model.specs.declared.premise.Edit.TheVariants.{Add, Erase, Horizon, Upgrade}
 use Rattle.tmm_model.specs.declared.premise.Premise.{Premise}
 use Rattle.tmm_model.specs.declared.premise.Premise.TheVariants.{Class, Kind, Point, Event, Token, Span, Dist, Rule, Protect}
 use Rattle.tmm_model.specs.Beliefs.{due}
@@ -53,7 +53,7 @@ of_its_name n (Token name fact) q (inr none) = absurd none
 of_its_name n (Class name facts) q none = absurd none
 of_its_name n (Kind name) q none = absurd none
 of_its_name n (Dist name from to lo hi) q none = absurd none
-of_its_name n (Rule name trigger lo hi effect given) q none = absurd none
+of_its_name n (Rule name trigger lo hi effect given unless_facts) q none = absurd none
 of_its_name n (Protect name fact from to) q none = absurd none
 
 -- points that stood before are none of the premise that is added
@@ -71,6 +71,7 @@ stood_before : (old : Standing) (edit : Edit) → IsSound (next_list old edit) �
 stood_before old (Add p) sound q on = not_added old.premises p sound.well_named q on
 stood_before old (Erase name) sound q on = refl
 stood_before old (Horizon n) sound q on = refl
+stood_before old Upgrade sound q on = refl
 
 -- the others were there
 was_there : (old : Standing) (edit : Edit) (q : PointName) → In q (points_in (next_list old edit).premises) → is_of_premise (added_by edit) q ≡ false → In q (points_in old.premises)
@@ -83,6 +84,7 @@ was_there old (Erase name) q (inr on) other =
     let (o, there, own) = In-flat_map points_of (next_list old (Erase name)).premises q on in
     inr (flat_map-In points_of old.premises o q (kept_before name [] old.premises o there) own)
 was_there old (Horizon n) q on other = on
+was_there old Upgrade q on other = on
 
 kept_name : (names : Names) (added : Option (List ℕ)) (n : ℕ) → is_kept names added n ≡ true → (q : PointName) × IsNumberOf names n q × (is_of_premise added q ≡ false)
 kept_name names added n is = by (slice_index_or names n None) refl is

@@ -78,7 +78,7 @@ module _ (s : Standing) (left : List (ℕ × Moment)) where
 
   -- where what an edit adds has entered
   rule_stays : (p : Premise) (old new : BeliefNet) → EntersRule s p old new → new.tree ≡ old.tree
-  rule_stays (Rule name trigger lo hi effect given) old new h = h.0
+  rule_stays (Rule name trigger lo hi effect given unless_facts) old new h = h.0
   rule_stays _ old new h = h.tree
 
   pub numbered_added : (net : Net) (added : Option Premise) (m r n : BeliefNet) → EntersAdded s net added m r n → committed n.tree ≡ committed m.tree

@@ -7,7 +7,7 @@ use Rattle.std.specs.List.{Contains}
 use Rattle.std.specs.Cmp.Lexicographic.{bytes_decides}
 use Rattle.tmm_model.specs.declared.point.PointName.TheVariants.{Begin}
 use Rattle.tmm_model.specs.declared.premise.Edit.{Edit}
-use Rattle.tmm_model.specs.declared.premise.Edit.TheVariants.{Add, Erase, Horizon}
+use Rattle.tmm_model.specs.declared.premise.Edit.TheVariants.{Add, Erase, Horizon, Upgrade}
 use Rattle.tmm_model.specs.declared.premise.Premise.{Premise}
 use Rattle.tmm_model.specs.Beliefs.{due, root_of, roots, rules_at}
 use Rattle.tmm_model.specs.Edits.{next_list}
@@ -166,6 +166,7 @@ module _ (old : Standing) (edit : Edit) (nets : Nets) (names : List (List ℕ)) 
       }
       by (Erase name) is = tt
       by (Horizon n) is = tt
+      by Upgrade is = tt
 
   were_there : WereThere nets (name_added edit)
   were_there = points_were_there old edit nets h.kept.fit.tree.seen.network h.network h.numbers
@@ -397,6 +398,7 @@ opened_prepared : (old : Standing) (edit : Edit) (nets : Nets) (names : List (Li
     → IsPrepared old (next_list old edit) nets.present (forest b.tree) (forest n.tree) (rows_of b) (rows_of (waiting_with n z.decisions.waiting))
 opened_prepared old (Add p) nets names before b e c m n z all is_before h k o = prepared_moved old (Add p) nets names before b e c m n z all is_before h k o (λ row. refl) (λ row. refl) refl
 opened_prepared old (Erase x) nets names before b e c m n z all is_before h k o = prepared_moved old (Erase x) nets names before b e c m n z all is_before h k o (λ row. refl) (λ row. refl) refl
+opened_prepared old Upgrade nets names before b e c m n z all is_before h k o = prepared_moved old Upgrade nets names before b e c m n z all is_before h k o (λ row. refl) (λ row. refl) refl
 opened_prepared old (Horizon d) nets names before b e c m n z all is_before h k o = prepared_until old d nets names before b e c m n z all is_before h k o
 
 module _ (old : Standing) (edit : Edit) (nets : Nets) (names : List (List ℕ)) (before : ℕ) (b e c m n z : BeliefNet) (all : Departed) (is_before : before ≡ old.horizon)

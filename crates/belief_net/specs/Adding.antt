@@ -87,5 +87,5 @@ pub record AddsRule (tree : Kept) (rule kind : List ℕ) (old new : Decisions) :
 
 -- a premise that is a rule has a new row at each event of its kind; else all stays
 abbrev pub EntersRule : Standing → Premise → BeliefNet → BeliefNet → Type 0
-EntersRule s (Rule name trigger lo hi effect given) old new = (new.tree ≡ old.tree) × AddsRule old.tree name trigger old.decisions new.decisions
+EntersRule s (Rule name trigger lo hi effect given unless_facts) old new = (new.tree ≡ old.tree) × AddsRule old.tree name trigger old.decisions new.decisions
 EntersRule s _ old new = StayAll old new

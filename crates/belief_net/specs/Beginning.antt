@@ -1,7 +1,7 @@
 -- How the loop begins: nodes and rows of the list before are made those of the list after an edit.
 use Rattle.std.specs.Prelude.{◌≡◌, ◌⊎◌, ℕ, true, Option, Some, None}
 use Rattle.tmm_model.specs.declared.premise.Edit.{Edit}
-use Rattle.tmm_model.specs.declared.premise.Edit.TheVariants.{Add, Erase, Horizon}
+use Rattle.tmm_model.specs.declared.premise.Edit.TheVariants.{Add, Erase, Horizon, Upgrade}
 use Rattle.tmm_model.specs.declared.premise.Premise.{Premise}
 use Rattle.tmm_model.specs.Edits.{next_list}
 use Rattle.tmm_model.specs.Standing.{Standing}
@@ -27,6 +27,7 @@ abbrev pub added_by : Edit → Option Premise
 added_by (Add premise) = Some premise
 added_by (Erase name) = None
 added_by (Horizon n) = None
+added_by Upgrade = None
 
 -- what the premise declares to occur has entered in r, and in n the rows of the rule that it is
 abbrev pub EntersAdded : Standing → Net → Option Premise → BeliefNet → BeliefNet → BeliefNet → Type 0

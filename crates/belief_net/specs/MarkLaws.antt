@@ -2,7 +2,7 @@
 use Rattle.std.specs.Prelude.{◌≡◌, ◌≢◌, ◌+ℤ◌, ℕ, pos, int_le, Bool, true, false, List, Option, Some, None}
 use Rattle.std.specs.List.{Contains}
 use Rattle.tmm_model.specs.declared.premise.Edit.{Edit}
-use Rattle.tmm_model.specs.declared.premise.Edit.TheVariants.{Add, Erase, Horizon}
+use Rattle.tmm_model.specs.declared.premise.Edit.TheVariants.{Add, Erase, Horizon, Upgrade}
 use Rattle.tmm_model.specs.Beliefs.{due, rules_at}
 use Rattle.tmm_model.specs.Edits.{next_list}
 use Rattle.tmm_model.specs.Maps.{built}
@@ -28,6 +28,7 @@ abbrev pub added_by : Edit → Option (List ℕ)
 added_by (Add premise) = Some (name_of premise)
 added_by (Erase name) = None
 added_by (Horizon n) = None
+added_by Upgrade = None
 
 -- **But for those of the premise that the edit adds, all points were there at the last commit.**
 abbrev pub PointsWereThere : Type 0

@@ -73,7 +73,7 @@ fn enter_added(
             enter_root(alloc, standing, net, beliefs, premise)?;
             enter_rule(alloc, standing, net, beliefs, premise)
         }
-        Edit::Erase(_) | Edit::Horizon(_) => Ok(()),
+        Edit::Erase(_) | Edit::Horizon(_) | Edit::Upgrade => Ok(()),
     }
 }
 
@@ -95,6 +95,7 @@ fn mark_touched(
     let added = match edit {
         Edit::Add(premise) => Some(premise.name()),
         Edit::Erase(_) => None,
+        Edit::Upgrade => None,
         Edit::Horizon(_) => {
             mark_horizon(standing, &beliefs.tree, &mut beliefs.decisions, before)?;
             return Ok(());

@@ -26,7 +26,7 @@ not_root s t r at = let (p, there, e) = In-filter_map root_of s.premises (After 
     by (Kind name) e = cc
     by (Point name) e = cc
     by (Dist name from to lo hi) e = cc
-    by (Rule name trigger lo hi effect given) e = cc
+    by (Rule name trigger lo hi effect given unless_facts) e = cc
     by (Protect name fact from to) e = cc
 
 module _ (s : Standing) (far : Distances) (timed : IsTimed s far) where

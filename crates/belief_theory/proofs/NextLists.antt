@@ -3,7 +3,7 @@ use Rattle.std.proofs.Common.{◌≡◌, ◌∙◌, ℕ, false, List, [], ◌∷
 use Rattle.std.specs.Prelude.{◌⊎◌, Some}
 use Rattle.std.specs.List.{Contains}
 use Rattle.tmm_model.specs.declared.premise.Edit.{Edit}
-use Rattle.tmm_model.specs.declared.premise.Edit.TheVariants.{Add, Erase, Horizon}
+use Rattle.tmm_model.specs.declared.premise.Edit.TheVariants.{Add, Erase, Horizon, Upgrade}
 use Rattle.tmm_model.specs.declared.premise.Premise.{Premise}
 use Rattle.tmm_model.specs.declared.token.TokenRow.{TokenRow}
 use Rattle.tmm_model.specs.Beliefs.{rules_at, token_of}
@@ -33,6 +33,7 @@ pub one_way : (s : Standing) (edit : Edit) → AreWithin s.premises (next_list s
 one_way s (Add p) = inl (λ q at. In-left s.premises (p ∷ []) q at)
 one_way s (Erase name) = inr (kept_before name [] s.premises)
 one_way s (Horizon n) = inl (λ q at. at)
+one_way s Upgrade = inl (λ q at. at)
 
 -- what is found in fewer premises is found in more
 pub found_within : (s t : Standing) → IsSound t → AreWithin s.premises t.premises → (u : Moment) (r : List ℕ) → IsSound s → Contains (rules_at s u) r → rule_of s r ≡ rule_of t r

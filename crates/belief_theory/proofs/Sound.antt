@@ -102,7 +102,7 @@ base_arc premises p at =
     first (Kind name) e = cc
     first (Point name) e = cc
     first (Dist name from to lo hi) e = cc
-    first (Rule name trigger lo hi effect given) e = cc
+    first (Rule name trigger lo hi effect given unless_facts) e = cc
     first (Protect name fact from to) e = cc
 
 at_most_zero : {P : Type 0} (arcs : List (Arc P)) (a b : P) (x : Bound) → IsFar arcs a b x → AtMost x (pos 0) → (d : ℤ) × (x ≡ Finite d) × (d ≤ℤ pos 0)
@@ -126,7 +126,7 @@ ranged lo (Finite hi) h = h
 ranged lo Free h = tt
 
 sound_rule : (p : Premise) → IsWellFormedPremise p → IsTighter (Finite (as_rule (Some p)).lo) (as_rule (Some p)).hi
-sound_rule (Rule name trigger lo hi effect given) h = ranged lo hi h.5
+sound_rule (Rule name trigger lo hi effect given unless_facts) h = ranged lo hi h.5
 sound_rule (Class name facts) h = omega (arith, ints)
 sound_rule (Kind name) h = omega (arith, ints)
 sound_rule (Point name) h = omega (arith, ints)
@@ -138,7 +138,7 @@ sound_rule (Protect name fact from to) h = omega (arith, ints)
 
 -- the rule on a kind is known by its name
 pub named_rule : (kind : List ℕ) (p : Premise) (r : List ℕ) → on_kind kind p ≡ Some r → name_of p ≡ r
-named_rule kind (Rule name trigger lo hi effect given) r e = which (same_name trigger kind) e
+named_rule kind (Rule name trigger lo hi effect given unless_facts) r e = which (same_name trigger kind) e
   where
     which : (b : Bool) → elim b as (λ _. Option (List ℕ)) [ true ↦ Some name | false ↦ None ] ≡ Some r → name ≡ r
     which true e = cc
@@ -168,7 +168,7 @@ rule_stands s t r at = by (is_of s t) at
     by None at = absurd (In-from_Contains [] r at)
 
 delays : (p : Premise) → IsWellFormedPremise p → (kind r : List ℕ) → on_kind kind p ≡ Some r → pos 1 ≤ℤ (as_rule (Some p)).lo
-delays (Rule name trigger lo hi effect given) h kind r e = h.4
+delays (Rule name trigger lo hi effect given unless_facts) h kind r e = h.4
 delays (Class name facts) h kind r e = cc
 delays (Kind name) h kind r e = cc
 delays (Point name) h kind r e = cc

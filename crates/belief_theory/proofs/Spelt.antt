@@ -39,7 +39,7 @@ own_name (Event name kind) h = h.0
 own_name (Token name fact) h = h.0
 own_name (Span name fact) h = h.0
 own_name (Dist name from to lo hi) h = h.0
-own_name (Rule name trigger lo hi effect given) h = h.0
+own_name (Rule name trigger lo hi effect given unless_facts) h = h.0
 own_name (Protect name fact from to) h = h.0
 
 root_name : (p : Premise) (q : PointName) → root_of p ≡ Some (At q) → q ≡ Begin (name_of p)
@@ -50,7 +50,7 @@ root_name (Class name facts) q e = cc
 root_name (Kind name) q e = cc
 root_name (Point name) q e = cc
 root_name (Dist name from to lo hi) q e = cc
-root_name (Rule name trigger lo hi effect given) q e = cc
+root_name (Rule name trigger lo hi effect given unless_facts) q e = cc
 root_name (Protect name fact from to) q e = cc
 
 pub spelt : (s : Standing) → All IsWellFormedPremise s.premises → (x : Moment) → Occurs s x → IsSpelt x

@@ -1,18 +1,19 @@
 -- What an accepted edit leaves of a kept list is kept.
-use Rattle.std.proofs.Common.{◌≡◌, ℕ, ◌≤◌, Bool, true, false, List, [], ◌∷◌, ◌++◌, length, arith}
+use Rattle.std.proofs.Common.{◌≡◌, ℕ, ◌≤◌, Bool, true, false, List, [], ◌∷◌, ◌++◌, length, refl, arith}
 use Rattle.std.specs.List.{All, flat_map}
 use Rattle.std.proofs.lemmas.List.{length-append}
 use Rattle.std.proofs.lemmas.List.Elements.{All-contains, All-nil, All-push}
 use Rattle.tmm_model.specs.declared.point.PointName.TheVariants.{Start}
 use Rattle.tmm_model.specs.declared.premise.Edit.{Edit}
-use Rattle.tmm_model.specs.declared.premise.Edit.TheVariants.{Add, Erase, Horizon}
+use Rattle.tmm_model.specs.declared.premise.Edit.TheVariants.{Add, Erase, Horizon, Upgrade}
 use Rattle.tmm_model.specs.declared.premise.Premise.{Premise}
 use Rattle.tmm_model.specs.Answers.{size}
 use Rattle.tmm_model.specs.Edits.{next_list}
 use Rattle.tmm_model.specs.Erasure.{falls, kept_after, kept_without}
 use Rattle.belief_theory.specs.KeptLists.{IsKept}
 use Rattle.tmm_model.specs.Kept.{IsAccepted}
-use Rattle.tmm_model.specs.Lines.{IsWellFormedPremise, IsWellFormedEdit}
+use Rattle.tmm_model.specs.declared.version.Version.TheVariants.{One}
+use Rattle.tmm_model.specs.Lines.{IsWellFormedPremise, IsWellFormedEdit, IsOfVersion, IsEditOf}
 use Rattle.tmm_model.specs.Maps.{built}
 use Rattle.tmm_model.specs.Sorts.{declared_by}
 use Rattle.tmm_model.specs.Standing.{Standing, empty_list, points_of}
@@ -26,9 +27,10 @@ use Rattle.belief_theory.proofs.FarTables.{of_map}
 
 -- ---- what an erasure leaves
 
-pub well_formed_without : (name : List ℕ) (ps : List Premise) → All IsWellFormedPremise ps → All IsWellFormedPremise (kept_without name ps)
-well_formed_without name ps all = All-from_contains IsWellFormedPremise (kept_without name ps)
-    (λ q m. All-contains IsWellFormedPremise ps q all (Contains-from_In ps q (kept_before name [] ps q (In-from_Contains (kept_without name ps) q m))))
+-- what holds of all premises holds of those that stay
+pub all_without : (P : Premise → Type 0) (name : List ℕ) (ps : List Premise) → All P ps → All P (kept_without name ps)
+all_without P name ps all = All-from_contains P (kept_without name ps)
+    (λ q m. All-contains P ps q all (Contains-from_In ps q (kept_before name [] ps q (In-from_Contains (kept_without name ps) q m))))
 
 -- no more stay than there are
 kept_after-fewer : (n : List ℕ) (gone : List (List ℕ)) (ps : List Premise) → length (kept_after n gone ps) ≤ length ps
@@ -59,14 +61,16 @@ empty_is_small = of_map size empty_list
 pub empty_is_kept : IsKept empty_list
 empty_is_kept = record {
   sound = record { well_formed = All-nil IsWellFormedPremise; well_named = tt; dates = HasDates-nil Start };
+  first_version = refl;
+  versioned = All-nil (IsOfVersion One);
   horizon = omega arith;
   premises = omega arith;
   points = omega arith;
   small = omega (arith, empty_is_small);
 }
 
-pub stays_kept : (s : Standing) (edit : Edit) → IsKept s → IsWellFormedEdit edit → IsAccepted s edit → IsKept (next_list s edit)
-stays_kept s (Add p) kept formed accepted =
+pub stays_kept : (s : Standing) (edit : Edit) → IsKept s → IsWellFormedEdit edit → IsEditOf s.version edit → IsAccepted s edit → IsKept (next_list s edit)
+stays_kept s (Add p) kept formed versioned accepted =
     let may = may_be_added s.premises p accepted.no_cause in
     record {
       sound = record {
@@ -74,26 +78,33 @@ stays_kept s (Add p) kept formed accepted =
         well_named = IsWellNamed-push s.premises p kept.sound.well_named (record { new = may.names; known = may.uses });
         dates = accepted.dates;
       };
+      first_version = kept.first_version;
+      versioned = All-push (IsOfVersion s.version) s.premises p kept.versioned versioned;
       horizon = kept.horizon;
       premises = omega (arith, length-append s.premises (p ∷ []), may.few);
       points = may.room;
       small = accepted.small;
     }
-stays_kept s (Erase name) kept formed accepted = record {
+stays_kept s (Erase name) kept formed versioned accepted = record {
   sound = record {
-    well_formed = well_formed_without name s.premises kept.sound.well_formed;
+    well_formed = all_without IsWellFormedPremise name s.premises kept.sound.well_formed;
     well_named = kept_without-IsWellNamed name s.premises kept.sound.well_named;
     dates = accepted.dates;
   };
+  first_version = kept.first_version;
+  versioned = all_without (IsOfVersion s.version) name s.premises kept.versioned;
   horizon = kept.horizon;
   premises = omega (arith, kept_after-fewer name [] s.premises, kept.premises);
   points = omega (arith, kept_points-fewer name [] s.premises, kept.points);
   small = accepted.small;
 }
-stays_kept s (Horizon n) kept formed accepted = record {
+stays_kept s (Horizon n) kept formed versioned accepted = record {
   sound = record { well_formed = kept.sound.well_formed; well_named = kept.sound.well_named; dates = accepted.dates };
+  first_version = kept.first_version;
+  versioned = kept.versioned;
   horizon = formed;
   premises = kept.premises;
   points = kept.points;
   small = accepted.small;
 }
+stays_kept s Upgrade kept formed versioned accepted = absurd (cc (accepted.no_cause))

@@ -96,7 +96,7 @@ module _ (s : Standing) (far : Distances) (short : IsShortest s far) (rule_laws 
       by (Kind name) e = cc
       by (Point name) e = cc
       by (Dist name from to lo hi) e = cc
-      by (Rule name trigger lo hi effect given) e = cc
+      by (Rule name trigger lo hi effect given unless_facts) e = cc
       by (Protect name fact from to) e = cc
 
   base_occurs : (x : Moment) → Occurs s x → Contains (roots s) (At (base x))

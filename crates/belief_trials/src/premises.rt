@@ -10,7 +10,7 @@ use premise_list::Standing;
 use std::alloc::Global;
 use std::process::Abort;
 use std::test::Fail;
-use tmm_model::{Edit, Line, NoMemory, Refusal, Stop};
+use tmm_model::{Edit, Line, NoMemory, Refusal, Stop, Version};
 use tmm_script::parse_line;
 
 /// A list of premises, and its network.
@@ -71,7 +71,7 @@ fn add_line(alloc: Global, list: &mut Standing, net: &mut DistNet, line: &[u8]) 
     ensures network { OnOk result (IsNetOf list.new.present net.new.present) }
     ensures settled { OnOk result (IsSettled list.new net.new) }
 {
-    let Line::Change(edit) = parse_line(alloc, line)? else {
+    let Line::Change(edit) = parse_line(alloc, Version::One, line)? else {
         return Err(Stop::Refused(Refusal::Form));
     };
     add(alloc, list, net, &edit)

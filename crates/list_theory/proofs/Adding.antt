@@ -117,7 +117,7 @@ module _ (ps : List Premise) where
       let second = uses_none ps (a_place to) [] first.1 in
       dist_at (points_in ps ++ []) name from to lo hi
       (Contains-append_left (points_in ps) [] from (place_known ps from first.0)) (Contains-append_left (points_in ps) [] to (place_known ps to second.0))
-  steps_at (Rule name trigger lo hi effect given) may = none_at (points_in ps ++ [])
+  steps_at (Rule name trigger lo hi effect given unless_facts) may = none_at (points_in ps ++ [])
   steps_at (Protect name fact from to) may = none_at (points_in ps ++ [])
 
 -- a premise that declares points has constraints from these alone, to others
@@ -151,5 +151,5 @@ own_or_none (Event name kind) = inl (base_own name (Begin name ∷ []) (Contains
 own_or_none (Token name fact) = inl (base_own name (Begin name ∷ []) (Contains-cons_first (Begin name) []))
 own_or_none (Span name fact) = inl (span_own name)
 own_or_none (Dist name from to lo hi) = inr refl
-own_or_none (Rule name trigger lo hi effect given) = inr refl
+own_or_none (Rule name trigger lo hi effect given unless_facts) = inr refl
 own_or_none (Protect name fact from to) = inr refl

@@ -62,7 +62,7 @@ names_its (Span name fact) s (inl is) = sym (ap (λ (x : WalkStep). x.premise) i
 names_its (Span name fact) s (inr (inl is)) = sym (ap (λ (x : WalkStep). x.premise) is)
 names_its (Span name fact) s (inr (inr none)) = absurd none
 names_its (Dist name from to lo hi) s m = elim (In-cases (hi_steps name from to hi) (lo_steps name from to lo) s m) [ inl h ↦ names_hi name from to hi s h | inr l ↦ names_lo name from to lo s l ]
-names_its (Rule name trigger lo hi effect given) s m = absurd m
+names_its (Rule name trigger lo hi effect given unless_facts) s m = absurd m
 names_its (Protect name fact from to) s m = absurd m
 
 -- **A constraint names its premise.**

@@ -35,7 +35,7 @@ own_name (Event name kind) = inl refl
 own_name (Token name fact) = inl refl
 own_name (Span name fact) = inl refl
 own_name (Dist name from to lo hi) = inl refl
-own_name (Rule name trigger lo hi effect given) = inl refl
+own_name (Rule name trigger lo hi effect given unless_facts) = inl refl
 own_name (Protect name fact from to) = inl refl
 
 -- the own name of a premise that follows was not known
@@ -141,7 +141,7 @@ steps_known earlier (Dist name from to lo hi) f e at =
     (points_more earlier (Dist name from to lo hi ∷ []) from (known_place earlier from one.0))
     (points_more earlier (Dist name from to lo hi ∷ []) to (known_place earlier to two.0))
     e at
-steps_known earlier (Rule name trigger lo hi effect given) f e at = absurd at
+steps_known earlier (Rule name trigger lo hi effect given unless_facts) f e at = absurd at
 steps_known earlier (Protect name fact from to) f e at = absurd at
 
 arcs_after : (earlier premises : List Premise) → AllFollow earlier premises → (e : Arc PointName) → In e (flat_map arcs_of premises) → In e.from (points_in (earlier ++ premises)) × In e.to (points_in (earlier ++ premises))

@@ -42,7 +42,7 @@ length-arcs_of-le (Event name kind) = omega arith
 length-arcs_of-le (Token name fact) = omega arith
 length-arcs_of-le (Span name fact) = omega arith
 length-arcs_of-le (Dist name from to lo hi) = length-arcs_of_dist name from to lo hi
-length-arcs_of-le (Rule name trigger lo hi effect given) = omega arith
+length-arcs_of-le (Rule name trigger lo hi effect given unless_facts) = omega arith
 length-arcs_of-le (Protect name fact from to) = omega arith
 
 pub length-arcs_in-le : (ps : List Premise) → length (arcs_in ps) ≤ 2 * length ps
@@ -128,7 +128,7 @@ has_points (Span name fact) k sort found =
     one_has (Begin name ∷ End name ∷ []) k name a_span sort
     (Contains-cons_first (Begin name) (End name ∷ []), Contains-cons (Begin name) (End name ∷ []) (End name) (Contains-cons_first (End name) [])) found
 has_points (Dist name from to lo hi) k sort found = one_has [] k name a_dist sort tt found
-has_points (Rule name trigger lo hi effect given) k sort found = one_has [] k name a_rule sort tt found
+has_points (Rule name trigger lo hi effect given unless_facts) k sort found = one_has [] k name a_rule sort tt found
 has_points (Protect name fact from to) k sort found = one_has [] k name a_protection sort tt found
 
 have_points : (ps : List Premise) (k : List ℕ) (sort : Sort) → lookup (same_name k) (declarations_in ps) ≡ Some sort → HasPoints (flat_map points_of ps) k sort
@@ -205,7 +205,7 @@ point_name (Span name fact) q m = elim (Contains-cons_cases (Begin name) (End na
   | inr is ↦ (ap base_name is, λ at_start. (let e : Begin name ≡ Start = sym is ∙ at_start in cc e))
 ]
 point_name (Dist name from to lo hi) q m = absurd (omega (arith, m.1))
-point_name (Rule name trigger lo hi effect given) q m = absurd (omega (arith, m.1))
+point_name (Rule name trigger lo hi effect given unless_facts) q m = absurd (omega (arith, m.1))
 point_name (Protect name fact from to) q m = absurd (omega (arith, m.1))
 
 -- the first name that a premise declares is its own
@@ -217,7 +217,7 @@ first_declared (Event name kind) = ([], refl)
 first_declared (Token name fact) = ([], refl)
 first_declared (Span name fact) = ([], refl)
 first_declared (Dist name from to lo hi) = ([], refl)
-first_declared (Rule name trigger lo hi effect given) = ([], refl)
+first_declared (Rule name trigger lo hi effect given unless_facts) = ([], refl)
 first_declared (Protect name fact from to) = ([], refl)
 
 list_any-here : (w : List ℕ) (ws more : List (List ℕ)) → list_any (same_name w) ((w ∷ ws) ++ more) ≡ true

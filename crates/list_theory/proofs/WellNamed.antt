@@ -34,7 +34,7 @@ points_of-few (Event name kind) = omega arith
 points_of-few (Token name fact) = omega arith
 points_of-few (Span name fact) = omega arith
 points_of-few (Dist name from to lo hi) = omega arith
-points_of-few (Rule name trigger lo hi effect given) = omega arith
+points_of-few (Rule name trigger lo hi effect given unless_facts) = omega arith
 points_of-few (Protect name fact from to) = omega arith
 
 pub points_in-few : (ps : List Premise) → length (flat_map points_of ps) ≤ 2 * length ps

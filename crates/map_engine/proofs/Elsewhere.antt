@@ -26,7 +26,7 @@ declared_at (Class name facts) k e = cc
 declared_at (Kind name) k e = cc
 declared_at (Point name) k e = cc
 declared_at (Dist name from to lo hi) k e = cc
-declared_at (Rule name trigger lo hi effect given) k e = cc
+declared_at (Rule name trigger lo hi effect given unless_facts) k e = cc
 declared_at (Protect name fact from to) k e = cc
 
 anchor_seen : (s : Standing) → IsWellNamed s.premises → (p : PointName) → IsAnchor s p → is_anchor s.premises p ≡ true

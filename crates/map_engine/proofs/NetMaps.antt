@@ -2,7 +2,7 @@
 use Rattle.std.proofs.Common.{◌≡◌, ◌∙◌, ℕ, ◌≤◌, Bool, true, false, ◌||◌, List, [], refl, sym, ap, subst, arith}
 use Rattle.std.specs.Prelude.{Option, Some, None, MatchOption}
 use Rattle.tmm_model.specs.declared.premise.Edit.{Edit}
-use Rattle.tmm_model.specs.declared.premise.Edit.TheVariants.{Add, Erase, Horizon}
+use Rattle.tmm_model.specs.declared.premise.Edit.TheVariants.{Add, Erase, Horizon, Upgrade}
 use Rattle.tmm_model.specs.Edits.{next_list}
 use Rattle.tmm_model.specs.Lines.{IsWellFormedEdit}
 use Rattle.tmm_model.specs.Standing.{Standing, points_in, empty_list}
@@ -126,6 +126,7 @@ within : (s : Standing) (edit : Edit) → IsWellFormedEdit edit → s.horizon �
 within s (Add premise) well below = below
 within s (Erase name) well below = below
 within s (Horizon n) well below = well
+within s Upgrade well below = below
 
 module _ (lists : States) (nets : Nets) (b : BeliefNet) (view : KeptView) (guarded : Bool) (next : Next) (is : IsNetMap lists nets b view guarded next)
     (lists_after : States) (edit : Edit) (made : lists_after ≡ record lists { present = next_list lists.present edit }) (well : IsWellFormedEdit edit)

@@ -4,7 +4,7 @@ use Rattle.std.specs.Prelude.{Option, Some, None, is_some}
 use Rattle.std.specs.List.{Contains, filter_map, cons_option}
 use Rattle.std.specs.Cmp.Lexicographic.{bytes_decides}
 use Rattle.tmm_model.specs.declared.premise.Edit.{Edit}
-use Rattle.tmm_model.specs.declared.premise.Edit.TheVariants.{Add, Erase, Horizon}
+use Rattle.tmm_model.specs.declared.premise.Edit.TheVariants.{Add, Erase, Horizon, Upgrade}
 use Rattle.tmm_model.specs.declared.premise.Premise.{Premise}
 use Rattle.tmm_model.specs.declared.premise.Premise.TheVariants.{Class, Kind, Point, Event, Token, Span, Dist, Rule, Protect}
 use Rattle.tmm_model.specs.Beliefs.{on_kind, rules_on}
@@ -33,6 +33,7 @@ pub same_rules_on : (s : Standing) (edit : Edit) → IsWellNamed s.premises → 
 same_rules_on s (Add p) named kind e = rules_push kind s.premises p (none_there (on_kind kind p) e)
 same_rules_on s (Erase name) named kind e = unruled_edit s (Erase name) named e kind
 same_rules_on s (Horizon n) named kind e = unruled_edit s (Horizon n) named e kind
+same_rules_on s Upgrade named kind e = unruled_edit s Upgrade named e kind
 
 -- ---- the kind of one premise
 
@@ -46,7 +47,7 @@ triggered kind (Token name fact) e = cc
 triggered kind (Span name fact) e = cc
 triggered kind (Dist name from to lo hi) e = cc
 triggered kind (Protect name fact from to) e = cc
-triggered kind (Rule name trigger lo hi effect given) e = by (same_name trigger kind) refl e
+triggered kind (Rule name trigger lo hi effect given unless_facts) e = by (same_name trigger kind) refl e
   where
     by : (b : Bool) → same_name trigger kind ≡ b → is_some (elim b as (λ _. Option (List ℕ)) [ true ↦ Some name | false ↦ None ]) ≡ true → Some trigger ≡ Some kind
     by true same e = ap Some ((bytes_decides trigger kind).0 same)
@@ -61,7 +62,7 @@ rule_triggered (Event name kind) = refl
 rule_triggered (Token name fact) = refl
 rule_triggered (Span name fact) = refl
 rule_triggered (Dist name from to lo hi) = refl
-rule_triggered (Rule name trigger lo hi effect given) = refl
+rule_triggered (Rule name trigger lo hi effect given unless_facts) = refl
 rule_triggered (Protect name fact from to) = refl
 
 -- ---- which nodes are needed
@@ -74,6 +75,7 @@ module _ (f : Forest) (premises : List Premise) where
       absurd (cc)
   none_ruled (Erase name) numbers unruled kind changes = (let never : false ≡ true = sym unruled ∙ changes in absurd (cc))
   none_ruled (Horizon n) numbers unruled kind changes = (let never : false ≡ true = sym unruled ∙ changes in absurd (cc))
+  none_ruled Upgrade numbers unruled kind changes = (let never : false ≡ true = sym unruled ∙ changes in absurd (cc))
 
   -- where it adds a rule, the events of its kind
   pub added_ruled : (edit : Edit) (kind : List ℕ) (numbers : List ℕ) → kind_of_added edit ≡ Some kind → HasEventsOf f kind numbers → HasRuled f premises edit numbers
@@ -83,6 +85,7 @@ module _ (f : Forest) (premises : List Premise) where
       subst (λ (k : List ℕ). HasEventsOf f k numbers) one has
   added_ruled (Erase name) kind numbers added has other changes = (let never : None ≡ Some kind = added in absurd (cc))
   added_ruled (Horizon n) kind numbers added has other changes = (let never : None ≡ Some kind = added in absurd (cc))
+  added_ruled Upgrade kind numbers added has other changes = (let never : None ≡ Some kind = added in absurd (cc))
 
   -- all are enough
   pub all_ruled : (edit : Edit) (numbers : List ℕ) → ((x : ℕ) → IsLive f x → Contains numbers x) → HasRuled f premises edit numbers

@@ -4,7 +4,7 @@ use Rattle.std.specs.Prelude.{Option, Some, None, filter, ◌≤◌}
 use Rattle.std.specs.List.{filter_map, cons_option, list_any}
 use Rattle.tmm_model.specs.declared.changes.Changes.{Changes as CodeChanges}
 use Rattle.tmm_model.specs.declared.premise.Edit.{Edit}
-use Rattle.tmm_model.specs.declared.premise.Edit.TheVariants.{Add, Erase, Horizon}
+use Rattle.tmm_model.specs.declared.premise.Edit.TheVariants.{Add, Erase, Horizon, Upgrade}
 use Rattle.tmm_model.specs.declared.premise.Premise.{Premise}
 use Rattle.tmm_model.specs.declared.premise.Premise.TheVariants.{Class, Kind, Point, Event, Token, Span, Dist, Rule, Protect}
 use Rattle.tmm_model.specs.Answers.{Finding, broken, reports, report_of, most_size}
@@ -57,7 +57,7 @@ none_broken m (Event name kind ∷ ps) none = none_broken m ps none
 none_broken m (Token name fact ∷ ps) none = none_broken m ps none
 none_broken m (Span name fact ∷ ps) none = none_broken m ps none
 none_broken m (Dist name from to lo hi ∷ ps) none = none_broken m ps none
-none_broken m (Rule name trigger lo hi effect given ∷ ps) none = none_broken m ps none
+none_broken m (Rule name trigger lo hi effect given unless_facts ∷ ps) none = none_broken m ps none
 none_broken m (Protect name fact from to ∷ ps) none = cc
 
 pub none_reported : (s : Standing) → IsUnguarded s → reports (built s) ≡ []
@@ -86,7 +86,7 @@ no_name (Event name kind) e = refl
 no_name (Token name fact) e = refl
 no_name (Span name fact) e = refl
 no_name (Dist name from to lo hi) e = refl
-no_name (Rule name trigger lo hi effect given) e = refl
+no_name (Rule name trigger lo hi effect given unless_facts) e = refl
 no_name (Protect name fact from to) e = cc
 
 added_unguarded : (ps : List Premise) (p : Premise) → is_protection p ≡ false → filter_map protection_name ps ≡ [] → filter_map protection_name (ps ++ p ∷ []) ≡ []
@@ -103,6 +103,7 @@ pub still_unguarded : (s : Standing) (edit : Edit) → adds_protection edit ≡ 
 still_unguarded s (Add p) e none = added_unguarded s.premises p e none
 still_unguarded s (Erase name) e none = all_unguarded (next_list s (Erase name)).premises (λ p at. each_unguarded s.premises none p (kept_before name [] s.premises p at))
 still_unguarded s (Horizon n) e none = none
+still_unguarded s Upgrade e none = none
 
 -- ---- between reports of which there are none
 

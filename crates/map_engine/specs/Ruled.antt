@@ -12,7 +12,7 @@ use Rattle.revisions.specs.Ruling.{is_ruling}
 
 -- the kind that the premise is a rule on, none where it is no rule
 abbrev pub trigger_of : Premise → Option (List ℕ)
-trigger_of (Rule name trigger lo hi effect given) = Some trigger
+trigger_of (Rule name trigger lo hi effect given unless_facts) = Some trigger
 trigger_of _ = None
 
 -- the kind that the edit adds a rule on, none where it adds no rule

@@ -52,6 +52,8 @@ pub(crate) fn edited(
             let _ = net.edges();
             Ok(Seq::make(alloc))
         }
+        // no list takes version 2 so far
+        Edit::Upgrade => unreachable!(),
     }
 }
 

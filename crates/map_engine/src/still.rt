@@ -11,7 +11,7 @@ use dist_net::DistNet;
 use premise_list::Standing;
 use tmm_model::{Edit, Name, PointName, Premise};
 
-// Whether the edit adds a premise that beliefs do not read, or retracts one.
+// Whether the edit adds a premise that beliefs do not read, or retracts one, or opens a version.
 pub(crate) fn is_unread(standing: &Standing, edit: &Edit) -> bool
     ensures { result ≡ is_unread standing.now.present.premises edit.now }
 {
@@ -22,6 +22,7 @@ pub(crate) fn is_unread(standing: &Standing, edit: &Edit) -> bool
             None => false,
         },
         Edit::Horizon(_) => false,
+        Edit::Upgrade => true,
     }
 }
 
@@ -33,7 +34,7 @@ pub(crate) fn is_ruling(standing: &Standing, edit: &Edit) -> bool
     let erased = match edit {
         Edit::Add(premise) => return matches!(premise, Premise::Rule { .. }),
         Edit::Erase(name) => standing.get(*name),
-        Edit::Horizon(_) => None,
+        Edit::Horizon(_) | Edit::Upgrade => None,
     };
     matches!(
         erased,

@@ -116,7 +116,7 @@ fn kind_of_added(edit: &Edit) -> Option<Name>
 {
     match edit {
         Edit::Add(premise) => trigger_of(premise),
-        Edit::Erase(_) | Edit::Horizon(_) => None,
+        Edit::Erase(_) | Edit::Horizon(_) | Edit::Upgrade => None,
     }
 }
 
@@ -175,7 +175,7 @@ fn push_added(alloc: Global, tree: &Tree, edit: &Edit, found: &mut Vec<u32>) -> 
 {
     match edit {
         Edit::Add(premise) => push_root(alloc, tree, premise.name(), found),
-        Edit::Erase(_) | Edit::Horizon(_) => Ok(()),
+        Edit::Erase(_) | Edit::Horizon(_) | Edit::Upgrade => Ok(()),
     }
 }
 

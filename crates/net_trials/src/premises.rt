@@ -8,7 +8,7 @@ use premise_list::Standing;
 use replies::reply_no;
 use std::alloc::Global;
 use std::process::Abort;
-use tmm_model::{Edit, Line, Name, NoMemory, Premise, Seq};
+use tmm_model::{Edit, Line, Name, NoMemory, Premise, Seq, Version};
 use tmm_script::parse_line;
 
 /// Makes the edits of lines, and compares what each is told.
@@ -25,7 +25,7 @@ fn expect_line(rt: &impl Abort, alloc: Global, list: &mut Standing, line: &str, 
 
 /// The edit that a line says.
 fn edit_of(alloc: Global, line: &[u8]) -> Option<Edit> {
-    match parse_line(alloc, line).ok()? {
+    match parse_line(alloc, Version::One, line).ok()? {
         Line::Change(edit) => Some(edit),
         Line::Question(_query) => None,
         Line::Silent => None,
@@ -53,7 +53,7 @@ fn made(alloc: Global, list: &mut Standing, edit: &Edit) -> Result<Seq<u8>, NoMe
             ok(alloc, &[])
         }
         Edit::Erase(name) => ok(alloc, list.erase(alloc, *name)?.items()),
-        Edit::Horizon(_) => ok(alloc, &[]),
+        Edit::Horizon(_) | Edit::Upgrade => ok(alloc, &[]),
     }
 }
 
@@ -91,6 +91,7 @@ const SORTS: &[(&str, &str)] = &[
     ("rule r go 1 * door if x", "1 no sort door\n"),
     ("rule r go 1 * shut if go", "1 no sort go\n"),
     ("rule r go 1 * shut if open", "ok"),
+    ("tmm 2", "1 no form\n"),
 ];
 
 /// The seven premises that were let through are erased, with what mentions them, and a name is free again.

@@ -246,3 +246,14 @@ fn dumps_are_replied(rt: HostRuntime) {
         "7 dump 0\n  horizon 1000\n",
     );
 }
+
+#[test]
+fn dumps_of_version_2_are_replied(rt: HostRuntime) {
+    let mut list = Standing::make(rt.alloc());
+    list.upgrade();
+    expect(
+        &rt,
+        &reply_dump(rt.alloc(), 7, &list),
+        "7 dump 0\n  tmm 2\n  horizon 1000\n",
+    );
+}

@@ -28,7 +28,7 @@ declarations_parted (Event name kind) = refl
 declarations_parted (Token name fact) = refl
 declarations_parted (Span name fact) = refl
 declarations_parted (Dist name from to lo hi) = refl
-declarations_parted (Rule name trigger lo hi effect given) = refl
+declarations_parted (Rule name trigger lo hi effect given unless_facts) = refl
 declarations_parted (Protect name fact from to) = refl
 
 own_sort_no_fact : (p : Premise) → is_fact (own_sort p) ≡ false
@@ -39,7 +39,7 @@ own_sort_no_fact (Event name kind) = refl
 own_sort_no_fact (Token name fact) = refl
 own_sort_no_fact (Span name fact) = refl
 own_sort_no_fact (Dist name from to lo hi) = refl
-own_sort_no_fact (Rule name trigger lo hi effect given) = refl
+own_sort_no_fact (Rule name trigger lo hi effect given unless_facts) = refl
 own_sort_no_fact (Protect name fact from to) = refl
 
 -- the sorts among placed declarations
@@ -100,7 +100,7 @@ class_in-has n (Event name kind) ps e = cc
 class_in-has n (Token name fact) ps e = cc
 class_in-has n (Span name fact) ps e = cc
 class_in-has n (Dist name from to lo hi) ps e = cc
-class_in-has n (Rule name trigger lo hi effect given) ps e = cc
+class_in-has n (Rule name trigger lo hi effect given unless_facts) ps e = cc
 class_in-has n (Protect name fact from to) ps e = cc
 
 class_in-has_not : (n : List ℕ) (p : Premise) (ps : List Premise) → list_any (same_name n) (facts_of p) ≡ false → class_in (p ∷ ps) n ≡ class_in ps n
@@ -111,7 +111,7 @@ class_in-has_not n (Event name kind) ps e = refl
 class_in-has_not n (Token name fact) ps e = refl
 class_in-has_not n (Span name fact) ps e = refl
 class_in-has_not n (Dist name from to lo hi) ps e = refl
-class_in-has_not n (Rule name trigger lo hi effect given) ps e = refl
+class_in-has_not n (Rule name trigger lo hi effect given unless_facts) ps e = refl
 class_in-has_not n (Protect name fact from to) ps e = refl
 
 -- where a name other than a fact is found, there stands the premise of this name

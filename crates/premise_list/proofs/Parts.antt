@@ -1,14 +1,16 @@
 -- The part of a list that an erasure walks.
 use Rattle.std.proofs.Common.{◌≡◌, ℕ, suc, ◌+◌, ◌<◌, ◌≤◌, Bool, true, false, ◌||◌, List, [], ◌∷◌, ◌++◌, map, length, take, drop, refl, sym, ◌∙◌, ap, subst, arith, cond, append_assoc}
-use Rattle.std.specs.Prelude.{Some, unwrap_or}
+use Rattle.std.specs.Prelude.{Option, Some, None, unwrap_or}
 use Rattle.std.specs.List.{flat_map, list_any}
 use Rattle.std.specs.Map.{lookup}
+use Rattle.std.specs.Option.{option_or}
 use Rattle.std.proofs.lemmas.List.{take-append-le, take-take, length-take-le}
 use Rattle.std.proofs.lemmas.List.Folds.{list_any-append}
 use Rattle.tmm_model.specs.declared.premise.Premise.{Premise}
 use Rattle.tmm_model.specs.Points.{same_name}
 use Rattle.tmm_model.specs.Standing.{name_of}
 use Rattle.tmm_model.specs.Sorts.{Sort, a_fact, fact_use, declared_by}
+use Rattle.tmm_model.specs.Verdicts.{Cause, use_cause, uses_cause}
 use Rattle.list_theory.specs.WellNamed.{AllFollow, IsWellNamed}
 use Rattle.tmm_model.specs.Erasure.{names_used, is_among, falls, kept_after, kept_without}
 use Rattle.list_theory.specs.Fallen.{fallen_after}
@@ -61,6 +63,20 @@ alike_before m n j ps qs rest alike h g within =
 pub facts_used : (fs : List (List ℕ)) → flat_map names_used (map fact_use fs) ≡ fs
 facts_used [] = refl
 facts_used (f ∷ fs) = ap (λ l. f ∷ l) (facts_used fs)
+
+-- two lists of facts that are used, one behind the other
+pub used_facts : (ps : List Premise) (fs gs : List (List ℕ)) → uses_cause ps (map fact_use (fs ++ gs)) ≡ option_or (uses_cause ps (map fact_use fs)) (uses_cause ps (map fact_use gs))
+used_facts ps [] gs = refl
+used_facts ps (f ∷ fs) gs = by (use_cause ps (fact_use f)) (used_facts ps fs gs)
+  where
+    by : (o : Option Cause) → uses_cause ps (map fact_use (fs ++ gs)) ≡ option_or (uses_cause ps (map fact_use fs)) (uses_cause ps (map fact_use gs))
+        → elim o as (λ _. Option Cause) [ Some cause ↦ Some cause | None ↦ uses_cause ps (map fact_use (fs ++ gs)) ]
+        ≡ option_or (elim o as (λ _. Option Cause) [ Some cause ↦ Some cause | None ↦ uses_cause ps (map fact_use fs) ]) (uses_cause ps (map fact_use gs))
+    by (Some cause) rest = refl
+    by None rest = rest
+
+pub any_of_both : (test : List ℕ → Bool) (xs ys : List (List ℕ)) → list_any test (xs ++ ys) ≡ (list_any test xs || list_any test ys)
+any_of_both = list_any-append
 
 -- a premise that falls, and one that stays, at the head of those to be walked
 module _ (n : List ℕ) (gone : List (List ℕ)) (p : Premise) (rest : List Premise) where

@@ -8,8 +8,8 @@ use Rattle.premise_list.specs.States.{States}
 -- the present list, and that of the last commit
 abbrev pub states_of : Inside → States
 states_of s = record {
-  present = record { horizon = s.horizon; premises = s.table.premises };
-  committed = record { horizon = s.committed_horizon; premises = s.committed.items };
+  present = record { version = s.version; horizon = s.horizon; premises = s.table.premises };
+  committed = record { version = s.committed_version; horizon = s.committed_horizon; premises = s.committed.items };
 }
 
 -- The lists agree as far as they are shared, and each has room to become the other.

@@ -22,7 +22,7 @@ own_sort (Event name kind) = an_event
 own_sort (Token name fact) = a_token
 own_sort (Span name fact) = a_span
 own_sort (Dist name from to lo hi) = a_dist
-own_sort (Rule name trigger lo hi effect given) = a_rule
+own_sort (Rule name trigger lo hi effect given unless_facts) = a_rule
 own_sort (Protect name fact from to) = a_protection
 
 -- the sort that the code's value stands for

@@ -10,7 +10,11 @@ ghost use Rattle.premise_list.specs.Judged.{Judges};
 
 use crate::premise::{Sort, facts_of, name_of, point_count};
 use crate::table::Table;
-use tmm_model::{Edit, MOST_POINTS, MOST_PREMISES, Name, PointName, Premise, QueryPoint, Refusal};
+use arrayvec::ArrayVec;
+use tmm_model::{
+    Edit, MOST_ANTECEDENTS, MOST_EXCEPTIONS, MOST_POINTS, MOST_PREMISES, Name, PointName, Premise,
+    QueryPoint, Refusal,
+};
 
 /// What is wanted of a name that an edit uses.
 #[derive(Clone, Copy)]
@@ -45,6 +49,8 @@ impl Table {
             Edit::Add(premise) => self.check_added(premise),
             Edit::Erase(name) => self.check_premise(*name),
             Edit::Horizon(_) => Ok(()),
+            // no list takes version 2 so far
+            Edit::Upgrade => Err(Refusal::Form),
         }
     }
 
@@ -81,6 +87,7 @@ impl Table {
     }
 
     // The names that the premise uses are declared, of the wanted sorts.
+    #[tactic(auto, using(crate::proofs::Parts::used_facts))]
     fn check_uses(&self, premise: &Premise) -> Result<(), Refusal>
         ensures { Judges result (uses_cause self.now.premises (uses_of premise.now)) }
     {
@@ -98,11 +105,12 @@ impl Table {
                 trigger,
                 effect,
                 given,
+                unless_facts,
                 ..
             } => {
                 self.check_name(*trigger, Wanted::Kind)?;
                 self.check_name(*effect, Wanted::Effect)?;
-                self.check_facts(given.as_slice())
+                self.check_conditions(given, unless_facts)
             }
             Premise::Protect { fact, from, to, .. } => {
                 self.check_name(*fact, Wanted::Fact)?;
@@ -110,6 +118,18 @@ impl Table {
                 self.check_place(*to)
             }
         }
+    }
+
+    // The antecedents and the exceptions of a rule are facts.
+    fn check_conditions(
+        &self,
+        given: &ArrayVec<Name, MOST_ANTECEDENTS>,
+        exceptions: &ArrayVec<Name, MOST_EXCEPTIONS>,
+    ) -> Result<(), Refusal>
+        ensures { Judges result (option_or (uses_cause self.now.premises (map fact_use given.now.items)) (uses_cause self.now.premises (map fact_use exceptions.now.items))) }
+    {
+        self.check_facts(given.as_slice())?;
+        self.check_facts(exceptions.as_slice())
     }
 
     fn check_facts(&self, facts: &[Name]) -> Result<(), Refusal>

@@ -8,9 +8,10 @@ ghost use Rattle.list_theory.specs.Fallen.{fallen_after};
 ghost use Rattle.premise_list.specs.Gone.{SameNames};
 
 use crate::premise::{copy_of, facts_of, name_of};
+use arrayvec::ArrayVec;
 use indexmap::IndexSet;
 use std::alloc::Global;
-use tmm_model::{Name, NoMemory, PointName, Premise, Seq};
+use tmm_model::{MOST_ANTECEDENTS, MOST_EXCEPTIONS, Name, NoMemory, PointName, Premise, Seq};
 
 /// Premises parted into those that fall and those that stay.
 #[derive(Drop)]
@@ -70,9 +71,12 @@ fn mentions(gone: &IndexSet<Name>, premise: &Premise) -> bool
             trigger,
             effect,
             given,
+            unless_facts,
             ..
         } => {
-            gone.contains(trigger) || gone.contains(effect) || mentions_any(gone, given.as_slice())
+            gone.contains(trigger)
+                || gone.contains(effect)
+                || mentions_conditions(gone, given, unless_facts)
         }
         Premise::Protect { fact, from, to, .. } => {
             gone.contains(fact) || mentions_point(gone, *from) || mentions_point(gone, *to)
@@ -87,6 +91,18 @@ fn mentions_point(gone: &IndexSet<Name>, point: PointName) -> bool
         PointName::Start => false,
         PointName::Begin(name) | PointName::End(name) => gone.contains(&name),
     }
+}
+
+// Whether an antecedent or an exception of a rule is gone.
+#[tactic(auto, using(crate::proofs::Parts::any_of_both))]
+fn mentions_conditions(
+    gone: &IndexSet<Name>,
+    given: &ArrayVec<Name, MOST_ANTECEDENTS>,
+    exceptions: &ArrayVec<Name, MOST_EXCEPTIONS>,
+) -> bool
+    ensures { result ≡ list_any (is_among gone.now.keys) (given.now.items ++ exceptions.now.items) }
+{
+    mentions_any(gone, given.as_slice()) || mentions_any(gone, exceptions.as_slice())
 }
 
 fn mentions_any(gone: &IndexSet<Name>, names: &[Name]) -> bool

@@ -121,6 +121,7 @@ pub(crate) fn copy_of(premise: &Premise) -> Premise
             hi,
             effect,
             given,
+            unless_facts,
         } => Premise::Rule {
             name: *name,
             trigger: *trigger,
@@ -128,6 +129,7 @@ pub(crate) fn copy_of(premise: &Premise) -> Premise
             hi: *hi,
             effect: *effect,
             given: names_of(given.as_slice()),
+            unless_facts: names_of(unless_facts.as_slice()),
         },
         Premise::Protect {
             name,

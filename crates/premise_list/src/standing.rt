@@ -6,7 +6,7 @@ ghost use Rattle.list_theory.specs.Fallen.{fallen_with};
 ghost use Rattle.tmm_model.specs.Sorts.{class_in, fact_use};
 ghost use Rattle.tmm_model.specs.Verdicts.{list_cause, place_cause, use_cause, most_premises, Tells};
 ghost use Rattle.list_theory.specs.WellNamed.{IsWellNamed};
-ghost use Rattle.tmm_model.specs.Edits.{list_with, list_without, list_until};
+ghost use Rattle.tmm_model.specs.Edits.{list_with, list_without, list_until, upgraded};
 ghost use Rattle.premise_list.specs.Judged.{NamesPlainly};
 
 use crate::check::Wanted;
@@ -15,14 +15,16 @@ use crate::premise::{copy_of, facts_of};
 use crate::table::{Table, word_count};
 use std::alloc::Global;
 use std::marker::Model;
-use tmm_model::{Edit, Name, NoMemory, PointName, Premise, Refusal, Seq};
+use tmm_model::{Edit, Name, NoMemory, PointName, Premise, Refusal, Seq, Version};
 
-/// The standing list and its horizon, now and as they were at the last commit.
+/// The standing list with its version and its horizon, now and as they were at the last commit.
 #[derive(Drop)]
 pub struct Standing {
     table: Table,
+    version: Version,
     horizon: u32,
     committed: Vec<Premise>,
+    committed_version: Version,
     committed_horizon: u32,
     // how many first premises of both lists are known to be the same
     shared: usize,
@@ -41,15 +43,17 @@ impl Model for Standing {
 }
 
 impl Standing {
-    /// The empty list, with horizon 1,000. It takes no memory.
+    /// The empty list, of version 1 and with horizon 1,000. It takes no memory.
     pub fn make(alloc: Global) -> Standing
         ensures present { result.present ≡ empty_list }
         ensures committed { result.committed ≡ empty_list }
     {
         Standing {
             table: Table::make(alloc),
+            version: Version::One,
             horizon: 1000,
             committed: Vec::new(alloc),
+            committed_version: Version::One,
             committed_horizon: 1000,
             shared: 0,
         }
@@ -127,6 +131,21 @@ impl Standing {
         self.horizon = n;
     }
 
+    /// Opens version 2, where the list is the empty list. It takes no memory.
+    pub fn upgrade(&mut self)
+        requires { self.old.present ≡ empty_list }
+        ensures { self.new ≡ record self.old { present = upgraded self.old.present } }
+    {
+        self.version = Version::Two;
+    }
+
+    /// The version in which its lines are read.
+    pub fn version(&self) -> Version
+        ensures { result ≡ self.now.present.version }
+    {
+        self.version
+    }
+
     /// The last date at which an effect is projected, in whole time units.
     pub fn horizon(&self) -> u32
         ensures { result ≡ self.now.present.horizon }
@@ -171,6 +190,7 @@ impl Standing {
         self.committed.truncate(self.shared);
         append_copies(&mut self.committed, &self.table.premises()[self.shared..]);
         self.shared = self.committed.as_slice().len();
+        self.committed_version = self.version;
         self.committed_horizon = self.horizon;
     }
 
@@ -182,6 +202,7 @@ impl Standing {
         self.table
             .replace_from(self.shared, &committed[self.shared..]);
         self.shared = committed.len();
+        self.version = self.committed_version;
         self.horizon = self.committed_horizon;
     }
 }

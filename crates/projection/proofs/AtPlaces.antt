@@ -41,7 +41,7 @@ rule_on : (kind : List ℕ) (p : Premise) (r : List ℕ) → on_kind kind p ≡ 
 rule_on kind p r e = (named_rule kind p r e, is_rule p e)
   where
     is_rule : (p : Premise) → on_kind kind p ≡ Some r → IsRule p
-    is_rule (Rule name trigger lo hi effect given) e = tt
+    is_rule (Rule name trigger lo hi effect given unless_facts) e = tt
     is_rule (Class name facts) e = cc
     is_rule (Kind name) e = cc
     is_rule (Point name) e = cc

@@ -35,7 +35,7 @@ report_named m (Event name kind) r e = cc
 report_named m (Token name fact) r e = cc
 report_named m (Span name fact) r e = cc
 report_named m (Dist name from to lo hi) r e = cc
-report_named m (Rule name trigger lo hi effect given) r e = cc
+report_named m (Rule name trigger lo hi effect given unless_facts) r e = cc
 
 module _ (m : TimeMap) (p : Premise) where
   -- of these premises none but p has its name

@@ -2,7 +2,7 @@
 use Rattle.std.proofs.Common.{◌≡◌, true, false, [], ◌∷◌, ◌++◌, refl, ap, inl, inr}
 use Rattle.std.specs.List.{Contains}
 use Rattle.tmm_model.specs.declared.premise.Edit.{Edit}
-use Rattle.tmm_model.specs.declared.premise.Edit.TheVariants.{Add, Erase, Horizon}
+use Rattle.tmm_model.specs.declared.premise.Edit.TheVariants.{Add, Erase, Horizon, Upgrade}
 use Rattle.tmm_model.specs.declared.premise.Premise.{Premise}
 use Rattle.tmm_model.specs.Edits.{next_list}
 use Rattle.tmm_model.specs.Points.{same_name}
@@ -27,3 +27,4 @@ pub stood_all : (edit : Edit) → ((added : Premise) → edit ≡ Add added → 
 stood_all (Add added) none s p at = absurd (none added refl)
 stood_all (Erase name) none s p at = Contains-from_In s.premises p (kept_before name [] s.premises p (In-from_Contains (next_list s (Erase name)).premises p at))
 stood_all (Horizon n) none s p at = at
+stood_all Upgrade none s p at = at

@@ -5,7 +5,8 @@ use Rattle.std.specs.List.{flat_map}
 use Rattle.std.proofs.lemmas.List.{length-map}
 use Rattle.tmm_model.specs.declared.premise.Premise.{Premise}
 use Rattle.tmm_model.specs.Lines.{shown_text}
-use Rattle.tmm_model.specs.Replies.{text_of, DumpIs, head_line, line_of, two}
+use Rattle.tmm_model.specs.declared.version.Version.{Version}
+use Rattle.tmm_model.specs.Replies.{text_of, DumpIs, head_line, line_of, opening_lines, two}
 use Rattle.replies.specs.Dump.{premise_line}
 
 rest_at : (premises : List Premise) (place : ℕ) (p : Premise) → slice_get premises place ≡ Some p → drop place premises ≡ p ∷ drop (suc place) premises
@@ -28,12 +29,12 @@ lines_shown [] = refl
 lines_shown (p ∷ premises) = ap (λ (l : List ℕ). premise_line p ++ l) (lines_shown premises)
 
 -- the whole text
-pub dump_text : (k h told n : ℕ) (premises : List Premise) (begun out : List ℕ) → begun ≡ head_line k (codes "dump" ∷ decimal n ∷ []) ++ line_of two (codes "horizon" ∷ decimal told ∷ [])
-    → n ≡ length premises → told ≡ h → out ≡ begun ++ flat_map premise_line premises → out ≡ text_of k (DumpIs h (map shown_text premises))
-dump_text k h told n premises begun out begins count horizon is =
+pub dump_text : (k : ℕ) (v seen : Version) (h told n : ℕ) (premises : List Premise) (begun out : List ℕ)
+    → begun ≡ head_line k (codes "dump" ∷ decimal n ∷ []) ++ opening_lines seen told
+    → n ≡ length premises → seen ≡ v → told ≡ h → out ≡ begun ++ flat_map premise_line premises → out ≡ text_of k (DumpIs v h (map shown_text premises))
+dump_text k v seen h told n premises begun out begins count version horizon is =
     let head : ℕ → List ℕ = λ m. head_line k (codes "dump" ∷ decimal m ∷ []) in
-    let second : List ℕ = line_of two (codes "horizon" ∷ decimal h ∷ []) in
     is ∙ ap (λ (l : List ℕ). l ++ flat_map premise_line premises) begins
-    ∙ ap (λ (m : ℕ). head n ++ line_of two (codes "horizon" ∷ decimal m ∷ []) ++ flat_map premise_line premises) horizon
-    ∙ ap (λ (m : ℕ). head m ++ second ++ flat_map premise_line premises) (count ∙ sym (length-map premises shown_text))
-    ∙ ap (λ (l : List ℕ). head (length (map shown_text premises)) ++ second ++ l) (lines_shown premises)
+    ∙ (λ i. head n ++ opening_lines (version i) (horizon i) ++ flat_map premise_line premises)
+    ∙ ap (λ (m : ℕ). head m ++ opening_lines v h ++ flat_map premise_line premises) (count ∙ sym (length-map premises shown_text))
+    ∙ ap (λ (l : List ℕ). head (length (map shown_text premises)) ++ opening_lines v h ++ l) (lines_shown premises)

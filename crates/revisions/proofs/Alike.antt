@@ -42,7 +42,7 @@ root_begins (Class name facts) x e = cc
 root_begins (Kind name) x e = cc
 root_begins (Point name) x e = cc
 root_begins (Dist name from to lo hi) x e = cc
-root_begins (Rule name trigger lo hi effect given) x e = cc
+root_begins (Rule name trigger lo hi effect given unless_facts) x e = cc
 root_begins (Protect name fact from to) x e = cc
 
 -- what a rule brings about is no span

@@ -39,7 +39,7 @@ no_root (Event name kind) e = cc
 no_root (Token name fact) e = cc
 no_root (Span name fact) e = cc
 no_root (Dist name from to lo hi) e = refl
-no_root (Rule name trigger lo hi effect given) e = refl
+no_root (Rule name trigger lo hi effect given unless_facts) e = refl
 no_root (Protect name fact from to) e = refl
 
 no_rule : (kind : List ℕ) (p : Premise) → is_read p ≡ false → on_kind kind p ≡ None
@@ -50,7 +50,7 @@ no_rule kind (Event name kind_) e = refl
 no_rule kind (Token name fact) e = refl
 no_rule kind (Span name fact) e = refl
 no_rule kind (Dist name from to lo hi) e = refl
-no_rule kind (Rule name trigger lo hi effect given) e = cc
+no_rule kind (Rule name trigger lo hi effect given unless_facts) e = cc
 no_rule kind (Protect name fact from to) e = refl
 
 class_read : (fact : List ℕ) (ps : List Premise) → class_in ps fact ≡ class_in (read_of ps) fact
@@ -62,7 +62,7 @@ class_read fact (Event name kind ∷ ps) = class_read fact ps
 class_read fact (Token name fact_ ∷ ps) = class_read fact ps
 class_read fact (Span name fact_ ∷ ps) = class_read fact ps
 class_read fact (Dist name from to lo hi ∷ ps) = class_read fact ps
-class_read fact (Rule name trigger lo hi effect given ∷ ps) = class_read fact ps
+class_read fact (Rule name trigger lo hi effect given unless_facts ∷ ps) = class_read fact ps
 class_read fact (Protect name fact_ from to ∷ ps) = class_read fact ps
 
 -- ---- what is found under a name
@@ -102,7 +102,7 @@ no_root_found (Event name kind) e = cc
 no_root_found (Token name fact) e = cc
 no_root_found (Span name fact) e = cc
 no_root_found (Dist name from to lo hi) e = refl
-no_root_found (Rule name trigger lo hi effect given) e = refl
+no_root_found (Rule name trigger lo hi effect given unless_facts) e = refl
 no_root_found (Protect name fact from to) e = refl
 
 no_rule_found : (p : Premise) → is_read p ≡ false → as_rule (Some p) ≡ as_rule None
@@ -113,7 +113,7 @@ no_rule_found (Event name kind) e = refl
 no_rule_found (Token name fact) e = refl
 no_rule_found (Span name fact) e = refl
 no_rule_found (Dist name from to lo hi) e = refl
-no_rule_found (Rule name trigger lo hi effect given) e = cc
+no_rule_found (Rule name trigger lo hi effect given unless_facts) e = cc
 no_rule_found (Protect name fact from to) e = refl
 
 -- ---- what a name is declared as
@@ -138,7 +138,7 @@ unread_declares x p e n sort at = by p e at
     by (Token name fact) e at = cc
     by (Span name fact) e at = cc
     by (Dist name from to lo hi) e at = one name a_dist refl at
-    by (Rule name trigger lo hi effect given) e at = cc
+    by (Rule name trigger lo hi effect given unless_facts) e at = cc
     by (Protect name fact from to) e at = one name a_protection refl at
 
 -- what a premise declares none after it does

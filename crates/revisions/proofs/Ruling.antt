@@ -6,7 +6,7 @@ use Rattle.std.specs.Map.{lookup}
 use Rattle.std.specs.Option.{option_or, option_map_or}
 use Rattle.std.specs.Cmp.Lexicographic.{bytes_decides, nat_list_eq_equiv}
 use Rattle.tmm_model.specs.declared.premise.Edit.{Edit}
-use Rattle.tmm_model.specs.declared.premise.Edit.TheVariants.{Add, Erase, Horizon}
+use Rattle.tmm_model.specs.declared.premise.Edit.TheVariants.{Add, Erase, Horizon, Upgrade}
 use Rattle.tmm_model.specs.declared.premise.Premise.{Premise}
 use Rattle.tmm_model.specs.declared.premise.Premise.TheVariants.{Class, Kind, Point, Event, Token, Span, Dist, Rule, Protect}
 use Rattle.tmm_model.specs.Beliefs.{on_kind, rules_on}
@@ -35,7 +35,7 @@ no_rule_on kind (Event name kind_) e = refl
 no_rule_on kind (Token name fact) e = refl
 no_rule_on kind (Span name fact) e = refl
 no_rule_on kind (Dist name from to lo hi) e = refl
-no_rule_on kind (Rule name trigger lo hi effect given) e = cc
+no_rule_on kind (Rule name trigger lo hi effect given unless_facts) e = cc
 no_rule_on kind (Protect name fact from to) e = refl
 
 -- with a rule it falls itself
@@ -47,7 +47,7 @@ no_rule_itself (Event name kind) e = refl
 no_rule_itself (Token name fact) e = refl
 no_rule_itself (Span name fact) e = refl
 no_rule_itself (Dist name from to lo hi) e = refl
-no_rule_itself (Rule name trigger lo hi effect given) e = cc
+no_rule_itself (Rule name trigger lo hi effect given unless_facts) e = cc
 no_rule_itself (Protect name fact from to) e = refl
 
 rules_push : (kind : List ℕ) (ps : List Premise) (p : Premise) → is_rule p ≡ false → filter_map (on_kind kind) (ps ++ p ∷ []) ≡ filter_map (on_kind kind) ps
@@ -99,10 +99,10 @@ asks_effect (Token name fact) e u at = cc
 asks_effect (Span name fact) e u at = cc
 asks_effect (Dist name from to lo hi) e u at = cc
 asks_effect (Protect name fact from to) e u at = cc
-asks_effect (Rule name trigger lo hi effect given) e u (inl is) = record { word = trigger; wanted = is_kind; is = is; refuses = no_kind }
-asks_effect (Rule name trigger lo hi effect given) e u (inr (inl is)) = record { word = effect; wanted = is_effect; is = is; refuses = λ sort none. none }
-asks_effect (Rule name trigger lo hi effect given) e u (inr (inr at)) =
-    let (fact, _, is) = In-map fact_use given.items u at in
+asks_effect (Rule name trigger lo hi effect given unless_facts) e u (inl is) = record { word = trigger; wanted = is_kind; is = is; refuses = no_kind }
+asks_effect (Rule name trigger lo hi effect given unless_facts) e u (inr (inl is)) = record { word = effect; wanted = is_effect; is = is; refuses = λ sort none. none }
+asks_effect (Rule name trigger lo hi effect given unless_facts) e u (inr (inr at)) =
+    let (fact, _, is) = In-map fact_use (given.items ++ unless_facts.items) u at in
     record { word = fact; wanted = is_fact; is = is; refuses = no_fact }
 
 each_use : (earlier : List Premise) (us : List Use) → uses_cause earlier us ≡ None → (u : Use) → In u us → use_cause earlier u ≡ None
@@ -162,7 +162,7 @@ declares_other earlier p e follows w at = by p e refl at
     by (Protect name fact from to) e is at = (a_protection, own name a_protection (ap declarations_of is) (ap name_of is) (subst (λ z. In w (declared_by z)) is at), refl)
     by (Class name facts) e is at = cc
     by (Kind name) e is at = cc
-    by (Rule name trigger lo hi effect given) e is at = cc
+    by (Rule name trigger lo hi effect given unless_facts) e is at = cc
 
 -- ---- an erasure
 
@@ -219,3 +219,4 @@ pub unruled_edit : (s : Standing) (edit : Edit) → IsWellNamed s.premises → i
 unruled_edit s (Add p) named e kind = rules_push kind s.premises p e
 unruled_edit s (Erase name) named e kind = rules_kept kind name [] [] s.premises named (λ w at. absurd at) (erased_takes_no_rule s.premises named name e)
 unruled_edit s (Horizon n) named e kind = refl
+unruled_edit s Upgrade named e kind = refl

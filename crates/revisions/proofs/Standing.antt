@@ -30,7 +30,7 @@ not_root s (Class name facts) e = cc
 not_root s (Kind name) e = cc
 not_root s (Point name) e = cc
 not_root s (Dist name from to lo hi) e = cc
-not_root s (Rule name trigger lo hi effect given) e = cc
+not_root s (Rule name trigger lo hi effect given unless_facts) e = cc
 not_root s (Protect name fact from to) e = cc
 
 no_end : (p : Premise) (k : List ℕ) → root_of p ≡ Some (At (End k)) → ⊥
@@ -41,7 +41,7 @@ no_end (Class name facts) k e = cc
 no_end (Kind name) k e = cc
 no_end (Point name) k e = cc
 no_end (Dist name from to lo hi) k e = cc
-no_end (Rule name trigger lo hi effect given) k e = cc
+no_end (Rule name trigger lo hi effect given unless_facts) k e = cc
 no_end (Protect name fact from to) k e = cc
 
 some_in : (o : Option Premise) → IsSome o → (p : Premise) × (o ≡ Some p)

@@ -44,7 +44,7 @@ root_points s k at =
     own (Kind name) e = cc
     own (Point name) e = cc
     own (Dist name from to lo hi) e = cc
-    own (Rule name trigger lo hi effect given) e = cc
+    own (Rule name trigger lo hi effect given unless_facts) e = cc
     own (Protect name fact from to) e = cc
 
 -- the shape of what occurs
@@ -63,7 +63,7 @@ span_end s k (Some (Class name facts)) is fact e = cc
 span_end s k (Some (Kind name)) is fact e = cc
 span_end s k (Some (Point name)) is fact e = cc
 span_end s k (Some (Dist name from to lo hi)) is fact e = cc
-span_end s k (Some (Rule name trigger lo hi effect given)) is fact e = cc
+span_end s k (Some (Rule name trigger lo hi effect given unless_facts)) is fact e = cc
 span_end s k (Some (Protect name fact_ from to)) is fact e = cc
 
 pub anchor_point : (s : Standing) (p : PointName) → IsAnchor s p → In p (points_in s.premises)

@@ -43,7 +43,7 @@ root_named (Class name facts) k e = cc
 root_named (Kind name) k e = cc
 root_named (Point name) k e = cc
 root_named (Dist name from to lo hi) k e = cc
-root_named (Rule name trigger lo hi effect given) k e = cc
+root_named (Rule name trigger lo hi effect given unless_facts) k e = cc
 root_named (Protect name fact from to) k e = cc
 
 abbrev effect_in : Standing → Premise → Shape × List ℕ
@@ -70,7 +70,7 @@ module _ (s t : Standing) (sound_s : IsSound s) (sound_t : IsSound t) (within : 
   root_classed (Kind name) at = tt
   root_classed (Point name) at = tt
   root_classed (Dist name from to lo hi) at = tt
-  root_classed (Rule name trigger lo hi effect given) at = tt
+  root_classed (Rule name trigger lo hi effect given unless_facts) at = tt
   root_classed (Protect name fact from to) at = tt
 
   record Alike (x : Moment) : Type 0 where
@@ -111,8 +111,8 @@ module _ (s t : Standing) (sound_s : IsSound s) (sound_t : IsSound t) (within : 
       declared x a_protection e i = cc
 
       effect : (p : Premise) → In p s.premises → (kind : List ℕ) → on_kind kind p ≡ Some r → (effect_in s p ≡ effect_in t p) × IsClassed (Some (effect_in s p))
-      effect (Rule name trigger lo hi x given) at kind is =
-          let (sort, here, may) = used_after [] s.premises sound_s.well_named (Rule name trigger lo hi x given) at x is_effect (inr (inl refl)) in
+      effect (Rule name trigger lo hi x given unless_facts) at kind is =
+          let (sort, here, may) = used_after [] s.premises sound_s.well_named (Rule name trigger lo hi x given unless_facts) at x is_effect (inr (inl refl)) in
           let there = sorts_within s.premises t.premises within sound_t.well_named x sort here in (
             ap (as_effect x) (here ∙ sym there),
             subst (λ o. IsClassed (Some (as_effect x o))) (sym here) (declared x sort here may),

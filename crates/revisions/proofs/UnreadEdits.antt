@@ -6,7 +6,7 @@ use Rattle.std.specs.Map.{lookup}
 use Rattle.std.specs.Option.{option_or, option_map_or}
 use Rattle.std.specs.Cmp.Lexicographic.{bytes_decides, nat_list_eq_equiv}
 use Rattle.tmm_model.specs.declared.premise.Edit.{Edit}
-use Rattle.tmm_model.specs.declared.premise.Edit.TheVariants.{Add, Erase, Horizon}
+use Rattle.tmm_model.specs.declared.premise.Edit.TheVariants.{Add, Erase, Horizon, Upgrade}
 use Rattle.tmm_model.specs.declared.premise.Premise.{Premise}
 use Rattle.tmm_model.specs.declared.premise.Premise.TheVariants.{Class, Kind, Point, Event, Token, Span, Dist, Rule, Protect}
 use Rattle.tmm_model.specs.Edits.{next_list}
@@ -78,10 +78,10 @@ asks_other (Token name fact) e u (inl is) = record { word = fact; wanted = is_fa
 asks_other (Token name fact) e u (inr at) = absurd at
 asks_other (Span name fact) e u (inl is) = record { word = fact; wanted = is_fact; is = is; refuses = λ sort e. (plain_is sort e).0 }
 asks_other (Span name fact) e u (inr at) = absurd at
-asks_other (Rule name trigger lo hi effect given) e u (inl is) = record { word = trigger; wanted = is_kind; is = is; refuses = λ sort e. (plain_is sort e).1 }
-asks_other (Rule name trigger lo hi effect given) e u (inr (inl is)) = record { word = effect; wanted = is_effect; is = is; refuses = λ sort e. (plain_is sort e).2 }
-asks_other (Rule name trigger lo hi effect given) e u (inr (inr at)) =
-    let (fact, _, is) = In-map fact_use given.items u at in
+asks_other (Rule name trigger lo hi effect given unless_facts) e u (inl is) = record { word = trigger; wanted = is_kind; is = is; refuses = λ sort e. (plain_is sort e).1 }
+asks_other (Rule name trigger lo hi effect given unless_facts) e u (inr (inl is)) = record { word = effect; wanted = is_effect; is = is; refuses = λ sort e. (plain_is sort e).2 }
+asks_other (Rule name trigger lo hi effect given unless_facts) e u (inr (inr at)) =
+    let (fact, _, is) = In-map fact_use (given.items ++ unless_facts.items) u at in
     record { word = fact; wanted = is_fact; is = is; refuses = λ sort e. (plain_is sort e).0 }
 
 each_use : (earlier : List Premise) (us : List Use) → uses_cause earlier us ≡ None → (u : Use) → In u us → use_cause earlier u ≡ None
@@ -141,7 +141,7 @@ declares_plain earlier p e follows w at = by p e refl at
     by (Event name kind) e is at = cc
     by (Token name fact) e is at = cc
     by (Span name fact) e is at = cc
-    by (Rule name trigger lo hi effect given) e is at = cc
+    by (Rule name trigger lo hi effect given unless_facts) e is at = cc
 
 -- ---- an erasure
 
@@ -192,6 +192,7 @@ edit_reads : (s : Standing) (edit : Edit) → IsWellNamed s.premises → is_unre
 edit_reads s (Add p) named e = (sym (read_push s.premises p (unread (is_read p) e)), refl)
 edit_reads s (Erase name) named e = (sym (read_kept name [] [] s.premises named (λ w at. absurd at) (erased_unread s.premises named name e)), refl)
 edit_reads s (Horizon n) named e = cc
+edit_reads s Upgrade named e = (refl, refl)
 
 pub unread_edit : (s : Standing) (edit : Edit) → IsWellNamed s.premises → IsWellNamed (next_list s edit).premises → is_unread s.premises edit ≡ true → SayAlike s (next_list s edit)
 unread_edit s edit named named_then e = let same = edit_reads s edit named e in same_read s (next_list s edit) named named_then same.0 same.1

@@ -5,7 +5,7 @@ use Rattle.std.specs.Option.{option_map_or}
 use Rattle.tmm_model.specs.declared.point.PointName.{PointName}
 use Rattle.tmm_model.specs.declared.point.PointName.TheVariants.{Start, Begin, End}
 use Rattle.tmm_model.specs.declared.premise.Edit.{Edit}
-use Rattle.tmm_model.specs.declared.premise.Edit.TheVariants.{Add, Erase, Horizon}
+use Rattle.tmm_model.specs.declared.premise.Edit.TheVariants.{Add, Erase, Horizon, Upgrade}
 use Rattle.tmm_model.specs.declared.premise.Premise.{Premise}
 use Rattle.tmm_model.specs.declared.premise.Premise.TheVariants.{Point, Dist, Protect}
 use Rattle.tmm_model.specs.declared.token.Shape.TheVariants.{Span}
@@ -81,11 +81,12 @@ abbrev pub SameReadSayAlike : Type 0
 SameReadSayAlike =
     (s t : Standing) → IsWellNamed s.premises → IsWellNamed t.premises → read_of s.premises ≡ read_of t.premises → s.horizon ≡ t.horizon → SayAlike s t
 
--- whether the edit adds a premise that beliefs do not read, or erases one
+-- whether the edit adds a premise that beliefs do not read, or erases one, or opens a version
 abbrev pub is_unread : List Premise → Edit → Bool
 is_unread premises (Add premise) = not (is_read premise)
 is_unread premises (Erase name) = option_map_or (λ premise. not (is_read premise)) (premise_in premises name) false
 is_unread premises (Horizon n) = false
+is_unread premises Upgrade = true
 
 -- **After such an edit the list says the same**: nothing that beliefs read mentions a premise that they do not.
 abbrev pub UnreadEditsSayAlike : Type 0

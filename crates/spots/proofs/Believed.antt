@@ -51,7 +51,7 @@ named_root (Class name facts) y e = cc
 named_root (Kind name) y e = cc
 named_root (Point name) y e = cc
 named_root (Dist name from to lo hi) y e = cc
-named_root (Rule name trigger lo hi effect given) y e = cc
+named_root (Rule name trigger lo hi effect given unless_facts) y e = cc
 named_root (Protect name fact from to) y e = cc
 
 -- no root stands twice

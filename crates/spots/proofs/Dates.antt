@@ -62,7 +62,7 @@ walk_of premises q there p at = by q there at
     by (Class name facts) there at = absurd at
     by (Kind name) there at = absurd at
     by (Dist name from to lo hi) there at = absurd at
-    by (Rule name trigger lo hi effect given) there at = absurd at
+    by (Rule name trigger lo hi effect given unless_facts) there at = absurd at
     by (Protect name fact from to) there at = absurd at
 
 walk_to_start : (premises : List Premise) (p : PointName) → Contains (points_in premises) p → (walk : List (Arc PointName)) × IsWalk (arcs_in premises) p Start walk

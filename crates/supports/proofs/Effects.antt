@@ -74,7 +74,7 @@ kind_alone (Event name kind) e = cc
 kind_alone (Token name fact) e = cc
 kind_alone (Span name fact) e = cc
 kind_alone (Dist name from to lo hi) e = cc
-kind_alone (Rule name trigger lo hi effect given) e = cc
+kind_alone (Rule name trigger lo hi effect given unless_facts) e = cc
 kind_alone (Protect name fact from to) e = cc
 
 kind_after : (n : List ℕ) (earlier premises : List Premise) → AllFollow earlier premises → sort_in premises n ≡ Some a_kind → class_in premises n ≡ None

@@ -53,24 +53,24 @@ module _ (s : Standing) (net : Net) (f : Forest) (seen : IsSeen s net f) (x : �
           ∙ along-push (At (Begin m.root)) (rules_of m) r
           ∙ ap (λ t. After t r) (sym (moment_at-is f x m at))
 
-  module _ (name trigger : List ℕ) (lo : ℤ) (hi : Bound) (effect : List ℕ) (given : _) (there : premise_in s.premises r ≡ Some (Rule name trigger lo hi effect given)) where
-    stands : In (Rule name trigger lo hi effect given) s.premises
-    stands = (finds s.premises r (Rule name trigger lo hi effect given) there).0
+  module _ (name trigger : List ℕ) (lo : ℤ) (hi : Bound) (effect : List ℕ) (given : _) (there : premise_in s.premises r ≡ Some (Rule name trigger lo hi effect given unless_facts)) where
+    stands : In (Rule name trigger lo hi effect given unless_facts) s.premises
+    stands = (finds s.premises r (Rule name trigger lo hi effect given unless_facts) there).0
 
-    formed : IsWellFormedPremise (Rule name trigger lo hi effect given)
-    formed = premise_formed s seen.network.sound (Rule name trigger lo hi effect given) stands
+    formed : IsWellFormedPremise (Rule name trigger lo hi effect given unless_facts)
+    formed = premise_formed s seen.network.sound (Rule name trigger lo hi effect given unless_facts) stands
 
     pub rule_named : is_name name ≡ true
     rule_named = formed.0
 
     pub word_is : is_name r ≡ true
-    word_is = subst (λ n. is_name n ≡ true) (finds s.premises r (Rule name trigger lo hi effect given) there).1 rule_named
+    word_is = subst (λ n. is_name n ≡ true) (finds s.premises r (Rule name trigger lo hi effect given unless_facts) there).1 rule_named
 
     pub delay_is : IsNumber lo × IsBound hi × (pos 1 ≤ℤ lo) × IsRange (Finite lo) hi
     delay_is = (formed.2, formed.3, formed.4, formed.5)
 
     made : as_effect effect (sort_in s.premises effect) ≡ (effect_shape (class_in s.premises effect), effect)
-    made = effect_is s.premises seen.network.sound.well_named (Rule name trigger lo hi effect given) stands effect (inr (inl refl))
+    made = effect_is s.premises seen.network.sound.well_named (Rule name trigger lo hi effect given unless_facts) stands effect (inr (inl refl))
 
     class_for_effect : (o : Option (List ℕ)) → class_in s.premises effect ≡ o → o ≡ class_for s (effect_shape o) effect
     class_for_effect None e = refl

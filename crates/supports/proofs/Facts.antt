@@ -35,7 +35,7 @@ class_in-cons n (Event name kind) ps = refl
 class_in-cons n (Token name fact) ps = refl
 class_in-cons n (Span name fact) ps = refl
 class_in-cons n (Dist name from to lo hi) ps = refl
-class_in-cons n (Rule name trigger lo hi effect given) ps = refl
+class_in-cons n (Rule name trigger lo hi effect given unless_facts) ps = refl
 class_in-cons n (Protect name fact from to) ps = refl
 
 lookup-facts : (n : List ℕ) (fs : List (List ℕ)) (rest : List (List ℕ × Sort)) → lookup (same_name n) (map fact_declaration fs ++ rest) ≡ cond (list_any (same_name n) fs) (Some a_fact) (lookup (same_name n) rest)
@@ -62,7 +62,7 @@ own_sort_other (Event name kind) e = cc
 own_sort_other (Token name fact) e = cc
 own_sort_other (Span name fact) e = cc
 own_sort_other (Dist name from to lo hi) e = cc
-own_sort_other (Rule name trigger lo hi effect given) e = cc
+own_sort_other (Rule name trigger lo hi effect given unless_facts) e = cc
 own_sort_other (Protect name fact from to) e = cc
 
 -- what is declared as a fact has a class

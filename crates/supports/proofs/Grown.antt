@@ -131,7 +131,7 @@ root_name (Class name facts) k e = cc
 root_name (Kind name) k e = cc
 root_name (Point name) k e = cc
 root_name (Dist name from to lo hi) k e = cc
-root_name (Rule name trigger lo hi effect given) k e = cc
+root_name (Rule name trigger lo hi effect given unless_facts) k e = cc
 root_name (Protect name fact from to) k e = cc
 
 same_begin : (a b : List ℕ) → Begin a ≡ Begin b → a ≡ b

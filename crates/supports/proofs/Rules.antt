@@ -9,7 +9,7 @@ use Rattle.tmm_model.specs.Moments.{Moment, as_rule, rule_of}
 use Rattle.list_theory.specs.WellNamed.{IsSound}
 use Rattle.tmm_model.specs.Sorts.{class_in, fact_use}
 use Rattle.tmm_model.specs.Standing.{Standing, premise_in}
-use Rattle.list_theory.proofs.Elements.{In, In-from_Contains, map-In}
+use Rattle.list_theory.proofs.Elements.{In, In-left, In-from_Contains, map-In}
 use Rattle.list_theory.proofs.KnownNames.{found, finds}
 use Rattle.walk_theory.proofs.Members.{All-from_contains}
 use Rattle.belief_theory.proofs.Sound.{rule_stands}
@@ -17,7 +17,7 @@ use Rattle.supports.specs.Rules.{IsRule, IsRuleOf}
 use Rattle.supports.proofs.Facts.{fact_known}
 
 rule_on : (p : Premise) (kind r : List ℕ) → on_kind kind p ≡ Some r → IsRule p
-rule_on (Rule name trigger lo hi effect given) kind r e = tt
+rule_on (Rule name trigger lo hi effect given unless_facts) kind r e = tt
 rule_on (Class name facts) kind r e = cc
 rule_on (Kind name) kind r e = cc
 rule_on (Point name) kind r e = cc
@@ -39,7 +39,7 @@ facts_known s sound r (p, there, is) = subst (λ o. All (λ fact. IsSome (class_
     (λ fact at. by p (finds s.premises r p there).0 fact (In-from_Contains (as_rule (Some p)).given fact at)))
   where
     by : (p : Premise) → In p s.premises → (fact : List ℕ) → In fact (as_rule (Some p)).given → IsSome (class_in s.premises fact)
-    by (Rule name trigger lo hi effect given) stands fact at = fact_known s.premises sound.well_named (Rule name trigger lo hi effect given) stands fact (inr (inr (map-In fact_use given.items fact at)))
+    by (Rule name trigger lo hi effect given unless_facts) stands fact at = fact_known s.premises sound.well_named (Rule name trigger lo hi effect given unless_facts) stands fact (inr (inr (map-In fact_use (given.items ++ unless_facts.items) fact (In-left given.items unless_facts.items fact at))))
     by (Class name facts) stands fact at = absurd at
     by (Kind name) stands fact at = absurd at
     by (Point name) stands fact at = absurd at

@@ -6,7 +6,7 @@ use Rattle.tmm_model.specs.Standing.{Standing, premise_in}
 
 -- the premise is a rule
 abbrev pub IsRule : Premise → Type 0
-IsRule (Rule name trigger lo hi effect given) = Unit {0}
+IsRule (Rule name trigger lo hi effect given unless_facts) = Unit {0}
 IsRule _ = ⊥
 
 -- the premise of this name is a rule

@@ -77,19 +77,19 @@ AreCounts-kind c replies (Answered Unordered) are = AreCounts-plus c (with_kind 
 AreCounts-kind c replies (Reasons lines) are = AreCounts-plus c (with_kind c (kind_of (Reasons lines))) replies (Some (Reasons lines)) None are refl refl
 AreCounts-kind c replies (BrokenAre broken) are = AreCounts-plus c (with_kind c (kind_of (BrokenAre broken))) replies (Some (BrokenAre broken)) None are refl refl
 AreCounts-kind c replies (Believed found) are = AreCounts-plus c (with_kind c (kind_of (Believed found))) replies (Some (Believed found)) None are refl refl
-AreCounts-kind c replies (DumpIs horizon lines) are = AreCounts-plus c (with_kind c (kind_of (DumpIs horizon lines))) replies (Some (DumpIs horizon lines)) None are refl refl
+AreCounts-kind c replies (DumpIs version horizon lines) are = AreCounts-plus c (with_kind c (kind_of (DumpIs version horizon lines))) replies (Some (DumpIs version horizon lines)) None are refl refl
 AreCounts-kind c replies AuditYes are = AreCounts-plus c (with_kind c (kind_of AuditYes)) replies (Some AuditYes) None are refl refl
 AreCounts-kind c replies (SizeIs n) are = AreCounts-plus c (with_kind c (kind_of (SizeIs n))) replies (Some (SizeIs n)) (Some n) are refl refl
 
 -- a line that is not silent has a reply, by which it is counted
 has_reply : (old new : Standing) (k : ℕ) (line : List ℕ) (t : Told) → Speaks line → TellsLine old k line t new → is_reply (turn_of t) ≡ true
-has_reply old new k line Silent speaks told = absurd (speaks_not_silent line speaks told.0.0)
+has_reply old new k line Silent speaks told = absurd (speaks_not_silent old.version line speaks told.0.0)
 has_reply old new k line Memory speaks told = refl
 has_reply old new k line (ReplyOf bytes kind) speaks told = refl
 
 counted_reply : (old new : Standing) (k : ℕ) (line : List ℕ) (t : Told) (c : Counts) (replies : List (Option Reply)) → Speaks line → (told : TellsLine old k line t new)
     → AreCounts c replies → AreCounts (counted c t) (replies ++ reply_told old k line (turn_of t) new told.0 ∷ [])
-counted_reply old new k line Silent c replies speaks told are = absurd (speaks_not_silent line speaks told.0.0)
+counted_reply old new k line Silent c replies speaks told are = absurd (speaks_not_silent old.version line speaks told.0.0)
 counted_reply old new k line Memory c replies speaks told are = AreCounts-plus c (counted c Memory) replies None None are refl refl
 counted_reply old new k line (ReplyOf bytes kind) c replies speaks told are =
     subst (λ k. AreCounts (with_kind c k) (replies ++ Some told.0.0 ∷ [])) (sym told.1) (AreCounts-kind c replies told.0.0 are)

@@ -10,6 +10,7 @@ use Rattle.std.proofs.lemmas.Option.{get_or_from_slice_get, slice_get_within}
 use Rattle.tmm_model.specs.declared.line.Line.TheVariants.{Silent as Blank}
 use Rattle.tmm_model.specs.declared.turn.Turn.{Turn}
 use Rattle.tmm_model.specs.declared.turn.Turn.TheVariants.{Silent, Reply as ReplyOf, Memory}
+use Rattle.tmm_model.specs.declared.version.Version.{Version}
 use Rattle.tmm_model.specs.Generator.{numbered, first_lines, erase_lines, event_lines, events_below, script_of, is_want, is_refused as is_no_or_fault}
 use Rattle.tmm_model.specs.Lines.{words, goes_on, is_blank, spaced, IsSilent}
 use Rattle.tmm_model.specs.Replies.{Reply, text_of}
@@ -35,10 +36,10 @@ first_word : (on : Bool) (b : ℕ) (ws : List (List ℕ)) → (b == 35) ≡ fals
 first_word true b ws other silent = begun_word b ws other silent
 first_word false b ws other silent = let never : IsTrue false = subst (λ x. IsTrue x) other silent in cc never
 
-pub speaks_not_silent : (line : List ℕ) → Speaks line → IsReadAs line Blank → ⊥
+pub speaks_not_silent : (version : Version) (line : List ℕ) → Speaks line → IsReadAs version line Blank → ⊥
 unfolding words
-speaks_not_silent [] speaks read = absurd speaks
-speaks_not_silent (b ∷ line) speaks read =
+speaks_not_silent version [] speaks read = absurd speaks
+speaks_not_silent version (b ∷ line) speaks read =
     first_word (goes_on line) b (words line) speaks.1
     (subst (λ blank. IsSilent (cond blank (words line) (cond (goes_on line) (onto_first b (words line)) ((b ∷ []) ∷ words line)))) speaks.0 read.reads)
 
@@ -104,8 +105,8 @@ one_line_more n i line at =
 -- a step from the same list, of a line of the same number, tells the same reply
 step_moved : (now old : Standing) (j k : ℕ) (line : List ℕ) (turn : Turn) (new : Standing) → now ≡ old → j ≡ k → (step : Step now j line turn new)
     → (moved : Step old k line turn new) × (reply_told old k line turn new moved ≡ reply_told now j line turn new step)
-step_moved now old j k line Silent new is same step = ((step.0, subst (λ (s : Standing). new ≡ s) is step.1), refl)
-step_moved now old j k line Memory new is same step = ((step.0, subst (λ (s : Standing). new ≡ s) is step.1), refl)
+step_moved now old j k line Silent new is same step = (subst (λ (s : Standing). IsReadAs s.version line Blank × (new ≡ s)) is step, refl)
+step_moved now old j k line Memory new is same step = (subst (λ (s : Standing). (IsReadAs s.version line Blank → ⊥) × (new ≡ s)) is step, refl)
 step_moved now old j k line (ReplyOf bytes refused) new is same step = (
   (
     step.0,

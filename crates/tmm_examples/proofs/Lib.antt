@@ -14,4 +14,5 @@ mod WorkedSpans
 mod WorkedTerms
 mod WorkedTouched
 mod WorkedTranscript
+mod WorkedVersions
 mod WorkedWorkshop

@@ -12,6 +12,7 @@ use Rattle.tmm_model.specs.declared.premise.Premise.{Premise}
 use Rattle.tmm_model.specs.declared.premise.Premise.TheVariants.{Kind, Token, Dist}
 use Rattle.tmm_model.specs.Maps.{built}
 use Rattle.tmm_model.specs.Questions.{query_cause, Answers}
+use Rattle.tmm_model.specs.declared.version.Version.TheVariants.{One}
 use Rattle.tmm_model.specs.Replies.{DumpIs}
 use Rattle.tmm_model.specs.Standing.{Standing}
 use Rattle.tmm_model.specs.Edits.{next_list}
@@ -58,6 +59,6 @@ no_longer = of_map (λ m. query_cause m (Why (occ (codes "e") (codes "r" ∷ [])
 
 -- dump
 dumped : Answers (built (within 1000 (two_tokens ++ apart_by (codes "d") (codes "k") (codes "m") 5 ∷ []))) Dump
-    (DumpIs 1000 (codes "class door open shut" ∷ codes "token k open" ∷ codes "token m shut" ∷ codes "dist d k m 5 5" ∷ []))
+    (DumpIs One 1000 (codes "class door open shut" ∷ codes "token k open" ∷ codes "token m shut" ∷ codes "dist d k m 5 5" ∷ []))
 unfolding digits
-dumped = (refl, refl)
+dumped = (refl, refl, refl)

@@ -12,6 +12,7 @@ use Rattle.tmm_model.specs.declared.point.QueryPoint.TheVariants.{Declared}
 use Rattle.tmm_model.specs.declared.refusal.Refusal.TheVariants.{LimitLine, Unknown, Cycle}
 use Rattle.tmm_model.specs.declared.walk.Side.TheVariants.{Hi, Lo}
 use Rattle.tmm_model.specs.Types.{Listed}
+use Rattle.tmm_model.specs.declared.version.Version.TheVariants.{One, Two}
 use Rattle.tmm_model.specs.Replies.{Accepted, Refused, BoundsAre, PathIs, Answered, Reasons, BrokenAre, Believed, DumpIs, AuditYes, SizeIs, is_refusal, text_of, memory_text}
 
 abbrev seq : {T : Type 0} → List T → Listed T
@@ -107,9 +108,13 @@ of_believed_ones : text_of 16 (Believed (
 unfolding digits
 of_believed_ones = refl
 
-of_a_dump : text_of 8 (DumpIs 1000 (codes "kind t" ∷ codes "point p" ∷ [])) ≡ codes "8 dump 2\n  horizon 1000\n  kind t\n  point p\n"
+of_a_dump : text_of 8 (DumpIs One 1000 (codes "kind t" ∷ codes "point p" ∷ [])) ≡ codes "8 dump 2\n  horizon 1000\n  kind t\n  point p\n"
 unfolding digits
 of_a_dump = refl
+
+of_a_dump_of_version_2 : text_of 3 (DumpIs Two 1000 (codes "kind t" ∷ [])) ≡ codes "3 dump 1\n  tmm 2\n  horizon 1000\n  kind t\n"
+unfolding digits
+of_a_dump_of_version_2 = refl
 
 of_an_audit : text_of 9 AuditYes ≡ codes "9 audit yes\n"
 unfolding digits

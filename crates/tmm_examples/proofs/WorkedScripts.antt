@@ -5,19 +5,24 @@ use Rattle.tmm_model.specs.declared.bound.Bound.TheVariants.{Finite}
 use Rattle.tmm_model.specs.declared.point.PointName.TheVariants.{Start, Begin}
 use Rattle.tmm_model.specs.declared.premise.Premise.{Premise}
 use Rattle.tmm_model.specs.declared.premise.Premise.TheVariants.{Class, Kind, Point, Event, Token, Dist, Rule, Protect}
+use Rattle.tmm_model.specs.declared.version.Version.TheVariants.{One}
 use Rattle.tmm_model.specs.Standing.{Standing}
 use Rattle.tmm_model.specs.Moments.{Moment, At, After}
 
 -- ---- writing
 
 abbrev pub within : ℕ → List Premise → Standing
-within horizon premises = record { horizon = horizon; premises = premises }
+within horizon premises = record { version = One; horizon = horizon; premises = premises }
 
 abbrev pub class : List ℕ → List (List ℕ) → Premise
 class name facts = Class name (record { items = facts })
 
+abbrev pub rule_unless : List ℕ → List ℕ → ℕ → ℕ → List ℕ → List (List ℕ) → List (List ℕ) → Premise
+rule_unless name kind lo hi effect given unless_facts =
+    Rule name kind (pos lo) (Finite (pos hi)) effect (record { items = given }) (record { items = unless_facts })
+
 abbrev pub rule : List ℕ → List ℕ → ℕ → ℕ → List ℕ → List (List ℕ) → Premise
-rule name kind lo hi effect given = Rule name kind (pos lo) (Finite (pos hi)) effect (record { items = given })
+rule name kind lo hi effect given = rule_unless name kind lo hi effect given []
 
 -- `dist name start p n n`, and `dist name p q n n`
 abbrev pub dated : List ℕ → List ℕ → ℕ → Premise

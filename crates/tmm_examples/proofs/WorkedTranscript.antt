@@ -35,6 +35,7 @@ use Rattle.tmm_model.specs.Lines.{words}
 use Rattle.tmm_grammar.specs.Bare.{bare_line}
 use Rattle.tmm_model.specs.Types.{Listed}
 use Rattle.tmm_model.specs.Questions.{query_cause}
+use Rattle.tmm_model.specs.declared.version.Version.TheVariants.{One}
 use Rattle.tmm_grammar.specs.Reading.{line_of, query_of, edit_of, premise_of, ask_of, two_points_of, query_point_of, point_of, occ_of, parts, two_names_of, name_alone_of, dist_of, bound_of, number_of, natural_of, digits_on}
 use Rattle.tmm_model.specs.Replies.{Accepted, Refused, Answered}
 use Rattle.tmm_model.specs.Standing.{Standing, IsConsistent, arcs_in}
@@ -58,8 +59,8 @@ abbrev refused : List ℕ → Turn
 refused text = ReplyOf (seq text) true
 
 -- a line that the function reads so is read so
-read_as : (line : List ℕ) (l : Line) → length line ≤ 400 → line_of (words line) ≡ Some (bare_line l) → IsReadAs line l
-read_as line l short is = record { short = short; reads = line_of-sound (words line) l is }
+read_as : (line : List ℕ) (l : Line) → length line ≤ 400 → line_of One (words line) ≡ Some (bare_line l) → IsReadAs One line l
+read_as line l short is = record { short = short; reads = line_of-sound One (words line) l is }
 
 -- what holds of one after the other holds of all
 pub each : {X : Type 0} (F : X → Type 0) (xs : List X) → AllByRecursion F xs → All F xs
@@ -74,7 +75,7 @@ before = within 1000 before_push
 abbrev add_event : Edit
 add_event = Add (Event (codes "e") (codes "push"))
 
-event_reads : line_of (words (codes "event e push")) ≡ Some (Change add_event)
+event_reads : line_of One (words (codes "event e push")) ≡ Some (Change add_event)
 unfolding words line_of edit_of premise_of two_names_of
 event_reads = refl
 
@@ -125,7 +126,7 @@ pushed = within 1000 push
 abbrev is_open : Query
 is_open = Ask (codes "open") (Declared (Begin (codes "e"))) (Declared (Begin (codes "e")))
 
-is_open_reads : line_of (words (codes "ask open e e")) ≡ Some (Question is_open)
+is_open_reads : line_of One (words (codes "ask open e e")) ≡ Some (Question is_open)
 unfolding words line_of edit_of premise_of query_of ask_of two_points_of query_point_of point_of parts
 is_open_reads = refl
 
@@ -145,7 +146,7 @@ open_at_push = (
 abbrev stays_open : Query
 stays_open = Ask (codes "open") (Declared (Begin (codes "e"))) (Derived (occ (codes "e") (codes "r" ∷ [])))
 
-stays_open_reads : line_of (words (codes "ask open e e/r")) ≡ Some (Question stays_open)
+stays_open_reads : line_of One (words (codes "ask open e e/r")) ≡ Some (Question stays_open)
 unfolding words line_of edit_of premise_of query_of ask_of two_points_of query_point_of point_of occ_of parts
 stays_open_reads = refl
 
@@ -165,7 +166,7 @@ not_open_after = (
 abbrev add_token : Edit
 add_token = Add (Token (codes "t") (codes "h"))
 
-token_reads : line_of (words (codes "token t h")) ≡ Some (Change add_token)
+token_reads : line_of One (words (codes "token t h")) ≡ Some (Change add_token)
 unfolding words line_of edit_of premise_of two_names_of
 token_reads = refl
 
@@ -179,16 +180,16 @@ unknown_fact = (
 )
 
 -- line 11: point
-no_reading : line_of (words (codes "point")) ≡ None
+no_reading : line_of One (words (codes "point")) ≡ None
 unfolding words line_of query_of edit_of premise_of name_alone_of
 no_reading = refl
 
 no_form : Step pushed 11 (codes "point") (refused (codes "11 no form\n")) pushed
 unfolding digits
-no_form = (Refused Form, for_form (omega arith) (λ l. line_of-none (words (codes "point")) l no_reading) refl refl, refl, refl)
+no_form = (Refused Form, for_form (omega arith) (λ l. line_of-none One (words (codes "point")) l no_reading) refl refl, refl, refl)
 
 -- line 12: # x
-comment_reads : line_of (words (codes "# x")) ≡ Some Silent
+comment_reads : line_of One (words (codes "# x")) ≡ Some Silent
 unfolding words line_of
 comment_reads = refl
 
@@ -203,7 +204,7 @@ late = Dist (codes "y") (Begin (codes "k")) (Begin (codes "e")) (Finite (pos 11)
 abbrev add_dist : Edit
 add_dist = Add late
 
-dist_reads : line_of (words (codes "dist y k e 11 *")) ≡ Some (Change add_dist)
+dist_reads : line_of One (words (codes "dist y k e 11 *")) ≡ Some (Change add_dist)
 unfolding words line_of edit_of premise_of dist_of point_of bound_of number_of natural_of digits_on
 dist_reads = refl
 

@@ -1,3 +1,4 @@
+pub mod LineFacts
 pub mod LineForms
 pub mod LineNumbers
 pub mod LinePoints

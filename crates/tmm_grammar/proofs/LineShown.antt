@@ -17,10 +17,11 @@ use Rattle.tmm_model.specs.declared.point.PointName.TheVariants.{Start, Begin, E
 use Rattle.tmm_model.specs.declared.premise.Premise.{Premise}
 use Rattle.tmm_model.specs.declared.premise.Premise.TheVariants.{Class, Kind, Point, Event, Token, Span, Dist, Rule, Protect}
 use Rattle.tmm_model.specs.declared.premise.Edit.TheVariants.{Add}
+use Rattle.tmm_model.specs.declared.version.Version.{Version}
 use Rattle.tmm_model.specs.declared.line.Line.TheVariants.{Change}
 use Rattle.tmm_model.specs.Names.{is_letter, is_name_byte, is_name}
 use Rattle.tmm_model.specs.Points.{point_word}
-use Rattle.tmm_model.specs.Lines.{is_blank, IsName, AreNames, number_word, bound_word, IsNumber, IsBound, IsWellFormedPoint, IsWellFormedPremise, given_words, behind_spaces, spaced, shown, shown_text, ReadsLine}
+use Rattle.tmm_model.specs.Lines.{is_blank, IsName, AreNames, number_word, bound_word, IsNumber, IsBound, IsWellFormedPoint, IsWellFormedPremise, IsOfVersion, facts_words, behind_spaces, spaced, shown, shown_text, ReadsLine}
 use Rattle.tmm_grammar.specs.LineCuts.{IsWord}
 use Rattle.tmm_grammar.proofs.LinePoints.{name_bytes, no_blank}
 use Rattle.tmm_grammar.proofs.LineWords.{words-spaced}
@@ -60,9 +61,13 @@ bound_is_word : (b : Bound) → IsBound b → IsWord (bound_word b)
 bound_is_word (Finite z) h = number_is_word z h
 bound_is_word Free h = ((λ e. cc), refl)
 
-given_are_words : (fs : List (List ℕ)) → AreNames fs → AllByRecursion IsWord (given_words fs)
-given_are_words [] h = tt
-given_are_words (f ∷ fs) h = (((λ e. cc), refl), names_are_words (f ∷ fs) h)
+facts_are_words : (word : List ℕ) → IsWord word → (fs : List (List ℕ)) → AreNames fs → AllByRecursion IsWord (facts_words word fs)
+facts_are_words word is [] h = tt
+facts_are_words word is (f ∷ fs) h = (is, names_are_words (f ∷ fs) h)
+
+all_words : (ws vs : List (List ℕ)) → AllByRecursion IsWord ws → AllByRecursion IsWord vs → AllByRecursion IsWord (ws ++ vs)
+all_words [] vs h k = k
+all_words (w ∷ ws) vs h k = (h.0, all_words ws vs h.1 k)
 
 shown_are_words : (p : Premise) → IsWellFormedPremise p → AllByRecursion IsWord (shown p)
 shown_are_words (Class n fs) h = (((λ e. cc), refl), (name_is_word n h.0, names_are_words fs.items h.1))
@@ -72,8 +77,11 @@ shown_are_words (Event n k) h = (((λ e. cc), refl), (name_is_word n h.0, (name_
 shown_are_words (Token n k) h = (((λ e. cc), refl), (name_is_word n h.0, (name_is_word k h.1, tt)))
 shown_are_words (Span n k) h = (((λ e. cc), refl), (name_is_word n h.0, (name_is_word k h.1, tt)))
 shown_are_words (Dist n p q lo hi) h = (((λ e. cc), refl), (name_is_word n h.0, (point_is_word p h.1, (point_is_word q h.2, (bound_is_word lo h.3, (bound_is_word hi h.4, tt))))))
-shown_are_words (Rule n t lo hi x given) h =
-    (((λ e. cc), refl), (name_is_word n h.0, (name_is_word t h.1, (number_is_word lo h.2, (bound_is_word hi h.3, (name_is_word x h.6, given_are_words given.items h.7))))))
+shown_are_words (Rule n t lo hi x given unless_facts) h =
+    let conditions =
+    all_words (facts_words (codes "if") given.items) (facts_words (codes "unless") unless_facts.items)
+    (facts_are_words (codes "if") ((λ e. cc), refl) given.items h.7) (facts_are_words (codes "unless") ((λ e. cc), refl) unless_facts.items h.9) in
+    (((λ e. cc), refl), (name_is_word n h.0, (name_is_word t h.1, (number_is_word lo h.2, (bound_is_word hi h.3, (name_is_word x h.6, conditions))))))
 shown_are_words (Protect n f p q) h = (((λ e. cc), refl), (name_is_word n h.0, (name_is_word f h.1, (point_is_word p h.2, (point_is_word q h.3, tt)))))
 
 -- how long words are
@@ -114,23 +122,28 @@ unfolding AreShort
 names_short [] h = tt
 names_short (n ∷ ns) h = let k = and_parts (is_name n) (list_all is_name ns) h in (omega (arith, name_length n k.0), names_short ns k.1)
 
-given_short : (ns : List (List ℕ)) → AreNames ns → AreShort (given_words ns)
+facts_short : (word : List ℕ) → length word ≤ 28 → (ns : List (List ℕ)) → AreNames ns → AreShort (facts_words word ns)
 unfolding AreShort
-given_short [] h = tt
-given_short (n ∷ ns) h = (omega arith, names_short (n ∷ ns) h)
+facts_short word few [] h = tt
+facts_short word few (n ∷ ns) h = (few, names_short (n ∷ ns) h)
 
-length-given : (ns : List (List ℕ)) → length (given_words ns) ≤ suc (length ns)
-length-given [] = omega arith
-length-given (n ∷ ns) = omega arith
+all_short : (ws vs : List (List ℕ)) → AreShort ws → AreShort vs → AreShort (ws ++ vs)
+unfolding AreShort
+all_short [] vs h k = k
+all_short (w ∷ ws) vs h k = (h.0, all_short ws vs h.1 k)
 
-short_line : (k : List ℕ) (ws : List (List ℕ)) → length k ≤ 7 → AreShort ws → length ws ≤ 10 → length (spaced (k ∷ ws)) ≤ 300
+length-facts : (word : List ℕ) (ns : List (List ℕ)) → length (facts_words word ns) ≤ suc (length ns)
+length-facts word [] = omega arith
+length-facts word (n ∷ ns) = omega arith
+
+short_line : (k : List ℕ) (ws : List (List ℕ)) → length k ≤ 7 → AreShort ws → length ws ≤ 13 → length (spaced (k ∷ ws)) ≤ 390
 short_line k ws first h few = omega (arith, length-append k (behind_spaces ws), length-behind ws h)
 
-two_short : (k n m : List ℕ) → length k ≤ 7 → IsName n → IsName m → length (spaced (k ∷ n ∷ m ∷ [])) ≤ 300
+two_short : (k n m : List ℕ) → length k ≤ 7 → IsName n → IsName m → length (spaced (k ∷ n ∷ m ∷ [])) ≤ 390
 unfolding AreShort
 two_short k n m first h j = short_line k (n ∷ m ∷ []) first (omega (arith, name_length n h), (omega (arith, name_length m j), tt)) (omega arith)
 
-pub shown_short : (p : Premise) → IsWellFormedPremise p → length (shown_text p) ≤ 300
+pub shown_short : (p : Premise) → IsWellFormedPremise p → length (shown_text p) ≤ 390
 unfolding AreShort
 shown_short (Class n fs) h = short_line (codes "class") (n ∷ fs.items) (omega arith) (omega (arith, name_length n h.0), names_short fs.items h.1) (omega (arith, h.3))
 shown_short (Kind n) h = short_line (codes "kind") (n ∷ []) (omega arith) (omega (arith, name_length n h), tt) (omega arith)
@@ -142,14 +155,30 @@ shown_short (Dist n p q lo hi) h =
     short_line (codes "dist") (n ∷ point_word p ∷ point_word q ∷ bound_word lo ∷ bound_word hi ∷ []) (omega arith)
     (omega (arith, name_length n h.0), (point_length p h.1, (point_length q h.2, (omega (arith, bound_length lo h.3), (omega (arith, bound_length hi h.4), tt)))))
     (omega arith)
-shown_short (Rule n t lo hi x given) h =
-    short_line (codes "rule") (n ∷ t ∷ number_word lo ∷ bound_word hi ∷ x ∷ given_words given.items) (omega arith)
-    (omega (arith, name_length n h.0), (omega (arith, name_length t h.1), (omega (arith, number_length lo h.2), (omega (arith, bound_length hi h.3), (omega (arith, name_length x h.6), given_short given.items h.7)))))
-    (omega (arith, length-given given.items, h.8))
+shown_short (Rule n t lo hi x given unless_facts) h =
+    let given_words = facts_words (codes "if") given.items in
+    let exception_words = facts_words (codes "unless") unless_facts.items in
+    short_line (codes "rule") (n ∷ t ∷ number_word lo ∷ bound_word hi ∷ x ∷ given_words ++ exception_words) (omega arith) (
+      omega (arith, name_length n h.0),
+      (
+        omega (arith, name_length t h.1),
+        (
+          omega (arith, number_length lo h.2),
+          (
+            omega (arith, bound_length hi h.3),
+            (
+              omega (arith, name_length x h.6),
+              all_short given_words exception_words (facts_short (codes "if") (omega arith) given.items h.7) (facts_short (codes "unless") (omega arith) unless_facts.items h.9),
+            ),
+          ),
+        ),
+      ),
+    )
+    (omega (arith, length-append given_words exception_words, length-facts (codes "if") given.items, length-facts (codes "unless") unless_facts.items, h.8, h.10))
 shown_short (Protect n f p q) h =
     short_line (codes "protect") (n ∷ f ∷ point_word p ∷ point_word q ∷ []) (omega arith)
     (omega (arith, name_length n h.0), (omega (arith, name_length f h.1), (point_length p h.2, (point_length q h.3, tt))))
     (omega arith)
 
-pub shown_reads : (p : Premise) → IsWellFormedPremise p → (length (shown_text p) ≤ 400) × ReadsLine (shown_text p) (Change (Add p))
-shown_reads p h = (omega (arith, shown_short p h), (words-spaced (shown p) (shown_are_words p h), h))
+pub shown_reads : (p : Premise) → IsWellFormedPremise p → (length (shown_text p) ≤ 400) × ((version : Version) → IsOfVersion version p → ReadsLine version (shown_text p) (Change (Add p)))
+shown_reads p h = (omega (arith, shown_short p h), λ version of_version. (words-spaced (shown p) (shown_are_words p h), h, of_version))

@@ -1,5 +1,5 @@
--- The grammar of a script line as a function from words, which code follows word by word. It gives the
--- values for which `Reads` holds, with no room in their lists.
+-- The grammar of a script line as a function from words, which code follows word by word. In each version it
+-- gives the values for which `Reads` holds, with no room in their lists.
 use Rattle.std.specs.Prelude.{ℕ, zero, suc, ◌+◌, ◌-◌, ◌*◌, ℤ, pos, negsuc, int_le, Bool, true, false, cond, ◌&&◌, ◌==◌, nat_le, List, [], ◌∷◌, length, take, drop, Option, Some, None, option_map, codes}
 use Rattle.std.specs.List.{list_all, list_any, slice_split}
 use Rattle.std.specs.Option.{option_or}
@@ -14,14 +14,16 @@ use Rattle.tmm_model.specs.declared.point.QueryPoint.TheVariants.{Declared, Deri
 use Rattle.tmm_model.specs.declared.premise.Premise.{Premise}
 use Rattle.tmm_model.specs.declared.premise.Premise.TheVariants.{Class, Kind, Point, Event, Token, Span, Dist, Rule, Protect}
 use Rattle.tmm_model.specs.declared.premise.Edit.{Edit}
-use Rattle.tmm_model.specs.declared.premise.Edit.TheVariants.{Add, Erase, Horizon}
+use Rattle.tmm_model.specs.declared.premise.Edit.TheVariants.{Add, Erase, Horizon, Upgrade}
+use Rattle.tmm_model.specs.declared.version.Version.{Version}
+use Rattle.tmm_model.specs.declared.version.Version.TheVariants.{One, Two}
 use Rattle.tmm_model.specs.declared.line.Query.{Query}
 use Rattle.tmm_model.specs.declared.line.Query.TheVariants.{Bounds, Path, Ask, Why, Check, List as Listing, Dump, Audit, Size}
 use Rattle.tmm_model.specs.declared.line.Line.{Line}
 use Rattle.tmm_model.specs.declared.line.Line.TheVariants.{Silent, Change, Question}
 use Rattle.tmm_model.specs.Names.{is_name}
 use Rattle.tmm_model.specs.Points.{same_name}
-use Rattle.tmm_model.specs.Lines.{is_comment}
+use Rattle.tmm_model.specs.Lines.{is_comment, is_unless}
 
 infixl 10 ◌>>=◌
 -- what is read next, where something was read
@@ -150,15 +152,38 @@ unfoldable pub dist_of : List (List ℕ) → Option Premise
 dist_of ws = both name_of (both point_of (both point_of (both bound_of (alone bound_of)))) ws
     >>= λ t. passing (is_range t.1.1.1.0 t.1.1.1.1) (Dist t.0 t.1.0 t.1.1.0 t.1.1.1.0 t.1.1.1.1)
 
--- nothing, or `if` and 1 to 4 facts
-unfoldable pub given_of : List (List ℕ) → Option (List (List ℕ))
-given_of [] = Some []
-given_of (w ∷ ws) = cond (same_name w (codes "if")) (names_of 4 ws >>= λ facts. passing (nat_le 1 (length facts)) facts) None
+-- nothing, or a word and 1 to n facts
+unfoldable pub facts_of : List ℕ → ℕ → List (List ℕ) → Option (List (List ℕ))
+facts_of word n [] = Some []
+facts_of word n (w ∷ ws) = cond (same_name w word) (names_of n ws >>= λ facts. passing (nat_le 1 (length facts)) facts) None
 
--- a name, a kind, a delay of at least 1 and a bound that is no less, an effect, and antecedents
-unfoldable pub rule_of : List (List ℕ) → Option Premise
-rule_of ws = both name_of (both name_of (both number_of (both bound_of (both name_of given_of)))) ws
-    >>= λ t. passing (int_le (pos 1) t.1.1.0 && is_range (Finite t.1.1.0) t.1.1.1.0) (Rule t.0 t.1.0 t.1.1.0 t.1.1.1.0 t.1.1.1.1.0 (record { items = t.1.1.1.1.1 }))
+-- whether antecedents end at the word: in version 2 they end at `unless`
+abbrev pub ends_given : Version → List ℕ → Bool
+ends_given One w = false
+ends_given Two w = is_unless w
+
+-- the words before the first at which antecedents end
+unfoldable pub given_part : Version → List (List ℕ) → List (List ℕ)
+given_part version [] = []
+given_part version (w ∷ ws) = cond (ends_given version w) [] (w ∷ given_part version ws)
+
+-- this word, and those behind it
+unfoldable pub exception_part : Version → List (List ℕ) → List (List ℕ)
+exception_part version [] = []
+exception_part version (w ∷ ws) = cond (ends_given version w) (w ∷ ws) (exception_part version ws)
+
+-- antecedents with the exceptions that these words tell
+abbrev pub with_exceptions : List (List ℕ) → List (List ℕ) → Option (List (List ℕ) × List (List ℕ))
+with_exceptions ws given = facts_of (codes "unless") 2 ws >>= λ exceptions. Some (given, exceptions)
+
+-- antecedents and exceptions
+unfoldable pub conditions_of : Version → List (List ℕ) → Option (List (List ℕ) × List (List ℕ))
+conditions_of version ws = facts_of (codes "if") 4 (given_part version ws) >>= with_exceptions (exception_part version ws)
+
+-- a name, a kind, a delay of at least 1 and a bound that is no less, an effect, antecedents and exceptions
+unfoldable pub rule_of : Version → List (List ℕ) → Option Premise
+rule_of version ws = both name_of (both name_of (both number_of (both bound_of (both name_of (conditions_of version))))) ws
+    >>= λ t. passing (int_le (pos 1) t.1.1.0 && is_range (Finite t.1.1.0) t.1.1.1.0) (Rule t.0 t.1.0 t.1.1.0 t.1.1.1.0 t.1.1.1.1.0 (record { items = t.1.1.1.1.1.0 }) (record { items = t.1.1.1.1.1.1 }))
 
 -- a name, a fact and two points
 unfoldable pub protect_of : List (List ℕ) → Option Premise
@@ -183,8 +208,8 @@ ask_of ws = option_map (λ t. Ask t.0 t.1.0 t.1.1) (both name_of two_points_of w
 -- ---- the first word and the words behind it
 
 -- a premise by its first word
-unfoldable pub premise_of : List ℕ → List (List ℕ) → Option Premise
-premise_of w ws =
+unfoldable pub premise_of : Version → List ℕ → List (List ℕ) → Option Premise
+premise_of version w ws =
     cond (same_name w (codes "class")) (class_of ws)
     (cond (same_name w (codes "kind")) (option_map Kind (name_alone_of ws))
     (cond (same_name w (codes "point")) (option_map Point (name_alone_of ws))
@@ -192,15 +217,25 @@ premise_of w ws =
     (cond (same_name w (codes "token")) (option_map (λ p. Token p.0 p.1) (two_names_of ws))
     (cond (same_name w (codes "span")) (option_map (λ p. Span p.0 p.1) (two_names_of ws))
     (cond (same_name w (codes "dist")) (dist_of ws)
-    (cond (same_name w (codes "rule")) (rule_of ws)
+    (cond (same_name w (codes "rule")) (rule_of version ws)
     (cond (same_name w (codes "protect")) (protect_of ws) None))))))))
 
+-- the word `2`
+abbrev pub two_of : List ℕ → Option Edit
+two_of w = passing (same_name w (codes "2")) Upgrade
+
+-- version 1 opens version 2, by the word `2`
+unfoldable pub upgrade_of : Version → List (List ℕ) → Option Edit
+upgrade_of One ws = alone two_of ws
+upgrade_of Two ws = None
+
 -- an edit by its first word
-unfoldable pub edit_of : List ℕ → List (List ℕ) → Option Edit
-edit_of w ws =
+unfoldable pub edit_of : Version → List ℕ → List (List ℕ) → Option Edit
+edit_of version w ws =
     cond (same_name w (codes "erase")) (option_map Erase (name_alone_of ws))
     (cond (same_name w (codes "horizon")) (option_map Horizon (alone horizon_of ws))
-    (option_map Add (premise_of w ws)))
+    (cond (same_name w (codes "tmm")) (upgrade_of version ws)
+    (option_map Add (premise_of version w ws))))
 
 -- a question by its first word
 unfoldable pub query_of : List ℕ → List (List ℕ) → Option Query
@@ -216,6 +251,6 @@ query_of w ws =
     (cond (same_name w (codes "size")) (ended Size ws) None))))))))
 
 -- nothing, a comment, an edit or a question
-unfoldable pub line_of : List (List ℕ) → Option Line
-line_of [] = Some Silent
-line_of (w ∷ ws) = cond (is_comment w) (Some Silent) (option_or (option_map Change (edit_of w ws)) (option_map Question (query_of w ws)))
+unfoldable pub line_of : Version → List (List ℕ) → Option Line
+line_of version [] = Some Silent
+line_of version (w ∷ ws) = cond (is_comment w) (Some Silent) (option_or (option_map Change (edit_of version w ws)) (option_map Question (query_of w ws)))

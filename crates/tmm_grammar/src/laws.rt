@@ -6,12 +6,13 @@ pub fn words_are_one()
     ensures { WordsAreOne }
 {}
 
-/// Words read as at most one thing.
+/// In a version words read as at most one thing.
 pub fn reading_is_one()
     ensures { ReadingIsOne }
 {}
 
-/// The line that shows a well-formed premise has at most 400 bytes and reads as this premise.
+/// The line that shows a well-formed premise has at most 400 bytes, and reads as this premise in each version
+/// in which it is well formed.
 pub fn shown_premise_reads()
     ensures { ShownReads }
 {}

@@ -101,7 +101,7 @@ module _ (s : Standing) (sound : IsSound s) where
       (In-from_Contains (arcs_of (Dist name from to lo hi)) a.first a.own) (In-from_Contains (arcs_of (Dist name from to lo hi)) b.first b.own)
   by_kind (Class name facts) wf (inr none) may x y a b = absurd (In-from_Contains [] a.first a.own)
   by_kind (Kind name) wf (inr none) may x y a b = absurd (In-from_Contains [] a.first a.own)
-  by_kind (Rule name trigger lo hi effect given) wf (inr none) may x y a b = absurd (In-from_Contains [] a.first a.own)
+  by_kind (Rule name trigger lo hi effect given unless_facts) wf (inr none) may x y a b = absurd (In-from_Contains [] a.first a.own)
   by_kind (Protect name fact from to) wf (inr none) may x y a b = absurd (In-from_Contains [] a.first a.own)
   by_kind (Point name) wf (inr none) may x y a b = cc
   by_kind (Event name kind) wf (inr none) may x y a b = cc

@@ -61,7 +61,7 @@ module _ (premises : List Premise) where
       declares (Class name facts) there p none = absurd none
       declares (Kind name) there p none = absurd none
       declares (Dist name from to lo hi) there p none = absurd none
-      declares (Rule name trigger lo hi effect given) there p none = absurd none
+      declares (Rule name trigger lo hi effect given unless_facts) there p none = absurd none
       declares (Protect name fact from to) there p none = absurd none
 
       from_start : In p (points_in premises) → HasWayBack p

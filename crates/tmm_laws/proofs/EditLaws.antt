@@ -12,14 +12,17 @@ use Rattle.tmm_model.specs.declared.premise.Edit.{Edit}
 use Rattle.tmm_model.specs.declared.premise.Edit.TheVariants.{Add, Erase, Horizon}
 use Rattle.tmm_model.specs.declared.premise.Premise.{Premise}
 use Rattle.tmm_model.specs.declared.token.TokenRow.{TokenRow}
+use Rattle.tmm_model.specs.declared.version.Version.{Version}
+use Rattle.tmm_model.specs.declared.version.Version.TheVariants.{One}
 use Rattle.tmm_model.specs.Beliefs.{rules_at, token_of}
+use Rattle.tmm_model.specs.Answers.{size, most_size}
 use Rattle.belief_theory.specs.Outcomes.{outcome}
-use Rattle.tmm_laws.specs.EditLaws.{AcceptsAll, dump_edits, ReadsBack, GrowsSmall}
-use Rattle.tmm_model.specs.Edits.{next_list}
+use Rattle.tmm_laws.specs.EditLaws.{AcceptsAll, version_edits, dump_edits, ReadsBack, AllReadBack, GrowsSmall}
+use Rattle.tmm_model.specs.Edits.{next_list, list_with}
 use Rattle.tmm_model.specs.Erasure.{falls, kept_after}
 use Rattle.belief_theory.specs.KeptLists.{IsKept}
 use Rattle.tmm_model.specs.Kept.{IsAccepted}
-use Rattle.tmm_model.specs.Lines.{IsWellFormedPremise, edit_words, spaced, words, ReadsLine}
+use Rattle.tmm_model.specs.Lines.{IsWellFormedPremise, IsOfVersion, edit_words, spaced, words, ReadsLine}
 use Rattle.tmm_model.specs.Maps.{built, believed_tokens}
 use Rattle.tmm_model.specs.Moments.{Moment, as_rule, rule_of}
 use Rattle.list_theory.specs.WellNamed.{IsSound, Follows, AllFollow}
@@ -45,7 +48,7 @@ use Rattle.list_theory.proofs.WellNamed.{AllFollow-append}
 
 -- a list with some of the premises, from the first on
 abbrev first_of : Standing → List Premise → Standing
-first_of s front = record { horizon = s.horizon; premises = front }
+first_of s front = record { version = One; horizon = s.horizon; premises = front }
 
 fewer_arcs : (front back : List Premise) → IsConsistent (front ++ back) → IsConsistent front
 fewer_arcs front back dates =
@@ -75,6 +78,9 @@ may_add front p follows few room =
     λ i. option_or (names i) (option_or (uses i) (option_or (premises i) (points i)))
 
 module _ (s : Standing) (kept : IsKept s) (small : GrowsSmall s) where
+  grows : (front back : List Premise) → s.premises ≡ front ++ back → size (built (first_of s front)) ≤ most_size
+  grows front back parted = subst (λ v. size (built (record { version = v; horizon = s.horizon; premises = front })) ≤ most_size) kept.first_version (small front back parted)
+
   accepted : (front : List Premise) (p : Premise) (back : List Premise) → s.premises ≡ front ++ p ∷ back → IsAccepted (first_of s front) (Add p)
   accepted front p back parted =
       let again : s.premises ≡ (front ++ p ∷ []) ++ back = parted ∙ sym (append_assoc front (p ∷ []) back) in
@@ -85,7 +91,7 @@ module _ (s : Standing) (kept : IsKept s) (small : GrowsSmall s) where
       record {
         no_cause = may_add front p follows few room;
         dates = fewer_arcs (front ++ p ∷ []) back (subst IsConsistent again kept.sound.dates);
-        small = small (front ++ p ∷ []) back again;
+        small = grows (front ++ p ∷ []) back again;
       }
     where
       next : (a b : ℕ) → a + suc b ≡ a + (1 + b)
@@ -98,12 +104,12 @@ module _ (s : Standing) (kept : IsKept s) (small : GrowsSmall s) where
       under a b h g = omega arith
 
   adds_all : (front back : List Premise) → s.premises ≡ front ++ back → AcceptsAll (first_of s front) (map Add back) s
-  adds_all front [] parted = λ i. record { horizon = s.horizon; premises = (parted ∙ append-nil front) i }
+  adds_all front [] parted = λ i. record { version = kept.first_version i; horizon = s.horizon; premises = (parted ∙ append-nil front) i }
   adds_all front (p ∷ back) parted = (accepted front p back parted, adds_all (front ++ p ∷ []) back (parted ∙ sym (append_assoc front (p ∷ []) back)))
 
-  reloads : AcceptsAll empty_list (dump_edits s) s
+  reloads : AcceptsAll empty_list (Horizon s.horizon ∷ map Add s.premises) s
   reloads = (
-    record { no_cause = refl; dates = HasDates-nil Start; small = small [] s.premises refl },
+    record { no_cause = refl; dates = HasDates-nil Start; small = grows [] s.premises refl },
     adds_all [] s.premises refl,
   )
 
@@ -111,21 +117,25 @@ behind_blanks : (line : List ℕ) → words (32 ∷ 32 ∷ line) ≡ words line
 unfolding words
 behind_blanks line = refl
 
-reads_behind : (line : List ℕ) (edit : Edit) → ReadsLine line (Change edit) → ReadsLine (32 ∷ 32 ∷ line) (Change edit)
-reads_behind line edit h = (behind_blanks line ∙ h.0, h.1)
+reads_behind : (version : Version) (line : List ℕ) (edit : Edit) → ReadsLine version line (Change edit) → ReadsLine version (32 ∷ 32 ∷ line) (Change edit)
+reads_behind version line edit h = (behind_blanks line ∙ h.0, h.1, h.2)
 
-horizon_reads : (n : ℕ) → n ≤ 100000 → ReadsLine (spaced (edit_words (Horizon n))) (Change (Horizon n))
-horizon_reads n h = (words-spaced (edit_words (Horizon n)) (((λ e. cc), refl), (decimal_is_word n (omega arith), tt)), h)
+horizon_reads : (version : Version) (n : ℕ) → n ≤ 100000 → ReadsLine version (spaced (edit_words (Horizon n))) (Change (Horizon n))
+horizon_reads version n h = (words-spaced (edit_words (Horizon n)) (((λ e. cc), refl), (decimal_is_word n (omega arith), tt)), h, tt)
 
 -- a line of a dump, from the line without blanks before it
-tells : (edit : Edit) → length (spaced (edit_words edit)) ≤ 300 → ReadsLine (spaced (edit_words edit)) (Change edit) → ReadsBack edit
-tells edit short reads = (omega (arith, short), reads_behind (spaced (edit_words edit)) edit reads)
+tells : (version : Version) (edit : Edit) → length (spaced (edit_words edit)) ≤ 390 → ReadsLine version (spaced (edit_words edit)) (Change edit) → ReadsBack version edit
+tells version edit short reads = (omega (arith, short), reads_behind version (spaced (edit_words edit)) edit reads)
 
-premises_tell : (ps : List Premise) → AllByRecursion IsWellFormedPremise ps → AllByRecursion ReadsBack (map Add ps)
-premises_tell [] h = tt
-premises_tell (p ∷ ps) h = (tells (Add p) (shown_short p h.0) (shown_reads p h.0).1, premises_tell ps h.1)
+-- what a premise is in the version
+abbrev IsFormedIn : Version → Premise → Type 0
+IsFormedIn version p = IsWellFormedPremise p × IsOfVersion version p
 
-horizon_short : (n : ℕ) → n ≤ 100000 → length (spaced (edit_words (Horizon n))) ≤ 300
+premises_tell : (s : Standing) (ps : List Premise) → AllByRecursion (IsFormedIn s.version) ps → AllReadBack s (map Add ps)
+premises_tell s [] h = tt
+premises_tell s (p ∷ ps) h = (tells s.version (Add p) (shown_short p h.0.0) ((shown_reads p h.0.0).1 s.version h.0.1), premises_tell (list_with s p) ps h.1)
+
+horizon_short : (n : ℕ) → n ≤ 100000 → length (spaced (edit_words (Horizon n))) ≤ 390
 horizon_short n h =
     let digits : length (decimal n) ≤ 11 = number_length (pos n) (omega (arith, ints), omega (arith, ints)) in
     let all : length (codes "horizon" ++ 32 ∷ decimal n ++ []) ≡ length (codes "horizon") + length (32 ∷ decimal n ++ []) = length-append (codes "horizon") (32 ∷ decimal n ++ []) in
@@ -136,12 +146,15 @@ one_by_one F [] h = tt
 one_by_one F (p ∷ ps) h = (h p (inl refl), one_by_one F ps (λ q at. h q (inr at)))
 
 pub dump_reloads : (s : Standing) → IsKept s → GrowsSmall s
-    → AllByRecursion ReadsBack (dump_edits s)
+    → AllReadBack empty_list (dump_edits s)
     × AcceptsAll empty_list (dump_edits s) s
-dump_reloads s kept small = (
-  (
-    tells (Horizon s.horizon) (horizon_short s.horizon kept.horizon) (horizon_reads s.horizon kept.horizon),
-    premises_tell s.premises (one_by_one IsWellFormedPremise s.premises (λ p at. All-contains IsWellFormedPremise s.premises p kept.sound.well_formed (Contains-from_In s.premises p at))),
-  ),
-  reloads s kept small,
-)
+dump_reloads s kept small =
+    let one : dump_edits s ≡ Horizon s.horizon ∷ map Add s.premises = ap (λ v. version_edits v ++ Horizon s.horizon ∷ map Add s.premises) kept.first_version in
+    let formed : (p : Premise) → In p s.premises → IsFormedIn One p =
+    λ p at. (
+      All-contains IsWellFormedPremise s.premises p kept.sound.well_formed (Contains-from_In s.premises p at),
+      subst (λ v. IsOfVersion v p) kept.first_version (All-contains (IsOfVersion s.version) s.premises p kept.versioned (Contains-from_In s.premises p at)),
+    ) in
+    let read : AllReadBack empty_list (Horizon s.horizon ∷ map Add s.premises) =
+    (tells One (Horizon s.horizon) (horizon_short s.horizon kept.horizon) (horizon_reads One s.horizon kept.horizon), premises_tell (first_of s []) s.premises (one_by_one (IsFormedIn One) s.premises formed)) in
+    (subst (AllReadBack empty_list) (sym one) read, subst (λ edits. AcceptsAll empty_list edits s) (sym one) (reloads s kept small))

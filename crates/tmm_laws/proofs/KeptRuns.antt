@@ -6,7 +6,7 @@ use Rattle.tmm_model.specs.declared.premise.Edit.{Edit}
 use Rattle.tmm_model.specs.declared.turn.Turn.{Turn}
 use Rattle.tmm_model.specs.declared.turn.Turn.TheVariants.{Silent as NoReply, Reply as ReplyOf, Memory}
 use Rattle.belief_theory.specs.KeptLists.{IsKept}
-use Rattle.tmm_model.specs.Lines.{IsWellFormedEdit, ReadsLine}
+use Rattle.tmm_model.specs.Lines.{IsWellFormedEdit, IsEditOf, ReadsLine}
 use Rattle.tmm_model.specs.Replies.{Reply, Accepted, Refused, BoundsAre, PathIs, Answered, Reasons, BrokenAre, Believed, DumpIs, AuditYes, SizeIs}
 use Rattle.tmm_model.specs.Runs.{Run}
 use Rattle.tmm_model.specs.Standing.{Standing, empty_list}
@@ -17,22 +17,22 @@ use Rattle.belief_theory.proofs.StayKept.{empty_is_kept, stays_kept}
 unchanged : (old new : Standing) → IsKept old → new ≡ old → IsKept new
 unchanged old new kept same = subst IsKept (sym same) kept
 
-edit_keeps : (old new : Standing) (edit : Edit) (reply : Reply) → IsKept old → IsWellFormedEdit edit → AnswersEdit old edit reply new → IsKept new
-edit_keeps old new edit (Accepted told) kept formed (accepted, _, next) = subst IsKept (sym next) (stays_kept old edit kept formed accepted)
-edit_keeps old new edit (Refused refusal) kept formed (_, same) = unchanged old new kept same
-edit_keeps old new edit (BoundsAre lo hi) kept formed never = absurd never
-edit_keeps old new edit (PathIs hi steps) kept formed never = absurd never
-edit_keeps old new edit (Answered answer) kept formed never = absurd never
-edit_keeps old new edit (Reasons lines) kept formed never = absurd never
-edit_keeps old new edit (BrokenAre reports) kept formed never = absurd never
-edit_keeps old new edit (Believed rows) kept formed never = absurd never
-edit_keeps old new edit (DumpIs horizon premises) kept formed never = absurd never
-edit_keeps old new edit AuditYes kept formed never = absurd never
-edit_keeps old new edit (SizeIs n) kept formed never = absurd never
+edit_keeps : (old new : Standing) (edit : Edit) (reply : Reply) → IsKept old → IsWellFormedEdit edit → IsEditOf old.version edit → AnswersEdit old edit reply new → IsKept new
+edit_keeps old new edit (Accepted told) kept formed versioned (accepted, _, next) = subst IsKept (sym next) (stays_kept old edit kept formed versioned accepted)
+edit_keeps old new edit (Refused refusal) kept formed versioned (_, same) = unchanged old new kept same
+edit_keeps old new edit (BoundsAre lo hi) kept formed versioned never = absurd never
+edit_keeps old new edit (PathIs hi steps) kept formed versioned never = absurd never
+edit_keeps old new edit (Answered answer) kept formed versioned never = absurd never
+edit_keeps old new edit (Reasons lines) kept formed versioned never = absurd never
+edit_keeps old new edit (BrokenAre reports) kept formed versioned never = absurd never
+edit_keeps old new edit (Believed rows) kept formed versioned never = absurd never
+edit_keeps old new edit (DumpIs version horizon premises) kept formed versioned never = absurd never
+edit_keeps old new edit AuditYes kept formed versioned never = absurd never
+edit_keeps old new edit (SizeIs n) kept formed versioned never = absurd never
 
-meaning_keeps : (old new : Standing) (line : List ℕ) (meaning : Line) (reply : Reply) → IsKept old → ReadsLine line meaning → AnswersLine old meaning reply new → IsKept new
+meaning_keeps : (old new : Standing) (line : List ℕ) (meaning : Line) (reply : Reply) → IsKept old → ReadsLine old.version line meaning → AnswersLine old meaning reply new → IsKept new
 meaning_keeps old new line Silent reply kept reads never = absurd never
-meaning_keeps old new line (Change edit) reply kept reads answers = edit_keeps old new edit reply kept reads.1 answers
+meaning_keeps old new line (Change edit) reply kept reads answers = edit_keeps old new edit reply kept reads.1 reads.2 answers
 meaning_keeps old new line (Question query) reply kept reads answers = unchanged old new kept answers.1
 
 answer_keeps : (old new : Standing) (line : List ℕ) (reply : Reply) → IsKept old → LineAnswers old line reply new → IsKept new

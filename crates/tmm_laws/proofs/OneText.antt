@@ -36,11 +36,12 @@ use Rattle.tmm_model.specs.Maps.{TimeMap, built, gap}
 use Rattle.tmm_model.specs.Moments.{Moment, printed, moment_of, moment_of_point}
 use Rattle.tmm_model.specs.Points.{occ_word, query_word}
 use Rattle.tmm_model.specs.Questions.{point_cause, query_cause}
-use Rattle.tmm_model.specs.Replies.{Reply, Accepted, Refused, BoundsAre, PathIs, Answered, Reasons, BrokenAre, Believed, DumpIs, AuditYes, SizeIs, text_of, line_of, head_line, two, four, bound_word, cause_words, blame_line, more_line, blame_lines, answer_words, unordered_words, report_lines, name_line, occ_line, clip_line, change_lines, clip_words, row_line}
+use Rattle.tmm_model.specs.Replies.{Reply, Accepted, Refused, BoundsAre, PathIs, Answered, Reasons, BrokenAre, Believed, DumpIs, AuditYes, SizeIs, text_of, line_of, opening_lines, head_line, two, four, bound_word, cause_words, blame_line, more_line, blame_lines, answer_words, unordered_words, report_lines, name_line, occ_line, clip_line, change_lines, clip_words, row_line}
 use Rattle.tmm_model.specs.Sorts.{is_fact, sort_in}
 use Rattle.tmm_model.specs.Standing.{Standing, IsConsistent}
 use Rattle.tmm_model.specs.Transcript.{AnswersEdit, AnswersQuery, AnswersLine, RefusesEdit, LineAnswers, for_length, for_form, for_meaning}
-use Rattle.tmm_model.specs.Verdicts.{Cause, taken, unknown, ill_sorted, too_many_premises, too_many_points, list_cause, name_cause, Tells}
+use Rattle.tmm_model.specs.declared.version.Version.{Version}
+use Rattle.tmm_model.specs.Verdicts.{Cause, out_of_form, taken, unknown, ill_sorted, too_many_premises, too_many_points, list_cause, name_cause, Tells}
 use Rattle.tmm_grammar.proofs.LineForms.{one_reading}
 use Rattle.belief_theory.proofs.Moments.{printed-moment_of}
 use Rattle.tmm_laws.specs.OneText.{shows_walk}
@@ -52,7 +53,6 @@ data Said : Type 0 where
   made : Delta → Said
   caused : Cause → Said
   too_long : Said
-  ill_formed : Said
   looped : Said
   oversized : Said
   bounded : Bound → Bound → Said
@@ -61,13 +61,13 @@ data Said : Type 0 where
   reasoned : Said
   broken : List (List ℕ × Finding) → Said
   listed : List Row → Said
-  dumped : ℕ → List (List ℕ) → Said
+  dumped : Version → ℕ → List (List ℕ) → Said
   audited : Said
   sized : ℕ → Said
 
 abbrev said_no : Refusal → Said
 said_no LimitLine = too_long
-said_no Form = ill_formed
+said_no Form = caused out_of_form
 said_no (Taken word) = caused (taken (query_word word))
 said_no (Unknown word) = caused (unknown (query_word word))
 said_no (Sort word) = caused (ill_sorted (query_word word))
@@ -85,7 +85,7 @@ said (Answered answer) = found (finding_of answer)
 said (Reasons lines) = reasoned
 said (BrokenAre rs) = broken (map report_of rs)
 said (Believed rs) = listed (map row_of rs)
-said (DumpIs horizon premises) = dumped horizon premises
+said (DumpIs version horizon premises) = dumped version horizon premises
 said AuditYes = audited
 said (SizeIs n) = sized n
 
@@ -141,6 +141,7 @@ abbrev row_text : Row → List ℕ
 row_text r = line_of two (signed_decimal r.date ∷ printed r.occ ∷ r.what ∷ clip_text r.clip)
 
 abbrev cause_text : Cause → List (List ℕ)
+cause_text out_of_form = codes "form" ∷ []
 cause_text (taken w) = codes "taken" ∷ w ∷ []
 cause_text (unknown w) = codes "unknown" ∷ w ∷ []
 cause_text (ill_sorted w) = codes "sort" ∷ w ∷ []
@@ -151,7 +152,6 @@ abbrev said_text : ℕ → Said → List ℕ
 said_text k (made d) = head_line k (codes "ok" ∷ []) ++ delta_text d
 said_text k (caused c) = head_line k (codes "no" ∷ cause_text c) ++ []
 said_text k too_long = head_line k (codes "no" ∷ codes "limit" ∷ codes "line" ∷ []) ++ []
-said_text k ill_formed = head_line k (codes "no" ∷ codes "form" ∷ []) ++ []
 said_text k looped = []
 said_text k oversized = head_line k (codes "no" ∷ codes "limit" ∷ codes "size" ∷ []) ++ []
 said_text k (bounded lo hi) = head_line k (codes "bounds" ∷ bound_word lo ∷ bound_word hi ∷ [])
@@ -160,9 +160,9 @@ said_text k (found f) = head_line k (finding_words f) ++ finding_lines two f
 said_text k reasoned = []
 said_text k (broken rs) = head_line k (codes "check" ∷ decimal (length rs) ∷ []) ++ flat_map report_text rs
 said_text k (listed rs) = head_line k (codes "list" ∷ decimal (length rs) ∷ []) ++ flat_map row_text rs
-said_text k (dumped horizon premises) =
+said_text k (dumped version horizon premises) =
     head_line k (codes "dump" ∷ decimal (length premises) ∷ [])
-    ++ line_of two (codes "horizon" ∷ decimal horizon ∷ [])
+    ++ opening_lines version horizon
     ++ flat_map (λ premise. line_of two (premise ∷ [])) premises
 said_text k audited = head_line k (codes "audit" ∷ codes "yes" ∷ [])
 said_text k (sized n) = head_line k (codes "size" ∷ decimal n ∷ [])
@@ -247,7 +247,7 @@ text_said k (BrokenAre rs) plain =
 text_said k (Believed rs) plain =
     let count : length rs ≡ length (map row_of rs) = sym (length-map rs row_of) in
     λ i. head_line k (codes "list" ∷ decimal (count i) ∷ []) ++ same_flat row_line row_text row_of row_said rs i
-text_said k (DumpIs horizon premises) plain = refl
+text_said k (DumpIs version horizon premises) plain = refl
 text_said k AuditYes plain = refl
 text_said k (SizeIs n) plain = refl
 
@@ -259,13 +259,12 @@ shows reasoned = true
 shows (made d) = false
 shows (caused c) = false
 shows too_long = false
-shows ill_formed = false
 shows oversized = false
 shows (bounded lo hi) = false
 shows (found f) = false
 shows (broken rs) = false
 shows (listed rs) = false
-shows (dumped horizon premises) = false
+shows (dumped version horizon premises) = false
 shows audited = false
 shows (sized n) = false
 
@@ -286,7 +285,7 @@ shows_said (Answered answer) = refl
 shows_said (Reasons lines) = refl
 shows_said (BrokenAre rs) = refl
 shows_said (Believed rs) = refl
-shows_said (DumpIs horizon premises) = refl
+shows_said (DumpIs version horizon premises) = refl
 shows_said AuditYes = refl
 shows_said (SizeIs n) = refl
 
@@ -302,7 +301,7 @@ why_no : (old : Standing) (edit : Edit) (r : Refusal) → RefusesEdit old edit r
 why_no old edit (Cycle sum steps) is = for_cycle is.no_cause is.no_dates refl
 why_no old edit LimitSize is = for_size is.no_cause is.dates refl
 why_no old edit LimitLine (some, told) = no_lie_at (subst IsSome (sym told) some)
-why_no old edit Form (some, told) = no_lie_at (subst IsSome (sym told) some)
+why_no old edit Form (some, told) = for_cause out_of_form (sym told) refl
 why_no old edit (Taken word) (some, told) = for_cause (taken (query_word word)) (sym told) refl
 why_no old edit (Unknown word) (some, told) = for_cause (unknown (query_word word)) (sym told) refl
 why_no old edit (Sort word) (some, told) = for_cause (ill_sorted (query_word word)) (sym told) refl
@@ -344,7 +343,7 @@ edit_verdict old new edit (Answered answer) never = absurd never
 edit_verdict old new edit (Reasons lines) never = absurd never
 edit_verdict old new edit (BrokenAre rs) never = absurd never
 edit_verdict old new edit (Believed rs) never = absurd never
-edit_verdict old new edit (DumpIs horizon premises) never = absurd never
+edit_verdict old new edit (DumpIs version horizon premises) never = absurd never
 edit_verdict old new edit AuditYes never = absurd never
 edit_verdict old new edit (SizeIs n) never = absurd never
 
@@ -364,7 +363,7 @@ answered m (Ask fact p q) = found (ask m fact (moment_of_point p) (moment_of_poi
 answered m (Why o) = reasoned
 answered m Check = broken (reports m)
 answered m Listing = listed (rows m)
-answered m Dump = dumped m.list.horizon (map shown_text m.list.premises)
+answered m Dump = dumped m.list.version m.list.horizon (map shown_text m.list.premises)
 answered m Audit = audited
 answered m Size = sized (size m)
 
@@ -377,7 +376,7 @@ refused_word : (old : Standing) (query : Query) (r : Refusal) → Tells r (query
 refused_word old query (Cycle sum steps) (some, told) = no_lie_at (subst IsSome (sym told) some)
 refused_word old query LimitSize (some, told) = no_lie_at (subst IsSome (sym told) some)
 refused_word old query LimitLine (some, told) = no_lie_at (subst IsSome (sym told) some)
-refused_word old query Form (some, told) = no_lie_at (subst IsSome (sym told) some)
+refused_word old query Form (some, told) = for_word out_of_form (sym told) refl
 refused_word old query (Taken word) (some, told) = for_word (taken (query_word word)) (sym told) refl
 refused_word old query (Unknown word) (some, told) = for_word (unknown (query_word word)) (sym told) refl
 refused_word old query (Sort word) (some, told) = for_word (ill_sorted (query_word word)) (sym told) refl
@@ -393,7 +392,7 @@ query_answer old (Bounds p q) (Answered answer) (none, never) = absurd never
 query_answer old (Bounds p q) (Reasons lines) (none, never) = absurd never
 query_answer old (Bounds p q) (BrokenAre listed_) (none, never) = absurd never
 query_answer old (Bounds p q) (Believed listed_) (none, never) = absurd never
-query_answer old (Bounds p q) (DumpIs horizon premises) (none, never) = absurd never
+query_answer old (Bounds p q) (DumpIs version horizon premises) (none, never) = absurd never
 query_answer old (Bounds p q) AuditYes (none, never) = absurd never
 query_answer old (Bounds p q) (SizeIs n) (none, never) = absurd never
 query_answer old (Path p q) (Refused refusal) tells = refused_word old (Path p q) refusal tells
@@ -404,7 +403,7 @@ query_answer old (Path p q) (Answered answer) (none, never) = absurd never
 query_answer old (Path p q) (Reasons lines) (none, never) = absurd never
 query_answer old (Path p q) (BrokenAre listed_) (none, never) = absurd never
 query_answer old (Path p q) (Believed listed_) (none, never) = absurd never
-query_answer old (Path p q) (DumpIs horizon premises) (none, never) = absurd never
+query_answer old (Path p q) (DumpIs version horizon premises) (none, never) = absurd never
 query_answer old (Path p q) AuditYes (none, never) = absurd never
 query_answer old (Path p q) (SizeIs n) (none, never) = absurd never
 query_answer old (Ask fact p q) (Refused refusal) tells = refused_word old (Ask fact p q) refusal tells
@@ -415,7 +414,7 @@ query_answer old (Ask fact p q) (Answered answer) (none, is) = plainly none (ap 
 query_answer old (Ask fact p q) (Reasons lines) (none, never) = absurd never
 query_answer old (Ask fact p q) (BrokenAre listed_) (none, never) = absurd never
 query_answer old (Ask fact p q) (Believed listed_) (none, never) = absurd never
-query_answer old (Ask fact p q) (DumpIs horizon premises) (none, never) = absurd never
+query_answer old (Ask fact p q) (DumpIs version horizon premises) (none, never) = absurd never
 query_answer old (Ask fact p q) AuditYes (none, never) = absurd never
 query_answer old (Ask fact p q) (SizeIs n) (none, never) = absurd never
 query_answer old (Why o) (Refused refusal) tells = refused_word old (Why o) refusal tells
@@ -426,7 +425,7 @@ query_answer old (Why o) (Answered answer) (none, never) = absurd never
 query_answer old (Why o) (Reasons lines) (none, is) = plainly none (refl)
 query_answer old (Why o) (BrokenAre listed_) (none, never) = absurd never
 query_answer old (Why o) (Believed listed_) (none, never) = absurd never
-query_answer old (Why o) (DumpIs horizon premises) (none, never) = absurd never
+query_answer old (Why o) (DumpIs version horizon premises) (none, never) = absurd never
 query_answer old (Why o) AuditYes (none, never) = absurd never
 query_answer old (Why o) (SizeIs n) (none, never) = absurd never
 query_answer old Check (Refused refusal) tells = refused_word old Check refusal tells
@@ -437,7 +436,7 @@ query_answer old Check (Answered answer) (none, never) = absurd never
 query_answer old Check (Reasons lines) (none, never) = absurd never
 query_answer old Check (BrokenAre listed_) (none, is) = plainly none (ap broken is)
 query_answer old Check (Believed listed_) (none, never) = absurd never
-query_answer old Check (DumpIs horizon premises) (none, never) = absurd never
+query_answer old Check (DumpIs version horizon premises) (none, never) = absurd never
 query_answer old Check AuditYes (none, never) = absurd never
 query_answer old Check (SizeIs n) (none, never) = absurd never
 query_answer old Listing (Refused refusal) tells = refused_word old Listing refusal tells
@@ -448,7 +447,7 @@ query_answer old Listing (Answered answer) (none, never) = absurd never
 query_answer old Listing (Reasons lines) (none, never) = absurd never
 query_answer old Listing (BrokenAre listed_) (none, never) = absurd never
 query_answer old Listing (Believed listed_) (none, is) = plainly none (ap listed is)
-query_answer old Listing (DumpIs horizon premises) (none, never) = absurd never
+query_answer old Listing (DumpIs version horizon premises) (none, never) = absurd never
 query_answer old Listing AuditYes (none, never) = absurd never
 query_answer old Listing (SizeIs n) (none, never) = absurd never
 query_answer old Dump (Refused refusal) tells = refused_word old Dump refusal tells
@@ -459,7 +458,7 @@ query_answer old Dump (Answered answer) (none, never) = absurd never
 query_answer old Dump (Reasons lines) (none, never) = absurd never
 query_answer old Dump (BrokenAre listed_) (none, never) = absurd never
 query_answer old Dump (Believed listed_) (none, never) = absurd never
-query_answer old Dump (DumpIs horizon premises) (none, is) = plainly none (λ i. dumped (is.0 i) (is.1 i))
+query_answer old Dump (DumpIs version horizon premises) (none, is) = plainly none (λ i. dumped (is.0 i) (is.1 i) (is.2 i))
 query_answer old Dump AuditYes (none, never) = absurd never
 query_answer old Dump (SizeIs n) (none, never) = absurd never
 query_answer old Audit (Refused refusal) tells = refused_word old Audit refusal tells
@@ -470,7 +469,7 @@ query_answer old Audit (Answered answer) (none, never) = absurd never
 query_answer old Audit (Reasons lines) (none, never) = absurd never
 query_answer old Audit (BrokenAre listed_) (none, never) = absurd never
 query_answer old Audit (Believed listed_) (none, never) = absurd never
-query_answer old Audit (DumpIs horizon premises) (none, never) = absurd never
+query_answer old Audit (DumpIs version horizon premises) (none, never) = absurd never
 query_answer old Audit AuditYes (none, is) = plainly none (refl)
 query_answer old Audit (SizeIs n) (none, never) = absurd never
 query_answer old Size (Refused refusal) tells = refused_word old Size refusal tells
@@ -481,7 +480,7 @@ query_answer old Size (Answered answer) (none, never) = absurd never
 query_answer old Size (Reasons lines) (none, never) = absurd never
 query_answer old Size (BrokenAre listed_) (none, never) = absurd never
 query_answer old Size (Believed listed_) (none, never) = absurd never
-query_answer old Size (DumpIs horizon premises) (none, never) = absurd never
+query_answer old Size (DumpIs version horizon premises) (none, never) = absurd never
 query_answer old Size AuditYes (none, never) = absurd never
 query_answer old Size (SizeIs n) (none, is) = plainly none (ap sized is)
 
@@ -539,23 +538,23 @@ is_question Silent = false
 is_question (Change edit) = false
 is_question (Question query) = true
 
-meanings_agree : (old new other : Standing) (line : List ℕ) (l m : Line) (a b : Reply) → ReadsLine line l → ReadsLine line m → AnswersLine old l a new → AnswersLine old m b other → said a ≡ said b
+meanings_agree : (old new other : Standing) (line : List ℕ) (l m : Line) (a b : Reply) → ReadsLine old.version line l → ReadsLine old.version line m → AnswersLine old l a new → AnswersLine old m b other → said a ≡ said b
 meanings_agree old new other line Silent m a b reads reads_2 never answers_2 = absurd never
 meanings_agree old new other line (Change edit) Silent a b reads reads_2 answers never = absurd never
 meanings_agree old new other line (Question query) Silent a b reads reads_2 answers never = absurd never
 meanings_agree old new other line (Change edit) (Change edit_2) a b reads reads_2 answers answers_2 =
-    let same : Change edit_2 ≡ Change edit = one_reading (words line) (Change edit_2) (Change edit) reads_2 reads in
+    let same : Change edit_2 ≡ Change edit = one_reading old.version (words line) (Change edit_2) (Change edit) reads_2 reads in
     let is : edit_2 ≡ edit = ap (λ l. edit_in l edit_2) same in
     verdicts_agree old edit a b (edit_verdict old new edit a answers) (edit_verdict old other edit b (subst (λ e. AnswersEdit old e b other) is answers_2))
 meanings_agree old new other line (Question query) (Question query_2) a b reads reads_2 answers answers_2 =
-    let same : bare_line (Question query) ≡ bare_line (Question query_2) = one_reading (words line) (Question query) (Question query_2) reads reads_2 in
+    let same : bare_line (Question query) ≡ bare_line (Question query_2) = one_reading old.version (words line) (Question query) (Question query_2) reads reads_2 in
     let is : bare_query query ≡ bare_query query_2 = ap (λ l. query_in l (bare_query query)) same in
     answers_agree old query query_2 a b is (query_answer old query a answers.0) (query_answer old query_2 b answers_2.0)
 meanings_agree old new other line (Change edit) (Question query) a b reads reads_2 answers answers_2 =
-    let same : bare_line (Question query) ≡ Change edit = one_reading (words line) (Question query) (Change edit) reads_2 reads in
+    let same : bare_line (Question query) ≡ Change edit = one_reading old.version (words line) (Question query) (Change edit) reads_2 reads in
     no_lie (said a ≡ said b) (ap is_question same)
 meanings_agree old new other line (Question query) (Change edit) a b reads reads_2 answers answers_2 =
-    let same : bare_line (Question query) ≡ Change edit = one_reading (words line) (Question query) (Change edit) reads reads_2 in
+    let same : bare_line (Question query) ≡ Change edit = one_reading old.version (words line) (Question query) (Change edit) reads reads_2 in
     no_lie (said a ≡ said b) (ap is_question same)
 
 lines_agree : (old new other : Standing) (line : List ℕ) (a b : Reply) → LineAnswers old line a new → LineAnswers old line b other → said a ≡ said b

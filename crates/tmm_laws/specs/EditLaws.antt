@@ -1,18 +1,20 @@
 -- Laws of edits.
 use Rattle.std.specs.Prelude.{◌≡◌, ℕ, ◌≤◌, false, List, [], ◌∷◌, ◌++◌, map, length, codes}
-use Rattle.std.specs.List.{AllByRecursion, Contains}
+use Rattle.std.specs.List.{Contains}
 use Rattle.tmm_model.specs.declared.limits.TheConstants.{LONGEST_LINE}
 use Rattle.tmm_model.specs.declared.line.Line.TheVariants.{Change}
 use Rattle.tmm_model.specs.declared.premise.Edit.{Edit}
-use Rattle.tmm_model.specs.declared.premise.Edit.TheVariants.{Add, Horizon}
+use Rattle.tmm_model.specs.declared.premise.Edit.TheVariants.{Add, Horizon, Upgrade}
 use Rattle.tmm_model.specs.declared.premise.Premise.{Premise}
+use Rattle.tmm_model.specs.declared.version.Version.{Version}
+use Rattle.tmm_model.specs.declared.version.Version.TheVariants.{One, Two}
 use Rattle.tmm_model.specs.Answers.{size, most_size}
 use Rattle.tmm_model.specs.Beliefs.{rules_at}
 use Rattle.belief_theory.specs.Outcomes.{outcome}
 use Rattle.tmm_model.specs.Edits.{next_list}
 use Rattle.belief_theory.specs.KeptLists.{IsKept}
 use Rattle.tmm_model.specs.Kept.{IsAccepted}
-use Rattle.tmm_model.specs.Lines.{IsWellFormedEdit, edit_words, spaced, ReadsLine}
+use Rattle.tmm_model.specs.Lines.{IsWellFormedEdit, IsEditOf, edit_words, spaced, ReadsLine}
 use Rattle.tmm_model.specs.Maps.{built}
 use Rattle.tmm_model.specs.Moments.{Moment}
 use Rattle.list_theory.specs.WellNamed.{IsSound}
@@ -36,7 +38,7 @@ UntouchedKeepOutcome =
 abbrev pub ListsStayKept : Type 0
 ListsStayKept =
     IsKept empty_list
-    × ((s : Standing) (edit : Edit) → IsKept s → IsWellFormedEdit edit → IsAccepted s edit → IsKept (next_list s edit))
+    × ((s : Standing) (edit : Edit) → IsKept s → IsWellFormedEdit edit → IsEditOf s.version edit → IsAccepted s edit → IsKept (next_list s edit))
 
 -- ---- dumping and reading again
 
@@ -45,9 +47,14 @@ abbrev pub AcceptsAll : Standing → List Edit → Standing → Type 0
 AcceptsAll s [] new = new ≡ s
 AcceptsAll s (edit ∷ edits) new = IsAccepted s edit × AcceptsAll (next_list s edit) edits new
 
--- what a dump says: the horizon, and each premise in order
+-- the edits that lead to a version
+abbrev pub version_edits : Version → List Edit
+version_edits One = []
+version_edits Two = Upgrade ∷ []
+
+-- what a dump says: the version, the horizon, and each premise in order
 abbrev pub dump_edits : Standing → List Edit
-dump_edits s = Horizon s.horizon ∷ map Add s.premises
+dump_edits s = version_edits s.version ++ Horizon s.horizon ∷ map Add s.premises
 
 -- the line of an edit, as a dump shows it
 abbrev pub dumped_line : Edit → List ℕ
@@ -55,16 +62,22 @@ dumped_line edit = codes "  " ++ spaced (edit_words edit)
 
 -- at no time while its premises are added one by one, with its horizon, is the map too large
 abbrev pub GrowsSmall : Standing → Type 0
-GrowsSmall s = (front back : List Premise) → s.premises ≡ front ++ back → size (built (record { horizon = s.horizon; premises = front })) ≤ most_size
+GrowsSmall s = (front back : List Premise) → s.premises ≡ front ++ back → size (built (record { version = s.version; horizon = s.horizon; premises = front })) ≤ most_size
 
--- the line is short enough, and reads as the edit
-abbrev pub ReadsBack : Edit → Type 0
-ReadsBack edit = (length (dumped_line edit) ≤ LONGEST_LINE) × ReadsLine (dumped_line edit) (Change edit)
+-- the line is short enough, and in the version reads as the edit
+abbrev pub ReadsBack : Version → Edit → Type 0
+ReadsBack version edit = (length (dumped_line edit) ≤ LONGEST_LINE) × ReadsLine version (dumped_line edit) (Change edit)
+
+-- so do the lines of all edits, made one after the other from a list on, each in the version of the list that those
+-- before it leave
+abbrev pub AllReadBack : Standing → List Edit → Type 0
+AllReadBack s [] = Unit {0}
+AllReadBack s (edit ∷ edits) = ReadsBack s.version edit × AllReadBack (next_list s edit) edits
 
 -- the lines that a dump shows of a kept list tell its edits, and these are accepted from the empty list on,
 -- and leave the list
 abbrev pub DumpReloads : Type 0
 DumpReloads =
     (s : Standing) → IsKept s → GrowsSmall s
-    → AllByRecursion ReadsBack (dump_edits s)
+    → AllReadBack empty_list (dump_edits s)
     × AcceptsAll empty_list (dump_edits s) s

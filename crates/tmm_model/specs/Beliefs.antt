@@ -80,7 +80,7 @@ contradicts_in s = of_one_class
 
 -- the name of a rule on this kind
 abbrev pub on_kind : List ℕ → Premise → Option (List ℕ)
-on_kind kind (Rule name trigger lo hi effect given) = elim (same_name trigger kind) [ true ↦ Some name | false ↦ None ]
+on_kind kind (Rule name trigger lo hi effect given unless_facts) = elim (same_name trigger kind) [ true ↦ Some name | false ↦ None ]
 on_kind kind _ = None
 
 -- the standing rules on a kind

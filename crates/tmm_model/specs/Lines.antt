@@ -1,8 +1,8 @@
 -- The grammar of a script line, on the list of the line's words.
 use Rattle.std.specs.Prelude.{◌≡◌, ◌≢◌, ℕ, ◌≤◌, ℤ, pos, ◌≤ℤ◌, Bool, false, cond, not, ◌||◌, ◌==◌, List, [], ◌∷◌, ◌++◌, length, codes, decimal, IsTrue}
-use Rattle.std.specs.List.{list_all, onto_first}
+use Rattle.std.specs.List.{list_all, list_any, onto_first}
 use Rattle.std.specs.Fmt.{signed_decimal}
-use Rattle.tmm_model.specs.declared.limits.TheConstants.{GREATEST_NUMBER, MOST_FACTS, MOST_ANTECEDENTS, LAST_HORIZON}
+use Rattle.tmm_model.specs.declared.limits.TheConstants.{GREATEST_NUMBER, MOST_FACTS, MOST_ANTECEDENTS, MOST_EXCEPTIONS, LAST_HORIZON}
 use Rattle.tmm_model.specs.declared.bound.Bound.{Bound}
 use Rattle.tmm_model.specs.declared.bound.Bound.TheVariants.{Finite, Free}
 use Rattle.tmm_model.specs.declared.point.PointName.{PointName}
@@ -13,14 +13,16 @@ use Rattle.tmm_model.specs.declared.point.QueryPoint.TheVariants.{Declared, Deri
 use Rattle.tmm_model.specs.declared.premise.Premise.{Premise}
 use Rattle.tmm_model.specs.declared.premise.Premise.TheVariants.{Class, Kind, Point, Event, Token, Span, Dist, Rule, Protect}
 use Rattle.tmm_model.specs.declared.premise.Edit.{Edit}
-use Rattle.tmm_model.specs.declared.premise.Edit.TheVariants.{Add, Erase, Horizon}
+use Rattle.tmm_model.specs.declared.premise.Edit.TheVariants.{Add, Erase, Horizon, Upgrade}
+use Rattle.tmm_model.specs.declared.version.Version.{Version}
+use Rattle.tmm_model.specs.declared.version.Version.TheVariants.{One, Two}
 use Rattle.tmm_model.specs.declared.line.Query.{Query}
 use Rattle.tmm_model.specs.declared.line.Query.TheVariants.{Bounds, Path, Ask, Why, Check, List as Listing, Dump, Audit, Size}
 use Rattle.tmm_model.specs.declared.line.Line.{Line}
 use Rattle.tmm_model.specs.declared.line.Line.TheVariants.{Silent, Change, Question}
 use Rattle.tmm_model.specs.Names.{is_name}
 use Rattle.tmm_model.specs.Bounds.{IfFinite, IsWithin}
-use Rattle.tmm_model.specs.Points.{point_word, occ_word, query_word}
+use Rattle.tmm_model.specs.Points.{same_name, point_word, occ_word, query_word}
 
 -- a space, a tab or a carriage return, which part words
 abbrev pub is_blank : ℕ → Bool
@@ -82,7 +84,7 @@ IsRange (Finite lo) (Finite hi) = lo ≤ℤ hi
 IsRange Free Free = ⊥
 IsRange _ _ = Unit {0}
 
--- what a premise can say
+-- what a premise can say, in whichever version
 abbrev pub IsWellFormedPremise : Premise → Type 0
 IsWellFormedPremise (Class name facts) = IsName name × AreNames facts.items × (1 ≤ length facts.items) × (length facts.items ≤ MOST_FACTS)
 IsWellFormedPremise (Kind name) = IsName name
@@ -91,15 +93,43 @@ IsWellFormedPremise (Event name kind) = IsName name × IsName kind
 IsWellFormedPremise (Token name fact) = IsName name × IsName fact
 IsWellFormedPremise (Span name fact) = IsName name × IsName fact
 IsWellFormedPremise (Dist name from to lo hi) = IsName name × IsWellFormedPoint from × IsWellFormedPoint to × IsBound lo × IsBound hi × IsRange lo hi
-IsWellFormedPremise (Rule name trigger lo hi effect given) =
-    IsName name × IsName trigger × IsNumber lo × IsBound hi × (pos 1 ≤ℤ lo) × IsRange (Finite lo) hi × IsName effect × AreNames given.items × (length given.items ≤ MOST_ANTECEDENTS)
+IsWellFormedPremise (Rule name trigger lo hi effect given unless_facts) =
+    IsName name × IsName trigger × IsNumber lo × IsBound hi × (pos 1 ≤ℤ lo) × IsRange (Finite lo) hi × IsName effect
+    × AreNames given.items × (length given.items ≤ MOST_ANTECEDENTS) × AreNames unless_facts.items × (length unless_facts.items ≤ MOST_EXCEPTIONS)
 IsWellFormedPremise (Protect name fact from to) = IsName name × IsName fact × IsWellFormedPoint from × IsWellFormedPoint to
 
--- what an edit can say
+-- what an edit can say, in whichever version
 abbrev pub IsWellFormedEdit : Edit → Type 0
 IsWellFormedEdit (Add premise) = IsWellFormedPremise premise
 IsWellFormedEdit (Erase name) = IsName name
 IsWellFormedEdit (Horizon n) = n ≤ LAST_HORIZON
+IsWellFormedEdit Upgrade = Unit {0}
+
+-- the word is `unless`
+abbrev pub is_unless : List ℕ → Bool
+is_unless word = same_name word (codes "unless")
+
+-- In version 1 no rule has exceptions, and `unless` is a name as any other. In version 2 the antecedents end at the
+-- first word `unless`.
+abbrev pub AreFactsOf : Version → List (List ℕ) → List (List ℕ) → Type 0
+AreFactsOf One facts exceptions = exceptions ≡ []
+AreFactsOf Two facts exceptions = list_any is_unless facts ≡ false
+
+-- what a premise can say in a version
+abbrev pub IsOfVersion : Version → Premise → Type 0
+IsOfVersion version (Rule name trigger lo hi effect given unless_facts) = AreFactsOf version given.items unless_facts.items
+IsOfVersion version premise = Unit {0}
+
+-- version 1 opens version 2
+abbrev pub CanUpgrade : Version → Type 0
+CanUpgrade One = Unit {0}
+CanUpgrade Two = ⊥
+
+-- what an edit can say in a version
+abbrev pub IsEditOf : Version → Edit → Type 0
+IsEditOf version (Add premise) = IsOfVersion version premise
+IsEditOf version Upgrade = CanUpgrade version
+IsEditOf version edit = Unit {0}
 
 -- what a question can say
 abbrev pub IsWellFormedQuery : Query → Type 0
@@ -109,10 +139,10 @@ IsWellFormedQuery (Ask fact p q) = IsName fact × IsWellFormedQueryPoint p × Is
 IsWellFormedQuery (Why o) = IsWellFormedOcc o
 IsWellFormedQuery _ = Unit {0}
 
--- the antecedents of a rule behind the word `if`, and nothing where it has none
-abbrev pub given_words : List (List ℕ) → List (List ℕ)
-given_words [] = []
-given_words (f ∷ facts) = codes "if" ∷ f ∷ facts
+-- facts behind a word, and nothing where there are none
+abbrev pub facts_words : List ℕ → List (List ℕ) → List (List ℕ)
+facts_words word [] = []
+facts_words word (f ∷ facts) = word ∷ f ∷ facts
 
 -- the words that declare a premise
 abbrev pub shown : Premise → List (List ℕ)
@@ -123,7 +153,9 @@ shown (Event name kind) = codes "event" ∷ name ∷ kind ∷ []
 shown (Token name fact) = codes "token" ∷ name ∷ fact ∷ []
 shown (Span name fact) = codes "span" ∷ name ∷ fact ∷ []
 shown (Dist name from to lo hi) = codes "dist" ∷ name ∷ point_word from ∷ point_word to ∷ bound_word lo ∷ bound_word hi ∷ []
-shown (Rule name trigger lo hi effect given) = codes "rule" ∷ name ∷ trigger ∷ number_word lo ∷ bound_word hi ∷ effect ∷ given_words given.items
+shown (Rule name trigger lo hi effect given unless_facts) =
+    codes "rule" ∷ name ∷ trigger ∷ number_word lo ∷ bound_word hi ∷ effect
+    ∷ facts_words (codes "if") given.items ++ facts_words (codes "unless") unless_facts.items
 shown (Protect name fact from to) = codes "protect" ∷ name ∷ fact ∷ point_word from ∷ point_word to ∷ []
 
 -- the words that make a change
@@ -131,6 +163,7 @@ abbrev pub edit_words : Edit → List (List ℕ)
 edit_words (Add premise) = shown premise
 edit_words (Erase name) = codes "erase" ∷ name ∷ []
 edit_words (Horizon n) = codes "horizon" ∷ decimal n ∷ []
+edit_words Upgrade = codes "tmm" ∷ codes "2" ∷ []
 
 -- the words that ask a question
 abbrev pub query_words : Query → List (List ℕ)
@@ -154,15 +187,16 @@ abbrev pub IsSilent : List (List ℕ) → Type 0
 IsSilent [] = Unit {0}
 IsSilent (w ∷ _) = IsTrue (is_comment w)
 
--- The words read as what the line says. They read as nothing exactly where they are in no form of the grammar.
-abbrev pub Reads : List (List ℕ) → Line → Type 0
-Reads ws Silent = IsSilent ws
-Reads ws (Change edit) = (ws ≡ edit_words edit) × IsWellFormedEdit edit
-Reads ws (Question query) = (ws ≡ query_words query) × IsWellFormedQuery query
+-- In a version the words read as what the line says. They read as nothing exactly where they are in no form of its
+-- grammar.
+abbrev pub Reads : Version → List (List ℕ) → Line → Type 0
+Reads version ws Silent = IsSilent ws
+Reads version ws (Change edit) = (ws ≡ edit_words edit) × IsWellFormedEdit edit × IsEditOf version edit
+Reads version ws (Question query) = (ws ≡ query_words query) × IsWellFormedQuery query
 
 -- the words of the line read as what it says
-abbrev pub ReadsLine : List ℕ → Line → Type 0
-ReadsLine line l = Reads (words line) l
+abbrev pub ReadsLine : Version → List ℕ → Line → Type 0
+ReadsLine version line l = Reads version (words line) l
 
 -- each word behind a space
 abbrev pub behind_spaces : List (List ℕ) → List ℕ

@@ -77,7 +77,7 @@ pub record RuleText : Type 0 where
 
 -- what a premise says as a rule; one that is no rule says nothing of meaning
 abbrev pub as_rule : Option Premise → RuleText
-as_rule (Some (Rule name trigger lo hi effect given)) = record { trigger = trigger; lo = lo; hi = hi; effect = effect; given = given.items }
+as_rule (Some (Rule name trigger lo hi effect given unless_facts)) = record { trigger = trigger; lo = lo; hi = hi; effect = effect; given = given.items }
 as_rule _ = record { trigger = []; lo = pos 0; hi = Finite (pos 0); effect = []; given = [] }
 
 -- the rule of this name

@@ -57,7 +57,8 @@ module _ (m : TimeMap) where
   Answers (Why o) (Reasons lines) = IsWhy m (moment_of o) (map reason_of lines)
   Answers Check (BrokenAre broken) = map report_of broken ≡ reports m
   Answers Listing (Believed found) = map row_of found ≡ rows m
-  Answers Dump (DumpIs horizon lines) = (horizon ≡ m.list.horizon) × (lines ≡ map shown_text m.list.premises)
+  Answers Dump (DumpIs version horizon lines) =
+      (version ≡ m.list.version) × (horizon ≡ m.list.horizon) × (lines ≡ map shown_text m.list.premises)
   Answers Audit AuditYes = Unit {0}
   Answers Size (SizeIs n) = n ≡ size m
   Answers query reply = ⊥

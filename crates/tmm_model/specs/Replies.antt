@@ -18,6 +18,8 @@ use Rattle.tmm_model.specs.declared.changes.WhyLine.TheVariants.{Premise, Order,
 use Rattle.tmm_model.specs.declared.point.Occ.{Occ}
 use Rattle.tmm_model.specs.declared.refusal.Refusal.{Refusal}
 use Rattle.tmm_model.specs.declared.refusal.Refusal.TheVariants.{LimitLine, Form, Taken, Unknown, Sort, LimitPremises, LimitPoints, Cycle, LimitSize}
+use Rattle.tmm_model.specs.declared.version.Version.{Version}
+use Rattle.tmm_model.specs.declared.version.Version.TheVariants.{One, Two}
 use Rattle.tmm_model.specs.declared.walk.Side.{Side}
 use Rattle.tmm_model.specs.declared.walk.Side.TheVariants.{Hi, Lo, Base, Length}
 use Rattle.tmm_model.specs.declared.walk.WalkStep.{WalkStep}
@@ -42,8 +44,8 @@ pub data Reply : Type 0 where
   BrokenAre : List Report → Reply
   -- the believed occurrences
   Believed : List ListRow → Reply
-  -- the horizon, and each standing premise as it is printed
-  DumpIs : ℕ → List (List ℕ) → Reply
+  -- the version, the horizon, and each standing premise as it is printed
+  DumpIs : Version → ℕ → List (List ℕ) → Reply
   -- the kept beliefs are right
   AuditYes : Reply
   -- the size of the map
@@ -186,6 +188,11 @@ clip_words (Some by) = codes "clip" ∷ occ_word by ∷ []
 abbrev pub row_line : ListRow → List ℕ
 row_line r = line_of two (signed_decimal r.early ∷ occ_word r.occ ∷ r.what ∷ clip_words r.clip)
 
+-- a list's horizon, behind the line that opens version 2 where the list is of it
+abbrev pub opening_lines : Version → ℕ → List ℕ
+opening_lines One horizon = line_of two (codes "horizon" ∷ decimal horizon ∷ [])
+opening_lines Two horizon = line_of two (codes "tmm" ∷ codes "2" ∷ []) ++ line_of two (codes "horizon" ∷ decimal horizon ∷ [])
+
 -- The text of the reply to line k.
 abbrev pub text_of : ℕ → Reply → List ℕ
 text_of k (Accepted changes) = head_line k (codes "ok" ∷ []) ++ change_lines changes
@@ -196,9 +203,9 @@ text_of k (Answered answer) = head_line k (answer_words answer) ++ blame_lines t
 text_of k (Reasons lines) = head_line k (codes "why" ∷ []) ++ flat_map why_lines lines
 text_of k (BrokenAre reports) = head_line k (codes "check" ∷ decimal (length reports) ∷ []) ++ flat_map report_lines reports
 text_of k (Believed rows) = head_line k (codes "list" ∷ decimal (length rows) ∷ []) ++ flat_map row_line rows
-text_of k (DumpIs horizon premises) =
+text_of k (DumpIs version horizon premises) =
     head_line k (codes "dump" ∷ decimal (length premises) ∷ [])
-    ++ line_of two (codes "horizon" ∷ decimal horizon ∷ [])
+    ++ opening_lines version horizon
     ++ flat_map (λ premise. line_of two (premise ∷ [])) premises
 text_of k AuditYes = head_line k (codes "audit" ∷ codes "yes" ∷ [])
 text_of k (SizeIs n) = head_line k (codes "size" ∷ decimal n ∷ [])

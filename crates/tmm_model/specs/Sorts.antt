@@ -1,5 +1,5 @@
 -- What names are declared as, and which names an edit uses.
-use Rattle.std.specs.Prelude.{ℕ, Bool, true, false, ◌||◌, List, [], ◌∷◌, map, codes, Option, Some, None}
+use Rattle.std.specs.Prelude.{ℕ, Bool, true, false, ◌||◌, List, [], ◌∷◌, ◌++◌, map, codes, Option, Some, None}
 use Rattle.std.specs.List.{flat_map, list_any}
 use Rattle.std.specs.Map.{lookup}
 use Rattle.tmm_model.specs.declared.point.PointName.{PointName}
@@ -37,7 +37,7 @@ declarations_of (Event name kind) = (name, an_event) ∷ []
 declarations_of (Token name fact) = (name, a_token) ∷ []
 declarations_of (Span name fact) = (name, a_span) ∷ []
 declarations_of (Dist name from to lo hi) = (name, a_dist) ∷ []
-declarations_of (Rule name trigger lo hi effect given) = (name, a_rule) ∷ []
+declarations_of (Rule name trigger lo hi effect given unless_facts) = (name, a_rule) ∷ []
 declarations_of (Protect name fact from to) = (name, a_protection) ∷ []
 
 -- the names alone
@@ -100,7 +100,7 @@ uses_of (Event name kind) = a_name kind is_kind ∷ []
 uses_of (Token name fact) = fact_use fact ∷ []
 uses_of (Span name fact) = fact_use fact ∷ []
 uses_of (Dist name from to lo hi) = a_place from ∷ a_place to ∷ []
-uses_of (Rule name trigger lo hi effect given) = a_name trigger is_kind ∷ a_name effect is_effect ∷ map fact_use given.items
+uses_of (Rule name trigger lo hi effect given unless_facts) = a_name trigger is_kind ∷ a_name effect is_effect ∷ map fact_use (given.items ++ unless_facts.items)
 uses_of (Protect name fact from to) = fact_use fact ∷ a_place from ∷ a_place to ∷ []
 
 -- the class that declares the fact

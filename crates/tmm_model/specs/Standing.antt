@@ -7,19 +7,22 @@ use Rattle.tmm_model.specs.declared.point.PointName.{PointName}
 use Rattle.tmm_model.specs.declared.point.PointName.TheVariants.{Start, Begin, End}
 use Rattle.tmm_model.specs.declared.premise.Premise.{Premise}
 use Rattle.tmm_model.specs.declared.premise.Premise.TheVariants.{Class, Kind, Point, Event, Token, Span, Dist, Rule, Protect}
+use Rattle.tmm_model.specs.declared.version.Version.{Version}
+use Rattle.tmm_model.specs.declared.version.Version.TheVariants.{One}
 use Rattle.tmm_model.specs.declared.walk.Side.TheVariants.{Hi, Lo, Base, Length}
 use Rattle.tmm_model.specs.declared.walk.WalkStep.{WalkStep}
 use Rattle.tmm_model.specs.Points.{same_point, same_name}
 use Rattle.tmm_model.specs.Walks.{Arc, HasDates, far}
 
--- the last date at which an effect is projected, and the premises, oldest first
+-- the version of its lines, the last date at which an effect is projected, and the premises, oldest first
 pub record Standing : Type 0 where
+  pub version : Version
   pub horizon : ℕ
   pub premises : List Premise
 
--- what a script begins with: no premise, and the horizon 1000
+-- what a script begins with: version 1, no premise, and the horizon 1000
 abbrev pub empty_list : Standing
-empty_list = record { horizon = 1000; premises = [] }
+empty_list = record { version = One; horizon = 1000; premises = [] }
 
 -- the name that a premise declares for itself
 abbrev pub name_of : Premise → List ℕ
@@ -30,7 +33,7 @@ name_of (Event name kind) = name
 name_of (Token name fact) = name
 name_of (Span name fact) = name
 name_of (Dist name from to lo hi) = name
-name_of (Rule name trigger lo hi effect given) = name
+name_of (Rule name trigger lo hi effect given unless_facts) = name
 name_of (Protect name fact from to) = name
 
 -- the points that a premise declares

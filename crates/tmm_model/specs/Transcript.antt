@@ -11,6 +11,7 @@ use Rattle.tmm_model.specs.declared.refusal.Refusal.{Refusal}
 use Rattle.tmm_model.specs.declared.refusal.Refusal.TheVariants.{LimitLine, Form, Cycle, LimitSize}
 use Rattle.tmm_model.specs.declared.turn.Turn.{Turn}
 use Rattle.tmm_model.specs.declared.turn.Turn.TheVariants.{Silent as NoReply, Reply as ReplyOf, Memory}
+use Rattle.tmm_model.specs.declared.version.Version.{Version}
 use Rattle.tmm_model.specs.declared.walk.WalkStep.{WalkStep}
 use Rattle.tmm_model.specs.Answers.{size, most_size}
 use Rattle.tmm_model.specs.Changes.{changes, delta_of}
@@ -70,10 +71,10 @@ AnswersQuery old query reply = (query_cause (built old) query ≡ None) × Answe
 
 -- ---- lines
 
--- the line is short enough, and reads as this
-pub record IsReadAs (line : List ℕ) (meaning : Line) : Type 0 where
+-- the line is short enough, and reads as this in the version
+pub record IsReadAs (version : Version) (line : List ℕ) (meaning : Line) : Type 0 where
   pub short : length line ≤ most_bytes
-  pub reads : ReadsLine line meaning
+  pub reads : ReadsLine version line meaning
 
 -- what a meaning may be answered, and the list that it leaves; what is silent has no reply
 abbrev pub AnswersLine : Standing → Line → Reply → Standing → Type 0
@@ -82,16 +83,17 @@ AnswersLine old (Change edit) reply new = AnswersEdit old edit reply new
 AnswersLine old (Question query) reply new = AnswersQuery old query reply × (new ≡ old)
 
 -- What a line may be answered, and the list that it leaves: a line of more than 400 bytes is refused for its
--- length, a shorter one that says nothing for its form, and any other is answered by what it says.
+-- length, a shorter one that says nothing in the version of the list for its form, and any other is answered by
+-- what it says.
 pub data LineAnswers (old : Standing) (line : List ℕ) (reply : Reply) (new : Standing) : Type 0 where
   for_length : most_bytes < length line → reply ≡ Refused LimitLine → new ≡ old → LineAnswers old line reply new
-  for_form : length line ≤ most_bytes → ((meaning : Line) → ReadsLine line meaning → ⊥) → reply ≡ Refused Form → new ≡ old → LineAnswers old line reply new
-  for_meaning : (meaning : Line) → IsReadAs line meaning → AnswersLine old meaning reply new → LineAnswers old line reply new
+  for_form : length line ≤ most_bytes → ((meaning : Line) → ReadsLine old.version line meaning → ⊥) → reply ≡ Refused Form → new ≡ old → LineAnswers old line reply new
+  for_meaning : (meaning : Line) → IsReadAs old.version line meaning → AnswersLine old meaning reply new → LineAnswers old line reply new
 
 -- **The step of the transcript.** From the list `old` the line of number k may have this turn, and leaves the
 -- list `new`. A silent line has no reply. Any other may be answered `memory`, and then nothing changes.
 abbrev pub Step : Standing → ℕ → List ℕ → Turn → Standing → Type 0
-Step old k line NoReply new = IsReadAs line Silent × (new ≡ old)
-Step old k line Memory new = (IsReadAs line Silent → ⊥) × (new ≡ old)
+Step old k line NoReply new = IsReadAs old.version line Silent × (new ≡ old)
+Step old k line Memory new = (IsReadAs old.version line Silent → ⊥) × (new ≡ old)
 Step old k line (ReplyOf bytes refused) new =
     (reply : Reply) × LineAnswers old line reply new × (bytes.items ≡ text_of k reply) × (refused ≡ is_refusal reply)

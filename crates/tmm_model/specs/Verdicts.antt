@@ -7,9 +7,9 @@ use Rattle.tmm_model.specs.declared.point.PointName.{PointName}
 use Rattle.tmm_model.specs.declared.point.PointName.TheVariants.{Start, Begin, End}
 use Rattle.tmm_model.specs.declared.premise.Premise.{Premise}
 use Rattle.tmm_model.specs.declared.premise.Edit.{Edit}
-use Rattle.tmm_model.specs.declared.premise.Edit.TheVariants.{Add, Erase, Horizon}
+use Rattle.tmm_model.specs.declared.premise.Edit.TheVariants.{Add, Erase, Horizon, Upgrade}
 use Rattle.tmm_model.specs.declared.refusal.Refusal.{Refusal}
-use Rattle.tmm_model.specs.declared.refusal.Refusal.TheVariants.{Taken, Unknown, Sort as IllSorted, LimitPremises, LimitPoints}
+use Rattle.tmm_model.specs.declared.refusal.Refusal.TheVariants.{Form, Taken, Unknown, Sort as IllSorted, LimitPremises, LimitPoints}
 use Rattle.tmm_model.specs.Points.{same_name, point_word, query_word}
 use Rattle.tmm_model.specs.Standing.{points_in}
 use Rattle.tmm_model.specs.Sorts.{Sort, a_span, is_reserved, declared_by, declarations_in, sort_in, is_place, is_premise, Use, a_name, a_place, a_premise, uses_of}
@@ -22,8 +22,10 @@ most_premises = MOST_PREMISES
 abbrev pub most_points : ℕ
 most_points = MOST_POINTS
 
--- a cause that the names of a list and its counts decide, with the word as it stands in the line
+-- a cause that the names of a list and its counts decide, with the word as it stands in the line; or the line
+-- opens a version that the list does not take
 pub data Cause : Type 0 where
+  out_of_form : Cause
   taken : List ℕ → Cause
   unknown : List ℕ → Cause
   ill_sorted : List ℕ → Cause
@@ -88,14 +90,16 @@ add_cause premises premise =
     (option_or (uses_cause premises (uses_of premise))
     (option_or (premises_cause premises) (points_cause (premises ++ premise ∷ []))))
 
--- the first cause among names and counts for which an edit is refused
+-- The first cause among names and counts for which an edit is refused. No list takes version 2 so far.
 abbrev pub list_cause : List Premise → Edit → Option Cause
 list_cause premises (Add premise) = add_cause premises premise
 list_cause premises (Erase name) = use_cause premises (a_premise name)
 list_cause premises (Horizon n) = None
+list_cause premises Upgrade = Some out_of_form
 
 -- what a refusal says of names and counts
 abbrev pub told_cause : Refusal → Option Cause
+told_cause Form = Some out_of_form
 told_cause (Taken word) = Some (taken (query_word word))
 told_cause (Unknown word) = Some (unknown (query_word word))
 told_cause (IllSorted word) = Some (ill_sorted (query_word word))

@@ -23,6 +23,7 @@ mod seq;
 mod sure;
 mod token;
 mod turn;
+mod version;
 mod walk;
 
 pub use answer::{Answer, Blame, Cause, Report};
@@ -30,7 +31,8 @@ pub use bound::Bound;
 pub use changes::{Changes, Clip, ListRow, WhyLine};
 pub use limits::{
     GREATEST_NUMBER, LAST_HORIZON, LONGEST_LINE, LONGEST_NAME, LONGEST_SCRIPT, MOST_ANTECEDENTS,
-    MOST_BLAMES, MOST_EDGES, MOST_EVENTS, MOST_FACTS, MOST_POINTS, MOST_PREMISES, MOST_SIZE,
+    MOST_BLAMES, MOST_EDGES, MOST_EVENTS, MOST_EXCEPTIONS, MOST_FACTS, MOST_POINTS, MOST_PREMISES,
+    MOST_SIZE,
 };
 pub use line::{Line, Query};
 pub use memory::NoMemory;
@@ -42,4 +44,5 @@ pub use seq::Seq;
 pub use sure::Sure;
 pub use token::{Shape, TokenRow};
 pub use turn::Turn;
+pub use version::Version;
 pub use walk::{Side, WalkStep};

@@ -21,6 +21,9 @@ pub const MOST_FACTS: usize = 8;
 /// The most antecedents of a rule.
 pub const MOST_ANTECEDENTS: usize = 4;
 
+/// The most exceptions of a rule.
+pub const MOST_EXCEPTIONS: usize = 2;
+
 /// The most premises of a standing list.
 pub const MOST_PREMISES: usize = 2000;
 

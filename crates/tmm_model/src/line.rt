@@ -31,7 +31,7 @@ pub enum Query {
 pub enum Line {
     /// A blank line or a comment.
     Silent,
-    /// A change of the premises or of the horizon.
+    /// A change of the standing list.
     Change(Edit),
     /// A question, which changes nothing.
     Question(Query),

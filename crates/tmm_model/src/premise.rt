@@ -4,7 +4,7 @@ ghost use Rattle.tmm_model.specs.Lines.{IsBound};
 ghost use Rattle.tmm_model.specs.Standing.{base_step, length_step, hi_steps, lo_steps};
 
 use crate::bound::Bound;
-use crate::limits::{MOST_ANTECEDENTS, MOST_FACTS};
+use crate::limits::{MOST_ANTECEDENTS, MOST_EXCEPTIONS, MOST_FACTS};
 use crate::name::Name;
 use crate::point::PointName;
 use crate::walk::{Side, WalkStep};
@@ -50,7 +50,7 @@ pub enum Premise {
         hi: Bound,
     },
     /// On an event of the kind `trigger`, `effect` begins `lo` to `hi` whole time units after it,
-    /// where the facts `given` hold at the event.
+    /// where the facts `given` hold at the event. The facts `unless_facts` are its exceptions.
     Rule {
         name: Name,
         trigger: Name,
@@ -58,6 +58,7 @@ pub enum Premise {
         hi: Bound,
         effect: Name,
         given: ArrayVec<Name, MOST_ANTECEDENTS>,
+        unless_facts: ArrayVec<Name, MOST_EXCEPTIONS>,
     },
     /// A fact is to hold from one point to another.
     Protect {
@@ -216,7 +217,7 @@ fn dist_step(
     }
 }
 
-/// A change of the standing premises.
+/// A change of the standing list.
 #[derive(Drop)]
 pub enum Edit {
     /// Adds a premise after all that stand.
@@ -225,4 +226,6 @@ pub enum Edit {
     Erase(Name),
     /// Sets the last date at which an effect is projected, in whole time units.
     Horizon(u32),
+    /// Opens version 2 of the script.
+    Upgrade,
 }

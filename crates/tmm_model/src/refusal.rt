@@ -9,7 +9,7 @@ use crate::walk::WalkStep;
 pub enum Refusal {
     /// The line has more than 400 bytes.
     LimitLine,
-    /// The line is in no form of the grammar.
+    /// The line is in no form of the grammar, or opens a version that the list does not take.
     Form,
     /// The line declares this word, which is reserved or declared.
     Taken(QueryPoint),

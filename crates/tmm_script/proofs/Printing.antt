@@ -6,7 +6,7 @@ use Rattle.tmm_model.specs.declared.premise.Premise.{Premise}
 use Rattle.tmm_model.specs.declared.premise.Premise.TheVariants.{Class, Kind, Point, Event, Token, Span, Dist, Rule, Protect}
 use Rattle.std.specs.Prelude.{codes}
 use Rattle.tmm_model.specs.Points.{point_word}
-use Rattle.tmm_model.specs.Lines.{number_word, bound_word, given_words, behind_spaces, shown, shown_text}
+use Rattle.tmm_model.specs.Lines.{number_word, bound_word, facts_words, behind_spaces, shown, shown_text}
 use Rattle.tmm_script.specs.Printed.{first_word, head_words, tail_words, AppendsFront}
 
 -- the first i words were appended
@@ -55,7 +55,7 @@ pub on_err : {A E : Type 0} (r : Result A E) {P : Type 0} → P → OnErr r P
 on_err (Ok x) p = tt
 on_err (Err e) p = p
 
-behind-append : (ws vs : List (List ℕ)) → behind_spaces (ws ++ vs) ≡ behind_spaces ws ++ behind_spaces vs
+pub behind-append : (ws vs : List (List ℕ)) → behind_spaces (ws ++ vs) ≡ behind_spaces ws ++ behind_spaces vs
 behind-append [] vs = refl
 behind-append (w ∷ ws) vs = ap (λ (t : List ℕ). 32 ∷ w ++ t) (behind-append ws vs) ∙ sym (append_assoc (32 ∷ w) (behind_spaces ws) (behind_spaces vs))
 
@@ -74,11 +74,11 @@ shown_parts (Event n k) = whole (codes "event") (n ∷ k ∷ [])
 shown_parts (Token n k) = whole (codes "token") (n ∷ k ∷ [])
 shown_parts (Span n k) = whole (codes "span") (n ∷ k ∷ [])
 shown_parts (Dist n p q lo hi) = whole (codes "dist") (n ∷ point_word p ∷ point_word q ∷ bound_word lo ∷ bound_word hi ∷ [])
-shown_parts (Rule n t lo hi x given) = in_parts (codes "rule") (n ∷ t ∷ number_word lo ∷ bound_word hi ∷ x ∷ []) (given_words given.items)
+shown_parts (Rule n t lo hi x given unless_facts) = in_parts (codes "rule") (n ∷ t ∷ number_word lo ∷ bound_word hi ∷ x ∷ []) (facts_words (codes "if") given.items ++ facts_words (codes "unless") unless_facts.items)
 shown_parts (Protect n f p q) = whole (codes "protect") (n ∷ f ∷ point_word p ∷ point_word q ∷ [])
 
 -- text that was appended, and text behind it of which a front was
-front_behind : (old mid new x y : List ℕ) → mid ≡ old ++ x → AppendsFront mid new y → AppendsFront old new (x ++ y)
+pub front_behind : (old mid new x y : List ℕ) → mid ≡ old ++ x → AppendsFront mid new y → AppendsFront old new (x ++ y)
 front_behind old mid new x y e f = record {
   front = x ++ f.front;
   rest = f.rest;
@@ -86,13 +86,25 @@ front_behind old mid new x y e f = record {
   appended = f.appended ∙ ap (λ (t : List ℕ). t ++ f.front) e ∙ append_assoc old x f.front;
 }
 
-front_before : (old new x y : List ℕ) → AppendsFront old new x → AppendsFront old new (x ++ y)
+pub front_before : (old new x y : List ℕ) → AppendsFront old new x → AppendsFront old new (x ++ y)
 front_before old new x y f = record {
   front = f.front;
   rest = f.rest ++ y;
   parts = ap (λ (t : List ℕ). t ++ y) f.parts ∙ append_assoc f.front f.rest y;
   appended = f.appended;
 }
+
+-- two lists of words, one written behind the other
+module _ (old new : List ℕ) (ws vs : List (List ℕ)) where
+  pub wrote_both : (mid : List ℕ) → mid ≡ old ++ behind_spaces ws → new ≡ mid ++ behind_spaces vs → new ≡ old ++ behind_spaces (ws ++ vs)
+  wrote_both mid e f =
+      f ∙ ap (λ (t : List ℕ). t ++ behind_spaces vs) e ∙ append_assoc old (behind_spaces ws) (behind_spaces vs) ∙ ap (λ (t : List ℕ). old ++ t) (sym (behind-append ws vs))
+
+  pub front_of_first : AppendsFront old new (behind_spaces ws) → AppendsFront old new (behind_spaces (ws ++ vs))
+  front_of_first f = rw (behind-append ws vs) (front_before old new (behind_spaces ws) (behind_spaces vs) f)
+
+  pub front_of_second : (mid : List ℕ) → mid ≡ old ++ behind_spaces ws → AppendsFront mid new (behind_spaces vs) → AppendsFront old new (behind_spaces (ws ++ vs))
+  front_of_second mid e f = rw (behind-append ws vs) (front_behind old mid new (behind_spaces ws) (behind_spaces vs) e f)
 
 -- the same of the parts of a premise's text
 module _ (p : Premise) (old mid k : List ℕ) (heads : List (List ℕ)) (key : k ≡ first_word (shown p)) (is : heads ≡ head_words p) (begun : mid ≡ old ++ k) where

@@ -4,16 +4,18 @@ use Rattle.tmm_model.specs.declared.line.Line.{Line}
 use Rattle.tmm_model.specs.declared.refusal.Refusal.TheVariants.{Form}
 use Rattle.tmm_model.specs.declared.refusal.Stop.{Stop}
 use Rattle.tmm_model.specs.declared.refusal.Stop.TheVariants.{Refused, NoMemory}
+use Rattle.tmm_model.specs.declared.version.Version.{Version}
 use Rattle.tmm_model.specs.Lines.{ReadsLine}
 use Rattle.tmm_script.specs.declared.fields.Misread.{Misread}
 use Rattle.tmm_script.specs.declared.fields.Misread.TheVariants as misreads
 
--- The line reads as the answer. It is in no form where it reads as nothing, and no other refusal is answered.
-abbrev pub IsReadingOf : List ℕ → Result Line Stop → Type 0
-IsReadingOf line (Ok l) = ReadsLine line l
-IsReadingOf line (Err (Refused Form)) = (l : Line) → ReadsLine line l → ⊥
-IsReadingOf line (Err (Refused _)) = ⊥
-IsReadingOf line (Err NoMemory) = Unit {0}
+-- In the version the line reads as the answer. It is in no form where it reads as nothing, and no other refusal is
+-- answered.
+abbrev pub IsReadingOf : Version → List ℕ → Result Line Stop → Type 0
+IsReadingOf version line (Ok l) = ReadsLine version line l
+IsReadingOf version line (Err (Refused Form)) = (l : Line) → ReadsLine version line l → ⊥
+IsReadingOf version line (Err (Refused _)) = ⊥
+IsReadingOf version line (Err NoMemory) = Unit {0}
 
 -- what a function returned, seen by view, is what reading gives, unless memory ran out
 abbrev pub Gives : {X Y : Type 0} → (X → Y) → Result X Misread → Option Y → Type 0

@@ -1,3 +1,4 @@
+pub mod Conditions
 pub mod Derived
 pub mod Given
 pub mod Printed

@@ -1,19 +1,21 @@
 // Lines that change the standing premises. Each function reads the words behind a line's first one.
-ghost use Rattle.std.specs.Prelude.{◌≡◌, option_map};
+ghost use Rattle.std.specs.Prelude.{◌≡◌, option_map, codes};
 ghost use Rattle.tmm_model.specs.Lines.{words};
-ghost use Rattle.tmm_grammar.specs.Reading.{class_of, dist_of, rule_of, given_of, protect_of, name_alone_of, two_names_of, premise_of, edit_of, is_range as is_range_of};
+ghost use Rattle.tmm_grammar.specs.Reading.{class_of, dist_of, rule_of, facts_of, conditions_of, protect_of, name_alone_of, two_names_of, premise_of, alone, two_of, upgrade_of, edit_of, is_range as is_range_of};
+ghost use Rattle.tmm_script.specs.Conditions.{Cut, given_cut};
 
 use crate::fields::{
-    all_names, at_end, take_bound, take_horizon, take_name, take_number, take_point,
+    all_names, at_end, ends_given, names_before, take_bound, take_horizon, take_name, take_number,
+    take_point,
 };
 use arrayvec::ArrayVec;
-use tmm_model::{Bound, Edit, MOST_ANTECEDENTS, Name, Premise};
+use tmm_model::{Bound, Edit, MOST_ANTECEDENTS, MOST_EXCEPTIONS, Name, Premise, Version};
 use tmm_words::split_word;
 
-/// The change that a line with this first word makes.
+/// The change that in a version a line with this first word makes.
 #[tactic(auto, unfolding(tmm_grammar::specs::Reading::edit_of))]
-pub fn edit(word: &[u8], rest: &[u8]) -> Option<Edit>
-    ensures { result ≡ edit_of word.now (words rest.now) }
+pub fn edit(version: Version, word: &[u8], rest: &[u8]) -> Option<Edit>
+    ensures { result ≡ edit_of version word.now (words rest.now) }
 {
     if word == b"erase".as_slice() {
         return Some(Edit::Erase(name_alone(rest)?));
@@ -24,12 +26,37 @@ pub fn edit(word: &[u8], rest: &[u8]) -> Option<Edit>
         at_end(rest)?;
         return Some(Edit::Horizon(horizon));
     }
-    Some(Edit::Add(premise(word, rest)?))
+    if word == b"tmm".as_slice() {
+        return upgrade(version, rest);
+    }
+    Some(Edit::Add(premise(version, word, rest)?))
+}
+
+// Version 1 opens version 2.
+#[tactic(auto, unfolding(tmm_grammar::specs::Reading::upgrade_of))]
+fn upgrade(version: Version, line: &[u8]) -> Option<Edit>
+    ensures { result ≡ upgrade_of version (words line.now) }
+{
+    match version {
+        Version::One => two_alone(line),
+        Version::Two => None,
+    }
+}
+
+fn two_alone(line: &[u8]) -> Option<Edit>
+    ensures { result ≡ alone two_of (words line.now) }
+{
+    let (word, rest) = split_word(line)?;
+    if word != b"2".as_slice() {
+        return None;
+    }
+    at_end(rest)?;
+    Some(Edit::Upgrade)
 }
 
 #[tactic(auto, unfolding(tmm_grammar::specs::Reading::premise_of))]
-fn premise(word: &[u8], rest: &[u8]) -> Option<Premise>
-    ensures { result ≡ premise_of word.now (words rest.now) }
+fn premise(version: Version, word: &[u8], rest: &[u8]) -> Option<Premise>
+    ensures { result ≡ premise_of version word.now (words rest.now) }
 {
     if word == b"class".as_slice() {
         return class(rest);
@@ -58,7 +85,7 @@ fn premise(word: &[u8], rest: &[u8]) -> Option<Premise>
         return dist(rest);
     }
     if word == b"rule".as_slice() {
-        return rule(rest);
+        return rule(version, rest);
     }
     if word == b"protect".as_slice() {
         return protect(rest);
@@ -124,8 +151,8 @@ fn dist(line: &[u8]) -> Option<Premise>
 }
 
 #[tactic(auto, unfolding(tmm_grammar::specs::Reading::rule_of))]
-fn rule(line: &[u8]) -> Option<Premise>
-    ensures { result ≡ rule_of (words line.now) }
+fn rule(version: Version, line: &[u8]) -> Option<Premise>
+    ensures { result ≡ rule_of version (words line.now) }
 {
     let mut rest = line;
     let name = take_name(&mut rest)?;
@@ -133,7 +160,7 @@ fn rule(line: &[u8]) -> Option<Premise>
     let lo = take_number(&mut rest)?;
     let hi = take_bound(&mut rest)?;
     let effect = take_name(&mut rest)?;
-    let given = given(rest)?;
+    let (given, unless_facts) = conditions(version, rest)?;
     if lo < 1 || !is_range(Bound::Finite(lo), hi) {
         return None;
     }
@@ -144,17 +171,56 @@ fn rule(line: &[u8]) -> Option<Premise>
         hi,
         effect,
         given,
+        unless_facts,
     })
 }
 
-#[tactic(auto, unfolding(tmm_grammar::specs::Reading::given_of))]
-fn given(line: &[u8]) -> Option<ArrayVec<Name, MOST_ANTECEDENTS>>
-    ensures { option_map (λ facts. facts.items) result ≡ given_of (words line.now) }
+// The antecedents of a rule, and its exceptions.
+#[tactic(auto, unfolding(tmm_grammar::specs::Reading::conditions_of))]
+fn conditions(
+    version: Version,
+    line: &[u8],
+) -> Option<
+    (
+        ArrayVec<Name, MOST_ANTECEDENTS>,
+        ArrayVec<Name, MOST_EXCEPTIONS>,
+    ),
+>
+    ensures { option_map {U = Cut} (λ x. (x.0.items, x.1.items)) result ≡ conditions_of version (words line.now) }
+{
+    let (given, rest) = given(version, line)?;
+    let unless_facts = exceptions(rest)?;
+    Some((given, unless_facts))
+}
+
+// The antecedents, and the line from where they end on.
+#[tactic(auto, unfolding(tmm_grammar::specs::Reading::facts_of, tmm_grammar::specs::Reading::given_part, tmm_grammar::specs::Reading::exception_part))]
+fn given(version: Version, line: &[u8]) -> Option<(ArrayVec<Name, MOST_ANTECEDENTS>, &[u8])>
+    ensures { option_map {U = Cut} (λ x. (x.0.items, words x.1.now)) result ≡ given_cut version (words line.now) }
+{
+    let Some((word, behind)) = split_word(line) else {
+        return Some((ArrayVec::new(), line));
+    };
+    if ends_given(version, word) {
+        return Some((ArrayVec::new(), line));
+    }
+    if word != b"if".as_slice() {
+        return None;
+    }
+    let (facts, rest) = names_before(version, behind)?;
+    let none = facts.is_empty();
+    if none { None } else { Some((facts, rest)) }
+}
+
+// Nothing, or `unless` and facts.
+#[tactic(auto, unfolding(tmm_grammar::specs::Reading::facts_of))]
+fn exceptions(line: &[u8]) -> Option<ArrayVec<Name, MOST_EXCEPTIONS>>
+    ensures { option_map (λ facts. facts.items) result ≡ facts_of (codes "unless") 2 (words line.now) }
 {
     let Some((word, rest)) = split_word(line) else {
         return Some(ArrayVec::new());
     };
-    if word != b"if".as_slice() {
+    if word != b"unless".as_slice() {
         return None;
     }
     let facts = all_names(rest)?;

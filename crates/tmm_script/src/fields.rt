@@ -3,7 +3,8 @@
 ghost use Rattle.std.specs.Prelude.{◌≡◌, ◌∷◌, [], ℕ, List, length, take, option_map, IsSome, IsTrue, ◌↔◌};
 ghost use Rattle.tmm_model.specs.Lines.{words};
 ghost use Rattle.tmm_grammar.specs.Bare.{bare_occ, bare_point};
-ghost use Rattle.tmm_grammar.specs.Reading.{front, name_of, names_of, number_of, bound_of, point_of, horizon_of, horizon_from, occ_of, query_point_of};
+ghost use Rattle.tmm_grammar.specs.Reading.{front, name_of, names_of, number_of, bound_of, point_of, horizon_of, horizon_from, occ_of, query_point_of, ends_given};
+ghost use Rattle.tmm_script.specs.Conditions.{Cut, names_cut};
 ghost use Rattle.tmm_words.specs.Spelling.{begins_derived};
 ghost use Rattle.tmm_script.specs.Derived.{some_derived};
 ghost use Rattle.tmm_script.specs.Given.{Gives, OnMemory};
@@ -11,7 +12,7 @@ ghost use Rattle.tmm_script.specs.declared.fields.Misread.TheVariants.{Memory};
 
 use arrayvec::ArrayVec;
 use std::alloc::Global;
-use tmm_model::{Bound, LAST_HORIZON, Name, NoMemory, Occ, PointName, QueryPoint};
+use tmm_model::{Bound, LAST_HORIZON, Name, NoMemory, Occ, PointName, QueryPoint, Version};
 use tmm_words::{bound, number, occ, point_name, split_word};
 
 /// Why words are not read.
@@ -116,6 +117,41 @@ pub fn all_names<const N: usize>(line: &[u8]) -> Option<ArrayVec<Name, N>>
         rest = behind;
     }
     Some(names)
+}
+
+/// Whether antecedents end at the word.
+pub fn ends_given(version: Version, word: &[u8]) -> bool
+    ensures { result ≡ ends_given version word.now }
+{
+    match version {
+        Version::One => false,
+        Version::Two => word == b"unless".as_slice(),
+    }
+}
+
+/// The words before the one at which antecedents end, where they are names and at most `N`, and the line
+/// from there on.
+#[tactic(auto, unfolding(tmm_grammar::specs::Reading::given_part, tmm_grammar::specs::Reading::exception_part))]
+pub fn names_before<const N: usize>(
+    version: Version,
+    line: &[u8],
+) -> Option<(ArrayVec<Name, N>, &[u8])>
+    ensures { option_map {U = Cut} (λ x. (x.0.items, words x.1.now)) result ≡ names_cut N version (words line.now) }
+{
+    let mut names = ArrayVec::new();
+    let mut rest = line;
+    while let Some((word, behind)) = split_word(rest) {
+        if ends_given(version, word) {
+            return Some((names, rest));
+        }
+        let full = names.is_full();
+        if full {
+            return None;
+        }
+        names.push(Name::of(word)?);
+        rest = behind;
+    }
+    Some((names, rest))
 }
 
 /// Takes the next word, where it names a point of a question.

@@ -15,24 +15,24 @@ use crate::edits::edit;
 use crate::fields::Misread;
 use crate::queries::query;
 use std::alloc::Global;
-use tmm_model::{LONGEST_LINE, Line, Refusal, Stop};
+use tmm_model::{LONGEST_LINE, Line, Refusal, Stop, Version};
 use tmm_words::split_word;
 
-/// What a line of a script, without its line break, says. A line of more than `LONGEST_LINE` bytes
-/// is refused as `LimitLine`, and one that is in no form of the grammar as `Form`. A silent line and
-/// a change take no memory. Any other line takes some only where it asks of a point or an occurrence
+/// What in a version a line of a script, without its line break, says. A line of more than `LONGEST_LINE`
+/// bytes is refused as `LimitLine`, and one that is in no form of the version's grammar as `Form`. A silent
+/// line and a change take no memory. Any other line takes some only where it asks of a point or an occurrence
 /// whose word begins with a name, a `/` and a further name.
-pub fn parse_line(alloc: Global, line: &[u8]) -> Result<Line, Stop>
+pub fn parse_line(alloc: Global, version: Version, line: &[u8]) -> Result<Line, Stop>
     ensures too_long { (result ≡ Err (Refused LimitLine)) ↔ (400 < length line.now) }
-    ensures read { length line.now ≤ 400 → IsReadingOf line.now result }
+    ensures read { length line.now ≤ 400 → IsReadingOf version line.now result }
     ensures silent { length line.now ≤ 400 → IsSilent (words line.now) → result ≡ Ok Silent }
-    ensures no_memory { result ≡ Err NoMemory → (length line.now ≤ 400) × ((e : Edits) → ReadsLine line.now (Change e) → ⊥) }
+    ensures no_memory { result ≡ Err NoMemory → (length line.now ≤ 400) × ((e : Edits) → ReadsLine version line.now (Change e) → ⊥) }
     ensures memory { result ≡ Err NoMemory → IsTrue (asks_derived (words line.now)) }
 {
     if line.len() > LONGEST_LINE {
         return Err(Stop::Refused(Refusal::LimitLine));
     }
-    match read(alloc, line) {
+    match read(alloc, version, line) {
         Ok(line) => Ok(line),
         Err(Misread::Form) => Err(Stop::Refused(Refusal::Form)),
         Err(Misread::Memory) => Err(Stop::NoMemory),
@@ -50,10 +50,10 @@ pub fn is_silent(line: &[u8]) -> bool
     }
 }
 
-fn read(alloc: Global, line: &[u8]) -> Result<Line, Misread>
-    ensures value { Gives bare_line result (line_of (words line.now)) }
+fn read(alloc: Global, version: Version, line: &[u8]) -> Result<Line, Misread>
+    ensures value { Gives bare_line result (line_of version (words line.now)) }
     ensures silent { IsSilent (words line.now) → result ≡ Ok Silent }
-    ensures memory { result ≡ Err Memory → (e : Edits) → Reads (words line.now) (Change e) → ⊥ }
+    ensures memory { result ≡ Err Memory → (e : Edits) → Reads version (words line.now) (Change e) → ⊥ }
     ensures derived { OnMemory result (IsTrue (asks_derived (words line.now))) }
 {
     let Some((word, rest)) = split_word(line) else {
@@ -62,7 +62,7 @@ fn read(alloc: Global, line: &[u8]) -> Result<Line, Misread>
     if comment(word) {
         return Ok(Line::Silent);
     }
-    match edit(word, rest) {
+    match edit(version, word, rest) {
         Some(edit) => Ok(Line::Change(edit)),
         None => Ok(Line::Question(query(alloc, word, rest)?)),
     }

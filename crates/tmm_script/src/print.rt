@@ -1,18 +1,20 @@
 // The line of a premise.
 ghost use Rattle.std.specs.Prelude.{◌≡◌, ◌∷◌, ◌++◌, map, OnOk, OnErr};
 ghost use Rattle.tmm_model.specs.Points.{point_word};
-ghost use Rattle.tmm_model.specs.Lines.{number_word, bound_word, behind_spaces, shown, shown_text};
+ghost use Rattle.tmm_model.specs.Lines.{number_word, bound_word, behind_spaces, facts_words, shown, shown_text};
 ghost use Rattle.tmm_model.specs.declared.bound.Bound.TheVariants.{Free};
 ghost use Rattle.tmm_script.specs.declared.print.Field.TheVariants.{Bound as BoundField};
-ghost use Rattle.tmm_script.specs.Printed.{field_word, first_word, head_words, tail_words, AppendsFront};
+ghost use Rattle.tmm_script.specs.Printed.{field_word, first_word, head_words, conditions_words, tail_words, AppendsFront};
 
 use arrayvec::ArrayVec;
 use itoa::Buffer;
 use std::alloc::Global;
-use tmm_model::{Bound, Name, NoMemory, PointName, Premise, Seq};
+use tmm_model::{
+    Bound, MOST_ANTECEDENTS, MOST_EXCEPTIONS, Name, NoMemory, PointName, Premise, Seq,
+};
 
-/// Appends the words that declare a premise, parted by one space. The line reads as the premise
-/// where it is well formed. Without memory a front of the text may have been appended.
+/// Appends the words that declare a premise, parted by one space. The line reads as the premise in each
+/// version in which it is well formed. Without memory a front of the text may have been appended.
 pub fn print_premise(_alloc: Global, premise: &Premise, out: &mut Seq<u8>) -> Result<(), NoMemory>
     ensures ok { OnOk result (out.new.items ≡ out.old.items ++ shown_text premise.now) }
     ensures err { OnErr result (AppendsFront out.old.items out.new.items (shown_text premise.now)) }
@@ -111,19 +113,46 @@ fn fields(premise: &Premise) -> ArrayVec<Field, 5>
     fields
 }
 
-// The facts of a class, or the antecedents of a rule.
+// The facts of a class, or the antecedents and exceptions of a rule.
 fn put_facts(out: &mut Seq<u8>, premise: &Premise) -> Result<(), NoMemory>
     ensures ok { OnOk result (out.new.items ≡ out.old.items ++ behind_spaces (tail_words premise.now)) }
     ensures err { OnErr result (AppendsFront out.old.items out.new.items (behind_spaces (tail_words premise.now))) }
 {
     match premise {
         Premise::Class { facts, .. } => put_names(out, facts.as_slice()),
-        Premise::Rule { given, .. } if !given.is_empty() => {
-            out.extend(b" if")?;
-            put_names(out, given.as_slice())
-        }
+        Premise::Rule {
+            given,
+            unless_facts,
+            ..
+        } => put_conditions(out, given, unless_facts),
         _ => Ok(()),
     }
+}
+
+// Antecedents, and then exceptions.
+fn put_conditions(
+    out: &mut Seq<u8>,
+    given: &ArrayVec<Name, MOST_ANTECEDENTS>,
+    exceptions: &ArrayVec<Name, MOST_EXCEPTIONS>,
+) -> Result<(), NoMemory>
+    ensures ok { OnOk result (out.new.items ≡ out.old.items ++ behind_spaces (conditions_words given.now.items exceptions.now.items)) }
+    ensures err { OnErr result (AppendsFront out.old.items out.new.items (behind_spaces (conditions_words given.now.items exceptions.now.items))) }
+{
+    put_behind(out, b"if", given.as_slice())?;
+    put_behind(out, b"unless", exceptions.as_slice())
+}
+
+// Facts behind a word, and nothing where there are none.
+fn put_behind(out: &mut Seq<u8>, word: &[u8], facts: &[Name]) -> Result<(), NoMemory>
+    ensures ok { OnOk result (out.new.items ≡ out.old.items ++ behind_spaces (facts_words word.now facts.now)) }
+    ensures err { OnErr result (AppendsFront out.old.items out.new.items (behind_spaces (facts_words word.now facts.now))) }
+{
+    if facts.is_empty() {
+        return Ok(());
+    }
+    out.extend(b" ")?;
+    out.extend(word)?;
+    put_names(out, facts)
 }
 
 fn put_names(out: &mut Seq<u8>, names: &[Name]) -> Result<(), NoMemory>

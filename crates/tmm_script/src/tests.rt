@@ -5,10 +5,10 @@ use super::*;
 use std::alloc::Global;
 use std::process::Abort;
 use std::test::Fail;
-use tmm_model::{Edit, Line, NoMemory, Refusal, Seq, Stop};
+use tmm_model::{Edit, Line, NoMemory, Refusal, Seq, Stop, Version};
 
-fn told(alloc: Global, line: &[u8]) -> &'static str {
-    match parse_line(alloc, line) {
+fn told(alloc: Global, version: Version, line: &[u8]) -> &'static str {
+    match parse_line(alloc, version, line) {
         Ok(Line::Silent) => "silent",
         Ok(Line::Change(Edit::Add(_))) => "premise",
         Ok(Line::Change(_)) => "change",
@@ -23,14 +23,33 @@ fn told(alloc: Global, line: &[u8]) -> &'static str {
 fn lines_are_read(rt: HostRuntime) {
     let alloc = rt.alloc();
     for line in data::CHANGES.split(|b| *b == b'\n') {
-        assert_eq!(rt; told(alloc, line), "change");
+        assert_eq!(rt; told(alloc, Version::One, line), "change");
     }
     for line in data::QUESTIONS.split(|b| *b == b'\n') {
-        assert_eq!(rt; told(alloc, line), "question");
+        assert_eq!(rt; told(alloc, Version::One, line), "question");
     }
     for line in data::REFUSED.split(|b| *b == b'\n') {
-        assert_eq!(rt; told(alloc, line), "form");
+        assert_eq!(rt; told(alloc, Version::One, line), "form");
     }
+}
+
+#[test]
+fn lines_of_version_2_are_read(rt: HostRuntime) -> Result<(), Fail> {
+    let alloc = rt.alloc();
+    for line in data::RULES.split(|b| *b == b'\n') {
+        let mut out = Seq::make(alloc);
+        print_again(alloc, Version::Two, line, &mut out)?;
+        assert_eq!(rt; out.items(), line);
+    }
+    for line in data::REFUSED_RULES.split(|b| *b == b'\n') {
+        assert_eq!(rt; told(alloc, Version::Two, line), "form");
+    }
+    assert_eq!(rt; told(alloc, Version::One, b"tmm 2"), "change");
+    assert_eq!(rt;
+        told(alloc, Version::One, b"rule r t 1 1 x unless g"),
+        "form"
+    );
+    Ok(())
 }
 
 // Prints the premise that a line adds; nothing where it adds none.
@@ -42,8 +61,13 @@ fn print_added(alloc: Global, line: &Line, out: &mut Seq<u8>) -> Result<(), NoMe
 }
 
 // Reads a line, and prints the premise that it adds.
-fn print_again(alloc: Global, line: &[u8], out: &mut Seq<u8>) -> Result<(), NoMemory> {
-    match parse_line(alloc, line) {
+fn print_again(
+    alloc: Global,
+    version: Version,
+    line: &[u8],
+    out: &mut Seq<u8>,
+) -> Result<(), NoMemory> {
+    match parse_line(alloc, version, line) {
         Ok(read) => print_added(alloc, &read, out),
         Err(_) => Ok(()),
     }
@@ -53,7 +77,7 @@ fn print_again(alloc: Global, line: &[u8], out: &mut Seq<u8>) -> Result<(), NoMe
 fn premises_are_read_and_printed(rt: HostRuntime) -> Result<(), Fail> {
     for line in data::PREMISES.split(|b| *b == b'\n') {
         let mut out = Seq::make(rt.alloc());
-        print_again(rt.alloc(), line, &mut out)?;
+        print_again(rt.alloc(), Version::One, line, &mut out)?;
         assert_eq!(rt; out.items(), line);
     }
     Ok(())
@@ -73,7 +97,7 @@ fn blanks_part_words(rt: HostRuntime) {
         (b"\xff".as_slice(), "form"),
         (b"kind T #".as_slice(), "form"),
     ] {
-        assert_eq!(rt; told(alloc, line), wanted);
+        assert_eq!(rt; told(alloc, Version::One, line), wanted);
     }
 }
 
@@ -88,7 +112,7 @@ fn is_told(
     let mut line = Vec::new(alloc);
     line.extend_from_slice(start)?;
     line.resize(length, b' ')?;
-    assert_eq!(rt; told(alloc, line.as_slice()), wanted);
+    assert_eq!(rt; told(alloc, Version::One, line.as_slice()), wanted);
     Ok(())
 }
 

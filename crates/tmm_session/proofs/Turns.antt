@@ -14,6 +14,7 @@ use Rattle.tmm_model.specs.declared.refusal.Refusal.TheVariants.{LimitLine, Form
 use Rattle.tmm_model.specs.declared.refusal.Stop.{Stop}
 use Rattle.tmm_model.specs.declared.refusal.Stop.TheVariants.{Refused as Stopped, NoMemory as OutOfMemory}
 use Rattle.tmm_model.specs.declared.seq.Seq.{Seq}
+use Rattle.tmm_model.specs.declared.version.Version.{Version}
 use Rattle.tmm_model.specs.Lines.{words, ReadsLine}
 use Rattle.tmm_grammar.specs.Bare.{bare_line}
 use Rattle.tmm_grammar.specs.LineLaws.{ReadingIsOne}
@@ -78,12 +79,12 @@ kind-refusal (Answered Unordered) = refl
 kind-refusal (Reasons lines) = refl
 kind-refusal (BrokenAre broken) = refl
 kind-refusal (Believed found) = refl
-kind-refusal (DumpIs horizon lines) = refl
+kind-refusal (DumpIs version horizon lines) = refl
 kind-refusal AuditYes = refl
 kind-refusal (SizeIs n) = refl
 
 -- a line is answered as what it says
-pub TellsLine-meaning : (old new : Standing) (k : ℕ) (line : List ℕ) (meaning : Line) (t : Told) → IsReadAs line meaning → (IsReadAs line Blank → ⊥)
+pub TellsLine-meaning : (old new : Standing) (k : ℕ) (line : List ℕ) (meaning : Line) (t : Told) → IsReadAs old.version line meaning → (IsReadAs old.version line Blank → ⊥)
     → TellsMeaning old k meaning t new → TellsLine old k line t new
 TellsLine-meaning old new k line meaning Silent read other told = absurd told
 TellsLine-meaning old new k line meaning Memory read other told = ((other, told), tt)
@@ -92,7 +93,7 @@ TellsLine-meaning old new k line meaning (ReplyOf bytes kind) read other told =
 
 -- a line is refused for its length or its form
 TellsLine-refused : (old : Standing) (k : ℕ) (line : List ℕ) (refusal : Refusal) (t : Told) → ((reply : Reply) → reply ≡ Refused refusal → LineAnswers old line reply old)
-    → (IsReadAs line Blank → ⊥) → Tells k (λ reply. reply ≡ Refused refusal) (Unit {0}) t → TellsLine old k line t old
+    → (IsReadAs old.version line Blank → ⊥) → Tells k (λ reply. reply ≡ Refused refusal) (Unit {0}) t → TellsLine old k line t old
 TellsLine-refused old k line refusal Silent answers other told = absurd told
 TellsLine-refused old k line refusal Memory answers other told = ((other, refl), tt)
 TellsLine-refused old k line refusal (ReplyOf bytes kind) answers other told =
@@ -104,30 +105,30 @@ Step-told old new k line t told = told.0
 
 -- ---- a line says one thing
 
-pub change_is_not_silent : ReadingIsOne → (line : List ℕ) (edit : Edit) → IsReadAs line (Change edit) → IsReadAs line Blank → ⊥
-change_is_not_silent one line edit read silent =
-    let same : bare_line (Change edit) ≡ bare_line Blank = one (words line) (Change edit) Blank read.reads silent.reads in cc same
+pub change_is_not_silent : ReadingIsOne → (version : Version) (line : List ℕ) (edit : Edit) → IsReadAs version line (Change edit) → IsReadAs version line Blank → ⊥
+change_is_not_silent one version line edit read silent =
+    let same : bare_line (Change edit) ≡ bare_line Blank = one version (words line) (Change edit) Blank read.reads silent.reads in cc same
 
-pub question_is_not_silent : ReadingIsOne → (line : List ℕ) (query : Query) → IsReadAs line (Question query) → IsReadAs line Blank → ⊥
-question_is_not_silent one line query read silent =
-    let same : bare_line (Question query) ≡ bare_line Blank = one (words line) (Question query) Blank read.reads silent.reads in cc same
+pub question_is_not_silent : ReadingIsOne → (version : Version) (line : List ℕ) (query : Query) → IsReadAs version line (Question query) → IsReadAs version line Blank → ⊥
+question_is_not_silent one version line query read silent =
+    let same : bare_line (Question query) ≡ bare_line Blank = one version (words line) (Question query) Blank read.reads silent.reads in cc same
 
 -- ---- what reading a line gives
 
 -- a line that was read is short, and reads so
-pub read_line : (line : List ℕ) (meaning : Line) (result : Result Line Stop) → result ≡ Ok meaning
-    → ((result ≡ Err (Stopped LimitLine)) ↔ (400 < length line)) → (length line ≤ 400 → IsReadingOf line result) → IsReadAs line meaning
-read_line line meaning result is too_long read = elim (leb_tells (length line) 400) [
-  | inl short ↦ record { short = short.1; reads = subst (IsReadingOf line) is (read short.1) }
+pub read_line : (version : Version) (line : List ℕ) (meaning : Line) (result : Result Line Stop) → result ≡ Ok meaning
+    → ((result ≡ Err (Stopped LimitLine)) ↔ (400 < length line)) → (length line ≤ 400 → IsReadingOf version line result) → IsReadAs version line meaning
+read_line version line meaning result is too_long read = elim (leb_tells (length line) 400) [
+  | inl short ↦ record { short = short.1; reads = subst (IsReadingOf version line) is (read short.1) }
   | inr long ↦ absurd (let e : Ok meaning ≡ Err (Stopped LimitLine) = sym is ∙ too_long.1 long.1 in cc e)
 ]
 
 -- a line that is refused as it is read is too long, or in no form
 pub TellsLine-stopped : (old : Standing) (k : ℕ) (line : List ℕ) (refusal : Refusal) (t : Told) (result : Result Line Stop) → result ≡ Err (Stopped refusal)
-    → ((result ≡ Err (Stopped LimitLine)) ↔ (400 < length line)) → (length line ≤ 400 → IsReadingOf line result)
+    → ((result ≡ Err (Stopped LimitLine)) ↔ (400 < length line)) → (length line ≤ 400 → IsReadingOf old.version line result)
     → Tells k (λ reply. reply ≡ Refused refusal) (Unit {0}) t → TellsLine old k line t old
 TellsLine-stopped old k line refusal t result is too_long read told = elim (leb_tells (length line) 400) [
-  | inl short ↦ by_form refusal is (subst (IsReadingOf line) is (read short.1)) short.1 told
+  | inl short ↦ by_form refusal is (subst (IsReadingOf old.version line) is (read short.1)) short.1 told
   | inr long ↦ (let e : Err (Stopped refusal) ≡ Err (Stopped LimitLine) = sym is ∙ too_long.1 long.1 in
       let same : refusal ≡ LimitLine = cc in by_length long.1 (subst (λ (r : Refusal). Tells k (λ reply. reply ≡ Refused r) (Unit {0}) t) same told))
 ]
@@ -135,7 +136,7 @@ TellsLine-stopped old k line refusal t result is too_long read told = elim (leb_
     by_length : 400 < length line → Tells k (λ reply. reply ≡ Refused LimitLine) (Unit {0}) t → TellsLine old k line t old
     by_length long told = TellsLine-refused old k line LimitLine t (λ reply e. for_length long e refl) (λ silent. omega (arith, silent.short)) told
 
-    by_form : (refusal : Refusal) → result ≡ Err (Stopped refusal) → IsReadingOf line (Err (Stopped refusal)) → length line ≤ 400
+    by_form : (refusal : Refusal) → result ≡ Err (Stopped refusal) → IsReadingOf old.version line (Err (Stopped refusal)) → length line ≤ 400
         → Tells k (λ reply. reply ≡ Refused refusal) (Unit {0}) t → TellsLine old k line t old
     by_form LimitLine is given short told = by_length (too_long.0 is) told
     by_form Form is given short told = TellsLine-refused old k line Form t (λ reply e. for_form short given e refl) (λ silent. given Blank silent.reads) told
@@ -148,6 +149,6 @@ TellsLine-stopped old k line refusal t result is too_long read told = elim (leb_
     by_form LimitSize is given short told = absurd given
 
 -- a line for which there was no memory is not silent
-pub no_memory_is_not_silent : (line : List ℕ) (result : Result Line Stop) → result ≡ Err OutOfMemory
-    → (length line ≤ 400 → ReadsLine line Blank → result ≡ Ok Blank) → IsReadAs line Blank → ⊥
-no_memory_is_not_silent line result is silent read = let e : Err OutOfMemory ≡ Ok Blank = sym is ∙ silent read.short read.reads in cc e
+pub no_memory_is_not_silent : (version : Version) (line : List ℕ) (result : Result Line Stop) → result ≡ Err OutOfMemory
+    → (length line ≤ 400 → ReadsLine version line Blank → result ≡ Ok Blank) → IsReadAs version line Blank → ⊥
+no_memory_is_not_silent version line result is silent read = let e : Err OutOfMemory ≡ Ok Blank = sym is ∙ silent read.short read.reads in cc e

@@ -1,9 +1,13 @@
 // One line to one reply.
-ghost use Rattle.std.specs.Prelude.{◌≡◌, ◌+◌, ◌-◌, ◌^◌, ◌<◌, [], None, MatchResult};
-ghost use Rattle.tmm_model.specs.Lines.{IsWellFormedEdit, IsWellFormedQuery};
+ghost use Rattle.std.specs.Prelude.{◌≡◌, ◌+◌, ◌-◌, ◌^◌, ◌<◌, ◌≤◌, ◌↔◌, length, [], None, Ok, Err, MatchResult};
+ghost use Rattle.tmm_model.specs.declared.line.Line.TheVariants.{Silent};
+ghost use Rattle.tmm_model.specs.declared.refusal.Refusal.TheVariants.{LimitLine};
+ghost use Rattle.tmm_model.specs.declared.refusal.Stop.TheVariants.{Refused as Stopped};
+ghost use Rattle.tmm_model.specs.Lines.{IsWellFormedEdit, IsWellFormedQuery, IsSilent, words};
 ghost use Rattle.tmm_model.specs.Replies.{Refused, Answered, Reasons, text_of};
 ghost use Rattle.tmm_model.specs.Standing.{Standing};
 ghost use Rattle.tmm_model.specs.Transcript.{Step};
+ghost use Rattle.tmm_script.specs.Given.{IsReadingOf};
 ghost use Rattle.tmm_session.specs.Kinds.{kind_of};
 ghost use Rattle.tmm_session.specs.Sessions.{Tells, TellsLine, TellsMeaning};
 ghost use Rattle.tmm_session.specs.LongLines.{Step-long};
@@ -99,7 +103,7 @@ fn said<M: MapCore>(
     ensures tells { TellsLine (M.list core.old) line bytes.now result (M.list core.new) }
     ensures idle { M.pending core.new ≡ None }
 {
-    let meaning = match parse_line(alloc, bytes) {
+    let meaning = match read(alloc, bytes, core) {
         Ok(meaning) => meaning,
         Err(Stop::Refused(refusal)) => return refuse(alloc, line, &refusal),
         Err(Stop::NoMemory) => return Told::Memory,
@@ -109,6 +113,16 @@ fn said<M: MapCore>(
         Line::Change(edit) => change(alloc, line, &edit, core, counter),
         Line::Question(query) => answer(alloc, line, &query, core),
     }
+}
+
+// What a line says in the version of the map's list.
+fn read<M: MapCore>(alloc: Global, bytes: &[u8], core: &M) -> Result<Line, Stop>
+    requires idle { M.pending core.now ≡ None }
+    ensures too_long { (result ≡ Err (Stopped LimitLine)) ↔ (400 < length bytes.now) }
+    ensures read { length bytes.now ≤ 400 → IsReadingOf (M.list core.now).version bytes.now result }
+    ensures silent { length bytes.now ≤ 400 → IsSilent (words bytes.now) → result ≡ Ok Silent }
+{
+    parse_line(alloc, core.standing().version(), bytes)
 }
 
 // The reply that these bytes are, where there was memory for them.

@@ -76,7 +76,7 @@ root_here (Span k g) name sort at e = ap (λ n. Some (At (Begin n))) (only (k, a
 root_here (Kind k) name sort at e = let w : false ≡ true = ap is_root (only (k, a_kind) name sort at).1 ∙ e in cc
 root_here (Point k) name sort at e = let w : false ≡ true = ap is_root (only (k, a_point) name sort at).1 ∙ e in cc
 root_here (Dist k from to lo hi) name sort at e = let w : false ≡ true = ap is_root (only (k, a_dist) name sort at).1 ∙ e in cc
-root_here (Rule k trigger lo hi effect given) name sort at e = let w : false ≡ true = ap is_root (only (k, a_rule) name sort at).1 ∙ e in cc
+root_here (Rule k trigger lo hi effect given unless_facts) name sort at e = let w : false ≡ true = ap is_root (only (k, a_rule) name sort at).1 ∙ e in cc
 root_here (Protect k g from to) name sort at e = let w : false ≡ true = ap is_root (only (k, a_protection) name sort at).1 ∙ e in cc
 root_here (Class k facts) name sort (inl q) e = let w : false ≡ true = ap (λ d. is_root d.1) q ∙ e in cc
 root_here (Class k facts) name sort (inr at) e =
@@ -102,7 +102,7 @@ sort_of_root (Span k g) name e = (a_span, ([], refl), refl, cc)
 sort_of_root (Kind k) name e = cc
 sort_of_root (Point k) name e = cc
 sort_of_root (Dist k from to lo hi) name e = cc
-sort_of_root (Rule k trigger lo hi effect given) name e = cc
+sort_of_root (Rule k trigger lo hi effect given unless_facts) name e = cc
 sort_of_root (Protect k g from to) name e = cc
 sort_of_root (Class k facts) name e = cc
 

@@ -25,6 +25,24 @@ rule r t 7 9 if if if if f g\n\
 protect x f p q\n\
 protect x f start k.end";
 
+// Rules of version 2, as they are printed.
+pub const RULES: &[u8] = b"\
+rule r t 1 1 x\n\
+rule r t 1 1 x if f\n\
+rule r t 1 1 x unless g\n\
+rule r t 7 9 x if f g h i unless j k\n\
+rule r t 7 9 unless if if if unless if unless";
+
+// Lines in no form of version 2.
+pub const REFUSED_RULES: &[u8] = b"\
+tmm 2\n\
+tmm 1\n\
+rule r t 1 1 x if\n\
+rule r t 1 1 x if unless g\n\
+rule r t 1 1 x unless\n\
+rule r t 1 1 x unless g if h\n\
+rule r t 1 1 x if a b c d e unless g";
+
 // Other changes.
 pub const CHANGES: &[u8] = b"\
 horizon 0\n\

@@ -42,7 +42,7 @@ returns-clause-ok c =
     let class = c.class_of-class.result in
     let shape = c.effect_shape-shape.result in
     let fits : FitsSigned w64 c.in-Some-Rule.lo = search rules in
-    let there : premise_in s.premises r ≡ Some (Rule c.in-Some-Rule.field-0-0 c.in-Some-Rule.field-0-1 lo hi effect c.in-Some-Rule.field-0-5) = sym c.in-Some-Rule.ensures ∙ ap Some c.in-Some-Rule.field-0-is in
+    let there : premise_in s.premises r ≡ Some (Rule c.in-Some-Rule.field-0-0 c.in-Some-Rule.field-0-1 lo hi effect c.in-Some-Rule.field-0-5 c.in-Some-Rule.field-0-6) = sym c.in-Some-Rule.ensures ∙ ap Some c.in-Some-Rule.field-0-is in
     let (m, at) = node_at f t c.requires.trigger in
     let same_shape : shape ≡ effect_shape (class_in s.premises effect) = c.effect_shape-shape.ensures ∙ ap effect_shape c.class_of-class.ensures in
     let link : Link = record { rule = r; lo = to_z w64 (of_z w64 lo); hi = hi } in
@@ -51,7 +51,7 @@ returns-clause-ok c =
     (λ x enters net is.
     let entered = enters m at in
     let adds : Adds s net.names f new x (After (moment_at f t) r) =
-    effect_adds s net f is.seen t m at r c.requires.enters c.in-Some-Rule.field-0-0 c.in-Some-Rule.field-0-1 lo hi effect c.in-Some-Rule.field-0-5 there new x
+    effect_adds s net f is.seen t m at r c.requires.enters c.in-Some-Rule.field-0-0 c.in-Some-Rule.field-0-1 lo hi effect c.in-Some-Rule.field-0-5 c.in-Some-Rule.field-0-6 there new x
     (subst (λ z. Enters f new x (child_member m (record { rule = r; lo = z; hi = hi }) effect (class_in s.premises effect) (effect_shape (class_in s.premises effect)))) (to_z-of_z w64 lo fits)
     (subst (λ o. Enters f new x (child_member m link effect o (effect_shape (class_in s.premises effect)))) c.class_of-class.ensures
     (subst (λ k. Enters f new x (child_member m link effect class k)) same_shape (growing_enters _ _ _ _ _ _ entered.grows)))) in
@@ -79,7 +79,7 @@ insert_child-requires-clause-delay c =
     let there = sym c.in-Some-Rule.ensures ∙ ap Some c.in-Some-Rule.field-0-is in
     let (m, at) = node_at f c.args.trigger c.requires.trigger in
     subst (λ z. IsNumber z × IsBound c.in-Some-Rule.hi × (pos 1 ≤ℤ z) × IsRange (Finite z) c.in-Some-Rule.hi) (sym (to_z-of_z w64 lo fits))
-    (delay_is s c.requires.seen.0 f c.requires.seen.1 c.args.trigger m at c.args.rule c.requires.enters c.in-Some-Rule.field-0-0 c.in-Some-Rule.field-0-1 lo c.in-Some-Rule.hi c.in-Some-Rule.effect c.in-Some-Rule.field-0-5 there)
+    (delay_is s c.requires.seen.0 f c.requires.seen.1 c.args.trigger m at c.args.rule c.requires.enters c.in-Some-Rule.field-0-0 c.in-Some-Rule.field-0-1 lo c.in-Some-Rule.hi c.in-Some-Rule.effect c.in-Some-Rule.field-0-5 c.in-Some-Rule.field-0-6 there)
 
 pub insert_child-requires-clause-word : goal.insert_child-requires-clause-word
 insert_child-requires-clause-word c =
@@ -87,7 +87,7 @@ insert_child-requires-clause-word c =
     let f = forest c.args.tree.now in
     let there = sym c.in-Some-Rule.ensures ∙ ap Some c.in-Some-Rule.field-0-is in
     let (m, at) = node_at f c.args.trigger c.requires.trigger in
-    word_is s c.requires.seen.0 f c.requires.seen.1 c.args.trigger m at c.args.rule c.requires.enters c.in-Some-Rule.field-0-0 c.in-Some-Rule.field-0-1 c.in-Some-Rule.lo c.in-Some-Rule.hi c.in-Some-Rule.effect c.in-Some-Rule.field-0-5 there
+    word_is s c.requires.seen.0 f c.requires.seen.1 c.args.trigger m at c.args.rule c.requires.enters c.in-Some-Rule.field-0-0 c.in-Some-Rule.field-0-1 c.in-Some-Rule.lo c.in-Some-Rule.hi c.in-Some-Rule.effect c.in-Some-Rule.field-0-5 c.in-Some-Rule.field-0-6 there
 
 either : {T E : Type 0} (r : Result T E) (P : T → Type 0) (Q A : Type 0) → ((x : T) → P x → A) → (Q → A) → IfOk r P → OnErr r Q → A
 either (Ok x) P Q A f g p q = f x p

@@ -17,7 +17,7 @@ use Rattle.belief_net.specs.Updating.{IsTouchedBy, IsLeftBy}
 use Rattle.belief_net.specs.Waiting.{dates_in}
 use Rattle.belief_net.specs.Woken.{IsRowAtRest}
 use Rattle.belief_net.proofs.Waking.{marks_wake}
-use Rattle.belief_net.proofs.opening.mark_touched.Goals.{in-Add, in-Erase}
+use Rattle.belief_net.proofs.opening.mark_touched.Goals.{in-Add, in-Erase, in-Upgrade}
 use Rattle.belief_net.proofs.opening.mark_touched.Goals as goal
 
 -- an effect is due between two horizons, or it is not
@@ -41,6 +41,7 @@ returns-clause-ok c =
     elim c.match-edit.branch [
       | in-Add w ↦ subst by_edit (sym w.in-Add.is) (subst by_name (w.added-is ∙ ap Some w.name.ensures) c.mark_moved.ensures.ok)
       | in-Erase w ↦ subst by_edit (sym w.in-Erase.is) (subst by_name w.added-is c.mark_moved.ensures.ok)
+      | in-Upgrade w ↦ subst by_edit (sym w.in-Upgrade.is) (subst by_name w.added-is c.mark_moved.ensures.ok)
     ]
 
 pub returns-in-Horizon-clause-ok : goal.returns-in-Horizon-clause-ok

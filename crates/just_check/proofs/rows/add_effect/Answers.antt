@@ -52,7 +52,7 @@ insert_child-requires-clause-delay c =
     let f = forest c.args.tree.now in
     let lo = c.in-Some-Rule.lo in
     let fits : FitsSigned w64 c.in-Some-Rule.lo = search rules in
-    let rule = Rule c.in-Some-Rule.field-0-0 c.in-Some-Rule.field-0-1 lo c.in-Some-Rule.hi c.in-Some-Rule.effect c.in-Some-Rule.field-0-5 in
+    let rule = Rule c.in-Some-Rule.field-0-0 c.in-Some-Rule.field-0-1 lo c.in-Some-Rule.hi c.in-Some-Rule.effect c.in-Some-Rule.field-0-5 c.in-Some-Rule.field-0-6 in
     let there : premise_in s.premises c.args.rule ≡ Some rule = sym c.in-Some-Rule.ensures ∙ ap Some c.in-Some-Rule.field-0-is in
     let (m, at) = node_at f c.args.x c.requires.live in
     let few = (c.row.ensures m at).rules in
@@ -62,13 +62,13 @@ insert_child-requires-clause-delay c =
       new = c.requires.new;
     } in
     subst (λ z. IsNumber z × IsBound c.in-Some-Rule.hi × (pos 1 ≤ℤ z) × IsRange (Finite z) c.in-Some-Rule.hi) (sym (to_z-of_z w64 lo fits))
-    (delay_is s c.requires.seen.0 f c.requires.seen.1 c.args.x m at c.args.rule may c.in-Some-Rule.field-0-0 c.in-Some-Rule.field-0-1 lo c.in-Some-Rule.hi c.in-Some-Rule.effect c.in-Some-Rule.field-0-5 there)
+    (delay_is s c.requires.seen.0 f c.requires.seen.1 c.args.x m at c.args.rule may c.in-Some-Rule.field-0-0 c.in-Some-Rule.field-0-1 lo c.in-Some-Rule.hi c.in-Some-Rule.effect c.in-Some-Rule.field-0-5 c.in-Some-Rule.field-0-6 there)
 
 pub insert_child-requires-clause-word : goal.insert_child-requires-clause-word
 insert_child-requires-clause-word c =
     let s = c.args.standing.now.present in
     let f = forest c.args.tree.now in
-    let rule = Rule c.in-Some-Rule.field-0-0 c.in-Some-Rule.field-0-1 c.in-Some-Rule.lo c.in-Some-Rule.hi c.in-Some-Rule.effect c.in-Some-Rule.field-0-5 in
+    let rule = Rule c.in-Some-Rule.field-0-0 c.in-Some-Rule.field-0-1 c.in-Some-Rule.lo c.in-Some-Rule.hi c.in-Some-Rule.effect c.in-Some-Rule.field-0-5 c.in-Some-Rule.field-0-6 in
     let there : premise_in s.premises c.args.rule ≡ Some rule = sym c.in-Some-Rule.ensures ∙ ap Some c.in-Some-Rule.field-0-is in
     let (m, at) = node_at f c.args.x c.requires.live in
     let few = (c.row.ensures m at).rules in
@@ -77,7 +77,7 @@ insert_child-requires-clause-word c =
       room = λ n at_n. let same : m ≡ n = (let g : Some m ≡ Some n = sym at ∙ at_n in cc) in subst (λ (k : Member). length k.links < 100000) same (omega (arith, few));
       new = c.requires.new;
     } in
-    word_is s c.requires.seen.0 f c.requires.seen.1 c.args.x m at c.args.rule may c.in-Some-Rule.field-0-0 c.in-Some-Rule.field-0-1 c.in-Some-Rule.lo c.in-Some-Rule.hi c.in-Some-Rule.effect c.in-Some-Rule.field-0-5 there
+    word_is s c.requires.seen.0 f c.requires.seen.1 c.args.x m at c.args.rule may c.in-Some-Rule.field-0-0 c.in-Some-Rule.field-0-1 c.in-Some-Rule.lo c.in-Some-Rule.hi c.in-Some-Rule.effect c.in-Some-Rule.field-0-5 c.in-Some-Rule.field-0-6 there
 
 pub returns-clause-adds : goal.returns-clause-adds
 returns-clause-adds c =
@@ -91,7 +91,7 @@ returns-clause-adds c =
     let class = c.class_of-class.result in
     let shape = c.effect_shape-shape.result in
     let fits : FitsSigned w64 c.in-Some-Rule.lo = search rules in
-    let rule = Rule c.in-Some-Rule.field-0-0 c.in-Some-Rule.field-0-1 lo hi effect c.in-Some-Rule.field-0-5 in
+    let rule = Rule c.in-Some-Rule.field-0-0 c.in-Some-Rule.field-0-1 lo hi effect c.in-Some-Rule.field-0-5 c.in-Some-Rule.field-0-6 in
     let there : premise_in s.premises r ≡ Some rule = sym c.in-Some-Rule.ensures ∙ ap Some c.in-Some-Rule.field-0-is in
     let (m, at) = node_at f c.args.x c.requires.live in
     let few = (c.row.ensures m at).rules in
@@ -105,7 +105,7 @@ returns-clause-adds c =
     IfOk-weaker c.insert_child.result
     (λ x. (n : Member) → member f c.args.x ≡ Some n → EntersTree c.args.tree.now c.insert_child.new.self x (child_member n link effect class shape) (Some c.args.x) (early (present c.args.tree.now) c.args.x +ℤ to_z w64 (of_z w64 lo)))
     (λ x. (net : Net) → IsSeen s net f → Adds s net.names f new x (After (moment_at f c.args.x) r))
-    (λ x enters net seen. effect_adds s net f seen c.args.x m at r may c.in-Some-Rule.field-0-0 c.in-Some-Rule.field-0-1 lo hi effect c.in-Some-Rule.field-0-5 there new x
+    (λ x enters net seen. effect_adds s net f seen c.args.x m at r may c.in-Some-Rule.field-0-0 c.in-Some-Rule.field-0-1 lo hi effect c.in-Some-Rule.field-0-5 c.in-Some-Rule.field-0-6 there new x
     (subst (λ z. Enters f new x (child_member m (record { rule = r; lo = z; hi = hi }) effect (class_in s.premises effect) (effect_shape (class_in s.premises effect)))) (to_z-of_z w64 lo fits)
     (subst (λ o. Enters f new x (child_member m (record { rule = r; lo = to_z w64 (of_z w64 lo); hi = hi }) effect o (effect_shape (class_in s.premises effect)))) c.class_of-class.ensures
     (subst (λ k. Enters f new x (child_member m (record { rule = r; lo = to_z w64 (of_z w64 lo); hi = hi }) effect class k)) same_shape (growing_enters _ _ _ _ _ _ (enters m at).grows)))))

@@ -2,7 +2,7 @@ use Rattle.std.proofs.Common.{◌∙◌, All, ap, sym, subst}
 use Rattle.tmm_model.specs.Lines.{IsWellFormedPremise}
 use Rattle.tmm_model.specs.Standing.{IsConsistent}
 use Rattle.list_theory.proofs.Erased.{gone_by_erasure}
-use Rattle.belief_theory.proofs.StayKept.{well_formed_without}
+use Rattle.belief_theory.proofs.StayKept.{all_without}
 use Rattle.premise_list.specs.States.{States}
 use Rattle.list_net.proofs.Networks.{consistent, net_of}
 use Rattle.map_engine.proofs.edited.without.Goals as goal
@@ -12,7 +12,7 @@ returns-clause-network c =
     let ps = c.args.standing.now.present.premises in
     let new = ap (λ (s : States). s.present.premises) c.in-Ok.ensures.list in
     net_of c.erase_premise.new.standing.present c.erase_premise.new.net.present
-    (subst (All IsWellFormedPremise) (sym new) (well_formed_without c.args.name ps c.requires.network.sound.well_formed))
+    (subst (All IsWellFormedPremise) (sym new) (all_without IsWellFormedPremise c.args.name ps c.requires.network.sound.well_formed))
     c.len.ensures.well_named c.in-Ok.ensures.fits c.edges.ensures.distinct c.edges.ensures.start c.edges.ensures.in_use c.edges.ensures.dates
 
 pub returns-clause-dates : goal.returns-clause-dates

@@ -1,4 +1,4 @@
-use Rattle.std.proofs.Common.{◌≡◌, true, false, sym, ◌∙◌, ap}
+use Rattle.std.proofs.Common.{◌≡◌, true, false, ◌++◌, sym, ◌∙◌, ap}
 use Rattle.std.specs.List.{list_any}
 use Rattle.tmm_model.specs.Erasure.{is_among, mentioned_by}
 use Rattle.premise_list.proofs.Parts.{rule_mentions}
@@ -13,8 +13,7 @@ returns-else-contains-2 c =
       | else-contains w ↦
           let no_trigger : is_among gone c.in-Rule.trigger ≡ false = sym c.contains-in-Rule.ensures ∙ w.if-contains.false in
           let no_effect : is_among gone c.in-Rule.effect ≡ false = sym w.contains-else-contains.ensures ∙ sym w.value-is ∙ c.if-contains-2.false in
-          let given : c.mentions_any.result ≡ list_any (is_among gone) c.in-Rule.given.items = c.mentions_any.ensures ∙ ap (list_any (is_among gone)) c.as_slice.ensures.value in
-          given
-          ∙ rule_mentions gone c.in-Rule.trigger c.in-Rule.effect c.in-Rule.given.items no_trigger no_effect
+          c.mentions_conditions.ensures
+          ∙ rule_mentions gone c.in-Rule.trigger c.in-Rule.effect (c.in-Rule.given.items ++ c.in-Rule.unless_facts.items) no_trigger no_effect
           ∙ ap (λ q. list_any (is_among gone) (mentioned_by q)) (sym c.in-Rule.is)
     ]

@@ -52,7 +52,7 @@ returns-clause-adds c =
     let shape = c.effect_shape-shape.result in
     let fits : FitsSigned w64 c.in-Some-Rule.lo = search rules in
     let name = c.in-Some-Rule.name in
-    let rule = Rule name c.in-Some-Rule.field-0-1 lo hi effect c.in-Some-Rule.field-0-5 in
+    let rule = Rule name c.in-Some-Rule.field-0-1 lo hi effect c.in-Some-Rule.field-0-5 c.in-Some-Rule.field-0-6 in
     let at_place : slice_get s.premises c.args.place ≡ Some rule = sym c.in-Some-Rule.ensures ∙ ap Some c.in-Some-Rule.field-0-is in
     let there : premise_in s.premises r ≡ Some rule = found_at s c.len.ensures.well_named c.args.place rule at_place in
     let named : name ≡ r = sym (named_at s c.args.place rule at_place) in
@@ -61,7 +61,7 @@ returns-clause-adds c =
     let link : Link = record { rule = name; lo = to_z w64 (of_z w64 lo); hi = hi } in
     ok_kept (λ x. (n : Member) → member f t ≡ Some n → EntersTree c.args.tree.now c.insert_child.new.self x (child_member n link effect class shape) (Some t) (early (present c.args.tree.now) t +ℤ to_z w64 (of_z w64 lo)))
     (λ x. (net : Net) → IsSeen s net f → Adds s net.names f new x (After (moment_at f t) r)) c.insert_child.result
-    (λ x enters net seen. effect_adds s net f seen t m at r c.requires.enters name c.in-Some-Rule.field-0-1 lo hi effect c.in-Some-Rule.field-0-5 there new x
+    (λ x enters net seen. effect_adds s net f seen t m at r c.requires.enters name c.in-Some-Rule.field-0-1 lo hi effect c.in-Some-Rule.field-0-5 c.in-Some-Rule.field-0-6 there new x
     (subst (λ z. Enters f new x (child_member m (record { rule = r; lo = z; hi = hi }) effect (class_in s.premises effect) (effect_shape (class_in s.premises effect)))) (to_z-of_z w64 lo fits)
     (subst (λ o. Enters f new x (child_member m (record { rule = r; lo = to_z w64 (of_z w64 lo); hi = hi }) effect o (effect_shape (class_in s.premises effect)))) c.class_of-class.ensures
     (subst (λ k. Enters f new x (child_member m (record { rule = r; lo = to_z w64 (of_z w64 lo); hi = hi }) effect class k)) same_shape
@@ -92,7 +92,7 @@ pub insert_child-requires-clause-trigger : goal.insert_child-requires-clause-tri
 insert_child-requires-clause-trigger c =
     let s = c.args.standing.now.present in
     let f = forest c.args.tree.now in
-    let rule = Rule c.in-Some-Rule.name c.in-Some-Rule.field-0-1 c.in-Some-Rule.lo c.in-Some-Rule.hi c.in-Some-Rule.effect c.in-Some-Rule.field-0-5 in
+    let rule = Rule c.in-Some-Rule.name c.in-Some-Rule.field-0-1 c.in-Some-Rule.lo c.in-Some-Rule.hi c.in-Some-Rule.effect c.in-Some-Rule.field-0-5 c.in-Some-Rule.field-0-6 in
     let at_place : slice_get s.premises c.args.place ≡ Some rule = sym c.in-Some-Rule.ensures ∙ ap Some c.in-Some-Rule.field-0-is in
     let (m, at) = node_at f c.args.trigger c.requires.trigger in
     (m, at, subst (IsTrigger f m) (named_at s c.args.place rule at_place) (is_trigger s c.requires.seen.0 f c.requires.seen.1 c.args.trigger m at (name_at s c.args.place) c.requires.enters))
@@ -103,19 +103,19 @@ insert_child-requires-clause-delay c =
     let f = forest c.args.tree.now in
     let lo = c.in-Some-Rule.lo in
     let fits : FitsSigned w64 c.in-Some-Rule.lo = search rules in
-    let rule = Rule c.in-Some-Rule.name c.in-Some-Rule.field-0-1 lo c.in-Some-Rule.hi c.in-Some-Rule.effect c.in-Some-Rule.field-0-5 in
+    let rule = Rule c.in-Some-Rule.name c.in-Some-Rule.field-0-1 lo c.in-Some-Rule.hi c.in-Some-Rule.effect c.in-Some-Rule.field-0-5 c.in-Some-Rule.field-0-6 in
     let at_place : slice_get s.premises c.args.place ≡ Some rule = sym c.in-Some-Rule.ensures ∙ ap Some c.in-Some-Rule.field-0-is in
     let there = found_at s c.len.ensures.well_named c.args.place rule at_place in
     let (m, at) = node_at f c.args.trigger c.requires.trigger in
     subst (λ z. IsNumber z × IsBound c.in-Some-Rule.hi × (pos 1 ≤ℤ z) × IsRange (Finite z) c.in-Some-Rule.hi) (sym (to_z-of_z w64 lo fits))
-    (delay_is s c.requires.seen.0 f c.requires.seen.1 c.args.trigger m at (name_at s c.args.place) c.requires.enters c.in-Some-Rule.name c.in-Some-Rule.field-0-1 lo c.in-Some-Rule.hi c.in-Some-Rule.effect c.in-Some-Rule.field-0-5 there)
+    (delay_is s c.requires.seen.0 f c.requires.seen.1 c.args.trigger m at (name_at s c.args.place) c.requires.enters c.in-Some-Rule.name c.in-Some-Rule.field-0-1 lo c.in-Some-Rule.hi c.in-Some-Rule.effect c.in-Some-Rule.field-0-5 c.in-Some-Rule.field-0-6 there)
 
 pub insert_child-requires-clause-word : goal.insert_child-requires-clause-word
 insert_child-requires-clause-word c =
     let s = c.args.standing.now.present in
     let f = forest c.args.tree.now in
-    let rule = Rule c.in-Some-Rule.name c.in-Some-Rule.field-0-1 c.in-Some-Rule.lo c.in-Some-Rule.hi c.in-Some-Rule.effect c.in-Some-Rule.field-0-5 in
+    let rule = Rule c.in-Some-Rule.name c.in-Some-Rule.field-0-1 c.in-Some-Rule.lo c.in-Some-Rule.hi c.in-Some-Rule.effect c.in-Some-Rule.field-0-5 c.in-Some-Rule.field-0-6 in
     let at_place : slice_get s.premises c.args.place ≡ Some rule = sym c.in-Some-Rule.ensures ∙ ap Some c.in-Some-Rule.field-0-is in
     let (m, at) = node_at f c.args.trigger c.requires.trigger in
-    rule_named s c.requires.seen.0 f c.requires.seen.1 c.args.trigger m at (name_at s c.args.place) c.requires.enters c.in-Some-Rule.name c.in-Some-Rule.field-0-1 c.in-Some-Rule.lo c.in-Some-Rule.hi c.in-Some-Rule.effect c.in-Some-Rule.field-0-5
+    rule_named s c.requires.seen.0 f c.requires.seen.1 c.args.trigger m at (name_at s c.args.place) c.requires.enters c.in-Some-Rule.name c.in-Some-Rule.field-0-1 c.in-Some-Rule.lo c.in-Some-Rule.hi c.in-Some-Rule.effect c.in-Some-Rule.field-0-5 c.in-Some-Rule.field-0-6
     (found_at s c.len.ensures.well_named c.args.place rule at_place)
