@@ -1,14 +1,13 @@
 -- Nodes at declared points, found by their roots.
-use Rattle.std.proofs.Common.{◌≡◌, ◌≢◌, ℕ, ◌<◌, Bool, true, false, eqb, List, [], ◌∷◌, ◌++◌, map, length, Option, Some, None, IsSome, refl, sym, ap, ◌∙◌, subst, inl, inr, ◌⊎◌, arith, eqb-true, ◌↔◌, slice_index_or, option_and_then}
+use Rattle.std.proofs.Common.{◌≡◌, ◌≢◌, ℕ, ◌<◌, false, List, [], ◌∷◌, ◌++◌, map, Option, Some, None, refl, sym, ap, ◌∙◌, subst, inl, inr, ◌⊎◌, arith, eqb-true, ◌↔◌, slice_index_or, option_and_then}
 use Rattle.std.specs.Prelude.{IfSome, nat_eq}
 use Rattle.std.specs.Option.{MatchOption}
 use Rattle.std.specs.List.{All, Contains, list_any}
 use Rattle.std.proofs.lemmas.Bool.{false≢true}
 use Rattle.std.proofs.lemmas.Cmp.{nat_eq_equiv}
-use Rattle.std.proofs.lemmas.List.Elements.{All-contains, All-nil, All-append, Contains-get_or, Contains-append_left, Contains-append_right, Contains-append_cases}
+use Rattle.std.proofs.lemmas.List.Elements.{All-nil, All-append, Contains-get_or, Contains-append_left, Contains-append_right, Contains-append_cases}
 use Rattle.std.proofs.lemmas.Map.Views.{Contains-from_any, list_any-from_Contains}
-use Rattle.tmm_model.specs.declared.point.PointName.{PointName}
-use Rattle.tmm_model.specs.declared.point.PointName.TheVariants.{Start, Begin, End}
+use Rattle.tmm_model.specs.declared.point.PointName.TheVariants.{Begin, End}
 use Rattle.tmm_model.specs.declared.token.Shape.TheVariants.{Span}
 use Rattle.tmm_model.specs.Moments.{At, along}
 use Rattle.dist_net.specs.Net.{Net}

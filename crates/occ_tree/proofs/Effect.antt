@@ -1,11 +1,11 @@
 -- What a rule leads to from a node, found by its name.
-use Rattle.std.proofs.Common.{◌≡◌, ◌≢◌, ◌∙◌, ℕ, List, [], ◌∷◌, ◌++◌, Option, Some, None, IsSome, refl, sym, ap}
+use Rattle.std.proofs.Common.{◌≡◌, ◌∙◌, ℕ, List, [], ◌∷◌, ◌++◌, Option, Some, None, refl, sym, ap}
 use Rattle.std.specs.Prelude.{MatchOption}
 use Rattle.tmm_model.specs.declared.point.PointName.TheVariants.{Begin}
 use Rattle.tmm_model.specs.Moments.{Moment, At, After, along}
 use Rattle.belief_theory.proofs.Moments.{along-push}
-use Rattle.spots.specs.Forest.{Member, member, moment, moment_at, rules_of, IsFound}
-use Rattle.spots.proofs.Nodes.{node_at, moment_at-is}
+use Rattle.spots.specs.Forest.{Member, member, moment_at, rules_of, IsFound}
+use Rattle.spots.proofs.Nodes.{moment_at-is}
 use Rattle.occ_tree.specs.Named.{IsNamed}
 use Rattle.occ_tree.specs.Nodes.{Nodes, forest_in, ArePlaced}
 use Rattle.occ_tree.proofs.Finding.{moment_spelt, spelt_further, spelt_moment, no_further}

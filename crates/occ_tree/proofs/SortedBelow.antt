@@ -1,5 +1,5 @@
 -- What is below a node, in the order of nodes.
-use Rattle.std.proofs.Common.{◌≡◌, ◌≢◌, ℕ, zero, suc, false, ◌<◌, List, [], ◌∷◌, ◌++◌, take, length, Some, IsSome, eqb, refl, sym, ap, ◌∙◌, subst, inl, inr, arith, ◌⊎◌, slice_index_or, eqb-true}
+use Rattle.std.proofs.Common.{◌≡◌, ℕ, zero, suc, false, ◌<◌, List, [], ◌∷◌, ◌++◌, take, length, Some, IsSome, eqb, refl, sym, ap, ◌∙◌, subst, inl, inr, arith, ◌⊎◌, slice_index_or, eqb-true}
 use Rattle.std.specs.List.{All, AllByRecursion, IsDistinct, list_any}
 use Rattle.std.specs.List.Sorted.{IsPermutation, IsSortedBy}
 use Rattle.std.specs.declared.cmp.Ordering.{Ordering}

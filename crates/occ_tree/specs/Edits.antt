@@ -3,28 +3,33 @@ use Rattle.std.specs.Prelude.{◌≡◌, ◌≢◌, ℕ, ℤ, ◌+ℤ◌, ◌-�
 use Rattle.std.specs.Option.{option_map}
 use Rattle.row_links.specs.Lists.{IsOn, without}
 use Rattle.undo_rows.specs.Tables.{Table, with_new, without_row, with_value, new_row}
+use Rattle.undo_rows.specs.Places.{PlacesGrow}
 use Rattle.occ_tree.specs.declared.node.Node.{Node}
 use Rattle.occ_tree.specs.Below.{IsBelow}
 use Rattle.occ_tree.specs.Nodes.{parent_of}
 use Rattle.occ_tree.specs.Standing.{Grove, nodes_in, present_rows, committed_rows, head_for, Kept, State, present, committed, forest, early, below}
 use Rattle.spots.specs.Forest.{Member}
 
--- the nodes stay, those of the last commit too
+-- the nodes stay, those of the last commit too, and there are as many places
 pub record Keeps (old new : Grove) : Type 0 where
   pub present_is : present_rows new ≡ present_rows old
   pub committed_is : committed_rows new ≡ committed_rows old
+  pub places_are : new.rows.places ≡ old.rows.places
 
--- the node is new under a number that no node has or had at the last commit, and is last below its parent
+-- The node is new under a number that no node has or had at the last commit, and is last below its parent.
+-- There is at most one more place, and only where each held a row.
 pub record Adds (old new : Grove) (x : ℕ) (n : Node) : Type 0 where
   pub free : (present_rows old).row x ≡ None
   pub was_free : (committed_rows old).row x ≡ None
   pub present_is : present_rows new ≡ with_new (present_rows old) x (new_row (Some (head_for (parent_of n)) ∷ []) n)
   pub committed_is : committed_rows new ≡ committed_rows old
+  pub places_grow : PlacesGrow old.rows new.rows
 
 -- the node is gone, and all others stay in their order
 pub record Takes (old new : Grove) (x : ℕ) : Type 0 where
   pub present_is : present_rows new ≡ without_row (present_rows old) x
   pub committed_is : committed_rows new ≡ committed_rows old
+  pub places_are : new.rows.places ≡ old.rows.places
 
 -- the node with the date that follows from this one of its root
 abbrev pub dated : ℤ → Node → Node
@@ -36,6 +41,7 @@ pub record Dates (old new : Grove) (x : ℕ) (date : ℤ) : Type 0 where
   pub at : nodes_in (present_rows old) x ≡ Some node
   pub present_is : present_rows new ≡ with_value (present_rows old) x (dated date node)
   pub committed_is : committed_rows new ≡ committed_rows old
+  pub places_are : new.rows.places ≡ old.rows.places
 
 -- these nodes have the dates that follow from this one of their root, and all else stays
 pub record AreDated (old new : Table Node 1) (numbers : List ℕ) (date : ℤ) : Type 0 where

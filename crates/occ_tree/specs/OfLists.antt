@@ -1,5 +1,4 @@
 -- Trees that are those of a standing list, with its dates.
-use Rattle.std.specs.Prelude.{ℕ}
 use Rattle.tmm_model.specs.Standing.{Standing}
 use Rattle.dist_net.specs.Net.{Net}
 use Rattle.spots.specs.Seen.{IsSeen, HasList}

@@ -1,5 +1,5 @@
 -- Nodes with the lists of their children and the tokens of each class, as they are and as they were.
-use Rattle.std.specs.Prelude.{◌≡◌, ℕ, ℤ, ◌+◌, ◌<◌, ◌≤◌, List, [], ◌∷◌, Option, Some, None}
+use Rattle.std.specs.Prelude.{◌≡◌, ℕ, ℤ, ◌+◌, ◌<◌, List, [], ◌∷◌, Option, Some, None}
 use Rattle.std.specs.Option.{option_map, option_map_or}
 use Rattle.std.specs.declared.cmp.Ordering.{Ordering}
 use Rattle.row_links.specs.Lists.{IsOn}
@@ -37,10 +37,9 @@ pub record IsStanding (limit : ℕ) (t : Table Node 1) : Type 0 where
   pub heads : (x : ℕ) (r : Row Node 1) → t.row x ≡ Some r → r.heads ≡ Some (head_for (parent_of r.value)) ∷ []
   pub below : (x : ℕ) (r : Row Node 1) → t.row x ≡ Some r → x < limit
 
--- the rows of nodes, and a number above all of theirs
+-- the rows of nodes
 pub record Grove : Type 0 where
   pub rows : Logged Node 1
-  pub limit : ℕ
 
 -- the nodes with their lists as they are
 abbrev pub present_rows : Grove → Table Node 1
@@ -50,11 +49,10 @@ present_rows g = changes.present g.rows
 abbrev pub committed_rows : Grove → Table Node 1
 committed_rows g = changes.committed g.rows
 
--- both stand right, and numbers are below 2 ^ 32 - 1
-pub record IsGrove (rows : Logged Node 1) (limit : ℕ) : Type 0 where
-  pub now : IsStanding limit (changes.present rows)
-  pub then_ : IsStanding limit (changes.committed rows)
-  pub few : limit ≤ 4294967295
+-- both stand right
+pub record IsGrove (rows : Logged Node 1) : Type 0 where
+  pub now : IsStanding rows.places (changes.present rows)
+  pub then_ : IsStanding rows.places (changes.committed rows)
 
 -- ---- the fields of a `Tree`
 

@@ -20,6 +20,7 @@ pub(crate) fn date_all(nodes: &mut Nodes, tokens: &mut Tokens, numbers: &[u32], 
     requires room { (length numbers.now ≤ nodes.old.rows.spare) × (2 * length numbers.now ≤ tokens.old.spare) }
     ensures dated { AreDated (present_rows nodes.old) (present_rows nodes.new) numbers.now root_date }
     ensures committed_rows { committed_rows nodes.new ≡ committed_rows nodes.old }
+    ensures places { nodes.new.rows.places ≡ nodes.old.rows.places }
     ensures tokens { AreTokensBut (nodes_in (present_rows nodes.new)) (present tokens.new) [] }
     ensures committed { committed tokens.new ≡ committed tokens.old }
 {
@@ -54,6 +55,7 @@ fn date_nodes(nodes: &mut Nodes, numbers: &[u32], root_date: i64)
     requires room { length numbers.now ≤ nodes.old.rows.spare }
     ensures dated { AreDated (present_rows nodes.old) (present_rows nodes.new) numbers.now root_date }
     ensures committed_rows { committed_rows nodes.new ≡ committed_rows nodes.old }
+    ensures places { nodes.new.rows.places ≡ nodes.old.rows.places }
 {
     for x in numbers {
         nodes.date(*x, root_date);

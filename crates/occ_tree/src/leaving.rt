@@ -30,7 +30,7 @@ pub(crate) fn room_below(
     ensures below { IfOk result (λ numbers. ListsBelow (nodes_in (present_rows nodes.old)) x numbers.items) }
     ensures in_order { IfOk result (λ numbers. IsInOrder (node_cmp (nodes_in (present_rows nodes.old))) numbers.items) }
     ensures room { IfOk result (λ numbers. (2 * length numbers.items ≤ nodes.new.rows.spare) × (2 * length numbers.items ≤ tokens.new.spare)) }
-    ensures stands { IsStanding nodes.old.limit (present_rows nodes.old) }
+    ensures stands { IsStanding nodes.old.rows.places (present_rows nodes.old) }
     ensures listed { AreListed (present_rows nodes.old) }
     ensures keeps { Keeps nodes.old nodes.new }
     ensures present { present tokens.new ≡ present tokens.old }
@@ -55,6 +55,7 @@ pub(crate) fn leave_all(nodes: &mut Nodes, tokens: &mut Tokens, numbers: Vec<u32
     requires room { (2 * length numbers.items ≤ nodes.old.rows.spare) × (length numbers.items ≤ tokens.old.spare) }
     ensures rows { present_rows nodes.new ≡ without_rows numbers.items (present_rows nodes.old) }
     ensures committed_rows { committed_rows nodes.new ≡ committed_rows nodes.old }
+    ensures places { nodes.new.rows.places ≡ nodes.old.rows.places }
     ensures tokens { AreTokensBut (nodes_in (present_rows nodes.new)) (present tokens.new) [] }
     ensures committed { committed tokens.new ≡ committed tokens.old }
 {

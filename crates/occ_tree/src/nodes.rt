@@ -29,8 +29,6 @@ use undo_rows::Rows;
 #[derive(Drop)]
 pub(crate) struct Nodes {
     rows: Rows<Node, 1>,
-    // every number of a node is below it, now and at the last commit
-    limit: u32,
 }
 
 impl Model for Nodes {
@@ -38,9 +36,9 @@ impl Model for Nodes {
 
     ghost Value = { Grove };
 
-    ghost view = { λ n. record { rows = n.rows; limit = n.limit } };
+    ghost view = { λ n. record { rows = n.rows } };
 
-    ghost invariant = { λ n. IsGrove n.rows n.limit };
+    ghost invariant = { λ n. IsGrove n.rows };
 }
 
 impl Nodes {
@@ -49,10 +47,10 @@ impl Nodes {
         ensures row { (x : ℕ) → (present_rows result).row x ≡ None }
         ensures list { (f h : ℕ) → (present_rows result).list f h ≡ [] }
         ensures committed { committed_rows result ≡ present_rows result }
+        ensures places { result.rows.places ≡ 0 }
     {
         Nodes {
             rows: Rows::make(alloc),
-            limit: 0,
         }
     }
 
@@ -66,7 +64,6 @@ impl Nodes {
     {
         let head = self.head_below(node.parent());
         let x = self.rows.add(alloc, [Some(head)], node)?;
-        self.limit = self.limit.max(x + 1);
         Ok(x)
     }
 
@@ -76,7 +73,7 @@ impl Nodes {
         ensures ok { OnOk result (changes ≤ self.new.rows.spare) }
         ensures keeps { Keeps self.old self.new }
     {
-        let _ = &self.limit;
+        let _ = &self.rows;
         self.rows.reserve(alloc, changes)
     }
 
@@ -88,7 +85,7 @@ impl Nodes {
         ensures taken { Takes self.old self.new x }
         ensures spare { self.old.rows.spare ≤ self.new.rows.spare + 2 }
     {
-        let _ = &self.limit;
+        let _ = &self.rows;
         self.rows.remove_reserved(x);
     }
 
@@ -100,7 +97,7 @@ impl Nodes {
         ensures dated { Dates self.old self.new x root_date }
         ensures spare { self.old.rows.spare ≤ self.new.rows.spare + 1 }
     {
-        let _ = &self.limit;
+        let _ = &self.rows;
         let mut node = *self.rows.get(x);
         node.early = root_date + node.sums.low;
         self.rows.set_reserved(x, node);
@@ -125,7 +122,7 @@ impl Nodes {
         ensures placed { WillBePlaced (nodes_in (present_rows self.now)) result }
         ensures root { IsRoot name begin end what class list shape early result }
     {
-        let _ = &self.limit;
+        let _ = &self.rows;
         Node {
             name,
             lo: 0,
@@ -188,8 +185,8 @@ impl Nodes {
         requires { IfSome parent (λ p. IsSome (nodes_in (present_rows self.now) p)) }
         ensures { result ≡ head_for parent }
     {
-        // each number is below the limit
-        let _ = &self.limit;
+        // each number is below that of places
+        let _ = self.rows.places();
         match parent {
             Some(x) => x + 1,
             None => 0,
@@ -200,9 +197,9 @@ impl Nodes {
     pub(crate) fn get(&self, x: u32) -> &Node
         requires { IsSome (nodes_in (present_rows self.now) x) }
         ensures node { nodes_in (present_rows self.now) x ≡ Some result.now }
-        ensures stands { IsStanding self.now.limit (present_rows self.now) }
+        ensures stands { IsStanding self.now.rows.places (present_rows self.now) }
     {
-        let _ = &self.limit;
+        let _ = &self.rows;
         self.rows.get(x)
     }
 
@@ -234,7 +231,7 @@ impl Nodes {
         requires y_live { IsSome (nodes_in (present_rows self.now) y) }
         ensures { result ≡ slice_cmp nat_cmp (word_in (nodes_in (present_rows self.now)) x) (word_in (nodes_in (present_rows self.now)) y) }
     {
-        let _ = &self.limit;
+        let _ = &self.rows;
         let shared = self.shared(x, y);
         self.piece(x, shared)
             .as_slice()
@@ -274,12 +271,13 @@ impl Nodes {
         self.rows.is_live(x)
     }
 
-    // A number above those of all nodes.
+    // How many places there are for nodes, each of which has a number below it.
     pub(crate) fn limit(&self) -> u32
+        ensures places { result ≡ self.now.rows.places }
         ensures above { (x : ℕ) → IsSome (nodes_in (present_rows self.now) x) → x < result }
-        ensures stands { IsStanding self.now.limit (present_rows self.now) }
+        ensures stands { IsStanding self.now.rows.places (present_rows self.now) }
     {
-        self.limit
+        self.rows.places()
     }
 
     // The first of those whose parent this is, or of the roots.
@@ -287,7 +285,7 @@ impl Nodes {
         requires { IfSome parent (λ p. IsSome (nodes_in (present_rows self.now) p)) }
         ensures first { result ≡ first_or None (siblings_in (present_rows self.now) parent) }
         ensures listed { AreListed (present_rows self.now) }
-        ensures stands { IsStanding self.now.limit (present_rows self.now) }
+        ensures stands { IsStanding self.now.rows.places (present_rows self.now) }
     {
         self.rows.first(0, self.head_below(parent))
     }
@@ -308,7 +306,6 @@ impl Nodes {
     {
         Ok(Nodes {
             rows: self.rows.copy(alloc)?,
-            limit: self.limit,
         })
     }
 
@@ -316,6 +313,7 @@ impl Nodes {
     pub(crate) fn commit(&mut self)
         ensures present { present_rows self.new ≡ present_rows self.old }
         ensures committed { committed_rows self.new ≡ present_rows self.old }
+        ensures places { self.new.rows.places ≡ self.old.rows.places }
     {
         self.rows.commit();
     }
@@ -324,6 +322,7 @@ impl Nodes {
     pub(crate) fn rollback(&mut self)
         ensures present { present_rows self.new ≡ committed_rows self.old }
         ensures committed { committed_rows self.new ≡ committed_rows self.old }
+        ensures places { self.new.rows.places ≡ self.old.rows.places }
     {
         self.rows.rollback();
     }

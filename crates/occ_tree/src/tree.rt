@@ -13,6 +13,7 @@ ghost use Rattle.spots.specs.Spots.{AreTokens};
 ghost use Rattle.occ_tree.specs.Tokens.{IsInOrder, numbers_in};
 ghost use Rattle.occ_tree.specs.Dated.{DatesFollow, HaveRoots};
 ghost use Rattle.occ_tree.specs.Edits.{Enters, Withdraws, ReDates, Stays};
+ghost use Rattle.occ_tree.specs.Places.{places, PlacesGrow};
 
 use crate::classes::Classes;
 use crate::dating::date_all;
@@ -51,6 +52,7 @@ impl Tree {
         ensures lists { (parent : Option ℕ) → below (present result) parent ≡ [] }
         ensures tokens { (class : List ℕ) → (present result).tokens class ≡ [] }
         ensures committed { committed result ≡ present result }
+        ensures places { places result ≡ 0 }
     {
         Tree {
             nodes: Nodes::make(alloc),
@@ -80,7 +82,9 @@ impl Tree {
         requires span { HasEnd end shape }
         requires date { IsWithin 1000000000000 early }
         ensures ok { IfOk result (λ x. Enters self.old self.new x (root_member name begin end what class shape) None early) }
+        ensures grows { OnOk result (PlacesGrow self.old self.new) }
         ensures err { OnErr result (Stays self.old self.new) }
+        ensures places { OnErr result (places self.new ≡ places self.old) }
     {
         let list = number_for(alloc, &mut self.classes, &mut self.tokens, &class)?;
         let node = self
@@ -111,7 +115,9 @@ impl Tree {
         requires class { HasClass class shape }
         requires no_span { shape ≢ Shape.Span }
         ensures ok { IfOk result (λ x. (m : Member) → forest (present self.old) parent ≡ Some m → Enters self.old self.new x (child_member m (record { rule = rule; lo = lo; hi = hi }) what class shape) (Some parent) (early (present self.old) parent +ℤ lo)) }
+        ensures grows { OnOk result (PlacesGrow self.old self.new) }
         ensures err { OnErr result (Stays self.old self.new) }
+        ensures places { OnErr result (places self.new ≡ places self.old) }
     {
         let list = number_for(alloc, &mut self.classes, &mut self.tokens, &class)?;
         let link = Link { rule, lo, hi };
@@ -126,6 +132,7 @@ impl Tree {
         requires { IsLive (forest (present self.old)) x }
         ensures ok { OnOk result (Withdraws self.old self.new x) }
         ensures err { OnErr result (Stays self.old self.new) }
+        ensures places { places self.new ≡ places self.old }
     {
         let numbers = room_below(alloc, &mut self.nodes, &mut self.tokens, x)?;
         leave_all(&mut self.nodes, &mut self.tokens, numbers);
@@ -139,6 +146,7 @@ impl Tree {
         requires date { IsWithin 1000000000000 date }
         ensures ok { OnOk result (ReDates self.old self.new root date) }
         ensures err { OnErr result (Stays self.old self.new) }
+        ensures places { places self.new ≡ places self.old }
     {
         let numbers = room_below(alloc, &mut self.nodes, &mut self.tokens, root)?;
         date_all(&mut self.nodes, &mut self.tokens, numbers.as_slice(), date);
@@ -152,8 +160,9 @@ impl Tree {
         self.nodes.is_live(x)
     }
 
-    /// Every number of a node is below it.
+    /// How many places there are for nodes: every number of a node is below it.
     pub fn limit(&self) -> u32
+        ensures places { result ≡ places self.now }
         ensures above { (x : ℕ) → IsLive (forest (present self.now)) x → x < result }
         ensures few { result ≤ 4294967295 }
     {
@@ -221,7 +230,8 @@ impl Tree {
 
     /// The same tree, and the same last commit, for changes of its own. It takes memory.
     pub fn copy(&self, alloc: Global) -> Result<Tree, NoMemory>
-        ensures { IfOk result (Stays self.now) }
+        ensures stays { IfOk result (Stays self.now) }
+        ensures places { IfOk result (λ copy. places copy ≡ places self.now) }
     {
         Ok(Tree {
             nodes: self.nodes.copy(alloc)?,
@@ -234,6 +244,7 @@ impl Tree {
     pub fn commit(&mut self)
         ensures present { present self.new ≡ present self.old }
         ensures committed { committed self.new ≡ present self.old }
+        ensures places { places self.new ≡ places self.old }
     {
         self.nodes.commit();
         self.tokens.commit();
@@ -244,6 +255,7 @@ impl Tree {
     pub fn rollback(&mut self)
         ensures present { present self.new ≡ committed self.old }
         ensures committed { committed self.new ≡ committed self.old }
+        ensures places { places self.new ≡ places self.old }
     {
         self.nodes.rollback();
         self.tokens.rollback();

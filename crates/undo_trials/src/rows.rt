@@ -75,6 +75,24 @@ fn expect_of_copy(rt: &impl Abort, alloc: Global, rows: &mut Numbers) {
     expect(rt, head(&other, c, 2), None);
 }
 
+#[test]
+fn the_number_of_a_removed_row_is_used_again_after_the_commit(rt: HostRuntime) {
+    let mut rows = Rows::make(rt.alloc());
+    expect_numbers(&rt, rt.alloc(), &mut rows);
+}
+
+/// One of three rows goes. The next row has a new number, and the one after the commit that of the row that went.
+fn expect_numbers(rt: &impl Abort, alloc: Global, rows: &mut Numbers) {
+    let [_, b, _] = add_three(rt, alloc, rows);
+    assert_eq!(rt; rows.places(), 3);
+    remove(rt, alloc, rows, b);
+    let before = rows.add(alloc, [None, None], 40).expect(rt, "memory");
+    assert_eq!(rt; (before, rows.places()), (3, 4));
+    rows.commit();
+    let after = rows.add(alloc, [None, None], 50).expect(rt, "memory");
+    assert_eq!(rt; (after, rows.places()), (b, 4));
+}
+
 /// The number that a row keeps, if there is one.
 fn number(rows: &Numbers, x: u32) -> Option<u32> {
     if rows.is_live(x) {

@@ -34,7 +34,7 @@ loop-next-smaller c =
     let node = nodes_in (present_rows c.args.nodes.now) in
     let (first, others, is, long, g) = c.loop-next.invariant in
     let within : c.loop-next.next < length c.loop-next.numbers.items = omega (arith, c.loop-next-test.true, c.len.ensures) in
-    let few : length c.loop-next.numbers.items ≤ c.args.nodes.now.limit = subst (λ l. length l ≤ c.args.nodes.now.limit) (sym is) (few_from_once (first ++ others) c.args.nodes.now.limit g.once (λ y on. let (n, at) = way_leads node c.args.x y (g.each y on) in below_limit (present_rows c.args.nodes.now) c.args.nodes.now.limit y c.limit.ensures.stands (some_is (node y) n at))) in
+    let few : length c.loop-next.numbers.items ≤ c.args.nodes.now.rows.places = subst (λ l. length l ≤ c.args.nodes.now.rows.places) (sym is) (few_from_once (first ++ others) c.args.nodes.now.rows.places g.once (λ y on. let (n, at) = way_leads node c.args.x y (g.each y on) in below_limit (present_rows c.args.nodes.now) c.args.nodes.now.rows.places y c.limit.ensures.stands (some_is (node y) n at))) in
     omega (arith, within, few)
 
 pub loop-next-preserved : goal.loop-next-preserved
@@ -53,7 +53,7 @@ loop-next-preserved c =
       c.in_ok-push_children.ensures.ok ∙ (λ i. whole i ++ siblings_in (present_rows c.args.nodes.now) (Some (here i))) ∙ append_assoc first (h ∷ rest) children ∙ sym (append_assoc first (h ∷ []) (rest ++ children)),
       length_push first h ∙ (let e : length first + 1 ≡ c.loop-next.next + 1 = omega (arith, long) in omega (arith, e)),
       gathers_more node (have_parents node c.limit.ensures.stands.placed) c.args.x first h rest children (listed.once 0 (h + 1))
-          (siblings_are (table_in rows.rows rows.families) listed c.args.nodes.now.limit c.limit.ensures.stands (Some h)) (subst (Gathers node c.args.x first) others_are g),
+          (siblings_are (table_in rows.rows rows.families) listed c.args.nodes.now.rows.places c.limit.ensures.stands (Some h)) (subst (Gathers node c.args.x first) others_are g),
     )
 
 pub returns : goal.returns

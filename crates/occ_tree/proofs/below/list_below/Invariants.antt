@@ -8,4 +8,4 @@ invariant-loop-next l =
     (first : List ℕ) × (others : List ℕ) × (l.numbers.items ≡ first ++ others) × (length first ≡ l.next) × Gathers (nodes_in (present_rows l.nodes)) l.x first others
 
 abbrev pub decreases-loop-next : goal.decreases-loop-next
-decreases-loop-next l = l.nodes.limit - l.next
+decreases-loop-next l = l.nodes.rows.places - l.next

@@ -29,5 +29,6 @@ loop-x-preserved c =
     record {
       dated = subst (λ l. AreDated t v l date) (sym (take_more numbers i _ within)) (dated_more t u v (take i numbers) _ date d.node d.at d.present_is inv.dated);
       committed_rows = d.committed_is ∙ inv.committed_rows;
+      places = d.places_are ∙ inv.places;
       room = let a = e.spare in let b = inv.room in omega (arith, a, b);
     }

@@ -14,7 +14,7 @@ pub get-requires : goal.get-requires
 get-requires c =
     let g = c.args.nodes.now in
     let looking = subst (IsLooking g c.first-next.ensures.listed c.args.parent c.args.name.now) c.in-Some.is (c.loop-next.invariant c.first-next.ensures.listed) in
-    let (n, at, below) = named_on g c.first-next.ensures.listed c.args.parent g.limit c.in-Some.x c.first-next.ensures.stands (looking.on c.in-Some.x refl) in
+    let (n, at, below) = named_on g c.first-next.ensures.listed c.args.parent g.rows.places c.in-Some.x c.first-next.ensures.stands (looking.on c.in-Some.x refl) in
     subst (λ (o : Option Node). IsSome o) (sym at) refl
 
 pub returns-then-eq-clause-named : goal.returns-then-eq-clause-named
@@ -22,7 +22,7 @@ returns-then-eq-clause-named c =
     let g = c.args.nodes.now in
     let m = c.get.result.now in
     let looking = subst (IsLooking g c.first-next.ensures.listed c.args.parent c.args.name.now) c.in-Some.is (c.loop-next.invariant c.first-next.ensures.listed) in
-    let (n, at, below) = named_on g c.first-next.ensures.listed c.args.parent g.limit c.in-Some.x c.first-next.ensures.stands (looking.on c.in-Some.x refl) in
+    let (n, at, below) = named_on g c.first-next.ensures.listed c.args.parent g.rows.places c.in-Some.x c.first-next.ensures.stands (looking.on c.in-Some.x refl) in
     let both : Some n ≡ Some m = sym at ∙ c.get.ensures.node in
     let same : n ≡ m = cc in
     (m, c.get.ensures.node, sym (ap parent_of same) ∙ below, (bytes_decides m.name c.args.name.now).0 (sym c.if-eq.ensures))
@@ -46,5 +46,5 @@ loop-next-preserved c = λ listed.
 pub returns-clause-named : goal.returns-clause-named
 returns-clause-named c = λ x named.
     let g = c.args.nodes.now in
-    looked g c.first-next.ensures.listed c.args.parent c.args.name.now g.limit x c.first-next.ensures.stands
+    looked g c.first-next.ensures.listed c.args.parent c.args.name.now g.rows.places x c.first-next.ensures.stands
     (subst (IsLooking g c.first-next.ensures.listed c.args.parent c.args.name.now) c.in_default.is (c.loop-next.invariant c.first-next.ensures.listed)) named

@@ -1,4 +1,4 @@
-use Rattle.std.proofs.Common.{◌<◌, ◌≤◌, sym, ap, ◌∙◌, subst, arith, Some, [], ◌∷◌, IsSome}
+use Rattle.std.proofs.Common.{inl, inr, ◌<◌, ◌≤◌, sym, ap, ◌∙◌, subst, arith, Some, [], ◌∷◌, IsSome}
 use Rattle.std.specs.Prelude.{IfSome}
 use Rattle.undo_rows.specs.Changes.{present, committed}
 use Rattle.undo_rows.specs.Tables.{new_row, with_new}
@@ -16,15 +16,16 @@ invariant_of-self-2 c =
     let x = c.in_ok-x.x in
     let old = present c.self.inside.rows in
     let new = present c.add.new.self in
-    let most = c.max-self-inside.result in
-    let is = c.max-self-inside.ensures in
-    let limit : c.self.inside.limit ≤ most = omega arith in
-    let within : x < most = omega arith in
+    let most = c.add.new.self.places in
+    let limit : c.self.inside.rows.places ≤ most = elim c.in_ok-x.ensures.grows [
+      | inl same ↦ omega (arith, same)
+      | inr more ↦ omega (arith, more.0)
+    ] in
+    let within : x < most = c.in_ok-x.ensures.below in
     let adds = c.in_ok-x.ensures.ok in
     let head = c.head_below-head.ensures ∙ ap head_for c.parent.ensures in
     let will = subst (λ (g : Grove). WillBePlaced (nodes_in (present_rows g)) c.args.node) (sym c.self.view_is) c.requires in
     record {
-      now = standing_new old new x c.args.node adds.free (adds.present_is ∙ ap (λ h. with_new old x (new_row (Some h ∷ []) c.args.node)) head) c.self.inside.limit most limit within will c.self.invariant.now;
-      then_ = subst (IsStanding most) (sym adds.committed_is) (standing_more (committed c.self.inside.rows) c.self.inside.limit most limit c.self.invariant.then_);
-      few = (let fits = c.in_ok-x.ensures.few in let was = c.self.invariant.few in omega arith);
+      now = standing_new old new x c.args.node adds.free (adds.present_is ∙ ap (λ h. with_new old x (new_row (Some h ∷ []) c.args.node)) head) c.self.inside.rows.places most limit within will c.self.invariant.now;
+      then_ = subst (IsStanding most) (sym adds.committed_is) (standing_more (committed c.self.inside.rows) c.self.inside.rows.places most limit c.self.invariant.then_);
     }

@@ -9,6 +9,5 @@ pub overflow_add-result : goal.overflow_add-result
 overflow_add-result c =
     let live = subst (λ o. IfSome o (λ p. IsSome (nodes_in (present_rows c.args.self.now) p))) c.in-Some.is c.requires in
     let live_inside = subst (λ (g : Grove). IsSome (nodes_in (present_rows g) c.in-Some.x)) (sym c.self.view_is) live in
-    let below : c.in-Some.x < c.self.inside.limit = below_limit (present c.self.inside.rows) c.self.inside.limit c.in-Some.x c.self.invariant.now live_inside in
-    let few = c.self.invariant.few in
-    omega (arith, below, few)
+    let below : c.in-Some.x < c.self.inside.rows.places = below_limit (present c.self.inside.rows) c.self.inside.rows.places c.in-Some.x c.self.invariant.now live_inside in
+    omega (arith, below, c.places.ensures.places)

@@ -10,8 +10,8 @@ pub next-requires : goal.next-requires
 next-requires c =
     let rows = c.self.inside.rows in
     let live = subst (λ (g : Grove). IsSome (nodes_in (present_rows g) c.args.x)) (sym c.self.view_is) c.requires in
-    let (n, at) = some_node (nodes_in (present_rows record { rows = rows; limit = c.self.inside.limit })) c.args.x live in
-    (omega arith, (head_for (parent_of n), on_list (table_in rows.rows rows.families) c.self.inside.limit c.args.x n c.first.ensures.listed c.self.invariant.now at))
+    let (n, at) = some_node (nodes_in (present_rows record { rows = rows })) c.args.x live in
+    (omega arith, (head_for (parent_of n), on_list (table_in rows.rows rows.families) c.self.inside.rows.places c.args.x n c.first.ensures.listed c.self.invariant.now at))
 
 pub returns : goal.returns
 returns c = λ parent there.

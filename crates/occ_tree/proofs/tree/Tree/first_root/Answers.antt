@@ -13,4 +13,4 @@ returns-clause-roots c =
     let nodes = c.self.inside.nodes in
     subst (λ (k : Kept). HaveRoots (present k)) c.self.view_is
     (have_roots (present_rows nodes) (tokens_under c.self.inside.classes (lists.present c.self.inside.tokens)) r.stands.placed
-    (siblings_are (table_in nodes.rows.rows nodes.rows.families) r.listed nodes.limit r.stands) (r.listed.once 0 0))
+    (siblings_are (table_in nodes.rows.rows nodes.rows.families) r.listed nodes.rows.places r.stands) (r.listed.once 0 0))

@@ -8,6 +8,7 @@ use Rattle.occ_tree.specs.Nodes.{IsEffect}
 use Rattle.spots.specs.Forest.{Member, IsTrigger, child_member}
 use Rattle.occ_tree.specs.Standing.{Kept, nodes_in, present_rows, present, forest, early}
 use Rattle.occ_tree.specs.Edits.{Enters}
+use Rattle.occ_tree.specs.Places.{PlacesGrow}
 use Rattle.occ_tree.proofs.Entered.{tree_stays, stays, tree_entered, committed_same, effect_in_time}
 use Rattle.occ_tree.proofs.Entering.{gone_before, grows_child}
 use Rattle.occ_tree.proofs.tree.Tree.insert_child.Goals as goal
@@ -17,7 +18,7 @@ invariant_of-self c =
     let old : Kept = record { nodes = c.self.inside.nodes; classes = c.self.inside.classes; tokens = c.self.inside.tokens } in
     let new : Kept = record { nodes = c.self.inside.nodes; classes = c.number_for.new.classes; tokens = c.number_for.new.tokens } in
     let n = c.number_for.ensures in
-    tree_stays old new c.self.invariant n.more (record { present_is = refl; committed_is = refl }) n.present n.committed
+    tree_stays old new c.self.invariant n.more (record { present_is = refl; committed_is = refl; places_are = refl }) n.present n.committed
 
 pub returns-in_err-list-clause-err : goal.returns-in_err-list-clause-err
 returns-in_err-list-clause-err c =
@@ -25,7 +26,7 @@ returns-in_err-list-clause-err c =
     let new : Kept = record { nodes = c.self.inside.nodes; classes = c.number_for.new.classes; tokens = c.number_for.new.tokens } in
     let n = c.number_for.ensures in
     let p = err_from_is_err_and c.from_residual.result c.from_residual.ensures.1 in
-    rw (p.1, ← c.self.view_is) (stays old new c.self.invariant n.more (record { present_is = refl; committed_is = refl }) n.present n.committed)
+    rw (p.1, ← c.self.view_is) (stays old new c.self.invariant n.more (record { present_is = refl; committed_is = refl; places_are = refl }) n.present n.committed)
 
 pub invariant_of-self-in_err-x : goal.invariant_of-self-in_err-x
 invariant_of-self-in_err-x c =
@@ -73,3 +74,8 @@ returns-clause-ok c = λ m m_at.
 pub effect-node-requires-clause-trigger : goal.effect-node-requires-clause-trigger
 effect-node-requires-clause-trigger c =
     subst (λ (k : Kept). (m : Member) × (forest (present k) c.args.parent ≡ Some m) × IsTrigger (forest (present k)) m c.args.rule) (sym c.self.view_is) c.requires.trigger
+
+pub returns-clause-grows : goal.returns-clause-grows
+returns-clause-grows c =
+    let new : Kept = record { nodes = c.enter.new.nodes; classes = c.number_for.new.classes; tokens = c.enter.new.tokens } in
+    subst (λ (k : Kept). PlacesGrow k new) c.self.view_is c.in_ok-x.ensures.ok.places_grow

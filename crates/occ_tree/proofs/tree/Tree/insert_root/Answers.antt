@@ -6,6 +6,7 @@ use Rattle.occ_tree.specs.Nodes.{IsRoot}
 use Rattle.spots.specs.Forest.{IsNoRoot, root_member}
 use Rattle.occ_tree.specs.Standing.{Kept, nodes_in, present_rows, present, forest}
 use Rattle.occ_tree.specs.Edits.{Enters}
+use Rattle.occ_tree.specs.Places.{PlacesGrow}
 use Rattle.occ_tree.proofs.Entered.{tree_stays, stays, tree_entered, committed_same, root_in_time}
 use Rattle.occ_tree.proofs.Entering.{gone_before, grows_root}
 use Rattle.occ_tree.proofs.tree.Tree.insert_root.Goals as goal
@@ -15,7 +16,7 @@ invariant_of-self c =
     let old : Kept = record { nodes = c.self.inside.nodes; classes = c.self.inside.classes; tokens = c.self.inside.tokens } in
     let new : Kept = record { nodes = c.self.inside.nodes; classes = c.number_for.new.classes; tokens = c.number_for.new.tokens } in
     let n = c.number_for.ensures in
-    tree_stays old new c.self.invariant n.more (record { present_is = refl; committed_is = refl }) n.present n.committed
+    tree_stays old new c.self.invariant n.more (record { present_is = refl; committed_is = refl; places_are = refl }) n.present n.committed
 
 pub returns-in_err-list-clause-err : goal.returns-in_err-list-clause-err
 returns-in_err-list-clause-err c =
@@ -23,7 +24,7 @@ returns-in_err-list-clause-err c =
     let new : Kept = record { nodes = c.self.inside.nodes; classes = c.number_for.new.classes; tokens = c.number_for.new.tokens } in
     let n = c.number_for.ensures in
     let p = err_from_is_err_and c.from_residual.result c.from_residual.ensures.1 in
-    rw (p.1, ← c.self.view_is) (stays old new c.self.invariant n.more (record { present_is = refl; committed_is = refl }) n.present n.committed)
+    rw (p.1, ← c.self.view_is) (stays old new c.self.invariant n.more (record { present_is = refl; committed_is = refl; places_are = refl }) n.present n.committed)
 
 pub root-node-requires-clause-new : goal.root-node-requires-clause-new
 root-node-requires-clause-new c = subst (λ (k : Kept). IsNoRoot (forest (present k)) c.args.name) (sym c.self.view_is) c.requires.new
@@ -68,3 +69,8 @@ returns-clause-ok c =
       was_free = gone_before old new c.in_ok-x.x n adds e.placed c.root-node.ensures.placed;
       committed_is = committed_same old new c.self.invariant c.number_for.ensures.more adds.committed_is (e.committed ∙ c.number_for.ensures.committed);
     })
+
+pub returns-clause-grows : goal.returns-clause-grows
+returns-clause-grows c =
+    let new : Kept = record { nodes = c.enter.new.nodes; classes = c.number_for.new.classes; tokens = c.enter.new.tokens } in
+    subst (λ (k : Kept). PlacesGrow k new) c.self.view_is c.in_ok-x.ensures.ok.places_grow

@@ -1,4 +1,4 @@
-use Rattle.std.proofs.Common.{ℕ, List, ◌∷◌, []}
+use Rattle.std.proofs.Common.{ℕ, ◌∷◌, []}
 use Rattle.std.specs.Prelude.{Result, Ok, Err, IfOk, ◌↔◌, Some}
 use Rattle.std.specs.Global.{Vec}
 use Rattle.row_links.specs.Lists.{IsOn}

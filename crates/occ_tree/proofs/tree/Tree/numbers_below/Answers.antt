@@ -1,4 +1,4 @@
-use Rattle.std.proofs.Common.{ℕ, List, subst}
+use Rattle.std.proofs.Common.{ℕ, subst}
 use Rattle.std.specs.Prelude.{Result, Ok, Err, IfOk, ◌↔◌}
 use Rattle.std.specs.Global.{Vec}
 use Rattle.row_links.specs.Lists.{IsOn}

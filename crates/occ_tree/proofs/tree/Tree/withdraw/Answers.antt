@@ -47,7 +47,7 @@ returns-clause-ok c =
     let new : Kept = record { nodes = c.leave_all.new.nodes; classes = names; tokens = c.leave_all.new.tokens } in
     let (n, at) = node_if_live (nodes_in t) c.args.x (subst (λ (k : Kept). IsLive (forest (present k)) c.args.x) (sym c.self.view_is) c.requires) in
     subst (λ (k : Kept). Withdraws k new c.args.x) c.self.view_is (record {
-      shrinks = shrinks t u c.args.x numbers r.below is r.stands.placed n at (λ parent y. (siblings_are (table_in rows.rows rows.families) r.listed c.self.inside.nodes.limit r.stands parent y).0) (r.listed.once 0)
+      shrinks = shrinks t u c.args.x numbers r.below is r.stands.placed n at (λ parent y. (siblings_are (table_in rows.rows rows.families) r.listed c.self.inside.nodes.rows.places r.stands parent y).0) (r.listed.once 0)
           (tokens_under names (lists.present c.self.inside.tokens)) (tokens_under names (lists.present c.leave_all.new.tokens));
       committed_is = committed_same old new c.self.invariant (no_more names) (a.committed_rows ∙ r.keeps.committed_is) (a.committed ∙ r.committed);
     })
