@@ -53,7 +53,7 @@ module _ (s : Standing) (net : Net) (f : Forest) (seen : IsSeen s net f) (x : �
           ∙ along-push (At (Begin m.root)) (rules_of m) r
           ∙ ap (λ t. After t r) (sym (moment_at-is f x m at))
 
-  module _ (name trigger : List ℕ) (lo : ℤ) (hi : Bound) (effect : List ℕ) (given : _) (there : premise_in s.premises r ≡ Some (Rule name trigger lo hi effect given unless_facts)) where
+  module _ (name trigger : List ℕ) (lo : ℤ) (hi : Bound) (effect : List ℕ) (given unless_facts : _) (there : premise_in s.premises r ≡ Some (Rule name trigger lo hi effect given unless_facts)) where
     stands : In (Rule name trigger lo hi effect given unless_facts) s.premises
     stands = (finds s.premises r (Rule name trigger lo hi effect given unless_facts) there).0
 

@@ -1,47 +1,34 @@
 -- A dumped list is read again.
-use Rattle.std.proofs.Common.{◌≡◌, ◌∙◌, ℕ, suc, ◌+◌, ◌≤◌, ◌<◌, Bool, true, false, List, [], ◌∷◌, ◌++◌, map, length, refl, sym, ap, subst, inl, inr, arith, append_assoc, append-nil}
-use Rattle.std.specs.Prelude.{pos, codes, decimal, ◌⊎◌, Option, Some, None, nat_le}
+use Rattle.std.proofs.Common.{◌≡◌, ◌∙◌, ℕ, suc, ◌+◌, ◌≤◌, ◌<◌, true, false, List, [], ◌∷◌, ◌++◌, map, length, refl, sym, ap, subst, inl, inr, arith, append_assoc, append-nil}
+use Rattle.std.specs.Prelude.{pos, codes, decimal, Option, Some, None, nat_le}
 use Rattle.std.proofs.lemmas.Int.{ints}
-use Rattle.std.specs.List.{AllByRecursion, Contains, flat_map}
+use Rattle.std.specs.List.{AllByRecursion, flat_map}
 use Rattle.std.specs.Option.{option_or}
 use Rattle.std.proofs.lemmas.List.{length-append}
 use Rattle.std.proofs.lemmas.List.Elements.{All-contains}
 use Rattle.tmm_model.specs.declared.line.Line.TheVariants.{Change}
 use Rattle.tmm_model.specs.declared.point.PointName.TheVariants.{Start}
 use Rattle.tmm_model.specs.declared.premise.Edit.{Edit}
-use Rattle.tmm_model.specs.declared.premise.Edit.TheVariants.{Add, Erase, Horizon}
+use Rattle.tmm_model.specs.declared.premise.Edit.TheVariants.{Add, Horizon}
 use Rattle.tmm_model.specs.declared.premise.Premise.{Premise}
-use Rattle.tmm_model.specs.declared.token.TokenRow.{TokenRow}
 use Rattle.tmm_model.specs.declared.version.Version.{Version}
 use Rattle.tmm_model.specs.declared.version.Version.TheVariants.{One}
-use Rattle.tmm_model.specs.Beliefs.{rules_at, token_of}
 use Rattle.tmm_model.specs.Answers.{size, most_size}
-use Rattle.belief_theory.specs.Outcomes.{outcome}
 use Rattle.tmm_laws.specs.EditLaws.{AcceptsAll, version_edits, dump_edits, ReadsBack, AllReadBack, GrowsSmall}
-use Rattle.tmm_model.specs.Edits.{next_list, list_with}
-use Rattle.tmm_model.specs.Erasure.{falls, kept_after}
+use Rattle.tmm_model.specs.Edits.{list_with}
 use Rattle.belief_theory.specs.KeptLists.{IsKept}
 use Rattle.tmm_model.specs.Kept.{IsAccepted}
 use Rattle.tmm_model.specs.Lines.{IsWellFormedPremise, IsOfVersion, edit_words, spaced, words, ReadsLine}
-use Rattle.tmm_model.specs.Maps.{built, believed_tokens}
-use Rattle.tmm_model.specs.Moments.{Moment, as_rule, rule_of}
-use Rattle.list_theory.specs.WellNamed.{IsSound, Follows, AllFollow}
+use Rattle.tmm_model.specs.Maps.{built}
+use Rattle.list_theory.specs.WellNamed.{Follows, AllFollow}
 use Rattle.tmm_model.specs.Sorts.{declared_by, uses_of}
-use Rattle.tmm_model.specs.Standing.{Standing, empty_list, points_of, points_in, arcs_of, arcs_in, IsConsistent, premise_in}
-use Rattle.belief_theory.specs.Touched.{is_touched}
+use Rattle.tmm_model.specs.Standing.{Standing, empty_list, points_of, points_in, arcs_of, arcs_in, IsConsistent}
 use Rattle.tmm_model.specs.Verdicts.{Cause, too_many_premises, too_many_points, most_premises, most_points, first_taken, uses_cause, premises_cause, points_cause, words_known, list_cause}
 use Rattle.walk_theory.proofs.Dates.{HasDates-nil}
-use Rattle.list_theory.proofs.Elements.{In, In-left, In-flat_map, flat_map-In, In-from_Contains, Contains-from_In, In-filter_map}
-use Rattle.list_theory.proofs.KnownNames.{found}
+use Rattle.list_theory.proofs.Elements.{In, In-left, In-flat_map, flat_map-In, In-from_Contains, Contains-from_In}
 use Rattle.tmm_grammar.proofs.LineShown.{decimal_is_word, number_length, shown_short, shown_reads}
 use Rattle.tmm_grammar.proofs.LineWords.{words-spaced}
-use Rattle.belief_theory.proofs.OneRight.{spot-token_of}
-use Rattle.belief_theory.proofs.Order.{IsSpelt}
 use Rattle.walk_theory.proofs.Removal.{HasDates-fewer}
-use Rattle.belief_theory.proofs.Sound.{rule_stands}
-use Rattle.belief_theory.proofs.SoundBeliefs.{believed_occurs}
-use Rattle.belief_theory.proofs.Spelt.{spelt}
-use Rattle.belief_theory.proofs.Untouched.{outcome_alike, untouched_alike, untouched_stood}
 use Rattle.list_theory.proofs.WellNamed.{AllFollow-append}
 
 -- ---- a dump, read again

@@ -1,5 +1,5 @@
 -- The laws of distances, of belief and of reasons.
-use Rattle.std.specs.Prelude.{◌≡◌, ◌↔◌, ℕ, ℤ, List, ◌<ℤ◌, ◌∷◌, ◌++◌}
+use Rattle.std.specs.Prelude.{◌≡◌, ◌↔◌, ℕ, List, ◌<ℤ◌, ◌∷◌, ◌++◌}
 use Rattle.std.specs.List.{Contains}
 use Rattle.tmm_model.specs.Beliefs.{rules_at, beliefs}
 use Rattle.belief_theory.specs.Outcomes.{outcome, fires}
