@@ -60,6 +60,14 @@ def contradicting(events: int, rules: int) -> List[str]:
     return lines + ["horizon 1000"]
 
 
+def unordered(events: int, rules: int) -> List[str]:
+    """Effects without a latest date, of two facts in turn: none is surely before another one."""
+    lines = ["class c f g", "kind k", "horizon 0"]
+    for i in range(events):
+        lines += [f"event e{i} k", f"dist ed{i} start e{i} {i} {i}"]
+    return lines + [f"rule r{i} k 1 * {'fg'[i % 2]}" for i in range(rules)]
+
+
 def ticks(number: int) -> List[str]:
     """A chain of effects, each of the one before."""
     return ["kind t", "event e t", "dist z start e 0 0", f"horizon {number}", "rule r t 1 1 t"]
@@ -108,6 +116,7 @@ def cases(part: int) -> List[Tuple[str, Case]]:
         ("rule", Case("crowded", full, "rule y k 1 2 h")),
         ("protect", Case("contradicting", many, "protect y f e0 e0")),
         ("horizon", Case("crowded", crowd, "horizon 1000")),
+        ("horizon", Case("no order is sure", unordered(20, 1650 // part), "horizon 1000")),
         ("erase", Case("crowded", full, "erase k")),
         ("erase", Case("a chain", chain(255 // part), f"erase p{100 // part}")),
         ("bounds", Case("ticks", ticks(444 // part), f"bounds {deep} e")),
