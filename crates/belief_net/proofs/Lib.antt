@@ -37,6 +37,7 @@ pub mod Declared
 pub mod Gains
 pub mod Gained
 pub mod Begun
+pub mod KindEvents
 pub mod Rooted
 pub mod Readied
 pub mod Numbered

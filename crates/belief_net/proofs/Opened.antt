@@ -73,6 +73,7 @@ use Rattle.belief_net.proofs.Cleared.{cleared, seen_after, told_first}
 use Rattle.belief_net.proofs.Entered.{one_row}
 use Rattle.belief_net.proofs.Fitting.{fit_only, fit_marked}
 use Rattle.belief_net.proofs.KeptAgain.{named_more}
+use Rattle.belief_net.proofs.KindEvents.{finds_left}
 use Rattle.belief_net.proofs.MarkedRight.{points_were_there, moved_rows_are_touched, resting_rows_keep, due_rows_change}
 use Rattle.belief_net.proofs.Named.{under_more, last_on}
 use Rattle.belief_net.proofs.Numbered.{numbered_on, numbered_added, numbered_erased}
@@ -156,13 +157,14 @@ module _ (old : Standing) (edit : Edit) (nets : Nets) (names : List (List ℕ)) 
       let sound = subst (λ d. IsSound (next_list old d)) is sound_new in
       fresh old.premises (p ∷ []) (AllFollow-append [] old.premises (p ∷ []) sound.well_named).1 p (inl refl) q stands ((bytes_decides (name_of p) (name_of q)).1 (sym root ∙ sym named))
 
-  may_add : (t : Kept) (d : Decisions) → KeepsNodes e.tree t → MayAdd (next_list old edit) edit (record { tree = t; decisions = d })
-  may_add t d keeps = by edit refl
+  may_add : (t : Kept) (d : Decisions) → KeepsNodes e.tree t → d.rows ≡ e.decisions.rows → d.rules ≡ e.decisions.rules → MayAdd (next_list old edit) edit (record { tree = t; decisions = d })
+  may_add t d keeps rows rules = by edit refl
     where
       by : (k : Edit) → edit ≡ k → MayAdd (next_list old edit) k (record { tree = t; decisions = d })
       by (Add p) is = record {
         stands = subst (λ k. In p (next_list old k).premises) (sym is) (In-right old.premises (p ∷ []) p (inl refl));
         new = no_root p is t keeps;
+        others = finds_left old edit nets.committed nets.present b e (record { tree = t; decisions = d }) p is sound_old sound_new h.kept.current h.sheds.thins is_cleared is_seen keeps.nodes rows rules;
       }
       by (Erase name) is = tt
       by (Horizon n) is = tt
@@ -205,7 +207,8 @@ module _ (old : Standing) (edit : Edit) (nets : Nets) (names : List (List ℕ)) 
   pub may_add_begun : MayAdd (next_list old edit) edit m
   may_add_begun =
       let m_is : record c { decisions = m.decisions } ≡ m = λ j. record { tree = sym k.same_tree j; decisions = m.decisions } in
-      subst (MayAdd (next_list old edit) edit) m_is (may_add old edit nets names b e all h c.tree m.decisions k.keeps)
+      subst (MayAdd (next_list old edit) edit) m_is (may_add old edit nets names b e all h c.tree m.decisions k.keeps
+      (k.marks.rows ∙ ap (λ (d : Decisions). d.rows) k.same_rows) (k.marks.rules ∙ ap (λ (d : Decisions). d.rules) k.same_rows))
 
 -- ---- rows that the edit touches
 

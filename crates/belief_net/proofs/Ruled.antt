@@ -10,10 +10,7 @@ use Rattle.row_links.specs.Lists.{IsOn}
 use Rattle.row_links.proofs.Lists.{IsOn-first, IsOn-append_left, IsOn-append_right, IsOn-append_cases}
 use Rattle.undo_rows.specs.declared.row.Row.{Row as TableRow}
 use Rattle.decision_rows.specs.declared.row.Pair.{Pair}
-use Rattle.occ_tree.specs.Places.{forest}
 use Rattle.occ_tree.specs.Standing.{Kept, present, early}
-use Rattle.spots.specs.Forest.{IsLive}
-use Rattle.spots.proofs.Nodes.{live_at}
 use Rattle.belief_net.specs.declared.state.Decisions.{Decisions}
 use Rattle.belief_net.specs.Adding.{IsEventOf, AddsRuleAt, AddsRule}
 use Rattle.belief_net.specs.Decided.{table_of, rule_in, AreUnder, IsNewRow, IsSameRow, AddsRows, KeepsLast}
@@ -142,12 +139,12 @@ module _ (tree : Kept) (rule kind : List ℕ) where
       ];
     }
 
-  pub rule_everywhere : (numbers : List ℕ) (old new : Decisions) → ((x : ℕ) → IsLive (forest tree) x → IsOn numbers x) → AddsRuleAt tree rule kind numbers old new → AddsRule tree rule kind old new
+  pub rule_everywhere : (numbers : List ℕ) (old new : Decisions) → ((x : ℕ) → IsEventOf tree kind x → IsOn numbers x) → AddsRuleAt tree rule kind numbers old new → AddsRule tree rule kind old new
   rule_everywhere numbers old new all a = record {
     each = λ i. elim (a.each i) [
       | inl same ↦ inl same
       | inr added ↦ inr (added.0, added.1, added.3, added.4, added.5)
     ];
-    all = λ x is. a.all x (all x (live_at (forest tree) x is.node is.at)) is;
+    all = λ x is. a.all x (all x is) is;
     apart = a.apart;
   }

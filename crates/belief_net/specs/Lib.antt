@@ -28,6 +28,7 @@ pub mod MarkLaws
 pub mod Erasing
 pub mod Clearing
 pub mod Adding
+pub mod KindEvents
 pub mod Beginning
 pub mod Updating
 pub mod Numbered

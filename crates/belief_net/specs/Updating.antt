@@ -29,6 +29,7 @@ use Rattle.belief_net.specs.Beginning.{added_by, EntersAdded}
 use Rattle.belief_net.specs.Decided.{KeepsLast}
 use Rattle.belief_net.specs.Entering.{KeepLast}
 use Rattle.belief_net.specs.Horizons.{IsDueBetween}
+use Rattle.belief_net.specs.KindEvents.{FindsOthers}
 use Rattle.belief_net.specs.MarkLaws.{added_by as name_added}
 use Rattle.belief_net.specs.Settling.{counted, IsAtRest}
 use Rattle.belief_net.specs.Telling.{ins, outs}
@@ -57,10 +58,12 @@ pub record IsPending (lists : States) (nets : Nets) (edit : Edit) (erased : List
 
 -- ---- the steps
 
--- a premise that is added stands in the list, and no node is of its name
+-- A premise that is added stands in the list, and no node is of its name. Where it is a rule, the others on its kind have their
+-- rows.
 pub record MayBeAdded (s : Standing) (b : BeliefNet) (premise : Premise) : Type 0 where
   pub stands : In premise s.premises
   pub new : IsNoRoot (forest b.tree) (name_of premise)
+  pub others : FindsOthers s premise b
 
 -- what the edit adds may be added, if it adds something
 abbrev pub MayAdd : Standing → Edit → BeliefNet → Type 0

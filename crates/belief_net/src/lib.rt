@@ -13,6 +13,7 @@ mod erasing;
 mod fast;
 mod following;
 mod horizons;
+mod kind_events;
 mod leaving;
 mod lists;
 mod mark_laws;

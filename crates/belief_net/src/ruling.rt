@@ -8,10 +8,13 @@ ghost use Rattle.list_theory.proofs.Elements.{In};
 ghost use Rattle.spots.specs.Forest.{IsLive};
 ghost use Rattle.occ_tree.specs.Places.{forest};
 ghost use Rattle.belief_net.specs.Adding.{EntersRule, IsEventOf, AddsRule, AddsRuleAt};
-ghost use Rattle.belief_net.specs.Decided.{AreUnder, KeepsLast};
+ghost use Rattle.belief_net.specs.Decided.{table_of, AreUnder, KeepsLast};
 ghost use Rattle.belief_net.specs.Entering.{KeepLast};
+ghost use Rattle.belief_net.specs.KindEvents.{HaveOthers, FindsOthers};
+ghost use Rattle.belief_net.specs.Marks.{HaveEvents};
 ghost use Rattle.belief_net.specs.Turning.{IsFit};
 
+use crate::kind_events::events_of;
 use crate::rows::add_row;
 use crate::state::{BeliefNet, Decisions};
 use dist_net::DistNet;
@@ -30,6 +33,7 @@ pub(crate) fn enter_rule(
 ) -> Result<(), NoMemory>
     requires fit { IsFit standing.now.present net.now.present beliefs.old }
     requires stands { In premise.now standing.now.present.premises }
+    requires others { FindsOthers standing.now.present premise.now beliefs.old }
     ensures enters { OnOk result (EntersRule standing.now.present premise.now beliefs.old beliefs.new) }
     ensures fit { OnOk result (IsFit standing.now.present net.now.present beliefs.new) }
     ensures last { KeepLast beliefs.old beliefs.new }
@@ -69,12 +73,14 @@ fn add_rule(
     requires given { given.now ≡ (rule_of standing.now.present rule).given }
     requires few { length given.now ≤ 4 }
     requires facts { All (λ fact. IsSome (class_in standing.now.present.premises fact)) given.now }
+    requires events { HaveEvents tree.now (table_of decisions.old) }
     requires under { AreUnder standing.now.present decisions.old }
+    requires others { HaveOthers standing.now.present tree.now decisions.old rule kind }
     ensures adds { OnOk result (AddsRule tree.now rule kind decisions.old decisions.new) }
     ensures under { OnOk result (AreUnder standing.now.present decisions.new) }
     ensures last { KeepsLast decisions.old decisions.new }
 {
-    let numbers = tree.numbers(alloc)?;
+    let numbers = events_of(alloc, standing, tree, decisions, rule, kind)?;
     add_rule_along(
         alloc,
         standing,

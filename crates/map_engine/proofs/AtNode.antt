@@ -6,7 +6,7 @@ use Rattle.tmm_model.specs.declared.point.PointName.TheVariants.{Begin}
 use Rattle.tmm_model.specs.Moments.{Moment, At, After, along}
 use Rattle.belief_theory.proofs.Moments.{along-push}
 use Rattle.spots.specs.declared.node_row.NodeRow.{NodeRow}
-use Rattle.spots.specs.Forest.{Forest, member, IsLive, moment_at, IsParent}
+use Rattle.spots.specs.Forest.{Forest, IsLive, moment_at, IsParent}
 use Rattle.spots.specs.Rows.{IsRowOf}
 use Rattle.spots.proofs.Nodes.{node_at, live_at}
 use Rattle.justify.proofs.Origins.{declared_at, effect_at}

@@ -1,22 +1,25 @@
 -- Of which kinds an edit may change the rules, and that the rules on all others stay.
-use Rattle.std.proofs.Common.{◌≡◌, ◌∙◌, ℕ, Bool, true, false, List, [], ◌∷◌, ◌++◌, refl, sym, ap, subst}
+use Rattle.std.proofs.Common.{◌≡◌, ◌∙◌, ℕ, true, false, List, [], ◌∷◌, ◌++◌, refl, sym, ap, subst, inl}
 use Rattle.std.specs.Prelude.{Option, Some, None, is_some}
 use Rattle.std.specs.List.{Contains, filter_map, cons_option}
-use Rattle.std.specs.Cmp.Lexicographic.{bytes_decides}
 use Rattle.tmm_model.specs.declared.premise.Edit.{Edit}
 use Rattle.tmm_model.specs.declared.premise.Edit.TheVariants.{Add, Erase, Horizon, Upgrade}
 use Rattle.tmm_model.specs.declared.premise.Premise.{Premise}
 use Rattle.tmm_model.specs.declared.premise.Premise.TheVariants.{Class, Kind, Point, Event, Token, Span, Dist, Rule, Protect}
-use Rattle.tmm_model.specs.Beliefs.{on_kind, rules_on}
+use Rattle.tmm_model.specs.Beliefs.{on_kind, rules_at, rules_on}
 use Rattle.tmm_model.specs.Edits.{next_list}
-use Rattle.tmm_model.specs.Points.{same_name}
-use Rattle.tmm_model.specs.Standing.{Standing}
+use Rattle.tmm_model.specs.Standing.{Standing, name_of}
 use Rattle.list_theory.specs.WellNamed.{IsWellNamed}
-use Rattle.spots.specs.Forest.{Forest, IsLive}
+use Rattle.list_theory.proofs.Elements.{In, In-right, Contains-from_In, filter_map-In}
+use Rattle.belief_theory.proofs.Sound.{named_rule}
+use Rattle.dist_net.specs.Net.{Net}
+use Rattle.spots.specs.Forest.{Forest, IsLive, moment_at}
+use Rattle.spots.specs.Seen.{IsSeen}
 use Rattle.spots.proofs.Nodes.{live_at}
+use Rattle.supports.proofs.OnKinds.{rules_of_event}
 use Rattle.revisions.specs.Ruling.{is_rule, is_ruling}
 use Rattle.revisions.proofs.Ruling.{unruled_edit}
-use Rattle.map_engine.specs.Ruled.{trigger_of, kind_of_added, changes_rules_on, HasEventsOf, HasRuled}
+use Rattle.map_engine.specs.Ruled.{changes_rules_on, HasRuled}
 
 -- ---- the rules on a kind
 
@@ -35,58 +38,45 @@ same_rules_on s (Erase name) named kind e = unruled_edit s (Erase name) named e 
 same_rules_on s (Horizon n) named kind e = unruled_edit s (Horizon n) named e kind
 same_rules_on s Upgrade named kind e = unruled_edit s Upgrade named e kind
 
--- ---- the kind of one premise
+-- ---- one premise
 
--- a rule on a kind has that kind
-triggered : (kind : List ℕ) (p : Premise) → is_some (on_kind kind p) ≡ true → trigger_of p ≡ Some kind
-triggered kind (Class name facts) e = cc
-triggered kind (Kind name) e = cc
-triggered kind (Point name) e = cc
-triggered kind (Event name kind_) e = cc
-triggered kind (Token name fact) e = cc
-triggered kind (Span name fact) e = cc
-triggered kind (Dist name from to lo hi) e = cc
-triggered kind (Protect name fact from to) e = cc
-triggered kind (Rule name trigger lo hi effect given unless_facts) e = by (same_name trigger kind) refl e
-  where
-    by : (b : Bool) → same_name trigger kind ≡ b → is_some (elim b as (λ _. Option (List ℕ)) [ true ↦ Some name | false ↦ None ]) ≡ true → Some trigger ≡ Some kind
-    by true same e = ap Some ((bytes_decides trigger kind).0 same)
-    by false other e = cc
+-- what is on a kind is a rule
+on_rule : (kind : List ℕ) (p : Premise) → is_some (on_kind kind p) ≡ true → is_rule p ≡ true
+on_rule kind (Class name facts) e = e
+on_rule kind (Kind name) e = e
+on_rule kind (Point name) e = e
+on_rule kind (Event name kind_) e = e
+on_rule kind (Token name fact) e = e
+on_rule kind (Span name fact) e = e
+on_rule kind (Dist name from to lo hi) e = e
+on_rule kind (Rule name trigger lo hi effect given unless_facts) e = refl
+on_rule kind (Protect name fact from to) e = e
 
--- what has a kind is a rule
-rule_triggered : (p : Premise) → is_rule p ≡ is_some (trigger_of p)
-rule_triggered (Class name facts) = refl
-rule_triggered (Kind name) = refl
-rule_triggered (Point name) = refl
-rule_triggered (Event name kind) = refl
-rule_triggered (Token name fact) = refl
-rule_triggered (Span name fact) = refl
-rule_triggered (Dist name from to lo hi) = refl
-rule_triggered (Rule name trigger lo hi effect given unless_facts) = refl
-rule_triggered (Protect name fact from to) = refl
+some_there : {X : Type 0} (o : Option X) → is_some o ≡ true → (x : X) × (o ≡ Some x)
+some_there None e = cc
+some_there (Some x) e = (x, refl)
 
 -- ---- which nodes are needed
 
 module _ (f : Forest) (premises : List Premise) where
   -- none where the edit changes no rules
   pub none_ruled : (edit : Edit) (numbers : List ℕ) → is_ruling premises edit ≡ false → HasRuled f premises edit numbers
-  none_ruled (Add p) numbers unruled kind changes =
-      let never : false ≡ true = sym unruled ∙ rule_triggered p ∙ ap (λ (o : Option (List ℕ)). is_some o) (triggered kind p changes) in
-      absurd (cc)
+  none_ruled (Add p) numbers unruled kind changes = (let never : false ≡ true = sym unruled ∙ on_rule kind p changes in absurd (cc))
   none_ruled (Erase name) numbers unruled kind changes = (let never : false ≡ true = sym unruled ∙ changes in absurd (cc))
   none_ruled (Horizon n) numbers unruled kind changes = (let never : false ≡ true = sym unruled ∙ changes in absurd (cc))
   none_ruled Upgrade numbers unruled kind changes = (let never : false ≡ true = sym unruled ∙ changes in absurd (cc))
 
-  -- where it adds a rule, the events of its kind
-  pub added_ruled : (edit : Edit) (kind : List ℕ) (numbers : List ℕ) → kind_of_added edit ≡ Some kind → HasEventsOf f kind numbers → HasRuled f premises edit numbers
-  added_ruled (Add p) kind numbers added has other changes =
-      let both : Some kind ≡ Some other = sym added ∙ triggered other p changes in
-      let one : kind ≡ other = cc in
-      subst (λ (k : List ℕ). HasEventsOf f k numbers) one has
-  added_ruled (Erase name) kind numbers added has other changes = (let never : None ≡ Some kind = added in absurd (cc))
-  added_ruled (Horizon n) kind numbers added has other changes = (let never : None ≡ Some kind = added in absurd (cc))
-  added_ruled Upgrade kind numbers added has other changes = (let never : None ≡ Some kind = added in absurd (cc))
-
   -- all are enough
   pub all_ruled : (edit : Edit) (numbers : List ℕ) → ((x : ℕ) → IsLive f x → Contains numbers x) → HasRuled f premises edit numbers
   all_ruled edit numbers all kind changes x event = (let (m, at, _, _) = event in all x (live_at f x m at))
+
+-- where it adds a rule, the events at which that stands
+pub added_ruled : (s : Standing) (net : Net) (f : Forest) (p : Premise) (numbers : List ℕ) → IsSeen (next_list s (Add p)) net f
+    → ((x : ℕ) → IsLive f x → Contains (rules_at (next_list s (Add p)) (moment_at f x)) (name_of p) → Contains numbers x) → HasRuled f s.premises (Add p) numbers
+added_ruled s net f p numbers seen has kind changes x (m, at, event, what) =
+    let new = next_list s (Add p) in
+    let (r, on) = some_there (on_kind kind p) changes in
+    let there = filter_map-In (on_kind kind) new.premises p r (In-right s.premises (p ∷ []) p (inl refl)) on in
+    let own = subst (λ (n : List ℕ). In n (rules_on new kind)) (sym (named_rule kind p r on)) there in
+    let rules_are = rules_of_event new net f seen x m at event ∙ ap (rules_on new) what in
+    has x (live_at f x m at) (subst (λ (l : List (List ℕ)). Contains l (name_of p)) (sym rules_are) (Contains-from_In (rules_on new kind) (name_of p) own))

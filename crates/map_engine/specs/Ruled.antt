@@ -1,24 +1,13 @@
 -- Of which kinds an edit may change the rules.
-use Rattle.std.specs.Prelude.{◌≡◌, ℕ, Bool, true, List, Option, Some, None, is_some}
+use Rattle.std.specs.Prelude.{◌≡◌, ℕ, Bool, true, List, Some, is_some}
 use Rattle.std.specs.List.{Contains}
 use Rattle.tmm_model.specs.declared.premise.Edit.{Edit}
 use Rattle.tmm_model.specs.declared.premise.Edit.TheVariants.{Add}
 use Rattle.tmm_model.specs.declared.premise.Premise.{Premise}
-use Rattle.tmm_model.specs.declared.premise.Premise.TheVariants.{Rule}
 use Rattle.tmm_model.specs.declared.token.Shape.TheVariants.{Event}
 use Rattle.tmm_model.specs.Beliefs.{on_kind}
 use Rattle.spots.specs.Forest.{Forest, Member, member}
 use Rattle.revisions.specs.Ruling.{is_ruling}
-
--- the kind that the premise is a rule on, none where it is no rule
-abbrev pub trigger_of : Premise → Option (List ℕ)
-trigger_of (Rule name trigger lo hi effect given unless_facts) = Some trigger
-trigger_of _ = None
-
--- the kind that the edit adds a rule on, none where it adds no rule
-abbrev pub kind_of_added : Edit → Option (List ℕ)
-kind_of_added (Add premise) = trigger_of premise
-kind_of_added _ = None
 
 -- Whether the edit may change which rules are on the kind. A rule that it adds is on one kind; but where a rule may fall with what
 -- it erases, that may be a rule on any kind.

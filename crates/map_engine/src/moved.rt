@@ -23,12 +23,13 @@ ghost use Rattle.map_engine.specs.Gone.{seen_left};
 ghost use Rattle.map_engine.specs.NetMaps.{AreNodesOf};
 ghost use Rattle.map_engine.specs.Nexts.{IsUnguarded, read_next, HasPlacesFor};
 ghost use Rattle.map_engine.specs.Reads.{IsReadOf, read_of};
+ghost use Rattle.map_engine.specs.Ruled.{HasRuled};
 ghost use Rattle.map_engine.specs.Touching.{IsToldOf};
 
 use crate::changes::with_reports;
 use crate::kept_view::{KeptView, NextView};
 use crate::next::Known;
-use crate::touching::{roots_named, touched};
+use crate::touching::{push_ruled, roots_named, touched};
 use belief_list::{Difference, KeptRow, LeftNode, changes_told, differences, reach, size_after};
 use belief_net::{BeliefNet, DatedOcc, Told};
 use dist_net::DistNet;
@@ -73,7 +74,7 @@ pub(crate) fn moved(
 {
     // it tells the proof that no count is above the greatest
     let _ = counter.value();
-    let Ok(gone) = roots_named(alloc, nodes.tree(), erased.items()) else {
+    let Ok(mut others) = roots_named(alloc, nodes.tree(), erased.items()) else {
         return Err(Stop::NoMemory);
     };
     let told = nodes.update(
@@ -85,6 +86,9 @@ pub(crate) fn moved(
         known.before,
         counter,
     )?;
+    let Ok(()) = push_ruled(alloc, edit, nodes, known.ruling, &mut others) else {
+        return Err(Stop::NoMemory);
+    };
     read(
         alloc,
         edit,
@@ -92,7 +96,7 @@ pub(crate) fn moved(
         net,
         nodes.tree(),
         &told,
-        gone.as_slice(),
+        others.as_slice(),
         view,
         erased,
         known,
@@ -100,7 +104,7 @@ pub(crate) fn moved(
 }
 
 // What is read of the nodes of a tree, and what changed since its last commit, where it is told what entered
-// and left, and these are the numbers of the roots that are gone.
+// and left, and among these other numbers are those of the roots that are gone, and of the events of which the rules changed.
 fn read(
     alloc: Global,
     edit: &Edit,
@@ -108,16 +112,16 @@ fn read(
     net: &DistNet,
     tree: &Tree,
     told: &Told,
-    gone: &[u32],
+    others: &[u32],
     view: &mut KeptView,
     erased: Seq<Name>,
     known: Known,
 ) -> Result<(NextView, Changes), Stop>
     requires seen { IsTreeOf standing.now.present net.now.present tree.now }
     requires holds { Holds (built standing.now.present).believed (forest tree.now) }
-    requires told { IsToldOf standing.now net.now edit.now tree.now told.now gone.now }
+    requires told { IsToldOf standing.now net.now edit.now tree.now told.now others.now }
+    requires ruled { HasRuled (forest tree.now) standing.now.committed.premises edit.now others.now }
     requires view { IsReadOf standing.now.committed (old_forest tree.now) (read_of view.old) }
-    requires ruling { known.ruling ≡ is_ruling standing.now.committed.premises edit.now }
     requires left_out { IsLeftOut standing.now.committed standing.now.present erased.items }
     requires unguarded_before { known.guarded ≡ false → IsUnguarded standing.now.committed }
     requires unguarded_now { known.guarded ≡ false → IsUnguarded standing.now.present }
@@ -127,7 +131,7 @@ fn read(
     ensures changes { IfOk result (λ made. delta_of made.1 ≡ changes standing.now.committed standing.now.present) }
     ensures stops { IfErr result (IsTooLarge (size (built standing.now.present))) }
 {
-    let Ok(found) = touched(alloc, edit, net, tree, told, gone, known.ruling) else {
+    let Ok(found) = touched(alloc, edit, net, tree, told, others) else {
         return Err(Stop::NoMemory);
     };
     let Ok(made) = differing(alloc, standing, net, tree, &found, &mut view.rows) else {

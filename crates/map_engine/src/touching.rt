@@ -1,10 +1,12 @@
 // Which nodes an edit may have touched.
-ghost use Rattle.std.specs.Prelude.{◌≡◌, ◌↔◌, ℕ, List, Some, MatchOption, IfOk, OnOk, IsTrue};
+ghost use Rattle.std.specs.Prelude.{◌≡◌, ℕ, List, Some, MatchOption, IfOk, OnOk};
 ghost use Rattle.std.specs.List.{Contains};
-ghost use Rattle.tmm_model.specs.declared.premise.Premise.{Premise as APremise};
 ghost use Rattle.tmm_model.specs.declared.point.PointName.TheVariants.{Begin};
+ghost use Rattle.tmm_model.specs.Edits.{next_list};
 ghost use Rattle.tmm_model.specs.Moments.{Moment, At, moment_of};
+ghost use Rattle.tmm_model.specs.Standing.{Standing as AStanding};
 ghost use Rattle.list_theory.proofs.Elements.{In};
+ghost use Rattle.dist_net.specs.Net.{Net};
 ghost use Rattle.spots.specs.Forest.{Member, member, IsOnce};
 ghost use Rattle.spots.specs.Seen.{HasList};
 ghost use Rattle.spots.specs.Spots.{AreTokens};
@@ -13,18 +15,20 @@ ghost use Rattle.occ_tree.specs.Standing.{committed};
 ghost use Rattle.occ_tree.specs.Touched.{IsAtMoved};
 ghost use Rattle.supports.specs.Edited.{old_forest, AreOthersUntouched};
 ghost use Rattle.revisions.specs.Ruling.{is_ruling};
+ghost use Rattle.joined.specs.Netted.{IsCurrent};
 ghost use Rattle.belief_net.specs.MarkLaws.{added_by as name_added};
 ghost use Rattle.belief_net.specs.Numbered.{left_under};
+ghost use Rattle.belief_net.specs.Turning.{rows_of, IsFit};
 ghost use Rattle.belief_net.specs.declared.told.DatedOcc.{DatedOcc as ADatedOcc};
-ghost use Rattle.map_engine.specs.Ruled.{trigger_of, kind_of_added, IsEventOf, HasEventsOf, HasRuled};
+ghost use Rattle.map_engine.specs.Ruled.{HasRuled};
 ghost use Rattle.map_engine.specs.Touching.{HasNodeOf, entered_of, TakesIn};
 
 use crate::at_node::is_at;
-use belief_net::{DatedOcc, Told};
+use belief_net::{BeliefNet, DatedOcc, Told};
 use dist_net::DistNet;
 use occ_tree::{Touched, Tree};
 use std::alloc::Global;
-use tmm_model::{Edit, Name, NoMemory, Occ, Premise, Seq, Shape};
+use tmm_model::{Edit, Name, NoMemory, Occ, Seq};
 
 // The roots of these names.
 pub(crate) fn roots_named(alloc: Global, tree: &Tree, names: &[Name]) -> Result<Vec<u32>, NoMemory>
@@ -38,30 +42,26 @@ pub(crate) fn roots_named(alloc: Global, tree: &Tree, names: &[Name]) -> Result<
     Ok(found)
 }
 
-// All that an edit may have touched, where `gone` are the numbers of the roots that are gone: nodes that
-// entered, left or moved, and the classes of tokens; and the events of the kind of a rule that it adds, or all
-// nodes where rules may have fallen with what it erased.
+// All that an edit may have touched: nodes that entered, left or moved, and the classes of tokens; and these other nodes, which
+// are the roots that are gone, and those on which the rules may have changed.
 pub(crate) fn touched(
     alloc: Global,
     edit: &Edit,
     net: &DistNet,
     tree: &Tree,
     told: &Told,
-    gone: &[u32],
-    ruling: bool,
+    others: &[u32],
 ) -> Result<Touched, NoMemory>
     requires list { HasList net.now.present (forest tree.now) }
     requires once { IsOnce (forest tree.now) }
-    ensures takes { IfOk result (λ found. TakesIn (forest tree.now) told.now (name_added edit.now) gone.now found.nodes.items) }
+    ensures takes { IfOk result (λ found. TakesIn (forest tree.now) told.now (name_added edit.now) others.now found.nodes.items) }
     ensures moved { IfOk result (λ found. (x : ℕ) (m : Member) → member (forest tree.now) x ≡ Some m → IsAtMoved net.now.moved m → Contains found.nodes.items x) }
-    ensures ruled { IfOk result (λ found. (premises : List APremise) → ruling ≡ is_ruling premises edit.now → HasRuled (forest tree.now) premises edit.now found.nodes.items) }
     ensures classes { IfOk result (λ found. AreOthersUntouched net.now tree.now found.classes.items) }
     ensures before { IfOk result (λ found. (class : List ℕ) → AreTokens (old_forest tree.now) class ((committed tree.now).tokens class)) }
 {
     let moved = tree.touched(alloc, net)?;
-    let mut nodes = touched_nodes(alloc, tree, edit, told, gone)?;
+    let mut nodes = touched_nodes(alloc, tree, edit, told, others)?;
     push_numbers(moved.nodes.as_slice(), &mut nodes)?;
-    push_ruled(alloc, tree, edit, ruling, &mut nodes)?;
     Ok(Touched {
         nodes,
         classes: moved.classes,
@@ -88,82 +88,37 @@ fn touched_nodes(
     Ok(found)
 }
 
-// Appends the nodes on which the edit may have changed the rules: the events of the kind of a rule that it adds,
-// and all nodes where rules may have fallen with what it erased, of whatever kinds they were.
-fn push_ruled(
+// Appends the nodes on which the edit may have changed the rules, where these nodes and decisions are those of the list that
+// it leaves.
+pub(crate) fn push_ruled(
     alloc: Global,
-    tree: &Tree,
     edit: &Edit,
+    nodes: &BeliefNet,
     ruling: bool,
     found: &mut Vec<u32>,
 ) -> Result<(), NoMemory>
+    requires fit { (s : AStanding) × (net : Net) × IsFit s net nodes.now }
     ensures kept { OnOk result ((x : ℕ) → Contains found.old.items x → Contains found.new.items x) }
-    ensures pushed { OnOk result ((premises : List APremise) → ruling ≡ is_ruling premises edit.now → HasRuled (forest tree.now) premises edit.now found.new.items) }
+    ensures pushed { OnOk result ((s : AStanding) (net : Net) → ruling ≡ is_ruling s.premises edit.now → IsCurrent (next_list s edit.now) net (forest nodes.now.tree) (rows_of nodes.now)
+        → HasRuled (forest nodes.now.tree) s.premises edit.now found.new.items) }
 {
     if !ruling {
         return Ok(());
     }
-    if let Some(kind) = kind_of_added(edit) {
-        return push_events(tree, kind, found);
-    }
-    let all = tree.numbers(alloc)?;
-    push_numbers(all.as_slice(), found)
+    let ruled = ruled_nodes(alloc, edit, nodes)?;
+    push_numbers(ruled.as_slice(), found)
 }
 
-// The kind of the rule that the edit adds, none where it adds no rule.
-fn kind_of_added(edit: &Edit) -> Option<Name>
-    ensures { result ≡ kind_of_added edit.now }
+// The events of the kind of the rule that the edit adds; or all nodes, where rules may have fallen with what it erased, of
+// whatever kinds they were.
+fn ruled_nodes(alloc: Global, edit: &Edit, nodes: &BeliefNet) -> Result<Vec<u32>, NoMemory>
+    requires fit { (s : AStanding) × (net : Net) × IsFit s net nodes.now }
+    ensures { IfOk result (λ found. (s : AStanding) (net : Net) → IsCurrent (next_list s edit.now) net (forest nodes.now.tree) (rows_of nodes.now)
+        → HasRuled (forest nodes.now.tree) s.premises edit.now found.items) }
 {
     match edit {
-        Edit::Add(premise) => trigger_of(premise),
-        Edit::Erase(_) | Edit::Horizon(_) | Edit::Upgrade => None,
-    }
-}
-
-// The kind that a premise is a rule on, none where it is no rule.
-fn trigger_of(premise: &Premise) -> Option<Name>
-    ensures { result ≡ trigger_of premise.now }
-{
-    match premise {
-        Premise::Rule { trigger, .. } => Some(*trigger),
-        _ => None,
-    }
-}
-
-// Appends the events of a kind.
-fn push_events(tree: &Tree, kind: Name, found: &mut Vec<u32>) -> Result<(), NoMemory>
-    ensures kept { OnOk result ((x : ℕ) → Contains found.old.items x → Contains found.new.items x) }
-    ensures pushed { OnOk result (HasEventsOf (forest tree.now) kind found.new.items) }
-{
-    for x in 0..tree.limit() {
-        push_event(tree, kind, x, found)?;
-    }
-    Ok(())
-}
-
-// Appends a number, if it is of an event of this kind.
-fn push_event(tree: &Tree, kind: Name, x: u32, found: &mut Vec<u32>) -> Result<(), NoMemory>
-    ensures kept { OnOk result ((y : ℕ) → Contains found.old.items y → Contains found.new.items y) }
-    ensures pushed { OnOk result (IsEventOf (forest tree.now) kind x → Contains found.new.items x) }
-{
-    if is_event_of(tree, kind, x) {
-        push(x, found)
-    } else {
-        Ok(())
-    }
-}
-
-// Whether the number is of an event of this kind.
-fn is_event_of(tree: &Tree, kind: Name, x: u32) -> bool
-    ensures { IsTrue result ↔ IsEventOf (forest tree.now) kind x }
-{
-    if !tree.is_live(x) {
-        return false;
-    }
-    let row = tree.row(x);
-    match row.shape {
-        Shape::Event => row.what == kind,
-        _ => false,
+        Edit::Add(premise) => nodes.events_of_rule(alloc, premise.name()),
+        Edit::Erase(_) | Edit::Horizon(_) | Edit::Upgrade => nodes.tree().numbers(alloc),
     }
 }
 

@@ -11,8 +11,8 @@ pub differing-requires-clause-covered : goal.differing-requires-clause-covered
 differing-requires-clause-covered c =
     let found = c.in-Ok.found in
     let are = c.in-Ok.ensures in
-    covers c.args.standing.now c.args.net.now c.args.edit.now c.args.tree.now c.args.told.now c.args.gone.now found.nodes.items found.classes.items
-    c.requires.told (c.requires.told.edited are.before) are.takes are.moved (are.ruled c.args.standing.now.committed.premises c.requires.ruling) are.classes
+    covers c.args.standing.now c.args.net.now c.args.edit.now c.args.tree.now c.args.told.now c.args.others.now found.nodes.items found.classes.items
+    c.requires.told (c.requires.told.edited are.before) are.takes are.moved (λ kind changes x event. are.takes.beside x (c.requires.ruled kind changes x event)) are.classes
 
 pub tell-requires-clause-others : goal.tell-requires-clause-others
 tell-requires-clause-others c =

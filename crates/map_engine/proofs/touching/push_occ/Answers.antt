@@ -1,4 +1,4 @@
-use Rattle.std.proofs.Common.{◌≡◌, ◌∙◌, sym}
+use Rattle.std.proofs.Common.{◌∙◌, sym}
 use Rattle.std.specs.List.{Contains}
 use Rattle.tmm_model.specs.Moments.{moment_of}
 use Rattle.spots.proofs.Nodes.{node_at, moment_at-is}

@@ -7,10 +7,9 @@ use Rattle.map_engine.proofs.touching.touched.Goals as goal
 
 pub returns-clause-takes : goal.returns-clause-takes
 returns-clause-takes c =
-    takes_more (forest c.args.tree.now) c.args.told.now (name_added c.args.edit.now) c.args.gone.now c.in_ok-nodes.nodes.items c.push_ruled.new.found.items
-    (λ x at. c.in_ok-push_ruled.ensures.kept x (c.in_ok-push_numbers.ensures.kept x at)) c.in_ok-nodes.ensures
+    takes_more (forest c.args.tree.now) c.args.told.now (name_added c.args.edit.now) c.args.others.now c.in_ok-nodes.nodes.items c.push_numbers.new.found.items
+    c.in_ok-push_numbers.ensures.kept c.in_ok-nodes.ensures
 
 pub returns-clause-moved : goal.returns-clause-moved
 returns-clause-moved c = λ x m here at.
-    c.in_ok-push_ruled.ensures.kept x
-    (c.in_ok-push_numbers.ensures.pushed x (subst (λ (l : List ℕ). Contains l x) (sym c.as_slice.ensures.value) (c.in_ok-moved.ensures.nodes x m here at)))
+    c.in_ok-push_numbers.ensures.pushed x (subst (λ (l : List ℕ). Contains l x) (sym c.as_slice.ensures.value) (c.in_ok-moved.ensures.nodes x m here at))
