@@ -1,5 +1,5 @@
 -- The rules that stand at an event, and their antecedents.
-use Rattle.std.proofs.Common.{◌≡◌, ℕ, List, sym, subst, inr}
+use Rattle.std.proofs.Common.{◌≡◌, ℕ, List, ◌++◌, sym, subst, inr}
 use Rattle.std.specs.Prelude.{Some, IsSome}
 use Rattle.std.specs.List.{All, Contains}
 use Rattle.tmm_model.specs.declared.premise.Premise.{Premise}
