@@ -29,7 +29,7 @@ update-requires-clause-pending c =
     subst (λ (names : List (List ℕ)). IsPending c.args.standing.now c.args.net.now c.args.edit.now names) (sym c.items-2.ensures) c.requires.pending
 
 pub push_ruled-requires : goal.push_ruled-requires
-push_ruled-requires c = (c.args.standing.now.present, c.args.net.now.present, c.in_ok-told.ensures.ok.rests.fit)
+push_ruled-requires c = record { fit = (c.args.standing.now.present, c.args.net.now.present, c.in_ok-told.ensures.ok.rests.fit) }
 
 pub read-requires-clause-seen : goal.read-requires-clause-seen
 read-requires-clause-seen c = subst (IsTreeOf c.args.standing.now.present c.args.net.now.present) (sym c.tree-2.ensures) c.in_ok-told.ensures.ok.rests.fit.tree
