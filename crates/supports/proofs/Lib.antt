@@ -15,3 +15,4 @@ pub mod Grown
 pub mod Entering
 pub mod ByDate
 pub mod ClassClips
+pub mod OfLaterDates

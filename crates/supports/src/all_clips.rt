@@ -1,5 +1,5 @@
 // What clips the tokens of a tree, all of them at once, or those of a class.
-ghost use Rattle.std.specs.Prelude.{◌≡◌, ◌<◌, ◌+◌, ℕ, List, map, length, drop, IfOk, IfSome, IsNone, MatchOption, OnOk, slice_index_or};
+ghost use Rattle.std.specs.Prelude.{◌≡◌, ◌⊎◌, ◌<◌, ◌≤ℤ◌, ◌+◌, ℕ, List, map, length, drop, IfOk, IfSome, IsNone, MatchOption, OnOk, slice_index_or};
 ghost use Rattle.std.specs.List.{All, Contains};
 ghost use Rattle.std.specs.List.Sorted.{IsStrictlySortedBy};
 ghost use Rattle.std.specs.Option.{option_map, ForSome};
@@ -69,13 +69,27 @@ pub fn class_clips(
     let mut clips = Vec::from_elem(alloc, None, rows.len())?;
     // the tokens behind, the nearest one last
     let mut behind = Vec::with_capacity(alloc, rows.len())?;
+    // how many of them may clip: the others have dates up to that of the last token
+    let mut later = 0;
+    let mut last = i64::MAX;
     for i in (0..rows.len()).rev() {
         let row = rows[i];
-        clips[i] = next_clip(tree, net, &behind, &row);
+        let date = tree.early(node_of(&row));
+        later = count_later(behind.len(), later, last, date);
+        last = date;
+        clips[i] = next_clip(tree, net, &behind[..later], &row);
         let first = stretch_behind(&behind, &row.fact);
         behind.push_reserved(Stretched { row, first });
     }
     Ok(clips)
+}
+
+// How many of the tokens behind may clip one of a date, where all but the first `later` have dates up to
+// `last`: what clips a token has a later date.
+fn count_later(count: usize, later: usize, last: i64, date: i64) -> usize
+    ensures { (result ≡ count) ⊎ ((result ≡ later) × (last ≤ℤ date)) }
+{
+    if date < last { count } else { later }
 }
 
 // What clips the node at a place, given the tokens behind it by their classes, to which its own is added.

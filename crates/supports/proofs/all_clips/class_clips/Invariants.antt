@@ -5,6 +5,8 @@ use Rattle.occ_tree.specs.Places.{forest}
 use Rattle.occ_tree.specs.Tokens.{numbers_in}
 use Rattle.spots.specs.Forest.{IsLive}
 use Rattle.supports.specs.Behind.{rows_behind, IsClip}
+use Rattle.spots.specs.Spots.{spot_early}
+use Rattle.supports.proofs.OfLaterDates.{AreUpTo}
 use Rattle.supports.proofs.all_clips.class_clips.Given as goal
 
 abbrev pub invariant-loop-i : goal.invariant-loop-i
@@ -16,4 +18,6 @@ invariant-loop-i l = record {
   long : vec_len l.behind + l.i ≡ length l.rows;
   behind : rows_of l.behind.items ≡ rows_behind (forest l.tree) l.class (drop l.i (numbers_in l.rows));
   stretches : HaveStretches l.behind.items;
+  later : l.later ≤ length l.behind.items;
+  dates : AreUpTo (spot_early l.net.present (forest l.tree)) (rows_of l.behind.items) l.later l.last;
 }
