@@ -9,6 +9,7 @@ pub mod Answered
 pub mod Nearest
 pub mod Facts
 pub mod Rules
+pub mod FirstFacts
 pub mod OnKinds
 pub mod Effects
 pub mod Grown

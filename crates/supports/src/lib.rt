@@ -7,7 +7,7 @@
 //! `class_clips` and `add_root` alone take memory.
 #![tactic(auto)]
 
-ghost use Rattle.std.specs.Prelude.{◌≡◌, ◌<◌, ℕ, List, length, None, Some, IsSome, IfSome, slice_index_or};
+ghost use Rattle.std.specs.Prelude.{◌≡◌, ◌<◌, ℕ, List, map, length, None, Some, IsSome, IfSome, slice_index_or};
 ghost use Rattle.std.specs.List.{All};
 ghost use Rattle.std.specs.Option.{option_map};
 ghost use Rattle.tmm_model.specs.declared.token.TokenRow.{TokenRow};
@@ -16,6 +16,7 @@ ghost use Rattle.tmm_model.specs.Beliefs.{has_support, holder, token_of};
 ghost use Rattle.tmm_model.specs.Moments.{Moment};
 ghost use Rattle.tmm_model.specs.Sorts.{class_in};
 ghost use Rattle.tmm_model.specs.Standing.{far_in};
+ghost use Rattle.belief_theory.specs.Outcomes.{first_with};
 ghost use Rattle.spots.specs.Forest.{Member, member, IsLive, moment_at};
 ghost use Rattle.spots.specs.Seen.{IsSeen, Holds, map_of};
 ghost use Rattle.spots.specs.declared.spot.Spot.{Spot};
@@ -122,6 +123,28 @@ pub fn is_supported(
         unreachable!()
     };
     by_date::is_held(&Order { tree, net }, tree.tokens(&class), fact, p, q)
+}
+
+/// The place of the first of these facts that a token supports at a point, none exactly where no token
+/// supports any.
+pub fn first_supported(
+    standing: &Standing,
+    tree: &Tree,
+    net: &DistNet,
+    facts: &[Name],
+    at: Spot,
+) -> Option<usize>
+    requires seen { IsTreeOf standing.now.present net.now.present tree.now }
+    requires facts { All (λ fact. IsSome (class_in standing.now.present.premises fact)) facts.now }
+    requires at { IsSpot net.now.present.names (forest tree.now) at }
+    ensures { (b : List Moment) → Holds b (forest tree.now) → result ≡ first_with (map (λ fact. holder standing.now.present (far_in standing.now.present.premises) b fact (spot_moment net.now.present.names (forest tree.now) at) (spot_moment net.now.present.names (forest tree.now) at)) facts.now) }
+{
+    for place in 0..facts.len() {
+        if is_supported(standing, tree, net, facts[place], at, at) {
+            return Some(place);
+        }
+    }
+    None
 }
 
 /// The node of the first token that clips the one at `x`, none exactly where no token does. A span
