@@ -20,7 +20,7 @@ use occ_tree::{Order, Tree};
 use premise_list::Standing;
 use spots::Spot;
 use std::marker::Model;
-use supports::{is_supported, rule_text, supporter};
+use supports::{first_supported, is_supported, rule_text, supporter};
 use tmm_model::Name;
 
 /// What becomes of a rule at an event.
@@ -30,6 +30,8 @@ pub enum Decision {
     Fires { supports: ArrayVec<u32, 4> },
     /// The antecedent at this place is the first without a supporter.
     Blocked { antecedent: usize },
+    /// Each antecedent has a supporter; the exception at this place is the first that has one too.
+    Barred { exception: usize },
     /// Its effect would begin after the horizon.
     Beyond,
 }
@@ -96,22 +98,25 @@ pub fn decide(
     if due_by(standing.horizon(), early, text.lo).is_none() {
         return Decision::Beyond;
     }
-    try_given(tree, net, standing, trigger, text.given)
+    try_facts(tree, net, standing, trigger, text.given, text.exceptions)
 }
 
-// The first supporters of the facts at the event, or the first fact without one.
-fn try_given(
+// The first supporters of the antecedents at the event, or the first of these without one, or else the first
+// exception with one.
+fn try_facts(
     tree: &Tree,
     net: &DistNet,
     standing: &Standing,
     trigger: u32,
     given: &[Name],
+    exceptions: &[Name],
 ) -> Decision
     requires seen { IsTreeOf standing.now.present net.now.present tree.now }
     requires trigger { IsLive (forest tree.now) trigger }
     requires facts { All (λ fact. IsSome (class_in standing.now.present.premises fact)) given.now }
+    requires exceptions { All (λ fact. IsSome (class_in standing.now.present.premises fact)) exceptions.now }
     requires few { length given.now ≤ 4 }
-    ensures outcome { (b : List Moment) → Holds b (forest tree.now) → outcome_at (forest tree.now) result ≡ tried_at standing.now.present b (moment_at (forest tree.now) trigger) given.now }
+    ensures outcome { (b : List Moment) → Holds b (forest tree.now) → outcome_at (forest tree.now) result ≡ tried_at standing.now.present b (moment_at (forest tree.now) trigger) given.now exceptions.now }
     ensures live { AreLive (forest tree.now) result }
 {
     let at = Spot::Node(trigger);
@@ -122,11 +127,14 @@ fn try_given(
             None => return Decision::Blocked { antecedent },
         }
     }
-    Decision::Fires { supports }
+    match first_supported(standing, tree, net, exceptions, at) {
+        Some(exception) => Decision::Barred { exception },
+        None => Decision::Fires { supports },
+    }
 }
 
 // Whether the rule at this place of the list fires on the event at the node `trigger`, where its effect is
-// due: each of its antecedents has a supporter there, whichever that is.
+// due: each of its antecedents has a supporter there, whichever that is, and no exception has one.
 pub(crate) fn is_free(
     tree: &Tree,
     net: &DistNet,
@@ -141,11 +149,12 @@ pub(crate) fn is_free(
     ensures { (b : List Moment) → Holds b (forest tree.now) → result ≡ is_free standing.now.present (far_in standing.now.present.premises) b (moment_at (forest tree.now) trigger) (name_at standing.now.present place) }
 {
     let at = Spot::Node(trigger);
-    let given = text_at(standing, place).given;
+    let text = text_at(standing, place);
+    let given = text.given;
     for fact in given {
         if !is_supported(standing, tree, net, *fact, at, at) {
             return false;
         }
     }
-    true
+    first_supported(standing, tree, net, text.exceptions, at).is_none()
 }

@@ -6,15 +6,16 @@ use Rattle.tmm_model.specs.Beliefs.{holder}
 use Rattle.tmm_model.specs.Standing.{far_in}
 use Rattle.spots.specs.Forest.{IsLive, moment_at}
 use Rattle.occ_tree.specs.Places.{forest}
-use Rattle.projection.proofs.Tried.{found_more, tried_fires, tried_blocked}
-use Rattle.projection.proofs.decision.try_given.Goals as goal
+use Rattle.projection.proofs.Tried.{found_more, tried_unblocked, tried_blocked, is_barred, is_fired}
+use Rattle.projection.proofs.decision.try_facts.Goals as goal
 
 pub returns-in-None-clause-outcome : goal.returns-in-None-clause-outcome
 returns-in-None-clause-outcome c b holds =
     let s = c.args.standing.now.present in
     let f = forest c.args.tree.now in
     let t = moment_at f c.args.trigger in
-    tried_blocked (moment_at f) (λ fact. holder s (far_in s.premises) b fact t t) c.loop-antecedent.supports.items c.args.given.now c.loop-antecedent.antecedent c.index-given-antecedent.result
+    tried_blocked (moment_at f) (λ fact. holder s (far_in s.premises) b fact t t) c.loop-antecedent.supports.items c.args.given.now
+    (map (λ fact. holder s (far_in s.premises) b fact t t) c.args.exceptions.now) c.loop-antecedent.antecedent c.index-given-antecedent.result
     (c.loop-antecedent.invariant.found b holds) c.loop-antecedent.invariant.count (omega arith) c.index-given-antecedent.is (c.in-None.ensures.first b holds)
 
 pub loop-antecedent-preserved : goal.loop-antecedent-preserved
@@ -33,10 +34,22 @@ loop-antecedent-preserved c =
           (c.loop-antecedent.invariant.found b holds) (omega arith) c.index-given-antecedent.is (c.in-Some.ensures.first b holds));
     }
 
-pub returns-clause-outcome : goal.returns-clause-outcome
-returns-clause-outcome c b holds =
+pub returns-in-Some-2-clause-outcome : goal.returns-in-Some-2-clause-outcome
+returns-in-Some-2-clause-outcome c b holds =
     let s = c.args.standing.now.present in
     let f = forest c.args.tree.now in
     let t = moment_at f c.args.trigger in
-    tried_fires (moment_at f) (λ fact. holder s (far_in s.premises) b fact t t) c.loop-antecedent.supports.items c.args.given.now
+    let against = map (λ fact. holder s (far_in s.premises) b fact t t) c.args.exceptions.now in
+    is_barred (map (moment_at f) c.loop-antecedent.supports.items) against c.in-Some-2.exception (c.in-Some-2.ensures b holds)
+    ∙ tried_unblocked (moment_at f) (λ fact. holder s (far_in s.premises) b fact t t) c.loop-antecedent.supports.items c.args.given.now against
+    (c.loop-antecedent.invariant.found b holds ∙ ap (map (λ fact. holder s (far_in s.premises) b fact t t)) (take_all c.loop-antecedent.antecedent c.args.given.now (omega arith)))
+
+pub returns-in-None-2-clause-outcome : goal.returns-in-None-2-clause-outcome
+returns-in-None-2-clause-outcome c b holds =
+    let s = c.args.standing.now.present in
+    let f = forest c.args.tree.now in
+    let t = moment_at f c.args.trigger in
+    let against = map (λ fact. holder s (far_in s.premises) b fact t t) c.args.exceptions.now in
+    is_fired (map (moment_at f) c.loop-antecedent.supports.items) against (c.in-None-2.ensures b holds)
+    ∙ tried_unblocked (moment_at f) (λ fact. holder s (far_in s.premises) b fact t t) c.loop-antecedent.supports.items c.args.given.now against
     (c.loop-antecedent.invariant.found b holds ∙ ap (map (λ fact. holder s (far_in s.premises) b fact t t)) (take_all c.loop-antecedent.antecedent c.args.given.now (omega arith)))

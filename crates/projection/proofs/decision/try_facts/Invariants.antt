@@ -6,7 +6,7 @@ use Rattle.tmm_model.specs.Standing.{far_in}
 use Rattle.spots.specs.Forest.{IsLive, moment_at}
 use Rattle.spots.specs.Seen.{Holds}
 use Rattle.occ_tree.specs.Places.{forest}
-use Rattle.projection.proofs.decision.try_given.Given as goal
+use Rattle.projection.proofs.decision.try_facts.Given as goal
 
 abbrev pub invariant-loop-antecedent : goal.invariant-loop-antecedent
 invariant-loop-antecedent l = record {
