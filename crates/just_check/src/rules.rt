@@ -17,7 +17,7 @@ use occ_tree::{Order, Tree};
 use premise_list::Standing;
 use spots::Spot;
 use std::alloc::Global;
-use supports::{is_supported, rule_text};
+use supports::{first_supported, is_supported, rule_text};
 use tmm_model::{Name, NoMemory, Premise, Shape};
 
 /// The names of the standing rules on each kind, in the order of the list.
@@ -69,8 +69,8 @@ impl RulesByKind {
     }
 }
 
-// Whether the rule fires at the event of a node: its effect begins by the horizon, and each antecedent has
-// a supporter there.
+// Whether the rule fires at the event of a node: its effect begins by the horizon, each antecedent has a
+// supporter there, and no exception has one.
 pub(crate) fn does_fire(standing: &Standing, net: &DistNet, tree: &Tree, x: u32, rule: Name) -> bool
     requires seen { IsTreeOf standing.now.present net.now.present tree.now }
     requires live { IsLive (forest tree.now) x }
@@ -79,7 +79,7 @@ pub(crate) fn does_fire(standing: &Standing, net: &DistNet, tree: &Tree, x: u32,
 {
     let text = rule_text(standing, rule);
     is_in_time(standing.horizon(), Order { tree, net }.early(x), text.lo)
-        && is_free(standing, net, tree, x, rule, text.given)
+        && is_free(standing, net, tree, x, rule, text.given, text.exceptions)
 }
 
 // Whether what begins so long after this date begins by the horizon.
@@ -91,7 +91,8 @@ fn is_in_time(horizon: u32, early: i64, delay: i64) -> bool
     early <= i64::from(horizon) - delay
 }
 
-// Whether each antecedent of the rule has a supporter at the event of a node; these are the facts.
+// Whether each antecedent of the rule has a supporter at the event of a node, and no exception has one; these are
+// the facts.
 fn is_free(
     standing: &Standing,
     net: &DistNet,
@@ -99,11 +100,13 @@ fn is_free(
     x: u32,
     rule: Name,
     given: &[Name],
+    exceptions: &[Name],
 ) -> bool
     requires seen { IsTreeOf standing.now.present net.now.present tree.now }
     requires live { IsLive (forest tree.now) x }
     requires rule { Contains (rules_at standing.now.present (moment_at (forest tree.now) x)) rule }
     requires given { given.now ≡ (rule_of standing.now.present rule).given }
+    requires exceptions { exceptions.now ≡ (rule_of standing.now.present rule).exceptions }
     ensures { (b : List Moment) → Holds b (forest tree.now) → result ≡ is_free standing.now.present (far_in standing.now.present.premises) b (moment_at (forest tree.now) x) rule }
 {
     let at = Spot::Node(x);
@@ -112,5 +115,5 @@ fn is_free(
             return false;
         }
     }
-    true
+    first_supported(standing, tree, net, exceptions, at).is_none()
 }
