@@ -5,7 +5,7 @@ use Rattle.std.specs.Prelude.{pos}
 use Rattle.std.specs.Option.{option_map_or}
 use Rattle.std.specs.Cmp.Lexicographic.{bytes_decides}
 use Rattle.tmm_model.specs.Beliefs.{class_of}
-use Rattle.tmm_model.specs.Moments.{rule_of}
+use Rattle.tmm_model.specs.Moments.{read_by, rule_of}
 use Rattle.tmm_model.specs.Points.{same_name}
 use Rattle.tmm_model.specs.Standing.{Standing}
 use Rattle.list_theory.proofs.Elements.{In, In-map, map-In, list_any-In, In-list_any}
@@ -132,8 +132,8 @@ module _ (nets : Nets) (added : Option (List ℕ)) (s : Standing) (st : State) (
       → (k : ℕ) × (place_in d.classes class ≡ Some k)
   class_number i row at class reads =
       let u = under.classes i row at in
-      let (fact, on, same) = list_any-In (λ fact. same_name (class_of s fact) class) (rule_of s (rule_in d row)).given reads in
-      let among = subst (λ l. In (place_in d.classes (class_of s fact)) l) u.numbers (map-In (λ fact. place_in d.classes (class_of s fact)) (rule_of s (rule_in d row)).given fact on) in
+      let (fact, on, same) = list_any-In (λ fact. same_name (class_of s fact) class) (read_by (rule_of s (rule_in d row))) reads in
+      let among = subst (λ l. In (place_in d.classes (class_of s fact)) l) u.numbers (map-In (λ fact. place_in d.classes (class_of s fact)) (read_by (rule_of s (rule_in d row))) fact on) in
       let (k, there, is) = In-map Some u.classes (place_in d.classes (class_of s fact)) among in
       (k, sym (ap (place_in d.classes) ((bytes_decides (class_of s fact) class).0 same)) ∙ sym is)
 
@@ -192,14 +192,14 @@ module _ (nets : Nets) (added : Option (List ℕ)) (s : Standing) (st : State) (
           ]
 
       same_date : is_moved nets added (base_of f (Node x)) 0 ≡ false
-      same_date = by (rule_of s r).given refl
+      same_date = by (read_by (rule_of s r)) refl
         where
-          by : (given : List (List ℕ)) → (rule_of s r).given ≡ given → is_moved nets added (base_of f (Node x)) 0 ≡ false
+          by : (given : List (List ℕ)) → read_by (rule_of s r) ≡ given → is_moved nets added (base_of f (Node x)) 0 ≡ false
           by [] none = sym (pair_is (Node x) (Declared 0) (node_small x) (omega arith)) ∙ dated none
           by (fact ∷ given) some =
               let class = class_of s fact in
               let reads : reads_class s r class ≡ true =
-              In-list_any (λ z. same_name (class_of s z) class) (rule_of s r).given fact (subst (In fact) (sym some) (inl refl)) ((bytes_decides class class).1 refl) in
+              In-list_any (λ z. same_name (class_of s z) class) (read_by (rule_of s r)) fact (subst (In fact) (sym some) (inl refl)) ((bytes_decides class class).1 refl) in
               unmoved_date class (by_class class reads)
 
       at_rest : IsRowAtRest nets added s (forest st) d row

@@ -9,7 +9,7 @@ use Rattle.tmm_model.specs.declared.premise.Premise.{Premise}
 use Rattle.tmm_model.specs.Beliefs.{class_of, root_of, roots, rules_at}
 use Rattle.tmm_model.specs.Edits.{next_list}
 use Rattle.tmm_model.specs.Maps.{built}
-use Rattle.tmm_model.specs.Moments.{Moment, At, After, RuleText, base, is_derived, moment_of, rule_of}
+use Rattle.tmm_model.specs.Moments.{Moment, At, After, RuleText, base, is_derived, moment_of, read_by, rule_of}
 use Rattle.tmm_model.specs.Standing.{Standing, name_of, premise_in}
 use Rattle.list_theory.specs.WellNamed.{IsSound}
 use Rattle.list_theory.proofs.Distinct.{Distinct}
@@ -188,7 +188,7 @@ module _ (old : Standing) (edit : Edit) (net : Net) (b e : BeliefNet) (all : Dep
         classes = u.classes;
         few = u.few;
         numbers = subst (λ l. map (λ fact. place_in e.decisions.classes (class_of new fact)) l ≡ map Some u.classes) given
-            (map_same (λ fact. place_in e.decisions.classes (class_of new fact)) (λ fact. place_in e.decisions.classes (class_of old fact)) (rule_of old r).given same ∙ u.numbers);
+            (map_same (λ fact. place_in e.decisions.classes (class_of new fact)) (λ fact. place_in e.decisions.classes (class_of old fact)) (read_by (rule_of old r)) same ∙ u.numbers);
         heads = u.heads;
       }
         where
@@ -198,10 +198,10 @@ module _ (old : Standing) (edit : Edit) (net : Net) (b e : BeliefNet) (all : Dep
           rule_same : rule_of old r ≡ rule_of new r
           rule_same = text old edit sound_old sound_new (moment_at g row.value.trigger) r (row_stood i row at) (row_stands i row at)
 
-          given : (rule_of old r).given ≡ (rule_of new r).given
-          given = ap (λ (z : RuleText). z.given) rule_same
+          given : read_by (rule_of old r) ≡ read_by (rule_of new r)
+          given = ap read_by rule_same
 
-          same : (fact : List ℕ) → In fact (rule_of old r).given → place_in e.decisions.classes (class_of new fact) ≡ place_in e.decisions.classes (class_of old fact)
+          same : (fact : List ℕ) → In fact (read_by (rule_of old r)) → place_in e.decisions.classes (class_of new fact) ≡ place_in e.decisions.classes (class_of old fact)
           same fact there = ap (place_in e.decisions.classes)
               (sym (classes_stay old edit sound_old sound_new (moment_at g row.value.trigger) r fact (row_stood i row at) (row_stands i row at) there (subst (In fact) given there)))
 

@@ -4,7 +4,7 @@ use Rattle.std.proofs.lemmas.Bool.{eq-eqb}
 use Rattle.std.proofs.lemmas.List.{length-append}
 use Rattle.std.proofs.lemmas.Bool.Decides.{eqb_tells}
 use Rattle.tmm_model.specs.Beliefs.{class_of}
-use Rattle.tmm_model.specs.Moments.{rule_of}
+use Rattle.tmm_model.specs.Moments.{read_by, rule_of}
 use Rattle.tmm_model.specs.Standing.{Standing}
 use Rattle.list_theory.proofs.Elements.{In, In-left, In-right, In-cases}
 use Rattle.undo_rows.specs.declared.row.Row.{Row as TableRow}
@@ -28,7 +28,7 @@ one_row t i row other at there = let both : Some row ≡ Some other = sym at ∙
 -- ---- one row
 
 module _ (s : Standing) (event number i : ℕ) (date : ℤ) (rule : List ℕ) (given : List (List ℕ)) (classes : List ℕ) (old new : Decisions)
-    (under : AreUnder s old) (last : KeepsLast old new) (numbered : place_in new.rules rule ≡ Some number) (text : given ≡ (rule_of s rule).given)
+    (under : AreUnder s old) (last : KeepsLast old new) (numbered : place_in new.rules rule ≡ Some number) (text : given ≡ read_by (rule_of s rule))
     (few : length classes ≤ 4) (numbers : map (λ fact. place_in new.classes (class_of s fact)) given ≡ map Some classes)
     (adds : Adds old.rows new.rows i (new_row event number (classes_in classes))) (puts : Puts (dates_in old.waiting) (dates_in new.waiting) i (Some date)) where
   here : (table_of new).row i ≡ Some (new_row event number (classes_in classes))
@@ -71,7 +71,7 @@ module _ (s : Standing) (event number i : ℕ) (date : ℤ) (rule : List ℕ) (g
           subst (IsUnderClasses s (name_in new.rules) (place_in new.classes)) one (record {
             classes = classes;
             few = few;
-            numbers = subst (λ name. map (λ fact. place_in new.classes (class_of s fact)) (rule_of s name).given ≡ map Some classes) (sym named)
+            numbers = subst (λ name. map (λ fact. place_in new.classes (class_of s fact)) (read_by (rule_of s name)) ≡ map Some classes) (sym named)
                 (subst (λ l. map (λ fact. place_in new.classes (class_of s fact)) l ≡ map Some classes) text numbers);
             heads = refl;
           }))

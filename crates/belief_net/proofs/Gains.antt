@@ -8,7 +8,7 @@ use Rattle.tmm_model.specs.declared.premise.Edit.TheVariants.{Add}
 use Rattle.tmm_model.specs.declared.premise.Premise.{Premise}
 use Rattle.tmm_model.specs.Beliefs.{class_of, roots, rules_at}
 use Rattle.tmm_model.specs.Edits.{next_list}
-use Rattle.tmm_model.specs.Moments.{Moment, At, After, rule_of}
+use Rattle.tmm_model.specs.Moments.{Moment, At, After, read_by, rule_of}
 use Rattle.tmm_model.specs.Points.{same_name}
 use Rattle.tmm_model.specs.Standing.{Standing}
 use Rattle.list_theory.specs.WellNamed.{IsSound}
@@ -60,7 +60,7 @@ some_or_none (Some x) = inr (x, refl)
 -- what has no class is not read
 pub unread : (s : Standing) (names : Names) (m : Member) (rule : List ℕ) → IsMemberOf s names m → m.class ≡ None → watches s rule (moment m) ≡ false
 unread s names m rule own none =
-    reads_by_class s names m rule own ∙ ap (λ o. option_map_or (λ class. list_any (λ fact. same_name (class_of s fact) class) (rule_of s rule).given) o false) none
+    reads_by_class s names m rule own ∙ ap (λ o. option_map_or (λ class. list_any (λ fact. same_name (class_of s fact) class) (read_by (rule_of s rule))) o false) none
 
 -- the edit adds a premise
 abbrev pub IsAddition : Edit → Type 0

@@ -56,6 +56,7 @@ pub(crate) fn decide(
             count: supports.len() as u8,
         },
         projection::Decision::Blocked { antecedent } => Decision::Blocked { antecedent },
+        projection::Decision::Barred { exception } => Decision::Barred { exception },
         projection::Decision::Beyond => Decision::Beyond,
     }
 }

@@ -12,6 +12,8 @@ pub enum Decision {
     Fires { supports: [u32; 4], count: u8 },
     /// The antecedent at this place is the first without a supporter.
     Blocked { antecedent: usize },
+    /// Each antecedent has a supporter; the exception at this place is the first that has one too.
+    Barred { exception: usize },
     /// Its effect would begin after the horizon.
     Beyond,
 }

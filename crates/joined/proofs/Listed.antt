@@ -5,7 +5,7 @@ use Rattle.std.specs.Prelude.{◌↔◌, Option, Some, None, cond, slice_get, sl
 use Rattle.std.specs.Option.{option_map_or}
 use Rattle.std.specs.Cmp.Lexicographic.{bytes_decides}
 use Rattle.tmm_model.specs.Beliefs.{class_of}
-use Rattle.tmm_model.specs.Moments.{rule_of}
+use Rattle.tmm_model.specs.Moments.{read_by, rule_of}
 use Rattle.tmm_model.specs.Points.{same_name}
 use Rattle.tmm_model.specs.Standing.{Standing}
 use Rattle.list_theory.proofs.Elements.{In, In-map, map-In, list_any-In, In-list_any}
@@ -85,7 +85,7 @@ module _ (s : Standing) (rows : Logged Pair 6) (name : ℕ → List ℕ) (number
     (is_number : number class ≡ Some k) (numbered : AreNumbered number)
     (listed : AreListed (present rows)) (here : (present rows).row i ≡ Some r) (under : IsUnderClasses s name number r) where
   abbrev given : List (List ℕ)
-  given = (rule_of s (name r.value.rule)).given
+  given = read_by (rule_of s (name r.value.rule))
 
   -- an antecedent is of the class where its number is among those of the row
   to_class : reads_class s (name r.value.rule) class ≡ true → In k under.classes

@@ -1,7 +1,7 @@
 -- Rows on the lists of classes: those that may read a node.
 use Rattle.std.specs.Prelude.{◌≡◌, ◌↔◌, ℕ, ◌+◌, ◌<◌, ◌≤◌, true, List, map, length, Option, Some}
 use Rattle.tmm_model.specs.Beliefs.{class_of}
-use Rattle.tmm_model.specs.Moments.{rule_of}
+use Rattle.tmm_model.specs.Moments.{read_by, rule_of}
 use Rattle.tmm_model.specs.Standing.{Standing}
 use Rattle.list_net.specs.Represents.{Names}
 use Rattle.spots.specs.Forest.{Member, moment}
@@ -22,7 +22,7 @@ AreNumbered number = (c d : List ℕ) (k : ℕ) → number c ≡ Some k → numb
 pub record IsUnderClasses (s : Standing) (name : ℕ → List ℕ) (number : List ℕ → Option ℕ) (r : TableRow Pair 6) : Type 0 where
   pub classes : List ℕ
   pub few : length classes ≤ 4
-  pub numbers : map (λ fact. number (class_of s fact)) (rule_of s (name r.value.rule)).given ≡ map Some classes
+  pub numbers : map (λ fact. number (class_of s fact)) (read_by (rule_of s (name r.value.rule))) ≡ map Some classes
   pub heads : r.heads ≡ heads_of r.value.trigger r.value.rule (classes_in classes)
 
 -- the row is on the list of the class of this number, for some antecedent
