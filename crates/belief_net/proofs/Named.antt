@@ -72,7 +72,7 @@ numbers_next s old new facts i fact class k numbers more before have within is o
     ∙ sym (map-append Some numbers (k ∷ []))
     ∙ ap (map Some) (sym pushed)
 
-pub under_more : (s : Standing) (rules rules_after classes classes_after : List (List ℕ)) (row : TableRow Pair 6) → HaveMore rules rules_after → HaveMore classes classes_after
+pub under_more : (s : Standing) (rules rules_after classes classes_after : List (List ℕ)) (row : TableRow Pair 8) → HaveMore rules rules_after → HaveMore classes classes_after
     → row.value.rule < length rules → IsUnderClasses s (name_in rules) (place_in classes) row → IsUnderClasses s (name_in rules_after) (place_in classes_after) row
 under_more s rules rules_after classes classes_after row more_rules more_classes named u = record {
   classes = u.classes;

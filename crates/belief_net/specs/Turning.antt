@@ -35,7 +35,7 @@ pub record IsFit (s : Standing) (net : Net) (b : BeliefNet) : Type 0 where
   pub tree : IsTreeOf s net b.tree
   pub events : HaveEvents b.tree (table_of b.decisions)
   pub under : AreUnder s b.decisions
-  pub dated : (i : ℕ) (date : ℤ) → dates_in b.decisions.waiting i ≡ Some date → (row : TableRow Pair 6) × ((table_of b.decisions).row i ≡ Some row) × (date ≡ early (present b.tree) row.value.trigger)
+  pub dated : (i : ℕ) (date : ℤ) → dates_in b.decisions.waiting i ≡ Some date → (row : TableRow Pair 8) × ((table_of b.decisions).row i ≡ Some row) × (date ≡ early (present b.tree) row.value.trigger)
 
 -- nodes and rows stand for the revision that the edit asks for, of which these decisions were made
 abbrev pub IsUnderway : Standing → Edit → Net → BeliefNet → List (Moment × List ℕ) → Type 0
@@ -57,7 +57,7 @@ pub record IsRight (s : Standing) (b : BeliefNet) (trigger : ℕ) (rule : List �
 
 -- the row that was due first keeps what was decided, and waits no more
 pub record IsDecided (s : Standing) (old new : BeliefNet) (due : Due) : Type 0 where
-  pub row : TableRow Pair 6
+  pub row : TableRow Pair 8
   pub at : (table_of old.decisions).row due.row ≡ Some row
   pub trigger : row.value.trigger ≡ due.trigger
   pub rule : rule_in old.decisions row ≡ due.rule

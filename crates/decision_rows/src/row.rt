@@ -1,7 +1,7 @@
 // What a row keeps.
 
-/// How many families of lists there are: of triggers, of rules, and of the class of each antecedent.
-pub(crate) const FAMILIES: usize = 6;
+/// How many families of lists there are: of triggers, of rules, and of the class of each fact that a rule reads.
+pub(crate) const FAMILIES: usize = 8;
 
 /// What was decided of a rule at a trigger: its effect is believed, or why it is not. Nodes are told by
 /// their numbers.

@@ -60,7 +60,7 @@ no_later : (a b : ℤ) → int_le a b ≡ true → a ≤ℤ b
 no_later a b e = grind (arith, ints)
 
 module _ (old : Standing) (edit : Edit) (net : Net) (f g : Forest) (p : Row) (found : Decision)
-    (rows : Logged Pair 6) (name : ℕ → List ℕ) (number : List ℕ → Option ℕ) (marks : List Mark) (i : ℕ) (row : TableRow Pair 6) (o q : Row)
+    (rows : Logged Pair 8) (name : ℕ → List ℕ) (number : List ℕ → Option ℕ) (marks : List Mark) (i : ℕ) (row : TableRow Pair 8) (o q : Row)
     (seen : IsSeen (next_list old edit) net f) (seen_after : IsSeen (next_list old edit) net g) (tree : TreeTurns (next_list old edit) net.names f g p found)
     (stays_there : StaysNode f g q.trigger)
     (numbered : AreNumbered number) (listed : AreListed (present rows))

@@ -27,7 +27,7 @@ use Rattle.revisions.specs.Maps.{watches}
 abbrev pub SameGaps : Standing → Standing → List Moment → Moment → List ℕ → Type 0
 SameGaps old new b t r = (p q : Moment) → In p (watched_points (map_of new b) t r) → In q (watched_points (map_of new b) t r) → gap (built old) p q ≡ gap (map_of new b) p q
 
--- whether an antecedent of the rule is of this class
+-- whether the rule reads a fact of this class
 abbrev pub reads_class : Standing → List ℕ → List ℕ → Bool
 reads_class s r class = list_any (λ fact. same_name (class_of s fact) class) (read_by (rule_of s r))
 

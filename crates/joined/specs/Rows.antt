@@ -25,11 +25,11 @@ abbrev pub Rows : Type 0
 Rows = ℕ → Option Row
 
 -- a row of a table, by the names of the rules that it numbers, which waits or not
-abbrev pub as_row : (ℕ → List ℕ) → Bool → TableRow Pair 6 → Row
+abbrev pub as_row : (ℕ → List ℕ) → Bool → TableRow Pair 8 → Row
 as_row name waits r = record { trigger = r.value.trigger; rule = name r.value.rule; found = r.value.decision; waits = waits }
 
 -- the rows of a table, by the names of the rules that it numbers, where these wait
-abbrev pub rows_in : Table Pair 6 → (ℕ → List ℕ) → (ℕ → Bool) → Rows
+abbrev pub rows_in : Table Pair 8 → (ℕ → List ℕ) → (ℕ → Bool) → Rows
 rows_in t name waits i = option_map (as_row name (waits i)) (t.row i)
 
 -- ---- what a decision tells

@@ -20,6 +20,6 @@ loop-antecedent-preserved c =
 pub returns : goal.returns
 returns c =
     let fits : FitsSigned w64 c.args.from = search rules in
-    let all : c.loop-antecedent.antecedent ≡ 4 = omega arith in
-    subst (λ z. Marks (present c.args.tree.now) (table c.args.rows.now) (UnderFirst (present c.args.tree.now) (table c.args.rows.now) z (spares_in c.args.window) 4 c.args.class) (dates_in c.args.waiting.now) (dates_in c.loop-antecedent.waiting)) (to_z-of_z w64 c.args.from fits)
+    let all : c.loop-antecedent.antecedent ≡ 6 = omega arith in
+    subst (λ z. Marks (present c.args.tree.now) (table c.args.rows.now) (UnderFirst (present c.args.tree.now) (table c.args.rows.now) z (spares_in c.args.window) 6 c.args.class) (dates_in c.args.waiting.now) (dates_in c.loop-antecedent.waiting)) (to_z-of_z w64 c.args.from fits)
     (subst (λ n. Marks (present c.args.tree.now) (table c.args.rows.now) (UnderFirst (present c.args.tree.now) (table c.args.rows.now) (to_z w64 (of_z w64 c.args.from)) (spares_in c.args.window) n c.args.class) (dates_in c.args.waiting.now) (dates_in c.loop-antecedent.waiting)) all c.loop-antecedent.invariant)
