@@ -91,12 +91,9 @@ pub(crate) fn facts_read(given: &[Name], exceptions: &[Name]) -> ArrayVec<Name, 
     ensures { result.items ≡ given.now ++ exceptions.now }
 {
     let mut facts = ArrayVec::new();
-    for fact in given {
-        facts.push(*fact);
-    }
-    for fact in exceptions {
-        facts.push(*fact);
-    }
+    // there is room for both
+    let _fits = facts.try_extend_from_slice(given);
+    let _fit_too = facts.try_extend_from_slice(exceptions);
     facts
 }
 
