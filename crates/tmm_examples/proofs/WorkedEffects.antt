@@ -3,12 +3,13 @@ use Rattle.std.proofs.Common.{◌≡◌, ◌++◌, [], ◌∷◌, pos, negsuc}
 use Rattle.std.specs.Prelude.{codes, Some}
 use Rattle.tmm_model.specs.declared.bound.Bound.TheVariants.{Finite}
 use Rattle.belief_theory.specs.Outcomes.{outcome, fires, blocked, barred, beyond}
+use Rattle.tmm_model.specs.declared.premise.Premise.TheVariants.{Token}
 use Rattle.tmm_model.specs.Maps.{built, gap}
 use Rattle.tmm_model.specs.Answers.{holds, clip, ask, size}
 use Rattle.tmm_model.specs.Moments.{Moment, early}
 use Rattle.tmm_model.specs.Standing.{Standing}
 use Rattle.belief_theory.proofs.FarTables.{of_map}
-use Rattle.tmm_examples.proofs.WorkedScripts.{within, root, effect, rule, push, two_events, lamp, shut_at_five, push_at_ten}
+use Rattle.tmm_examples.proofs.WorkedScripts.{within, within_two, bolted_door, root, effect, rule, push, two_events, lamp, shut_at_five, push_at_ten}
 
 abbrev k : Moment
 k = root (codes "k")
