@@ -51,7 +51,7 @@ none_covered early_of row_at waits class from i r marked here reads late later =
 
 -- ---- on from one moment to the next
 
--- the row was there, with its antecedents and the date of its event, and waits as before
+-- the row was there, with its classes and the date of its event, and waits as before
 pub record IsAsBefore (early_of now_early : ℕ → ℤ) (row_at : ℕ → Option (TableRow Pair 8)) (waits now_waits : Dates) (i : ℕ) (r : TableRow Pair 8) : Type 0 where
   pub row : TableRow Pair 8
   pub was : row_at i ≡ Some row

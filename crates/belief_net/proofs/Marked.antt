@@ -75,11 +75,11 @@ module _ (s : State) (t : Table Pair 8) where
         alone : (i j : ℕ) → IsOn (i ∷ []) j → j ≡ i
         alone i j on = elim (cases_Bool (eqb j i)) [ inl same ↦ eqb-true j i same | inr other ↦ (let no : false ≡ true = sym (ap (λ b. b || false) other) ∙ on in cc) ]
 
-    -- ---- by the lists of an antecedent after the other
+    -- ---- by the lists of one family after the other
 
-    -- the row is on a list of the class for one of the first antecedents, late enough, and its event not spared
+    -- the row is on a list of the class in one of the first families, late enough, and its event not spared
     abbrev pub UnderFirst : ℕ → ℕ → ℕ → TableRow Pair 8 → Type 0
-    UnderFirst n class i row = ((antecedent : ℕ) × (antecedent < n) × IsOn (t.list (antecedent + 2) class) i) × IsAsLate s from row × (spares row.value.trigger ≡ false)
+    UnderFirst n class i row = ((place : ℕ) × (place < n) × IsOn (t.list (place + 2) class) i) × IsAsLate s from row × (spares row.value.trigger ≡ false)
 
     pub under_none : (class : ℕ) (dates : Dates) → Marks s t (UnderFirst 0 class) dates dates
     under_none class dates = marks_none (UnderFirst 0 class) dates (λ i row under. (let less = under.0.1 in omega (arith, less)))

@@ -118,11 +118,11 @@ module _ (s : State) (t : Table Pair 8) where
         alone : (i j : ℕ) → IsOn (i ∷ []) j → j ≡ i
         alone i j on = elim (cases_Bool (eqb j i)) [ inl same ↦ eqb-true j i same | inr other ↦ (let no : false ≡ true = sym (ap (λ b. b || false) other) ∙ on in cc) ]
 
-    -- ---- by the lists of an antecedent after the other
+    -- ---- by the lists of one family after the other
 
-    -- the row is on a list of the class for one of the first antecedents
+    -- the row is on a list of the class in one of the first families
     abbrev pub UnderFirst : ℕ → ℕ → ℕ → Type 0
-    UnderFirst n k i = (antecedent : ℕ) × (antecedent < n) × IsOn (t.list (antecedent + 2) k) i
+    UnderFirst n k i = (place : ℕ) × (place < n) × IsOn (t.list (place + 2) k) i
 
     pub under_none : (k : ℕ) (dates : Dates) → WakesFor s t nets moves class (UnderFirst 0 k) dates dates
     under_none k dates = for_none (UnderFirst 0 k) dates (λ i (a, less, on). omega (arith, less))
@@ -137,8 +137,8 @@ module _ (s : State) (t : Table Pair 8) where
         (λ i (a, less, on). (a, omega (arith, less), on))
         (λ i on. (n, omega arith, on))
 
-    -- of four antecedents all lists have been looked at
-    pub under_all : (n k : ℕ) (old new : Dates) → n ≡ 4 → WakesFor s t nets moves class (UnderFirst n k) old new → WakesFor s t nets moves class (IsListedUnder t k) old new
+    -- the lists of all six families have been looked at
+    pub under_all : (n k : ℕ) (old new : Dates) → n ≡ 6 → WakesFor s t nets moves class (UnderFirst n k) old new → WakesFor s t nets moves class (IsListedUnder t k) old new
     under_all n k old new whole =
         wakes_alike (λ i row. UnderFirst n k i × MovesFor moves (forest s) class row.value.trigger) (λ i row. UnderFirst n k i → RestsFor nets moves (forest s) class row.value.trigger)
         (λ i row. IsListedUnder t k i × MovesFor moves (forest s) class row.value.trigger) (λ i row. IsListedUnder t k i → RestsFor nets moves (forest s) class row.value.trigger) old new

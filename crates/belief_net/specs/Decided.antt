@@ -21,7 +21,7 @@ table_of d = present d.rows
 abbrev pub rule_in : Decisions → TableRow Pair 8 → List ℕ
 rule_in d row = name_in d.rules row.value.rule
 
--- each row is under the classes of the antecedents of its rule, which has a name
+-- each row is under the classes of what its rule reads, which has a name
 pub record AreUnder (s : Standing) (d : Decisions) : Type 0 where
   pub classes : (i : ℕ) (row : TableRow Pair 8) → (table_of d).row i ≡ Some row → IsUnderClasses s (name_in d.rules) (place_in d.classes) row
   pub named : (i : ℕ) (row : TableRow Pair 8) → (table_of d).row i ≡ Some row → row.value.rule < length d.rules

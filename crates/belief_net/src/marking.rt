@@ -31,8 +31,8 @@ pub(crate) fn mark_class(
     ensures { OnOk result (Marks (present tree.now) (table rows.now) (λ i row. IsListedUnder (table rows.now) class i × IsAsLate (present tree.now) from row × (spares_in window.entry row.value.trigger ≡ false)) (dates_in waiting.old) (dates_in waiting.new)) }
 {
     // the families of rows by the classes of what they read follow those by trigger and by rule
-    for antecedent in 0..6 {
-        mark_list(tree, rows, waiting, antecedent + 2, class, from, window)?;
+    for place in 0..6 {
+        mark_list(tree, rows, waiting, place + 2, class, from, window)?;
     }
     Ok(())
 }

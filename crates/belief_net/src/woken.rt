@@ -54,7 +54,7 @@ pub(crate) fn wake_class(
 {
     let of_class = class_moves(alloc, net, tree, moves, class)?;
     // the families of rows by the classes of what they read follow those by trigger and by rule
-    for antecedent in 0..6 {
+    for place in 0..6 {
         wake_list(
             net,
             tree,
@@ -62,7 +62,7 @@ pub(crate) fn wake_class(
             waiting,
             moves,
             &of_class,
-            antecedent + 2,
+            place + 2,
             number,
         )?;
     }
