@@ -1,4 +1,4 @@
--- The rules that stand at an event, and their antecedents.
+-- The rules that stand at an event, and the facts that they read.
 use Rattle.std.proofs.Common.{◌≡◌, ℕ, List, ◌++◌, sym, subst, inr}
 use Rattle.std.specs.Prelude.{Some, IsSome}
 use Rattle.std.specs.List.{All, Contains}

@@ -1,6 +1,6 @@
 //! Which believed token supports a fact, what clips a token, and why a token is no supporter: what
 //! `clipping` answers over the tokens of a tree, told of the occurrences of the standing list; what a
-//! standing rule says, whose antecedents want supporters; and what a premise declares to occur, as a
+//! standing rule says, whose antecedents want supporters, and whose exceptions none; and what a premise declares to occur, as a
 //! node of a tree. It stands on `occ_tree`, `clipping` and `name_lists`.
 //!
 //! Each call answers the definition for the list, over the occurrences that the nodes are. `clips`,
