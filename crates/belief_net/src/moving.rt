@@ -125,11 +125,13 @@ fn reads_nothing(standing: &Standing, rule: Name) -> bool
     ensures something { result ≡ false → read_by (rule_of standing.now.present rule) ≡ [] → ⊥ }
 {
     match standing.get(rule) {
-        Some(Premise::Rule {
-            given,
-            unless_facts,
-            ..
-        }) => given.is_empty() && unless_facts.is_empty(),
+        Some(
+            Premise::Rule {
+                given,
+                unless_facts,
+                ..
+            },
+        ) => given.is_empty() && unless_facts.is_empty(),
         _ => true,
     }
 }

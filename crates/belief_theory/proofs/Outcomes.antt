@@ -137,13 +137,13 @@ module _ (s : Standing) (far : Distances) (b : List Moment) where
       by : (v : Bool) → int_le (due s far t r) (pos s.horizon) ≡ v → (o : Option ℕ) → first_without (supporters s far b t r) ≡ o
           → (p : Option ℕ) → first_with (against s far b t r) ≡ p
           → ((ks : List Moment)
-            × (elim v as (λ _. Outcome) [
-              | false ↦ beyond
-              | true ↦ elim o as (λ _. Outcome) [
-                | Some place ↦ blocked place
-                | None ↦ elim p as (λ _. Outcome) [ Some place ↦ barred place | None ↦ fires (filter_map (λ k. k) (supporters s far b t r)) ]
-              ]
-            ] ≡ fires ks))
+          × (elim v as (λ _. Outcome) [
+            | false ↦ beyond
+            | true ↦ elim o as (λ _. Outcome) [
+              | Some place ↦ blocked place
+              | None ↦ elim p as (λ _. Outcome) [ Some place ↦ barred place | None ↦ fires (filter_map (λ k. k) (supporters s far b t r)) ]
+            ]
+          ] ≡ fires ks))
           ↔ ((due s far t r ≤ℤ pos s.horizon) × (is_free s far b t r ≡ true))
       by false e o f p q = (λ h. let g : beyond ≡ fires h.0 = h.1 in cc, λ h. absurd (not_later (due s far t r) s.horizon e h.0))
       by true e (Some place) f p q = (λ h. let g : blocked place ≡ fires h.0 = h.1 in cc, λ h. let g : first_without (supporters s far b t r) ≡ None = (free.1 h.1).0 in cc)

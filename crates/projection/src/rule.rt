@@ -19,12 +19,14 @@ pub(crate) fn text_at(standing: &Standing, place: u32) -> RuleText<'_>
     // It tells the proof that names are distinct.
     let _ = standing.len();
     match standing.at(place as usize) {
-        Some(Premise::Rule {
-            lo,
-            given,
-            unless_facts,
-            ..
-        }) => RuleText {
+        Some(
+            Premise::Rule {
+                lo,
+                given,
+                unless_facts,
+                ..
+            },
+        ) => RuleText {
             lo: *lo,
             given: given.as_slice(),
             exceptions: unless_facts.as_slice(),

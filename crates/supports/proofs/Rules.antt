@@ -57,7 +57,7 @@ facts_known s sound r is =
     let given = (rule_of s r).given in
     let exceptions = (rule_of s r).exceptions in
     All-from_contains known given (λ fact at.
-        All-contains known (given ++ exceptions) fact (read_known s sound r is) (Contains-from_In (given ++ exceptions) fact (In-left given exceptions fact (In-from_Contains given fact at))))
+    All-contains known (given ++ exceptions) fact (read_known s sound r is) (Contains-from_In (given ++ exceptions) fact (In-left given exceptions fact (In-from_Contains given fact at))))
 
 -- and each exception
 pub exceptions_known : (s : Standing) → IsSound s → (r : List ℕ) → IsRuleOf s r → All (λ fact. IsSome (class_in s.premises fact)) (rule_of s r).exceptions
@@ -66,4 +66,4 @@ exceptions_known s sound r is =
     let given = (rule_of s r).given in
     let exceptions = (rule_of s r).exceptions in
     All-from_contains known exceptions (λ fact at.
-        All-contains known (given ++ exceptions) fact (read_known s sound r is) (Contains-from_In (given ++ exceptions) fact (In-right given exceptions fact (In-from_Contains exceptions fact at))))
+    All-contains known (given ++ exceptions) fact (read_known s sound r is) (Contains-from_In (given ++ exceptions) fact (In-right given exceptions fact (In-from_Contains exceptions fact at))))

@@ -26,12 +26,14 @@ pub fn rule_text(standing: &Standing, rule: Name) -> RuleText<'_>
     ensures few { length result.given.now ≤ 4 }
 {
     match standing.get(rule) {
-        Some(Premise::Rule {
-            lo,
-            given,
-            unless_facts,
-            ..
-        }) => RuleText {
+        Some(
+            Premise::Rule {
+                lo,
+                given,
+                unless_facts,
+                ..
+            },
+        ) => RuleText {
             lo: *lo,
             given: given.as_slice(),
             exceptions: unless_facts.as_slice(),
