@@ -3,12 +3,14 @@ ghost use Rattle.std.specs.Prelude.{◌≡◌, ◌≤◌, map, length, IsSome};
 ghost use Rattle.std.specs.List.{All, Contains, filter_map};
 ghost use Rattle.tmm_model.specs.Beliefs.{rules_at};
 ghost use Rattle.tmm_model.specs.Maps.{built};
+ghost use Rattle.tmm_model.specs.Moments.{rule_of};
 ghost use Rattle.tmm_model.specs.Reasons.{supports_at};
 ghost use Rattle.tmm_model.specs.Sorts.{class_in};
 ghost use Rattle.spots.specs.Forest.{IsLive, moment_at};
 ghost use Rattle.spots.specs.Seen.{Holds};
 ghost use Rattle.occ_tree.specs.OfLists.{IsTreeOf};
 ghost use Rattle.occ_tree.specs.Places.{forest};
+ghost use Rattle.supports.specs.Rules.{IsRuleOf};
 ghost use Rattle.justify.specs.Grounds.{IsOrigin, supporters_for};
 
 use arrayvec::ArrayVec;
@@ -17,7 +19,7 @@ use occ_tree::Tree;
 use premise_list::Standing;
 use spots::Spot;
 use supports::{rule_text, supporter};
-use tmm_model::Name;
+use tmm_model::{MOST_EXCEPTIONS, Name};
 
 /// What brings a node about.
 #[derive(Clone, Copy)]
@@ -60,6 +62,16 @@ pub(crate) fn supports_at(
 {
     let text = rule_text(standing, rule);
     supporters(standing, tree, net, event, text.given)
+}
+
+// The exceptions of a standing rule.
+pub(crate) fn exceptions_of(standing: &Standing, rule: Name) -> ArrayVec<Name, MOST_EXCEPTIONS>
+    requires { IsRuleOf standing.now.present rule }
+    ensures { result.items ≡ (rule_of standing.now.present rule).exceptions }
+{
+    let mut exceptions = ArrayVec::new();
+    let _fits = exceptions.try_extend_from_slice(rule_text(standing, rule).exceptions);
+    exceptions
 }
 
 // The first supporters of the facts at an event.

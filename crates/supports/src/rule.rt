@@ -24,6 +24,7 @@ pub fn rule_text(standing: &Standing, rule: Name) -> RuleText<'_>
     ensures given { result.given.now ≡ (rule_of standing.now.present rule).given }
     ensures exceptions { result.exceptions.now ≡ (rule_of standing.now.present rule).exceptions }
     ensures few { length result.given.now ≤ 4 }
+    ensures rare { length result.exceptions.now ≤ 2 }
 {
     match standing.get(rule) {
         Some(
