@@ -69,15 +69,18 @@ fn put_trigger(
 fn put_exceptions(out: &mut Seq<u8>, exceptions: &[Name]) -> Result<(), NoMemory>
     ensures { OnOk result (out.new.items ≡ out.old.items ++ behind_spaces (unless_words exceptions.now)) }
 {
-    if exceptions.is_empty() {
-        return Ok(());
+    match exceptions {
+        [] => Ok(()),
+        [first, rest @ ..] => {
+            out.extend(b" unless ")?;
+            out.extend(first.bytes())?;
+            for fact in rest {
+                out.extend(b" ")?;
+                out.extend(fact.bytes())?;
+            }
+            Ok(())
+        }
     }
-    out.extend(b" unless")?;
-    for fact in exceptions {
-        out.extend(b" ")?;
-        out.extend(fact.bytes())?;
-    }
-    Ok(())
 }
 
 fn put_supports(out: &mut Seq<u8>, supports: &[Occ]) -> Result<(), NoMemory>
