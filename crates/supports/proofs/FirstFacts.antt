@@ -41,6 +41,6 @@ module _ {A : Type 0} (h : A → Option Moment) (facts : List A) (i : ℕ) (fact
           ∙ ap (λ o. map h (take i facts) ++ o ∷ map h (drop (suc i) facts)) e
 
       by : (o : Option Moment) → h fact ≡ o → (o ≡ None → ⊥) → Some i ≡ first_with (map h facts)
-      by None e no = absurd (no refl)
-      by (Some k) e no =
+      by None e has = absurd (has refl)
+      by (Some k) e has =
           sym (ap first_with (whole k e) ∙ with_some (map h (take i facts)) (map h (drop (suc i) facts)) k before ∙ ap Some (length-map (take i facts) h ∙ length-take-le i facts (omega arith)))
