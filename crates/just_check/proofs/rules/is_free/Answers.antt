@@ -9,6 +9,7 @@ use Rattle.tmm_model.specs.Sorts.{class_in}
 use Rattle.belief_theory.proofs.Outcomes.{is_open}
 use Rattle.spots.specs.Forest.{moment_at}
 use Rattle.occ_tree.specs.Places.{forest}
+use Rattle.supports.proofs.FirstFacts.{told_none}
 use Rattle.supports.proofs.Rules.{rule_there, facts_known, exceptions_known}
 use Rattle.just_check.proofs.rules.is_free.Goals as goal
 
@@ -44,5 +45,5 @@ returns c b holds =
     let t = moment_at (forest c.args.tree.now) c.args.x in
     let test = supported s (far_in s.premises) b t in
     let held = sym (c.loop-fact.invariant b holds) ∙ ap (list_all test) (take_all c.loop-fact.fact-index c.args.given.now (omega (arith, c.loop-fact-test.false)) ∙ c.requires.given) in
-    let open_ = ap is_none (c.first_supported.ensures b holds) ∙ is_open s (far_in s.premises) b t c.args.exceptions.now ∙ ap (λ l. not (list_any test l)) c.requires.exceptions in
+    let open_ = told_none c.first_supported.result c.is_none.result c.is_none.ensures ∙ ap is_none (c.first_supported.ensures b holds) ∙ is_open s (far_in s.premises) b t c.args.exceptions.now ∙ ap (λ l. not (list_any test l)) c.requires.exceptions in
     λ i. held i && open_ i
