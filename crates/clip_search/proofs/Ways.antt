@@ -79,7 +79,7 @@ module _ (f : Forest) (x : ℕ) where
 
     -- **One node more on the way.**
     pub climb : (parent : Option ℕ) → IsParent f u.above parent → Climbs f x (numbers ++ y ∷ []) parent
-    climb None root m front back at is = at_least m front back at is (let none = ap length root in omega (arith, none))
+    climb None root = λ m front back at is. at_least m front back at is (let none = ap length root in omega (arith, none))
     climb (Some p) (n, link, n_at, root, links) = (
       record {
         above = n;

@@ -52,7 +52,7 @@ pub(crate) fn entries_of(
 fn gathered(alloc: Global, tree: &Tree, rows: &[TokenRow<Spot>]) -> Result<Vec<Entry>, NoMemory>
     requires tokens { (class : List ℕ) × AreTokens (forest tree.now) class rows.now }
     requires once { IsOnce (forest tree.now) }
-    ensures entries { IfOk result (λ entries. AreEntries (forest tree.now) rows.now entries.items) }
+    ensures { IfOk result (λ entries. AreEntries (forest tree.now) rows.now entries.items) }
 {
     let mut entries = Vec::new(alloc);
     for place in 0..rows.len() {

@@ -10,8 +10,8 @@ use tmm_model::NoMemory;
 
 // The node itself and all that stand above it, up to its root.
 pub(crate) fn way_to(alloc: Global, tree: &Tree, x: u32) -> Result<Vec<u32>, NoMemory>
-    requires live { IsLive (forest tree.now) x }
-    ensures way { IfOk result (λ way. IsWay (forest tree.now) x way.items) }
+    requires { IsLive (forest tree.now) x }
+    ensures { IfOk result (λ way. IsWay (forest tree.now) x way.items) }
 {
     let mut way = Vec::new(alloc);
     let mut next = Some(x);

@@ -11,7 +11,7 @@ pub returns-clause-entries : goal.returns-clause-entries
 returns-clause-entries c =
     let old = c.in_ok-entries.entries.items in
     let new = c.sort_unstable.new.self.items in
-    let are = c.in_ok-entries.ensures.entries in
+    let are = c.in_ok-entries.ensures in
     record {
       own = All-permutation (λ e. (e.place < length c.args.rows.now) × IsUnder (forest c.args.tree.now) e.node (node_at c.args.rows.now e.place)) old new c.sort_unstable.ensures.permutation are.own;
       all = λ x i lt u. Contains-permutation old new (made_at i x) c.sort_unstable.ensures.permutation (are.all x i lt u);

@@ -1,4 +1,5 @@
 use Rattle.std.proofs.Common.{◌≡◌, ◌∙◌, ◌+◌, ◌<◌, length, ap, sym, subst, arith}
+use Rattle.std.specs.List.{All}
 use Rattle.std.proofs.lemmas.List.{get_or_read}
 use Rattle.std.proofs.lemmas.List.Elements.{All-nil}
 use Rattle.spots.specs.Forest.{IsLive}
@@ -10,7 +11,7 @@ use Rattle.clip_search.proofs.Entering.{HaveRootsTo, root_told, root_listed, roo
 use Rattle.clip_search.proofs.roots.roots_of.Goals as goal
 
 pub loop-place-init : goal.loop-place-init
-loop-place-init c = record { live = All-nil (IsLive (forest c.args.tree.now)); all = λ i lt. absurd (omega (arith, lt)) }
+loop-place-init c = record { live = subst (All (IsLive (forest c.args.tree.now))) (sym c.new-roots.ensures.items) (All-nil (IsLive (forest c.args.tree.now))); all = λ i lt. absurd (omega (arith, lt)) }
 
 pub node_of-requires : goal.node_of-requires
 node_of-requires c =
@@ -19,8 +20,8 @@ node_of-requires c =
     let place = c.loop-place.place in
     (node_at rows place, ap (λ r. r.spot) (get_or_read rows place c.index-rows-place.result c.loop-place-test.true c.index-rows-place.is no_row) ∙ spot_is (forest c.args.tree.now) class rows are place c.loop-place-test.true)
 
-pub row-requires : goal.row-requires
-row-requires c =
+pub row-root-requires : goal.row-root-requires
+row-root-requires c =
     let (class, are) = c.requires.tokens in
     let f = forest c.args.tree.now in
     let rows = c.args.rows.now in
@@ -34,8 +35,8 @@ loop-place-preserved-then-is_listed c =
     let rows = c.args.rows.now in
     let place = c.loop-place.place in
     let node = node_read f class rows are place c.loop-place-test.true c.index-rows-place.result c.index-rows-place.is c.node_of.result c.node_of.ensures in
-    let root = subst (IsRootOf f c.row.result.root) node (root_told f c.node_of.result (subst (IsLive f) (sym node) (node_live f class rows are place c.loop-place-test.true)) c.row.result c.row.ensures) in
-    subst (HaveRootsTo f rows (place + 1)) (sym c.push_reserved.ensures.items) (root_pushed f rows place c.loop-place.roots.items c.loop-place.invariant c.row.result.root root)
+    let root = subst (IsRootOf f c.row-root.result.root) node (root_told f c.node_of.result (subst (IsLive f) (sym node) (node_live f class rows are place c.loop-place-test.true)) c.row-root.result c.row-root.ensures) in
+    subst (HaveRootsTo f rows (place + 1)) (sym c.push_reserved.ensures.items) (root_pushed f rows place c.loop-place.roots.items c.loop-place.invariant c.row-root.result.root root)
 
 pub loop-place-preserved : goal.loop-place-preserved
 loop-place-preserved c =
@@ -44,8 +45,8 @@ loop-place-preserved c =
     let rows = c.args.rows.now in
     let place = c.loop-place.place in
     let node = node_read f class rows are place c.loop-place-test.true c.index-rows-place.result c.index-rows-place.is c.node_of.result c.node_of.ensures in
-    let root = subst (IsRootOf f c.row.result.root) node (root_told f c.node_of.result (subst (IsLive f) (sym node) (node_live f class rows are place c.loop-place-test.true)) c.row.result c.row.ensures) in
-    root_listed f rows place c.loop-place.roots.items c.loop-place.invariant c.row.result.root root (c.is_listed.ensures.0 c.if-is_listed.true)
+    let root = subst (IsRootOf f c.row-root.result.root) node (root_told f c.node_of.result (subst (IsLive f) (sym node) (node_live f class rows are place c.loop-place-test.true)) c.row-root.result c.row-root.ensures) in
+    root_listed f rows place c.loop-place.roots.items c.loop-place.invariant c.row-root.result.root root (c.is_listed.ensures.0 c.if-is_listed.true)
 
 pub returns : goal.returns
 returns c = record { live = c.loop-place.invariant.live; all = λ i lt. c.loop-place.invariant.all i (omega (arith, lt, c.loop-place-test.false)) }
