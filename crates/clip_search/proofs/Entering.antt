@@ -1,6 +1,6 @@
 -- Entries for the tokens of a class, one token after the other.
 use Rattle.std.proofs.Common.{◌≡◌, ◌∙◌, ℕ, ◌+◌, ◌<◌, ◌≤◌, inl, inr, List, [], ◌∷◌, ◌++◌, map, length, refl, sym, ap, subst, arith}
-use Rattle.std.specs.Prelude.{Option, Some, None, slice_index_or}
+use Rattle.std.specs.Prelude.{◌⊎◌, Option, Some, None, slice_index_or}
 use Rattle.std.specs.List.{All, Contains}
 use Rattle.std.specs.Option.{option_map, option_map_or}
 use Rattle.std.proofs.lemmas.Bool.{cases_lt}
@@ -63,7 +63,7 @@ pub record AreEntriesTo (f : Forest) (rows : List (TokenRow Spot)) (n : ℕ) (en
   pub own : All (λ e. (e.place < length rows) × IsUnder f e.node (node_at rows e.place)) entries
   pub all : (x i : ℕ) → i < n → IsUnder f x (node_at rows i) → Contains entries (record { node = x; place = i })
 
-abbrev made_at : ℕ → ℕ → Entry
+abbrev pub made_at : ℕ → ℕ → Entry
 made_at i x = record { node = x; place = i }
 
 module _ (f : Forest) (once : IsOnce f) where
@@ -134,3 +134,8 @@ module _ (f : Forest) (rows : List (TokenRow Spot)) (n : ℕ) (roots : List ℕ)
       | inr more ↦ let at : n ≡ i = omega (arith, lt, more) in (x, Contains-push roots x, subst (λ j. IsRootOf f x (node_at rows j)) at is)
     ];
   }
+
+  -- one or the other
+  pub root_more : (new : List ℕ) → (((new ≡ roots) × Contains roots x) ⊎ (new ≡ roots ++ x ∷ [])) → HaveRootsTo f rows (n + 1) new
+  root_more new (inl (same, among)) = subst (HaveRootsTo f rows (n + 1)) (sym same) (root_listed among)
+  root_more new (inr pushed) = subst (HaveRootsTo f rows (n + 1)) (sym pushed) root_pushed

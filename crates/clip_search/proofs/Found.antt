@@ -25,7 +25,7 @@ not_less a b out = by (int_le b a) refl
     by true e = omega (arith, ints, e)
     by false e = absurd (out (omega (arith, ints, e)))
 
-module _ {net : Net} {f : Forest} {class : List ℕ} {rows : List (TokenRow Spot)} (tokens : AreTokens f class rows) (by_date : IsByDate (spot_early net f) (spot_cmp net f) rows) where
+module _ (net : Net) {f : Forest} {class : List ℕ} {rows : List (TokenRow Spot)} (tokens : AreTokens f class rows) (by_date : IsByDate (spot_early net f) (spot_cmp net f) rows) where
   abbrev date : ℕ → ℤ
   date i = node_early net f (node_at rows i)
 

@@ -26,7 +26,7 @@ use Rattle.spots.proofs.Apart.{apart_from_none, apart_to_none, apart_same, apart
 use Rattle.spots.proofs.Delays.{low-append}
 use Rattle.spots.proofs.Distances.{one_root, distance-one_base, distance-two_bases}
 use Rattle.spots.proofs.Laws as laws
-use Rattle.spots.proofs.Links.{head_is, tail_are}
+use Rattle.std.proofs.lemmas.List.Elements.{All-head, All-tail}
 use Rattle.spots.proofs.Nodes.{live_at}
 use Rattle.occ_tree.specs.Dated.{point_early}
 use Rattle.occ_tree.proofs.KeptDates.{early_from_point}
@@ -68,12 +68,12 @@ module _ (s : Standing) where
   part : (u v : List Link) → All (IsLinkOf s) u → All (IsLinkOf s) v → Parted u v
   part [] v all_u all_v = record { front = []; first = []; second = v; first_is = refl; second_is = refl; apart = apart_to_none v }
   part (l ∷ u) [] all_u all_v = record { front = []; first = l ∷ u; second = []; first_is = refl; second_is = refl; apart = apart_from_none (l ∷ u) }
-  part (l ∷ u) (k ∷ v) all_u all_v = by (part u v (tail_are s l u all_u) (tail_are s k v all_v)) (same_name l.rule k.rule) refl
+  part (l ∷ u) (k ∷ v) all_u all_v = by (part u v (All-tail (IsLinkOf s) l u all_u) (All-tail (IsLinkOf s) k v all_v)) (same_name l.rule k.rule) refl
     where
       by : Parted u v → (b : Bool) → same_name l.rule k.rule ≡ b → Parted (l ∷ u) (k ∷ v)
       by rest false e = record { front = []; first = l ∷ u; second = k ∷ v; first_is = refl; second_is = refl; apart = apart_differ l k u v e }
       by rest true e =
-          let same : l ≡ k = one_link l k (head_is s l u all_u) (head_is s k v all_v) ((bytes_decides l.rule k.rule).0 e) in
+          let same : l ≡ k = one_link l k (All-head (IsLinkOf s) l u all_u) (All-head (IsLinkOf s) k v all_v) ((bytes_decides l.rule k.rule).0 e) in
           record {
             front = l ∷ rest.front;
             first = rest.first;

@@ -85,8 +85,8 @@ impl Branches {
         ensures { IsFirstOf (IsOtherBehindAny order.now.net.now.present (forest order.now.tree.now) rows.now nodes.now i) result }
     {
         let mut first = None;
-        for node in nodes {
-            first = sooner(first, self.first_by(order, rows, i, *node));
+        for n in 0..nodes.len() {
+            first = sooner(first, self.first_by(order, rows, i, nodes[n]));
         }
         first
     }

@@ -66,9 +66,10 @@ fn gathered(alloc: Global, tree: &Tree, rows: &[TokenRow<Spot>]) -> Result<Vec<E
 fn put_under(entries: &mut Vec<Entry>, nodes: &[u32], place: usize) -> Result<(), NoMemory>
     ensures { OnOk result (entries.new.items ≡ entries.old.items ++ map (λ x. record { node = x; place = place }) nodes.now) }
 {
-    for node in nodes {
+    for i in 0..nodes.len() {
+        let node = nodes[i];
         entries.reserve(1)?;
-        entries.push_reserved(Entry { node: *node, place });
+        entries.push_reserved(Entry { node, place });
     }
     Ok(())
 }

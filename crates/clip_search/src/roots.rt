@@ -1,5 +1,5 @@
 // The roots of the tokens of a class.
-ghost use Rattle.std.specs.Prelude.{◌↔◌, ℕ, List, IsTrue, IfOk};
+ghost use Rattle.std.specs.Prelude.{◌≡◌, ◌⊎◌, ◌↔◌, ℕ, List, [], ◌∷◌, ◌++◌, IsTrue, IfOk, OnOk};
 ghost use Rattle.std.specs.List.{Contains};
 ghost use Rattle.spots.specs.Spots.{AreTokens};
 ghost use Rattle.occ_tree.specs.Places.{forest};
@@ -23,12 +23,21 @@ pub(crate) fn roots_of(
     let mut roots = Vec::new(alloc);
     for place in 0..rows.len() {
         let root = tree.row(node_of(&rows[place])).root;
-        if !is_listed(&roots, root) {
-            roots.reserve(1)?;
-            roots.push_reserved(root);
-        }
+        list(&mut roots, root)?;
     }
     Ok(roots)
+}
+
+// Lists a number, where it is not listed.
+fn list(numbers: &mut Vec<u32>, x: u32) -> Result<(), NoMemory>
+    ensures { OnOk result (((numbers.new.items ≡ numbers.old.items) × Contains numbers.old.items x) ⊎ (numbers.new.items ≡ numbers.old.items ++ x ∷ [])) }
+{
+    if is_listed(numbers, x) {
+        return Ok(());
+    }
+    numbers.reserve(1)?;
+    numbers.push_reserved(x);
+    Ok(())
 }
 
 // Whether a number is listed.

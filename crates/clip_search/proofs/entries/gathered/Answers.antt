@@ -24,8 +24,8 @@ node_of-requires c =
     let place = c.loop-place.place in
     (node_at rows place, ap (λ r. r.spot) (get_or_read rows place c.index-rows-place.result c.loop-place-test.true c.index-rows-place.is no_row) ∙ spot_is (forest c.args.tree.now) class rows are place c.loop-place-test.true)
 
-pub way_to-way-requires : goal.way_to-way-requires
-way_to-way-requires c =
+pub way_to-requires : goal.way_to-requires
+way_to-requires c =
     let (class, are) = c.requires.tokens in
     let f = forest c.args.tree.now in
     let rows = c.args.rows.now in

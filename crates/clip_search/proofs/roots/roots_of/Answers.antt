@@ -7,7 +7,7 @@ use Rattle.spots.specs.declared.spot.Spot.TheVariants.{Node}
 use Rattle.occ_tree.specs.Places.{forest}
 use Rattle.clip_search.specs.Under.{IsRootOf}
 use Rattle.clip_search.specs.Entries.{no_row, node_at}
-use Rattle.clip_search.proofs.Entering.{HaveRootsTo, root_told, root_listed, root_pushed, spot_is, node_live, node_read}
+use Rattle.clip_search.proofs.Entering.{HaveRootsTo, root_told, root_more, spot_is, node_live, node_read}
 use Rattle.clip_search.proofs.roots.roots_of.Goals as goal
 
 pub loop-place-init : goal.loop-place-init
@@ -28,16 +28,6 @@ row-root-requires c =
     let place = c.loop-place.place in
     subst (IsLive f) (sym (node_read f class rows are place c.loop-place-test.true c.index-rows-place.result c.index-rows-place.is c.node_of.result c.node_of.ensures)) (node_live f class rows are place c.loop-place-test.true)
 
-pub loop-place-preserved-then-is_listed : goal.loop-place-preserved-then-is_listed
-loop-place-preserved-then-is_listed c =
-    let (class, are) = c.requires.tokens in
-    let f = forest c.args.tree.now in
-    let rows = c.args.rows.now in
-    let place = c.loop-place.place in
-    let node = node_read f class rows are place c.loop-place-test.true c.index-rows-place.result c.index-rows-place.is c.node_of.result c.node_of.ensures in
-    let root = subst (IsRootOf f c.row-root.result.root) node (root_told f c.node_of.result (subst (IsLive f) (sym node) (node_live f class rows are place c.loop-place-test.true)) c.row-root.result c.row-root.ensures) in
-    subst (HaveRootsTo f rows (place + 1)) (sym c.push_reserved.ensures.items) (root_pushed f rows place c.loop-place.roots.items c.loop-place.invariant c.row-root.result.root root)
-
 pub loop-place-preserved : goal.loop-place-preserved
 loop-place-preserved c =
     let (class, are) = c.requires.tokens in
@@ -46,7 +36,7 @@ loop-place-preserved c =
     let place = c.loop-place.place in
     let node = node_read f class rows are place c.loop-place-test.true c.index-rows-place.result c.index-rows-place.is c.node_of.result c.node_of.ensures in
     let root = subst (IsRootOf f c.row-root.result.root) node (root_told f c.node_of.result (subst (IsLive f) (sym node) (node_live f class rows are place c.loop-place-test.true)) c.row-root.result c.row-root.ensures) in
-    root_listed f rows place c.loop-place.roots.items c.loop-place.invariant c.row-root.result.root root (c.is_listed.ensures.0 c.if-is_listed.true)
+    root_more f rows place c.loop-place.roots.items c.loop-place.invariant c.row-root.result.root root c.list.new.numbers.items c.in_ok-list.ensures
 
 pub returns : goal.returns
 returns c = record { live = c.loop-place.invariant.live; all = λ i lt. c.loop-place.invariant.all i (omega (arith, lt, c.loop-place-test.false)) }

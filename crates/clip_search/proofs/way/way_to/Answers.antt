@@ -1,4 +1,4 @@
-use Rattle.std.proofs.Common.{◌<◌, Some, sym, subst}
+use Rattle.std.proofs.Common.{◌≡◌, ◌∙◌, ◌<◌, [], ◌∷◌, ◌++◌, Some, ap, sym, subst}
 use Rattle.std.specs.List.{All}
 use Rattle.std.proofs.lemmas.List.Elements.{All-push, All-nil}
 use Rattle.spots.proofs.Nodes.{live_at}
@@ -18,7 +18,7 @@ loop-next-preserved c =
     let way = c.loop-next.way.items in
     let (u, longer) = subst (Climbs f c.args.x way) c.in-Some.is c.loop-next.invariant.climbs in
     let row = c.row-next.ensures u.above u.above_at in
-    let pushed = c.push_reserved.ensures.items in
+    let pushed : c.push_reserved.new.self.items ≡ way ++ c.in-Some.y ∷ [] = c.push_reserved.ensures.items ∙ ap (λ l. l ++ c.in-Some.y ∷ []) c.reserve.ensures.items in
     record {
       own = subst (All (λ y. IsUnder f y c.args.x)) (sym pushed) (All-push (λ y. IsUnder f y c.args.x) way c.in-Some.y c.loop-next.invariant.own u);
       climbs = subst (λ l. Climbs f c.args.x l c.row-next.result.parent) (sym pushed) (climb f c.args.x c.in-Some.y way u longer c.row-next.result.parent row.parent);

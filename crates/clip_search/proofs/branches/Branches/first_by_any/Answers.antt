@@ -6,27 +6,27 @@ use Rattle.clip_search.specs.Firsts.{IsFirstOf, IsOtherBehind, IsOtherBehindAny}
 use Rattle.clip_search.proofs.Firsts.{none_any, more_any, first_sooner}
 use Rattle.clip_search.proofs.branches.Branches.first_by_any.Goals as goal
 
-pub loop-node-init : goal.loop-node-init
-loop-node-init c = none_any c.args.order.now.net.now.present (forest c.args.order.now.tree.now) c.args.rows.now c.args.i
+pub loop-n-init : goal.loop-n-init
+loop-n-init c = none_any c.args.order.now.net.now.present (forest c.args.order.now.tree.now) c.args.rows.now c.args.i
 
 pub first_by-requires-clause-live : goal.first_by-requires-clause-live
 first_by-requires-clause-live c =
-    subst (IsLive (forest c.args.order.now.tree.now)) (sym c.node-item.is) (c.requires.live c.loop-node.node-index c.node-item.result c.loop-node-test.true)
+    subst (IsLive (forest c.args.order.now.tree.now)) (sym c.index-nodes-n.is) (c.requires.live c.loop-n.n c.index-nodes-n.result c.loop-n-test.true)
 
-pub loop-node-preserved : goal.loop-node-preserved
-loop-node-preserved c =
+pub loop-n-preserved : goal.loop-n-preserved
+loop-n-preserved c =
     let net = c.args.order.now.net.now.present in
     let f = forest c.args.order.now.tree.now in
     let rows = c.args.rows.now in
     let nodes = c.args.nodes.now in
-    let i = c.loop-node.node-index in
-    let z = c.node-item.result in
-    let taken : take (i + 1) nodes ≡ take i nodes ++ z ∷ [] = take_more nodes i z c.loop-node-test.true ∙ ap (λ y. take i nodes ++ y ∷ []) (sym c.node-item.is) in
+    let i = c.loop-n.n in
+    let z = c.index-nodes-n.result in
+    let taken : take (i + 1) nodes ≡ take i nodes ++ z ∷ [] = take_more nodes i z c.loop-n-test.true ∙ ap (λ y. take i nodes ++ y ∷ []) (sym c.index-nodes-n.is) in
     subst (λ l. IsFirstOf (IsOtherBehindAny net f rows l c.args.i) c.sooner-first.result) (sym taken)
     (more_any net f rows c.args.i (take i nodes) z c.sooner-first.result
-    (first_sooner (IsOtherBehindAny net f rows (take i nodes) c.args.i) (IsOtherBehind net f rows z c.args.i) c.loop-node.first c.first_by.result c.sooner-first.result c.loop-node.invariant c.first_by.ensures c.sooner-first.ensures))
+    (first_sooner (IsOtherBehindAny net f rows (take i nodes) c.args.i) (IsOtherBehind net f rows z c.args.i) c.loop-n.first c.first_by.result c.sooner-first.result c.loop-n.invariant c.first_by.ensures c.sooner-first.ensures))
 
 pub returns : goal.returns
 returns c =
-    subst (λ l. IsFirstOf (IsOtherBehindAny c.args.order.now.net.now.present (forest c.args.order.now.tree.now) c.args.rows.now l c.args.i) c.loop-node.first)
-    (take_all c.loop-node.node-index c.args.nodes.now c.loop-node-test.false) c.loop-node.invariant
+    subst (λ l. IsFirstOf (IsOtherBehindAny c.args.order.now.net.now.present (forest c.args.order.now.tree.now) c.args.rows.now l c.args.i) c.loop-n.first)
+    (take_all c.loop-n.n c.args.nodes.now c.loop-n-test.false) c.loop-n.invariant
