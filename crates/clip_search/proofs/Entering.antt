@@ -50,10 +50,14 @@ module _ (f : Forest) (class : List ℕ) (rows : List (TokenRow Spot)) (are : Ar
   pub class_is : (i : ℕ) → i < length rows → (row_at rows i).class ≡ class
   class_is i lt = let (_, _, _, _, own) = are.own (row_at rows i) (Contains-get_or rows i no_row lt) in own
 
-  -- the node that is read of a token
+  -- the spot that is read of a token
+  pub spot_read : (i : ℕ) → i < length rows → (row : TokenRow Spot) → row ≡ slice_index_or rows i row → row.spot ≡ Node (node_at rows i)
+  spot_read i lt row is = ap (λ r. r.spot) (get_or_read rows i row lt is no_row) ∙ spot_is i lt
+
+  -- and the node
   pub node_read : (i : ℕ) → i < length rows → (row : TokenRow Spot) → row ≡ slice_index_or rows i row → (x : ℕ) → row.spot ≡ Node x → x ≡ node_at rows i
   node_read i lt row is x spot =
-      let both : Node x ≡ Node (node_at rows i) = sym spot ∙ ap (λ r. r.spot) (get_or_read rows i row lt is no_row) ∙ spot_is i lt in
+      let both : Node x ≡ Node (node_at rows i) = sym spot ∙ spot_read i lt row is in
       cc
 
 -- ---- the nodes under which a token is

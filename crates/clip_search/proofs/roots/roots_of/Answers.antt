@@ -1,13 +1,12 @@
 use Rattle.std.proofs.Common.{◌≡◌, ◌∙◌, ◌+◌, ◌<◌, length, ap, sym, subst, arith}
 use Rattle.std.specs.List.{All}
-use Rattle.std.proofs.lemmas.List.{get_or_read}
 use Rattle.std.proofs.lemmas.List.Elements.{All-nil}
 use Rattle.spots.specs.Forest.{IsLive}
 use Rattle.spots.specs.declared.spot.Spot.TheVariants.{Node}
 use Rattle.occ_tree.specs.Places.{forest}
 use Rattle.clip_search.specs.Under.{IsRootOf}
-use Rattle.clip_search.specs.Entries.{no_row, node_at}
-use Rattle.clip_search.proofs.Entering.{HaveRootsTo, root_told, root_more, spot_is, node_live, node_read}
+use Rattle.clip_search.specs.Entries.{node_at}
+use Rattle.clip_search.proofs.Entering.{HaveRootsTo, root_told, root_more, spot_read, node_live, node_read}
 use Rattle.clip_search.proofs.roots.roots_of.Goals as goal
 
 pub loop-place-init : goal.loop-place-init
@@ -18,7 +17,7 @@ node_of-requires c =
     let (class, are) = c.requires.tokens in
     let rows = c.args.rows.now in
     let place = c.loop-place.place in
-    (node_at rows place, ap (λ r. r.spot) (get_or_read rows place c.index-rows-place.result c.loop-place-test.true c.index-rows-place.is no_row) ∙ spot_is (forest c.args.tree.now) class rows are place c.loop-place-test.true)
+    (node_at rows place, spot_read (forest c.args.tree.now) class rows are place c.loop-place-test.true c.index-rows-place.result c.index-rows-place.is)
 
 pub row-root-requires : goal.row-root-requires
 row-root-requires c =

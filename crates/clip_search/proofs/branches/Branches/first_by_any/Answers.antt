@@ -1,6 +1,6 @@
-use Rattle.std.proofs.Common.{◌≡◌, ◌∙◌, ◌+◌, [], ◌∷◌, ◌++◌, take, ap, sym, subst}
+use Rattle.std.proofs.Common.{take, sym, subst}
+use Rattle.std.specs.Prelude.{slice_index_or}
 use Rattle.std.proofs.lemmas.List.{take_more, take_all}
-use Rattle.spots.specs.Forest.{IsLive}
 use Rattle.occ_tree.specs.Places.{forest}
 use Rattle.clip_search.specs.Firsts.{IsFirstOf, IsOtherBehind, IsOtherBehindAny}
 use Rattle.clip_search.proofs.Firsts.{none_any, more_any, first_sooner}
@@ -10,8 +10,7 @@ pub loop-n-init : goal.loop-n-init
 loop-n-init c = none_any c.args.order.now.net.now.present (forest c.args.order.now.tree.now) c.args.rows.now c.args.i
 
 pub first_by-requires-clause-live : goal.first_by-requires-clause-live
-first_by-requires-clause-live c =
-    subst (IsLive (forest c.args.order.now.tree.now)) (sym c.index-nodes-n.is) (c.requires.live c.loop-n.n c.index-nodes-n.result c.loop-n-test.true)
+first_by-requires-clause-live c = c.requires.live c.loop-n.n 0 c.loop-n-test.true
 
 pub loop-n-preserved : goal.loop-n-preserved
 loop-n-preserved c =
@@ -20,9 +19,8 @@ loop-n-preserved c =
     let rows = c.args.rows.now in
     let nodes = c.args.nodes.now in
     let i = c.loop-n.n in
-    let z = c.index-nodes-n.result in
-    let taken : take (i + 1) nodes ≡ take i nodes ++ z ∷ [] = take_more nodes i z c.loop-n-test.true ∙ ap (λ y. take i nodes ++ y ∷ []) (sym c.index-nodes-n.is) in
-    subst (λ l. IsFirstOf (IsOtherBehindAny net f rows l c.args.i) c.sooner-first.result) (sym taken)
+    let z = slice_index_or nodes i 0 in
+    subst (λ l. IsFirstOf (IsOtherBehindAny net f rows l c.args.i) c.sooner-first.result) (sym (take_more nodes i 0 c.loop-n-test.true))
     (more_any net f rows c.args.i (take i nodes) z c.sooner-first.result
     (first_sooner (IsOtherBehindAny net f rows (take i nodes) c.args.i) (IsOtherBehind net f rows z c.args.i) c.loop-n.first c.first_by.result c.sooner-first.result c.loop-n.invariant c.first_by.ensures c.sooner-first.ensures))
 

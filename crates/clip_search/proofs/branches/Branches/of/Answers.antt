@@ -4,8 +4,8 @@ use Rattle.clip_search.specs.Entries.{HaveSkips}
 use Rattle.clip_search.specs.declared.entries.Entry.{Entry}
 use Rattle.clip_search.proofs.branches.Branches.of.Goals as goal
 
-pub skips_of-skips-requires : goal.skips_of-skips-requires
-skips_of-skips-requires c = record {
+pub skips_of-requires : goal.skips_of-requires
+skips_of-requires c = record {
   places = subst (All (λ (e : Entry). e.place < length c.args.rows.now)) (sym c.deref.ensures.value) (λ i d lt. (c.in_ok-entries.ensures.entries.own i d lt).0);
 }
 
