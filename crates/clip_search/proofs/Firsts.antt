@@ -93,8 +93,10 @@ module _ (net : Net) (f : Forest) (rows : List (TokenRow Spot)) (z i : ℕ) wher
     }
 
     -- by a bound it is what has a date
-    pub behind_from : (found : Option ℕ) → IsFirstOf (IsCandidate net f rows z least (fact_at rows i)) found → IsFirstOf (IsOtherBehind net f rows z i) found
-    behind_from found h = first_same (IsCandidate net f rows z least (fact_at rows i)) (IsOtherBehind net f rows z i) to from found h
+    pub behind_from : (from_date : ℤ) (fact : List ℕ) → from_date ≡ least → fact ≡ fact_at rows i → (found : Option ℕ) → IsFirstOf (IsCandidate net f rows z from_date fact) found → IsFirstOf (IsOtherBehind net f rows z i) found
+    behind_from from_date fact date own found h =
+        first_same (IsCandidate net f rows z least (fact_at rows i)) (IsOtherBehind net f rows z i) to from found
+        (subst (λ l. IsFirstOf (IsCandidate net f rows z l (fact_at rows i)) found) date (subst (λ k. IsFirstOf (IsCandidate net f rows z from_date k) found) own h))
 
 -- ---- as one of several nodes tells
 

@@ -1,4 +1,5 @@
-use Rattle.std.proofs.Common.{rules, ◌≡◌, ℕ, ◌+◌, ◌-◌, ◌<◌, ◌≤◌, length, sym, subst, arith, FitsSigned, w128}
+use Rattle.std.proofs.Common.{rules, ◌≡◌, ℕ, ◌+◌, ◌-◌, ◌<◌, ◌≤◌, length, sym, subst, arith, FitsSigned, to_z, of_z}
+use Rattle.std.specs.Int.{w128}
 use Rattle.std.proofs.lemmas.Int.{to_z-of_z}
 use Rattle.std.specs.Prelude.{◌/◌, slice_index_or}
 use Rattle.std.proofs.lemmas.Bool.{both_ways}
@@ -14,34 +15,36 @@ is_before-requires-clause-place c =
     let middle = c.loop-low.low + (c.loop-low.high - c.loop-low.low) / 2 in
     let entries = c.args.self.now.entries.items in
     let within : middle < length entries = omega (arith, c.loop-low.invariant.high, c.loop-low-test.true) in
-    subst (λ e. e.place < length c.args.rows.now) (sym (get_or_read entries middle c.index.result.now within c.index.is no_entry)) (c.requires.branches.entries.own middle no_entry within).0
+    subst (λ e. e.place < length c.args.rows.now) (sym (get_or_read entries middle c.index.result.now within c.index.ensures no_entry)) (c.requires.branches.entries.own middle no_entry within).0
 
 pub loop-low-preserved-then-is_before : goal.loop-low-preserved-then-is_before
 loop-low-preserved-then-is_before c =
+    let least = to_z w128 (of_z w128 c.args.least) in
     let middle = c.loop-low.low + (c.loop-low.high - c.loop-low.low) / 2 in
     let entries = c.args.self.now.entries.items in
     let within : middle < length entries = omega (arith, c.loop-low.invariant.high, c.loop-low-test.true) in
     let (class, are) = c.requires.tokens in
-    let here = subst (IsBefore c.args.order.now.net.now.present (forest c.args.order.now.tree.now) c.args.rows.now c.args.node c.args.least) (get_or_read entries middle c.index.result.now within c.index.is no_entry) (c.is_before.ensures.0 c.if-is_before.true) in
+    let here = subst (IsBefore c.args.order.now.net.now.present (forest c.args.order.now.tree.now) c.args.rows.now c.args.node least) (get_or_read entries middle c.index.result.now within c.index.ensures no_entry) (c.is_before.ensures.0 c.if-is_before.true) in
     record {
       low = omega (arith, c.loop-low-test.true);
       high = c.loop-low.invariant.high;
-      first = first_more c.args.order.now.net.now.present are c.requires.by_date c.requires.branches.entries c.requires.branches.sorted c.args.node c.args.least middle within here;
+      first = first_more c.args.order.now.net.now.present are c.requires.by_date c.requires.branches.entries c.requires.branches.sorted c.args.node least middle within here;
       rest = c.loop-low.invariant.rest;
     }
 
 pub loop-low-preserved : goal.loop-low-preserved
 loop-low-preserved c =
+    let least = to_z w128 (of_z w128 c.args.least) in
     let middle = c.loop-low.low + (c.loop-low.high - c.loop-low.low) / 2 in
     let entries = c.args.self.now.entries.items in
     let within : middle < length entries = omega (arith, c.loop-low.invariant.high, c.loop-low-test.true) in
     let (class, are) = c.requires.tokens in
-    let out : IsBefore c.args.order.now.net.now.present (forest c.args.order.now.tree.now) c.args.rows.now c.args.node c.args.least (entry_at entries middle) → ⊥ = λ before. both_ways c.is_before.result c.if-is_before.false (c.is_before.ensures.1 (subst (IsBefore c.args.order.now.net.now.present (forest c.args.order.now.tree.now) c.args.rows.now c.args.node c.args.least) (sym (get_or_read entries middle c.index.result.now within c.index.is no_entry)) before)) in
+    let out : IsBefore c.args.order.now.net.now.present (forest c.args.order.now.tree.now) c.args.rows.now c.args.node least (entry_at entries middle) → ⊥ = λ before. both_ways c.is_before.result c.if-is_before.false (c.is_before.ensures.1 (subst (IsBefore c.args.order.now.net.now.present (forest c.args.order.now.tree.now) c.args.rows.now c.args.node least) (sym (get_or_read entries middle c.index.result.now within c.index.ensures no_entry)) before)) in
     record {
       low = omega (arith, c.loop-low-test.true);
       high = omega (arith, within);
       first = c.loop-low.invariant.first;
-      rest = rest_more c.args.order.now.net.now.present are c.requires.by_date c.requires.branches.entries c.requires.branches.sorted c.args.node c.args.least middle within out;
+      rest = rest_more c.args.order.now.net.now.present are c.requires.by_date c.requires.branches.entries c.requires.branches.sorted c.args.node least middle within out;
     }
 
 pub returns : goal.returns
