@@ -1,8 +1,8 @@
 -- Entries for the tokens of a class, one token after the other.
-use Rattle.std.proofs.Common.{◌≡◌, ◌∙◌, ℕ, ◌+◌, ◌<◌, ◌≤◌, inl, inr, List, [], ◌∷◌, ◌++◌, map, length, refl, sym, ap, subst, arith}
+use Rattle.std.proofs.Common.{◌≡◌, ◌∙◌, ℕ, ◌+◌, ◌<◌, inl, inr, List, [], ◌∷◌, ◌++◌, map, length, sym, ap, subst, arith}
 use Rattle.std.specs.Prelude.{◌⊎◌, Option, Some, None, slice_index_or}
 use Rattle.std.specs.List.{All, Contains}
-use Rattle.std.specs.Option.{option_map, option_map_or}
+use Rattle.std.specs.Option.{option_map}
 use Rattle.std.proofs.lemmas.Bool.{cases_lt}
 use Rattle.std.proofs.lemmas.List.{get_or_read}
 use Rattle.std.proofs.lemmas.List.Elements.{All-append, All-map, All-weaker, All-push, Contains-get_or, Contains-append_left, Contains-append_right, Contains-push}
@@ -14,14 +14,14 @@ use Rattle.spots.specs.declared.link.Link.{Link}
 use Rattle.spots.specs.declared.spot.Spot.{Spot}
 use Rattle.spots.specs.declared.spot.Spot.TheVariants.{Declared, Node}
 use Rattle.spots.specs.declared.node_row.NodeRow.{NodeRow}
-use Rattle.spots.specs.Forest.{Forest, Member, member, moment, rules_of, IsLive, IsOnce}
+use Rattle.spots.specs.Forest.{Forest, Member, moment, IsLive, IsOnce}
 use Rattle.spots.specs.Rows.{IsRowOf}
 use Rattle.spots.specs.Spots.{AreTokens, token_row}
 use Rattle.spots.proofs.Nodes.{live_at, node_at as member_at}
 use Rattle.occ_tree.specs.Tokens.{number_of}
 use Rattle.clip_search.specs.declared.entries.Entry.{Entry}
-use Rattle.clip_search.specs.Under.{IsUnder, HasNode, IsWay, IsRootOf}
-use Rattle.clip_search.specs.Entries.{no_row, row_at, node_at, AreEntries, HaveRoots}
+use Rattle.clip_search.specs.Under.{IsUnder, IsWay, IsRootOf}
+use Rattle.clip_search.specs.Entries.{no_row, row_at, node_at}
 
 -- ---- tokens and their nodes
 

@@ -1,11 +1,10 @@
 -- Firsts of several searches, and that they are the first clips.
-use Rattle.std.proofs.Common.{◌≡◌, ◌≢◌, ◌∙◌, ℕ, ◌+◌, ◌<◌, ◌≤◌, inl, inr, Bool, true, false, not, List, [], ◌∷◌, ◌++◌, length, take, refl, sym, ap, subst, arith}
+use Rattle.std.proofs.Common.{◌≡◌, ◌≢◌, ◌∙◌, ℕ, ◌<◌, inl, inr, Bool, true, false, not, List, [], ◌∷◌, ◌++◌, length, refl, sym, ap, subst, arith}
 use Rattle.std.specs.Prelude.{◌⊎◌, ℤ, pos, negsuc, ◌+ℤ◌, ◌-ℤ◌, ◌≤ℤ◌, int_le, ◌&&◌, min, Option, Some, None}
-use Rattle.std.specs.List.{All, Contains}
-use Rattle.std.specs.Cmp.Lexicographic.{bytes_decides, nat_list_eq_equiv}
+use Rattle.std.specs.Cmp.Lexicographic.{bytes_decides}
 use Rattle.std.proofs.lemmas.Bool.{cases_lt}
 use Rattle.std.proofs.lemmas.Int.{ints}
-use Rattle.std.proofs.lemmas.List.Elements.{Contains-append_left, Contains-push, Contains-push_cases, All-contains}
+use Rattle.std.proofs.lemmas.List.Elements.{Contains-append_left, Contains-push, Contains-push_cases}
 use Rattle.list_theory.proofs.Elements.{both}
 use Rattle.tmm_model.specs.declared.bound.Bound.{Bound}
 use Rattle.tmm_model.specs.declared.bound.Bound.TheVariants.{Finite, Free}
@@ -13,17 +12,16 @@ use Rattle.tmm_model.specs.declared.token.TokenRow.{TokenRow}
 use Rattle.tmm_model.specs.Bounds.{bound_at_most}
 use Rattle.tmm_model.specs.Points.{same_name}
 use Rattle.tmm_model.specs.Tokens.{of_one_class, is_before, clips}
-use Rattle.walk_theory.proofs.Points.{same_name-is}
 use Rattle.dist_net.specs.Net.{Net}
 use Rattle.spots.specs.declared.spot.Spot.{Spot}
 use Rattle.spots.specs.declared.spot.Spot.TheVariants.{Node}
-use Rattle.spots.specs.Forest.{Forest, IsLive}
+use Rattle.spots.specs.Forest.{Forest}
 use Rattle.spots.specs.Seen.{HasList}
 use Rattle.spots.specs.Spots.{AreTokens, spot_distance, node_early}
 use Rattle.spots.proofs.Nodes.{node_at as member_at}
-use Rattle.clip_search.specs.Under.{IsUnder, IsWay, IsRootOf}
+use Rattle.clip_search.specs.Under.{IsWay}
 use Rattle.clip_search.specs.Entries.{row_at, node_at, fact_at, HaveRoots}
-use Rattle.clip_search.specs.Firsts.{IsFirstOf, IsBehindBy, IsCandidate, IsOtherBehind, IsOtherBehindAny, IsClipper, IsSooner}
+use Rattle.clip_search.specs.Firsts.{IsFirstOf, IsCandidate, IsOtherBehind, IsOtherBehindAny, IsClipper, IsSooner}
 use Rattle.clip_search.proofs.Entering.{spot_is, node_live, class_is}
 use Rattle.clip_search.proofs.Tells.{surely, one_tells}
 

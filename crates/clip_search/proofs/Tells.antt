@@ -1,7 +1,7 @@
 -- **What surely begins behind a node does so as far as one node tells**: the last that the ways to both share,
 -- or the root of what begins behind. And what one tells is so.
 use Rattle.std.proofs.Common.{◌≡◌, ◌≢◌, ◌∙◌, ℕ, Bool, true, false, inl, inr, List, [], ◌∷◌, ◌++◌, refl, sym, ap, subst, arith}
-use Rattle.std.specs.Prelude.{◌⊎◌, ℤ, pos, negsuc, ◌+ℤ◌, ◌-ℤ◌, ◌≤ℤ◌, int_le, Option, Some, None}
+use Rattle.std.specs.Prelude.{◌⊎◌, ℤ, pos, negsuc, ◌+ℤ◌, ◌-ℤ◌, ◌≤ℤ◌, int_le, Option, Some}
 use Rattle.std.specs.List.{All, Contains}
 use Rattle.std.specs.Option.{option_map_or}
 use Rattle.std.specs.Cmp.Lexicographic.{bytes_decides}
@@ -30,7 +30,7 @@ use Rattle.std.proofs.lemmas.List.Elements.{All-head, All-tail}
 use Rattle.spots.proofs.Nodes.{live_at}
 use Rattle.occ_tree.specs.Dated.{point_early}
 use Rattle.occ_tree.proofs.KeptDates.{early_from_point}
-use Rattle.clip_search.specs.Under.{IsUnder, HasNode, IsWay, IsRootOf}
+use Rattle.clip_search.specs.Under.{IsUnder, IsWay, IsRootOf}
 use Rattle.clip_search.specs.Firsts.{IsBehindBy}
 
 -- ---- rules that both begin with

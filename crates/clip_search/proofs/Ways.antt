@@ -1,7 +1,6 @@
 -- The way up to a root, one node after the other.
-use Rattle.std.proofs.Common.{◌≡◌, ◌∙◌, ℕ, suc, ◌+◌, ◌<◌, ◌≤◌, inl, inr, List, [], ◌∷◌, ◌++◌, length, refl, sym, ap, subst, arith}
+use Rattle.std.proofs.Common.{◌≡◌, ◌∙◌, ℕ, suc, ◌<◌, ◌≤◌, inl, inr, List, [], ◌∷◌, ◌++◌, length, refl, sym, ap, subst, arith}
 use Rattle.std.specs.Prelude.{Option, Some, None, MatchOption}
-use Rattle.std.specs.List.{All, Contains}
 use Rattle.std.specs.Option.{option_map_or}
 use Rattle.std.proofs.lemmas.Bool.{cases_lt}
 use Rattle.std.proofs.lemmas.List.{append-nil, append_assoc, length-append}
@@ -11,7 +10,7 @@ use Rattle.spots.specs.declared.spot.Spot.TheVariants.{Node}
 use Rattle.spots.specs.Forest.{Forest, Member, member, IsLive, IsParent}
 use Rattle.spots.specs.Spots.{links_of}
 use Rattle.spots.proofs.Nodes.{node_at}
-use Rattle.clip_search.specs.Under.{IsUnder, HasNode, IsWay}
+use Rattle.clip_search.specs.Under.{IsUnder, HasNode}
 
 -- for each of the first rules that lead to x the node to which they lead is among the numbers
 abbrev pub AllHave : Forest → ℕ → List ℕ → Type 0

@@ -1,12 +1,11 @@
-use Rattle.std.proofs.Common.{◌≡◌, ◌∙◌, ◌+◌, ◌<◌, ◌++◌, map, length, ap, sym, subst, arith}
+use Rattle.std.proofs.Common.{◌∙◌, ◌+◌, ◌<◌, ◌++◌, map, length, ap, sym, subst, arith}
 use Rattle.std.specs.List.{All}
 use Rattle.clip_search.specs.declared.entries.Entry.{Entry}
 use Rattle.std.proofs.lemmas.List.Elements.{All-nil}
 use Rattle.spots.specs.Forest.{IsLive}
-use Rattle.spots.specs.declared.spot.Spot.TheVariants.{Node}
 use Rattle.occ_tree.specs.Places.{forest}
 use Rattle.clip_search.specs.Under.{IsUnder, IsWay}
-use Rattle.clip_search.specs.Entries.{row_at, node_at}
+use Rattle.clip_search.specs.Entries.{node_at}
 use Rattle.clip_search.proofs.Entering.{AreEntriesTo, made_at, one_more, spot_read, node_live, node_read}
 use Rattle.clip_search.proofs.entries.gathered.Goals as goal
 

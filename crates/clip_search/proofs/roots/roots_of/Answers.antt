@@ -1,12 +1,11 @@
-use Rattle.std.proofs.Common.{◌≡◌, ◌∙◌, ◌+◌, ◌<◌, length, ap, sym, subst, arith}
+use Rattle.std.proofs.Common.{sym, subst, arith}
 use Rattle.std.specs.List.{All}
 use Rattle.std.proofs.lemmas.List.Elements.{All-nil}
 use Rattle.spots.specs.Forest.{IsLive}
-use Rattle.spots.specs.declared.spot.Spot.TheVariants.{Node}
 use Rattle.occ_tree.specs.Places.{forest}
 use Rattle.clip_search.specs.Under.{IsRootOf}
 use Rattle.clip_search.specs.Entries.{node_at}
-use Rattle.clip_search.proofs.Entering.{HaveRootsTo, root_told, root_more, spot_read, node_live, node_read}
+use Rattle.clip_search.proofs.Entering.{root_told, root_more, spot_read, node_live, node_read}
 use Rattle.clip_search.proofs.roots.roots_of.Goals as goal
 
 pub loop-place-init : goal.loop-place-init

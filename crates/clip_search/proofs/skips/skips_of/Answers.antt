@@ -1,5 +1,4 @@
-use Rattle.std.proofs.Common.{◌≡◌, ◌+◌, ◌-◌, ◌<◌, length, sym, subst, arith}
-use Rattle.std.proofs.lemmas.List.{length-replicate}
+use Rattle.std.proofs.Common.{◌≡◌, ◌+◌, ◌-◌, sym, subst, arith}
 use Rattle.clip_search.specs.Entries.{AreSkipsFrom}
 use Rattle.clip_search.proofs.Unlike.{skip_set}
 use Rattle.clip_search.proofs.skips.skips_of.Goals as goal

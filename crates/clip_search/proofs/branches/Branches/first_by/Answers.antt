@@ -1,11 +1,11 @@
-use Rattle.std.proofs.Common.{rules, ◌≡◌, ◌∙◌, ap, sym, subst, FitsSigned, to_z, of_z, ◌+ℤ◌, pos}
+use Rattle.std.proofs.Common.{rules, ◌∙◌, ap, sym, subst, FitsSigned, to_z, of_z, ◌+ℤ◌, pos}
 use Rattle.std.proofs.lemmas.Int.{to_z-of_z}
 use Rattle.std.proofs.lemmas.List.{get_or_read}
 use Rattle.std.specs.Int.{w64, w128}
 use Rattle.spots.specs.Spots.{IsSpot, spot_distance}
 use Rattle.spots.specs.declared.spot.Spot.TheVariants.{Node}
 use Rattle.occ_tree.specs.Places.{forest}
-use Rattle.clip_search.specs.Entries.{no_row, node_at}
+use Rattle.clip_search.specs.Entries.{no_row}
 use Rattle.clip_search.proofs.Entering.{node_live, spot_read}
 use Rattle.clip_search.proofs.Firsts.{none_behind, behind_from}
 use Rattle.clip_search.proofs.branches.Branches.first_by.Goals as goal

@@ -1,4 +1,4 @@
-use Rattle.std.proofs.Common.{◌≡◌, ◌∙◌, ap, sym, subst}
+use Rattle.std.proofs.Common.{sym, subst}
 use Rattle.spots.specs.Forest.{IsLive}
 use Rattle.occ_tree.specs.Places.{forest}
 use Rattle.clip_search.specs.Entries.{node_at}
