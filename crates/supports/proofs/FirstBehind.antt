@@ -1,7 +1,7 @@
 -- The first token of a class that clips one is the last of those behind it that does.
 use Rattle.std.proofs.Common.{◌≡◌, ◌∙◌, ℕ, zero, suc, ◌+◌, ◌-◌, ◌<◌, ◌≤◌, inl, inr, Bool, true, false, List, [], ◌∷◌, length, refl, sym, ap, subst, arith}
 use Rattle.std.specs.Prelude.{◌≤ℤ◌, Option, Some, None, IsNone, MatchOption, drop, slice_index_or}
-use Rattle.std.specs.Option.{option_map}
+use Rattle.std.specs.Option.{option_map, is_some}
 use Rattle.std.proofs.lemmas.Bool.{cases_lt, both_ways}
 use Rattle.std.proofs.lemmas.Int.{ints}
 use Rattle.std.proofs.lemmas.List.{get_or_append_left, get_or_push, length-append, drop_all, length-map}
@@ -22,6 +22,11 @@ use Rattle.supports.specs.Behind.{rows_behind, IsLastNode, IsClip}
 use Rattle.supports.proofs.ByDate.{by_date}
 use Rattle.supports.proofs.ClassClips.{one_behind, clip_here}
 use Rattle.supports.proofs.OfLaterDates.{no_later_fails}
+
+-- what is no span has no end
+pub no_end : (o : Option Spot) → is_some o ≡ false → o ≡ None
+no_end None e = refl
+no_end (Some p) e = cc
 
 -- ---- the tokens behind stand the other way round
 
@@ -110,6 +115,6 @@ module _ {net : Net} {k : Kept} (tree : IsTreeIn net k) {class : List ℕ} {rows
 
     -- **The first that clips it is its clip**, where it is no span.
     pub first_is_clip : (row_at rows i).end ≡ None → (found : Option ℕ) → IsFirstOf (IsClipper net (forest k) rows i) found → IsClip net (forest k) (slice_index_or (numbers_in rows) i 0) (option_map (node_at rows) found)
-    first_is_clip open found first =
+    first_is_clip no_span found first =
         clip_here tree are up i no_row (row_at rows i) lt refl others refl (option_map (node_at rows) found)
-        (subst (λ o. MatchOption o (IsLastNode test others (option_map (node_at rows) found)) (λ _. IsNone (option_map (node_at rows) found))) (sym open) (last_node found first))
+        (subst (λ o. MatchOption o (IsLastNode test others (option_map (node_at rows) found)) (λ _. IsNone (option_map (node_at rows) found))) (sym no_span) (last_node found first))
