@@ -85,7 +85,8 @@ pub fn class_clips(
         let date = tree.early(node_of(&row));
         later = count_later(behind.len(), later, last, date);
         last = date;
-        clips[i] = class_clip(alloc, tree, net, rows, i, &behind[..later], &mut branches)?;
+        let clip = class_clip(alloc, tree, net, rows, i, &behind[..later], &mut branches)?;
+        clips[i] = clip;
         let first = stretch_behind(&behind, &row.fact);
         behind.push_reserved(Stretched { row, first });
     }

@@ -89,10 +89,10 @@ loop-i-preserved c =
     counted (spot_early net f) (rows_of behind) later c.loop-i.later c.len.result _ date c.loop-i.invariant.dates (many ∙ sym (length-map behind (λ (t : Stretched Spot). t.row))) c.count_later-later.ensures in
     let there : All (λ r. IsSpot net.names f r.spot × ForSome r.end (IsSpot net.names f)) (rows_of behind) =
     subst (All (λ r. IsSpot net.names f r.spot × ForSome r.end (IsSpot net.names f))) (sym c.loop-i.invariant.behind) (behind_there f class c.requires.dates.list.0 net seen (drop c.loop-i.i nodes)) in
-    let found = c.in_ok-i.clip in
+    let found = c.in_ok-clip.clip in
     let fails : (q : ℕ) (d : TokenRow Spot) → later ≤ q → q < length (rows_of behind) → clips of_one_class (spot_distance net f) row (slice_index_or (rows_of behind) q d) ≡ false =
     λ q d from lt. no_later_fails c.requires.dates row (slice_index_or (rows_of behind) q d) row_there (there q d lt).0 (subst (λ z. spot_early net f (slice_index_or (rows_of behind) q d).spot ≤ℤ z) (sym date_is) (up q d from lt)) in
-    let clip : IsClip net f (slice_index_or nodes (c.loop-i.i - 1) 0) found = elim c.in_ok-i.ensures.clip [
+    let clip : IsClip net f (slice_index_or nodes (c.loop-i.i - 1) 0) found = elim c.in_ok-clip.ensures.clip [
       | inl near ↦
           clip_here c.requires.dates are c.tokens-rows.ensures.in_order (c.loop-i.i - 1) row row within c.index-rows-i.is (rows_of behind)
           (c.loop-i.invariant.behind ∙ ap (λ n. rows_behind f class (drop n nodes)) (sym at)) found
@@ -108,14 +108,14 @@ loop-i-preserved c =
     (subst (λ l. IsStretch (rows_of l) row.fact c.stretch_behind-first.result (length l)) c.deref-in-loop-i.ensures.value c.stretch_behind-first.ensures) in record {
       count = length-set c.loop-i.clips.items (c.loop-i.i - 1) found ∙ c.loop-i.invariant.count;
       live = set_on (λ j found. IfSome found (IsLive f)) c.loop-i.clips.items (length rows) c.loop-i.i (c.loop-i.i - 1) found
-          c.loop-i.invariant.count at within c.in_ok-i.ensures.live c.loop-i.invariant.live;
+          c.loop-i.invariant.count at within c.in_ok-clip.ensures.live c.loop-i.invariant.live;
       clip = set_on (λ j found. IsClip c.args.net.now.present f (slice_index_or nodes j 0) found) c.loop-i.clips.items (length rows) c.loop-i.i (c.loop-i.i - 1) found
           c.loop-i.invariant.count at within clip c.loop-i.invariant.clip;
       room = c.push_reserved.ensures.capacity ∙ c.loop-i.invariant.room;
       long = omega (arith, c.push_reserved.ensures.len, c.loop-i.invariant.long, c.loop-i-test.true);
       behind = pushed.0;
       stretches = pushed.1;
-      branches = c.in_ok-i.ensures.branches;
+      branches = c.in_ok-clip.ensures.branches;
       later = omega (arith, in_behind, c.push_reserved.ensures.len);
       dates = subst (λ l. AreUpTo (spot_early net f) l later date) (sym (ap rows_of c.push_reserved.ensures.items ∙ map-append (λ (t : Stretched Spot). t.row) behind (record { row = row; first = c.stretch_behind-first.result } ∷ [])))
           (counted_more (spot_early net f) (rows_of behind) row later date up date_is);
