@@ -17,3 +17,4 @@ pub mod Entering
 pub mod ByDate
 pub mod ClassClips
 pub mod OfLaterDates
+pub mod FirstBehind

@@ -32,6 +32,7 @@ ghost use Rattle.supports.specs.Faults.{fault_at};
 ghost use Rattle.supports.specs.Nodes.{IsOfNode, HasNode};
 
 mod all_clips;
+mod near;
 mod root;
 mod rule;
 

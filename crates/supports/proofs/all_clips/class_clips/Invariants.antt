@@ -1,6 +1,7 @@
 use Rattle.std.proofs.Common.{◌≡◌, ℕ, ◌+◌, ◌<◌, ◌≤◌, vec_capacity, vec_len}
 use Rattle.std.specs.Prelude.{Option, IfSome, drop, length, slice_index_or}
 use Rattle.clipping.specs.Stretches.{rows_of, HaveStretches}
+use Rattle.clip_search.specs.Entries.{AreBranches}
 use Rattle.occ_tree.specs.Places.{forest}
 use Rattle.occ_tree.specs.Tokens.{numbers_in}
 use Rattle.spots.specs.Forest.{IsLive}
@@ -19,5 +20,6 @@ invariant-loop-i l = record {
   behind : rows_of l.behind.items ≡ rows_behind (forest l.tree) l.class (drop l.i (numbers_in l.rows));
   stretches : HaveStretches l.behind.items;
   later : l.later ≤ length l.behind.items;
+  branches : IfSome l.branches (AreBranches (forest l.tree) l.rows);
   dates : AreUpTo (spot_early l.net.present (forest l.tree)) (rows_of l.behind.items) l.later l.last;
 }
