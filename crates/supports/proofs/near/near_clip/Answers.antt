@@ -51,8 +51,7 @@ returns-then-clips_after c =
     let token = c.index-behind-left in
     let within : c.loop-left.left - 1 < length tokens = omega (arith, c.loop-left-test.true, c.loop-left.invariant.within) in
     let x = c.node_of.result in
-    subst (λ o. MatchOption o (IsLastNode test (rows_of tokens) (Some x)) (λ _. IsNone (Some x))) (sym (no_end c.args.k.now.end (sym c.is_some.ensures ∙ c.if-is_some.false)))
-    (
+    subst (λ o. MatchOption o (IsLastNode test (rows_of tokens) (Some x)) (λ _. IsNone (Some x))) (sym (no_end c.args.k.now.end (sym c.is_some.ensures ∙ c.if-is_some.false))) (
       c.loop-left.left - 1,
       found tokens (spot_distance c.args.net.now.present (forest c.args.tree.now)) c.args.k.now c.loop-left.left c.loop-left-test.true c.loop-left.invariant.within c.loop-left.invariant.fail token.result token.is
           (sym c.clips_after.ensures ∙ c.if-clips_after.true),
