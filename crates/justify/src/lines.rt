@@ -22,9 +22,7 @@ use occ_tree::{Ranked, Tree};
 use premise_list::Standing;
 use spots::Spot;
 use std::alloc::Global;
-use tmm_model::{
-    Bound, MOST_EXCEPTIONS, Name, NoMemory, Occ, PointName, QueryPoint, Seq, WhyLine,
-};
+use tmm_model::{Bound, MOST_EXCEPTIONS, Name, NoMemory, Occ, PointName, QueryPoint, Seq, WhyLine};
 
 // Tells the lines of the nodes, one after the other: the orders that each needs, and then its own line.
 pub(crate) fn tell_all<R: Listener>(
@@ -67,9 +65,7 @@ fn tell_node<R: Listener>(
             let nodes = supports.as_slice();
             tell_orders(alloc, standing, tree, net, event, nodes, listener)?;
             let exceptions = exceptions_of(standing, rule);
-            listener.hear(derived_line(
-                alloc, tree, x, rule, event, nodes, exceptions,
-            )?)
+            listener.hear(derived_line(alloc, tree, x, rule, event, nodes, exceptions)?)
         }
     }
 }

@@ -15,9 +15,7 @@ use crate::premise::{copy_of, facts_of};
 use crate::table::{Table, word_count};
 use std::alloc::Global;
 use std::marker::Model;
-use tmm_model::{
-    Edit, FIRST_HORIZON, Name, NoMemory, PointName, Premise, Refusal, Seq, Version,
-};
+use tmm_model::{Edit, FIRST_HORIZON, Name, NoMemory, PointName, Premise, Refusal, Seq, Version};
 
 /// The standing list with its version and its horizon, now and as they were at the last commit.
 #[derive(Drop)]

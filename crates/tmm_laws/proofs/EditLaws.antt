@@ -158,7 +158,8 @@ dump_reloads s kept small =
       All-contains IsWellFormedPremise s.premises p kept.sound.well_formed (Contains-from_In s.premises p at),
       All-contains (IsOfVersion s.version) s.premises p kept.versioned (Contains-from_In s.premises p at),
     ) in
-    let read : AllReadBack (nothing_of s.version) edits =
-    (tells s.version (Horizon s.horizon) (horizon_short s.horizon kept.horizon) (horizon_reads s.version s.horizon kept.horizon),
-      premises_tell (first_of s []) s.premises (one_by_one (IsFormedIn s.version) s.premises formed)) in
+    let read : AllReadBack (nothing_of s.version) edits = (
+      tells s.version (Horizon s.horizon) (horizon_short s.horizon kept.horizon) (horizon_reads s.version s.horizon kept.horizon),
+      premises_tell (first_of s []) s.premises (one_by_one (IsFormedIn s.version) s.premises formed),
+    ) in
     (opening_reads s.version edits read, opening_accepted s.version edits s (reloads s kept small))
