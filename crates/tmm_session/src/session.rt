@@ -103,13 +103,15 @@ fn said<M: MapCore>(
     ensures tells { TellsLine (M.list core.old) line bytes.now result (M.list core.new) }
     ensures idle { M.pending core.new ≡ None }
 {
-    let meaning = read(alloc, bytes, core);
-    match &meaning {
-        Ok(Line::Silent) => Told::Silent,
-        Ok(Line::Change(edit)) => change(alloc, line, edit, core, counter),
-        Ok(Line::Question(query)) => answer(alloc, line, query, core),
-        Err(Stop::Refused(refusal)) => refuse(alloc, line, refusal),
-        Err(Stop::NoMemory) => Told::Memory,
+    let meaning = match read(alloc, bytes, core) {
+        Ok(meaning) => meaning,
+        Err(Stop::Refused(refusal)) => return refuse(alloc, line, &refusal),
+        Err(Stop::NoMemory) => return Told::Memory,
+    };
+    match meaning {
+        Line::Silent => Told::Silent,
+        Line::Change(edit) => change(alloc, line, &edit, core, counter),
+        Line::Question(query) => answer(alloc, line, &query, core),
     }
 }
 
