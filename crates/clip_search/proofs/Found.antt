@@ -1,4 +1,5 @@
--- Entries in their order, a place in them that halving finds, and the first that is of another fact from there.
+-- Entries in their order, a place in them that halving finds, and the first that is of another fact
+-- from there.
 use Rattle.std.proofs.Common.{◌≡◌, ◌≢◌, ◌∙◌, ℕ, ◌+◌, ◌<◌, ◌≤◌, inl, inr, Bool, true, false, List, length, refl, sym, ap, subst, arith}
 use Rattle.std.specs.Prelude.{ℤ, ◌≤ℤ◌, ◌<ℤ◌, int_le, Some, None}
 use Rattle.std.proofs.lemmas.Bool.{cases_lt}

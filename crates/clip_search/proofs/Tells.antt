@@ -1,5 +1,5 @@
--- **What surely begins behind a node does so as far as one node tells**: the last that the ways to both share,
--- or the root of what begins behind. And what one tells is so.
+-- **What surely begins behind a node does so as far as one node tells**: the last that the ways to
+-- both share, or the root of what begins behind. And what one tells is so.
 use Rattle.std.proofs.Common.{◌≡◌, ◌≢◌, ◌∙◌, ℕ, Bool, true, false, inl, inr, List, [], ◌∷◌, ◌++◌, refl, sym, ap, subst, arith}
 use Rattle.std.specs.Prelude.{◌⊎◌, ℤ, pos, negsuc, ◌+ℤ◌, ◌-ℤ◌, ◌≤ℤ◌, int_le, Option, Some}
 use Rattle.std.specs.List.{All, Contains}

@@ -20,7 +20,8 @@ AllHave f x numbers = (m : Member) (front back : List Link) → member f x ≡ S
 abbrev pub LongerHave : Forest → ℕ → ℕ → List ℕ → Type 0
 LongerHave f x y numbers = (m : Member) (front back : List Link) → member f x ≡ Some m → m.links ≡ front ++ back → length (links_of f (Node y)) < length front → HasNode f m.root front numbers
 
--- the numbers are of the nodes from x up to what is right above the next, which is none behind the root
+-- the numbers are of the nodes from x up to what is right above the next, which is none behind the
+-- root
 abbrev pub Climbs : Forest → ℕ → List ℕ → Option ℕ → Type 0
 Climbs f x numbers next = MatchOption next (AllHave f x numbers) (λ y. IsUnder f y x × LongerHave f x y numbers)
 

@@ -21,8 +21,8 @@ IsFirstOf P found = MatchOption found ((i : ℕ) → P i → ⊥) (λ i. P i × 
 abbrev pub IsBy : (ℕ → Type 0) → ℕ → Option ℕ → Type 0
 IsBy P j found = MatchOption found (P j → ⊥) (λ i. P j → i ≤ j)
 
--- node y begins surely behind node x as far as node z tells, under which y is: that far from z to x it is
--- before the earliest date of y
+-- node y begins surely behind node x as far as node z tells, under which y is: that far from z to x
+-- it is before the earliest date of y
 pub record IsBehindBy (net : Net) (f : Forest) (z x y : ℕ) : Type 0 where
   pub under : IsUnder f z y
   pub behind : bound_at_most (spot_distance net f (Node z) (Node x)) ((node_early net f y -ℤ node_early net f z) -ℤ pos 1) ≡ true
@@ -66,8 +66,8 @@ IsSooner None b c = c ≡ b
 IsSooner (Some x) None c = c ≡ Some x
 IsSooner (Some x) (Some y) c = c ≡ Some (min x y)
 
--- n is the place from `from` on behind the entries of a node whose tokens are of a fact, as far as such stand
--- there
+-- n is the place from `from` on behind the entries of a node whose tokens are of a fact, as far as
+-- such stand there
 pub record IsPast (rows : List (TokenRow Spot)) (entries : List Entry) (from z : ℕ) (fact : List ℕ) (n : ℕ) : Type 0 where
   pub after : from ≤ n
   pub within : from ≤ length entries → n ≤ length entries

@@ -23,8 +23,8 @@ pub record HasNode (f : Forest) (root : List ℕ) (links : List Link) (numbers :
   pub root_is : m.root ≡ root
   pub links_are : m.links ≡ links
 
--- the numbers are of nodes to which y belongs, and for each of the first rules that lead to y there is the
--- node to which these lead
+-- the numbers are of nodes to which y belongs, and for each of the first rules that lead to y there
+-- is the node to which these lead
 pub record IsWay (f : Forest) (y : ℕ) (numbers : List ℕ) : Type 0 where
   pub own : All (λ x. IsUnder f x y) numbers
   pub all : (m : Member) (front back : List Link) → member f y ≡ Some m → m.links ≡ front ++ back → HasNode f m.root front numbers

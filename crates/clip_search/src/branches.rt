@@ -18,7 +18,8 @@ use spots::Spot;
 use std::alloc::Global;
 use tmm_model::{Bound, Name, NoMemory, TokenRow};
 
-/// The tokens of a class under each node above them, in which the first that clips one is soon found.
+/// The tokens of a class under each node above them, in which the first that clips one is soon
+/// found.
 #[derive(Drop)]
 pub struct Branches {
     // by their nodes, and under one node in the order of the tokens
@@ -45,8 +46,8 @@ impl Branches {
         })
     }
 
-    /// The place of the first token that clips the one at `i`, none exactly where none does, were it no
-    /// span. Without memory it answers that.
+    /// The place of the first token that clips the one at `i`, none exactly where none does, were
+    /// it no span. Without memory it answers that.
     pub fn first_clipper(
         &self,
         alloc: Global,
@@ -67,8 +68,8 @@ impl Branches {
         Ok(sooner(own, other))
     }
 
-    // The first token that surely begins behind the one at `i` as far as one of some nodes tells, and is of
-    // another fact.
+    // The first token that surely begins behind the one at `i` as far as one of some nodes tells,
+    // and is of another fact.
     fn first_by_any(
         &self,
         order: &Order<'_>,
@@ -167,7 +168,8 @@ impl Branches {
         low
     }
 
-    // The place from `at` on behind the entries of a node whose tokens are of a fact, where one stands there.
+    // The place from `at` on behind the entries of a node whose tokens are of a fact, where one
+    // stands there.
     fn past_fact(&self, rows: &[TokenRow<Spot>], at: usize, node: u32, fact: &Name) -> usize
         requires places { All (λ e. e.place < length rows.now) self.now.entries.items }
         requires skips { HaveSkips rows.now self.now.entries.items self.now.skips.items }

@@ -8,7 +8,8 @@ use spots::Spot;
 use std::alloc::Global;
 use tmm_model::{NoMemory, TokenRow};
 
-// The place behind each entry of the first that is of another node, or whose token is of another fact.
+// The place behind each entry of the first that is of another node, or whose token is of another
+// fact.
 pub(crate) fn skips_of(
     alloc: Global,
     rows: &[TokenRow<Spot>],

@@ -35,8 +35,8 @@ use spots::Spot;
 use std::alloc::Global;
 use tmm_model::{Name, NoMemory, TokenRow};
 
-/// What clips each node, given all nodes in their order: the node of the first token that does, none
-/// exactly where no token does. A span and an event have none. Without memory it answers that.
+/// What clips each node, given all nodes in their order: the node of the first token that does,
+/// none exactly where no token does. A span and an event have none. Without memory it answers that.
 pub fn clips(
     alloc: Global,
     tree: &Tree,
@@ -59,8 +59,8 @@ pub fn clips(
     Ok(clips)
 }
 
-/// What clips each token of a class, in the order of its tokens: the node of the first token that does,
-/// none exactly where none does. A span has none. Without memory it answers that.
+/// What clips each token of a class, in the order of its tokens: the node of the first token that
+/// does, none exactly where none does. A span has none. Without memory it answers that.
 pub fn class_clips(
     alloc: Global,
     tree: &Tree,
@@ -93,7 +93,8 @@ pub fn class_clips(
     Ok(clips)
 }
 
-// What clips the token at `i` among those behind it, the nearest one last, or among all of its class.
+// What clips the token at `i` among those behind it, the nearest one last, or among all of its
+// class.
 fn class_clip(
     alloc: Global,
     tree: &Tree,
@@ -121,8 +122,8 @@ fn class_clip(
     }
 }
 
-// What clips the token at `i`, which is no span, by the nodes under which tokens are. These are gathered where
-// they are first asked for.
+// What clips the token at `i`, which is no span, by the nodes under which tokens are. These are
+// gathered where they are first asked for.
 fn far_clip(
     alloc: Global,
     tree: &Tree,
@@ -168,16 +169,16 @@ fn gathered(
     }
 }
 
-// How many of the tokens behind may clip one of a date, where all but the first `later` have dates up to
-// `last`: what clips a token has a later date.
+// How many of the tokens behind may clip one of a date, where all but the first `later` have dates
+// up to `last`: what clips a token has a later date.
 fn count_later(count: usize, later: usize, last: i64, date: i64) -> usize
     ensures { (result ≡ count) ⊎ ((result ≡ later) × (last ≤ℤ date)) }
 {
     if date < last { count } else { later }
 }
 
-// What clips the node at a place, given the tokens behind it by their classes, to which its own is added.
-// What clips a token begins after it, so it is the nearest behind it that does.
+// What clips the node at a place, given the tokens behind it by their classes, to which its own is
+// added. What clips a token begins after it, so it is the nearest behind it that does.
 fn clip_at(
     alloc: Global,
     tree: &Tree,

@@ -1,8 +1,8 @@
 //! Which believed token supports a fact, what clips a token, and why a token is no supporter: what
 //! `clipping` answers over the tokens of a tree, told of the occurrences of the standing list; what a
 //! standing rule says, whose antecedents want supporters and whose exceptions want none; and what a
-//! premise declares to occur, as a node of a tree. It stands on `occ_tree`, `clipping` and
-//! `name_lists`.
+//! premise declares to occur, as a node of a tree. It stands on `occ_tree`, `clipping`, `clip_search`
+//! and `name_lists`.
 //!
 //! Each call answers the definition for the list, over the occurrences that the nodes are. `clips`,
 //! `class_clips` and `add_root` alone take memory.

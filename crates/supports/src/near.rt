@@ -19,8 +19,8 @@ use occ_tree::{Order, Tree};
 use spots::Spot;
 use tmm_model::{Sure, TokenRow};
 
-// How many tokens are asked one after the other. Where so many begin at no sure time behind a token, there are
-// mostly many more.
+// How many tokens are asked one after the other. Where so many begin at no sure time behind a
+// token, there are mostly many more.
 const MOST_ASKED: usize = 128;
 
 // What a search among the nearest tokens tells.
