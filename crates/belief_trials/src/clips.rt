@@ -261,8 +261,8 @@ fn held_by_date(tokens: &[TokenRow<Spot>], p: i32, q: i32) -> Option<(Option<usi
     }
     let open = name("open");
     let (p, q) = ((0, p, 8), (0, q, 8));
-    let first = by_date::holder(&Dates, tokens, open, p, q);
-    Some((first, by_date::is_held(&Dates, tokens, open, p, q)))
+    let first = by_date::holder(&Dates, tokens, &[], open, p, q);
+    Some((first, by_date::is_held(&Dates, tokens, &[], open, p, q)))
 }
 
 fn clipper_by_date(tokens: &[TokenRow<Spot>], k: usize) -> Option<usize> {
@@ -276,7 +276,7 @@ fn clipper_by_date(tokens: &[TokenRow<Spot>], k: usize) -> Option<usize> {
 fn fault_by_date(tokens: &[TokenRow<Spot>], k: usize, p: i32, q: i32) -> Option<Fault> {
     let token = tokens.get(k)?;
     let (p, q) = ((0, p, 8), (0, q, 8));
-    if !by_date::is_by_date(&Dates, tokens) || by_date::is_held(&Dates, tokens, token.fact, p, q) {
+    if !by_date::is_by_date(&Dates, tokens) || by_date::is_held(&Dates, tokens, &[], token.fact, p, q) {
         return None;
     }
     Some(by_date::blame(&Dates, tokens, k, p, q))
