@@ -72,8 +72,8 @@ fn count_by_date<S: Dated>(order: &S, tokens: &[TokenRow<S::Spot>], until: i64) 
     low
 }
 
-// How many tokens have a date up to that of a spot.
-fn count_until<S: Dated>(order: &S, tokens: &[TokenRow<S::Spot>], q: S::Spot) -> usize
+/// How many tokens have a date up to that of a spot. They are the first. It is found by halving.
+pub fn count_until<S: Dated>(order: &S, tokens: &[TokenRow<S::Spot>], q: S::Spot) -> usize
     requires all_live { All (IsLive (S.live order.now)) tokens.now }
     requires by_date { IsByDate (S.date order.now) (S.order order.now) tokens.now }
     requires q_live { S.live order.now q }
