@@ -16,6 +16,7 @@ use dist_net::DistNet;
 use occ_tree::Tree;
 use premise_list::Standing;
 use projection::Counter;
+use supports::Guesses;
 use tmm_model::Name;
 
 /// A row that was decided again.
@@ -42,6 +43,7 @@ pub(crate) fn decide(
     trigger: u32,
     rule: Name,
     counter: &mut Counter,
+    guesses: &mut Guesses,
 ) -> Decision
     requires seen { IsTreeOf standing.now.present net.now.present tree.now }
     requires trigger { IsLive (forest tree.now) trigger }
@@ -50,7 +52,7 @@ pub(crate) fn decide(
     ensures live { AreLive (forest tree.now) result }
     ensures counted { counter.new ≡ min (counter.old + 1) 18446744073709551615 }
 {
-    match projection::decide(tree, net, standing, trigger, rule, counter) {
+    match projection::decide(tree, net, standing, trigger, rule, counter, guesses) {
         projection::Decision::Fires { supports } => Decision::Fires {
             supports: four(supports.as_slice()),
             count: supports.len() as u8,

@@ -276,7 +276,9 @@ fn clipper_by_date(tokens: &[TokenRow<Spot>], k: usize) -> Option<usize> {
 fn fault_by_date(tokens: &[TokenRow<Spot>], k: usize, p: i32, q: i32) -> Option<Fault> {
     let token = tokens.get(k)?;
     let (p, q) = ((0, p, 8), (0, q, 8));
-    if !by_date::is_by_date(&Dates, tokens) || by_date::is_held(&Dates, tokens, &[], token.fact, p, q) {
+    if !by_date::is_by_date(&Dates, tokens)
+        || by_date::is_held(&Dates, tokens, &[], token.fact, p, q)
+    {
         return None;
     }
     Some(by_date::blame(&Dates, tokens, k, p, q))

@@ -224,7 +224,8 @@ fn steps_to(near: Near, found: usize, low: usize, high: usize) -> usize {
             if from <= found {
                 found - from
             } else {
-                high.saturating_sub(from).saturating_add(found.saturating_sub(low))
+                high.saturating_sub(from)
+                    .saturating_add(found.saturating_sub(low))
             }
         }
         Near::Back(place) => {
@@ -232,7 +233,8 @@ fn steps_to(near: Near, found: usize, low: usize, high: usize) -> usize {
             if found < from {
                 from - found
             } else {
-                from.saturating_sub(low).saturating_add(high.saturating_sub(found))
+                from.saturating_sub(low)
+                    .saturating_add(high.saturating_sub(found))
             }
         }
     }

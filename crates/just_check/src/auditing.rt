@@ -329,7 +329,7 @@ fn expect_effect(
     requires rule { Contains (rules_at standing.now.present (moment_at (forest tree.now) x)) rule }
     ensures { OnOk result ((b : List Moment) → Holds b (forest tree.now) → AwaitsMore standing.now.present (forest tree.now) b x (rule ∷ []) expected.old expected.new) }
 {
-    if !does_fire(standing, net, tree, x, rule) {
+    if !does_fire(standing, net, tree, x, rule, &mut expected.guesses) {
         return Ok(());
     }
     expected.add(Origin {

@@ -17,7 +17,7 @@ use occ_tree::{Order, Tree};
 use premise_list::Standing;
 use spots::Spot;
 use std::alloc::Global;
-use supports::{is_supported, rule_text};
+use supports::{Guesses, is_supported, rule_text};
 use tmm_model::{Name, NoMemory, Premise, Shape};
 
 /// The names of the standing rules on each kind, in the order of the list.
@@ -71,7 +71,14 @@ impl RulesByKind {
 
 // Whether the rule fires at the event of a node: its effect begins by the horizon, and each antecedent has
 // a supporter there.
-pub(crate) fn does_fire(standing: &Standing, net: &DistNet, tree: &Tree, x: u32, rule: Name) -> bool
+pub(crate) fn does_fire(
+    standing: &Standing,
+    net: &DistNet,
+    tree: &Tree,
+    x: u32,
+    rule: Name,
+    guesses: &mut Guesses,
+) -> bool
     requires seen { IsTreeOf standing.now.present net.now.present tree.now }
     requires live { IsLive (forest tree.now) x }
     requires rule { Contains (rules_at standing.now.present (moment_at (forest tree.now) x)) rule }
@@ -79,7 +86,7 @@ pub(crate) fn does_fire(standing: &Standing, net: &DistNet, tree: &Tree, x: u32,
 {
     let text = rule_text(standing, rule);
     is_in_time(standing.horizon(), Order { tree, net }.early(x), text.lo)
-        && is_free(standing, net, tree, x, rule, text.given)
+        && is_free(standing, net, tree, x, rule, text.given, guesses)
 }
 
 // Whether what begins so long after this date begins by the horizon.
@@ -99,6 +106,7 @@ fn is_free(
     x: u32,
     rule: Name,
     given: &[Name],
+    guesses: &mut Guesses,
 ) -> bool
     requires seen { IsTreeOf standing.now.present net.now.present tree.now }
     requires live { IsLive (forest tree.now) x }
@@ -108,7 +116,7 @@ fn is_free(
 {
     let at = Spot::Node(x);
     for fact in given {
-        if !is_supported(standing, tree, net, *fact, at, at) {
+        if !is_supported(standing, tree, net, *fact, at, at, guesses) {
             return false;
         }
     }

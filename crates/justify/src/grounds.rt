@@ -16,7 +16,7 @@ use dist_net::DistNet;
 use occ_tree::Tree;
 use premise_list::Standing;
 use spots::Spot;
-use supports::{rule_text, supporter};
+use supports::{Guesses, rule_text, supporter};
 use tmm_model::Name;
 
 /// What brings a node about.
@@ -50,6 +50,7 @@ pub(crate) fn supports_at(
     net: &DistNet,
     event: u32,
     rule: Name,
+    guesses: &mut Guesses,
 ) -> ArrayVec<u32, 4>
     requires seen { IsTreeOf standing.now.present net.now.present tree.now }
     requires holds { Holds (built standing.now.present).believed (forest tree.now) }
@@ -59,7 +60,7 @@ pub(crate) fn supports_at(
     ensures first { map (moment_at (forest tree.now)) result.items ≡ supports_at (built standing.now.present) (moment_at (forest tree.now) event) rule }
 {
     let text = rule_text(standing, rule);
-    supporters(standing, tree, net, event, text.given)
+    supporters(standing, tree, net, event, text.given, guesses)
 }
 
 // The first supporters of the facts at an event.
@@ -69,6 +70,7 @@ fn supporters(
     net: &DistNet,
     event: u32,
     facts: &[Name],
+    guesses: &mut Guesses,
 ) -> ArrayVec<u32, 4>
     requires seen { IsTreeOf standing.now.present net.now.present tree.now }
     requires holds { Holds (built standing.now.present).believed (forest tree.now) }
@@ -81,7 +83,7 @@ fn supporters(
     let at = Spot::Node(event);
     let mut found = ArrayVec::new();
     for fact in facts {
-        match supporter(standing, tree, net, *fact, at, at) {
+        match supporter(standing, tree, net, *fact, at, at, guesses) {
             Some(x) => found.push(x),
             None => {}
         }

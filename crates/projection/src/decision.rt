@@ -20,7 +20,7 @@ use occ_tree::{Order, Tree};
 use premise_list::Standing;
 use spots::Spot;
 use std::marker::Model;
-use supports::{is_supported, rule_text, supporter};
+use supports::{Guesses, is_supported, rule_text, supporter};
 use tmm_model::Name;
 
 /// What becomes of a rule at an event.
@@ -73,7 +73,7 @@ impl Counter {
 }
 
 /// Decides a standing rule on the kind of the event at the node `trigger`, among the nodes of the
-/// tree, and counts the decision.
+/// tree, and counts the decision. No memory is taken but for guesses.
 pub fn decide(
     tree: &Tree,
     net: &DistNet,
@@ -81,6 +81,7 @@ pub fn decide(
     trigger: u32,
     rule: Name,
     counter: &mut Counter,
+    guesses: &mut Guesses,
 ) -> Decision
     requires seen { IsTreeOf standing.now.present net.now.present tree.now }
     requires trigger { IsLive (forest tree.now) trigger }
@@ -96,7 +97,7 @@ pub fn decide(
     if due_by(standing.horizon(), early, text.lo).is_none() {
         return Decision::Beyond;
     }
-    try_given(tree, net, standing, trigger, text.given)
+    try_given(tree, net, standing, trigger, text.given, guesses)
 }
 
 // The first supporters of the facts at the event, or the first fact without one.
@@ -106,6 +107,7 @@ fn try_given(
     standing: &Standing,
     trigger: u32,
     given: &[Name],
+    guesses: &mut Guesses,
 ) -> Decision
     requires seen { IsTreeOf standing.now.present net.now.present tree.now }
     requires trigger { IsLive (forest tree.now) trigger }
@@ -117,7 +119,7 @@ fn try_given(
     let at = Spot::Node(trigger);
     let mut supports = ArrayVec::new();
     for antecedent in 0..given.len() {
-        match supporter(standing, tree, net, given[antecedent], at, at) {
+        match supporter(standing, tree, net, given[antecedent], at, at, guesses) {
             Some(x) => supports.push(x),
             None => return Decision::Blocked { antecedent },
         }
@@ -133,6 +135,7 @@ pub(crate) fn is_free(
     standing: &Standing,
     trigger: u32,
     place: u32,
+    guesses: &mut Guesses,
 ) -> bool
     requires seen { IsTreeOf standing.now.present net.now.present tree.now }
     requires trigger { IsLive (forest tree.now) trigger }
@@ -143,7 +146,7 @@ pub(crate) fn is_free(
     let at = Spot::Node(trigger);
     let given = text_at(standing, place).given;
     for fact in given {
-        if !is_supported(standing, tree, net, *fact, at, at) {
+        if !is_supported(standing, tree, net, *fact, at, at, guesses) {
             return false;
         }
     }

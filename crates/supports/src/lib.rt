@@ -30,12 +30,15 @@ ghost use Rattle.supports.specs.Faults.{fault_at};
 ghost use Rattle.supports.specs.Nodes.{IsOfNode, HasNode};
 
 mod all_clips;
+mod guesses;
 mod root;
 mod rule;
 
 pub use all_clips::{class_clips, clips};
 use clipping::{Fault, by_date};
 use dist_net::DistNet;
+pub use guesses::Guesses;
+use guesses::{first_holder, is_held};
 use occ_tree::{Order, Tree};
 use premise_list::Standing;
 pub use root::add_root;
@@ -87,6 +90,7 @@ pub fn supporter(
     fact: Name,
     p: Spot,
     q: Spot,
+    guesses: &mut Guesses,
 ) -> Option<u32>
     requires seen { IsTreeOf standing.now.present net.now.present tree.now }
     requires fact { IsSome (class_in standing.now.present.premises fact) }
@@ -99,7 +103,7 @@ pub fn supporter(
         unreachable!()
     };
     let rows = tree.tokens(&class);
-    let place = by_date::holder(&Order { tree, net }, rows, fact, p, q)?;
+    let place = first_holder(&Order { tree, net }, rows, fact, p, q, guesses)?;
     Some(node_at(rows, place))
 }
 
@@ -111,6 +115,7 @@ pub fn is_supported(
     fact: Name,
     p: Spot,
     q: Spot,
+    guesses: &mut Guesses,
 ) -> bool
     requires seen { IsTreeOf standing.now.present net.now.present tree.now }
     requires fact { IsSome (class_in standing.now.present.premises fact) }
@@ -121,7 +126,14 @@ pub fn is_supported(
     let Some(class) = standing.class_of(fact) else {
         unreachable!()
     };
-    by_date::is_held(&Order { tree, net }, tree.tokens(&class), fact, p, q)
+    is_held(
+        &Order { tree, net },
+        tree.tokens(&class),
+        fact,
+        p,
+        q,
+        guesses,
+    )
 }
 
 /// The node of the first token that clips the one at `x`, none exactly where no token does. A span

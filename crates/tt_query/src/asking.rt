@@ -21,7 +21,7 @@ use occ_tree::Tree;
 use premise_list::Standing;
 use spots::Spot;
 use std::alloc::Global;
-use supports::{NodeFault, blame, supporter};
+use supports::{Guesses, NodeFault, blame, supporter};
 use tmm_model::{Answer, Blame, Bound, Cause, Name, NoMemory, Seq};
 
 /// Whether a fact holds throughout two spots: it does by its first supporter, and where none is there,
@@ -46,7 +46,8 @@ pub fn ask(
     if !is_by(tree, net, p, q) {
         return Ok(Answer::Unordered);
     }
-    match supporter(standing, tree, net, fact, p, q) {
+    let mut guesses = Guesses::make(alloc);
+    match supporter(standing, tree, net, fact, p, q, &mut guesses) {
         Some(x) => match tree.occ_of(alloc, x) {
             Ok(token) => Ok(Answer::Yes(token)),
             Err(_) => Err(NoMemory),

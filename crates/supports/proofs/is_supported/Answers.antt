@@ -4,8 +4,8 @@ use Rattle.supports.proofs.Answered.{support_is}
 use Rattle.supports.proofs.TokenRows.{rows_live}
 use Rattle.supports.proofs.is_supported.Goals as goal
 
-pub is_held-requires-clause-all_live : goal.is_held-requires-clause-all_live
-is_held-requires-clause-all_live c = rows_live c.requires.seen c.tokens.ensures.rows
+pub is_held-requires-clause-live : goal.is_held-requires-clause-live
+is_held-requires-clause-live c = rows_live c.requires.seen c.tokens.ensures.rows
 
 pub returns : goal.returns
 returns c b holds =
