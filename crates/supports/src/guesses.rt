@@ -108,11 +108,12 @@ fn gather(
     let mut count = 0;
     for i in (0..reach).rev() {
         let c = &rows[i];
+        let place = number_of(i);
         if c.fact != *fact
             && order.at_most(q, c.spot, 0)
-            && is_first_of_root(order.tree, latest, c.spot, i as u32)
+            && is_first_of_root(order.tree, latest, c.spot, place)
         {
-            set(roots, count, i as u32);
+            set(roots, count, place);
             count = count.saturating_add(1);
         }
     }
@@ -217,6 +218,14 @@ fn is_behind(order: &Order<'_>, rows: &[TokenRow<Spot>], place: u32, spot: Spot)
 {
     let place = place as usize;
     place < rows.len() && order.at_most(rows[place].spot, spot, -1)
+}
+
+// A place as it stands in the lists.
+fn number_of(place: usize) -> u32 {
+    match u32::try_from(place) {
+        Ok(number) => number,
+        Err(_) => NONE,
+    }
 }
 
 // The node right above a node.

@@ -4,7 +4,10 @@
 //! node of a tree. It stands on `occ_tree`, `clipping` and `name_lists`.
 //!
 //! Each call answers the definition for the list, over the occurrences that the nodes are. `clips`,
-//! `class_clips` and `add_root` alone take memory.
+//! `class_clips` and `add_root` alone take memory, and `supporter` and `is_supported` for guesses: they look
+//! for what cuts a token near what cut the one before, and where that takes long they find out first what
+//! may cut each (`Guesses`). So they take little more than the tokens of the class, in whatever order those
+//! that cut stand. Without memory they answer the same.
 #![tactic(auto)]
 
 ghost use Rattle.std.specs.Prelude.{◌≡◌, ◌<◌, ℕ, List, length, None, Some, IsSome, IfSome, slice_index_or};
@@ -126,14 +129,8 @@ pub fn is_supported(
     let Some(class) = standing.class_of(fact) else {
         unreachable!()
     };
-    is_held(
-        &Order { tree, net },
-        tree.tokens(&class),
-        fact,
-        p,
-        q,
-        guesses,
-    )
+    let rows = tree.tokens(&class);
+    is_held(&Order { tree, net }, rows, fact, p, q, guesses)
 }
 
 /// The node of the first token that clips the one at `x`, none exactly where no token does. A span
