@@ -16,6 +16,7 @@ use dist_net::DistNet;
 use occ_tree::Tree;
 use premise_list::Standing;
 use projection::Counter;
+use std::alloc::Global;
 use supports::Guesses;
 use tmm_model::Name;
 
@@ -37,6 +38,27 @@ pub(crate) struct Due {
 // Decides a standing rule on the kind of the event at the node `trigger`, among the nodes of the tree, and
 // counts the decision.
 pub(crate) fn decide(
+    alloc: Global,
+    standing: &Standing,
+    net: &DistNet,
+    tree: &Tree,
+    trigger: u32,
+    rule: Name,
+    counter: &mut Counter,
+) -> Decision
+    requires seen { IsTreeOf standing.now.present net.now.present tree.now }
+    requires trigger { IsLive (forest tree.now) trigger }
+    requires rule { Contains (rules_at standing.now.present (moment_at (forest tree.now) trigger)) rule }
+    ensures outcome { (b : List Moment) → Holds b (forest tree.now) → outcome_at (forest tree.now) result ≡ outcome standing.now.present (far_in standing.now.present.premises) b (moment_at (forest tree.now) trigger) rule }
+    ensures live { AreLive (forest tree.now) result }
+    ensures counted { counter.new ≡ min (counter.old + 1) 18446744073709551615 }
+{
+    let mut guesses = Guesses::make(alloc);
+    decide_with(standing, net, tree, trigger, rule, counter, &mut guesses)
+}
+
+// The same with room for guesses.
+fn decide_with(
     standing: &Standing,
     net: &DistNet,
     tree: &Tree,

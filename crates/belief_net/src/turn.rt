@@ -19,7 +19,6 @@ use dist_net::DistNet;
 use premise_list::Standing;
 use projection::Counter;
 use std::alloc::Global;
-use supports::Guesses;
 use tmm_model::{NoMemory, Stop};
 
 // A turn: the row that is due first is decided again, and its effect enters or is withdrawn where that is
@@ -84,9 +83,8 @@ fn decide_first(
     let (trigger, number) = beliefs.decisions.rows.pair(row);
     let rule = beliefs.decisions.rules.name(number);
     let before = beliefs.decisions.rows.get(row);
-    let mut guesses = Guesses::make(alloc);
     let tree = &beliefs.tree;
-    let found = decide(standing, net, tree, trigger, rule, counter, &mut guesses);
+    let found = decide(alloc, standing, net, tree, trigger, rule, counter);
     beliefs.decisions.rows.set(alloc, row, found)?;
     Ok(Some(Due {
         row,

@@ -16,6 +16,7 @@ use dist_net::DistNet;
 use occ_tree::Tree;
 use premise_list::Standing;
 use spots::Spot;
+use std::alloc::Global;
 use supports::{Guesses, rule_text, supporter};
 use tmm_model::Name;
 
@@ -45,12 +46,12 @@ pub(crate) fn origin_of(tree: &Tree, x: u32) -> Origin
 
 // The first supporters of a rule's antecedents at an event.
 pub(crate) fn supports_at(
+    alloc: Global,
     standing: &Standing,
     tree: &Tree,
     net: &DistNet,
     event: u32,
     rule: Name,
-    guesses: &mut Guesses,
 ) -> ArrayVec<u32, 4>
     requires seen { IsTreeOf standing.now.present net.now.present tree.now }
     requires holds { Holds (built standing.now.present).believed (forest tree.now) }
@@ -60,7 +61,8 @@ pub(crate) fn supports_at(
     ensures first { map (moment_at (forest tree.now)) result.items ≡ supports_at (built standing.now.present) (moment_at (forest tree.now) event) rule }
 {
     let text = rule_text(standing, rule);
-    supporters(standing, tree, net, event, text.given, guesses)
+    let mut guesses = Guesses::make(alloc);
+    supporters(standing, tree, net, event, text.given, &mut guesses)
 }
 
 // The first supporters of the facts at an event.

@@ -21,7 +21,6 @@ use occ_tree::{Ranked, Tree};
 use premise_list::Standing;
 use spots::Spot;
 use std::alloc::Global;
-use supports::Guesses;
 use tmm_model::{Bound, Name, NoMemory, Occ, PointName, QueryPoint, Seq, WhyLine};
 
 // Tells the lines of the nodes, one after the other: the orders that each needs, and then its own line.
@@ -61,8 +60,7 @@ fn tell_node<R: Listener>(
     match origin_of(tree, x) {
         Origin::Declared(name) => listener.hear(WhyLine::Premise(name)),
         Origin::Effect { event, rule } => {
-            let mut guesses = Guesses::make(alloc);
-            let supports = supports_at(standing, tree, net, event, rule, &mut guesses);
+            let supports = supports_at(alloc, standing, tree, net, event, rule);
             let nodes = supports.as_slice();
             tell_orders(alloc, standing, tree, net, event, nodes, listener)?;
             listener.hear(derived_line(alloc, tree, x, rule, event, nodes)?)

@@ -14,7 +14,6 @@ use indexmap::IndexSet;
 use occ_tree::Tree;
 use premise_list::Standing;
 use std::alloc::Global;
-use supports::Guesses;
 use tmm_model::NoMemory;
 
 // The node and all that it rests on, directly or through others.
@@ -34,11 +33,10 @@ pub(crate) fn upholders(
     let _limit = tree.limit();
     let mut found = IndexSet::new(alloc);
     add(&mut found, x)?;
-    let mut guesses = Guesses::make(alloc);
     let mut next = 0;
     while next < found.len() {
         let y = found[next];
-        add_grounds(standing, tree, net, y, &mut found, &mut guesses)?;
+        add_grounds(alloc, standing, tree, net, y, &mut found)?;
         next += 1;
     }
     Ok(found)
@@ -46,12 +44,12 @@ pub(crate) fn upholders(
 
 // Adds what a node rests on directly.
 fn add_grounds(
+    alloc: Global,
     standing: &Standing,
     tree: &Tree,
     net: &DistNet,
     x: u32,
     found: &mut IndexSet<u32>,
-    guesses: &mut Guesses,
 ) -> Result<(), NoMemory>
     requires seen { IsTreeOf standing.now.present net.now.present tree.now }
     requires holds { Holds (built standing.now.present).believed (forest tree.now) }
@@ -61,7 +59,7 @@ fn add_grounds(
     match origin_of(tree, x) {
         Origin::Declared(_) => Ok(()),
         Origin::Effect { event, rule } => {
-            let supports = supports_at(standing, tree, net, event, rule, guesses);
+            let supports = supports_at(alloc, standing, tree, net, event, rule);
             add(found, event)?;
             add_all(found, supports.as_slice())
         }

@@ -19,6 +19,7 @@ use dist_net::DistNet;
 use occ_tree::{Order, Tree};
 use premise_list::Standing;
 use spots::Spot;
+use std::alloc::Global;
 use std::marker::Model;
 use supports::{Guesses, is_supported, rule_text, supporter};
 use tmm_model::Name;
@@ -130,6 +131,26 @@ fn try_given(
 // Whether the rule at this place of the list fires on the event at the node `trigger`, where its effect is
 // due: each of its antecedents has a supporter there, whichever that is.
 pub(crate) fn is_free(
+    alloc: Global,
+    tree: &Tree,
+    net: &DistNet,
+    standing: &Standing,
+    trigger: u32,
+    place: u32,
+) -> bool
+    requires seen { IsTreeOf standing.now.present net.now.present tree.now }
+    requires trigger { IsLive (forest tree.now) trigger }
+    requires place { IsRuleAt standing.now.present place }
+    requires rule { Contains (rules_at standing.now.present (moment_at (forest tree.now) trigger)) (name_at standing.now.present place) }
+    ensures { (b : List Moment) → Holds b (forest tree.now) → result ≡ is_free standing.now.present (far_in standing.now.present.premises) b (moment_at (forest tree.now) trigger) (name_at standing.now.present place) }
+{
+    let mut guesses = Guesses::make(alloc);
+    has_supporters(tree, net, standing, trigger, place, &mut guesses)
+}
+
+// Whether each antecedent of the rule at this place of the list has a supporter at the event at the node
+// `trigger`.
+fn has_supporters(
     tree: &Tree,
     net: &DistNet,
     standing: &Standing,

@@ -29,7 +29,7 @@ use occ_tree::{Order, Tree};
 use premise_list::Standing;
 use std::alloc::Global;
 use std::cmp::Reverse;
-use supports::{Guesses, add_root};
+use supports::add_root;
 use tmm_model::{MOST_SIZE, Name, NoMemory, Premise, Refusal, Shape, Stop};
 
 /// What is believed of a standing list.
@@ -203,9 +203,8 @@ fn settle(
     ensures kept { counter.old ≤ counter.new }
 {
     counter.raise();
-    let mut guesses = Guesses::make(alloc);
     let (trigger, rule) = (pending.trigger, pending.rule);
-    if is_free(&growing.tree, net, standing, trigger, rule, &mut guesses) {
+    if is_free(alloc, &growing.tree, net, standing, trigger, rule) {
         bring_about(alloc, standing, net, rules, growing, pending)
     } else {
         Ok(())

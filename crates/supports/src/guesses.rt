@@ -197,12 +197,14 @@ fn above_cutter(order: &Order<'_>, rows: &[TokenRow<Spot>], latest: &[u32], spot
         return NONE;
     };
     let mut at = x;
+    let mut tried = NONE;
     // no way is longer
     for _ in 0..order.tree.limit() {
         let place = get(latest, at);
-        if is_behind(order, rows, place, spot) {
+        if place != tried && is_behind(order, rows, place, spot) {
             return place;
         }
+        tried = place;
         match parent_of(order.tree, at) {
             Some(parent) => at = parent,
             None => return NONE,

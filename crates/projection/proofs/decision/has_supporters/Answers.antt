@@ -10,7 +10,7 @@ use Rattle.spots.specs.Forest.{moment_at}
 use Rattle.occ_tree.specs.Places.{forest}
 use Rattle.supports.proofs.Rules.{rule_there, facts_known}
 use Rattle.projection.specs.Places.{name_at}
-use Rattle.projection.proofs.decision.is_free.Goals as goal
+use Rattle.projection.proofs.decision.has_supporters.Goals as goal
 
 pub is_supported-requires-clause-fact : goal.is_supported-requires-clause-fact
 is_supported-requires-clause-fact c =
