@@ -52,10 +52,20 @@ impl Guesses {
         }
     }
 
-    // Guesses what cuts each token of the fact before `q`.
-    fn prepare(&mut self, order: &Order<'_>, rows: &[TokenRow<Spot>], fact: &Name, q: Spot)
+    // Guesses what cuts the tokens of the fact before `q` that surely begin at or before `p`, for a search
+    // that goes on from the first of them or back from the last.
+    fn prepare(
+        &mut self,
+        order: &Order<'_>,
+        rows: &[TokenRow<Spot>],
+        fact: &Name,
+        p: Spot,
+        q: Spot,
+        back: bool,
+    )
         requires live { All (HasLiveSpots (IsKnown order.now.net.now.present (present order.now.tree.now))) rows.now }
         requires by_date { IsByDate (spot_early order.now.net.now.present (forest order.now.tree.now)) (spot_cmp order.now.net.now.present (forest order.now.tree.now)) rows.now }
+        requires p_live { IsKnown order.now.net.now.present (present order.now.tree.now) p }
         requires q_live { IsKnown order.now.net.now.present (present order.now.tree.now) q }
     {
         refill(&mut self.latest, order.tree.limit() as usize);
@@ -71,11 +81,14 @@ impl Guesses {
             &mut self.latest,
             &mut self.roots,
         );
+        let until = by_date::count_until(order, rows, p);
         guess(
             order,
+            until,
             rows,
-            reach,
             fact,
+            p,
+            back,
             self.latest.as_slice(),
             self.roots.as_slice(),
             &mut self.cutters,
@@ -140,24 +153,41 @@ fn is_first_of_root(tree: &Tree, latest: &mut Vec<u32>, spot: Spot, place: u32) 
     false
 }
 
-// Guesses what cuts each token of the fact.
+// Guesses what cuts each of the first tokens that is of the fact and surely begins at or before `p`. Where one
+// has none, it is where the search ends, unless there were more roots than are kept.
 fn guess(
     order: &Order<'_>,
+    first: usize,
     rows: &[TokenRow<Spot>],
-    reach: usize,
     fact: &Name,
+    p: Spot,
+    back: bool,
     latest: &[u32],
     roots: &[u32],
     cutters: &mut Vec<u32>,
 )
     requires live { All (HasLiveSpots (IsKnown order.now.net.now.present (present order.now.tree.now))) rows.now }
-    requires within { reach ≤ length rows.now }
+    requires p_live { IsKnown order.now.net.now.present (present order.now.tree.now) p }
+    requires within { first ≤ length rows.now }
 {
-    for i in 0..reach {
+    for n in 0..first {
+        let i = if back { first - 1 - n } else { n };
         let k = &rows[i];
-        if k.fact == *fact && k.end.is_none() {
-            set(cutters, i, cutter_of(order, rows, latest, roots, k.spot));
+        if k.fact == *fact && k.end.is_none() && order.at_most(p, k.spot, 0) {
+            let place = cutter_of(order, rows, latest, roots, k.spot);
+            if place == NONE && !is_full(roots) {
+                return;
+            }
+            set(cutters, i, place);
         }
+    }
+}
+
+// Whether there may be more roots than are kept.
+fn is_full(roots: &[u32]) -> bool {
+    match roots.get(ROOTS - 1) {
+        Some(place) => *place != NONE,
+        None => false,
     }
 }
 
@@ -272,7 +302,7 @@ pub(crate) fn first_holder(
     if let Some(place) = by_date::holder_soon(order, rows, fact, p, q, most(rows.len())) {
         return place;
     }
-    guesses.prepare(order, rows, &fact, q);
+    guesses.prepare(order, rows, &fact, p, q, false);
     by_date::holder(order, rows, guesses.cutters.as_slice(), fact, p, q)
 }
 
@@ -294,6 +324,6 @@ pub(crate) fn is_held(
     if let Some(held) = by_date::is_held_soon(order, rows, fact, p, q, most(rows.len())) {
         return held;
     }
-    guesses.prepare(order, rows, &fact, q);
+    guesses.prepare(order, rows, &fact, p, q, true);
     by_date::is_held(order, rows, guesses.cutters.as_slice(), fact, p, q)
 }
