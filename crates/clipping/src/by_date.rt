@@ -1,20 +1,22 @@
-//! The same answers over tokens in the order of their earliest dates, for a map that keeps those of each
-//! class so.
+//! The same answers over tokens in the order of their earliest dates, for a map that keeps those of
+//! each class so.
 //!
-//! The first supporter or clip in the list is the first by the order, so a search stops at the first that
-//! it finds. No search looks at a token whose date alone rules it out: what supports at a point has a date
-//! up to the point's, what clips a token has a later one than the token's, and what cuts it before a point
-//! has one up to that point's. The bounds of a search are found by halving. No call takes memory.
+//! The first supporter or clip in the list is the first by the order, so a search stops at the
+//! first that it finds. No search looks at a token whose date alone rules it out: what supports at
+//! a point has a date up to the point's, what clips a token has a later one than the token's, and
+//! what cuts it before a point has one up to that point's. The bounds of a search are found by
+//! halving. No call takes memory.
 //!
-//! `first_clipper` and `blame` cost what they pass over. `is_held` and `holder` cost, for each token of the
-//! fact that they pass over, the way from what cut the one before to what cuts this one: little where those
-//! that cut stand in the order of those that they cut. Where they stand in quite another order it comes to
-//! the square of the tokens up to the last point, but for two things:
+//! `first_clipper` and `blame` cost what they pass over. `is_held` and `holder` cost, for each
+//! token of the fact that they pass over, the way from what cut the one before to what cuts this
+//! one: little where those that cut stand in the order of those that they cut. Where they stand in
+//! quite another order it comes to the square of the tokens up to the last point, but for two
+//! things:
 //!
 //! - `holder_soon` and `is_held_soon` give up when the ways come to more than a caller allows.
-//! - `holder` and `is_held` take guesses of what cuts each token. Each is tried, and none is believed: a
-//!   right one passes over its token in one test, a wrong one costs that test. Where all are right, one
-//!   search is made, for what cuts the token that is found.
+//! - `holder` and `is_held` take guesses of what cuts each token. Each is tried, and none is
+//!   believed: a right one passes over its token in one test, a wrong one costs that test. Where
+//!   all are right, one search is made, for what cuts the token that is found.
 ghost use Rattle.std.specs.Prelude.{◌≡◌, ◌<◌, ◌≤◌, ◌+◌, ◌↔◌, ◌≤ℤ◌, ℕ, length, IsTrue, IsSome, None, true, false, IfSome, MatchOption, slice_get, slice_index_or};
 ghost use Rattle.std.specs.List.{All, list_any};
 ghost use Rattle.std.specs.Option.{ForSome};
@@ -115,7 +117,8 @@ fn count_before<S: Dated>(order: &S, tokens: &[TokenRow<S::Spot>], spot: S::Spot
     low
 }
 
-/// The place of the token that begins at a spot, none exactly where no token does. It is found by halving.
+/// The place of the token that begins at a spot, none exactly where no token does. It is found by
+/// halving.
 pub fn place_of<S: Dated>(order: &S, tokens: &[TokenRow<S::Spot>], spot: S::Spot) -> Option<usize>
     requires all_live { All (IsLive (S.live order.now)) tokens.now }
     requires by_date { IsByDate (S.date order.now) (S.order order.now) tokens.now }
@@ -131,8 +134,8 @@ pub fn place_of<S: Dated>(order: &S, tokens: &[TokenRow<S::Spot>], spot: S::Spot
     }
 }
 
-// The first place, from `low` on and before `high`, of a token that clips `k`, and begins surely at or
-// before a point where one is given.
+// The first place, from `low` on and before `high`, of a token that clips `k`, and begins surely at
+// or before a point where one is given.
 fn first_between<S: Dated>(
     order: &S,
     tokens: &[TokenRow<S::Spot>],
@@ -155,8 +158,8 @@ fn first_between<S: Dated>(
     None
 }
 
-// A place, from `low` on and before `high`, of a token that cuts `k` before `q`. It is looked for from the
-// last one back.
+// A place, from `low` on and before `high`, of a token that cuts `k` before `q`. It is looked for
+// from the last one back.
 fn last_between<S: Dated>(
     order: &S,
     tokens: &[TokenRow<S::Spot>],
@@ -179,8 +182,9 @@ fn last_between<S: Dated>(
     None
 }
 
-// Where the search for what cuts a token begins: at what cut the token before, which mostly cuts this one
-// too, or stands near what does. From there it goes the way that the tokens themselves are gone through.
+// Where the search for what cuts a token begins: at what cut the token before, which mostly cuts
+// this one too, or stands near what does. From there it goes the way that the tokens themselves are
+// gone through.
 #[derive(Clone, Copy)]
 enum Near {
     // on from this place
@@ -203,8 +207,8 @@ impl Search {
         Search { near, walked: 0 }
     }
 
-    // Counts the way to the place that was found from `low` on and before `high`, where the next search
-    // begins.
+    // Counts the way to the place that was found from `low` on and before `high`, where the next
+    // search begins.
     fn go_to(&mut self, found: usize, low: usize, high: usize) {
         let steps = steps_to(self.near, found, low, high);
         self.walked = self.walked.saturating_add(steps);
@@ -215,8 +219,8 @@ impl Search {
     }
 }
 
-// How many tokens a search goes over, from `low` on and before `high`, until it comes to the one that it
-// finds.
+// How many tokens a search goes over, from `low` on and before `high`, until it comes to the one
+// that it finds.
 fn steps_to(near: Near, found: usize, low: usize, high: usize) -> usize {
     match near {
         Near::On(place) => {
@@ -304,8 +308,9 @@ fn is_cut_as_guessed<S: Dated>(
     place < tokens.len() && cuts_before(order, &tokens[i], &tokens[place], q)
 }
 
-// Whether a token cuts the one at `i` before `q`, where the tokens that begin by the date of `q` are the
-// first `reach`. Only those behind the one at `i` can. The one that is guessed is asked first.
+// Whether a token cuts the one at `i` before `q`, where the tokens that begin by the date of `q`
+// are the first `reach`. Only those behind the one at `i` can. The one that is guessed is asked
+// first.
 fn is_cut<S: Dated>(
     order: &S,
     tokens: &[TokenRow<S::Spot>],
@@ -335,8 +340,8 @@ fn is_cut<S: Dated>(
     }
 }
 
-// Whether the token at `i` supports the fact throughout `p` to `q`, where the tokens that begin by the
-// date of `q` are the first `reach`.
+// Whether the token at `i` supports the fact throughout `p` to `q`, where the tokens that begin by
+// the date of `q` are the first `reach`.
 fn is_supporter<S: Dated>(
     order: &S,
     tokens: &[TokenRow<S::Spot>],
@@ -366,8 +371,8 @@ fn is_supporter<S: Dated>(
     }
 }
 
-// Whether a token supports the fact throughout `p` to `q`. Where a bound is given, none when the search
-// went over more tokens.
+// Whether a token supports the fact throughout `p` to `q`. Where a bound is given, none when the
+// search went over more tokens.
 fn is_held_within<S: Dated>(
     order: &S,
     tokens: &[TokenRow<S::Spot>],
@@ -398,11 +403,12 @@ fn is_held_within<S: Dated>(
     Some(false)
 }
 
-/// Whether a token supports the fact throughout `p` to `q`. Those with a date up to that of `p` are asked,
-/// from the last back to the first that does: what supports now is mostly among the last that began.
+/// Whether a token supports the fact throughout `p` to `q`. Those with a date up to that of `p` are
+/// asked, from the last back to the first that does: what supports now is mostly among the last
+/// that began.
 ///
-/// For the token at the place `i`, `guesses[i]` is the place of one that may cut it. They may be any
-/// numbers, and as few as there are: what is answered does not depend on them.
+/// For the token at the place `i`, `guesses[i]` is the place of one that may cut it. They may be
+/// any numbers, and as few as there are: what is answered does not depend on them.
 pub fn is_held<S: Dated>(
     order: &S,
     tokens: &[TokenRow<S::Spot>],
@@ -423,8 +429,8 @@ pub fn is_held<S: Dated>(
     }
 }
 
-/// What `is_held` answers without guesses, where that is found soon: none where the search for what cuts
-/// tokens went over more than `most` tokens, of which nothing follows.
+/// What `is_held` answers without guesses, where that is found soon: none where the search for what
+/// cuts tokens went over more than `most` tokens, of which nothing follows.
 pub fn is_held_soon<S: Dated>(
     order: &S,
     tokens: &[TokenRow<S::Spot>],
@@ -442,8 +448,8 @@ pub fn is_held_soon<S: Dated>(
     is_held_within(order, tokens, &[], fact, p, q, Some(most))
 }
 
-// The place of the first token that supports the fact throughout `p` to `q`. Where a bound is given, none
-// when the search went over more tokens.
+// The place of the first token that supports the fact throughout `p` to `q`. Where a bound is
+// given, none when the search went over more tokens.
 fn holder_within<S: Dated>(
     order: &S,
     tokens: &[TokenRow<S::Spot>],
@@ -475,10 +481,11 @@ fn holder_within<S: Dated>(
 }
 
 /// The place of the first token that supports the fact throughout `p` to `q`, none exactly where no
-/// token does. Those with a date up to that of `p` are asked, from the first on to the first that does.
+/// token does. Those with a date up to that of `p` are asked, from the first on to the first that
+/// does.
 ///
-/// For the token at the place `i`, `guesses[i]` is the place of one that may cut it. They may be any
-/// numbers, and as few as there are: what is answered does not depend on them.
+/// For the token at the place `i`, `guesses[i]` is the place of one that may cut it. They may be
+/// any numbers, and as few as there are: what is answered does not depend on them.
 pub fn holder<S: Dated>(
     order: &S,
     tokens: &[TokenRow<S::Spot>],
@@ -499,8 +506,8 @@ pub fn holder<S: Dated>(
     }
 }
 
-/// What `holder` answers without guesses, where that is found soon: none where the search for what cuts
-/// tokens went over more than `most` tokens, of which nothing follows.
+/// What `holder` answers without guesses, where that is found soon: none where the search for what
+/// cuts tokens went over more than `most` tokens, of which nothing follows.
 pub fn holder_soon<S: Dated>(
     order: &S,
     tokens: &[TokenRow<S::Spot>],
@@ -518,7 +525,8 @@ pub fn holder_soon<S: Dated>(
     holder_within(order, tokens, &[], fact, p, q, Some(most))
 }
 
-// The place of the first token that clips `k`, and begins surely at or before a point where one is given.
+// The place of the first token that clips `k`, and begins surely at or before a point where one is
+// given.
 fn first_clip<S: Dated>(
     order: &S,
     tokens: &[TokenRow<S::Spot>],
@@ -552,8 +560,9 @@ pub fn first_clipper<S: Dated>(order: &S, tokens: &[TokenRow<S::Spot>], k: usize
     }
 }
 
-/// Why the token at `k` does not support its fact throughout `p` to `q`. The caller knows that it does
-/// not. A clip is looked for among those with a later date than the token, up to the date of `q`.
+/// Why the token at `k` does not support its fact throughout `p` to `q`. The caller knows that it
+/// does not. A clip is looked for among those with a later date than the token, up to the date of
+/// `q`.
 pub fn blame<S: Dated>(
     order: &S,
     tokens: &[TokenRow<S::Spot>],

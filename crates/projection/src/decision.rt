@@ -148,8 +148,8 @@ pub(crate) fn is_free(
     has_supporters(tree, net, standing, trigger, place, &mut guesses)
 }
 
-// Whether each antecedent of the rule at this place of the list has a supporter at the event at the node
-// `trigger`.
+// Whether each antecedent of the rule at this place of the list has a supporter at the event of the
+// node `trigger`.
 fn has_supporters(
     tree: &Tree,
     net: &DistNet,

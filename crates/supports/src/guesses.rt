@@ -1,10 +1,10 @@
-// The first supporter among the tokens of a class, with guesses of what cuts each token where the search
-// would take long without.
+// The first supporter among the tokens of a class, with guesses of what cuts each token where the
+// search would take long without.
 //
-// A token `c` surely begins after a token `k` exactly where it does by way of the last node above both, or
-// of its own root where there is none. So of the tokens below a node it is the latest that tells, and for
-// each `k` the nodes on its way up are asked, and then the other roots. Nothing here is believed: the search
-// tries each guess.
+// A token `c` surely begins after a token `k` exactly where it does by way of the last node above
+// both, or of its own root where there is none. So of the tokens below a node it is the latest that
+// tells, and for each `k` the nodes on its way up are asked, and then the other roots. Nothing here
+// is believed: the search tries each guess.
 ghost use Rattle.std.specs.Prelude.{◌≡◌, ◌≤◌, ℕ, length};
 ghost use Rattle.std.specs.List.{All, list_any};
 ghost use Rattle.std.specs.Ordering.{on};
@@ -24,17 +24,17 @@ use std::alloc::Global;
 use tmm_model::{Name, Sure, TokenRow};
 
 // In the place of a token where there is none.
-const NONE: u32 = 4_294_967_295;
+const NONE: u32 = u32::MAX;
 
 // Under how many roots tokens are asked that stand below another one.
 const ROOTS: usize = 256;
 
-/// Room for guesses of what cuts the tokens of a class. It is taken where a search takes long without
-/// them. Without memory the answers are the same, and may take long.
+/// Room for guesses of what cuts the tokens of a class. It is taken where a search takes long
+/// without them. Without memory the answers are the same, and may take long.
 #[derive(Drop)]
 pub struct Guesses {
-    // tokens stand in it by their places in the class: under each node, the latest of those at it and below
-    // it that may cut
+    // tokens stand in it by their places in the class: under each node, the latest of those at it
+    // and below it that may cut
     latest: Vec<u32>,
     // the latest under each of some roots
     roots: Vec<u32>,
@@ -52,8 +52,8 @@ impl Guesses {
         }
     }
 
-    // Guesses what cuts the tokens of the fact before `q` that surely begin at or before `p`, for a search
-    // that goes on from the first of them or back from the last.
+    // Guesses what cuts the tokens of the fact before `q` that surely begin at or before `p`, for a
+    // search that goes on from the first of them or back from the last.
     fn prepare(
         &mut self,
         order: &Order<'_>,
@@ -102,9 +102,9 @@ fn refill(list: &mut Vec<u32>, places: usize) {
     let _ = list.resize(places, NONE);
 }
 
-// Writes under each node the latest of the tokens at it and below it that are of another fact and surely
-// begin at or before `q`. They are gone through from the last back, so the first to come to a node is its
-// latest. Those that come to a root are kept, of as many as there is place for.
+// Writes under each node the latest of the tokens at it and below it that are of another fact and
+// surely begin at or before `q`. They are gone through from the last back, so the first to come to
+// a node is its latest. Those that come to a root are kept, of as many as there is place for.
 fn gather(
     order: &Order<'_>,
     rows: &[TokenRow<Spot>],
@@ -132,8 +132,8 @@ fn gather(
     }
 }
 
-// Writes that the token at a spot is the latest under each node from its own up to the first that has one
-// already; whether there is none up to the root.
+// Writes that the token at a spot is the latest under each node from its own up to the first that
+// has one already; whether there is none up to the root.
 fn is_first_of_root(tree: &Tree, latest: &mut Vec<u32>, spot: Spot, place: u32) -> bool {
     let Spot::Node(x) = spot else {
         return false;
@@ -153,8 +153,8 @@ fn is_first_of_root(tree: &Tree, latest: &mut Vec<u32>, spot: Spot, place: u32) 
     false
 }
 
-// Guesses what cuts each of the first tokens that is of the fact and surely begins at or before `p`. Where one
-// has none, it is where the search ends, unless there were more roots than are kept.
+// Guesses what cuts each of the first tokens that is of the fact and surely begins at or before
+// `p`. Where one has none, it is where the search ends, unless there were more roots than are kept.
 fn guess(
     order: &Order<'_>,
     first: usize,
@@ -191,8 +191,8 @@ fn is_full(roots: &[u32]) -> bool {
     }
 }
 
-// The place of a token that surely begins after a spot: the latest under a node on the way up from it, or
-// under another root.
+// The place of a token that surely begins after a spot: the latest under a node on the way up from
+// it, or under another root.
 fn cutter_of(
     order: &Order<'_>,
     rows: &[TokenRow<Spot>],

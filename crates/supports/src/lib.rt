@@ -1,13 +1,13 @@
 //! Which believed token supports a fact, what clips a token, and why a token is no supporter: what
-//! `clipping` answers over the tokens of a tree, told of the occurrences of the standing list; what a
-//! standing rule says, whose antecedents want supporters; and what a premise declares to occur, as a
-//! node of a tree. It stands on `occ_tree`, `clipping` and `name_lists`.
+//! `clipping` answers over the tokens of a tree, told of the occurrences of the standing list; what
+//! a standing rule says, whose antecedents want supporters; and what a premise declares to occur,
+//! as a node of a tree. It stands on `occ_tree`, `clipping` and `name_lists`.
 //!
 //! Each call answers the definition for the list, over the occurrences that the nodes are. `clips`,
-//! `class_clips` and `add_root` alone take memory, and `supporter` and `is_supported` for guesses: they look
-//! for what cuts a token near what cut the one before, and where that takes long they find out first what
-//! may cut each (`Guesses`). So they take little more than the tokens of the class, in whatever order those
-//! that cut stand. Without memory they answer the same.
+//! `class_clips` and `add_root` alone take memory, and `supporter` and `is_supported` for guesses:
+//! they look for what cuts a token near what cut the one before, and where that takes long they
+//! find out first what may cut each (`Guesses`). So they take little more than the tokens of the
+//! class, in whatever order those that cut stand. Without memory they answer the same.
 #![tactic(auto)]
 
 ghost use Rattle.std.specs.Prelude.{◌≡◌, ◌<◌, ℕ, List, length, None, Some, IsSome, IfSome, slice_index_or};
@@ -110,7 +110,8 @@ pub fn supporter(
     Some(node_at(rows, place))
 }
 
-/// Whether a token supports the fact throughout `p` to `q`. That is found sooner than which is the first.
+/// Whether a token supports the fact throughout `p` to `q`. That is found sooner than which is the
+/// first.
 pub fn is_supported(
     standing: &Standing,
     tree: &Tree,
