@@ -8,7 +8,6 @@ ghost use Rattle.just_check.specs.Origins.{entry_at, node_under, Knows, IsFoundA
 
 use indexmap::IndexMap;
 use std::alloc::Global;
-use supports::Guesses;
 use tmm_model::{Name, NoMemory};
 
 /// What an occurrence comes from: the event that brings it about, none for what is declared, and the name
@@ -25,8 +24,6 @@ pub(crate) struct Origin {
 #[derive(Drop)]
 pub(crate) struct Expected {
     nodes: IndexMap<Origin, Option<u32>>,
-    /// Room to find out what fires.
-    pub guesses: Guesses,
 }
 
 impl Expected {
@@ -36,7 +33,6 @@ impl Expected {
     {
         Expected {
             nodes: IndexMap::new(alloc),
-            guesses: Guesses::make(alloc),
         }
     }
 

@@ -72,12 +72,12 @@ impl RulesByKind {
 // Whether the rule fires at the event of a node: its effect begins by the horizon, and each antecedent has
 // a supporter there.
 pub(crate) fn does_fire(
+    alloc: Global,
     standing: &Standing,
     net: &DistNet,
     tree: &Tree,
     x: u32,
     rule: Name,
-    guesses: &mut Guesses,
 ) -> bool
     requires seen { IsTreeOf standing.now.present net.now.present tree.now }
     requires live { IsLive (forest tree.now) x }
@@ -86,7 +86,7 @@ pub(crate) fn does_fire(
 {
     let text = rule_text(standing, rule);
     is_in_time(standing.horizon(), Order { tree, net }.early(x), text.lo)
-        && is_free(standing, net, tree, x, rule, text.given, guesses)
+        && is_free(alloc, standing, net, tree, x, rule, text.given)
 }
 
 // Whether what begins so long after this date begins by the horizon.
@@ -100,6 +100,26 @@ fn is_in_time(horizon: u32, early: i64, delay: i64) -> bool
 
 // Whether each antecedent of the rule has a supporter at the event of a node; these are the facts.
 fn is_free(
+    alloc: Global,
+    standing: &Standing,
+    net: &DistNet,
+    tree: &Tree,
+    x: u32,
+    rule: Name,
+    given: &[Name],
+) -> bool
+    requires seen { IsTreeOf standing.now.present net.now.present tree.now }
+    requires live { IsLive (forest tree.now) x }
+    requires rule { Contains (rules_at standing.now.present (moment_at (forest tree.now) x)) rule }
+    requires given { given.now ≡ (rule_of standing.now.present rule).given }
+    ensures { (b : List Moment) → Holds b (forest tree.now) → result ≡ is_free standing.now.present (far_in standing.now.present.premises) b (moment_at (forest tree.now) x) rule }
+{
+    let mut guesses = Guesses::make(alloc);
+    has_supporters(standing, net, tree, x, rule, given, &mut guesses)
+}
+
+// The same with room for guesses.
+fn has_supporters(
     standing: &Standing,
     net: &DistNet,
     tree: &Tree,

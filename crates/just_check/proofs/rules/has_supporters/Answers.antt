@@ -9,7 +9,7 @@ use Rattle.tmm_model.specs.Sorts.{class_in}
 use Rattle.spots.specs.Forest.{moment_at}
 use Rattle.occ_tree.specs.Places.{forest}
 use Rattle.supports.proofs.Rules.{rule_there, facts_known}
-use Rattle.just_check.proofs.rules.is_free.Goals as goal
+use Rattle.just_check.proofs.rules.has_supporters.Goals as goal
 
 pub is_supported-requires-clause-fact : goal.is_supported-requires-clause-fact
 is_supported-requires-clause-fact c =
