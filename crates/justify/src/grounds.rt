@@ -18,7 +18,8 @@ use dist_net::DistNet;
 use occ_tree::Tree;
 use premise_list::Standing;
 use spots::Spot;
-use supports::{rule_text, supporter};
+use std::alloc::Global;
+use supports::{Guesses, rule_text, supporter};
 use tmm_model::{MOST_EXCEPTIONS, Name};
 
 /// What brings a node about.
@@ -47,6 +48,7 @@ pub(crate) fn origin_of(tree: &Tree, x: u32) -> Origin
 
 // The first supporters of a rule's antecedents at an event.
 pub(crate) fn supports_at(
+    alloc: Global,
     standing: &Standing,
     tree: &Tree,
     net: &DistNet,
@@ -61,7 +63,8 @@ pub(crate) fn supports_at(
     ensures first { map (moment_at (forest tree.now)) result.items ≡ supports_at (built standing.now.present) (moment_at (forest tree.now) event) rule }
 {
     let text = rule_text(standing, rule);
-    supporters(standing, tree, net, event, text.given)
+    let mut guesses = Guesses::make(alloc);
+    supporters(standing, tree, net, event, text.given, &mut guesses)
 }
 
 // The exceptions of a standing rule.
@@ -81,6 +84,7 @@ fn supporters(
     net: &DistNet,
     event: u32,
     facts: &[Name],
+    guesses: &mut Guesses,
 ) -> ArrayVec<u32, 4>
     requires seen { IsTreeOf standing.now.present net.now.present tree.now }
     requires holds { Holds (built standing.now.present).believed (forest tree.now) }
@@ -93,7 +97,7 @@ fn supporters(
     let at = Spot::Node(event);
     let mut found = ArrayVec::new();
     for fact in facts {
-        match supporter(standing, tree, net, *fact, at, at) {
+        match supporter(standing, tree, net, *fact, at, at, guesses) {
             Some(x) => found.push(x),
             None => {}
         }

@@ -61,7 +61,7 @@ fn tell_node<R: Listener>(
     match origin_of(tree, x) {
         Origin::Declared(name) => listener.hear(WhyLine::Premise(name)),
         Origin::Effect { event, rule } => {
-            let supports = supports_at(standing, tree, net, event, rule);
+            let supports = supports_at(alloc, standing, tree, net, event, rule);
             let nodes = supports.as_slice();
             tell_orders(alloc, standing, tree, net, event, nodes, listener)?;
             let exceptions = exceptions_of(standing, rule);

@@ -6,7 +6,7 @@ use Rattle.tmm_model.specs.Standing.{far_in}
 use Rattle.spots.specs.Forest.{moment_at}
 use Rattle.spots.specs.Seen.{Holds}
 use Rattle.occ_tree.specs.Places.{forest}
-use Rattle.just_check.proofs.rules.is_free.Given as goal
+use Rattle.just_check.proofs.rules.is_free_with.Given as goal
 
 abbrev pub invariant-loop-fact : goal.invariant-loop-fact
 invariant-loop-fact l = (b : List Moment) → Holds b (forest l.tree)

@@ -2,7 +2,7 @@ use Rattle.std.proofs.Common.{◌∙◌, take, length, map, sym, ap}
 use Rattle.belief_theory.specs.Outcomes.{fires}
 use Rattle.spots.specs.Forest.{moment_at}
 use Rattle.occ_tree.specs.Places.{forest}
-use Rattle.belief_net.proofs.deciding.decide.Goals as goal
+use Rattle.belief_net.proofs.deciding.decide_with.Goals as goal
 
 pub returns-in-Fires-clause-outcome : goal.returns-in-Fires-clause-outcome
 returns-in-Fires-clause-outcome c b holds =

@@ -12,7 +12,7 @@ use Rattle.spots.specs.Forest.{moment_at}
 use Rattle.occ_tree.specs.Places.{forest}
 use Rattle.supports.proofs.FirstFacts.{told_none}
 use Rattle.supports.proofs.Rules.{rule_there, facts_known, exceptions_known}
-use Rattle.just_check.proofs.rules.is_free.Goals as goal
+use Rattle.just_check.proofs.rules.is_free_with.Goals as goal
 
 pub is_supported-requires-clause-fact : goal.is_supported-requires-clause-fact
 is_supported-requires-clause-fact c =
