@@ -101,8 +101,8 @@ pub fn decide(
     try_facts(tree, net, standing, trigger, text.given, text.exceptions)
 }
 
-// The first supporters of the antecedents at the event, or the first of these without one, or else the first
-// exception with one.
+// The first supporters of the antecedents at the event, or the first of these without one, or else the
+// first exception with one.
 fn try_facts(
     tree: &Tree,
     net: &DistNet,

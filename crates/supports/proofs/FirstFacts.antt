@@ -1,6 +1,6 @@
 -- The first of some facts that has a supporter, found fact by fact.
-use Rattle.std.proofs.Common.{◌≡◌, ◌∙◌, ℕ, suc, ◌+◌, ◌<◌, List, [], ◌∷◌, ◌++◌, map, take, drop, length, get_or, refl, sym, ap, arith}
-use Rattle.std.specs.Prelude.{Option, Some, None}
+use Rattle.std.proofs.Common.{◌≡◌, ◌∙◌, ℕ, suc, ◌+◌, ◌<◌, Bool, true, false, not, List, [], ◌∷◌, ◌++◌, map, take, drop, length, get_or, refl, sym, ap, arith}
+use Rattle.std.specs.Prelude.{Option, Some, None, is_some, is_none}
 use Rattle.std.specs.Option.{option_map}
 use Rattle.std.proofs.Math.Seq.{drop-cons}
 use Rattle.std.proofs.lemmas.List.{length-map, length-take-le, map-append, take-append-drop}
@@ -41,6 +41,13 @@ module _ {A : Type 0} (h : A → Option Moment) (facts : List A) (i : ℕ) (fact
           ∙ ap (λ o. map h (take i facts) ++ o ∷ map h (drop (suc i) facts)) e
 
       by : (o : Option Moment) → h fact ≡ o → (o ≡ None → ⊥) → Some i ≡ first_with (map h facts)
-      by None e no = absurd (no refl)
-      by (Some k) e no =
+      by None e has = absurd (has refl)
+      by (Some k) e has =
           sym (ap first_with (whole k e) ∙ with_some (map h (take i facts)) (map h (drop (suc i) facts)) k before ∙ ap Some (length-map (take i facts) h ∙ length-take-le i facts (omega arith)))
+
+-- a call that says whether one is there tells so whether none is
+pub told_none : (found : Option ℕ) (none : Bool) → is_some found ≡ not none → none ≡ is_none found
+told_none None true e = refl
+told_none None false e = cc
+told_none (Some place) true e = cc
+told_none (Some place) false e = refl

@@ -50,20 +50,22 @@ read_known s sound r (p, there, is) = subst (λ o. All (λ fact. IsSome (class_i
     by (Dist name from to lo hi) stands fact at = absurd at
     by (Protect name fact_ from to) stands fact at = absurd at
 
+-- the fact has a class in the list
+abbrev IsKnown : Standing → List ℕ → Type 0
+IsKnown s fact = IsSome (class_in s.premises fact)
+
 -- so has each antecedent
 pub facts_known : (s : Standing) → IsSound s → (r : List ℕ) → IsRuleOf s r → All (λ fact. IsSome (class_in s.premises fact)) (rule_of s r).given
 facts_known s sound r is =
-    let known = λ fact. IsSome (class_in s.premises fact) in
     let given = (rule_of s r).given in
     let exceptions = (rule_of s r).exceptions in
-    All-from_contains known given (λ fact at.
-    All-contains known (given ++ exceptions) fact (read_known s sound r is) (Contains-from_In (given ++ exceptions) fact (In-left given exceptions fact (In-from_Contains given fact at))))
+    All-from_contains (IsKnown s) given (λ fact at.
+    All-contains (IsKnown s) (given ++ exceptions) fact (read_known s sound r is) (Contains-from_In (given ++ exceptions) fact (In-left given exceptions fact (In-from_Contains given fact at))))
 
 -- and each exception
 pub exceptions_known : (s : Standing) → IsSound s → (r : List ℕ) → IsRuleOf s r → All (λ fact. IsSome (class_in s.premises fact)) (rule_of s r).exceptions
 exceptions_known s sound r is =
-    let known = λ fact. IsSome (class_in s.premises fact) in
     let given = (rule_of s r).given in
     let exceptions = (rule_of s r).exceptions in
-    All-from_contains known exceptions (λ fact at.
-    All-contains known (given ++ exceptions) fact (read_known s sound r is) (Contains-from_In (given ++ exceptions) fact (In-right given exceptions fact (In-from_Contains exceptions fact at))))
+    All-from_contains (IsKnown s) exceptions (λ fact at.
+    All-contains (IsKnown s) (given ++ exceptions) fact (read_known s sound r is) (Contains-from_In (given ++ exceptions) fact (In-right given exceptions fact (In-from_Contains exceptions fact at))))

@@ -1,7 +1,8 @@
 //! Which believed token supports a fact, what clips a token, and why a token is no supporter: what
 //! `clipping` answers over the tokens of a tree, told of the occurrences of the standing list; what a
-//! standing rule says, whose antecedents want supporters, and whose exceptions none; and what a premise declares to occur, as a
-//! node of a tree. It stands on `occ_tree`, `clipping` and `name_lists`.
+//! standing rule says, whose antecedents want supporters and whose exceptions want none; and what a
+//! premise declares to occur, as a node of a tree. It stands on `occ_tree`, `clipping` and
+//! `name_lists`.
 //!
 //! Each call answers the definition for the list, over the occurrences that the nodes are. `clips`,
 //! `class_clips` and `add_root` alone take memory.
@@ -125,8 +126,8 @@ pub fn is_supported(
     by_date::is_held(&Order { tree, net }, tree.tokens(&class), fact, p, q)
 }
 
-/// The place of the first of these facts that a token supports at a point, none exactly where no token
-/// supports any.
+/// The place of the first of these facts that a token supports at a point, none exactly where no
+/// token supports any.
 pub fn first_supported(
     standing: &Standing,
     tree: &Tree,

@@ -6,7 +6,8 @@ ghost use Rattle.supports.specs.Rules.{IsRuleOf};
 use premise_list::Standing;
 use tmm_model::{Name, Premise};
 
-/// What a rule says of when its effect begins, in whole time units, its antecedents and its exceptions.
+/// What a rule says of when its effect begins, in whole time units, its antecedents and its
+/// exceptions.
 #[derive(Drop)]
 pub struct RuleText<'a> {
     /// Its least delay.

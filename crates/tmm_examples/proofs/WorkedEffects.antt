@@ -9,7 +9,7 @@ use Rattle.tmm_model.specs.Answers.{holds, clip, ask, size}
 use Rattle.tmm_model.specs.Moments.{Moment, early}
 use Rattle.tmm_model.specs.Standing.{Standing}
 use Rattle.belief_theory.proofs.FarTables.{of_map}
-use Rattle.tmm_examples.proofs.WorkedScripts.{within, within_two, bolted_door, root, effect, rule, push, two_events, lamp, shut_at_five, push_at_ten}
+use Rattle.tmm_examples.proofs.WorkedScripts.{within, within_two, bolted_door, dated, root, effect, rule, push, two_events, lamp, shut_at_five, push_at_ten}
 
 abbrev k : Moment
 k = root (codes "k")

@@ -1,4 +1,4 @@
-use Rattle.std.proofs.Common.{◌≡◌, ◌∙◌, true, false, sym, subst, ap, rules, w64}
+use Rattle.std.proofs.Common.{◌≡◌, ◌∙◌, true, false, sym, subst, rules, w64}
 use Rattle.std.specs.Prelude.{IsSome, is_none, FitsSigned}
 use Rattle.std.specs.List.{All}
 use Rattle.tmm_model.specs.Beliefs.{due}

@@ -10,6 +10,7 @@ use Rattle.belief_theory.proofs.Outcomes.{is_open}
 use Rattle.tmm_model.specs.Sorts.{class_in}
 use Rattle.spots.specs.Forest.{moment_at}
 use Rattle.occ_tree.specs.Places.{forest}
+use Rattle.supports.proofs.FirstFacts.{told_none}
 use Rattle.supports.proofs.Rules.{rule_there, facts_known, exceptions_known}
 use Rattle.projection.specs.Places.{name_at}
 use Rattle.projection.proofs.decision.is_free.Goals as goal
@@ -57,5 +58,5 @@ returns c b holds =
     let test = supported s (far_in s.premises) b t in
     let given = c.text_at-text.result.given.now in
     let held = sym (c.loop-fact.invariant b holds) ∙ ap (list_all test) (take_all c.loop-fact.fact-index given (omega (arith, c.loop-fact-test.false)) ∙ c.text_at-text.ensures.given) in
-    let open_ = ap is_none (c.first_supported.ensures b holds) ∙ is_open s (far_in s.premises) b t c.text_at-text.result.exceptions.now ∙ ap (λ l. not (list_any test l)) c.text_at-text.ensures.exceptions in
+    let open_ = told_none c.first_supported.result c.is_none.result c.is_none.ensures ∙ ap is_none (c.first_supported.ensures b holds) ∙ is_open s (far_in s.premises) b t c.text_at-text.result.exceptions.now ∙ ap (λ l. not (list_any test l)) c.text_at-text.ensures.exceptions in
     λ i. held i && open_ i

@@ -34,22 +34,22 @@ loop-antecedent-preserved c =
           (c.loop-antecedent.invariant.found b holds) (omega arith) c.index-given-antecedent.is (c.in-Some.ensures.first b holds));
     }
 
-pub returns-in-Some-2-clause-outcome : goal.returns-in-Some-2-clause-outcome
-returns-in-Some-2-clause-outcome c b holds =
+pub returns-in-Some-first_supported-clause-outcome : goal.returns-in-Some-first_supported-clause-outcome
+returns-in-Some-first_supported-clause-outcome c b holds =
     let s = c.args.standing.now.present in
     let f = forest c.args.tree.now in
     let t = moment_at f c.args.trigger in
     let against = map (λ fact. holder s (far_in s.premises) b fact t t) c.args.exceptions.now in
-    is_barred (map (moment_at f) c.loop-antecedent.supports.items) against c.in-Some-2.exception (c.in-Some-2.ensures b holds)
+    is_barred (map (moment_at f) c.loop-antecedent.supports.items) against c.in-Some-first_supported.exception (c.in-Some-first_supported.ensures b holds)
     ∙ tried_unblocked (moment_at f) (λ fact. holder s (far_in s.premises) b fact t t) c.loop-antecedent.supports.items c.args.given.now against
     (c.loop-antecedent.invariant.found b holds ∙ ap (map (λ fact. holder s (far_in s.premises) b fact t t)) (take_all c.loop-antecedent.antecedent c.args.given.now (omega arith)))
 
-pub returns-in-None-2-clause-outcome : goal.returns-in-None-2-clause-outcome
-returns-in-None-2-clause-outcome c b holds =
+pub returns-in-None-first_supported-clause-outcome : goal.returns-in-None-first_supported-clause-outcome
+returns-in-None-first_supported-clause-outcome c b holds =
     let s = c.args.standing.now.present in
     let f = forest c.args.tree.now in
     let t = moment_at f c.args.trigger in
     let against = map (λ fact. holder s (far_in s.premises) b fact t t) c.args.exceptions.now in
-    is_fired (map (moment_at f) c.loop-antecedent.supports.items) against (c.in-None-2.ensures b holds)
+    is_fired (map (moment_at f) c.loop-antecedent.supports.items) against (c.in-None-first_supported.ensures b holds)
     ∙ tried_unblocked (moment_at f) (λ fact. holder s (far_in s.premises) b fact t t) c.loop-antecedent.supports.items c.args.given.now against
     (c.loop-antecedent.invariant.found b holds ∙ ap (map (λ fact. holder s (far_in s.premises) b fact t t)) (take_all c.loop-antecedent.antecedent c.args.given.now (omega arith)))
