@@ -199,7 +199,7 @@ module _ (old : Standing) (edit : Edit) (net : Net) (b e : BeliefNet) (all : Dep
           rule_same = text old edit sound_old sound_new (moment_at g row.value.trigger) r (row_stood i row at) (row_stands i row at)
 
           reads : read_by (rule_of old r) ≡ read_by (rule_of new r)
-          reads = ap read_by rule_same
+          reads = ap (λ (z : RuleText). read_by z) rule_same
 
           same : (fact : List ℕ) → In fact (read_by (rule_of old r)) → place_in e.decisions.classes (class_of new fact) ≡ place_in e.decisions.classes (class_of old fact)
           same fact there = ap (place_in e.decisions.classes)

@@ -56,7 +56,7 @@ module _ (list : Standing) (d : Decisions) (under : AreUnder list d) (listed : A
         → (read_by (rule_of list name) ≡ [] → Marks s (table rows) (IsOfRuleAt (table rows) n events s) mid new)
         → ((read_by (rule_of list name) ≡ [] → ⊥) → new ≡ mid)
         → Wakes s (table_of d) (λ i row. MovesFrom moves (forest s) row.value.trigger) (KeepsFirst (n + 1)) old new
-    unread_next events rows old mid new same_rows touched first marks same = by read_by (rule_of list name) refl
+    unread_next events rows old mid new same_rows touched first marks same = by (read_by (rule_of list name)) refl
       where
         -- what makes no pair with `start` keeps its date
         dated : (x : ℕ) → is_event_of events s x ≡ false → has_pair moves.pairs.items (base_of (forest s) (Node x)) 0 ≡ false
