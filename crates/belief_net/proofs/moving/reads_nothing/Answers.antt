@@ -12,7 +12,8 @@ some_read (fact ∷ given) exceptions some none = cc
 pub returns-else-is_empty-clause-something : goal.returns-else-is_empty-clause-something
 returns-else-is_empty-clause-something c = λ some none.
     let s = c.args.standing.now.present in
-    let (given, exceptions) = (c.in-Some-Rule.given, c.in-Some-Rule.unless_facts) in
+    let given = c.in-Some-Rule.given in
+    let exceptions = c.in-Some-Rule.unless_facts in
     let rule = Rule c.in-Some-Rule.field-0-0 c.in-Some-Rule.field-0-1 c.in-Some-Rule.field-0-2 c.in-Some-Rule.field-0-3 c.in-Some-Rule.field-0-4 given exceptions in
     let stands : premise_in s.premises c.args.rule ≡ Some rule = sym c.in-Some-Rule.ensures ∙ ap Some c.in-Some-Rule.field-0-is in
     some_read given.items exceptions.items (sym c.is_empty.ensures ∙ some) (ap (λ o. read_by (as_rule o)) (sym stands) ∙ none)
