@@ -13,9 +13,9 @@ pub add_row-requires-clause-read : goal.add_row-requires-clause-read
 add_row-requires-clause-read c =
     let s = c.args.standing.now.present in
     let there = ap (λ p. premise_in s.premises (name_of p)) (sym c.in-Rule.is) ∙ found s.premises c.requires.sound.well_named c.args.premise.now c.requires.stands in
-    c.as_slice-3.ensures.value
+    c.as_slice-in-Rule-2.ensures.value
     ∙ c.facts_read-read.ensures
-    ∙ (λ i. c.as_slice.ensures.value i ++ c.as_slice-2.ensures.value i)
+    ∙ (λ i. c.as_slice.ensures.value i ++ c.as_slice-in-Rule.ensures.value i)
     ∙ ap (λ p. read_by (as_rule (Some p))) (sym c.in-Rule.is)
     ∙ ap (λ o. read_by (as_rule o)) (sym there)
 
