@@ -59,8 +59,8 @@ returns-in-Upgrade-clause-network c =
 pub returns-in-Upgrade-clause-erased : goal.returns-in-Upgrade-clause-erased
 returns-in-Upgrade-clause-erased c =
     let old = c.args.standing.now.present in
-    subst (λ (e : Edit). IsLeftOut old (next_list old e) c.make-2.result.items) (sym c.in-Upgrade.is)
-    (c.make-2.ensures ∙ sym (none_gone old.premises old.premises c.requires.network.sound.well_named (λ q at. at)))
+    subst (λ (e : Edit). IsLeftOut old (next_list old e) c.make-in-Upgrade.result.items) (sym c.in-Upgrade.is)
+    (c.make-in-Upgrade.ensures ∙ sym (none_gone old.premises old.premises c.requires.network.sound.well_named (λ q at. at)))
 
 pub returns-in-Upgrade-clause-dates : goal.returns-in-Upgrade-clause-dates
 returns-in-Upgrade-clause-dates c =
