@@ -137,7 +137,7 @@ one_by_one F [] h = tt
 one_by_one F (p ∷ ps) h = (h p (inl refl), one_by_one F ps (λ q at. h q (inr at)))
 
 upgrade_reads : ReadsLine One (spaced (edit_words Upgrade)) (Change Upgrade)
-upgrade_reads = (words-spaced (edit_words Upgrade) (((λ e. cc), refl), ((λ e. cc), refl), tt), tt, tt)
+upgrade_reads = (words-spaced (edit_words Upgrade) (((λ e. cc), refl), (((λ e. cc), refl), tt)), tt, tt)
 
 -- the line that opens the version comes first, where there is one
 opening_accepted : (v : Version) (edits : List Edit) (s : Standing) → AcceptsAll (nothing_of v) edits s → AcceptsAll empty_list (version_edits v ++ edits) s
