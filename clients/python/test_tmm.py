@@ -168,6 +168,17 @@ class ParseTest(unittest.TestCase):
             ),
         )
 
+    def test_why_with_exceptions(self) -> None:
+        self.assertEqual(
+            reply_of("2 why\n  e/r by r on e with held unless fast barred\n  e/s by s on e unless fast\n"),
+            tmm.Why(
+                (
+                    tmm.EffectReason("e/r", "r", "e", ("held",), ("fast", "barred")),
+                    tmm.EffectReason("e/s", "s", "e", (), ("fast",)),
+                )
+            ),
+        )
+
     def test_why_of_names_that_are_words_of_a_reason(self) -> None:
         self.assertEqual(
             reply_of("2 why\n  premise order\n  order premise by 0\n  premise/order by order on premise\n"),
@@ -205,6 +216,9 @@ class ParseTest(unittest.TestCase):
             tmm.Dump(1000, ("class door open shut", "dist h start held 0 *")),
         )
         self.assertEqual(reply_of("10 dump 0\n  horizon 5\n"), tmm.Dump(5))
+        self.assertEqual(
+            reply_of("3 dump 1\n  tmm 2\n  horizon 1000\n  kind t\n"), tmm.Dump(1000, ("kind t",), 2)
+        )
 
     def test_each_cause_of_a_refusal(self) -> None:
         for text, refusal in (
@@ -344,6 +358,23 @@ class TimeMapTest(unittest.TestCase):
                 ),
             ),
         )
+
+    def test_a_rule_with_an_exception(self) -> None:
+        self.map.upgrade()
+        self.declare_door()
+        self.map.class_("bolt", "fast", "loose")
+        self.map.rule("shuts", "push", 1, 2, "shut", given="open", unless="fast")
+        self.assertEqual(
+            self.map.why("e/shuts")[-1], tmm.EffectReason("e/shuts", "shuts", "e", ("held",), ("fast",))
+        )
+        self.map.token("drawn", "fast")
+        self.assertEqual(
+            self.map.dist("b", "start", "drawn", 0, 0), tmm.Changes(left=("e/shuts",), loosened=("held",))
+        )
+        self.assertEqual(self.map.dump().version, 2)
+        with self.assertRaises(tmm.Refused) as caught:
+            self.map.upgrade()
+        self.assertIs(caught.exception.cause, tmm.Cause.FORM)
 
     def test_the_line_of_each_premise_and_of_the_horizon(self) -> None:
         self.map.horizon(300)

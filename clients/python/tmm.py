@@ -162,12 +162,16 @@ class OrderReason:
 
 @dataclass(frozen=True)
 class EffectReason:
-    """The effect is what the rule makes of the event, where these tokens support the rule's facts."""
+    """The effect is what the rule makes of the event, where these tokens support the rule's facts.
+
+    None of the rule's exceptions, facts too, holds there.
+    """
 
     effect: str
     rule: str
     event: str
     supporters: Tuple[str, ...] = ()
+    exceptions: Tuple[str, ...] = ()
 
 
 Reason = Union[PremiseReason, OrderReason, EffectReason]
@@ -206,10 +210,11 @@ class Listing:
 
 @dataclass(frozen=True)
 class Dump:
-    """The horizon, and the standing premises, each as the line that declares it."""
+    """The horizon, and the standing premises, each as the line that declares it; and the version."""
 
     horizon: int
     premises: Tuple[str, ...] = ()
+    version: int = 1
 
 
 @dataclass(frozen=True)
@@ -480,9 +485,12 @@ def _read_why(words: List[str], details: List[_Detail]) -> Why:
             _, first, second, at_most = detail.words
             reasons.append(OrderReason(first, second, int(at_most), _steps(detail.parts)))
         else:
-            # `O by R on T`, and then `with K1 .. Kn` where the rule has facts
+            # `O by R on T`, then `with K1 .. Kn` and `unless g1 .. gm` where the rule has facts and
+            # exceptions. No occurrence has the name `unless`.
             effect, _, rule, _, event, *rest = detail.words
-            reasons.append(EffectReason(effect, rule, event, tuple(rest[1:])))
+            end = rest.index("unless") if "unless" in rest else len(rest)
+            supporters, exceptions = rest[:end][1:], rest[end:][1:]
+            reasons.append(EffectReason(effect, rule, event, tuple(supporters), tuple(exceptions)))
     return Why(tuple(reasons))
 
 
@@ -500,10 +508,14 @@ def _read_listing(words: List[str], details: List[_Detail]) -> Listing:
 
 
 def _read_dump(words: List[str], details: List[_Detail]) -> Dump:
-    # The horizon comes first, and is not counted.
+    # The line that opens the version, where there is one, and the horizon come first, and are not counted.
+    version = 1
+    if details[0].words[0] == "tmm":
+        version = int(details[0].words[1])
+        details = details[1:]
     _counted(words[0], len(details) - 1)
     _, horizon = details[0].words
-    return Dump(int(horizon), tuple(" ".join(detail.words) for detail in details[1:]))
+    return Dump(int(horizon), tuple(" ".join(detail.words) for detail in details[1:]), version)
 
 
 def _read_size(words: List[str], details: List[_Detail]) -> Size:
@@ -564,6 +576,12 @@ def _line(words: Sequence[str]) -> str:
         if not word or any(part in word for part in " \t\r\n"):
             raise ValueError(f"not a word of a script: {word!r}")
     return " ".join(words)
+
+
+def _clause(word: str, facts: Union[str, Sequence[str]]) -> List[str]:
+    """The word and the facts behind it, nothing where there are none."""
+    names = [facts] if isinstance(facts, str) else list(facts)
+    return [word, *names] if names else []
 
 
 def _bound_word(bound: Optional[int]) -> str:
@@ -703,13 +721,14 @@ class TimeMap:
         upper: Optional[int],
         effect: str,
         given: Union[str, Sequence[str]] = (),
+        unless: Union[str, Sequence[str]] = (),
     ) -> Changes:
         """An event of the kind makes the effect, a fact or a kind, `lower` to `upper` later.
 
-        Where facts are given, it does so only where each of them holds at the event.
+        Where facts are given, it does so only where each of them holds at the event; in version 2 it may
+        have exceptions, and then does so only where none of these holds there.
         """
-        facts = [given] if isinstance(given, str) else list(given)
-        condition = ["if", *facts] if facts else []
+        condition = [*_clause("if", given), *_clause("unless", unless)]
         return self._answer(Changes, "rule", name, kind, str(lower), _bound_word(upper), effect, *condition)
 
     def protect(self, name: str, fact: str, begin: str, end: str) -> Changes:
@@ -717,6 +736,10 @@ class TimeMap:
         return self._answer(Changes, "protect", name, fact, begin, end)
 
     # ---- the other edits
+
+    def upgrade(self) -> Changes:
+        """Opens version 2 of the script, in which rules may have exceptions; from the empty map alone."""
+        return self._answer(Changes, "tmm", "2")
 
     def horizon(self, date: int) -> Changes:
         """No effect is believed whose earliest date is past this one."""

@@ -5,7 +5,7 @@ use Rattle.std.specs.List.{Contains, list_any, filter_map}
 use Rattle.tmm_model.specs.declared.point.PointName.TheVariants.{Start}
 use Rattle.tmm_model.specs.declared.token.TokenRow.{TokenRow}
 use Rattle.tmm_model.specs.Maps.{built, believed_tokens}
-use Rattle.tmm_model.specs.Moments.{Moment, At}
+use Rattle.tmm_model.specs.Moments.{Moment, At, read_by}
 use Rattle.tmm_model.specs.Points.{same_name}
 use Rattle.tmm_model.specs.Standing.{Standing, points_in, far_in}
 use Rattle.list_theory.specs.WellNamed.{IsSound}
@@ -54,7 +54,7 @@ module _ (s t : Standing) (alike : AreAlike s t) where
     same = (alike_believe s t alike).0
 
     watched_same : (r : List ℕ) → watched (built s) r ≡ watched (built t) r
-    watched_same r = λ i. filter (λ k. list_any (λ fact. same_name (alike.say.class fact i) k.class) (alike.say.rule r i).given) (same.tokens i)
+    watched_same r = λ i. filter (λ k. list_any (λ fact. same_name (alike.say.class fact i) k.class) (read_by (alike.say.rule r i))) (same.tokens i)
 
     watched_between : (r : List ℕ) (k : TokenRow Moment) → In k (watched (built s) r) → IsBetween s k
     watched_between r k at = tokens_between s (built s).believed (believed_anchored s t alike.say alike.distances) k (In-filter _ (believed_tokens (built s)) k at).0
@@ -109,7 +109,7 @@ module _ (s t : Standing) (before net : Net) (b : BeliefNet) (alike : AreAlike s
         record {
           classes = was.classes;
           few = was.few;
-          numbers = sym (λ j. map (λ fact. place_in b.decisions.classes (alike.say.class fact j)) (alike.say.rule (rule_in b.decisions row) j).given) ∙ was.numbers;
+          numbers = sym (λ j. map (λ fact. place_in b.decisions.classes (alike.say.class fact j)) (read_by (alike.say.rule (rule_in b.decisions row) j))) ∙ was.numbers;
           heads = was.heads;
         };
     named = kept.fit.under.named;

@@ -5,7 +5,7 @@ use Rattle.std.specs.Prelude.{pos}
 use Rattle.std.specs.Option.{option_map_or}
 use Rattle.std.specs.Cmp.Lexicographic.{bytes_decides}
 use Rattle.tmm_model.specs.Beliefs.{class_of}
-use Rattle.tmm_model.specs.Moments.{rule_of}
+use Rattle.tmm_model.specs.Moments.{read_by, rule_of}
 use Rattle.tmm_model.specs.Points.{same_name}
 use Rattle.tmm_model.specs.Standing.{Standing}
 use Rattle.list_theory.proofs.Elements.{In, In-map, map-In, list_any-In, In-list_any}
@@ -45,7 +45,7 @@ true_or false = inr refl
 
 -- ---- where nothing moved
 
-pub all_rest : (nets : Nets) (added : Option (List ℕ)) (s : Standing) (f : Forest) (d : Decisions) (row : TableRow Pair 6) → WereThere nets added
+pub all_rest : (nets : Nets) (added : Option (List ℕ)) (s : Standing) (f : Forest) (d : Decisions) (row : TableRow Pair 8) → WereThere nets added
     → IsMovedAt nets.moved nets.committed nets.present → length nets.moved ≡ 0 → IsRowAtRest nets added s f d row
 all_rest nets added s f d row were moved_at none = (
   λ n. false,
@@ -128,30 +128,30 @@ module _ (nets : Nets) (added : Option (List ℕ)) (s : Standing) (st : State) (
   -- ---- classes by their numbers
 
   -- the number of a class that a row reads
-  class_number : (i : ℕ) (row : TableRow Pair 6) → (table_of d).row i ≡ Some row → (class : List ℕ) → reads_class s (rule_in d row) class ≡ true
+  class_number : (i : ℕ) (row : TableRow Pair 8) → (table_of d).row i ≡ Some row → (class : List ℕ) → reads_class s (rule_in d row) class ≡ true
       → (k : ℕ) × (place_in d.classes class ≡ Some k)
   class_number i row at class reads =
       let u = under.classes i row at in
-      let (fact, on, same) = list_any-In (λ fact. same_name (class_of s fact) class) (rule_of s (rule_in d row)).given reads in
-      let among = subst (λ l. In (place_in d.classes (class_of s fact)) l) u.numbers (map-In (λ fact. place_in d.classes (class_of s fact)) (rule_of s (rule_in d row)).given fact on) in
+      let (fact, on, same) = list_any-In (λ fact. same_name (class_of s fact) class) (read_by (rule_of s (rule_in d row))) reads in
+      let among = subst (λ l. In (place_in d.classes (class_of s fact)) l) u.numbers (map-In (λ fact. place_in d.classes (class_of s fact)) (read_by (rule_of s (rule_in d row))) fact on) in
       let (k, there, is) = In-map Some u.classes (place_in d.classes (class_of s fact)) among in
       (k, sym (ap (place_in d.classes) ((bytes_decides (class_of s fact) class).0 same)) ∙ sym is)
 
-  on_lists : (i k : ℕ) (row : TableRow Pair 6) (class : List ℕ) → (table_of d).row i ≡ Some row → place_in d.classes class ≡ Some k → reads_class s (rule_in d row) class ≡ true → IsListedUnder (table_of d) k i
+  on_lists : (i k : ℕ) (row : TableRow Pair 8) (class : List ℕ) → (table_of d).row i ≡ Some row → place_in d.classes class ≡ Some k → reads_class s (rule_in d row) class ≡ true → IsListedUnder (table_of d) k i
   on_lists i k row class at is reads = (class_listed s d.rows (name_in d.rules) (place_in d.classes) class k i row is (are_numbered d.classes) listed at (under.classes i row at)).0 reads
 
-  off_lists : (i k : ℕ) (row : TableRow Pair 6) (class : List ℕ) → (table_of d).row i ≡ Some row → place_in d.classes class ≡ Some k → IsListedUnder (table_of d) k i → reads_class s (rule_in d row) class ≡ true
+  off_lists : (i k : ℕ) (row : TableRow Pair 8) (class : List ℕ) → (table_of d).row i ≡ Some row → place_in d.classes class ≡ Some k → IsListedUnder (table_of d) k i → reads_class s (rule_in d row) class ≡ true
   off_lists i k row class at is on = (class_listed s d.rows (name_in d.rules) (place_in d.classes) class k i row is (are_numbered d.classes) listed at (under.classes i row at)).1 on
 
   -- ---- rows at events for which points moved
 
-  from_start : (row : TableRow Pair 6) → MovesFrom moves (forest st) row.value.trigger → IsRowMoved nets added s (forest st) d row
+  from_start : (row : TableRow Pair 8) → MovesFrom moves (forest st) row.value.trigger → IsRowMoved nets added s (forest st) d row
   from_start row m =
       among_at (is_moved nets added) s f (rule_in d row) (λ p. p ≡ Declared 0) row.value.trigger (λ p is. start is)
       (to_moved (λ p. p ≡ Declared 0) (λ p is. subst Small (sym is) (omega arith)) row.value.trigger m)
 
   module _ (own : HaveOwnNumbers d.classes) where
-    for_some : (i : ℕ) (row : TableRow Pair 6) → (table_of d).row i ≡ Some row → MovesForSome st moves d i row → IsRowMoved nets added s (forest st) d row
+    for_some : (i : ℕ) (row : TableRow Pair 8) → (table_of d).row i ≡ Some row → MovesForSome st moves d i row → IsRowMoved nets added s (forest st) d row
     for_some i row at (k, less, on, m) =
         let class = name_in d.classes k in
         let reads = off_lists i k row class at (own k less) on in
@@ -160,7 +160,7 @@ module _ (nets : Nets) (added : Option (List ℕ)) (s : Standing) (st : State) (
 
     -- ---- rows that may rest
 
-    module _ (fast : StandFast nets added moves.fast.items) (i : ℕ) (row : TableRow Pair 6) (at : (table_of d).row i ≡ Some row)
+    module _ (fast : StandFast nets added moves.fast.items) (i : ℕ) (row : TableRow Pair 8) (at : (table_of d).row i ≡ Some row)
         (dated : KeepsDate moves s (forest st) d row) (rests : RestsForFirst st nets moves d (length d.classes) i row) where
       abbrev x : ℕ
       x = row.value.trigger
@@ -192,14 +192,14 @@ module _ (nets : Nets) (added : Option (List ℕ)) (s : Standing) (st : State) (
           ]
 
       same_date : is_moved nets added (base_of f (Node x)) 0 ≡ false
-      same_date = by (rule_of s r).given refl
+      same_date = by (read_by (rule_of s r)) refl
         where
-          by : (given : List (List ℕ)) → (rule_of s r).given ≡ given → is_moved nets added (base_of f (Node x)) 0 ≡ false
+          by : (facts : List (List ℕ)) → read_by (rule_of s r) ≡ facts → is_moved nets added (base_of f (Node x)) 0 ≡ false
           by [] none = sym (pair_is (Node x) (Declared 0) (node_small x) (omega arith)) ∙ dated none
-          by (fact ∷ given) some =
+          by (fact ∷ facts) some =
               let class = class_of s fact in
               let reads : reads_class s r class ≡ true =
-              In-list_any (λ z. same_name (class_of s z) class) (rule_of s r).given fact (subst (In fact) (sym some) (inl refl)) ((bytes_decides class class).1 refl) in
+              In-list_any (λ z. same_name (class_of s z) class) (read_by (rule_of s r)) fact (subst (In fact) (sym some) (inl refl)) ((bytes_decides class class).1 refl) in
               unmoved_date class (by_class class reads)
 
       at_rest : IsRowAtRest nets added s (forest st) d row

@@ -120,13 +120,13 @@ module _ (s : Standing) (net : Net) (c e : BeliefNet) (trigger : ℕ) (rule : Li
     abbrev mark : Mark
     mark = record { class = m.number; from = early (present e.tree) y; spares = m.spares }
 
-    row_was : (i : ℕ) (row : TableRow Pair 6) → (table_of e.decisions).row i ≡ Some row → (table_of c.decisions).row i ≡ Some row
+    row_was : (i : ℕ) (row : TableRow Pair 8) → (table_of e.decisions).row i ≡ Some row → (table_of c.decisions).row i ≡ Some row
     row_was i row at = ap (λ rows. (table_of (record c.decisions { rows = rows })).row i) (sym m.rows) ∙ at
 
-    row_is : (i : ℕ) (row : TableRow Pair 6) → (table_of c.decisions).row i ≡ Some row → (table_of e.decisions).row i ≡ Some row
+    row_is : (i : ℕ) (row : TableRow Pair 8) → (table_of c.decisions).row i ≡ Some row → (table_of e.decisions).row i ≡ Some row
     row_is i row at = ap (λ rows. (table_of (record c.decisions { rows = rows })).row i) m.rows ∙ at
 
-    no_new : (i : ℕ) (row : TableRow Pair 6) → (table_of e.decisions).row i ≡ Some row → (IsLive f row.value.trigger → ⊥) → ⊥
+    no_new : (i : ℕ) (row : TableRow Pair 8) → (table_of e.decisions).row i ≡ Some row → (IsLive f row.value.trigger → ⊥) → ⊥
     no_new i row at dead = dead (fit.events i row (row_was i row at))
 
     pub token_fit : IsFit s net e
@@ -146,18 +146,18 @@ module _ (s : Standing) (net : Net) (c e : BeliefNet) (trigger : ℕ) (rule : Li
     }
 
     -- dates that are kept are those of occurrences
-    later_is : (i : ℕ) (row : TableRow Pair 6) → (table_of c.decisions).row i ≡ Some row → early (present e.tree) row.value.trigger ≡ date_at s (moment_at g row.value.trigger)
+    later_is : (i : ℕ) (row : TableRow Pair 8) → (table_of c.decisions).row i ≡ Some row → early (present e.tree) row.value.trigger ≡ date_at s (moment_at g row.value.trigger)
     later_is i row at = date_is s net e token_fit row.value.trigger (goes_on row.value.trigger (fit.events i row at))
 
-    to_mark : (i : ℕ) (row : TableRow Pair 6) → (table_of c.decisions).row i ≡ Some row → waits_in e.decisions.waiting i ≡ true → (waits_in c.decisions.waiting i ≡ true) ⊎ IsMarkedAt s g (table_of c.decisions) (mark ∷ []) i row
+    to_mark : (i : ℕ) (row : TableRow Pair 8) → (table_of c.decisions).row i ≡ Some row → waits_in e.decisions.waiting i ≡ true → (waits_in c.decisions.waiting i ≡ true) ⊎ IsMarkedAt s g (table_of c.decisions) (mark ∷ []) i row
     to_mark i row there waits = elim (m.marks.only i) [
       | inl same ↦ inl (sym (ap is_some same) ∙ waits)
       | inr marked ↦ (
           let one = one_row (table_of c.decisions) i marked.0 row marked.1 there in
-          inr (mark, inl refl, marked.2.0, subst (λ z. early (present e.tree) y ≤ℤ z) (ap (λ (r : TableRow Pair 6). early (present e.tree) r.value.trigger) one ∙ later_is i row there) marked.2.1, subst (λ (r : TableRow Pair 6). m.spares r.value.trigger ≡ false) one marked.2.2))
+          inr (mark, inl refl, marked.2.0, subst (λ z. early (present e.tree) y ≤ℤ z) (ap (λ (r : TableRow Pair 8). early (present e.tree) r.value.trigger) one ∙ later_is i row there) marked.2.1, subst (λ (r : TableRow Pair 8). m.spares r.value.trigger ≡ false) one marked.2.2))
     ]
 
-    from_mark : (i : ℕ) (row : TableRow Pair 6) → (table_of c.decisions).row i ≡ Some row → (waits_in c.decisions.waiting i ≡ true) ⊎ IsMarkedAt s g (table_of c.decisions) (mark ∷ []) i row → waits_in e.decisions.waiting i ≡ true
+    from_mark : (i : ℕ) (row : TableRow Pair 8) → (table_of c.decisions).row i ≡ Some row → (waits_in c.decisions.waiting i ≡ true) ⊎ IsMarkedAt s g (table_of c.decisions) (mark ∷ []) i row → waits_in e.decisions.waiting i ≡ true
     from_mark i row there (inl waited) = elim (m.marks.only i) [
       | inl same ↦ ap is_some same ∙ waited
       | inr marked ↦ ap is_some marked.3
@@ -224,7 +224,7 @@ module _ (s : Standing) (net : Net) (c e : BeliefNet) (trigger : ℕ) (rule : Li
 
   module _ (of : class_at e.tree y ≡ None) (a : AddsRows (rules_at s (moment_at g y)) y (early (present e.tree) y) c.decisions e.decisions) where
     -- a row is new, or was there
-    row_new : (i : ℕ) (row : TableRow Pair 6) → (table_of e.decisions).row i ≡ Some row
+    row_new : (i : ℕ) (row : TableRow Pair 8) → (table_of e.decisions).row i ≡ Some row
         → (IsSameRow c.decisions e.decisions i × ((table_of c.decisions).row i ≡ Some row))
         ⊎ (IsNewRow y (early (present e.tree) y) c.decisions e.decisions i row × In (rule_in e.decisions row) (rules_at s (moment_at g y)))
     row_new i row at = elim (a.each i) [
@@ -234,7 +234,7 @@ module _ (s : Standing) (net : Net) (c e : BeliefNet) (trigger : ℕ) (rule : Li
           inr (subst (IsNewRow y (early (present e.tree) y) c.decisions e.decisions i) one added.1, subst (λ r. In (rule_in e.decisions r) (rules_at s (moment_at g y))) one added.2))
     ]
 
-    is_new : (i : ℕ) (row : TableRow Pair 6) → (table_of e.decisions).row i ≡ Some row → (IsLive f row.value.trigger → ⊥)
+    is_new : (i : ℕ) (row : TableRow Pair 8) → (table_of e.decisions).row i ≡ Some row → (IsLive f row.value.trigger → ⊥)
         → IsNewRow y (early (present e.tree) y) c.decisions e.decisions i row × In (rule_in e.decisions row) (rules_at s (moment_at g y))
     is_new i row at dead = elim (row_new i row at) [ inl same ↦ absurd (dead (fit.events i row same.1)) | inr added ↦ added ]
 

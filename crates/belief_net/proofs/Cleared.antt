@@ -9,7 +9,7 @@ use Rattle.tmm_model.specs.declared.premise.Premise.{Premise}
 use Rattle.tmm_model.specs.Beliefs.{class_of, root_of, roots, rules_at}
 use Rattle.tmm_model.specs.Edits.{next_list}
 use Rattle.tmm_model.specs.Maps.{built}
-use Rattle.tmm_model.specs.Moments.{Moment, At, After, RuleText, base, is_derived, moment_of, rule_of}
+use Rattle.tmm_model.specs.Moments.{Moment, At, After, RuleText, base, is_derived, moment_of, read_by, rule_of}
 use Rattle.tmm_model.specs.Standing.{Standing, name_of, premise_in}
 use Rattle.list_theory.specs.WellNamed.{IsSound}
 use Rattle.list_theory.proofs.Distinct.{Distinct}
@@ -145,7 +145,7 @@ module _ (old : Standing) (edit : Edit) (net : Net) (b e : BeliefNet) (all : Dep
   -- ---- the rows
 
   -- a row that is left is of an event that occurs in both lists, and its rule stands in the list before
-  row_stood : (i : ℕ) (row : TableRow Pair 6) → (table_of e.decisions).row i ≡ Some row → Contains (rules_at old (moment_at g row.value.trigger)) (rule_in e.decisions row)
+  row_stood : (i : ℕ) (row : TableRow Pair 8) → (table_of e.decisions).row i ≡ Some row → Contains (rules_at old (moment_at g row.value.trigger)) (rule_in e.decisions row)
   row_stood i row at =
       let was = sheds.thins.rows i row at in
       let own = (current.rows_are.own i (seen_row b i row) (row_there b i row was)).1 in
@@ -153,7 +153,7 @@ module _ (old : Standing) (edit : Edit) (net : Net) (b e : BeliefNet) (all : Dep
       subst (λ z. Contains (rules_at old z) (rule_in e.decisions row)) same
       (subst (λ l. Contains (rules_at old (moment_at f row.value.trigger)) (name_in l row.value.rule)) (sym sheds.thins.rules) own)
 
-  row_stands : (i : ℕ) (row : TableRow Pair 6) → (table_of e.decisions).row i ≡ Some row → Contains (rules_at new (moment_at g row.value.trigger)) (rule_in e.decisions row)
+  row_stands : (i : ℕ) (row : TableRow Pair 8) → (table_of e.decisions).row i ≡ Some row → Contains (rules_at new (moment_at g row.value.trigger)) (rule_in e.decisions row)
   row_stands i row at =
       let (m, there) = node_at g row.value.trigger (sheds.thins.events i row at) in
       let is = moment_at-is g row.value.trigger m there in
@@ -168,7 +168,7 @@ module _ (old : Standing) (edit : Edit) (net : Net) (b e : BeliefNet) (all : Dep
         | inr none ↦ absurd (none.rule i row at refl)
       ]
 
-  row_stays : (i : ℕ) (row : TableRow Pair 6) → (table_of b.decisions).row i ≡ Some row → IsLive g row.value.trigger
+  row_stays : (i : ℕ) (row : TableRow Pair 8) → (table_of b.decisions).row i ≡ Some row → IsLive g row.value.trigger
       → Contains (rules_at new (moment_at g row.value.trigger)) (rule_in b.decisions row) → (table_of e.decisions).row i ≡ Some row
   row_stays i row at live stands = elim (spares.rows i row at live) [
     | inl there ↦ there
@@ -182,13 +182,13 @@ module _ (old : Standing) (edit : Edit) (net : Net) (b e : BeliefNet) (all : Dep
       let under = under_less b e sheds.thins old fit.under in
       record { classes = λ i row at. by i row at (under.classes i row at); named = under.named }
     where
-      by : (i : ℕ) (row : TableRow Pair 6) → (table_of e.decisions).row i ≡ Some row → IsUnderClasses old (name_in e.decisions.rules) (place_in e.decisions.classes) row
+      by : (i : ℕ) (row : TableRow Pair 8) → (table_of e.decisions).row i ≡ Some row → IsUnderClasses old (name_in e.decisions.rules) (place_in e.decisions.classes) row
           → IsUnderClasses new (name_in e.decisions.rules) (place_in e.decisions.classes) row
       by i row at u = record {
         classes = u.classes;
         few = u.few;
-        numbers = subst (λ l. map (λ fact. place_in e.decisions.classes (class_of new fact)) l ≡ map Some u.classes) given
-            (map_same (λ fact. place_in e.decisions.classes (class_of new fact)) (λ fact. place_in e.decisions.classes (class_of old fact)) (rule_of old r).given same ∙ u.numbers);
+        numbers = subst (λ l. map (λ fact. place_in e.decisions.classes (class_of new fact)) l ≡ map Some u.classes) reads
+            (map_same (λ fact. place_in e.decisions.classes (class_of new fact)) (λ fact. place_in e.decisions.classes (class_of old fact)) (read_by (rule_of old r)) same ∙ u.numbers);
         heads = u.heads;
       }
         where
@@ -198,12 +198,12 @@ module _ (old : Standing) (edit : Edit) (net : Net) (b e : BeliefNet) (all : Dep
           rule_same : rule_of old r ≡ rule_of new r
           rule_same = text old edit sound_old sound_new (moment_at g row.value.trigger) r (row_stood i row at) (row_stands i row at)
 
-          given : (rule_of old r).given ≡ (rule_of new r).given
-          given = ap (λ (z : RuleText). z.given) rule_same
+          reads : read_by (rule_of old r) ≡ read_by (rule_of new r)
+          reads = ap (λ (z : RuleText). read_by z) rule_same
 
-          same : (fact : List ℕ) → In fact (rule_of old r).given → place_in e.decisions.classes (class_of new fact) ≡ place_in e.decisions.classes (class_of old fact)
+          same : (fact : List ℕ) → In fact (read_by (rule_of old r)) → place_in e.decisions.classes (class_of new fact) ≡ place_in e.decisions.classes (class_of old fact)
           same fact there = ap (place_in e.decisions.classes)
-              (sym (classes_stay old edit sound_old sound_new (moment_at g row.value.trigger) r fact (row_stood i row at) (row_stands i row at) there (subst (In fact) given there)))
+              (sym (classes_stay old edit sound_old sound_new (moment_at g row.value.trigger) r fact (row_stood i row at) (row_stands i row at) there (subst (In fact) reads there)))
 
   pub cleared : IsCleared old (next_list old edit) b e
   cleared = record { occur = node_occurs; nodes = node_stays; stand = row_stands; rows = row_stays; under = under_after }

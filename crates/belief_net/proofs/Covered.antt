@@ -13,7 +13,7 @@ use Rattle.belief_net.specs.Waiting.{Dates, dates_in, Takes}
 -- ---- rows on lists
 
 -- a row that was not removed stays so
-live_live : (o : Option (TableRow Pair 6)) → live (live o) ≡ live o
+live_live : (o : Option (TableRow Pair 8)) → live (live o) ≡ live o
 live_live None = refl
 live_live (Some q) = by q.gone refl
   where
@@ -23,65 +23,65 @@ live_live (Some q) = by q.gone refl
         ap (λ v. live (cond v None (Some q))) there ∙ ap (λ v. cond v None (Some q)) there ∙ sym (ap (λ v. cond v None (Some q)) there)
 
 -- the rows of a table that were not removed
-abbrev pub AreLive : Table Pair 6 → Type 0
+abbrev pub AreLive : Table Pair 8 → Type 0
 AreLive t = (i : ℕ) → live (t.row i) ≡ t.row i
 
-pub live_rows : (at : ℕ → Option (TableRow Pair 6)) (i : ℕ) → live (live (at i)) ≡ live (at i)
+pub live_rows : (at : ℕ → Option (TableRow Pair 8)) (i : ℕ) → live (live (at i)) ≡ live (at i)
 live_rows at i = live_live (at i)
 
-module _ (t : Table Pair 6) (listed : AreListed t) (lives : AreLive t) (class i : ℕ) (r : TableRow Pair 6) (here : t.row i ≡ Some r) where
+module _ (t : Table Pair 8) (listed : AreListed t) (lives : AreLive t) (class i : ℕ) (r : TableRow Pair 8) (here : t.row i ≡ Some r) where
   still : live (t.row i) ≡ Some r
   still = lives i ∙ here
 
   -- a row reads a class exactly where it is on a list of it
-  pub reads_listed : ReadsClass r class → (antecedent : ℕ) × (antecedent < 4) × IsOn (t.list (antecedent + 2) class) i
-  reads_listed (antecedent, less, head) = (antecedent, less, (listed.each i (antecedent + 2) class).1 (r, still, head))
+  pub reads_listed : ReadsClass r class → (place : ℕ) × (place < 6) × IsOn (t.list (place + 2) class) i
+  reads_listed (place, less, head) = (place, less, (listed.each i (place + 2) class).1 (r, still, head))
 
-  pub listed_reads : (antecedent : ℕ) × (antecedent < 4) × IsOn (t.list (antecedent + 2) class) i → ReadsClass r class
-  listed_reads (antecedent, less, on) =
-      let (q, is, head) = (listed.each i (antecedent + 2) class).0 on in
+  pub listed_reads : (place : ℕ) × (place < 6) × IsOn (t.list (place + 2) class) i → ReadsClass r class
+  listed_reads (place, less, on) =
+      let (q, is, head) = (listed.each i (place + 2) class).0 on in
       let both : Some q ≡ Some r = sym is ∙ still in
       let one : q ≡ r = cc in
-      (antecedent, less, subst (λ (z : TableRow Pair 6). head_of z (antecedent + 2) ≡ Some class) one head)
+      (place, less, subst (λ (z : TableRow Pair 8). head_of z (place + 2) ≡ Some class) one head)
 
 -- ---- none
 
-pub none_covered : (early_of : ℕ → ℤ) (row_at : ℕ → Option (TableRow Pair 6)) (waits : Dates) → AllWait early_of row_at waits no_marks
+pub none_covered : (early_of : ℕ → ℤ) (row_at : ℕ → Option (TableRow Pair 8)) (waits : Dates) → AllWait early_of row_at waits no_marks
 none_covered early_of row_at waits class from i r marked here reads late later = let no : None ≡ Some from = marked in cc
 
 -- ---- on from one moment to the next
 
--- the row was there, with its antecedents and the date of its event, and waits as before
-pub record IsAsBefore (early_of now_early : ℕ → ℤ) (row_at : ℕ → Option (TableRow Pair 6)) (waits now_waits : Dates) (i : ℕ) (r : TableRow Pair 6) : Type 0 where
-  pub row : TableRow Pair 6
+-- the row was there, with its classes and the date of its event, and waits as before
+pub record IsAsBefore (early_of now_early : ℕ → ℤ) (row_at : ℕ → Option (TableRow Pair 8)) (waits now_waits : Dates) (i : ℕ) (r : TableRow Pair 8) : Type 0 where
+  pub row : TableRow Pair 8
   pub was : row_at i ≡ Some row
   pub heads : r.heads ≡ row.heads
   pub date : now_early r.value.trigger ≡ early_of row.value.trigger
   pub same : now_waits i ≡ waits i
 
-module _ (early_of now_early : ℕ → ℤ) (row_at now_row : ℕ → Option (TableRow Pair 6)) (waits now_waits : Dates) where
+module _ (early_of now_early : ℕ → ℤ) (row_at now_row : ℕ → Option (TableRow Pair 8)) (waits now_waits : Dates) where
   pub covered_on : (m : MarkedClasses)
-      → ((i : ℕ) (r : TableRow Pair 6) → now_row i ≡ Some r → IsAsBefore early_of now_early row_at waits now_waits i r ⊎ (now_waits i ≡ Some (now_early r.value.trigger)))
+      → ((i : ℕ) (r : TableRow Pair 8) → now_row i ≡ Some r → IsAsBefore early_of now_early row_at waits now_waits i r ⊎ (now_waits i ≡ Some (now_early r.value.trigger)))
       → AllWait early_of row_at waits m → AllWait now_early now_row now_waits m
   covered_on m each all class from i r marked here reads late later = by (each i r here)
     where
       by : IsAsBefore early_of now_early row_at waits now_waits i r ⊎ (now_waits i ≡ Some (now_early r.value.trigger)) → now_waits i ≡ Some (now_early r.value.trigger)
       by (inr now) = now
       by (inl b) =
-          let (antecedent, less, head) = reads in
+          let (place, less, head) = reads in
           b.same
-          ∙ all class from i b.row marked b.was (antecedent, less, subst (λ heads. head_of (record r { heads = heads }) (antecedent + 2) ≡ Some class) b.heads head)
+          ∙ all class from i b.row marked b.was (place, less, subst (λ heads. head_of (record r { heads = heads }) (place + 2) ≡ Some class) b.heads head)
           (subst (λ z. from ≤ℤ z) b.date late) (subst (IsLater m.decided) b.date later)
           ∙ ap Some (sym b.date)
 
 -- ---- rows of a class that all wait
 
 -- all rows of the class wait that are late enough
-abbrev pub WaitFrom : (ℕ → ℤ) → (ℕ → Option (TableRow Pair 6)) → Dates → ℕ → ℤ → Type 0
+abbrev pub WaitFrom : (ℕ → ℤ) → (ℕ → Option (TableRow Pair 8)) → Dates → ℕ → ℤ → Type 0
 WaitFrom early_of row_at waits class from =
-    (i : ℕ) (r : TableRow Pair 6) → row_at i ≡ Some r → ReadsClass r class → from ≤ℤ early_of r.value.trigger → waits i ≡ Some (early_of r.value.trigger)
+    (i : ℕ) (r : TableRow Pair 8) → row_at i ≡ Some r → ReadsClass r class → from ≤ℤ early_of r.value.trigger → waits i ≡ Some (early_of r.value.trigger)
 
-module _ (early_of : ℕ → ℤ) (row_at : ℕ → Option (TableRow Pair 6)) (waits : Dates) where
+module _ (early_of : ℕ → ℤ) (row_at : ℕ → Option (TableRow Pair 8)) (waits : Dates) where
   -- where the marks cover the date, nothing is left to mark
   pub covered_from : (m : MarkedClasses) (class : ℕ) (from : ℤ) → AllWait early_of row_at waits m → CoversFrom m class from → WaitFrom early_of row_at waits class from
   covered_from m class from all ((date, marked, before), later) i r here reads late = all class date i r marked here reads (omega (arith, ints, before, late)) (after m.decided later)
@@ -124,10 +124,10 @@ later_both (Some last) date z less = by (int_lt last date) refl
         let first = is_no_less last date after in
         (now, omega (arith, ints, first, now))
 
-module _ (early_of : ℕ → ℤ) (row_at : ℕ → Option (TableRow Pair 6)) (waits now_waits : Dates) where
+module _ (early_of : ℕ → ℤ) (row_at : ℕ → Option (TableRow Pair 8)) (waits now_waits : Dates) where
   -- the row that was due first waits no more, and is noted as decided
   pub covered_taken : (m : MarkedClasses) (first : ℕ) (date : ℤ) → Takes waits now_waits first date
-      → ((r : TableRow Pair 6) → row_at first ≡ Some r → date ≡ early_of r.value.trigger)
+      → ((r : TableRow Pair 8) → row_at first ≡ Some r → date ≡ early_of r.value.trigger)
       → AllWait early_of row_at waits m → AllWait early_of row_at now_waits (record m { decided = later_of m.decided date })
   covered_taken m first date takes dated all class from i r marked here reads late later = by (cases_eq i first)
     where

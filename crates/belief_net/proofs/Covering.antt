@@ -31,7 +31,7 @@ lives d i = live_rows (λ x. slice_index_or d.rows.rows x None) i
 
 module _ (s : State) (old new : Decisions) (m : MarkedClasses) where
   -- each row of the new ones was there and waits as before, or waits for the date of its event
-  covered_by : ((i : ℕ) (r : TableRow Pair 6) → (table_of new).row i ≡ Some r
+  covered_by : ((i : ℕ) (r : TableRow Pair 8) → (table_of new).row i ≡ Some r
       → (((table_of old).row i ≡ Some r) × (dates_in new.waiting i ≡ dates_in old.waiting i)) ⊎ WaitsAt s (dates_in new.waiting) i r)
       → Covers s old m → Covers s new m
   covered_by each = covered_on (early s) (early s) (table_of old).row (table_of new).row (dates_in old.waiting) (dates_in new.waiting) m
@@ -41,13 +41,13 @@ module _ (s : State) (old new : Decisions) (m : MarkedClasses) where
       ])
 
   -- rows are let wait
-  pub marks_covered : (P : ℕ → TableRow Pair 6 → Type 0) → new.rows ≡ old.rows → Marks s (table_of old) P (dates_in old.waiting) (dates_in new.waiting) → Covers s old m → Covers s new m
+  pub marks_covered : (P : ℕ → TableRow Pair 8 → Type 0) → new.rows ≡ old.rows → Marks s (table_of old) P (dates_in old.waiting) (dates_in new.waiting) → Covers s old m → Covers s new m
   marks_covered P stay marks = covered_by each
     where
       row_stays : (i : ℕ) → (table_of new).row i ≡ (table_of old).row i
       row_stays i = ap (λ rows. (table_of (record old { rows = rows })).row i) stay
 
-      each : (i : ℕ) (r : TableRow Pair 6) → (table_of new).row i ≡ Some r
+      each : (i : ℕ) (r : TableRow Pair 8) → (table_of new).row i ≡ Some r
           → (((table_of old).row i ≡ Some r) × (dates_in new.waiting i ≡ dates_in old.waiting i)) ⊎ WaitsAt s (dates_in new.waiting) i r
       each i r here = elim (marks.only i) [
         | inl same ↦ inl (sym (row_stays i) ∙ here, same)
@@ -78,7 +78,7 @@ module _ (s : State) (old new : Decisions) (m : MarkedClasses) where
 
 -- the rows that read a class are those on its lists
 on_lists : (s : State) (d : Decisions) (class : ℕ) (from : ℤ) → AreListed (table_of d)
-    → ((i : ℕ) (r : TableRow Pair 6) → (table_of d).row i ≡ Some r → IsListedUnder (table_of d) class i → from ≤ℤ early s r.value.trigger → WaitsAt s (dates_in d.waiting) i r)
+    → ((i : ℕ) (r : TableRow Pair 8) → (table_of d).row i ≡ Some r → IsListedUnder (table_of d) class i → from ≤ℤ early s r.value.trigger → WaitsAt s (dates_in d.waiting) i r)
     → WaitFrom (early s) (table_of d).row (dates_in d.waiting) class from
 on_lists s d class from listed wait i r here reads late = wait i r here (reads_listed (table_of d) listed (lives d) class i r here reads) late
 
@@ -108,7 +108,7 @@ class_covered s old new m after class from listed stay marks marked covered =
 
 -- the dates of the events of rows stay
 pub dates_covered : (old new : State) (d : Decisions) (m : MarkedClasses)
-    → ((i : ℕ) (r : TableRow Pair 6) → (table_of d).row i ≡ Some r → early new r.value.trigger ≡ early old r.value.trigger) → Covers old d m → Covers new d m
+    → ((i : ℕ) (r : TableRow Pair 8) → (table_of d).row i ≡ Some r → early new r.value.trigger ≡ early old r.value.trigger) → Covers old d m → Covers new d m
 dates_covered old new d m dates =
     covered_on (early old) (early new) (table_of d).row (table_of d).row (dates_in d.waiting) (dates_in d.waiting) m
     (λ i r here. inl (record { row = r; was = here; heads = refl; date = dates i r here; same = refl }))
@@ -133,27 +133,27 @@ rest_covered s old new m stay before after = covered_by s old new m
 -- the row that was due first waits no more and keeps what was decided
 pub decided_covered : (s : State) (old new : Decisions) (m : MarkedClasses) (first : ℕ) (date : ℤ) (found : Decision)
     → Takes (dates_in old.waiting) (dates_in new.waiting) first date → Decides old.rows new.rows first found
-    → ((r : TableRow Pair 6) → (table_of old).row first ≡ Some r → date ≡ early s r.value.trigger)
+    → ((r : TableRow Pair 8) → (table_of old).row first ≡ Some r → date ≡ early s r.value.trigger)
     → Covers s old m → Covers s new (record m { decided = later_of m.decided date })
 decided_covered s old new m first date found takes decides dated covered =
     covered_on (early s) (early s) (table_of old).row (table_of new).row (dates_in new.waiting) (dates_in new.waiting) (record m { decided = later_of m.decided date })
     (λ i r here. inl (was i r here))
     (covered_taken (early s) (table_of old).row (dates_in old.waiting) (dates_in new.waiting) m first date takes dated covered)
   where
-    of_decided : (o : Option (TableRow Pair 6)) (r : TableRow Pair 6) → option_map (with_found found) o ≡ Some r → (row : TableRow Pair 6) × (o ≡ Some row) × (r ≡ with_found found row)
+    of_decided : (o : Option (TableRow Pair 8)) (r : TableRow Pair 8) → option_map (with_found found) o ≡ Some r → (row : TableRow Pair 8) × (o ≡ Some row) × (r ≡ with_found found row)
     of_decided None r e = absurd (cc)
     of_decided (Some row) r e = let same : with_found found row ≡ r = cc in (row, refl, sym same)
 
-    was : (i : ℕ) (r : TableRow Pair 6) → (table_of new).row i ≡ Some r → IsAsBefore (early s) (early s) (table_of old).row (dates_in new.waiting) (dates_in new.waiting) i r
+    was : (i : ℕ) (r : TableRow Pair 8) → (table_of new).row i ≡ Some r → IsAsBefore (early s) (early s) (table_of old).row (dates_in new.waiting) (dates_in new.waiting) i r
     was i r here = by (cases_eq i first)
       where
         is : (table_of new).row i ≡ cond (eqb i first) (option_map (with_found found) ((table_of old).row first)) ((table_of old).row i)
-        is = ap (λ (t : Table Pair 6). t.row i) decides.present_is
+        is = ap (λ (t : Table Pair 8). t.row i) decides.present_is
 
         by : (i ≡ first) ⊎ (i ≢ first) → IsAsBefore (early s) (early s) (table_of old).row (dates_in new.waiting) (dates_in new.waiting) i r
         by (inl same) =
             let (row, at, e) = of_decided ((table_of old).row first) r (sym (is ∙ ap (λ b. cond b (option_map (with_found found) ((table_of old).row first)) ((table_of old).row i)) (eq-eqb i first same)) ∙ here) in
-            record { row = row; was = ap (table_of old).row same ∙ at; heads = ap (λ (z : TableRow Pair 6). z.heads) e; date = ap (λ (z : TableRow Pair 6). early s z.value.trigger) e; same = refl }
+            record { row = row; was = ap (table_of old).row same ∙ at; heads = ap (λ (z : TableRow Pair 8). z.heads) e; date = ap (λ (z : TableRow Pair 8). early s z.value.trigger) e; same = refl }
         by (inr apart) = record {
           row = r;
           was = sym (is ∙ ap (λ b. cond b (option_map (with_found found) ((table_of old).row first)) ((table_of old).row i)) (ne_eqb i first apart)) ∙ here;

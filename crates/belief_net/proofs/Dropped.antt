@@ -24,13 +24,13 @@ pub record Dropping (event : ℕ) (old new : Decisions) : Type 0 where
 pub dropping_none : (event : ℕ) (d : Decisions) → Dropping event d d
 dropping_none event d = record { rules = refl; classes = refl; each = λ i. inl (record { row = refl; waits = refl }) }
 
-pub dropping_next : (event : ℕ) (old mid new : Decisions) (x : ℕ) (row : TableRow Pair 6) → Dropping event old mid
+pub dropping_next : (event : ℕ) (old mid new : Decisions) (x : ℕ) (row : TableRow Pair 8) → Dropping event old mid
     → (table_of mid).row x ≡ Some row → row.value.trigger ≡ event
     → Removes mid.rows new.rows x → Puts (dates_in mid.waiting) (dates_in new.waiting) x None → new.rules ≡ mid.rules → new.classes ≡ mid.classes → Dropping event old new
 dropping_next event old mid new x row d at here removes puts rules classes = record { rules = rules ∙ d.rules; classes = classes ∙ d.classes; each = each }
   where
     then_is : (i : ℕ) → (table_of new).row i ≡ cond (eqb i x) None ((table_of mid).row i)
-    then_is i = ap (λ (t : Table Pair 6). t.row i) removes.present_is
+    then_is i = ap (λ (t : Table Pair 8). t.row i) removes.present_is
 
     each : (i : ℕ) → IsSameRow old new i ⊎ IsDropped event old new i
     each i = elim (eqb_tells i x) [
@@ -57,16 +57,16 @@ dropping_next event old mid new x row d at here removes puts rules classes = rec
 
 module _ (s : Standing) (event : ℕ) (old mid : Decisions) (under : AreUnder s old) (d : Dropping event old mid) (listed : AreListed (table_of mid)) where
   -- a row that is there was there
-  was : (i : ℕ) (row : TableRow Pair 6) → (table_of mid).row i ≡ Some row → (table_of old).row i ≡ Some row
+  was : (i : ℕ) (row : TableRow Pair 8) → (table_of mid).row i ≡ Some row → (table_of old).row i ≡ Some row
   was i row at = elim (d.each i) [
     | inl same ↦ sym same.row ∙ at
     | inr dropped ↦ absurd (let both : None ≡ Some row = sym dropped.gone ∙ at in cc)
   ]
 
-  on_own : (i : ℕ) (row : TableRow Pair 6) → (table_of mid).row i ≡ Some row → IsOn ((table_of mid).list 0 event) i ↔ (row.value.trigger ≡ event)
+  on_own : (i : ℕ) (row : TableRow Pair 8) → (table_of mid).row i ≡ Some row → IsOn ((table_of mid).list 0 event) i ↔ (row.value.trigger ≡ event)
   on_own i row at = let u = under.classes i row (was i row at) in (pairs_listed mid.rows i event row (classes_in u.classes) listed at u.heads).0
 
-  pub first_at : (i : ℕ) (row : TableRow Pair 6) → (table_of mid).row i ≡ Some row → first_or None ((table_of mid).list 0 event) ≡ Some i → row.value.trigger ≡ event
+  pub first_at : (i : ℕ) (row : TableRow Pair 8) → (table_of mid).row i ≡ Some row → first_or None ((table_of mid).list 0 event) ≡ Some i → row.value.trigger ≡ event
   first_at i row at first = (on_own i row at).0 (first_is_on ((table_of mid).list 0 event) i first)
 
   pub all_dropped : first_or None ((table_of mid).list 0 event) ≡ None → DropsRows event old mid

@@ -4,7 +4,7 @@ use Rattle.std.proofs.lemmas.Bool.{eq-eqb}
 use Rattle.std.proofs.lemmas.List.{length-append}
 use Rattle.std.proofs.lemmas.Bool.Decides.{eqb_tells}
 use Rattle.tmm_model.specs.Beliefs.{class_of}
-use Rattle.tmm_model.specs.Moments.{rule_of}
+use Rattle.tmm_model.specs.Moments.{read_by, rule_of}
 use Rattle.tmm_model.specs.Standing.{Standing}
 use Rattle.list_theory.proofs.Elements.{In, In-left, In-right, In-cases}
 use Rattle.undo_rows.specs.declared.row.Row.{Row as TableRow}
@@ -22,22 +22,22 @@ use Rattle.belief_net.specs.Waiting.{dates_in, Puts}
 use Rattle.belief_net.proofs.Named.{name_stays, placed_name, under_more}
 
 -- a number is of one row
-pub one_row : (t : Table Pair 6) (i : ℕ) (row other : TableRow Pair 6) → t.row i ≡ Some row → t.row i ≡ Some other → row ≡ other
+pub one_row : (t : Table Pair 8) (i : ℕ) (row other : TableRow Pair 8) → t.row i ≡ Some row → t.row i ≡ Some other → row ≡ other
 one_row t i row other at there = let both : Some row ≡ Some other = sym at ∙ there in cc
 
 -- ---- one row
 
-module _ (s : Standing) (event number i : ℕ) (date : ℤ) (rule : List ℕ) (given : List (List ℕ)) (classes : List ℕ) (old new : Decisions)
-    (under : AreUnder s old) (last : KeepsLast old new) (numbered : place_in new.rules rule ≡ Some number) (text : given ≡ (rule_of s rule).given)
-    (few : length classes ≤ 4) (numbers : map (λ fact. place_in new.classes (class_of s fact)) given ≡ map Some classes)
+module _ (s : Standing) (event number i : ℕ) (date : ℤ) (rule : List ℕ) (read : List (List ℕ)) (classes : List ℕ) (old new : Decisions)
+    (under : AreUnder s old) (last : KeepsLast old new) (numbered : place_in new.rules rule ≡ Some number) (text : read ≡ read_by (rule_of s rule))
+    (few : length classes ≤ 6) (numbers : map (λ fact. place_in new.classes (class_of s fact)) read ≡ map Some classes)
     (adds : Adds old.rows new.rows i (new_row event number (classes_in classes))) (puts : Puts (dates_in old.waiting) (dates_in new.waiting) i (Some date)) where
   here : (table_of new).row i ≡ Some (new_row event number (classes_in classes))
-  here = ap (λ (t : Table Pair 6). t.row i) adds.present_is ∙ ap (λ b. cond b (Some (new_row event number (classes_in classes))) ((table_of old).row i)) (eq-eqb i i refl)
+  here = ap (λ (t : Table Pair 8). t.row i) adds.present_is ∙ ap (λ b. cond b (Some (new_row event number (classes_in classes))) ((table_of old).row i)) (eq-eqb i i refl)
 
   others : (j : ℕ) → j ≢ i → (table_of new).row j ≡ (table_of old).row j
   others j other = elim (eqb_tells j i) [
     | inl same ↦ absurd (other same.1)
-    | inr apart ↦ ap (λ (t : Table Pair 6). t.row j) adds.present_is ∙ ap (λ b. cond b (Some (new_row event number (classes_in classes))) ((table_of old).row j)) apart.0
+    | inr apart ↦ ap (λ (t : Table Pair 8). t.row j) adds.present_is ∙ ap (λ b. cond b (Some (new_row event number (classes_in classes))) ((table_of old).row j)) apart.0
   ]
 
   named : name_in new.rules number ≡ rule
@@ -47,7 +47,7 @@ module _ (s : Standing) (event number i : ℕ) (date : ℤ) (rule : List ℕ) (g
   is_new = record { free = adds.free; there = here; at_event = refl; undecided = refl; waits = puts.at }
 
   -- a new row is that one
-  only : (j : ℕ) (r : TableRow Pair 6) → IsNewRow event date old new j r → j ≡ i
+  only : (j : ℕ) (r : TableRow Pair 8) → IsNewRow event date old new j r → j ≡ i
   only j r at = elim (eqb_tells j i) [
     | inl same ↦ same.1
     | inr apart ↦ absurd (let both : None ≡ Some r = sym at.free ∙ sym (others j apart.1) ∙ at.there in cc)
@@ -71,7 +71,7 @@ module _ (s : Standing) (event number i : ℕ) (date : ℤ) (rule : List ℕ) (g
           subst (IsUnderClasses s (name_in new.rules) (place_in new.classes)) one (record {
             classes = classes;
             few = few;
-            numbers = subst (λ name. map (λ fact. place_in new.classes (class_of s fact)) (rule_of s name).given ≡ map Some classes) (sym named)
+            numbers = subst (λ name. map (λ fact. place_in new.classes (class_of s fact)) (read_by (rule_of s name)) ≡ map Some classes) (sym named)
                 (subst (λ l. map (λ fact. place_in new.classes (class_of s fact)) l ≡ map Some classes) text numbers);
             heads = refl;
           }))
@@ -82,7 +82,7 @@ module _ (s : Standing) (event number i : ℕ) (date : ℤ) (rule : List ℕ) (g
     named = λ j r at. elim (eqb_tells j i) [
       | inl same ↦ (
           let one : new_row event number (classes_in classes) ≡ r = one_row (table_of new) i (new_row event number (classes_in classes)) r here (ap (table_of new).row (sym same.1) ∙ at) in
-          subst (λ (z : TableRow Pair 6). z.value.rule < length new.rules) one (place_within new.rules rule number numbered))
+          subst (λ (z : TableRow Pair 8). z.value.rule < length new.rules) one (place_within new.rules rule number numbered))
       | inr apart ↦ (
           let was = sym (others j apart.1) ∙ at in
           let less = under.named j r was in
@@ -104,14 +104,14 @@ adds_none event date d = record {
 module _ (s : Standing) (event : ℕ) (date : ℤ) (rules more : List (List ℕ)) (old mid new : Decisions) (under : AreUnder s mid) (last : KeepsLast mid new)
     (first : AddsRows rules event date old mid) (then_ : AddsRows more event date mid new) (distinct : (rule : List ℕ) → In rule rules → In rule more → ⊥) where
   -- a row that was there in between is there in the end
-  stays : (i : ℕ) (row : TableRow Pair 6) → (table_of mid).row i ≡ Some row → IsSameRow mid new i
+  stays : (i : ℕ) (row : TableRow Pair 8) → (table_of mid).row i ≡ Some row → IsSameRow mid new i
   stays i row at = elim (then_.each i) [
     | inl same ↦ same
     | inr added ↦ absurd (let both : None ≡ Some row = sym added.1.free ∙ at in cc)
   ]
 
   -- a new row of the first ones
-  from_first : (i : ℕ) (row : TableRow Pair 6) → IsNewRow event date old mid i row → IsNewRow event date old new i row × (rule_in new row ≡ rule_in mid row)
+  from_first : (i : ℕ) (row : TableRow Pair 8) → IsNewRow event date old mid i row → IsNewRow event date old new i row × (rule_in new row ≡ rule_in mid row)
   from_first i row at =
       let same = stays i row at.there in (
         record { free = at.free; there = same.row ∙ at.there; at_event = at.at_event; undecided = at.undecided; waits = same.waits ∙ at.waits },
@@ -119,14 +119,14 @@ module _ (s : Standing) (event : ℕ) (date : ℤ) (rules more : List (List ℕ)
       )
 
   -- and one of the others
-  from_then : (i : ℕ) (row : TableRow Pair 6) → IsNewRow event date mid new i row → IsNewRow event date old new i row
+  from_then : (i : ℕ) (row : TableRow Pair 8) → IsNewRow event date mid new i row → IsNewRow event date old new i row
   from_then i row at = elim (first.each i) [
     | inl same ↦ record { free = sym same.row ∙ at.free; there = at.there; at_event = at.at_event; undecided = at.undecided; waits = at.waits }
     | inr added ↦ absurd (let both : None ≡ Some added.0 = sym at.free ∙ added.1.there in cc)
   ]
 
   -- a new row is one of the first, or of the others
-  parted : (i : ℕ) (row : TableRow Pair 6) → IsNewRow event date old new i row
+  parted : (i : ℕ) (row : TableRow Pair 8) → IsNewRow event date old new i row
       → (IsNewRow event date old mid i row × In (rule_in new row) rules) ⊎ (IsNewRow event date mid new i row × In (rule_in new row) more)
   parted i row at = elim (first.each i) [
     | inl same ↦ elim (then_.each i) [

@@ -79,14 +79,14 @@ module _ (f g : Forest) (x : ℕ) (m : Member) (at : member f x ≡ Some m) (tak
 
 -- ---- a row that is taken out
 
-module _ (b : BeliefNet) (after : Logged Pair 6) (x : ℕ) (removes : Removes b.decisions.rows after x) (events : HaveEvents b.tree (table_of b.decisions)) where
+module _ (b : BeliefNet) (after : Logged Pair 8) (x : ℕ) (removes : Removes b.decisions.rows after x) (events : HaveEvents b.tree (table_of b.decisions)) where
   abbrev pub without_it : BeliefNet
   without_it = record b { decisions = record b.decisions { rows = after } }
 
   row_is : (i : ℕ) → (table_of without_it.decisions).row i ≡ cond (eqb i x) None ((table_of b.decisions).row i)
-  row_is i = ap (λ (t : Table Pair 6). t.row i) removes.present_is
+  row_is i = ap (λ (t : Table Pair 8). t.row i) removes.present_is
 
-  rows : (i : ℕ) (row : TableRow Pair 6) → (table_of without_it.decisions).row i ≡ Some row → (table_of b.decisions).row i ≡ Some row
+  rows : (i : ℕ) (row : TableRow Pair 8) → (table_of without_it.decisions).row i ≡ Some row → (table_of b.decisions).row i ≡ Some row
   rows i row at = by (eqb i x) (sym (row_is i) ∙ at)
     where
       by : (v : Bool) → cond v None ((table_of b.decisions).row i) ≡ Some row → (table_of b.decisions).row i ≡ Some row
@@ -109,7 +109,7 @@ module _ (b : BeliefNet) (after : Logged Pair 6) (x : ℕ) (removes : Removes b.
     notes = notes_none b.tree d.classes;
   }
 
-  pub removed_spares : (s : Standing) (r : TableRow Pair 6) → (table_of b.decisions).row x ≡ Some r → premise_in s.premises (rule_in b.decisions r) ≡ None
+  pub removed_spares : (s : Standing) (r : TableRow Pair 8) → (table_of b.decisions).row x ≡ Some r → premise_in s.premises (rule_in b.decisions r) ≡ None
       → ((y : ℕ) (m : Member) → member (forest b.tree) y ≡ Some m → moment m ≢ After (moment_at (forest b.tree) r.value.trigger) (rule_in b.decisions r))
       → Spares s b (record b { decisions = record b.decisions { rows = after } })
   removed_spares s r at out none = record {
@@ -119,7 +119,7 @@ module _ (b : BeliefNet) (after : Logged Pair 6) (x : ℕ) (removes : Removes b.
           let one = one_row (table_of b.decisions) x r row at (ap (table_of b.decisions).row (sym same.1) ∙ here) in
           inr (record {
             rule = subst (λ z. premise_in s.premises (rule_in b.decisions z) ≡ None) one out;
-            effect = λ y m there. subst (λ (z : TableRow Pair 6). moment m ≢ After (moment_at (forest b.tree) z.value.trigger) (rule_in b.decisions z)) one (none y m there);
+            effect = λ y m there. subst (λ (z : TableRow Pair 8). moment m ≢ After (moment_at (forest b.tree) z.value.trigger) (rule_in b.decisions z)) one (none y m there);
           }))
       | inr apart ↦ inl (row_is i ∙ ap (λ v. cond v None ((table_of b.decisions).row i)) apart.0 ∙ here)
     ];
@@ -129,7 +129,7 @@ module _ (b : BeliefNet) (after : Logged Pair 6) (x : ℕ) (removes : Removes b.
 
 module _ (s : Standing) (d : Decisions) (under : AreUnder s d) (own : HaveOwnNumbers d.rules) (rule : List ℕ) where
   -- a row of the rule is under its number
-  pub number_is : (i : ℕ) (row : TableRow Pair 6) → (table_of d).row i ≡ Some row → rule_in d row ≡ rule → place_in d.rules rule ≡ Some row.value.rule
+  pub number_is : (i : ℕ) (row : TableRow Pair 8) → (table_of d).row i ≡ Some row → rule_in d row ≡ rule → place_in d.rules rule ≡ Some row.value.rule
   number_is i row at is = ap (place_in d.rules) (sym is) ∙ own row.value.rule (under.named i row at)
 
   pub no_row_known : place_in d.rules rule ≡ None → HasNoRowOf d rule
@@ -147,10 +147,10 @@ module _ (s : Standing) (d : Decisions) (under : AreUnder s d) (own : HaveOwnNum
       nothing (x ∷ l) none i on = (let never : Some x ≡ None = none in cc)
 
 -- a row on the list of a rule's number is of the rule
-pub listed_rule : (s : Standing) (d : Decisions) → AreUnder s d → AreListed (table_of d) → (number i : ℕ) (row : TableRow Pair 6) → (table_of d).row i ≡ Some row
+pub listed_rule : (s : Standing) (d : Decisions) → AreUnder s d → AreListed (table_of d) → (number i : ℕ) (row : TableRow Pair 8) → (table_of d).row i ≡ Some row
     → IsOn ((table_of d).list 1 number) i → row.value.rule ≡ number
 listed_rule s d under listed number i row at on = let u = under.classes i row at in (pairs_listed d.rows i number row (classes_in u.classes) listed at u.heads).1.0 on
 
-pub rule_listed : (s : Standing) (d : Decisions) → AreUnder s d → AreListed (table_of d) → (number i : ℕ) (row : TableRow Pair 6) → (table_of d).row i ≡ Some row
+pub rule_listed : (s : Standing) (d : Decisions) → AreUnder s d → AreListed (table_of d) → (number i : ℕ) (row : TableRow Pair 8) → (table_of d).row i ≡ Some row
     → row.value.rule ≡ number → IsOn ((table_of d).list 1 number) i
 rule_listed s d under listed number i row at same = let u = under.classes i row at in (pairs_listed d.rows i number row (classes_in u.classes) listed at u.heads).1.1 same

@@ -28,9 +28,9 @@ module _ (s : Standing) (net : Net) (b : BeliefNet) (fit : IsFit s net b) where
   }
 
   -- other rows and dates, on the same nodes
-  pub fit_only : (d : Decisions) (P : ℕ → TableRow Pair 6 → Type 0) → d.rows ≡ b.decisions.rows → AreUnder s d
+  pub fit_only : (d : Decisions) (P : ℕ → TableRow Pair 8 → Type 0) → d.rows ≡ b.decisions.rows → AreUnder s d
       → ((i : ℕ) → (dates_in d.waiting i ≡ dates_in b.decisions.waiting i)
-      ⊎ ((row : TableRow Pair 6) × ((table_of b.decisions).row i ≡ Some row) × P i row × WaitsAt (present b.tree) (dates_in d.waiting) i row))
+      ⊎ ((row : TableRow Pair 8) × ((table_of b.decisions).row i ≡ Some row) × P i row × WaitsAt (present b.tree) (dates_in d.waiting) i row))
       → IsFit s net (record b { decisions = d })
   fit_only d P rows under only = record {
     tree = fit.tree;
@@ -45,13 +45,13 @@ module _ (s : Standing) (net : Net) (b : BeliefNet) (fit : IsFit s net b) where
     ];
   }
     where
-      was : (i : ℕ) (row : TableRow Pair 6) → (table_of d).row i ≡ Some row → (table_of b.decisions).row i ≡ Some row
+      was : (i : ℕ) (row : TableRow Pair 8) → (table_of d).row i ≡ Some row → (table_of b.decisions).row i ≡ Some row
       was i row at = ap (λ rs. (table_of (record b.decisions { rows = rs })).row i) (sym rows) ∙ at
 
-      is_there : (i : ℕ) (row : TableRow Pair 6) → (table_of b.decisions).row i ≡ Some row → (table_of d).row i ≡ Some row
+      is_there : (i : ℕ) (row : TableRow Pair 8) → (table_of b.decisions).row i ≡ Some row → (table_of d).row i ≡ Some row
       is_there i row at = ap (λ rs. (table_of (record b.decisions { rows = rs })).row i) rows ∙ at
 
-  pub fit_marked : (d : Decisions) (P : ℕ → TableRow Pair 6 → Type 0) → d.rows ≡ b.decisions.rows → AreUnder s d
+  pub fit_marked : (d : Decisions) (P : ℕ → TableRow Pair 8 → Type 0) → d.rows ≡ b.decisions.rows → AreUnder s d
       → Marks (present b.tree) (table_of b.decisions) P (dates_in b.decisions.waiting) (dates_in d.waiting) → IsFit s net (record b { decisions = d })
   fit_marked d P rows under marks = fit_only d P rows under marks.only
 
@@ -64,7 +64,7 @@ module _ (s : Standing) (net : Net) (b : BeliefNet) (fit : IsFit s net b) where
       | inr added ↦ (
           let both : Some added.0 ≡ Some row = sym added.1.there ∙ at in
           let one : added.0 ≡ row = cc in
-          subst (IsLive (forest b.tree)) (sym added.1.at_event ∙ ap (λ (z : TableRow Pair 6). z.value.trigger) one) live)
+          subst (IsLive (forest b.tree)) (sym added.1.at_event ∙ ap (λ (z : TableRow Pair 8). z.value.trigger) one) live)
     ];
     under = under;
     dated = λ i date at. elim (adds.each i) [
@@ -84,7 +84,7 @@ module _ (s : Standing) (net : Net) (b : BeliefNet) (fit : IsFit s net b) where
       | inr (x, other, is, added, named) ↦ (
           let both : Some other ≡ Some row = sym added.there ∙ at in
           let one : other ≡ row = cc in
-          subst (IsLive (forest b.tree)) (sym added.at_event ∙ ap (λ (z : TableRow Pair 6). z.value.trigger) one) (live_at (forest b.tree) x is.node is.at))
+          subst (IsLive (forest b.tree)) (sym added.at_event ∙ ap (λ (z : TableRow Pair 8). z.value.trigger) one) (live_at (forest b.tree) x is.node is.at))
     ];
     under = under;
     dated = λ i date at. elim (adds.each i) [

@@ -150,19 +150,19 @@ module _ (old : Standing) (p : Premise) (net : Net) (m n : BeliefNet) (sound_old
     class_is : z.class ≡ Some class
     class_is = sym (class_is_at n.tree y z here) ∙ of
 
-    row_was : (i : ℕ) (row : TableRow Pair 6) → (table_of n.decisions).row i ≡ Some row → (table_of m.decisions).row i ≡ Some row
+    row_was : (i : ℕ) (row : TableRow Pair 8) → (table_of n.decisions).row i ≡ Some row → (table_of m.decisions).row i ≡ Some row
     row_was i row at = ap (λ rs. (table_of (record m.decisions { rows = rs })).row i) (sym marks.rows) ∙ at
 
-    row_is : (i : ℕ) (row : TableRow Pair 6) → (table_of m.decisions).row i ≡ Some row → (table_of n.decisions).row i ≡ Some row
+    row_is : (i : ℕ) (row : TableRow Pair 8) → (table_of m.decisions).row i ≡ Some row → (table_of n.decisions).row i ≡ Some row
     row_is i row at = ap (λ rs. (table_of (record m.decisions { rows = rs })).row i) marks.rows ∙ at
 
-    late : (i : ℕ) (row : TableRow Pair 6) → (table_of m.decisions).row i ≡ Some row → pos 0 ≤ℤ early (present n.tree) row.value.trigger
+    late : (i : ℕ) (row : TableRow Pair 8) → (table_of m.decisions).row i ≡ Some row → pos 0 ≤ℤ early (present n.tree) row.value.trigger
     late i row at =
         let live = fit_n.events i row (row_is i row at) in
         subst (λ w. pos 0 ≤ℤ w) (sym (date_is new net n fit_n row.value.trigger live))
         ((sound_timed new sound_new).not_before_start (moment_at g row.value.trigger) (occurs_at new net g fit_n.tree.seen row.value.trigger live))
 
-    reads : (i : ℕ) (row : TableRow Pair 6) → (table_of m.decisions).row i ≡ Some row → (watches new (rule_in n.decisions row) (moment z) ≡ true) ↔ IsListedUnder (table_of m.decisions) marks.number i
+    reads : (i : ℕ) (row : TableRow Pair 8) → (table_of m.decisions).row i ≡ Some row → (watches new (rule_in n.decisions row) (moment z) ≡ true) ↔ IsListedUnder (table_of m.decisions) marks.number i
     reads i row at =
         readers_listed new net.names z m.decisions.rows (name_in n.decisions.rules) (place_in n.decisions.classes) class marks.number i row
         en.adds.own class_is marks.numbered (are_numbered n.decisions.classes) en.listed at (fit_n.under.classes i row (row_is i row at))
@@ -203,14 +203,14 @@ module _ (old : Standing) (p : Premise) (net : Net) (m n : BeliefNet) (sound_old
     class_none : z.class ≡ None
     class_none = sym (class_is_at n.tree y z here) ∙ of
 
-    stays : (i : ℕ) (row : TableRow Pair 6) → (table_of m.decisions).row i ≡ Some row → IsSameRow m.decisions n.decisions i
+    stays : (i : ℕ) (row : TableRow Pair 8) → (table_of m.decisions).row i ≡ Some row → IsSameRow m.decisions n.decisions i
     stays i row at = elim (adds.each i) [
       | inl same ↦ same
       | inr added ↦ absurd (none_some row (sym added.1.free ∙ at))
     ]
 
     -- a row is new, or was there
-    row_new : (i : ℕ) (row : TableRow Pair 6) → (table_of n.decisions).row i ≡ Some row → ((table_of m.decisions).row i ≡ Some row)
+    row_new : (i : ℕ) (row : TableRow Pair 8) → (table_of n.decisions).row i ≡ Some row → ((table_of m.decisions).row i ≡ Some row)
         ⊎ (IsNewRow y (early (present n.tree) y) m.decisions n.decisions i row × In (rule_in n.decisions row) (rules_at new (moment_at g y)))
     row_new i row at = elim (adds.each i) [
       | inl same ↦ inl (sym same.row ∙ at)
@@ -219,7 +219,7 @@ module _ (old : Standing) (p : Premise) (net : Net) (m n : BeliefNet) (sound_old
           inr (subst (IsNewRow y (early (present n.tree) y) m.decisions n.decisions i) one added.1, subst (λ r. In (rule_in n.decisions r) (rules_at new (moment_at g y))) one added.2))
     ]
 
-    is_new : (i : ℕ) (row : TableRow Pair 6) → (table_of n.decisions).row i ≡ Some row → (table_of m.decisions).row i ≡ None → IsNewRow y (early (present n.tree) y) m.decisions n.decisions i row
+    is_new : (i : ℕ) (row : TableRow Pair 8) → (table_of n.decisions).row i ≡ Some row → (table_of m.decisions).row i ≡ None → IsNewRow y (early (present n.tree) y) m.decisions n.decisions i row
     is_new i row at none = elim (row_new i row at) [ inl was ↦ absurd (none_some row (sym none ∙ was)) | inr added ↦ added.0 ]
 
     pub event_gains : Gains old (next_list old (Add p)) (Add p) m n
@@ -280,7 +280,7 @@ module _ (old : Standing) (p : Premise) (net : Net) (m : BeliefNet) (d : Decisio
   abbrev n : BeliefNet
   n = record m { decisions = d }
 
-  row_stays : (i : ℕ) (row : TableRow Pair 6) → (table_of m.decisions).row i ≡ Some row → IsSameRow m.decisions d i
+  row_stays : (i : ℕ) (row : TableRow Pair 8) → (table_of m.decisions).row i ≡ Some row → IsSameRow m.decisions d i
   row_stays i row at = elim (adds.each i) [
     | inl same ↦ same
     | inr added ↦ absurd (none_some row (sym added.3.free ∙ at))
@@ -325,7 +325,7 @@ module _ (old : Standing) (p : Premise) (net : Net) (m : BeliefNet) (d : Decisio
       what_in None = []
 
   -- a row is new, or was there
-  row_added : (i : ℕ) (row : TableRow Pair 6) → (table_of d).row i ≡ Some row → ((table_of m.decisions).row i ≡ Some row)
+  row_added : (i : ℕ) (row : TableRow Pair 8) → (table_of d).row i ≡ Some row → ((table_of m.decisions).row i ≡ Some row)
       ⊎ ((x : ℕ) × IsEventOf m.tree kind x × IsNewRow x (early (present m.tree) x) m.decisions d i row × (rule_in d row ≡ name))
   row_added i row at = elim (adds.each i) [
     | inl same ↦ inl (sym same.row ∙ at)
@@ -334,7 +334,7 @@ module _ (old : Standing) (p : Premise) (net : Net) (m : BeliefNet) (d : Decisio
         inr (x, event, subst (IsNewRow x (early (present m.tree) x) m.decisions d i) one added, subst (λ r. rule_in d r ≡ name) one is))
   ]
 
-  row_fresh : (i : ℕ) (row : TableRow Pair 6) → (table_of d).row i ≡ Some row → (table_of m.decisions).row i ≡ None
+  row_fresh : (i : ℕ) (row : TableRow Pair 8) → (table_of d).row i ≡ Some row → (table_of m.decisions).row i ≡ None
       → IsNewRow row.value.trigger (early (present m.tree) row.value.trigger) m.decisions d i row
   row_fresh i row at none = elim (row_added i row at) [
     | inl was ↦ absurd (none_some row (sym none ∙ was))

@@ -8,7 +8,7 @@ use Rattle.tmm_model.specs.declared.premise.Edit.TheVariants.{Add}
 use Rattle.tmm_model.specs.declared.premise.Premise.{Premise}
 use Rattle.tmm_model.specs.Beliefs.{class_of, roots, rules_at}
 use Rattle.tmm_model.specs.Edits.{next_list}
-use Rattle.tmm_model.specs.Moments.{Moment, At, After, rule_of}
+use Rattle.tmm_model.specs.Moments.{Moment, At, After, read_by, rule_of}
 use Rattle.tmm_model.specs.Points.{same_name}
 use Rattle.tmm_model.specs.Standing.{Standing}
 use Rattle.list_theory.specs.WellNamed.{IsSound}
@@ -60,14 +60,14 @@ some_or_none (Some x) = inr (x, refl)
 -- what has no class is not read
 pub unread : (s : Standing) (names : Names) (m : Member) (rule : List ℕ) → IsMemberOf s names m → m.class ≡ None → watches s rule (moment m) ≡ false
 unread s names m rule own none =
-    reads_by_class s names m rule own ∙ ap (λ o. option_map_or (λ class. list_any (λ fact. same_name (class_of s fact) class) (rule_of s rule).given) o false) none
+    reads_by_class s names m rule own ∙ ap (λ o. option_map_or (λ class. list_any (λ fact. same_name (class_of s fact) class) (read_by (rule_of s rule))) o false) none
 
 -- the edit adds a premise
 abbrev pub IsAddition : Edit → Type 0
 IsAddition edit = (p : Premise) × (edit ≡ Add p)
 
 -- The row is new with the edit: nothing is decided of it, and it waits; its event is new, or its rule was none there.
-pub record IsFresh (old new : Standing) (edit : Edit) (m n : BeliefNet) (i : ℕ) (row : TableRow Pair 6) : Type 0 where
+pub record IsFresh (old new : Standing) (edit : Edit) (m n : BeliefNet) (i : ℕ) (row : TableRow Pair 8) : Type 0 where
   pub addition : IsAddition edit
   pub free : (table_of m.decisions).row i ≡ None
   pub stands : Contains (rules_at new (moment_at (forest n.tree) row.value.trigger)) (rule_in n.decisions row)
@@ -81,18 +81,18 @@ pub record Gains (old new : Standing) (edit : Edit) (m n : BeliefNet) : Type 0 w
   pub own_nodes : (x : ℕ) (k : Member) → member (forest n.tree) x ≡ Some k → (member (forest m.tree) x ≡ Some k)
       ⊎ (IsAddition edit × (member (forest m.tree) x ≡ None) × Contains (roots new) (moment k))
   pub rooted : (k : Moment) → Contains (roots new) k → Contains (roots old) k ⊎ ((x : ℕ) × (z : Member) × (member (forest n.tree) x ≡ Some z) × (moment z ≡ k))
-  pub rows : (i : ℕ) (row : TableRow Pair 6) → (table_of m.decisions).row i ≡ Some row → (table_of n.decisions).row i ≡ Some row
-  pub own_rows : (i : ℕ) (row : TableRow Pair 6) → (table_of n.decisions).row i ≡ Some row → ((table_of m.decisions).row i ≡ Some row) ⊎ IsFresh old new edit m n i row
+  pub rows : (i : ℕ) (row : TableRow Pair 8) → (table_of m.decisions).row i ≡ Some row → (table_of n.decisions).row i ≡ Some row
+  pub own_rows : (i : ℕ) (row : TableRow Pair 8) → (table_of n.decisions).row i ≡ Some row → ((table_of m.decisions).row i ≡ Some row) ⊎ IsFresh old new edit m n i row
   pub all : (x : ℕ) (rule : List ℕ) → IsLive (forest n.tree) x → Contains (rules_at new (moment_at (forest n.tree) x)) rule
       → HasRow (rows_of n) x rule ⊎ (IsLive (forest m.tree) x × Contains (rules_at old (moment_at (forest n.tree) x)) rule)
-  pub apart : (i j : ℕ) (row other : TableRow Pair 6) → (table_of n.decisions).row i ≡ Some row → (table_of n.decisions).row j ≡ Some other
+  pub apart : (i j : ℕ) (row other : TableRow Pair 8) → (table_of n.decisions).row i ≡ Some row → (table_of n.decisions).row j ≡ Some other
       → (table_of m.decisions).row i ≡ None → (table_of m.decisions).row j ≡ None
       → row.value.trigger ≡ other.value.trigger → rule_in n.decisions row ≡ rule_in n.decisions other → i ≡ j
-  pub names : (i : ℕ) (row : TableRow Pair 6) → (table_of m.decisions).row i ≡ Some row → rule_in n.decisions row ≡ rule_in m.decisions row
-  pub waits : (i : ℕ) (row : TableRow Pair 6) → (table_of m.decisions).row i ≡ Some row → waits_in n.decisions.waiting i ≡ true → (waits_in m.decisions.waiting i ≡ true)
+  pub names : (i : ℕ) (row : TableRow Pair 8) → (table_of m.decisions).row i ≡ Some row → rule_in n.decisions row ≡ rule_in m.decisions row
+  pub waits : (i : ℕ) (row : TableRow Pair 8) → (table_of m.decisions).row i ≡ Some row → waits_in n.decisions.waiting i ≡ true → (waits_in m.decisions.waiting i ≡ true)
       ⊎ ((x : ℕ) × (k : Member) × (member (forest m.tree) x ≡ None) × (member (forest n.tree) x ≡ Some k) × (watches new (rule_in n.decisions row) (moment k) ≡ true))
-  pub waits_on : (i : ℕ) (row : TableRow Pair 6) → (table_of m.decisions).row i ≡ Some row → waits_in m.decisions.waiting i ≡ true → waits_in n.decisions.waiting i ≡ true
-  pub waits_new : (i x : ℕ) (row : TableRow Pair 6) (k : Member) → (table_of n.decisions).row i ≡ Some row → member (forest m.tree) x ≡ None → member (forest n.tree) x ≡ Some k
+  pub waits_on : (i : ℕ) (row : TableRow Pair 8) → (table_of m.decisions).row i ≡ Some row → waits_in m.decisions.waiting i ≡ true → waits_in n.decisions.waiting i ≡ true
+  pub waits_new : (i x : ℕ) (row : TableRow Pair 8) (k : Member) → (table_of n.decisions).row i ≡ Some row → member (forest m.tree) x ≡ None → member (forest n.tree) x ≡ Some k
       → watches new (rule_in n.decisions row) (moment k) ≡ true → waits_in n.decisions.waiting i ≡ true
 
 module _ (old : Standing) (edit : Edit) (before net : Net) (b e m n : BeliefNet) (all : Departed) (sound_old : IsSound old) (sound_new : IsSound (next_list old edit))
@@ -116,19 +116,19 @@ module _ (old : Standing) (edit : Edit) (before net : Net) (b e m n : BeliefNet)
   node_stays : (x : ℕ) (k : Member) → member f x ≡ Some k → Occurs new (moment k) → member (forest m.tree) x ≡ Some k
   node_stays x k at occurs = same x ∙ cleared.nodes x k at occurs
 
-  row_left : (i : ℕ) (row : TableRow Pair 6) → (table_of m.decisions).row i ≡ Some row → (table_of e.decisions).row i ≡ Some row
+  row_left : (i : ℕ) (row : TableRow Pair 8) → (table_of m.decisions).row i ≡ Some row → (table_of e.decisions).row i ≡ Some row
   row_left i row at = ap (λ rs. (table_of (record e.decisions { rows = rs })).row i) (sym marks.rows) ∙ at
 
-  row_is : (i : ℕ) (row : TableRow Pair 6) → (table_of e.decisions).row i ≡ Some row → (table_of m.decisions).row i ≡ Some row
+  row_is : (i : ℕ) (row : TableRow Pair 8) → (table_of e.decisions).row i ≡ Some row → (table_of m.decisions).row i ≡ Some row
   row_is i row at = ap (λ rs. (table_of (record e.decisions { rows = rs })).row i) marks.rows ∙ at
 
-  row_was : (i : ℕ) (row : TableRow Pair 6) → (table_of m.decisions).row i ≡ Some row → (table_of b.decisions).row i ≡ Some row
+  row_was : (i : ℕ) (row : TableRow Pair 8) → (table_of m.decisions).row i ≡ Some row → (table_of b.decisions).row i ≡ Some row
   row_was i row at = sheds.thins.rows i row (row_left i row at)
 
-  name_m : (row : TableRow Pair 6) → rule_in m.decisions row ≡ rule_in b.decisions row
+  name_m : (row : TableRow Pair 8) → rule_in m.decisions row ≡ rule_in b.decisions row
   name_m row = ap (λ l. name_in l row.value.rule) (marks.rules ∙ sheds.thins.rules)
 
-  name_n : (i : ℕ) (row : TableRow Pair 6) → (table_of m.decisions).row i ≡ Some row → rule_in n.decisions row ≡ rule_in b.decisions row
+  name_n : (i : ℕ) (row : TableRow Pair 8) → (table_of m.decisions).row i ≡ Some row → rule_in n.decisions row ≡ rule_in b.decisions row
   name_n i row at = gains.names i row at ∙ name_m row
 
   -- an event of m is the same in n and before
@@ -150,7 +150,7 @@ module _ (old : Standing) (edit : Edit) (before net : Net) (b e m n : BeliefNet)
     | inr (k, at) ↦ absurd (none_some k (sym none ∙ node_on add x k at))
   ]
 
-  row_on : IsAddition edit → (i : ℕ) (row : TableRow Pair 6) → (table_of b.decisions).row i ≡ Some row → (table_of m.decisions).row i ≡ Some row
+  row_on : IsAddition edit → (i : ℕ) (row : TableRow Pair 8) → (table_of b.decisions).row i ≡ Some row → (table_of m.decisions).row i ≡ Some row
   row_on add i row at =
       let t = row.value.trigger in
       let (k, here) = node_at f t (fit_b.events i row at) in
@@ -201,7 +201,7 @@ module _ (old : Standing) (edit : Edit) (before net : Net) (b e m n : BeliefNet)
   from : (i : ℕ) (q : Row) → rows_of n i ≡ Some q → BeginsFrom (rows_of b) i q
   from i q at = let (row, there, is) = row_of n i q at in by row there is (gains.own_rows i row there)
     where
-      by : (row : TableRow Pair 6) → (table_of n.decisions).row i ≡ Some row → q ≡ seen_row n i row
+      by : (row : TableRow Pair 8) → (table_of n.decisions).row i ≡ Some row → q ≡ seen_row n i row
           → ((table_of m.decisions).row i ≡ Some row) ⊎ IsFresh old new edit m n i row → BeginsFrom (rows_of b) i q
       by row there is (inl at_m) = was (seen_row b i row) (row_there b i row (row_was i row at_m)) (is ∙ kept (name_n i row at_m) (sym (ap (λ (z : Row). z.waits) is)))
         where
@@ -224,7 +224,7 @@ module _ (old : Standing) (edit : Edit) (before net : Net) (b e m n : BeliefNet)
                     stood_not (subst (λ z. Contains (rules_at old z) (rule_in n.decisions row)) event (subst (Contains (rules_at old (moment_at f other.value.trigger))) same_rule stood)))
               ]
 
-  own_at : (i : ℕ) (row : TableRow Pair 6) → (table_of n.decisions).row i ≡ Some row → Contains (rules_at new (moment_at g row.value.trigger)) (rule_in n.decisions row)
+  own_at : (i : ℕ) (row : TableRow Pair 8) → (table_of n.decisions).row i ≡ Some row → Contains (rules_at new (moment_at g row.value.trigger)) (rule_in n.decisions row)
   own_at i row there = elim (gains.own_rows i row there) [
     | inr fresh ↦ fresh.stands
     | inl at_m ↦ (
@@ -286,21 +286,21 @@ module _ (old : Standing) (edit : Edit) (before net : Net) (b e m n : BeliefNet)
   -- ---- marks
 
   -- no event is before 0
-  late : (i : ℕ) (row : TableRow Pair 6) → (table_of e.decisions).row i ≡ Some row → pos 0 ≤ℤ early (present m.tree) row.value.trigger
+  late : (i : ℕ) (row : TableRow Pair 8) → (table_of e.decisions).row i ≡ Some row → pos 0 ≤ℤ early (present m.tree) row.value.trigger
   late i row at =
       let live = fit_m.events i row (row_is i row at) in
       subst (λ z. pos 0 ≤ℤ z) (sym (date_is new net m fit_m row.value.trigger live))
       ((sound_timed new sound_new).not_before_start (moment_at (forest m.tree) row.value.trigger) (occurs_at new net (forest m.tree) fit_m.tree.seen row.value.trigger live))
 
   -- a row by the classes of the list before, under the numbers of m
-  under_m : (i : ℕ) (row : TableRow Pair 6) → (table_of e.decisions).row i ≡ Some row → IsUnderClasses old (name_in m.decisions.rules) (place_in m.decisions.classes) row
+  under_m : (i : ℕ) (row : TableRow Pair 8) → (table_of e.decisions).row i ≡ Some row → IsUnderClasses old (name_in m.decisions.rules) (place_in m.decisions.classes) row
   under_m i row at =
       let under = under_less b e sheds.thins old fit_b.under in
       under_more old e.decisions.rules m.decisions.rules e.decisions.classes m.decisions.classes row (subst (HaveMore e.decisions.rules) (sym marks.rules) (no_more e.decisions.rules)) marks.more
       (under.named i row at) (under.classes i row at)
 
   -- a row reads a node that left exactly where it is on a list of its class
-  listed_m : (x i k : ℕ) (z : Member) (class : List ℕ) (row : TableRow Pair 6) → member f x ≡ Some z → z.class ≡ Some class → place_in m.decisions.classes class ≡ Some k
+  listed_m : (x i k : ℕ) (z : Member) (class : List ℕ) (row : TableRow Pair 8) → member f x ≡ Some z → z.class ≡ Some class → place_in m.decisions.classes class ≡ Some k
       → (table_of e.decisions).row i ≡ Some row → (watches old (rule_in m.decisions row) (moment z) ≡ true) ↔ IsListedUnder (table_of e.decisions) k i
   listed_m x i k z class row at is number here =
       readers_listed old before.names z e.decisions.rows (name_in m.decisions.rules) (place_in m.decisions.classes) class k i row
@@ -333,7 +333,7 @@ module _ (old : Standing) (edit : Edit) (before net : Net) (b e m n : BeliefNet)
   ]
 
   -- what begins to wait in m reads what left
-  waits_left : (i : ℕ) (row : TableRow Pair 6) → (table_of m.decisions).row i ≡ Some row → waits_in m.decisions.waiting i ≡ true
+  waits_left : (i : ℕ) (row : TableRow Pair 8) → (table_of m.decisions).row i ≡ Some row → waits_in m.decisions.waiting i ≡ true
       → (x : ℕ) × (z : Member) × (member f x ≡ Some z) × (member g x ≡ None) × (watches old (rule_in m.decisions row) (moment z) ≡ true)
   waits_left i row at waits = elim (marks.marks.only i) [
     | inl same_date ↦ absurd (let never : false ≡ true = sym (ap is_some (same_date ∙ rests_e i)) ∙ waits in cc)
@@ -382,7 +382,7 @@ module _ (old : Standing) (edit : Edit) (before net : Net) (b e m n : BeliefNet)
         ];
   }
     where
-      by_left : (i x : ℕ) (row : TableRow Pair 6) (z : Member) → (table_of n.decisions).row i ≡ Some row → member f x ≡ Some z → member g x ≡ None
+      by_left : (i x : ℕ) (row : TableRow Pair 8) (z : Member) → (table_of n.decisions).row i ≡ Some row → member f x ≡ Some z → member g x ≡ None
           → watches old (rule_in n.decisions row) (moment z) ≡ true → waits_in n.decisions.waiting i ≡ true
       by_left i x row z there was_at none reads = elim (gains.own_rows i row there) [
         | inr fresh ↦ fresh.waits

@@ -39,8 +39,8 @@ module _ (s : Standing) (net : Net) (b r : BeliefNet) (fit : IsFit s net b) (cur
     (same_tree : present r.tree ≡ present b.tree) (same_rows : table_of r.decisions ≡ table_of b.decisions)
     (rules : HaveMore b.decisions.rules r.decisions.rules) (classes : HaveMore b.decisions.classes r.decisions.classes) (rests : (i : ℕ) → dates_in r.decisions.waiting i ≡ None)
     (tree_then : committed r.tree ≡ present r.tree) (table_then : rows_then r.decisions.rows ≡ rows_now r.decisions.rows) where
-  was : (i : ℕ) (row : TableRow Pair 6) → (table_of r.decisions).row i ≡ Some row → (table_of b.decisions).row i ≡ Some row
-  was i row at = ap (λ (t : Table Pair 6). t.row i) (sym same_rows) ∙ at
+  was : (i : ℕ) (row : TableRow Pair 8) → (table_of r.decisions).row i ≡ Some row → (table_of b.decisions).row i ≡ Some row
+  was i row at = ap (λ (t : Table Pair 8). t.row i) (sym same_rows) ∙ at
 
   fit_again : IsFit s net r
   fit_again = record {
@@ -57,12 +57,12 @@ module _ (s : Standing) (net : Net) (b r : BeliefNet) (fit : IsFit s net b) (cur
   }
 
   row_same : (i : ℕ) → rows_of r i ≡ rows_of b i
-  row_same i = ap (λ (t : Table Pair 6). option_map (as_row (name_in r.decisions.rules) (waits_in r.decisions.waiting i)) (t.row i)) same_rows ∙ by ((table_of b.decisions).row i) refl
+  row_same i = ap (λ (t : Table Pair 8). option_map (as_row (name_in r.decisions.rules) (waits_in r.decisions.waiting i)) (t.row i)) same_rows ∙ by ((table_of b.decisions).row i) refl
     where
       waits_same : waits_in r.decisions.waiting i ≡ waits_in b.decisions.waiting i
       waits_same = ap is_some (rests i) ∙ sym (ap is_some (rested i))
 
-      by : (o : Option (TableRow Pair 6)) → (table_of b.decisions).row i ≡ o
+      by : (o : Option (TableRow Pair 8)) → (table_of b.decisions).row i ≡ o
           → option_map (as_row (name_in r.decisions.rules) (waits_in r.decisions.waiting i)) ((table_of b.decisions).row i) ≡ option_map (as_row (name_in b.decisions.rules) (waits_in b.decisions.waiting i)) ((table_of b.decisions).row i)
       by None is = ap (option_map (as_row (name_in r.decisions.rules) (waits_in r.decisions.waiting i))) is ∙ sym (ap (option_map (as_row (name_in b.decisions.rules) (waits_in b.decisions.waiting i))) is)
       by (Some row) is =

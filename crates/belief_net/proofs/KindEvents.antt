@@ -78,11 +78,11 @@ once_told g (x ∷ xs) (new, once) own =
 -- ---- the rows of a rule
 
 -- the event of the row of a number
-abbrev pub trigger_in : Table Pair 6 → ℕ → ℕ
-trigger_in t i = option_map_or (λ (row : TableRow Pair 6). row.value.trigger) (t.row i) 0
+abbrev pub trigger_in : Table Pair 8 → ℕ → ℕ
+trigger_in t i = option_map_or (λ (row : TableRow Pair 8). row.value.trigger) (t.row i) 0
 
-pub trigger_is : (t : Table Pair 6) (i : ℕ) (row : TableRow Pair 6) → t.row i ≡ Some row → trigger_in t i ≡ row.value.trigger
-trigger_is t i row at = ap (λ (o : Option (TableRow Pair 6)). option_map_or (λ (r : TableRow Pair 6). r.value.trigger) o 0) at
+pub trigger_is : (t : Table Pair 8) (i : ℕ) (row : TableRow Pair 8) → t.row i ≡ Some row → trigger_in t i ≡ row.value.trigger
+trigger_is t i row at = ap (λ (o : Option (TableRow Pair 8)). option_map_or (λ (r : TableRow Pair 8). r.value.trigger) o 0) at
 
 module _ (s : Standing) (d : Decisions) (rule : List ℕ) (under : AreUnder s d) (own : HaveOwnNumbers d.rules) where
   -- where a rule has a row its name has a number
@@ -93,11 +93,11 @@ module _ (s : Standing) (d : Decisions) (rule : List ℕ) (under : AreUnder s d)
   rows_none none x h = (let never : None ≡ Some h.1.value.rule = sym none ∙ numbered_row x h in cc)
 
 module _ (s : Standing) (d : Decisions) (rule : List ℕ) (k : ℕ) (under : AreUnder s d) (listed : AreListed (table_of d)) (own : HaveOwnNumbers d.rules) (placed : place_in d.rules rule ≡ Some k) where
-  abbrev t : Table Pair 6
+  abbrev t : Table Pair 8
   t = table_of d
 
   -- a row on the rule's list is the rule's
-  row_on : (i : ℕ) → IsOn (t.list 1 k) i → (row : TableRow Pair 6) × (t.row i ≡ Some row) × (rule_in d row ≡ rule)
+  row_on : (i : ℕ) → IsOn (t.list 1 k) i → (row : TableRow Pair 8) × (t.row i ≡ Some row) × (rule_in d row ≡ rule)
   row_on i on =
       let (row, at) = listed_row t listed 1 k i on in
       (row, at, ap (name_in d.rules) ((on_rule s d under listed i k row at).0 on) ∙ placed_name d.rules rule k placed)
@@ -177,7 +177,7 @@ module _ (old : Standing) (edit : Edit) (before net : Net) (b e m : BeliefNet) (
   is_row : (i : ℕ) → (table_of m.decisions).row i ≡ (table_of e.decisions).row i
   is_row i = ap (λ rs. (table_of (record m.decisions { rows = rs })).row i) rows
 
-  same_rule : (row : TableRow Pair 6) → rule_in m.decisions row ≡ rule_in b.decisions row
+  same_rule : (row : TableRow Pair 8) → rule_in m.decisions row ≡ rule_in b.decisions row
   same_rule row = ap (λ (l : List (List ℕ)). name_in l row.value.rule) names_b
 
   row_left : (x : ℕ) (other : List ℕ) → IsLive (forest b.tree) x → IsLive (forest e.tree) x → Contains (rules_at old (moment_at (forest b.tree) x)) other

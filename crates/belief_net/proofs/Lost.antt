@@ -37,7 +37,7 @@ on_at (x ∷ xs) zero d less = IsOn-first x xs
 on_at (x ∷ xs) (suc i) d less = IsOn-rest (get_or xs i d) x xs (on_at xs i d (omega (arith, less)))
 
 -- a row that is the same is on the same lists
-listed_same : (t u : Table Pair 6) → AreListed t → AreListed u → (i k : ℕ) → t.row i ≡ u.row i → IsListedUnder t k i → IsListedUnder u k i
+listed_same : (t u : Table Pair 8) → AreListed t → AreListed u → (i k : ℕ) → t.row i ≡ u.row i → IsListedUnder t k i → IsListedUnder u k i
 listed_same t u in_t in_u i k same (a, less, on) = (a, less, (in_u.each i (a + 2) k).1 (subst (λ o. StandsUnder (live o) (a + 2) k) same ((in_t.each i (a + 2) k).0 on)))
 
 -- ---- what a node marks
@@ -48,8 +48,8 @@ record Marked (net : Net) (tree : Kept) (going : List ℕ) (y : ℕ) (old new : 
   marks : List Mark
   are : AreMarksOn net tree going (y ∷ []) (place_in new.classes) marks
   only : (i : ℕ) → (dates_in new.waiting i ≡ dates_in old.waiting i)
-      ⊎ ((r : TableRow Pair 6) × ((table_of old).row i ≡ Some r) × IsMarkedFor (present tree) (table_of old) marks i r × WaitsAt (present tree) (dates_in new.waiting) i r)
-  all : (i : ℕ) (row : TableRow Pair 6) → (table_of old).row i ≡ Some row → IsMarkedFor (present tree) (table_of old) marks i row → WaitsAt (present tree) (dates_in new.waiting) i row
+      ⊎ ((r : TableRow Pair 8) × ((table_of old).row i ≡ Some r) × IsMarkedFor (present tree) (table_of old) marks i r × WaitsAt (present tree) (dates_in new.waiting) i r)
+  all : (i : ℕ) (row : TableRow Pair 8) → (table_of old).row i ≡ Some row → IsMarkedFor (present tree) (table_of old) marks i row → WaitsAt (present tree) (dates_in new.waiting) i row
 
 node_marks : (net : Net) (tree : Kept) (going : List ℕ) (y : ℕ) (old new : Decisions) → MarksNode net tree going y old new → Marked net tree going y old new
 node_marks net tree going y old new (an_event none same) = record {
@@ -119,25 +119,25 @@ module _ (net : Net) (tree : Kept) (going front : List ℕ) (y : ℕ) (old d new
   new_is i = ap (λ rows. (table_of (record mid { rows = rows })).row i) m.rows
 
   -- a row that is there when the node's are gone was there before
-  was_there : (i : ℕ) (row : TableRow Pair 6) → (table_of n.mid).row i ≡ Some row → ((table_of d).row i ≡ Some row) × (dates_in n.mid.waiting i ≡ dates_in d.waiting i)
+  was_there : (i : ℕ) (row : TableRow Pair 8) → (table_of n.mid).row i ≡ Some row → ((table_of d).row i ≡ Some row) × (dates_in n.mid.waiting i ≡ dates_in d.waiting i)
   was_there i row at = elim (n.drops.each i) [
     | inl same ↦ (sym same.row ∙ at, same.waits)
     | inr dropped ↦ absurd (none_some ((table_of n.mid).row i) row dropped.gone at)
   ]
 
-  was_first : (i : ℕ) (row : TableRow Pair 6) → (table_of d).row i ≡ Some row → (table_of old).row i ≡ (table_of d).row i
+  was_first : (i : ℕ) (row : TableRow Pair 8) → (table_of d).row i ≡ Some row → (table_of old).row i ≡ (table_of d).row i
   was_first i row at = elim (l.each i) [
     | inl left ↦ sym left.row
     | inr lost ↦ absurd (none_some ((table_of d).row i) row lost.lost at)
   ]
 
-  on_old : (i : ℕ) (row : TableRow Pair 6) → (table_of n.mid).row i ≡ Some row → IsMarkedFor (present tree) (table_of n.mid) m.marks i row → IsMarkedFor (present tree) (table_of old) (l.marks ++ m.marks) i row
+  on_old : (i : ℕ) (row : TableRow Pair 8) → (table_of n.mid).row i ≡ Some row → IsMarkedFor (present tree) (table_of n.mid) m.marks i row → IsMarkedFor (present tree) (table_of old) (l.marks ++ m.marks) i row
   on_old i row at (mark, there, listed, late, unspared) =
       let before = (was_there i row at).0 in
       let same : (table_of n.mid).row i ≡ (table_of old).row i = at ∙ sym before ∙ sym (was_first i row before) in
       (mark, In-right l.marks m.marks mark there, listed_same (table_of n.mid) (table_of old) n.listed l.listed i mark.class same listed, late, unspared)
 
-  on_mid : (i : ℕ) (row : TableRow Pair 6) → (table_of n.mid).row i ≡ Some row → (mark : Mark) → IsListedUnder (table_of old) mark.class i → IsListedUnder (table_of n.mid) mark.class i
+  on_mid : (i : ℕ) (row : TableRow Pair 8) → (table_of n.mid).row i ≡ Some row → (mark : Mark) → IsListedUnder (table_of old) mark.class i → IsListedUnder (table_of n.mid) mark.class i
   on_mid i row at mark listed =
       let before = (was_there i row at).0 in
       listed_same (table_of old) (table_of n.mid) l.listed n.listed i mark.class (was_first i row before ∙ before ∙ sym at) listed
@@ -193,7 +193,7 @@ module _ (net : Net) (tree : Kept) (going front : List ℕ) (y : ℕ) (old d new
     ]
   ]
 
-  none : (i : ℕ) (row : TableRow Pair 6) → (table_of new).row i ≡ Some row → IsOn (front ++ y ∷ []) row.value.trigger → ⊥
+  none : (i : ℕ) (row : TableRow Pair 8) → (table_of new).row i ≡ Some row → IsOn (front ++ y ∷ []) row.value.trigger → ⊥
   none i row at on =
       let here : (table_of n.mid).row i ≡ Some row = sym (new_is i) ∙ at in
       elim (IsOn-append_cases front (y ∷ []) row.value.trigger on) [
@@ -201,7 +201,7 @@ module _ (net : Net) (tree : Kept) (going front : List ℕ) (y : ℕ) (old d new
         | inr last ↦ n.drops.none i row here (alone y row.value.trigger last)
       ]
 
-  all : (i : ℕ) (row : TableRow Pair 6) → (table_of new).row i ≡ Some row → IsMarkedFor (present tree) (table_of old) (l.marks ++ m.marks) i row → WaitsAt (present tree) (dates_in new.waiting) i row
+  all : (i : ℕ) (row : TableRow Pair 8) → (table_of new).row i ≡ Some row → IsMarkedFor (present tree) (table_of old) (l.marks ++ m.marks) i row → WaitsAt (present tree) (dates_in new.waiting) i row
   all i row at (mark, there, listed, late, unspared) =
       let here : (table_of n.mid).row i ≡ Some row = sym (new_is i) ∙ at in
       let (before, waits) = was_there i row here in
@@ -219,7 +219,7 @@ module _ (net : Net) (tree : Kept) (going front : List ℕ) (y : ℕ) (old d new
 -- ---- what stays
 
 module _ (net : Net) (tree : Kept) (going gone : List ℕ) (old new : Decisions) (l : LosesRows net tree going gone old new) where
-  pub left_row : (i : ℕ) (row : TableRow Pair 6) → (table_of new).row i ≡ Some row → (table_of old).row i ≡ Some row
+  pub left_row : (i : ℕ) (row : TableRow Pair 8) → (table_of new).row i ≡ Some row → (table_of old).row i ≡ Some row
   left_row i row at = elim (l.each i) [
     | inl left ↦ sym left.row ∙ at
     | inr lost ↦ absurd (none_some ((table_of new).row i) row lost.lost at)

@@ -79,30 +79,30 @@ module _ (old : Standing) (edit : Edit) (net : Net) (b c e : BeliefNet) (due : D
   p = row_due b due.row t.decided.row
 
   -- the name of a rule under its number, before and after
-  name_is : (i : ℕ) (row : TableRow Pair 6) → (table_of b.decisions).row i ≡ Some row → name_in e.decisions.rules row.value.rule ≡ name_in b.decisions.rules row.value.rule
+  name_is : (i : ℕ) (row : TableRow Pair 8) → (table_of b.decisions).row i ≡ Some row → name_in e.decisions.rules row.value.rule ≡ name_in b.decisions.rules row.value.rule
   name_is i row at =
       let more : HaveMore b.decisions.rules e.decisions.rules = subst (λ l. HaveMore l e.decisions.rules) t.decided.rules t.moves.last.rules in
       name_stays b.decisions.rules e.decisions.rules row.value.rule more (t.fit.under.named i row at)
 
   -- the event of a row that stays
-  moment_is : (i : ℕ) (row : TableRow Pair 6) → (table_of b.decisions).row i ≡ Some row → IsLive g row.value.trigger → moment_at g row.value.trigger ≡ moment_at f row.value.trigger
+  moment_is : (i : ℕ) (row : TableRow Pair 8) → (table_of b.decisions).row i ≡ Some row → IsLive g row.value.trigger → moment_at g row.value.trigger ≡ moment_at f row.value.trigger
   moment_is i row at live =
       let (m, here) = node_at f row.value.trigger (t.fit.events i row at) in
       let then_ = member_stays s net.names f g p due.found t.tree row.value.trigger m here live in
       moment_at-is g row.value.trigger m then_ ∙ sym (moment_at-is f row.value.trigger m here)
 
   -- the row that was decided waits no more
-  rests : (row : TableRow Pair 6) → (table_of e.decisions).row x ≡ Some row → row ≡ with_found due.found t.decided.row → IsKeptRow s g t.marks c.decisions e.decisions x row → waits_in e.decisions.waiting x ≡ false
+  rests : (row : TableRow Pair 8) → (table_of e.decisions).row x ≡ Some row → row ≡ with_found due.found t.decided.row → IsKeptRow s g t.marks c.decisions e.decisions x row → waits_in e.decisions.waiting x ≡ false
   rests row there is keeps = elim (cases_Bool (waits_in e.decisions.waiting x)) [
     | inr no_wait ↦ no_wait
     | inl wait ↦ absurd (by (keeps.waits.0 wait))
   ]
     where
       live_g : IsLive g t.decided.row.value.trigger
-      live_g = subst (λ (z : TableRow Pair 6). IsLive g z.value.trigger) is (t.fit_after.events x row there)
+      live_g = subst (λ (z : TableRow Pair 8). IsLive g z.value.trigger) is (t.fit_after.events x row there)
 
       here : moment_at g row.value.trigger ≡ moment_at f due.trigger
-      here = ap (λ (z : TableRow Pair 6). moment_at g z.value.trigger) is ∙ moment_is x t.decided.row t.decided.at live_g ∙ ap (moment_at f) t.decided.trigger
+      here = ap (λ (z : TableRow Pair 8). moment_at g z.value.trigger) is ∙ moment_is x t.decided.row t.decided.at live_g ∙ ap (moment_at f) t.decided.trigger
 
       by : (waits_in c.decisions.waiting x ≡ true) ⊎ IsMarkedAt s g (table_of c.decisions) t.marks x row → ⊥
       by (inl waited) = (let no : false ≡ true = sym (ap is_some t.decided.takes.puts.at) ∙ waited in cc)
@@ -124,7 +124,7 @@ module _ (old : Standing) (edit : Edit) (net : Net) (b c e : BeliefNet) (due : D
   own : (i : ℕ) (q : Row) → rows_of e i ≡ Some q → ComesFrom (revision (built old) (built (next_list old edit))) f g (rows_of b) x p due.found i q
   own i q at = let (row, there, is) = row_of e i q at in by row there is (t.moves.each i row there)
     where
-      by : (row : TableRow Pair 6) → (table_of e.decisions).row i ≡ Some row → q ≡ seen_row e i row
+      by : (row : TableRow Pair 8) → (table_of e.decisions).row i ≡ Some row → q ≡ seen_row e i row
           → IsKeptRow s g t.marks c.decisions e.decisions i row ⊎ IsComing f c.decisions e.decisions i row
           → ComesFrom (revision (built old) (built (next_list old edit))) f g (rows_of b) x p due.found i q
       by row there is (inr coming) =
@@ -179,20 +179,20 @@ module _ (old : Standing) (edit : Edit) (net : Net) (b c e : BeliefNet) (due : D
   live : (i : ℕ) (q : Row) → rows_of e i ≡ Some q → IsLive g q.trigger
   live i q at = let (row, there, is) = row_of e i q at in subst (λ (z : Row). IsLive g z.trigger) (sym is) (t.fit_after.events i row there)
 
-  some_then : (i : ℕ) (row : TableRow Pair 6) → (table_of c.decisions).row i ≡ Some row → IsLive g row.value.trigger → IsSome (rows_of e i)
+  some_then : (i : ℕ) (row : TableRow Pair 8) → (table_of c.decisions).row i ≡ Some row → IsLive g row.value.trigger → IsSome (rows_of e i)
   some_then i row there is_live = still ((table_of e.decisions).row i) (t.moves.stay i row there is_live)
     where
-      still : (o : Option (TableRow Pair 6)) → IsSome o → IsSome (option_map (seen_row e i) o)
+      still : (o : Option (TableRow Pair 8)) → IsSome o → IsSome (option_map (seen_row e i) o)
       still None none = none
       still (Some r) some = refl
 
   stay : (i : ℕ) (o : Row) → rows_of b i ≡ Some o → IsLive g o.trigger → IsSome (rows_of e i)
   stay i o at is_live = let (row, there, is) = row_of b i o at in by row there (subst (λ (z : Row). IsLive g z.trigger) is is_live) (eqb_tells i x)
     where
-      by : (row : TableRow Pair 6) → (table_of b.decisions).row i ≡ Some row → IsLive g row.value.trigger → ((eqb i x ≡ true) × (i ≡ x)) ⊎ ((eqb i x ≡ false) × (i ≡ x → ⊥)) → IsSome (rows_of e i)
+      by : (row : TableRow Pair 8) → (table_of b.decisions).row i ≡ Some row → IsLive g row.value.trigger → ((eqb i x ≡ true) × (i ≡ x)) ⊎ ((eqb i x ≡ false) × (i ≡ x → ⊥)) → IsSome (rows_of e i)
       by row there row_live (inl same) =
           let one = one_row (table_of b.decisions) x row t.decided.row (ap (table_of b.decisions).row (sym same.1) ∙ there) t.decided.at in
-          some_then i (with_found due.found t.decided.row) (ap (table_of c.decisions).row same.1 ∙ decided_row s net b c due t.fit t.decided) (subst (λ (z : TableRow Pair 6). IsLive g z.value.trigger) one row_live)
+          some_then i (with_found due.found t.decided.row) (ap (table_of c.decisions).row same.1 ∙ decided_row s net b c due t.fit t.decided) (subst (λ (z : TableRow Pair 8). IsLive g z.value.trigger) one row_live)
       by row there row_live (inr apart) = some_then i row (other_row s net b c due t.fit t.decided i apart.1 ∙ there) row_live
 
   pub turn : IsCodeTurn (revision (built old) (built (next_list old edit))) (next_list old edit) net.names f g (rows_of b) (rows_of e) x p due.found

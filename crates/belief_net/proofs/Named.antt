@@ -8,7 +8,7 @@ use Rattle.std.specs.Cmp.Lexicographic.{bytes_decides}
 use Rattle.std.proofs.lemmas.Iterator.Adapters.{position_from-zero}
 use Rattle.std.proofs.lemmas.List.{append_assoc, get_or_append_left, map-append}
 use Rattle.tmm_model.specs.Beliefs.{class_of}
-use Rattle.tmm_model.specs.Moments.{rule_of}
+use Rattle.tmm_model.specs.Moments.{read_by, rule_of}
 use Rattle.tmm_model.specs.Points.{same_name}
 use Rattle.tmm_model.specs.Sorts.{class_in}
 use Rattle.tmm_model.specs.Standing.{Standing}
@@ -72,13 +72,13 @@ numbers_next s old new facts i fact class k numbers more before have within is o
     ∙ sym (map-append Some numbers (k ∷ []))
     ∙ ap (map Some) (sym pushed)
 
-pub under_more : (s : Standing) (rules rules_after classes classes_after : List (List ℕ)) (row : TableRow Pair 6) → HaveMore rules rules_after → HaveMore classes classes_after
+pub under_more : (s : Standing) (rules rules_after classes classes_after : List (List ℕ)) (row : TableRow Pair 8) → HaveMore rules rules_after → HaveMore classes classes_after
     → row.value.rule < length rules → IsUnderClasses s (name_in rules) (place_in classes) row → IsUnderClasses s (name_in rules_after) (place_in classes_after) row
 under_more s rules rules_after classes classes_after row more_rules more_classes named u = record {
   classes = u.classes;
   few = u.few;
-  numbers = subst (λ name. map (λ fact. place_in classes_after (class_of s fact)) (rule_of s name).given ≡ map Some u.classes) (sym (name_stays rules rules_after row.value.rule more_rules named))
-      (numbers_stay (class_of s) classes classes_after (rule_of s (name_in rules row.value.rule)).given u.classes more_classes u.numbers);
+  numbers = subst (λ name. map (λ fact. place_in classes_after (class_of s fact)) (read_by (rule_of s name)) ≡ map Some u.classes) (sym (name_stays rules rules_after row.value.rule more_rules named))
+      (numbers_stay (class_of s) classes classes_after (read_by (rule_of s (name_in rules row.value.rule))) u.classes more_classes u.numbers);
   heads = u.heads;
 }
 

@@ -31,16 +31,16 @@ module _ (s : State) where
   }
 
   module _ (front : List (List ℕ)) (class : List ℕ) (old mid new : Decisions) (p : MarksClasses s front old mid) (q : MarksClass s class (pos 0) mid new) (last : KeepsLast mid new) where
-    abbrev First : ℕ → TableRow Pair 6 → Type 0
+    abbrev First : ℕ → TableRow Pair 8 → Type 0
     First i row = ReadsOneOf (table_of old) mid.classes front i × IsAsLate s (pos 0) row
 
-    abbrev Then : ℕ → TableRow Pair 6 → Type 0
+    abbrev Then : ℕ → TableRow Pair 8 → Type 0
     Then i row = IsListedUnder (table_of old) q.number i × IsAsLate s (pos 0) row
 
-    abbrev Both : ℕ → TableRow Pair 6 → Type 0
+    abbrev Both : ℕ → TableRow Pair 8 → Type 0
     Both i row = ReadsOneOf (table_of old) new.classes (front ++ class ∷ []) i × IsAsLate s (pos 0) row
 
-    parted : (i : ℕ) (row : TableRow Pair 6) → Both i row → First i row ⊎ Then i row
+    parted : (i : ℕ) (row : TableRow Pair 8) → Both i row → First i row ⊎ Then i row
     parted i row ((c, k, at, is, on), late) = elim (In-cases front (class ∷ []) c at) [
       | inl there ↦ (
           let (j, was) = p.numbered c there in
@@ -56,10 +56,10 @@ module _ (s : State) where
       ]
     ]
 
-    from_first : (i : ℕ) (row : TableRow Pair 6) → First i row → Both i row
+    from_first : (i : ℕ) (row : TableRow Pair 8) → First i row → Both i row
     from_first i row ((c, k, at, is, on), late) = ((c, k, In-left front (class ∷ []) c at, place_stays mid.classes new.classes last.classes c k is, on), late)
 
-    from_then : (i : ℕ) (row : TableRow Pair 6) → Then i row → Both i row
+    from_then : (i : ℕ) (row : TableRow Pair 8) → Then i row → Both i row
     from_then i row (on, late) = ((class, q.number, In-right front (class ∷ []) class (inl refl), q.numbered, on), late)
 
     pub classes_next : MarksClasses s (front ++ class ∷ []) old new
@@ -73,5 +73,5 @@ module _ (s : State) where
         | inr here ↦ elim here [ inl same ↦ (q.number, subst (λ z. place_in new.classes z ≡ Some q.number) same q.numbered) | inr none ↦ absurd none ]
       ];
       marks = marks_both s (table_of old) First Then Both (dates_in old.waiting) (dates_in mid.waiting) (dates_in new.waiting) parted from_first from_then p.marks
-          (subst (λ (rs : Logged Pair 6). Marks s (table rs) (λ i row. IsListedUnder (table rs) q.number i × IsAsLate s (pos 0) row) (dates_in mid.waiting) (dates_in new.waiting)) p.rows q.marks);
+          (subst (λ (rs : Logged Pair 8). Marks s (table rs) (λ i row. IsListedUnder (table rs) q.number i × IsAsLate s (pos 0) row) (dates_in mid.waiting) (dates_in new.waiting)) p.rows q.marks);
     }

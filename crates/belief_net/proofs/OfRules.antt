@@ -34,8 +34,8 @@ pub row_high : (f : Forest) (x : ℕ) (row : NodeRow) → IsLive f x → IsRowOf
 row_high f x row live told = let (m, at) = node_at f x live in ap (λ (o : Option Member). links_high (option_map_or (λ (m : Member). m.links) o [])) at ∙ sym (told m at).high
 
 -- rows that are there are marked alike by what is alike of them
-pub marks_alike : (s : State) (t : Table Pair 6) (P Q : ℕ → TableRow Pair 6 → Type 0) (old new : Dates)
-    → ((i : ℕ) (row : TableRow Pair 6) → t.row i ≡ Some row → P i row ↔ Q i row) → Marks s t P old new → Marks s t Q old new
+pub marks_alike : (s : State) (t : Table Pair 8) (P Q : ℕ → TableRow Pair 8 → Type 0) (old new : Dates)
+    → ((i : ℕ) (row : TableRow Pair 8) → t.row i ≡ Some row → P i row ↔ Q i row) → Marks s t P old new → Marks s t Q old new
 marks_alike s t P Q old new alike marks = record {
   all = λ i row at q. marks.all i row at ((alike i row at).1 q);
   only = λ i. elim (marks.only i) [
@@ -46,9 +46,9 @@ marks_alike s t P Q old new alike marks = record {
 
 -- ---- along a list
 
-module _ (s : State) (t : Table Pair 6) (events : Events) where
+module _ (s : State) (t : Table Pair 8) (events : Events) where
   -- the rows of the front of a list that are at the events
-  abbrev pub AtFront : List ℕ → ℕ → TableRow Pair 6 → Type 0
+  abbrev pub AtFront : List ℕ → ℕ → TableRow Pair 8 → Type 0
   AtFront front i row = IsOn front i × (is_event_of events s row.value.trigger ≡ true)
 
   pub front_start : (dates : Dates) → Marks s t (AtFront []) dates dates
@@ -67,18 +67,18 @@ module _ (s : State) (t : Table Pair 6) (events : Events) where
 -- ---- by the rules, one after the other
 
 -- the row is of one of the first n rules
-abbrev pub OfFirst : (TableRow Pair 6 → Type 0) → ℕ → ℕ → TableRow Pair 6 → Type 0
+abbrev pub OfFirst : (TableRow Pair 8 → Type 0) → ℕ → ℕ → TableRow Pair 8 → Type 0
 OfFirst P n i row = (row.value.rule < n) × P row
 
-pub rules_none : (s : State) (t : Table Pair 6) (P : TableRow Pair 6 → Type 0) (dates : Dates) → Marks s t (OfFirst P 0) dates dates
+pub rules_none : (s : State) (t : Table Pair 8) (P : TableRow Pair 8 → Type 0) (dates : Dates) → Marks s t (OfFirst P 0) dates dates
 rules_none s t P dates = marks_none s t (OfFirst P 0) dates (λ i row of. (let less = of.0 in omega (arith, less)))
 
 module _ (list : Standing) (d : Decisions) (under : AreUnder list d) (listed : AreListed (table_of d)) where
-  pub on_rule : (i n : ℕ) (row : TableRow Pair 6) → (table_of d).row i ≡ Some row → IsOn ((table_of d).list 1 n) i ↔ (row.value.rule ≡ n)
+  pub on_rule : (i n : ℕ) (row : TableRow Pair 8) → (table_of d).row i ≡ Some row → IsOn ((table_of d).list 1 n) i ↔ (row.value.rule ≡ n)
   on_rule i n row at = let u = under.classes i row at in (pairs_listed d.rows i n row (classes_in u.classes) listed at u.heads).1
 
-  pub rules_next : (s : State) (P : TableRow Pair 6 → Type 0) (n : ℕ) (events : Events) (old mid new : Dates)
-      → ((i : ℕ) (row : TableRow Pair 6) → (table_of d).row i ≡ Some row → row.value.rule ≡ n → (is_event_of events s row.value.trigger ≡ true) ↔ P row)
+  pub rules_next : (s : State) (P : TableRow Pair 8 → Type 0) (n : ℕ) (events : Events) (old mid new : Dates)
+      → ((i : ℕ) (row : TableRow Pair 8) → (table_of d).row i ≡ Some row → row.value.rule ≡ n → (is_event_of events s row.value.trigger ≡ true) ↔ P row)
       → Marks s (table_of d) (OfFirst P n) old mid → Marks s (table_of d) (IsOfRuleAt (table_of d) n events s) mid new
       → Marks s (table_of d) (OfFirst P (n + 1)) old new
   rules_next s P n events old mid new is first then_ =
@@ -94,14 +94,14 @@ module _ (list : Standing) (d : Decisions) (under : AreUnder list d) (listed : A
       ))
       then_)
     where
-      apart : (i : ℕ) (row : TableRow Pair 6) → OfFirst P (n + 1) i row → OfFirst P n i row ⊎ ((row.value.rule ≡ n) × P row)
+      apart : (i : ℕ) (row : TableRow Pair 8) → OfFirst P (n + 1) i row → OfFirst P n i row ⊎ ((row.value.rule ≡ n) × P row)
       apart i row (less, p) = elim (cases_order row.value.rule n) [
         | inl same ↦ inr (same, p)
         | inr other ↦ elim other [ inl below ↦ inl (below, p) | inr above ↦ absurd (omega (arith, less, above)) ]
       ]
 
   -- no row is of the rule
-  pub rules_skip : (s : State) (P : TableRow Pair 6 → Type 0) (n : ℕ) (old new : Dates) → first_or None ((table_of d).list 1 n) ≡ None
+  pub rules_skip : (s : State) (P : TableRow Pair 8 → Type 0) (n : ℕ) (old new : Dates) → first_or None ((table_of d).list 1 n) ≡ None
       → Marks s (table_of d) (OfFirst P n) old new → Marks s (table_of d) (OfFirst P (n + 1)) old new
   rules_skip s P n old new none = marks_alike s (table_of d) (OfFirst P n) (OfFirst P (n + 1)) old new
       (λ i row at. ((λ of. (let less = of.0 in (omega (arith, less), of.1))), λ of. (before i row at of.0, of.1)))
@@ -110,13 +110,13 @@ module _ (list : Standing) (d : Decisions) (under : AreUnder list d) (listed : A
       nothing [] is i on = (let no : false ≡ true = on in cc)
       nothing (x ∷ l) is i on = (let no : Some x ≡ None = is in cc)
 
-      before : (i : ℕ) (row : TableRow Pair 6) → (table_of d).row i ≡ Some row → row.value.rule < n + 1 → row.value.rule < n
+      before : (i : ℕ) (row : TableRow Pair 8) → (table_of d).row i ≡ Some row → row.value.rule < n + 1 → row.value.rule < n
       before i row at less = elim (cases_order row.value.rule n) [
         | inl same ↦ absurd (nothing ((table_of d).list 1 n) none i ((on_rule i n row at).1 same))
         | inr other ↦ elim other [ inl below ↦ below | inr above ↦ absurd (omega (arith, less, above)) ]
       ]
 
   -- after the last one, all rows were looked at
-  pub rules_all : (s : State) (P : TableRow Pair 6 → Type 0) (n : ℕ) (old new : Dates) → ((i : ℕ) (row : TableRow Pair 6) → (table_of d).row i ≡ Some row → row.value.rule < n)
+  pub rules_all : (s : State) (P : TableRow Pair 8 → Type 0) (n : ℕ) (old new : Dates) → ((i : ℕ) (row : TableRow Pair 8) → (table_of d).row i ≡ Some row → row.value.rule < n)
       → Marks s (table_of d) (OfFirst P n) old new → Marks s (table_of d) (λ i row. P row) old new
   rules_all s P n old new below marks = marks_alike s (table_of d) (OfFirst P n) (λ i row. P row) old new (λ i row at. ((λ of. of.1), λ p. (below i row at, p))) marks

@@ -190,7 +190,7 @@ marked_under s c m rows last under = record {
   named = λ i row at. named_more c.rules m.rules row.value.rule last.rules (under.named i row (was i row at));
 }
   where
-    was : (i : ℕ) (row : TableRow Pair 6) → (table_of m).row i ≡ Some row → (table_of c).row i ≡ Some row
+    was : (i : ℕ) (row : TableRow Pair 8) → (table_of m).row i ≡ Some row → (table_of c).row i ≡ Some row
     was i row at = ap (λ rs. (table_of (record c { rows = rs })).row i) (sym rows) ∙ at
 
 module _ (old : Standing) (edit : Edit) (nets : Nets) (names : List (List ℕ)) (b e c m : BeliefNet) (all : Departed) (h : IsErased old (next_list old edit) nets names b e all)
@@ -222,7 +222,7 @@ pub record IsOpened (s : Standing) (nets : Nets) (edit : Edit) (before : ℕ) (m
 abbrev waiting_with : BeliefNet → List (Option ℤ) → BeliefNet
 waiting_with n dates = record n { decisions = record n.decisions { waiting = dates } }
 
-module _ (n : BeliefNet) (dates : List (Option ℤ)) (P R : ℕ → TableRow Pair 6 → Type 0)
+module _ (n : BeliefNet) (dates : List (Option ℤ)) (P R : ℕ → TableRow Pair 8 → Type 0)
     (touched : Wakes (present n.tree) (table_of n.decisions) P R (dates_in n.decisions.waiting) (dates_in dates)) where
   wait_still : (i : ℕ) → waits_in n.decisions.waiting i ≡ true → waits_in dates i ≡ true
   wait_still i waited = elim (touched.only i) [ inl same ↦ ap is_some same ∙ waited | inr marked ↦ ap is_some marked.3 ]
@@ -246,7 +246,7 @@ module _ (n : BeliefNet) (dates : List (Option ℤ)) (P R : ℕ → TableRow Pai
 
   -- of the rows that wait those are not marked that waited
   waited_or : (i : ℕ) (o q : Row) → rows_of n i ≡ Some o → rows_of (waiting_with n dates) i ≡ Some q → q.waits ≡ true
-      → (o.waits ≡ true) ⊎ ((row : TableRow Pair 6) × ((table_of n.decisions).row i ≡ Some row) × (q ≡ seen_row (waiting_with n dates) i row) × P i row)
+      → (o.waits ≡ true) ⊎ ((row : TableRow Pair 8) × ((table_of n.decisions).row i ≡ Some row) × (q ≡ seen_row (waiting_with n dates) i row) × P i row)
   waited_or i o q there at waits =
       let (row, here, is) = row_of (waiting_with n dates) i q at in
       let (other, before, is_o) = row_of n i o there in
@@ -257,7 +257,7 @@ module _ (n : BeliefNet) (dates : List (Option ℤ)) (P R : ℕ → TableRow Pai
 
   -- each waits, or may rest
   waits_or : (i : ℕ) (q : Row) → rows_of (waiting_with n dates) i ≡ Some q
-      → (row : TableRow Pair 6) × ((table_of n.decisions).row i ≡ Some row) × (q ≡ seen_row (waiting_with n dates) i row) × ((q.waits ≡ true) ⊎ R i row)
+      → (row : TableRow Pair 8) × ((table_of n.decisions).row i ≡ Some row) × (q ≡ seen_row (waiting_with n dates) i row) × ((q.waits ≡ true) ⊎ R i row)
   waits_or i q at =
       let (row, here, is) = row_of (waiting_with n dates) i q at in
       (row, here, is, elim (touched.rests i row here) [ inl waits ↦ inl (ap (λ (r : Row). r.waits) is ∙ waits) | inr rests ↦ inr rests ])
@@ -307,8 +307,8 @@ module _ (old : Standing) (edit : Edit) (nets : Nets) (names : List (List ℕ)) 
   abbrev MayRestAt : List ℕ → ℕ → Type 0
   MayRestAt r x = (loose : ℕ → Bool) × AreLoose (is_moved nets (name_added edit)) loose × MayRest (is_moved nets (name_added edit)) loose (next_list old edit) nets (forest n.tree) r x
 
-  prepared_moved : ((row : TableRow Pair 6) → IsTouchedBy edit (next_list old edit) nets before n row ≡ IsRowMoved nets (name_added edit) (next_list old edit) (forest n.tree) n.decisions row)
-      → ((row : TableRow Pair 6) → IsLeftBy edit (next_list old edit) nets before n row ≡ IsRowAtRest nets (name_added edit) (next_list old edit) (forest n.tree) n.decisions row)
+  prepared_moved : ((row : TableRow Pair 8) → IsTouchedBy edit (next_list old edit) nets before n row ≡ IsRowMoved nets (name_added edit) (next_list old edit) (forest n.tree) n.decisions row)
+      → ((row : TableRow Pair 8) → IsLeftBy edit (next_list old edit) nets before n row ≡ IsRowAtRest nets (name_added edit) (next_list old edit) (forest n.tree) n.decisions row)
       → old.horizon ≡ (next_list old edit).horizon
       → IsPrepared old (next_list old edit) nets.present (forest b.tree) (forest n.tree) (rows_of b) (rows_of (waiting_with n z.decisions.waiting))
   prepared_moved by_move by_rest same =
@@ -363,10 +363,10 @@ module _ (old : Standing) (k : ℕ) (nets : Nets) (names : List (List ℕ)) (bef
   abbrev is_in_time : Row → ℕ → Bool
   is_in_time q limit = int_le (due old (far_in old.premises) (moment_at (forest n.tree) q.trigger) q.rule) (pos limit)
 
-  abbrev between : TableRow Pair 6 → Bool
+  abbrev between : TableRow Pair 8 → Bool
   between row = is_between (early (present n.tree) row.value.trigger +ℤ (rule_of until (rule_in n.decisions row)).lo) before k
 
-  due_changes : (row : TableRow Pair 6) → IsLive (forest n.tree) row.value.trigger
+  due_changes : (row : TableRow Pair 8) → IsLive (forest n.tree) row.value.trigger
       → (between row ≡ false → is_in_time (seen_row v 0 row) before ≡ is_in_time (seen_row v 0 row) k) × (between row ≡ true → is_in_time (seen_row v 0 row) before ≢ is_in_time (seen_row v 0 row) k)
   due_changes row live = due_rows_change until nets.present n.tree row.value.trigger (rule_in n.decisions row) before k o.entered.fit.tree live
 
@@ -376,7 +376,7 @@ module _ (old : Standing) (k : ℕ) (nets : Nets) (names : List (List ℕ)) (bef
       let same = (due_changes row (o.entered.fit.events i row here)).0 (elim waits [ inl waiting ↦ true_false (sym waiting ∙ rests) | inr left ↦ not_between row left (between row) refl ]) in
       subst (λ d. is_in_time q d ≡ is_in_time q k) is_before (subst (λ (r : Row). is_in_time r before ≡ is_in_time r k) (sym is) same)
     where
-      not_between : (row : TableRow Pair 6) → (between row ≡ true → ⊥) → (t : Bool) → between row ≡ t → between row ≡ false
+      not_between : (row : TableRow Pair 8) → (between row ≡ true → ⊥) → (t : Bool) → between row ≡ t → between row ≡ false
       not_between row left false is = is
       not_between row left true is = absurd (left is)
 

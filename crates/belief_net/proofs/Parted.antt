@@ -196,7 +196,7 @@ drops_next front y a b c p q = record {
         | inl same ↦ same.row ∙ there
         | inr dropped ↦ (
             let one = one_row (table_of b) i dropped.row row dropped.was there in
-            let here : row.value.trigger ≡ y = ap (λ (z : TableRow Pair 6). z.value.trigger) (sym one) ∙ dropped.at_event in
+            let here : row.value.trigger ≡ y = ap (λ (z : TableRow Pair 8). z.value.trigger) (sym one) ∙ dropped.at_event in
             absurd (off (IsOn-append_right front (y ∷ []) row.value.trigger (subst (IsOn (y ∷ [])) (sym here) (IsOn-first y [])))))
       ];
   rests = λ i none. elim (q.each i) [

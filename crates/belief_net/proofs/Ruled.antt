@@ -77,40 +77,40 @@ module _ (tree : Kept) (rule kind : List ℕ) where
 
   module _ (s : _) (front : List ℕ) (y : ℕ) (old mid new : Decisions) (fresh : IsOn front y → ⊥) (under : AreUnder s mid) (last : KeepsLast mid new)
       (p : AddsRuleAt tree rule kind front old mid) (q : AddsRuleAt tree rule kind (y ∷ []) mid new) where
-    stays : (i : ℕ) (row : TableRow Pair 6) → (table_of mid).row i ≡ Some row → IsSameRow mid new i
+    stays : (i : ℕ) (row : TableRow Pair 8) → (table_of mid).row i ≡ Some row → IsSameRow mid new i
     stays i row at = elim (q.each i) [
       | inl same ↦ same
       | inr added ↦ absurd (none_some row (sym added.4.free ∙ at))
     ]
 
-    from_first : (x i : ℕ) (row : TableRow Pair 6) → IsNewRow x (early (present tree) x) old mid i row → IsNewRow x (early (present tree) x) old new i row × (rule_in new row ≡ rule_in mid row)
+    from_first : (x i : ℕ) (row : TableRow Pair 8) → IsNewRow x (early (present tree) x) old mid i row → IsNewRow x (early (present tree) x) old new i row × (rule_in new row ≡ rule_in mid row)
     from_first x i row at =
         let same = stays i row at.there in (
           record { free = at.free; there = same.row ∙ at.there; at_event = at.at_event; undecided = at.undecided; waits = same.waits ∙ at.waits },
           name_stays mid.rules new.rules row.value.rule last.rules (under.named i row at.there),
         )
 
-    from_then : (x i : ℕ) (row : TableRow Pair 6) → IsNewRow x (early (present tree) x) mid new i row → IsNewRow x (early (present tree) x) old new i row
+    from_then : (x i : ℕ) (row : TableRow Pair 8) → IsNewRow x (early (present tree) x) mid new i row → IsNewRow x (early (present tree) x) old new i row
     from_then x i row at = elim (p.each i) [
       | inl same ↦ record { free = sym same.row ∙ at.free; there = at.there; at_event = at.at_event; undecided = at.undecided; waits = at.waits }
       | inr added ↦ absurd (none_some added.1 (sym at.free ∙ added.4.there))
     ]
 
     -- a new row is one of the first, or the last
-    parted : (x i : ℕ) (row : TableRow Pair 6) → IsNewRow x (early (present tree) x) old new i row
+    parted : (x i : ℕ) (row : TableRow Pair 8) → IsNewRow x (early (present tree) x) old new i row
         → (IsNewRow x (early (present tree) x) old mid i row × IsOn front x) ⊎ (IsNewRow x (early (present tree) x) mid new i row × (x ≡ y))
     parted x i row at = elim (p.each i) [
       | inl same ↦ elim (q.each i) [
         | inl again ↦ absurd (none_some row (sym at.free ∙ sym same.row ∙ sym again.row ∙ at.there))
         | inr added ↦ (
             let one = one_row (table_of new) i added.1 row added.4.there at.there in
-            let here : x ≡ y = sym at.at_event ∙ ap (λ (z : TableRow Pair 6). z.value.trigger) (sym one) ∙ added.4.at_event ∙ alone y added.0 added.2 in
+            let here : x ≡ y = sym at.at_event ∙ ap (λ (z : TableRow Pair 8). z.value.trigger) (sym one) ∙ added.4.at_event ∙ alone y added.0 added.2 in
             inr (record { free = same.row ∙ at.free; there = at.there; at_event = at.at_event; undecided = at.undecided; waits = at.waits }, here))
       ]
       | inr added ↦ (
           let (then_new, _) = from_first added.0 i added.1 added.4 in
           let one = one_row (table_of new) i added.1 row then_new.there at.there in
-          let here : added.0 ≡ x = sym added.4.at_event ∙ ap (λ (z : TableRow Pair 6). z.value.trigger) one ∙ at.at_event in
+          let here : added.0 ≡ x = sym added.4.at_event ∙ ap (λ (z : TableRow Pair 8). z.value.trigger) one ∙ at.at_event in
           inl (subst (λ z. IsNewRow z (early (present tree) z) old mid i row) here (subst (IsNewRow added.0 (early (present tree) added.0) old mid i) one added.4), subst (IsOn front) here added.2))
     ]
 

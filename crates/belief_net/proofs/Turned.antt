@@ -41,17 +41,17 @@ use Rattle.belief_net.proofs.Entered.{one_row}
 -- ---- rows of a table as rows of a revision
 
 -- the row of a revision that a row of the table is
-abbrev pub seen_row : BeliefNet → ℕ → TableRow Pair 6 → Row
+abbrev pub seen_row : BeliefNet → ℕ → TableRow Pair 8 → Row
 seen_row b i row = as_row (name_in b.decisions.rules) (waits_in b.decisions.waiting i) row
 
-pub row_there : (b : BeliefNet) (i : ℕ) (row : TableRow Pair 6) → (table_of b.decisions).row i ≡ Some row → rows_of b i ≡ Some (seen_row b i row)
+pub row_there : (b : BeliefNet) (i : ℕ) (row : TableRow Pair 8) → (table_of b.decisions).row i ≡ Some row → rows_of b i ≡ Some (seen_row b i row)
 row_there b i row at = ap (option_map (seen_row b i)) at
 
-of_row : (b : BeliefNet) (i : ℕ) (o : Option (TableRow Pair 6)) (q : Row) → option_map (seen_row b i) o ≡ Some q → (row : TableRow Pair 6) × (o ≡ Some row) × (q ≡ seen_row b i row)
+of_row : (b : BeliefNet) (i : ℕ) (o : Option (TableRow Pair 8)) (q : Row) → option_map (seen_row b i) o ≡ Some q → (row : TableRow Pair 8) × (o ≡ Some row) × (q ≡ seen_row b i row)
 of_row b i None q e = absurd (cc)
 of_row b i (Some row) q e = let same : seen_row b i row ≡ q = cc in (row, refl, sym same)
 
-pub row_of : (b : BeliefNet) (i : ℕ) (q : Row) → rows_of b i ≡ Some q → (row : TableRow Pair 6) × ((table_of b.decisions).row i ≡ Some row) × (q ≡ seen_row b i row)
+pub row_of : (b : BeliefNet) (i : ℕ) (q : Row) → rows_of b i ≡ Some q → (row : TableRow Pair 8) × ((table_of b.decisions).row i ≡ Some row) × (q ≡ seen_row b i row)
 row_of b i q at = of_row b i ((table_of b.decisions).row i) q at
 
 date_there : (o : Option ℤ) → is_some o ≡ true → (date : ℤ) × (o ≡ Some date)
@@ -65,12 +65,12 @@ module _ (s : Standing) (net : Net) (b : BeliefNet) (fit : IsFit s net b) where
   date_is x live = fit.tree.dated x live ∙ early_is s net (forest b.tree) fit.tree.seen x live
 
   -- a row waits for the date of its event
-  pub waits_at : (i : ℕ) (row : TableRow Pair 6) (date : ℤ) → (table_of b.decisions).row i ≡ Some row → dates_in b.decisions.waiting i ≡ Some date
+  pub waits_at : (i : ℕ) (row : TableRow Pair 8) (date : ℤ) → (table_of b.decisions).row i ≡ Some row → dates_in b.decisions.waiting i ≡ Some date
       → date ≡ date_of s (far_in s.premises) (moment_at (forest b.tree) row.value.trigger)
   waits_at i row date at waits =
       let (other, there, is) = fit.dated i date waits in
       let one = one_row (table_of b.decisions) i other row there at in
-      is ∙ ap (λ (r : TableRow Pair 6). early (present b.tree) r.value.trigger) one ∙ date_is row.value.trigger (fit.events i row at)
+      is ∙ ap (λ (r : TableRow Pair 8). early (present b.tree) r.value.trigger) one ∙ date_is row.value.trigger (fit.events i row at)
 
   pub row_waits : (i : ℕ) (q : Row) → rows_of b i ≡ Some q → q.waits ≡ true
       → (date : ℤ) × (dates_in b.decisions.waiting i ≡ Some date) × (date ≡ date_of s (far_in s.premises) (moment_at (forest b.tree) q.trigger))
@@ -80,7 +80,7 @@ module _ (s : Standing) (net : Net) (b : BeliefNet) (fit : IsFit s net b) where
       (date, here, waits_at i row date there here ∙ ap (λ (z : Row). date_of s (far_in s.premises) (moment_at (forest b.tree) z.trigger)) (sym is))
 
   -- the rule of a row stands at its event
-  pub stands_at : IsRevising s net b → (i : ℕ) (row : TableRow Pair 6) → (table_of b.decisions).row i ≡ Some row
+  pub stands_at : IsRevising s net b → (i : ℕ) (row : TableRow Pair 8) → (table_of b.decisions).row i ≡ Some row
       → Contains (rules_at s (moment_at (forest b.tree) row.value.trigger)) (rule_in b.decisions row)
   stands_at rev i row at = subst (λ l. Contains (rules_at l (moment_at (forest b.tree) row.value.trigger)) (rule_in b.decisions row)) rev.list
       (rev.underway.netted.rows_are.own i (seen_row b i row) (row_there b i row at)).1
@@ -97,7 +97,7 @@ module _ (s : Standing) (net : Net) (b c : BeliefNet) (due : Due) (fit : IsFit s
   -- the row of each number then
   pub decided_row : (table_of c.decisions).row due.row ≡ Some (with_found due.found d.row)
   decided_row =
-      ap (λ (t : Table Pair 6). t.row due.row) d.decides.present_is
+      ap (λ (t : Table Pair 8). t.row due.row) d.decides.present_is
       ∙ ap (λ v. cond v (option_map (with_found due.found) ((table_of b.decisions).row due.row)) ((table_of b.decisions).row due.row)) (eq-eqb due.row due.row refl)
       ∙ ap (option_map (with_found due.found)) d.at
 
@@ -105,11 +105,11 @@ module _ (s : Standing) (net : Net) (b c : BeliefNet) (due : Due) (fit : IsFit s
   other_row i other = elim (eqb_tells i due.row) [
     | inl same ↦ absurd (other same.1)
     | inr apart ↦
-        ap (λ (t : Table Pair 6). t.row i) d.decides.present_is
+        ap (λ (t : Table Pair 8). t.row i) d.decides.present_is
         ∙ ap (λ v. cond v (option_map (with_found due.found) ((table_of b.decisions).row due.row)) ((table_of b.decisions).row i)) apart.0
   ]
 
-  pub row_cases : (i : ℕ) (r : TableRow Pair 6) → (table_of c.decisions).row i ≡ Some r
+  pub row_cases : (i : ℕ) (r : TableRow Pair 8) → (table_of c.decisions).row i ≡ Some r
       → ((i ≡ due.row) × (r ≡ with_found due.found d.row)) ⊎ ((i ≢ due.row) × ((table_of b.decisions).row i ≡ Some r))
   row_cases i r at = elim (eqb_tells i due.row) [
     | inl same ↦ inl (same.1, one_row (table_of c.decisions) due.row r (with_found due.found d.row) (ap (table_of c.decisions).row (sym same.1) ∙ at) decided_row)
@@ -121,23 +121,23 @@ module _ (s : Standing) (net : Net) (b c : BeliefNet) (due : Due) (fit : IsFit s
   of_tree P h = subst P (sym d.tree) h
 
   -- names are as they were
-  abbrev pub Under : List (List ℕ) → List (List ℕ) → TableRow Pair 6 → Type 0
+  abbrev pub Under : List (List ℕ) → List (List ℕ) → TableRow Pair 8 → Type 0
   Under rules classes r = IsUnderClasses s (name_in rules) (place_in classes) r
 
-  under_c : (r : TableRow Pair 6) → Under b.decisions.rules b.decisions.classes r → Under c.decisions.rules c.decisions.classes r
+  under_c : (r : TableRow Pair 8) → Under b.decisions.rules b.decisions.classes r → Under c.decisions.rules c.decisions.classes r
   under_c r u = subst (λ l. Under c.decisions.rules l r) (sym d.classes) (subst (λ l. Under l b.decisions.classes r) (sym d.rules) u)
 
-  named_c : (r : TableRow Pair 6) → r.value.rule < length b.decisions.rules → r.value.rule < length c.decisions.rules
+  named_c : (r : TableRow Pair 8) → r.value.rule < length b.decisions.rules → r.value.rule < length c.decisions.rules
   named_c r less = subst (λ l. r.value.rule < length l) (sym d.rules) less
 
-  found_under : (r : TableRow Pair 6) → Under b.decisions.rules b.decisions.classes r → Under b.decisions.rules b.decisions.classes (with_found due.found r)
+  found_under : (r : TableRow Pair 8) → Under b.decisions.rules b.decisions.classes r → Under b.decisions.rules b.decisions.classes (with_found due.found r)
   found_under r u = record { classes = u.classes; few = u.few; numbers = u.numbers; heads = u.heads }
 
   pub fit_decided : IsFit s net c
   fit_decided = record {
     tree = of_tree (IsTreeOf s net) fit.tree;
     events = λ i r at. elim (row_cases i r at) [
-      | inl same ↦ of_tree (λ t. IsLive (forest t) r.value.trigger) (subst (λ (z : TableRow Pair 6). IsLive (forest b.tree) z.value.trigger) (sym same.1) (fit.events due.row d.row d.at))
+      | inl same ↦ of_tree (λ t. IsLive (forest t) r.value.trigger) (subst (λ (z : TableRow Pair 8). IsLive (forest b.tree) z.value.trigger) (sym same.1) (fit.events due.row d.row d.at))
       | inr other ↦ of_tree (λ t. IsLive (forest t) r.value.trigger) (fit.events i r other.1)
     ];
     under = record {
@@ -146,14 +146,14 @@ module _ (s : Standing) (net : Net) (b c : BeliefNet) (due : Due) (fit : IsFit s
         | inr other ↦ under_c r (fit.under.classes i r other.1)
       ];
       named = λ i r at. elim (row_cases i r at) [
-        | inl same ↦ subst (λ (z : TableRow Pair 6). z.value.rule < length c.decisions.rules) (sym same.1) (named_c d.row (fit.under.named due.row d.row d.at))
+        | inl same ↦ subst (λ (z : TableRow Pair 8). z.value.rule < length c.decisions.rules) (sym same.1) (named_c d.row (fit.under.named due.row d.row d.at))
         | inr other ↦ named_c r (fit.under.named i r other.1)
       ];
     };
     dated = dated;
   }
     where
-      dated : (i : ℕ) (date : ℤ) → dates_in c.decisions.waiting i ≡ Some date → (row : TableRow Pair 6) × ((table_of c.decisions).row i ≡ Some row) × (date ≡ early (present c.tree) row.value.trigger)
+      dated : (i : ℕ) (date : ℤ) → dates_in c.decisions.waiting i ≡ Some date → (row : TableRow Pair 8) × ((table_of c.decisions).row i ≡ Some row) × (date ≡ early (present c.tree) row.value.trigger)
       dated i date at = elim (eqb_tells i due.row) [
         | inl same ↦ absurd (let both : None ≡ Some date = sym d.takes.puts.at ∙ ap (dates_in c.decisions.waiting) (sym same.1) ∙ at in cc)
         | inr apart ↦ (

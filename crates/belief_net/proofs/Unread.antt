@@ -3,7 +3,7 @@ use Rattle.std.proofs.Common.{◌≡◌, ◌∙◌, ℕ, Bool, true, false, ◌+
 use Rattle.std.proofs.lemmas.Bool.{cases_order}
 use Rattle.std.proofs.lemmas.Bool.Decides.{eqb_tells}
 use Rattle.std.specs.Prelude.{◌↔◌, pos}
-use Rattle.tmm_model.specs.Moments.{rule_of}
+use Rattle.tmm_model.specs.Moments.{read_by, rule_of}
 use Rattle.tmm_model.specs.Standing.{Standing}
 use Rattle.spots.specs.declared.spot.Spot.TheVariants.{Declared, Node}
 use Rattle.spots.specs.Spots.{base_of}
@@ -31,10 +31,10 @@ true_or false = inr refl
 
 module _ (list : Standing) (d : Decisions) (under : AreUnder list d) (listed : AreListed (table_of d)) (s : State) (moves : Moves) where
   -- the row is of one of the first n rules, and keeps its date if that reads nothing
-  abbrev pub KeepsFirst : ℕ → ℕ → TableRow Pair 6 → Type 0
+  abbrev pub KeepsFirst : ℕ → ℕ → TableRow Pair 8 → Type 0
   KeepsFirst n i row = row.value.rule < n → KeepsDate moves list (forest s) d row
 
-  abbrev Moved : ℕ → TableRow Pair 6 → Type 0
+  abbrev Moved : ℕ → TableRow Pair 8 → Type 0
   Moved i row = MovesFrom moves (forest s) row.value.trigger
 
   pub unread_none : (dates : Dates) → Wakes s (table_of d) (λ i row. MovesFrom moves (forest s) row.value.trigger) (KeepsFirst 0) dates dates
@@ -42,21 +42,21 @@ module _ (list : Standing) (d : Decisions) (under : AreUnder list d) (listed : A
 
   module _ (n : ℕ) (name : List ℕ) (is_name : name ≡ name_in d.rules n) where
     -- a row of the rule of this number is of this name
-    named : (row : TableRow Pair 6) → row.value.rule ≡ n → rule_in d row ≡ name
+    named : (row : TableRow Pair 8) → row.value.rule ≡ n → rule_in d row ≡ name
     named row is = ap (name_in d.rules) is ∙ sym is_name
 
-    before : (row : TableRow Pair 6) → row.value.rule < n + 1 → (row.value.rule < n) ⊎ (row.value.rule ≡ n)
+    before : (row : TableRow Pair 8) → row.value.rule < n + 1 → (row.value.rule < n) ⊎ (row.value.rule ≡ n)
     before row less = elim (cases_order row.value.rule n) [
       | inl same ↦ inr same
       | inr other ↦ elim other [ inl below ↦ inl below | inr above ↦ absurd (omega (arith, less, above)) ]
     ]
 
-    pub unread_next : (events : Events) (rows : Logged Pair 6) (old mid new : Dates) → rows ≡ d.rows → ((x : ℕ) → (is_event_of events s x ≡ true) ↔ MovesFrom moves (forest s) x)
+    pub unread_next : (events : Events) (rows : Logged Pair 8) (old mid new : Dates) → rows ≡ d.rows → ((x : ℕ) → (is_event_of events s x ≡ true) ↔ MovesFrom moves (forest s) x)
         → Wakes s (table_of d) (λ i row. MovesFrom moves (forest s) row.value.trigger) (KeepsFirst n) old mid
-        → ((rule_of list name).given ≡ [] → Marks s (table rows) (IsOfRuleAt (table rows) n events s) mid new)
-        → (((rule_of list name).given ≡ [] → ⊥) → new ≡ mid)
+        → (read_by (rule_of list name) ≡ [] → Marks s (table rows) (IsOfRuleAt (table rows) n events s) mid new)
+        → ((read_by (rule_of list name) ≡ [] → ⊥) → new ≡ mid)
         → Wakes s (table_of d) (λ i row. MovesFrom moves (forest s) row.value.trigger) (KeepsFirst (n + 1)) old new
-    unread_next events rows old mid new same_rows touched first marks same = by (rule_of list name).given refl
+    unread_next events rows old mid new same_rows touched first marks same = by (read_by (rule_of list name)) refl
       where
         -- what makes no pair with `start` keeps its date
         dated : (x : ℕ) → is_event_of events s x ≡ false → has_pair moves.pairs.items (base_of (forest s) (Node x)) 0 ≡ false
@@ -69,7 +69,7 @@ module _ (list : Standing) (d : Decisions) (under : AreUnder list d) (listed : A
               cc)
         ]
 
-        or_rests : (i : ℕ) (row : TableRow Pair 6) → (table_of d).row i ≡ Some row
+        or_rests : (i : ℕ) (row : TableRow Pair 8) → (table_of d).row i ≡ Some row
             → IsOfRuleAt (table_of d) n events s i row ⊎ (row.value.rule ≡ n → KeepsDate moves list (forest s) d row)
         or_rests i row at = elim (eqb_tells row.value.rule n) [
           | inr other ↦ inr (λ is. absurd (other.1 is))
@@ -79,7 +79,7 @@ module _ (list : Standing) (d : Decisions) (under : AreUnder list d) (listed : A
           ]
         ]
 
-        by : (given : List (List ℕ)) → (rule_of list name).given ≡ given → Wakes s (table_of d) Moved (KeepsFirst (n + 1)) old new
+        by : (facts : List (List ℕ)) → read_by (rule_of list name) ≡ facts → Wakes s (table_of d) Moved (KeepsFirst (n + 1)) old new
         by [] none =
             wakes_both s (table_of d) Moved (KeepsFirst n) (IsOfRuleAt (table_of d) n events s) (λ i row. row.value.rule ≡ n → KeepsDate moves list (forest s) d row)
             Moved (KeepsFirst (n + 1)) old mid new
@@ -88,18 +88,18 @@ module _ (list : Standing) (d : Decisions) (under : AreUnder list d) (listed : A
             (λ i row at first_keeps here_keeps less. elim (before row less) [ inl below ↦ first_keeps below | inr is ↦ here_keeps is ])
             first
             (marks_wake s (table_of d) (IsOfRuleAt (table_of d) n events s) (λ i row. row.value.rule ≡ n → KeepsDate moves list (forest s) d row) mid new or_rests
-            (subst (λ (z : Logged Pair 6). Marks s (table z) (IsOfRuleAt (table z) n events s) mid new) same_rows (marks none)))
-        by (fact ∷ given) some =
-            let none_is : (rule_of list name).given ≡ [] → ⊥ = λ none. (let no : [] ≡ fact ∷ given = sym none ∙ some in cc) in
+            (subst (λ (z : Logged Pair 8). Marks s (table z) (IsOfRuleAt (table z) n events s) mid new) same_rows (marks none)))
+        by (fact ∷ facts) some =
+            let none_is : read_by (rule_of list name) ≡ [] → ⊥ = λ none. (let no : [] ≡ fact ∷ facts = sym none ∙ some in cc) in
             subst (Wakes s (table_of d) Moved (KeepsFirst (n + 1)) old) (sym (same none_is))
             (wakes_alike s (table_of d) Moved (KeepsFirst n) Moved (KeepsFirst (n + 1)) old mid (λ i row at m. m)
             (λ i row at keeps less. elim (before row less) [
               | inl below ↦ keeps below
-              | inr is ↦ λ none. absurd (none_is (subst (λ z. (rule_of list z).given ≡ []) (named row is) none))
+              | inr is ↦ λ none. absurd (none_is (subst (λ z. read_by (rule_of list z) ≡ []) (named row is) none))
             ])
             first)
 
-  pub unread_all : (n : ℕ) (old new : Dates) → ((i : ℕ) (row : TableRow Pair 6) → (table_of d).row i ≡ Some row → row.value.rule < n)
+  pub unread_all : (n : ℕ) (old new : Dates) → ((i : ℕ) (row : TableRow Pair 8) → (table_of d).row i ≡ Some row → row.value.rule < n)
       → Wakes s (table_of d) (λ i row. MovesFrom moves (forest s) row.value.trigger) (KeepsFirst n) old new
       → Wakes s (table_of d) (λ i row. MovesFrom moves (forest s) row.value.trigger) (λ i row. KeepsDate moves list (forest s) d row) old new
   unread_all n old new below =

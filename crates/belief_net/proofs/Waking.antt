@@ -19,23 +19,23 @@ use Rattle.belief_net.specs.Numbers.{name_in}
 use Rattle.belief_net.specs.Waiting.{Dates, Puts}
 use Rattle.belief_net.specs.Woken.{MovesFor, RestsFor, WakesFor, MovesForSome, RestsForFirst, WakesForAll}
 
-module _ (s : State) (t : Table Pair 6) where
+module _ (s : State) (t : Table Pair 8) where
   -- what waited waits on
-  wait_still : (P R : ℕ → TableRow Pair 6 → Type 0) (old new : Dates) → Wakes s t P R old new → (i : ℕ) → is_some (old i) ≡ true → is_some (new i) ≡ true
+  wait_still : (P R : ℕ → TableRow Pair 8 → Type 0) (old new : Dates) → Wakes s t P R old new → (i : ℕ) → is_some (old i) ≡ true → is_some (new i) ≡ true
   wait_still P R old new wakes i waits = elim (wakes.only i) [ inl same ↦ ap is_some same ∙ waits | inr marked ↦ ap is_some marked.3 ]
 
-  pub wakes_none : (P R : ℕ → TableRow Pair 6 → Type 0) (dates : Dates) → ((i : ℕ) (row : TableRow Pair 6) → t.row i ≡ Some row → (is_some (dates i) ≡ true) ⊎ R i row) → Wakes s t P R dates dates
+  pub wakes_none : (P R : ℕ → TableRow Pair 8 → Type 0) (dates : Dates) → ((i : ℕ) (row : TableRow Pair 8) → t.row i ≡ Some row → (is_some (dates i) ≡ true) ⊎ R i row) → Wakes s t P R dates dates
   wakes_none P R dates rests = record { only = λ i. inl refl; rests = rests }
 
-  pub wakes_alike : (P R Q T : ℕ → TableRow Pair 6 → Type 0) (old new : Dates) → ((i : ℕ) (row : TableRow Pair 6) → t.row i ≡ Some row → P i row → Q i row)
-      → ((i : ℕ) (row : TableRow Pair 6) → t.row i ≡ Some row → R i row → T i row) → Wakes s t P R old new → Wakes s t Q T old new
+  pub wakes_alike : (P R Q T : ℕ → TableRow Pair 8 → Type 0) (old new : Dates) → ((i : ℕ) (row : TableRow Pair 8) → t.row i ≡ Some row → P i row → Q i row)
+      → ((i : ℕ) (row : TableRow Pair 8) → t.row i ≡ Some row → R i row → T i row) → Wakes s t P R old new → Wakes s t Q T old new
   wakes_alike P R Q T old new to rest wakes = record {
     only = λ i. elim (wakes.only i) [ inl same ↦ inl same | inr marked ↦ inr (marked.0, marked.1, to i marked.0 marked.1 marked.2, marked.3) ];
     rests = λ i row at. elim (wakes.rests i row at) [ inl waits ↦ inl waits | inr rests ↦ inr (rest i row at rests) ];
   }
 
-  pub wakes_both : (P R Q T F G : ℕ → TableRow Pair 6 → Type 0) (old mid new : Dates) → ((i : ℕ) (row : TableRow Pair 6) → t.row i ≡ Some row → P i row → F i row)
-      → ((i : ℕ) (row : TableRow Pair 6) → t.row i ≡ Some row → Q i row → F i row) → ((i : ℕ) (row : TableRow Pair 6) → t.row i ≡ Some row → R i row → T i row → G i row)
+  pub wakes_both : (P R Q T F G : ℕ → TableRow Pair 8 → Type 0) (old mid new : Dates) → ((i : ℕ) (row : TableRow Pair 8) → t.row i ≡ Some row → P i row → F i row)
+      → ((i : ℕ) (row : TableRow Pair 8) → t.row i ≡ Some row → Q i row → F i row) → ((i : ℕ) (row : TableRow Pair 8) → t.row i ≡ Some row → R i row → T i row → G i row)
       → Wakes s t P R old mid → Wakes s t Q T mid new → Wakes s t F G old new
   wakes_both P R Q T F G old mid new from_p from_q together first then_ = record {
     only = λ i. elim (then_.only i) [
@@ -81,16 +81,16 @@ module _ (s : State) (t : Table Pair 6) where
         ])
 
     -- a row that may rest
-    pub rested : (i : ℕ) (row : TableRow Pair 6) (dates : Dates) → t.row i ≡ Some row → RestsFor nets moves (forest s) class row.value.trigger → WakesFor s t nets moves class (λ j. j ≡ i) dates dates
+    pub rested : (i : ℕ) (row : TableRow Pair 8) (dates : Dates) → t.row i ≡ Some row → RestsFor nets moves (forest s) class row.value.trigger → WakesFor s t nets moves class (λ j. j ≡ i) dates dates
     rested i row dates here rests =
         wakes_none (λ j row. (j ≡ i) × MovesFor moves (forest s) class row.value.trigger) (λ j row. j ≡ i → RestsFor nets moves (forest s) class row.value.trigger) dates
         (λ j other at. inr (λ same.
         (let both : Some row ≡ Some other = sym here ∙ ap t.row (sym same) ∙ at in
         let one : row ≡ other = cc in
-        subst (λ (z : TableRow Pair 6). RestsFor nets moves (forest s) class z.value.trigger) one rests)))
+        subst (λ (z : TableRow Pair 8). RestsFor nets moves (forest s) class z.value.trigger) one rests)))
 
     -- a row that may not
-    pub woken : (i : ℕ) (row : TableRow Pair 6) (old new : Dates) → t.row i ≡ Some row → MovesFor moves (forest s) class row.value.trigger
+    pub woken : (i : ℕ) (row : TableRow Pair 8) (old new : Dates) → t.row i ≡ Some row → MovesFor moves (forest s) class row.value.trigger
         → Puts old new i (Some (early s row.value.trigger)) → WakesFor s t nets moves class (λ j. j ≡ i) old new
     woken i row old new here moved puts = record {
       only = λ j. elim (eqb_tells j i) [
@@ -118,11 +118,11 @@ module _ (s : State) (t : Table Pair 6) where
         alone : (i j : ℕ) → IsOn (i ∷ []) j → j ≡ i
         alone i j on = elim (cases_Bool (eqb j i)) [ inl same ↦ eqb-true j i same | inr other ↦ (let no : false ≡ true = sym (ap (λ b. b || false) other) ∙ on in cc) ]
 
-    -- ---- by the lists of an antecedent after the other
+    -- ---- by the lists of one family after the other
 
-    -- the row is on a list of the class for one of the first antecedents
+    -- the row is on a list of the class in one of the first families
     abbrev pub UnderFirst : ℕ → ℕ → ℕ → Type 0
-    UnderFirst n k i = (antecedent : ℕ) × (antecedent < n) × IsOn (t.list (antecedent + 2) k) i
+    UnderFirst n k i = (place : ℕ) × (place < n) × IsOn (t.list (place + 2) k) i
 
     pub under_none : (k : ℕ) (dates : Dates) → WakesFor s t nets moves class (UnderFirst 0 k) dates dates
     under_none k dates = for_none (UnderFirst 0 k) dates (λ i (a, less, on). omega (arith, less))
@@ -137,8 +137,8 @@ module _ (s : State) (t : Table Pair 6) where
         (λ i (a, less, on). (a, omega (arith, less), on))
         (λ i on. (n, omega arith, on))
 
-    -- of four antecedents all lists have been looked at
-    pub under_all : (n k : ℕ) (old new : Dates) → n ≡ 4 → WakesFor s t nets moves class (UnderFirst n k) old new → WakesFor s t nets moves class (IsListedUnder t k) old new
+    -- the lists of all six families have been looked at
+    pub under_all : (n k : ℕ) (old new : Dates) → n ≡ 6 → WakesFor s t nets moves class (UnderFirst n k) old new → WakesFor s t nets moves class (IsListedUnder t k) old new
     under_all n k old new whole =
         wakes_alike (λ i row. UnderFirst n k i × MovesFor moves (forest s) class row.value.trigger) (λ i row. UnderFirst n k i → RestsFor nets moves (forest s) class row.value.trigger)
         (λ i row. IsListedUnder t k i × MovesFor moves (forest s) class row.value.trigger) (λ i row. IsListedUnder t k i → RestsFor nets moves (forest s) class row.value.trigger) old new
@@ -168,7 +168,7 @@ module _ (s : State) (nets : Nets) (moves : Moves) (d : Decisions) where
 -- ---- marks
 
 -- rows that are marked exactly have been looked at, if each that is not marked is at rest
-pub marks_wake : (s : State) (t : Table Pair 6) (P R : ℕ → TableRow Pair 6 → Type 0) (old new : Dates) → ((i : ℕ) (row : TableRow Pair 6) → t.row i ≡ Some row → P i row ⊎ R i row)
+pub marks_wake : (s : State) (t : Table Pair 8) (P R : ℕ → TableRow Pair 8 → Type 0) (old new : Dates) → ((i : ℕ) (row : TableRow Pair 8) → t.row i ≡ Some row → P i row ⊎ R i row)
     → Marks s t P old new → Wakes s t P R old new
 marks_wake s t P R old new or_rests marks = record {
   only = marks.only;
@@ -181,6 +181,6 @@ ok_then (Ok x) to p = to p
 ok_then (Err e) to p = p
 
 -- the row of a number that has one
-pub some_row : (o : Option (TableRow Pair 6)) → IsSome o → (row : TableRow Pair 6) × (o ≡ Some row)
+pub some_row : (o : Option (TableRow Pair 8)) → IsSome o → (row : TableRow Pair 8) × (o ≡ Some row)
 some_row (Some row) h = (row, refl)
 some_row None h = absurd (cc (h))

@@ -115,7 +115,7 @@ module _ (s : Standing) (net : Net) (c e : BeliefNet) (x : ℕ) (m : Member) (nu
 
   -- ---- rows
 
-  was_row : (i : ℕ) (row : TableRow Pair 6) → (table_of e.decisions).row i ≡ Some row → (table_of c.decisions).row i ≡ Some row
+  was_row : (i : ℕ) (row : TableRow Pair 8) → (table_of e.decisions).row i ≡ Some row → (table_of c.decisions).row i ≡ Some row
   was_row = left_row net c.tree numbers numbers c.decisions e.decisions takes.rows
 
   pub fit_taken : IsFit s net e
@@ -126,7 +126,7 @@ module _ (s : Standing) (net : Net) (c e : BeliefNet) (x : ℕ) (m : Member) (nu
     dated = dated;
   }
     where
-      dated : (i : ℕ) (date : ℤ) → dates_in e.decisions.waiting i ≡ Some date → (row : TableRow Pair 6) × ((table_of e.decisions).row i ≡ Some row) × (date ≡ early (present e.tree) row.value.trigger)
+      dated : (i : ℕ) (date : ℤ) → dates_in e.decisions.waiting i ≡ Some date → (row : TableRow Pair 8) × ((table_of e.decisions).row i ≡ Some row) × (date ≡ early (present e.tree) row.value.trigger)
       dated i date at = elim (takes.rows.each i) [
         | inl left ↦ elim left.waits [
           | inl same ↦ (
@@ -143,22 +143,22 @@ module _ (s : Standing) (net : Net) (c e : BeliefNet) (x : ℕ) (m : Member) (nu
       ]
 
   -- the date of a row that is left
-  later_is : (i : ℕ) (row : TableRow Pair 6) → (table_of e.decisions).row i ≡ Some row → early (present c.tree) row.value.trigger ≡ date_at s (moment_at (forest e.tree) row.value.trigger)
+  later_is : (i : ℕ) (row : TableRow Pair 8) → (table_of e.decisions).row i ≡ Some row → early (present c.tree) row.value.trigger ≡ date_at s (moment_at (forest e.tree) row.value.trigger)
   later_is i row at = sym (date_stays row.value.trigger (takes.rows.none i row at)) ∙ date_is s net e fit_taken row.value.trigger (fit_taken.events i row at)
 
-  to_mark : (i : ℕ) (row : TableRow Pair 6) → (table_of e.decisions).row i ≡ Some row → waits_in e.decisions.waiting i ≡ true
+  to_mark : (i : ℕ) (row : TableRow Pair 8) → (table_of e.decisions).row i ≡ Some row → waits_in e.decisions.waiting i ≡ true
       → (waits_in c.decisions.waiting i ≡ true) ⊎ IsMarkedAt s (forest e.tree) (table_of c.decisions) takes.rows.marks i row
   to_mark i row at waits = elim (takes.rows.each i) [
     | inl left ↦ elim left.waits [
       | inl same ↦ inl (sym (ap is_some same) ∙ waits)
       | inr (r, there, (mark, on, listed, late, unspared), _) ↦ (
           let one = one_row (table_of c.decisions) i r row there (was_row i row at) in
-          inr (mark, on, listed, subst (λ z. mark.from ≤ℤ z) (ap (λ (z : TableRow Pair 6). early (present c.tree) z.value.trigger) one ∙ later_is i row at) late, subst (λ (z : TableRow Pair 6). mark.spares z.value.trigger ≡ false) one unspared))
+          inr (mark, on, listed, subst (λ z. mark.from ≤ℤ z) (ap (λ (z : TableRow Pair 8). early (present c.tree) z.value.trigger) one ∙ later_is i row at) late, subst (λ (z : TableRow Pair 8). mark.spares z.value.trigger ≡ false) one unspared))
     ]
     | inr lost ↦ absurd (none_some ((table_of e.decisions).row i) row lost.lost at)
   ]
 
-  from_mark : (i : ℕ) (row : TableRow Pair 6) → (table_of e.decisions).row i ≡ Some row
+  from_mark : (i : ℕ) (row : TableRow Pair 8) → (table_of e.decisions).row i ≡ Some row
       → (waits_in c.decisions.waiting i ≡ true) ⊎ IsMarkedAt s (forest e.tree) (table_of c.decisions) takes.rows.marks i row → waits_in e.decisions.waiting i ≡ true
   from_mark i row at (inl waited) = elim (takes.rows.each i) [
     | inl left ↦ elim left.waits [ inl same ↦ ap is_some same ∙ waited | inr marked ↦ ap is_some marked.3 ]
@@ -176,7 +176,7 @@ module _ (s : Standing) (net : Net) (c e : BeliefNet) (x : ℕ) (m : Member) (nu
       | inl left ↦ ap is_some (left.row ∙ at)
       | inr lost ↦ (
           let one = one_row (table_of c.decisions) i lost.row row lost.was at in
-          absurd (off_gone row.value.trigger live (subst (λ (z : TableRow Pair 6). IsOn numbers z.value.trigger) one lost.at_gone)))
+          absurd (off_gone row.value.trigger live (subst (λ (z : TableRow Pair 8). IsOn numbers z.value.trigger) one lost.at_gone)))
     ];
     stands = λ i row at dead. absurd (dead (fit.events i row (was_row i row at)));
     all = λ y rule live dead on. absurd (dead (was_live y live));

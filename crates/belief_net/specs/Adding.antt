@@ -27,7 +27,7 @@ use Rattle.belief_net.specs.Waiting.{dates_in}
 -- ---- marks
 
 -- the row of number i may read a token of one of these classes, by the numbers of classes
-abbrev pub ReadsOneOf : Table Pair 6 → List (List ℕ) → List (List ℕ) → ℕ → Type 0
+abbrev pub ReadsOneOf : Table Pair 8 → List (List ℕ) → List (List ℕ) → ℕ → Type 0
 ReadsOneOf t numbers classes i = (class : List ℕ) × (k : ℕ) × In class classes × (place_in numbers class ≡ Some k) × IsListedUnder t k i
 
 -- those rows wait that may read a token of one of these classes
@@ -75,15 +75,15 @@ pub record IsEventOf (tree : Kept) (kind : List ℕ) (x : ℕ) : Type 0 where
 
 -- of these nodes each that is an event of the kind has a new row of the rule, which waits for its date; all else stays
 pub record AddsRuleAt (tree : Kept) (rule kind : List ℕ) (numbers : List ℕ) (old new : Decisions) : Type 0 where
-  pub each : (i : ℕ) → IsSameRow old new i ⊎ ((x : ℕ) × (row : TableRow Pair 6) × IsOn numbers x × IsEventOf tree kind x × IsNewRow x (early (present tree) x) old new i row × (rule_in new row ≡ rule))
-  pub all : (x : ℕ) → IsOn numbers x → IsEventOf tree kind x → (i : ℕ) × (row : TableRow Pair 6) × IsNewRow x (early (present tree) x) old new i row × (rule_in new row ≡ rule)
-  pub apart : (x i j : ℕ) (row other : TableRow Pair 6) → IsNewRow x (early (present tree) x) old new i row → IsNewRow x (early (present tree) x) old new j other → i ≡ j
+  pub each : (i : ℕ) → IsSameRow old new i ⊎ ((x : ℕ) × (row : TableRow Pair 8) × IsOn numbers x × IsEventOf tree kind x × IsNewRow x (early (present tree) x) old new i row × (rule_in new row ≡ rule))
+  pub all : (x : ℕ) → IsOn numbers x → IsEventOf tree kind x → (i : ℕ) × (row : TableRow Pair 8) × IsNewRow x (early (present tree) x) old new i row × (rule_in new row ≡ rule)
+  pub apart : (x i j : ℕ) (row other : TableRow Pair 8) → IsNewRow x (early (present tree) x) old new i row → IsNewRow x (early (present tree) x) old new j other → i ≡ j
 
 -- each event of the kind has a new row of the rule
 pub record AddsRule (tree : Kept) (rule kind : List ℕ) (old new : Decisions) : Type 0 where
-  pub each : (i : ℕ) → IsSameRow old new i ⊎ ((x : ℕ) × (row : TableRow Pair 6) × IsEventOf tree kind x × IsNewRow x (early (present tree) x) old new i row × (rule_in new row ≡ rule))
-  pub all : (x : ℕ) → IsEventOf tree kind x → (i : ℕ) × (row : TableRow Pair 6) × IsNewRow x (early (present tree) x) old new i row × (rule_in new row ≡ rule)
-  pub apart : (x i j : ℕ) (row other : TableRow Pair 6) → IsNewRow x (early (present tree) x) old new i row → IsNewRow x (early (present tree) x) old new j other → i ≡ j
+  pub each : (i : ℕ) → IsSameRow old new i ⊎ ((x : ℕ) × (row : TableRow Pair 8) × IsEventOf tree kind x × IsNewRow x (early (present tree) x) old new i row × (rule_in new row ≡ rule))
+  pub all : (x : ℕ) → IsEventOf tree kind x → (i : ℕ) × (row : TableRow Pair 8) × IsNewRow x (early (present tree) x) old new i row × (rule_in new row ≡ rule)
+  pub apart : (x i j : ℕ) (row other : TableRow Pair 8) → IsNewRow x (early (present tree) x) old new i row → IsNewRow x (early (present tree) x) old new j other → i ≡ j
 
 -- a premise that is a rule has a new row at each event of its kind; else all stays
 abbrev pub EntersRule : Standing → Premise → BeliefNet → BeliefNet → Type 0

@@ -34,5 +34,5 @@ is_event_of (BeginAt all bounded) s x =
     is_in all.items (base_of (forest s) (OfNode x)) || (is_number (links_high (links_of (forest s) (OfNode x))) && is_in bounded.items (base_of (forest s) (OfNode x)))
 
 -- the row is of the rule of this number, at one of these events
-abbrev pub IsOfRuleAt : Table Pair 6 → ℕ → Events → State → ℕ → TableRow Pair 6 → Type 0
+abbrev pub IsOfRuleAt : Table Pair 8 → ℕ → Events → State → ℕ → TableRow Pair 8 → Type 0
 IsOfRuleAt t rule events s i row = IsOn (t.list 1 rule) i × (is_event_of events s row.value.trigger ≡ true)

@@ -34,12 +34,12 @@ pub record MarksFrom (old new : MarkedClasses) (class : ℕ) (from : ℤ) : Type
 
 -- ---- rows
 
--- the row is one of a rule with an antecedent of this class, by its number
-abbrev pub ReadsClass : TableRow Pair 6 → ℕ → Type 0
-ReadsClass r class = (antecedent : ℕ) × (antecedent < 4) × (head_of r (antecedent + 2) ≡ Some class)
+-- the row is one of a rule that reads this class, by its number
+abbrev pub ReadsClass : TableRow Pair 8 → ℕ → Type 0
+ReadsClass r class = (place : ℕ) × (place < 6) × (head_of r (place + 2) ≡ Some class)
 
 -- **All rows of a marked class wait for the dates of their events**, if these are no earlier than the mark, and later than all that was decided.
-abbrev pub AllWait : (ℕ → ℤ) → (ℕ → Option (TableRow Pair 6)) → Dates → MarkedClasses → Type 0
+abbrev pub AllWait : (ℕ → ℤ) → (ℕ → Option (TableRow Pair 8)) → Dates → MarkedClasses → Type 0
 AllWait early_of row_at waits m =
-    (class : ℕ) (from : ℤ) (i : ℕ) (r : TableRow Pair 6) → dates_in m.dates class ≡ Some from → row_at i ≡ Some r → ReadsClass r class
+    (class : ℕ) (from : ℤ) (i : ℕ) (r : TableRow Pair 8) → dates_in m.dates class ≡ Some from → row_at i ≡ Some r → ReadsClass r class
     → from ≤ℤ early_of r.value.trigger → IsLater m.decided (early_of r.value.trigger) → waits i ≡ Some (early_of r.value.trigger)

@@ -30,8 +30,8 @@ use Rattle.belief_net.specs.Turning.{rows_of, IsFit}
 pub record IsCleared (old new : Standing) (b e : BeliefNet) : Type 0 where
   pub occur : (x : ℕ) (m : Member) → member (forest e.tree) x ≡ Some m → Occurs new (moment m)
   pub nodes : (x : ℕ) (m : Member) → member (forest b.tree) x ≡ Some m → Occurs new (moment m) → member (forest e.tree) x ≡ Some m
-  pub stand : (i : ℕ) (row : TableRow Pair 6) → (table_of e.decisions).row i ≡ Some row → Contains (rules_at new (moment_at (forest e.tree) row.value.trigger)) (rule_in e.decisions row)
-  pub rows : (i : ℕ) (row : TableRow Pair 6) → (table_of b.decisions).row i ≡ Some row → IsLive (forest e.tree) row.value.trigger
+  pub stand : (i : ℕ) (row : TableRow Pair 8) → (table_of e.decisions).row i ≡ Some row → Contains (rules_at new (moment_at (forest e.tree) row.value.trigger)) (rule_in e.decisions row)
+  pub rows : (i : ℕ) (row : TableRow Pair 8) → (table_of b.decisions).row i ≡ Some row → IsLive (forest e.tree) row.value.trigger
       → Contains (rules_at new (moment_at (forest e.tree) row.value.trigger)) (rule_in b.decisions row) → (table_of e.decisions).row i ≡ Some row
   pub under : AreUnder new e.decisions
 

@@ -14,17 +14,17 @@ use Rattle.belief_net.specs.Numbers.{name_in}
 use Rattle.belief_net.specs.Waiting.{dates_in}
 
 -- the rows as they are
-abbrev pub table_of : Decisions → Table Pair 6
+abbrev pub table_of : Decisions → Table Pair 8
 table_of d = present d.rows
 
 -- the name of a row's rule
-abbrev pub rule_in : Decisions → TableRow Pair 6 → List ℕ
+abbrev pub rule_in : Decisions → TableRow Pair 8 → List ℕ
 rule_in d row = name_in d.rules row.value.rule
 
--- each row is under the classes of the antecedents of its rule, which has a name
+-- each row is under the classes of what its rule reads, which has a name
 pub record AreUnder (s : Standing) (d : Decisions) : Type 0 where
-  pub classes : (i : ℕ) (row : TableRow Pair 6) → (table_of d).row i ≡ Some row → IsUnderClasses s (name_in d.rules) (place_in d.classes) row
-  pub named : (i : ℕ) (row : TableRow Pair 6) → (table_of d).row i ≡ Some row → row.value.rule < length d.rules
+  pub classes : (i : ℕ) (row : TableRow Pair 8) → (table_of d).row i ≡ Some row → IsUnderClasses s (name_in d.rules) (place_in d.classes) row
+  pub named : (i : ℕ) (row : TableRow Pair 8) → (table_of d).row i ≡ Some row → row.value.rule < length d.rules
 
 -- the rows are those of some list
 abbrev pub AreOfSome : Decisions → Type 0
@@ -37,7 +37,7 @@ pub record KeepsLast (old new : Decisions) : Type 0 where
   pub classes : HaveMore old.classes new.classes
 
 -- i is a new row at this event, of which nothing is decided, and waits for this date
-pub record IsNewRow (event : ℕ) (date : ℤ) (old new : Decisions) (i : ℕ) (row : TableRow Pair 6) : Type 0 where
+pub record IsNewRow (event : ℕ) (date : ℤ) (old new : Decisions) (i : ℕ) (row : TableRow Pair 8) : Type 0 where
   pub free : (table_of old).row i ≡ None
   pub there : (table_of new).row i ≡ Some row
   pub at_event : row.value.trigger ≡ event
@@ -51,13 +51,13 @@ pub record IsSameRow (old new : Decisions) (i : ℕ) : Type 0 where
 
 -- each of these rules has a new row at the event, and no other has; all else stays
 pub record AddsRows (rules : List (List ℕ)) (event : ℕ) (date : ℤ) (old new : Decisions) : Type 0 where
-  pub each : (i : ℕ) → IsSameRow old new i ⊎ ((row : TableRow Pair 6) × IsNewRow event date old new i row × In (rule_in new row) rules)
-  pub all : (rule : List ℕ) → In rule rules → (i : ℕ) × (row : TableRow Pair 6) × IsNewRow event date old new i row × (rule_in new row ≡ rule)
-  pub apart : (i j : ℕ) (row other : TableRow Pair 6) → IsNewRow event date old new i row → IsNewRow event date old new j other → rule_in new row ≡ rule_in new other → i ≡ j
+  pub each : (i : ℕ) → IsSameRow old new i ⊎ ((row : TableRow Pair 8) × IsNewRow event date old new i row × In (rule_in new row) rules)
+  pub all : (rule : List ℕ) → In rule rules → (i : ℕ) × (row : TableRow Pair 8) × IsNewRow event date old new i row × (rule_in new row ≡ rule)
+  pub apart : (i j : ℕ) (row other : TableRow Pair 8) → IsNewRow event date old new i row → IsNewRow event date old new j other → rule_in new row ≡ rule_in new other → i ≡ j
 
 -- the row of number i was one at this event, and is gone
 pub record IsDropped (event : ℕ) (old new : Decisions) (i : ℕ) : Type 0 where
-  pub row : TableRow Pair 6
+  pub row : TableRow Pair 8
   pub was : (table_of old).row i ≡ Some row
   pub at_event : row.value.trigger ≡ event
   pub gone : (table_of new).row i ≡ None
@@ -68,7 +68,7 @@ pub record DropsRows (event : ℕ) (old new : Decisions) : Type 0 where
   pub rules : new.rules ≡ old.rules
   pub classes : new.classes ≡ old.classes
   pub each : (i : ℕ) → IsSameRow old new i ⊎ IsDropped event old new i
-  pub none : (i : ℕ) (row : TableRow Pair 6) → (table_of new).row i ≡ Some row → row.value.trigger ≡ event → ⊥
+  pub none : (i : ℕ) (row : TableRow Pair 8) → (table_of new).row i ≡ Some row → row.value.trigger ≡ event → ⊥
 
 -- no list of rows is longer
 abbrev pub AreNoLonger : Decisions → Decisions → Type 0

@@ -26,13 +26,13 @@ use Rattle.belief_net.specs.Waiting.{dates_in}
 pub record DropsRowsAt (P : ℕ → Type 0) (old new : Decisions) : Type 0 where
   pub rules : new.rules ≡ old.rules
   pub classes : new.classes ≡ old.classes
-  pub was : (i : ℕ) (row : TableRow Pair 6) → (table_of new).row i ≡ Some row → ((table_of old).row i ≡ Some row) × (P row.value.trigger → ⊥)
-  pub stay : (i : ℕ) (row : TableRow Pair 6) → (table_of old).row i ≡ Some row → (P row.value.trigger → ⊥) → (table_of new).row i ≡ Some row
+  pub was : (i : ℕ) (row : TableRow Pair 8) → (table_of new).row i ≡ Some row → ((table_of old).row i ≡ Some row) × (P row.value.trigger → ⊥)
+  pub stay : (i : ℕ) (row : TableRow Pair 8) → (table_of old).row i ≡ Some row → (P row.value.trigger → ⊥) → (table_of new).row i ≡ Some row
   pub rests : (i : ℕ) → dates_in old.waiting i ≡ None → dates_in new.waiting i ≡ None
 
 -- no row is of the rule of this name
 abbrev pub HasNoRowOf : Decisions → List ℕ → Type 0
-HasNoRowOf d rule = (i : ℕ) (row : TableRow Pair 6) → (table_of d).row i ≡ Some row → rule_in d row ≢ rule
+HasNoRowOf d rule = (i : ℕ) (row : TableRow Pair 8) → (table_of d).row i ≡ Some row → rule_in d row ≢ rule
 
 -- ---- what is told and noted
 
@@ -80,7 +80,7 @@ pub record Thins (old new : BeliefNet) : Type 0 where
   pub above : (x y : ℕ) (m n : Member) (rule : List ℕ) → member (forest new.tree) x ≡ Some m → member (forest old.tree) y ≡ Some n
       → moment m ≡ After (moment n) rule → member (forest new.tree) y ≡ Some n
   pub dates : (x : ℕ) → IsLive (forest new.tree) x → early (present new.tree) x ≡ early (present old.tree) x
-  pub rows : (i : ℕ) (row : TableRow Pair 6) → (table_of new.decisions).row i ≡ Some row → (table_of old.decisions).row i ≡ Some row
+  pub rows : (i : ℕ) (row : TableRow Pair 8) → (table_of new.decisions).row i ≡ Some row → (table_of old.decisions).row i ≡ Some row
   pub events : HaveEvents new.tree (table_of new.decisions)
   pub rests : (i : ℕ) → dates_in old.decisions.waiting i ≡ None → dates_in new.decisions.waiting i ≡ None
   pub rules : new.decisions.rules ≡ old.decisions.rules
@@ -101,7 +101,7 @@ pub record ShedsAll (old new : BeliefNet) (all : Departed) : Type 0 where
 -- the rows at events that stay stay
 abbrev pub KeepRows : BeliefNet → BeliefNet → Type 0
 KeepRows old new =
-    (i : ℕ) (row : TableRow Pair 6) → (table_of old.decisions).row i ≡ Some row → IsLive (forest new.tree) row.value.trigger
+    (i : ℕ) (row : TableRow Pair 8) → (table_of old.decisions).row i ≡ Some row → IsLive (forest new.tree) row.value.trigger
     → (table_of new.decisions).row i ≡ Some row
 
 -- the node goes with all below it, and all others stay
@@ -109,14 +109,14 @@ abbrev pub TakesNode : Forest → Forest → ℕ → Type 0
 TakesNode f g x = (m : Member) → member f x ≡ Some m → Withdraws f g m
 
 -- the list has no more the rule of the row, whose effect is no node
-pub record IsRuledOut (s : Standing) (old new : BeliefNet) (row : TableRow Pair 6) : Type 0 where
+pub record IsRuledOut (s : Standing) (old new : BeliefNet) (row : TableRow Pair 8) : Type 0 where
   pub rule : premise_in s.premises (rule_in old.decisions row) ≡ None
   pub effect : (y : ℕ) (m : Member) → member (forest new.tree) y ≡ Some m → moment m ≢ After (moment_at (forest old.tree) row.value.trigger) (rule_in old.decisions row)
 
 -- Nodes stay whose roots and rules stand in the list. Of the events that stay all rows stay but those of rules that stand no more.
 pub record Spares (s : Standing) (old new : BeliefNet) : Type 0 where
   pub nodes : (x : ℕ) (m : Member) → member (forest old.tree) x ≡ Some m → Stands s (moment m) → member (forest new.tree) x ≡ Some m
-  pub rows : (i : ℕ) (row : TableRow Pair 6) → (table_of old.decisions).row i ≡ Some row → IsLive (forest new.tree) row.value.trigger
+  pub rows : (i : ℕ) (row : TableRow Pair 8) → (table_of old.decisions).row i ≡ Some row → IsLive (forest new.tree) row.value.trigger
       → ((table_of new.decisions).row i ≡ Some row) ⊎ IsRuledOut s old new row
 
 -- no node is of the root of this name, and no row of the rule

@@ -10,6 +10,6 @@ use Rattle.belief_net.specs.ByEvent.{is_between}
 use Rattle.belief_net.specs.Decided.{rule_in}
 
 -- the effect of the row's rule at its event is due up to one of the horizons, and after the other
-abbrev pub IsDueBetween : Standing → State → Decisions → ℕ → ℕ → TableRow Pair 6 → Type 0
+abbrev pub IsDueBetween : Standing → State → Decisions → ℕ → ℕ → TableRow Pair 8 → Type 0
 IsDueBetween s tree d before after row =
     is_between (early tree row.value.trigger +ℤ (rule_of s (rule_in d row)).lo) before after ≡ true

@@ -15,11 +15,11 @@ use Rattle.belief_net.specs.Decided.{table_of, rule_in}
 
 -- the rule has a row at the event of node x
 abbrev pub HasRowAt : Decisions → ℕ → List ℕ → Type 0
-HasRowAt d x rule = (i : ℕ) × (row : TableRow Pair 6) × ((table_of d).row i ≡ Some row) × (row.value.trigger ≡ x) × (rule_in d row ≡ rule)
+HasRowAt d x rule = (i : ℕ) × (row : TableRow Pair 8) × ((table_of d).row i ≡ Some row) × (row.value.trigger ≡ x) × (rule_in d row ≡ rule)
 
 -- no rule has two rows at one event
 abbrev pub HaveOneEach : Decisions → Type 0
-HaveOneEach d = (i j : ℕ) (row other : TableRow Pair 6) → (table_of d).row i ≡ Some row → (table_of d).row j ≡ Some other
+HaveOneEach d = (i j : ℕ) (row other : TableRow Pair 8) → (table_of d).row i ≡ Some row → (table_of d).row j ≡ Some other
     → row.value.trigger ≡ other.value.trigger → rule_in d row ≡ rule_in d other → i ≡ j
 
 -- each rule on the kind but this one has its row at each event of the kind

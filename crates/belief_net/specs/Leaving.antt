@@ -51,12 +51,12 @@ pub record AreMarksOn (net : Net) (tree : Kept) (going gone : List ℕ) (number 
   pub all : (y : ℕ) (class : List ℕ) → IsOn gone y → class_at tree y ≡ Some class → (mark : Mark) × In mark marks × IsMarkOn net tree going number y mark
 
 -- a mark is for the row of number i: it is on a list of the class, and its event is no earlier and not spared
-abbrev pub IsMarkedFor : State → Table Pair 6 → List Mark → ℕ → TableRow Pair 6 → Type 0
+abbrev pub IsMarkedFor : State → Table Pair 8 → List Mark → ℕ → TableRow Pair 8 → Type 0
 IsMarkedFor s t marks i row = (mark : Mark) × In mark marks × IsListedUnder t mark.class i × IsAsLate s mark.from row × (mark.spares row.value.trigger ≡ false)
 
 -- the row of number i was one at these nodes, and is gone
 pub record IsLost (gone : List ℕ) (old new : Decisions) (i : ℕ) : Type 0 where
-  pub row : TableRow Pair 6
+  pub row : TableRow Pair 8
   pub was : (table_of old).row i ≡ Some row
   pub at_gone : IsOn gone row.value.trigger
   pub lost : (table_of new).row i ≡ None
@@ -66,7 +66,7 @@ pub record IsLost (gone : List ℕ) (old new : Decisions) (i : ℕ) : Type 0 whe
 pub record IsLeft (s : State) (marks : List Mark) (old new : Decisions) (i : ℕ) : Type 0 where
   pub row : (table_of new).row i ≡ (table_of old).row i
   pub waits : (dates_in new.waiting i ≡ dates_in old.waiting i)
-      ⊎ ((r : TableRow Pair 6) × ((table_of old).row i ≡ Some r) × IsMarkedFor s (table_of old) marks i r × WaitsAt s (dates_in new.waiting) i r)
+      ⊎ ((r : TableRow Pair 8) × ((table_of old).row i ≡ Some r) × IsMarkedFor s (table_of old) marks i r × WaitsAt s (dates_in new.waiting) i r)
 
 -- All rows at these nodes, of all that go, are gone. The others stay, and wait where a token among the nodes marks them.
 pub record LosesRows (net : Net) (tree : Kept) (going gone : List ℕ) (old new : Decisions) : Type 0 where
@@ -75,8 +75,8 @@ pub record LosesRows (net : Net) (tree : Kept) (going gone : List ℕ) (old new 
   pub marks : List Mark
   pub are : AreMarksOn net tree going gone (place_in new.classes) marks
   pub each : (i : ℕ) → IsLeft (present tree) marks old new i ⊎ IsLost gone old new i
-  pub none : (i : ℕ) (row : TableRow Pair 6) → (table_of new).row i ≡ Some row → IsOn gone row.value.trigger → ⊥
-  pub all : (i : ℕ) (row : TableRow Pair 6) → (table_of new).row i ≡ Some row → IsMarkedFor (present tree) (table_of old) marks i row
+  pub none : (i : ℕ) (row : TableRow Pair 8) → (table_of new).row i ≡ Some row → IsOn gone row.value.trigger → ⊥
+  pub all : (i : ℕ) (row : TableRow Pair 8) → (table_of new).row i ≡ Some row → IsMarkedFor (present tree) (table_of old) marks i row
       → WaitsAt (present tree) (dates_in new.waiting) i row
 
 -- ---- a node with all below it

@@ -9,23 +9,23 @@ use Rattle.occ_tree.specs.Standing.{Kept, State, early}
 use Rattle.belief_net.specs.Waiting.{Dates}
 
 -- the event of each row is a node
-abbrev pub HaveEvents : Kept → Table Pair 6 → Type 0
-HaveEvents k t = (i : ℕ) (row : TableRow Pair 6) → t.row i ≡ Some row → IsLive (forest k) row.value.trigger
+abbrev pub HaveEvents : Kept → Table Pair 8 → Type 0
+HaveEvents k t = (i : ℕ) (row : TableRow Pair 8) → t.row i ≡ Some row → IsLive (forest k) row.value.trigger
 
 -- the event of the row is no earlier than the date
-abbrev pub IsAsLate : State → ℤ → TableRow Pair 6 → Type 0
+abbrev pub IsAsLate : State → ℤ → TableRow Pair 8 → Type 0
 IsAsLate s from row = from ≤ℤ early s row.value.trigger
 
 -- the row waits for the date of its event
-abbrev pub WaitsAt : State → Dates → ℕ → TableRow Pair 6 → Type 0
+abbrev pub WaitsAt : State → Dates → ℕ → TableRow Pair 8 → Type 0
 WaitsAt s dates i row = dates i ≡ Some (early s row.value.trigger)
 
 -- these rows wait, and all others wait as before
-pub record Marks (s : State) (t : Table Pair 6) (P : ℕ → TableRow Pair 6 → Type 0) (old new : Dates) : Type 0 where
-  pub all : (i : ℕ) (row : TableRow Pair 6) → t.row i ≡ Some row → P i row → WaitsAt s new i row
-  pub only : (i : ℕ) → (new i ≡ old i) ⊎ ((row : TableRow Pair 6) × (t.row i ≡ Some row) × P i row × WaitsAt s new i row)
+pub record Marks (s : State) (t : Table Pair 8) (P : ℕ → TableRow Pair 8 → Type 0) (old new : Dates) : Type 0 where
+  pub all : (i : ℕ) (row : TableRow Pair 8) → t.row i ≡ Some row → P i row → WaitsAt s new i row
+  pub only : (i : ℕ) → (new i ≡ old i) ⊎ ((row : TableRow Pair 8) × (t.row i ≡ Some row) × P i row × WaitsAt s new i row)
 
 -- Rows have been looked at: those that wait newly are of the first kind, and those that do not wait are of the second.
-pub record Wakes (s : State) (t : Table Pair 6) (P R : ℕ → TableRow Pair 6 → Type 0) (old new : Dates) : Type 0 where
-  pub only : (i : ℕ) → (new i ≡ old i) ⊎ ((row : TableRow Pair 6) × (t.row i ≡ Some row) × P i row × WaitsAt s new i row)
-  pub rests : (i : ℕ) (row : TableRow Pair 6) → t.row i ≡ Some row → (is_some (new i) ≡ true) ⊎ R i row
+pub record Wakes (s : State) (t : Table Pair 8) (P R : ℕ → TableRow Pair 8 → Type 0) (old new : Dates) : Type 0 where
+  pub only : (i : ℕ) → (new i ≡ old i) ⊎ ((row : TableRow Pair 8) × (t.row i ≡ Some row) × P i row × WaitsAt s new i row)
+  pub rests : (i : ℕ) (row : TableRow Pair 8) → t.row i ≡ Some row → (is_some (new i) ≡ true) ⊎ R i row

@@ -47,19 +47,19 @@ pub record AreMarksFor (s : Standing) (net : Net) (number : List ℕ → Option 
   pub all : (m : Member) (class : List ℕ) → IsMemberOf s net.names m → moved (moment m) → m.class ≡ Some class → (mark : Mark) × In mark marks × IsMarkAt s net number f g m mark
 
 -- a mark is for the row of number i: it is on a list of the class, and its event is no earlier and not spared
-abbrev pub IsMarkedAt : Standing → Forest → Table Pair 6 → List Mark → ℕ → TableRow Pair 6 → Type 0
+abbrev pub IsMarkedAt : Standing → Forest → Table Pair 8 → List Mark → ℕ → TableRow Pair 8 → Type 0
 IsMarkedAt s g t marks i row =
     (mark : Mark) × In mark marks × IsListedUnder t mark.class i × (mark.from ≤ℤ date_at s (moment_at g row.value.trigger)) × (mark.spares row.value.trigger ≡ false)
 
 -- ---- rows
 
 -- the row was there, and waits if it did or if a mark is for it
-pub record IsKeptRow (s : Standing) (g : Forest) (marks : List Mark) (old new : Decisions) (i : ℕ) (row : TableRow Pair 6) : Type 0 where
+pub record IsKeptRow (s : Standing) (g : Forest) (marks : List Mark) (old new : Decisions) (i : ℕ) (row : TableRow Pair 8) : Type 0 where
   pub there : (table_of old).row i ≡ Some row
   pub waits : (waits_in new.waiting i ≡ true) ↔ ((waits_in old.waiting i ≡ true) ⊎ IsMarkedAt s g (table_of old) marks i row)
 
 -- the row is new, at an event that was not among the nodes f; nothing is decided of it, and it waits
-pub record IsComing (f : Forest) (old new : Decisions) (i : ℕ) (row : TableRow Pair 6) : Type 0 where
+pub record IsComing (f : Forest) (old new : Decisions) (i : ℕ) (row : TableRow Pair 8) : Type 0 where
   pub free : (table_of old).row i ≡ None
   pub event : IsLive f row.value.trigger → ⊥
   pub undecided : row.value.decision ≡ Beyond
@@ -70,19 +70,19 @@ pub record IsComing (f : Forest) (old new : Decisions) (i : ℕ) (row : TableRow
 pub record Moves (s : Standing) (f g : Forest) (marks : List Mark) (old new : Decisions) : Type 0 where
   pub listed : AreListed (table_of old)
   pub last : KeepsLast old new
-  pub each : (i : ℕ) (row : TableRow Pair 6) → (table_of new).row i ≡ Some row → IsKeptRow s g marks old new i row ⊎ IsComing f old new i row
-  pub stay : (i : ℕ) (row : TableRow Pair 6) → (table_of old).row i ≡ Some row → IsLive g row.value.trigger → IsSome ((table_of new).row i)
-  pub stands : (i : ℕ) (row : TableRow Pair 6) → (table_of new).row i ≡ Some row → (IsLive f row.value.trigger → ⊥)
+  pub each : (i : ℕ) (row : TableRow Pair 8) → (table_of new).row i ≡ Some row → IsKeptRow s g marks old new i row ⊎ IsComing f old new i row
+  pub stay : (i : ℕ) (row : TableRow Pair 8) → (table_of old).row i ≡ Some row → IsLive g row.value.trigger → IsSome ((table_of new).row i)
+  pub stands : (i : ℕ) (row : TableRow Pair 8) → (table_of new).row i ≡ Some row → (IsLive f row.value.trigger → ⊥)
       → Contains (rules_at s (moment_at g row.value.trigger)) (rule_in new row)
   pub all : (y : ℕ) (rule : List ℕ) → IsLive g y → (IsLive f y → ⊥) → Contains (rules_at s (moment_at g y)) rule
-      → (i : ℕ) × (row : TableRow Pair 6) × ((table_of new).row i ≡ Some row) × (row.value.trigger ≡ y) × (rule_in new row ≡ rule)
-  pub apart : (i j : ℕ) (row other : TableRow Pair 6) → (table_of new).row i ≡ Some row → (table_of new).row j ≡ Some other
+      → (i : ℕ) × (row : TableRow Pair 8) × ((table_of new).row i ≡ Some row) × (row.value.trigger ≡ y) × (rule_in new row ≡ rule)
+  pub apart : (i j : ℕ) (row other : TableRow Pair 8) → (table_of new).row i ≡ Some row → (table_of new).row j ≡ Some other
       → (IsLive f row.value.trigger → ⊥) → row.value.trigger ≡ other.value.trigger → rule_in new row ≡ rule_in new other → i ≡ j
 
 -- ---- the turn
 
 -- the row that was decided, as it was before
-abbrev pub row_due : BeliefNet → ℕ → TableRow Pair 6 → Row
+abbrev pub row_due : BeliefNet → ℕ → TableRow Pair 8 → Row
 row_due b i row = as_row (name_in b.decisions.rules) (waits_in b.decisions.waiting i) row
 
 -- A turn from b to e: the row due first is decided, in c; then nodes enter or go, and rows follow. What moves is later than the

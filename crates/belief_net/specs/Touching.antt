@@ -43,7 +43,7 @@ abbrev pub TouchAll : List Bool → Reach → Type 0
 TouchAll pairs reach = (p : ℕ) × (is_in reach.all.items p ≡ true) × (LeadsInto pairs reach.bounded.items p)
 
 -- points moved on which the decision of the row depends
-abbrev pub IsRowMoved : Nets → Option (List ℕ) → Standing → Forest → Decisions → TableRow Pair 6 → Type 0
+abbrev pub IsRowMoved : Nets → Option (List ℕ) → Standing → Forest → Decisions → TableRow Pair 8 → Type 0
 IsRowMoved nets added s f d row = MovesAt (is_moved nets added) s f (rule_in d row) row.value.trigger
 
 -- these are the events at which a rule of these points depends on one of the pairs: all, where that is a pair of its own points;

@@ -29,13 +29,13 @@ use Rattle.belief_net.specs.Waiting.{dates_in, waits_in, Takes}
 abbrev pub rows_of : BeliefNet → Rows
 rows_of b = rows_in (table b.decisions.rows) (name_in b.decisions.rules) (waits_in b.decisions.waiting)
 
--- Nodes are occurrences of the list with their dates in the network. Each row is of an event, under the classes of its
--- rule's antecedents, and where it waits, it does so for the date of its event.
+-- Nodes are occurrences of the list with their dates in the network. Each row is of an event, under the classes of what
+-- its rule reads, and where it waits, it does so for the date of its event.
 pub record IsFit (s : Standing) (net : Net) (b : BeliefNet) : Type 0 where
   pub tree : IsTreeOf s net b.tree
   pub events : HaveEvents b.tree (table_of b.decisions)
   pub under : AreUnder s b.decisions
-  pub dated : (i : ℕ) (date : ℤ) → dates_in b.decisions.waiting i ≡ Some date → (row : TableRow Pair 6) × ((table_of b.decisions).row i ≡ Some row) × (date ≡ early (present b.tree) row.value.trigger)
+  pub dated : (i : ℕ) (date : ℤ) → dates_in b.decisions.waiting i ≡ Some date → (row : TableRow Pair 8) × ((table_of b.decisions).row i ≡ Some row) × (date ≡ early (present b.tree) row.value.trigger)
 
 -- nodes and rows stand for the revision that the edit asks for, of which these decisions were made
 abbrev pub IsUnderway : Standing → Edit → Net → BeliefNet → List (Moment × List ℕ) → Type 0
@@ -57,7 +57,7 @@ pub record IsRight (s : Standing) (b : BeliefNet) (trigger : ℕ) (rule : List �
 
 -- the row that was due first keeps what was decided, and waits no more
 pub record IsDecided (s : Standing) (old new : BeliefNet) (due : Due) : Type 0 where
-  pub row : TableRow Pair 6
+  pub row : TableRow Pair 8
   pub at : (table_of old.decisions).row due.row ≡ Some row
   pub trigger : row.value.trigger ≡ due.trigger
   pub rule : rule_in old.decisions row ≡ due.rule

@@ -80,12 +80,12 @@ pub record Entered (s : Standing) (net : Net) (edit : Edit) (old new : BeliefNet
 
 -- The edit touches the row, beside what left and entered: another horizon brings its effect into time or puts it beyond; by
 -- another edit points moved on which it depends.
-abbrev pub IsTouchedBy : Edit → Standing → Nets → ℕ → BeliefNet → TableRow Pair 6 → Type 0
+abbrev pub IsTouchedBy : Edit → Standing → Nets → ℕ → BeliefNet → TableRow Pair 8 → Type 0
 IsTouchedBy (Horizon n) s nets before b row = IsDueBetween s (present b.tree) b.decisions before s.horizon row
 IsTouchedBy edit s nets before b row = IsRowMoved nets (name_added edit) s (forest b.tree) b.decisions row
 
 -- It leaves the row as it is, beside what left and entered: another horizon does not touch it, and points that moved let it rest.
-abbrev pub IsLeftBy : Edit → Standing → Nets → ℕ → BeliefNet → TableRow Pair 6 → Type 0
+abbrev pub IsLeftBy : Edit → Standing → Nets → ℕ → BeliefNet → TableRow Pair 8 → Type 0
 IsLeftBy (Horizon n) s nets before b row = IsDueBetween s (present b.tree) b.decisions before s.horizon row → ⊥
 IsLeftBy edit s nets before b row = IsRowAtRest nets (name_added edit) s (forest b.tree) b.decisions row
 

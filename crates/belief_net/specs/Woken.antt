@@ -1,6 +1,6 @@
 -- Rows that wait since points moved, by the classes that they read.
 use Rattle.std.specs.Prelude.{◌≡◌, ◌⊎◌, ◌↔◌, ℕ, ◌<◌, Bool, true, false, [], List, length, Option, MatchOption}
-use Rattle.tmm_model.specs.Moments.{rule_of}
+use Rattle.tmm_model.specs.Moments.{read_by, rule_of}
 use Rattle.tmm_model.specs.Standing.{Standing}
 use Rattle.dist_net.specs.Net.{Nets}
 use Rattle.spots.specs.declared.spot.Spot.TheVariants.{Declared, Node}
@@ -50,7 +50,7 @@ pub record AreMovesOf (nets : Nets) (moves : Moves) (s : State) (m : ClassMoves)
   pub shifts : MatchOption m.shifts (Unit {0}) (λ list. AreShifts nets (forest s) (is_out moves.fast.items) m.class list.items)
 
 -- some rows have been looked at: of these those that wait newly are at events for which points moved, and others may rest
-abbrev pub WakesFor : State → Table Pair 6 → Nets → Moves → List ℕ → (ℕ → Type 0) → Dates → Dates → Type 0
+abbrev pub WakesFor : State → Table Pair 8 → Nets → Moves → List ℕ → (ℕ → Type 0) → Dates → Dates → Type 0
 WakesFor s t nets moves class are old new =
     Wakes s t (λ i row. are i × MovesFor moves (forest s) class row.value.trigger) (λ i row. are i → RestsFor nets moves (forest s) class row.value.trigger) old new
 
@@ -61,11 +61,11 @@ abbrev pub MovesFrom : Moves → Forest → ℕ → Type 0
 MovesFrom moves f x = MovesAmong (has_pair moves.pairs.items) f (λ p. p ≡ Declared 0) x
 
 -- the row may rest as far as it reads the first n classes
-abbrev pub RestsForFirst : State → Nets → Moves → Decisions → ℕ → ℕ → TableRow Pair 6 → Type 0
+abbrev pub RestsForFirst : State → Nets → Moves → Decisions → ℕ → ℕ → TableRow Pair 8 → Type 0
 RestsForFirst s nets moves d n i row = (k : ℕ) → k < n → IsListedUnder (table_of d) k i → RestsFor nets moves (forest s) (name_in d.classes k) row.value.trigger
 
 -- points moved for what reads some class of the row
-abbrev pub MovesForSome : State → Moves → Decisions → ℕ → TableRow Pair 6 → Type 0
+abbrev pub MovesForSome : State → Moves → Decisions → ℕ → TableRow Pair 8 → Type 0
 MovesForSome s moves d i row = (k : ℕ) × (k < length d.classes) × IsListedUnder (table_of d) k i × MovesFor moves (forest s) (name_in d.classes k) row.value.trigger
 
 -- all rows have been looked at that read one of the first n classes
@@ -73,10 +73,10 @@ abbrev pub WakesForAll : State → Nets → Moves → Decisions → ℕ → Date
 WakesForAll s nets moves d n = Wakes s (table_of d) (MovesForSome s moves d) (RestsForFirst s nets moves d n)
 
 -- the event of the row is as far from `start` as it was, if its rule reads nothing
-abbrev pub KeepsDate : Moves → Standing → Forest → Decisions → TableRow Pair 6 → Type 0
-KeepsDate moves s f d row = (rule_of s (rule_in d row)).given ≡ [] → has_pair moves.pairs.items (base_of f (Node row.value.trigger)) 0 ≡ false
+abbrev pub KeepsDate : Moves → Standing → Forest → Decisions → TableRow Pair 8 → Type 0
+KeepsDate moves s f d row = read_by (rule_of s (rule_in d row)) ≡ [] → has_pair moves.pairs.items (base_of f (Node row.value.trigger)) 0 ≡ false
 
 -- the row may rest though points moved
-abbrev pub IsRowAtRest : Nets → Option (List ℕ) → Standing → Forest → Decisions → TableRow Pair 6 → Type 0
+abbrev pub IsRowAtRest : Nets → Option (List ℕ) → Standing → Forest → Decisions → TableRow Pair 8 → Type 0
 IsRowAtRest nets added s f d row =
     (loose : ℕ → Bool) × AreLoose (is_moved nets added) loose × MayRest (is_moved nets added) loose s nets f (rule_in d row) row.value.trigger

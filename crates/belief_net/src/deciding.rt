@@ -16,6 +16,8 @@ use dist_net::DistNet;
 use occ_tree::Tree;
 use premise_list::Standing;
 use projection::Counter;
+use std::alloc::Global;
+use supports::Guesses;
 use tmm_model::Name;
 
 /// A row that was decided again.
@@ -36,6 +38,7 @@ pub(crate) struct Due {
 // Decides a standing rule on the kind of the event at the node `trigger`, among the nodes of the tree, and
 // counts the decision.
 pub(crate) fn decide(
+    alloc: Global,
     standing: &Standing,
     net: &DistNet,
     tree: &Tree,
@@ -50,12 +53,34 @@ pub(crate) fn decide(
     ensures live { AreLive (forest tree.now) result }
     ensures counted { counter.new ≡ min (counter.old + 1) 18446744073709551615 }
 {
-    match projection::decide(tree, net, standing, trigger, rule, counter) {
+    let mut guesses = Guesses::make(alloc);
+    decide_with(standing, net, tree, trigger, rule, counter, &mut guesses)
+}
+
+// The same with room for guesses.
+fn decide_with(
+    standing: &Standing,
+    net: &DistNet,
+    tree: &Tree,
+    trigger: u32,
+    rule: Name,
+    counter: &mut Counter,
+    guesses: &mut Guesses,
+) -> Decision
+    requires seen { IsTreeOf standing.now.present net.now.present tree.now }
+    requires trigger { IsLive (forest tree.now) trigger }
+    requires rule { Contains (rules_at standing.now.present (moment_at (forest tree.now) trigger)) rule }
+    ensures outcome { (b : List Moment) → Holds b (forest tree.now) → outcome_at (forest tree.now) result ≡ outcome standing.now.present (far_in standing.now.present.premises) b (moment_at (forest tree.now) trigger) rule }
+    ensures live { AreLive (forest tree.now) result }
+    ensures counted { counter.new ≡ min (counter.old + 1) 18446744073709551615 }
+{
+    match projection::decide(tree, net, standing, trigger, rule, counter, guesses) {
         projection::Decision::Fires { supports } => Decision::Fires {
             supports: four(supports.as_slice()),
             count: supports.len() as u8,
         },
         projection::Decision::Blocked { antecedent } => Decision::Blocked { antecedent },
+        projection::Decision::Barred { exception } => Decision::Barred { exception },
         projection::Decision::Beyond => Decision::Beyond,
     }
 }

@@ -189,7 +189,7 @@ fn erase_effect(
     requires once { IsOnce (forest beliefs.old.tree) }
     requires events { HaveEvents beliefs.old.tree (table_of beliefs.old.decisions) }
     requires under { AreOfSome beliefs.old.decisions }
-    requires row { (r : TableRow Pair 6) × ((table_of beliefs.old.decisions).row row ≡ Some r) × (r.value.rule ≡ number) }
+    requires row { (r : TableRow Pair 8) × ((table_of beliefs.old.decisions).row row ≡ Some r) × (r.value.rule ≡ number) }
     requires rule { name_in beliefs.old.decisions.rules number ≡ rule }
     ensures sheds { OnOk result (Sheds beliefs.old beliefs.new departed.old departed.new) }
     ensures spares { OnOk result ((s : Standing) → premise_in s.premises rule ≡ None → Spares s beliefs.old beliefs.new) }

@@ -30,9 +30,9 @@ pub(crate) fn mark_class(
     requires window { IfSome window (λ w. IsWindow w.now × (tree_in w.now ≡ tree.now)) }
     ensures { OnOk result (Marks (present tree.now) (table rows.now) (λ i row. IsListedUnder (table rows.now) class i × IsAsLate (present tree.now) from row × (spares_in window.entry row.value.trigger ≡ false)) (dates_in waiting.old) (dates_in waiting.new)) }
 {
-    // the families of rows by the classes of their antecedents follow those by trigger and by rule
-    for antecedent in 0..4 {
-        mark_list(tree, rows, waiting, antecedent + 2, class, from, window)?;
+    // the families of rows by the classes of what they read follow those by trigger and by rule
+    for place in 0..6 {
+        mark_list(tree, rows, waiting, place + 2, class, from, window)?;
     }
     Ok(())
 }

@@ -1,6 +1,6 @@
 // Rows that wait since points moved on whose distances they depend.
-ghost use Rattle.std.specs.Prelude.{◌≡◌, [], length, OnOk};
-ghost use Rattle.tmm_model.specs.Moments.{rule_of};
+ghost use Rattle.std.specs.Prelude.{true, false, ◌≡◌, [], length, OnOk};
+ghost use Rattle.tmm_model.specs.Moments.{read_by, rule_of};
 ghost use Rattle.spots.specs.Seen.{IsSeen};
 ghost use Rattle.occ_tree.specs.Places.{forest};
 ghost use Rattle.occ_tree.specs.Standing.{present};
@@ -109,23 +109,30 @@ fn mark_unread(
     events: &Events,
 ) -> Result<(), NoMemory>
     requires { HaveEvents tree.now (table rows.now) }
-    ensures unread { (rule_of standing.now.present name).given ≡ [] → OnOk result (Marks (present tree.now) (table rows.now) (IsOfRuleAt (table rows.now) rule events.now (present tree.now)) (dates_in waiting.old) (dates_in waiting.new)) }
-    ensures other { ((rule_of standing.now.present name).given ≡ [] → ⊥) → waiting.new ≡ waiting.old }
+    ensures unread { read_by (rule_of standing.now.present name) ≡ [] → OnOk result (Marks (present tree.now) (table rows.now) (IsOfRuleAt (table rows.now) rule events.now (present tree.now)) (dates_in waiting.old) (dates_in waiting.new)) }
+    ensures other { (read_by (rule_of standing.now.present name) ≡ [] → ⊥) → waiting.new ≡ waiting.old }
 {
-    if given_of(standing, name).is_empty() {
+    if reads_nothing(standing, name) {
         mark_rule(tree, rows, waiting, rule, events)
     } else {
         Ok(())
     }
 }
 
-// The antecedents of a rule, none where it does not stand.
-fn given_of(standing: &Standing, rule: Name) -> &[Name]
-    ensures { result.now ≡ (rule_of standing.now.present rule).given }
+// Whether a rule has neither antecedents nor exceptions, or does not stand.
+fn reads_nothing(standing: &Standing, rule: Name) -> bool
+    ensures nothing { result ≡ true → read_by (rule_of standing.now.present rule) ≡ [] }
+    ensures something { result ≡ false → read_by (rule_of standing.now.present rule) ≡ [] → ⊥ }
 {
     match standing.get(rule) {
-        Some(Premise::Rule { given, .. }) => given.as_slice(),
-        _ => &[],
+        Some(
+            Premise::Rule {
+                given,
+                unless_facts,
+                ..
+            },
+        ) => given.is_empty() && unless_facts.is_empty(),
+        _ => true,
     }
 }
 

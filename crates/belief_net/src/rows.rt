@@ -1,8 +1,8 @@
 // Rows that enter with an event and go with it.
-ghost use Rattle.std.specs.Prelude.{◌≡◌, ◌≤◌, ℕ, [], ◌∷◌, map, length, Some, IsSome, IfOk, OnOk};
+ghost use Rattle.std.specs.Prelude.{◌≡◌, ◌≤◌, ℕ, [], ◌∷◌, ◌++◌, map, length, Some, IsSome, IfOk, OnOk};
 ghost use Rattle.std.specs.List.{All, filter_map};
 ghost use Rattle.tmm_model.specs.Beliefs.{class_of, on_kind, rules_on};
-ghost use Rattle.tmm_model.specs.Moments.{rule_of};
+ghost use Rattle.tmm_model.specs.Moments.{read_by, rule_of};
 ghost use Rattle.tmm_model.specs.Sorts.{class_in};
 ghost use Rattle.list_theory.proofs.Distinct.{Distinct};
 ghost use Rattle.list_theory.proofs.Elements.{In};
@@ -66,21 +66,38 @@ fn add_premise(
             name,
             trigger,
             given,
+            unless_facts,
             ..
-        } if *trigger == kind => add_row(
-            alloc,
-            standing,
-            decisions,
-            event,
-            date,
-            *name,
-            given.as_slice(),
-        ),
+        } if *trigger == kind => {
+            let read = facts_read(given.as_slice(), unless_facts.as_slice());
+            add_row(
+                alloc,
+                standing,
+                decisions,
+                event,
+                date,
+                *name,
+                read.as_slice(),
+            )
+        }
         _ => Ok(()),
     }
 }
 
-// Adds a row of the rule of this name and these antecedents.
+// The facts that a rule of these antecedents and exceptions reads.
+pub(crate) fn facts_read(given: &[Name], exceptions: &[Name]) -> ArrayVec<Name, 6>
+    requires few { length given.now ≤ 4 }
+    requires fewer { length exceptions.now ≤ 2 }
+    ensures { result.items ≡ given.now ++ exceptions.now }
+{
+    let mut facts = ArrayVec::new();
+    // there is room for both
+    let _fits = facts.try_extend_from_slice(given);
+    let _fit_too = facts.try_extend_from_slice(exceptions);
+    facts
+}
+
+// Adds a row of the rule of this name, which reads these facts.
 pub(crate) fn add_row(
     alloc: Global,
     standing: &Standing,
@@ -88,18 +105,18 @@ pub(crate) fn add_row(
     event: u32,
     date: i64,
     rule: Name,
-    given: &[Name],
+    read: &[Name],
 ) -> Result<(), NoMemory>
-    requires given { given.now ≡ (rule_of standing.now.present rule).given }
-    requires few { length given.now ≤ 4 }
-    requires facts { All (λ fact. IsSome (class_in standing.now.present.premises fact)) given.now }
+    requires read { read.now ≡ read_by (rule_of standing.now.present rule) }
+    requires few { length read.now ≤ 6 }
+    requires facts { All (λ fact. IsSome (class_in standing.now.present.premises fact)) read.now }
     requires under { AreUnder standing.now.present decisions.old }
     ensures adds { OnOk result (AddsRows (rule ∷ []) event date decisions.old decisions.new) }
     ensures under { OnOk result (AreUnder standing.now.present decisions.new) }
     ensures last { KeepsLast decisions.old decisions.new }
 {
     let number = decisions.rules.enter(rule)?;
-    let classes = numbers_of(standing, &mut decisions.classes, given)?;
+    let classes = numbers_of(standing, &mut decisions.classes, read)?;
     let row = decisions
         .rows
         .add(alloc, event, number, classes.as_slice())?;
@@ -112,11 +129,11 @@ fn numbers_of(
     standing: &Standing,
     classes: &mut Numbers,
     facts: &[Name],
-) -> Result<ArrayVec<u32, 4>, NoMemory>
-    requires few { length facts.now ≤ 4 }
+) -> Result<ArrayVec<u32, 6>, NoMemory>
+    requires few { length facts.now ≤ 6 }
     requires facts { All (λ fact. IsSome (class_in standing.now.present.premises fact)) facts.now }
     ensures numbers { IfOk result (λ numbers. map (λ fact. place_in classes.new (class_of standing.now.present fact)) facts.now ≡ map Some numbers.items) }
-    ensures few { IfOk result (λ numbers. length numbers.items ≤ 4) }
+    ensures few { IfOk result (λ numbers. length numbers.items ≤ 6) }
     ensures more { HaveMore classes.old classes.new }
 {
     let mut numbers = ArrayVec::new();

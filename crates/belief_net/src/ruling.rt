@@ -2,7 +2,7 @@
 ghost use Rattle.std.specs.Prelude.{◌≡◌, ℕ, ◌≤◌, [], ◌∷◌, length, true, nat_eq, IsSome, OnOk};
 ghost use Rattle.std.specs.List.{All, IsDistinct};
 ghost use Rattle.row_links.specs.Lists.{IsOn};
-ghost use Rattle.tmm_model.specs.Moments.{rule_of};
+ghost use Rattle.tmm_model.specs.Moments.{read_by, rule_of};
 ghost use Rattle.tmm_model.specs.Sorts.{class_in};
 ghost use Rattle.list_theory.proofs.Elements.{In};
 ghost use Rattle.spots.specs.Forest.{IsLive};
@@ -15,7 +15,7 @@ ghost use Rattle.belief_net.specs.Marks.{HaveEvents};
 ghost use Rattle.belief_net.specs.Turning.{IsFit};
 
 use crate::kind_events::events_of;
-use crate::rows::add_row;
+use crate::rows::{add_row, facts_read};
 use crate::state::{BeliefNet, Decisions};
 use dist_net::DistNet;
 use occ_tree::Tree;
@@ -43,8 +43,10 @@ pub(crate) fn enter_rule(
             name,
             trigger,
             given,
+            unless_facts,
             ..
         } => {
+            let read = facts_read(given.as_slice(), unless_facts.as_slice());
             add_rule(
                 alloc,
                 standing,
@@ -52,7 +54,7 @@ pub(crate) fn enter_rule(
                 &mut beliefs.decisions,
                 *name,
                 *trigger,
-                given.as_slice(),
+                read.as_slice(),
             )?;
             Ok(())
         }
@@ -60,7 +62,7 @@ pub(crate) fn enter_rule(
     }
 }
 
-// Adds a row of a rule of these antecedents at each event of a kind.
+// Adds a row of a rule that reads these facts at each event of a kind.
 fn add_rule(
     alloc: Global,
     standing: &Standing,
@@ -68,11 +70,11 @@ fn add_rule(
     decisions: &mut Decisions,
     rule: Name,
     kind: Name,
-    given: &[Name],
+    read: &[Name],
 ) -> Result<(), NoMemory>
-    requires given { given.now ≡ (rule_of standing.now.present rule).given }
-    requires few { length given.now ≤ 4 }
-    requires facts { All (λ fact. IsSome (class_in standing.now.present.premises fact)) given.now }
+    requires read { read.now ≡ read_by (rule_of standing.now.present rule) }
+    requires few { length read.now ≤ 6 }
+    requires facts { All (λ fact. IsSome (class_in standing.now.present.premises fact)) read.now }
     requires events { HaveEvents tree.now (table_of decisions.old) }
     requires under { AreUnder standing.now.present decisions.old }
     requires others { HaveOthers standing.now.present tree.now decisions.old rule kind }
@@ -89,7 +91,7 @@ fn add_rule(
         numbers.as_slice(),
         rule,
         kind,
-        given,
+        read,
     )?;
     Ok(())
 }
@@ -103,20 +105,20 @@ fn add_rule_along(
     numbers: &[u32],
     rule: Name,
     kind: Name,
-    given: &[Name],
+    read: &[Name],
 ) -> Result<(), NoMemory>
     requires live { (x : ℕ) → IsOn numbers.now x → IsLive (forest tree.now) x }
     requires once { IsDistinct nat_eq numbers.now }
-    requires given { given.now ≡ (rule_of standing.now.present rule).given }
-    requires few { length given.now ≤ 4 }
-    requires facts { All (λ fact. IsSome (class_in standing.now.present.premises fact)) given.now }
+    requires read { read.now ≡ read_by (rule_of standing.now.present rule) }
+    requires few { length read.now ≤ 6 }
+    requires facts { All (λ fact. IsSome (class_in standing.now.present.premises fact)) read.now }
     requires under { AreUnder standing.now.present decisions.old }
     ensures adds { OnOk result (AddsRuleAt tree.now rule kind numbers.now decisions.old decisions.new) }
     ensures under { OnOk result (AreUnder standing.now.present decisions.new) }
     ensures last { KeepsLast decisions.old decisions.new }
 {
     for x in numbers {
-        add_rule_at(alloc, standing, tree, decisions, *x, rule, kind, given)?;
+        add_rule_at(alloc, standing, tree, decisions, *x, rule, kind, read)?;
     }
     Ok(())
 }
@@ -130,11 +132,11 @@ fn add_rule_at(
     x: u32,
     rule: Name,
     kind: Name,
-    given: &[Name],
+    read: &[Name],
 ) -> Result<(), NoMemory>
-    requires given { given.now ≡ (rule_of standing.now.present rule).given }
-    requires few { length given.now ≤ 4 }
-    requires facts { All (λ fact. IsSome (class_in standing.now.present.premises fact)) given.now }
+    requires read { read.now ≡ read_by (rule_of standing.now.present rule) }
+    requires few { length read.now ≤ 6 }
+    requires facts { All (λ fact. IsSome (class_in standing.now.present.premises fact)) read.now }
     requires under { AreUnder standing.now.present decisions.old }
     requires node { IsLive (forest tree.now) x }
     ensures adds { OnOk result (AddsRuleAt tree.now rule kind (x ∷ []) decisions.old decisions.new) }
@@ -142,7 +144,7 @@ fn add_rule_at(
     ensures last { KeepsLast decisions.old decisions.new }
 {
     if is_event_of(tree, x, kind) {
-        add_row(alloc, standing, decisions, x, tree.early(x), rule, given)?;
+        add_row(alloc, standing, decisions, x, tree.early(x), rule, read)?;
         Ok(())
     } else {
         Ok(())

@@ -27,7 +27,7 @@ impl BeliefNet {
 /// A row for each decision of a rule at an event.
 #[derive(Drop)]
 pub(crate) struct Decisions {
-    /// The rows, under the numbers of rules and of the classes of their antecedents.
+    /// The rows, under the numbers of rules and of the classes of what they read.
     pub rows: Rows,
     /// The rules by their numbers.
     pub rules: Numbers,

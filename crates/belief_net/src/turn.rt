@@ -83,7 +83,7 @@ fn decide_first(
     let (trigger, number) = beliefs.decisions.rows.pair(row);
     let rule = beliefs.decisions.rules.name(number);
     let before = beliefs.decisions.rows.get(row);
-    let found = decide(standing, net, &beliefs.tree, trigger, rule, counter);
+    let found = decide(alloc, standing, net, &beliefs.tree, trigger, rule, counter);
     beliefs.decisions.rows.set(alloc, row, found)?;
     Ok(Some(Due {
         row,

@@ -53,8 +53,8 @@ pub(crate) fn wake_class(
     ensures { OnOk result (WakesFor (present tree.now) (table rows.now) net.now moves.now class (IsListedUnder (table rows.now) number) (dates_in waiting.old) (dates_in waiting.new)) }
 {
     let of_class = class_moves(alloc, net, tree, moves, class)?;
-    // the families of rows by the classes of their antecedents follow those by trigger and by rule
-    for antecedent in 0..4 {
+    // the families of rows by the classes of what they read follow those by trigger and by rule
+    for place in 0..6 {
         wake_list(
             net,
             tree,
@@ -62,7 +62,7 @@ pub(crate) fn wake_class(
             waiting,
             moves,
             &of_class,
-            antecedent + 2,
+            place + 2,
             number,
         )?;
     }

@@ -87,7 +87,8 @@ module _ (s : Standing) (far : Distances) (timed : IsTimed s far) where
       both_ways (supported s far b t f) (supported s far c t f) (supported_kept n b c a t occurs_t below f) (supported_kept n c b (turned a) t occurs_t below f)
 
   pub free_same : (n : ℕ) (b c : List Moment) → Agree n b c → (t : Moment) → Occurs s t → early s far t <ℤ pos n → (r : List ℕ) → is_free s far b t r ≡ is_free s far c t r
-  free_same n b c a t occurs_t below r = λ i. list_all (λ f. supported_same n b c a t occurs_t below f i) (rule_of s r).given
+  free_same n b c a t occurs_t below r =
+      λ i. list_all (λ f. supported_same n b c a t occurs_t below f i) (rule_of s r).given && not (list_any (λ f. supported_same n b c a t occurs_t below f i) (rule_of s r).exceptions)
 
   pub free_kept : (n : ℕ) (b c : List Moment) → Agree n b c → (t : Moment) → Occurs s t → early s far t <ℤ pos n → (r : List ℕ) → is_free s far b t r ≡ true → is_free s far c t r ≡ true
   free_kept n b c a t occurs_t below r h = sym (free_same n b c a t occurs_t below r) ∙ h

@@ -1,5 +1,5 @@
 -- What an accepted edit leaves of a kept list is kept.
-use Rattle.std.proofs.Common.{◌≡◌, ℕ, ◌≤◌, Bool, true, false, List, [], ◌∷◌, ◌++◌, length, refl, arith}
+use Rattle.std.proofs.Common.{◌≡◌, ℕ, ◌≤◌, Bool, true, false, List, [], ◌∷◌, ◌++◌, length, refl, sym, subst, arith}
 use Rattle.std.specs.List.{All, flat_map}
 use Rattle.std.proofs.lemmas.List.{length-append}
 use Rattle.std.proofs.lemmas.List.Elements.{All-contains, All-nil, All-push}
@@ -8,16 +8,17 @@ use Rattle.tmm_model.specs.declared.premise.Edit.{Edit}
 use Rattle.tmm_model.specs.declared.premise.Edit.TheVariants.{Add, Erase, Horizon, Upgrade}
 use Rattle.tmm_model.specs.declared.premise.Premise.{Premise}
 use Rattle.tmm_model.specs.Answers.{size}
-use Rattle.tmm_model.specs.Edits.{next_list}
+use Rattle.tmm_model.specs.Edits.{next_list, upgraded}
 use Rattle.tmm_model.specs.Erasure.{falls, kept_after, kept_without}
 use Rattle.belief_theory.specs.KeptLists.{IsKept}
 use Rattle.tmm_model.specs.Kept.{IsAccepted}
-use Rattle.tmm_model.specs.declared.version.Version.TheVariants.{One}
+use Rattle.tmm_model.specs.declared.version.Version.TheVariants.{One, Two}
 use Rattle.tmm_model.specs.Lines.{IsWellFormedPremise, IsWellFormedEdit, IsOfVersion, IsEditOf}
 use Rattle.tmm_model.specs.Maps.{built}
 use Rattle.tmm_model.specs.Sorts.{declared_by}
 use Rattle.tmm_model.specs.Standing.{Standing, empty_list, points_of}
 use Rattle.list_theory.proofs.Adding.{may_be_added}
+use Rattle.list_theory.proofs.Opening.{opened_at}
 use Rattle.walk_theory.proofs.Dates.{HasDates-nil}
 use Rattle.list_theory.proofs.Erasure.{kept_before, kept_without-IsWellNamed}
 use Rattle.list_theory.proofs.Elements.{In-from_Contains, Contains-from_In}
@@ -61,12 +62,25 @@ empty_is_small = of_map size empty_list
 pub empty_is_kept : IsKept empty_list
 empty_is_kept = record {
   sound = record { well_formed = All-nil IsWellFormedPremise; well_named = tt; dates = HasDates-nil Start };
-  first_version = refl;
   versioned = All-nil (IsOfVersion One);
   horizon = omega arith;
   premises = omega arith;
   points = omega arith;
   small = omega (arith, empty_is_small);
+}
+
+-- the list that version 2 opens with
+pub upgraded_is_small : size (built (upgraded empty_list)) ≡ 0
+upgraded_is_small = of_map size (upgraded empty_list)
+
+upgraded_is_kept : IsKept (upgraded empty_list)
+upgraded_is_kept = record {
+  sound = record { well_formed = All-nil IsWellFormedPremise; well_named = tt; dates = HasDates-nil Start };
+  versioned = All-nil (IsOfVersion Two);
+  horizon = omega arith;
+  premises = omega arith;
+  points = omega arith;
+  small = omega (arith, upgraded_is_small);
 }
 
 pub stays_kept : (s : Standing) (edit : Edit) → IsKept s → IsWellFormedEdit edit → IsEditOf s.version edit → IsAccepted s edit → IsKept (next_list s edit)
@@ -78,7 +92,6 @@ stays_kept s (Add p) kept formed versioned accepted =
         well_named = IsWellNamed-push s.premises p kept.sound.well_named (record { new = may.names; known = may.uses });
         dates = accepted.dates;
       };
-      first_version = kept.first_version;
       versioned = All-push (IsOfVersion s.version) s.premises p kept.versioned versioned;
       horizon = kept.horizon;
       premises = omega (arith, length-append s.premises (p ∷ []), may.few);
@@ -91,7 +104,6 @@ stays_kept s (Erase name) kept formed versioned accepted = record {
     well_named = kept_without-IsWellNamed name s.premises kept.sound.well_named;
     dates = accepted.dates;
   };
-  first_version = kept.first_version;
   versioned = all_without (IsOfVersion s.version) name s.premises kept.versioned;
   horizon = kept.horizon;
   premises = omega (arith, kept_after-fewer name [] s.premises, kept.premises);
@@ -100,11 +112,10 @@ stays_kept s (Erase name) kept formed versioned accepted = record {
 }
 stays_kept s (Horizon n) kept formed versioned accepted = record {
   sound = record { well_formed = kept.sound.well_formed; well_named = kept.sound.well_named; dates = accepted.dates };
-  first_version = kept.first_version;
   versioned = kept.versioned;
   horizon = formed;
   premises = kept.premises;
   points = kept.points;
   small = accepted.small;
 }
-stays_kept s Upgrade kept formed versioned accepted = absurd (cc (accepted.no_cause))
+stays_kept s Upgrade kept formed versioned accepted = subst (λ l. IsKept (upgraded l)) (sym (opened_at s accepted.no_cause)) upgraded_is_kept

@@ -12,12 +12,12 @@ use Rattle.tmm_model.specs.declared.bound.Bound.{Bound}
 use Rattle.tmm_model.specs.declared.bound.Bound.TheVariants.{Finite, Free}
 use Rattle.tmm_model.specs.declared.point.PointName.TheVariants.{Start}
 use Rattle.tmm_model.specs.declared.token.TokenRow.{TokenRow}
-use Rattle.tmm_model.specs.Beliefs.{class_of, token_of, rules_at, contradicts_in, due, holder, supporters}
+use Rattle.tmm_model.specs.Beliefs.{class_of, token_of, rules_at, contradicts_in, due, holder, supporters, against}
 use Rattle.belief_theory.specs.Outcomes.{decisions, Outcome, beyond, tried, outcome}
 use Rattle.tmm_model.specs.Bounds.{bound_at_most}
 use Rattle.tmm_model.specs.Firsts.{earliest, first}
 use Rattle.tmm_model.specs.Maps.{TimeMap, gap, order, believed_tokens}
-use Rattle.tmm_model.specs.Moments.{Moment, At, RuleText, same_moment, rule_of, negated, printed}
+use Rattle.tmm_model.specs.Moments.{Moment, At, RuleText, same_moment, read_by, rule_of, negated, printed}
 use Rattle.tmm_model.specs.Points.{same_name}
 use Rattle.tmm_model.specs.Tokens.{is_by, is_before, clips, cuts, lasts_to, supports}
 use Rattle.belief_theory.specs.Touched.{same_bound, same_token, are_within, same_tokens, watched, watched_points, same_gaps, is_decision, is_touched}
@@ -69,23 +69,23 @@ turned m n t r a = record {
 class_of_token : (m : TimeMap) (k : TokenRow Moment) → In k (believed_tokens m) → k.class ≡ class_of m.list k.fact
 class_of_token m k at = let (x, _, e) = In-filter_map (token_of m.list) m.believed k at in class-token_of m.list x k e
 
--- a token of the class of an antecedent is watched
-watches : (m : TimeMap) (r f : List ℕ) (k : TokenRow Moment) → In f (rule_of m.list r).given → In k (believed_tokens m) → k.class ≡ class_of m.list f → In k (watched m r)
+-- a token of the class of an antecedent or an exception is watched
+watches : (m : TimeMap) (r f : List ℕ) (k : TokenRow Moment) → In f (read_by (rule_of m.list r)) → In k (believed_tokens m) → k.class ≡ class_of m.list f → In k (watched m r)
 watches m r f k given at own =
-    filter-In (λ k. list_any (λ fact. same_name (class_of m.list fact) k.class) (rule_of m.list r).given) (believed_tokens m) k at
-    (In-list_any (λ fact. same_name (class_of m.list fact) k.class) (rule_of m.list r).given f given (subst (λ c. same_name (class_of m.list f) c ≡ true) (sym own) (nat_list_eq_equiv.refl (class_of m.list f))))
+    filter-In (λ k. list_any (λ fact. same_name (class_of m.list fact) k.class) (read_by (rule_of m.list r))) (believed_tokens m) k at
+    (In-list_any (λ fact. same_name (class_of m.list fact) k.class) (read_by (rule_of m.list r)) f given (subst (λ c. same_name (class_of m.list f) c ≡ true) (sym own) (nat_list_eq_equiv.refl (class_of m.list f))))
 
 watched_token : (m : TimeMap) (r : List ℕ) (k : TokenRow Moment) → In k (watched m r) → In k (believed_tokens m)
-watched_token m r k at = (In-filter (λ k. list_any (λ fact. same_name (class_of m.list fact) k.class) (rule_of m.list r).given) (believed_tokens m) k at).0
+watched_token m r k at = (In-filter (λ k. list_any (λ fact. same_name (class_of m.list fact) k.class) (read_by (rule_of m.list r))) (believed_tokens m) k at).0
 
 abbrev holds_at : TimeMap → Moment → List ℕ → TokenRow Moment → Bool
 holds_at m t f k = supports (contradicts_in m.list) (gap m) (believed_tokens m) f t t k
 
-module _ (m n : TimeMap) (t : Moment) (r : List ℕ) (a : Alike m n t r) (f : List ℕ) (given : In f (rule_of m.list r).given) where
-  given_there : In f (rule_of n.list r).given
-  given_there = subst (λ (x : RuleText). In f x.given) a.text given
+module _ (m n : TimeMap) (t : Moment) (r : List ℕ) (a : Alike m n t r) (f : List ℕ) (given : In f (read_by (rule_of m.list r))) where
+  given_there : In f (read_by (rule_of n.list r))
+  given_there = subst (λ (x : RuleText). In f (read_by x)) a.text given
 
-  -- a supporter of an antecedent is watched
+  -- a supporter of an antecedent or an exception is watched
   supporter_watched : (k : TokenRow Moment) → In k (believed_tokens m) → k.fact ≡ f → In k (watched m r)
   supporter_watched k at fact = watches m r f k given at (class_of_token m k at ∙ ap (class_of m.list) fact)
 
@@ -145,13 +145,13 @@ by_begin m = on (λ k. k.spot) (order m)
 abbrev AllSpelt : TimeMap → Type 0
 AllSpelt m = (k : TokenRow Moment) → In k (believed_tokens m) → IsSpelt k.spot
 
-module _ (m n : TimeMap) (t : Moment) (r : List ℕ) (a : Alike m n t r) (spelt_m : AllSpelt m) (spelt_n : AllSpelt n) (f : List ℕ) (given : In f (rule_of m.list r).given) where
-  -- **The first supporter of an antecedent is the same in both.**
+module _ (m n : TimeMap) (t : Moment) (r : List ℕ) (a : Alike m n t r) (spelt_m : AllSpelt m) (spelt_n : AllSpelt n) (f : List ℕ) (given : In f (read_by (rule_of m.list r))) where
+  -- **The first supporter of an antecedent or an exception is the same in both.**
   holder_alike : holder m.list m.far m.believed f t t ≡ holder n.list n.far n.believed f t t
   holder_alike = by (filter (holds_at m t f) (believed_tokens m)) refl (filter (holds_at n t f) (believed_tokens n)) refl
     where
-      given_n : In f (rule_of n.list r).given
-      given_n = subst (λ (x : RuleText). In f x.given) a.text given
+      given_n : In f (read_by (rule_of n.list r))
+      given_n = subst (λ (x : RuleText). In f (read_by x)) a.text given
 
       there : (k : TokenRow Moment) → In k (filter (holds_at m t f) (believed_tokens m)) → In k (watched m r) × In k (filter (holds_at n t f) (believed_tokens n))
       there k at =
@@ -185,7 +185,7 @@ module _ (m n : TimeMap) (t : Moment) (r : List ℕ) (a : Alike m n t r) (spelt_
           ap Some (one_spot (ordered m.list m.far) k.spot c.spot (live_m k one.member) (live_n c two.member) k_first c_first)
 
 module _ (m n : TimeMap) (t : Moment) (r : List ℕ) (a : Alike m n t r) (spelt_m : AllSpelt m) (spelt_n : AllSpelt n) where
-  all_alike : (facts : List (List ℕ)) → ((f : List ℕ) → In f facts → In f (rule_of m.list r).given) → map (λ f. holder m.list m.far m.believed f t t) facts ≡ map (λ f. holder n.list n.far n.believed f t t) facts
+  all_alike : (facts : List (List ℕ)) → ((f : List ℕ) → In f facts → In f (read_by (rule_of m.list r))) → map (λ f. holder m.list m.far m.believed f t t) facts ≡ map (λ f. holder n.list n.far n.believed f t t) facts
   all_alike [] sub = refl
   all_alike (f ∷ facts) sub =
       let here = holder_alike m n t r a spelt_m spelt_n f (sub f (inl refl)) in
@@ -198,8 +198,12 @@ module _ (m n : TimeMap) (t : Moment) (r : List ℕ) (a : Alike m n t r) (spelt_
       let date = a.gaps t (At Start) (inr (inl refl)) (inl refl) in
       let due_alike : due m.list m.far t r ≡ due n.list n.far t r = λ i. negated (date i) +ℤ (a.text i).lo in
       let found : supporters m.list m.far m.believed t r ≡ supporters n.list n.far n.believed t r =
-      all_alike (rule_of m.list r).given (λ f at. at) ∙ ap (λ (x : RuleText). map (λ f. holder n.list n.far n.believed f t t) x.given) a.text in
-      λ i. elim (int_le (due_alike i) (pos (a.horizon i))) as (λ _. Outcome) [ false ↦ beyond | true ↦ tried (found i) ]
+      all_alike (rule_of m.list r).given (λ f at. In-left (rule_of m.list r).given (rule_of m.list r).exceptions f at)
+      ∙ ap (λ (x : RuleText). map (λ f. holder n.list n.far n.believed f t t) x.given) a.text in
+      let objected : against m.list m.far m.believed t r ≡ against n.list n.far n.believed t r =
+      all_alike (rule_of m.list r).exceptions (λ f at. In-right (rule_of m.list r).given (rule_of m.list r).exceptions f at)
+      ∙ ap (λ (x : RuleText). map (λ f. holder n.list n.far n.believed f t t) x.exceptions) a.text in
+      λ i. elim (int_le (due_alike i) (pos (a.horizon i))) as (λ _. Outcome) [ false ↦ beyond | true ↦ tried (found i) (objected i) ]
 
 -- ---- what the tests tell
 

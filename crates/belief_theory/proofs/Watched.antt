@@ -1,5 +1,5 @@
 -- What supports a fact depends on the tokens of its class alone.
-use Rattle.std.proofs.Common.{◌≡◌, ℕ, Bool, true, false, not, ◌&&◌, List, [], ◌∷◌, inl, inr, refl, sym, ◌∙◌, ap, subst}
+use Rattle.std.proofs.Common.{◌≡◌, ℕ, Bool, true, false, not, ◌&&◌, ◌||◌, List, [], ◌∷◌, inl, inr, refl, sym, ◌∙◌, ap, subst}
 use Rattle.std.specs.Prelude.{◌↔◌, ◌⊎◌, Option, Some, None}
 use Rattle.std.specs.List.{list_any, list_all}
 use Rattle.std.specs.Cmp.{both_ways}
@@ -8,12 +8,12 @@ use Rattle.tmm_model.specs.declared.bound.Bound.{Bound}
 use Rattle.tmm_model.specs.declared.token.Shape.{Shape}
 use Rattle.tmm_model.specs.declared.token.Shape.TheVariants.{Event as AnEvent, Persistence as APersistence, Span as ASpan}
 use Rattle.tmm_model.specs.declared.token.TokenRow.{TokenRow}
-use Rattle.tmm_model.specs.Moments.{Moment, Distances, distance, rule_of}
+use Rattle.tmm_model.specs.Moments.{Moment, Distances, distance, read_by, rule_of}
 use Rattle.tmm_model.specs.Points.{same_name}
 use Rattle.tmm_model.specs.Standing.{Standing}
 use Rattle.tmm_model.specs.Tokens.{clips, cuts, is_by, is_before, lasts_to, supports}
 use Rattle.tmm_model.specs.Beliefs.{class_of, contradicts_in, is_of, end_of, token_at, token_of, tokens, supported, is_free}
-use Rattle.list_theory.proofs.Elements.{both, In, list_any-In, In-list_any, In-filter_map}
+use Rattle.list_theory.proofs.Elements.{both, In, list_any-In, In-list_any, In-filter_map, In-left, In-right}
 
 pub class-token_of : (s : Standing) (x : Moment) (k : TokenRow Moment) → token_of s x ≡ Some k → k.class ≡ class_of s k.fact
 class-token_of s x k h = by (is_of s x) h
@@ -66,13 +66,25 @@ module _ (s : Standing) (far : Distances) where
   supported_watched f b c same t =
       both_ways (supported s far b t f) (supported s far c t f) (supported_with f b c same t) (supported_with f c b (λ k own. ((same k own).1, (same k own).0)) t)
 
-  -- and a rule is free alike where those of the classes of its antecedents are
-  pub free_watched : (r : List ℕ) (b c : List Moment) → ((f : List ℕ) → SameTokens (class_of s f) b c ⊎ (list_any (same_name f) (rule_of s r).given ≡ false)) → (t : Moment) → is_free s far b t r ≡ is_free s far c t r
-  free_watched r b c same t = alike (rule_of s r).given (λ f at. elim (same f) [ inl h ↦ supported_watched f b c h t | inr none ↦ absurd (not_there f (rule_of s r).given at none) ])
+  -- and a rule is free alike where those of the classes of its antecedents and exceptions are
+  pub free_watched : (r : List ℕ) (b c : List Moment) → ((f : List ℕ) → SameTokens (class_of s f) b c ⊎ (list_any (same_name f) (read_by (rule_of s r)) ≡ false)) → (t : Moment) → is_free s far b t r ≡ is_free s far c t r
+  free_watched r b c same t =
+      let given = (rule_of s r).given in
+      let exceptions = (rule_of s r).exceptions in
+      let held = alike given (λ f at. each f (In-left given exceptions f at)) in
+      let objected = alike_any exceptions (λ f at. each f (In-right given exceptions f at)) in
+      λ i. held i && not (objected i)
     where
       not_there : (f : List ℕ) (gs : List (List ℕ)) → In f gs → list_any (same_name f) gs ≡ false → ⊥
       not_there f gs at none = let t : list_any (same_name f) gs ≡ true = In-list_any (same_name f) gs f at (nat_list_eq_equiv.refl f) in cc
 
+      each : (f : List ℕ) → In f (read_by (rule_of s r)) → supported s far b t f ≡ supported s far c t f
+      each f at = elim (same f) [ inl h ↦ supported_watched f b c h t | inr none ↦ absurd (not_there f (read_by (rule_of s r)) at none) ]
+
       alike : (gs : List (List ℕ)) → ((f : List ℕ) → In f gs → supported s far b t f ≡ supported s far c t f) → list_all (supported s far b t) gs ≡ list_all (supported s far c t) gs
       alike [] h = refl
       alike (g ∷ gs) h = λ i. h g (inl refl) i && alike gs (λ f at. h f (inr at)) i
+
+      alike_any : (gs : List (List ℕ)) → ((f : List ℕ) → In f gs → supported s far b t f ≡ supported s far c t f) → list_any (supported s far b t) gs ≡ list_any (supported s far c t) gs
+      alike_any [] h = refl
+      alike_any (g ∷ gs) h = λ i. h g (inl refl) i || alike_any gs (λ f at. h f (inr at)) i

@@ -2,7 +2,6 @@
 use Rattle.std.specs.Prelude.{◌≡◌, ℕ, ◌≤◌, length}
 use Rattle.std.specs.List.{All}
 use Rattle.tmm_model.specs.declared.limits.TheConstants.{LAST_HORIZON}
-use Rattle.tmm_model.specs.declared.version.Version.TheVariants.{One}
 use Rattle.tmm_model.specs.Answers.{size, most_size}
 use Rattle.tmm_model.specs.Lines.{IsOfVersion}
 use Rattle.tmm_model.specs.Maps.{built}
@@ -14,11 +13,9 @@ use Rattle.tmm_model.specs.Verdicts.{most_premises, most_points}
 abbrev pub last_horizon : ℕ
 last_horizon = LAST_HORIZON
 
--- Well-formed and well-named premises that some dates satisfy, within all limits. So far the program keeps lists of
--- version 1 alone: no rule has an exception.
+-- Well-formed and well-named premises of the list's version that some dates satisfy, within all limits.
 pub record IsKept (s : Standing) : Type 0 where
   pub sound : IsSound s
-  pub first_version : s.version ≡ One
   pub versioned : All (IsOfVersion s.version) s.premises
   pub horizon : s.horizon ≤ last_horizon
   pub premises : length s.premises ≤ most_premises

@@ -11,7 +11,7 @@ use Rattle.tmm_model.specs.declared.token.TokenRow.{TokenRow}
 use Rattle.tmm_model.specs.Beliefs.{class_of}
 use Rattle.belief_theory.specs.Outcomes.{decisions}
 use Rattle.tmm_model.specs.Maps.{TimeMap, built, gap, believed_tokens}
-use Rattle.tmm_model.specs.Moments.{Moment, At, same_moment, rule_of}
+use Rattle.tmm_model.specs.Moments.{Moment, At, same_moment, read_by, rule_of}
 use Rattle.tmm_model.specs.Points.{same_name}
 use Rattle.tmm_model.specs.Standing.{Standing}
 
@@ -33,9 +33,9 @@ are_within xs ys = list_all (λ k. list_any (same_token k) ys) xs
 abbrev pub same_tokens : List (TokenRow Moment) → List (TokenRow Moment) → Bool
 same_tokens xs ys = are_within xs ys && are_within ys xs
 
--- the believed tokens of the classes of a rule's antecedents
+-- the believed tokens of the classes of a rule's antecedents and exceptions
 abbrev pub watched : TimeMap → List ℕ → List (TokenRow Moment)
-watched m r = filter (λ k. list_any (λ fact. same_name (class_of m.list fact) k.class) (rule_of m.list r).given) (believed_tokens m)
+watched m r = filter (λ k. list_any (λ fact. same_name (class_of m.list fact) k.class) (read_by (rule_of m.list r))) (believed_tokens m)
 
 -- the points on whose distances a rule at t depends: `start`, t, and the begins and ends of those tokens
 abbrev pub watched_points : TimeMap → Moment → List ℕ → List Moment

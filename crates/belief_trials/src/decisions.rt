@@ -16,6 +16,7 @@ use premise_list::Standing;
 use projection::{Counter, Decision, RulesByKind, decide, rebuild};
 use std::alloc::Global;
 use std::test::Fail;
+use supports::Guesses;
 use tmm_model::{Name, Stop};
 
 /// An event lights the lamp and rings. At the ring the rule that wants the lamp on fires, and the one that
@@ -110,8 +111,11 @@ fn decided(alloc: Global, premises: &Premises, tree: &Tree) -> Option<u64>
         return None;
     };
     let mut counter = Counter::zero();
+    let mut guesses = Guesses::make(alloc);
     for x in 0..tree.limit() {
-        if tree.is_live(x) && !is_decided_as_believed(premises, tree, &rules, x, &mut counter) {
+        if tree.is_live(x)
+            && !is_decided_as_believed(premises, tree, &rules, x, &mut counter, &mut guesses)
+        {
             return None;
         }
     }
@@ -125,6 +129,7 @@ fn is_decided_as_believed(
     rules: &RulesByKind,
     x: u32,
     counter: &mut Counter,
+    guesses: &mut Guesses,
 ) -> bool
     requires seen { IsTreeOf premises.now.list.present premises.now.net.present tree.now }
     requires rules { AreRules premises.now.list.present rules.now }
@@ -132,7 +137,8 @@ fn is_decided_as_believed(
 {
     for place in rules.at(&premises.list, tree, x) {
         let rule = rule_name(&premises.list, *place);
-        let decision = decide(tree, &premises.net, &premises.list, x, rule, counter);
+        let (net, list) = (&premises.net, &premises.list);
+        let decision = decide(tree, net, list, x, rule, counter, guesses);
         let fires = matches!(decision, Decision::Fires { .. });
         if fires != tree.find_effect(x, &rule).is_some() {
             return false;

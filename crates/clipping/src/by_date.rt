@@ -1,16 +1,23 @@
-//! The same answers over tokens in the order of their earliest dates, for a map that keeps those of each
-//! class so.
+//! The same answers over tokens in the order of their earliest dates, for a map that keeps those of
+//! each class so.
 //!
-//! The first supporter or clip in the list is the first by the order, so a search stops at the first that
-//! it finds. No search looks at a token whose date alone rules it out: what supports at a point has a date
-//! up to the point's, what clips a token has a later one than the token's, and what cuts it before a point
-//! has one up to that point's. The bounds of a search are found by halving. No call takes memory.
+//! The first supporter or clip in the list is the first by the order, so a search stops at the
+//! first that it finds. No search looks at a token whose date alone rules it out: what supports at
+//! a point has a date up to the point's, what clips a token has a later one than the token's, and
+//! what cuts it before a point has one up to that point's. The bounds of a search are found by
+//! halving. No call takes memory.
 //!
-//! `first_clipper` and `blame` cost what they pass over. `is_held` and `holder` cost, for each token of the
-//! fact that they pass over, the way from what cut the one before to what cuts this one: little where those
-//! that cut stand in the order of those that they cut. Where they stand in quite another order it comes to
-//! the square of the tokens up to the last point.
-ghost use Rattle.std.specs.Prelude.{◌≡◌, ◌<◌, ◌≤◌, ◌+◌, ◌↔◌, ◌≤ℤ◌, ℕ, length, IsTrue, false, IfSome, MatchOption, slice_get, slice_index_or};
+//! `first_clipper` and `blame` cost what they pass over. `is_held` and `holder` cost, for each
+//! token of the fact that they pass over, the way from what cut the one before to what cuts this
+//! one: little where those that cut stand in the order of those that they cut. Where they stand in
+//! quite another order it comes to the square of the tokens up to the last point, but for two
+//! things:
+//!
+//! - `holder_soon` and `is_held_soon` give up when the ways come to more than a caller allows.
+//! - `holder` and `is_held` take guesses of what cuts each token. Each is tried, and none is
+//!   believed: a right one passes over its token in one test, a wrong one costs that test. Where
+//!   all are right, one search is made, for what cuts the token that is found.
+ghost use Rattle.std.specs.Prelude.{◌≡◌, ◌<◌, ◌≤◌, ◌+◌, ◌↔◌, ◌≤ℤ◌, ℕ, length, IsTrue, IsSome, None, true, false, IfSome, MatchOption, slice_get, slice_index_or};
 ghost use Rattle.std.specs.List.{All, list_any};
 ghost use Rattle.std.specs.Option.{ForSome};
 ghost use Rattle.std.specs.Ordering.{on};
@@ -67,8 +74,8 @@ fn count_by_date<S: Dated>(order: &S, tokens: &[TokenRow<S::Spot>], until: i64) 
     low
 }
 
-// How many tokens have a date up to that of a spot.
-fn count_until<S: Dated>(order: &S, tokens: &[TokenRow<S::Spot>], q: S::Spot) -> usize
+/// How many tokens have a date up to that of a spot. They are the first. It is found by halving.
+pub fn count_until<S: Dated>(order: &S, tokens: &[TokenRow<S::Spot>], q: S::Spot) -> usize
     requires all_live { All (IsLive (S.live order.now)) tokens.now }
     requires by_date { IsByDate (S.date order.now) (S.order order.now) tokens.now }
     requires q_live { S.live order.now q }
@@ -110,7 +117,8 @@ fn count_before<S: Dated>(order: &S, tokens: &[TokenRow<S::Spot>], spot: S::Spot
     low
 }
 
-/// The place of the token that begins at a spot, none exactly where no token does. It is found by halving.
+/// The place of the token that begins at a spot, none exactly where no token does. It is found by
+/// halving.
 pub fn place_of<S: Dated>(order: &S, tokens: &[TokenRow<S::Spot>], spot: S::Spot) -> Option<usize>
     requires all_live { All (IsLive (S.live order.now)) tokens.now }
     requires by_date { IsByDate (S.date order.now) (S.order order.now) tokens.now }
@@ -126,8 +134,8 @@ pub fn place_of<S: Dated>(order: &S, tokens: &[TokenRow<S::Spot>], spot: S::Spot
     }
 }
 
-// The first place, from `low` on and before `high`, of a token that clips `k`, and begins surely at or
-// before a point where one is given.
+// The first place, from `low` on and before `high`, of a token that clips `k`, and begins surely at
+// or before a point where one is given.
 fn first_between<S: Dated>(
     order: &S,
     tokens: &[TokenRow<S::Spot>],
@@ -150,8 +158,8 @@ fn first_between<S: Dated>(
     None
 }
 
-// A place, from `low` on and before `high`, of a token that cuts `k` before `q`. It is looked for from the
-// last one back.
+// A place, from `low` on and before `high`, of a token that cuts `k` before `q`. It is looked for
+// from the last one back.
 fn last_between<S: Dated>(
     order: &S,
     tokens: &[TokenRow<S::Spot>],
@@ -174,14 +182,76 @@ fn last_between<S: Dated>(
     None
 }
 
-// Where the search for what cuts a token begins: at what cut the token before, which mostly cuts this one
-// too, or stands near what does. From there it goes the way that the tokens themselves are gone through.
+// Where the search for what cuts a token begins: at what cut the token before, which mostly cuts
+// this one too, or stands near what does. From there it goes the way that the tokens themselves are
+// gone through.
 #[derive(Clone, Copy)]
 enum Near {
     // on from this place
     On(usize),
     // back from right before this place
     Back(usize),
+}
+
+// How the search for what cuts one token after the other stands.
+#[derive(Drop)]
+struct Search {
+    // where it begins for the next one
+    near: Near,
+    // how many tokens it went over that do not cut
+    walked: usize,
+}
+
+impl Search {
+    fn new(near: Near) -> Search {
+        Search { near, walked: 0 }
+    }
+
+    // Counts the way to the place that was found from `low` on and before `high`, where the next
+    // search begins.
+    fn go_to(&mut self, found: usize, low: usize, high: usize) {
+        let steps = steps_to(self.near, found, low, high);
+        self.walked = self.walked.saturating_add(steps);
+        self.near = match self.near {
+            Near::On(_) => Near::On(found),
+            Near::Back(_) => Near::Back(found.saturating_add(1)),
+        };
+    }
+}
+
+// How many tokens a search goes over, from `low` on and before `high`, until it comes to the one
+// that it finds.
+fn steps_to(near: Near, found: usize, low: usize, high: usize) -> usize {
+    match near {
+        Near::On(place) => {
+            let from = place.max(low).min(high);
+            if from <= found {
+                found - from
+            } else {
+                high.saturating_sub(from)
+                    .saturating_add(found.saturating_sub(low))
+            }
+        }
+        Near::Back(place) => {
+            let from = place.max(low).min(high);
+            if found < from {
+                from - found
+            } else {
+                from.saturating_sub(low)
+                    .saturating_add(high.saturating_sub(found))
+            }
+        }
+    }
+}
+
+// Whether a search went over more tokens than it may, where there is a bound.
+fn is_over(walked: usize, most: Option<usize>) -> bool
+    ensures { most ≡ None → result ≡ false }
+{
+    match most {
+        Some(most) => walked > most,
+        None => false,
+    }
 }
 
 // A place, from `low` on and before `high`, of a token that cuts `k` before `q`.
@@ -218,15 +288,37 @@ fn cutter_near<S: Dated>(
     }
 }
 
-// Whether a token cuts the one at `i` before `q`, where the tokens that begin by the date of `q` are the
-// first `reach`. Only those behind the one at `i` can.
+// Whether the token that is guessed to cut the one at `i` does so before `q`.
+fn is_cut_as_guessed<S: Dated>(
+    order: &S,
+    tokens: &[TokenRow<S::Spot>],
+    guesses: &[u32],
+    i: usize,
+    q: S::Spot,
+) -> bool
+    requires all_live { All (IsLive (S.live order.now)) tokens.now }
+    requires within { i < length tokens.now }
+    requires q_live { S.live order.now q }
+    ensures { (d : TokenRow S.Spot) → IsTrue result → list_any (cuts of_one_class (S.distance order.now) (slice_index_or tokens.now i d) q) tokens.now ≡ true }
+{
+    let Some(guess) = guesses.get(i) else {
+        return false;
+    };
+    let place = *guess as usize;
+    place < tokens.len() && cuts_before(order, &tokens[i], &tokens[place], q)
+}
+
+// Whether a token cuts the one at `i` before `q`, where the tokens that begin by the date of `q`
+// are the first `reach`. Only those behind the one at `i` can. The one that is guessed is asked
+// first.
 fn is_cut<S: Dated>(
     order: &S,
     tokens: &[TokenRow<S::Spot>],
+    guesses: &[u32],
     i: usize,
     q: S::Spot,
     reach: usize,
-    near: &mut Near,
+    search: &mut Search,
 ) -> bool
     requires all_live { All (IsLive (S.live order.now)) tokens.now }
     requires by_date { IsByDate (S.date order.now) (S.order order.now) tokens.now }
@@ -235,30 +327,31 @@ fn is_cut<S: Dated>(
     requires reach { AreUntil (S.date order.now) tokens.now (S.date order.now q) reach }
     ensures { (d : TokenRow S.Spot) → result ≡ list_any (cuts of_one_class (S.distance order.now) (slice_index_or tokens.now i d) q) tokens.now }
 {
+    if is_cut_as_guessed(order, tokens, guesses, i, q) {
+        return true;
+    }
     let k = &tokens[i];
-    match cutter_near(order, tokens, k, q, i + 1, reach, *near) {
+    match cutter_near(order, tokens, k, q, i + 1, reach, search.near) {
         Some(c) => {
-            *near = match *near {
-                Near::On(_) => Near::On(c),
-                Near::Back(_) => Near::Back(c + 1),
-            };
+            search.go_to(c, i + 1, reach);
             true
         }
         None => false,
     }
 }
 
-// Whether the token at `i` supports the fact throughout `p` to `q`, where the tokens that begin by the
-// date of `q` are the first `reach`.
+// Whether the token at `i` supports the fact throughout `p` to `q`, where the tokens that begin by
+// the date of `q` are the first `reach`.
 fn is_supporter<S: Dated>(
     order: &S,
     tokens: &[TokenRow<S::Spot>],
+    guesses: &[u32],
     i: usize,
     fact: &Name,
     p: S::Spot,
     q: S::Spot,
     reach: usize,
-    near: &mut Near,
+    search: &mut Search,
 ) -> bool
     requires all_live { All (IsLive (S.live order.now)) tokens.now }
     requires by_date { IsByDate (S.date order.now) (S.order order.now) tokens.now }
@@ -274,15 +367,52 @@ fn is_supporter<S: Dated>(
     }
     match k.end {
         Some(end) => order.at_most(end, q, -1),
-        None => !is_cut(order, tokens, i, q, reach, near),
+        None => !is_cut(order, tokens, guesses, i, q, reach, search),
     }
 }
 
-/// Whether a token supports the fact throughout `p` to `q`. Those with a date up to that of `p` are asked,
-/// from the last back to the first that does: what supports now is mostly among the last that began.
+// Whether a token supports the fact throughout `p` to `q`. Where a bound is given, none when the
+// search went over more tokens.
+fn is_held_within<S: Dated>(
+    order: &S,
+    tokens: &[TokenRow<S::Spot>],
+    guesses: &[u32],
+    fact: Name,
+    p: S::Spot,
+    q: S::Spot,
+    most: Option<usize>,
+) -> Option<bool>
+    requires all_live { All (IsLive (S.live order.now)) tokens.now }
+    requires by_date { IsByDate (S.date order.now) (S.order order.now) tokens.now }
+    requires p_live { S.live order.now p }
+    requires q_live { S.live order.now q }
+    ensures held { IfSome result (λ held. held ≡ list_any (supports of_one_class (S.distance order.now) tokens.now fact p q) tokens.now) }
+    ensures found { most ≡ None → IsSome result }
+{
+    let until = count_until(order, tokens, p);
+    let reach = count_until(order, tokens, q);
+    let mut search = Search::new(Near::Back(reach));
+    for i in (0..until).rev() {
+        if is_supporter(order, tokens, guesses, i, &fact, p, q, reach, &mut search) {
+            return Some(true);
+        }
+        if is_over(search.walked, most) {
+            return None;
+        }
+    }
+    Some(false)
+}
+
+/// Whether a token supports the fact throughout `p` to `q`. Those with a date up to that of `p` are
+/// asked, from the last back to the first that does: what supports now is mostly among the last
+/// that began.
+///
+/// For the token at the place `i`, `guesses[i]` is the place of one that may cut it. They may be
+/// any numbers, and as few as there are: what is answered does not depend on them.
 pub fn is_held<S: Dated>(
     order: &S,
     tokens: &[TokenRow<S::Spot>],
+    guesses: &[u32],
     fact: Name,
     p: S::Spot,
     q: S::Spot,
@@ -293,22 +423,73 @@ pub fn is_held<S: Dated>(
     requires q_live { S.live order.now q }
     ensures { result ≡ list_any (supports of_one_class (S.distance order.now) tokens.now fact p q) tokens.now }
 {
+    match is_held_within(order, tokens, guesses, fact, p, q, None) {
+        Some(held) => held,
+        None => unreachable!(),
+    }
+}
+
+/// What `is_held` answers without guesses, where that is found soon: none where the search for what
+/// cuts tokens went over more than `most` tokens, of which nothing follows.
+pub fn is_held_soon<S: Dated>(
+    order: &S,
+    tokens: &[TokenRow<S::Spot>],
+    fact: Name,
+    p: S::Spot,
+    q: S::Spot,
+    most: usize,
+) -> Option<bool>
+    requires all_live { All (IsLive (S.live order.now)) tokens.now }
+    requires by_date { IsByDate (S.date order.now) (S.order order.now) tokens.now }
+    requires p_live { S.live order.now p }
+    requires q_live { S.live order.now q }
+    ensures { IfSome result (λ held. held ≡ list_any (supports of_one_class (S.distance order.now) tokens.now fact p q) tokens.now) }
+{
+    is_held_within(order, tokens, &[], fact, p, q, Some(most))
+}
+
+// The place of the first token that supports the fact throughout `p` to `q`. Where a bound is
+// given, none when the search went over more tokens.
+fn holder_within<S: Dated>(
+    order: &S,
+    tokens: &[TokenRow<S::Spot>],
+    guesses: &[u32],
+    fact: Name,
+    p: S::Spot,
+    q: S::Spot,
+    most: Option<usize>,
+) -> Option<Option<usize>>
+    requires all_live { All (IsLive (S.live order.now)) tokens.now }
+    requires by_date { IsByDate (S.date order.now) (S.order order.now) tokens.now }
+    requires p_live { S.live order.now p }
+    requires q_live { S.live order.now q }
+    ensures first { IfSome result (IsFirstPlace (on (λ k. k.spot) (S.order order.now)) (supports of_one_class (S.distance order.now) tokens.now fact p q) tokens.now) }
+    ensures found { most ≡ None → IsSome result }
+{
     let until = count_until(order, tokens, p);
     let reach = count_until(order, tokens, q);
-    let mut near = Near::Back(reach);
-    for i in (0..until).rev() {
-        if is_supporter(order, tokens, i, &fact, p, q, reach, &mut near) {
-            return true;
+    let mut search = Search::new(Near::On(0));
+    for i in 0..until {
+        if is_supporter(order, tokens, guesses, i, &fact, p, q, reach, &mut search) {
+            return Some(Some(i));
+        }
+        if is_over(search.walked, most) {
+            return None;
         }
     }
-    false
+    Some(None)
 }
 
 /// The place of the first token that supports the fact throughout `p` to `q`, none exactly where no
-/// token does. Those with a date up to that of `p` are asked, from the first on to the first that does.
+/// token does. Those with a date up to that of `p` are asked, from the first on to the first that
+/// does.
+///
+/// For the token at the place `i`, `guesses[i]` is the place of one that may cut it. They may be
+/// any numbers, and as few as there are: what is answered does not depend on them.
 pub fn holder<S: Dated>(
     order: &S,
     tokens: &[TokenRow<S::Spot>],
+    guesses: &[u32],
     fact: Name,
     p: S::Spot,
     q: S::Spot,
@@ -319,18 +500,33 @@ pub fn holder<S: Dated>(
     requires q_live { S.live order.now q }
     ensures { IsFirstPlace (on (λ k. k.spot) (S.order order.now)) (supports of_one_class (S.distance order.now) tokens.now fact p q) tokens.now result }
 {
-    let until = count_until(order, tokens, p);
-    let reach = count_until(order, tokens, q);
-    let mut near = Near::On(0);
-    for i in 0..until {
-        if is_supporter(order, tokens, i, &fact, p, q, reach, &mut near) {
-            return Some(i);
-        }
+    match holder_within(order, tokens, guesses, fact, p, q, None) {
+        Some(place) => place,
+        None => unreachable!(),
     }
-    None
 }
 
-// The place of the first token that clips `k`, and begins surely at or before a point where one is given.
+/// What `holder` answers without guesses, where that is found soon: none where the search for what
+/// cuts tokens went over more than `most` tokens, of which nothing follows.
+pub fn holder_soon<S: Dated>(
+    order: &S,
+    tokens: &[TokenRow<S::Spot>],
+    fact: Name,
+    p: S::Spot,
+    q: S::Spot,
+    most: usize,
+) -> Option<Option<usize>>
+    requires all_live { All (IsLive (S.live order.now)) tokens.now }
+    requires by_date { IsByDate (S.date order.now) (S.order order.now) tokens.now }
+    requires p_live { S.live order.now p }
+    requires q_live { S.live order.now q }
+    ensures { IfSome result (IsFirstPlace (on (λ k. k.spot) (S.order order.now)) (supports of_one_class (S.distance order.now) tokens.now fact p q) tokens.now) }
+{
+    holder_within(order, tokens, &[], fact, p, q, Some(most))
+}
+
+// The place of the first token that clips `k`, and begins surely at or before a point where one is
+// given.
 fn first_clip<S: Dated>(
     order: &S,
     tokens: &[TokenRow<S::Spot>],
@@ -364,8 +560,9 @@ pub fn first_clipper<S: Dated>(order: &S, tokens: &[TokenRow<S::Spot>], k: usize
     }
 }
 
-/// Why the token at `k` does not support its fact throughout `p` to `q`. The caller knows that it does
-/// not. A clip is looked for among those with a later date than the token, up to the date of `q`.
+/// Why the token at `k` does not support its fact throughout `p` to `q`. The caller knows that it
+/// does not. A clip is looked for among those with a later date than the token, up to the date of
+/// `q`.
 pub fn blame<S: Dated>(
     order: &S,
     tokens: &[TokenRow<S::Spot>],

@@ -1,7 +1,7 @@
 // What a row keeps.
 
-/// How many families of lists there are: of triggers, of rules, and of the class of each antecedent.
-pub(crate) const FAMILIES: usize = 6;
+/// How many families of lists there are: of triggers, of rules, and of the class of each fact that a rule reads.
+pub(crate) const FAMILIES: usize = 8;
 
 /// What was decided of a rule at a trigger: its effect is believed, or why it is not. Nodes are told by
 /// their numbers.
@@ -12,6 +12,8 @@ pub enum Decision {
     Fires { supports: [u32; 4], count: u8 },
     /// The antecedent at this place is the first without a supporter.
     Blocked { antecedent: usize },
+    /// Each antecedent has a supporter; the exception at this place is the first that has one too.
+    Barred { exception: usize },
     /// Its effect would begin after the horizon.
     Beyond,
 }

@@ -11,7 +11,7 @@ use std::alloc::Global;
 use std::marker::Model;
 use tmm_model::NoMemory;
 
-/// One row for each decision, on lists by trigger, by rule and by the class of each antecedent.
+/// One row for each decision, on lists by trigger, by rule and by the class of each fact that the rule reads.
 #[derive(Drop)]
 pub struct Rows {
     rows: undo_rows::Rows<Pair, FAMILIES>,
@@ -21,7 +21,7 @@ impl Model for Rows {
     ghost use Rattle.undo_rows.specs.Changes.{Logged};
     ghost use Rattle.decision_rows.specs.declared.row.Pair.{Pair};
 
-    ghost Value = { Logged Pair 6 };
+    ghost Value = { Logged Pair 8 };
 
     ghost view = { λ r. r.rows };
 }
@@ -38,7 +38,7 @@ impl Rows {
         }
     }
 
-    /// Adds a row of a trigger, a rule and the classes of its antecedents, of which nothing is decided,
+    /// Adds a row of a trigger, a rule and the classes of what it reads, of which nothing is decided,
     /// last on each of its lists, and answers its number. Without memory nothing has changed; it counts
     /// as want of memory that a number would be 2^32 - 1 or more.
     pub fn add(
@@ -48,7 +48,7 @@ impl Rows {
         rule: u32,
         classes: &[u32],
     ) -> Result<u32, NoMemory>
-        requires { length classes.now ≤ 4 }
+        requires { length classes.now ≤ 6 }
         ensures ok { IfOk result (λ x. Adds self.old self.new x (new_row trigger rule (classes_in classes.now))) }
         ensures err { OnErr result (Stays self.old self.new) }
     {
@@ -59,6 +59,8 @@ impl Rows {
             class_at(classes, 1),
             class_at(classes, 2),
             class_at(classes, 3),
+            class_at(classes, 4),
+            class_at(classes, 5),
         ];
         let pair = Pair {
             trigger,
@@ -107,7 +109,7 @@ impl Rows {
     }
 
     /// The first row on the list of a head in a family, none exactly where there is none: family 0 is by
-    /// trigger, 1 by rule, 2 to 5 by the class of an antecedent.
+    /// trigger, 1 by rule, 2 to 7 by the class of a fact that the rule reads.
     pub fn first(&self, family: usize, head: u32) -> Option<u32>
         ensures first { result ≡ first_or None ((present self.now).list family head) }
         ensures listed { AreListed (present self.now) }

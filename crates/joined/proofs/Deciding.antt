@@ -3,13 +3,14 @@ use Rattle.std.proofs.Common.{◌≡◌, ◌∙◌, ℕ, Bool, true, false, refl
 use Rattle.std.specs.Prelude.{◌⊎◌, Option, Some, None, IsSome}
 use Rattle.spots.specs.Forest.{Forest, Member, member, IsLive}
 use Rattle.decision_rows.specs.declared.row.Decision.{Decision}
-use Rattle.decision_rows.specs.declared.row.Decision.TheVariants.{Fires, Blocked, Beyond}
+use Rattle.decision_rows.specs.declared.row.Decision.TheVariants.{Fires, Blocked, Barred, Beyond}
 use Rattle.revisions.specs.Revisions.{is_firing}
 use Rattle.joined.specs.Rows.{Row, fires_by, outcome_at}
 
 pub fires_is : (f : Forest) (d : Decision) → is_firing (outcome_at f d) ≡ fires_by d
 fires_is f (Fires nodes count) = refl
 fires_is f (Blocked antecedent) = refl
+fires_is f (Barred exception) = refl
 fires_is f Beyond = refl
 
 pub true_or : (v : Bool) → (v ≡ true) ⊎ (v ≡ false)

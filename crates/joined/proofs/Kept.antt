@@ -31,7 +31,7 @@ pub record IsDecided (rows after : Rows) (x : ℕ) (p : Row) (found : Decision) 
   pub here : after x ≡ Some (record p { found = found; waits = false })
   pub others : (i : ℕ) → i ≢ x → after i ≡ rows i
 
-module _ (old : Standing) (edit : Edit) (net : Net) (f : Forest) (table table_after : Table Pair 6) (name : ℕ → List ℕ) (waits waits_after : ℕ → Bool)
+module _ (old : Standing) (edit : Edit) (net : Net) (f : Forest) (table table_after : Table Pair 8) (name : ℕ → List ℕ) (waits waits_after : ℕ → Bool)
     (taken : List (Moment × List ℕ)) (x : ℕ) (p : Row) (found : Decision)
     (k : IsKeptBy old edit net f table name waits taken)
     (due : IsDueFirst (revision (built old) (built (next_list old edit))) f (rows_in table name waits) x p)
@@ -108,21 +108,21 @@ module _ (old : Standing) (edit : Edit) (net : Net) (f : Forest) (table table_af
 
 -- ---- tables of which one row has another decision
 
-rewritten : (name : ℕ → List ℕ) (wait : Bool) (o : Option (TableRow Pair 6)) (p : Row) (found : Decision) → option_map (as_row name wait) o ≡ Some p
+rewritten : (name : ℕ → List ℕ) (wait : Bool) (o : Option (TableRow Pair 8)) (p : Row) (found : Decision) → option_map (as_row name wait) o ≡ Some p
     → option_map (as_row name false) (option_map (with_found found) o) ≡ Some (record p { found = found; waits = false })
 rewritten name wait None p found e = cc
 rewritten name wait (Some r) p found e =
     let same : as_row name wait r ≡ p = cc in
     ap (λ (z : Row). Some (record z { found = found; waits = false })) same
 
-pub decides_is : (rows after : Logged Pair 6) (name : ℕ → List ℕ) (waits waits_after : ℕ → Bool) (x : ℕ) (p : Row) (found : Decision)
+pub decides_is : (rows after : Logged Pair 8) (name : ℕ → List ℕ) (waits waits_after : ℕ → Bool) (x : ℕ) (p : Row) (found : Decision)
     → rows_in (present rows) name waits x ≡ Some p → Decides rows after x found → WaitsNoMore waits waits_after x
     → IsDecided (rows_in (present rows) name waits) (rows_in (present after) name waits_after) x p found
 decides_is rows after name waits waits_after x p found at d no_more = record { here = here; others = others }
   where
     -- the row of each number then
     then_is : (i : ℕ) → rows_in (present after) name waits_after i ≡ option_map (as_row name (waits_after i)) (cond (eqb i x) (option_map (with_found found) ((present rows).row x)) ((present rows).row i))
-    then_is i = ap (λ (t : Table Pair 6). rows_in t name waits_after i) d.present_is
+    then_is i = ap (λ (t : Table Pair 8). rows_in t name waits_after i) d.present_is
 
     here : rows_in (present after) name waits_after x ≡ Some (record p { found = found; waits = false })
     here =

@@ -5,7 +5,7 @@ use Rattle.std.specs.Prelude.{◌↔◌, Option, Some, None, cond, slice_get, sl
 use Rattle.std.specs.Option.{option_map_or}
 use Rattle.std.specs.Cmp.Lexicographic.{bytes_decides}
 use Rattle.tmm_model.specs.Beliefs.{class_of}
-use Rattle.tmm_model.specs.Moments.{rule_of}
+use Rattle.tmm_model.specs.Moments.{read_by, rule_of}
 use Rattle.tmm_model.specs.Points.{same_name}
 use Rattle.tmm_model.specs.Standing.{Standing}
 use Rattle.list_theory.proofs.Elements.{In, In-map, map-In, list_any-In, In-list_any}
@@ -29,16 +29,18 @@ place_of (y ∷ ys) x (inr at) = let (i, e) = place_of ys x at in (suc i, e)
 
 -- ---- heads of a row
 
--- the head in the family of an antecedent is the class there
-head_is : (trigger rule : ℕ) (classes : List ℕ) (a : ℕ) → a < 4 → slice_index_or (heads_of trigger rule (classes_in classes)) (a + 2) None ≡ slice_get classes a
+-- the head in the family of a fact is the class there
+head_is : (trigger rule : ℕ) (classes : List ℕ) (a : ℕ) → a < 6 → slice_index_or (heads_of trigger rule (classes_in classes)) (a + 2) None ≡ slice_get classes a
 head_is trigger rule classes zero lt = refl
 head_is trigger rule classes (suc zero) lt = refl
 head_is trigger rule classes (suc (suc zero)) lt = refl
 head_is trigger rule classes (suc (suc (suc zero))) lt = refl
-head_is trigger rule classes (suc (suc (suc (suc a)))) lt = absurd (omega (arith, lt))
+head_is trigger rule classes (suc (suc (suc (suc zero)))) lt = refl
+head_is trigger rule classes (suc (suc (suc (suc (suc zero))))) lt = refl
+head_is trigger rule classes (suc (suc (suc (suc (suc (suc a)))))) lt = absurd (omega (arith, lt))
 
 -- a row of a table as it is was not removed
-live_once : (o : Option (TableRow Pair 6)) (r : TableRow Pair 6) → live o ≡ Some r → live (Some r) ≡ Some r
+live_once : (o : Option (TableRow Pair 8)) (r : TableRow Pair 8) → live o ≡ Some r → live (Some r) ≡ Some r
 live_once None r e = cc
 live_once (Some q) r e = by q.gone refl
   where
@@ -47,24 +49,24 @@ live_once (Some q) r e = by q.gone refl
     by false there =
         let f : Some q ≡ Some r = sym (ap (λ v. cond v None (Some q)) there) ∙ e in
         let one : q ≡ r = cc in
-        ap (λ v. cond v None (Some r)) (sym (ap (λ (z : TableRow Pair 6). z.gone) one) ∙ there)
+        ap (λ v. cond v None (Some r)) (sym (ap (λ (z : TableRow Pair 8). z.gone) one) ∙ there)
 
 -- a row is on a list exactly where that is of its head
-on_list : (rows : Logged Pair 6) (i family h : ℕ) (r : TableRow Pair 6) → AreListed (present rows) → (present rows).row i ≡ Some r
+on_list : (rows : Logged Pair 8) (i family h : ℕ) (r : TableRow Pair 8) → AreListed (present rows) → (present rows).row i ≡ Some r
     → IsOn ((present rows).list family h) i ↔ (head_of r family ≡ Some h)
 on_list rows i family h r listed here = (
   λ on.
       let (q, is_q, head) = (listed.each i family h).0 on in
       let both : Some q ≡ Some r = sym is_q ∙ still in
       let one : q ≡ r = cc in
-      subst (λ (z : TableRow Pair 6). head_of z family ≡ Some h) one head,
+      subst (λ (z : TableRow Pair 8). head_of z family ≡ Some h) one head,
   λ head. (listed.each i family h).1 (r, still, head),
 )
   where
     still : live ((present rows).row i) ≡ Some r
     still = ap live here ∙ live_once (slice_index_or rows.rows i None) r here
 
-pub pairs_listed : (rows : Logged Pair 6) (i h : ℕ) (r : TableRow Pair 6) (classes : List (Option ℕ))
+pub pairs_listed : (rows : Logged Pair 8) (i h : ℕ) (r : TableRow Pair 8) (classes : List (Option ℕ))
     → AreListed (present rows) → (present rows).row i ≡ Some r → r.heads ≡ heads_of r.value.trigger r.value.rule classes
     → (IsOn ((present rows).list 0 h) i ↔ (r.value.trigger ≡ h)) × (IsOn ((present rows).list 1 h) i ↔ (r.value.rule ≡ h))
 pairs_listed rows i h r classes listed here heads = (
@@ -81,18 +83,18 @@ pairs_listed rows i h r classes listed here heads = (
     second : head_of r 1 ≡ Some r.value.rule
     second = ap (λ z. slice_index_or z 1 None) heads
 
-module _ (s : Standing) (rows : Logged Pair 6) (name : ℕ → List ℕ) (number : List ℕ → Option ℕ) (class : List ℕ) (k i : ℕ) (r : TableRow Pair 6)
+module _ (s : Standing) (rows : Logged Pair 8) (name : ℕ → List ℕ) (number : List ℕ → Option ℕ) (class : List ℕ) (k i : ℕ) (r : TableRow Pair 8)
     (is_number : number class ≡ Some k) (numbered : AreNumbered number)
     (listed : AreListed (present rows)) (here : (present rows).row i ≡ Some r) (under : IsUnderClasses s name number r) where
-  abbrev given : List (List ℕ)
-  given = (rule_of s (name r.value.rule)).given
+  abbrev facts : List (List ℕ)
+  facts = read_by (rule_of s (name r.value.rule))
 
-  -- an antecedent is of the class where its number is among those of the row
+  -- a fact that it reads is of the class where its number is among those of the row
   to_class : reads_class s (name r.value.rule) class ≡ true → In k under.classes
   to_class reads =
-      let (fact, at, same) = list_any-In (λ fact. same_name (class_of s fact) class) given reads in
+      let (fact, at, same) = list_any-In (λ fact. same_name (class_of s fact) class) facts reads in
       let named : number (class_of s fact) ≡ Some k = ap number ((bytes_decides (class_of s fact) class).0 same) ∙ is_number in
-      let among = subst (In (Some k)) under.numbers (subst (λ o. In o (map (λ fact. number (class_of s fact)) given)) named (map-In (λ fact. number (class_of s fact)) given fact at)) in
+      let among = subst (In (Some k)) under.numbers (subst (λ o. In o (map (λ fact. number (class_of s fact)) facts)) named (map-In (λ fact. number (class_of s fact)) facts fact at)) in
       let (j, there, e) = In-map Some under.classes (Some k) among in
       let one : j ≡ k = cc in
       subst (λ z. In z under.classes) one there
@@ -100,18 +102,18 @@ module _ (s : Standing) (rows : Logged Pair 6) (name : ℕ → List ℕ) (number
   of_class : In k under.classes → reads_class s (name r.value.rule) class ≡ true
   of_class at =
       let among = subst (In (Some k)) (sym under.numbers) (map-In Some under.classes k at) in
-      let (fact, there, named) = In-map (λ fact. number (class_of s fact)) given (Some k) among in
+      let (fact, there, named) = In-map (λ fact. number (class_of s fact)) facts (Some k) among in
       let same = numbered (class_of s fact) class k named is_number in
-      In-list_any (λ fact. same_name (class_of s fact) class) given fact there ((bytes_decides (class_of s fact) class).1 same)
+      In-list_any (λ fact. same_name (class_of s fact) class) facts fact there ((bytes_decides (class_of s fact) class).1 same)
 
-  -- the head of the row for an antecedent
-  head_for : (a : ℕ) → a < 4 → head_of r (a + 2) ≡ slice_get under.classes a
+  -- the head of the row for a fact that it reads
+  head_for : (a : ℕ) → a < 6 → head_of r (a + 2) ≡ slice_get under.classes a
   head_for a lt = ap (λ heads. slice_index_or heads (a + 2) None) under.heads ∙ head_is r.value.trigger r.value.rule under.classes a lt
 
   to_list : In k under.classes → IsListedUnder (present rows) k i
   to_list at =
       let (a, e) = place_of under.classes k at in
-      let lt : a < 4 = omega (arith, slice_get_within under.classes a k e, under.few) in
+      let lt : a < 6 = omega (arith, slice_get_within under.classes a k e, under.few) in
       (a, lt, (on_list rows i (a + 2) k r listed here).1 (head_for a lt ∙ e))
 
   of_list : IsListedUnder (present rows) k i → In k under.classes

@@ -9,7 +9,7 @@ use Rattle.tmm_model.specs.declared.token.TokenRow.{TokenRow}
 use Rattle.tmm_model.specs.Beliefs.{class_of}
 use Rattle.tmm_model.specs.Edits.{next_list}
 use Rattle.tmm_model.specs.Maps.{built}
-use Rattle.tmm_model.specs.Moments.{Moment, distance, early, rule_of}
+use Rattle.tmm_model.specs.Moments.{Moment, distance, early, read_by, rule_of}
 use Rattle.tmm_model.specs.Points.{same_name}
 use Rattle.tmm_model.specs.Standing.{Standing, far_in}
 use Rattle.tmm_model.specs.Tokens.{is_by}
@@ -60,7 +60,7 @@ no_later : (a b : ℤ) → int_le a b ≡ true → a ≤ℤ b
 no_later a b e = grind (arith, ints)
 
 module _ (old : Standing) (edit : Edit) (net : Net) (f g : Forest) (p : Row) (found : Decision)
-    (rows : Logged Pair 6) (name : ℕ → List ℕ) (number : List ℕ → Option ℕ) (marks : List Mark) (i : ℕ) (row : TableRow Pair 6) (o q : Row)
+    (rows : Logged Pair 8) (name : ℕ → List ℕ) (number : List ℕ → Option ℕ) (marks : List Mark) (i : ℕ) (row : TableRow Pair 8) (o q : Row)
     (seen : IsSeen (next_list old edit) net f) (seen_after : IsSeen (next_list old edit) net g) (tree : TreeTurns (next_list old edit) net.names f g p found)
     (stays_there : StaysNode f g q.trigger)
     (numbered : AreNumbered number) (listed : AreListed (present rows))
@@ -83,7 +83,7 @@ module _ (old : Standing) (edit : Edit) (net : Net) (f g : Forest) (p : Row) (fo
   class_read : (m : Member) → IsMemberOf new net.names m → watches new q.rule (moment m) ≡ true → (class : List ℕ) × (m.class ≡ Some class)
   class_read m own reads = by m.class (sym (reads_by_class new net.names m q.rule own) ∙ reads)
     where
-      by : (c : Option (List ℕ)) → option_map_or (λ class. list_any (λ fact. same_name (class_of new fact) class) (rule_of new q.rule).given) c false ≡ true → (class : List ℕ) × (c ≡ Some class)
+      by : (c : Option (List ℕ)) → option_map_or (λ class. list_any (λ fact. same_name (class_of new fact) class) (read_by (rule_of new q.rule))) c false ≡ true → (class : List ℕ) × (c ≡ Some class)
       by (Some class) e = (class, refl)
       by None e = cc
 

@@ -7,7 +7,7 @@ use Rattle.tmm_model.specs.declared.bound.Bound.{Bound}
 use Rattle.tmm_model.specs.declared.token.TokenRow.{TokenRow}
 use Rattle.tmm_model.specs.Beliefs.{class_of, token_of, tokens}
 use Rattle.tmm_model.specs.Bounds.{bound_at_most}
-use Rattle.tmm_model.specs.Moments.{Moment, distance, rule_of}
+use Rattle.tmm_model.specs.Moments.{Moment, distance, read_by, rule_of}
 use Rattle.tmm_model.specs.Points.{same_name}
 use Rattle.tmm_model.specs.Standing.{Standing, far_in}
 use Rattle.tmm_model.specs.Tokens.{of_one_class, lasts_to}
@@ -46,7 +46,7 @@ module _ (s : Standing) (b c : List Moment) (t : Moment) (r : List ℕ) where
 
   -- a token of the class of one that the rule watches is watched
   watched_class : (k w : TokenRow Moment) → w.class ≡ k.class → is_watched s r k ≡ true → is_watched s r w ≡ true
-  watched_class k w class reads = ap (λ x. list_any (λ fact. same_name (class_of s fact) x) (rule_of s r).given) class ∙ reads
+  watched_class k w class reads = ap (λ x. list_any (λ fact. same_name (class_of s fact) x) (read_by (rule_of s r))) class ∙ reads
 
   stays_watched : (k : TokenRow Moment) → IsInBoth s b c k → is_watched s r k ≡ true → stays k
   stays_watched k (in_b, in_c) reads = (filter-In (is_watched s r) (tokens s b) k in_b reads, filter-In (is_watched s r) (tokens s c) k in_c reads)

@@ -8,10 +8,10 @@ use Rattle.tmm_model.specs.declared.token.Shape.{Shape}
 use Rattle.tmm_model.specs.declared.token.Shape.TheVariants.{Event as AnEvent, Persistence as APersistence, Span as ASpan}
 use Rattle.tmm_model.specs.declared.token.TokenRow.{TokenRow}
 use Rattle.belief_theory.specs.Outcomes.{Outcome, beyond, tried, outcome}
-use Rattle.tmm_model.specs.Beliefs.{due, supporters, class_of, token_at, rules_at}
+use Rattle.tmm_model.specs.Beliefs.{due, supporters, against, class_of, token_at, rules_at}
 use Rattle.tmm_model.specs.Edits.{next_list, list_until}
 use Rattle.tmm_model.specs.Maps.{built}
-use Rattle.tmm_model.specs.Moments.{Moment, After, Distances, rule_of}
+use Rattle.tmm_model.specs.Moments.{Moment, After, Distances, read_by, rule_of}
 use Rattle.tmm_model.specs.Points.{same_name}
 use Rattle.list_theory.specs.WellNamed.{IsSound}
 use Rattle.tmm_model.specs.Standing.{Standing, far_in}
@@ -128,7 +128,7 @@ module _ (old : Standing) (edit : Edit) (net : Net) (b : List Moment) (f : Fores
   }
 
 pub reads_by_class : (s : Standing) (names : Names) (m : Member) (r : List ℕ) → IsMemberOf s names m
-    → watches s r (moment m) ≡ option_map_or (λ class. list_any (λ fact. same_name (class_of s fact) class) (rule_of s r).given) m.class false
+    → watches s r (moment m) ≡ option_map_or (λ class. list_any (λ fact. same_name (class_of s fact) class) (read_by (rule_of s r))) m.class false
 reads_by_class s names m r own = ap (λ o. tells (token o)) own.is ∙ by m.shape ∙ ap (λ o. option_map_or watched_class o false) (sym own.class)
   where
     token : Option (Shape × List ℕ) → Option (TokenRow Moment)
@@ -138,7 +138,7 @@ reads_by_class s names m r own = ap (λ o. tells (token o)) own.is ∙ by m.shap
     tells o = elim o as (λ _. Bool) [ None ↦ false | Some k ↦ is_watched s r k ]
 
     watched_class : List ℕ → Bool
-    watched_class class = list_any (λ fact. same_name (class_of s fact) class) (rule_of s r).given
+    watched_class class = list_any (λ fact. same_name (class_of s fact) class) (read_by (rule_of s r))
 
     by : (shape : Shape) → tells (token (Some (shape, m.what))) ≡ option_map_or watched_class (class_for s shape m.what) false
     by AnEvent = refl
@@ -148,4 +148,4 @@ reads_by_class s names m r own = ap (λ o. tells (token o)) own.is ∙ by m.shap
 pub horizons_keep : (s : Standing) (n : ℕ) (far : Distances) (b : List Moment) (t : Moment) (r : List ℕ)
     → int_le (due s far t r) (pos s.horizon) ≡ int_le (due s far t r) (pos n)
     → outcome s far b t r ≡ outcome (list_until s n) far b t r
-horizons_keep s n far b t r e = ap (λ v. elim v as (λ _. Outcome) [ false ↦ beyond | true ↦ tried (supporters s far b t r) ]) e
+horizons_keep s n far b t r e = ap (λ v. elim v as (λ _. Outcome) [ false ↦ beyond | true ↦ tried (supporters s far b t r) (against s far b t r) ]) e

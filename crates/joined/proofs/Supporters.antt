@@ -3,8 +3,8 @@ use Rattle.std.proofs.Common.{◌≡◌, ◌∙◌, ℕ, Bool, true, false, List
 use Rattle.std.specs.Prelude.{Option, Some, None, pos, int_le}
 use Rattle.std.specs.List.{Contains, filter_map}
 use Rattle.std.proofs.lemmas.List.Elements.{All-contains}
-use Rattle.belief_theory.specs.Outcomes.{Outcome, fires, blocked, beyond, first_without, outcome}
-use Rattle.tmm_model.specs.Beliefs.{tokens, token_of, contradicts_in, due, holder, supporters}
+use Rattle.belief_theory.specs.Outcomes.{Outcome, fires, blocked, barred, beyond, first_without, first_with, outcome}
+use Rattle.tmm_model.specs.Beliefs.{tokens, token_of, contradicts_in, due, holder, supporters, against}
 use Rattle.tmm_model.specs.Moments.{Moment, Distances, distance, rule_of}
 use Rattle.tmm_model.specs.Standing.{Standing}
 use Rattle.tmm_model.specs.Tokens.{supports}
@@ -15,7 +15,7 @@ use Rattle.belief_theory.proofs.Outcomes.{first_token_in}
 use Rattle.spots.specs.Forest.{Forest, Member, member, moment, moment_at, IsLive}
 use Rattle.spots.proofs.Nodes.{node_at, live_at, moment_at-is}
 use Rattle.decision_rows.specs.declared.row.Decision.{Decision}
-use Rattle.decision_rows.specs.declared.row.Decision.TheVariants.{Fires, Blocked, Beyond}
+use Rattle.decision_rows.specs.declared.row.Decision.TheVariants.{Fires, Blocked, Barred, Beyond}
 use Rattle.joined.specs.Rows.{outcome_at, AreLive}
 
 module _ (s : Standing) (far : Distances) (b : List Moment) (t : Moment) (r : List ℕ) where
@@ -28,12 +28,20 @@ module _ (s : Standing) (far : Distances) (b : List Moment) (t : Moment) (r : Li
       subst (Contains b) (sym (spot-token_of s x token made) ∙ spot) (Contains-from_In b x here)
 
   pub named_in : (ks : List Moment) → outcome s far b t r ≡ fires ks → (k : Moment) → In k ks → Contains b k
-  named_in ks e k at = by (int_le (due s far t r) (pos s.horizon)) (first_without (supporters s far b t r)) e
+  named_in ks e k at = by (int_le (due s far t r) (pos s.horizon)) (first_without (supporters s far b t r)) (first_with (against s far b t r)) e
     where
-      by : (v : Bool) (o : Option ℕ) → (elim v as (λ _. Outcome) [ false ↦ beyond | true ↦ elim o as (λ _. Outcome) [ Some place ↦ blocked place | None ↦ fires (filter_map (λ k. k) (supporters s far b t r)) ] ]) ≡ fires ks → Contains b k
-      by false o e = cc
-      by true (Some place) e = cc
-      by true None e = let same : filter_map (λ k. k) (supporters s far b t r) ≡ ks = cc in supporter_in k (subst (In k) (sym same) at)
+      by : (v : Bool) (o p : Option ℕ)
+          → (elim v as (λ _. Outcome) [
+            | false ↦ beyond
+            | true ↦ elim o as (λ _. Outcome) [
+              | Some place ↦ blocked place
+              | None ↦ elim p as (λ _. Outcome) [ Some place ↦ barred place | None ↦ fires (filter_map (λ k. k) (supporters s far b t r)) ]
+            ]
+          ]) ≡ fires ks → Contains b k
+      by false o p e = cc
+      by true (Some place) p e = cc
+      by true None (Some place) e = cc
+      by true None None e = let same : filter_map (λ k. k) (supporters s far b t r) ≡ ks = cc in supporter_in k (subst (In k) (sym same) at)
 
 module _ (f g : Forest) (c : List Moment) (stay : (y : ℕ) (m : Member) → member f y ≡ Some m → Contains c (moment m) → member g y ≡ Some m) where
   node_stays : (y : ℕ) → IsLive f y → Contains c (moment_at f y) → IsLive g y × (moment_at g y ≡ moment_at f y)
@@ -53,6 +61,7 @@ module _ (f g : Forest) (c : List Moment) (stay : (y : ℕ) (m : Member) → mem
   -- **A decision keeps its meaning where the occurrences that it names stay.**
   pub decision_stays : (s : Standing) (far : Distances) (u : Moment) (q : List ℕ) (d : Decision) → AreLive f d → outcome_at f d ≡ outcome s far c u q → AreLive g d × (outcome_at g d ≡ outcome_at f d)
   decision_stays s far u q (Blocked antecedent) live e = (tt, refl)
+  decision_stays s far u q (Barred exception) live e = (tt, refl)
   decision_stays s far u q Beyond live e = (tt, refl)
   decision_stays s far u q (Fires nodes count) live e =
       let all = all_stay (take count nodes) (λ y at. All-contains (IsLive f) (take count nodes) y live (Contains-from_In (take count nodes) y at)) (named_in s far c u q (map (moment_at f) (take count nodes)) (sym e)) in

@@ -9,7 +9,7 @@ use Rattle.tmm_model.specs.declared.token.TokenRow.{TokenRow}
 use Rattle.tmm_model.specs.Beliefs.{due, class_of, rules_at, token_of}
 use Rattle.tmm_model.specs.Edits.{next_list, list_until}
 use Rattle.tmm_model.specs.Maps.{built, gap, believed_tokens}
-use Rattle.tmm_model.specs.Moments.{Moment, At, After, RuleText, rule_of}
+use Rattle.tmm_model.specs.Moments.{Moment, At, After, RuleText, read_by, rule_of}
 use Rattle.tmm_model.specs.Points.{same_name}
 use Rattle.tmm_model.specs.Standing.{Standing, far_in}
 use Rattle.list_theory.specs.WellNamed.{IsSound}
@@ -42,10 +42,10 @@ pub watched_on : (old : Standing) (edit : Edit) → IsSound old → IsSound (nex
     → is_watched old r k ≡ true → is_watched (next_list old edit) r k ≡ true
 watched_on old edit sound_old sound_new t r k before stands same h =
     let new = next_list old edit in
-    let (f, at, of_class) = list_any-In (λ fact. same_name (class_of old fact) k.class) (rule_of old r).given h in
-    let at_new : In f (rule_of new r).given = subst (λ (x : RuleText). In f x.given) same at in
+    let (f, at, of_class) = list_any-In (λ fact. same_name (class_of old fact) k.class) (read_by (rule_of old r)) h in
+    let at_new : In f (read_by (rule_of new r)) = subst (λ (x : RuleText). In f (read_by x)) same at in
     let class : class_of old f ≡ class_of new f = classes_stay old edit sound_old sound_new t r f before stands at at_new in
-    In-list_any (λ fact. same_name (class_of new fact) k.class) (rule_of new r).given f at_new (subst (λ c. same_name c k.class ≡ true) class of_class)
+    In-list_any (λ fact. same_name (class_of new fact) k.class) (read_by (rule_of new r)) f at_new (subst (λ c. same_name c k.class ≡ true) class of_class)
 
 module _ (old : Standing) (edit : Edit) (sound_old : IsSound old) (sound_new : IsSound (next_list old edit)) (b : List Moment) (seeds : AreSeeds old (next_list old edit) b)
     (t : Moment) (r : List ℕ) (stands : Contains (rules_at (next_list old edit) t) r) where

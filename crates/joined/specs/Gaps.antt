@@ -7,7 +7,7 @@ use Rattle.tmm_model.specs.declared.premise.Edit.{Edit}
 use Rattle.tmm_model.specs.Beliefs.{class_of}
 use Rattle.tmm_model.specs.Edits.{next_list}
 use Rattle.tmm_model.specs.Maps.{built, gap}
-use Rattle.tmm_model.specs.Moments.{Moment, rule_of}
+use Rattle.tmm_model.specs.Moments.{Moment, read_by, rule_of}
 use Rattle.tmm_model.specs.Points.{same_name}
 use Rattle.tmm_model.specs.Standing.{Standing, points_in}
 use Rattle.list_theory.proofs.Elements.{In}
@@ -27,9 +27,9 @@ use Rattle.revisions.specs.Maps.{watches}
 abbrev pub SameGaps : Standing → Standing → List Moment → Moment → List ℕ → Type 0
 SameGaps old new b t r = (p q : Moment) → In p (watched_points (map_of new b) t r) → In q (watched_points (map_of new b) t r) → gap (built old) p q ≡ gap (map_of new b) p q
 
--- whether an antecedent of the rule is of this class
+-- whether the rule reads a fact of this class
 abbrev pub reads_class : Standing → List ℕ → List ℕ → Bool
-reads_class s r class = list_any (λ fact. same_name (class_of s fact) class) (rule_of s r).given
+reads_class s r class = list_any (λ fact. same_name (class_of s fact) class) (read_by (rule_of s r))
 
 -- the spot is the begin or the end of a token of this class
 pub data IsClassSpot (f : Forest) (class : List ℕ) (p : Spot) : Type 0 where

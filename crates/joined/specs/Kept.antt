@@ -21,7 +21,7 @@ use Rattle.joined.specs.Rows.{Row, Rows, rows_in, fires_by}
 use Rattle.joined.specs.Turning.{effect_of, IsDueFirst, IsFound}
 
 -- nodes and table stand for the revision that the edit asks for, of which these decisions were made
-pub record IsKeptBy (old : Standing) (edit : Edit) (net : Net) (f : Forest) (table : Table Pair 6) (name : ℕ → List ℕ) (waits : ℕ → Bool) (taken : List (Moment × List ℕ)) : Type 0 where
+pub record IsKeptBy (old : Standing) (edit : Edit) (net : Net) (f : Forest) (table : Table Pair 8) (name : ℕ → List ℕ) (waits : ℕ → Bool) (taken : List (Moment × List ℕ)) : Type 0 where
   pub sound : IsSound old
   pub sound_after : IsSound (next_list old edit)
   pub netted : IsNetted old (next_list old edit) net f (rows_in table name waits) taken
@@ -34,7 +34,7 @@ pub record WaitsNoMore (old new : ℕ → Bool) (x : ℕ) : Type 0 where
 -- **Where a rule fires as before, the turn is done once its row keeps what was decided**, and waits no more.
 abbrev pub SameDecisionsKeep : Type 0
 SameDecisionsKeep =
-    (old : Standing) (edit : Edit) (net : Net) (f : Forest) (rows after : Logged Pair 6) (name : ℕ → List ℕ) (waits waits_after : ℕ → Bool)
+    (old : Standing) (edit : Edit) (net : Net) (f : Forest) (rows after : Logged Pair 8) (name : ℕ → List ℕ) (waits waits_after : ℕ → Bool)
     (taken : List (Moment × List ℕ)) (x : ℕ) (p : Row) (found : Decision)
     → IsKeptBy old edit net f (present rows) name waits taken
     → IsDueFirst (revision (built old) (built (next_list old edit))) f (rows_in (present rows) name waits) x p

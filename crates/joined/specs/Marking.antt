@@ -42,7 +42,7 @@ pub record AreMarksOf (r : Revision) (s : Standing) (net : Net) (number : List �
   pub all : (m : Member) (class : List ℕ) → IsMemberOf s net.names m → Moved f p found (moment m) → m.class ≡ Some class → (mark : Mark) × In mark marks × IsMarkOf r net number f g m mark
 
 -- a mark is for the row q of number i: it is on a list of the class, and its event is no earlier and not spared
-abbrev pub IsMarkedBy : Revision → Forest → Table Pair 6 → List Mark → ℕ → Row → Type 0
+abbrev pub IsMarkedBy : Revision → Forest → Table Pair 8 → List Mark → ℕ → Row → Type 0
 IsMarkedBy r g t marks i q =
     (mark : Mark) × In mark marks × IsListedUnder t mark.class i × (mark.from ≤ℤ r.early (moment_at g q.trigger)) × (mark.spares q.trigger ≡ false)
 
@@ -50,7 +50,7 @@ IsMarkedBy r g t marks i q =
 abbrev pub ClassMarksMark : Type 0
 ClassMarksMark =
     (old : Standing) (edit : Edit) (net : Net) (f g : Forest) (p : Row) (found : Decision)
-    (rows : Logged Pair 6) (name : ℕ → List ℕ) (number : List ℕ → Option ℕ) (marks : List Mark) (i : ℕ) (row : TableRow Pair 6) (o q : Row)
+    (rows : Logged Pair 8) (name : ℕ → List ℕ) (number : List ℕ → Option ℕ) (marks : List Mark) (i : ℕ) (row : TableRow Pair 8) (o q : Row)
     → IsSeen (next_list old edit) net f → IsSeen (next_list old edit) net g → TreeTurns (next_list old edit) net.names f g p found
     → StaysNode f g q.trigger → AreNumbered number → AreListed (present rows)
     → (present rows).row i ≡ Some row → IsUnderClasses (next_list old edit) name number row → q.rule ≡ name row.value.rule

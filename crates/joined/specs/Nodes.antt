@@ -5,7 +5,7 @@ use Rattle.std.specs.Option.{option_map_or}
 use Rattle.tmm_model.specs.declared.premise.Edit.{Edit}
 use Rattle.tmm_model.specs.Beliefs.{class_of}
 use Rattle.tmm_model.specs.Edits.{next_list}
-use Rattle.tmm_model.specs.Moments.{Moment, rule_of}
+use Rattle.tmm_model.specs.Moments.{Moment, read_by, rule_of}
 use Rattle.tmm_model.specs.Points.{same_name}
 use Rattle.tmm_model.specs.Standing.{Standing, points_in}
 use Rattle.belief_theory.specs.Right.{Occurs}
@@ -47,8 +47,8 @@ NodesStaySeen =
 
 -- ---- reading
 
--- **A decision reads a node exactly where the class of the node is that of an antecedent.**
+-- **A decision reads a node exactly where the class of the node is that of an antecedent or an exception.**
 abbrev pub ReadsByClass : Type 0
 ReadsByClass =
     (s : Standing) (names : Names) (m : Member) (r : List ℕ) → IsMemberOf s names m
-    → watches s r (moment m) ≡ option_map_or (λ class. list_any (λ fact. same_name (class_of s fact) class) (rule_of s r).given) m.class false
+    → watches s r (moment m) ≡ option_map_or (λ class. list_any (λ fact. same_name (class_of s fact) class) (read_by (rule_of s r))) m.class false

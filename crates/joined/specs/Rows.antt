@@ -2,7 +2,7 @@
 use Rattle.std.specs.Prelude.{◌≡◌, ℕ, Bool, true, false, List, map, take, Option, Some}
 use Rattle.std.specs.List.{All, Contains}
 use Rattle.std.specs.Option.{option_map}
-use Rattle.belief_theory.specs.Outcomes.{Outcome, fires, blocked, beyond}
+use Rattle.belief_theory.specs.Outcomes.{Outcome, fires, blocked, barred, beyond}
 use Rattle.tmm_model.specs.Beliefs.{rules_at}
 use Rattle.tmm_model.specs.Moments.{Moment}
 use Rattle.tmm_model.specs.Standing.{Standing}
@@ -11,7 +11,7 @@ use Rattle.undo_rows.specs.declared.row.Row.{Row as TableRow}
 use Rattle.undo_rows.specs.Tables.{Table}
 use Rattle.decision_rows.specs.declared.row.Pair.{Pair}
 use Rattle.decision_rows.specs.declared.row.Decision.{Decision}
-use Rattle.decision_rows.specs.declared.row.Decision.TheVariants.{Fires, Blocked, Beyond}
+use Rattle.decision_rows.specs.declared.row.Decision.TheVariants.{Fires, Blocked, Barred, Beyond}
 
 -- a row: the node of its event, the name of its rule, what was decided last, and whether it waits to be decided again
 pub record Row : Type 0 where
@@ -25,11 +25,11 @@ abbrev pub Rows : Type 0
 Rows = ℕ → Option Row
 
 -- a row of a table, by the names of the rules that it numbers, which waits or not
-abbrev pub as_row : (ℕ → List ℕ) → Bool → TableRow Pair 6 → Row
+abbrev pub as_row : (ℕ → List ℕ) → Bool → TableRow Pair 8 → Row
 as_row name waits r = record { trigger = r.value.trigger; rule = name r.value.rule; found = r.value.decision; waits = waits }
 
 -- the rows of a table, by the names of the rules that it numbers, where these wait
-abbrev pub rows_in : Table Pair 6 → (ℕ → List ℕ) → (ℕ → Bool) → Rows
+abbrev pub rows_in : Table Pair 8 → (ℕ → List ℕ) → (ℕ → Bool) → Rows
 rows_in t name waits i = option_map (as_row name (waits i)) (t.row i)
 
 -- ---- what a decision tells
@@ -38,12 +38,14 @@ rows_in t name waits i = option_map (as_row name (waits i)) (t.row i)
 abbrev pub fires_by : Decision → Bool
 fires_by (Fires supports count) = true
 fires_by (Blocked antecedent) = false
+fires_by (Barred exception) = false
 fires_by Beyond = false
 
 -- the outcome that it tells, where the nodes are these
 abbrev pub outcome_at : Forest → Decision → Outcome
 outcome_at f (Fires supports count) = fires (map (moment_at f) (take count supports))
 outcome_at f (Blocked antecedent) = blocked antecedent
+outcome_at f (Barred exception) = barred exception
 outcome_at f Beyond = beyond
 
 -- its supporters are nodes

@@ -22,7 +22,7 @@ pub fn nodes_stay_seen()
     ensures { NodesStaySeen }
 {}
 
-/// A decision reads a node exactly where the node's class is that of an antecedent.
+/// A decision reads a node exactly where the node's class is that of an antecedent or an exception.
 pub fn reads_are_by_class()
     ensures { ReadsByClass }
 {}

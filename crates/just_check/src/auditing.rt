@@ -49,7 +49,7 @@ pub fn audit(
             return Ok(false);
         }
     }
-    decide_rest(standing, net, &rules, &mut checked)?;
+    decide_rest(alloc, standing, net, &rules, &mut checked)?;
     Ok(checked.expected.all_stand())
 }
 
@@ -118,16 +118,17 @@ fn take(
     let Some(origin) = origin_of(&checked.expected, row) else {
         return Ok(false);
     };
-    decide_event(standing, net, rules, checked, &origin)?;
+    decide_event(alloc, standing, net, rules, checked, &origin)?;
     let Some(x) = enter_awaited(alloc, standing, net, checked, &origin)? else {
         return Ok(false);
     };
-    decide_before(standing, net, rules, checked, x)?;
+    decide_before(alloc, standing, net, rules, checked, x)?;
     Ok(true)
 }
 
 // Decides what fires at the event of an origin, and at those that begin no later.
 fn decide_event(
+    alloc: Global,
     standing: &Standing,
     net: &DistNet,
     rules: &RulesByKind,
@@ -148,7 +149,7 @@ fn decide_event(
                 net,
             }
             .early(event);
-            decide_through(standing, net, rules, checked, date)
+            decide_through(alloc, standing, net, rules, checked, date)
         }
         None => Ok(()),
     }
@@ -204,6 +205,7 @@ fn comes_after(tree: &Tree, net: &DistNet, nodes: &[u32], x: u32) -> bool
 
 // Decides what fires at the events that begin before the row of this node and are not decided yet.
 fn decide_before(
+    alloc: Global,
     standing: &Standing,
     net: &DistNet,
     rules: &RulesByKind,
@@ -221,11 +223,12 @@ fn decide_before(
         net,
     }
     .early(x);
-    decide_through(standing, net, rules, checked, date - 1)
+    decide_through(alloc, standing, net, rules, checked, date - 1)
 }
 
 // Decides what fires at the events that begin by this date and are not decided yet.
 fn decide_through(
+    alloc: Global,
     standing: &Standing,
     net: &DistNet,
     rules: &RulesByKind,
@@ -244,13 +247,14 @@ fn decide_through(
         if order.early(checked.nodes[checked.decided]) > date {
             break;
         }
-        decide_next(standing, net, rules, checked)?;
+        decide_next(alloc, standing, net, rules, checked)?;
     }
     Ok(())
 }
 
 // Decides what fires at the other events.
 fn decide_rest(
+    alloc: Global,
     standing: &Standing,
     net: &DistNet,
     rules: &RulesByKind,
@@ -262,13 +266,14 @@ fn decide_rest(
     ensures rows { OnOk result (rows_of checked.new ≡ rows_of checked.old) }
 {
     while checked.decided < checked.nodes.len() {
-        decide_next(standing, net, rules, checked)?;
+        decide_next(alloc, standing, net, rules, checked)?;
     }
     Ok(())
 }
 
 // Decides what fires at the first node where that is not decided yet.
 fn decide_next(
+    alloc: Global,
     standing: &Standing,
     net: &DistNet,
     rules: &RulesByKind,
@@ -284,6 +289,7 @@ fn decide_next(
 {
     let x = checked.nodes[checked.decided];
     expect_effects(
+        alloc,
         standing,
         net,
         rules,
@@ -297,6 +303,7 @@ fn decide_next(
 
 // Has stand among the rows what the rules bring about that fire at a node.
 fn expect_effects(
+    alloc: Global,
     standing: &Standing,
     net: &DistNet,
     rules: &RulesByKind,
@@ -310,13 +317,14 @@ fn expect_effects(
     ensures { OnOk result ((b : List Moment) → Holds b (forest tree.now) → AwaitsMore standing.now.present (forest tree.now) b x (rules_at standing.now.present (moment_at (forest tree.now) x)) expected.old expected.new) }
 {
     for rule in rules.at(standing, tree, x) {
-        expect_effect(standing, net, tree, x, *rule, expected)?;
+        expect_effect(alloc, standing, net, tree, x, *rule, expected)?;
     }
     Ok(())
 }
 
 // Has stand among the rows what the rule brings about at a node, if it fires.
 fn expect_effect(
+    alloc: Global,
     standing: &Standing,
     net: &DistNet,
     tree: &Tree,
@@ -329,7 +337,7 @@ fn expect_effect(
     requires rule { Contains (rules_at standing.now.present (moment_at (forest tree.now) x)) rule }
     ensures { OnOk result ((b : List Moment) → Holds b (forest tree.now) → AwaitsMore standing.now.present (forest tree.now) b x (rule ∷ []) expected.old expected.new) }
 {
-    if !does_fire(standing, net, tree, x, rule) {
+    if !does_fire(alloc, standing, net, tree, x, rule) {
         return Ok(());
     }
     expected.add(Origin {

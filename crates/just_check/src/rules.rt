@@ -17,7 +17,7 @@ use occ_tree::{Order, Tree};
 use premise_list::Standing;
 use spots::Spot;
 use std::alloc::Global;
-use supports::{is_supported, rule_text};
+use supports::{Guesses, first_supported, is_supported, rule_text};
 use tmm_model::{Name, NoMemory, Premise, Shape};
 
 /// The names of the standing rules on each kind, in the order of the list.
@@ -69,9 +69,16 @@ impl RulesByKind {
     }
 }
 
-// Whether the rule fires at the event of a node: its effect begins by the horizon, and each antecedent has
-// a supporter there.
-pub(crate) fn does_fire(standing: &Standing, net: &DistNet, tree: &Tree, x: u32, rule: Name) -> bool
+// Whether the rule fires at the event of a node: its effect begins by the horizon, each antecedent has
+// a supporter there, and no exception has one.
+pub(crate) fn does_fire(
+    alloc: Global,
+    standing: &Standing,
+    net: &DistNet,
+    tree: &Tree,
+    x: u32,
+    rule: Name,
+) -> bool
     requires seen { IsTreeOf standing.now.present net.now.present tree.now }
     requires live { IsLive (forest tree.now) x }
     requires rule { Contains (rules_at standing.now.present (moment_at (forest tree.now) x)) rule }
@@ -79,7 +86,16 @@ pub(crate) fn does_fire(standing: &Standing, net: &DistNet, tree: &Tree, x: u32,
 {
     let text = rule_text(standing, rule);
     is_in_time(standing.horizon(), Order { tree, net }.early(x), text.lo)
-        && is_free(standing, net, tree, x, rule, text.given)
+        && is_free(
+            alloc,
+            standing,
+            net,
+            tree,
+            x,
+            rule,
+            text.given,
+            text.exceptions,
+        )
 }
 
 // Whether what begins so long after this date begins by the horizon.
@@ -91,26 +107,61 @@ fn is_in_time(horizon: u32, early: i64, delay: i64) -> bool
     early <= i64::from(horizon) - delay
 }
 
-// Whether each antecedent of the rule has a supporter at the event of a node; these are the facts.
+// Whether each antecedent of the rule has a supporter at the event of a node, and no exception has one;
+// these are the facts.
 fn is_free(
+    alloc: Global,
     standing: &Standing,
     net: &DistNet,
     tree: &Tree,
     x: u32,
     rule: Name,
     given: &[Name],
+    exceptions: &[Name],
 ) -> bool
     requires seen { IsTreeOf standing.now.present net.now.present tree.now }
     requires live { IsLive (forest tree.now) x }
     requires rule { Contains (rules_at standing.now.present (moment_at (forest tree.now) x)) rule }
     requires given { given.now ≡ (rule_of standing.now.present rule).given }
+    requires exceptions { exceptions.now ≡ (rule_of standing.now.present rule).exceptions }
+    ensures { (b : List Moment) → Holds b (forest tree.now) → result ≡ is_free standing.now.present (far_in standing.now.present.premises) b (moment_at (forest tree.now) x) rule }
+{
+    let mut guesses = Guesses::make(alloc);
+    is_free_with(
+        standing,
+        net,
+        tree,
+        x,
+        rule,
+        given,
+        exceptions,
+        &mut guesses,
+    )
+}
+
+// The same with room for guesses.
+fn is_free_with(
+    standing: &Standing,
+    net: &DistNet,
+    tree: &Tree,
+    x: u32,
+    rule: Name,
+    given: &[Name],
+    exceptions: &[Name],
+    guesses: &mut Guesses,
+) -> bool
+    requires seen { IsTreeOf standing.now.present net.now.present tree.now }
+    requires live { IsLive (forest tree.now) x }
+    requires rule { Contains (rules_at standing.now.present (moment_at (forest tree.now) x)) rule }
+    requires given { given.now ≡ (rule_of standing.now.present rule).given }
+    requires exceptions { exceptions.now ≡ (rule_of standing.now.present rule).exceptions }
     ensures { (b : List Moment) → Holds b (forest tree.now) → result ≡ is_free standing.now.present (far_in standing.now.present.premises) b (moment_at (forest tree.now) x) rule }
 {
     let at = Spot::Node(x);
     for fact in given {
-        if !is_supported(standing, tree, net, *fact, at, at) {
+        if !is_supported(standing, tree, net, *fact, at, at, guesses) {
             return false;
         }
     }
-    true
+    first_supported(standing, tree, net, exceptions, at, guesses).is_none()
 }

@@ -14,7 +14,7 @@ use Rattle.tmm_model.specs.declared.token.TokenRow.{TokenRow}
 use Rattle.tmm_model.specs.declared.point.PointName.TheVariants.{End}
 use Rattle.tmm_model.specs.Beliefs.{token_of}
 use Rattle.tmm_model.specs.Maps.{TimeMap, built}
-use Rattle.tmm_model.specs.Moments.{Moment, After}
+use Rattle.tmm_model.specs.Moments.{Moment, After, rule_of}
 use Rattle.tmm_model.specs.Reasons.{Reason, by_rule, reason_of, belief_line, end_pair, pairs_of, pairs, supports_at, IsOrderLine, AreReasons}
 use Rattle.tmm_model.specs.Standing.{Standing}
 use Rattle.walk_theory.proofs.Members.{Contains-map}
@@ -84,11 +84,12 @@ module _ (m : TimeMap) where
   )
 
   -- those of the effect of a rule
-  pub effect_lines : (x t : Moment) (r : List ℕ) (ks : List Moment) (line : WhyLine) → x ≡ After t r → ks ≡ supports_at m t r → reason_of line ≡ by_rule x r t ks
+  pub effect_lines : (x t : Moment) (r : List ℕ) (ks : List Moment) (es : List (List ℕ)) (line : WhyLine) → x ≡ After t r → ks ≡ supports_at m t r → es ≡ (rule_of m.list r).exceptions
+      → reason_of line ≡ by_rule x r t ks es
       → (xs ys : List WhyLine) → AreOrders m (flat_map (pairs_of m t) ks) xs → ys ≡ line ∷ [] → AreLinesOf m x (xs ++ ys)
-  effect_lines x t r ks line is same told xs ys orders own =
+  effect_lines x t r ks es line is same bars told xs ys orders own =
       subst (λ k. AreLinesOf m k (xs ++ ys)) (sym is)
-      (its_lines (After t r) line (told ∙ (λ i. by_rule (is i) r t (same i))) xs ys (subst (λ (l : List Moment). AreOrders m (flat_map (pairs_of m t) l) xs) same orders) own)
+      (its_lines (After t r) line (told ∙ (λ i. by_rule (is i) r t (same i) (bars i))) xs ys (subst (λ (l : List Moment). AreOrders m (flat_map (pairs_of m t) l) xs) same orders) own)
 
   AreReasons-push : (xs : List Moment) (x : Moment) (lines orders : List Reason) → AreReasons m xs lines → AllZip (IsOrderLine m) (pairs m x) orders → AreReasons m (xs ++ x ∷ []) (lines ++ orders ++ belief_line m x ∷ [])
   AreReasons-push [] x lines orders none told = (orders, [], ap (λ l. l ++ orders ++ belief_line m x ∷ []) none, told, refl)

@@ -14,4 +14,4 @@ IsShapedPoint (Derived occ) = occ.rules.items ≢ []
 abbrev pub IsShapedLine : WhyLine → Type 0
 IsShapedLine (PremiseLine name) = Unit {0}
 IsShapedLine (OrderLine first second far steps) = IsShapedPoint first × IsShapedPoint second
-IsShapedLine (DerivedLine occ rule trigger supports) = occ.rules.items ≢ []
+IsShapedLine (DerivedLine occ rule trigger supports unless_facts) = occ.rules.items ≢ []

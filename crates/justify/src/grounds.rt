@@ -3,12 +3,14 @@ ghost use Rattle.std.specs.Prelude.{◌≡◌, ◌≤◌, map, length, IsSome};
 ghost use Rattle.std.specs.List.{All, Contains, filter_map};
 ghost use Rattle.tmm_model.specs.Beliefs.{rules_at};
 ghost use Rattle.tmm_model.specs.Maps.{built};
+ghost use Rattle.tmm_model.specs.Moments.{rule_of};
 ghost use Rattle.tmm_model.specs.Reasons.{supports_at};
 ghost use Rattle.tmm_model.specs.Sorts.{class_in};
 ghost use Rattle.spots.specs.Forest.{IsLive, moment_at};
 ghost use Rattle.spots.specs.Seen.{Holds};
 ghost use Rattle.occ_tree.specs.OfLists.{IsTreeOf};
 ghost use Rattle.occ_tree.specs.Places.{forest};
+ghost use Rattle.supports.specs.Rules.{IsRuleOf};
 ghost use Rattle.justify.specs.Grounds.{IsOrigin, supporters_for};
 
 use arrayvec::ArrayVec;
@@ -16,8 +18,9 @@ use dist_net::DistNet;
 use occ_tree::Tree;
 use premise_list::Standing;
 use spots::Spot;
-use supports::{rule_text, supporter};
-use tmm_model::Name;
+use std::alloc::Global;
+use supports::{Guesses, rule_text, supporter};
+use tmm_model::{MOST_EXCEPTIONS, Name};
 
 /// What brings a node about.
 #[derive(Clone, Copy)]
@@ -45,6 +48,7 @@ pub(crate) fn origin_of(tree: &Tree, x: u32) -> Origin
 
 // The first supporters of a rule's antecedents at an event.
 pub(crate) fn supports_at(
+    alloc: Global,
     standing: &Standing,
     tree: &Tree,
     net: &DistNet,
@@ -59,7 +63,18 @@ pub(crate) fn supports_at(
     ensures first { map (moment_at (forest tree.now)) result.items ≡ supports_at (built standing.now.present) (moment_at (forest tree.now) event) rule }
 {
     let text = rule_text(standing, rule);
-    supporters(standing, tree, net, event, text.given)
+    let mut guesses = Guesses::make(alloc);
+    supporters(standing, tree, net, event, text.given, &mut guesses)
+}
+
+// The exceptions of a standing rule.
+pub(crate) fn exceptions_of(standing: &Standing, rule: Name) -> ArrayVec<Name, MOST_EXCEPTIONS>
+    requires { IsRuleOf standing.now.present rule }
+    ensures { result.items ≡ (rule_of standing.now.present rule).exceptions }
+{
+    let mut exceptions = ArrayVec::new();
+    let _fits = exceptions.try_extend_from_slice(rule_text(standing, rule).exceptions);
+    exceptions
 }
 
 // The first supporters of the facts at an event.
@@ -69,6 +84,7 @@ fn supporters(
     net: &DistNet,
     event: u32,
     facts: &[Name],
+    guesses: &mut Guesses,
 ) -> ArrayVec<u32, 4>
     requires seen { IsTreeOf standing.now.present net.now.present tree.now }
     requires holds { Holds (built standing.now.present).believed (forest tree.now) }
@@ -81,7 +97,7 @@ fn supporters(
     let at = Spot::Node(event);
     let mut found = ArrayVec::new();
     for fact in facts {
-        match supporter(standing, tree, net, *fact, at, at) {
+        match supporter(standing, tree, net, *fact, at, at, guesses) {
             Some(x) => found.push(x),
             None => {}
         }

@@ -13,15 +13,16 @@ ghost use Rattle.occ_tree.specs.Ranks.{nodes_of};
 ghost use Rattle.occ_tree.specs.OfLists.{IsTreeOf};
 ghost use Rattle.occ_tree.specs.Places.{forest};
 
-use crate::grounds::{Origin, origin_of, supports_at};
+use crate::grounds::{Origin, exceptions_of, origin_of, supports_at};
 use crate::listener::Listener;
 use crate::walks::steps_between;
+use arrayvec::ArrayVec;
 use dist_net::DistNet;
 use occ_tree::{Ranked, Tree};
 use premise_list::Standing;
 use spots::Spot;
 use std::alloc::Global;
-use tmm_model::{Bound, Name, NoMemory, Occ, PointName, QueryPoint, Seq, WhyLine};
+use tmm_model::{Bound, MOST_EXCEPTIONS, Name, NoMemory, Occ, PointName, QueryPoint, Seq, WhyLine};
 
 // Tells the lines of the nodes, one after the other: the orders that each needs, and then its own line.
 pub(crate) fn tell_all<R: Listener>(
@@ -60,15 +61,16 @@ fn tell_node<R: Listener>(
     match origin_of(tree, x) {
         Origin::Declared(name) => listener.hear(WhyLine::Premise(name)),
         Origin::Effect { event, rule } => {
-            let supports = supports_at(standing, tree, net, event, rule);
+            let supports = supports_at(alloc, standing, tree, net, event, rule);
             let nodes = supports.as_slice();
             tell_orders(alloc, standing, tree, net, event, nodes, listener)?;
-            listener.hear(derived_line(alloc, tree, x, rule, event, nodes)?)
+            let exceptions = exceptions_of(standing, rule);
+            listener.hear(derived_line(alloc, tree, x, rule, event, nodes, exceptions)?)
         }
     }
 }
 
-// The line of the effect of a rule on an event, with what supports its antecedents.
+// The line of the effect of a rule on an event, with what supports its antecedents, and its exceptions.
 fn derived_line(
     alloc: Global,
     tree: &Tree,
@@ -76,11 +78,12 @@ fn derived_line(
     rule: Name,
     event: u32,
     supports: &[u32],
+    unless_facts: ArrayVec<Name, MOST_EXCEPTIONS>,
 ) -> Result<WhyLine, NoMemory>
     requires live { IsLive (forest tree.now) x }
     requires event { IsLive (forest tree.now) event }
     requires supports { All (IsLive (forest tree.now)) supports.now }
-    ensures reason { IfOk result (λ line. reason_of line ≡ by_rule (moment_at (forest tree.now) x) rule (moment_at (forest tree.now) event) (map (moment_at (forest tree.now)) supports.now)) }
+    ensures reason { IfOk result (λ line. reason_of line ≡ by_rule (moment_at (forest tree.now) x) rule (moment_at (forest tree.now) event) (map (moment_at (forest tree.now)) supports.now) unless_facts.items) }
     ensures shaped { IfOk result (λ line. IsTrue (is_derived (moment_at (forest tree.now) x)) → IsShapedLine line) }
 {
     Ok(WhyLine::Derived {
@@ -88,6 +91,7 @@ fn derived_line(
         rule,
         trigger: tree.occ_of(alloc, event)?,
         supports: occs_of(alloc, tree, supports)?,
+        unless_facts,
     })
 }
 

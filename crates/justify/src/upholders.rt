@@ -36,7 +36,7 @@ pub(crate) fn upholders(
     let mut next = 0;
     while next < found.len() {
         let y = found[next];
-        add_grounds(standing, tree, net, y, &mut found)?;
+        add_grounds(alloc, standing, tree, net, y, &mut found)?;
         next += 1;
     }
     Ok(found)
@@ -44,6 +44,7 @@ pub(crate) fn upholders(
 
 // Adds what a node rests on directly.
 fn add_grounds(
+    alloc: Global,
     standing: &Standing,
     tree: &Tree,
     net: &DistNet,
@@ -58,7 +59,7 @@ fn add_grounds(
     match origin_of(tree, x) {
         Origin::Declared(_) => Ok(()),
         Origin::Effect { event, rule } => {
-            let supports = supports_at(standing, tree, net, event, rule);
+            let supports = supports_at(alloc, standing, tree, net, event, rule);
             add(found, event)?;
             add_all(found, supports.as_slice())
         }

@@ -14,7 +14,7 @@ use Rattle.tmm_model.specs.declared.walk.Side.TheVariants.{Hi, Lo}
 use Rattle.tmm_model.specs.declared.walk.WalkStep.{WalkStep}
 use Rattle.tmm_model.specs.Standing.{points_of, points_in, steps_of, base_step, length_step, hi_steps, lo_steps}
 use Rattle.tmm_model.specs.Sorts.{Use, a_place, uses_of, declared_by}
-use Rattle.tmm_model.specs.Verdicts.{Cause, too_many_premises, too_many_points, most_premises, most_points, use_cause, uses_cause, first_taken, words_known, premises_cause, points_cause, list_cause}
+use Rattle.tmm_model.specs.Verdicts.{Cause, too_many_premises, too_many_points, most_premises, most_points, use_cause, uses_cause, first_taken, words_known, premises_cause, points_cause, add_cause}
 use Rattle.walk_theory.proofs.Members.{All-from_contains, Contains-cons, Contains-cons_first, Contains-cons_cases}
 use Rattle.list_theory.proofs.Places.{place_known}
 
@@ -45,7 +45,7 @@ few_points ps none = by (leb (length (points_in ps)) most_points) refl none
     by true e h = grind arith
     by false e h = absurd (cc (h))
 
-pub may_be_added : (ps : List Premise) (p : Premise) → list_cause ps (Add p) ≡ None → MayBeAdded ps p
+pub may_be_added : (ps : List Premise) (p : Premise) → add_cause ps p ≡ None → MayBeAdded ps p
 may_be_added ps p none =
     let a = option_or-none (first_taken (words_known ps) (declared_by p)) (option_or (uses_cause ps (uses_of p)) (option_or (premises_cause ps) (points_cause (ps ++ p ∷ [])))) none in
     let b = option_or-none (uses_cause ps (uses_of p)) (option_or (premises_cause ps) (points_cause (ps ++ p ∷ []))) a.1 in

@@ -5,5 +5,6 @@ pub mod Elements
 pub mod Erased
 pub mod Erasure
 pub mod KnownNames
+pub mod Opening
 pub mod Places
 pub mod WellNamed

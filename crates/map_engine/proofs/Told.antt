@@ -49,7 +49,7 @@ none_pending present None none = refl
 none_pending present (Some b) none = absurd (cc (none))
 
 -- a map that is too large is refused for its size
-pub too_large : (old : Standing) (edit : Edit) → list_cause old.premises edit ≡ None → IsConsistent (next_list old edit).premises
+pub too_large : (old : Standing) (edit : Edit) → list_cause old edit ≡ None → IsConsistent (next_list old edit).premises
     → (stop : Stop) → IsTooLarge (size (built (next_list old edit))) stop → StopsEdit old edit stop
 too_large old edit no_cause dates (Refused LimitSize) large = record { no_cause = no_cause; dates = dates; large = large }
 too_large old edit no_cause dates (Refused LimitLine) never = absurd never

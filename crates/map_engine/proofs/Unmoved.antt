@@ -1,7 +1,8 @@
 -- What is kept where the list that an edit leaves is alike in all that beliefs read.
-use Rattle.std.proofs.Common.{◌≡◌, ◌∙◌, ℕ, Bool, false, not, ◌&&◌, List, [], ◌∷◌, ◌++◌, map, refl, sym, ap, subst, inl, inr}
+use Rattle.std.proofs.Common.{◌≡◌, ◌∙◌, ℕ, Bool, true, false, not, ◌&&◌, cond, List, [], ◌∷◌, ◌++◌, map, refl, sym, ap, subst, inl, inr}
 use Rattle.std.specs.Prelude.{Option, Some, None, filter, ◌≤◌}
 use Rattle.std.specs.List.{filter_map, cons_option, list_any}
+use Rattle.std.specs.Cmp.Lexicographic.{nat_list_eq_equiv}
 use Rattle.tmm_model.specs.declared.changes.Changes.{Changes as CodeChanges}
 use Rattle.tmm_model.specs.declared.premise.Edit.{Edit}
 use Rattle.tmm_model.specs.declared.premise.Edit.TheVariants.{Add, Erase, Horizon, Upgrade}
@@ -14,7 +15,7 @@ use Rattle.tmm_model.specs.Maps.{TimeMap, built}
 use Rattle.tmm_model.specs.Moments.{Moment}
 use Rattle.tmm_model.specs.Points.{same_name}
 use Rattle.tmm_model.specs.Standing.{Standing}
-use Rattle.list_theory.proofs.Elements.{In}
+use Rattle.list_theory.proofs.Elements.{In, In-list_any}
 use Rattle.list_theory.proofs.Erasure.{kept_before}
 use Rattle.spots.specs.Forest.{Forest}
 use Rattle.spots.specs.Seen.{Holds}
@@ -117,6 +118,38 @@ none_between old new before after = (
   ap (filter (λ r. not (is_broken old r.0))) after,
   ap (λ (l : List (List ℕ × Finding)). filter (λ name. list_any (λ r. same_name r.0 name) l && not (is_broken new name)) (filter_map protection_name new.list.premises)) before
       ∙ none_mended (λ name. not (is_broken new name)) (filter_map protection_name new.list.premises),
+)
+
+-- ---- between reports that are the same
+
+-- all are reported
+none_new : (all rs : List (List ℕ × Finding)) → ((r : List ℕ × Finding) → In r rs → In r all) → filter (λ r. not (list_any (λ (q : List ℕ × Finding). same_name q.0 r.0) all)) rs ≡ []
+none_new all [] h = refl
+none_new all (r ∷ rs) h =
+    by (list_any (λ (q : List ℕ × Finding). same_name q.0 r.0) all) (In-list_any (λ (q : List ℕ × Finding). same_name q.0 r.0) all r (h r (inl refl)) (nat_list_eq_equiv.refl r.0))
+    (none_new all rs (λ q at. h q (inr at)))
+  where
+    by : (b : Bool) → b ≡ true → filter (λ r. not (list_any (λ (q : List ℕ × Finding). same_name q.0 r.0) all)) rs ≡ []
+        → cond (not b) (r ∷ filter (λ r. not (list_any (λ (q : List ℕ × Finding). same_name q.0 r.0) all)) rs) (filter (λ r. not (list_any (λ (q : List ℕ × Finding). same_name q.0 r.0) all)) rs) ≡ []
+    by true e again = again
+    by false e again = absurd (cc (e))
+
+-- nothing is so and not so
+never_both : (test : List ℕ → Bool) (names : List (List ℕ)) → filter (λ name. test name && not (test name)) names ≡ []
+never_both test [] = refl
+never_both test (name ∷ names) = by (test name) (never_both test names)
+  where
+    by : (b : Bool) → filter (λ name. test name && not (test name)) names ≡ []
+        → cond (b && not b) (name ∷ filter (λ name. test name && not (test name)) names) (filter (λ name. test name && not (test name)) names) ≡ []
+    by true again = again
+    by false again = again
+
+-- no protection becomes broken or mended
+pub same_between : (old new : TimeMap) → reports new ≡ reports old → ((delta old new).broken ≡ []) × ((delta old new).mended ≡ [])
+same_between old new same = (
+  ap (filter (λ r. not (is_broken old r.0))) same ∙ none_new (reports old) (reports old) (λ r at. at),
+  ap (λ (l : List (List ℕ × Finding)). filter (λ name. is_broken old name && not (list_any (λ r. same_name r.0 name) l)) (filter_map protection_name new.list.premises)) same
+      ∙ never_both (is_broken old) (filter_map protection_name new.list.premises),
 )
 
 -- ---- what is told

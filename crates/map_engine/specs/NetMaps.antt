@@ -59,4 +59,4 @@ pub record IsNetMap (lists : States) (nets : Nets) (nodes : BeliefNet) (view : K
 
 -- Where a cause among names and counts stands against the edit, no decision is counted; else no more than the edit touches.
 abbrev pub CountsEdit : Standing → Edit → ℕ → ℕ → Type 0
-CountsEdit s edit before count = MatchOption (list_cause s.premises edit) (count ≤ counted before (touched s (next_list s edit))) (λ _. count ≡ before)
+CountsEdit s edit before count = MatchOption (list_cause s edit) (count ≤ counted before (touched s (next_list s edit))) (λ _. count ≡ before)

@@ -24,7 +24,7 @@ pub(crate) fn edited(
     net: &mut DistNet,
     edit: &Edit,
 ) -> Result<Seq<Name>, Stop>
-    requires no_cause { list_cause standing.old.present.premises edit.now ≡ None }
+    requires no_cause { list_cause standing.old.present edit.now ≡ None }
     requires well_formed { IsWellFormedEdit edit.now }
     requires network { IsNetOf standing.old.present net.old.present }
     requires settled { IsSettled standing.old net.old }
@@ -52,8 +52,13 @@ pub(crate) fn edited(
             let _ = net.edges();
             Ok(Seq::make(alloc))
         }
-        // no list takes version 2 so far
-        Edit::Upgrade => unreachable!(),
+        Edit::Upgrade => {
+            // it tells the proof what holds of the list
+            let _ = standing.len();
+            standing.upgrade();
+            let _ = net.edges();
+            Ok(Seq::make(alloc))
+        }
     }
 }
 
@@ -63,7 +68,7 @@ fn added(
     net: &mut DistNet,
     premise: &Premise,
 ) -> Result<Seq<Name>, Stop>
-    requires no_cause { list_cause standing.old.present.premises (Edit.Add premise.now) ≡ None }
+    requires no_cause { list_cause standing.old.present (Edit.Add premise.now) ≡ None }
     requires well_formed { IsWellFormedEdit (Edit.Add premise.now) }
     requires network { IsNetOf standing.old.present net.old.present }
     requires settled { IsSettled standing.old net.old }
@@ -91,7 +96,7 @@ fn without(
     net: &mut DistNet,
     name: Name,
 ) -> Result<Seq<Name>, NoMemory>
-    requires no_cause { list_cause standing.old.present.premises (Edit.Erase name) ≡ None }
+    requires no_cause { list_cause standing.old.present (Edit.Erase name) ≡ None }
     requires network { IsNetOf standing.old.present net.old.present }
     ensures list { OnOk result (standing.new ≡ record standing.old { present = next_list standing.old.present (Edit.Erase name) }) }
     ensures network { OnOk result (IsNetOf standing.new.present net.new.present) }

@@ -29,7 +29,7 @@ use dist_net::DistNet;
 use occ_tree::Tree;
 use premise_list::Standing;
 use projection::Counter;
-use protections::report_after;
+use protections::{are_left_alone, report_after};
 use std::alloc::Global;
 use tmm_model::{Changes, Edit, Name, NoMemory, Premise, Report, Seq, Stop};
 
@@ -147,6 +147,10 @@ fn unmoved(
     ensures changes { IfOk result (λ made. delta_of made.1 ≡ changes standing.now.committed standing.now.present) }
 {
     if !guarded {
+        let changes = changes_of(alloc, erased, Seq::make(alloc), Seq::make(alloc));
+        return Ok((Next::Same, changes));
+    }
+    if are_left_alone(standing, tree, net, edit, &[]) {
         let changes = changes_of(alloc, erased, Seq::make(alloc), Seq::make(alloc));
         return Ok((Next::Same, changes));
     }

@@ -45,7 +45,7 @@ fn told(alloc: Global, list: &mut Standing, edit: &Edit) -> Result<Seq<u8>, NoMe
 }
 
 fn made(alloc: Global, list: &mut Standing, edit: &Edit) -> Result<Seq<u8>, NoMemory>
-    requires { list_cause list.old.present.premises edit.now ≡ None }
+    requires { list_cause list.old.present edit.now ≡ None }
 {
     match edit {
         Edit::Add(premise) => {

@@ -1,5 +1,6 @@
 //! The bytes of replies.
 use crate::networks::name;
+use arrayvec::ArrayVec;
 use premise_list::Standing;
 use replies::{
     Word, memory_reply, reply_answer, reply_bounds, reply_check, reply_dump, reply_list, reply_no,
@@ -8,8 +9,8 @@ use replies::{
 use std::alloc::Global;
 use std::process::Abort;
 use tmm_model::{
-    Answer, Blame, Bound, Cause, Changes, Clip, ListRow, Name, NoMemory, Occ, PointName,
-    QueryPoint, Refusal, Report, Seq, Side, WalkStep, WhyLine,
+    Answer, Blame, Bound, Cause, Changes, Clip, ListRow, MOST_EXCEPTIONS, Name, NoMemory, Occ,
+    PointName, QueryPoint, Refusal, Report, Seq, Side, WalkStep, WhyLine,
 };
 
 /// A reply is this text.
@@ -217,12 +218,20 @@ fn order(alloc: Global) -> WhyLine {
     }
 }
 
+fn exceptions() -> ArrayVec<Name, MOST_EXCEPTIONS> {
+    let mut facts = ArrayVec::new();
+    facts.push(name("g"));
+    facts.push(name("h"));
+    facts
+}
+
 fn derived(alloc: Global) -> WhyLine {
     WhyLine::Derived {
         occ: effect(alloc, "e", "r"),
         rule: name("r"),
         trigger: root(alloc, "e"),
         supports: one(alloc, root(alloc, "k")),
+        unless_facts: exceptions(),
     }
 }
 
@@ -233,7 +242,7 @@ fn reasons_are_replied(rt: HostRuntime) {
     expect(
         &rt,
         &reply_why(alloc, 8, &lines),
-        "8 why\n  premise k\n  order k e -10\n    z hi s k 0\n  e/r by r on e with k\n",
+        "8 why\n  premise k\n  order k e -10\n    z hi s k 0\n  e/r by r on e with k unless g h\n",
     );
 }
 

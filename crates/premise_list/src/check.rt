@@ -4,7 +4,7 @@ ghost use Rattle.std.specs.List.{list_any};
 ghost use Rattle.std.specs.Option.{option_or};
 ghost use Rattle.tmm_model.specs.Points.{same_name};
 ghost use Rattle.tmm_model.specs.Sorts.{is_reserved, sort_in, declared_by, uses_of, fact_use};
-ghost use Rattle.tmm_model.specs.Verdicts.{first_taken, name_cause, place_cause, premise_cause, uses_cause, premises_cause, points_cause, add_cause, list_cause, words_known};
+ghost use Rattle.tmm_model.specs.Verdicts.{first_taken, name_cause, place_cause, premise_cause, uses_cause, premises_cause, points_cause, add_cause, words_known};
 ghost use Rattle.premise_list.specs.Words.{sort_seen, wants};
 ghost use Rattle.premise_list.specs.Judged.{Judges};
 
@@ -12,7 +12,7 @@ use crate::premise::{Sort, facts_of, name_of, point_count};
 use crate::table::Table;
 use arrayvec::ArrayVec;
 use tmm_model::{
-    Edit, MOST_ANTECEDENTS, MOST_EXCEPTIONS, MOST_POINTS, MOST_PREMISES, Name, PointName, Premise,
+    MOST_ANTECEDENTS, MOST_EXCEPTIONS, MOST_POINTS, MOST_PREMISES, Name, PointName, Premise,
     QueryPoint, Refusal,
 };
 
@@ -41,20 +41,8 @@ impl Wanted {
 }
 
 impl Table {
-    // The first cause for which the edit is refused.
-    pub(crate) fn check(&self, edit: &Edit) -> Result<(), Refusal>
-        ensures { Judges result (list_cause self.now.premises edit.now) }
-    {
-        match edit {
-            Edit::Add(premise) => self.check_added(premise),
-            Edit::Erase(name) => self.check_premise(*name),
-            Edit::Horizon(_) => Ok(()),
-            // no list takes version 2 so far
-            Edit::Upgrade => Err(Refusal::Form),
-        }
-    }
-
-    fn check_added(&self, premise: &Premise) -> Result<(), Refusal>
+    // The first cause for which the premise is refused.
+    pub(crate) fn check_added(&self, premise: &Premise) -> Result<(), Refusal>
         ensures { Judges result (add_cause self.now.premises premise.now) }
     {
         self.check_declared(premise)?;
@@ -177,7 +165,7 @@ impl Table {
     }
 
     // The name is that of a premise. Here `start` is as unknown as any other.
-    fn check_premise(&self, name: Name) -> Result<(), Refusal>
+    pub(crate) fn check_premise(&self, name: Name) -> Result<(), Refusal>
         ensures { Judges result (premise_cause (sort_in self.now.premises name) name) }
     {
         match self.sort_of(name) {

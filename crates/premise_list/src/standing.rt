@@ -1,13 +1,13 @@
 // The standing list, present and committed.
 ghost use Rattle.std.specs.Prelude.{◌≡◌, ◌≤◌, ◌↔◌, ◌++◌, None, length, map, slice_get, IsOk, IfOk, IfErr, OnOk, OnErr, vec_len, vec_capacity, ◌+◌};
 ghost use Rattle.std.specs.Option.{option_copied};
-ghost use Rattle.tmm_model.specs.Standing.{empty_list, name_of, premise_in};
+ghost use Rattle.tmm_model.specs.Standing.{empty_list, is_empty, name_of, premise_in};
 ghost use Rattle.list_theory.specs.Fallen.{fallen_with};
 ghost use Rattle.tmm_model.specs.Sorts.{class_in, fact_use};
-ghost use Rattle.tmm_model.specs.Verdicts.{list_cause, place_cause, use_cause, most_premises, Tells};
+ghost use Rattle.tmm_model.specs.Verdicts.{list_cause, place_cause, upgrade_cause, use_cause, most_premises, Tells};
 ghost use Rattle.list_theory.specs.WellNamed.{IsWellNamed};
 ghost use Rattle.tmm_model.specs.Edits.{list_with, list_without, list_until, upgraded};
-ghost use Rattle.premise_list.specs.Judged.{NamesPlainly};
+ghost use Rattle.premise_list.specs.Judged.{Judges, NamesPlainly};
 
 use crate::check::Wanted;
 use crate::erase::fall_with;
@@ -15,7 +15,7 @@ use crate::premise::{copy_of, facts_of};
 use crate::table::{Table, word_count};
 use std::alloc::Global;
 use std::marker::Model;
-use tmm_model::{Edit, Name, NoMemory, PointName, Premise, Refusal, Seq, Version};
+use tmm_model::{Edit, FIRST_HORIZON, Name, NoMemory, PointName, Premise, Refusal, Seq, Version};
 
 /// The standing list with its version and its horizon, now and as they were at the last commit.
 #[derive(Drop)]
@@ -51,10 +51,10 @@ impl Standing {
         Standing {
             table: Table::make(alloc),
             version: Version::One,
-            horizon: 1000,
+            horizon: FIRST_HORIZON,
             committed: Vec::new(alloc),
             committed_version: Version::One,
-            committed_horizon: 1000,
+            committed_horizon: FIRST_HORIZON,
             shared: 0,
         }
     }
@@ -62,11 +62,42 @@ impl Standing {
     /// Whether names and counts let the edit through, and else the first cause against it. A refused word is
     /// told as the point of a name.
     pub fn check(&self, edit: &Edit) -> Result<(), Refusal>
-        ensures ok { IsOk result ↔ (list_cause self.now.present.premises edit.now ≡ None) }
-        ensures told { IfErr result (λ refusal. Tells refusal (list_cause self.now.present.premises edit.now)) }
+        ensures ok { IsOk result ↔ (list_cause self.now.present edit.now ≡ None) }
+        ensures told { IfErr result (λ refusal. Tells refusal (list_cause self.now.present edit.now)) }
         ensures named { IfErr result NamesPlainly }
     {
-        self.table.check(edit)
+        self.judge(edit)
+    }
+
+    // The first cause for which the edit is refused.
+    fn judge(&self, edit: &Edit) -> Result<(), Refusal>
+        ensures { Judges result (list_cause self.now.present edit.now) }
+    {
+        match edit {
+            Edit::Add(premise) => self.table.check_added(premise),
+            Edit::Erase(name) => self.table.check_premise(*name),
+            Edit::Horizon(_) => Ok(()),
+            Edit::Upgrade => self.check_upgrade(),
+        }
+    }
+
+    // Version 2 is opened at the empty list alone.
+    fn check_upgrade(&self) -> Result<(), Refusal>
+        ensures { Judges result (upgrade_cause self.now.present) }
+    {
+        if self.is_empty_list() {
+            Ok(())
+        } else {
+            Err(Refusal::Form)
+        }
+    }
+
+    fn is_empty_list(&self) -> bool
+        ensures { result ≡ is_empty self.now.present }
+    {
+        matches!(self.version, Version::One)
+            && self.table.premises().is_empty()
+            && self.horizon == FIRST_HORIZON
     }
 
     /// Whether a point is there, and else the cause against its word.
@@ -89,7 +120,7 @@ impl Standing {
 
     /// Appends a premise that `check` lets through. Without memory nothing has changed.
     pub fn add(&mut self, _alloc: Global, premise: &Premise) -> Result<(), NoMemory>
-        requires { list_cause self.old.present.premises (Edit.Add premise.now) ≡ None }
+        requires { list_cause self.old.present (Edit.Add premise.now) ≡ None }
         ensures ok { OnOk result (self.new ≡ record self.old { present = list_with self.old.present premise.now }) }
         ensures err { OnErr result (self.new ≡ self.old) }
     {
@@ -107,7 +138,7 @@ impl Standing {
     /// retracted, and answers the names of these premises in their order. Without memory nothing has
     /// changed.
     pub fn erase(&mut self, alloc: Global, name: Name) -> Result<Seq<Name>, NoMemory>
-        requires { list_cause self.old.present.premises (Edit.Erase name) ≡ None }
+        requires { list_cause self.old.present (Edit.Erase name) ≡ None }
         ensures names { IfOk result (λ names. names.items ≡ map name_of (fallen_with name self.old.present.premises)) }
         ensures ok { OnOk result (self.new ≡ record self.old { present = list_without self.old.present name }) }
         ensures err { OnErr result (self.new ≡ self.old) }

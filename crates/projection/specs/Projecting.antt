@@ -76,7 +76,7 @@ pub record IsGrowingWith (s : Standing) (net : Net) (f : Forest) (p : Pending) (
 abbrev pub Settles : Standing → Net → Growing → Pending → Growing → Type 0
 Settles s net old p new = (made : ℕ) → IsGrowingWith s net (forest old.tree) p old.queue old.size made → IsGrowing s net (forest new.tree) new.queue new.size (made + 1)
 
--- among the occurrences that the nodes are, each antecedent of the rule that waits has a supporter
+-- among the occurrences that the nodes are, the rule that waits is free
 abbrev pub FiresAmong : Standing → Forest → Pending → Type 0
 FiresAmong s f p = (b : List Moment) → Holds b f → IsTrue (is_free s (far_in s.premises) b (moment_at f p.trigger) (rule_at s p))
 

@@ -19,8 +19,9 @@ use dist_net::DistNet;
 use occ_tree::{Order, Tree};
 use premise_list::Standing;
 use spots::Spot;
+use std::alloc::Global;
 use std::marker::Model;
-use supports::{is_supported, rule_text, supporter};
+use supports::{Guesses, first_supported, is_supported, rule_text, supporter};
 use tmm_model::Name;
 
 /// What becomes of a rule at an event.
@@ -30,6 +31,8 @@ pub enum Decision {
     Fires { supports: ArrayVec<u32, 4> },
     /// The antecedent at this place is the first without a supporter.
     Blocked { antecedent: usize },
+    /// Each antecedent has a supporter; the exception at this place is the first that has one too.
+    Barred { exception: usize },
     /// Its effect would begin after the horizon.
     Beyond,
 }
@@ -73,7 +76,7 @@ impl Counter {
 }
 
 /// Decides a standing rule on the kind of the event at the node `trigger`, among the nodes of the
-/// tree, and counts the decision.
+/// tree, and counts the decision. No memory is taken but for guesses.
 pub fn decide(
     tree: &Tree,
     net: &DistNet,
@@ -81,6 +84,7 @@ pub fn decide(
     trigger: u32,
     rule: Name,
     counter: &mut Counter,
+    guesses: &mut Guesses,
 ) -> Decision
     requires seen { IsTreeOf standing.now.present net.now.present tree.now }
     requires trigger { IsLive (forest tree.now) trigger }
@@ -96,38 +100,54 @@ pub fn decide(
     if due_by(standing.horizon(), early, text.lo).is_none() {
         return Decision::Beyond;
     }
-    try_given(tree, net, standing, trigger, text.given)
+    try_facts(
+        tree,
+        net,
+        standing,
+        trigger,
+        text.given,
+        text.exceptions,
+        guesses,
+    )
 }
 
-// The first supporters of the facts at the event, or the first fact without one.
-fn try_given(
+// The first supporters of the antecedents at the event, or the first of these without one, or else the
+// first exception with one.
+fn try_facts(
     tree: &Tree,
     net: &DistNet,
     standing: &Standing,
     trigger: u32,
     given: &[Name],
+    exceptions: &[Name],
+    guesses: &mut Guesses,
 ) -> Decision
     requires seen { IsTreeOf standing.now.present net.now.present tree.now }
     requires trigger { IsLive (forest tree.now) trigger }
     requires facts { All (λ fact. IsSome (class_in standing.now.present.premises fact)) given.now }
+    requires exceptions { All (λ fact. IsSome (class_in standing.now.present.premises fact)) exceptions.now }
     requires few { length given.now ≤ 4 }
-    ensures outcome { (b : List Moment) → Holds b (forest tree.now) → outcome_at (forest tree.now) result ≡ tried_at standing.now.present b (moment_at (forest tree.now) trigger) given.now }
+    ensures outcome { (b : List Moment) → Holds b (forest tree.now) → outcome_at (forest tree.now) result ≡ tried_at standing.now.present b (moment_at (forest tree.now) trigger) given.now exceptions.now }
     ensures live { AreLive (forest tree.now) result }
 {
     let at = Spot::Node(trigger);
     let mut supports = ArrayVec::new();
     for antecedent in 0..given.len() {
-        match supporter(standing, tree, net, given[antecedent], at, at) {
+        match supporter(standing, tree, net, given[antecedent], at, at, guesses) {
             Some(x) => supports.push(x),
             None => return Decision::Blocked { antecedent },
         }
     }
-    Decision::Fires { supports }
+    match first_supported(standing, tree, net, exceptions, at, guesses) {
+        Some(exception) => Decision::Barred { exception },
+        None => Decision::Fires { supports },
+    }
 }
 
 // Whether the rule at this place of the list fires on the event at the node `trigger`, where its effect is
-// due: each of its antecedents has a supporter there, whichever that is.
+// due: each of its antecedents has a supporter there, whichever that is, and no exception has one.
 pub(crate) fn is_free(
+    alloc: Global,
     tree: &Tree,
     net: &DistNet,
     standing: &Standing,
@@ -140,12 +160,32 @@ pub(crate) fn is_free(
     requires rule { Contains (rules_at standing.now.present (moment_at (forest tree.now) trigger)) (name_at standing.now.present place) }
     ensures { (b : List Moment) → Holds b (forest tree.now) → result ≡ is_free standing.now.present (far_in standing.now.present.premises) b (moment_at (forest tree.now) trigger) (name_at standing.now.present place) }
 {
+    let mut guesses = Guesses::make(alloc);
+    is_free_with(tree, net, standing, trigger, place, &mut guesses)
+}
+
+// The same with room for guesses.
+fn is_free_with(
+    tree: &Tree,
+    net: &DistNet,
+    standing: &Standing,
+    trigger: u32,
+    place: u32,
+    guesses: &mut Guesses,
+) -> bool
+    requires seen { IsTreeOf standing.now.present net.now.present tree.now }
+    requires trigger { IsLive (forest tree.now) trigger }
+    requires place { IsRuleAt standing.now.present place }
+    requires rule { Contains (rules_at standing.now.present (moment_at (forest tree.now) trigger)) (name_at standing.now.present place) }
+    ensures { (b : List Moment) → Holds b (forest tree.now) → result ≡ is_free standing.now.present (far_in standing.now.present.premises) b (moment_at (forest tree.now) trigger) (name_at standing.now.present place) }
+{
     let at = Spot::Node(trigger);
-    let given = text_at(standing, place).given;
+    let text = text_at(standing, place);
+    let given = text.given;
     for fact in given {
-        if !is_supported(standing, tree, net, *fact, at, at) {
+        if !is_supported(standing, tree, net, *fact, at, at, guesses) {
             return false;
         }
     }
-    true
+    first_supported(standing, tree, net, text.exceptions, at, guesses).is_none()
 }

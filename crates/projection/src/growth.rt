@@ -203,7 +203,8 @@ fn settle(
     ensures kept { counter.old ≤ counter.new }
 {
     counter.raise();
-    if is_free(&growing.tree, net, standing, pending.trigger, pending.rule) {
+    let (trigger, rule) = (pending.trigger, pending.rule);
+    if is_free(alloc, &growing.tree, net, standing, trigger, rule) {
         bring_about(alloc, standing, net, rules, growing, pending)
     } else {
         Ok(())

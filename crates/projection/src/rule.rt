@@ -13,14 +13,23 @@ pub(crate) fn text_at(standing: &Standing, place: u32) -> RuleText<'_>
     requires { IsRuleAt standing.now.present place }
     ensures lo { result.lo ≡ (rule_of standing.now.present (name_at standing.now.present place)).lo }
     ensures given { result.given.now ≡ (rule_of standing.now.present (name_at standing.now.present place)).given }
+    ensures exceptions { result.exceptions.now ≡ (rule_of standing.now.present (name_at standing.now.present place)).exceptions }
     ensures few { length result.given.now ≤ 4 }
 {
     // It tells the proof that names are distinct.
     let _ = standing.len();
     match standing.at(place as usize) {
-        Some(Premise::Rule { lo, given, .. }) => RuleText {
+        Some(
+            Premise::Rule {
+                lo,
+                given,
+                unless_facts,
+                ..
+            },
+        ) => RuleText {
             lo: *lo,
             given: given.as_slice(),
+            exceptions: unless_facts.as_slice(),
         },
         _ => unreachable!(),
     }

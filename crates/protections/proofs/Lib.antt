@@ -4,3 +4,4 @@ pub mod Asks
 pub mod LeftAlone
 pub mod OldReports
 pub mod Stood
+pub mod Unbroken

@@ -13,7 +13,7 @@ ghost use Rattle.spots.specs.Seen.{Holds};
 ghost use Rattle.occ_tree.specs.OfLists.{IsTreeOf};
 ghost use Rattle.occ_tree.specs.Places.{forest};
 ghost use Rattle.supports.specs.Edited.{IsEdited, AreOthersUntouched};
-ghost use Rattle.protections.specs.Kept.{IsStill, IsOfUntouched};
+ghost use Rattle.protections.specs.Kept.{AddsOther, IsStill, IsOfUntouched};
 ghost use Rattle.name_lists.specs.Lists.{list_of};
 ghost use Rattle.protections.specs.Reported.{ArePlaces};
 
@@ -60,6 +60,65 @@ pub fn report_after(
         }
     }
     Ok(found)
+}
+
+/// Whether an edit leaves the broken protections as they are: it adds a premise that is no protection, and
+/// leaves each protection alone. Nothing is copied.
+pub fn are_left_alone(
+    standing: &Standing,
+    tree: &Tree,
+    net: &DistNet,
+    edit: &Edit,
+    classes: &[Name],
+) -> bool
+    requires edited { IsEdited standing.now net.now edit.now tree.now }
+    requires others { AreOthersUntouched net.now tree.now classes.now }
+    ensures { result ≡ true → reports (built standing.now.present) ≡ reports (built standing.now.committed) }
+{
+    if !adds_other(edit) {
+        return false;
+    }
+    for i in 0..standing.len() {
+        match standing.at(i) {
+            Some(premise) => {
+                if !stays(standing, tree, net, edit, classes, premise) {
+                    return false;
+                }
+            }
+            None => unreachable!(),
+        }
+    }
+    true
+}
+
+// Whether the edit adds a premise that is no protection.
+fn adds_other(edit: &Edit) -> bool
+    ensures { result ≡ true → AddsOther edit.now }
+{
+    match edit {
+        Edit::Add(premise) => !matches!(premise, Premise::Protect { .. }),
+        _ => false,
+    }
+}
+
+// Whether the premise is no protection, or one that the edit left alone.
+fn stays(
+    standing: &Standing,
+    tree: &Tree,
+    net: &DistNet,
+    edit: &Edit,
+    classes: &[Name],
+    premise: &Premise,
+) -> bool
+    requires edited { IsEdited standing.now net.now edit.now tree.now }
+    requires others { AreOthersUntouched net.now tree.now classes.now }
+    requires stands { Contains standing.now.present.premises premise.now }
+    ensures { result ≡ true → broken (built standing.now.present) premise.now ≡ broken (built standing.now.committed) premise.now }
+{
+    match premise {
+        Premise::Protect { .. } => is_left_alone(standing, tree, net, edit, classes, premise),
+        _ => true,
+    }
 }
 
 // The report of a premise that is a broken protection. Where the edit left it alone, it is that of before.
@@ -142,7 +201,8 @@ fn has_moved(net: &DistNet, point: PointName) -> bool
     ensures still { result ≡ false → IsStill net.now point }
     ensures apart { IsMovedAt net.now.moved net.now.committed net.now.present }
 {
-    net.moved().contains(&number_of(net, point))
+    let moved = net.moved();
+    !moved.is_empty() && moved.contains(&number_of(net, point))
 }
 
 // Whether the class of the fact is not among these.

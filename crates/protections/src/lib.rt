@@ -17,5 +17,5 @@ mod reporting;
 
 pub use comparing::delta;
 pub use copies::copied;
-pub use kept::report_after;
+pub use kept::{are_left_alone, report_after};
 pub use reporting::report;

@@ -188,7 +188,8 @@ module _ (s t : Standing) (say : SayAlike s t) where
           ∙ ap (λ ks. list_any (supports (contradicts_in t) (distance t g) ks fact p q) ks) (tokens_same b)
 
       free_same : (x : Moment) → IsAnchored s x → (r : List ℕ) → is_free s f b x r ≡ is_free t g b x r
-      free_same x at r = λ i. list_all (λ fact. support_same fact x x at at i) (say.rule r i).given
+      free_same x at r =
+          λ i. list_all (λ fact. support_same fact x x at at i) (say.rule r i).given && not (list_any (λ fact. support_same fact x x at at i) (say.rule r i).exceptions)
 
       -- ---- what enters
 

@@ -4,7 +4,7 @@ use Rattle.std.specs.Prelude.{◌↔◌, ℤ}
 use Rattle.std.specs.List.{Contains}
 use Rattle.std.proofs.lemmas.Bool.{eq-eqb}
 use Rattle.tmm_model.specs.declared.premise.Edit.{Edit}
-use Rattle.belief_theory.specs.Outcomes.{Outcome, fires, blocked, beyond, outcome, decisions}
+use Rattle.belief_theory.specs.Outcomes.{Outcome, fires, blocked, barred, beyond, outcome, decisions}
 use Rattle.tmm_model.specs.Beliefs.{rules_at}
 use Rattle.tmm_model.specs.Edits.{next_list}
 use Rattle.tmm_model.specs.Maps.{built}
@@ -31,6 +31,7 @@ same_itself (k ∷ ks) = λ i. (Decides-same_moment k k).1 refl i && same_itself
 pub outcome_itself : (o : Outcome) → same_outcome o o ≡ true
 outcome_itself (fires ks) = same_itself ks
 outcome_itself (blocked n) = eq-eqb n n refl
+outcome_itself (barred n) = eq-eqb n n refl
 outcome_itself beyond = refl
 
 module _ (s : Standing) (sound : IsSound s) where

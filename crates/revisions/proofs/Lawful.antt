@@ -6,10 +6,10 @@ use Rattle.std.specs.Cmp.Lexicographic.{nat_list_eq_equiv}
 use Rattle.tmm_model.specs.declared.premise.Edit.{Edit}
 use Rattle.tmm_model.specs.declared.token.TokenRow.{TokenRow}
 use Rattle.tmm_model.specs.Beliefs.{class_of, rules_at, token_of}
-use Rattle.belief_theory.specs.Outcomes.{decisions, outcome, Outcome, fires, blocked, beyond}
+use Rattle.belief_theory.specs.Outcomes.{decisions, outcome, Outcome, fires, blocked, barred, beyond}
 use Rattle.tmm_model.specs.Edits.{next_list}
 use Rattle.tmm_model.specs.Maps.{TimeMap, built, believed_tokens}
-use Rattle.tmm_model.specs.Moments.{Moment, At, After, RuleText, distance, same_moment, rule_of}
+use Rattle.tmm_model.specs.Moments.{Moment, At, After, RuleText, distance, same_moment, read_by, rule_of}
 use Rattle.tmm_model.specs.Points.{same_name}
 use Rattle.belief_theory.specs.Right.{Occurs}
 use Rattle.list_theory.specs.WellNamed.{IsSound}
@@ -33,6 +33,7 @@ use Rattle.revisions.proofs.Locality.{Sees, AllSpelt, outcome_local}
 pub firing : (o : Outcome) → is_firing o ≡ true → (ks : List Moment) × (o ≡ fires ks)
 firing (fires ks) e = (ks, refl)
 firing (blocked place) e = cc
+firing (barred place) e = cc
 firing beyond e = cc
 
 -- the token of what is watched
@@ -142,10 +143,10 @@ module _ (old : Standing) (edit : Edit) (sound_old : IsSound old) (sound_new : I
   -- a token that the rule watches by the new list it watches by the old one
   pub watched_back : (t : Moment) (r : List ℕ) (k : TokenRow Moment) → Contains (rules_at old t) r → Contains (rules_at new t) r → rule_of old r ≡ rule_of new r → is_watched new r k ≡ true → is_watched old r k ≡ true
   watched_back t r k before now same h =
-      let (f, at, of_class) = list_any-In (λ fact. same_name (class_of new fact) k.class) (rule_of new r).given h in
-      let at_old : In f (rule_of old r).given = subst (λ (x : RuleText). In f x.given) (sym same) at in
+      let (f, at, of_class) = list_any-In (λ fact. same_name (class_of new fact) k.class) (read_by (rule_of new r)) h in
+      let at_old : In f (read_by (rule_of old r)) = subst (λ (x : RuleText). In f (read_by x)) (sym same) at in
       let class : class_of old f ≡ class_of new f = classes_stay old edit sound_old sound_new t r f before now at_old at in
-      In-list_any (λ fact. same_name (class_of old fact) k.class) (rule_of old r).given f at_old (subst (λ c. same_name c k.class ≡ true) (sym class) of_class)
+      In-list_any (λ fact. same_name (class_of old fact) k.class) (read_by (rule_of old r)) f at_old (subst (λ c. same_name c k.class ≡ true) (sym class) of_class)
 
   moved_touched : (t : Moment) (r : List ℕ) (x : Moment) → Contains g.believed t → Contains (g.rules t) r → IsOf g x → IsNew g x ⊎ IsLost g x → g.reads t r x ≡ true → g.touched t r ≡ true
   moved_touched t r x at stands of moved reads = elim (true_or (g.touched t r)) [ inl touched ↦ touched | inr not_touched ↦ absurd (never not_touched) ]

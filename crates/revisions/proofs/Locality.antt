@@ -1,4 +1,4 @@
--- The outcome of a decision rests on the tokens of the classes of its antecedents alone, and of these on those that
+-- The outcome of a decision rests on the tokens of the classes of what it reads alone, and of these on those that
 -- begin surely at or before its event.
 use Rattle.std.proofs.Common.{◌≡◌, ◌∙◌, ℕ, Bool, true, false, not, ◌&&◌, List, [], ◌∷◌, map, refl, sym, ap, subst, inl, inr}
 use Rattle.std.specs.Prelude.{Option, Some, None, pos, int_le, filter}
@@ -9,14 +9,14 @@ use Rattle.std.specs.Cmp.Lexicographic.{bytes_decides, nat_list_eq_equiv}
 use Rattle.std.specs.declared.cmp.Ordering.{Ordering}
 use Rattle.tmm_model.specs.declared.bound.Bound.{Bound}
 use Rattle.tmm_model.specs.declared.token.TokenRow.{TokenRow}
-use Rattle.tmm_model.specs.Beliefs.{class_of, token_of, tokens, contradicts_in, due, holder, supporters}
+use Rattle.tmm_model.specs.Beliefs.{class_of, token_of, tokens, contradicts_in, due, holder, supporters, against}
 use Rattle.belief_theory.specs.Outcomes.{Outcome, beyond, tried, outcome}
 use Rattle.tmm_model.specs.Firsts.{earliest, first}
-use Rattle.tmm_model.specs.Moments.{Moment, Distances, distance, occ_cmp, rule_of}
+use Rattle.tmm_model.specs.Moments.{Moment, Distances, distance, occ_cmp, read_by, rule_of}
 use Rattle.tmm_model.specs.Points.{same_name}
 use Rattle.tmm_model.specs.Standing.{Standing}
 use Rattle.tmm_model.specs.Tokens.{is_by, is_before, clips, cuts, lasts_to, supports}
-use Rattle.list_theory.proofs.Elements.{In, both, list_any-In, In-list_any, In-filter, filter-In, In-filter_map}
+use Rattle.list_theory.proofs.Elements.{In, both, list_any-In, In-list_any, In-filter, filter-In, In-filter_map, In-left, In-right}
 use Rattle.belief_theory.proofs.Firsts.{least_is, one_spot}
 use Rattle.belief_theory.proofs.Order.{IsSpelt, ordered}
 use Rattle.belief_theory.proofs.Watched.{class-token_of}
@@ -36,9 +36,9 @@ module _ (s : Standing) (far : Distances) (t : Moment) (r : List ℕ) where
   own_class : (b : List Moment) (k : TokenRow Moment) → In k (tokens s b) → k.class ≡ class_of s k.fact
   own_class b k at = let (x, _, e) = In-filter_map (token_of s) b k at in class-token_of s x k e
 
-  module _ (f : List ℕ) (given : In f (rule_of s r).given) where
+  module _ (f : List ℕ) (given : In f (read_by (rule_of s r))) where
     is_seen : (k : TokenRow Moment) → k.class ≡ class_of s f → is_watched s r k ≡ true
-    is_seen k own = In-list_any (λ fact. same_name (class_of s fact) k.class) (rule_of s r).given f given (subst (λ c. same_name (class_of s f) c ≡ true) (sym own) (nat_list_eq_equiv.refl (class_of s f)))
+    is_seen k own = In-list_any (λ fact. same_name (class_of s fact) k.class) (read_by (rule_of s r)) f given (subst (λ c. same_name (class_of s f) c ≡ true) (sym own) (nat_list_eq_equiv.refl (class_of s f)))
 
     lasts_alike : (b c : List Moment) → Sees c b → (k : TokenRow Moment) → k.class ≡ class_of s f → (o : Option Moment)
         → lasts_to (contradicts_in s) gap (tokens s b) k t o ≡ true → lasts_to (contradicts_in s) gap (tokens s c) k t o ≡ true
@@ -86,14 +86,14 @@ module _ (s : Standing) (far : Distances) (t : Moment) (r : List ℕ) where
       ap Some (one_spot (ordered s far) k.spot c.spot (live k one.member) (live c (back c two.member)) (one.below c (back c two.member)) (two.below k (into k one.member)))
 
   module _ (b c : List Moment) (into : Sees b c) (back : Sees c b) (spelt : AllSpelt b) where
-    holder_alike : (f : List ℕ) → In f (rule_of s r).given → holder s far b f t t ≡ holder s far c f t t
+    holder_alike : (f : List ℕ) → In f (read_by (rule_of s r)) → holder s far b f t t ≡ holder s far c f t t
     holder_alike f given =
         one_first (filter (holds_in b f) (tokens s b)) (filter (holds_in c f) (tokens s c))
         (λ k at. spelt k (In-filter (holds_in b f) (tokens s b) k at).0)
         (λ k at. let h = In-filter (holds_in b f) (tokens s b) k at in let g = support_alike f given b c into back k h.0 h.1 in filter-In (holds_in c f) (tokens s c) k g.0 g.1)
         (λ k at. let h = In-filter (holds_in c f) (tokens s c) k at in let g = support_alike f given c b back into k h.0 h.1 in filter-In (holds_in b f) (tokens s b) k g.0 g.1)
 
-    all_alike : (facts : List (List ℕ)) → ((f : List ℕ) → In f facts → In f (rule_of s r).given) → map (λ f. holder s far b f t t) facts ≡ map (λ f. holder s far c f t t) facts
+    all_alike : (facts : List (List ℕ)) → ((f : List ℕ) → In f facts → In f (read_by (rule_of s r))) → map (λ f. holder s far b f t t) facts ≡ map (λ f. holder s far c f t t) facts
     all_alike [] sub = refl
     all_alike (f ∷ facts) sub =
         let here = holder_alike f (sub f (inl refl)) in
@@ -103,5 +103,8 @@ module _ (s : Standing) (far : Distances) (t : Moment) (r : List ℕ) where
     -- **The outcome is the same among both.**
     pub outcome_local : outcome s far b t r ≡ outcome s far c t r
     outcome_local =
-        let found : supporters s far b t r ≡ supporters s far c t r = all_alike (rule_of s r).given (λ f at. at) in
-        λ i. elim (int_le (due s far t r) (pos s.horizon)) as (λ _. Outcome) [ false ↦ beyond | true ↦ tried (found i) ]
+        let given = (rule_of s r).given in
+        let exceptions = (rule_of s r).exceptions in
+        let found : supporters s far b t r ≡ supporters s far c t r = all_alike given (λ f at. In-left given exceptions f at) in
+        let objected : against s far b t r ≡ against s far c t r = all_alike exceptions (λ f at. In-right given exceptions f at) in
+        λ i. elim (int_le (due s far t r) (pos s.horizon)) as (λ _. Outcome) [ false ↦ beyond | true ↦ tried (found i) (objected i) ]

@@ -6,7 +6,7 @@ use Rattle.std.specs.Cmp.Lexicographic.{bytes_decides}
 use Rattle.tmm_model.specs.Moments.{Moment, same_moment}
 use Rattle.tmm_model.specs.Points.{same_name}
 use Rattle.list_theory.proofs.Elements.{In, both}
-use Rattle.belief_theory.specs.Outcomes.{Outcome, fires, blocked, beyond}
+use Rattle.belief_theory.specs.Outcomes.{Outcome, fires, blocked, barred, beyond}
 use Rattle.belief_theory.proofs.Moments.{Decides-same_moment}
 use Rattle.revisions.specs.Steps.{Differs}
 
@@ -53,10 +53,17 @@ moments_or (k ∷ ks) (l ∷ ls) = by (moment_or k l) (moments_or ks ls)
 pub outcome_or : (o p : Outcome) → (o ≡ p) ⊎ (o ≡ p → ⊥)
 outcome_or (fires ks) (fires ls) = elim (moments_or ks ls) [ inl same ↦ inl (ap fires same) | inr other ↦ inr (λ same. let inner : ks ≡ ls = cc in other inner) ]
 outcome_or (blocked m) (blocked n) = elim (eqb_tells m n) [ inl same ↦ inl (ap blocked same.1) | inr other ↦ inr (λ same. let inner : m ≡ n = cc in other.1 inner) ]
+outcome_or (barred m) (barred n) = elim (eqb_tells m n) [ inl same ↦ inl (ap barred same.1) | inr other ↦ inr (λ same. let inner : m ≡ n = cc in other.1 inner) ]
 outcome_or beyond beyond = inl refl
 outcome_or (fires ks) (blocked n) = inr (λ same. cc)
+outcome_or (fires ks) (barred n) = inr (λ same. cc)
 outcome_or (fires ks) beyond = inr (λ same. cc)
 outcome_or (blocked m) (fires ls) = inr (λ same. cc)
+outcome_or (blocked m) (barred n) = inr (λ same. cc)
 outcome_or (blocked m) beyond = inr (λ same. cc)
+outcome_or (barred m) (fires ls) = inr (λ same. cc)
+outcome_or (barred m) (blocked n) = inr (λ same. cc)
+outcome_or (barred m) beyond = inr (λ same. cc)
 outcome_or beyond (fires ls) = inr (λ same. cc)
 outcome_or beyond (blocked n) = inr (λ same. cc)
+outcome_or beyond (barred n) = inr (λ same. cc)

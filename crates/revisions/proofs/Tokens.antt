@@ -12,7 +12,7 @@ use Rattle.tmm_model.specs.declared.token.Shape.TheVariants.{Event as AnEvent, P
 use Rattle.tmm_model.specs.declared.token.TokenRow.{TokenRow}
 use Rattle.tmm_model.specs.Beliefs.{as_root, as_effect, is_of, root_of, roots, rules_at, class_of, token_at, token_of, end_of, on_kind}
 use Rattle.tmm_model.specs.Edits.{next_list}
-use Rattle.tmm_model.specs.Moments.{Moment, At, After, as_rule, rule_of}
+use Rattle.tmm_model.specs.Moments.{Moment, At, After, as_rule, read_by, rule_of}
 use Rattle.belief_theory.specs.Right.{Occurs}
 use Rattle.list_theory.specs.WellNamed.{IsSound}
 use Rattle.tmm_model.specs.Sorts.{Sort, a_class, a_fact, a_kind, a_point, an_event, a_token, a_span, a_dist, a_rule, a_protection, is_effect, sort_in, class_in}
@@ -22,7 +22,7 @@ use Rattle.list_theory.proofs.Elements.{In, In-from_Contains, Contains-from_In, 
 use Rattle.list_theory.proofs.KnownNames.{found}
 use Rattle.belief_theory.proofs.Sound.{rule_stands}
 use Rattle.supports.proofs.Facts.{used_after, fact_known, fact-class}
-use Rattle.supports.proofs.Rules.{rule_there, facts_known}
+use Rattle.supports.proofs.Rules.{rule_there, read_known}
 use Rattle.spots.specs.Seen.{class_for}
 use Rattle.revisions.specs.Maps.{TokensStay, ClassesStay}
 use Rattle.revisions.proofs.Names.{sorts_within, classes_within}
@@ -148,9 +148,9 @@ module _ (s t : Standing) (sound_s : IsSound s) (sound_t : IsSound t) (within : 
       by APersistence g = ap Some (class_stays what g)
       by ASpan g = ap Some (class_stays what g)
 
-  given_stays : (u : Moment) (r f : List ℕ) → Contains (rules_at s u) r → In f (rule_of s r).given → class_of s f ≡ class_of t f
+  given_stays : (u : Moment) (r f : List ℕ) → Contains (rules_at s u) r → In f (read_by (rule_of s r)) → class_of s f ≡ class_of t f
   given_stays u r f stands at =
-      class_stays f (All-contains (λ fact. IsSome (class_in s.premises fact)) (rule_of s r).given f (facts_known s sound_s r (rule_there s sound_s u r stands)) (Contains-from_In (rule_of s r).given f at))
+      class_stays f (All-contains (λ fact. IsSome (class_in s.premises fact)) (read_by (rule_of s r)) f (read_known s sound_s r (rule_there s sound_s u r stands)) (Contains-from_In (read_by (rule_of s r)) f at))
 
 pub tokens_stay : (old : Standing) (edit : Edit) → IsSound old → IsSound (next_list old edit) → TokensStay old (next_list old edit)
 tokens_stay old edit sound_old sound_new x before now =

@@ -10,17 +10,17 @@ use Rattle.std.specs.declared.cmp.Ordering.{Ordering}
 use Rattle.tmm_model.specs.declared.bound.Bound.{Bound}
 use Rattle.tmm_model.specs.declared.bound.Bound.TheVariants.{Finite, Free}
 use Rattle.tmm_model.specs.declared.token.TokenRow.{TokenRow}
-use Rattle.tmm_model.specs.Beliefs.{class_of, token_of, contradicts_in, holder, supporters}
+use Rattle.tmm_model.specs.Beliefs.{class_of, token_of, contradicts_in, holder, supporters, against}
 use Rattle.tmm_model.specs.Bounds.{bound_at_most, bound_plus}
 use Rattle.tmm_model.specs.Firsts.{earliest, first}
 use Rattle.tmm_model.specs.Maps.{TimeMap, gap, order, believed_tokens}
-use Rattle.tmm_model.specs.Moments.{Moment, RuleText, rule_of}
+use Rattle.tmm_model.specs.Moments.{Moment, RuleText, read_by, rule_of}
 use Rattle.tmm_model.specs.Points.{same_name}
 use Rattle.tmm_model.specs.Standing.{Standing, far_in}
 use Rattle.tmm_model.specs.Tokens.{is_by, is_before, clips, cuts, lasts_to, supports}
 use Rattle.tmm_model.specs.Types.{IsTighter}
 use Rattle.list_theory.specs.WellNamed.{IsSound}
-use Rattle.list_theory.proofs.Elements.{In, both, Contains-from_In, list_any-In, In-list_any, In-filter, filter-In, In-filter_map}
+use Rattle.list_theory.proofs.Elements.{In, both, Contains-from_In, list_any-In, In-list_any, In-filter, filter-In, In-filter_map, In-left, In-right}
 use Rattle.belief_theory.specs.Outcomes.{Outcome, beyond, tried, outcome}
 use Rattle.belief_theory.specs.Touched.{watched}
 use Rattle.belief_theory.proofs.Firsts.{least_is, one_spot}
@@ -54,13 +54,13 @@ class_of_token : (m : TimeMap) (k : TokenRow Moment) → In k (believed_tokens m
 class_of_token m k at = let (x, _, e) = In-filter_map (token_of m.list) m.believed k at in class-token_of m.list x k e
 
 abbrev is_read : TimeMap → List ℕ → TokenRow Moment → Bool
-is_read m r k = list_any (λ fact. same_name (class_of m.list fact) k.class) (rule_of m.list r).given
+is_read m r k = list_any (λ fact. same_name (class_of m.list fact) k.class) (read_by (rule_of m.list r))
 
--- a token of the class of an antecedent is watched
-watches : (m : TimeMap) (r f : List ℕ) (k : TokenRow Moment) → In f (rule_of m.list r).given → In k (believed_tokens m) → k.class ≡ class_of m.list f → In k (watched m r)
+-- a token of the class of an antecedent or an exception is watched
+watches : (m : TimeMap) (r f : List ℕ) (k : TokenRow Moment) → In f (read_by (rule_of m.list r)) → In k (believed_tokens m) → k.class ≡ class_of m.list f → In k (watched m r)
 watches m r f k given at own =
     filter-In (is_read m r) (believed_tokens m) k at
-    (In-list_any (λ fact. same_name (class_of m.list fact) k.class) (rule_of m.list r).given f given (subst (λ c. same_name (class_of m.list f) c ≡ true) (sym own) (nat_list_eq_equiv.refl (class_of m.list f))))
+    (In-list_any (λ fact. same_name (class_of m.list fact) k.class) (read_by (rule_of m.list r)) f given (subst (λ c. same_name (class_of m.list f) c ≡ true) (sym own) (nat_list_eq_equiv.refl (class_of m.list f))))
 
 watched_token : (m : TimeMap) (r : List ℕ) (k : TokenRow Moment) → In k (watched m r) → In k (believed_tokens m)
 watched_token m r k at = (In-filter (is_read m r) (believed_tokens m) k at).0
@@ -130,9 +130,9 @@ turned stays m n t r a = record {
 }
 
 module _ (stays : TokenRow Moment → Type 0) (m n : TimeMap) (t : Moment) (r : List ℕ) (a : AlikeBut stays m n t r) (far_m : IsTriangular m) (far_n : IsTriangular n)
-    (f : List ℕ) (given : In f (rule_of m.list r).given) where
-  given_there : In f (rule_of n.list r).given
-  given_there = subst (λ (x : RuleText). In f x.given) a.text given
+    (f : List ℕ) (given : In f (read_by (rule_of m.list r))) where
+  given_there : In f (read_by (rule_of n.list r))
+  given_there = subst (λ (x : RuleText). In f (read_by x)) a.text given
 
   -- what cuts a token that stays in the second map, and stays itself, cuts it in the first
   cut_back : (k c : TokenRow Moment) → stays k → stays c → Cut n t k c → cuts_at m t k c ≡ true
@@ -222,12 +222,12 @@ AllSpelt m = (k : TokenRow Moment) → In k (believed_tokens m) → IsSpelt k.sp
 
 module _ (stays : TokenRow Moment → Type 0) (m n : TimeMap) (t : Moment) (r : List ℕ) (a : AlikeBut stays m n t r) (far_m : IsTriangular m) (far_n : IsTriangular n)
     (spelt_m : AllSpelt m) (spelt_n : AllSpelt n) where
-  -- the first supporter of an antecedent is the same in both
-  holder_alike : (f : List ℕ) → In f (rule_of m.list r).given → holder m.list m.far m.believed f t t ≡ holder n.list n.far n.believed f t t
+  -- the first supporter of an antecedent or an exception is the same in both
+  holder_alike : (f : List ℕ) → In f (read_by (rule_of m.list r)) → holder m.list m.far m.believed f t t ≡ holder n.list n.far n.believed f t t
   holder_alike f given = by (filter (holds_at m t f) (believed_tokens m)) refl (filter (holds_at n t f) (believed_tokens n)) refl
     where
-      given_n : In f (rule_of n.list r).given
-      given_n = subst (λ (x : RuleText). In f x.given) a.text given
+      given_n : In f (read_by (rule_of n.list r))
+      given_n = subst (λ (x : RuleText). In f (read_by x)) a.text given
 
       into : (k : TokenRow Moment) → In k (filter (holds_at m t f) (believed_tokens m)) → stays k × (k.fact ≡ f) × In k (filter (holds_at n t f) (believed_tokens n))
       into k at =
@@ -260,7 +260,7 @@ module _ (stays : TokenRow Moment → Type 0) (m n : TimeMap) (t : Moment) (r : 
           let c_first = ap is_gt (a.ordered c k c_stays k_stays (c_fact ∙ sym k_fact)) ∙ c_first_n in
           ap Some (one_spot (ordered m.list m.far) k.spot c.spot (live_m k one.member) (live_n c two.member) k_first c_first)
 
-  all_alike : (facts : List (List ℕ)) → ((f : List ℕ) → In f facts → In f (rule_of m.list r).given) → map (λ f. holder m.list m.far m.believed f t t) facts ≡ map (λ f. holder n.list n.far n.believed f t t) facts
+  all_alike : (facts : List (List ℕ)) → ((f : List ℕ) → In f facts → In f (read_by (rule_of m.list r))) → map (λ f. holder m.list m.far m.believed f t t) facts ≡ map (λ f. holder n.list n.far n.believed f t t) facts
   all_alike [] sub = refl
   all_alike (f ∷ facts) sub =
       let here = holder_alike f (sub f (inl refl)) in
@@ -271,8 +271,12 @@ module _ (stays : TokenRow Moment → Type 0) (m n : TimeMap) (t : Moment) (r : 
   outcome_alike_but : outcome m.list m.far m.believed t r ≡ outcome n.list n.far n.believed t r
   outcome_alike_but =
       let found : supporters m.list m.far m.believed t r ≡ supporters n.list n.far n.believed t r =
-      all_alike (rule_of m.list r).given (λ f at. at) ∙ ap (λ (x : RuleText). map (λ f. holder n.list n.far n.believed f t t) x.given) a.text in
-      λ i. elim (a.timely i) as (λ _. Outcome) [ false ↦ beyond | true ↦ tried (found i) ]
+      all_alike (rule_of m.list r).given (λ f at. In-left (rule_of m.list r).given (rule_of m.list r).exceptions f at)
+      ∙ ap (λ (x : RuleText). map (λ f. holder n.list n.far n.believed f t t) x.given) a.text in
+      let objected : against m.list m.far m.believed t r ≡ against n.list n.far n.believed t r =
+      all_alike (rule_of m.list r).exceptions (λ f at. In-right (rule_of m.list r).given (rule_of m.list r).exceptions f at)
+      ∙ ap (λ (x : RuleText). map (λ f. holder n.list n.far n.believed f t t) x.exceptions) a.text in
+      λ i. elim (a.timely i) as (λ _. Outcome) [ false ↦ beyond | true ↦ tried (found i) (objected i) ]
 
 -- ---- maps of sound lists
 

@@ -3,7 +3,7 @@ use Rattle.std.specs.Prelude.{◌≡◌, ◌↔◌, ℕ, ◌≤◌, ℤ, Bool, t
 use Rattle.std.specs.List.{Contains, count_by}
 use Rattle.tmm_model.specs.declared.point.PointName.{PointName}
 use Rattle.tmm_model.specs.declared.premise.Edit.{Edit}
-use Rattle.belief_theory.specs.Outcomes.{Outcome, fires, blocked, beyond, outcome, decisions}
+use Rattle.belief_theory.specs.Outcomes.{Outcome, fires, blocked, barred, beyond, outcome, decisions}
 use Rattle.tmm_model.specs.Beliefs.{roots, rules_at}
 use Rattle.tmm_model.specs.Edits.{next_list}
 use Rattle.tmm_model.specs.Maps.{TimeMap, built}
@@ -27,6 +27,7 @@ same_moments _ _ = false
 abbrev pub same_outcome : Outcome → Outcome → Bool
 same_outcome (fires ks) (fires ls) = same_moments ks ls
 same_outcome (blocked m) (blocked n) = m == n
+same_outcome (barred m) (barred n) = m == n
 same_outcome beyond beyond = true
 same_outcome _ _ = false
 

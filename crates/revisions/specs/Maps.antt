@@ -7,7 +7,7 @@ use Rattle.tmm_model.specs.Beliefs.{class_of, roots, rules_at, token_of}
 use Rattle.belief_theory.specs.Outcomes.{outcome}
 use Rattle.tmm_model.specs.Edits.{next_list}
 use Rattle.tmm_model.specs.Maps.{TimeMap, built}
-use Rattle.tmm_model.specs.Moments.{Moment, early, rule_of}
+use Rattle.tmm_model.specs.Moments.{Moment, early, read_by, rule_of}
 use Rattle.tmm_model.specs.Points.{same_name}
 use Rattle.list_theory.specs.WellNamed.{IsSound}
 use Rattle.belief_theory.specs.Right.{Occurs}
@@ -16,9 +16,9 @@ use Rattle.belief_theory.specs.Touched.{is_decision, is_touched}
 use Rattle.list_theory.proofs.Elements.{In}
 use Rattle.revisions.specs.Revisions.{Revision, IsLawful}
 
--- the token is of the class of an antecedent of the rule
+-- the token is of the class of an antecedent or an exception of the rule
 abbrev pub is_watched : Standing → List ℕ → TokenRow Moment → Bool
-is_watched s r k = list_any (λ fact. same_name (class_of s fact) k.class) (rule_of s r).given
+is_watched s r k = list_any (λ fact. same_name (class_of s fact) k.class) (read_by (rule_of s r))
 
 -- so is the token that an occurrence is
 abbrev pub watches : Standing → List ℕ → Moment → Bool
@@ -43,10 +43,10 @@ revision old new = record {
 abbrev pub TokensStay : Standing → Standing → Type 0
 TokensStay old new = (x : Moment) → Occurs old x → Occurs new x → token_of old x ≡ token_of new x
 
--- an antecedent of a rule that stands in both has one class in both
+-- what a rule that stands in both reads has one class in both
 abbrev pub ClassesStay : Standing → Standing → Type 0
 ClassesStay old new =
-    (t : Moment) (r f : List ℕ) → Contains (rules_at old t) r → Contains (rules_at new t) r → In f (rule_of old r).given → In f (rule_of new r).given
+    (t : Moment) (r f : List ℕ) → Contains (rules_at old t) r → Contains (rules_at new t) r → In f (read_by (rule_of old r)) → In f (read_by (rule_of new r))
     → class_of old f ≡ class_of new f
 
 -- **The revision that an accepted edit asks for is lawful.**

@@ -2,13 +2,14 @@
 -- Nothing here says what supports a fact.
 use Rattle.std.specs.Prelude.{◌≡◌, ◌↔◌, ◌⊎◌, ℕ, ℤ, pos, ◌≤ℤ◌, ◌<ℤ◌, Bool, true, false, List}
 use Rattle.std.specs.List.{Contains}
-use Rattle.belief_theory.specs.Outcomes.{Outcome, fires, blocked, beyond}
+use Rattle.belief_theory.specs.Outcomes.{Outcome, fires, blocked, barred, beyond}
 use Rattle.tmm_model.specs.Moments.{Moment, At, After}
 
 -- whether the outcome is that the effect is believed
 abbrev pub is_firing : Outcome → Bool
 is_firing (fires ks) = true
 is_firing (blocked place) = false
+is_firing (barred place) = false
 is_firing beyond = false
 
 -- The map after the edit: its roots, its rules at an event, earliest dates, the outcome of a rule at an event among

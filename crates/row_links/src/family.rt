@@ -48,6 +48,18 @@ impl Family {
         lengthen(&mut self.ends, heads as usize, Ends::of_none())
     }
 
+    /// Lets there be so many rows and this head, if one is given. The lists stay.
+    pub fn reserve_head(&mut self, rows: u32, head: Option<u32>) -> Result<(), NoMemory>
+        ensures ok { OnOk result (IfSome head (λ h. (rows ≤ self.new.rows) × (h < length self.new.lists))) }
+        ensures kept { Grows self.old self.new }
+    {
+        match head {
+            Some(head) if head < u32::MAX => self.reserve(rows, head + 1),
+            Some(_) => Err(NoMemory),
+            None => Ok(()),
+        }
+    }
+
     /// Puts a row that is on no list behind all others of a list.
     pub fn link_last(&mut self, head: u32, row: u32)
         requires head { head < length self.old.lists }

@@ -1,5 +1,5 @@
 // Families of lists.
-ghost use Rattle.std.specs.Prelude.{◌≡◌, ℕ, ◌<◌, ◌≤◌, [], ◌∷◌, ◌++◌, length, None, Some, IfSome, IfOk, OnOk};
+ghost use Rattle.std.specs.Prelude.{◌≡◌, ℕ, ◌<◌, ◌≤◌, [], ◌∷◌, ◌++◌, length, slice_index_or, None, Some, IfSome, IfOk, OnOk};
 ghost use Rattle.row_links.specs.Lists.{IsOn, IsOnNone, AreOnce, without, row_before, row_after, first_or, last_or, put_after};
 ghost use Rattle.row_links.specs.Families.{family_of, list_in, with_list_in, GrowEach};
 
@@ -35,15 +35,16 @@ impl<const F: usize> Links<F> {
         }
     }
 
-    /// Lets there be rows and heads of all numbers below these, in each family. The lists stay, also
-    /// where there is no memory.
-    pub fn reserve_rows(&mut self, rows: u32, heads: u32) -> Result<(), NoMemory>
-        ensures ok { OnOk result ((f : ℕ) → f < F → (rows ≤ (family_of self.new f).rows) × (heads ≤ length (family_of self.new f).lists)) }
+    /// Lets there be rows of all numbers below this one, and heads up to these, each in the family of its
+    /// place. A family of which no head is given takes no memory for them. The lists stay, also where there is
+    /// no memory; it counts as want of memory that a head is 2^32 - 1.
+    pub fn reserve_rows(&mut self, rows: u32, heads: &[Option<u32>]) -> Result<(), NoMemory>
+        ensures ok { OnOk result ((f h : ℕ) → slice_index_or heads.now f None ≡ Some h → (rows ≤ (family_of self.new f).rows) × (h < length (family_of self.new f).lists)) }
         ensures kept { GrowEach self.old self.new }
     {
-        for f in 0..F {
+        for f in 0..heads.len() {
             reach(&mut self.families, f)?;
-            self.families[f].reserve(rows, heads)?;
+            self.families[f].reserve_head(rows, heads[f])?;
         }
         Ok(())
     }

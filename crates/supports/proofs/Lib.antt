@@ -9,9 +9,12 @@ pub mod Answered
 pub mod Nearest
 pub mod Facts
 pub mod Rules
+pub mod FirstFacts
 pub mod OnKinds
 pub mod Effects
 pub mod Grown
 pub mod Entering
 pub mod ByDate
 pub mod ClassClips
+pub mod OfLaterDates
+pub mod FirstBehind

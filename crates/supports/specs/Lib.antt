@@ -1,4 +1,5 @@
 pub mod Behind
+pub mod Near
 pub mod ClassClips
 pub mod Faults
 pub mod Nodes

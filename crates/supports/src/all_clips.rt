@@ -1,5 +1,5 @@
 // What clips the tokens of a tree, all of them at once, or those of a class.
-ghost use Rattle.std.specs.Prelude.{◌≡◌, ◌<◌, ◌+◌, ℕ, List, map, length, drop, IfOk, IfSome, IsNone, MatchOption, OnOk, slice_index_or};
+ghost use Rattle.std.specs.Prelude.{◌≡◌, ◌⊎◌, ◌<◌, ◌≤ℤ◌, ◌+◌, ℕ, List, map, length, drop, None, IfOk, IfSome, IsNone, MatchOption, OnOk, slice_index_or};
 ghost use Rattle.std.specs.List.{All, Contains};
 ghost use Rattle.std.specs.List.Sorted.{IsStrictlySortedBy};
 ghost use Rattle.std.specs.Option.{option_map, ForSome};
@@ -10,17 +10,23 @@ ghost use Rattle.tmm_model.specs.Tokens.{of_one_class, clips};
 ghost use Rattle.clipping.specs.Stretches.{rows_of, HaveStretches};
 ghost use Rattle.name_lists.specs.Lists.{list_of};
 ghost use Rattle.occ_tree.specs.Ranks.{nodes_of};
-ghost use Rattle.spots.specs.Forest.{IsLive, moment_at};
+ghost use Rattle.clip_search.specs.Entries.{AreBranches, row_at};
+ghost use Rattle.occ_tree.specs.Tokens.{IsInOrder, numbers_in};
+ghost use Rattle.spots.specs.Forest.{IsLive, IsOnce, moment_at};
 ghost use Rattle.spots.specs.Seen.{IsSeen, HasList, Holds, map_of};
-ghost use Rattle.spots.specs.Spots.{IsSpot, spot_distance, node_cmp};
+ghost use Rattle.spots.specs.Spots.{IsSpot, AreTokens, spot_distance, node_cmp};
 ghost use Rattle.occ_tree.specs.OfLists.{IsTreeIn};
 ghost use Rattle.occ_tree.specs.Places.{forest};
-ghost use Rattle.occ_tree.specs.Standing.{present};
+ghost use Rattle.occ_tree.specs.Standing.{order, present};
 ghost use Rattle.supports.specs.Behind.{AreBehind, IsClip, IsLastNode, token_at};
 ghost use Rattle.supports.specs.ClassClips.{AreClips};
+ghost use Rattle.supports.specs.Near.{IsNear};
 ghost use Rattle.supports.specs.Nodes.{IsOfNode};
+ghost use Rattle.supports.specs.declared.near.Near.{Near as ANear};
 
+use crate::near::{Near, near_clip};
 use crate::node_of;
+use clip_search::Branches;
 use clipping::{Stretched, last_clipper, stretch_behind};
 use dist_net::DistNet;
 use name_lists::NameLists;
@@ -29,8 +35,8 @@ use spots::Spot;
 use std::alloc::Global;
 use tmm_model::{Name, NoMemory, TokenRow};
 
-/// What clips each node, given all nodes in their order: the node of the first token that does, none
-/// exactly where no token does. A span and an event have none. Without memory it answers that.
+/// What clips each node, given all nodes in their order: the node of the first token that does,
+/// none exactly where no token does. A span and an event have none. Without memory it answers that.
 pub fn clips(
     alloc: Global,
     tree: &Tree,
@@ -53,8 +59,8 @@ pub fn clips(
     Ok(clips)
 }
 
-/// What clips each token of a class, in the order of its tokens: the node of the first token that does,
-/// none exactly where none does. A span has none. Without memory it answers that.
+/// What clips each token of a class, in the order of its tokens: the node of the first token that
+/// does, none exactly where none does. A span has none. Without memory it answers that.
 pub fn class_clips(
     alloc: Global,
     tree: &Tree,
@@ -69,17 +75,110 @@ pub fn class_clips(
     let mut clips = Vec::from_elem(alloc, None, rows.len())?;
     // the tokens behind, the nearest one last
     let mut behind = Vec::with_capacity(alloc, rows.len())?;
+    // how many of them may clip: the others have dates up to that of the last token
+    let mut later = 0;
+    let mut last = i64::MAX;
+    // made where what clips a token is not among those right behind it
+    let mut branches = None;
     for i in (0..rows.len()).rev() {
         let row = rows[i];
-        clips[i] = next_clip(tree, net, &behind, &row);
+        let date = tree.early(node_of(&row));
+        later = count_later(behind.len(), later, last, date);
+        last = date;
+        let clip = class_clip(alloc, tree, net, rows, i, &behind[..later], &mut branches)?;
+        clips[i] = clip;
         let first = stretch_behind(&behind, &row.fact);
         behind.push_reserved(Stretched { row, first });
     }
     Ok(clips)
 }
 
-// What clips the node at a place, given the tokens behind it by their classes, to which its own is added.
-// What clips a token begins after it, so it is the nearest behind it that does.
+// What clips the token at `i` among those behind it, the nearest one last, or among all of its
+// class.
+fn class_clip(
+    alloc: Global,
+    tree: &Tree,
+    net: &DistNet,
+    rows: &[TokenRow<Spot>],
+    i: usize,
+    behind: &[Stretched<Spot>],
+    branches: &mut Option<Branches>,
+) -> Result<Option<u32>, NoMemory>
+    requires dates { IsTreeIn net.now.present tree.now }
+    requires tokens { (class : List ℕ) × AreTokens (forest tree.now) class rows.now }
+    requires in_order { IsInOrder (order (present tree.now)) (numbers_in rows.now) }
+    requires within { i < length rows.now }
+    requires nodes { All IsOfNode (rows_of behind.now) }
+    requires live { All (λ row. IsSpot net.now.present.names (forest tree.now) row.spot × ForSome row.end (IsSpot net.now.present.names (forest tree.now))) (rows_of behind.now) }
+    requires stretches { HaveStretches behind.now }
+    requires branches { IfSome branches.old (AreBranches (forest tree.now) rows.now) }
+    ensures live { IfOk result (λ clip. IfSome clip (IsLive (forest tree.now))) }
+    ensures clip { IfOk result (λ clip. IsNear net.now.present (forest tree.now) (rows_of behind.now) (row_at rows.now i) (ANear.Found clip) ⊎ IsClip net.now.present (forest tree.now) (slice_index_or (numbers_in rows.now) i 0) clip) }
+    ensures branches { OnOk result (IfSome branches.new (AreBranches (forest tree.now) rows.now)) }
+{
+    match near_clip(tree, net, behind, &rows[i]) {
+        Near::Found(clip) => Ok(clip),
+        Near::Open => far_clip(alloc, tree, net, rows, i, branches),
+    }
+}
+
+// What clips the token at `i`, which is no span, by the nodes under which tokens are. These are
+// gathered where they are first asked for.
+fn far_clip(
+    alloc: Global,
+    tree: &Tree,
+    net: &DistNet,
+    rows: &[TokenRow<Spot>],
+    i: usize,
+    branches: &mut Option<Branches>,
+) -> Result<Option<u32>, NoMemory>
+    requires dates { IsTreeIn net.now.present tree.now }
+    requires tokens { (class : List ℕ) × AreTokens (forest tree.now) class rows.now }
+    requires in_order { IsInOrder (order (present tree.now)) (numbers_in rows.now) }
+    requires within { i < length rows.now }
+    requires no_span { (row_at rows.now i).end ≡ None }
+    requires branches { IfSome branches.old (AreBranches (forest tree.now) rows.now) }
+    ensures live { IfOk result (λ clip. IfSome clip (IsLive (forest tree.now))) }
+    ensures clip { IfOk result (IsClip net.now.present (forest tree.now) (slice_index_or (numbers_in rows.now) i 0)) }
+    ensures branches { OnOk result (IfSome branches.new (AreBranches (forest tree.now) rows.now)) }
+{
+    let table = gathered(alloc, tree, rows, branches.take())?;
+    let place = table.first_clipper(alloc, &Order { tree, net }, rows, i)?;
+    *branches = Some(table);
+    match place {
+        Some(place) => Ok(Some(node_of(&rows[place]))),
+        None => Ok(None),
+    }
+}
+
+// The tokens under the nodes above them, where they are not gathered yet.
+fn gathered(
+    alloc: Global,
+    tree: &Tree,
+    rows: &[TokenRow<Spot>],
+    before: Option<Branches>,
+) -> Result<Branches, NoMemory>
+    requires tokens { (class : List ℕ) × AreTokens (forest tree.now) class rows.now }
+    requires once { IsOnce (forest tree.now) }
+    requires before { IfSome before (AreBranches (forest tree.now) rows.now) }
+    ensures { IfOk result (AreBranches (forest tree.now) rows.now) }
+{
+    match before {
+        Some(branches) => Ok(branches),
+        None => Branches::of(alloc, tree, rows),
+    }
+}
+
+// How many of the tokens behind may clip one of a date, where all but the first `later` have dates
+// up to `last`: what clips a token has a later date.
+fn count_later(count: usize, later: usize, last: i64, date: i64) -> usize
+    ensures { (result ≡ count) ⊎ ((result ≡ later) × (last ≤ℤ date)) }
+{
+    if date < last { count } else { later }
+}
+
+// What clips the node at a place, given the tokens behind it by their classes, to which its own is
+// added. What clips a token begins after it, so it is the nearest behind it that does.
 fn clip_at(
     alloc: Global,
     tree: &Tree,

@@ -1,13 +1,17 @@
 //! Which believed token supports a fact, what clips a token, and why a token is no supporter: what
-//! `clipping` answers over the tokens of a tree, told of the occurrences of the standing list; what a
-//! standing rule says, whose antecedents want supporters; and what a premise declares to occur, as a
-//! node of a tree. It stands on `occ_tree`, `clipping` and `name_lists`.
+//! `clipping` answers over the tokens of a tree, told of the occurrences of the standing list; what
+//! a standing rule says, whose antecedents want supporters and whose exceptions want none; and what
+//! a premise declares to occur, as a node of a tree. It stands on `occ_tree`, `clipping`,
+//! `clip_search` and `name_lists`.
 //!
 //! Each call answers the definition for the list, over the occurrences that the nodes are. `clips`,
-//! `class_clips` and `add_root` alone take memory.
+//! `class_clips` and `add_root` alone take memory, and `supporter` and `is_supported` for guesses:
+//! they look for what cuts a token near what cut the one before, and where that takes long they
+//! find out first what may cut each (`Guesses`). So they take little more than the tokens of the
+//! class, in whatever order those that cut stand. Without memory they answer the same.
 #![tactic(auto)]
 
-ghost use Rattle.std.specs.Prelude.{◌≡◌, ◌<◌, ℕ, List, length, None, Some, IsSome, IfSome, slice_index_or};
+ghost use Rattle.std.specs.Prelude.{◌≡◌, ◌<◌, ℕ, List, map, length, None, Some, IsSome, IfSome, slice_index_or};
 ghost use Rattle.std.specs.List.{All};
 ghost use Rattle.std.specs.Option.{option_map};
 ghost use Rattle.tmm_model.specs.declared.token.TokenRow.{TokenRow};
@@ -16,6 +20,7 @@ ghost use Rattle.tmm_model.specs.Beliefs.{has_support, holder, token_of};
 ghost use Rattle.tmm_model.specs.Moments.{Moment};
 ghost use Rattle.tmm_model.specs.Sorts.{class_in};
 ghost use Rattle.tmm_model.specs.Standing.{far_in};
+ghost use Rattle.belief_theory.specs.Outcomes.{first_with};
 ghost use Rattle.spots.specs.Forest.{Member, member, IsLive, moment_at};
 ghost use Rattle.spots.specs.Seen.{IsSeen, Holds, map_of};
 ghost use Rattle.spots.specs.declared.spot.Spot.{Spot};
@@ -30,12 +35,16 @@ ghost use Rattle.supports.specs.Faults.{fault_at};
 ghost use Rattle.supports.specs.Nodes.{IsOfNode, HasNode};
 
 mod all_clips;
+mod guesses;
+mod near;
 mod root;
 mod rule;
 
 pub use all_clips::{class_clips, clips};
 use clipping::{Fault, by_date};
 use dist_net::DistNet;
+pub use guesses::Guesses;
+use guesses::{first_holder, is_held};
 use occ_tree::{Order, Tree};
 use premise_list::Standing;
 pub use root::add_root;
@@ -87,6 +96,7 @@ pub fn supporter(
     fact: Name,
     p: Spot,
     q: Spot,
+    guesses: &mut Guesses,
 ) -> Option<u32>
     requires seen { IsTreeOf standing.now.present net.now.present tree.now }
     requires fact { IsSome (class_in standing.now.present.premises fact) }
@@ -99,11 +109,12 @@ pub fn supporter(
         unreachable!()
     };
     let rows = tree.tokens(&class);
-    let place = by_date::holder(&Order { tree, net }, rows, fact, p, q)?;
+    let place = first_holder(&Order { tree, net }, rows, fact, p, q, guesses)?;
     Some(node_at(rows, place))
 }
 
-/// Whether a token supports the fact throughout `p` to `q`. That is found sooner than which is the first.
+/// Whether a token supports the fact throughout `p` to `q`. That is found sooner than which is the
+/// first.
 pub fn is_supported(
     standing: &Standing,
     tree: &Tree,
@@ -111,6 +122,7 @@ pub fn is_supported(
     fact: Name,
     p: Spot,
     q: Spot,
+    guesses: &mut Guesses,
 ) -> bool
     requires seen { IsTreeOf standing.now.present net.now.present tree.now }
     requires fact { IsSome (class_in standing.now.present.premises fact) }
@@ -121,7 +133,31 @@ pub fn is_supported(
     let Some(class) = standing.class_of(fact) else {
         unreachable!()
     };
-    by_date::is_held(&Order { tree, net }, tree.tokens(&class), fact, p, q)
+    let rows = tree.tokens(&class);
+    is_held(&Order { tree, net }, rows, fact, p, q, guesses)
+}
+
+/// The place of the first of these facts that a token supports at a point, none exactly where no
+/// token supports any.
+pub fn first_supported(
+    standing: &Standing,
+    tree: &Tree,
+    net: &DistNet,
+    facts: &[Name],
+    at: Spot,
+    guesses: &mut Guesses,
+) -> Option<usize>
+    requires seen { IsTreeOf standing.now.present net.now.present tree.now }
+    requires facts { All (λ fact. IsSome (class_in standing.now.present.premises fact)) facts.now }
+    requires at { IsSpot net.now.present.names (forest tree.now) at }
+    ensures { (b : List Moment) → Holds b (forest tree.now) → result ≡ first_with (map (λ fact. holder standing.now.present (far_in standing.now.present.premises) b fact (spot_moment net.now.present.names (forest tree.now) at) (spot_moment net.now.present.names (forest tree.now) at)) facts.now) }
+{
+    for place in 0..facts.len() {
+        if is_supported(standing, tree, net, facts[place], at, at, guesses) {
+            return Some(place);
+        }
+    }
+    None
 }
 
 /// The node of the first token that clips the one at `x`, none exactly where no token does. A span

@@ -2,13 +2,14 @@
 use Rattle.std.proofs.Common.{◌≡◌, ◌++◌, [], ◌∷◌, pos, negsuc}
 use Rattle.std.specs.Prelude.{codes, Some}
 use Rattle.tmm_model.specs.declared.bound.Bound.TheVariants.{Finite}
-use Rattle.belief_theory.specs.Outcomes.{outcome, fires, blocked, beyond}
+use Rattle.belief_theory.specs.Outcomes.{outcome, fires, blocked, barred, beyond}
+use Rattle.tmm_model.specs.declared.premise.Premise.TheVariants.{Token}
 use Rattle.tmm_model.specs.Maps.{built, gap}
 use Rattle.tmm_model.specs.Answers.{holds, clip, ask, size}
 use Rattle.tmm_model.specs.Moments.{Moment, early}
 use Rattle.tmm_model.specs.Standing.{Standing}
 use Rattle.belief_theory.proofs.FarTables.{of_map}
-use Rattle.tmm_examples.proofs.WorkedScripts.{within, root, effect, rule, push, two_events, lamp, shut_at_five, push_at_ten}
+use Rattle.tmm_examples.proofs.WorkedScripts.{within, within_two, bolted_door, dated, root, effect, rule, push, two_events, lamp, shut_at_five, push_at_ten}
 
 abbrev k : Moment
 k = root (codes "k")
@@ -86,3 +87,17 @@ shut_before = within 1000 (lamp ++ shut_at_five ++ push_at_ten)
 
 blocked_at_first : outcome (built shut_before).list (built shut_before).far (built shut_before).believed e (codes "r") ≡ blocked 0
 blocked_at_first = of_map (λ t. outcome t.list t.far t.believed e (codes "r")) shut_before
+
+-- ---- a bolt that is fast bars the rule on the push, and one that was loosened before does not
+
+abbrev bolted : Standing
+bolted = within_two 1000 bolted_door
+
+abbrev unbolted : Standing
+unbolted = within_two 1000 (bolted_door ++ Token (codes "c") (codes "loose") ∷ dated (codes "w") (codes "c") 5 ∷ [])
+
+barred_by_the_bolt : outcome (built bolted).list (built bolted).far (built bolted).believed e (codes "r") ≡ barred 0
+barred_by_the_bolt = of_map (λ t. outcome t.list t.far t.believed e (codes "r")) bolted
+
+fires_unbolted : outcome (built unbolted).list (built unbolted).far (built unbolted).believed e (codes "r") ≡ fires (root (codes "k") ∷ [])
+fires_unbolted = of_map (λ t. outcome t.list t.far t.believed e (codes "r")) unbolted

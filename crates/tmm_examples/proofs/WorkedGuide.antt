@@ -79,10 +79,10 @@ without_e = refl
 without_door : map name_of (kept_without (codes "door") push) ≡ codes "push" ∷ codes "e" ∷ codes "x" ∷ []
 without_door = refl
 
-causes : (list_cause push (Add (Event (codes "f") (codes "shut"))) ≡ Some (ill_sorted (codes "shut")))
-    × (list_cause push (Add (Token (codes "t") (codes "h"))) ≡ Some (unknown (codes "h")))
-    × (list_cause push (Add (Kind (codes "open"))) ≡ Some (taken (codes "open")))
-    × (list_cause push (Erase (codes "e")) ≡ None)
+causes : (list_cause (within 1000 push) (Add (Event (codes "f") (codes "shut"))) ≡ Some (ill_sorted (codes "shut")))
+    × (list_cause (within 1000 push) (Add (Token (codes "t") (codes "h"))) ≡ Some (unknown (codes "h")))
+    × (list_cause (within 1000 push) (Add (Kind (codes "open"))) ≡ Some (taken (codes "open")))
+    × (list_cause (within 1000 push) (Erase (codes "e")) ≡ None)
 causes = (refl, refl, refl, refl)
 
 -- ---- occurrences and belief

@@ -27,18 +27,18 @@ occ name rules = record { root = name; rules = record { items = rules; room = 0 
 abbrev one_class : List Premise
 one_class = class (codes "c") (codes "f" ∷ codes "g" ∷ []) ∷ []
 
-edits : (list_cause one_class (Add (Kind (codes "f"))) ≡ Some (taken (codes "f")))
-    × (list_cause one_class (Add (Token (codes "f") (codes "h"))) ≡ Some (taken (codes "f")))
-    × (list_cause one_class (Add (Token (codes "t") (codes "h"))) ≡ Some (unknown (codes "h")))
-    × (list_cause one_class (Add (Token (codes "t") (codes "c"))) ≡ Some (ill_sorted (codes "c")))
-    × (list_cause one_class (Add (class (codes "d") (codes "g2" ∷ codes "g2" ∷ []))) ≡ Some (taken (codes "g2")))
-    × (list_cause one_class (Erase (codes "f")) ≡ Some (ill_sorted (codes "f")))
-    × (list_cause one_class (Add (Dist (codes "d") (Begin (codes "f")) (Begin (codes "x")) (Finite (pos 0)) (Finite (pos 1)))) ≡ Some (ill_sorted (codes "f")))
-    × (list_cause one_class (Erase (codes "start")) ≡ Some (unknown (codes "start")))
-edits = (refl, refl, refl, refl, refl, refl, refl, refl)
-
 abbrev facts : Standing
 facts = within 1000 one_class
+
+edits : (list_cause facts (Add (Kind (codes "f"))) ≡ Some (taken (codes "f")))
+    × (list_cause facts (Add (Token (codes "f") (codes "h"))) ≡ Some (taken (codes "f")))
+    × (list_cause facts (Add (Token (codes "t") (codes "h"))) ≡ Some (unknown (codes "h")))
+    × (list_cause facts (Add (Token (codes "t") (codes "c"))) ≡ Some (ill_sorted (codes "c")))
+    × (list_cause facts (Add (class (codes "d") (codes "g2" ∷ codes "g2" ∷ []))) ≡ Some (taken (codes "g2")))
+    × (list_cause facts (Erase (codes "f")) ≡ Some (ill_sorted (codes "f")))
+    × (list_cause facts (Add (Dist (codes "d") (Begin (codes "f")) (Begin (codes "x")) (Finite (pos 0)) (Finite (pos 1)))) ≡ Some (ill_sorted (codes "f")))
+    × (list_cause facts (Erase (codes "start")) ≡ Some (unknown (codes "start")))
+edits = (refl, refl, refl, refl, refl, refl, refl, refl)
 
 questions : (query_cause (built facts) (Bounds (Declared Start) (Derived (occ (codes "e") (codes "r" ∷ [])))) ≡ Some (unknown (codes "e/r")))
     × (query_cause (built facts) (Why (occ (codes "c") [])) ≡ Some (ill_sorted (codes "c")))

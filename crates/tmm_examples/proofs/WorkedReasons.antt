@@ -59,7 +59,7 @@ k_before_e = record { far = negsuc 9; steps = to_k; shown = refl; distance = of_
 
 -- premise k / premise e / order k e -10, with the two steps / e/r by r on e with k
 abbrev its_rule : Reason
-its_rule = by_rule er (codes "r") e (k ∷ [])
+its_rule = by_rule er (codes "r") e (k ∷ []) []
 
 abbrev lines : List Reason
 lines = by_premise (codes "k") ∷ by_premise (codes "e") ∷ by_order k e (negsuc 9) to_k ∷ its_rule ∷ []

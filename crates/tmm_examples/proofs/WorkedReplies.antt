@@ -91,9 +91,9 @@ of_reasons : text_of 8 (Reasons (
     Premise (codes "k")
     ∷ Order (Declared (Begin (codes "k"))) (Declared (Begin (codes "e"))) (negsuc 9)
     (seq (record { premise = codes "x"; side = Lo; from = Begin (codes "e"); to = Start; weight = negsuc 9 } ∷ []))
-    ∷ Derived (effect (codes "e")) (codes "r") (root (codes "e")) (seq (root (codes "k") ∷ root (codes "j") ∷ []))
-    ∷ Derived (effect (codes "f")) (codes "r") (root (codes "f")) (seq []) ∷ []))
-    ≡ codes "8 why\n  premise k\n  order k e -10\n    x lo e start -10\n  e/r by r on e with k j\n  f/r by r on f\n"
+    ∷ Derived (effect (codes "e")) (codes "r") (root (codes "e")) (seq (root (codes "k") ∷ root (codes "j") ∷ [])) (record { items = [] })
+    ∷ Derived (effect (codes "f")) (codes "r") (root (codes "f")) (seq []) (record { items = codes "g" ∷ codes "h" ∷ [] }) ∷ []))
+    ≡ codes "8 why\n  premise k\n  order k e -10\n    x lo e start -10\n  e/r by r on e with k j\n  f/r by r on f unless g h\n"
 unfolding digits
 of_reasons = refl
 

@@ -5,7 +5,7 @@ use Rattle.tmm_model.specs.declared.bound.Bound.TheVariants.{Finite}
 use Rattle.tmm_model.specs.declared.point.PointName.TheVariants.{Start, Begin}
 use Rattle.tmm_model.specs.declared.premise.Premise.{Premise}
 use Rattle.tmm_model.specs.declared.premise.Premise.TheVariants.{Class, Kind, Point, Event, Token, Dist, Rule, Protect}
-use Rattle.tmm_model.specs.declared.version.Version.TheVariants.{One}
+use Rattle.tmm_model.specs.declared.version.Version.TheVariants.{One, Two}
 use Rattle.tmm_model.specs.Standing.{Standing}
 use Rattle.tmm_model.specs.Moments.{Moment, At, After}
 
@@ -13,6 +13,10 @@ use Rattle.tmm_model.specs.Moments.{Moment, At, After}
 
 abbrev pub within : ℕ → List Premise → Standing
 within horizon premises = record { version = One; horizon = horizon; premises = premises }
+
+-- in version 2
+abbrev pub within_two : ℕ → List Premise → Standing
+within_two horizon premises = record { version = Two; horizon = horizon; premises = premises }
 
 abbrev pub class : List ℕ → List (List ℕ) → Premise
 class name facts = Class name (record { items = facts })
@@ -55,6 +59,22 @@ before_push =
     ∷ rule (codes "r") (codes "push") 1 2 (codes "shut") (codes "open" ∷ [])
     ∷ Token (codes "k") (codes "open")
     ∷ dated (codes "z") (codes "k") 0
+    ∷ []
+
+-- class door open shut / class bolt fast loose / kind push / rule r push 1 1 shut if open unless fast / token k open /
+-- dist z start k 0 0 / event e push / dist x start e 10 10 / token b fast / dist y start b 0 0
+abbrev pub bolted_door : List Premise
+bolted_door =
+    door
+    ∷ class (codes "bolt") (codes "fast" ∷ codes "loose" ∷ [])
+    ∷ Kind (codes "push")
+    ∷ rule_unless (codes "r") (codes "push") 1 1 (codes "shut") (codes "open" ∷ []) (codes "fast" ∷ [])
+    ∷ Token (codes "k") (codes "open")
+    ∷ dated (codes "z") (codes "k") 0
+    ∷ Event (codes "e") (codes "push")
+    ∷ dated (codes "x") (codes "e") 10
+    ∷ Token (codes "b") (codes "fast")
+    ∷ dated (codes "y") (codes "b") 0
     ∷ []
 
 -- and then: event e push / dist x start e 10 10

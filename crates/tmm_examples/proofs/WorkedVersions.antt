@@ -13,10 +13,10 @@ use Rattle.tmm_model.specs.Lines.{words}
 use Rattle.tmm_model.specs.Replies.{Refused}
 use Rattle.tmm_model.specs.Standing.{empty_list}
 use Rattle.tmm_model.specs.Transcript.{Step, for_meaning}
-use Rattle.tmm_model.specs.Verdicts.{unknown, list_cause}
+use Rattle.tmm_model.specs.Verdicts.{out_of_form, unknown, list_cause}
 use Rattle.tmm_grammar.specs.Reading.{line_of, query_of, edit_of, premise_of, upgrade_of, rule_of, conditions_of, facts_of, given_part, exception_part, bound_of, number_of, natural_of, digits_on}
 use Rattle.tmm_grammar.proofs.LineForms.{line_of-sound}
-use Rattle.tmm_examples.proofs.WorkedScripts.{class, door, rule, rule_unless}
+use Rattle.tmm_examples.proofs.WorkedScripts.{class, door, rule, rule_unless, within, within_two}
 
 abbrev line : List ℕ
 line = codes "rule r push 1 1 shut if open unless fast"
@@ -37,7 +37,7 @@ in_version_1 : line_of One (words line) ≡ Some (Change (Add with_three))
 unfolding words line_of edit_of premise_of rule_of conditions_of facts_of given_part exception_part bound_of number_of natural_of digits_on
 in_version_1 = refl
 
-no_fact : list_cause (door ∷ class (codes "bolt") (codes "fast" ∷ codes "loose" ∷ []) ∷ Kind (codes "push") ∷ []) (Add with_three) ≡ Some (unknown (codes "unless"))
+no_fact : list_cause (within 1000 (door ∷ class (codes "bolt") (codes "fast" ∷ codes "loose" ∷ []) ∷ Kind (codes "push") ∷ [])) (Add with_three) ≡ Some (unknown (codes "unless"))
 no_fact = refl
 
 -- version 1 opens version 2, and version 2 does not
@@ -49,8 +49,12 @@ opens_once : line_of Two (words (codes "tmm 2")) ≡ None
 unfolding words line_of query_of edit_of upgrade_of premise_of
 opens_once = refl
 
--- no list takes version 2 so far
-not_taken : Step empty_list 1 (codes "tmm 2") (ReplyOf (record { items = codes "1 no form\n"; room = 0 }) true) empty_list
+-- the empty list takes version 2, and no other one does, whether its premises, its horizon or its version are others
+taken_once : (list_cause empty_list Upgrade ≡ None) × (list_cause (within 1000 (Kind (codes "push") ∷ [])) Upgrade ≡ Some out_of_form)
+    × (list_cause (within 5 []) Upgrade ≡ Some out_of_form) × (list_cause (within_two 1000 []) Upgrade ≡ Some out_of_form)
+taken_once = (refl, refl, refl, refl)
+
+not_taken : Step (within 5 []) 1 (codes "tmm 2") (ReplyOf (record { items = codes "1 no form\n"; room = 0 }) true) (within 5 [])
 unfolding digits
 not_taken = (
   Refused Form,

@@ -109,5 +109,5 @@ module _ (s : Standing) (sound : IsSound s) where
   by_kind (Span name fact) wf (inr none) may x y a b = cc
 
 -- **The list and the premise fix the sum of a refusal for a negative cycle.**
-pub one_sum : (s : Standing) (refused : Premise) → IsSound s → IsWellFormedPremise refused → list_cause s.premises (Add refused) ≡ None → (x y : ℤ) → IsCycleSum s.premises refused x → IsCycleSum s.premises refused y → x ≡ y
+pub one_sum : (s : Standing) (refused : Premise) → IsSound s → IsWellFormedPremise refused → list_cause s (Add refused) ≡ None → (x y : ℤ) → IsCycleSum s.premises refused x → IsCycleSum s.premises refused y → x ≡ y
 one_sum s refused sound wf none x y a b = by_kind s sound refused wf (own_or_none refused) (may_be_added s.premises refused none) x y a b

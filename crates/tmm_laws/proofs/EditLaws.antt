@@ -6,24 +6,26 @@ use Rattle.std.specs.List.{AllByRecursion, flat_map}
 use Rattle.std.specs.Option.{option_or}
 use Rattle.std.proofs.lemmas.List.{length-append}
 use Rattle.std.proofs.lemmas.List.Elements.{All-contains}
+use Rattle.tmm_model.specs.declared.limits.TheConstants.{FIRST_HORIZON}
 use Rattle.tmm_model.specs.declared.line.Line.TheVariants.{Change}
 use Rattle.tmm_model.specs.declared.point.PointName.TheVariants.{Start}
 use Rattle.tmm_model.specs.declared.premise.Edit.{Edit}
-use Rattle.tmm_model.specs.declared.premise.Edit.TheVariants.{Add, Horizon}
+use Rattle.tmm_model.specs.declared.premise.Edit.TheVariants.{Add, Horizon, Upgrade}
 use Rattle.tmm_model.specs.declared.premise.Premise.{Premise}
 use Rattle.tmm_model.specs.declared.version.Version.{Version}
-use Rattle.tmm_model.specs.declared.version.Version.TheVariants.{One}
+use Rattle.tmm_model.specs.declared.version.Version.TheVariants.{One, Two}
 use Rattle.tmm_model.specs.Answers.{size, most_size}
 use Rattle.tmm_laws.specs.EditLaws.{AcceptsAll, version_edits, dump_edits, ReadsBack, AllReadBack, GrowsSmall}
 use Rattle.tmm_model.specs.Edits.{list_with}
 use Rattle.belief_theory.specs.KeptLists.{IsKept}
+use Rattle.belief_theory.proofs.StayKept.{upgraded_is_small}
 use Rattle.tmm_model.specs.Kept.{IsAccepted}
 use Rattle.tmm_model.specs.Lines.{IsWellFormedPremise, IsOfVersion, edit_words, spaced, words, ReadsLine}
 use Rattle.tmm_model.specs.Maps.{built}
 use Rattle.list_theory.specs.WellNamed.{Follows, AllFollow}
 use Rattle.tmm_model.specs.Sorts.{declared_by, uses_of}
 use Rattle.tmm_model.specs.Standing.{Standing, empty_list, points_of, points_in, arcs_of, arcs_in, IsConsistent}
-use Rattle.tmm_model.specs.Verdicts.{Cause, too_many_premises, too_many_points, most_premises, most_points, first_taken, uses_cause, premises_cause, points_cause, words_known, list_cause}
+use Rattle.tmm_model.specs.Verdicts.{Cause, too_many_premises, too_many_points, most_premises, most_points, first_taken, uses_cause, premises_cause, points_cause, words_known, add_cause}
 use Rattle.walk_theory.proofs.Dates.{HasDates-nil}
 use Rattle.list_theory.proofs.Elements.{In, In-left, In-flat_map, flat_map-In, In-from_Contains, Contains-from_In}
 use Rattle.tmm_grammar.proofs.LineShown.{decimal_is_word, number_length, shown_short, shown_reads}
@@ -33,9 +35,13 @@ use Rattle.list_theory.proofs.WellNamed.{AllFollow-append}
 
 -- ---- a dump, read again
 
+-- the list of a version that is empty otherwise
+abbrev nothing_of : Version → Standing
+nothing_of v = record { version = v; horizon = FIRST_HORIZON; premises = [] }
+
 -- a list with some of the premises, from the first on
 abbrev first_of : Standing → List Premise → Standing
-first_of s front = record { version = One; horizon = s.horizon; premises = front }
+first_of s front = record { version = s.version; horizon = s.horizon; premises = front }
 
 fewer_arcs : (front back : List Premise) → IsConsistent (front ++ back) → IsConsistent front
 fewer_arcs front back dates =
@@ -56,7 +62,7 @@ room_for : (n : ℕ) (m : ℕ) → n ≤ m → nat_le n m ≡ true
 room_for n m le = grind arith
 
 -- no cause stands against a premise that follows, where there is room
-may_add : (front : List Premise) (p : Premise) → Follows front p → length front < most_premises → length (points_in (front ++ p ∷ [])) ≤ most_points → list_cause front (Add p) ≡ None
+may_add : (front : List Premise) (p : Premise) → Follows front p → length front < most_premises → length (points_in (front ++ p ∷ [])) ≤ most_points → add_cause front p ≡ None
 may_add front p follows few room =
     let names : first_taken (words_known front) (declared_by p) ≡ None = follows.new in
     let uses : uses_cause front (uses_of p) ≡ None = follows.known in
@@ -65,9 +71,6 @@ may_add front p follows few room =
     λ i. option_or (names i) (option_or (uses i) (option_or (premises i) (points i)))
 
 module _ (s : Standing) (kept : IsKept s) (small : GrowsSmall s) where
-  grows : (front back : List Premise) → s.premises ≡ front ++ back → size (built (first_of s front)) ≤ most_size
-  grows front back parted = subst (λ v. size (built (record { version = v; horizon = s.horizon; premises = front })) ≤ most_size) kept.first_version (small front back parted)
-
   accepted : (front : List Premise) (p : Premise) (back : List Premise) → s.premises ≡ front ++ p ∷ back → IsAccepted (first_of s front) (Add p)
   accepted front p back parted =
       let again : s.premises ≡ (front ++ p ∷ []) ++ back = parted ∙ sym (append_assoc front (p ∷ []) back) in
@@ -78,7 +81,7 @@ module _ (s : Standing) (kept : IsKept s) (small : GrowsSmall s) where
       record {
         no_cause = may_add front p follows few room;
         dates = fewer_arcs (front ++ p ∷ []) back (subst IsConsistent again kept.sound.dates);
-        small = grows (front ++ p ∷ []) back again;
+        small = small (front ++ p ∷ []) back again;
       }
     where
       next : (a b : ℕ) → a + suc b ≡ a + (1 + b)
@@ -91,12 +94,13 @@ module _ (s : Standing) (kept : IsKept s) (small : GrowsSmall s) where
       under a b h g = omega arith
 
   adds_all : (front back : List Premise) → s.premises ≡ front ++ back → AcceptsAll (first_of s front) (map Add back) s
-  adds_all front [] parted = λ i. record { version = kept.first_version i; horizon = s.horizon; premises = (parted ∙ append-nil front) i }
+  adds_all front [] parted = λ i. record { version = s.version; horizon = s.horizon; premises = (parted ∙ append-nil front) i }
   adds_all front (p ∷ back) parted = (accepted front p back parted, adds_all (front ++ p ∷ []) back (parted ∙ sym (append_assoc front (p ∷ []) back)))
 
-  reloads : AcceptsAll empty_list (Horizon s.horizon ∷ map Add s.premises) s
+  -- from the list of its version without premises
+  reloads : AcceptsAll (nothing_of s.version) (Horizon s.horizon ∷ map Add s.premises) s
   reloads = (
-    record { no_cause = refl; dates = HasDates-nil Start; small = grows [] s.premises refl },
+    record { no_cause = refl; dates = HasDates-nil Start; small = small [] s.premises refl },
     adds_all [] s.premises refl,
   )
 
@@ -132,16 +136,30 @@ one_by_one : (F : Premise → Type 0) (ps : List Premise) → ((p : Premise) →
 one_by_one F [] h = tt
 one_by_one F (p ∷ ps) h = (h p (inl refl), one_by_one F ps (λ q at. h q (inr at)))
 
+upgrade_reads : ReadsLine One (spaced (edit_words Upgrade)) (Change Upgrade)
+upgrade_reads = (words-spaced (edit_words Upgrade) (((λ e. cc), refl), (((λ e. cc), refl), tt)), tt, tt)
+
+-- the line that opens the version comes first, where there is one
+opening_accepted : (v : Version) (edits : List Edit) (s : Standing) → AcceptsAll (nothing_of v) edits s → AcceptsAll empty_list (version_edits v ++ edits) s
+opening_accepted One edits s rest = rest
+opening_accepted Two edits s rest = (record { no_cause = refl; dates = HasDates-nil Start; small = omega (arith, upgraded_is_small) }, rest)
+
+opening_reads : (v : Version) (edits : List Edit) → AllReadBack (nothing_of v) edits → AllReadBack empty_list (version_edits v ++ edits)
+opening_reads One edits rest = rest
+opening_reads Two edits rest = (tells One Upgrade (omega arith) upgrade_reads, rest)
+
 pub dump_reloads : (s : Standing) → IsKept s → GrowsSmall s
     → AllReadBack empty_list (dump_edits s)
     × AcceptsAll empty_list (dump_edits s) s
 dump_reloads s kept small =
-    let one : dump_edits s ≡ Horizon s.horizon ∷ map Add s.premises = ap (λ v. version_edits v ++ Horizon s.horizon ∷ map Add s.premises) kept.first_version in
-    let formed : (p : Premise) → In p s.premises → IsFormedIn One p =
+    let edits : List Edit = Horizon s.horizon ∷ map Add s.premises in
+    let formed : (p : Premise) → In p s.premises → IsFormedIn s.version p =
     λ p at. (
       All-contains IsWellFormedPremise s.premises p kept.sound.well_formed (Contains-from_In s.premises p at),
-      subst (λ v. IsOfVersion v p) kept.first_version (All-contains (IsOfVersion s.version) s.premises p kept.versioned (Contains-from_In s.premises p at)),
+      All-contains (IsOfVersion s.version) s.premises p kept.versioned (Contains-from_In s.premises p at),
     ) in
-    let read : AllReadBack empty_list (Horizon s.horizon ∷ map Add s.premises) =
-    (tells One (Horizon s.horizon) (horizon_short s.horizon kept.horizon) (horizon_reads One s.horizon kept.horizon), premises_tell (first_of s []) s.premises (one_by_one (IsFormedIn One) s.premises formed)) in
-    (subst (AllReadBack empty_list) (sym one) read, subst (λ edits. AcceptsAll empty_list edits s) (sym one) (reloads s kept small))
+    let read : AllReadBack (nothing_of s.version) edits = (
+      tells s.version (Horizon s.horizon) (horizon_short s.horizon kept.horizon) (horizon_reads s.version s.horizon kept.horizon),
+      premises_tell (first_of s []) s.premises (one_by_one (IsFormedIn s.version) s.premises formed),
+    ) in
+    (opening_reads s.version edits read, opening_accepted s.version edits s (reloads s kept small))

@@ -293,9 +293,9 @@ shows_said (SizeIs n) = refl
 
 -- why an edit is refused, and what is said of it
 data IsNo (old : Standing) (edit : Edit) (r : Refusal) : Type 0 where
-  for_cause : (c : Cause) → list_cause old.premises edit ≡ Some c → said_no r ≡ caused c → IsNo old edit r
-  for_cycle : list_cause old.premises edit ≡ None → (IsConsistent (next_list old edit).premises → ⊥) → said_no r ≡ looped → IsNo old edit r
-  for_size : list_cause old.premises edit ≡ None → IsConsistent (next_list old edit).premises → said_no r ≡ oversized → IsNo old edit r
+  for_cause : (c : Cause) → list_cause old edit ≡ Some c → said_no r ≡ caused c → IsNo old edit r
+  for_cycle : list_cause old edit ≡ None → (IsConsistent (next_list old edit).premises → ⊥) → said_no r ≡ looped → IsNo old edit r
+  for_size : list_cause old edit ≡ None → IsConsistent (next_list old edit).premises → said_no r ≡ oversized → IsNo old edit r
 
 why_no : (old : Standing) (edit : Edit) (r : Refusal) → RefusesEdit old edit r → IsNo old edit r
 why_no old edit (Cycle sum steps) is = for_cycle is.no_cause is.no_dates refl
@@ -319,13 +319,13 @@ some_none : (P : Type 0) (x : Option Cause) (c : Cause) → x ≡ Some c → x �
 some_none P x c e f = absurd (no_lie ⊥ (sym (subst IsSome (sym e ∙ f) refl)))
 
 noes_agree : (old : Standing) (edit : Edit) (r s : Refusal) → IsNo old edit r → IsNo old edit s → said_no r ≡ said_no s
-noes_agree old edit r s (for_cause c e is) (for_cause d f is_2) = is ∙ ap caused (one_cause (list_cause old.premises edit) c d e f) ∙ sym is_2
-noes_agree old edit r s (for_cause c e is) (for_cycle none no_dates is_2) = some_none (said_no r ≡ said_no s) (list_cause old.premises edit) c e none
-noes_agree old edit r s (for_cause c e is) (for_size none dates is_2) = some_none (said_no r ≡ said_no s) (list_cause old.premises edit) c e none
-noes_agree old edit r s (for_cycle none no_dates is) (for_cause d f is_2) = some_none (said_no r ≡ said_no s) (list_cause old.premises edit) d f none
+noes_agree old edit r s (for_cause c e is) (for_cause d f is_2) = is ∙ ap caused (one_cause (list_cause old edit) c d e f) ∙ sym is_2
+noes_agree old edit r s (for_cause c e is) (for_cycle none no_dates is_2) = some_none (said_no r ≡ said_no s) (list_cause old edit) c e none
+noes_agree old edit r s (for_cause c e is) (for_size none dates is_2) = some_none (said_no r ≡ said_no s) (list_cause old edit) c e none
+noes_agree old edit r s (for_cycle none no_dates is) (for_cause d f is_2) = some_none (said_no r ≡ said_no s) (list_cause old edit) d f none
 noes_agree old edit r s (for_cycle none no_dates is) (for_cycle _ _ is_2) = is ∙ sym is_2
 noes_agree old edit r s (for_cycle none no_dates is) (for_size _ dates is_2) = absurd (no_dates dates)
-noes_agree old edit r s (for_size none dates is) (for_cause d f is_2) = some_none (said_no r ≡ said_no s) (list_cause old.premises edit) d f none
+noes_agree old edit r s (for_size none dates is) (for_cause d f is_2) = some_none (said_no r ≡ said_no s) (list_cause old edit) d f none
 noes_agree old edit r s (for_size none dates is) (for_cycle _ no_dates is_2) = absurd (no_dates dates)
 noes_agree old edit r s (for_size none dates is) (for_size _ _ is_2) = is ∙ sym is_2
 

@@ -14,7 +14,7 @@ use Rattle.list_theory.specs.NegativeCycles.{IsCycleSum}
 -- though the premise may have two constraints.
 abbrev pub CycleSumsAreOne : Type 0
 CycleSumsAreOne =
-    (s : Standing) (refused : Premise) → IsSound s → IsWellFormedPremise refused → list_cause s.premises (Add refused) ≡ None
+    (s : Standing) (refused : Premise) → IsSound s → IsWellFormedPremise refused → list_cause s (Add refused) ≡ None
     → (x y : ℤ) → IsCycleSum s.premises refused x → IsCycleSum s.premises refused y → x ≡ y
 
 -- the sum told with the cycle of a refused premise is such a sum

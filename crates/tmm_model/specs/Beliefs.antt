@@ -1,5 +1,5 @@
 -- What is believed of a standing list: its events, tokens and spans, and what rules bring about.
-use Rattle.std.specs.Prelude.{ℕ, suc, zero, ℤ, pos, ◌+ℤ◌, Bool, true, false, List, [], ◌++◌, map, filter, Option, Some, None}
+use Rattle.std.specs.Prelude.{ℕ, suc, zero, ℤ, pos, ◌+ℤ◌, Bool, true, false, not, ◌&&◌, List, [], ◌++◌, map, filter, Option, Some, None}
 use Rattle.std.specs.List.{list_any, list_all, filter_map, flat_map}
 use Rattle.std.specs.Option.{option_map}
 use Rattle.std.specs.Ordering.{int_eq, on}
@@ -107,9 +107,9 @@ module _ (s : Standing) (far : Distances) where
   abbrev pub supported : List Moment → Moment → List ℕ → Bool
   supported b t fact = has_support b fact t t
 
-  -- **What frees a rule at an event**: each of its antecedents has a supporter there.
+  -- **What frees a rule at an event**: each of its antecedents has a supporter there, and no exception has one.
   abbrev pub is_free : List Moment → Moment → List ℕ → Bool
-  is_free b t r = list_all (supported b t) (rule_of s r).given
+  is_free b t r = list_all (supported b t) (rule_of s r).given && not (list_any (supported b t) (rule_of s r).exceptions)
 
   -- the earliest date of the effect of r on t
   abbrev pub due : Moment → List ℕ → ℤ
@@ -150,3 +150,7 @@ module _ (s : Standing) (far : Distances) where
   -- for each antecedent of r, its first supporter at t
   abbrev pub supporters : List Moment → Moment → List ℕ → List (Option Moment)
   supporters b t r = map (λ fact. holder b fact t t) (rule_of s r).given
+
+  -- for each exception of r, its first supporter at t
+  abbrev pub against : List Moment → Moment → List ℕ → List (Option Moment)
+  against b t r = map (λ fact. holder b fact t t) (rule_of s r).exceptions

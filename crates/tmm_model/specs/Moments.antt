@@ -67,18 +67,23 @@ printed (After t r) = printed t ++ 47 ∷ r
 
 -- ---- what rules say
 
--- the kind of its events, the bounds on its delay, its effect and its antecedents
+-- the kind of its events, the bounds on its delay, its effect, its antecedents and its exceptions
 pub record RuleText : Type 0 where
   pub trigger : List ℕ
   pub lo : ℤ
   pub hi : Bound
   pub effect : List ℕ
   pub given : List (List ℕ)
+  pub exceptions : List (List ℕ)
 
 -- what a premise says as a rule; one that is no rule says nothing of meaning
 abbrev pub as_rule : Option Premise → RuleText
-as_rule (Some (Rule name trigger lo hi effect given unless_facts)) = record { trigger = trigger; lo = lo; hi = hi; effect = effect; given = given.items }
-as_rule _ = record { trigger = []; lo = pos 0; hi = Finite (pos 0); effect = []; given = [] }
+as_rule (Some (Rule name trigger lo hi effect given unless_facts)) = record { trigger = trigger; lo = lo; hi = hi; effect = effect; given = given.items; exceptions = unless_facts.items }
+as_rule _ = record { trigger = []; lo = pos 0; hi = Finite (pos 0); effect = []; given = []; exceptions = [] }
+
+-- the facts on which it depends whether it fires: its antecedents and its exceptions
+abbrev pub read_by : RuleText → List (List ℕ)
+read_by text = text.given ++ text.exceptions
 
 -- the rule of this name
 abbrev pub rule_of : Standing → List ℕ → RuleText

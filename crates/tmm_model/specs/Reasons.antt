@@ -9,7 +9,7 @@ use Rattle.tmm_model.specs.declared.changes.WhyLine.TheVariants.{Premise as Prem
 use Rattle.tmm_model.specs.declared.walk.WalkStep.{WalkStep}
 use Rattle.tmm_model.specs.Beliefs.{token_of, supporters}
 use Rattle.tmm_model.specs.Maps.{TimeMap, gap, order}
-use Rattle.tmm_model.specs.Moments.{Moment, At, After, base, moment_of, moment_of_point}
+use Rattle.tmm_model.specs.Moments.{Moment, At, After, base, rule_of, moment_of, moment_of_point}
 use Rattle.tmm_model.specs.Paths.{IsLeastWalk}
 use Rattle.tmm_model.specs.Points.{point_word}
 
@@ -20,8 +20,9 @@ pub data Reason : Type 0 where
   -- the first is surely at or before the second: this is the upper bound on the first less the second,
   -- and these constraints give it
   by_order : Moment → Moment → ℤ → List WalkStep → Reason
-  -- this occurrence is the effect of this rule on this event, and these support the antecedents
-  by_rule : Moment → List ℕ → Moment → List Moment → Reason
+  -- this occurrence is the effect of this rule on this event; these support the antecedents, and the
+  -- exceptions are these facts
+  by_rule : Moment → List ℕ → Moment → List Moment → List (List ℕ) → Reason
 
 module _ (m : TimeMap) where
   -- the first supporter of each antecedent of r at t
@@ -44,7 +45,7 @@ module _ (m : TimeMap) where
   -- the line of an occurrence itself
   abbrev pub belief_line : Moment → Reason
   belief_line (At p) = by_premise (point_word p)
-  belief_line (After t r) = by_rule (After t r) r t (supports_at m t r)
+  belief_line (After t r) = by_rule (After t r) r t (supports_at m t r) (rule_of m.list r).exceptions
 
   -- t and the end of its supporter, where that is a span
   abbrev pub end_pair : Moment → Option Moment → List (Moment × Moment)
@@ -89,4 +90,4 @@ pub record IsWhy (m : TimeMap) (o : Moment) (lines : List Reason) : Type 0 where
 abbrev pub reason_of : WhyLine → Reason
 reason_of (PremiseLine name) = by_premise name
 reason_of (OrderLine first second far steps) = by_order (moment_of_point first) (moment_of_point second) far steps.items
-reason_of (DerivedLine occ rule trigger supports) = by_rule (moment_of occ) rule (moment_of trigger) (map moment_of supports.items)
+reason_of (DerivedLine occ rule trigger supports unless_facts) = by_rule (moment_of occ) rule (moment_of trigger) (map moment_of supports.items) unless_facts.items

@@ -173,11 +173,17 @@ abbrev pub with_words : List Occ → List (List ℕ)
 with_words [] = []
 with_words supports = codes "with" ∷ map occ_word supports
 
+-- the exceptions of a rule, where it has any
+abbrev pub unless_words : List (List ℕ) → List (List ℕ)
+unless_words [] = []
+unless_words facts = codes "unless" ∷ facts
+
 -- a reason of a belief, with the steps of an order
 abbrev pub why_lines : WhyLine → List ℕ
 why_lines (Premise name) = name_line (codes "premise") name
 why_lines (Order first second far steps) = line_of two (codes "order" ∷ query_word first ∷ query_word second ∷ signed_decimal far ∷ []) ++ step_lines four steps.items
-why_lines (Derived occ rule trigger supports) = line_of two (occ_word occ ∷ codes "by" ∷ rule ∷ codes "on" ∷ occ_word trigger ∷ with_words supports.items)
+why_lines (Derived occ rule trigger supports unless_facts) =
+    line_of two (occ_word occ ∷ codes "by" ∷ rule ∷ codes "on" ∷ occ_word trigger ∷ with_words supports.items ++ unless_words unless_facts.items)
 
 -- what clips it, where something does
 abbrev pub clip_words : Option Occ → List (List ℕ)

@@ -1,6 +1,7 @@
 -- The standing list: the premises that hold, their points and their constraints.
-use Rattle.std.specs.Prelude.{ℕ, List, [], ◌∷◌, ◌++◌, map, length, pos, negsuc, neg_ℤ, Option, find}
+use Rattle.std.specs.Prelude.{ℕ, nat_eq, Bool, true, false, ◌&&◌, List, [], ◌∷◌, ◌++◌, map, length, pos, negsuc, neg_ℤ, Option, find}
 use Rattle.std.specs.List.{flat_map}
+use Rattle.tmm_model.specs.declared.limits.TheConstants.{FIRST_HORIZON}
 use Rattle.tmm_model.specs.declared.bound.Bound.{Bound}
 use Rattle.tmm_model.specs.declared.bound.Bound.TheVariants.{Finite, Free}
 use Rattle.tmm_model.specs.declared.point.PointName.{PointName}
@@ -20,9 +21,18 @@ pub record Standing : Type 0 where
   pub horizon : ℕ
   pub premises : List Premise
 
--- what a script begins with: version 1, no premise, and the horizon 1000
+-- what a script begins with: version 1, no premise, and the first horizon
 abbrev pub empty_list : Standing
-empty_list = record { version = One; horizon = 1000; premises = [] }
+empty_list = record { version = One; horizon = FIRST_HORIZON; premises = [] }
+
+-- version 1, and no premise
+abbrev pub says_nothing : Version → List Premise → Bool
+says_nothing One [] = true
+says_nothing _ _ = false
+
+-- whether the list is the empty list
+abbrev pub is_empty : Standing → Bool
+is_empty s = says_nothing s.version s.premises && nat_eq s.horizon FIRST_HORIZON
 
 -- the name that a premise declares for itself
 abbrev pub name_of : Premise → List ℕ

@@ -38,13 +38,13 @@ ClosesBy premises edit sum steps = ⊥
 
 -- no cause among names and counts stands against the edit, and no dates satisfy what it leaves: this cycle shows it
 pub record IsCyclic (old : Standing) (edit : Edit) (sum : ℤ) (steps : List WalkStep) : Type 0 where
-  pub no_cause : list_cause old.premises edit ≡ None
+  pub no_cause : list_cause old edit ≡ None
   pub no_dates : IsConsistent (next_list old edit).premises → ⊥
   pub cycle : ClosesBy old.premises edit sum steps
 
 -- there is no such cause, some dates satisfy what the edit leaves, and the map is too large then
 pub record IsOversized (old : Standing) (edit : Edit) : Type 0 where
-  pub no_cause : list_cause old.premises edit ≡ None
+  pub no_cause : list_cause old edit ≡ None
   pub dates : IsConsistent (next_list old edit).premises
   pub large : most_size < size (built (next_list old edit))
 
@@ -53,7 +53,7 @@ pub record IsOversized (old : Standing) (edit : Edit) : Type 0 where
 abbrev pub RefusesEdit : Standing → Edit → Refusal → Type 0
 RefusesEdit old edit (Cycle sum steps) = IsCyclic old edit sum steps.items
 RefusesEdit old edit LimitSize = IsOversized old edit
-RefusesEdit old edit refusal = Tells refusal (list_cause old.premises edit)
+RefusesEdit old edit refusal = Tells refusal (list_cause old edit)
 
 -- what an edit may be answered, and the list that it leaves: the next one where it is accepted, with what that
 -- changes, and else the old one

@@ -11,7 +11,7 @@ use Rattle.tmm_model.specs.declared.premise.Edit.TheVariants.{Add, Erase, Horizo
 use Rattle.tmm_model.specs.declared.refusal.Refusal.{Refusal}
 use Rattle.tmm_model.specs.declared.refusal.Refusal.TheVariants.{Form, Taken, Unknown, Sort as IllSorted, LimitPremises, LimitPoints}
 use Rattle.tmm_model.specs.Points.{same_name, point_word, query_word}
-use Rattle.tmm_model.specs.Standing.{points_in}
+use Rattle.tmm_model.specs.Standing.{Standing, is_empty, points_in}
 use Rattle.tmm_model.specs.Sorts.{Sort, a_span, is_reserved, declared_by, declarations_in, sort_in, is_place, is_premise, Use, a_name, a_place, a_premise, uses_of}
 
 -- the limit on premises
@@ -90,12 +90,16 @@ add_cause premises premise =
     (option_or (uses_cause premises (uses_of premise))
     (option_or (premises_cause premises) (points_cause (premises ++ premise ∷ []))))
 
--- The first cause among names and counts for which an edit is refused. No list takes version 2 so far.
-abbrev pub list_cause : List Premise → Edit → Option Cause
-list_cause premises (Add premise) = add_cause premises premise
-list_cause premises (Erase name) = use_cause premises (a_premise name)
-list_cause premises (Horizon n) = None
-list_cause premises Upgrade = Some out_of_form
+-- version 2 is opened at the empty list alone
+abbrev pub upgrade_cause : Standing → Option Cause
+upgrade_cause s = elim (is_empty s) [ true ↦ None | false ↦ Some out_of_form ]
+
+-- The first cause among names and counts for which an edit is refused.
+abbrev pub list_cause : Standing → Edit → Option Cause
+list_cause s (Add premise) = add_cause s.premises premise
+list_cause s (Erase name) = use_cause s.premises (a_premise name)
+list_cause s (Horizon n) = None
+list_cause s Upgrade = upgrade_cause s
 
 -- what a refusal says of names and counts
 abbrev pub told_cause : Refusal → Option Cause

@@ -1,9 +1,11 @@
 // What an edit changed, and rows of longer replies.
 use crate::answer::Report;
+use crate::limits::MOST_EXCEPTIONS;
 use crate::name::Name;
 use crate::point::{Occ, QueryPoint};
 use crate::seq::Seq;
 use crate::walk::WalkStep;
+use arrayvec::ArrayVec;
 
 /// A token, and the first token that clips it.
 #[derive(Drop)]
@@ -47,12 +49,13 @@ pub enum WhyLine {
         steps: Seq<WalkStep>,
     },
     /// `occ` is the effect of `rule` on the event `trigger`; `supports` are the first supporters of
-    /// the rule's antecedents, in their order.
+    /// the rule's antecedents, in their order, and none of its exceptions `unless_facts` has one.
     Derived {
         occ: Occ,
         rule: Name,
         trigger: Occ,
         supports: Seq<Occ>,
+        unless_facts: ArrayVec<Name, MOST_EXCEPTIONS>,
     },
 }
 

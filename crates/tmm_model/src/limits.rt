@@ -12,6 +12,9 @@ pub const LONGEST_NAME: usize = 24;
 /// The greatest absolute value of a number in a line, in time units where it is a bound or a delay.
 pub const GREATEST_NUMBER: u32 = 1_000_000_000;
 
+/// The horizon of the empty list, in time units.
+pub const FIRST_HORIZON: u32 = 1000;
+
 /// The greatest horizon, in time units.
 pub const LAST_HORIZON: u32 = 100_000;
 

@@ -32,10 +32,19 @@ pub fn parse_line(alloc: Global, version: Version, line: &[u8]) -> Result<Line, 
     if line.len() > LONGEST_LINE {
         return Err(Stop::Refused(Refusal::LimitLine));
     }
-    match read(alloc, version, line) {
-        Ok(line) => Ok(line),
-        Err(Misread::Form) => Err(Stop::Refused(Refusal::Form)),
-        Err(Misread::Memory) => Err(Stop::NoMemory),
+    let Some((word, rest)) = split_word(line) else {
+        return Ok(Line::Silent);
+    };
+    if comment(word) {
+        return Ok(Line::Silent);
+    }
+    match edit(version, word, rest) {
+        Some(edit) => Ok(Line::Change(edit)),
+        None => match query(alloc, word, rest) {
+            Ok(query) => Ok(Line::Question(query)),
+            Err(Misread::Form) => Err(Stop::Refused(Refusal::Form)),
+            Err(Misread::Memory) => Err(Stop::NoMemory),
+        },
     }
 }
 
@@ -47,24 +56,6 @@ pub fn is_silent(line: &[u8]) -> bool
     match split_word(line) {
         None => true,
         Some((word, _)) => comment(word),
-    }
-}
-
-fn read(alloc: Global, version: Version, line: &[u8]) -> Result<Line, Misread>
-    ensures value { Gives bare_line result (line_of version (words line.now)) }
-    ensures silent { IsSilent (words line.now) → result ≡ Ok Silent }
-    ensures memory { result ≡ Err Memory → (e : Edits) → Reads version (words line.now) (Change e) → ⊥ }
-    ensures derived { OnMemory result (IsTrue (asks_derived (words line.now))) }
-{
-    let Some((word, rest)) = split_word(line) else {
-        return Ok(Line::Silent);
-    };
-    if comment(word) {
-        return Ok(Line::Silent);
-    }
-    match edit(version, word, rest) {
-        Some(edit) => Ok(Line::Change(edit)),
-        None => Ok(Line::Question(query(alloc, word, rest)?)),
     }
 }
 

@@ -1,13 +1,15 @@
 // Whether a fact holds.
-ghost use Rattle.std.specs.Prelude.{◌≡◌, ℕ, pos, ◌++◌, ◌∷◌, [], None, map, IfOk, OnOk, IsSome};
+ghost use Rattle.std.specs.Prelude.{◌≡◌, ℕ, pos, ◌++◌, ◌∷◌, [], None, List, map, IfOk, IfSome, OnOk, IsSome};
 ghost use Rattle.std.specs.List.{All};
+ghost use Rattle.std.specs.Option.{option_map};
 ghost use Rattle.tmm_model.specs.Answers.{ask, finding_of, blame_of, fault_of};
 ghost use Rattle.tmm_model.specs.Beliefs.{holder};
 ghost use Rattle.tmm_model.specs.Bounds.{bound_at_most};
 ghost use Rattle.tmm_model.specs.Maps.{built};
+ghost use Rattle.tmm_model.specs.Moments.{Moment};
 ghost use Rattle.tmm_model.specs.Sorts.{class_in};
 ghost use Rattle.tmm_model.specs.Standing.{far_in};
-ghost use Rattle.spots.specs.Forest.{IsLive};
+ghost use Rattle.spots.specs.Forest.{IsLive, moment_at};
 ghost use Rattle.spots.specs.Seen.{IsSeen, HasList, Holds};
 ghost use Rattle.spots.specs.Spots.{IsSpot, spot_moment, spot_distance};
 ghost use Rattle.occ_tree.specs.OfLists.{IsTreeIn, IsTreeOf};
@@ -21,7 +23,7 @@ use occ_tree::Tree;
 use premise_list::Standing;
 use spots::Spot;
 use std::alloc::Global;
-use supports::{NodeFault, blame, supporter};
+use supports::{Guesses, NodeFault, blame};
 use tmm_model::{Answer, Blame, Bound, Cause, Name, NoMemory, Seq};
 
 /// Whether a fact holds throughout two spots: it does by its first supporter, and where none is there,
@@ -46,13 +48,34 @@ pub fn ask(
     if !is_by(tree, net, p, q) {
         return Ok(Answer::Unordered);
     }
-    match supporter(standing, tree, net, fact, p, q) {
+    match supporter(alloc, standing, tree, net, fact, p, q) {
         Some(x) => match tree.occ_of(alloc, x) {
             Ok(token) => Ok(Answer::Yes(token)),
             Err(_) => Err(NoMemory),
         },
         None => blamed(alloc, standing, tree, net, fact, p, q),
     }
+}
+
+// The first supporter of a fact throughout two spots.
+fn supporter(
+    alloc: Global,
+    standing: &Standing,
+    tree: &Tree,
+    net: &DistNet,
+    fact: Name,
+    p: Spot,
+    q: Spot,
+) -> Option<u32>
+    requires seen { IsTreeOf standing.now.present net.now.present tree.now }
+    requires fact { IsSome (class_in standing.now.present.premises fact) }
+    requires p { IsSpot net.now.present.names (forest tree.now) p }
+    requires q { IsSpot net.now.present.names (forest tree.now) q }
+    ensures live { IfSome result (IsLive (forest tree.now)) }
+    ensures first { (b : List Moment) → Holds b (forest tree.now) → option_map (moment_at (forest tree.now)) result ≡ holder standing.now.present (far_in standing.now.present.premises) b fact (spot_moment net.now.present.names (forest tree.now) p) (spot_moment net.now.present.names (forest tree.now) q) }
+{
+    let mut guesses = Guesses::make(alloc);
+    supports::supporter(standing, tree, net, fact, p, q, &mut guesses)
 }
 
 // Whether the first spot is surely at or before the second.

@@ -9,7 +9,7 @@ ghost use Rattle.undo_rows.specs.Places.{PlacesGrow};
 
 use crate::change::Change;
 use crate::row::Row;
-use crate::steps::{above_heads, link_all, next_number, unlink_all};
+use crate::steps::{link_all, next_number, unlink_all};
 use crate::stored::Stored;
 use row_links::Links;
 use slab::Slab;
@@ -58,8 +58,8 @@ impl<T: Copy, const F: usize> Rows<T, F> {
     }
 
     /// Adds a row that keeps a value, last on the list of each of its heads, and answers its number. A place
-    /// is added only where each holds a row. Without memory nothing has changed; it counts as want of memory
-    /// that a number would be 2^32 - 1 or more.
+    /// is added only where each holds a row, and a family of which the row has no head takes no memory for it.
+    /// Without memory nothing has changed; it counts as want of memory that a number would be 2^32 - 1 or more.
     pub fn add(
         &mut self,
         _alloc: Global,
@@ -75,9 +75,8 @@ impl<T: Copy, const F: usize> Rows<T, F> {
     {
         let rows = &self.stored.rows;
         let x = next_number(rows.vacant_key(), rows.len(), self.places)?;
-        let beyond = above_heads(&heads)?;
         self.stored.rows.reserve(1)?;
-        self.stored.links.reserve_rows(x + 1, beyond)?;
+        self.stored.links.reserve_rows(x + 1, &heads)?;
         self.log.reserve(changes_of(&heads))?;
         self.stored.rows.insert_reserved(Row {
             heads,

@@ -145,29 +145,3 @@ pub(crate) fn next_number(key: usize, held: usize, places: u32) -> Result<u32, N
         Err(NoMemory)
     }
 }
-
-// A number above all heads, as long as it fits.
-pub(crate) fn above_heads(heads: &[Option<u32>]) -> Result<u32, NoMemory>
-    ensures { IfOk result (λ n. (f h : ℕ) → head_in heads.now f ≡ Some h → h < n) }
-{
-    let mut most = 0;
-    for family in 0..heads.len() {
-        most = at_least(most, heads[family]);
-    }
-    if most < u32::MAX {
-        Ok(most + 1)
-    } else {
-        Err(NoMemory)
-    }
-}
-
-// The greater of a number and a head, if there is one.
-fn at_least(most: u32, head: Option<u32>) -> u32
-    ensures most { most ≤ result }
-    ensures head { IfSome head (λ h. h ≤ result) }
-{
-    match head {
-        Some(head) => most.max(head),
-        None => most,
-    }
-}

@@ -46,7 +46,7 @@ fn add(
     rule: u32,
     classes: &[u32],
 ) -> u32
-    requires { length classes.now ≤ 4 }
+    requires { length classes.now ≤ 6 }
 {
     let added = rows.add(alloc, trigger, rule, classes);
     added.expect(rt, "memory")

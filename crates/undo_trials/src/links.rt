@@ -14,7 +14,9 @@ fn a_row_goes_back_into_its_gap(rt: HostRuntime) {
 fn expect_gap(rt: &impl Abort, alloc: Global, links: &mut Links<2>)
     requires { links.old ≡ [] }
 {
-    links.reserve_rows(3, 1).expect(rt, "memory");
+    links
+        .reserve_rows(3, &[Some(0), Some(0)])
+        .expect(rt, "memory");
     links.link_last(1, 0, 2);
     assert_eq!(rt; links.first(1, 0), Some(2));
     let gap = links.unlink(1, 2);

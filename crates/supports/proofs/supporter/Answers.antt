@@ -8,8 +8,8 @@ use Rattle.supports.proofs.Answered.{holder_is}
 use Rattle.supports.proofs.TokenRows.{no_row, rows_live, rows_of_nodes, live_at_place}
 use Rattle.supports.proofs.supporter.Goals as goal
 
-pub holder-requires-clause-all_live : goal.holder-requires-clause-all_live
-holder-requires-clause-all_live c = rows_live c.requires.seen c.tokens-rows.ensures.rows
+pub first_holder-requires-clause-live : goal.first_holder-requires-clause-live
+first_holder-requires-clause-live c = rows_live c.requires.seen c.tokens-rows.ensures.rows
 
 pub returns-in_err-place-clause-first : goal.returns-in_err-place-clause-first
 returns-in_err-place-clause-first c b holds =
@@ -29,5 +29,5 @@ returns-clause-first c b holds =
     ∙ holder_is c.requires.seen.seen c.tokens-rows.ensures.rows holds
     c.args.fact (sym c.class_of.ensures ∙ c.in-Some.is) c.args.p c.args.q c.requires.p c.requires.q (Some c.in_ok-place.place) c.in_ok-place.ensures no_row
 
-pub holder-requires-clause-by_date : goal.holder-requires-clause-by_date
-holder-requires-clause-by_date c = by_date (tree_in c.requires.seen) c.tokens-rows.ensures.rows c.tokens-rows.ensures.in_order
+pub first_holder-requires-clause-by_date : goal.first_holder-requires-clause-by_date
+first_holder-requires-clause-by_date c = by_date (tree_in c.requires.seen) c.tokens-rows.ensures.rows c.tokens-rows.ensures.in_order

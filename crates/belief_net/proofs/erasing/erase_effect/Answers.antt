@@ -21,13 +21,13 @@ pair-trigger-requires c = ap is_some c.requires.row.1
 pub withdraw_effect-requires-clause-trigger : goal.withdraw_effect-requires-clause-trigger
 withdraw_effect-requires-clause-trigger c =
     let (r, at, same) = c.requires.row in
-    let pair = subst (λ o. IfSome o (λ (z : TableRow Pair 6). (c.pair-trigger.result.0 ≡ z.value.trigger) × (c.pair-trigger.result.1 ≡ z.value.rule))) at c.pair-trigger.ensures in
+    let pair = subst (λ o. IfSome o (λ (z : TableRow Pair 8). (c.pair-trigger.result.0 ≡ z.value.trigger) × (c.pair-trigger.result.1 ≡ z.value.rule))) at c.pair-trigger.ensures in
     subst (IsLive (forest c.args.beliefs.now.tree)) (sym pair.0) (c.requires.events c.args.row r at)
 
 pub remove-requires : goal.remove-requires
 remove-requires c =
     let (r, at, same) = c.requires.row in
-    let pair = subst (λ o. IfSome o (λ (z : TableRow Pair 6). (c.pair-trigger.result.0 ≡ z.value.trigger) × (c.pair-trigger.result.1 ≡ z.value.rule))) at c.pair-trigger.ensures in
+    let pair = subst (λ o. IfSome o (λ (z : TableRow Pair 8). (c.pair-trigger.result.0 ≡ z.value.trigger) × (c.pair-trigger.result.1 ≡ z.value.rule))) at c.pair-trigger.ensures in
     ap is_some (c.in_ok-withdraw_effect.ensures.rows c.args.row r at (subst (IsLive (forest c.withdraw_effect.new.beliefs.tree)) pair.0 c.in_ok-withdraw_effect.ensures.stays))
 
 pub returns-clause-sheds : goal.returns-clause-sheds
@@ -47,7 +47,7 @@ returns-clause-spares c = λ s out.
     let first = c.in_ok-withdraw_effect.ensures.sheds.thins in
     let removed = removed_sheds mid c.remove.new.self c.args.row c.in_ok-remove.ensures.ok first.events c.withdraw_effect.new.departed in
     let (r, at, same) = c.requires.row in
-    let pair = subst (λ o. IfSome o (λ (z : TableRow Pair 6). (c.pair-trigger.result.0 ≡ z.value.trigger) × (c.pair-trigger.result.1 ≡ z.value.rule))) at c.pair-trigger.ensures in
+    let pair = subst (λ o. IfSome o (λ (z : TableRow Pair 8). (c.pair-trigger.result.0 ≡ z.value.trigger) × (c.pair-trigger.result.1 ≡ z.value.rule))) at c.pair-trigger.ensures in
     let live = subst (IsLive (forest mid.tree)) pair.0 c.in_ok-withdraw_effect.ensures.stays in
     let named : rule_in mid.decisions r ≡ c.args.rule = ap (λ l. name_in l r.value.rule) first.rules ∙ ap (name_in old.decisions.rules) same ∙ c.requires.rule in
     let event = sym (moment_stays old mid first r.value.trigger live) ∙ ap (moment_at (forest old.tree)) (sym pair.0) in
@@ -63,11 +63,11 @@ returns-clause-fewer c =
     let first = c.in_ok-withdraw_effect.ensures.sheds.thins in
     let (r, at, same) = c.requires.row in
     let (s, under) = c.requires.under in
-    let pair = subst (λ o. IfSome o (λ (z : TableRow Pair 6). (c.pair-trigger.result.0 ≡ z.value.trigger) × (c.pair-trigger.result.1 ≡ z.value.rule))) at c.pair-trigger.ensures in
+    let pair = subst (λ o. IfSome o (λ (z : TableRow Pair 8). (c.pair-trigger.result.0 ≡ z.value.trigger) × (c.pair-trigger.result.1 ≡ z.value.rule))) at c.pair-trigger.ensures in
     let live = subst (IsLive (forest mid.tree)) pair.0 c.in_ok-withdraw_effect.ensures.stays in
     let there = c.in_ok-withdraw_effect.ensures.rows c.args.row r at live in
     let on = rule_listed s mid.decisions (under_less old mid first s under) c.first.ensures.listed c.args.number c.args.row r there same in
-    let now = subst (λ (z : Table Pair 6). length (z.list 1 c.args.number) + 1 ≤ length list) (sym c.in_ok-remove.ensures.ok.present_is) (without_shorter c.args.row list on) in
+    let now = subst (λ (z : Table Pair 8). length (z.list 1 c.args.number) + 1 ≤ length list) (sym c.in_ok-remove.ensures.ok.present_is) (without_shorter c.args.row list on) in
     let less = c.in_ok-withdraw_effect.ensures.fewer 1 c.args.number in
     omega (arith, now, less)
 

@@ -28,7 +28,7 @@ loop-rule-preserved c =
     let delay = to_z w64 (of_z w64 c.least_delay-delay.result) in
     let fits : FitsSigned w64 c.least_delay-delay.result = search rules in
     let rows_same = ap (λ (z : Decisions). z.rows) c.loop-rule.invariant.others in
-    let named : (row : TableRow Pair 6) → row.value.rule ≡ n → delay ≡ (rule_of list (rule_in d row)).lo =
+    let named : (row : TableRow Pair 8) → row.value.rule ≡ n → delay ≡ (rule_of list (rule_in d row)).lo =
     λ row is. to_z-of_z w64 c.least_delay-delay.result fits ∙ c.least_delay-delay.ensures ∙ ap (λ name. (rule_of list name).lo) (c.name.ensures ∙ ap (λ (z : Decisions). name_in z.rules n) c.loop-rule.invariant.others ∙ ap (name_in d.rules) (sym is)) in
     record {
       marks = rules_next list d c.requires.under c.first.ensures.listed s (IsDueBetween list s d before after) n (DueBetween delay before after) (dates_in d.waiting) (dates_in c.loop-rule.decisions.waiting) (dates_in c.mark_rule.new.waiting)

@@ -46,7 +46,7 @@ loop-next-preserved c =
     let on = c.loop-next.invariant.2 i c.in-Some-next.is in
     let (front, is, there, told) = c.loop-next.invariant in
     let (row, at) = listed_row t c.first-next.ensures.listed 1 c.in-Some.number i on in
-    let told_pair = subst (λ (o : Option (TableRow Pair 6)). IfSome o (λ r. (c.pair-trigger.result.0 ≡ r.value.trigger) × (c.pair-trigger.result.1 ≡ r.value.rule))) at c.pair-trigger.ensures in
+    let told_pair = subst (λ (o : Option (TableRow Pair 8)). IfSome o (λ r. (c.pair-trigger.result.0 ≡ r.value.trigger) × (c.pair-trigger.result.1 ≡ r.value.rule))) at c.pair-trigger.ensures in
     let trigger : c.pair-trigger.result.0 ≡ trigger_in t i = told_pair.0 ∙ sym (trigger_is t i row at) in
     let here : from_on c.loop-next.next list ≡ i ∷ from_on c.next-next.result list =
     ap (λ o. from_on o list) c.in-Some-next.is ∙ from_next list i (c.first-next.ensures.listed.once 1 c.in-Some.number) on ∙ ap (λ o. i ∷ from_on o list) (sym (c.next-next.ensures c.in-Some.number on)) in (

@@ -6,5 +6,5 @@ use Rattle.belief_net.specs.Windows.{spares_in}
 use Rattle.belief_net.proofs.Marked.{UnderFirst}
 use Rattle.belief_net.proofs.marking.mark_class.Given as goal
 
-abbrev pub invariant-loop-antecedent : goal.invariant-loop-antecedent
-invariant-loop-antecedent l = Marks (present l.tree) (table l.rows) (UnderFirst (present l.tree) (table l.rows) l.from (spares_in l.window) l.antecedent l.class) (dates_in l.fn.waiting) (dates_in l.waiting)
+abbrev pub invariant-loop-place : goal.invariant-loop-place
+invariant-loop-place l = Marks (present l.tree) (table l.rows) (UnderFirst (present l.tree) (table l.rows) l.from (spares_in l.window) l.place l.class) (dates_in l.fn.waiting) (dates_in l.waiting)

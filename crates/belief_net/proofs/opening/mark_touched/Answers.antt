@@ -21,7 +21,7 @@ use Rattle.belief_net.proofs.opening.mark_touched.Goals.{in-Add, in-Erase, in-Up
 use Rattle.belief_net.proofs.opening.mark_touched.Goals as goal
 
 -- an effect is due between two horizons, or it is not
-between_or : (s : Standing) (t : State) (d : Decisions) (before after : ℕ) (row : TableRow Pair 6) → IsDueBetween s t d before after row ⊎ (IsDueBetween s t d before after row → ⊥)
+between_or : (s : Standing) (t : State) (d : Decisions) (before after : ℕ) (row : TableRow Pair 8) → IsDueBetween s t d before after row ⊎ (IsDueBetween s t d before after row → ⊥)
 between_or s t d before after row = by (is_between (early t row.value.trigger +ℤ (rule_of s (rule_in d row)).lo) before after)
   where
     by : (v : Bool) → (v ≡ true) ⊎ (v ≡ true → ⊥)

@@ -16,7 +16,7 @@ pub loop-k-init : goal.loop-k-init
 loop-k-init c = record { marks = classes_none (present c.args.tree.now) c.args.decisions.now c.first.ensures.listed; last = last_stays c.args.decisions.now }
 
 pub mark_token-requires : goal.mark_token-requires
-mark_token-requires c = subst (λ (rows : Logged Pair 6). HaveEvents c.args.tree.now (table rows)) (sym c.loop-k.invariant.marks.rows) c.requires
+mark_token-requires c = subst (λ (rows : Logged Pair 8). HaveEvents c.args.tree.now (table rows)) (sym c.loop-k.invariant.marks.rows) c.requires
 
 pub loop-k-preserved : goal.loop-k-preserved
 loop-k-preserved c =

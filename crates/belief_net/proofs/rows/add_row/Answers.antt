@@ -21,7 +21,7 @@ returns-clause-adds c =
     let new : Decisions = record { rows = c.add.new.self; rules = c.enter.new.self; classes = c.numbers_of.new.classes; waiting = c.push.new.self } in
     let last : KeepsLast old new = record { rows = c.in_ok-row.ensures.ok.committed_is; rules = c.enter.ensures.more; classes = c.in_ok-classes.ensures.more } in
     let adds = subst (λ l. Adds old.rows new.rows c.in_ok-row.row (new_row c.args.event c.in_ok-number.number (classes_in l))) c.as_slice.ensures.value c.in_ok-row.ensures.ok in
-    row_adds s c.args.event c.in_ok-number.number c.in_ok-row.row c.args.date c.args.rule c.args.given.now c.in_ok-classes.classes.items old new c.requires.under last c.in_ok-number.ensures.entered c.requires.given
+    row_adds s c.args.event c.in_ok-number.number c.in_ok-row.row c.args.date c.args.rule c.args.read.now c.in_ok-classes.classes.items old new c.requires.under last c.in_ok-number.ensures.entered c.requires.read
     c.in_ok-classes.ensures.few c.in_ok-classes.ensures.numbers adds (subst (λ z. Puts (dates_in old.waiting) (dates_in new.waiting) c.in_ok-row.row (Some z)) (to_z-of_z w64 c.args.date fits) c.in_ok-push.ensures.ok)
 
 pub returns-clause-under : goal.returns-clause-under
@@ -32,5 +32,5 @@ returns-clause-under c =
     let new : Decisions = record { rows = c.add.new.self; rules = c.enter.new.self; classes = c.numbers_of.new.classes; waiting = c.push.new.self } in
     let last : KeepsLast old new = record { rows = c.in_ok-row.ensures.ok.committed_is; rules = c.enter.ensures.more; classes = c.in_ok-classes.ensures.more } in
     let adds = subst (λ l. Adds old.rows new.rows c.in_ok-row.row (new_row c.args.event c.in_ok-number.number (classes_in l))) c.as_slice.ensures.value c.in_ok-row.ensures.ok in
-    row_under s c.args.event c.in_ok-number.number c.in_ok-row.row c.args.date c.args.rule c.args.given.now c.in_ok-classes.classes.items old new c.requires.under last c.in_ok-number.ensures.entered c.requires.given
+    row_under s c.args.event c.in_ok-number.number c.in_ok-row.row c.args.date c.args.rule c.args.read.now c.in_ok-classes.classes.items old new c.requires.under last c.in_ok-number.ensures.entered c.requires.read
     c.in_ok-classes.ensures.few c.in_ok-classes.ensures.numbers adds (subst (λ z. Puts (dates_in old.waiting) (dates_in new.waiting) c.in_ok-row.row (Some z)) (to_z-of_z w64 c.args.date fits) c.in_ok-push.ensures.ok)

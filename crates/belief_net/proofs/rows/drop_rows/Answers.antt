@@ -20,7 +20,7 @@ pub loop-row-smaller : goal.loop-row-smaller
 loop-row-smaller c =
     let t = present c.loop-row.decisions.rows in
     let less = shorter_without_first c.in-Some.row (t.list 0 c.args.event) (sym c.in-Some.is ∙ c.first.ensures.first) in
-    subst (λ (z : Table Pair 6). length (z.list 0 c.args.event) < length (t.list 0 c.args.event)) (sym c.in_ok-remove.ensures.ok.present_is) less
+    subst (λ (z : Table Pair 8). length (z.list 0 c.args.event) < length (t.list 0 c.args.event)) (sym c.in_ok-remove.ensures.ok.present_is) less
 
 pub loop-row-preserved : goal.loop-row-preserved
 loop-row-preserved c =
@@ -35,7 +35,7 @@ loop-row-preserved c =
       last = record { rows = c.in_ok-remove.ensures.ok.committed_is ∙ c.loop-row.invariant.last.rows; rules = c.loop-row.invariant.last.rules; classes = c.loop-row.invariant.last.classes };
       fewer = λ f h.
           let less = c.loop-row.invariant.fewer f h in
-          let now = subst (λ (z : Table Pair 6). length (z.list f h) ≤ length (t.list f h)) (sym c.in_ok-remove.ensures.ok.present_is) (without_no_longer c.in-Some.row (t.list f h)) in
+          let now = subst (λ (z : Table Pair 8). length (z.list f h) ≤ length (t.list f h)) (sym c.in_ok-remove.ensures.ok.present_is) (without_no_longer c.in-Some.row (t.list f h)) in
           omega (arith, less, now);
     }
 

@@ -22,7 +22,7 @@ decide-found-requires-clause-rule c =
     let s = c.args.standing.now.present in
     let b = c.args.beliefs.now in
     let (row, at, is) = c.requires.fit.dated c.in-Some.entry.row c.in-Some.entry.early.0 c.in-Some.ensures.first.waited in
-    let pair = subst (λ o. IfSome o (λ (r : TableRow Pair 6). (c.pair-trigger.result.0 ≡ r.value.trigger) × (c.pair-trigger.result.1 ≡ r.value.rule))) at c.pair-trigger.ensures in
+    let pair = subst (λ o. IfSome o (λ (r : TableRow Pair 8). (c.pair-trigger.result.0 ≡ r.value.trigger) × (c.pair-trigger.result.1 ≡ r.value.rule))) at c.pair-trigger.ensures in
     let named = c.name-rule.ensures ∙ ap (name_in b.decisions.rules) pair.1 in
     subst (λ t. Contains (rules_at s (moment_at (forest b.tree) t)) c.name-rule.result) (sym pair.0)
     (subst (λ n. Contains (rules_at s (moment_at (forest b.tree) row.value.trigger)) n) (sym named) (stands_at s c.args.net.now.present b c.requires.fit c.requires.revising c.in-Some.entry.row row at))
@@ -44,7 +44,7 @@ returns-clause-covered c =
     let fits : FitsSigned w64 z = search rules in
     let takes = c.in-Some.ensures.first in
     let (row, at, is) = c.requires.fit.dated i z takes.waited in
-    let dated = λ (r : TableRow Pair 6) (here : (table_of d).row i ≡ Some r). is ∙ ap (λ (q : TableRow Pair 6). early s q.value.trigger) (one_row (table_of d) i row r at here) in
+    let dated = λ (r : TableRow Pair 8) (here : (table_of d).row i ≡ Some r). is ∙ ap (λ (q : TableRow Pair 8). early s q.value.trigger) (one_row (table_of d) i row r at here) in
     let all = decided_covered s d new m i z c.decide-found.result takes c.in_ok-set.ensures.ok dated c.requires.covered in
     subst (Covers s new) (sym c.decide.ensures)
     (subst (λ y. Covers s new (record m { decided = later_of m.decided y })) (sym (to_z-of_z w64 z fits)) all)

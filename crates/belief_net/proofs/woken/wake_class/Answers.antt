@@ -7,30 +7,30 @@ use Rattle.belief_net.specs.Woken.{WakesFor}
 use Rattle.belief_net.proofs.Waking.{under_none, under_next, under_all}
 use Rattle.belief_net.proofs.woken.wake_class.Goals as goal
 
-pub loop-antecedent-init : goal.loop-antecedent-init
-loop-antecedent-init c = record {
+pub loop-place-init : goal.loop-place-init
+loop-place-init c = record {
   class = c.in_ok-of_class.ensures.class;
   moves = c.in_ok-of_class.ensures.moves;
   wakes = under_none (present c.args.tree.now) (table c.args.rows.now) c.args.net.now c.args.moves.now c.args.class c.args.number (dates_in c.args.waiting.now);
 }
 
 pub wake_list-requires-clause-class : goal.wake_list-requires-clause-class
-wake_list-requires-clause-class c = c.loop-antecedent.invariant.moves
+wake_list-requires-clause-class c = c.loop-place.invariant.moves
 
-pub loop-antecedent-preserved : goal.loop-antecedent-preserved
-loop-antecedent-preserved c =
-    let n = c.loop-antecedent.antecedent in
+pub loop-place-preserved : goal.loop-place-preserved
+loop-place-preserved c =
+    let n = c.loop-place.place in
     record {
-      class = c.loop-antecedent.invariant.class;
-      moves = c.loop-antecedent.invariant.moves;
-      wakes = under_next (present c.args.tree.now) (table c.args.rows.now) c.args.net.now c.args.moves.now c.args.class n c.args.number (dates_in c.args.waiting.now) (dates_in c.loop-antecedent.waiting)
-          (dates_in c.wake_list.new.waiting) c.loop-antecedent.invariant.wakes
+      class = c.loop-place.invariant.class;
+      moves = c.loop-place.invariant.moves;
+      wakes = under_next (present c.args.tree.now) (table c.args.rows.now) c.args.net.now c.args.moves.now c.args.class n c.args.number (dates_in c.args.waiting.now) (dates_in c.loop-place.waiting)
+          (dates_in c.wake_list.new.waiting) c.loop-place.invariant.wakes
           (subst (λ (class : List ℕ). WakesFor (present c.args.tree.now) (table c.args.rows.now) c.args.net.now c.args.moves.now class (IsOn ((table c.args.rows.now).list (n + 2) c.args.number))
-          (dates_in c.loop-antecedent.waiting) (dates_in c.wake_list.new.waiting))
-          c.loop-antecedent.invariant.class c.in_ok-wake_list.ensures);
+          (dates_in c.loop-place.waiting) (dates_in c.wake_list.new.waiting))
+          c.loop-place.invariant.class c.in_ok-wake_list.ensures);
     }
 
 pub returns : goal.returns
 returns c =
-    under_all (present c.args.tree.now) (table c.args.rows.now) c.args.net.now c.args.moves.now c.args.class c.loop-antecedent.antecedent c.args.number (dates_in c.args.waiting.now) (dates_in c.loop-antecedent.waiting) (omega arith)
-    c.loop-antecedent.invariant.wakes
+    under_all (present c.args.tree.now) (table c.args.rows.now) c.args.net.now c.args.moves.now c.args.class c.loop-place.place c.args.number (dates_in c.args.waiting.now) (dates_in c.loop-place.waiting) (omega arith)
+    c.loop-place.invariant.wakes

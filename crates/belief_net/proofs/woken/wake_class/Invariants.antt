@@ -6,10 +6,10 @@ use Rattle.belief_net.specs.Woken.{AreMovesOf, WakesFor}
 use Rattle.belief_net.proofs.Waking.{UnderFirst}
 use Rattle.belief_net.proofs.woken.wake_class.Given as goal
 
-abbrev pub invariant-loop-antecedent : goal.invariant-loop-antecedent
-invariant-loop-antecedent l = record {
+abbrev pub invariant-loop-place : goal.invariant-loop-place
+invariant-loop-place l = record {
   class : l.of_class.class ≡ l.fn.class;
   moves : AreMovesOf l.net l.moves (present l.tree) l.of_class;
-  wakes : WakesFor (present l.tree) (table l.rows) l.net l.moves l.fn.class (UnderFirst (present l.tree) (table l.rows) l.net l.moves l.fn.class l.antecedent l.number)
+  wakes : WakesFor (present l.tree) (table l.rows) l.net l.moves l.fn.class (UnderFirst (present l.tree) (table l.rows) l.net l.moves l.fn.class l.place l.number)
       (dates_in l.fn.waiting) (dates_in l.waiting);
 }

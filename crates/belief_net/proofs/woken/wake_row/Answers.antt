@@ -18,7 +18,7 @@ pub returns-then-may_rest : goal.returns-then-may_rest
 returns-then-may_rest c =
     let t = table c.args.rows.now in
     let (row, at) = some_row (t.row c.args.i) c.requires.row in
-    let pair = subst (λ o. IfSome o (λ (z : TableRow Pair 6). (c.pair-trigger.result.0 ≡ z.value.trigger) × (c.pair-trigger.result.1 ≡ z.value.rule))) at c.pair-trigger.ensures in
+    let pair = subst (λ o. IfSome o (λ (z : TableRow Pair 8). (c.pair-trigger.result.0 ≡ z.value.trigger) × (c.pair-trigger.result.1 ≡ z.value.rule))) at c.pair-trigger.ensures in
     rested (present c.args.tree.now) t c.args.net.now c.args.moves.now c.args.of_class.now.class c.args.i row (dates_in c.args.waiting.now) at
     (subst (λ (x : ℕ). RestsFor c.args.net.now c.args.moves.now (forest c.args.tree.now) c.args.of_class.now.class x) pair.0 (c.may_rest.ensures.rests c.if-may_rest.true))
 
@@ -30,7 +30,7 @@ returns-else-may_rest c =
     let old = dates_in c.args.waiting.now in
     let new = dates_in c.push.new.self in
     let (row, at) = some_row (t.row c.args.i) c.requires.row in
-    let pair = subst (λ o. IfSome o (λ (z : TableRow Pair 6). (c.pair-trigger.result.0 ≡ z.value.trigger) × (c.pair-trigger.result.1 ≡ z.value.rule))) at c.pair-trigger.ensures in
+    let pair = subst (λ o. IfSome o (λ (z : TableRow Pair 8). (c.pair-trigger.result.0 ≡ z.value.trigger) × (c.pair-trigger.result.1 ≡ z.value.rule))) at c.pair-trigger.ensures in
     let fits : FitsSigned w64 c.early.result = search rules in
     let date = to_z-of_z w64 c.early.result fits ∙ c.early.ensures.date ∙ ap (early s) pair.0 in
     ok_then c.push.result

@@ -7,16 +7,8 @@ use Rattle.clipping.specs.ByDate.{NonePass}
 use Rattle.clipping.proofs.RuledOut.{none_cuts, one_passes}
 use Rattle.clipping.proofs.by_date.is_cut.Goals as goal
 
-pub returns-in-On : goal.returns-in-On
-returns-in-On g c = λ d.
-    let tokens = c.args.tokens.now in
-    let far = g.S.Sure.distance c.args.order.now in
-    let item = c.index-tokens-i.result in
-    subst (λ (k : TokenRow g.row.S-Spot.Denot). true ≡ list_any (cuts of_one_class far k c.args.q) tokens) (get_or_read tokens c.args.i item c.requires.within c.index-tokens-i.is d)
-    (sym (one_passes (cuts of_one_class far item c.args.q) tokens _ _ _ c.requires.reach.within c.in-Some.ensures))
-
-pub returns-in-Back : goal.returns-in-Back
-returns-in-Back g c = λ d.
+pub returns-in-Some : goal.returns-in-Some
+returns-in-Some g c = λ d.
     let tokens = c.args.tokens.now in
     let far = g.S.Sure.distance c.args.order.now in
     let item = c.index-tokens-i.result in

@@ -9,6 +9,7 @@ use Rattle.tmm_model.specs.Reasons.{pairs_of}
 use Rattle.walk_theory.proofs.Members.{All-from_contains, Contains-map}
 use Rattle.spots.specs.Forest.{moment_at}
 use Rattle.occ_tree.specs.Places.{forest}
+use Rattle.supports.proofs.Rules.{rule_there}
 use Rattle.justify.specs.Lines.{IsInOrder, AreOrders, AreLinesOf}
 use Rattle.justify.proofs.Origins.{rule_at}
 use Rattle.justify.proofs.Supported.{supports_in_order}
@@ -18,6 +19,14 @@ use Rattle.justify.proofs.lines.tell_node.Goals as goal
 pub supports_at-supports-requires-clause-rule : goal.supports_at-supports-requires-clause-rule
 supports_at-supports-requires-clause-rule g c =
     rule_at c.args.standing.now.present c.args.net.now.present (forest c.args.tree.now) c.requires.seen.seen c.args.x c.in-Effect.event c.in-Effect.rule c.requires.live c.in-Effect.ensures.1
+
+pub exceptions_of-exceptions-requires : goal.exceptions_of-exceptions-requires
+exceptions_of-exceptions-requires g c =
+    let s = c.args.standing.now.present in
+    let f = forest c.args.tree.now in
+    let sound = c.requires.seen.seen.network.sound in
+    rule_there s sound (moment_at f c.in-Effect.event) c.in-Effect.rule
+    (rule_at s c.args.net.now.present f c.requires.seen.seen c.args.x c.in-Effect.event c.in-Effect.rule c.requires.live c.in-Effect.ensures.1)
 
 pub tell_orders-requires-clause-in_order : goal.tell_orders-requires-clause-in_order
 tell_orders-requires-clause-in_order g c =
@@ -52,7 +61,7 @@ returns-in_ok-derived_line-in-Effect g c =
     on_ok_weaker c.hear-in-Effect.result
     (λ grown.
     hears_more g.R.Listener.parts_of (AreOrders m (flat_map (pairs_of m t) ks)) own (AreLinesOf m x)
-    (effect_lines m x t c.in-Effect.rule ks line c.in-Effect.ensures.1 same c.in_ok-derived_line-in-Effect.ensures.reason) _ _ _
+    (effect_lines m x t c.in-Effect.rule ks c.exceptions_of-exceptions.result.items line c.in-Effect.ensures.1 same c.exceptions_of-exceptions.ensures c.in_ok-derived_line-in-Effect.ensures.reason) _ _ _
     c.in_ok-tell_orders-in-Effect.ensures
     (hears_one g.R.Listener.parts_of own line refl shaped _ _ grown))
     c.hear-in-Effect.ensures

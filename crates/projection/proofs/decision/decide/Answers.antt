@@ -1,4 +1,4 @@
-use Rattle.std.proofs.Common.{◌≡◌, ◌∙◌, true, false, sym, subst, ap, rules, w64}
+use Rattle.std.proofs.Common.{◌≡◌, ◌∙◌, true, false, sym, subst, rules, w64}
 use Rattle.std.specs.Prelude.{IsSome, is_none, FitsSigned}
 use Rattle.std.specs.List.{All}
 use Rattle.tmm_model.specs.Beliefs.{due}
@@ -6,7 +6,7 @@ use Rattle.tmm_model.specs.Sorts.{class_in}
 use Rattle.tmm_model.specs.Standing.{far_in}
 use Rattle.spots.specs.Forest.{moment_at}
 use Rattle.occ_tree.specs.Places.{forest}
-use Rattle.supports.proofs.Rules.{rule_there, facts_known}
+use Rattle.supports.proofs.Rules.{rule_there, facts_known, exceptions_known}
 use Rattle.projection.specs.Decisions.{tried_at}
 use Rattle.projection.proofs.Dates.{told_in_time, untold_late, early_seen, delay_seen, due_is}
 use Rattle.projection.proofs.Tried.{is_tried, is_beyond}
@@ -28,12 +28,19 @@ due_by-requires-clause-delay c =
     delay_seen c.args.standing.now.present c.args.net.now.present (forest c.args.tree.now) c.requires.seen.seen c.args.trigger c.requires.trigger c.early-early.result fits c.early-early.ensures
     c.args.rule c.rule_text-text.result.lo fits_lo c.rule_text-text.ensures.lo c.requires.rule
 
-pub try_given-requires-clause-facts : goal.try_given-requires-clause-facts
-try_given-requires-clause-facts c =
+pub try_facts-requires-clause-facts : goal.try_facts-requires-clause-facts
+try_facts-requires-clause-facts c =
     let s = c.args.standing.now.present in
     let t = moment_at (forest c.args.tree.now) c.args.trigger in
     subst (All (λ fact. IsSome (class_in s.premises fact))) (sym c.rule_text-text.ensures.given)
     (facts_known s c.requires.seen.seen.network.sound c.args.rule (rule_there s c.requires.seen.seen.network.sound t c.args.rule c.requires.rule))
+
+pub try_facts-requires-clause-exceptions : goal.try_facts-requires-clause-exceptions
+try_facts-requires-clause-exceptions c =
+    let s = c.args.standing.now.present in
+    let t = moment_at (forest c.args.tree.now) c.args.trigger in
+    subst (All (λ fact. IsSome (class_in s.premises fact))) (sym c.rule_text-text.ensures.exceptions)
+    (exceptions_known s c.requires.seen.seen.network.sound c.args.rule (rule_there s c.requires.seen.seen.network.sound t c.args.rule c.requires.rule))
 
 pub returns-then-is_none-clause-outcome : goal.returns-then-is_none-clause-outcome
 returns-then-is_none-clause-outcome c b holds =
@@ -54,8 +61,8 @@ returns-clause-outcome c b holds =
     let some : is_none c.due_by.result ≡ false = search rules in
     let fits : FitsSigned w64 c.early-early.result = search rules in
     let fits_lo : FitsSigned w64 c.rule_text-text.result.lo = search rules in
-    c.try_given.ensures.outcome b holds
-    ∙ ap (tried_at s b t) c.rule_text-text.ensures.given
+    c.try_facts.ensures.outcome b holds
+    ∙ (λ i. tried_at s b t (c.rule_text-text.ensures.given i) (c.rule_text-text.ensures.exceptions i))
     ∙ is_tried s (far_in s.premises) b t c.args.rule
     (told_in_time s.horizon (due s (far_in s.premises) t c.args.rule) c.due_by.result
     (due_is s c.args.net.now.present (forest c.args.tree.now) c.requires.seen.seen c.args.trigger c.requires.trigger c.early-early.result fits c.early-early.ensures

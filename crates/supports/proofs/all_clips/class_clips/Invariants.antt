@@ -1,10 +1,13 @@
 use Rattle.std.proofs.Common.{◌≡◌, ℕ, ◌+◌, ◌<◌, ◌≤◌, vec_capacity, vec_len}
 use Rattle.std.specs.Prelude.{Option, IfSome, drop, length, slice_index_or}
 use Rattle.clipping.specs.Stretches.{rows_of, HaveStretches}
+use Rattle.clip_search.specs.Entries.{AreBranches}
 use Rattle.occ_tree.specs.Places.{forest}
 use Rattle.occ_tree.specs.Tokens.{numbers_in}
 use Rattle.spots.specs.Forest.{IsLive}
 use Rattle.supports.specs.Behind.{rows_behind, IsClip}
+use Rattle.spots.specs.Spots.{spot_early}
+use Rattle.supports.proofs.OfLaterDates.{AreUpTo}
 use Rattle.supports.proofs.all_clips.class_clips.Given as goal
 
 abbrev pub invariant-loop-i : goal.invariant-loop-i
@@ -16,4 +19,7 @@ invariant-loop-i l = record {
   long : vec_len l.behind + l.i ≡ length l.rows;
   behind : rows_of l.behind.items ≡ rows_behind (forest l.tree) l.class (drop l.i (numbers_in l.rows));
   stretches : HaveStretches l.behind.items;
+  later : l.later ≤ length l.behind.items;
+  branches : IfSome l.branches (AreBranches (forest l.tree) l.rows);
+  dates : AreUpTo (spot_early l.net.present (forest l.tree)) (rows_of l.behind.items) l.later l.last;
 }

@@ -128,7 +128,7 @@ returns-in-Ok-clause-within c =
     let committed : c.self.inside.standing.committed ≡ c.args.self.now.list = ap (λ (m : MapState). m.list) c.self.view_is in
     counts_edit c.self.inside.standing c.edited.new.standing c.args.edit.now c.args.self.now.list c.args.counter.now c.draw_next.new.counter c.in_ok-erased.ensures.list
     settled.list committed
-    (ap (λ (s : Standing). list_cause s.premises c.args.edit.now) (sym (settled.list ∙ committed)) ∙ c.in_default.ensures.ok.0 refl)
+    (ap (λ (s : Standing). list_cause s c.args.edit.now) (sym (settled.list ∙ committed)) ∙ c.in_default.ensures.ok.0 refl)
     c.in-Ok.ensures.within
 
 pub returns-in-Err-draw_next-clause-within : goal.returns-in-Err-draw_next-clause-within
@@ -137,7 +137,7 @@ returns-in-Err-draw_next-clause-within c =
     let committed : c.self.inside.standing.committed ≡ c.args.self.now.list = ap (λ (m : MapState). m.list) c.self.view_is in
     counts_edit c.self.inside.standing c.edited.new.standing c.args.edit.now c.args.self.now.list c.args.counter.now c.draw_next.new.counter c.in_ok-erased.ensures.list
     settled.list committed
-    (ap (λ (s : Standing). list_cause s.premises c.args.edit.now) (sym (settled.list ∙ committed)) ∙ c.in_default.ensures.ok.0 refl)
+    (ap (λ (s : Standing). list_cause s c.args.edit.now) (sym (settled.list ∙ committed)) ∙ c.in_default.ensures.ok.0 refl)
     c.in-Err-draw_next.ensures.within
 
 pub returns-in-Ok-clause-least : goal.returns-in-Ok-clause-least

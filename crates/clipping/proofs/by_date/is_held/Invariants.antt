@@ -1,7 +1,0 @@
-use Rattle.std.proofs.Common.{length}
-use Rattle.tmm_model.specs.Tokens.{of_one_class, supports}
-use Rattle.clipping.specs.ByDate.{NonePass}
-use Rattle.clipping.proofs.by_date.is_held.Given as goal
-
-abbrev pub invariant-loop-i : goal.invariant-loop-i
-invariant-loop-i g l = NonePass (supports of_one_class (g.S.Sure.distance l.order) l.tokens l.fact l.p l.q) l.tokens l.i (length l.tokens)
