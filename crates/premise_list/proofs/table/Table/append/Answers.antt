@@ -1,4 +1,4 @@
-use Rattle.std.proofs.Common.{◌≡◌, ◌+◌, ◌≤◌, ◌++◌, length, map, ap, subst, sym, ◌∙◌, arith, vec_len, vec_capacity}
+use Rattle.std.proofs.Common.{◌≡◌, ◌+◌, ◌≤◌, ◌++◌, length, ap, subst, sym, ◌∙◌, arith, vec_len, vec_capacity}
 use Rattle.std.specs.Prelude.{Result, Ok, Err, IsOk, is_ok, if◌then◌else◌}
 use Rattle.std.specs.List.{flat_map}
 use Rattle.std.proofs.lemmas.Grind.{flat_map-append}
@@ -6,7 +6,7 @@ use Rattle.std.proofs.lemmas.List.{length-append}
 use Rattle.tmm_model.specs.Standing.{points_of}
 use Rattle.list_theory.specs.WellNamed.{AllFollow, IsWellNamed}
 use Rattle.list_theory.proofs.WellNamed.{points_in-few, append-AllFollow}
-use Rattle.premise_list.specs.Table.{placed, entry_seen}
+use Rattle.premise_list.specs.Table.{placed}
 use Rattle.premise_list.proofs.TableFacts.{placed-append}
 use Rattle.premise_list.proofs.table.Table.append.Goals as goal
 

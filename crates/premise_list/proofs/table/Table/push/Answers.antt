@@ -1,12 +1,11 @@
-use Rattle.std.proofs.Common.{◌≡◌, ◌+◌, ◌++◌, [], map, length, ap, subst, sym, ◌∙◌, arith}
+use Rattle.std.proofs.Common.{◌≡◌, ◌+◌, ◌++◌, map, length, ap, subst, sym, ◌∙◌, arith}
 use Rattle.std.proofs.lemmas.List.{length-append, length_push}
-use Rattle.indexmap.specs.IndexMap.{keys}
 use Rattle.tmm_model.specs.Standing.{points_of, points_in}
 use Rattle.tmm_model.specs.Sorts.{declared_by, declarations_of}
 use Rattle.tmm_model.specs.Verdicts.{first_taken}
 use Rattle.list_theory.specs.WellNamed.{IsWellNamed, Follows}
 use Rattle.list_theory.proofs.WellNamed.{points_in-few, points_of-few, points_in-push, IsWellNamed-push}
-use Rattle.premise_list.specs.Table.{at_place, placed, entry_seen}
+use Rattle.premise_list.specs.Table.{at_place, placed}
 use Rattle.premise_list.proofs.TableFacts.{keys_are, placed-push}
 use Rattle.premise_list.proofs.table.Table.push.Goals as goal
 
