@@ -4,7 +4,7 @@ use Rattle.tmm_model.specs.Answers.{broken}
 use Rattle.tmm_model.specs.Maps.{built}
 use Rattle.protections.proofs.LeftAlone.{left_alone_stay}
 use Rattle.protections.proofs.Protected.{grounded}
-use Rattle.protections.proofs.kept.is_left_alone.Goals as goal
+use Rattle.protections.proofs.reviewing.is_left_alone.Goals as goal
 
 pub has_moved-requires : goal.has_moved-requires
 has_moved-requires c =

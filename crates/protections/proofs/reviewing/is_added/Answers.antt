@@ -4,7 +4,7 @@ use Rattle.tmm_model.specs.Edits.{next_list}
 use Rattle.tmm_model.specs.Points.{same_name}
 use Rattle.tmm_model.specs.Standing.{name_of}
 use Rattle.protections.proofs.Stood.{stood_of_others, stood_all}
-use Rattle.protections.proofs.kept.is_added.Goals as goal
+use Rattle.protections.proofs.reviewing.is_added.Goals as goal
 
 pub returns-in-Add : goal.returns-in-Add
 returns-in-Add c other list at =

@@ -5,7 +5,7 @@ use Rattle.tmm_model.specs.Points.{same_name}
 use Rattle.list_theory.proofs.Elements.{In-list_any, In-from_Contains}
 use Rattle.spots.specs.Spots.{AreTokens}
 use Rattle.occ_tree.specs.Standing.{forest, present}
-use Rattle.protections.proofs.kept.is_untouched.Goals as goal
+use Rattle.protections.proofs.reviewing.is_untouched.Goals as goal
 
 pub returns : goal.returns
 returns c passed nets others =
