@@ -1,5 +1,6 @@
 // The broken protections of a map, found by their names.
-ghost use Rattle.std.specs.Prelude.{◌≡◌, ◌<◌, ◌≤◌, ◌+◌, ℕ, List, None, map, is_some, IfOk, OnOk};
+ghost use Rattle.std.specs.Prelude.{◌≡◌, ◌<◌, ◌≤◌, ◌+◌, ℕ, List, None, map, is_some, if◌then◌else◌, IsSome, IfOk, OnOk};
+ghost use Rattle.tmm_model.specs.Standing.{name_of};
 ghost use Rattle.std.specs.Option.{option_map};
 ghost use Rattle.tmm_model.specs.Answers.{broken, reports, report_of};
 ghost use Rattle.tmm_model.specs.Maps.{built};
@@ -89,6 +90,9 @@ impl BrokenProtections {
 
     // Puts what is reported under a name in the place of what was there. It takes no memory.
     fn put(&mut self, name: Name, report: Option<Report>)
+        requires { IsSome report → 0 < spare self.old.reports }
+        ensures found { found_in self.new ≡ with_report (found_in self.old) name (option_map report_of report) }
+        ensures room { spare self.old.reports ≤ spare self.new.reports + (if is_some report then 1 else 0) }
     {
         match report {
             Some(report) => {

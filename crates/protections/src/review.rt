@@ -1,5 +1,5 @@
 // What an edit makes of the broken protections, and what is told of it.
-ghost use Rattle.std.specs.Prelude.{◌≡◌, ◌×◌, map, IfOk};
+ghost use Rattle.std.specs.Prelude.{◌≡◌, map, IfOk};
 ghost use Rattle.std.specs.Option.{option_map};
 ghost use Rattle.tmm_model.specs.Answers.{report_of};
 ghost use Rattle.protections.specs.Reviews.{news, news_of, mends, mends_of};
