@@ -2,6 +2,7 @@
 ghost use Rattle.std.specs.Prelude.{◌≡◌, ◌≤◌, ℕ, None, map, IsTrue, IfOk};
 ghost use Rattle.tmm_model.specs.Answers.{rows, row_of, size, most_size};
 ghost use Rattle.tmm_model.specs.Maps.{built};
+ghost use Rattle.dist_net.specs.Net.{Net};
 ghost use Rattle.list_net.specs.Fits.{IsNetOf};
 ghost use Rattle.occ_tree.specs.OfLists.{IsTreeOf};
 ghost use Rattle.occ_tree.specs.Places.{forest};

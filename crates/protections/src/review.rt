@@ -1,8 +1,10 @@
 // What an edit makes of the broken protections, and what is told of it.
-ghost use Rattle.std.specs.Prelude.{◌≡◌, map, IfOk};
+ghost use Rattle.std.specs.Prelude.{◌≡◌, [], map, IfOk};
 ghost use Rattle.std.specs.Option.{option_map};
-ghost use Rattle.tmm_model.specs.Answers.{report_of};
-ghost use Rattle.protections.specs.Reviews.{news, news_of, mends, mends_of};
+ghost use Rattle.tmm_model.specs.Answers.{reports, report_of};
+ghost use Rattle.tmm_model.specs.Maps.{TimeMap};
+ghost use Rattle.protections.specs.Found.{Found, AreFound};
+ghost use Rattle.protections.specs.Reviews.{news, news_of, mends, mends_of, IsReviewOf};
 
 use crate::copies::copy;
 use crate::lists::push_some;
@@ -29,8 +31,10 @@ pub struct Review {
 }
 
 impl Review {
-    /// Of no protection. It takes no memory.
-    pub fn none(alloc: Global) -> Review {
+    /// Of an edit before and after which no protection is broken. It takes no memory.
+    pub fn none(alloc: Global) -> Review
+        ensures { (old new : TimeMap) (found : Found) → AreFound (reports old) found → reports old ≡ [] → reports new ≡ [] → IsReviewOf old new found result }
+    {
         Review {
             erased: Vec::new(alloc),
             reviewed: Vec::new(alloc),
