@@ -98,7 +98,10 @@ fn review_added(
     let _ = net.moved();
     let mut found = Vec::new(alloc);
     if let Edit::Add(premise) = edit {
-        push_some_to(&mut found, look(alloc, standing, tree, net, edit, old, premise)?)?;
+        push_some_to(
+            &mut found,
+            look(alloc, standing, tree, net, edit, old, premise)?,
+        )?;
     }
     Ok(found)
 }

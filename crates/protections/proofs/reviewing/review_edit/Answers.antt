@@ -27,9 +27,9 @@ returns c =
     let reviewed : AreReviewed (built lists.present) found lists.present.premises c.if-is_empty.reviewed.items =
     elim c.if-is_empty.branch [
       | then-is_empty+then-is_empty-2+in_ok-reviewed w ↦
-        subst (λ v. AreReviewed (built lists.present) found lists.present.premises v.items) (sym w.reviewed-is) w.in_ok-reviewed.ensures
+          subst (λ v. AreReviewed (built lists.present) found lists.present.premises v.items) (sym w.reviewed-is) w.in_ok-reviewed.ensures
       | else-is_empty+in_ok-reviewed-2 w ↦
-        subst (λ v. AreReviewed (built lists.present) found lists.present.premises v.items) (sym w.reviewed-is) w.in_ok-reviewed-2.ensures
+          subst (λ v. AreReviewed (built lists.present) found lists.present.premises v.items) (sym w.reviewed-is) w.in_ok-reviewed-2.ensures
     ] in
     review_of lists.committed lists.present c.requires.edited.seen_then.network.sound.well_named c.requires.edited.seen_now.network.sound.well_named
     found c.requires.old c.args.erased.now c.in_ok-erased.erased.items c.requires.left_out c.in_ok-erased.ensures
