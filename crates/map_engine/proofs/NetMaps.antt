@@ -22,7 +22,7 @@ use Rattle.belief_net.specs.Updating.{IsKept, IsPending, IsCountedWithin, Commit
 use Rattle.belief_net.proofs.Named.{last_stays}
 use Rattle.revisions.specs.Counted.{changed}
 use Rattle.map_engine.specs.declared.next.Next.{Next}
-use Rattle.map_engine.specs.declared.next.Next.TheVariants.{Nothing, Same, Reported, Changed}
+use Rattle.map_engine.specs.declared.next.Next.TheVariants.{Nothing, Same, Reviewed, Changed}
 use Rattle.map_engine.specs.declared.kept_view.KeptView.{KeptView}
 use Rattle.map_engine.specs.Beliefs.{IsLeftOut}
 use Rattle.map_engine.specs.NetMaps.{AreNodesOf, IsResting, MayRest, IsHeld, IsNetMap, CountsEdit}
@@ -222,7 +222,7 @@ is_nothing s next none = by next none
     by : (n : Next) → pending_list s n ≡ None → n ≡ Nothing
     by Nothing e = refl
     by Same e = cc
-    by (Reported reports) e = cc
+    by (Reviewed review) e = cc
     by (Changed made) e = cc
 
 -- what is held is so where less is known of protections

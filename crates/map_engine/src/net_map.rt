@@ -25,7 +25,6 @@ use dist_net::DistNet;
 use justify::Listener;
 use premise_list::Standing;
 use projection::Counter;
-use protections::copied;
 use std::alloc::Global;
 use std::marker::Model;
 use std::mem;
@@ -92,7 +91,7 @@ fn first_map(
     ensures list { IfOk result (λ m. m.list ≡ standing.committed) }
     ensures idle { IfOk result (λ m. m.pending ≡ None) }
 {
-    let view = first_view(alloc, &standing, &net, nodes.tree())?;
+    let view = first_view(alloc, &standing, nodes.tree())?;
     Ok(NetMap {
         standing,
         net,
@@ -222,7 +221,7 @@ impl MapCore for NetMap {
     }
 
     fn check(&self, alloc: Global) -> Result<Seq<Report>, NoMemory> {
-        copied(alloc, self.view.reports.items())
+        self.view.broken.listed(alloc, &self.standing)
     }
 
     fn list(&self, alloc: Global) -> Result<Seq<ListRow>, NoMemory> {
