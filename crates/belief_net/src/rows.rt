@@ -1,5 +1,5 @@
 // Rows that enter with an event and go with it.
-ghost use Rattle.std.specs.Prelude.{◌≡◌, ◌≤◌, ℕ, [], ◌∷◌, ◌++◌, map, length, Some, IsSome, IfOk, OnOk};
+ghost use Rattle.std.specs.Prelude.{◌≡◌, ◌≤◌, ℕ, [], ◌∷◌, ◌++◌, map, length, Some, IsSome, IfSome, IfOk, OnOk};
 ghost use Rattle.std.specs.List.{All, filter_map};
 ghost use Rattle.tmm_model.specs.Beliefs.{class_of, on_kind, rules_on};
 ghost use Rattle.tmm_model.specs.Moments.{read_by, rule_of};
@@ -8,6 +8,7 @@ ghost use Rattle.list_theory.proofs.Distinct.{Distinct};
 ghost use Rattle.list_theory.proofs.Elements.{In};
 ghost use Rattle.list_theory.specs.WellNamed.{IsSound};
 ghost use Rattle.occ_tree.specs.Classes.{place_in, HaveMore};
+ghost use Rattle.projection.specs.Kinds.{IsCountIn};
 ghost use Rattle.undo_rows.specs.Tables.{AreListed};
 ghost use Rattle.belief_net.specs.Decided.{table_of, AreUnder, AreOfSome, KeepsLast, AddsRows, DropsRows, AreNoLonger};
 
@@ -15,6 +16,7 @@ use crate::numbers::Numbers;
 use crate::state::Decisions;
 use arrayvec::ArrayVec;
 use premise_list::Standing;
+use projection::{KindCount, rules_on_kind};
 use std::alloc::Global;
 use tmm_model::{Name, NoMemory, Premise};
 
@@ -42,6 +44,32 @@ pub(crate) fn add_rows(
         add_premise(alloc, standing, decisions, event, date, kind, premise)?;
     }
     Ok(())
+}
+
+// The same, where what was counted last of the rules on a kind is kept: of events of a kind without rules only the
+// first takes a walk over the premises.
+pub(crate) fn add_rows_after(
+    alloc: Global,
+    standing: &Standing,
+    decisions: &mut Decisions,
+    event: u32,
+    date: i64,
+    kind: Name,
+    last_kind: &mut Option<KindCount>,
+) -> Result<(), NoMemory>
+    requires sound { IsSound standing.now.present }
+    requires once { Distinct (rules_on standing.now.present kind) }
+    requires under { AreUnder standing.now.present decisions.old }
+    requires last_kind { IfSome last_kind.old (IsCountIn standing.now.present) }
+    ensures adds { OnOk result (AddsRows (rules_on standing.now.present kind) event date decisions.old decisions.new) }
+    ensures under { OnOk result (AreUnder standing.now.present decisions.new) }
+    ensures last { KeepsLast decisions.old decisions.new }
+    ensures last_kind { IfSome last_kind.new (IsCountIn standing.now.present) }
+{
+    if rules_on_kind(standing, kind, last_kind) == 0 {
+        return Ok(());
+    }
+    add_rows(alloc, standing, decisions, event, date, kind)
 }
 
 // Adds a row where the premise is a rule on the kind.

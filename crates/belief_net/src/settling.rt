@@ -44,8 +44,18 @@ pub(crate) fn settle(
     // it tells the proof that no count is above the greatest
     let _ = count.value();
     let mut marks = ClassMarks::make(alloc);
+    let mut last_kind = None;
     for _ in 0..u64::MAX {
-        if !turn(alloc, standing, net, beliefs, &mut marks, told, count)? {
+        if !turn(
+            alloc,
+            standing,
+            net,
+            beliefs,
+            &mut marks,
+            told,
+            count,
+            &mut last_kind,
+        )? {
             return Ok(());
         }
     }

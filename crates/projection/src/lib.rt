@@ -18,4 +18,4 @@ mod weight;
 pub use decision::{Counter, Decision, decide};
 pub use growth::{Projected, rebuild};
 pub use kinds::RulesByKind;
-pub use weight::{KindCount, weight_after, weight_of};
+pub use weight::{KindCount, rules_on_kind, weight_after, weight_of};
