@@ -149,7 +149,6 @@ impl Standing {
             .reserve(0, word_count(fall.kept.as_slice()) + owed)?;
         self.rest.reserve(self.shared - shared)?;
         let mut cut = self.table.cut(first)?;
-        // what follows takes no memory
         cut.truncate(self.shared - shared);
         put_before(&mut self.rest, cut);
         self.table.append(&mut fall.kept);

@@ -14,7 +14,7 @@ ghost use Rattle.premise_list.specs.Words.{sort_seen};
 ghost use Rattle.premise_list.specs.Found.{IsFoundAt};
 ghost use Rattle.premise_list.specs.Table.{at_place, placed, word_seen, entry_seen, fact_entry};
 
-use crate::premise::{Sort, facts_of, name_of, point_count, sort_of};
+use crate::premise::{Sort, copy_of, facts_of, name_of, point_count, sort_of};
 use indexmap::IndexMap;
 use std::alloc::Global;
 use std::marker::Model;
