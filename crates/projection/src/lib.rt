@@ -11,6 +11,7 @@
 mod decision;
 mod growth;
 mod kinds;
+mod known;
 mod pending;
 mod rule;
 mod weight;
@@ -18,4 +19,5 @@ mod weight;
 pub use decision::{Counter, Decision, decide};
 pub use growth::{Projected, rebuild};
 pub use kinds::RulesByKind;
-pub use weight::{KindCount, rules_on_kind, weight_after, weight_of};
+pub use known::KnownKinds;
+pub use weight::{KindCount, weight_after, weight_of};
