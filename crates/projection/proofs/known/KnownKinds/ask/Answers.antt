@@ -5,7 +5,6 @@ use Rattle.tmm_model.specs.Beliefs.{rules_on}
 use Rattle.tmm_model.specs.Standing.{Standing}
 use Rattle.name_lists.specs.Lists.{list_of}
 use Rattle.projection.specs.declared.kinds.RulesByKind.{RulesByKind}
-use Rattle.projection.specs.declared.weight.KindCount.{KindCount}
 use Rattle.projection.specs.Kinds.{AreRules, AreRulesOn, IsCountIn}
 use Rattle.projection.proofs.known.KnownKinds.ask.Goals as goal
 
