@@ -1,5 +1,5 @@
 // Effects that enter.
-ghost use Rattle.std.specs.Prelude.{◌≡◌, Some, None, IfSome, IfOk, OnOk};
+ghost use Rattle.std.specs.Prelude.{◌≡◌, Some, None, IfOk, OnOk};
 ghost use Rattle.tmm_model.specs.Moments.{After};
 ghost use Rattle.dist_net.specs.Net.{Net};
 ghost use Rattle.spots.specs.Forest.{Member, member, IsLive, moment_at};
@@ -7,7 +7,7 @@ ghost use Rattle.spots.specs.Seen.{IsSeen};
 ghost use Rattle.occ_tree.specs.OfLists.{IsTreeIn, IsTreeOf};
 ghost use Rattle.occ_tree.specs.Places.{forest};
 ghost use Rattle.occ_tree.specs.Standing.{present, committed, forest as forest_of};
-ghost use Rattle.projection.specs.Kinds.{IsCountIn};
+ghost use Rattle.projection.specs.Kinds.{AreKnown};
 ghost use Rattle.supports.specs.Growing.{Adds, effect_shape, MayEnter};
 ghost use Rattle.supports.specs.Rules.{IsRuleOf};
 ghost use Rattle.undo_rows.specs.Changes.{present as table};
@@ -24,13 +24,13 @@ use crate::windows::window_of;
 use dist_net::DistNet;
 use occ_tree::Tree;
 use premise_list::Standing;
-use projection::KindCount;
+use projection::KnownKinds;
 use std::alloc::Global;
 use tmm_model::{Name, NoMemory, Premise, Shape};
 
 // Adds the effect of a rule that fires at the event of a node, and answers its number, which no node had at the
 // last commit either. If that is an event, its rules get rows, which wait; if it is a token, those rows wait on
-// which it may bear. What was counted last of the rules on a kind is kept.
+// which it may bear. What is known of kinds is kept.
 pub(crate) fn bring_about(
     alloc: Global,
     standing: &Standing,
@@ -39,7 +39,7 @@ pub(crate) fn bring_about(
     marks: &mut ClassMarks,
     trigger: u32,
     rule: Name,
-    last_kind: &mut Option<KindCount>,
+    known: &mut KnownKinds,
 ) -> Result<u32, NoMemory>
     requires tree { IsTreeOf standing.now.present net.now.present beliefs.old.tree }
     requires trigger { IsLive (forest beliefs.old.tree) trigger }
@@ -47,13 +47,13 @@ pub(crate) fn bring_about(
     requires events { HaveEvents beliefs.old.tree (table beliefs.old.decisions.rows) }
     requires under { AreUnder standing.now.present beliefs.old.decisions }
     requires covered { Covers (present beliefs.old.tree) beliefs.old.decisions marks.old }
-    requires last_kind { IfSome last_kind.old (IsCountIn standing.now.present) }
+    requires known { AreKnown standing.now.present known.old }
     ensures ok { OnOk result (Brings standing.now.present net.now.present trigger rule beliefs.old beliefs.new) }
     ensures number { IfOk result (λ x. (b : Brings standing.now.present net.now.present trigger rule beliefs.old beliefs.new) × (b.number ≡ x)) }
     ensures was_free { IfOk result (λ x. forest_of (committed beliefs.old.tree) x ≡ None) }
     ensures covered { OnOk result (Covers (present beliefs.new.tree) beliefs.new.decisions marks.new) }
     ensures last { KeepLast beliefs.old beliefs.new }
-    ensures last_kind { IfSome last_kind.new (IsCountIn standing.now.present) }
+    ensures known { AreKnown standing.now.present known.new }
 {
     // it tells the proof that rows are on their lists
     let _ = beliefs.decisions.rows.first(0, trigger);
@@ -82,7 +82,7 @@ pub(crate) fn bring_about(
                 effect,
                 early,
                 row.what,
-                last_kind,
+                known,
             )?;
             Ok(effect)
         }

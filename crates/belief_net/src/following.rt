@@ -1,5 +1,5 @@
 // What follows of a decision: an effect enters, or is withdrawn.
-ghost use Rattle.std.specs.Prelude.{◌≡◌, ◌≤◌, true, false, IfSome, OnOk, IfErr};
+ghost use Rattle.std.specs.Prelude.{◌≡◌, ◌≤◌, true, false, OnOk, IfErr};
 ghost use Rattle.tmm_model.specs.Answers.{most_size};
 ghost use Rattle.tmm_model.specs.Standing.{Standing as List};
 ghost use Rattle.belief_theory.specs.KeptLists.{last_horizon};
@@ -7,7 +7,7 @@ ghost use Rattle.spots.specs.Forest.{IsLive};
 ghost use Rattle.occ_tree.specs.OfLists.{IsTreeIn};
 ghost use Rattle.occ_tree.specs.Places.{forest};
 ghost use Rattle.occ_tree.specs.Standing.{present};
-ghost use Rattle.projection.specs.Kinds.{IsCountIn};
+ghost use Rattle.projection.specs.Kinds.{AreKnown};
 ghost use Rattle.undo_rows.specs.Changes.{present as table};
 ghost use Rattle.joined.specs.Rows.{fires_by};
 ghost use Rattle.belief_net.specs.Covered.{Covers};
@@ -26,7 +26,7 @@ use crate::told::Told;
 use decision_rows::Decision;
 use dist_net::DistNet;
 use premise_list::Standing;
-use projection::KindCount;
+use projection::KnownKinds;
 use std::alloc::Global;
 use tmm_model::{Name, NoMemory, Stop};
 
@@ -40,22 +40,22 @@ pub(crate) fn follow(
     marks: &mut ClassMarks,
     told: &mut Told,
     due: &Due,
-    last_kind: &mut Option<KindCount>,
+    known: &mut KnownKinds,
 ) -> Result<(), Stop>
     requires after { IsAfterSome standing.now.present net.now.present beliefs.old due.now }
     requires horizon { standing.now.present.horizon ≤ last_horizon }
     requires small { told.old.weight ≤ most_size }
     requires covered { Covers (present beliefs.old.tree) beliefs.old.decisions marks.old }
-    requires last_kind { IfSome last_kind.old (IsCountIn standing.now.present) }
+    requires known { AreKnown standing.now.present known.old }
     ensures ok { OnOk result (IsTurned standing.now.present net.now.present beliefs.old beliefs.new due.now told.old told.new) }
     ensures stops { IfErr result (IsStopped standing.now.present net.now.present beliefs.old due.now told.old) }
     ensures numbered { OnOk result (StayNumbered standing.now.present beliefs.old beliefs.new told.old told.new) }
     ensures covered { OnOk result (Covers (present beliefs.new.tree) beliefs.new.decisions marks.new) }
     ensures last { KeepLast beliefs.old beliefs.new }
-    ensures last_kind { IfSome last_kind.new (IsCountIn standing.now.present) }
+    ensures known { AreKnown standing.now.present known.new }
 {
     match (fires(&due.before), fires(&due.found)) {
-        (false, true) => bring_effect(alloc, standing, net, beliefs, marks, told, due, last_kind),
+        (false, true) => bring_effect(alloc, standing, net, beliefs, marks, told, due, known),
         (true, false) => match withdraw_effect(
             alloc,
             net,
@@ -89,7 +89,7 @@ fn bring_effect(
     marks: &mut ClassMarks,
     told: &mut Told,
     due: &Due,
-    last_kind: &mut Option<KindCount>,
+    known: &mut KnownKinds,
 ) -> Result<(), Stop>
     requires after { IsAfterSome standing.now.present net.now.present beliefs.old due.now }
     requires fires { fires_by due.now.found ≡ true }
@@ -97,13 +97,13 @@ fn bring_effect(
     requires horizon { standing.now.present.horizon ≤ last_horizon }
     requires small { told.old.weight ≤ most_size }
     requires covered { Covers (present beliefs.old.tree) beliefs.old.decisions marks.old }
-    requires last_kind { IfSome last_kind.old (IsCountIn standing.now.present) }
+    requires known { AreKnown standing.now.present known.old }
     ensures ok { OnOk result (IsTurned standing.now.present net.now.present beliefs.old beliefs.new due.now told.old told.new) }
     ensures stops { IfErr result (IsStopped standing.now.present net.now.present beliefs.old due.now told.old) }
     ensures numbered { OnOk result (StayNumbered standing.now.present beliefs.old beliefs.new told.old told.new) }
     ensures covered { OnOk result (Covers (present beliefs.new.tree) beliefs.new.decisions marks.new) }
     ensures last { KeepLast beliefs.old beliefs.new }
-    ensures last_kind { IfSome last_kind.new (IsCountIn standing.now.present) }
+    ensures known { AreKnown standing.now.present known.new }
 {
     match bring_about(
         alloc,
@@ -113,9 +113,9 @@ fn bring_effect(
         marks,
         due.trigger,
         due.rule,
-        last_kind,
+        known,
     ) {
-        Ok(effect) => told.enter(alloc, standing, &beliefs.tree, effect, last_kind),
+        Ok(effect) => told.enter(alloc, standing, &beliefs.tree, effect, known),
         Err(_) => Err(Stop::NoMemory),
     }
 }

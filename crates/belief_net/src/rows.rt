@@ -1,5 +1,5 @@
 // Rows that enter with an event and go with it.
-ghost use Rattle.std.specs.Prelude.{◌≡◌, ◌≤◌, ℕ, [], ◌∷◌, ◌++◌, map, length, Some, IsSome, IfSome, IfOk, OnOk};
+ghost use Rattle.std.specs.Prelude.{◌≡◌, ◌≤◌, ℕ, [], ◌∷◌, ◌++◌, map, length, Some, IsSome, IfOk, OnOk};
 ghost use Rattle.std.specs.List.{All, filter_map};
 ghost use Rattle.tmm_model.specs.Beliefs.{class_of, on_kind, rules_on};
 ghost use Rattle.tmm_model.specs.Moments.{read_by, rule_of};
@@ -8,7 +8,8 @@ ghost use Rattle.list_theory.proofs.Distinct.{Distinct};
 ghost use Rattle.list_theory.proofs.Elements.{In};
 ghost use Rattle.list_theory.specs.WellNamed.{IsSound};
 ghost use Rattle.occ_tree.specs.Classes.{place_in, HaveMore};
-ghost use Rattle.projection.specs.Kinds.{IsCountIn};
+ghost use Rattle.projection.specs.Kinds.{AreKnown};
+ghost use Rattle.projection.specs.Places.{name_at, IsRuleAt};
 ghost use Rattle.undo_rows.specs.Tables.{AreListed};
 ghost use Rattle.belief_net.specs.Decided.{table_of, AreUnder, AreOfSome, KeepsLast, AddsRows, DropsRows, AreNoLonger};
 
@@ -16,7 +17,7 @@ use crate::numbers::Numbers;
 use crate::state::Decisions;
 use arrayvec::ArrayVec;
 use premise_list::Standing;
-use projection::{KindCount, rules_on_kind};
+use projection::KnownKinds;
 use std::alloc::Global;
 use tmm_model::{Name, NoMemory, Premise};
 
@@ -46,8 +47,7 @@ pub(crate) fn add_rows(
     Ok(())
 }
 
-// The same, where what was counted last of the rules on a kind is kept: of events of a kind without rules only the
-// first takes a walk over the premises.
+// The same by what is known of kinds: of many events only the first few take a walk over the premises.
 pub(crate) fn add_rows_after(
     alloc: Global,
     standing: &Standing,
@@ -55,21 +55,83 @@ pub(crate) fn add_rows_after(
     event: u32,
     date: i64,
     kind: Name,
-    last_kind: &mut Option<KindCount>,
+    known: &mut KnownKinds,
 ) -> Result<(), NoMemory>
     requires sound { IsSound standing.now.present }
     requires once { Distinct (rules_on standing.now.present kind) }
     requires under { AreUnder standing.now.present decisions.old }
-    requires last_kind { IfSome last_kind.old (IsCountIn standing.now.present) }
+    requires known { AreKnown standing.now.present known.old }
     ensures adds { OnOk result (AddsRows (rules_on standing.now.present kind) event date decisions.old decisions.new) }
     ensures under { OnOk result (AreUnder standing.now.present decisions.new) }
     ensures last { KeepsLast decisions.old decisions.new }
-    ensures last_kind { IfSome last_kind.new (IsCountIn standing.now.present) }
+    ensures known { AreKnown standing.now.present known.new }
 {
-    if rules_on_kind(standing, kind, last_kind) == 0 {
-        return Ok(());
+    if !known.ask(alloc, standing, kind)? {
+        return add_rows(alloc, standing, decisions, event, date, kind);
     }
-    add_rows(alloc, standing, decisions, event, date, kind)
+    add_rows_at(alloc, standing, decisions, event, date, known.places(&kind))
+}
+
+// Adds a row for each of the rules at these places of the list.
+fn add_rows_at(
+    alloc: Global,
+    standing: &Standing,
+    decisions: &mut Decisions,
+    event: u32,
+    date: i64,
+    places: &[u32],
+) -> Result<(), NoMemory>
+    requires sound { IsSound standing.now.present }
+    requires places { All (IsRuleAt standing.now.present) places.now }
+    requires once { Distinct (map (name_at standing.now.present) places.now) }
+    requires under { AreUnder standing.now.present decisions.old }
+    ensures adds { OnOk result (AddsRows (map (name_at standing.now.present) places.now) event date decisions.old decisions.new) }
+    ensures under { OnOk result (AreUnder standing.now.present decisions.new) }
+    ensures last { KeepsLast decisions.old decisions.new }
+{
+    for place in places {
+        add_row_at(alloc, standing, decisions, event, date, *place)?;
+    }
+    Ok(())
+}
+
+// Adds a row of the rule at this place of the list.
+fn add_row_at(
+    alloc: Global,
+    standing: &Standing,
+    decisions: &mut Decisions,
+    event: u32,
+    date: i64,
+    place: u32,
+) -> Result<(), NoMemory>
+    requires sound { IsSound standing.now.present }
+    requires place { IsRuleAt standing.now.present place }
+    requires under { AreUnder standing.now.present decisions.old }
+    ensures adds { OnOk result (AddsRows (name_at standing.now.present place ∷ []) event date decisions.old decisions.new) }
+    ensures under { OnOk result (AreUnder standing.now.present decisions.new) }
+    ensures last { KeepsLast decisions.old decisions.new }
+{
+    let Some(
+        Premise::Rule {
+            name,
+            given,
+            unless_facts,
+            ..
+        },
+    ) = standing.at(place as usize)
+    else {
+        unreachable!()
+    };
+    let read = facts_read(given.as_slice(), unless_facts.as_slice());
+    add_row(
+        alloc,
+        standing,
+        decisions,
+        event,
+        date,
+        *name,
+        read.as_slice(),
+    )
 }
 
 // Adds a row where the premise is a rule on the kind.

@@ -13,7 +13,7 @@ use crate::told::Told;
 use crate::turn::turn;
 use dist_net::DistNet;
 use premise_list::Standing;
-use projection::Counter;
+use projection::{Counter, KnownKinds};
 use std::alloc::Global;
 use tmm_model::Stop;
 
@@ -44,17 +44,10 @@ pub(crate) fn settle(
     // it tells the proof that no count is above the greatest
     let _ = count.value();
     let mut marks = ClassMarks::make(alloc);
-    let mut last_kind = None;
+    let mut known = KnownKinds::make();
     for _ in 0..u64::MAX {
         if !turn(
-            alloc,
-            standing,
-            net,
-            beliefs,
-            &mut marks,
-            told,
-            count,
-            &mut last_kind,
+            alloc, standing, net, beliefs, &mut marks, told, count, &mut known,
         )? {
             return Ok(());
         }

@@ -1,9 +1,9 @@
 // A turn of the loop: the row that is due first is decided again.
-ghost use Rattle.std.specs.Prelude.{◌≡◌, ◌+◌, ◌≤◌, ℕ, min, None, IsSome, IfSome, MatchOption, IfOk, OnOk, IfErr};
+ghost use Rattle.std.specs.Prelude.{◌≡◌, ◌+◌, ◌≤◌, ℕ, min, None, IsSome, MatchOption, IfOk, OnOk, IfErr};
 ghost use Rattle.tmm_model.specs.Answers.{most_size};
 ghost use Rattle.belief_theory.specs.KeptLists.{last_horizon};
 ghost use Rattle.occ_tree.specs.Standing.{present};
-ghost use Rattle.projection.specs.Kinds.{IsCountIn};
+ghost use Rattle.projection.specs.Kinds.{AreKnown};
 ghost use Rattle.belief_net.specs.Covered.{Covers};
 ghost use Rattle.belief_net.specs.Entering.{KeepLast};
 ghost use Rattle.belief_net.specs.Numbered.{StayNumbered};
@@ -18,13 +18,13 @@ use crate::state::BeliefNet;
 use crate::told::Told;
 use dist_net::DistNet;
 use premise_list::Standing;
-use projection::{Counter, KindCount};
+use projection::{Counter, KnownKinds};
 use std::alloc::Global;
 use tmm_model::{NoMemory, Stop};
 
 // A turn: the row that is due first is decided again, and its effect enters or is withdrawn where that is
-// decided; whether a row waited. What entered may not count more than 100,000. What was counted last of the rules on
-// a kind is kept from turn to turn.
+// decided; whether a row waited. What entered may not count more than 100,000. What is known of kinds is kept from turn
+// to turn.
 pub(crate) fn turn(
     alloc: Global,
     standing: &Standing,
@@ -33,25 +33,25 @@ pub(crate) fn turn(
     marks: &mut ClassMarks,
     told: &mut Told,
     counter: &mut Counter,
-    last_kind: &mut Option<KindCount>,
+    known: &mut KnownKinds,
 ) -> Result<bool, Stop>
     requires fit { IsFit standing.now.present net.now.present beliefs.old }
     requires revising { IsRevising standing.now.present net.now.present beliefs.old }
     requires horizon { standing.now.present.horizon ≤ last_horizon }
     requires small { told.old.weight ≤ most_size }
     requires covered { Covers (present beliefs.old.tree) beliefs.old.decisions marks.old }
-    requires last_kind { IfSome last_kind.old (IsCountIn standing.now.present) }
+    requires known { AreKnown standing.now.present known.old }
     ensures ok { IfOk result (TurnsOrRests standing.now.present net.now.present beliefs.old beliefs.new told.old told.new counter.old counter.new) }
     ensures stops { IfErr result (StopsTurn standing.now.present net.now.present beliefs.old told.old) }
     ensures counted { CountsOne beliefs.old counter.old counter.new }
     ensures numbered { OnOk result (StayNumbered standing.now.present beliefs.old beliefs.new told.old told.new) }
     ensures covered { OnOk result (Covers (present beliefs.new.tree) beliefs.new.decisions marks.new) }
     ensures last { KeepLast beliefs.old beliefs.new }
-    ensures last_kind { IfSome last_kind.new (IsCountIn standing.now.present) }
+    ensures known { AreKnown standing.now.present known.new }
 {
     match decide_first(alloc, standing, net, beliefs, marks, counter) {
         Ok(Some(due)) => {
-            follow(alloc, standing, net, beliefs, marks, told, &due, last_kind)?;
+            follow(alloc, standing, net, beliefs, marks, told, &due, known)?;
             Ok(true)
         }
         Ok(None) => Ok(false),

@@ -5,12 +5,14 @@
 //! tree of the believed occurrences, from what is declared, by deciding each rule that is due at an
 //! event once, in the order of dates; it answers also the size of the map, and refuses exactly a list whose map is
 //! too large. `RulesByKind` tells which rules are on the kind of an event, and `weight_of` what an occurrence
-//! counts of that size, as `weight_after` does for one node after the other. Without memory a call answers that.
+//! counts of that size, as `weight_after` does for one node after the other. `KnownKinds` tells both of events
+//! that enter one after the other. Without memory a call answers that.
 #![tactic(auto)]
 
 mod decision;
 mod growth;
 mod kinds;
+mod known;
 mod pending;
 mod rule;
 mod weight;
@@ -18,4 +20,5 @@ mod weight;
 pub use decision::{Counter, Decision, decide};
 pub use growth::{Projected, rebuild};
 pub use kinds::RulesByKind;
-pub use weight::{KindCount, rules_on_kind, weight_after, weight_of};
+pub use known::KnownKinds;
+pub use weight::{KindCount, weight_after, weight_of};

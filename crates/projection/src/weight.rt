@@ -62,9 +62,8 @@ fn count_at(standing: &Standing, tree: &Tree, x: u32, last: &mut Option<KindCoun
     }
 }
 
-/// How many standing rules are on a kind. It is kept as what was counted last: asked of the same kind again, it takes
-/// no walk over the premises.
-pub fn rules_on_kind(standing: &Standing, kind: Name, last: &mut Option<KindCount>) -> u64
+// How many standing rules are on a kind. It is kept as what was counted last.
+pub(crate) fn rules_on_kind(standing: &Standing, kind: Name, last: &mut Option<KindCount>) -> u64
     requires { IfSome last.old (IsCountIn standing.now.present) }
     ensures value { result ≡ length (rules_on standing.now.present kind) }
     ensures few { result ≤ 2000 }
