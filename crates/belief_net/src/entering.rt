@@ -28,9 +28,9 @@ use projection::KnownKinds;
 use std::alloc::Global;
 use tmm_model::{Name, NoMemory, Premise, Shape};
 
-// Adds the effect of a rule that fires at the event of a node, and answers its number, which no node had at the
-// last commit either. If that is an event, its rules get rows, which wait; if it is a token, those rows wait on
-// which it may bear. What is known of kinds is kept.
+// Adds the effect of a rule that fires at the event of a node, and answers its number, which no
+// node had at the last commit either. If that is an event, its rules get rows, which wait; if it is
+// a token, those rows wait on which it may bear. What is known of kinds is kept.
 pub(crate) fn bring_about(
     alloc: Global,
     standing: &Standing,
@@ -89,8 +89,8 @@ pub(crate) fn bring_about(
     }
 }
 
-// Adds what a rule leads to from the event of a node, and answers its number, which no node had at the last commit
-// either.
+// Adds what a rule leads to from the event of a node, and answers its number, which no node had at
+// the last commit either.
 fn enter_effect(
     alloc: Global,
     standing: &Standing,
@@ -147,9 +147,10 @@ pub(crate) fn mark_token(
     Ok(())
 }
 
-// Lets those rows wait on which the token of a class at a node may bear, which enters or leaves with these nodes. After the
-// first few tokens of a class all its rows wait from the date of one on, which serves those to come: an edit may move many
-// tokens of a class, and to walk over all its rows for each of them would take the square.
+// Lets those rows wait on which the token of a class at a node may bear, which enters or leaves
+// with these nodes. After the first few tokens of a class all its rows wait from the date of one
+// on, which serves those to come: an edit may move many tokens of a class, and to walk over all its
+// rows for each of them would take the square.
 pub(crate) fn mark_readers(
     alloc: Global,
     tree: &Tree,

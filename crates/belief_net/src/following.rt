@@ -30,8 +30,9 @@ use projection::KnownKinds;
 use std::alloc::Global;
 use tmm_model::{Name, NoMemory, Stop};
 
-// Lets follow what was decided: where the rule fires that did not, its effect enters; where it fires no more,
-// that is withdrawn with all below it. Both are told. What entered may not count more than 100,000.
+// Lets follow what was decided: where the rule fires that did not, its effect enters; where it
+// fires no more, that is withdrawn with all below it. Both are told. What entered may not count
+// more than 100,000.
 pub(crate) fn follow(
     alloc: Global,
     standing: &Standing,
@@ -120,7 +121,8 @@ fn bring_effect(
     }
 }
 
-// Withdraws the effect of a rule at the event of a node with all below it, and tells that they left.
+// Withdraws the effect of a rule at the event of a node with all below it, and tells that they
+// left.
 fn withdraw_effect(
     alloc: Global,
     net: &DistNet,

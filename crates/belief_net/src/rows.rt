@@ -21,8 +21,8 @@ use projection::KnownKinds;
 use std::alloc::Global;
 use tmm_model::{Name, NoMemory, Premise};
 
-// Adds a row for each standing rule on a kind at the node of an event of that kind. None is decided yet, so all
-// of them wait, for the date of the event.
+// Adds a row for each standing rule on a kind at the node of an event of that kind. None is decided
+// yet, so all of them wait, for the date of the event.
 pub(crate) fn add_rows(
     alloc: Global,
     standing: &Standing,
@@ -47,7 +47,8 @@ pub(crate) fn add_rows(
     Ok(())
 }
 
-// The same by what is known of kinds: of many events only the first few take a walk over the premises.
+// The same by what is known of kinds: of many events only the first few take a walk over the
+// premises.
 pub(crate) fn add_rows_after(
     alloc: Global,
     standing: &Standing,

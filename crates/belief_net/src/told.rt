@@ -53,8 +53,8 @@ impl Told {
         }
     }
 
-    // Tells of the occurrence at a node that it entered. What entered may not count more than 100,000. What is known of
-    // kinds is kept.
+    // Tells of the occurrence at a node that it entered. What entered may not count more than
+    // 100,000. What is known of kinds is kept.
     pub(crate) fn enter(
         &mut self,
         alloc: Global,

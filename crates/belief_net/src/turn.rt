@@ -22,9 +22,9 @@ use projection::{Counter, KnownKinds};
 use std::alloc::Global;
 use tmm_model::{NoMemory, Stop};
 
-// A turn: the row that is due first is decided again, and its effect enters or is withdrawn where that is
-// decided; whether a row waited. What entered may not count more than 100,000. What is known of kinds is kept from turn
-// to turn.
+// A turn: the row that is due first is decided again, and its effect enters or is withdrawn where
+// that is decided; whether a row waited. What entered may not count more than 100,000. What is
+// known of kinds is kept from turn to turn.
 pub(crate) fn turn(
     alloc: Global,
     standing: &Standing,
@@ -59,8 +59,8 @@ pub(crate) fn turn(
     }
 }
 
-// Decides the row again that is due first, keeps what is decided and counts the decision; none where no row
-// waits.
+// Decides the row again that is due first, keeps what is decided and counts the decision; none
+// where no row waits.
 fn decide_first(
     alloc: Global,
     standing: &Standing,

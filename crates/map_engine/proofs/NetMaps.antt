@@ -249,7 +249,8 @@ kept_map lists nets b view guarded next is lists_new nets_new guarded_new edit l
 
 -- ---- how many decisions are counted
 
--- where no cause stands against the edit, what is counted within what it touches is so of the list before
+-- where no cause stands against the edit, what is counted within what it touches is so of the list
+-- before
 pub counts_edit : (lists new : States) (edit : Edit) (s : Standing) (before count : ℕ) → new ≡ record lists { present = next_list lists.present edit }
     → lists.present ≡ lists.committed → lists.committed ≡ s → list_cause s edit ≡ None → IsCountedWithin new before count → CountsEdit s edit before count
 counts_edit lists new edit s before count made one is none within =

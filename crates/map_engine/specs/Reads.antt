@@ -9,7 +9,8 @@ use Rattle.belief_list.specs.KeptRows.{row_under, AreRowsOf}
 use Rattle.protections.specs.Found.{Found, AreFound, found_in}
 use Rattle.map_engine.specs.declared.kept_view.KeptView.{KeptView}
 
--- the size, what is kept of each node under its number, and the broken protections under their names
+-- the size, what is kept of each node under its number, and the broken protections under their
+-- names
 pub record Read : Type 0 where
   pub size : ℕ
   pub rows : ℕ → Option KeptRow

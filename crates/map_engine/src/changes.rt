@@ -13,8 +13,8 @@ use protections::delta;
 use std::alloc::Global;
 use tmm_model::{Changes, Name, NoMemory, Report, Seq};
 
-// What changes from the map of one list to that of another, from which these premises are gone, where it
-// is told what changes of belief.
+// What changes from the map of one list to that of another, from which these premises are gone,
+// where it is told what changes of belief.
 pub(crate) fn with_reports(
     alloc: Global,
     standing: &Standing,

@@ -85,8 +85,8 @@ pub(crate) fn kept_rows(
     list_rows(alloc, tree, rows.items())
 }
 
-// Whether these are the believed occurrences of the list, in their order. They are, and it is found anew
-// from the list.
+// Whether these are the believed occurrences of the list, in their order. They are, and it is found
+// anew from the list.
 pub(crate) fn audited_view(
     alloc: Global,
     standing: &Standing,

@@ -42,9 +42,10 @@ use protections::{BrokenProtections, Review, review_edit};
 use std::alloc::Global;
 use tmm_model::{Changes, Edit, Name, NoMemory, Seq, Stop};
 
-// Makes nodes and decisions those of the list that the edit leaves, which list and network have already, and
-// answers what is read of them then and what changes. Only what the edit may have touched is looked at. A map
-// that is too large is refused. After an error `rollback` of the nodes leads back.
+// Makes nodes and decisions those of the list that the edit leaves, which list and network have
+// already, and answers what is read of them then and what changes. Only what the edit may have
+// touched is looked at. A map that is too large is refused. After an error `rollback` of the nodes
+// leads back.
 pub(crate) fn moved(
     alloc: Global,
     edit: &Edit,
@@ -105,8 +106,9 @@ pub(crate) fn moved(
     )
 }
 
-// What is read of the nodes of a tree, and what changed since its last commit, where it is told what entered
-// and left, and among these other numbers are those of the roots that are gone, and of the events of which the rules changed.
+// What is read of the nodes of a tree, and what changed since its last commit, where it is told
+// what entered and left, and among these other numbers are those of the roots that are gone, and of
+// the events of which the rules changed.
 fn read(
     alloc: Global,
     edit: &Edit,

@@ -32,10 +32,10 @@ use tmm_model::{
     Answer, Bound, Edit, ListRow, Name, NoMemory, Occ, QueryPoint, Report, Seq, Stop, WalkStep,
 };
 
-/// A map that keeps the standing list, its distances, and the believed occurrences with the decisions on
-/// which they rest. An edit that moves no point of an occurrence, and adds or retracts points, constraints and
-/// protections alone, leaves these as they are; at any other only those decisions are made again that it
-/// touches, and what it changed is undone by a rollback.
+/// A map that keeps the standing list, its distances, and the believed occurrences with the
+/// decisions on which they rest. An edit that moves no point of an occurrence, and adds or retracts
+/// points, constraints and protections alone, leaves these as they are; at any other only those
+/// decisions are made again that it touches, and what it changed is undone by a rollback.
 #[derive(Drop)]
 pub struct NetMap {
     standing: Standing,
@@ -77,7 +77,8 @@ impl NetMap {
     }
 }
 
-// The map of a list in which nothing is declared to occur, so that there is no node, and no protection stands.
+// The map of a list in which nothing is declared to occur, so that there is no node, and no
+// protection stands.
 fn first_map(
     alloc: Global,
     standing: Standing,

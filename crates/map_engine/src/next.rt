@@ -32,8 +32,8 @@ use protections::{Review, review_edit};
 use std::alloc::Global;
 use tmm_model::{Changes, Edit, Name, NoMemory, Premise, Report, Seq, Stop};
 
-// What is read of the believed occurrences of the list that a pending edit leaves, beside what was read
-// before it.
+// What is read of the believed occurrences of the list that a pending edit leaves, beside what was
+// read before it.
 #[derive(Drop)]
 pub(crate) enum Next {
     // No edit is pending.
@@ -59,10 +59,11 @@ pub(crate) struct Known {
     pub before: u32,
 }
 
-// Makes nodes and decisions those of the list that an edit leaves, which list and network have already, and
-// answers what is read of them then and what changes. Where the same is believed of both lists, nothing
-// of the size of the map is walked, and premises only if a protection may stand; else no more decisions are
-// made than the edit touches. After an error `rollback` of the nodes leads back.
+// Makes nodes and decisions those of the list that an edit leaves, which list and network have
+// already, and answers what is read of them then and what changes. Where the same is believed of
+// both lists, nothing of the size of the map is walked, and premises only if a protection may
+// stand; else no more decisions are made than the edit touches. After an error `rollback` of the
+// nodes leads back.
 pub(crate) fn draw_next(
     alloc: Global,
     edit: &Edit,
@@ -119,8 +120,8 @@ pub(crate) fn draw_next(
     }
 }
 
-// The same where the list that the edit leaves is alike in all that beliefs read, and no class is touched: those
-// protections are looked at again that the edit adds, or of which a point moved.
+// The same where the list that the edit leaves is alike in all that beliefs read, and no class is
+// touched: those protections are looked at again that the edit adds, or of which a point moved.
 fn unmoved(
     alloc: Global,
     edit: &Edit,

@@ -15,8 +15,9 @@ use premise_list::Standing;
 use std::alloc::Global;
 use tmm_model::{Name, NoMemory};
 
-/// What is known of the rules on kinds, while events enter one after the other. The first event takes a walk over
-/// the premises; where another one would take one too, all rules are put under their kinds.
+/// What is known of the rules on kinds, while events enter one after the other. The first event
+/// takes a walk over the premises; where another one would take one too, all rules are put under
+/// their kinds.
 #[derive(Drop)]
 pub struct KnownKinds {
     last: Option<KindCount>,
@@ -34,7 +35,8 @@ impl KnownKinds {
         }
     }
 
-    /// Asks of the rules on a kind; whether `places` tells them then. If not, it is the first kind, and has rules.
+    /// Asks of the rules on a kind; whether `places` tells them then. If not, it is the first kind,
+    /// and has rules.
     pub fn ask(&mut self, alloc: Global, standing: &Standing, kind: Name) -> Result<bool, NoMemory>
         requires known { AreKnown standing.now.present self.old }
         ensures told { IfOk result (λ told. told ≡ true → AreRulesOn standing.now.present kind (places_in self.new kind)) }

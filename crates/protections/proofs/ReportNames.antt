@@ -1,4 +1,5 @@
--- The report of a standing protection is found by its name, and none under a name that no premise has.
+-- The report of a standing protection is found by its name, and none under a name that no premise
+-- has.
 use Rattle.std.proofs.Common.{◌≡◌, ◌∙◌, ℕ, Bool, true, false, List, [], ◌∷◌, cond, refl, sym, ap, subst, inl, inr}
 use Rattle.std.specs.Prelude.{Option, Some, None}
 use Rattle.std.specs.List.{filter_map, cons_option}
@@ -78,7 +79,8 @@ only_one ps named p at o there same =
     let both : Some o ≡ Some p = sym first ∙ found ps named p at in
     cc
 
--- **What is reported under the name of a standing protection is its report**, none where it is not broken.
+-- **What is reported under the name of a standing protection is its report**, none where it is not
+-- broken.
 pub report_found : (m : TimeMap) → IsWellNamed m.list.premises → (p : Premise) → In p m.list.premises → report_in (reports m) (name_of p) ≡ broken m p
 report_found m named p at = by (broken m p) refl
   where

@@ -28,7 +28,8 @@ pub record IsOfUntouched (lists : States) (nets : Nets) (tree : Kept) (fact : Li
   pub untouched : IsUntouched nets tree class
   pub tokens : AreTokens (forest (present tree)) class ((present tree).tokens class)
 
--- The edit left the protection alone: it stood before, neither of its points moved, and the class of its fact is untouched.
+-- The edit left the protection alone: it stood before, neither of its points moved, and the class
+-- of its fact is untouched.
 pub record IsLeftAlone (lists : States) (nets : Nets) (tree : Kept) (name fact : List ℕ) (from to : PointName) : Type 0 where
   pub stood : Contains lists.committed.premises (Protect name fact from to)
   pub first : IsStill nets from

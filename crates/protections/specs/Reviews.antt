@@ -29,7 +29,8 @@ abbrev pub mends : List Reviewed → List (List ℕ)
 mends rs = filter_map mends_of rs
 
 module _ (m : TimeMap) (found : Found) where
-  -- The protection was looked at: m is the map after the edit, and what was found under each name is of the map before it.
+  -- The protection was looked at: m is the map after the edit, and what was found under each name
+  -- is of the map before it.
   pub record IsReviewed (p : Premise) (r : Reviewed) : Type 0 where
     pub name : protection_name p ≡ Some r.name
     pub was : r.was_broken ≡ is_some (found r.name)
@@ -44,8 +45,8 @@ module _ (m : TimeMap) (found : Found) where
   AreReviewed [] rs = rs ≡ []
   AreReviewed (p ∷ ps) rs = (o : Option Reviewed) × (rest : List Reviewed) × (rs ≡ cons_option o rest) × Reviews p o × AreReviewed ps rest
 
--- **The review of an edit**: once it is taken over, under each name is what is reported of the map after the edit; and what it
--- tells is what the edit breaks and mends.
+-- **The review of an edit**: once it is taken over, under each name is what is reported of the map
+-- after the edit; and what it tells is what the edit breaks and mends.
 pub record IsReviewOf (old new : TimeMap) (found : Found) (review : Review) : Type 0 where
   pub after : AreFound (reports new) (after_review found review)
   pub broken : news review.reviewed.items ≡ (delta old new).broken

@@ -11,8 +11,8 @@ use crate::lists::push_some;
 use std::alloc::Global;
 use tmm_model::{Name, NoMemory, Report, Seq};
 
-/// A protection that was looked at again: whether it was broken before the edit, and its report if it is broken
-/// after it.
+/// A protection that was looked at again: whether it was broken before the edit, and its report if
+/// it is broken after it.
 #[derive(Drop)]
 pub struct Reviewed {
     pub(crate) name: Name,
@@ -20,8 +20,8 @@ pub struct Reviewed {
     pub(crate) report: Option<Report>,
 }
 
-/// What an edit makes of the broken protections. Those that are not named here are broken as before, or not
-/// broken as before.
+/// What an edit makes of the broken protections. Those that are not named here are broken as
+/// before, or not broken as before.
 #[derive(Drop)]
 pub struct Review {
     // the names of those broken before that stand no more
@@ -41,8 +41,8 @@ impl Review {
         }
     }
 
-    /// The protections that are newly broken, and the names of those that stand and are broken no longer, both in
-    /// the order of premises.
+    /// The protections that are newly broken, and the names of those that stand and are broken no
+    /// longer, both in the order of premises.
     pub fn told(&self, alloc: Global) -> Result<(Seq<Report>, Seq<Name>), NoMemory>
         ensures { IfOk result (λ told. (map report_of told.0.items ≡ news self.now.reviewed.items) × (told.1.items ≡ mends self.now.reviewed.items)) }
     {

@@ -28,9 +28,9 @@ use premise_list::Standing;
 use std::alloc::Global;
 use tmm_model::{Edit, Name, NoMemory, PointName, Premise};
 
-/// What an edit makes of the broken protections. A protection is looked at again only if the edit adds it, or
-/// touches the class of its fact, or a point of it moved; where it touches no class and moves nothing, premises are not
-/// walked.
+/// What an edit makes of the broken protections. A protection is looked at again only if the edit
+/// adds it, or touches the class of its fact, or a point of it moved; where it touches no class and
+/// moves nothing, premises are not walked.
 pub fn review_edit(
     alloc: Global,
     standing: &Standing,
@@ -75,7 +75,8 @@ fn broken_among(
     Ok(found)
 }
 
-// The protection that an edit adds, which touches no class and moves no point: all others are left alone.
+// The protection that an edit adds, which touches no class and moves no point: all others are left
+// alone.
 fn review_added(
     alloc: Global,
     standing: &Standing,
@@ -191,8 +192,8 @@ fn look(
     }
 }
 
-// Whether the edit left a protection alone: it stood before, neither of its points moved, and the class of
-// its fact is not among these.
+// Whether the edit left a protection alone: it stood before, neither of its points moved, and the
+// class of its fact is not among these.
 fn is_left_alone(
     standing: &Standing,
     tree: &Tree,
