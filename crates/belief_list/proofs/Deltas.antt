@@ -106,7 +106,8 @@ clip_rows old new =
     by x (Some c) true e = ap (λ z. elim (z && option_eq same_moment (clip old x) (Some c)) as (λ _. Option (Moment × Moment)) [ true ↦ None | false ↦ Some (x, c) ]) (sym e)
     by x (Some c) false e = ap (λ z. elim (z && option_eq same_moment (clip old x) (Some c)) as (λ _. Option (Moment × Moment)) [ true ↦ None | false ↦ Some (x, c) ]) (sym e)
 
--- **What changed from the rows of one map to those of another is what changed of belief between them.**
+-- **What changed from the rows of one map to those of another is what changed of belief between
+-- them.**
 pub are_changes : (old new : List Row) (c : BeliefChanges) → map moment_of c.left.items ≡ filter_map (gone_row new) old → map moment_of c.entered.items ≡ filter_map (gone_row old) new
     → map moment_of c.loose.items ≡ filter_map (loose_row old) new → map clip_pair c.clips.items ≡ filter_map (clip_row old) new
     → (m n : TimeMap) → old ≡ rows m → new ≡ rows n → AreChanges m n c

@@ -90,7 +90,8 @@ one_way : {K : Type 0} (order : K → K → Ordering) → IsTotalOrder order →
 one_way order total x y e g = let t : order y x ≡ Greater = total.antisymm y x ∙ ap ordering_reverse e in cc
 
 module _ {K X Y : Type 0} (order : K → K → Ordering) (total : IsTotalOrder order) where
-  -- **Two lists of which the same is told tell it in one order**, where both rise by what it is told of.
+  -- **Two lists of which the same is told tell it in one order**, where both rise by what it is
+  -- told of.
   pub same_told : (of : X → K) (key : Y → K) (xs : List X) (ks : List K) → Rising (λ p q. order (of p) (of q)) xs → Rising order ks → (h : X → Option Y) (g : K → Option Y)
       → ((x : X) (y : Y) → In x xs → h x ≡ Some y → key y ≡ of x) → ((k : K) (y : Y) → g k ≡ Some y → key y ≡ k)
       → ((x : X) (y : Y) → In x xs → h x ≡ Some y → In y (filter_map g ks)) → ((k : K) (y : Y) → In k ks → g k ≡ Some y → In y (filter_map h xs))

@@ -150,7 +150,8 @@ module _ (s : Standing) (net : Net) (f : Forest) (seen : IsSeen s net f) (rows :
   total_is : Holds (built s).believed f → (n : ℕ) → ((x : ℕ) → IsLive f x → x < n) → total rows n ≡ size (built s)
   total_is holds n last = all_counted s net f seen holds n (total rows n) last (counted_below n)
 
--- **What counts after an edit**, and what counted before of the nodes that differ, is what counted before it and what counts now of them.
+-- **What counts after an edit**, and what counted before of the nodes that differ, is what counted
+-- before it and what counts now of them.
 pub size_changed : (lists : States) (nets : Nets) (edit : Edit) (tree : Kept) (kept : List (Option KeptRow)) (ds : List Difference) → AreDifferences lists nets edit tree kept ds
     → size (built lists.present) + sum_by (λ d. weight_kept d.was) ds ≡ size (built lists.committed) + sum_by (λ d. weight_kept d.now) ds
 size_changed lists nets edit tree kept ds made =

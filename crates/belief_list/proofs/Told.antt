@@ -334,8 +334,8 @@ module _ (lists : States) (nets : Nets) (edit : Edit) (tree : Kept) (kept : List
 
   -- ---- what is told by a test
 
-  -- Of a map and its nodes the same is told as of differences, where it is told of each node what is told of what becomes of its number,
-  -- and nothing where nothing becomes of it.
+  -- Of a map and its nodes the same is told as of differences, where it is told of each node what
+  -- is told of what becomes of its number, and nothing where nothing becomes of it.
   module _ {Y : Type 0} (s : Standing) (net : Net) (f : Forest) (seen : IsSeen s net f) (holds : Holds (built s).believed f) (rows : ℕ → Option KeptRow) (are : AreRowsOf s f rows)
       (stays : (x : ℕ) → now x ≡ was x → rows x ≡ was x)
       (test : Difference → Bool) (told : List Told) (same : IsPermutation (filter test ds) (differences_of told)) (each : (t : Told) → In t told → IsToldAs s f t) (up : AreInOrder told)

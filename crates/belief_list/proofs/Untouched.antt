@@ -1,4 +1,5 @@
--- What an edit makes of rows: those of nodes that it did not touch stay, and with all differences the rows are those of the list after it.
+-- What an edit makes of rows: those of nodes that it did not touch stay, and with all differences
+-- the rows are those of the list after it.
 use Rattle.std.proofs.Common.{◌≡◌, ℕ, Bool, true, false, not, List, refl, sym, ◌∙◌, ap, subst, inl, inr}
 use Rattle.std.specs.Prelude.{Option, Some, None, IfSome}
 use Rattle.std.specs.List.{Contains}
@@ -46,7 +47,8 @@ use Rattle.belief_list.proofs.Ordered.{row_is}
 
 -- ---- tokens and their classes
 
--- where a class has the same tokens in two forests, a node that is one in the one is one in the other
+-- where a class has the same tokens in two forests, a node that is one in the one is one in the
+-- other
 token_in : (f g : Forest) (class : List ℕ) (old new : List (TokenRow Spot)) → AreTokens f class old → AreTokens g class new → new ≡ old
     → (y : ℕ) (n : Member) → member f y ≡ Some n → n.class ≡ Some class → (m : Member) × (member g y ≡ Some m) × (m.class ≡ Some class)
 token_in f g class old new are_f are_g same y n here of =

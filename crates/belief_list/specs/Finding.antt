@@ -14,8 +14,8 @@ use Rattle.belief_list.specs.KeptRows.{row_under, rows_after, numbers_of}
 
 -- ---- what is to be kept of a node
 
--- What clips the node, whose class this is: nothing clips an event; of a token it is found anew, or it is what clipped it, where
--- its class is not among those that may have been touched.
+-- What clips the node, whose class this is: nothing clips an event; of a token it is found anew, or
+-- it is what clipped it, where its class is not among those that may have been touched.
 abbrev pub IsClipNow : Net → Forest → List (List ℕ) → Option KeptRow → ℕ → Option (List ℕ) → Option ℕ → Type 0
 IsClipNow net g classes was x None clip = clip ≡ None
 IsClipNow net g classes was x (Some class) clip =
@@ -52,8 +52,8 @@ AreClassesMarked g marks classes = (class : List ℕ) → Contains classes class
 
 -- ---- both together
 
--- **These are the differences of the numbers that were looked at**: with them the rows are what is to be kept under each of
--- these, and each is told once, with the row that was there.
+-- **These are the differences of the numbers that were looked at**: with them the rows are what is
+-- to be kept under each of these, and each is told once, with the row that was there.
 pub record AreFound (s : Standing) (net : Net) (tree : Kept) (classes : List (List ℕ)) (kept : List (Option KeptRow)) (marks : List Bool) (found : List Difference) : Type 0 where
   pub told : (x : ℕ) → mark_under marks x ≡ true → IsNowUnder s net tree classes (row_under kept x) x (rows_after kept found x)
   pub marked : All (λ d. mark_under marks d.node ≡ true) found

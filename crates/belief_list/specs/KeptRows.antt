@@ -1,4 +1,5 @@
--- What is kept of the nodes of the last commit, by their numbers, and what becomes of it by an edit.
+-- What is kept of the nodes of the last commit, by their numbers, and what becomes of it by an
+-- edit.
 use Rattle.std.specs.Prelude.{◌≡◌, ℕ, ◌==◌, true, false, List, [], ◌∷◌, map, Option, Some, None, IfSome, nat_eq, slice_index_or}
 use Rattle.std.specs.List.{All, Contains, IsDistinct}
 use Rattle.tmm_model.specs.declared.premise.Edit.{Edit}
@@ -24,7 +25,8 @@ row_under rows x = slice_index_or rows x None
 abbrev pub listed_row : ℕ → KeptRow → BeliefRow
 listed_row x r = record { node = x; early = r.early; clip = r.clip }
 
--- the row says of the node what the map of the list does: its date, what clips it, and what it counts
+-- the row says of the node what the map of the list does: its date, what clips it, and what it
+-- counts
 pub record IsRowOf (s : Standing) (f : Forest) (x : ℕ) (r : KeptRow) : Type 0 where
   pub told : row_at f (listed_row x r) ≡ row (built s) (moment_at f x)
   pub clip : IfSome r.clip (IsLive f)
@@ -46,8 +48,9 @@ rows_after rows (d ∷ ds) x = elim (x == d.node) [ true ↦ d.now | false ↦ r
 abbrev pub numbers_of : List Difference → List ℕ
 numbers_of ds = map (λ d. d.node) ds
 
--- These nodes and classes are all that an edit may have touched: what entered and left, what begins or ends at a point that moved,
--- what counts more or less, and the classes of all others in which something changed.
+-- These nodes and classes are all that an edit may have touched: what entered and left, what begins
+-- or ends at a point that moved, what counts more or less, and the classes of all others in which
+-- something changed.
 pub record CoverTouched (lists : States) (nets : Nets) (tree : Kept) (nodes : List ℕ) (classes : List (List ℕ)) : Type 0 where
   pub entered : (x : ℕ) → IsLive (forest (present tree)) x → member (old_forest tree) x ≡ None → Contains nodes x
   pub left : (x : ℕ) → IsLive (old_forest tree) x → member (forest (present tree)) x ≡ None → Contains nodes x
@@ -56,8 +59,8 @@ pub record CoverTouched (lists : States) (nets : Nets) (tree : Kept) (nodes : Li
       → weight (built lists.committed) (moment_at (old_forest tree) x) ≡ weight (built lists.present) (moment_at (forest (present tree)) x)
   pub others : AreOthersUntouched nets tree classes
 
--- **These are the differences that the edit makes**: with them the rows of the list before it become those of the list after it, and
--- each is told once, with the row that was there.
+-- **These are the differences that the edit makes**: with them the rows of the list before it
+-- become those of the list after it, and each is told once, with the row that was there.
 pub record AreDifferences (lists : States) (nets : Nets) (edit : Edit) (tree : Kept) (kept : List (Option KeptRow)) (ds : List Difference) : Type 0 where
   pub edited : IsEdited lists nets edit tree
   pub before : AreRowsOf lists.committed (old_forest tree) (row_under kept)

@@ -9,8 +9,8 @@ use Rattle.belief_list.specs.declared.left_nodes.LeftNode.{LeftNode}
 abbrev pub IsGone : Forest → Forest → ℕ → Type 0
 IsGone old new x = IsLive old x × (member new x ≡ None)
 
--- **The occurrences of nodes that are gone**: each derived one is told, and what is told of such a node is its
--- occurrence.
+-- **The occurrences of nodes that are gone**: each derived one is told, and what is told of such a
+-- node is its occurrence.
 pub record AreWords (old new : Forest) (left : List LeftNode) : Type 0 where
   pub all : (x : ℕ) → IsGone old new x → is_derived (moment_at old x) ≡ true → Contains (map (λ n. n.node) left) x
   pub own : (n : LeftNode) → Contains left n → IsGone old new n.node → moment_of n.occ.now ≡ moment_at old n.node

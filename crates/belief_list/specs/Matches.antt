@@ -12,7 +12,8 @@ use Rattle.belief_list.specs.Tables.{place_in, item_at}
 abbrev pub IsMatch : Moment → Forest → List BeliefRow → Option ℕ → Type 0
 IsMatch k f rows place = option_map (row_at f) (item_at rows place) ≡ row_in (map (row_at f) rows) k
 
--- **The rows list the other forest, and under the number of each node stands the row of its occurrence.**
+-- **The rows list the other forest, and under the number of each node stands the row of its
+-- occurrence.**
 pub record AreMatched (f other : Forest) (rows : List BeliefRow) (places : List (Option ℕ)) : Type 0 where
   pub listing : IsListing other rows
   pub same : (x : ℕ) → IsLive f x → IsMatch (moment_at f x) other rows (place_in places x)

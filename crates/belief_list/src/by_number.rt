@@ -18,8 +18,8 @@ use premise_list::Standing;
 use std::alloc::Global;
 use tmm_model::{NoMemory, Seq};
 
-/// The believed occurrences, in order, from what is kept of each under its number. Without memory it answers
-/// that.
+/// The believed occurrences, in order, from what is kept of each under its number. Without memory
+/// it answers that.
 pub fn listed_by_number(
     alloc: Global,
     standing: &Standing,

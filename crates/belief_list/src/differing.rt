@@ -25,9 +25,9 @@ use std::alloc::Global;
 use supports::class_clips;
 use tmm_model::{Name, NoMemory, TokenRow};
 
-/// The differences that an edit makes, given nodes and classes that are all it may have touched, and what is
-/// kept of the nodes of the last commit, with a place for each present one. Only those nodes and the tokens of
-/// those classes are looked at. Without memory it answers that.
+/// The differences that an edit makes, given nodes and classes that are all it may have touched,
+/// and what is kept of the nodes of the last commit, with a place for each present one. Only those
+/// nodes and the tokens of those classes are looked at. Without memory it answers that.
 pub fn differences(
     alloc: Global,
     standing: &Standing,
@@ -84,7 +84,8 @@ impl Found {
         self.marks.get(x as usize).copied().unwrap_or(true)
     }
 
-    // Tells what is to be kept under a number, where it was not looked at. A row that stays is no difference.
+    // Tells what is to be kept under a number, where it was not looked at. A row that stays is no
+    // difference.
     fn tell(
         &mut self,
         kept: &[Option<KeptRow>],
@@ -188,8 +189,8 @@ fn tell_node(
     found.tell(kept, x, now)
 }
 
-// What is to be kept under a number, given what was kept: nothing where no node is, and else a row with the clip that
-// was.
+// What is to be kept under a number, given what was kept: nothing where no node is, and else a row
+// with the clip that was.
 fn row_now(
     standing: &Standing,
     tree: &Tree,

@@ -28,7 +28,8 @@ pub struct Difference {
     pub now: Option<KeptRow>,
 }
 
-/// Makes a place for each number below a limit. No row is another then, also where there is no memory.
+/// Makes a place for each number below a limit. No row is another then, also where there is no
+/// memory.
 pub fn reach(_alloc: Global, rows: &mut Vec<Option<KeptRow>>, limit: u32) -> Result<(), NoMemory>
     ensures same { (x : ℕ) → row_under rows.new.items x ≡ row_under rows.old.items x }
     ensures room { OnOk result (limit ≤ length rows.new.items) }

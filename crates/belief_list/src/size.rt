@@ -16,8 +16,9 @@ ghost use Rattle.belief_list.specs.Sizes.{weight_kept};
 use crate::kept_rows::{Difference, KeptRow};
 use tmm_model::{MOST_SIZE, Refusal, Stop};
 
-/// The size of the map after an edit, from that before it: what counted before of the nodes that differ is
-/// taken away, and what counts now is added. A size above 100,000 is refused. It takes no memory.
+/// The size of the map after an edit, from that before it: what counted before of the nodes that
+/// differ is taken away, and what counts now is added. A size above 100,000 is refused. It takes no
+/// memory.
 pub fn size_after(before: u64, differences: &[Difference]) -> Result<u64, Stop>
     ensures size { IfOk result (λ n. (lists : States) (nets : Nets) (edit : AnEdit) (tree : Kept) (kept : List (Option AKeptRow)) → AreDifferences lists nets edit tree kept differences.now → before ≡ size (built lists.committed) → n ≡ size (built lists.present)) }
     ensures small { IfOk result (λ n. n ≤ most_size) }
@@ -31,8 +32,8 @@ pub fn size_after(before: u64, differences: &[Difference]) -> Result<u64, Stop>
     Ok(after as u64)
 }
 
-// The size before an edit, with what counts now of the nodes that differ, and without what counted before. In 128 bits
-// there is room for the weights of any slice.
+// The size before an edit, with what counts now of the nodes that differ, and without what counted
+// before. In 128 bits there is room for the weights of any slice.
 fn told_size(before: u64, differences: &[Difference]) -> u128
     ensures { result ≡ before + sum_by (λ d. weight_kept d.now) differences.now - sum_by (λ d. weight_kept d.was) differences.now }
 {

@@ -54,8 +54,8 @@ struct Told {
 }
 
 /// What of belief changed, where these are the differences that an edit makes, and `left` tells the
-/// occurrences of the derived nodes that are gone, in any order. Only what changed is sorted. Without memory
-/// it answers that.
+/// occurrences of the derived nodes that are gone, in any order. Only what changed is sorted.
+/// Without memory it answers that.
 pub fn changes_told(
     alloc: Global,
     tree: &Tree,

@@ -39,7 +39,8 @@ use Rattle.belief_net.specs.Updating.{IsKept}
 module _ (s t : Standing) (alike : AreAlike s t) where
   -- ---- outcomes
 
-  -- `start`, an event that is led to from a point that beliefs read, and where such tokens begin and end
+  -- `start`, an event that is led to from a point that beliefs read, and where such tokens begin
+  -- and end
   points_anchored : (x : Moment) → IsAnchored s x → (ks : List (TokenRow Moment)) → ((k : TokenRow Moment) → In k ks → IsBetween s k)
       → (p : Moment) → In p (At Start ∷ x ∷ map (λ k. k.spot) ks ++ filter_map (λ k. k.end) ks) → IsAnchored s p
   points_anchored x at ks between p (inl is) = subst (IsAnchored s) is tt

@@ -215,7 +215,8 @@ module _ (nets : Nets) (added : Option (List ℕ)) (s : Standing) (st : State) (
         },
       )
 
-    -- **All rows have been looked at**: those of rules that read nothing, and those on the lists of classes.
+    -- **All rows have been looked at**: those of rules that read nothing, and those on the lists of
+    -- classes.
     pub all_woken : StandFast nets added moves.fast.items → (old mid new : Dates)
         → Wakes st (table_of d) (λ i row. MovesFrom moves (forest st) row.value.trigger) (λ i row. KeepsDate moves s (forest st) d row) old mid
         → WakesForAll st nets moves d (length d.classes) mid new

@@ -144,7 +144,8 @@ module _ (old : Standing) (edit : Edit) (net : Net) (b e : BeliefNet) (all : Dep
 
   -- ---- the rows
 
-  -- a row that is left is of an event that occurs in both lists, and its rule stands in the list before
+  -- a row that is left is of an event that occurs in both lists, and its rule stands in the list
+  -- before
   row_stood : (i : ℕ) (row : TableRow Pair 8) → (table_of e.decisions).row i ≡ Some row → Contains (rules_at old (moment_at g row.value.trigger)) (rule_in e.decisions row)
   row_stood i row at =
       let was = sheds.thins.rows i row at in

@@ -66,7 +66,8 @@ unread s names m rule own none =
 abbrev pub IsAddition : Edit → Type 0
 IsAddition edit = (p : Premise) × (edit ≡ Add p)
 
--- The row is new with the edit: nothing is decided of it, and it waits; its event is new, or its rule was none there.
+-- The row is new with the edit: nothing is decided of it, and it waits; its event is new, or its
+-- rule was none there.
 pub record IsFresh (old new : Standing) (edit : Edit) (m n : BeliefNet) (i : ℕ) (row : TableRow Pair 8) : Type 0 where
   pub addition : IsAddition edit
   pub free : (table_of m.decisions).row i ≡ None

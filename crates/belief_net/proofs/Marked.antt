@@ -77,7 +77,8 @@ module _ (s : State) (t : Table Pair 8) where
 
     -- ---- by the lists of one family after the other
 
-    -- the row is on a list of the class in one of the first families, late enough, and its event not spared
+    -- the row is on a list of the class in one of the first families, late enough, and its event
+    -- not spared
     abbrev pub UnderFirst : ℕ → ℕ → ℕ → TableRow Pair 8 → Type 0
     UnderFirst n class i row = ((place : ℕ) × (place < n) × IsOn (t.list (place + 2) class) i) × IsAsLate s from row × (spares row.value.trigger ≡ false)
 

@@ -1,4 +1,5 @@
--- How an update begins: from nodes and rows of the list before to those that stand for the revision.
+-- How an update begins: from nodes and rows of the list before to those that stand for the
+-- revision.
 use Rattle.std.proofs.Common.{◌≡◌, ◌≢◌, ◌∙◌, ℕ, Bool, true, false, List, [], ◌∷◌, map, Option, Some, None, refl, sym, ap, subst, inl, inr, ◌⊎◌, arith}
 use Rattle.std.proofs.lemmas.Int.{ints}
 use Rattle.std.specs.Prelude.{ℤ, ◌+ℤ◌, pos, int_le, is_some}
@@ -212,7 +213,8 @@ module _ (old : Standing) (edit : Edit) (nets : Nets) (names : List (List ℕ)) 
 
 -- ---- rows that the edit touches
 
--- in n what the edit adds has entered, and in z besides rows wait that it touches, and all others may rest
+-- in n what the edit adds has entered, and in z besides rows wait that it touches, and all others
+-- may rest
 pub record IsOpened (s : Standing) (nets : Nets) (edit : Edit) (before : ℕ) (m n z : BeliefNet) : Type 0 where
   pub entered : Entered s nets.present edit m n
   pub touched : Wakes (present n.tree) (table_of n.decisions) (λ i row. IsTouchedBy edit s nets before n row) (λ i row. IsLeftBy edit s nets before n row) (dates_in n.decisions.waiting) (dates_in z.decisions.waiting)

@@ -1,4 +1,5 @@
--- Nodes and rows that are ready for the list after, of which besides those rows wait that the edit touches.
+-- Nodes and rows that are ready for the list after, of which besides those rows wait that the edit
+-- touches.
 use Rattle.std.proofs.Common.{◌≡◌, ◌∙◌, ℕ, Bool, true, false, List, Option, Some, None, refl, sym, ap, subst, inl, inr, ◌⊎◌}
 use Rattle.std.specs.Prelude.{◌≢◌, is_some, pos, int_le}
 use Rattle.std.specs.List.{Contains}
@@ -92,8 +93,8 @@ module _ (old : Standing) (edit : Edit) (before net : Net) (f g : Forest) (rows 
       let same : k ≡ m = cc in
       ap (member f) (sym one) ∙ there ∙ ap Some same
 
-  -- where points moved, and what the marks of moved points say of rows: each that waits newly is at an event for which points moved,
-  -- and each that does not wait may rest
+  -- where points moved, and what the marks of moved points say of rows: each that waits newly is at
+  -- an event for which points moved, and each that does not wait may rest
   module _ (moves : ℕ → ℕ → Bool) (rests : List ℕ → ℕ → Type 0) (same_horizon : old.horizon ≡ (next_list old edit).horizon)
       (apart : (b : List Moment) (r : List ℕ) (x : ℕ) → Holds b g → IsLive g x → Contains (built old).believed (moment_at g x)
       → ((y : Moment) → Contains b y → watches (next_list old edit) r y ≡ true → Contains (built old).believed y)

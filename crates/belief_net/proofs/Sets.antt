@@ -75,7 +75,8 @@ puts_one_and L G m v old mid new told = puts_both (λ k. (k ≡ m) × (v ≡ tru
     (λ p here. inl (here.0, subst L (sym here.0) (told.0 here.1)))
     (λ p g. inr g)
 
--- what is put in for all numbers that are listed is all, where it holds of none but for one that is listed
+-- what is put in for all numbers that are listed is all, where it holds of none but for one that is
+-- listed
 pub puts_listed : (L : ℕ → Type 0) (G : ℕ → ℕ → Type 0) (listed : List ℕ) (n : ℕ) (old new : List Bool) → n ≡ length listed → All (λ m. m < 256) listed
     → ((m p : ℕ) → m < 256 → G m p → L p) → ((p : ℕ) → L p → Contains listed p ⊎ ((q : ℕ) × Contains listed q × G q p))
     → PutsIn (λ p. (k : ℕ) × (k < n) × (((p ≡ get_or listed k 0) × L p) ⊎ G (get_or listed k 0) p)) old new → PutsIn L old new

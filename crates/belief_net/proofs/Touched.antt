@@ -139,8 +139,8 @@ module _ (s : State) (are : Spot → Type 0) (pairs : List Bool) (reach : Reach)
 
 -- ---- the sets
 
--- The events are those from whose points a pair leads to a point of the rule; and all, where one leads there from a point of the
--- rule itself.
+-- The events are those from whose points a pair leads to a point of the rule; and all, where one
+-- leads there from a point of the rule itself.
 pub all_touched : (pairs : List Bool) (reach : Reach) (first mid new : List Bool) (within : Bool) → ((p : ℕ) → is_in first p ≡ false) → length first ≡ 256 → length reach.all.items ≡ 256
     → PutsIn (LeadsInto pairs reach.bounded.items) first mid → (within ≡ true) ↔ Meet reach.all.items mid → PutsIn (λ p. (p < 256) × (within ≡ true)) mid new
     → AreThose (λ p. (p < 256) × (TouchAll pairs reach ⊎ LeadsInto pairs reach.bounded.items p)) new

@@ -41,12 +41,14 @@ pub record MarksClasses (s : State) (classes : List (List ℕ)) (old new : Decis
 
 -- ---- a root
 
--- What becomes of rows with the root at node x: a token marks all that may read it, an event has a row for each rule on it.
+-- What becomes of rows with the root at node x: a token marks all that may read it, an event has a
+-- row for each rule on it.
 pub data FollowsRoot (s : Standing) (x : ℕ) (tree : Kept) (old new : Decisions) : Type 0 where
   a_token : (class : List ℕ) → class_at tree x ≡ Some class → MarksClass (present tree) class (pos 0) old new → FollowsRoot s x tree old new
   an_event : class_at tree x ≡ None → AddsRows (rules_at s (moment_at (forest tree) x)) x (early (present tree) x) old new → FollowsRoot s x tree old new
 
--- the root enters under a number that no node had at the last commit, with its rows or marks; all else stays
+-- the root enters under a number that no node had at the last commit, with its rows or marks; all
+-- else stays
 pub record EntersAs (s : Standing) (net : Net) (k : Moment) (old new : BeliefNet) : Type 0 where
   pub number : ℕ
   pub adds : Adds s net.names (forest old.tree) (forest new.tree) number k
@@ -73,7 +75,8 @@ pub record IsEventOf (tree : Kept) (kind : List ℕ) (x : ℕ) : Type 0 where
   pub event : node.class ≡ None
   pub kind_is : node.what ≡ kind
 
--- of these nodes each that is an event of the kind has a new row of the rule, which waits for its date; all else stays
+-- of these nodes each that is an event of the kind has a new row of the rule, which waits for its
+-- date; all else stays
 pub record AddsRuleAt (tree : Kept) (rule kind : List ℕ) (numbers : List ℕ) (old new : Decisions) : Type 0 where
   pub each : (i : ℕ) → IsSameRow old new i ⊎ ((x : ℕ) × (row : TableRow Pair 8) × IsOn numbers x × IsEventOf tree kind x × IsNewRow x (early (present tree) x) old new i row × (rule_in new row ≡ rule))
   pub all : (x : ℕ) → IsOn numbers x → IsEventOf tree kind x → (i : ℕ) × (row : TableRow Pair 8) × IsNewRow x (early (present tree) x) old new i row × (rule_in new row ≡ rule)

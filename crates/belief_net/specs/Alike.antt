@@ -7,8 +7,8 @@ use Rattle.revisions.specs.Alike.{AreAlike}
 use Rattle.belief_net.specs.declared.state.BeliefNet.{BeliefNet}
 use Rattle.belief_net.specs.Updating.{IsKept}
 
--- **Nodes and rows that are kept of a list are kept of each list that is alike in all that beliefs read**, where points keep
--- their numbers: nothing has to be decided again.
+-- **Nodes and rows that are kept of a list are kept of each list that is alike in all that beliefs
+-- read**, where points keep their numbers: nothing has to be decided again.
 abbrev pub AlikeAreKept : Type 0
 AlikeAreKept =
     (s t : Standing) (before net : Net) (b : BeliefNet) → AreAlike s t → IsNetOf t net

@@ -34,8 +34,9 @@ abbrev pub EntersAdded : Standing → Net → Option Premise → BeliefNet → B
 EntersAdded s net None m r n = StayAll m r × StayAll r n
 EntersAdded s net (Some premise) m r n = EntersRoot s net premise m r × EntersRule s premise r n
 
--- The steps from b, which has nodes and rows of the list before: in e those are left that still occur; in c roots have the dates
--- of the new network; in m the rows wait that may read what left; in r and n what the edit adds has entered.
+-- The steps from b, which has nodes and rows of the list before: in e those are left that still
+-- occur; in c roots have the dates of the new network; in m the rows wait that may read what left;
+-- in r and n what the edit adds has entered.
 pub record IsBegun (old : Standing) (edit : Edit) (before net : Net) (b e c m r n : BeliefNet) (all : Departed) : Type 0 where
   pub fit_before : IsFit old before b
   pub current : IsCurrent old before (forest b.tree) (rows_of b)
@@ -52,7 +53,8 @@ pub record IsBegun (old : Standing) (edit : Edit) (before net : Net) (b e c m r 
   pub names_root : KeepsLast m.decisions r.decisions
   pub names_after : KeepsLast r.decisions n.decisions
 
--- Every row waits that reads a token that left or entered, and no other row that was there begins to wait.
+-- Every row waits that reads a token that left or entered, and no other row that was there begins
+-- to wait.
 pub record WaitForMoved (old new : Standing) (f g : Forest) (rows after : Rows) : Type 0 where
   pub left : (i x : ℕ) (q : Row) (m : Member) → after i ≡ Some q → member f x ≡ Some m → member g x ≡ None → watches old q.rule (moment m) ≡ true → q.waits ≡ true
   pub entered : (i x : ℕ) (q : Row) (m : Member) → after i ≡ Some q → member f x ≡ None → member g x ≡ Some m → watches new q.rule (moment m) ≡ true → q.waits ≡ true

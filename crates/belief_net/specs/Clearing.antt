@@ -25,8 +25,8 @@ use Rattle.belief_net.specs.Decided.{table_of, rule_in, AreUnder}
 use Rattle.belief_net.specs.Erasing.{moments_of, ShedsAll, Spares, IsFreeOf}
 use Rattle.belief_net.specs.Turning.{rows_of, IsFit}
 
--- Of the nodes b has of the list before, e has those that occur in the list after, and of their rows those of rules that
--- stand there.
+-- Of the nodes b has of the list before, e has those that occur in the list after, and of their
+-- rows those of rules that stand there.
 pub record IsCleared (old new : Standing) (b e : BeliefNet) : Type 0 where
   pub occur : (x : ℕ) (m : Member) → member (forest e.tree) x ≡ Some m → Occurs new (moment m)
   pub nodes : (x : ℕ) (m : Member) → member (forest b.tree) x ≡ Some m → Occurs new (moment m) → member (forest e.tree) x ≡ Some m
@@ -39,7 +39,8 @@ pub record IsCleared (old new : Standing) (b e : BeliefNet) : Type 0 where
 abbrev pub AreSeenAfter : Standing → Net → BeliefNet → Type 0
 AreSeenAfter new net e = (after : Net) → IsNetOf new after → PointsKeepNumbers (points_in new.premises) net.names after.names → IsSeen new after (forest e.tree)
 
--- **When the erased premises are gone, exactly what still occurs is left**, with its rows; and what left is told.
+-- **When the erased premises are gone, exactly what still occurs is left**, with its rows; and what
+-- left is told.
 abbrev pub ErasedAreCleared : Type 0
 ErasedAreCleared =
     (old : Standing) (edit : Edit) (net : Net) (b e : BeliefNet) (all : Departed) (names : List (List ℕ))

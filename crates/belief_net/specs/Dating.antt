@@ -12,7 +12,8 @@ pub record KeepsNodes (old new : Kept) : Type 0 where
   pub roots : below (present new) None ≡ below (present old) None
   pub committed_is : committed new ≡ committed old
 
--- where these roots and the first one may have other dates than the network gives them, the first one has that of its point now
+-- where these roots and the first one may have other dates than the network gives them, the first
+-- one has that of its point now
 abbrev pub DatesFirst : Net → ℕ → Kept → Kept → Type 0
 DatesFirst net root old new = (roots : List ℕ) → IsDatedBut net (root ∷ roots) (present old) → IsDatedBut net roots (present new)
 

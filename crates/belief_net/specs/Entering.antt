@@ -28,8 +28,8 @@ pub record MarksClass (s : State) (class : List ℕ) (from : ℤ) (old new : Dec
   pub numbered : place_in new.classes class ≡ Some number
   pub marks : Marks s (table_of old) (λ i row. IsListedUnder (table_of old) number i × IsAsLate s from row) (dates_in old.waiting) (dates_in new.waiting)
 
--- Those rows wait that read the class of the token at node x, at events no earlier, but where it is spared: there the token,
--- which enters or leaves with these nodes, bears on no decision.
+-- Those rows wait that read the class of the token at node x, at events no earlier, but where it is
+-- spared: there the token, which enters or leaves with these nodes, bears on no decision.
 pub record MarksReaders (net : Net) (tree : Kept) (moving : List ℕ) (x : ℕ) (class : List ℕ) (old new : Decisions) : Type 0 where
   pub rows : new.rows ≡ old.rows
   pub rules : new.rules ≡ old.rules
@@ -43,7 +43,8 @@ pub record MarksReaders (net : Net) (tree : Kept) (moving : List ℕ) (x : ℕ) 
 abbrev pub class_at : Kept → ℕ → Option (List ℕ)
 class_at tree y = option_map_or (λ (m : Member). m.class) (member (forest tree) y) None
 
--- What becomes of rows with the effect at node y: a token marks those that read it, an event has a row for each rule on it.
+-- What becomes of rows with the effect at node y: a token marks those that read it, an event has a
+-- row for each rule on it.
 pub data Follows (s : Standing) (net : Net) (y : ℕ) (tree : Kept) (old new : Decisions) : Type 0 where
   a_token : (class : List ℕ) → class_at tree y ≡ Some class → MarksReaders net tree (y ∷ []) y class old new → Follows s net y tree old new
   an_event : class_at tree y ≡ None → AddsRows (rules_at s (moment_at (forest tree) y)) y (early (present tree) y) old new → Follows s net y tree old new

@@ -58,7 +58,8 @@ pub record HasLeft (old new : Kept) (x : ℕ) (m : Member) : Type 0 where
   pub was : member (forest old) x ≡ Some m
   pub gone : member (forest new) x ≡ None
 
--- of the nodes that left, each that rules led to is told once, with its number and the date that was kept of it
+-- of the nodes that left, each that rules led to is told once, with its number and the date that
+-- was kept of it
 pub record Tells (old new : Kept) (before after : List DatedOcc) : Type 0 where
   pub more : List DatedOcc
   pub is : after ≡ before ++ more
@@ -74,7 +75,8 @@ pub record Notes (old new : Kept) (before after : List (List ℕ)) : Type 0 wher
 
 -- ---- nodes and rows
 
--- Nodes and rows are some of those before, with their dates and names. With a node that stays its event stays.
+-- Nodes and rows are some of those before, with their dates and names. With a node that stays its
+-- event stays.
 pub record Thins (old new : BeliefNet) : Type 0 where
   pub nodes : (x : ℕ) (m : Member) → member (forest new.tree) x ≡ Some m → member (forest old.tree) x ≡ Some m
   pub above : (x y : ℕ) (m n : Member) (rule : List ℕ) → member (forest new.tree) x ≡ Some m → member (forest old.tree) y ≡ Some n
@@ -113,7 +115,8 @@ pub record IsRuledOut (s : Standing) (old new : BeliefNet) (row : TableRow Pair 
   pub rule : premise_in s.premises (rule_in old.decisions row) ≡ None
   pub effect : (y : ℕ) (m : Member) → member (forest new.tree) y ≡ Some m → moment m ≢ After (moment_at (forest old.tree) row.value.trigger) (rule_in old.decisions row)
 
--- Nodes stay whose roots and rules stand in the list. Of the events that stay all rows stay but those of rules that stand no more.
+-- Nodes stay whose roots and rules stand in the list. Of the events that stay all rows stay but
+-- those of rules that stand no more.
 pub record Spares (s : Standing) (old new : BeliefNet) : Type 0 where
   pub nodes : (x : ℕ) (m : Member) → member (forest old.tree) x ≡ Some m → Stands s (moment m) → member (forest new.tree) x ≡ Some m
   pub rows : (i : ℕ) (row : TableRow Pair 8) → (table_of old.decisions).row i ≡ Some row → IsLive (forest new.tree) row.value.trigger

@@ -23,8 +23,8 @@ pub record StandFast (nets : Nets) (added : Option (List ℕ)) (set : List Bool)
   pub both : AreInBoth nets set
   pub loose : AreLoose (is_moved nets added) (is_out set)
 
--- The point was there, and is `start`, or makes no pair with `start` and is none of those that are listed. Each pair has one
--- that is listed, so no two of these make a pair.
+-- The point was there, and is `start`, or makes no pair with `start` and is none of those that are
+-- listed. Each pair has one that is listed, so no two of these make a pair.
 abbrev pub IsFastBy : List ℕ → List Bool → List Bool → ℕ → Type 0
 IsFastBy moved pairs kept p =
     (is_in kept p ≡ true) × ((p ≡ 0) ⊎ ((has_pair pairs p 0 ≡ false) × (has_pair pairs 0 p ≡ false) × (Contains moved p → ⊥)))

@@ -23,7 +23,8 @@ use Rattle.belief_net.specs.Windows.{IsSparedBy}
 
 -- ---- one node
 
--- what a node marks that goes with these: a token those rows that read it, but where it is spared, and an event none
+-- what a node marks that goes with these: a token those rows that read it, but where it is spared,
+-- and an event none
 pub data MarksNode (net : Net) (tree : Kept) (going : List ℕ) (y : ℕ) (old new : Decisions) : Type 0 where
   a_token : (class : List ℕ) → class_at tree y ≡ Some class → MarksReaders net tree going y class old new → MarksNode net tree going y old new
   an_event : class_at tree y ≡ None → new ≡ old → MarksNode net tree going y old new
@@ -50,7 +51,8 @@ pub record AreMarksOn (net : Net) (tree : Kept) (going gone : List ℕ) (number 
   pub own : (mark : Mark) → In mark marks → (y : ℕ) × IsOn gone y × IsMarkOn net tree going number y mark
   pub all : (y : ℕ) (class : List ℕ) → IsOn gone y → class_at tree y ≡ Some class → (mark : Mark) × In mark marks × IsMarkOn net tree going number y mark
 
--- a mark is for the row of number i: it is on a list of the class, and its event is no earlier and not spared
+-- a mark is for the row of number i: it is on a list of the class, and its event is no earlier and
+-- not spared
 abbrev pub IsMarkedFor : State → Table Pair 8 → List Mark → ℕ → TableRow Pair 8 → Type 0
 IsMarkedFor s t marks i row = (mark : Mark) × In mark marks × IsListedUnder t mark.class i × IsAsLate s mark.from row × (mark.spares row.value.trigger ≡ false)
 
@@ -68,7 +70,8 @@ pub record IsLeft (s : State) (marks : List Mark) (old new : Decisions) (i : ℕ
   pub waits : (dates_in new.waiting i ≡ dates_in old.waiting i)
       ⊎ ((r : TableRow Pair 8) × ((table_of old).row i ≡ Some r) × IsMarkedFor s (table_of old) marks i r × WaitsAt s (dates_in new.waiting) i r)
 
--- All rows at these nodes, of all that go, are gone. The others stay, and wait where a token among the nodes marks them.
+-- All rows at these nodes, of all that go, are gone. The others stay, and wait where a token among
+-- the nodes marks them.
 pub record LosesRows (net : Net) (tree : Kept) (going gone : List ℕ) (old new : Decisions) : Type 0 where
   pub rules : new.rules ≡ old.rules
   pub listed : AreListed (table_of old)
@@ -85,7 +88,8 @@ pub record LosesRows (net : Net) (tree : Kept) (going gone : List ℕ) (old new 
 abbrev pub AreBelow : Kept → ℕ → List ℕ → Type 0
 AreBelow tree x numbers = (y : ℕ) → IsOn numbers y ↔ IsBelow (forest tree) x y
 
--- node x is gone with all below it, which are these, and their rows; and rows wait that read what went
+-- node x is gone with all below it, which are these, and their rows; and rows wait that read what
+-- went
 pub record TakesAway (net : Net) (x : ℕ) (numbers : List ℕ) (old new : BeliefNet) : Type 0 where
   pub below : AreBelow old.tree x numbers
   pub tree : Withdraws old.tree new.tree x

@@ -1,4 +1,5 @@
--- Laws of marks: rows that wait since points moved, or for another horizon, are those that the edit touches.
+-- Laws of marks: rows that wait since points moved, or for another horizon, are those that the edit
+-- touches.
 use Rattle.std.specs.Prelude.{◌≡◌, ◌≢◌, ◌+ℤ◌, ℕ, pos, int_le, Bool, true, false, List, Option, Some, None}
 use Rattle.std.specs.List.{Contains}
 use Rattle.tmm_model.specs.declared.premise.Edit.{Edit}
@@ -37,8 +38,8 @@ PointsWereThere =
     → PointsKeepNumbers (points_in (next_list old edit).premises) nets.committed.names nets.present.names
     → WereThere nets (added_by edit)
 
--- **Of a decision that was there, and of which no token that it reads entered, points moved exactly where the points on which it
--- depends are not as far apart as they were.**
+-- **Of a decision that was there, and of which no token that it reads entered, points moved exactly
+-- where the points on which it depends are not as far apart as they were.**
 abbrev pub MovedRowsAreTouched : Type 0
 MovedRowsAreTouched =
     (old : Standing) (edit : Edit) (nets : Nets) (f : Forest) (b : List Moment) (r : List ℕ) (x : ℕ)
@@ -50,8 +51,8 @@ MovedRowsAreTouched =
     → (SameGaps old (next_list old edit) b (moment_at f x) r → MovesAt (is_moved nets (added_by edit)) (next_list old edit) f r x → ⊥)
     × ((MovesAt (is_moved nets (added_by edit)) (next_list old edit) f r x → ⊥) → SameGaps old (next_list old edit) b (moment_at f x) r)
 
--- **A decision that may rest though points moved keeps its outcome**, if it was there, the horizon is the same, and no token that
--- it reads left or entered.
+-- **A decision that may rest though points moved keeps its outcome**, if it was there, the horizon
+-- is the same, and no token that it reads left or entered.
 abbrev pub RestingRowsKeep : Type 0
 RestingRowsKeep =
     (old : Standing) (edit : Edit) (nets : Nets) (loose : ℕ → Bool) (f : Forest) (b : List Moment) (r : List ℕ) (x : ℕ)
@@ -65,7 +66,8 @@ RestingRowsKeep =
     → MayRest (is_moved nets (added_by edit)) loose (next_list old edit) nets f r x
     → outcome old (far_in old.premises) (built old).believed (moment_at f x) r ≡ outcome (next_list old edit) (far_in (next_list old edit).premises) b (moment_at f x) r
 
--- **An effect is due between two horizons exactly where one of them has it in time and the other has not.**
+-- **An effect is due between two horizons exactly where one of them has it in time and the other
+-- has not.**
 abbrev pub DueRowsChange : Type 0
 DueRowsChange =
     (s : Standing) (net : Net) (k : Kept) (x : ℕ) (r : List ℕ) (before after : ℕ) → IsTreeOf s net k → IsLive (forest k) x

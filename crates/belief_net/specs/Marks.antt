@@ -25,7 +25,8 @@ pub record Marks (s : State) (t : Table Pair 8) (P : ℕ → TableRow Pair 8 →
   pub all : (i : ℕ) (row : TableRow Pair 8) → t.row i ≡ Some row → P i row → WaitsAt s new i row
   pub only : (i : ℕ) → (new i ≡ old i) ⊎ ((row : TableRow Pair 8) × (t.row i ≡ Some row) × P i row × WaitsAt s new i row)
 
--- Rows have been looked at: those that wait newly are of the first kind, and those that do not wait are of the second.
+-- Rows have been looked at: those that wait newly are of the first kind, and those that do not wait
+-- are of the second.
 pub record Wakes (s : State) (t : Table Pair 8) (P R : ℕ → TableRow Pair 8 → Type 0) (old new : Dates) : Type 0 where
   pub only : (i : ℕ) → (new i ≡ old i) ⊎ ((row : TableRow Pair 8) × (t.row i ≡ Some row) × P i row × WaitsAt s new i row)
   pub rests : (i : ℕ) (row : TableRow Pair 8) → t.row i ≡ Some row → (is_some (new i) ≡ true) ⊎ R i row

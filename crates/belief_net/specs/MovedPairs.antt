@@ -25,7 +25,8 @@ is_kept names added n = option_map_or (λ point. not (is_of_premise added point)
 abbrev pub WereThere : Nets → Option (List ℕ) → Type 0
 WereThere nets added = (n : ℕ) → is_kept nets.present.names added n ≡ true → IsInUse nets.committed.names n
 
--- **Whether the distance from one point to another is another one now than at the last commit**, where both were there
+-- **Whether the distance from one point to another is another one now than at the last commit**,
+-- where both were there
 abbrev pub is_moved : Nets → Option (List ℕ) → ℕ → ℕ → Bool
 is_moved nets added a b =
     not (a == b) && (is_kept nets.present.names added a && (is_kept nets.present.names added b && not (same_bound (net_far nets.committed a b) (net_far nets.present a b))))

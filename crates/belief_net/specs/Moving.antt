@@ -33,7 +33,8 @@ date_at s = early s (far_in s.premises)
 
 -- ---- marks
 
--- the mark is that of the token that this node is, where nodes f become nodes g, and spares only where that bears on no decision
+-- the mark is that of the token that this node is, where nodes f become nodes g, and spares only
+-- where that bears on no decision
 pub record IsMarkAt (s : Standing) (net : Net) (number : List ℕ → Option ℕ) (f g : Forest) (m : Member) (mark : Mark) : Type 0 where
   pub class : List ℕ
   pub has_class : m.class ≡ Some class
@@ -46,7 +47,8 @@ pub record AreMarksFor (s : Standing) (net : Net) (number : List ℕ → Option 
   pub own : (mark : Mark) → In mark marks → (m : Member) × IsMemberOf s net.names m × moved (moment m) × IsMarkAt s net number f g m mark
   pub all : (m : Member) (class : List ℕ) → IsMemberOf s net.names m → moved (moment m) → m.class ≡ Some class → (mark : Mark) × In mark marks × IsMarkAt s net number f g m mark
 
--- a mark is for the row of number i: it is on a list of the class, and its event is no earlier and not spared
+-- a mark is for the row of number i: it is on a list of the class, and its event is no earlier and
+-- not spared
 abbrev pub IsMarkedAt : Standing → Forest → Table Pair 8 → List Mark → ℕ → TableRow Pair 8 → Type 0
 IsMarkedAt s g t marks i row =
     (mark : Mark) × In mark marks × IsListedUnder t mark.class i × (mark.from ≤ℤ date_at s (moment_at g row.value.trigger)) × (mark.spares row.value.trigger ≡ false)
@@ -58,15 +60,16 @@ pub record IsKeptRow (s : Standing) (g : Forest) (marks : List Mark) (old new : 
   pub there : (table_of old).row i ≡ Some row
   pub waits : (waits_in new.waiting i ≡ true) ↔ ((waits_in old.waiting i ≡ true) ⊎ IsMarkedAt s g (table_of old) marks i row)
 
--- the row is new, at an event that was not among the nodes f; nothing is decided of it, and it waits
+-- the row is new, at an event that was not among the nodes f; nothing is decided of it, and it
+-- waits
 pub record IsComing (f : Forest) (old new : Decisions) (i : ℕ) (row : TableRow Pair 8) : Type 0 where
   pub free : (table_of old).row i ≡ None
   pub event : IsLive f row.value.trigger → ⊥
   pub undecided : row.value.decision ≡ Beyond
   pub waits : waits_in new.waiting i ≡ true
 
--- What becomes of rows where nodes f become nodes g: those of nodes that went are gone, and each node that entered has one
--- for each rule on it.
+-- What becomes of rows where nodes f become nodes g: those of nodes that went are gone, and each
+-- node that entered has one for each rule on it.
 pub record Moves (s : Standing) (f g : Forest) (marks : List Mark) (old new : Decisions) : Type 0 where
   pub listed : AreListed (table_of old)
   pub last : KeepsLast old new
@@ -85,8 +88,8 @@ pub record Moves (s : Standing) (f g : Forest) (marks : List Mark) (old new : De
 abbrev pub row_due : BeliefNet → ℕ → TableRow Pair 8 → Row
 row_due b i row = as_row (name_in b.decisions.rules) (waits_in b.decisions.waiting i) row
 
--- A turn from b to e: the row due first is decided, in c; then nodes enter or go, and rows follow. What moves is later than the
--- event of the row.
+-- A turn from b to e: the row due first is decided, in c; then nodes enter or go, and rows follow.
+-- What moves is later than the event of the row.
 pub record TurnsOn (s : Standing) (net : Net) (b c e : BeliefNet) (due : Due) : Type 0 where
   pub fit : IsFit s net b
   pub decided : IsDecided s b c due

@@ -23,9 +23,10 @@ seen_numbered m = (m.node, moment_of m.occ)
 abbrev pub left_under : List DatedOcc → List (ℕ × Moment)
 left_under left = map seen_numbered left
 
--- **Nodes keep their numbers on the way to a list.** A number of the last commit that is still of a node is of the same
--- occurrence. Each derived occurrence whose node is gone is told under its number, and what is told under a number of the
--- last commit is the occurrence of that. No root is gone that stands in the list.
+-- **Nodes keep their numbers on the way to a list.** A number of the last commit that is still of a
+-- node is of the same occurrence. Each derived occurrence whose node is gone is told under its
+-- number, and what is told under a number of the last commit is the occurrence of that. No root is
+-- gone that stands in the list.
 pub record AreNumbered (s : Standing) (tree : Kept) (left : List (ℕ × Moment)) : Type 0 where
   pub stay : (x : ℕ) → IsLive (then_forest tree) x → IsLive (forest tree) x → moment_at (then_forest tree) x ≡ moment_at (forest tree) x
   pub told : (x : ℕ) → IsLive (then_forest tree) x → member (forest tree) x ≡ None → is_derived (moment_at (then_forest tree) x) ≡ true
@@ -38,8 +39,9 @@ pub record AreNumbered (s : Standing) (tree : Kept) (left : List (ℕ × Moment)
 abbrev pub StayNumbered : Standing → BeliefNet → BeliefNet → Told → Told → Type 0
 StayNumbered s old new told told_after = AreNumbered s old.tree (left_under told.left.items) → AreNumbered s new.tree (left_under told_after.left.items)
 
--- **After an update** a node of the last commit and a present one are the same occurrence exactly where they have the same
--- number, and the derived occurrences of nodes that are gone are told under their numbers.
+-- **After an update** a node of the last commit and a present one are the same occurrence exactly
+-- where they have the same number, and the derived occurrences of nodes that are gone are told
+-- under their numbers.
 pub record KeepsNumbers (tree : Kept) (left : List (ℕ × Moment)) : Type 0 where
   pub same : (x y : ℕ) → IsLive (then_forest tree) x → IsLive (forest tree) y → (moment_at (then_forest tree) x ≡ moment_at (forest tree) y) ↔ (x ≡ y)
   pub told : (x : ℕ) → IsLive (then_forest tree) x → member (forest tree) x ≡ None → is_derived (moment_at (then_forest tree) x) ≡ true

@@ -7,7 +7,8 @@ use Rattle.spots.specs.Forest.{Forest}
 use Rattle.spots.specs.Spots.{base_of, links_of, links_low, links_high, spot_distance}
 use Rattle.belief_net.specs.declared.places.Place.{Place}
 
--- the place of a node: the declared point from which rules lead to it, and the least and the most time that they take
+-- the place of a node: the declared point from which rules lead to it, and the least and the most
+-- time that they take
 pub record IsPlaceOf (f : Forest) (x : ℕ) (place : Place) : Type 0 where
   pub base : base_of f (Node x) ≡ place.base
   pub low : links_low (links_of f (Node x)) ≡ place.low
@@ -18,7 +19,8 @@ abbrev pub net_at : Nets → Bool → Net
 net_at nets true = nets.committed
 net_at nets false = nets.present
 
--- what the date of one node less that of another is at most where the one is no later, or strictly before
+-- what the date of one node less that of another is at most where the one is no later, or strictly
+-- before
 abbrev pub limit : Bool → ℤ
 limit true = negsuc 0
 limit false = pos 0

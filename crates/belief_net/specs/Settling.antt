@@ -24,7 +24,8 @@ use Rattle.belief_net.specs.Waiting.{dates_in}
 abbrev pub counted : ℕ → ℕ → ℕ
 counted before made = min (before + made) 18446744073709551615
 
--- nodes and rows stand for the revision that the edit asks for, of which no decision is made yet, and what entered and left is told
+-- nodes and rows stand for the revision that the edit asks for, of which no decision is made yet,
+-- and what entered and left is told
 pub record Begins (old : Standing) (edit : Edit) (net : Net) (b : BeliefNet) (told : Told) : Type 0 where
   pub underway : IsUnderway old edit net b []
   pub tells : IsToldBy old edit b told
@@ -33,7 +34,8 @@ pub record Begins (old : Standing) (edit : Edit) (net : Net) (b : BeliefNet) (to
 abbrev pub IfBegun : Standing → Net → BeliefNet → Told → (Standing → Edit → Type 0) → Type 0
 IfBegun s net b told P = (old : Standing) (edit : Edit) → next_list old edit ≡ s → Begins old edit net b told → P old edit
 
--- nodes and rows stand for the revision, what entered and left so far is told, and the decisions that were made are counted
+-- nodes and rows stand for the revision, what entered and left so far is told, and the decisions
+-- that were made are counted
 pub record IsSoFar (net : Net) (b : BeliefNet) (told : Told) (before count : ℕ) (old : Standing) (edit : Edit) : Type 0 where
   pub taken : List (Moment × List ℕ)
   pub underway : IsUnderway old edit net b taken
@@ -44,7 +46,8 @@ pub record IsSoFar (net : Net) (b : BeliefNet) (told : Told) (before count : ℕ
 abbrev pub IsCountedIn : ℕ → ℕ → Standing → Edit → Type 0
 IsCountedIn before count old edit = count ≤ counted before (touched old (next_list old edit))
 
--- **Nodes and rows are those of the list after the edit**, what changed is told, and all decisions that changed are counted.
+-- **Nodes and rows are those of the list after the edit**, what changed is told, and all decisions
+-- that changed are counted.
 pub record IsSettled (net : Net) (b : BeliefNet) (told : Told) (before count : ℕ) (old : Standing) (edit : Edit) : Type 0 where
   pub current : IsCurrent (next_list old edit) net (forest b.tree) (rows_of b)
   pub tells : TellsAll old (next_list old edit) (ins told) (outs told)

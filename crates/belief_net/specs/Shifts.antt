@@ -55,7 +55,8 @@ pub record AreWallsBy (net : Net) (tokens : List FastToken) (event : Place) : Ty
   pub other_begun : HasBegunBy net event other
   pub differ : one.fact ≢ other.fact
 
--- a token at the place has not surely begun by the event, or there are walls among the tokens behind it
+-- a token at the place has not surely begun by the event, or there are walls among the tokens
+-- behind it
 abbrev pub IsSparedBy : Net → Place → List FastToken → Place → Type 0
 IsSparedBy net place behind event = TellsWithin net event place (pos 0) false ⊎ AreWallsBy net behind event
 
@@ -75,7 +76,8 @@ pub record ShiftHasBoth (nets : Nets) (shift : Shift) : Type 0 where
   pub before : TokensHaveBoth nets shift.before.items
   pub after : TokensHaveBoth nets shift.after.items
 
--- A loose token at a place, with those of the tokens that were behind it at the last commit, and that are; with none if it is a span.
+-- A loose token at a place, with those of the tokens that were behind it at the last commit, and
+-- that are; with none if it is a span.
 pub record IsShift (nets : Nets) (place : Place) (end_is : Option Spot) (tokens : List FastToken) (shift : Shift) : Type 0 where
   pub at : shift.place ≡ place
   pub before : AreBehind nets.committed place tokens shift.before.items

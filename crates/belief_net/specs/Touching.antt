@@ -46,9 +46,9 @@ TouchAll pairs reach = (p : ℕ) × (is_in reach.all.items p ≡ true) × (Leads
 abbrev pub IsRowMoved : Nets → Option (List ℕ) → Standing → Forest → Decisions → TableRow Pair 8 → Type 0
 IsRowMoved nets added s f d row = MovesAt (is_moved nets added) s f (rule_in d row) row.value.trigger
 
--- these are the events at which a rule of these points depends on one of the pairs: all, where that is a pair of its own points;
--- else those from whose points a pair leads to one of its own, and those to which rules lead in bounded time from points to which
--- one leads from one of its own
+-- these are the events at which a rule of these points depends on one of the pairs: all, where that
+-- is a pair of its own points; else those from whose points a pair leads to one of its own, and
+-- those to which rules lead in bounded time from points to which one leads from one of its own
 abbrev pub IsTouchedAt : List Bool → Reach → Events → Type 0
 IsTouchedAt pairs reach (DueBetween delay before after) = ⊥
 IsTouchedAt pairs reach (BeginAt all bounded) =

@@ -31,11 +31,13 @@ SameTurnsKeep =
     → IsFit s net b → IsDecided s b c due → fires_by due.found ≡ fires_by due.before
     → IsFit s net c × StandsOn s net b c due
 
--- **A turn in which nodes enter or go, and rows with them, keeps what nodes and rows say of a revision.**
+-- **A turn in which nodes enter or go, and rows with them, keeps what nodes and rows say of a
+-- revision.**
 abbrev pub MovingTurnsKeep : Type 0
 MovingTurnsKeep = (s : Standing) (net : Net) (b c e : BeliefNet) (due : Due) → TurnsOn s net b c e due → StandsOn s net b e due
 
--- **Where the rule fires that did not, the turn is done once its effect has entered, and rows have followed.**
+-- **Where the rule fires that did not, the turn is done once its effect has entered, and rows have
+-- followed.**
 abbrev pub BringingTurnsKeep : Type 0
 BringingTurnsKeep =
     (s : Standing) (net : Net) (b c e : BeliefNet) (due : Due)
@@ -44,7 +46,8 @@ BringingTurnsKeep =
     → Brings s net due.trigger due.rule c e → KeepsLast c.decisions e.decisions
     → IsFit s net e × StandsOn s net b e due
 
--- **Where the rule fires no more, the turn is done once its effect is gone with all below it, and rows have followed.**
+-- **Where the rule fires no more, the turn is done once its effect is gone with all below it, and
+-- rows have followed.**
 abbrev pub LeavingTurnsKeep : Type 0
 LeavingTurnsKeep =
     (s : Standing) (net : Net) (b c e : BeliefNet) (due : Due) (x : ℕ) (m : Member) (numbers : List ℕ)

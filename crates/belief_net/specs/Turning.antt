@@ -29,8 +29,8 @@ use Rattle.belief_net.specs.Waiting.{dates_in, waits_in, Takes}
 abbrev pub rows_of : BeliefNet → Rows
 rows_of b = rows_in (table b.decisions.rows) (name_in b.decisions.rules) (waits_in b.decisions.waiting)
 
--- Nodes are occurrences of the list with their dates in the network. Each row is of an event, under the classes of what
--- its rule reads, and where it waits, it does so for the date of its event.
+-- Nodes are occurrences of the list with their dates in the network. Each row is of an event, under
+-- the classes of what its rule reads, and where it waits, it does so for the date of its event.
 pub record IsFit (s : Standing) (net : Net) (b : BeliefNet) : Type 0 where
   pub tree : IsTreeOf s net b.tree
   pub events : HaveEvents b.tree (table_of b.decisions)

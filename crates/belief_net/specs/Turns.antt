@@ -1,4 +1,5 @@
--- A turn as one call: the row that is due first is decided, and what follows of it is done and told.
+-- A turn as one call: the row that is due first is decided, and what follows of it is done and
+-- told.
 use Rattle.std.specs.Prelude.{◌≡◌, ◌⊎◌, ℕ, ℤ, ◌+◌, ◌≤ℤ◌, min, Bool, true, false, List, ◌∷◌, Some, None}
 use Rattle.tmm_model.specs.declared.premise.Edit.{Edit}
 use Rattle.tmm_model.specs.declared.refusal.Stop.{Stop}
@@ -56,7 +57,8 @@ pub record Withdraws (net : Net) (trigger : ℕ) (rule : List ℕ) (old new : Be
   pub once : AreOnce numbers
   pub tells : TellsExits old.tree numbers told told_after
 
--- **A turn**: whatever revision to the list nodes and rows stood for, and told what changed, they do so with this decision made.
+-- **A turn**: whatever revision to the list nodes and rows stood for, and told what changed, they
+-- do so with this decision made.
 pub record TurnsTo (s : Standing) (net : Net) (b e : BeliefNet) (told told_after : Told) : Type 0 where
   pub decision : Moment × List ℕ
   pub fit : IsFit s net e
@@ -66,7 +68,8 @@ pub record TurnsTo (s : Standing) (net : Net) (b e : BeliefNet) (told told_after
       → IsToldBy old edit b told → IsToldBy old edit e told_after
   pub weighed : IsWeighed s told → IsWeighed s told_after
 
--- the turn stops for want of memory, or as the map of the list is too large, if nodes and rows stood for a revision and told what changed
+-- the turn stops for want of memory, or as the map of the list is too large, if nodes and rows
+-- stood for a revision and told what changed
 abbrev pub StopsTurn : Standing → Net → BeliefNet → Told → Stop → Type 0
 StopsTurn s net b told stop =
     (old : Standing) (edit : Edit) (taken : List (Moment × List ℕ)) → next_list old edit ≡ s → IsUnderway old edit net b taken → IsToldBy old edit b told → IsWeighed s told

@@ -48,7 +48,8 @@ pub record IsKept (s : Standing) (net : Net) (b : BeliefNet) : Type 0 where
   pub tree : committed b.tree ≡ present b.tree
   pub rows : rows_then b.decisions.rows ≡ rows_now b.decisions.rows
 
--- The edit is made of list and network, and not committed: points that stay keep their numbers, and these names are left out.
+-- The edit is made of list and network, and not committed: points that stay keep their numbers, and
+-- these names are left out.
 pub record IsPending (lists : States) (nets : Nets) (edit : Edit) (erased : List (List ℕ)) : Type 0 where
   pub list : lists.present ≡ next_list lists.committed edit
   pub network : IsNetOf lists.present nets.present
@@ -58,8 +59,8 @@ pub record IsPending (lists : States) (nets : Nets) (edit : Edit) (erased : List
 
 -- ---- the steps
 
--- A premise that is added stands in the list, and no node is of its name. Where it is a rule, the others on its kind have their
--- rows.
+-- A premise that is added stands in the list, and no node is of its name. Where it is a rule, the
+-- others on its kind have their rows.
 pub record MayBeAdded (s : Standing) (b : BeliefNet) (premise : Premise) : Type 0 where
   pub stands : In premise s.premises
   pub new : IsNoRoot (forest b.tree) (name_of premise)
@@ -78,21 +79,22 @@ pub record Entered (s : Standing) (net : Net) (edit : Edit) (old new : BeliefNet
   pub names_mid : KeepsLast old.decisions mid.decisions
   pub names : KeepsLast mid.decisions new.decisions
 
--- The edit touches the row, beside what left and entered: another horizon brings its effect into time or puts it beyond; by
--- another edit points moved on which it depends.
+-- The edit touches the row, beside what left and entered: another horizon brings its effect into
+-- time or puts it beyond; by another edit points moved on which it depends.
 abbrev pub IsTouchedBy : Edit → Standing → Nets → ℕ → BeliefNet → TableRow Pair 8 → Type 0
 IsTouchedBy (Horizon n) s nets before b row = IsDueBetween s (present b.tree) b.decisions before s.horizon row
 IsTouchedBy edit s nets before b row = IsRowMoved nets (name_added edit) s (forest b.tree) b.decisions row
 
--- It leaves the row as it is, beside what left and entered: another horizon does not touch it, and points that moved let it rest.
+-- It leaves the row as it is, beside what left and entered: another horizon does not touch it, and
+-- points that moved let it rest.
 abbrev pub IsLeftBy : Edit → Standing → Nets → ℕ → BeliefNet → TableRow Pair 8 → Type 0
 IsLeftBy (Horizon n) s nets before b row = IsDueBetween s (present b.tree) b.decisions before s.horizon row → ⊥
 IsLeftBy edit s nets before b row = IsRowAtRest nets (name_added edit) s (forest b.tree) b.decisions row
 
 -- ---- what an update does
 
--- **Nodes and rows are those of the list after the edit**, and none waits. What changed is told, and at least the decisions that
--- changed are counted.
+-- **Nodes and rows are those of the list after the edit**, and none waits. What changed is told,
+-- and at least the decisions that changed are counted.
 pub record IsUpdated (lists : States) (nets : Nets) (b : BeliefNet) (before count : ℕ) (told : Told) : Type 0 where
   pub rests : IsAtRest lists.present nets.present b told
   pub current : IsCurrent lists.present nets.present (forest b.tree) (rows_of b)

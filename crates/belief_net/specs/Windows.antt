@@ -71,7 +71,8 @@ tree_in w = w.order.tree.now
 abbrev pub net_in : Window → Net
 net_in w = w.order.net.now.present
 
--- the window is that of the token of node x, which enters or leaves with these: all others in it are walls behind it
+-- the window is that of the token of node x, which enters or leaves with these: all others in it
+-- are walls behind it
 pub record IsWindowOf (moving : List ℕ) (x : ℕ) (w : Window) : Type 0 where
   pub tree : IsTreeIn (net_in w) (tree_in w)
   pub node : Member

@@ -25,8 +25,9 @@ use Rattle.belief_net.specs.PointSets.{has_pair, HaveOneOf}
 use Rattle.belief_net.specs.Shifts.{AreShifts}
 use Rattle.belief_net.specs.Waiting.{Dates}
 
--- what is known of what moved: each pair has one of the points that the net lists, no point makes one with itself, and the points
--- that were there and those that stand fast are there now and were at the last commit
+-- what is known of what moved: each pair has one of the points that the net lists, no point makes
+-- one with itself, and the points that were there and those that stand fast are there now and were
+-- at the last commit
 pub record TellMoves (nets : Nets) (moves : Moves) : Type 0 where
   pub places : length moves.pairs.items ≡ 65536
   pub listed : HaveOneOf nets.moved moves.pairs.items
@@ -40,16 +41,19 @@ pub record TellMoves (nets : Nets) (moves : Moves) : Type 0 where
 abbrev pub MovesFor : Moves → Forest → List ℕ → ℕ → Type 0
 MovesFor moves f class x = MovesAmong (has_pair moves.pairs.items) f (IsSpotOf f class) x
 
--- a decision at the event of node x may rest, as far as it reads the class: none moved, or what moved is spared
+-- a decision at the event of node x may rest, as far as it reads the class: none moved, or what
+-- moved is spared
 abbrev pub RestsFor : Nets → Moves → Forest → List ℕ → ℕ → Type 0
 RestsFor nets moves f class x = (MovesFor moves f class x → ⊥) ⊎ SparesClass nets f (is_out moves.fast.items) class x
 
--- what moved, as far as a class goes: the events at which something did, and the loose tokens, if they are told
+-- what moved, as far as a class goes: the events at which something did, and the loose tokens, if
+-- they are told
 pub record AreMovesOf (nets : Nets) (moves : Moves) (s : State) (m : ClassMoves) : Type 0 where
   pub events : (x : ℕ) → (is_event_of m.events s x ≡ true) ↔ MovesFor moves (forest s) m.class x
   pub shifts : MatchOption m.shifts (Unit {0}) (λ list. AreShifts nets (forest s) (is_out moves.fast.items) m.class list.items)
 
--- some rows have been looked at: of these those that wait newly are at events for which points moved, and others may rest
+-- some rows have been looked at: of these those that wait newly are at events for which points
+-- moved, and others may rest
 abbrev pub WakesFor : State → Table Pair 8 → Nets → Moves → List ℕ → (ℕ → Type 0) → Dates → Dates → Type 0
 WakesFor s t nets moves class are old new =
     Wakes s t (λ i row. are i × MovesFor moves (forest s) class row.value.trigger) (λ i row. are i → RestsFor nets moves (forest s) class row.value.trigger) old new

@@ -2,7 +2,8 @@
 ghost use Rattle.belief_net.specs.Beginning.{BegunAreReady};
 ghost use Rattle.belief_net.specs.Clearing.{ErasedAreCleared};
 
-// When the erased premises are gone, exactly what still occurs is left, with its rows; and what left is told.
+// When the erased premises are gone, exactly what still occurs is left, with its rows; and what
+// left is told.
 fn erased_are_cleared()
     ensures { ErasedAreCleared }
 {}

@@ -18,10 +18,11 @@ use tmm_model::{Bound, NoMemory};
 /// Some events.
 #[derive(Drop)]
 pub(crate) enum Events {
-    /// Those of which what follows after this delay is due up to one of the horizons, and after the other.
+    /// Those of which what follows after this delay is due up to one of the horizons, and after the
+    /// other.
     DueBetween { delay: i64, before: u32, after: u32 },
-    /// Those that begin, or to which rules lead, from one set of points, by their numbers; and from another set
-    /// where that takes a bounded time.
+    /// Those that begin, or to which rules lead, from one set of points, by their numbers; and from
+    /// another set where that takes a bounded time.
     BeginAt { all: Vec<bool>, bounded: Vec<bool> },
 }
 

@@ -8,10 +8,12 @@ use std::alloc::Global;
 use std::marker::Model;
 use tmm_model::NoMemory;
 
-/// So many tokens of a class are looked at each on its own; one walk over the rows of the class serves all others.
+/// So many tokens of a class are looked at each on its own; one walk over the rows of the class
+/// serves all others.
 const FEW_TOKENS: u32 = 16;
 
-/// The classes of which all rows wait from some date on, as far as these are later than what was decided since.
+/// The classes of which all rows wait from some date on, as far as these are later than what was
+/// decided since.
 #[derive(Drop)]
 pub(crate) struct ClassMarks {
     // how many tokens of each class were looked at, by the number of the class
@@ -52,7 +54,8 @@ impl ClassMarks {
         }
     }
 
-    // Counts one token more of a class; whether so many were counted before that all its rows are to wait.
+    // Counts one token more of a class; whether so many were counted before that all its rows are
+    // to wait.
     pub(crate) fn count(&mut self, class: u32) -> Result<bool, NoMemory>
         ensures { self.new ≡ self.old }
     {

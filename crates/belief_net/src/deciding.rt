@@ -35,8 +35,8 @@ pub(crate) struct Due {
     pub found: Decision,
 }
 
-// Decides a standing rule on the kind of the event at the node `trigger`, among the nodes of the tree, and
-// counts the decision.
+// Decides a standing rule on the kind of the event at the node `trigger`, among the nodes of the
+// tree, and counts the decision.
 pub(crate) fn decide(
     alloc: Global,
     standing: &Standing,

@@ -7,6 +7,7 @@ ghost use Rattle.spots.specs.Seen.{IsSeen};
 ghost use Rattle.occ_tree.specs.OfLists.{IsTreeIn, IsTreeOf};
 ghost use Rattle.occ_tree.specs.Places.{forest};
 ghost use Rattle.occ_tree.specs.Standing.{present, committed, forest as forest_of};
+ghost use Rattle.projection.specs.Kinds.{AreKnown};
 ghost use Rattle.supports.specs.Growing.{Adds, effect_shape, MayEnter};
 ghost use Rattle.supports.specs.Rules.{IsRuleOf};
 ghost use Rattle.undo_rows.specs.Changes.{present as table};
@@ -17,18 +18,19 @@ ghost use Rattle.belief_net.specs.Marks.{HaveEvents};
 
 use crate::class_marks::ClassMarks;
 use crate::marking::mark_class;
-use crate::rows::add_rows;
+use crate::rows::add_rows_after;
 use crate::state::{BeliefNet, Decisions};
 use crate::windows::window_of;
 use dist_net::DistNet;
 use occ_tree::Tree;
 use premise_list::Standing;
+use projection::KnownKinds;
 use std::alloc::Global;
 use tmm_model::{Name, NoMemory, Premise, Shape};
 
-// Adds the effect of a rule that fires at the event of a node, and answers its number, which no node had at the
-// last commit either. If that is an event, its rules get rows, which wait; if it is a token, those rows wait on
-// which it may bear.
+// Adds the effect of a rule that fires at the event of a node, and answers its number, which no
+// node had at the last commit either. If that is an event, its rules get rows, which wait; if it is
+// a token, those rows wait on which it may bear. What is known of kinds is kept.
 pub(crate) fn bring_about(
     alloc: Global,
     standing: &Standing,
@@ -37,6 +39,7 @@ pub(crate) fn bring_about(
     marks: &mut ClassMarks,
     trigger: u32,
     rule: Name,
+    known: &mut KnownKinds,
 ) -> Result<u32, NoMemory>
     requires tree { IsTreeOf standing.now.present net.now.present beliefs.old.tree }
     requires trigger { IsLive (forest beliefs.old.tree) trigger }
@@ -44,11 +47,13 @@ pub(crate) fn bring_about(
     requires events { HaveEvents beliefs.old.tree (table beliefs.old.decisions.rows) }
     requires under { AreUnder standing.now.present beliefs.old.decisions }
     requires covered { Covers (present beliefs.old.tree) beliefs.old.decisions marks.old }
+    requires known { AreKnown standing.now.present known.old }
     ensures ok { OnOk result (Brings standing.now.present net.now.present trigger rule beliefs.old beliefs.new) }
     ensures number { IfOk result (λ x. (b : Brings standing.now.present net.now.present trigger rule beliefs.old beliefs.new) × (b.number ≡ x)) }
     ensures was_free { IfOk result (λ x. forest_of (committed beliefs.old.tree) x ≡ None) }
     ensures covered { OnOk result (Covers (present beliefs.new.tree) beliefs.new.decisions marks.new) }
     ensures last { KeepLast beliefs.old beliefs.new }
+    ensures known { AreKnown standing.now.present known.new }
 {
     // it tells the proof that rows are on their lists
     let _ = beliefs.decisions.rows.first(0, trigger);
@@ -70,21 +75,22 @@ pub(crate) fn bring_about(
         }
         None => {
             let early = beliefs.tree.early(effect);
-            add_rows(
+            add_rows_after(
                 alloc,
                 standing,
                 &mut beliefs.decisions,
                 effect,
                 early,
                 row.what,
+                known,
             )?;
             Ok(effect)
         }
     }
 }
 
-// Adds what a rule leads to from the event of a node, and answers its number, which no node had at the last commit
-// either.
+// Adds what a rule leads to from the event of a node, and answers its number, which no node had at
+// the last commit either.
 fn enter_effect(
     alloc: Global,
     standing: &Standing,
@@ -141,9 +147,10 @@ pub(crate) fn mark_token(
     Ok(())
 }
 
-// Lets those rows wait on which the token of a class at a node may bear, which enters or leaves with these nodes. After the
-// first few tokens of a class all its rows wait from the date of one on, which serves those to come: an edit may move many
-// tokens of a class, and to walk over all its rows for each of them would take the square.
+// Lets those rows wait on which the token of a class at a node may bear, which enters or leaves
+// with these nodes. After the first few tokens of a class all its rows wait from the date of one
+// on, which serves those to come: an edit may move many tokens of a class, and to walk over all its
+// rows for each of them would take the square.
 pub(crate) fn mark_readers(
     alloc: Global,
     tree: &Tree,

@@ -1,5 +1,5 @@
-// What leaves with premises that the list has no more: declared events, tokens and spans, and what erased rules
-// brought about, with all below.
+// What leaves with premises that the list has no more: declared events, tokens and spans, and what
+// erased rules brought about, with all below.
 ghost use Rattle.std.specs.Prelude.{◌≡◌, ◌≢◌, ℕ, ◌+◌, ◌≤◌, List, [], ◌∷◌, length, None, Some, IfOk, OnOk};
 ghost use Rattle.tmm_model.specs.declared.point.PointName.TheVariants.{Begin};
 ghost use Rattle.tmm_model.specs.Moments.{At, After};
@@ -37,9 +37,9 @@ pub(crate) struct Departed {
     pub classes: Numbers,
 }
 
-// Withdraws what the premises of these names declared or brought about, with all below it, and takes out the
-// rows of those that are rules. Marks of rows that read what left are left to the caller: for this the dates
-// of their events are to be those of the new network.
+// Withdraws what the premises of these names declared or brought about, with all below it, and
+// takes out the rows of those that are rules. Marks of rows that read what left are left to the
+// caller: for this the dates of their events are to be those of the new network.
 pub(crate) fn erase(
     alloc: Global,
     beliefs: &mut BeliefNet,
@@ -263,7 +263,8 @@ fn withdraw(
     Ok(())
 }
 
-// Tells of nodes that go, notes the classes of the tokens among them, and takes out the rows at the events.
+// Tells of nodes that go, notes the classes of the tokens among them, and takes out the rows at the
+// events.
 fn part_with(
     alloc: Global,
     tree: &Tree,

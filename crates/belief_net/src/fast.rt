@@ -48,7 +48,8 @@ fn kept_points(alloc: Global, net: &DistNet, added: &Option<Name>) -> Result<Vec
     Ok(kept)
 }
 
-// Of the points that were there those that are not listed and make no pair with `start`, and `start` itself.
+// Of the points that were there those that are not listed and make no pair with `start`, and
+// `start` itself.
 fn fast_points(
     alloc: Global,
     moved: &[u16],

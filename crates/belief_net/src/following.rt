@@ -7,6 +7,7 @@ ghost use Rattle.spots.specs.Forest.{IsLive};
 ghost use Rattle.occ_tree.specs.OfLists.{IsTreeIn};
 ghost use Rattle.occ_tree.specs.Places.{forest};
 ghost use Rattle.occ_tree.specs.Standing.{present};
+ghost use Rattle.projection.specs.Kinds.{AreKnown};
 ghost use Rattle.undo_rows.specs.Changes.{present as table};
 ghost use Rattle.joined.specs.Rows.{fires_by};
 ghost use Rattle.belief_net.specs.Covered.{Covers};
@@ -25,11 +26,13 @@ use crate::told::Told;
 use decision_rows::Decision;
 use dist_net::DistNet;
 use premise_list::Standing;
+use projection::KnownKinds;
 use std::alloc::Global;
 use tmm_model::{Name, NoMemory, Stop};
 
-// Lets follow what was decided: where the rule fires that did not, its effect enters; where it fires no more,
-// that is withdrawn with all below it. Both are told. What entered may not count more than 100,000.
+// Lets follow what was decided: where the rule fires that did not, its effect enters; where it
+// fires no more, that is withdrawn with all below it. Both are told. What entered may not count
+// more than 100,000.
 pub(crate) fn follow(
     alloc: Global,
     standing: &Standing,
@@ -38,19 +41,22 @@ pub(crate) fn follow(
     marks: &mut ClassMarks,
     told: &mut Told,
     due: &Due,
+    known: &mut KnownKinds,
 ) -> Result<(), Stop>
     requires after { IsAfterSome standing.now.present net.now.present beliefs.old due.now }
     requires horizon { standing.now.present.horizon ≤ last_horizon }
     requires small { told.old.weight ≤ most_size }
     requires covered { Covers (present beliefs.old.tree) beliefs.old.decisions marks.old }
+    requires known { AreKnown standing.now.present known.old }
     ensures ok { OnOk result (IsTurned standing.now.present net.now.present beliefs.old beliefs.new due.now told.old told.new) }
     ensures stops { IfErr result (IsStopped standing.now.present net.now.present beliefs.old due.now told.old) }
     ensures numbered { OnOk result (StayNumbered standing.now.present beliefs.old beliefs.new told.old told.new) }
     ensures covered { OnOk result (Covers (present beliefs.new.tree) beliefs.new.decisions marks.new) }
     ensures last { KeepLast beliefs.old beliefs.new }
+    ensures known { AreKnown standing.now.present known.new }
 {
     match (fires(&due.before), fires(&due.found)) {
-        (false, true) => bring_effect(alloc, standing, net, beliefs, marks, told, due),
+        (false, true) => bring_effect(alloc, standing, net, beliefs, marks, told, due, known),
         (true, false) => match withdraw_effect(
             alloc,
             net,
@@ -84,6 +90,7 @@ fn bring_effect(
     marks: &mut ClassMarks,
     told: &mut Told,
     due: &Due,
+    known: &mut KnownKinds,
 ) -> Result<(), Stop>
     requires after { IsAfterSome standing.now.present net.now.present beliefs.old due.now }
     requires fires { fires_by due.now.found ≡ true }
@@ -91,19 +98,31 @@ fn bring_effect(
     requires horizon { standing.now.present.horizon ≤ last_horizon }
     requires small { told.old.weight ≤ most_size }
     requires covered { Covers (present beliefs.old.tree) beliefs.old.decisions marks.old }
+    requires known { AreKnown standing.now.present known.old }
     ensures ok { OnOk result (IsTurned standing.now.present net.now.present beliefs.old beliefs.new due.now told.old told.new) }
     ensures stops { IfErr result (IsStopped standing.now.present net.now.present beliefs.old due.now told.old) }
     ensures numbered { OnOk result (StayNumbered standing.now.present beliefs.old beliefs.new told.old told.new) }
     ensures covered { OnOk result (Covers (present beliefs.new.tree) beliefs.new.decisions marks.new) }
     ensures last { KeepLast beliefs.old beliefs.new }
+    ensures known { AreKnown standing.now.present known.new }
 {
-    match bring_about(alloc, standing, net, beliefs, marks, due.trigger, due.rule) {
-        Ok(effect) => told.enter(alloc, standing, &beliefs.tree, effect),
+    match bring_about(
+        alloc,
+        standing,
+        net,
+        beliefs,
+        marks,
+        due.trigger,
+        due.rule,
+        known,
+    ) {
+        Ok(effect) => told.enter(alloc, standing, &beliefs.tree, effect, known),
         Err(_) => Err(Stop::NoMemory),
     }
 }
 
-// Withdraws the effect of a rule at the event of a node with all below it, and tells that they left.
+// Withdraws the effect of a rule at the event of a node with all below it, and tells that they
+// left.
 fn withdraw_effect(
     alloc: Global,
     net: &DistNet,

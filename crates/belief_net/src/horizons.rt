@@ -13,8 +13,8 @@ use occ_tree::Tree;
 use premise_list::Standing;
 use tmm_model::{Name, NoMemory, Premise};
 
-// Lets those rows wait whose effects are due up to one of the horizons and after the other: the one before,
-// and that of the list. None waits where they are the same.
+// Lets those rows wait whose effects are due up to one of the horizons and after the other: the one
+// before, and that of the list. None waits where they are the same.
 pub(crate) fn mark_horizon(
     standing: &Standing,
     tree: &Tree,

@@ -22,8 +22,8 @@ use std::alloc::Global;
 use tmm_model::{Name, NoMemory, Premise};
 
 impl BeliefNet {
-    /// The events at which the rule of this name stands, where no decision waits to be made. No other node is
-    /// looked at. Without memory it answers that.
+    /// The events at which the rule of this name stands, where no decision waits to be made. No
+    /// other node is looked at. Without memory it answers that.
     pub fn events_of_rule(&self, alloc: Global, rule: Name) -> Result<Vec<u32>, NoMemory>
         requires { (s : AStanding) × (net : Net) × IsFit s net self.now }
         ensures { IfOk result (λ found. (s : AStanding) (net : Net) (x : ℕ) → IsCurrent s net (forest self.now.tree) (rows_of self.now) → IsLive (forest self.now.tree) x
@@ -33,8 +33,8 @@ impl BeliefNet {
     }
 }
 
-// Nodes among which are all events of a kind, each once: where a rule other than this one is on the kind, the events
-// of its rows, and else all nodes.
+// Nodes among which are all events of a kind, each once: where a rule other than this one is on the
+// kind, the events of its rows, and else all nodes.
 pub(crate) fn events_of(
     alloc: Global,
     standing: &Standing,

@@ -22,8 +22,8 @@ use occ_tree::Tree;
 use std::alloc::Global;
 use tmm_model::NoMemory;
 
-// Takes out a node with all below it, whose numbers these are, and their rows; rows wait on which a token
-// among them may bear.
+// Takes out a node with all below it, whose numbers these are, and their rows; rows wait on which a
+// token among them may bear.
 pub(crate) fn take_away(
     alloc: Global,
     net: &DistNet,
@@ -54,7 +54,8 @@ pub(crate) fn take_away(
     Ok(())
 }
 
-// Takes out the rows at nodes that leave, and lets those rows wait on which a token among them may bear.
+// Takes out the rows at nodes that leave, and lets those rows wait on which a token among them may
+// bear.
 fn lose_rows(
     alloc: Global,
     net: &DistNet,
@@ -80,8 +81,8 @@ fn lose_rows(
     Ok(())
 }
 
-// Takes out the rows at a node that leaves with these, and lets those rows wait on which it may bear if it is a
-// token.
+// Takes out the rows at a node that leaves with these, and lets those rows wait on which it may
+// bear if it is a token.
 fn lose_node(
     alloc: Global,
     net: &DistNet,

@@ -1,5 +1,5 @@
-//! What is believed, kept current: a tree of the believed occurrences with a row for each decision of a rule
-//! at an event, of which after an edit only those are made again that the edit touches.
+//! What is believed, kept current: a tree of the believed occurrences with a row for each decision
+//! of a rule at an event, of which after an edit only those are made again that the edit touches.
 #![tactic(auto)]
 
 mod alike_laws;

@@ -1,5 +1,5 @@
-// Laws of marks: rows that wait since points moved, or for another horizon, are some that the edit touches, and all others keep
-// their outcomes.
+// Laws of marks: rows that wait since points moved, or for another horizon, are some that the edit
+// touches, and all others keep their outcomes.
 ghost use Rattle.belief_net.specs.MarkLaws.{PointsWereThere, MovedRowsAreTouched, RestingRowsKeep, DueRowsChange};
 
 // But for those of the premise that the edit adds, all points were there at the last commit.
@@ -17,7 +17,8 @@ fn resting_rows_keep()
     ensures { RestingRowsKeep }
 {}
 
-// An effect is due between two horizons exactly where one of them has it in time and the other has not.
+// An effect is due between two horizons exactly where one of them has it in time and the other has
+// not.
 fn due_rows_change()
     ensures { DueRowsChange }
 {}

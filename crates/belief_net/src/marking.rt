@@ -16,8 +16,8 @@ use decision_rows::Rows;
 use occ_tree::Tree;
 use tmm_model::NoMemory;
 
-// Lets those rows wait that read a class, by its number, at events no earlier than the date, but for events that
-// the window spares.
+// Lets those rows wait that read a class, by its number, at events no earlier than the date, but
+// for events that the window spares.
 pub(crate) fn mark_class(
     tree: &Tree,
     rows: &Rows,

@@ -7,8 +7,9 @@ use dist_net::{DistNet, POINTS};
 use std::alloc::Global;
 use tmm_model::{Name, NoMemory, PointName};
 
-// The pairs of points, by their numbers, of which the distance is another one now. Points of the premise
-// that is added were not there. Each of them has one of the points that the net lists as moved.
+// The pairs of points, by their numbers, of which the distance is another one now. Points of the
+// premise that is added were not there. Each of them has one of the points that the net lists as
+// moved.
 pub(crate) fn moved_pairs(
     alloc: Global,
     net: &DistNet,

@@ -28,8 +28,8 @@ use premise_list::Standing;
 use std::alloc::Global;
 use tmm_model::{Name, NoMemory, Premise};
 
-// Lets those rows wait that depend on the distance of two points that is another one now, and may not rest.
-// Points of the premise that is added were not there. None waits where nothing moved.
+// Lets those rows wait that depend on the distance of two points that is another one now, and may
+// not rest. Points of the premise that is added were not there. None waits where nothing moved.
 pub(crate) fn mark_moved(
     alloc: Global,
     standing: &Standing,
@@ -45,8 +45,8 @@ pub(crate) fn mark_moved(
     ensures ok { OnOk result (Wakes (present tree.now) (table_of decisions.old) (λ i row. IsRowMoved net.now added standing.now.present (forest tree.now) decisions.old row) (λ i row. IsRowAtRest net.now added standing.now.present (forest tree.now) decisions.old row) (dates_in decisions.old.waiting) (dates_in decisions.new.waiting)) }
     ensures others { decisions.new ≡ record decisions.old { waiting = decisions.new.waiting } }
 {
-    // they tell the proof that numbers are below 256, that rows are on their lists, and that classes have their
-    // own numbers
+    // they tell the proof that numbers are below 256, that rows are on their lists, and that
+    // classes have their own numbers
     let _ = net.edges();
     let _ = decisions.rows.first(1, 0);
     decisions.classes.have_own();
@@ -98,7 +98,8 @@ fn wake_unread(
     Ok(())
 }
 
-// Lets those rows of a rule wait, by its number, that are at one of these events, if it reads nothing.
+// Lets those rows of a rule wait, by its number, that are at one of these events, if it reads
+// nothing.
 fn mark_unread(
     standing: &Standing,
     tree: &Tree,

@@ -71,8 +71,8 @@ impl Numbers {
         }
     }
 
-    // The number of a name, which is the next one where it has none. Those of others stay, also without
-    // memory; it counts as want of memory that a number would be 2^32 - 1 or more.
+    // The number of a name, which is the next one where it has none. Those of others stay, also
+    // without memory; it counts as want of memory that a number would be 2^32 - 1 or more.
     pub(crate) fn enter(&mut self, name: Name) -> Result<u32, NoMemory>
         ensures entered { IfOk result (λ k. place_in self.new name ≡ Some k) }
         ensures more { HaveMore self.old self.new }

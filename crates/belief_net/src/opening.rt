@@ -1,4 +1,5 @@
-// How an update begins: nodes and rows of the list before an edit are made ready for the list after it.
+// How an update begins: nodes and rows of the list before an edit are made ready for the list after
+// it.
 ghost use Rattle.std.specs.Prelude.{◌≡◌, IfOk, OnOk};
 ghost use Rattle.occ_tree.specs.Standing.{present};
 ghost use Rattle.belief_net.specs.Decided.{table_of};
@@ -27,8 +28,8 @@ use premise_list::Standing;
 use std::alloc::Global;
 use tmm_model::{Edit, Name, NoMemory};
 
-// Withdraws what is erased, gives roots the dates that they have now, enters what is added, and lets all rows
-// wait that the edit touches, for those dates. What left is told.
+// Withdraws what is erased, gives roots the dates that they have now, enters what is added, and
+// lets all rows wait that the edit touches, for those dates. What left is told.
 pub(crate) fn open(
     alloc: Global,
     beliefs: &mut BeliefNet,
@@ -77,8 +78,8 @@ fn enter_added(
     }
 }
 
-// Lets those rows wait that the edit touches and that may not rest, beside those that read what left or
-// entered.
+// Lets those rows wait that the edit touches and that may not rest, beside those that read what
+// left or entered.
 fn mark_touched(
     alloc: Global,
     standing: &Standing,

@@ -35,8 +35,8 @@ pub(crate) fn place_of(tree: &Tree, x: u32) -> Place
     }
 }
 
-// Whether a node at the second place was or is surely no later than one at the first, or strictly before it.
-// That is answered for places of two points alone.
+// Whether a node at the second place was or is surely no later than one at the first, or strictly
+// before it. That is answered for places of two points alone.
 pub(crate) fn is_surely_within(
     net: &DistNet,
     before: bool,

@@ -20,8 +20,8 @@ use std::alloc::Global;
 use supports::add_root;
 use tmm_model::{NoMemory, Premise};
 
-// Adds what a premise declares to occur. If that is an event, its rules get rows, which wait; if it is a token,
-// all rows wait that may read it.
+// Adds what a premise declares to occur. If that is an event, its rules get rows, which wait; if it
+// is a token, all rows wait that may read it.
 pub(crate) fn enter_root(
     alloc: Global,
     standing: &Standing,

@@ -8,6 +8,8 @@ ghost use Rattle.list_theory.proofs.Distinct.{Distinct};
 ghost use Rattle.list_theory.proofs.Elements.{In};
 ghost use Rattle.list_theory.specs.WellNamed.{IsSound};
 ghost use Rattle.occ_tree.specs.Classes.{place_in, HaveMore};
+ghost use Rattle.projection.specs.Kinds.{AreKnown};
+ghost use Rattle.projection.specs.Places.{name_at, IsRuleAt};
 ghost use Rattle.undo_rows.specs.Tables.{AreListed};
 ghost use Rattle.belief_net.specs.Decided.{table_of, AreUnder, AreOfSome, KeepsLast, AddsRows, DropsRows, AreNoLonger};
 
@@ -15,11 +17,12 @@ use crate::numbers::Numbers;
 use crate::state::Decisions;
 use arrayvec::ArrayVec;
 use premise_list::Standing;
+use projection::KnownKinds;
 use std::alloc::Global;
 use tmm_model::{Name, NoMemory, Premise};
 
-// Adds a row for each standing rule on a kind at the node of an event of that kind. None is decided yet, so all
-// of them wait, for the date of the event.
+// Adds a row for each standing rule on a kind at the node of an event of that kind. None is decided
+// yet, so all of them wait, for the date of the event.
 pub(crate) fn add_rows(
     alloc: Global,
     standing: &Standing,
@@ -42,6 +45,94 @@ pub(crate) fn add_rows(
         add_premise(alloc, standing, decisions, event, date, kind, premise)?;
     }
     Ok(())
+}
+
+// The same by what is known of kinds: of many events only the first few take a walk over the
+// premises.
+pub(crate) fn add_rows_after(
+    alloc: Global,
+    standing: &Standing,
+    decisions: &mut Decisions,
+    event: u32,
+    date: i64,
+    kind: Name,
+    known: &mut KnownKinds,
+) -> Result<(), NoMemory>
+    requires sound { IsSound standing.now.present }
+    requires once { Distinct (rules_on standing.now.present kind) }
+    requires under { AreUnder standing.now.present decisions.old }
+    requires known { AreKnown standing.now.present known.old }
+    ensures adds { OnOk result (AddsRows (rules_on standing.now.present kind) event date decisions.old decisions.new) }
+    ensures under { OnOk result (AreUnder standing.now.present decisions.new) }
+    ensures last { KeepsLast decisions.old decisions.new }
+    ensures known { AreKnown standing.now.present known.new }
+{
+    if !known.ask(alloc, standing, kind)? {
+        return add_rows(alloc, standing, decisions, event, date, kind);
+    }
+    add_rows_at(alloc, standing, decisions, event, date, known.places(&kind))
+}
+
+// Adds a row for each of the rules at these places of the list.
+fn add_rows_at(
+    alloc: Global,
+    standing: &Standing,
+    decisions: &mut Decisions,
+    event: u32,
+    date: i64,
+    places: &[u32],
+) -> Result<(), NoMemory>
+    requires sound { IsSound standing.now.present }
+    requires places { All (IsRuleAt standing.now.present) places.now }
+    requires once { Distinct (map (name_at standing.now.present) places.now) }
+    requires under { AreUnder standing.now.present decisions.old }
+    ensures adds { OnOk result (AddsRows (map (name_at standing.now.present) places.now) event date decisions.old decisions.new) }
+    ensures under { OnOk result (AreUnder standing.now.present decisions.new) }
+    ensures last { KeepsLast decisions.old decisions.new }
+{
+    for place in places {
+        add_row_at(alloc, standing, decisions, event, date, *place)?;
+    }
+    Ok(())
+}
+
+// Adds a row of the rule at this place of the list.
+fn add_row_at(
+    alloc: Global,
+    standing: &Standing,
+    decisions: &mut Decisions,
+    event: u32,
+    date: i64,
+    place: u32,
+) -> Result<(), NoMemory>
+    requires sound { IsSound standing.now.present }
+    requires place { IsRuleAt standing.now.present place }
+    requires under { AreUnder standing.now.present decisions.old }
+    ensures adds { OnOk result (AddsRows (name_at standing.now.present place ∷ []) event date decisions.old decisions.new) }
+    ensures under { OnOk result (AreUnder standing.now.present decisions.new) }
+    ensures last { KeepsLast decisions.old decisions.new }
+{
+    let Some(
+        Premise::Rule {
+            name,
+            given,
+            unless_facts,
+            ..
+        },
+    ) = standing.at(place as usize)
+    else {
+        unreachable!()
+    };
+    let read = facts_read(given.as_slice(), unless_facts.as_slice());
+    add_row(
+        alloc,
+        standing,
+        decisions,
+        event,
+        date,
+        *name,
+        read.as_slice(),
+    )
 }
 
 // Adds a row where the premise is a rule on the kind.

@@ -23,7 +23,8 @@ use premise_list::Standing;
 use std::alloc::Global;
 use tmm_model::{Name, NoMemory, Premise};
 
-// Adds a row at each event of its kind for a premise that is a rule. None is decided yet, so all of them wait.
+// Adds a row at each event of its kind for a premise that is a rule. None is decided yet, so all of
+// them wait.
 pub(crate) fn enter_rule(
     alloc: Global,
     standing: &Standing,

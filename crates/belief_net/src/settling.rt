@@ -13,14 +13,15 @@ use crate::told::Told;
 use crate::turn::turn;
 use dist_net::DistNet;
 use premise_list::Standing;
-use projection::Counter;
+use projection::{Counter, KnownKinds};
 use std::alloc::Global;
 use tmm_model::Stop;
 
-// Decides rows again, the earliest first, until none waits, and tells what enters and leaves. Then nodes and
-// rows are those of the list after the edit; each decision that the edit changed is counted, and none that it
-// does not touch. Nodes keep their numbers from the last commit on. It refuses only a list whose map is larger
-// than 100,000; that 2^64 - 1 turns do not end it counts as want of memory.
+// Decides rows again, the earliest first, until none waits, and tells what enters and leaves. Then
+// nodes and rows are those of the list after the edit; each decision that the edit changed is
+// counted, and none that it does not touch. Nodes keep their numbers from the last commit on. It
+// refuses only a list whose map is larger than 100,000; that 2^64 - 1 turns do not end it counts as
+// want of memory.
 pub(crate) fn settle(
     alloc: Global,
     standing: &Standing,
@@ -44,8 +45,11 @@ pub(crate) fn settle(
     // it tells the proof that no count is above the greatest
     let _ = count.value();
     let mut marks = ClassMarks::make(alloc);
+    let mut known = KnownKinds::make();
     for _ in 0..u64::MAX {
-        if !turn(alloc, standing, net, beliefs, &mut marks, told, count)? {
+        if !turn(
+            alloc, standing, net, beliefs, &mut marks, told, count, &mut known,
+        )? {
             return Ok(());
         }
     }

@@ -27,8 +27,8 @@ use tmm_model::{Name, NoMemory, TokenRow};
 pub(crate) struct Shift {
     /// Where it begins.
     pub place: Place,
-    /// Fast tokens of its class that surely began after it at the last commit. None of a span: walls do not
-    /// end it.
+    /// Fast tokens of its class that surely began after it at the last commit. None of a span:
+    /// walls do not end it.
     pub before: Vec<FastToken>,
     /// Those that surely begin after it now.
     pub after: Vec<FastToken>,

@@ -16,8 +16,8 @@ use projection::RulesByKind;
 use std::alloc::Global;
 use tmm_model::{MOST_SIZE, Refusal, Stop};
 
-/// The size of the map whose believed occurrences are the nodes: each of them counts once, with its rules and the rules
-/// on it. A size above 100,000 is refused. Without memory it answers that.
+/// The size of the map whose believed occurrences are the nodes: each of them counts once, with its
+/// rules and the rules on it. A size above 100,000 is refused. Without memory it answers that.
 pub fn size_of(alloc: Global, standing: &Standing, tree: &Tree) -> Result<u64, Stop>
     requires seen { (net : Net) × IsTreeOf standing.now.present net tree.now }
     ensures size { IfOk result (λ n. Holds (built standing.now.present).believed (forest tree.now) → n ≡ size (built standing.now.present)) }

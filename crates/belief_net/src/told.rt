@@ -6,13 +6,14 @@ ghost use Rattle.row_links.specs.Lists.{IsOn};
 ghost use Rattle.spots.specs.Forest.{IsLive, moment_at};
 ghost use Rattle.spots.specs.Seen.{IsSeen};
 ghost use Rattle.occ_tree.specs.Places.{forest};
+ghost use Rattle.projection.specs.Kinds.{AreKnown};
 ghost use Rattle.projection.specs.Queues.{weight_at, IsTooLarge};
 ghost use Rattle.belief_net.specs.Numbered.{seen_numbered, left_under};
 ghost use Rattle.belief_net.specs.Telling.{seen_dated, seen_node, entered_in, left_in, TellsEntry, TellsExits};
 
 use occ_tree::Tree;
 use premise_list::Standing;
-use projection::weight_of;
+use projection::KnownKinds;
 use std::alloc::Global;
 use tmm_model::{MOST_SIZE, NoMemory, Occ, Refusal, Seq, Stop};
 
@@ -52,22 +53,26 @@ impl Told {
         }
     }
 
-    // Tells of the occurrence at a node that it entered. What entered may not count more than 100,000.
+    // Tells of the occurrence at a node that it entered. What entered may not count more than
+    // 100,000. What is known of kinds is kept.
     pub(crate) fn enter(
         &mut self,
         alloc: Global,
         standing: &Standing,
         tree: &Tree,
         x: u32,
+        known: &mut KnownKinds,
     ) -> Result<(), Stop>
         requires seen { (net : Net) × IsSeen standing.now.present net (forest tree.now) }
         requires live { IsLive (forest tree.now) x }
         requires small { self.old.weight ≤ most_size }
+        requires known { AreKnown standing.now.present known.old }
         ensures ok { OnOk result (TellsEntry standing.now.present tree.now x self.old self.new) }
         ensures left { self.new.left.items ≡ self.old.left.items }
         ensures stops { IfErr result (IsTooLarge (self.old.weight + weight_at standing.now.present (forest tree.now) x)) }
+        ensures known { AreKnown standing.now.present known.new }
     {
-        let weight = self.weight + weight_of(standing, tree, x);
+        let weight = self.weight + known.weight(standing, tree, x);
         if weight > MOST_SIZE {
             return Err(Stop::Refused(Refusal::LimitSize));
         }

@@ -11,8 +11,8 @@ use dist_net::POINTS;
 use std::alloc::Global;
 use tmm_model::NoMemory;
 
-// The events at which what reads these points depends on one of the pairs. Each pair has one of the points
-// that moved.
+// The events at which what reads these points depends on one of the pairs. Each pair has one of the
+// points that moved.
 pub(crate) fn touched_by(
     alloc: Global,
     pairs: &[bool],
@@ -43,8 +43,8 @@ fn put_every(into: &mut Vec<bool>, is: bool)
     }
 }
 
-// Puts those points in from which a pair leads to one of the set. As each pair has one of the points that
-// moved, only their pairs are looked at.
+// Puts those points in from which a pair leads to one of the set. As each pair has one of the
+// points that moved, only their pairs are looked at.
 fn put_before(pairs: &[bool], moved: &[u16], set: &[bool], into: &mut Vec<bool>)
     requires pairs { length pairs.now ≡ 65536 }
     requires moved { HaveOneOf moved.now pairs.now }
@@ -100,8 +100,8 @@ fn put_before_one(pairs: &[bool], set: &[bool], q: usize, into: &mut Vec<bool>)
     }
 }
 
-// Puts those points in to which a pair leads from one of the set. As each pair has one of the points that
-// moved, only their pairs are looked at.
+// Puts those points in to which a pair leads from one of the set. As each pair has one of the
+// points that moved, only their pairs are looked at.
 fn put_behind(pairs: &[bool], moved: &[u16], set: &[bool], into: &mut Vec<bool>)
     requires pairs { length pairs.now ≡ 65536 }
     requires moved { HaveOneOf moved.now pairs.now }

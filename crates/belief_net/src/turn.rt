@@ -3,6 +3,7 @@ ghost use Rattle.std.specs.Prelude.{◌≡◌, ◌+◌, ◌≤◌, ℕ, min, Non
 ghost use Rattle.tmm_model.specs.Answers.{most_size};
 ghost use Rattle.belief_theory.specs.KeptLists.{last_horizon};
 ghost use Rattle.occ_tree.specs.Standing.{present};
+ghost use Rattle.projection.specs.Kinds.{AreKnown};
 ghost use Rattle.belief_net.specs.Covered.{Covers};
 ghost use Rattle.belief_net.specs.Entering.{KeepLast};
 ghost use Rattle.belief_net.specs.Numbered.{StayNumbered};
@@ -17,12 +18,13 @@ use crate::state::BeliefNet;
 use crate::told::Told;
 use dist_net::DistNet;
 use premise_list::Standing;
-use projection::Counter;
+use projection::{Counter, KnownKinds};
 use std::alloc::Global;
 use tmm_model::{NoMemory, Stop};
 
-// A turn: the row that is due first is decided again, and its effect enters or is withdrawn where that is
-// decided; whether a row waited. What entered may not count more than 100,000.
+// A turn: the row that is due first is decided again, and its effect enters or is withdrawn where
+// that is decided; whether a row waited. What entered may not count more than 100,000. What is
+// known of kinds is kept from turn to turn.
 pub(crate) fn turn(
     alloc: Global,
     standing: &Standing,
@@ -31,22 +33,25 @@ pub(crate) fn turn(
     marks: &mut ClassMarks,
     told: &mut Told,
     counter: &mut Counter,
+    known: &mut KnownKinds,
 ) -> Result<bool, Stop>
     requires fit { IsFit standing.now.present net.now.present beliefs.old }
     requires revising { IsRevising standing.now.present net.now.present beliefs.old }
     requires horizon { standing.now.present.horizon ≤ last_horizon }
     requires small { told.old.weight ≤ most_size }
     requires covered { Covers (present beliefs.old.tree) beliefs.old.decisions marks.old }
+    requires known { AreKnown standing.now.present known.old }
     ensures ok { IfOk result (TurnsOrRests standing.now.present net.now.present beliefs.old beliefs.new told.old told.new counter.old counter.new) }
     ensures stops { IfErr result (StopsTurn standing.now.present net.now.present beliefs.old told.old) }
     ensures counted { CountsOne beliefs.old counter.old counter.new }
     ensures numbered { OnOk result (StayNumbered standing.now.present beliefs.old beliefs.new told.old told.new) }
     ensures covered { OnOk result (Covers (present beliefs.new.tree) beliefs.new.decisions marks.new) }
     ensures last { KeepLast beliefs.old beliefs.new }
+    ensures known { AreKnown standing.now.present known.new }
 {
     match decide_first(alloc, standing, net, beliefs, marks, counter) {
         Ok(Some(due)) => {
-            follow(alloc, standing, net, beliefs, marks, told, &due)?;
+            follow(alloc, standing, net, beliefs, marks, told, &due, known)?;
             Ok(true)
         }
         Ok(None) => Ok(false),
@@ -54,8 +59,8 @@ pub(crate) fn turn(
     }
 }
 
-// Decides the row again that is due first, keeps what is decided and counts the decision; none where no row
-// waits.
+// Decides the row again that is due first, keeps what is decided and counts the decision; none
+// where no row waits.
 fn decide_first(
     alloc: Global,
     standing: &Standing,

@@ -13,8 +13,8 @@ use occ_tree::Tree;
 use std::alloc::Global;
 
 impl BeliefNet {
-    /// No occurrences and no decisions: those of a list in which nothing is declared to occur. It takes no
-    /// memory.
+    /// No occurrences and no decisions: those of a list in which nothing is declared to occur. It
+    /// takes no memory.
     pub fn make(alloc: Global) -> BeliefNet
         ensures nodes { (x : ℕ) → forest result.tree x ≡ None }
         ensures rows { (i : ℕ) → (rows_now result.decisions.rows).row i ≡ None }
@@ -47,8 +47,8 @@ impl BeliefNet {
         self.decisions.rows.commit();
     }
 
-    /// Makes nodes and rows those of the last commit again, of which none waits. Numbers of names stay. It
-    /// takes no memory.
+    /// Makes nodes and rows those of the last commit again, of which none waits. Numbers of names
+    /// stay. It takes no memory.
     pub fn rollback(&mut self)
         ensures nodes { present self.new.tree ≡ committed self.old.tree }
         ensures nodes_at_commit { committed self.new.tree ≡ committed self.old.tree }

@@ -1,4 +1,5 @@
-// An update: what is kept of the list before an edit becomes what is to be kept of the list after it.
+// An update: what is kept of the list before an edit becomes what is to be kept of the list after
+// it.
 ghost use Rattle.std.specs.Prelude.{◌≡◌, ◌≤◌, IfOk, IfErr, OnOk};
 ghost use Rattle.tmm_model.specs.Answers.{size};
 ghost use Rattle.tmm_model.specs.Maps.{built};
@@ -18,12 +19,13 @@ use std::alloc::Global;
 use tmm_model::{Edit, Name, Stop};
 
 impl BeliefNet {
-    /// Makes nodes and rows of the list before an edit those of the list after it, where list and network
-    /// have the edit already. `erased` are the names that it left out, and `before` is the horizon before it.
-    /// It answers which derived occurrences entered and left, and counts the decisions that it makes: no more
-    /// than the edit touches. What occurs on keeps the number that its node had at the last commit, and
-    /// nothing else gets that number; a derived occurrence that left is told under its number, and no root is gone that stands. It refuses only
-    /// a list whose map is larger than 100,000; that 2^64 - 1 decisions do not end it counts as want of
+    /// Makes nodes and rows of the list before an edit those of the list after it, where list and
+    /// network have the edit already. `erased` are the names that it left out, and `before` is the
+    /// horizon before it. It answers which derived occurrences entered and left, and counts the
+    /// decisions that it makes: no more than the edit touches. What occurs on keeps the number that
+    /// its node had at the last commit, and nothing else gets that number; a derived occurrence
+    /// that left is told under its number, and no root is gone that stands. It refuses only a list
+    /// whose map is larger than 100,000; that 2^64 - 1 decisions do not end it counts as want of
     /// memory. After an error `rollback` leads back.
     pub fn update(
         &mut self,

@@ -118,8 +118,9 @@ impl Waiting {
         date_at(&self.dates, row) == Some(date)
     }
 
-    // Lets a row wait for a date. Without memory all wait as before. Where it waits for that date already nothing
-    // is done: a token that moves lets all rows of its class wait, and many may move in one edit.
+    // Lets a row wait for a date. Without memory all wait as before. Where it waits for that date
+    // already nothing is done: a token that moves lets all rows of its class wait, and many may
+    // move in one edit.
     pub(crate) fn push(&mut self, row: u32, date: i64) -> Result<(), NoMemory>
         ensures ok { OnOk result (Puts (dates_in self.old) (dates_in self.new) row (Some date)) }
         ensures err { OnErr result ((i : ℕ) → dates_in self.new i ≡ dates_in self.old i) }

@@ -24,7 +24,8 @@ pub(crate) struct FastToken {
     pub fact: Name,
 }
 
-// The first of the tokens that surely began or begin after the node at a place, no more than `LIMIT`.
+// The first of the tokens that surely began or begin after the node at a place, no more than
+// `LIMIT`.
 pub(crate) fn tokens_behind(
     alloc: Global,
     net: &DistNet,

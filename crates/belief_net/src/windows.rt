@@ -18,14 +18,15 @@ use spots::Spot;
 use std::alloc::Global;
 use tmm_model::{Name, NoMemory, Sure, TokenRow};
 
-// For a token no more tokens than this are looked at behind it, and none where more nodes than this leave with
-// it: marks are to cost less than the decisions that they save.
+// For a token no more tokens than this are looked at behind it, and none where more nodes than this
+// leave with it: marks are to cost less than the decisions that they save.
 const FEW: usize = 32;
 
 /// A token that enters or leaves, with tokens of its class behind it that stay.
 ///
-/// It bears on a decision at an event only where it has surely begun and no two of the others have, of two
-/// facts: one of the two clips it then, and what it would clip, one of the two clips as well.
+/// It bears on a decision at an event only where it has surely begun and no two of the others have,
+/// of two facts: one of the two clips it then, and what it would clip, one of the two clips as
+/// well.
 #[derive(Drop)]
 pub(crate) struct Window<'a> {
     /// The occurrences and their distances.
@@ -75,8 +76,8 @@ fn token_at(tree: &Tree, x: u32, class: Name) -> TokenRow<Spot>
     }
 }
 
-// Tokens of the class of a token, surely after it, of nodes other than these, among the nearest behind it. A span
-// has none: nothing clips it.
+// Tokens of the class of a token, surely after it, of nodes other than these, among the nearest
+// behind it. A span has none: nothing clips it.
 fn walls_behind(
     alloc: Global,
     order: &Order<'_>,

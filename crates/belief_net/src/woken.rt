@@ -157,7 +157,8 @@ fn may_rest(net: &DistNet, tree: &Tree, moves: &Moves, of_class: &ClassMoves, x:
     !of_class.events.has(tree, x)
 }
 
-// Whether all loose tokens of the class bear on no decision at the event of a node, before and after.
+// Whether all loose tokens of the class bear on no decision at the event of a node, before and
+// after.
 fn is_spared(net: &DistNet, tree: &Tree, moves: &Moves, of_class: &ClassMoves, x: u32) -> bool
     requires node { IsLive (forest tree.now) x }
     requires moves { TellMoves net.now moves.now }

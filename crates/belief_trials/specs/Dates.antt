@@ -1,5 +1,5 @@
--- The laws of plain dates on lines of time that nothing relates, as the tests use them: a spot is its
--- line, its date and its place.
+-- The laws of plain dates on lines of time that nothing relates, as the tests use them: a spot is
+-- its line, its date and its place.
 use Rattle.std.specs.Prelude.{◌≡◌, ℕ, ℤ, pos, ◌+ℤ◌, ◌-ℤ◌, ◌≤ℤ◌, Bool, true, false, cond, refl, ◌==◌}
 use Rattle.std.specs.declared.cmp.Ordering.{Ordering}
 use Rattle.std.specs.declared.cmp.Ordering.TheVariants.{Less, Equal, Greater}

@@ -22,7 +22,8 @@ const LAMP: &[&[u8]] = &[
     b"token m shut",
 ];
 
-/// Rows by their letters, and whether they are those of the lamp: `r` and `q` are these rules on `e`.
+/// Rows by their letters, and whether they are those of the lamp: `r` and `q` are these rules on
+/// `e`.
 const CASES: &[(&[u8], bool)] = &[
     (b"kmner", true),
     (b"kmne", false),

@@ -118,8 +118,8 @@ fn clipper(tokens: &[TokenRow<Spot>], k: usize) -> Option<usize> {
     }
 }
 
-// Why the token at `k` does not support its fact from a date of the first line to another, where no token
-// does.
+// Why the token at `k` does not support its fact from a date of the first line to another, where no
+// token does.
 fn fault(tokens: &[TokenRow<Spot>], k: usize, p: i32, q: i32) -> Option<Fault> {
     let token = tokens.get(k)?;
     let (p, q) = ((0, p, 8), (0, q, 8));

@@ -19,8 +19,8 @@ use std::test::Fail;
 use supports::Guesses;
 use tmm_model::{Name, Stop};
 
-/// An event lights the lamp and rings. At the ring the rule that wants the lamp on fires, and the one that
-/// wants it off is blocked.
+/// An event lights the lamp and rings. At the ring the rule that wants the lamp on fires, and the
+/// one that wants it off is blocked.
 const LAMP: &[&[u8]] = &[
     b"class lamp on off",
     b"kind press",
@@ -102,8 +102,8 @@ fn node_at(rows: &[BeliefRow], place: Option<usize>) -> Option<u32> {
     Some(rows.get(place?)?.node)
 }
 
-// How many decisions it takes to decide each rule at each event, none where one fires there and its effect
-// is not believed, or the other way round.
+// How many decisions it takes to decide each rule at each event, none where one fires there and its
+// effect is not believed, or the other way round.
 fn decided(alloc: Global, premises: &Premises, tree: &Tree) -> Option<u64>
     requires { IsTreeOf premises.now.list.present premises.now.net.present tree.now }
 {

@@ -46,8 +46,8 @@ fn unordered(word: &str) -> Report {
     }
 }
 
-// What is told of the reports before an edit and after it: how many break, the first that is mended, and
-// how many of those that break are copied.
+// What is told of the reports before an edit and after it: how many break, the first that is
+// mended, and how many of those that break are copied.
 type Told = (usize, Option<Name>, usize);
 
 fn told(

@@ -1,6 +1,7 @@
-//! Trials of the crates that make, list and check beliefs, by their public calls: `clips` of `clipping`,
-//! `trees` of `occ_tree`, `decisions` of `projection`, `told` of `belief_list`, `audits` of `just_check` and
-//! `guards` of `protections`. It has no functions but its tests, and no crate stands on it.
+//! Trials of the crates that make, list and check beliefs, by their public calls: `clips` of
+//! `clipping`, `trees` of `occ_tree`, `decisions` of `projection`, `told` of `belief_list`,
+//! `audits` of `just_check` and `guards` of `protections`. It has no functions but its tests, and
+//! no crate stands on it.
 #![tactic(auto)]
 
 #[cfg(test)]

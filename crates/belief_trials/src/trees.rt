@@ -127,7 +127,8 @@ fn same(rt: &impl Abort, index: &ByName<'_>, other: &Tree, x: u32) -> Option<u32
     index.find_same(other, x)
 }
 
-// What is found by its names in a tree of two roots: in the other the names of the roots are exchanged.
+// What is found by its names in a tree of two roots: in the other the names of the roots are
+// exchanged.
 fn are_found(rt: &impl Abort, alloc: Global, one: &mut Tree, two: &mut Tree) -> Result<(), NoMemory>
     requires one { (x : ℕ) → forest (present one.old) x ≡ None }
     requires two { (x : ℕ) → forest (present two.old) x ≡ None }
@@ -267,7 +268,8 @@ fn is_before(tree: &Tree, first: Spot, second: Spot) -> bool {
     }
 }
 
-// The tokens of an event follow it to another date and out of the tree, and are back after a rollback.
+// The tokens of an event follow it to another date and out of the tree, and are back after a
+// rollback.
 fn tokens_stay_in_order(rt: &impl Abort, alloc: Global, tree: &mut Tree) -> Result<(), NoMemory>
     requires { (x : ℕ) → forest (present tree.old) x ≡ None }
 {

@@ -8,8 +8,9 @@
 //! halving. No call takes memory.
 //!
 //! `first_clipper` and `blame` cost what they pass over. `is_held` and `holder` cost, for each
-//! token of the fact that they pass over, the way from what cut the one before to what cuts this
-//! one: little where those that cut stand in the order of those that they cut. Where they stand in
+//! token of the fact that they pass over, one test where it is cut by what cut the one before, and
+//! else the way from there to what cuts this one: little where those that cut stand in the order of
+//! those that they cut. Where they stand in
 //! quite another order it comes to the square of the tokens up to the last point, but for two
 //! things:
 //!
@@ -17,7 +18,7 @@
 //! - `holder` and `is_held` take guesses of what cuts each token. Each is tried, and none is
 //!   believed: a right one passes over its token in one test, a wrong one costs that test. Where
 //!   all are right, one search is made, for what cuts the token that is found.
-ghost use Rattle.std.specs.Prelude.{◌≡◌, ◌<◌, ◌≤◌, ◌+◌, ◌↔◌, ◌≤ℤ◌, ℕ, length, IsTrue, IsSome, None, true, false, IfSome, MatchOption, slice_get, slice_index_or};
+ghost use Rattle.std.specs.Prelude.{◌≡◌, ◌<◌, ◌≤◌, ◌+◌, ◌↔◌, ◌≤ℤ◌, ℕ, length, IsTrue, IsSome, Some, None, true, false, IfSome, MatchOption, slice_get, slice_index_or};
 ghost use Rattle.std.specs.List.{All, list_any};
 ghost use Rattle.std.specs.Option.{ForSome};
 ghost use Rattle.std.specs.Ordering.{on};
@@ -26,11 +27,11 @@ ghost use Rattle.tmm_model.specs.declared.token.TokenRow.{TokenRow};
 ghost use Rattle.tmm_model.specs.Tokens.{of_one_class, supports, cuts, lasts_to};
 ghost use Rattle.belief_theory.specs.FirstPlaces.{IsFirstPlace};
 ghost use Rattle.clipping.specs.ByDate.{IsByDate, AreUntil, AreBefore, IsAnyPlaceIn, IsFirstPlaceIn, IsPlaceOf};
-ghost use Rattle.clipping.specs.Cutters.{clips_until};
+ghost use Rattle.clipping.specs.Cutters.{BeginsBy, clips_until};
 ghost use Rattle.clipping.specs.Faults.{IsClipPlace, IsFault};
 ghost use Rattle.clipping.specs.Live.{IsLive};
 
-use crate::{Dated, Fault, clips_until, cuts_before};
+use crate::{Dated, Fault, clips_until, cuts_before, is_cut_by};
 use tmm_model::{Name, TokenRow};
 
 /// Whether the tokens stand in the order of their dates, which the other calls ask for.
@@ -182,9 +183,10 @@ fn last_between<S: Dated>(
     None
 }
 
-// Where the search for what cuts a token begins: at what cut the token before, which mostly cuts
-// this one too, or stands near what does. From there it goes the way that the tokens themselves are
-// gone through.
+// Where the search for what cuts a token begins. Of the first token it is looked for from the last
+// one back: what begins late cuts most. From then on it begins at what cut the token before, near
+// which mostly stands what cuts this one, and goes the way that the tokens themselves are gone
+// through.
 #[derive(Clone, Copy)]
 enum Near {
     // on from this place
@@ -198,24 +200,40 @@ enum Near {
 struct Search {
     // where it begins for the next one
     near: Near,
+    // whether the tokens are gone through from the first on, and not back from the last
+    goes_on: bool,
     // how many tokens it went over that do not cut
     walked: usize,
+    // the place of the token that cut one last, which mostly cuts the next one too
+    cutter: Option<usize>,
 }
 
 impl Search {
-    fn new(near: Near) -> Search {
-        Search { near, walked: 0 }
+    // A search back from this place.
+    fn new(reach: usize, goes_on: bool) -> Search
+        ensures { result.cutter ≡ None }
+    {
+        Search {
+            near: Near::Back(reach),
+            goes_on,
+            walked: 0,
+            cutter: None,
+        }
     }
 
     // Counts the way to the place that was found from `low` on and before `high`, where the next
     // search begins.
-    fn go_to(&mut self, found: usize, low: usize, high: usize) {
+    fn go_to(&mut self, found: usize, low: usize, high: usize)
+        ensures { self.new.cutter ≡ Some found }
+    {
         let steps = steps_to(self.near, found, low, high);
         self.walked = self.walked.saturating_add(steps);
-        self.near = match self.near {
-            Near::On(_) => Near::On(found),
-            Near::Back(_) => Near::Back(found.saturating_add(1)),
+        self.near = if self.goes_on {
+            Near::On(found)
+        } else {
+            Near::Back(found.saturating_add(1))
         };
+        self.cutter = Some(found);
     }
 }
 
@@ -325,7 +343,8 @@ fn is_cut<S: Dated>(
     requires within { i < length tokens.now }
     requires q_live { S.live order.now q }
     requires reach { AreUntil (S.date order.now) tokens.now (S.date order.now q) reach }
-    ensures { (d : TokenRow S.Spot) → result ≡ list_any (cuts of_one_class (S.distance order.now) (slice_index_or tokens.now i d) q) tokens.now }
+    ensures cut { (d : TokenRow S.Spot) → result ≡ list_any (cuts of_one_class (S.distance order.now) (slice_index_or tokens.now i d) q) tokens.now }
+    ensures begins { BeginsBy (S.distance order.now) tokens.now q search.old.cutter → BeginsBy (S.distance order.now) tokens.now q search.new.cutter }
 {
     if is_cut_as_guessed(order, tokens, guesses, i, q) {
         return true;
@@ -359,10 +378,15 @@ fn is_supporter<S: Dated>(
     requires p_live { S.live order.now p }
     requires q_live { S.live order.now q }
     requires reach { AreUntil (S.date order.now) tokens.now (S.date order.now q) reach }
-    ensures { (d : TokenRow S.Spot) → result ≡ supports of_one_class (S.distance order.now) tokens.now fact.now p q (slice_index_or tokens.now i d) }
+    requires begins { BeginsBy (S.distance order.now) tokens.now q search.old.cutter }
+    ensures supports { (d : TokenRow S.Spot) → result ≡ supports of_one_class (S.distance order.now) tokens.now fact.now p q (slice_index_or tokens.now i d) }
+    ensures begins { BeginsBy (S.distance order.now) tokens.now q search.new.cutter }
 {
     let k = &tokens[i];
-    if k.fact != *fact || !order.at_most(p, k.spot, 0) {
+    if k.fact != *fact
+        || is_cut_by(order, tokens, k, q, search.cutter)
+        || !order.at_most(p, k.spot, 0)
+    {
         return false;
     }
     match k.end {
@@ -391,7 +415,7 @@ fn is_held_within<S: Dated>(
 {
     let until = count_until(order, tokens, p);
     let reach = count_until(order, tokens, q);
-    let mut search = Search::new(Near::Back(reach));
+    let mut search = Search::new(reach, false);
     for i in (0..until).rev() {
         if is_supporter(order, tokens, guesses, i, &fact, p, q, reach, &mut search) {
             return Some(true);
@@ -468,7 +492,7 @@ fn holder_within<S: Dated>(
 {
     let until = count_until(order, tokens, p);
     let reach = count_until(order, tokens, q);
-    let mut search = Search::new(Near::On(0));
+    let mut search = Search::new(reach, true);
     for i in 0..until {
         if is_supporter(order, tokens, guesses, i, &fact, p, q, reach, &mut search) {
             return Some(Some(i));

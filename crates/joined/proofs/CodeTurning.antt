@@ -83,7 +83,8 @@ module _ (old : Standing) (edit : Edit) (net : Net) (f g : Forest) (rows after :
   pub fires_was : fires_by p.found ≡ is_firing (n.kept (moment_at f p.trigger) p.rule)
   fires_was = n.firing x p turn.first.row
 
-  -- what a turn comes to: nodes that one of the three kinds leaves, and with the rows they say what they have to
+  -- what a turn comes to: nodes that one of the three kinds leaves, and with the rows they say what
+  -- they have to
   pub record IsTurned : Type 0 where
     pub nodes : List Moment
     pub outcomes : Moment → List ℕ → Outcome
@@ -141,7 +142,8 @@ module _ (old : Standing) (edit : Edit) (net : Net) (f g : Forest) (rows after :
   ]
 
   module _ (entering : Bool) where
-    -- the outcomes kept then: those before, but for the one made, and none yet at a node that enters
+    -- the outcomes kept then: those before, but for the one made, and none yet at a node that
+    -- enters
     pub kept_after : Moment → List ℕ → Outcome
     kept_after u q = pick (same_moment u t && same_name q p.rule) (entering && same_moment u effect) (R.outcome n.nodes t p.rule) (n.kept u q)
 

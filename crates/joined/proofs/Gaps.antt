@@ -115,7 +115,8 @@ module _ (old : Standing) (edit : Edit) (nets : Nets) (f : Forest) (net_old : Is
     ]
   ]
 
-  -- the spot is of both lists: its declared point has the same number in both, and the rules that lead to it say the same
+  -- the spot is of both lists: its declared point has the same number in both, and the rules that
+  -- lead to it say the same
   pub record WasThere (p : Spot) : Type 0 where
     pub there : IsSpot names f p
     pub number : IsNumberOf nets.committed.names (base_of f p) (base (at p))
@@ -172,8 +173,8 @@ module _ (old : Standing) (edit : Edit) (nets : Nets) (f : Forest) (net_old : Is
       let least = low_is new (links_of f p) links_p ∙ ap (low new) rules_p ∙ sym (low_on old new (rules (at p)) was_p.agree) in
       λ i. elim (same i) [ true ↦ on_one i | false ↦ bound_less (bound_plus (far i) (most i)) (least i) ]
 
-  -- **Spots of two declared points are as far apart as they were only where these are**, if rules lead to the second in bounded
-  -- time.
+  -- **Spots of two declared points are as far apart as they were only where these are**, if rules
+  -- lead to the second in bounded time.
   far_same : (p q : Spot) → base_of f p ≢ base_of f q → (most : ℤ) → links_high (links_of f q) ≡ Finite most → spot_distance nets.committed f p q ≡ spot_distance nets.present f p q
       → net_far nets.committed (base_of f p) (base_of f q) ≡ net_far nets.present (base_of f p) (base_of f q)
   far_same p q two most bounded same =

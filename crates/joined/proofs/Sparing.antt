@@ -1,4 +1,5 @@
--- Where tokens that entered or left bear on no decision at an event, its decisions keep their outcomes.
+-- Where tokens that entered or left bear on no decision at an event, its decisions keep their
+-- outcomes.
 use Rattle.std.proofs.Common.{◌≡◌, ◌∙◌, ℕ, true, false, not, ◌||◌, List, [], ◌∷◌, refl, sym, ap, subst, inl, inr}
 use Rattle.std.specs.Prelude.{◌⊎◌, Option, Some, None, negsuc}
 use Rattle.std.specs.List.{Contains, list_any}
@@ -76,7 +77,8 @@ module _ (s : Standing) (b c : List Moment) (t : Moment) (r : List ℕ) where
         | inr of ↦ inr (λ o. spared k reads (of k is reads) o)
       ]
 
-  -- **Where all tokens that a rule watches are among both lists, or are spared at t, it has one outcome there.**
+  -- **Where all tokens that a rule watches are among both lists, or are spared at t, it has one
+  -- outcome there.**
   pub spared_stay : IsSound s → AllOccur s b → AllOccur s c
       → ((x : Moment) → Contains b x → Contains c x ⊎ IsSparedIn s b c t r x)
       → ((x : Moment) → Contains c x → Contains b x ⊎ IsSparedIn s b c t r x)

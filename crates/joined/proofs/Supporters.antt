@@ -1,4 +1,5 @@
--- The supporters that an outcome names are among the occurrences; so their nodes stay where the occurrences do.
+-- The supporters that an outcome names are among the occurrences; so their nodes stay where the
+-- occurrences do.
 use Rattle.std.proofs.Common.{◌≡◌, ◌∙◌, ℕ, Bool, true, false, List, [], ◌∷◌, map, take, refl, sym, ap, subst, inl, inr}
 use Rattle.std.specs.Prelude.{Option, Some, None, pos, int_le}
 use Rattle.std.specs.List.{Contains, filter_map}

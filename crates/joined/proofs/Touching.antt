@@ -147,7 +147,8 @@ touched_marked old edit b f rows sound_old sound_new seeds are all only =
 
 -- ---- another horizon
 
--- what is believed of the list before is what the nodes are at the beginning, if the horizon alone changes
+-- what is believed of the list before is what the nodes are at the beginning, if the horizon alone
+-- changes
 module _ (old : Standing) (n : ℕ) (b : List Moment) (sound_old : IsSound old) (seeds : AreSeeds old (list_until old n) b) where
   -- the same occurs
   occurs_until : (x : Moment) → Occurs old x → Occurs (list_until old n) x

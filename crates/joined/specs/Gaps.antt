@@ -45,7 +45,8 @@ pub data IsReadSpot (s : Standing) (f : Forest) (r : List ℕ) (p : Spot) : Type
 abbrev pub IsSpotAt : Standing → Forest → List ℕ → ℕ → Spot → Type 0
 IsSpotAt s f r x p = IsReadSpot s f r p ⊎ (p ≡ Node x)
 
--- of two numbers that are of the same two points in both nets, whether the distance from one to the other is another one now
+-- of two numbers that are of the same two points in both nets, whether the distance from one to the
+-- other is another one now
 pub record TellsMoves (nets : Nets) (moves : ℕ → ℕ → Bool) : Type 0 where
   pub itself : (a : ℕ) → moves a a ≡ false
   pub apart : (a b : ℕ) (p q : PointName) → IsNumberOf nets.committed.names a p → IsNumberOf nets.present.names a p → IsNumberOf nets.committed.names b q → IsNumberOf nets.present.names b q
@@ -53,8 +54,8 @@ pub record TellsMoves (nets : Nets) (moves : ℕ → ℕ → Bool) : Type 0 wher
   pub same : (a b : ℕ) (p q : PointName) → IsNumberOf nets.committed.names a p → IsNumberOf nets.present.names a p → IsNumberOf nets.committed.names b q → IsNumberOf nets.present.names b q
       → a ≢ b → moves a b ≡ false → net_far nets.committed a b ≡ net_far nets.present a b
 
--- Points moved on which the decision of the rule at the event of node x depends. The distance to a spot matters only where
--- rules lead to it in bounded time: if not, there is none before and after.
+-- Points moved on which the decision of the rule at the event of node x depends. The distance to a
+-- spot matters only where rules lead to it in bounded time: if not, there is none before and after.
 pub record MovesAt (moves : ℕ → ℕ → Bool) (s : Standing) (f : Forest) (r : List ℕ) (x : ℕ) : Type 0 where
   pub from : Spot
   pub to : Spot
@@ -64,8 +65,9 @@ pub record MovesAt (moves : ℕ → ℕ → Bool) (s : Standing) (f : Forest) (r
   pub bounded : links_high (links_of f to) ≡ Finite most
   pub moved : moves (base_of f from) (base_of f to) ≡ true
 
--- **The points on which a decision depends are as far apart as they were exactly where no declared points moved** from which
--- rules lead to them: an event that was believed and tokens that were believed are as far from their declared points as they were.
+-- **The points on which a decision depends are as far apart as they were exactly where no declared
+-- points moved** from which rules lead to them: an event that was believed and tokens that were
+-- believed are as far from their declared points as they were.
 abbrev pub MovedPointsTouch : Type 0
 MovedPointsTouch =
     (old : Standing) (edit : Edit) (nets : Nets) (moves : ℕ → ℕ → Bool) (f : Forest) (b : List Moment) (r : List ℕ) (x : ℕ)

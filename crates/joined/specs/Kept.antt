@@ -31,7 +31,8 @@ pub record WaitsNoMore (old new : ℕ → Bool) (x : ℕ) : Type 0 where
   pub gone : new x ≡ false
   pub others : (i : ℕ) → i ≢ x → new i ≡ old i
 
--- **Where a rule fires as before, the turn is done once its row keeps what was decided**, and waits no more.
+-- **Where a rule fires as before, the turn is done once its row keeps what was decided**, and waits
+-- no more.
 abbrev pub SameDecisionsKeep : Type 0
 SameDecisionsKeep =
     (old : Standing) (edit : Edit) (net : Net) (f : Forest) (rows after : Logged Pair 8) (name : ℕ → List ℕ) (waits waits_after : ℕ → Bool)

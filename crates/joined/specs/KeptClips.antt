@@ -13,16 +13,17 @@ use Rattle.spots.specs.Forest.{Forest, Member, member, IsLive, moment_at}
 use Rattle.spots.specs.Seen.{IsSeen, Holds}
 use Rattle.spots.specs.Spots.{node_early}
 
--- The node y of g, which is m, stands as it did in f: it was there, its begin is none of the points that moved, and its
--- earliest date is what it was. Whether `start` is one of those points does not matter, nor where a span ends.
+-- The node y of g, which is m, stands as it did in f: it was there, its begin is none of the points
+-- that moved, and its earliest date is what it was. Whether `start` is one of those points does not
+-- matter, nor where a span ends.
 pub record StandsAsBefore (before net : Net) (moved : List ℕ) (f g : Forest) (y : ℕ) (m : Member) : Type 0 where
   pub was : IsLive f y
   pub unmoved : Contains moved m.begin → ⊥
   pub date : node_early before f y ≡ node_early net g y
 
--- **A node keeps its clip** where all nodes of its class that are there after the edit stand as before, and the node that
--- clipped it, if any, is one of those that are there. Of the nodes of the class that are gone nothing is asked. Nodes of
--- both lists keep their numbers.
+-- **A node keeps its clip** where all nodes of its class that are there after the edit stand as
+-- before, and the node that clipped it, if any, is one of those that are there. Of the nodes of the
+-- class that are gone nothing is asked. Nodes of both lists keep their numbers.
 abbrev pub NodesKeepClips : Type 0
 NodesKeepClips =
     (old : Standing) (edit : Edit) (before net : Net) (moved : List ℕ) (f g : Forest)

@@ -20,15 +20,15 @@ use Rattle.joined.specs.Rows.{Row}
 use Rattle.joined.specs.Sparing.{IsSparedAt, StaysNode}
 use Rattle.joined.specs.Turning.{Moved, TreeTurns, IsMarkedRow}
 
--- a mark: the number of a class, a date from which on decisions that read this class are to be made again, and at which events,
--- by their nodes, it spares them
+-- a mark: the number of a class, a date from which on decisions that read this class are to be made
+-- again, and at which events, by their nodes, it spares them
 pub record Mark : Type 0 where
   pub class : ℕ
   pub from : ℤ
   pub spares : ℕ → Bool
 
--- The mark is that of the token that this node is, where nodes f become nodes g. It spares no event but where that token bears
--- on no decision.
+-- The mark is that of the token that this node is, where nodes f become nodes g. It spares no event
+-- but where that token bears on no decision.
 pub record IsMarkOf (r : Revision) (net : Net) (number : List ℕ → Option ℕ) (f g : Forest) (m : Member) (mark : Mark) : Type 0 where
   pub class : List ℕ
   pub has_class : m.class ≡ Some class
@@ -41,12 +41,14 @@ pub record AreMarksOf (r : Revision) (s : Standing) (net : Net) (number : List �
   pub own : (mark : Mark) → In mark marks → (m : Member) × IsMemberOf s net.names m × Moved f p found (moment m) × IsMarkOf r net number f g m mark
   pub all : (m : Member) (class : List ℕ) → IsMemberOf s net.names m → Moved f p found (moment m) → m.class ≡ Some class → (mark : Mark) × In mark marks × IsMarkOf r net number f g m mark
 
--- a mark is for the row q of number i: it is on a list of the class, and its event is no earlier and not spared
+-- a mark is for the row q of number i: it is on a list of the class, and its event is no earlier
+-- and not spared
 abbrev pub IsMarkedBy : Revision → Forest → Table Pair 8 → List Mark → ℕ → Row → Type 0
 IsMarkedBy r g t marks i q =
     (mark : Mark) × In mark marks × IsListedUnder t mark.class i × (mark.from ≤ℤ r.early (moment_at g q.trigger)) × (mark.spares q.trigger ≡ false)
 
--- **So rows are marked as a turn asks**: where besides those that waited exactly those wait for which there is a mark.
+-- **So rows are marked as a turn asks**: where besides those that waited exactly those wait for
+-- which there is a mark.
 abbrev pub ClassMarksMark : Type 0
 ClassMarksMark =
     (old : Standing) (edit : Edit) (net : Net) (f g : Forest) (p : Row) (found : Decision)

@@ -19,8 +19,9 @@ use Rattle.revisions.specs.Maps.{revision}
 use Rattle.revisions.specs.Revisions.{is_firing}
 use Rattle.joined.specs.Rows.{Row, Rows, fires_by, outcome_at, AreLive, IsWaiting, NoneWaits, AreRowsOf}
 
--- **What nodes and rows say of a revision.** The rows that do not wait tell the outcomes that are kept. A row that waits
--- may name nodes that are gone: of its outcome only whether its rule fires is told.
+-- **What nodes and rows say of a revision.** The rows that do not wait tell the outcomes that are
+-- kept. A row that waits may name nodes that are gone: of its outcome only whether its rule fires
+-- is told.
 pub record IsNetted (old new : Standing) (net : Net) (f : Forest) (rows : Rows) (taken : List (Moment × List ℕ)) : Type 0 where
   pub nodes : List Moment
   pub kept : Moment → List ℕ → Outcome
@@ -32,7 +33,8 @@ pub record IsNetted (old new : Standing) (net : Net) (f : Forest) (rows : Rows) 
   pub told : (i : ℕ) (q : Row) → rows i ≡ Some q → (q.waits ≡ true) ⊎ (AreLive f q.found × (outcome_at f q.found ≡ kept (moment_at f q.trigger) q.rule))
   pub firing : (i : ℕ) (q : Row) → rows i ≡ Some q → fires_by q.found ≡ is_firing (kept (moment_at f q.trigger) q.rule)
 
--- **Nodes and rows are those of the list**: what it believes, and each decision with its outcome there.
+-- **Nodes and rows are those of the list**: what it believes, and each decision with its outcome
+-- there.
 pub record IsCurrent (s : Standing) (net : Net) (f : Forest) (rows : Rows) : Type 0 where
   pub seen : IsSeen s net f
   pub holds : Holds (built s).believed f
@@ -49,7 +51,8 @@ NettedAreCurrent =
     → IsNetted old (next_list old edit) net f rows taken → NoneWaits rows
     → IsCurrent (next_list old edit) net f rows
 
--- **Nodes and rows tell how many decisions are made**: at any time no more than are touched, and in the end all that changed.
+-- **Nodes and rows tell how many decisions are made**: at any time no more than are touched, and in
+-- the end all that changed.
 abbrev pub NettedAreCounted : Type 0
 NettedAreCounted =
     (old : Standing) (edit : Edit) (net : Net) (f : Forest) (rows : Rows) (taken : List (Moment × List ℕ))

@@ -1,4 +1,5 @@
--- What becomes of nodes when some leave, and when the list changes; and what a decision reads of a node.
+-- What becomes of nodes when some leave, and when the list changes; and what a decision reads of a
+-- node.
 use Rattle.std.specs.Prelude.{◌≡◌, ◌⊎◌, ℕ, false, List, Some}
 use Rattle.std.specs.List.{Contains, list_any}
 use Rattle.std.specs.Option.{option_map_or}
@@ -36,7 +37,8 @@ WithdrawalsLeave =
 
 -- ---- another list
 
--- **Nodes of the list before that still occur are seen by the list after**, where points keep their numbers.
+-- **Nodes of the list before that still occur are seen by the list after**, where points keep their
+-- numbers.
 abbrev pub NodesStaySeen : Type 0
 NodesStaySeen =
     (old : Standing) (edit : Edit) (net after : Net) (f : Forest)
@@ -47,7 +49,8 @@ NodesStaySeen =
 
 -- ---- reading
 
--- **A decision reads a node exactly where the class of the node is that of an antecedent or an exception.**
+-- **A decision reads a node exactly where the class of the node is that of an antecedent or an
+-- exception.**
 abbrev pub ReadsByClass : Type 0
 ReadsByClass =
     (s : Standing) (names : Names) (m : Member) (r : List ℕ) → IsMemberOf s names m

@@ -13,7 +13,8 @@ use Rattle.decision_rows.specs.declared.row.Pair.{Pair}
 use Rattle.decision_rows.specs.declared.row.Decision.{Decision}
 use Rattle.decision_rows.specs.declared.row.Decision.TheVariants.{Fires, Blocked, Barred, Beyond}
 
--- a row: the node of its event, the name of its rule, what was decided last, and whether it waits to be decided again
+-- a row: the node of its event, the name of its rule, what was decided last, and whether it waits
+-- to be decided again
 pub record Row : Type 0 where
   pub trigger : ℕ
   pub rule : List ℕ

@@ -1,5 +1,5 @@
--- Which decisions need not be made again though points moved: where what moved of the tokens that they read bears on none there,
--- before and after.
+-- Which decisions need not be made again though points moved: where what moved of the tokens that
+-- they read bears on none there, before and after.
 use Rattle.std.specs.Prelude.{◌≡◌, ◌≢◌, ◌⊎◌, ℕ, ℤ, Bool, true, false, List, Some, None}
 use Rattle.std.specs.List.{Contains}
 use Rattle.tmm_model.specs.declared.bound.Bound.TheVariants.{Finite}
@@ -28,8 +28,8 @@ use Rattle.joined.specs.Gaps.{reads_class, IsClassSpot, TellsMoves}
 abbrev pub IsSpotOf : Forest → List ℕ → Spot → Type 0
 IsSpotOf f class p = (p ≡ Declared 0) ⊎ IsClassSpot f class p
 
--- Points moved among these spots and the event of node x. The distance to a spot matters only where rules lead to it in bounded
--- time.
+-- Points moved among these spots and the event of node x. The distance to a spot matters only where
+-- rules lead to it in bounded time.
 pub record MovesAmong (moves : ℕ → ℕ → Bool) (f : Forest) (are : Spot → Type 0) (x : ℕ) : Type 0 where
   pub from : Spot
   pub to : Spot
@@ -51,7 +51,8 @@ pub record IsFast (loose : ℕ → Bool) (m : Member) : Type 0 where
   pub begin : loose m.begin ≡ false
   pub «end» : (e : ℕ) → m.end ≡ Some e → loose e ≡ false
 
--- node v is m, a fast token of the class, which has surely begun after node y, and by the event of node x
+-- node v is m, a fast token of the class, which has surely begun after node y, and by the event of
+-- node x
 pub record IsWallAt (net : Net) (f : Forest) (loose : ℕ → Bool) (class : List ℕ) (x y v : ℕ) (m : Member) : Type 0 where
   pub here : member f v ≡ Some m
   pub of : m.class ≡ Some class
@@ -69,23 +70,26 @@ pub record IsWalled (net : Net) (f : Forest) (loose : ℕ → Bool) (class : Lis
   pub second_is : IsWallAt net f loose class x y other second
   pub differ : first.what ≢ second.what
 
--- the token at node y, which is m, has not surely begun by the event of node x, or it is no span and stands behind walls
+-- the token at node y, which is m, has not surely begun by the event of node x, or it is no span
+-- and stands behind walls
 abbrev pub IsSparedAt : Net → Forest → (ℕ → Bool) → List ℕ → ℕ → ℕ → Member → Type 0
 IsSparedAt net f loose class x y m = (is_by (spot_distance net f) (Node y) (Node x) ≡ false) ⊎ ((m.end ≡ None) × IsWalled net f loose class x y)
 
--- the event of node x is not loose, and each token of the class is fast, or spared there before and after
+-- the event of node x is not loose, and each token of the class is fast, or spared there before and
+-- after
 pub record SparesClass (nets : Nets) (f : Forest) (loose : ℕ → Bool) (class : List ℕ) (x : ℕ) : Type 0 where
   pub event : loose (base_of f (Node x)) ≡ false
   pub each : (y : ℕ) (m : Member) → member f y ≡ Some m → m.class ≡ Some class
       → IsFast loose m ⊎ (IsSparedAt nets.committed f loose class x y m × IsSparedAt nets.present f loose class x y m)
 
--- The decision of the rule at the event of node x may rest: the event keeps its date, and of each class that the rule reads no
--- points moved on which the decision depends, or what moved is spared.
+-- The decision of the rule at the event of node x may rest: the event keeps its date, and of each
+-- class that the rule reads no points moved on which the decision depends, or what moved is spared.
 pub record MayRest (moves : ℕ → ℕ → Bool) (loose : ℕ → Bool) (s : Standing) (nets : Nets) (f : Forest) (r : List ℕ) (x : ℕ) : Type 0 where
   pub date : moves (base_of f (Node x)) 0 ≡ false
   pub each : (class : List ℕ) → reads_class s r class ≡ true → (MovesAmong moves f (IsSpotOf f class) x → ⊥) ⊎ SparesClass nets f loose class x
 
--- **Then it keeps its outcome**, if the decision was there, the horizon is the same, and no token that it reads left or entered.
+-- **Then it keeps its outcome**, if the decision was there, the horizon is the same, and no token
+-- that it reads left or entered.
 abbrev pub RestingKeep : Type 0
 RestingKeep =
     (old : Standing) (edit : Edit) (nets : Nets) (moves : ℕ → ℕ → Bool) (loose : ℕ → Bool) (f : Forest) (before b : List Moment) (r : List ℕ) (x : ℕ)

@@ -25,8 +25,8 @@ pub record HasWalls (net : Net) (f g nodes : Forest) (t : ℕ) (k : TokenRow Spo
   pub other_stays : StaysIn f g other
   pub walls : AreWallsAt (spot_distance net nodes) (Node t) k one other
 
--- **The token that begins at x bears on no decision at node t**, by the distances of the nodes before the turn or of those
--- after it: it has not surely begun there, or it has walls.
+-- **The token that begins at x bears on no decision at node t**, by the distances of the nodes
+-- before the turn or of those after it: it has not surely begun there, or it has walls.
 pub record IsSparedAt (net : Net) (f g : Forest) (x : Moment) (t : ℕ) : Type 0 where
   pub nodes : Forest
   pub of_turn : (nodes ≡ f) ⊎ (nodes ≡ g)

@@ -21,8 +21,8 @@ use Rattle.revisions.specs.Revisions.{is_firing}
 use Rattle.joined.specs.Netted.{IsNetted, IsCurrent}
 use Rattle.joined.specs.Rows.{Row, Rows, fires_by, outcome_at, AreLive, HasRow, HasNoRow, AreRowsOf}
 
--- What a row is at the beginning. A decision of the list before keeps its outcome, of which only whether it fires counts
--- where it waits; a new one has none yet, and waits.
+-- What a row is at the beginning. A decision of the list before keeps its outcome, of which only
+-- whether it fires counts where it waits; a new one has none yet, and waits.
 pub data StartsAs (old : Standing) (f : Forest) (q : Row) : Type 0 where
   stood : is_decision (built old) (moment_at f q.trigger, q.rule) ≡ true
       → fires_by q.found ≡ is_firing (outcome old (far_in old.premises) (built old).believed (moment_at f q.trigger) q.rule)
@@ -30,15 +30,17 @@ pub data StartsAs (old : Standing) (f : Forest) (q : Row) : Type 0 where
       → StartsAs old f q
   comes : is_decision (built old) (moment_at f q.trigger, q.rule) ≡ false → q.found ≡ Beyond → q.waits ≡ true → StartsAs old f q
 
--- What does not wait has its outcome still for the nodes as they are: that holds of what is not touched as they are, and of
--- what another horizon leaves in time or beyond. What waits is touched as they are or in the end.
+-- What does not wait has its outcome still for the nodes as they are: that holds of what is not
+-- touched as they are, and of what another horizon leaves in time or beyond. What waits is touched
+-- as they are or in the end.
 pub record AreMarked (old new : Standing) (b : List Moment) (f : Forest) (rows : Rows) : Type 0 where
   pub right : (i : ℕ) (q : Row) → rows i ≡ Some q → (q.waits ≡ true)
       ⊎ (outcome old (far_in old.premises) (built old).believed (moment_at f q.trigger) q.rule ≡ outcome new (far_in new.premises) b (moment_at f q.trigger) q.rule)
   pub touched : (i : ℕ) (q : Row) → rows i ≡ Some q → q.waits ≡ true
       → (is_touched (built old) (map_of new b) (moment_at f q.trigger, q.rule) ≡ true) ⊎ (is_touched (built old) (built new) (moment_at f q.trigger, q.rule) ≡ true)
 
--- **Nodes and rows begin so**, when what was erased is withdrawn, what is added has entered, and what may be touched waits.
+-- **Nodes and rows begin so**, when what was erased is withdrawn, what is added has entered, and
+-- what may be touched waits.
 pub record IsStart (old new : Standing) (net : Net) (b : List Moment) (f : Forest) (rows : Rows) : Type 0 where
   pub seen : IsSeen new net f
   pub holds : Holds b f
@@ -47,7 +49,8 @@ pub record IsStart (old new : Standing) (net : Net) (b : List Moment) (f : Fores
   pub start_as : (i : ℕ) (q : Row) → rows i ≡ Some q → StartsAs old f q
   pub marked : AreMarked old new b f rows
 
--- **What begins so stands for the revision that the edit asks for**, of which no decision is made yet.
+-- **What begins so stands for the revision that the edit asks for**, of which no decision is made
+-- yet.
 abbrev pub StartsAreNetted : Type 0
 StartsAreNetted =
     (old : Standing) (edit : Edit) (net : Net) (b : List Moment) (f : Forest) (rows : Rows)
@@ -62,7 +65,8 @@ pub record NodesBegin (new : Standing) (f g : Forest) : Type 0 where
   pub own : (x : ℕ) (m : Member) → member g x ≡ Some m → (member f x ≡ Some m) ⊎ ((member f x ≡ None) × Contains (roots new) (moment m))
   pub rooted : (p : PointName) → Contains (roots new) (At p) → (x : ℕ) × (m : Member) × (member g x ≡ Some m) × (moment m ≡ At p)
 
--- where the row q of number i comes from: it stood there, and may wait now; or it is of a decision that had none, and waits
+-- where the row q of number i comes from: it stood there, and may wait now; or it is of a decision
+-- that had none, and waits
 pub data BeginsFrom (rows : Rows) (i : ℕ) (q : Row) : Type 0 where
   was : (o : Row) → rows i ≡ Some o → q ≡ record o { waits = q.waits } → BeginsFrom rows i q
   is_new : rows i ≡ None → HasNoRow rows q.trigger q.rule → q.found ≡ Beyond → q.waits ≡ true → BeginsFrom rows i q

@@ -73,7 +73,8 @@ pub record TellsAll (old new : Standing) (ins outs : List Moment) : Type 0 where
   pub entered_once : Distinct ins
   pub left_once : Distinct outs
 
--- **Where no row waits, what is told is what changed**; and at any time what entered counts no more than all that is believed.
+-- **Where no row waits, what is told is what changed**; and at any time what entered counts no more
+-- than all that is believed.
 abbrev pub NettedTell : Type 0
 NettedTell =
     (old : Standing) (edit : Edit) (net : Net) (f : Forest) (rows : Rows) (taken : List (Moment × List ℕ)) (ins outs : List Moment)

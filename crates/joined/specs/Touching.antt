@@ -1,5 +1,5 @@
--- Which rows wait at the beginning: those that the edit touches, or of which another horizon brings the effect into time or
--- puts it beyond.
+-- Which rows wait at the beginning: those that the edit touches, or of which another horizon brings
+-- the effect into time or puts it beyond.
 use Rattle.std.specs.Prelude.{◌≡◌, ◌≢◌, ◌⊎◌, ℕ, pos, int_le, true, List, Some}
 use Rattle.std.specs.List.{Contains}
 use Rattle.tmm_model.specs.declared.premise.Edit.{Edit}
@@ -19,8 +19,9 @@ use Rattle.revisions.specs.Maps.{watches}
 use Rattle.joined.specs.Rows.{Row, Rows, AreRowsOf}
 use Rattle.joined.specs.Starting.{AreMarked}
 
--- The edit does not touch the decision of r at t, where these occurrences are live: there was this decision, the horizon is
--- the same, no token that it reads left or entered, and the points on which it depends are as far apart as they were.
+-- The edit does not touch the decision of r at t, where these occurrences are live: there was this
+-- decision, the horizon is the same, no token that it reads left or entered, and the points on
+-- which it depends are as far apart as they were.
 pub record IsUntouched (old new : Standing) (b : List Moment) (t : Moment) (r : List ℕ) : Type 0 where
   pub was : Contains (built old).believed t × Contains (rules_at old t) r
   pub horizon : old.horizon ≡ new.horizon
@@ -48,7 +49,8 @@ RestingAreMarked =
     → ((i : ℕ) (q : Row) → rows i ≡ Some q → q.waits ≡ true → IsUntouched old (next_list old edit) b (moment_at f q.trigger) q.rule → ⊥)
     → AreMarked old (next_list old edit) b f rows
 
--- **Where the horizon alone changes, it suffices that those wait whose effects it brings into time or puts beyond.**
+-- **Where the horizon alone changes, it suffices that those wait whose effects it brings into time
+-- or puts beyond.**
 abbrev pub HorizonsMark : Type 0
 HorizonsMark =
     (old : Standing) (n : ℕ) (b : List Moment) (f : Forest) (rows : Rows)

@@ -27,8 +27,8 @@ use Rattle.joined.specs.Rows.{Row, Rows, fires_by, outcome_at, AreLive, HasRow}
 abbrev pub effect_of : Forest → Row → Moment
 effect_of f p = After (moment_at f p.trigger) p.rule
 
--- What a turn does to the nodes: they stay where the rule fires as before; the effect enters where it fires now; and where
--- it fires no more, the effect is withdrawn with all below it.
+-- What a turn does to the nodes: they stay where the rule fires as before; the effect enters where
+-- it fires now; and where it fires no more, the effect is withdrawn with all below it.
 pub data TreeTurns (s : Standing) (names : Names) (f g : Forest) (p : Row) (found : Decision) : Type 0 where
   stays : fires_by found ≡ fires_by p.found → g ≡ f → TreeTurns s names f g p found
   enters : fires_by found ≡ true → fires_by p.found ≡ false → (y : ℕ) → Adds s names f g y (effect_of f p) → TreeTurns s names f g p found
@@ -50,16 +50,16 @@ pub record MayWait (r : Revision) (t u : Moment) (rule : List ℕ) : Type 0 wher
   pub after : r.early t <ℤ r.early u
   pub touched : Contains r.believed u → r.touched u rule ≡ true
 
--- How a row o that stays is marked, as q. It waits on where it waited. It waits where it reads what moved, but where its
--- outcome is the same; and no other row begins to wait but one that may.
+-- How a row o that stays is marked, as q. It waits on where it waited. It waits where it reads what
+-- moved, but where its outcome is the same; and no other row begins to wait but one that may.
 pub record IsMarkedRow (r : Revision) (f g : Forest) (p : Row) (found : Decision) (o q : Row) : Type 0 where
   pub on : o.waits ≡ true → q.waits ≡ true
   pub all : ReadsMoved r (Moved f p found) (moment_at g q.trigger) q.rule → (q.waits ≡ true) ⊎ SameOutcome r f g (moment_at g q.trigger) q.rule
   pub only : q.waits ≡ true
       → (o.waits ≡ true) ⊎ (ReadsMoved r (Moved f p found) (moment_at g q.trigger) q.rule ⊎ MayWait r (moment_at f p.trigger) (moment_at g q.trigger) q.rule)
 
--- Where the row q of number i comes from. It is that of number x, which was decided; or another, as it was, but that it may
--- wait; or a new one, of what entered, which waits.
+-- Where the row q of number i comes from. It is that of number x, which was decided; or another, as
+-- it was, but that it may wait; or a new one, of what entered, which waits.
 pub data ComesFrom (r : Revision) (f g : Forest) (rows : Rows) (x : ℕ) (p : Row) (found : Decision) (i : ℕ) (q : Row) : Type 0 where
   decided : i ≡ x → q ≡ record p { found = found; waits = false } → ComesFrom r f g rows x p found i q
   kept : (o : Row) → i ≢ x → rows i ≡ Some o → q ≡ record o { waits = q.waits } → IsMarkedRow r f g p found o q → ComesFrom r f g rows x p found i q

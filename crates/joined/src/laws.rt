@@ -57,24 +57,26 @@ pub fn resting_are_marked()
     ensures { RestingAreMarked }
 {}
 
-/// Where the horizon alone changes, those are to wait whose effects it brings into time or puts beyond.
+/// Where the horizon alone changes, those are to wait whose effects it brings into time or puts
+/// beyond.
 pub fn horizons_mark()
     ensures { HorizonsMark }
 {}
 
-/// The points on which a decision depends are as far apart as they were exactly where no declared points
-/// moved from which rules lead to them.
+/// The points on which a decision depends are as far apart as they were exactly where no declared
+/// points moved from which rules lead to them.
 pub fn moved_points_touch()
     ensures { MovedPointsTouch }
 {}
 
-/// A decision keeps its outcome though points moved, where what moved of the tokens that it reads bears on none
-/// there, before and after.
+/// A decision keeps its outcome though points moved, where what moved of the tokens that it reads
+/// bears on none there, before and after.
 pub fn resting_keep()
     ensures { RestingKeep }
 {}
 
-/// A node keeps its clip where the nodes of its class stand as before and what clipped it is there still.
+/// A node keeps its clip where the nodes of its class stand as before and what clipped it is there
+/// still.
 pub fn nodes_keep_clips()
     ensures { NodesKeepClips }
 {}

@@ -1,8 +1,8 @@
-//! How nodes and rows stand for a revision: what a tree of occurrences and a table of decisions say of the loop that keeps
-//! beliefs current.
+//! How nodes and rows stand for a revision: what a tree of occurrences and a table of decisions say
+//! of the loop that keeps beliefs current.
 //!
-//! Nodes are any `Forest`, and rows any function from numbers, of which those of `decision_rows` are one. Its functions have
-//! empty bodies: each ensures a law of the definitions.
+//! Nodes are any `Forest`, and rows any function from numbers, of which those of `decision_rows`
+//! are one. Its functions have empty bodies: each ensures a law of the definitions.
 #![tactic(auto)]
 
 mod laws;

@@ -1,4 +1,5 @@
--- Occurrences in rising order of which the first ones are known: what fires among these fires among all.
+-- Occurrences in rising order of which the first ones are known: what fires among these fires among
+-- all.
 use Rattle.std.proofs.Common.{◌≡◌, ◌∙◌, ℕ, List, [], ◌∷◌, ◌++◌, refl, sym, ap, subst, inl, inr, arith}
 use Rattle.std.proofs.lemmas.Int.{ints}
 use Rattle.std.proofs.lemmas.Cmp.{int_ranked}
@@ -83,7 +84,8 @@ module _ (s : Standing) (sound : IsSound s) where
 
   -- ---- what fires among the first ones
 
-  -- Of two lists one has what the other has that begins before k: then a rule at what begins before k is free alike.
+  -- Of two lists one has what the other has that begins before k: then a rule at what begins before
+  -- k is free alike.
   module _ (b c : List Moment) (into : (x : Moment) → In x b → In x c) (occurs : (x : Moment) → In x c → Occurs s x)
       (k : Moment) (occurs_k : Occurs s k) (back : (x : Moment) → In x c → date_of s x <ℤ date_of s k → In x b) where
     pub free_alike : (t : Moment) → Occurs s t → date_of s t <ℤ date_of s k → (r : List ℕ) → is_free s far b t r ≡ is_free s far c t r
@@ -174,7 +176,8 @@ module _ (s : Standing) (sound : IsSound s) where
 
   -- ---- all of them
 
-  -- first ones with all that is declared, among which nothing fires whose effect is not there, are right
+  -- first ones with all that is declared, among which nothing fires whose effect is not there, are
+  -- right
   pub right_first : (b : List Moment) → AreFirst s b → ((p : PointName) → Contains (roots s) (At p) → In (At p) b) → ((t : Moment) (r : List ℕ) → FiresIn s b t r → In (After t r) b) → IsRight s far b
   right_first b first all_roots all_effects (At p) = ((λ at. first.occurs (At p) (In-from_Contains b (At p) at)), (λ at. Contains-from_In b (At p) (all_roots p at)))
   right_first b first all_roots all_effects (After t r) = ((λ at. first.fires t r (In-from_Contains b (After t r) at)), (λ f. Contains-from_In b (After t r) (all_effects t r f)))

@@ -29,7 +29,8 @@ rows_of c = map (moment_at (forest c.tree)) c.nodes.items
 abbrev pub decided_in : Checked → List ℕ
 decided_in c = take c.decided c.nodes.items
 
--- what is expected is known for the rows so far, of which the first are decided; their dates are the network's
+-- what is expected is known for the rows so far, of which the first are decided; their dates are
+-- the network's
 pub record IsTaken (s : Standing) (net : Net) (c : Checked) : Type 0 where
   pub so_far : AreSoFar s net (forest c.tree) (rows_of c)
   pub dated : IsDatedBy net (present c.tree)
@@ -46,7 +47,8 @@ pub record IsChecked (s : Standing) (net : Net) (c : Checked) : Type 0 where
   pub taken : IsTaken s net c
   pub past : (x : ℕ) → In x (decided_in c) → IsPast s (rows_of c) (moment_at (forest c.tree) x)
 
--- what fires at the events that begin by this date is decided, and at no others beside those where it was
+-- what fires at the events that begin by this date is decided, and at no others beside those where
+-- it was
 pub record DecidesThrough (s : Standing) (net : Net) (old new : Checked) (date : ℤ) : Type 0 where
   pub taken : IsTaken s net new
   pub tree : new.tree ≡ old.tree
@@ -54,8 +56,8 @@ pub record DecidesThrough (s : Standing) (net : Net) (old new : Checked) (date :
   pub own : (x : ℕ) → In x (decided_in new) → In x (decided_in old) ⊎ (date_of s (moment_at (forest old.tree) x) ≤ℤ date)
   pub all : (x : ℕ) → In x old.nodes.items → date_of s (moment_at (forest old.tree) x) ≤ℤ date → In x (decided_in new)
 
--- what fires at the event of the origin is decided, and all that is decided begins before some row or no
--- later than this event
+-- what fires at the event of the origin is decided, and all that is decided begins before some row
+-- or no later than this event
 pub record IsReady (s : Standing) (net : Net) (c : Checked) (o : Origin) : Type 0 where
   pub taken : IsTaken s net c
   pub event : has_event (forest c.tree) o.event

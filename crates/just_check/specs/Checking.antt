@@ -27,8 +27,8 @@ pub record Joins (s : Standing) (b : List Moment) (k : Moment) : Type 0 where
   pub belongs : Belongs s (far_in s.premises) s.horizon b k
   pub new : In k b → ⊥
 
--- they are occurrences of the list in rising order, and what is derived among them is brought about by
--- rules that fire among them
+-- they are occurrences of the list in rising order, and what is derived among them is brought about
+-- by rules that fire among them
 pub record AreFirst (s : Standing) (b : List Moment) : Type 0 where
   pub occurs : (x : Moment) → In x b → Occurs s x
   pub fires : (t : Moment) (r : List ℕ) → In (After t r) b → FiresIn s b t r
@@ -51,7 +51,8 @@ EntersAs s names b k old new None = Joins s b k → ⊥
 
 -- ---- what is to stand among the rows
 
--- what comes from the origin is declared, or brought about by a rule that fires among b at one of these events
+-- what comes from the origin is declared, or brought about by a rule that fires among b at one of
+-- these events
 abbrev pub is_due : Standing → Forest → List Moment → List ℕ → Option ℕ → List ℕ → Type 0
 is_due s f b events None name = In (At (Begin name)) (roots s)
 is_due s f b events (Some x) name = In x events × FiresIn s b (moment_at f x) name
@@ -59,8 +60,8 @@ is_due s f b events (Some x) name = In x events × FiresIn s b (moment_at f x) n
 abbrev pub IsDue : Standing → Forest → List Moment → List ℕ → Origin → Type 0
 IsDue s f b events o = is_due s f b events o.event o.name
 
--- expected is all that is declared, and all that rules bring about that fire among b at these events; and
--- the node of what stands is known
+-- expected is all that is declared, and all that rules bring about that fire among b at these
+-- events; and the node of what stands is known
 pub record Expects (s : Standing) (f : Forest) (b : List Moment) (events : List ℕ) (e : Expected) : Type 0 where
   pub knows : Knows f b e
   pub due : (o : Origin) → IsSome (entry_at e o) ↔ IsDue s f b events o

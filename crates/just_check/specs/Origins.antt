@@ -11,7 +11,8 @@ use Rattle.spots.specs.Seen.{Holds}
 use Rattle.just_check.specs.declared.expected.Origin.{Origin}
 use Rattle.just_check.specs.declared.expected.Expected.{Expected}
 
--- what comes from an origin: what is declared under the name, or what the rule of the name brings about at the event
+-- what comes from an origin: what is declared under the name, or what the rule of the name brings
+-- about at the event
 abbrev pub comes_of : Forest → Option ℕ → List ℕ → Moment
 comes_of f None name = At (Begin name)
 comes_of f (Some x) name = After (moment_at f x) name
@@ -28,8 +29,8 @@ has_event f (Some x) = IsLive f x
 abbrev pub same_origin : Origin → Origin → Bool
 same_origin a b = option_eq nat_eq a.event b.event && same_name a.name b.name
 
--- What is told of an origin: nothing where what comes from it is not to stand among the rows; else its
--- node, none where it does not stand yet.
+-- What is told of an origin: nothing where what comes from it is not to stand among the rows; else
+-- its node, none where it does not stand yet.
 abbrev pub entry_at : Expected → Origin → Option (Option ℕ)
 entry_at e o = lookup (same_origin o) e.nodes.entries
 
@@ -52,8 +53,8 @@ pub record SetsNode (old new : Expected) (o : Origin) (x : ℕ) : Type 0 where
   pub own : entry_at new o ≡ Some (Some x)
   pub others : (p : Origin) → p ≢ o → entry_at new p ≡ entry_at old p
 
--- The nodes are the occurrences b, the event of each effect is among them, and the node of each is known
--- under its origin.
+-- The nodes are the occurrences b, the event of each effect is among them, and the node of each is
+-- known under its origin.
 pub record Knows (f : Forest) (b : List Moment) (e : Expected) : Type 0 where
   pub holds : Holds b f
   pub closed : (t : Moment) (r : List ℕ) → In (After t r) b → In t b
@@ -64,8 +65,8 @@ pub record Knows (f : Forest) (b : List Moment) (e : Expected) : Type 0 where
 abbrev pub IsFoundAmong : Forest → List Moment → Moment → Option ℕ → Type 0
 IsFoundAmong f b k found = MatchOption found (In k b → ⊥) (λ x. IsLive f x × (moment_at f x ≡ k))
 
--- It is the origin of k, whose event is a node if it has one. There is none only where k is an effect whose
--- event is none of the occurrences b.
+-- It is the origin of k, whose event is a node if it has one. There is none only where k is an
+-- effect whose event is none of the occurrences b.
 abbrev pub IsOriginOf : Forest → List Moment → Moment → Option Origin → Type 0
 IsOriginOf f b k found =
     MatchOption found ((t : Moment) × (r : List ℕ) × (k ≡ After t r) × (In t b → ⊥)) (λ o. has_event f o.event × (comes_from f o ≡ k))

@@ -26,8 +26,8 @@ use premise_list::Standing;
 use std::alloc::Global;
 use tmm_model::{Name, NoMemory, Occ, Premise};
 
-/// Whether the rows are the believed occurrences of the list, in their order, each once. Any rows are
-/// allowed, whoever made them.
+/// Whether the rows are the believed occurrences of the list, in their order, each once. Any rows
+/// are allowed, whoever made them.
 pub fn audit(
     alloc: Global,
     standing: &Standing,
@@ -101,8 +101,8 @@ fn root_name(premise: &Premise) -> Option<Name>
     }
 }
 
-// Takes the next row, and decides what fires at events that begin before it. False where the row may
-// not stand behind those so far.
+// Takes the next row, and decides what fires at events that begin before it. False where the row
+// may not stand behind those so far.
 fn take(
     alloc: Global,
     standing: &Standing,
@@ -155,8 +155,8 @@ fn decide_event(
     }
 }
 
-// Enters what comes from an origin behind the rows so far, where it is to stand among the rows, does not
-// stand yet, and comes after the last.
+// Enters what comes from an origin behind the rows so far, where it is to stand among the rows,
+// does not stand yet, and comes after the last.
 fn enter_awaited(
     alloc: Global,
     standing: &Standing,

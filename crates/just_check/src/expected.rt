@@ -10,8 +10,8 @@ use indexmap::IndexMap;
 use std::alloc::Global;
 use tmm_model::{Name, NoMemory};
 
-/// What an occurrence comes from: the event that brings it about, none for what is declared, and the name
-/// of the rule, or its own.
+/// What an occurrence comes from: the event that brings it about, none for what is declared, and
+/// the name of the rule, or its own.
 #[derive(Clone, Copy, PartialEq, Eq, Hash)]
 pub(crate) struct Origin {
     /// The node of the event.
@@ -20,7 +20,8 @@ pub(crate) struct Origin {
     pub name: Name,
 }
 
-/// What is to stand among the rows, each under its origin with its node, none where it does not stand yet.
+/// What is to stand among the rows, each under its origin with its node, none where it does not
+/// stand yet.
 #[derive(Drop)]
 pub(crate) struct Expected {
     nodes: IndexMap<Origin, Option<u32>>,

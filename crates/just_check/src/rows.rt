@@ -39,8 +39,8 @@ pub(crate) fn origin_of(expected: &Expected, row: &Occ) -> Option<Origin>
     }
 }
 
-// Enters what comes from an origin into the tree of the rows before it, and answers its number; none only
-// where it does not join them.
+// Enters what comes from an origin into the tree of the rows before it, and answers its number;
+// none only where it does not join them.
 pub(crate) fn enter(
     alloc: Global,
     standing: &Standing,

@@ -69,8 +69,8 @@ impl RulesByKind {
     }
 }
 
-// Whether the rule fires at the event of a node: its effect begins by the horizon, each antecedent has
-// a supporter there, and no exception has one.
+// Whether the rule fires at the event of a node: its effect begins by the horizon, each antecedent
+// has a supporter there, and no exception has one.
 pub(crate) fn does_fire(
     alloc: Global,
     standing: &Standing,
@@ -107,8 +107,8 @@ fn is_in_time(horizon: u32, early: i64, delay: i64) -> bool
     early <= i64::from(horizon) - delay
 }
 
-// Whether each antecedent of the rule has a supporter at the event of a node, and no exception has one;
-// these are the facts.
+// Whether each antecedent of the rule has a supporter at the event of a node, and no exception has
+// one; these are the facts.
 fn is_free(
     alloc: Global,
     standing: &Standing,

@@ -91,7 +91,8 @@ stays m occs closed o x itself at = at
 stays m occs closed o x (through {y = y} step rest) at = stays m occs closed y x rest (closed o y at step)
 
 module _ (m : TimeMap) (f : Forest) (x : ℕ) where
-  -- the nodes are x and some that it rests on, and with the first `next` of them is all that these rest on
+  -- the nodes are x and some that it rests on, and with the first `next` of them is all that these
+  -- rest on
   pub record IsWalked (nodes : List ℕ) (next : ℕ) : Type 0 where
     pub live : All (IsLive f) nodes
     pub once : IsDistinct nat_eq nodes

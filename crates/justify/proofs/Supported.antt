@@ -1,4 +1,5 @@
--- A first supporter at an event begins surely at or before it, and where it is a span surely ends after it.
+-- A first supporter at an event begins surely at or before it, and where it is a span surely ends
+-- after it.
 use Rattle.std.proofs.Common.{◌≡◌, ◌∙◌, ℕ, true, ◌&&◌, pos, negsuc, List, [], map, sym, ap, subst, arith}
 use Rattle.std.proofs.lemmas.Int.{ints}
 use Rattle.std.specs.Prelude.{Option, Some, None, ℤ, int_le}

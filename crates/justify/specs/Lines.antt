@@ -30,8 +30,8 @@ AreLinesOfAll m xs found = AreReasons m xs (map reason_of found)
 abbrev pub AreWhy : TimeMap → Moment → List WhyLine → Type 0
 AreWhy m o found = IsWhy m o (map reason_of found)
 
--- Behind what was heard before stand the parts of some lines. They are the lines that are wanted, and each tells
--- its points as a question names them.
+-- Behind what was heard before stand the parts of some lines. They are the lines that are wanted,
+-- and each tells its points as a question names them.
 pub record Hears {P : Type 0} (parts : WhyLine → List P) (Wanted : List WhyLine → Type 0) (old new : List P) : Type 0 where
   pub lines : List WhyLine
   pub grown : new ≡ old ++ flat_map parts lines

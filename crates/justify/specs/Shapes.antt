@@ -5,7 +5,8 @@ use Rattle.tmm_model.specs.declared.changes.WhyLine.TheVariants.{Premise as Prem
 use Rattle.tmm_model.specs.declared.point.QueryPoint.{QueryPoint}
 use Rattle.tmm_model.specs.declared.point.QueryPoint.TheVariants.{Declared, Derived}
 
--- a question names a derived occurrence by at least one rule, and the begin of a root as a declared point
+-- a question names a derived occurrence by at least one rule, and the begin of a root as a declared
+-- point
 abbrev pub IsShapedPoint : QueryPoint → Type 0
 IsShapedPoint (Declared point) = Unit {0}
 IsShapedPoint (Derived occ) = occ.rules.items ≢ []

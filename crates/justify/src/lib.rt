@@ -1,6 +1,6 @@
-//! The reasons of a belief: the lines of an occurrence and of all that it rests on, each before what
-//! rests on it, and before a derived one the orders in time that its supporters need. It stands on
-//! `tt_query` and `neg_cycle`.
+//! The reasons of a belief: the lines of an occurrence and of all that it rests on, each before
+//! what rests on it, and before a derived one the orders in time that its supporters need. It
+//! stands on `tt_query` and `neg_cycle`.
 //!
 //! `why` takes the standing list with its network and the tree of the believed occurrences, and
 //! answers as the map of that list does. It hands each line to a `Listener` as soon as it is made.

@@ -24,7 +24,8 @@ use spots::Spot;
 use std::alloc::Global;
 use tmm_model::{Bound, MOST_EXCEPTIONS, Name, NoMemory, Occ, PointName, QueryPoint, Seq, WhyLine};
 
-// Tells the lines of the nodes, one after the other: the orders that each needs, and then its own line.
+// Tells the lines of the nodes, one after the other: the orders that each needs, and then its own
+// line.
 pub(crate) fn tell_all<R: Listener>(
     alloc: Global,
     standing: &Standing,
@@ -70,7 +71,8 @@ fn tell_node<R: Listener>(
     }
 }
 
-// The line of the effect of a rule on an event, with what supports its antecedents, and its exceptions.
+// The line of the effect of a rule on an event, with what supports its antecedents, and its
+// exceptions.
 fn derived_line(
     alloc: Global,
     tree: &Tree,
@@ -184,7 +186,8 @@ fn tell_order<R: Listener>(
     listener.hear(order_line(alloc, standing, tree, net, first, second)?)
 }
 
-// The line that one spot is surely at or before another: the distance back, and constraints that give it.
+// The line that one spot is surely at or before another: the distance back, and constraints that
+// give it.
 fn order_line(
     alloc: Global,
     standing: &Standing,

@@ -22,9 +22,9 @@ use std::alloc::Global;
 use tmm_model::{NoMemory, Occ, Stop};
 use tt_query::resolve_why;
 
-/// Tells the reasons of an occurrence: the lines of it and of all that it rests on, each once, in the
-/// order of occurrences, and before that of a derived one the orders that it needs. A word with a cause
-/// against it is refused before any line is told; without memory it answers that.
+/// Tells the reasons of an occurrence: the lines of it and of all that it rests on, each once, in
+/// the order of occurrences, and before that of a derived one the orders that it needs. A word with
+/// a cause against it is refused before any line is told; without memory it answers that.
 pub fn why<R: Listener>(
     alloc: Global,
     standing: &Standing,

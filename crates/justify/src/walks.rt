@@ -14,8 +14,8 @@ use spots::Spot;
 use std::alloc::Global;
 use tmm_model::{Bound, NoMemory, Seq, WalkStep};
 
-/// Where there is a bound, the constraints of a least walk between the declared points of two spots; where
-/// there is none, no constraint. Without memory it answers that.
+/// Where there is a bound, the constraints of a least walk between the declared points of two
+/// spots; where there is none, no constraint. Without memory it answers that.
 pub fn steps_between(
     alloc: Global,
     standing: &Standing,

@@ -1,4 +1,5 @@
--- What an update tells, what moved, and the events on which rules may have changed: these are all that an edit may have touched.
+-- What an update tells, what moved, and the events on which rules may have changed: these are all
+-- that an edit may have touched.
 use Rattle.std.proofs.Common.{◌≡◌, ◌∙◌, ℕ, ◌+◌, true, false, List, map, length, reverse, refl, sym, ap, subst, inl, inr}
 use Rattle.std.proofs.lemmas.Bool.{cases_Bool}
 use Rattle.std.proofs.lemmas.List.{reverse-reverse}

@@ -22,7 +22,7 @@ use Rattle.belief_net.specs.Updating.{IsKept, IsPending, IsCountedWithin, Commit
 use Rattle.belief_net.proofs.Named.{last_stays}
 use Rattle.revisions.specs.Counted.{changed}
 use Rattle.map_engine.specs.declared.next.Next.{Next}
-use Rattle.map_engine.specs.declared.next.Next.TheVariants.{Nothing, Same, Reported, Changed}
+use Rattle.map_engine.specs.declared.next.Next.TheVariants.{Nothing, Same, Reviewed, Changed}
 use Rattle.map_engine.specs.declared.kept_view.KeptView.{KeptView}
 use Rattle.map_engine.specs.Beliefs.{IsLeftOut}
 use Rattle.map_engine.specs.NetMaps.{AreNodesOf, IsResting, MayRest, IsHeld, IsNetMap, CountsEdit}
@@ -222,7 +222,7 @@ is_nothing s next none = by next none
     by : (n : Next) → pending_list s n ≡ None → n ≡ Nothing
     by Nothing e = refl
     by Same e = cc
-    by (Reported reports) e = cc
+    by (Reviewed review) e = cc
     by (Changed made) e = cc
 
 -- what is held is so where less is known of protections
@@ -249,7 +249,8 @@ kept_map lists nets b view guarded next is lists_new nets_new guarded_new edit l
 
 -- ---- how many decisions are counted
 
--- where no cause stands against the edit, what is counted within what it touches is so of the list before
+-- where no cause stands against the edit, what is counted within what it touches is so of the list
+-- before
 pub counts_edit : (lists new : States) (edit : Edit) (s : Standing) (before count : ℕ) → new ≡ record lists { present = next_list lists.present edit }
     → lists.present ≡ lists.committed → lists.committed ≡ s → list_cause s edit ≡ None → IsCountedWithin new before count → CountsEdit s edit before count
 counts_edit lists new edit s before count made one is none within =

@@ -31,7 +31,8 @@ rules_push : (kind : List ℕ) (ps : List Premise) (p : Premise) → on_kind kin
 rules_push kind [] p none = ap (λ o. cons_option o []) none
 rules_push kind (q ∷ ps) p none = ap (cons_option (on_kind kind q)) (rules_push kind ps p none)
 
--- **Where the edit does not change which rules are on a kind, the same stand on it, in the same order.**
+-- **Where the edit does not change which rules are on a kind, the same stand on it, in the same
+-- order.**
 pub same_rules_on : (s : Standing) (edit : Edit) → IsWellNamed s.premises → (kind : List ℕ) → changes_rules_on s.premises edit kind ≡ false → rules_on (next_list s edit) kind ≡ rules_on s kind
 same_rules_on s (Add p) named kind e = rules_push kind s.premises p (none_there (on_kind kind p) e)
 same_rules_on s (Erase name) named kind e = unruled_edit s (Erase name) named e kind

@@ -1,4 +1,5 @@
--- What an update tells, beside the numbers that the roots of erased names had, is what the edit made of the list.
+-- What an update tells, beside the numbers that the roots of erased names had, is what the edit
+-- made of the list.
 use Rattle.std.proofs.Common.{◌≡◌, ◌∙◌, ℕ, List, map, refl, sym, ap, subst}
 use Rattle.std.specs.Prelude.{Option, Some, None, IsSome, IsNone, filter}
 use Rattle.std.specs.Option.{is_none}

@@ -1,26 +1,25 @@
 -- What is kept where the list that an edit leaves is alike in all that beliefs read.
-use Rattle.std.proofs.Common.{◌≡◌, ◌∙◌, ℕ, Bool, true, false, not, ◌&&◌, cond, List, [], ◌∷◌, ◌++◌, map, refl, sym, ap, subst, inl, inr}
+use Rattle.std.proofs.Common.{◌≡◌, ◌∙◌, ℕ, false, not, List, [], ◌∷◌, ◌++◌, map, refl, sym, ap, subst, inl, inr}
 use Rattle.std.specs.Prelude.{Option, Some, None, filter, ◌≤◌}
-use Rattle.std.specs.List.{filter_map, cons_option, list_any}
-use Rattle.std.specs.Cmp.Lexicographic.{nat_list_eq_equiv}
+use Rattle.std.specs.List.{filter_map, cons_option}
 use Rattle.tmm_model.specs.declared.changes.Changes.{Changes as CodeChanges}
 use Rattle.tmm_model.specs.declared.premise.Edit.{Edit}
 use Rattle.tmm_model.specs.declared.premise.Edit.TheVariants.{Add, Erase, Horizon, Upgrade}
 use Rattle.tmm_model.specs.declared.premise.Premise.{Premise}
 use Rattle.tmm_model.specs.declared.premise.Premise.TheVariants.{Class, Kind, Point, Event, Token, Span, Dist, Rule, Protect}
-use Rattle.tmm_model.specs.Answers.{Finding, broken, reports, report_of, most_size}
-use Rattle.tmm_model.specs.Changes.{changes, delta, delta_of, protection_name, is_broken}
+use Rattle.tmm_model.specs.Answers.{broken, reports, report_of, most_size}
+use Rattle.tmm_model.specs.Changes.{changes, delta_of, protection_name, is_broken}
 use Rattle.tmm_model.specs.Edits.{next_list}
 use Rattle.tmm_model.specs.Maps.{TimeMap, built}
 use Rattle.tmm_model.specs.Moments.{Moment}
-use Rattle.tmm_model.specs.Points.{same_name}
 use Rattle.tmm_model.specs.Standing.{Standing}
-use Rattle.list_theory.proofs.Elements.{In, In-list_any}
+use Rattle.list_theory.proofs.Elements.{In}
 use Rattle.list_theory.proofs.Erasure.{kept_before}
 use Rattle.spots.specs.Forest.{Forest}
 use Rattle.spots.specs.Seen.{Holds}
 use Rattle.revisions.specs.Alike.{AreAlike, BelieveAlike}
 use Rattle.revisions.proofs.Alike.{alike_believe}
+use Rattle.protections.specs.Found.{AreFound}
 use Rattle.map_engine.specs.Beliefs.{IsLeftOut}
 use Rattle.map_engine.specs.Reads.{Read, IsReadOf}
 use Rattle.map_engine.specs.Nexts.{IsUnguarded, is_protection, adds_protection}
@@ -35,7 +34,7 @@ holds_before s t f alike holds = subst (λ (b : List Moment). Holds b f) (sym (a
 
 -- of the same nodes the same is read, protections aside
 pub read_still : (s t : Standing) (f : Forest) (r r_after : Read) → Holds (built s).believed f
-    → IsReadOf s f r → AreAlike s t → r_after ≡ record r { reports = r_after.reports } → map report_of r_after.reports ≡ reports (built t) → IsReadOf t f r_after
+    → IsReadOf s f r → AreAlike s t → r_after ≡ record r { broken = r_after.broken } → AreFound (reports (built t)) r_after.broken → IsReadOf t f r_after
 read_still s t f r r_after holds old alike is told =
     let same : BelieveAlike s t = (alike_believe s t alike).0 in
     subst (IsReadOf t f) (sym is)
@@ -105,52 +104,6 @@ still_unguarded s (Add p) e none = added_unguarded s.premises p e none
 still_unguarded s (Erase name) e none = all_unguarded (next_list s (Erase name)).premises (λ p at. each_unguarded s.premises none p (kept_before name [] s.premises p at))
 still_unguarded s (Horizon n) e none = none
 still_unguarded s Upgrade e none = none
-
--- ---- between reports of which there are none
-
-none_mended : (p : List ℕ → Bool) (names : List (List ℕ)) → filter (λ name. list_any (λ (r : List ℕ × Finding). same_name r.0 name) [] && p name) names ≡ []
-none_mended p [] = refl
-none_mended p (name ∷ names) = none_mended p names
-
--- no protection becomes broken or mended
-pub none_between : (old new : TimeMap) → reports old ≡ [] → reports new ≡ [] → ((delta old new).broken ≡ []) × ((delta old new).mended ≡ [])
-none_between old new before after = (
-  ap (filter (λ r. not (is_broken old r.0))) after,
-  ap (λ (l : List (List ℕ × Finding)). filter (λ name. list_any (λ r. same_name r.0 name) l && not (is_broken new name)) (filter_map protection_name new.list.premises)) before
-      ∙ none_mended (λ name. not (is_broken new name)) (filter_map protection_name new.list.premises),
-)
-
--- ---- between reports that are the same
-
--- all are reported
-none_new : (all rs : List (List ℕ × Finding)) → ((r : List ℕ × Finding) → In r rs → In r all) → filter (λ r. not (list_any (λ (q : List ℕ × Finding). same_name q.0 r.0) all)) rs ≡ []
-none_new all [] h = refl
-none_new all (r ∷ rs) h =
-    by (list_any (λ (q : List ℕ × Finding). same_name q.0 r.0) all) (In-list_any (λ (q : List ℕ × Finding). same_name q.0 r.0) all r (h r (inl refl)) (nat_list_eq_equiv.refl r.0))
-    (none_new all rs (λ q at. h q (inr at)))
-  where
-    by : (b : Bool) → b ≡ true → filter (λ r. not (list_any (λ (q : List ℕ × Finding). same_name q.0 r.0) all)) rs ≡ []
-        → cond (not b) (r ∷ filter (λ r. not (list_any (λ (q : List ℕ × Finding). same_name q.0 r.0) all)) rs) (filter (λ r. not (list_any (λ (q : List ℕ × Finding). same_name q.0 r.0) all)) rs) ≡ []
-    by true e again = again
-    by false e again = absurd (cc (e))
-
--- nothing is so and not so
-never_both : (test : List ℕ → Bool) (names : List (List ℕ)) → filter (λ name. test name && not (test name)) names ≡ []
-never_both test [] = refl
-never_both test (name ∷ names) = by (test name) (never_both test names)
-  where
-    by : (b : Bool) → filter (λ name. test name && not (test name)) names ≡ []
-        → cond (b && not b) (name ∷ filter (λ name. test name && not (test name)) names) (filter (λ name. test name && not (test name)) names) ≡ []
-    by true again = again
-    by false again = again
-
--- no protection becomes broken or mended
-pub same_between : (old new : TimeMap) → reports new ≡ reports old → ((delta old new).broken ≡ []) × ((delta old new).mended ≡ [])
-same_between old new same = (
-  ap (filter (λ r. not (is_broken old r.0))) same ∙ none_new (reports old) (reports old) (λ r at. at),
-  ap (λ (l : List (List ℕ × Finding)). filter (λ name. is_broken old name && not (list_any (λ r. same_name r.0 name) l)) (filter_map protection_name new.list.premises)) same
-      ∙ never_both (is_broken old) (filter_map protection_name new.list.premises),
-)
 
 -- ---- what is told
 

@@ -39,14 +39,16 @@ pub record MayRest (s : Standing) (net : Net) (b : BeliefNet) (v : KeptView) : T
   pub rests : IsResting s net base v
   pub last : KeepLast base b
 
--- the list has its network and no horizon beyond the last one; where it is told that no protection was ever added, none stands
+-- the list has its network and no horizon beyond the last one; where it is told that no protection
+-- was ever added, none stands
 pub record IsHeld (s : Standing) (net : Net) (guarded : Bool) : Type 0 where
   pub network : IsNetOf s net
   pub horizon : s.horizon ≤ last_horizon
   pub unguarded : guarded ≡ false → IsUnguarded s
 
--- Both states of the list are held. Nodes, decisions and what is read of them are those of the present state, and lead back to
--- those of the last commit. Where nothing is pending both states are one.
+-- Both states of the list are held. Nodes, decisions and what is read of them are those of the
+-- present state, and lead back to those of the last commit. Where nothing is pending both states
+-- are one.
 pub record IsNetMap (lists : States) (nets : Nets) (nodes : BeliefNet) (view : KeptView) (guarded : Bool) (next : Next) : Type 0 where
   pub held : IsHeld lists.committed nets.committed guarded
   pub before : MayRest lists.committed nets.committed nodes view
@@ -57,6 +59,7 @@ pub record IsNetMap (lists : States) (nets : Nets) (nodes : BeliefNet) (view : K
   pub next_view : IsReadOf lists.present (forest nodes.tree) (after view next)
   pub next_places : HasPlacesIn view next
 
--- Where a cause among names and counts stands against the edit, no decision is counted; else no more than the edit touches.
+-- Where a cause among names and counts stands against the edit, no decision is counted; else no
+-- more than the edit touches.
 abbrev pub CountsEdit : Standing → Edit → ℕ → ℕ → Type 0
 CountsEdit s edit before count = MatchOption (list_cause s edit) (count ≤ counted before (touched s (next_list s edit))) (λ _. count ≡ before)

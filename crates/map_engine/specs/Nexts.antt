@@ -8,30 +8,33 @@ use Rattle.tmm_model.specs.declared.premise.Premise.TheVariants.{Protect}
 use Rattle.tmm_model.specs.Changes.{protection_name}
 use Rattle.tmm_model.specs.Standing.{Standing}
 use Rattle.belief_list.specs.KeptRows.{rows_after}
+use Rattle.protections.specs.Found.{found_in, after_review, HasRoomFor}
 use Rattle.map_engine.specs.declared.kept_view.KeptView.{KeptView}
 use Rattle.map_engine.specs.declared.kept_view.NextView.{NextView}
 use Rattle.map_engine.specs.declared.next.Next.{Next}
-use Rattle.map_engine.specs.declared.next.Next.TheVariants.{Nothing, Same, Reported, Changed}
+use Rattle.map_engine.specs.declared.next.Next.TheVariants.{Nothing, Same, Reviewed, Changed}
 use Rattle.map_engine.specs.Reads.{Read, read_of}
 
 -- what is read once these are taken over, where v was kept before
 abbrev pub read_next : KeptView → NextView → Read
-read_next v n = record { size = n.size; rows = rows_after v.rows.items n.differences.items; reports = n.reports.items }
+read_next v n = record { size = n.size; rows = rows_after v.rows.items n.differences.items; broken = after_review (found_in v.broken) n.review }
 
--- each node that differs has a place in what is kept
-abbrev pub HasPlacesFor : KeptView → NextView → Type 0
-HasPlacesFor v n = All (λ d. d.node < length v.rows.items) n.differences.items
+-- each node that differs has a place in what is kept, and each report has room
+pub record HasPlacesFor (v : KeptView) (n : NextView) : Type 0 where
+  pub places : All (λ d. d.node < length v.rows.items) n.differences.items
+  pub room : HasRoomFor v.broken n.review
 
 -- what is read when the edit is made, and v was kept before
 abbrev pub after : KeptView → Next → Read
 after v Nothing = read_of v
 after v Same = read_of v
-after v (Reported reports) = record (read_of v) { reports = reports.items }
+after v (Reviewed review) = record (read_of v) { broken = after_review (found_in v.broken) review }
 after v (Changed n) = read_next v n
 
 -- what is to be taken over has its places
 abbrev pub HasPlacesIn : KeptView → Next → Type 0
 HasPlacesIn v (Changed n) = HasPlacesFor v n
+HasPlacesIn v (Reviewed review) = HasRoomFor v.broken review
 HasPlacesIn v _ = Unit {0}
 
 -- the list that a pending edit leaves, none where no edit is pending

@@ -12,7 +12,8 @@ pub record MapState : Type 0 where
   pub list : Standing
   pub pending : Option Standing
 
--- Both states of the list have their network and their beliefs. Where nothing is pending they are one.
+-- Both states of the list have their network and their beliefs. Where nothing is pending they are
+-- one.
 pub record IsPlain (lists : States) (nets : Nets) (beliefs : Beliefs) (next : Option Beliefs) : Type 0 where
   pub network : IsNetOf lists.committed nets.committed
   pub believed : AreBeliefs lists.committed nets.committed beliefs

@@ -13,7 +13,8 @@ use Rattle.map_engine.specs.Stops.{IsUnbelieved, NamesOneOf}
 abbrev pub points_cause : TimeMap → QueryPoint → QueryPoint → Option Cause
 points_cause m p q = option_or (point_cause m p) (point_cause m q)
 
--- a refusal tells that cause; memory is wanting only for the word of an occurrence that is not believed
+-- a refusal tells that cause; memory is wanting only for the word of an occurrence that is not
+-- believed
 abbrev pub StopsPoints : TimeMap → QueryPoint → QueryPoint → Stop → Type 0
 StopsPoints m p q (Refused refusal) = Tells refusal (points_cause m p q)
 StopsPoints m p q NoMemory = IsUnbelieved m p ⊎ IsUnbelieved m q

@@ -33,8 +33,8 @@ abbrev pub IsUnbelieved : TimeMap → QueryPoint → Type 0
 IsUnbelieved m (Declared p) = ⊥
 IsUnbelieved m (Derived o) = IsSome (derived_cause m o)
 
--- The question may want memory: for its answer, or, where that is a pair of bounds, for the word of a
--- derived occurrence that is not believed alone.
+-- The question may want memory: for its answer, or, where that is a pair of bounds, for the word of
+-- a derived occurrence that is not believed alone.
 abbrev pub WantsMemory : TimeMap → Query → Type 0
 WantsMemory m (Bounds p q) = IsUnbelieved m p ⊎ IsUnbelieved m q
 WantsMemory m _ = Unit {0}
@@ -46,7 +46,8 @@ StopsQuery list query NoMemory = WantsMemory (built list) query
 
 -- ---- how a refusal names the word that is refused
 
--- where the first of two words has this cause or none, a refusal names the first, and else the second
+-- where the first of two words has this cause or none, a refusal names the first, and else the
+-- second
 abbrev pub NamesFirst : Option Cause → (Refusal → Type 0) → (Refusal → Type 0) → Refusal → Type 0
 NamesFirst (Some cause) NamesOne NamesOther refusal = NamesOne refusal
 NamesFirst None NamesOne NamesOther refusal = NamesOther refusal
@@ -55,8 +56,9 @@ NamesFirst None NamesOne NamesOther refusal = NamesOther refusal
 abbrev pub NamesOneOf : TimeMap → QueryPoint → QueryPoint → Refusal → Type 0
 NamesOneOf m p q = NamesFirst (point_cause m p) (Names p) (Names q)
 
--- A refusal of a question names the first word with a cause against it as this very point: a point as the question
--- has it, a fact as the begin of its name, and an occurrence without a rule as the begin of its root.
+-- A refusal of a question names the first word with a cause against it as this very point: a point
+-- as the question has it, a fact as the begin of its name, and an occurrence without a rule as the
+-- begin of its root.
 abbrev pub NamesWord : TimeMap → Query → Refusal → Type 0
 NamesWord m (Bounds p q) = NamesOneOf m p q
 NamesWord m (Path p q) = NamesOneOf m p q

@@ -25,16 +25,18 @@ HasNodeOf f k numbers = (x : ℕ) → IsLive f x → moment_at f x ≡ k → Con
 abbrev pub entered_of : Told → List Moment
 entered_of told = map (λ m. moment_of m.occ) told.entered.items
 
--- Among the numbers are the nodes of what entered, of the root of this name, if there is one, those of what left, and these others.
+-- Among the numbers are the nodes of what entered, of the root of this name, if there is one, those
+-- of what left, and these others.
 pub record TakesIn (f : Forest) (told : Told) (added : Option (List ℕ)) (others numbers : List ℕ) : Type 0 where
   pub entered : (k : Moment) → In k (entered_of told) → HasNodeOf f k numbers
   pub left : (x : ℕ) (k : Moment) → In (x, k) (left_under told.left.items) → Contains numbers x
   pub root : MatchOption added (Unit {0}) (λ name. HasNodeOf f (At (Begin name)) numbers)
   pub beside : (x : ℕ) → Contains others x → Contains numbers x
 
--- The update of the edit told these occurrences as entered and left: list, network and nodes are those before and after it; the
--- derived occurrences that are told are those that changed, and what left is told under its numbers; a root that stands stays;
--- and the roots of names that stand no more had these numbers.
+-- The update of the edit told these occurrences as entered and left: list, network and nodes are
+-- those before and after it; the derived occurrences that are told are those that changed, and what
+-- left is told under its numbers; a root that stands stays; and the roots of names that stand no
+-- more had these numbers.
 pub record IsToldOf (lists : States) (nets : Nets) (edit : Edit) (tree : Kept) (told : Told) (gone : List ℕ) : Type 0 where
   pub edited : ((class : List ℕ) → AreTokens (old_forest tree) class ((committed tree).tokens class)) → IsEdited lists nets edit tree
   pub tells : TellsAll lists.committed lists.present (ins told) (outs told)

@@ -7,7 +7,8 @@ use Rattle.spots.specs.Forest.{Forest}
 use Rattle.belief_list.specs.Rows.{row_at, IsListing}
 use Rattle.map_engine.specs.declared.view.View.{View}
 
--- the rows are the believed occurrences in their order, each node of these once, and all else is as the list's map has it
+-- the rows are the believed occurrences in their order, each node of these once, and all else is as
+-- the list's map has it
 pub record IsViewOf (s : Standing) (f : Forest) (v : View) : Type 0 where
   pub listing : map (row_at f) v.rows.items ≡ rows (built s)
   pub there : IsListing f v.rows.items

@@ -7,8 +7,8 @@ ghost use Rattle.occ_tree.specs.Places.{forest};
 use occ_tree::Tree;
 use tmm_model::Occ;
 
-// Whether the number is of a node that is this occurrence. It goes up from the node, name by name, so it looks at
-// no other effect of an event on the way.
+// Whether the number is of a node that is this occurrence. It goes up from the node, name by name,
+// so it looks at no other effect of an event on the way.
 pub(crate) fn is_at(tree: &Tree, x: u32, occ: &Occ) -> bool
     ensures { IsTrue result → IsLive (forest tree.now) x × (moment_at (forest tree.now) x ≡ moment_of occ.now) }
 {

@@ -73,7 +73,8 @@ pub(crate) fn drawn(
     }
 }
 
-// What changes from the beliefs of one list to those of another, from which these premises are gone.
+// What changes from the beliefs of one list to those of another, from which these premises are
+// gone.
 fn changes_to(
     alloc: Global,
     erased: Seq<Name>,

@@ -13,8 +13,8 @@ use protections::delta;
 use std::alloc::Global;
 use tmm_model::{Changes, Name, NoMemory, Report, Seq};
 
-// What changes from the map of one list to that of another, from which these premises are gone, where it
-// is told what changes of belief.
+// What changes from the map of one list to that of another, from which these premises are gone,
+// where it is told what changes of belief.
 pub(crate) fn with_reports(
     alloc: Global,
     standing: &Standing,
@@ -27,14 +27,26 @@ pub(crate) fn with_reports(
         → AreChanges (built list) (built standing.now.present) believed → IsLeftOut list standing.now.present erased.items
         → IfOk result (λ told. delta_of told ≡ changes list standing.now.present) }
 {
-    let (broken, mended) = reports_between(alloc, before, after, standing)?;
+    let (broken, mended) = delta(alloc, before, after, standing)?;
+    Ok(with_protections(erased, believed, broken, mended))
+}
+
+// These changes together.
+pub(crate) fn with_protections(
+    erased: Seq<Name>,
+    believed: BeliefChanges,
+    broken: Seq<Report>,
+    mended: Seq<Name>,
+) -> Changes
+    ensures { result ≡ record { erased = erased; left = believed.left; entered = believed.entered; loose = believed.loose; clips = believed.clips; broken = broken; mended = mended } }
+{
     let BeliefChanges {
         left,
         entered,
         loose,
         clips,
     } = believed;
-    Ok(Changes {
+    Changes {
         erased,
         left,
         entered,
@@ -42,22 +54,5 @@ pub(crate) fn with_reports(
         clips,
         broken,
         mended,
-    })
-}
-
-// The protections that are newly broken, and the names of those that stand and are broken no longer, between
-// these reports. Where there are none, no premise is looked at.
-pub(crate) fn reports_between(
-    alloc: Global,
-    before: &[Report],
-    after: &[Report],
-    standing: &Standing,
-) -> Result<(Seq<Report>, Seq<Name>), NoMemory>
-    ensures { (old new : TimeMap) → map report_of before.now ≡ reports old → map report_of after.now ≡ reports new → new.list ≡ standing.now.present
-        → IfOk result (λ found. (map report_of found.0.items ≡ (delta old new).broken) × (found.1.items ≡ (delta old new).mended)) }
-{
-    if before.is_empty() && after.is_empty() {
-        return Ok((Seq::make(alloc), Seq::make(alloc)));
     }
-    delta(alloc, before, after, standing)
 }

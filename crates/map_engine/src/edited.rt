@@ -16,8 +16,8 @@ use std::alloc::Global;
 use tmm_model::{Edit, Name, NoMemory, Premise, Seq, Stop};
 
 // Makes an edit that names and counts let through, and answers the names of the premises that it
-// retracts. Every point that stays keeps its number. Where the edit is refused, or there is no memory, all
-// is as before.
+// retracts. Every point that stays keeps its number. Where the edit is refused, or there is no
+// memory, all is as before.
 pub(crate) fn edited(
     alloc: Global,
     standing: &mut Standing,

@@ -2,11 +2,13 @@
 ghost use Rattle.std.specs.Prelude.{◌≡◌, ◌≤◌, ℕ, None, map, IsTrue, IfOk};
 ghost use Rattle.tmm_model.specs.Answers.{rows, row_of, size, most_size};
 ghost use Rattle.tmm_model.specs.Maps.{built};
+ghost use Rattle.dist_net.specs.Net.{Net};
 ghost use Rattle.list_net.specs.Fits.{IsNetOf};
 ghost use Rattle.occ_tree.specs.OfLists.{IsTreeOf};
 ghost use Rattle.occ_tree.specs.Places.{forest};
 ghost use Rattle.spots.specs.Forest.{member};
 ghost use Rattle.spots.specs.Seen.{Holds};
+ghost use Rattle.map_engine.specs.Nexts.{IsUnguarded};
 ghost use Rattle.map_engine.specs.Reads.{IsReadOf, read_of};
 
 use crate::view::occurrences;
@@ -16,9 +18,9 @@ use dist_net::DistNet;
 use just_check::audit;
 use occ_tree::Tree;
 use premise_list::Standing;
-use protections::report;
+use protections::{BrokenProtections, Review};
 use std::alloc::Global;
-use tmm_model::{ListRow, NoMemory, Report, Seq};
+use tmm_model::{ListRow, NoMemory, Seq};
 
 // What is kept of the believed occurrences of the last commit.
 #[derive(Drop)]
@@ -27,8 +29,8 @@ pub(crate) struct KeptView {
     pub size: u64,
     // What is kept of each node, by its number.
     pub rows: Vec<Option<KeptRow>>,
-    // The broken protections.
-    pub reports: Seq<Report>,
+    // The broken protections, each under its name.
+    pub broken: BrokenProtections,
 }
 
 // What of it an edit makes another.
@@ -38,20 +40,20 @@ pub(crate) struct NextView {
     pub size: u64,
     // What it makes of nodes.
     pub differences: Vec<Difference>,
-    // The protections that are broken after it.
-    pub reports: Seq<Report>,
+    // What it makes of protections.
+    pub review: Review,
 }
 
-// What is kept where there is no node.
+// What is kept where there is no node and no protection.
 pub(crate) fn first_view(
     alloc: Global,
     standing: &Standing,
-    net: &DistNet,
     tree: &Tree,
 ) -> Result<KeptView, NoMemory>
-    requires seen { IsTreeOf standing.now.present net.now.present tree.now }
+    requires seen { (net : Net) × IsTreeOf standing.now.present net tree.now }
     requires holds { Holds (built standing.now.present).believed (forest tree.now) }
     requires empty { (x : ℕ) → member (forest tree.now) x ≡ None }
+    requires unguarded { IsUnguarded standing.now.present }
     ensures { IfOk result (λ view. IsReadOf standing.now.present (forest tree.now) (read_of view)) }
 {
     let size = match size_of(alloc, standing, tree) {
@@ -59,11 +61,10 @@ pub(crate) fn first_view(
         // The map is small, so only memory can be wanting.
         Err(_) => return Err(NoMemory),
     };
-    let reports = report(alloc, standing, tree, net)?;
     Ok(KeptView {
         size,
         rows: Vec::new(alloc),
-        reports,
+        broken: BrokenProtections::make(alloc),
     })
 }
 
@@ -84,8 +85,8 @@ pub(crate) fn kept_rows(
     list_rows(alloc, tree, rows.items())
 }
 
-// Whether these are the believed occurrences of the list, in their order. They are, and it is found anew
-// from the list.
+// Whether these are the believed occurrences of the list, in their order. They are, and it is found
+// anew from the list.
 pub(crate) fn audited_view(
     alloc: Global,
     standing: &Standing,

@@ -1,12 +1,14 @@
-//! The time map (after Dean and McDermott 1987): a standing list with its distances, its beliefs and its
-//! broken protections, of which one edit may be pending. `list_net` keeps the first two, `belief_net` the
-//! beliefs; `belief_list` and `protections` tell what an edit changes, `tt_query` and `justify` answer.
+//! The time map (after Dean and McDermott 1987): a standing list with its distances, its beliefs
+//! and its broken protections, of which one edit may be pending. `list_net` keeps the first two,
+//! `belief_net` the beliefs; `belief_list` and `protections` tell what an edit changes, `tt_query`
+//! and `justify` answer.
 //!
-//! `MapCore` is its contract: every answer is that of the map which is built of the list from scratch,
-//! an edit is accepted exactly where the definitions say so, and a refusal or want of memory changes
-//! nothing. `PlainMap` meets it by making beliefs anew at each edit, and `NetMap`, which the program runs, by
-//! keeping the believed occurrences and their decisions current: an edit makes again only the decisions that it
-//! touches, and none where it is seen that it touches no belief.
+//! `MapCore` is its contract: every answer is that of the map which is built of the list from
+//! scratch, an edit is accepted exactly where the definitions say so, and a refusal or want of
+//! memory changes nothing. `PlainMap` meets it by making beliefs anew at each edit, and `NetMap`,
+//! which the program runs, by keeping the believed occurrences and their decisions current: an edit
+//! makes again only the decisions that it touches, and none where it is seen that it touches no
+//! belief.
 #![tactic(auto)]
 
 mod at_node;

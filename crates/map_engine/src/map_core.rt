@@ -40,9 +40,9 @@ pub trait MapCore {
     /// The list that a pending edit leaves.
     ghost pending: { Self → Option List };
 
-    /// Makes an edit, and leaves it pending. A refusal is the first cause that holds, and names a word as the
-    /// point of a name. A refused edit, or one for which there is no memory, changes nothing. The count of decisions does not
-    /// fall: a map may count those that it makes.
+    /// Makes an edit, and leaves it pending. A refusal is the first cause that holds, and names a
+    /// word as the point of a name. A refused edit, or one for which there is no memory, changes
+    /// nothing. The count of decisions does not fall: a map may count those that it makes.
     fn apply(&mut self, alloc: Global, edit: &Edit, counter: &mut Counter) -> Result<Pending, Stop>
         requires idle { pending self.old ≡ None }
         requires well_formed { IsWellFormedEdit edit.now }
@@ -67,9 +67,9 @@ pub trait MapCore {
         ensures list { list self.new ≡ list self.old }
         ensures idle { pending self.new ≡ None };
 
-    /// The lower and the upper bound on the date of the second point less that of the first, in whole
-    /// time units. A word with a cause against it is refused. Memory is asked for only for the word of a
-    /// derived occurrence that is not believed.
+    /// The lower and the upper bound on the date of the second point less that of the first, in
+    /// whole time units. A word with a cause against it is refused. Memory is asked for only for
+    /// the word of a derived occurrence that is not believed.
     fn bounds(&self, alloc: Global, p: &QueryPoint, q: &QueryPoint) -> Result<(Bound, Bound), Stop>
         requires idle { pending self.now ≡ None }
         requires well_formed { IsWellFormedQuery (Query.Bounds p.now q.now) }
@@ -79,9 +79,9 @@ pub trait MapCore {
         ensures stops { IfErr result (StopsQuery (list self.now) (Query.Bounds p.now q.now)) }
         ensures named { IfErr result (NamesRefused (list self.now) (Query.Bounds p.now q.now)) };
 
-    /// The upper bound on the date of the second point less that of the first, and where there is one,
-    /// the constraints of a walk between their declared points that gives the bound on these, in whole
-    /// time units. A word with a cause against it is refused.
+    /// The upper bound on the date of the second point less that of the first, and where there is
+    /// one, the constraints of a walk between their declared points that gives the bound on these,
+    /// in whole time units. A word with a cause against it is refused.
     fn path(
         &self,
         alloc: Global,
@@ -95,8 +95,8 @@ pub trait MapCore {
         ensures stops { IfErr result (StopsQuery (list self.now) (Query.Path p.now q.now)) }
         ensures named { IfErr result (NamesRefused (list self.now) (Query.Path p.now q.now)) };
 
-    /// Whether a fact holds from one point to another. A word with a cause against it is refused; without
-    /// memory it answers that.
+    /// Whether a fact holds from one point to another. A word with a cause against it is refused;
+    /// without memory it answers that.
     fn ask(&self, alloc: Global, fact: Name, p: &QueryPoint, q: &QueryPoint) -> Result<Answer, Stop>
         requires idle { pending self.now ≡ None }
         requires well_formed { IsWellFormedQuery (Query.Ask fact p.now q.now) }
@@ -105,9 +105,9 @@ pub trait MapCore {
         ensures stops { IfErr result (StopsQuery (list self.now) (Query.Ask fact p.now q.now)) }
         ensures named { IfErr result (NamesRefused (list self.now) (Query.Ask fact p.now q.now)) };
 
-    /// Tells the reasons of a declared or derived occurrence, line by line: all that it rests on, each before
-    /// what rests on it, and each point told as a question names it. A word with a cause against it is
-    /// refused before any line is told; without memory it answers that.
+    /// Tells the reasons of a declared or derived occurrence, line by line: all that it rests on,
+    /// each before what rests on it, and each point told as a question names it. A word with a
+    /// cause against it is refused before any line is told; without memory it answers that.
     fn why<R: Listener>(&self, alloc: Global, occ: &Occ, listener: &mut R) -> Result<(), Stop>
         requires idle { pending self.now ≡ None }
         requires well_formed { IsWellFormedQuery (Query.Why occ.now) }
@@ -127,8 +127,8 @@ pub trait MapCore {
         requires idle { pending self.now ≡ None }
         ensures { IfOk result (λ found. map row_of found.items ≡ rows (built (list self.now))) };
 
-    /// Whether the map's own rows are the believed occurrences of its list, in their order, each once. They
-    /// are, and it is found anew from the list. Without memory it answers that.
+    /// Whether the map's own rows are the believed occurrences of its list, in their order, each
+    /// once. They are, and it is found anew from the list. Without memory it answers that.
     fn audit(&self, alloc: Global) -> Result<bool, NoMemory>
         requires idle { pending self.now ≡ None }
         ensures { IfOk result (λ good. IsTrue good) };

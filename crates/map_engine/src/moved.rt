@@ -2,7 +2,7 @@
 ghost use Rattle.std.specs.Prelude.{◌≡◌, ◌≤◌, ◌<◌, ℕ, List, Option, false, length, map, IfOk, IfErr, OnOk};
 ghost use Rattle.std.specs.List.{All};
 ghost use Rattle.tmm_model.specs.declared.premise.Edit.{Edit as AnEdit};
-ghost use Rattle.tmm_model.specs.Answers.{size, reports, report_of};
+ghost use Rattle.tmm_model.specs.Answers.{size, reports};
 ghost use Rattle.tmm_model.specs.Changes.{changes, delta_of};
 ghost use Rattle.tmm_model.specs.Maps.{built};
 ghost use Rattle.belief_list.specs.declared.kept_rows.KeptRow.{KeptRow as AKeptRow};
@@ -11,6 +11,8 @@ ghost use Rattle.belief_net.specs.Entering.{KeepLast};
 ghost use Rattle.belief_net.specs.Numbered.{KeepsNumbers, left_under};
 ghost use Rattle.belief_net.specs.Settling.{counted};
 ghost use Rattle.belief_net.specs.Updating.{IsKept, IsPending, IsCountedWithin};
+ghost use Rattle.protections.specs.Found.{AreFound, found_in};
+ghost use Rattle.protections.specs.Reviews.{IsReviewOf};
 ghost use Rattle.occ_tree.specs.OfLists.{IsTreeOf};
 ghost use Rattle.occ_tree.specs.Places.{forest};
 ghost use Rattle.projection.specs.Queues.{IsTooLarge};
@@ -26,7 +28,7 @@ ghost use Rattle.map_engine.specs.Reads.{IsReadOf, read_of};
 ghost use Rattle.map_engine.specs.Ruled.{HasRuled};
 ghost use Rattle.map_engine.specs.Touching.{IsToldOf};
 
-use crate::changes::with_reports;
+use crate::changes::with_protections;
 use crate::kept_view::{KeptView, NextView};
 use crate::next::Known;
 use crate::touching::{push_ruled, roots_named, touched};
@@ -36,13 +38,14 @@ use dist_net::DistNet;
 use occ_tree::{Touched, Tree};
 use premise_list::Standing;
 use projection::Counter;
-use protections::report_after;
+use protections::{BrokenProtections, Review, review_edit};
 use std::alloc::Global;
-use tmm_model::{Changes, Edit, Name, NoMemory, Report, Seq, Stop};
+use tmm_model::{Changes, Edit, Name, NoMemory, Seq, Stop};
 
-// Makes nodes and decisions those of the list that the edit leaves, which list and network have already, and
-// answers what is read of them then and what changes. Only what the edit may have touched is looked at. A map
-// that is too large is refused. After an error `rollback` of the nodes leads back.
+// Makes nodes and decisions those of the list that the edit leaves, which list and network have
+// already, and answers what is read of them then and what changes. Only what the edit may have
+// touched is looked at. A map that is too large is refused. After an error `rollback` of the nodes
+// leads back.
 pub(crate) fn moved(
     alloc: Global,
     edit: &Edit,
@@ -103,8 +106,9 @@ pub(crate) fn moved(
     )
 }
 
-// What is read of the nodes of a tree, and what changed since its last commit, where it is told what entered
-// and left, and among these other numbers are those of the roots that are gone, and of the events of which the rules changed.
+// What is read of the nodes of a tree, and what changed since its last commit, where it is told
+// what entered and left, and among these other numbers are those of the roots that are gone, and of
+// the events of which the rules changed.
 fn read(
     alloc: Global,
     edit: &Edit,
@@ -138,7 +142,7 @@ fn read(
         return Err(Stop::NoMemory);
     };
     let size = size_after(view.size, made.as_slice())?;
-    match tell(
+    let Ok((review, changes)) = tell(
         alloc,
         edit,
         standing,
@@ -147,20 +151,21 @@ fn read(
         told.left.items(),
         found.classes.as_slice(),
         made.as_slice(),
-        view.reports.items(),
+        &view.broken,
         erased,
         known.guarded,
-    ) {
-        Ok((reports, changes)) => Ok((
-            NextView {
-                size,
-                differences: made,
-                reports,
-            },
-            changes,
-        )),
-        Err(NoMemory) => Err(Stop::NoMemory),
-    }
+    ) else {
+        return Err(Stop::NoMemory);
+    };
+    let Ok(()) = view.broken.reserve(&review) else {
+        return Err(Stop::NoMemory);
+    };
+    let next = NextView {
+        size,
+        differences: made,
+        review,
+    };
+    Ok((next, changes))
 }
 
 // What the edit makes of nodes, each of which has a place then in what is kept.
@@ -191,7 +196,7 @@ fn differing(
     )
 }
 
-// The protections that are broken after the edit, and what it changes, where these are its differences.
+// What the edit makes of protections, and what it changes, where these are its differences.
 fn tell(
     alloc: Global,
     edit: &Edit,
@@ -201,52 +206,67 @@ fn tell(
     left: &[DatedOcc],
     classes: &[Name],
     made: &[Difference],
-    before: &[Report],
+    before: &BrokenProtections,
     erased: Seq<Name>,
     guarded: bool,
-) -> Result<(Seq<Report>, Changes), NoMemory>
+) -> Result<(Review, Changes), NoMemory>
     requires seen { IsTreeOf standing.now.present net.now.present tree.now }
     requires holds { Holds (built standing.now.present).believed (forest tree.now) }
     requires edited { IsEdited standing.now net.now edit.now tree.now }
     requires others { AreOthersUntouched net.now tree.now classes.now }
     requires numbers { KeepsNumbers tree.now (left_under left.now) }
     requires made { (kept : List (Option AKeptRow)) × AreDifferences standing.now net.now edit.now tree.now kept made.now }
-    requires before { map report_of before.now ≡ reports (built standing.now.committed) }
+    requires before { AreFound (reports (built standing.now.committed)) (found_in before.now) }
     requires left_out { IsLeftOut standing.now.committed standing.now.present erased.items }
-    requires unguarded { guarded ≡ false → IsUnguarded standing.now.present }
-    ensures reports { IfOk result (λ told. map report_of told.0.items ≡ reports (built standing.now.present)) }
+    requires unguarded_before { guarded ≡ false → IsUnguarded standing.now.committed }
+    requires unguarded_now { guarded ≡ false → IsUnguarded standing.now.present }
+    ensures review { IfOk result (λ told. IsReviewOf (built standing.now.committed) (built standing.now.present) (found_in before.now) told.0) }
     ensures changes { IfOk result (λ told. delta_of told.1 ≡ changes standing.now.committed standing.now.present) }
 {
-    let reports = broken_after(alloc, edit, standing, net, tree, classes, before, guarded)?;
+    let review = reviewed(
+        alloc,
+        edit,
+        standing,
+        net,
+        tree,
+        classes,
+        before,
+        erased.items(),
+        guarded,
+    )?;
     let nodes = left_nodes(alloc, left)?;
     let believed = changes_told(alloc, tree, net, made, nodes.as_slice())?;
-    let changes = with_reports(alloc, standing, erased, believed, before, reports.items())?;
-    Ok((reports, changes))
+    let (broken, mended) = review.told(alloc)?;
+    let changes = with_protections(erased, believed, broken, mended);
+    Ok((review, changes))
 }
 
-// The protections that are broken after the edit. Where none stands nothing is looked at.
-fn broken_after(
+// What the edit makes of protections. Where none stands nothing is looked at.
+fn reviewed(
     alloc: Global,
     edit: &Edit,
     standing: &Standing,
     net: &DistNet,
     tree: &Tree,
     classes: &[Name],
-    before: &[Report],
+    before: &BrokenProtections,
+    erased: &[Name],
     guarded: bool,
-) -> Result<Seq<Report>, NoMemory>
+) -> Result<Review, NoMemory>
     requires seen { IsTreeOf standing.now.present net.now.present tree.now }
     requires holds { Holds (built standing.now.present).believed (forest tree.now) }
     requires edited { IsEdited standing.now net.now edit.now tree.now }
     requires others { AreOthersUntouched net.now tree.now classes.now }
-    requires before { map report_of before.now ≡ reports (built standing.now.committed) }
-    requires unguarded { guarded ≡ false → IsUnguarded standing.now.present }
-    ensures { IfOk result (λ told. map report_of told.items ≡ reports (built standing.now.present)) }
+    requires before { AreFound (reports (built standing.now.committed)) (found_in before.now) }
+    requires left_out { IsLeftOut standing.now.committed standing.now.present erased.now }
+    requires unguarded_before { guarded ≡ false → IsUnguarded standing.now.committed }
+    requires unguarded_now { guarded ≡ false → IsUnguarded standing.now.present }
+    ensures { IfOk result (IsReviewOf (built standing.now.committed) (built standing.now.present) (found_in before.now)) }
 {
     if !guarded {
-        return Ok(Seq::make(alloc));
+        return Ok(Review::none(alloc));
     }
-    report_after(alloc, standing, tree, net, edit, classes, before)
+    review_edit(alloc, standing, tree, net, edit, classes, erased, before)
 }
 
 // The nodes of these occurrences.

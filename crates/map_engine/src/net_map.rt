@@ -25,7 +25,6 @@ use dist_net::DistNet;
 use justify::Listener;
 use premise_list::Standing;
 use projection::Counter;
-use protections::copied;
 use std::alloc::Global;
 use std::marker::Model;
 use std::mem;
@@ -33,10 +32,10 @@ use tmm_model::{
     Answer, Bound, Edit, ListRow, Name, NoMemory, Occ, QueryPoint, Report, Seq, Stop, WalkStep,
 };
 
-/// A map that keeps the standing list, its distances, and the believed occurrences with the decisions on
-/// which they rest. An edit that moves no point of an occurrence, and adds or retracts points, constraints and
-/// protections alone, leaves these as they are; at any other only those decisions are made again that it
-/// touches, and what it changed is undone by a rollback.
+/// A map that keeps the standing list, its distances, and the believed occurrences with the
+/// decisions on which they rest. An edit that moves no point of an occurrence, and adds or retracts
+/// points, constraints and protections alone, leaves these as they are; at any other only those
+/// decisions are made again that it touches, and what it changed is undone by a rollback.
 #[derive(Drop)]
 pub struct NetMap {
     standing: Standing,
@@ -78,7 +77,8 @@ impl NetMap {
     }
 }
 
-// The map of a list in which nothing is declared to occur, so that there is no node, and no protection stands.
+// The map of a list in which nothing is declared to occur, so that there is no node, and no
+// protection stands.
 fn first_map(
     alloc: Global,
     standing: Standing,
@@ -92,7 +92,7 @@ fn first_map(
     ensures list { IfOk result (λ m. m.list ≡ standing.committed) }
     ensures idle { IfOk result (λ m. m.pending ≡ None) }
 {
-    let view = first_view(alloc, &standing, &net, nodes.tree())?;
+    let view = first_view(alloc, &standing, nodes.tree())?;
     Ok(NetMap {
         standing,
         net,
@@ -222,7 +222,7 @@ impl MapCore for NetMap {
     }
 
     fn check(&self, alloc: Global) -> Result<Seq<Report>, NoMemory> {
-        copied(alloc, self.view.reports.items())
+        self.view.broken.listed(alloc, &self.standing)
     }
 
     fn list(&self, alloc: Global) -> Result<Seq<ListRow>, NoMemory> {

@@ -19,7 +19,6 @@ ghost use Rattle.map_engine.specs.NetMaps.{AreNodesOf, IsResting};
 ghost use Rattle.map_engine.specs.Nexts.{after, read_next, HasPlacesFor, HasPlacesIn, pending_list, IsUnguarded, adds_protection};
 ghost use Rattle.map_engine.specs.Reads.{IsReadOf, read_of};
 
-use crate::changes::reports_between;
 use crate::kept_view::{KeptView, NextView};
 use crate::moved::moved;
 use crate::still::is_still;
@@ -29,20 +28,20 @@ use dist_net::DistNet;
 use occ_tree::Tree;
 use premise_list::Standing;
 use projection::Counter;
-use protections::{are_left_alone, report_after};
+use protections::{Review, review_edit};
 use std::alloc::Global;
 use tmm_model::{Changes, Edit, Name, NoMemory, Premise, Report, Seq, Stop};
 
-// What is read of the believed occurrences of the list that a pending edit leaves, beside what was read
-// before it.
+// What is read of the believed occurrences of the list that a pending edit leaves, beside what was
+// read before it.
 #[derive(Drop)]
 pub(crate) enum Next {
     // No edit is pending.
     Nothing,
     // All is the same.
     Same,
-    // Beliefs are the same, and these are the broken protections.
-    Reported(Seq<Report>),
+    // Beliefs are the same, and this is made of protections.
+    Reviewed(Review),
     // These are to be taken over.
     Changed(NextView),
 }
@@ -60,10 +59,11 @@ pub(crate) struct Known {
     pub before: u32,
 }
 
-// Makes nodes and decisions those of the list that an edit leaves, which list and network have already, and
-// answers what is read of them then and what changes. Where the same is believed of both lists, nothing
-// of the size of the map is walked, and premises only if a protection may stand; else no more decisions are
-// made than the edit touches. After an error `rollback` of the nodes leads back.
+// Makes nodes and decisions those of the list that an edit leaves, which list and network have
+// already, and answers what is read of them then and what changes. Where the same is believed of
+// both lists, nothing of the size of the map is walked, and premises only if a protection may
+// stand; else no more decisions are made than the edit touches. After an error `rollback` of the
+// nodes leads back.
 pub(crate) fn draw_next(
     alloc: Global,
     edit: &Edit,
@@ -120,19 +120,19 @@ pub(crate) fn draw_next(
     }
 }
 
-// The same where the list that the edit leaves is alike in all that beliefs read, and no class is touched: those
-// protections are looked at again that the edit adds, or of which a point moved.
+// The same where the list that the edit leaves is alike in all that beliefs read, and no class is
+// touched: those protections are looked at again that the edit adds, or of which a point moved.
 fn unmoved(
     alloc: Global,
     edit: &Edit,
     standing: &Standing,
     net: &DistNet,
     tree: &Tree,
-    view: &KeptView,
+    view: &mut KeptView,
     erased: Seq<Name>,
     guarded: bool,
 ) -> Result<(Next, Changes), NoMemory>
-    requires view { IsReadOf standing.now.committed (forest tree.now) (read_of view.now) }
+    requires view { IsReadOf standing.now.committed (forest tree.now) (read_of view.old) }
     requires seen { IsTreeOf standing.now.present net.now.present tree.now }
     requires holds { Holds (built standing.now.present).believed (forest tree.now) }
     requires alike { AreAlike standing.now.committed standing.now.present }
@@ -141,8 +141,9 @@ fn unmoved(
     requires unguarded_before { guarded ≡ false → IsUnguarded standing.now.committed }
     requires unguarded_now { guarded ≡ false → IsUnguarded standing.now.present }
     requires left_out { IsLeftOut standing.now.committed standing.now.present erased.items }
-    ensures view { IfOk result (λ made. IsReadOf standing.now.present (forest tree.now) (after view.now made.0)) }
-    ensures places { IfOk result (λ made. HasPlacesIn view.now made.0) }
+    ensures view { IfOk result (λ made. IsReadOf standing.now.present (forest tree.now) (after view.new made.0)) }
+    ensures places { IfOk result (λ made. HasPlacesIn view.new made.0) }
+    ensures same { read_of view.new ≡ read_of view.old }
     ensures pending { IfOk result (λ made. pending_list standing.now.present made.0 ≡ Some standing.now.present) }
     ensures changes { IfOk result (λ made. delta_of made.1 ≡ changes standing.now.committed standing.now.present) }
 {
@@ -150,15 +151,20 @@ fn unmoved(
         let changes = changes_of(alloc, erased, Seq::make(alloc), Seq::make(alloc));
         return Ok((Next::Same, changes));
     }
-    if are_left_alone(standing, tree, net, edit, &[]) {
-        let changes = changes_of(alloc, erased, Seq::make(alloc), Seq::make(alloc));
-        return Ok((Next::Same, changes));
-    }
-    let before = view.reports.items();
-    let reports = report_after(alloc, standing, tree, net, edit, &[], before)?;
-    let (broken, mended) = reports_between(alloc, before, reports.items(), standing)?;
+    let review = review_edit(
+        alloc,
+        standing,
+        tree,
+        net,
+        edit,
+        &[],
+        erased.items(),
+        &view.broken,
+    )?;
+    view.broken.reserve(&review)?;
+    let (broken, mended) = review.told(alloc)?;
     let changes = changes_of(alloc, erased, broken, mended);
-    Ok((Next::Reported(reports), changes))
+    Ok((Next::Reviewed(review), changes))
 }
 
 // Changes among premises and protections alone.
@@ -189,7 +195,7 @@ pub(crate) fn keep(view: &mut KeptView, next: Next)
 {
     match next {
         Next::Nothing | Next::Same => {}
-        Next::Reported(reports) => view.reports = reports,
+        Next::Reviewed(review) => view.broken.take_over(review),
         Next::Changed(made) => take_over_all(view, made),
     }
 }
@@ -201,7 +207,7 @@ fn take_over_all(view: &mut KeptView, made: NextView)
 {
     take_over(&mut view.rows, made.differences.as_slice());
     view.size = made.size;
-    view.reports = made.reports;
+    view.broken.take_over(made.review);
 }
 
 // Whether a protection may stand before or after the edit, where it is told whether one may before.

@@ -18,8 +18,8 @@ use tmm_model::{
     Answer, Bound, Edit, ListRow, Name, NoMemory, Occ, QueryPoint, Report, Seq, Stop, WalkStep,
 };
 
-/// A map that keeps the standing list, its distances and its beliefs. Those before a pending edit are
-/// kept until it is committed.
+/// A map that keeps the standing list, its distances and its beliefs. Those before a pending edit
+/// are kept until it is committed.
 #[derive(Drop)]
 pub struct PlainMap {
     standing: Standing,

@@ -26,8 +26,8 @@ pub(crate) fn is_unread(standing: &Standing, edit: &Edit) -> bool
     }
 }
 
-// Whether the edit may change which rules are on a kind: it adds a rule, or retracts a rule or what rules
-// mention.
+// Whether the edit may change which rules are on a kind: it adds a rule, or retracts a rule or what
+// rules mention.
 pub(crate) fn is_ruling(standing: &Standing, edit: &Edit) -> bool
     ensures { result ≡ is_ruling standing.now.present.premises edit.now }
 {
@@ -52,10 +52,10 @@ fn is_read(premise: &Premise) -> bool
     )
 }
 
-// Whether the list that a pending edit leaves is one of which the same is believed as of that of the
-// last commit. `unread` tells that the edit added or retracted nothing that beliefs read; then it is
-// still where no point moved at which something that is declared to occur begins or ends. It looks
-// at the points that moved alone.
+// Whether the list that a pending edit leaves is one of which the same is believed as of that of
+// the last commit. `unread` tells that the edit added or retracted nothing that beliefs read; then
+// it is still where no point moved at which something that is declared to occur begins or ends. It
+// looks at the points that moved alone.
 pub(crate) fn is_still(standing: &Standing, net: &DistNet, unread: bool) -> bool
     requires old_network { IsNetOf standing.now.committed net.now.committed }
     requires network { IsNetOf standing.now.present net.now.present }
@@ -68,8 +68,8 @@ pub(crate) fn is_still(standing: &Standing, net: &DistNet, unread: bool) -> bool
     unread && are_elsewhere(standing, net, moved)
 }
 
-// Whether none of the numbers is that of `start`, or of a point at which something that is declared to
-// occur begins or ends.
+// Whether none of the numbers is that of `start`, or of a point at which something that is declared
+// to occur begins or ends.
 fn are_elsewhere(standing: &Standing, net: &DistNet, numbers: &[u16]) -> bool
     ensures { result ≡ are_elsewhere standing.now.present.premises net.now.present.names numbers.now }
 {

@@ -42,8 +42,9 @@ pub(crate) fn roots_named(alloc: Global, tree: &Tree, names: &[Name]) -> Result<
     Ok(found)
 }
 
-// All that an edit may have touched: nodes that entered, left or moved, and the classes of tokens; and these other nodes, which
-// are the roots that are gone, and those on which the rules may have changed.
+// All that an edit may have touched: nodes that entered, left or moved, and the classes of tokens;
+// and these other nodes, which are the roots that are gone, and those on which the rules may have
+// changed.
 pub(crate) fn touched(
     alloc: Global,
     edit: &Edit,
@@ -68,8 +69,8 @@ pub(crate) fn touched(
     })
 }
 
-// The nodes of what an update tells as entered, and of the root that the edit adds; those of what left; and
-// these others.
+// The nodes of what an update tells as entered, and of the root that the edit adds; those of what
+// left; and these others.
 fn touched_nodes(
     alloc: Global,
     tree: &Tree,
@@ -88,8 +89,8 @@ fn touched_nodes(
     Ok(found)
 }
 
-// Appends the nodes on which the edit may have changed the rules, where these nodes and decisions are those of the list that
-// it leaves.
+// Appends the nodes on which the edit may have changed the rules, where these nodes and decisions
+// are those of the list that it leaves.
 pub(crate) fn push_ruled(
     alloc: Global,
     edit: &Edit,
@@ -109,8 +110,8 @@ pub(crate) fn push_ruled(
     push_numbers(ruled.as_slice(), found)
 }
 
-// The events of the kind of the rule that the edit adds; or all nodes, where rules may have fallen with what it erased, of
-// whatever kinds they were.
+// The events of the kind of the rule that the edit adds; or all nodes, where rules may have fallen
+// with what it erased, of whatever kinds they were.
 fn ruled_nodes(alloc: Global, edit: &Edit, nodes: &BeliefNet) -> Result<Vec<u32>, NoMemory>
     requires fit { (s : AStanding) × (net : Net) × IsFit s net nodes.now }
     ensures { IfOk result (λ found. (s : AStanding) (net : Net) → IsCurrent (next_list s edit.now) net (forest nodes.now.tree) (rows_of nodes.now)

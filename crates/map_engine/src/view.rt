@@ -64,8 +64,8 @@ pub(crate) fn told_rows(alloc: Global, tree: &Tree, view: &View) -> Result<Seq<L
     list_rows(alloc, tree, view.rows.items())
 }
 
-// Whether the rows are the believed occurrences of the list, in their order. They are, and it is found
-// anew from the list.
+// Whether the rows are the believed occurrences of the list, in their order. They are, and it is
+// found anew from the list.
 pub(crate) fn audited(
     alloc: Global,
     standing: &Standing,

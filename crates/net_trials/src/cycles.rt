@@ -11,9 +11,9 @@ use tmm_model::{Bound, PointName, Premise, Side, WalkStep};
 /// The owners of steps, none where there is no walk.
 type Owners = Option<&'static [&'static str]>;
 
-/// Edges in the order in which they are added: the two points, the weight, the owner, and the cycle that
-/// each makes. The first two points lead to each other with the sum 0, and two walks from the first to the
-/// third have the sum 5.
+/// Edges in the order in which they are added: the two points, the weight, the owner, and the cycle
+/// that each makes. The first two points lead to each other with the sum 0, and two walks from the
+/// first to the third have the sum 5.
 const EDGES: &[(u16, u16, i64, &str, Owners)] = &[
     (1, 2, 2, "ab", None),
     (2, 1, -2, "ba", None),
@@ -110,8 +110,8 @@ const LINES: &[(&str, &str)] = &[
     ("dist x p q * 5", "ok"),
 ];
 
-/// Lower bounds of a premise y that are refused, the step that is said to be of it, and whether it closes a
-/// cycle.
+/// Lower bounds of a premise y that are refused, the step that is said to be of it, and whether it
+/// closes a cycle.
 const BOUNDS: &[(i64, Side, i64, bool)] = &[
     (7, Side::Lo, -7, true),
     (7, Side::Hi, -7, false),
@@ -119,8 +119,8 @@ const BOUNDS: &[(i64, Side, i64, bool)] = &[
     (5, Side::Lo, -5, false),
 ];
 
-/// Which of the steps are given, and whether they may be a cycle: both, turned, one that leads nowhere back,
-/// and both twice.
+/// Which of the steps are given, and whether they may be a cycle: both, turned, one that leads
+/// nowhere back, and both twice.
 const PARTS: &[(usize, usize, bool)] = &[(0, 2, true), (1, 3, true), (0, 1, false), (0, 4, false)];
 
 #[test]

@@ -1,6 +1,6 @@
-//! Trials of the network of distances and of the list of premises: distances, edges that are taken out, walks
-//! and cycles, which edits are let through, and the bytes of replies. It has no functions but its tests, and
-//! no crate stands on it.
+//! Trials of the network of distances and of the list of premises: distances, edges that are taken
+//! out, walks and cycles, which edits are let through, and the bytes of replies. It has no
+//! functions but its tests, and no crate stands on it.
 #![tactic(auto)]
 
 #[cfg(test)]

@@ -55,7 +55,8 @@ pub fn edge(from: u16, to: u16, weight: i64, owner: &str) -> Edge {
     }
 }
 
-/// Adds an edge between points, or gives the conflict that it makes. Asked for more, it does nothing.
+/// Adds an edge between points, or gives the conflict that it makes. Asked for more, it does
+/// nothing.
 pub fn add(net: &mut DistNet, edge: &Edge) -> Option<Conflict>
     ensures { IfSome result (λ found. AreInUse net.new.present.names (edge.now ∷ []) × IsConflict net.new.present.edges (edge.now ∷ []) found) }
 {

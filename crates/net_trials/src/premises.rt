@@ -36,7 +36,8 @@ fn expect_edit(rt: &impl Abort, alloc: Global, list: &mut Standing, edit: &Edit,
     expect(rt, &told(alloc, list, edit), want);
 }
 
-/// Makes the edit where it is let through. It is told `ok` and the names that fall, or why it is refused.
+/// Makes the edit where it is let through. It is told `ok` and the names that fall, or why it is
+/// refused.
 fn told(alloc: Global, list: &mut Standing, edit: &Edit) -> Result<Seq<u8>, NoMemory> {
     match list.check(edit) {
         Ok(()) => made(alloc, list, edit),
@@ -94,7 +95,8 @@ const SORTS: &[(&str, &str)] = &[
     ("tmm 2", "1 no form\n"),
 ];
 
-/// The seven premises that were let through are erased, with what mentions them, and a name is free again.
+/// The seven premises that were let through are erased, with what mentions them, and a name is free
+/// again.
 const ERASURES: &[(&str, &str)] = &[
     ("erase open", "1 no sort open\n"),
     ("erase s", "ok s d"),

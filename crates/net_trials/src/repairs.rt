@@ -15,8 +15,8 @@ fn erase(net: &mut DistNet, place: usize) {
     }
 }
 
-/// The first point to the fourth over the second, over the third, and at once. The second and the third
-/// lead to each other with the sum 0.
+/// The first point to the fourth over the second, over the third, and at once. The second and the
+/// third lead to each other with the sum 0.
 const WAYS: &[(u16, u16, i64)] = &[
     (1, 2, 2),
     (2, 4, 3),
@@ -26,7 +26,8 @@ const WAYS: &[(u16, u16, i64)] = &[
     (1, 4, 9),
 ];
 
-/// Places that are erased one after the other, and the distance from the first point to the fourth after each.
+/// Places that are erased one after the other, and the distance from the first point to the fourth
+/// after each.
 const ROUND: &[(usize, i64)] = &[(0, 6), (4, 9)];
 
 #[test]
@@ -134,8 +135,8 @@ fn add_rings(net: &mut DistNet) {
     }
 }
 
-/// An edge of a ring through 20 points: so many numbers on, and no shorter than the difference of the
-/// heights of its ends, so that no walk round is negative.
+/// An edge of a ring through 20 points: so many numbers on, and no shorter than the difference of
+/// the heights of its ends, so that no walk round is negative.
 fn add_ring_edge(net: &mut DistNet, from: u16, step: u16) {
     let to = from.wrapping_add(step) % 20;
     let rise = to.wrapping_mul(5) % 11;

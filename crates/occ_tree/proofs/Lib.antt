@@ -35,6 +35,7 @@ pub mod Effect
 pub mod Marking
 pub mod AtPoints
 pub mod Touching
+pub mod Upward
 pub mod SortedBelow
 pub mod RoomLeft
 pub mod InTurn

@@ -14,8 +14,8 @@ use Rattle.occ_tree.specs.Standing.{State, forest, early, below, IsChildOf}
 abbrev pub IsDatedBy : Net → State → Type 0
 IsDatedBy net s = (x : ℕ) → IsLive (forest s) x → early s x ≡ node_early net (forest s) x
 
--- The spot is there, the nodes and the network are those of a list, and the dates of the nodes are those of
--- the network.
+-- The spot is there, the nodes and the network are those of a list, and the dates of the nodes are
+-- those of the network.
 abbrev pub IsKnown : Net → State → Spot → Type 0
 IsKnown net s p = HasList net (forest s) × IsDatedBy net s × IsSpot net.names (forest s) p
 
@@ -29,7 +29,8 @@ point_early net p = negated (net_far net p 0)
 abbrev pub DatesFollow : State → Type 0
 DatesFollow s = (x y : ℕ) (b : IsBelow (forest s) x y) → b.above.links ≡ [] → early s y ≡ early s x +ℤ links_low b.below.links
 
--- no rule leads to those on the list of roots, which has each once, and each node is one of them or below it
+-- no rule leads to those on the list of roots, which has each once, and each node is one of them or
+-- below it
 pub record HaveRoots (s : State) : Type 0 where
   pub once : AreOnce (below s None)
   pub roots : (x : ℕ) → IsChildOf s None x → (m : Member) × (forest s x ≡ Some m) × (m.links ≡ [])
@@ -39,8 +40,8 @@ pub record HaveRoots (s : State) : Type 0 where
 abbrev pub IsBelowNone : Forest → List ℕ → ℕ → Type 0
 IsBelowNone f roots y = (x : ℕ) → IsOn roots x → IsBelow f x y → ⊥
 
--- The date of each node is its earliest date in the network, but for these roots and what is below them. All
--- dates are those of the roots and the least delays on the way.
+-- The date of each node is its earliest date in the network, but for these roots and what is below
+-- them. All dates are those of the roots and the least delays on the way.
 pub record IsDatedBut (net : Net) (roots : List ℕ) (s : State) : Type 0 where
   pub follow : DatesFollow s
   pub dated : (x : ℕ) → IsLive (forest s) x → IsBelowNone (forest s) roots x → early s x ≡ node_early net (forest s) x

@@ -34,8 +34,8 @@ WithdrawalsKeepDates = (net : Net) (old new : State) (x : ℕ) → Shrinks old n
 
 -- ---- roots that get other dates one after the other, as the network has
 
--- Where the dates are those of another network, and both networks give the same to all but some roots and what
--- is below these, the dates are those of the network but for these roots.
+-- Where the dates are those of another network, and both networks give the same to all but some
+-- roots and what is below these, the dates are those of the network but for these roots.
 abbrev pub OthersKeepDates : Type 0
 OthersKeepDates =
     (before net : Net) (s : State) (roots : List ℕ) → HasList before (forest s) → IsDatedBy before s

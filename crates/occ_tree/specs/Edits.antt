@@ -16,8 +16,8 @@ pub record Keeps (old new : Grove) : Type 0 where
   pub committed_is : committed_rows new ≡ committed_rows old
   pub places_are : new.rows.places ≡ old.rows.places
 
--- The node is new under a number that no node has or had at the last commit, and is last below its parent.
--- There is at most one more place, and only where each held a row.
+-- The node is new under a number that no node has or had at the last commit, and is last below its
+-- parent. There is at most one more place, and only where each held a row.
 pub record Adds (old new : Grove) (x : ℕ) (n : Node) : Type 0 where
   pub free : (present_rows old).row x ≡ None
   pub was_free : (committed_rows old).row x ≡ None
@@ -51,8 +51,8 @@ pub record AreDated (old new : Table Node 1) (numbers : List ℕ) (date : ℤ) :
 
 -- ---- of a tree
 
--- The node is new under a number that no node has. It is last below its parent, or among the roots, and has
--- this date. All else stays.
+-- The node is new under a number that no node has. It is last below its parent, or among the roots,
+-- and has this date. All else stays.
 pub record Grows (old new : State) (x : ℕ) (m : Member) (parent : Option ℕ) (date : ℤ) : Type 0 where
   pub free : forest old x ≡ None
   pub entered : forest new x ≡ Some m
@@ -62,7 +62,8 @@ pub record Grows (old new : State) (x : ℕ) (m : Member) (parent : Option ℕ) 
   pub date_is : early new x ≡ date
   pub dates : (y : ℕ) → y ≢ x → early new y ≡ early old y
 
--- the node is new under a number that no node had at the last commit either, and the last commit stays
+-- the node is new under a number that no node had at the last commit either, and the last commit
+-- stays
 pub record Enters (old new : Kept) (x : ℕ) (m : Member) (parent : Option ℕ) (date : ℤ) : Type 0 where
   pub grows : Grows (present old) (present new) x m parent date
   pub was_free : forest (committed old) x ≡ None
@@ -81,8 +82,8 @@ pub record Withdraws (old new : Kept) (x : ℕ) : Type 0 where
   pub shrinks : Shrinks (present old) (present new) x
   pub committed_is : committed new ≡ committed old
 
--- Root x has this date, and all below it keep their distances from it. All else stays, with its dates and in
--- its order.
+-- Root x has this date, and all below it keep their distances from it. All else stays, with its
+-- dates and in its order.
 pub record Moves (old new : State) (x : ℕ) (date : ℤ) : Type 0 where
   pub nodes : (y : ℕ) → forest new y ≡ forest old y
   pub lists : (parent : Option ℕ) → below new parent ≡ below old parent

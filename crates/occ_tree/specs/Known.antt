@@ -1,4 +1,5 @@
--- The laws of spots, their dates, and the order of nodes, where the dates that are kept are those of a network.
+-- The laws of spots, their dates, and the order of nodes, where the dates that are kept are those
+-- of a network.
 use Rattle.std.proofs.Common.{◌≡◌, ℕ, pos, ◌+ℤ◌, ◌≤ℤ◌}
 use Rattle.std.specs.Ordering.{int_cmp, nat_cmp, ordering_then}
 use Rattle.std.specs.Cmp.Lexicographic.{slice_cmp}

@@ -13,7 +13,7 @@ forest k = standing.forest (present k)
 abbrev pub places : Kept → ℕ
 places k = k.nodes.rows.places
 
--- There are as many places as before, or one more where each was taken: a node has its number, or had it and
--- was withdrawn since the last commit.
+-- There are as many places as before, or one more where each was taken: a node has its number, or
+-- had it and was withdrawn since the last commit.
 abbrev pub PlacesGrow : Kept → Kept → Type 0
 PlacesGrow old new = rows.PlacesGrow old.nodes.rows new.nodes.rows

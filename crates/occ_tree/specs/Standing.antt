@@ -1,4 +1,5 @@
--- Nodes with the lists of their children and the tokens of each class, as they are and as they were.
+-- Nodes with the lists of their children and the tokens of each class, as they are and as they
+-- were.
 use Rattle.std.specs.Prelude.{◌≡◌, ℕ, ℤ, ◌+◌, ◌<◌, List, [], ◌∷◌, Option, Some, None}
 use Rattle.std.specs.Option.{option_map, option_map_or}
 use Rattle.std.specs.declared.cmp.Ordering.{Ordering}
@@ -22,7 +23,8 @@ use Rattle.occ_tree.specs.Words.{node_cmp}
 abbrev pub nodes_in : Table Node 1 → Nodes
 nodes_in t x = option_map (λ (r : Row Node 1). r.value) (t.row x)
 
--- under which head those stand whose parent this is: the roots under 0, the children of x under x + 1
+-- under which head those stand whose parent this is: the roots under 0, the children of x under x +
+-- 1
 abbrev pub head_for : Option ℕ → ℕ
 head_for None = 0
 head_for (Some x) = x + 1
@@ -31,7 +33,8 @@ head_for (Some x) = x + 1
 abbrev pub siblings_in : Table Node 1 → Option ℕ → List ℕ
 siblings_in t parent = t.list 0 (head_for parent)
 
--- each node is under the head of its parent and stands where it says, and its number is below the limit
+-- each node is under the head of its parent and stands where it says, and its number is below the
+-- limit
 pub record IsStanding (limit : ℕ) (t : Table Node 1) : Type 0 where
   pub placed : ArePlaced (nodes_in t)
   pub heads : (x : ℕ) (r : Row Node 1) → t.row x ≡ Some r → r.heads ≡ Some (head_for (parent_of r.value)) ∷ []
@@ -60,8 +63,8 @@ pub record IsGrove (rows : Logged Node 1) : Type 0 where
 abbrev pub tokens_under : List (List ℕ) → (ℕ → List (TokenRow Spot)) → List ℕ → List (TokenRow Spot)
 tokens_under names rows class = option_map_or rows (place_in names class) []
 
--- The lists are of the tokens of each class in the order of nodes, each under the number of its class. Each
--- date is that of the root and the least delays on the way.
+-- The lists are of the tokens of each class in the order of nodes, each under the number of its
+-- class. Each date is that of the root and the least delays on the way.
 pub record AreKept (names : List (List ℕ)) (node : Nodes) (rows : ℕ → List (TokenRow Spot)) : Type 0 where
   pub tokens : AreTokensBut node rows []
   pub numbers : (x : ℕ) (n : Node) → node x ≡ Some n → IsNumberOf names n.class n.list
@@ -101,7 +104,8 @@ forest s = forest_in (nodes_in s.rows)
 abbrev pub early : State → ℕ → ℤ
 early s = date_in (nodes_in s.rows)
 
--- what rules lead to from a node by one more, in the order in which they came; without one, the roots
+-- what rules lead to from a node by one more, in the order in which they came; without one, the
+-- roots
 abbrev pub below : State → Option ℕ → List ℕ
 below s parent = siblings_in s.rows parent
 

@@ -9,7 +9,8 @@ use Rattle.occ_tree.specs.Standing.{Kept, present, committed, forest}
 abbrev pub IsAtMoved : List ℕ → Member → Type 0
 IsAtMoved moved m = Contains moved 0 ⊎ (Contains moved m.begin ⊎ ((e : ℕ) × (m.end ≡ Some e) × Contains moved e))
 
--- **The class is untouched**: its tokens are those of the last commit, and none of them begins or ends at a point that moved.
+-- **The class is untouched**: its tokens are those of the last commit, and none of them begins or
+-- ends at a point that moved.
 pub record IsUntouched (nets : Nets) (k : Kept) (class : List ℕ) : Type 0 where
   pub tokens : (present k).tokens class ≡ (committed k).tokens class
   pub unmoved : (x : ℕ) (m : Member) → member (forest (present k)) x ≡ Some m → m.class ≡ Some class → IsAtMoved nets.moved m → ⊥

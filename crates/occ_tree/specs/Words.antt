@@ -5,6 +5,7 @@ use Rattle.std.specs.Option.{is_some}
 use Rattle.std.specs.Ordering.{bool_cmp, int_cmp, nat_cmp, on, then_cmp}
 use Rattle.std.specs.Cmp.Lexicographic.{slice_cmp}
 use Rattle.tmm_model.specs.Moments.{printed}
+use Rattle.tmm_model.specs.Points.{slashed}
 use Rattle.spots.specs.Forest.{moment_at}
 use Rattle.occ_tree.specs.Nodes.{Nodes, name_at, forest_in, date_in, way_to}
 
@@ -19,6 +20,11 @@ node_cmp node = then_cmp (on (date_in node) int_cmp) (on (word_in node) (slice_c
 -- numbers of nodes in the order of nodes, behind all other numbers
 abbrev pub rank_in : Nodes → ℕ → ℕ → Ordering
 rank_in node = then_cmp (on (λ x. is_some (node x)) bool_cmp) (node_cmp node)
+
+-- names with `/` between them
+abbrev pub joined : List (List ℕ) → List ℕ
+joined [] = []
+joined (name ∷ names) = name ++ slashed names
 
 -- `/`, where there is more
 abbrev pub slash_if : Bool → List ℕ

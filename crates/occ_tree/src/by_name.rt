@@ -34,7 +34,8 @@ impl Key {
     }
 }
 
-/// The nodes of a tree under their parents and names, each found without a walk through its siblings.
+/// The nodes of a tree under their parents and names, each found without a walk through its
+/// siblings.
 #[derive(Drop)]
 pub struct ByName<'a> {
     tree: &'a Tree,

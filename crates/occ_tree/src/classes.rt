@@ -67,8 +67,8 @@ impl Classes {
         Ok(classes)
     }
 
-    // The number of a class, which is the next one where it has none. Those of others stay, also without
-    // memory; it counts as want of memory that a number would be 2^32 - 1 or more.
+    // The number of a class, which is the next one where it has none. Those of others stay, also
+    // without memory; it counts as want of memory that a number would be 2^32 - 1 or more.
     pub(crate) fn enter(&mut self, class: Name) -> Result<u32, NoMemory>
         ensures entered { IfOk result (λ k. place_in self.new class ≡ Some k) }
         ensures more { HaveMore self.old self.new }

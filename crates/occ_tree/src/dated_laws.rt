@@ -21,8 +21,8 @@ pub fn withdrawals_keep_dates()
     ensures { WithdrawalsKeepDates }
 {}
 
-/// Roots get the dates of their points in another network, one after the other, and then all dates are
-/// those of that network.
+/// Roots get the dates of their points in another network, one after the other, and then all dates
+/// are those of that network.
 pub fn moves_keep_dates()
     ensures others { OthersKeepDates }
     ensures all { AllMayDiffer }

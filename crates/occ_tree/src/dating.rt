@@ -10,8 +10,9 @@ ghost use Rattle.occ_tree.specs.Tokens.{AreTokensBut, HaveRoomFor};
 use crate::nodes::Nodes;
 use crate::tokens::{Tokens, put_in, take_out};
 
-// Gives nodes of one root the dates that follow from this one of the root, and their tokens their places. It
-// takes no memory. The order among these nodes stays, so few tokens are moved where they are listed in it.
+// Gives nodes of one root the dates that follow from this one of the root, and their tokens their
+// places. It takes no memory. The order among these nodes stays, so few tokens are moved where they
+// are listed in it.
 pub(crate) fn date_all(nodes: &mut Nodes, tokens: &mut Tokens, numbers: &[u32], root_date: i64)
     requires live { (y : ℕ) → IsOn numbers.now y → IsSome (nodes_in (present_rows nodes.old) y) }
     requires once { AreOnce numbers.now }
@@ -31,8 +32,8 @@ pub(crate) fn date_all(nodes: &mut Nodes, tokens: &mut Tokens, numbers: &[u32], 
     put_all_in(nodes, tokens, numbers);
 }
 
-// Takes nodes out of the tokens of their classes, the last one first. It takes no memory, and leaves room for
-// them.
+// Takes nodes out of the tokens of their classes, the last one first. It takes no memory, and
+// leaves room for them.
 fn take_all_out(nodes: &Nodes, tokens: &mut Tokens, numbers: &[u32])
     requires live { (y : ℕ) → IsOn numbers.now y → IsSome (nodes_in (present_rows nodes.now) y) }
     requires once { AreOnce numbers.now }
@@ -62,7 +63,8 @@ fn date_nodes(nodes: &mut Nodes, numbers: &[u32], root_date: i64)
     }
 }
 
-// Puts nodes that are out among the tokens of their classes, the first one first. It takes no memory.
+// Puts nodes that are out among the tokens of their classes, the first one first. It takes no
+// memory.
 fn put_all_in(nodes: &Nodes, tokens: &mut Tokens, numbers: &[u32])
     requires live { (y : ℕ) → IsOn numbers.now y → IsSome (nodes_in (present_rows nodes.now) y) }
     requires once { AreOnce numbers.now }

@@ -17,7 +17,8 @@ use spots::{Spot, Sums, between, less, plus};
 use tmm_model::Bound;
 
 impl Tree {
-    /// The tightest upper bound on the date of the second spot less that of the first, in whole time units.
+    /// The tightest upper bound on the date of the second spot less that of the first, in whole
+    /// time units.
     pub fn far(&self, net: &DistNet, from: Spot, to: Spot) -> Bound
         requires list { HasList net.now.present (forest (present self.now)) }
         requires from { IsSpot net.now.present.names (forest (present self.now)) from }

@@ -11,8 +11,8 @@ use crate::tree::Tree;
 use tmm_model::{Name, Occ};
 
 impl Tree {
-    /// The number of an occurrence, none exactly where no node is of it. It looks through the roots, and for
-    /// each rule through what is right below a node.
+    /// The number of an occurrence, none exactly where no node is of it. It looks through the
+    /// roots, and for each rule through what is right below a node.
     pub fn find(&self, occ: &Occ) -> Option<u32>
         ensures { IsFound (forest (present self.now)) (moment_of occ.now) result }
     {
@@ -24,8 +24,8 @@ impl Tree {
         Some(x)
     }
 
-    /// The number of what a rule leads to from a node, none exactly where no node is of it. It looks through
-    /// what is right below the node.
+    /// The number of what a rule leads to from a node, none exactly where no node is of it. It
+    /// looks through what is right below the node.
     pub fn find_effect(&self, x: u32, rule: &Name) -> Option<u32>
         requires { IsLive (forest (present self.now)) x }
         ensures { IsFound (forest (present self.now)) (After (moment_at (forest (present self.now)) x) rule.now) result }

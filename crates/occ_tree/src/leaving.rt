@@ -16,9 +16,9 @@ use crate::tokens::{Tokens, take_out};
 use std::alloc::Global;
 use tmm_model::NoMemory;
 
-// The numbers of a node and of all below it in the order of nodes, so that each is before those below it,
-// with room for two changes of each node and of each token among them. All stays, also where there is no
-// memory.
+// The numbers of a node and of all below it in the order of nodes, so that each is before those
+// below it, with room for two changes of each node and of each token among them. All stays, also
+// where there is no memory.
 pub(crate) fn room_below(
     alloc: Global,
     nodes: &mut Nodes,
@@ -47,8 +47,8 @@ pub(crate) fn room_below(
     Ok(numbers)
 }
 
-// Takes out all these nodes, the last one first: in the order of nodes few tokens of a class are behind the
-// one that goes then. It takes no memory.
+// Takes out all these nodes, the last one first: in the order of nodes few tokens of a class are
+// behind the one that goes then. It takes no memory.
 pub(crate) fn leave_all(nodes: &mut Nodes, tokens: &mut Tokens, numbers: Vec<u32>)
     requires below { (x : ℕ) × ListsBelow (nodes_in (present_rows nodes.old)) x numbers.items }
     requires tokens { AreTokensBut (nodes_in (present_rows nodes.old)) (present tokens.old) [] }
@@ -65,8 +65,8 @@ pub(crate) fn leave_all(nodes: &mut Nodes, tokens: &mut Tokens, numbers: Vec<u32
     }
 }
 
-// Takes a node out that has nothing below it, and out of the tokens of its class if it is one. It takes no
-// memory.
+// Takes a node out that has nothing below it, and out of the tokens of its class if it is one. It
+// takes no memory.
 fn leave(nodes: &mut Nodes, tokens: &mut Tokens, x: u32)
     requires live { IsSome (nodes_in (present_rows nodes.old) x) }
     requires leaf { (y : ℕ) → IsRightBelow (nodes_in (present_rows nodes.old)) x y → ⊥ }

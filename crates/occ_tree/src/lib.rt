@@ -1,14 +1,16 @@
-//! Occurrences as nodes of a tree that is undone by a log: declared events, tokens and spans, and below
-//! each event what rules lead to from it. It stands on `spots`.
+//! Occurrences as nodes of a tree that is undone by a log: declared events, tokens and spans, and
+//! below each event what rules lead to from it. It stands on `spots`.
 //!
-//! With a network of distances a `Tree` answers the tightest distance of two spots. Where the dates that it
-//! keeps are those of the network, nodes compared by these are in the order of `spots`, and `Order` is that
-//! order for `clipping`, with the dates. Roots and effects that come, nodes that go, and roots that are moved
-//! to their dates in another network leave the dates those of the network (`roots_keep_dates`,
-//! `effects_keep_dates`, `withdrawals_keep_dates`, `moves_keep_dates`).
+//! With a network of distances a `Tree` answers the tightest distance of two spots. Where the dates
+//! that it keeps are those of the network, nodes compared by these are in the order of `spots`, and
+//! `Order` is that order for `clipping`, with the dates. Roots and effects that come, nodes that
+//! go, and roots that are moved to their dates in another network leave the dates those of the
+//! network (`roots_keep_dates`, `effects_keep_dates`, `withdrawals_keep_dates`,
+//! `moves_keep_dates`).
 //!
-//! `ByName` finds the occurrences of one tree among those of another. `Tree::touched` tells which nodes and
-//! classes the edits since the last commit may have touched, where they moved points of the network.
+//! `ByName` finds the occurrences of one tree among those of another. `Tree::touched` tells which
+//! nodes and classes the edits since the last commit may have touched, where they moved points of
+//! the network.
 #![tactic(auto)]
 
 mod below;

@@ -54,8 +54,8 @@ impl Nodes {
         }
     }
 
-    // Adds a node, behind all others of its parent, and answers its number. Without memory nothing has
-    // changed.
+    // Adds a node, behind all others of its parent, and answers its number. Without memory nothing
+    // has changed.
     pub(crate) fn add(&mut self, alloc: Global, node: Node) -> Result<u32, NoMemory>
         requires { WillBePlaced (nodes_in (present_rows self.old)) node }
         ensures ok { IfOk result (λ x. Adds self.old self.new x node) }
@@ -67,8 +67,8 @@ impl Nodes {
         Ok(x)
     }
 
-    // Makes room for so many changes, of which taking a node out is two. The nodes stay, also where there is
-    // no memory.
+    // Makes room for so many changes, of which taking a node out is two. The nodes stay, also where
+    // there is no memory.
     pub(crate) fn reserve(&mut self, alloc: Global, changes: usize) -> Result<(), NoMemory>
         ensures ok { OnOk result (changes ≤ self.new.rows.spare) }
         ensures keeps { Keeps self.old self.new }
@@ -250,8 +250,8 @@ impl Nodes {
         }
     }
 
-    // What stands in the word of a node behind so many names: the next name, and `/` where there are
-    // more.
+    // What stands in the word of a node behind so many names: the next name, and `/` where there
+    // are more.
     pub(crate) fn piece(&self, x: u32, depth: u32) -> Piece
         requires { IsSome (nodes_in (present_rows self.now) x) }
         ensures { result.items ≡ piece_at (nodes_in (present_rows self.now)) x depth }
@@ -318,7 +318,8 @@ impl Nodes {
         self.rows.commit();
     }
 
-    // Makes the nodes and the orders of their lists those of the last commit again. It takes no memory.
+    // Makes the nodes and the orders of their lists those of the last commit again. It takes no
+    // memory.
     pub(crate) fn rollback(&mut self)
         ensures present { present_rows self.new ≡ committed_rows self.old }
         ensures committed { committed_rows self.new ≡ committed_rows self.old }

@@ -16,8 +16,8 @@ use std::cmp::Ordering;
 use tmm_model::{Bound, Sure};
 
 impl Tree {
-    /// The order of two nodes: by the earliest dates that are kept of them, and then by the bytes of their
-    /// words.
+    /// The order of two nodes: by the earliest dates that are kept of them, and then by the bytes
+    /// of their words.
     pub fn cmp_order(&self, x: u32, y: u32) -> Ordering
         requires x_live { IsLive (forest self.now) x }
         requires y_live { IsLive (forest self.now) y }
@@ -48,8 +48,9 @@ impl Tree {
     }
 }
 
-/// The spots of a tree in a network whose dates it keeps, with their tightest distances and their order:
-/// nodes by their earliest dates and then by their words, and behind them declared points by their numbers.
+/// The spots of a tree in a network whose dates it keeps, with their tightest distances and their
+/// order: nodes by their earliest dates and then by their words, and behind them declared points by
+/// their numbers.
 #[derive(Drop)]
 pub struct Order<'a> {
     /// The occurrences.
@@ -59,7 +60,8 @@ pub struct Order<'a> {
 }
 
 impl Order<'_> {
-    /// The tightest upper bound on the date of the second spot less that of the first, in whole time units.
+    /// The tightest upper bound on the date of the second spot less that of the first, in whole
+    /// time units.
     pub fn far(&self, from: Spot, to: Spot) -> Bound
         requires dates { IsTreeIn self.now.net.now.present self.now.tree.now }
         requires from { IsSpot self.now.net.now.present.names (forest self.now.tree.now) from }

@@ -21,8 +21,8 @@ pub struct Ranked {
     pub node: u32,
 }
 
-/// The nodes in the order of their occurrences, by their earliest dates and then by their words. Without
-/// memory it answers that.
+/// The nodes in the order of their occurrences, by their earliest dates and then by their words.
+/// Without memory it answers that.
 pub fn in_order(alloc: Global, order: &Order<'_>, nodes: &[u32]) -> Result<Vec<Ranked>, NoMemory>
     requires dates { IsTreeIn order.now.net.now.present order.now.tree.now }
     requires live { All (IsLive (forest order.now.tree.now)) nodes.now }

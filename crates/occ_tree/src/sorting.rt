@@ -8,8 +8,8 @@ ghost use Rattle.occ_tree.specs.Words.{node_cmp};
 
 use crate::nodes::Nodes;
 
-// Sorts the numbers of a node and of all below it by the order of nodes, in which each is before those below
-// it. It takes no memory.
+// Sorts the numbers of a node and of all below it by the order of nodes, in which each is before
+// those below it. It takes no memory.
 pub(crate) fn sort_below(nodes: &Nodes, numbers: &mut Vec<u32>)
     requires below { (x : ℕ) × ListsBelow (nodes_in (present_rows nodes.now)) x numbers.old.items }
     requires dates { FollowRoots (nodes_in (present_rows nodes.now)) }

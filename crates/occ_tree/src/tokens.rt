@@ -71,8 +71,8 @@ pub(crate) fn put_in(nodes: &Nodes, tokens: &mut Tokens, x: u32)
     }
 }
 
-// Takes a node that is in out of the tokens of its class, if it is one. It takes no memory, and leaves room for
-// it.
+// Takes a node that is in out of the tokens of its class, if it is one. It takes no memory, and
+// leaves room for it.
 pub(crate) fn take_out(nodes: &Nodes, tokens: &mut Tokens, x: u32)
     requires live { IsSome (nodes_in (present_rows nodes.now) x) }
     requires tokens { (out : List ℕ) × (IsOn out x → ⊥) × AreTokensBut (nodes_in (present_rows nodes.now)) (present tokens.old) out }
@@ -89,7 +89,8 @@ pub(crate) fn take_out(nodes: &Nodes, tokens: &mut Tokens, x: u32)
     }
 }
 
-// Adds a node, and puts it among the tokens of its class, if it is one. Without memory nothing has changed.
+// Adds a node, and puts it among the tokens of its class, if it is one. Without memory nothing has
+// changed.
 pub(crate) fn enter(
     alloc: Global,
     nodes: &mut Nodes,
@@ -110,8 +111,8 @@ pub(crate) fn enter(
     Ok(x)
 }
 
-// The number of a class, if there is one, with room for a token more. Without memory all tokens stay, and
-// there may be more classes.
+// The number of a class, if there is one, with room for a token more. Without memory all tokens
+// stay, and there may be more classes.
 pub(crate) fn number_for(
     alloc: Global,
     classes: &mut Classes,

@@ -3,13 +3,13 @@ ghost use Rattle.std.specs.Prelude.{◌≡◌, ◌++◌, map, IsSome, IfOk, OnOk
 ghost use Rattle.tmm_model.specs.Moments.{moment_of, printed};
 ghost use Rattle.spots.specs.Forest.{IsLive, moment_at};
 ghost use Rattle.spots.specs.Rows.{IsRowOf};
-ghost use Rattle.occ_tree.specs.Nodes.{way_to};
+ghost use Rattle.occ_tree.specs.Nodes.{name_at, way_to};
 ghost use Rattle.occ_tree.specs.Standing.{nodes_in, present_rows, present, forest};
-ghost use Rattle.occ_tree.specs.Words.{word_in};
+ghost use Rattle.occ_tree.specs.Words.{joined, word_in};
 
 use crate::nodes::Nodes;
 use crate::tree::Tree;
-use ancestors::ancestor_at;
+use ancestors::Ancestry;
 use spots::NodeRow;
 use std::alloc::Global;
 use tmm_model::{Name, NoMemory, Occ, Seq};
@@ -63,14 +63,11 @@ fn rules_to(alloc: Global, nodes: &Nodes, x: u32) -> Result<Seq<Name>, NoMemory>
     requires { IsSome (nodes_in (present_rows nodes.now) x) }
     ensures { IfOk result (λ rules. rules.items ≡ map (λ l. l.rule) (way_to (nodes_in (present_rows nodes.now)) x).links) }
 {
+    // each node stands where it says
+    let _ = nodes.get(x);
+    let names = names_to(alloc, nodes, x)?;
     let mut rules = Seq::make(alloc);
-    for above in 0..nodes.get(x).depth {
-        let at = ancestor_at(nodes, x, above + 1);
-        match rules.push(nodes.get(at).name) {
-            Ok(()) => {}
-            Err(_) => return Err(NoMemory),
-        }
-    }
+    rules.extend(&names.as_slice()[1..])?;
     Ok(rules)
 }
 
@@ -79,10 +76,40 @@ fn word_of(alloc: Global, nodes: &Nodes, x: u32) -> Result<Seq<u8>, NoMemory>
     requires { IsSome (nodes_in (present_rows nodes.now) x) }
     ensures { IfOk result (λ word. word.items ≡ word_in (nodes_in (present_rows nodes.now)) x) }
 {
+    // each node stands where it says
+    let _ = nodes.get(x);
+    let names = names_to(alloc, nodes, x)?;
+    joined(alloc, names.as_slice())
+}
+
+// The names with `/` between them.
+fn joined(alloc: Global, names: &[Name]) -> Result<Seq<u8>, NoMemory>
+    ensures { IfOk result (λ word. word.items ≡ joined names.now) }
+{
     let mut word = Seq::make(alloc);
-    let last = nodes.get(x).depth;
-    for depth in 0..last + 1 {
-        word.extend(nodes.piece(x, depth).as_slice())?;
+    if let [first, rest @ ..] = names {
+        word.extend(first.bytes())?;
+        for name in rest {
+            word.extend(b"/")?;
+            word.extend(name.bytes())?;
+        }
     }
     Ok(word)
+}
+
+// The names of the nodes on the way to a node, that of the root first.
+fn names_to(alloc: Global, nodes: &Nodes, x: u32) -> Result<Vec<Name>, NoMemory>
+    requires { IsSome (nodes_in (present_rows nodes.now) x) }
+    ensures { IfOk result (λ names. names.items ≡ map (name_at (nodes_in (present_rows nodes.now))) (way_to (nodes_in (present_rows nodes.now)) x).numbers) }
+{
+    let depth = nodes.get(x).depth as usize;
+    let mut names = Vec::with_capacity(alloc, depth + 1)?;
+    let mut at = x;
+    for _above in 0..depth {
+        names.push_reserved(nodes.get(at).name);
+        at = nodes.parent(at);
+    }
+    names.push_reserved(nodes.get(at).name);
+    names.reverse();
+    Ok(names)
 }

@@ -30,8 +30,8 @@ pub struct Touched {
 }
 
 impl Tree {
-    /// What an edit may have touched since the last commit, where it moved points of the network. It costs
-    /// what was entered, withdrawn and moved. Without memory it answers that.
+    /// What an edit may have touched since the last commit, where it moved points of the network.
+    /// It costs what was entered, withdrawn and moved. Without memory it answers that.
     pub fn touched(&self, alloc: Global, net: &DistNet) -> Result<Touched, NoMemory>
         requires list { HasList net.now.present (forest (present self.now)) }
         ensures nodes { IfOk result (λ found. (x : ℕ) (m : Member) → member (forest (present self.now)) x ≡ Some m → IsAtMoved net.now.moved m → Contains found.nodes.items x) }
@@ -100,7 +100,8 @@ impl Tree {
         self.find(&root)
     }
 
-    // The classes of which a token entered or left since the last commit, and those of these nodes, each once.
+    // The classes of which a token entered or left since the last commit, and those of these nodes,
+    // each once.
     fn touched_classes(&self, alloc: Global, nodes: &[u32]) -> Result<Vec<Name>, NoMemory>
         requires { All (IsLive (forest (present self.now))) nodes.now }
         ensures others { IfOk result (λ classes. (class : List ℕ) → (Contains classes.items class → ⊥) → (present self.now).tokens class ≡ (committed self.now).tokens class) }

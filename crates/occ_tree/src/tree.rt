@@ -61,10 +61,10 @@ impl Tree {
         }
     }
 
-    /// Adds a declared event, token or span behind all other roots, and answers its number: `begin` and
-    /// `end` are the numbers of its points, `what` is its kind or fact, `class` the class of a fact, and
-    /// `early` its earliest date in whole time units. Without memory nothing has changed; it counts as
-    /// want of memory that a number would be 2^32 - 1 or more.
+    /// Adds a declared event, token or span behind all other roots, and answers its number: `begin`
+    /// and `end` are the numbers of its points, `what` is its kind or fact, `class` the class of a
+    /// fact, and `early` its earliest date in whole time units. Without memory nothing has changed;
+    /// it counts as want of memory that a number would be 2^32 - 1 or more.
     pub fn insert_root(
         &mut self,
         alloc: Global,
@@ -94,10 +94,10 @@ impl Tree {
         Ok(x)
     }
 
-    /// Adds what a rule leads to from an event behind all else that rules lead to from it, and answers its
-    /// number. The delays are in whole time units; its earliest date is that of the event and the least
-    /// delay. Without memory nothing has changed; it counts as want of memory that a number would be
-    /// 2^32 - 1 or more.
+    /// Adds what a rule leads to from an event behind all else that rules lead to from it, and
+    /// answers its number. The delays are in whole time units; its earliest date is that of the
+    /// event and the least delay. Without memory nothing has changed; it counts as want of memory
+    /// that a number would be 2^32 - 1 or more.
     pub fn insert_child(
         &mut self,
         alloc: Global,
@@ -126,8 +126,8 @@ impl Tree {
         Ok(x)
     }
 
-    /// Takes a node out with all below it. Their numbers are free again after the next commit. Without
-    /// memory nothing has changed.
+    /// Takes a node out with all below it. Their numbers are free again after the next commit.
+    /// Without memory nothing has changed.
     pub fn withdraw(&mut self, alloc: Global, x: u32) -> Result<(), NoMemory>
         requires { IsLive (forest (present self.old)) x }
         ensures ok { OnOk result (Withdraws self.old self.new x) }
@@ -139,8 +139,9 @@ impl Tree {
         Ok(())
     }
 
-    /// Gives a root another earliest date, in whole time units. All below it keep their distances from it,
-    /// and the tokens of each class are in the order of nodes again. Without memory nothing has changed.
+    /// Gives a root another earliest date, in whole time units. All below it keep their distances
+    /// from it, and the tokens of each class are in the order of nodes again. Without memory
+    /// nothing has changed.
     pub fn re_date(&mut self, alloc: Global, root: u32, date: i64) -> Result<(), NoMemory>
         requires root { (m : Member) × (forest (present self.old) root ≡ Some m) × (m.links ≡ []) }
         requires date { IsWithin 1000000000000 date }
@@ -169,7 +170,8 @@ impl Tree {
         self.nodes.limit()
     }
 
-    /// The earliest date of a node, in whole time units: that of its root and the least delays on the way.
+    /// The earliest date of a node, in whole time units: that of its root and the least delays on
+    /// the way.
     pub fn early(&self, x: u32) -> i64
         requires { IsLive (forest (present self.now)) x }
         ensures date { result ≡ early (present self.now) x }
@@ -178,8 +180,8 @@ impl Tree {
         self.nodes.get(x).early
     }
 
-    /// The first root, none exactly where there is none. No rule leads to a root, and each node is one of the
-    /// roots or below it.
+    /// The first root, none exactly where there is none. No rule leads to a root, and each node is
+    /// one of the roots or below it.
     pub fn first_root(&self) -> Option<u32>
         ensures first { result ≡ first_or None (below (present self.now) None) }
         ensures roots { HaveRoots (present self.now) }
@@ -187,7 +189,8 @@ impl Tree {
         self.nodes.first(None)
     }
 
-    /// The first of what rules lead to from a node by one more, none exactly where there is nothing.
+    /// The first of what rules lead to from a node by one more, none exactly where there is
+    /// nothing.
     pub fn first_child(&self, x: u32) -> Option<u32>
         requires { IsLive (forest (present self.now)) x }
         ensures { result ≡ first_or None (below (present self.now) (Some x)) }
@@ -195,8 +198,8 @@ impl Tree {
         self.nodes.first(Some(x))
     }
 
-    /// The node directly behind one below the same event, or the root behind a root; none exactly for the
-    /// last.
+    /// The node directly behind one below the same event, or the root behind a root; none exactly
+    /// for the last.
     pub fn next_child(&self, x: u32) -> Option<u32>
         requires { IsLive (forest (present self.now)) x }
         ensures { (parent : Option ℕ) → IsChildOf (present self.now) parent x → result ≡ row_after x (below (present self.now) parent) }
@@ -204,8 +207,8 @@ impl Tree {
         self.nodes.next(x)
     }
 
-    /// The tokens of a class, in the order of their earliest dates, and of the bytes of their words where
-    /// these are one.
+    /// The tokens of a class, in the order of their earliest dates, and of the bytes of their words
+    /// where these are one.
     pub fn tokens(&self, class: &Name) -> &[TokenRow<Spot>]
         ensures list { result.now ≡ (present self.now).tokens class.now }
         ensures rows { AreTokens (forest (present self.now)) class.now result.now }
@@ -250,8 +253,8 @@ impl Tree {
         self.tokens.commit();
     }
 
-    /// Makes the tree, with the orders of what is below each node and of the tokens of each class, that of
-    /// the last commit again. It takes no memory.
+    /// Makes the tree, with the orders of what is below each node and of the tokens of each class,
+    /// that of the last commit again. It takes no memory.
     pub fn rollback(&mut self)
         ensures present { present self.new ≡ committed self.old }
         ensures committed { committed self.new ≡ committed self.old }
@@ -275,7 +278,8 @@ impl Tree {
         &self.classes
     }
 
-    // The numbers of the classes of which a token entered or left since the last commit. It takes memory.
+    // The numbers of the classes of which a token entered or left since the last commit. It takes
+    // memory.
     pub(crate) fn changed_lists(&self, alloc: Global) -> Result<Vec<u32>, NoMemory>
         ensures { IfOk result (λ numbers. (k : ℕ) → (Contains numbers.items k → ⊥) → tokens_now self.now.tokens k ≡ tokens_then self.now.tokens k) }
     {

@@ -73,25 +73,24 @@ module _ (es : List (Name × Word)) (ps : List Premise) (indexed : map entry_see
       sym (take-map entry_seen k es) ∙ ap (take k) (indexed ∙ parts) ∙ ap (λ m. take m (placed 0 (take n ps) ++ placed (0 + length (take n ps)) (drop n ps))) count
       ∙ take-append_seam (placed 0 (take n ps)) (placed (0 + length (take n ps)) (drop n ps))
 
-  -- the index with the names of one more premise
-  pub indexed_push : (p : Premise) (word : Word) → word.place ≡ length ps → sort_seen word.sort ≡ own_sort p
-      → map entry_seen ((es ++ (name_of p, word) ∷ []) ++ map (fact_entry (length ps)) (facts_of p)) ≡ placed 0 (ps ++ p ∷ [])
-  indexed_push p word place sort =
-      map-append entry_seen (es ++ (name_of p, word) ∷ []) (map (fact_entry (length ps)) (facts_of p))
-      ∙ (λ i. map-append entry_seen es ((name_of p, word) ∷ []) i ++ facts_seen (facts_of p) i)
-      ∙ append_assoc (map entry_seen es) ((name_of p, word_seen word) ∷ []) (map (at_place (length ps)) (map fact_declaration (facts_of p)))
-      ∙ (λ i. indexed i ++ (name_of p, (sort i, place i)) ∷ map (at_place (length ps)) (map fact_declaration (facts_of p)))
-      ∙ ap (λ ds. placed 0 ps ++ map (at_place (length ps)) ds) (sym (declarations_parted p))
-      ∙ sym (placed-append 0 ps (p ∷ []) ∙ here)
-    where
-      facts_seen : (fs : List (List ℕ)) → map entry_seen (map (fact_entry (length ps)) fs) ≡ map (at_place (length ps)) (map fact_declaration fs)
-      facts_seen [] = refl
-      facts_seen (f ∷ fs) = ap (λ l. (f, (a_fact, length ps)) ∷ l) (facts_seen fs)
+-- the declarations with those of one more premise
+pub placed-push : (i : ℕ) (ps : List Premise) (p : Premise) (place : ℕ) → place ≡ i + length ps → placed i (ps ++ p ∷ []) ≡ placed i ps ++ map (at_place place) (declarations_of p)
+placed-push i ps p place e =
+    placed-append i ps (p ∷ []) ∙ ap (λ k. placed i ps ++ (map (at_place k) (declarations_of p) ++ [])) (sym e) ∙ ap (λ l. placed i ps ++ l) (append-nil (map (at_place place) (declarations_of p)))
 
-      here : placed 0 ps ++ placed (0 + length ps) (p ∷ []) ≡ placed 0 ps ++ map (at_place (length ps)) (declarations_of p)
-      here =
-          let e : 0 + length ps ≡ length ps = omega arith in
-          ap (λ k. placed 0 ps ++ (map (at_place k) (declarations_of p) ++ [])) e ∙ ap (λ l. placed 0 ps ++ l) (append-nil (map (at_place (length ps)) (declarations_of p)))
+facts_seen : (place : ℕ) (fs : List (List ℕ)) → map entry_seen (map (fact_entry place) fs) ≡ map (at_place place) (map fact_declaration fs)
+facts_seen place [] = refl
+facts_seen place (f ∷ fs) = ap (λ l. (f, (a_fact, place)) ∷ l) (facts_seen place fs)
+
+-- the index with the names of one more premise
+pub entries_push : (es : List (Name × Word)) (p : Premise) (word : Word) → sort_seen word.sort ≡ own_sort p
+    → map entry_seen ((es ++ (name_of p, word) ∷ []) ++ map (fact_entry word.place) (facts_of p)) ≡ map entry_seen es ++ map (at_place word.place) (declarations_of p)
+entries_push es p word sort =
+    map-append entry_seen (es ++ (name_of p, word) ∷ []) (map (fact_entry word.place) (facts_of p))
+    ∙ (λ i. map-append entry_seen es ((name_of p, word) ∷ []) i ++ facts_seen word.place (facts_of p) i)
+    ∙ append_assoc (map entry_seen es) ((name_of p, word_seen word) ∷ []) (map (at_place word.place) (map fact_declaration (facts_of p)))
+    ∙ (λ i. map entry_seen es ++ (name_of p, (sort i, word.place)) ∷ map (at_place word.place) (map fact_declaration (facts_of p)))
+    ∙ ap (λ ds. map entry_seen es ++ map (at_place word.place) ds) (sym (declarations_parted p))
 
 -- no name is declared twice
 pub distinct_words : (t : Inside) (r : Rows) → rows_of t ≡ r → IsTable t → IsUnique same_name t.words → IsDistinct same_name (keys_of (placed 0 r.premises))
@@ -99,8 +98,8 @@ distinct_words t r view facts unique =
     subst (λ ks. IsDistinct same_name ks) (sym (keys_of-map_values word_seen t.words.entries) ∙ ap keys_of facts.indexed ∙ ap (λ r. keys_of (placed 0 r.premises)) view) unique
 
 -- the declared names of a premise are new one after the other
-pub own_name_new : (ps : List Premise) (p : Premise) → first_taken (words_known ps) (declared_by p) ≡ None → IsNewThen (words_known ps) (name_of p) (facts_of p)
-own_name_new ps p h = first_taken-none (words_known ps) (name_of p) (facts_of p) (sym (ap (first_taken (words_known ps)) (declared_by_parted p)) ∙ h)
+pub own_name_new : (known : List (List ℕ)) (p : Premise) → first_taken known (declared_by p) ≡ None → IsNewThen known (name_of p) (facts_of p)
+own_name_new known p h = first_taken-none known (name_of p) (facts_of p) (sym (ap (first_taken known) (declared_by_parted p)) ∙ h)
 
 -- the first of the premises are well named alone
 pub well_named_taken : (n : ℕ) (ps : List Premise) → IsWellNamed ps → IsWellNamed (take n ps)

@@ -1,26 +1,27 @@
 -- What holds of the fields of a `Standing`.
-use Rattle.std.specs.Prelude.{◌≡◌, ◌+◌, ◌≤◌, length, take, drop, vec_capacity}
+use Rattle.std.specs.Prelude.{◌+◌, ◌++◌, ◌≤◌, List, length, take}
+use Rattle.tmm_model.specs.declared.premise.Premise.{Premise}
 use Rattle.tmm_model.specs.Verdicts.{most_premises, words_known}
 use Rattle.list_theory.specs.WellNamed.{IsWellNamed}
 use Rattle.premise_list.specs.declared.standing.Standing.TheInside.{Inside}
 use Rattle.premise_list.specs.States.{States}
 
+-- the premises of the last commit: those that are shared, and the rest
+abbrev pub committed_premises : Inside → List Premise
+committed_premises s = take s.shared s.table.premises ++ s.rest.items
+
 -- the present list, and that of the last commit
 abbrev pub states_of : Inside → States
 states_of s = record {
   present = record { version = s.version; horizon = s.horizon; premises = s.table.premises };
-  committed = record { version = s.committed_version; horizon = s.committed_horizon; premises = s.committed.items };
+  committed = record { version = s.committed_version; horizon = s.committed_horizon; premises = committed_premises s };
 }
 
--- The lists agree as far as they are shared, and each has room to become the other.
+-- The present list has room to become the one of the last commit.
 pub record IsStanding (s : Inside) : Type 0 where
-  -- the first premises of both lists are the same
-  pub alike : take s.shared s.table.premises ≡ take s.shared s.committed.items
-  pub within_present : s.shared ≤ length s.table.premises
-  pub within_committed : s.shared ≤ length s.committed.items
-  -- each list has room for the other one
-  pub commit_room : length s.table.premises ≤ vec_capacity s.committed
-  pub places : length s.committed.items ≤ length s.table.premises + s.table.places
-  pub words : length (words_known (drop s.shared s.committed.items)) ≤ s.table.words
-  pub few : length s.committed.items ≤ most_premises
-  pub well_named : IsWellNamed s.committed.items
+  pub within : s.shared ≤ length s.table.premises
+  pub places : s.shared + length s.rest.items ≤ length s.table.premises + s.table.places
+  pub words : length (words_known s.rest.items) ≤ s.table.words
+  -- what the list of the last commit was when it was the present one
+  pub few : length (committed_premises s) ≤ most_premises
+  pub well_named : IsWellNamed (committed_premises s)

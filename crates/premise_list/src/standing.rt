@@ -23,11 +23,12 @@ pub struct Standing {
     table: Table,
     version: Version,
     horizon: u32,
-    committed: Vec<Premise>,
-    committed_version: Version,
-    committed_horizon: u32,
     // how many first premises of both lists are known to be the same
     shared: usize,
+    // what the list of the last commit has behind those
+    rest: Vec<Premise>,
+    committed_version: Version,
+    committed_horizon: u32,
 }
 
 impl Model for Standing {
@@ -52,10 +53,10 @@ impl Standing {
             table: Table::make(alloc),
             version: Version::One,
             horizon: FIRST_HORIZON,
-            committed: Vec::new(alloc),
+            shared: 0,
+            rest: Vec::new(alloc),
             committed_version: Version::One,
             committed_horizon: FIRST_HORIZON,
-            shared: 0,
         }
     }
 
@@ -124,11 +125,7 @@ impl Standing {
         ensures ok { OnOk result (self.new ≡ record self.old { present = list_with self.old.present premise.now }) }
         ensures err { OnErr result (self.new ≡ self.old) }
     {
-        let present = self.table.premises().len();
-        let committed = self.committed.as_slice();
-        let missing = (present + 1).saturating_sub(committed.len());
-        let owed = word_count(&committed[self.shared..]);
-        self.committed.reserve(missing)?;
+        let owed = word_count(self.rest.as_slice());
         self.table.reserve(1, 1 + facts_of(premise).len() + owed)?;
         self.table.push(copy_of(premise));
         Ok(())
@@ -144,12 +141,17 @@ impl Standing {
         ensures err { OnErr result (self.new ≡ self.old) }
     {
         let first = self.table.place_of(name);
-        let fall = fall_with(alloc, name, &self.table.premises()[first..])?;
-        let kept = fall.kept.as_slice();
+        let premises = self.table.premises();
+        let mut fall = fall_with(alloc, name, &premises[first..])?;
         let shared = self.shared.min(first);
-        let owed = word_count(&self.committed.as_slice()[shared..]);
-        self.table.reserve(0, word_count(kept) + owed)?;
-        self.table.replace_from(first, kept);
+        let owed = word_count(&premises[shared..self.shared]) + word_count(self.rest.as_slice());
+        self.table
+            .reserve(0, word_count(fall.kept.as_slice()) + owed)?;
+        self.rest.reserve(self.shared - shared)?;
+        let mut cut = self.table.cut(first)?;
+        cut.truncate(self.shared - shared);
+        put_before(&mut self.rest, cut);
+        self.table.append(&mut fall.kept);
         self.shared = shared;
         Ok(fall.names)
     }
@@ -218,9 +220,8 @@ impl Standing {
     pub fn commit(&mut self)
         ensures { self.new ≡ record self.old { committed = self.old.present } }
     {
-        self.committed.truncate(self.shared);
-        append_copies(&mut self.committed, &self.table.premises()[self.shared..]);
-        self.shared = self.committed.as_slice().len();
+        self.shared = self.table.premises().len();
+        self.rest.clear();
         self.committed_version = self.version;
         self.committed_horizon = self.horizon;
     }
@@ -229,22 +230,20 @@ impl Standing {
     pub fn rollback(&mut self)
         ensures { self.new ≡ record self.old { present = self.old.committed } }
     {
-        let committed = self.committed.as_slice();
-        self.table
-            .replace_from(self.shared, &committed[self.shared..]);
-        self.shared = committed.len();
+        self.table.truncate(self.shared);
+        self.table.append(&mut self.rest);
+        self.shared = self.table.premises().len();
         self.version = self.committed_version;
         self.horizon = self.committed_horizon;
     }
 }
 
-// Appends the premises to a list that has room for them.
-fn append_copies(list: &mut Vec<Premise>, premises: &[Premise])
-    requires { vec_len list.old + length premises.now ≤ vec_capacity list.old }
-    ensures items { list.new.items ≡ list.old.items ++ premises.now }
-    ensures capacity { vec_capacity list.new ≡ vec_capacity list.old }
+// Moves the premises to the front of a list that has room for them.
+fn put_before(list: &mut Vec<Premise>, mut first: Vec<Premise>)
+    requires { vec_len list.old + vec_len first ≤ vec_capacity list.old }
+    ensures { list.new.items ≡ first.items ++ list.old.items }
 {
-    for premise in premises {
-        list.push_reserved(copy_of(premise));
-    }
+    let behind = list.len();
+    let _room = list.append(&mut first);
+    list.rotate_left(behind);
 }

@@ -1,17 +1,18 @@
 // A list of premises with the index of its names.
-ghost use Rattle.std.specs.Prelude.{◌≡◌, ◌<◌, ◌≤◌, ◌+◌, ◌*◌, [], ◌∷◌, ◌++◌, false, None, OnOk, length, map, take, slice_get};
+ghost use Rattle.std.specs.Prelude.{◌≡◌, ◌<◌, ◌≤◌, ◌+◌, ◌*◌, List, [], ◌∷◌, ◌++◌, false, None, IfOk, OnOk, OnErr, length, map, take, drop, slice_get};
 ghost use Rattle.std.specs.List.{flat_map, list_any};
 ghost use Rattle.std.specs.Map.{lookup};
 ghost use Rattle.std.specs.Option.{option_map, option_copied};
+ghost use Rattle.tmm_model.specs.declared.premise.Premise.{Premise};
 ghost use Rattle.tmm_model.specs.Points.{same_name};
-ghost use Rattle.tmm_model.specs.Sorts.{sort_in, class_in, declared_by};
+ghost use Rattle.tmm_model.specs.Sorts.{sort_in, class_in, declared_by, declarations_of};
 ghost use Rattle.tmm_model.specs.Standing.{points_in, points_of, premise_in};
 ghost use Rattle.tmm_model.specs.Verdicts.{most_premises, first_taken, premise_cause, words_known};
 ghost use Rattle.list_theory.specs.WellNamed.{AllFollow, Follows, IsWellNamed};
 ghost use Rattle.indexmap.specs.IndexMap.{keys, spare};
 ghost use Rattle.premise_list.specs.Words.{sort_seen};
 ghost use Rattle.premise_list.specs.Found.{IsFoundAt};
-ghost use Rattle.premise_list.specs.Table.{placed, word_seen, fact_entry};
+ghost use Rattle.premise_list.specs.Table.{at_place, placed, word_seen, entry_seen, fact_entry};
 
 use crate::premise::{Sort, copy_of, facts_of, name_of, point_count, sort_of};
 use indexmap::IndexMap;
@@ -159,33 +160,31 @@ impl Table {
         ensures words { self.old.words ≤ self.new.words + length (declared_by premise) }
     {
         let place = self.premises().len();
-        let word = Word {
-            sort: sort_of(&premise),
-            place,
-        };
-        declare(&mut self.words, name_of(&premise), word);
-        declare_facts(&mut self.words, facts_of(&premise), place);
+        declare_names(&mut self.words, &premise, place);
         self.points += point_count(&premise);
         self.premises.push_reserved(premise);
     }
 
-    // Appends premises each of which follows those before it. It takes no memory.
-    fn append(&mut self, premises: &[Premise])
-        requires follow { AllFollow self.old.premises premises.now }
-        requires few { length self.old.premises + length premises.now ≤ most_premises }
-        requires places { length premises.now ≤ self.old.places }
-        requires words { length (words_known premises.now) ≤ self.old.words }
-        ensures premises { self.new.premises ≡ self.old.premises ++ premises.now }
-        ensures places { self.old.places ≡ self.new.places + length premises.now }
-        ensures words { self.old.words ≤ self.new.words + length (words_known premises.now) }
+    // Moves these premises, each of which follows those before it, to the end. It takes no memory.
+    pub(crate) fn append(&mut self, premises: &mut Vec<Premise>)
+        requires follow { AllFollow self.old.premises premises.old.items }
+        requires few { length self.old.premises + length premises.old.items ≤ most_premises }
+        requires places { length premises.old.items ≤ self.old.places }
+        requires words { length (words_known premises.old.items) ≤ self.old.words }
+        ensures premises { self.new.premises ≡ self.old.premises ++ premises.old.items }
+        ensures emptied { premises.new.items ≡ [] }
+        ensures places { self.old.places ≤ self.new.places + length premises.old.items }
+        ensures words { self.old.words ≤ self.new.words + length (words_known premises.old.items) }
     {
-        for premise in premises {
-            self.push(copy_of(premise));
-        }
+        let added = premises.as_slice();
+        let place = self.premises().len();
+        declare_all(&mut self.words, added, place);
+        self.points += points_count(added);
+        let _room = self.premises.append(premises);
     }
 
     // Takes off all but the first `n` premises. It takes no memory.
-    fn truncate(&mut self, n: usize)
+    pub(crate) fn truncate(&mut self, n: usize)
         requires { n ≤ length self.old.premises }
         ensures premises { self.new.premises ≡ take n self.old.premises }
         ensures places { self.old.places + length self.old.premises ≡ self.new.places + n }
@@ -200,19 +199,21 @@ impl Table {
         self.premises.truncate(n);
     }
 
-    // Puts these premises, which follow the first `n`, in the place of those after them. It takes no memory.
-    pub(crate) fn replace_from(&mut self, n: usize, premises: &[Premise])
-        requires within { n ≤ length self.old.premises }
-        requires follow { AllFollow (take n self.old.premises) premises.now }
-        requires few { n + length premises.now ≤ most_premises }
-        requires places { n + length premises.now ≤ length self.old.premises + self.old.places }
-        requires words { length (words_known premises.now) ≤ self.old.words }
-        ensures premises { self.new.premises ≡ take n self.old.premises ++ premises.now }
-        ensures places { self.old.places + length self.old.premises ≡ self.new.places + length self.new.premises }
-        ensures words { self.old.words ≤ self.new.words + length (words_known premises.now) }
+    // Takes off all but the first `n` premises, and answers those that it takes off. Without memory
+    // nothing has changed.
+    pub(crate) fn cut(&mut self, n: usize) -> Result<Vec<Premise>, NoMemory>
+        requires { n ≤ length self.old.premises }
+        ensures cut { IfOk result (λ cut. cut.items ≡ drop n self.old.premises) }
+        ensures premises { OnOk result (self.new.premises ≡ take n self.old.premises) }
+        ensures places { OnOk result (self.old.places + length self.old.premises ≡ self.new.places + n) }
+        ensures words { self.old.words ≤ self.new.words }
+        ensures err { OnErr result (self.new ≡ self.old) }
     {
-        self.truncate(n);
-        self.append(premises);
+        let cut = self.premises.split_off(n)?;
+        let kept_words = self.words.len() - word_count(cut.as_slice());
+        self.words.truncate(kept_words);
+        self.points -= points_count(cut.as_slice());
+        Ok(cut)
     }
 }
 
@@ -224,6 +225,34 @@ fn declare(words: &mut IndexMap<Name, Word>, name: Name, word: Word)
     ensures room { spare words.old ≤ spare words.new + 1 }
 {
     let _new = words.insert(name, word);
+}
+
+// Adds the names of premises that follow those whose names are there. The first of them has this place.
+fn declare_all(words: &mut IndexMap<Name, Word>, premises: &[Premise], place: usize)
+    requires few { place + length premises.now ≤ most_premises }
+    requires room { length (words_known premises.now) ≤ spare words.old }
+    requires follow { (before : List Premise) × (map entry_seen words.old.entries ≡ placed 0 before) × (length before ≡ place) × AllFollow before premises.now }
+    ensures entries { map entry_seen words.new.entries ≡ map entry_seen words.old.entries ++ placed place premises.now }
+    ensures room { spare words.old ≤ spare words.new + length (words_known premises.now) }
+{
+    for (i, premise) in premises.iter().enumerate() {
+        declare_names(words, premise, place + i);
+    }
+}
+
+// Adds the names of the premise at this place, which are new.
+fn declare_names(words: &mut IndexMap<Name, Word>, premise: &Premise, place: usize)
+    requires room { length (declared_by premise.now) ≤ spare words.old }
+    requires new { first_taken (keys words.old) (declared_by premise.now) ≡ None }
+    ensures entries { map entry_seen words.new.entries ≡ map entry_seen words.old.entries ++ map (at_place place) (declarations_of premise.now) }
+    ensures room { spare words.old ≤ spare words.new + length (declared_by premise.now) }
+{
+    let word = Word {
+        sort: sort_of(premise),
+        place,
+    };
+    declare(words, name_of(premise), word);
+    declare_facts(words, facts_of(premise), place);
 }
 
 // Adds the facts of a class, which are new.

@@ -71,7 +71,8 @@ module _ (s : Standing) (net : Net) (f new : Forest) (x : ℕ) (k : Moment) (add
     pub size_is : n + weight_at s new x ≡ sum_by (weight (built s)) (b ++ k ∷ [])
     size_is = (λ i. grown.sized i + weight_is i) ∙ sym (sum_by_push (weight (built s)) b k)
 
-    -- where all that has entered is believed, a size that is too large is that of a map that is too large
+    -- where all that has entered is believed, a size that is too large is that of a map that is too
+    -- large
     pub too_large : ((y : Moment) → In y (b ++ k ∷ []) → In y (built s).believed) → most_size < n + weight_at s new x → most_size < size (built s)
     too_large inside large = omega (arith, large, size_is, inside_size s grown.seen.network.sound (b ++ k ∷ []) (distinct_push b k grown.distinct apart) inside)
 

@@ -1,11 +1,13 @@
 -- The standing rules by the kind that triggers them.
-use Rattle.std.specs.Prelude.{◌≡◌, ◌≤◌, ℕ, List, [], ◌∷◌, ◌++◌, map, length}
+use Rattle.std.specs.Prelude.{◌≡◌, ◌≤◌, ℕ, List, [], ◌∷◌, ◌++◌, map, length, IfSome}
 use Rattle.std.specs.List.{All, filter_map}
+use Rattle.std.specs.Option.{option_map_or}
 use Rattle.tmm_model.specs.declared.premise.Premise.{Premise}
 use Rattle.tmm_model.specs.Beliefs.{on_kind, rules_on}
 use Rattle.tmm_model.specs.Standing.{Standing}
 use Rattle.name_lists.specs.Lists.{list_of}
 use Rattle.projection.specs.declared.kinds.RulesByKind.{RulesByKind}
+use Rattle.projection.specs.declared.known.KnownKinds.{KnownKinds}
 use Rattle.projection.specs.declared.weight.KindCount.{KindCount}
 use Rattle.projection.specs.Places.{name_at, IsRuleAt}
 
@@ -22,3 +24,17 @@ pub record AreRules (s : Standing) (m : RulesByKind) : Type 0 where
 pub record IsCountIn (s : Standing) (c : KindCount) : Type 0 where
   pub count : c.count ≡ length (rules_on s c.kind)
   pub few : c.count ≤ 2000
+
+-- these are the places of the rules on the kind
+pub record AreRulesOn (s : Standing) (kind : List ℕ) (places : List ℕ) : Type 0 where
+  pub named : map (name_at s) places ≡ rules_on s kind
+  pub rules : All (IsRuleAt s) places
+
+-- what is known of kinds is so
+pub record AreKnown (s : Standing) (k : KnownKinds) : Type 0 where
+  pub last : IfSome k.last (IsCountIn s)
+  pub rules : IfSome k.rules (AreRules s)
+
+-- the places of the rules on the kind, none where they are not known
+abbrev pub places_in : KnownKinds → List ℕ → List ℕ
+places_in k kind = option_map_or (λ m. list_of m.rules kind) k.rules []

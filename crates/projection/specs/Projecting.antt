@@ -46,7 +46,8 @@ pub record IsGrown (s : Standing) (net : Net) (b : List Moment) (f : Forest) (qu
   pub once : (x : ℕ) (r : List ℕ) → sum_by (is_for s x r) queue ≤ 1
   pub undecided : (p : Pending) → In p queue → In (After (moment_at f p.trigger) (rule_at s p)) b → ⊥
 
--- what these premises declare has entered, and all rules on it that are due by the horizon wait, each once
+-- what these premises declare has entered, and all rules on it that are due by the horizon wait,
+-- each once
 pub record IsStarted (s : Standing) (net : Net) (front : List Premise) (f : Forest) (queue : List Pending) (size : ℕ) : Type 0 where
   pub grown : IsGrown s net (filter_map root_of front) f queue size
   pub queued : (t : Moment) (r : List ℕ) → In t (filter_map root_of front) → Contains (rules_at s t) r → due s (far_in s.premises) t r ≤ℤ pos s.horizon → Pends s f queue t r

@@ -31,7 +31,8 @@ pub record IsDue (s : Standing) (f : Forest) (x : ℕ) (names : List (List ℕ))
   pub date : due s (far_in s.premises) (moment_at f x) (rule_at s p) ≡ pos p.due.0
   pub in_time : p.due.0 ≤ s.horizon
 
--- beside the entries that waited, each of the rules at the node that is due by the horizon waits, once
+-- beside the entries that waited, each of the rules at the node that is due by the horizon waits,
+-- once
 pub record Queues (s : Standing) (f : Forest) (x : ℕ) (names : List (List ℕ)) (old new : List Pending) : Type 0 where
   pub kept : (p : Pending) → In p old → In p new
   pub own : (p : Pending) → In p new → In p old ⊎ IsDue s f x names p

@@ -111,8 +111,8 @@ pub fn decide(
     )
 }
 
-// The first supporters of the antecedents at the event, or the first of these without one, or else the
-// first exception with one.
+// The first supporters of the antecedents at the event, or the first of these without one, or else
+// the first exception with one.
 fn try_facts(
     tree: &Tree,
     net: &DistNet,
@@ -144,8 +144,9 @@ fn try_facts(
     }
 }
 
-// Whether the rule at this place of the list fires on the event at the node `trigger`, where its effect is
-// due: each of its antecedents has a supporter there, whichever that is, and no exception has one.
+// Whether the rule at this place of the list fires on the event at the node `trigger`, where its
+// effect is due: each of its antecedents has a supporter there, whichever that is, and no exception
+// has one.
 pub(crate) fn is_free(
     alloc: Global,
     tree: &Tree,

@@ -51,7 +51,8 @@ fn effect_shape(class: &Option<Name>) -> Shape
     }
 }
 
-// Adds what the rule at this place of the list brings about at the event of a node, and answers its number.
+// Adds what the rule at this place of the list brings about at the event of a node, and answers its
+// number.
 fn add_effect(
     alloc: Global,
     standing: &Standing,
@@ -242,7 +243,8 @@ fn bring_about(
 }
 
 /// The tree of the believed occurrences, and the size of the map. Where that would be more than
-/// 100,000 it is refused. As many decisions are counted, on from those before, as are due by the horizon.
+/// 100,000 it is refused. As many decisions are counted, on from those before, as are due by the
+/// horizon.
 pub fn rebuild(
     alloc: Global,
     standing: &Standing,

@@ -6,6 +6,7 @@ ghost use Rattle.spots.specs.Forest.{IsLive, moment_at};
 ghost use Rattle.spots.specs.Seen.{IsSeen};
 ghost use Rattle.occ_tree.specs.Places.{forest};
 ghost use Rattle.dist_net.specs.Net.{Net};
+ghost use Rattle.name_lists.specs.Lists.{list_of};
 ghost use Rattle.projection.specs.Kinds.{AreRules, AddsPremise};
 ghost use Rattle.projection.specs.Places.{name_at, IsRuleAt};
 
@@ -13,7 +14,7 @@ use name_lists::NameLists;
 use occ_tree::Tree;
 use premise_list::Standing;
 use std::alloc::Global;
-use tmm_model::{NoMemory, Premise, Shape};
+use tmm_model::{Name, NoMemory, Premise, Shape};
 
 /// The places of the rules on each kind in the standing list, in its order.
 #[derive(Drop)]
@@ -45,6 +46,13 @@ impl RulesByKind {
             Premise::Rule { trigger, .. } => self.rules.push(alloc, *trigger, place),
             _ => Ok(()),
         }
+    }
+
+    /// The places of the rules on a kind.
+    pub fn on(&self, kind: &Name) -> &[u32]
+        ensures { result.now ≡ list_of self.now.rules kind.now }
+    {
+        self.rules.of(kind)
     }
 
     /// The places of the rules on the kind of the event at a node, none where it is no event.

@@ -22,7 +22,8 @@ pub struct KindCount {
     pub count: u64,
 }
 
-/// What the occurrence at a node counts of the size of a map: itself, its rules, and the rules on it.
+/// What the occurrence at a node counts of the size of a map: itself, its rules, and the rules on
+/// it.
 pub fn weight_of(standing: &Standing, tree: &Tree, x: u32) -> u64
     requires seen { (net : Net) × IsSeen standing.now.present net (forest tree.now) }
     requires live { IsLive (forest tree.now) x }
@@ -33,8 +34,8 @@ pub fn weight_of(standing: &Standing, tree: &Tree, x: u32) -> u64
     weight_after(standing, tree, x, &mut last)
 }
 
-/// The same for one node after the other, where what was counted last is kept: of events of one kind only the
-/// first takes a walk over the premises.
+/// The same for one node after the other, where what was counted last is kept: of events of one
+/// kind only the first takes a walk over the premises.
 pub fn weight_after(standing: &Standing, tree: &Tree, x: u32, last: &mut Option<KindCount>) -> u64
     requires seen { (net : Net) × IsSeen standing.now.present net (forest tree.now) }
     requires live { IsLive (forest tree.now) x }
@@ -57,13 +58,13 @@ fn count_at(standing: &Standing, tree: &Tree, x: u32, last: &mut Option<KindCoun
 {
     let row = tree.row(x);
     match row.shape {
-        Shape::Event => count_kind(standing, row.what, last),
+        Shape::Event => rules_on_kind(standing, row.what, last),
         _ => 0,
     }
 }
 
 // How many standing rules are on a kind. It is kept as what was counted last.
-fn count_kind(standing: &Standing, kind: Name, last: &mut Option<KindCount>) -> u64
+pub(crate) fn rules_on_kind(standing: &Standing, kind: Name, last: &mut Option<KindCount>) -> u64
     requires { IfSome last.old (IsCountIn standing.now.present) }
     ensures value { result ≡ length (rules_on standing.now.present kind) }
     ensures few { result ≤ 2000 }

@@ -1,4 +1,5 @@
--- What is found of a fact rests on the tokens of its class alone, and on how far they are apart and from the points.
+-- What is found of a fact rests on the tokens of its class alone, and on how far they are apart and
+-- from the points.
 use Rattle.std.proofs.Common.{◌≡◌, ◌∙◌, ℕ, Bool, true, false, not, ◌&&◌, List, [], ◌∷◌, map, take, length, ◌-◌, refl, sym, ap, subst, inl, pos}
 use Rattle.std.specs.Prelude.{Option, Some, None, negsuc, filter}
 use Rattle.std.specs.List.{list_any}

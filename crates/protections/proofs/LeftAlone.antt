@@ -8,7 +8,8 @@ use Rattle.std.specs.Cmp.Lexicographic.{bytes_decides}
 use Rattle.tmm_model.specs.declared.point.PointName.{PointName}
 use Rattle.tmm_model.specs.declared.point.PointName.TheVariants.{Start, Begin, End}
 use Rattle.tmm_model.specs.declared.premise.Edit.{Edit}
-use Rattle.tmm_model.specs.declared.premise.Premise.TheVariants.{Protect}
+use Rattle.tmm_model.specs.declared.premise.Premise.{Premise}
+use Rattle.tmm_model.specs.declared.premise.Premise.TheVariants.{Class, Kind, Point, Event, Token, Span, Dist, Rule, Protect}
 use Rattle.tmm_model.specs.declared.token.Shape.TheVariants.{Span as ASpan}
 use Rattle.tmm_model.specs.declared.token.TokenRow.{TokenRow}
 use Rattle.tmm_model.specs.Answers.{Finding, does_hold, ask, broken}
@@ -20,7 +21,7 @@ use Rattle.tmm_model.specs.Moments.{Moment, At, base}
 use Rattle.tmm_model.specs.Sorts.{class_in}
 use Rattle.tmm_model.specs.Standing.{Standing, points_in}
 use Rattle.list_theory.specs.WellNamed.{IsWellNamed}
-use Rattle.list_theory.proofs.Elements.{In, Contains-from_In, In-map, map-In}
+use Rattle.list_theory.proofs.Elements.{In, In-from_Contains, Contains-from_In, In-map, map-In}
 use Rattle.belief_theory.specs.Right.{Occurs}
 use Rattle.belief_theory.proofs.NextLists.{one_way}
 use Rattle.dist_net.specs.Net.{Nets, IsMovedAt}
@@ -36,9 +37,10 @@ use Rattle.spots.specs.Spots.{spot_moment, spot_distance, base_of, links_of, lin
 use Rattle.spots.proofs.Distances.{distance-two_bases}
 use Rattle.spots.proofs.Nodes.{live_at, moment_at-is, base-moment, point_is}
 use Rattle.spots.proofs.Seen.{IsRowOf, member_of_token, distance_is, start_is, token_is, tokens_are}
-use Rattle.occ_tree.specs.Standing.{forest, present}
+use Rattle.premise_list.specs.States.{States}
+use Rattle.occ_tree.specs.Standing.{Kept, forest, present}
 use Rattle.occ_tree.specs.Touched.{IsAtMoved}
-use Rattle.supports.specs.Edited.{old_forest}
+use Rattle.supports.specs.Edited.{IsEdited, AreOthersUntouched, old_forest}
 use Rattle.revisions.proofs.Names.{classes_within}
 use Rattle.revisions.proofs.Tokens.{tokens_stay}
 use Rattle.joined.proofs.Gaps.{WasThere, start_was, node_was, distance_was, one_base}
@@ -332,3 +334,30 @@ left_alone_stay lists nets edit tree is apart name fact from to alone =
     (subst (λ c. SameForPoints (built old) (built (next_list old edit)) c (At from) (At to)) (sym class_was) same) in
     subst (λ s. broken (built s) (Protect name fact from to) ≡ broken (built old) (Protect name fact from to)) (sym is.list)
     (ap (λ (found : Finding). elim (does_hold found) as (λ _. Option (List ℕ × Finding)) [ true ↦ None | false ↦ Some (name, found) ]) (sym stays))
+
+-- a point does not move where nothing does
+still_point : (nets : Nets) → nets.moved ≡ [] → (p : PointName) → IsThere nets.present.names p → IsStill nets p
+still_point nets none p (k, numbered) = record { number = k; is = numbered; unmoved = λ at. In-from_Contains [] k (subst (λ l. Contains l k) none at) }
+
+-- **Where no point moves and no class is touched, the same is found of all that stood before.**
+pub all_left_alone : (lists : States) (nets : Nets) (edit : Edit) (tree : Kept) → IsEdited lists nets edit tree → IsMovedAt nets.moved nets.committed nets.present → nets.moved ≡ []
+    → AreOthersUntouched nets tree [] → ((class : List ℕ) → AreTokens (forest (present tree)) class ((present tree).tokens class))
+    → (p : Premise) → Contains lists.committed.premises p → Contains lists.present.premises p → broken (built lists.present) p ≡ broken (built lists.committed) p
+all_left_alone lists nets edit tree is apart none others tokens (Protect name fact from to) stood stands =
+    let known = grounded lists.present nets.present is.seen_now.network name fact from to stands in
+    let (class, of_class) = some_class (class_in lists.present.premises fact) known.known in
+    left_alone_stay lists nets edit tree is apart name fact from to
+    (record {
+      stood = stood;
+      first = still_point nets none from known.first;
+      last = still_point nets none to known.last;
+      of_fact = record { class = class; of_class = of_class; untouched = others class (λ at. In-from_Contains [] class at); tokens = tokens class };
+    })
+all_left_alone lists nets edit tree is apart none others tokens (Class name facts) stood stands = refl
+all_left_alone lists nets edit tree is apart none others tokens (Kind name) stood stands = refl
+all_left_alone lists nets edit tree is apart none others tokens (Point name) stood stands = refl
+all_left_alone lists nets edit tree is apart none others tokens (Event name kind) stood stands = refl
+all_left_alone lists nets edit tree is apart none others tokens (Token name fact) stood stands = refl
+all_left_alone lists nets edit tree is apart none others tokens (Span name fact) stood stands = refl
+all_left_alone lists nets edit tree is apart none others tokens (Dist name from to lo hi) stood stands = refl
+all_left_alone lists nets edit tree is apart none others tokens (Rule name trigger lo hi effect given unless_facts) stood stands = refl

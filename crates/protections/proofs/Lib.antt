@@ -2,6 +2,8 @@ pub mod Turns
 pub mod Protected
 pub mod Asks
 pub mod LeftAlone
-pub mod OldReports
+pub mod ReportNames
 pub mod Stood
 pub mod Unbroken
+pub mod Reviews
+pub mod AfterReview

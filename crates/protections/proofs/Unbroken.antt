@@ -1,21 +1,16 @@
--- Reports that an edit leaves as they are.
-use Rattle.std.proofs.Common.{◌≡◌, ◌∙◌, List, [], ◌∷◌, ◌++◌, append-nil, refl, ap}
-use Rattle.std.specs.Prelude.{Option, None}
-use Rattle.std.specs.List.{filter_map, cons_option}
-use Rattle.std.proofs.lemmas.List.Elements.{filter_map-append}
-use Rattle.tmm_model.specs.declared.premise.Edit.{Edit}
-use Rattle.tmm_model.specs.declared.premise.Edit.TheVariants.{Add, Erase, Horizon, Upgrade}
+-- Premises that are no protections.
+use Rattle.std.proofs.Common.{◌≡◌, ℕ, List, refl}
+use Rattle.std.specs.Prelude.{Some, None}
+use Rattle.tmm_model.specs.declared.point.PointName.{PointName}
 use Rattle.tmm_model.specs.declared.premise.Premise.{Premise}
 use Rattle.tmm_model.specs.declared.premise.Premise.TheVariants.{Class, Kind, Point, Event, Token, Span, Dist, Rule, Protect}
-use Rattle.tmm_model.specs.Answers.{broken, reports}
+use Rattle.tmm_model.specs.Answers.{broken}
 use Rattle.tmm_model.specs.Changes.{protection_name}
-use Rattle.tmm_model.specs.Edits.{next_list}
-use Rattle.tmm_model.specs.Maps.{TimeMap, built}
-use Rattle.tmm_model.specs.Standing.{Standing}
-use Rattle.protections.specs.Kept.{AddsOther}
+use Rattle.tmm_model.specs.Maps.{TimeMap}
+use Rattle.tmm_model.specs.Standing.{name_of}
 
 -- what is no protection is never reported
-unbroken : (m : TimeMap) (p : Premise) → protection_name p ≡ None → broken m p ≡ None
+pub unbroken : (m : TimeMap) (p : Premise) → protection_name p ≡ None → broken m p ≡ None
 unbroken m (Class name facts) none = refl
 unbroken m (Kind name) none = refl
 unbroken m (Point name) none = refl
@@ -26,15 +21,25 @@ unbroken m (Dist name from to lo hi) none = refl
 unbroken m (Rule name trigger lo hi effect given unless_facts) none = refl
 unbroken m (Protect name fact from to) none = cc
 
--- **Where the edit adds what is no protection, and each premise is reported as before, all reports are those of before.**
-pub same_reports : (old new : Standing) (edit : Edit) → new ≡ next_list old edit → AddsOther edit
-    → filter_map (broken (built new)) new.premises ≡ filter_map (broken (built old)) new.premises → reports (built new) ≡ reports (built old)
-same_reports old new (Add p) is other each =
-    each
-    ∙ ap (λ (s : Standing). filter_map (broken (built old)) s.premises) is
-    ∙ filter_map-append (broken (built old)) old.premises (p ∷ [])
-    ∙ ap (λ o. filter_map (broken (built old)) old.premises ++ cons_option o []) (unbroken (built old) p other)
-    ∙ append-nil (filter_map (broken (built old)) old.premises)
-same_reports old new (Erase name) is other each = absurd other
-same_reports old new (Horizon n) is other each = absurd other
-same_reports old new Upgrade is other each = absurd other
+-- the name of a protection is that of the premise
+pub name_is : (p : Premise) (name : List ℕ) → protection_name p ≡ Some name → name_of p ≡ name
+name_is (Protect own fact from to) name is = cc
+name_is (Class own facts) name is = cc
+name_is (Kind own) name is = cc
+name_is (Point own) name is = cc
+name_is (Event own kind) name is = cc
+name_is (Token own fact) name is = cc
+name_is (Span own fact) name is = cc
+name_is (Dist own from to lo hi) name is = cc
+name_is (Rule own trigger lo hi effect given unless_facts) name is = cc
+
+pub no_protection : (p : Premise) → ((name fact : List ℕ) (from to : PointName) → p ≡ Protect name fact from to → ⊥) → protection_name p ≡ None
+no_protection (Protect name fact from to) never = absurd (never name fact from to refl)
+no_protection (Class name facts) never = refl
+no_protection (Kind name) never = refl
+no_protection (Point name) never = refl
+no_protection (Event name kind) never = refl
+no_protection (Token name fact) never = refl
+no_protection (Span name fact) never = refl
+no_protection (Dist name from to lo hi) never = refl
+no_protection (Rule name trigger lo hi effect given unless_facts) never = refl

@@ -10,8 +10,8 @@ use Rattle.list_theory.specs.WellNamed.{IsSound}
 use Rattle.list_theory.proofs.Elements.{In}
 use Rattle.revisions.specs.Clips.{SameClass}
 
--- Both maps believe the same tokens of the class, as far apart and as far from `start`, and the points p and q are as far
--- from each other and from the begins and ends of these tokens.
+-- Both maps believe the same tokens of the class, as far apart and as far from `start`, and the
+-- points p and q are as far from each other and from the begins and ends of these tokens.
 pub record SameForPoints (m n : TimeMap) (class : List ℕ) (p q : Moment) : Type 0 where
   pub tokens : SameClass m n class
   pub points : gap m q p ≡ gap n q p
@@ -19,7 +19,8 @@ pub record SameForPoints (m n : TimeMap) (class : List ℕ) (p q : Moment) : Typ
   pub last : (k : TokenRow Moment) → k.class ≡ class → In k (believed_tokens m) → gap m q k.spot ≡ gap n q k.spot
   pub ends : (k : TokenRow Moment) (e : Moment) → k.class ≡ class → In k (believed_tokens m) → k.end ≡ Some e → gap m e q ≡ gap n e q
 
--- **What is found of a fact of such a class throughout such points stays**: the first supporter, or why there is none.
+-- **What is found of a fact of such a class throughout such points stays**: the first supporter, or
+-- why there is none.
 abbrev pub AsksStay : Type 0
 AsksStay =
     (s t : Standing) → IsSound s → IsSound t → (fact : List ℕ) (p q : Moment) → class_of s fact ≡ class_of t fact

@@ -1,12 +1,10 @@
 -- Which protections an edit leaves alone.
-use Rattle.std.specs.Prelude.{◌≡◌, ℕ, List, Some, None}
+use Rattle.std.specs.Prelude.{◌≡◌, ℕ, List, Some}
 use Rattle.std.specs.List.{Contains}
 use Rattle.tmm_model.specs.declared.point.PointName.{PointName}
 use Rattle.tmm_model.specs.declared.premise.Edit.{Edit}
-use Rattle.tmm_model.specs.declared.premise.Edit.TheVariants.{Add}
 use Rattle.tmm_model.specs.declared.premise.Premise.TheVariants.{Protect}
 use Rattle.tmm_model.specs.Answers.{broken}
-use Rattle.tmm_model.specs.Changes.{protection_name}
 use Rattle.tmm_model.specs.Maps.{built}
 use Rattle.tmm_model.specs.Sorts.{class_in}
 use Rattle.premise_list.specs.States.{States}
@@ -30,7 +28,8 @@ pub record IsOfUntouched (lists : States) (nets : Nets) (tree : Kept) (fact : Li
   pub untouched : IsUntouched nets tree class
   pub tokens : AreTokens (forest (present tree)) class ((present tree).tokens class)
 
--- The edit left the protection alone: it stood before, neither of its points moved, and the class of its fact is untouched.
+-- The edit left the protection alone: it stood before, neither of its points moved, and the class
+-- of its fact is untouched.
 pub record IsLeftAlone (lists : States) (nets : Nets) (tree : Kept) (name fact : List ℕ) (from to : PointName) : Type 0 where
   pub stood : Contains lists.committed.premises (Protect name fact from to)
   pub first : IsStill nets from
@@ -43,8 +42,3 @@ LeftAloneStay =
     (lists : States) (nets : Nets) (edit : Edit) (tree : Kept) → IsEdited lists nets edit tree → IsMovedAt nets.moved nets.committed nets.present
     → (name fact : List ℕ) (from to : PointName) → IsLeftAlone lists nets tree name fact from to
     → broken (built lists.present) (Protect name fact from to) ≡ broken (built lists.committed) (Protect name fact from to)
-
--- the edit adds a premise that is no protection
-abbrev pub AddsOther : Edit → Type 0
-AddsOther (Add premise) = protection_name premise ≡ None
-AddsOther _ = ⊥

@@ -1,10 +1,8 @@
 -- Which of the reported protections are newly broken, and which are mended.
-use Rattle.std.specs.Prelude.{◌≡◌, ℕ, ◌<◌, Bool, true, false, not, ◌&&◌, List, map, take, filter, find, slice_get, slice_index_or, Option, Some, None}
+use Rattle.std.specs.Prelude.{ℕ, Bool, true, false, not, ◌&&◌, List, filter, find, Option, Some, None}
 use Rattle.std.specs.List.{list_any, filter_map}
-use Rattle.std.specs.Option.{option_map}
-use Rattle.tmm_model.specs.declared.answer.Report.{Report}
 use Rattle.tmm_model.specs.declared.premise.Premise.{Premise}
-use Rattle.tmm_model.specs.Answers.{Finding, report_of}
+use Rattle.tmm_model.specs.Answers.{Finding}
 use Rattle.tmm_model.specs.Changes.{protection_name}
 use Rattle.tmm_model.specs.Points.{same_name}
 
@@ -19,11 +17,6 @@ is_reported reports name = list_any (λ r. same_name r.0 name) reports
 -- what is reported under this name
 abbrev pub report_in : Reports → List ℕ → Option (List ℕ × Finding)
 report_in reports name = find (λ r. same_name name r.0) reports
-
--- Of the first reports, so many: under the name of each stand the places of those of this name, the first one first.
-pub record ArePlaces (reports : List Report) (count : ℕ) (places : List ℕ → List ℕ) : Type 0 where
-  pub found : (name : List ℕ) (d : Report) → option_map (λ k. report_of (slice_index_or reports k d)) (slice_get (places name) 0) ≡ report_in (map report_of (take count reports)) name
-  pub within : (name : List ℕ) (k : ℕ) → slice_get (places name) 0 ≡ Some k → k < count
 
 module _ (before : Reports) where
   -- the report, none where it was broken before

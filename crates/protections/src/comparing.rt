@@ -14,8 +14,8 @@ use premise_list::Standing;
 use std::alloc::Global;
 use tmm_model::{Name, NoMemory, Premise, Report, Seq};
 
-/// The protections that are newly broken, in the order of their reports, and the names of those that
-/// stand and are broken no longer, in the order of premises.
+/// The protections that are newly broken, in the order of their reports, and the names of those
+/// that stand and are broken no longer, in the order of premises.
 pub fn delta(
     alloc: Global,
     before: &[Report],

@@ -23,3 +23,23 @@ pub(crate) fn push_some<T: Drop>(list: &mut Seq<T>, item: Option<T>) -> Result<(
         None => Ok(()),
     }
 }
+
+// Appends an element.
+pub(crate) fn push_to<T: Drop>(list: &mut Vec<T>, element: T) -> Result<(), NoMemory>
+    ensures { OnOk result (list.new.items ≡ list.old.items ++ element ∷ []) }
+{
+    match list.push(element) {
+        Ok(()) => Ok(()),
+        Err(_) => Err(NoMemory),
+    }
+}
+
+// Appends the element that there is.
+pub(crate) fn push_some_to<T: Drop>(list: &mut Vec<T>, element: Option<T>) -> Result<(), NoMemory>
+    ensures { OnOk result (list.new.items ≡ list.old.items ++ cons_option element []) }
+{
+    match element {
+        Some(element) => push_to(list, element),
+        None => Ok(()),
+    }
+}

@@ -11,8 +11,8 @@ use std::alloc::Global;
 use tmm_model::{NoMemory, Premise, Seq, Version};
 use tmm_script::print_premise;
 
-/// The reply to `dump`: how many premises stand, the line that opens version 2 where the list is of it, the
-/// horizon, and a line for each premise, oldest first, which declares it.
+/// The reply to `dump`: how many premises stand, the line that opens version 2 where the list is of
+/// it, the horizon, and a line for each premise, oldest first, which declares it.
 pub fn reply_dump(alloc: Global, line: u64, standing: &Standing) -> Result<Seq<u8>, NoMemory>
     ensures { IfOk result (λ bytes. bytes.items ≡ text_of line (DumpIs standing.now.present.version standing.now.present.horizon (map shown_text standing.now.present.premises))) }
 {

@@ -1,10 +1,9 @@
 //! The bytes of every reply to a line of a script.
 //!
 //! Each call makes the whole reply in one buffer, and ensures that its bytes are the text which the
-//! definitions of `tmm_model` give for that answer under the line's number. `put_reason` makes a reply to
-//! `why` longer by a line. It stands on `tmm_model`,
-//! whose types it prints, and for `dump` on `premise_list` and `tmm_script`. Without memory for the
-//! reply a call answers `NoMemory`.
+//! definitions of `tmm_model` give for that answer under the line's number. `put_reason` makes a
+//! reply to `why` longer by a line. It stands on `tmm_model`, whose types it prints, and for `dump`
+//! on `premise_list` and `tmm_script`. Without memory for the reply a call answers `NoMemory`.
 #![tactic(auto)]
 
 mod details;

@@ -58,8 +58,8 @@ pub fn reply_answer(alloc: Global, line: u64, answer: &Answer) -> Result<Seq<u8>
     }
 }
 
-/// The reply to `why`: the reasons of a belief. With no lines it is the first line of such a reply, to which
-/// `put_reason` appends.
+/// The reply to `why`: the reasons of a belief. With no lines it is the first line of such a reply,
+/// to which `put_reason` appends.
 pub fn reply_why(alloc: Global, line: u64, lines: &[WhyLine]) -> Result<Seq<u8>, NoMemory>
     ensures { IfOk result (λ bytes. bytes.items ≡ text_of line (Reasons lines.now)) }
 {

@@ -50,8 +50,8 @@ pub fn put_reason(out: &mut Seq<u8>, reason: &WhyLine) -> Result<(), NoMemory>
     }
 }
 
-// A trigger, the tokens that support the antecedents and the exceptions, where there are any, and the
-// line's end.
+// A trigger, the tokens that support the antecedents and the exceptions, where there are any, and
+// the line's end.
 fn put_trigger(
     out: &mut Seq<u8>,
     trigger: &Occ,

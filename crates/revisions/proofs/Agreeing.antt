@@ -1,4 +1,5 @@
--- Up to the date from which all decisions wait, the live nodes are those that are believed in the end.
+-- Up to the date from which all decisions wait, the live nodes are those that are believed in the
+-- end.
 use Rattle.std.proofs.Common.{◌≡◌, ◌∙◌, ℕ, zero, suc, List, sym, ap, inl, inr, arith}
 use Rattle.std.proofs.lemmas.Int.{ints}
 use Rattle.std.specs.Prelude.{◌↔◌, ℤ, pos, negsuc, ◌≤ℤ◌, ◌<ℤ◌}
@@ -127,6 +128,7 @@ module _ (g : Revision) (laws : IsLawful g) where
           itself : (z : ℤ) → z ≤ℤ z
           itself z = omega (arith, ints)
 
-      -- **Where none waits, the live nodes are those that are believed, and the rows have their outcomes.**
+      -- **Where none waits, the live nodes are those that are believed, and the rows have their
+      -- outcomes.**
       pub ended : ((x : Moment) → Contains b x ↔ Contains g.believed x) × ((t : Moment) (r : List ℕ) → Contains b t → Contains (g.rules t) r → kept t r ≡ g.outcome g.believed t r)
       ended = (at_end, rows_at_end)

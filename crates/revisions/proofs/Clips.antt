@@ -47,8 +47,8 @@ clip_believed m x c e = by (token_of m.list x) e
     by None e = cc
     by (Some k) e = by_end k k.end e
 
--- if the second of two lists has some members of the first, that one of them which is first by one map, and two maps order
--- all these alike, they have one first
+-- if the second of two lists has some members of the first, that one of them which is first by one
+-- map, and two maps order all these alike, they have one first
 one_first : (m n : TimeMap) (xs ys : List (TokenRow Moment)) → ((k : TokenRow Moment) → In k xs → IsSpelt k.spot)
     → ((k : TokenRow Moment) → In k ys → In k xs) → ((k : TokenRow Moment) → In k xs → first (by_begin m) xs ≡ Some k → In k ys)
     → ((k c : TokenRow Moment) → In k ys → In c ys → order m k.spot c.spot ≡ order n k.spot c.spot)

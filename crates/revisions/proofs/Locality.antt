@@ -1,5 +1,5 @@
--- The outcome of a decision rests on the tokens of the classes of what it reads alone, and of these on those that
--- begin surely at or before its event.
+-- The outcome of a decision rests on the tokens of the classes of what it reads alone, and of these
+-- on those that begin surely at or before its event.
 use Rattle.std.proofs.Common.{◌≡◌, ◌∙◌, ℕ, Bool, true, false, not, ◌&&◌, List, [], ◌∷◌, map, refl, sym, ap, subst, inl, inr}
 use Rattle.std.specs.Prelude.{Option, Some, None, pos, int_le, filter}
 use Rattle.std.specs.List.{list_any}

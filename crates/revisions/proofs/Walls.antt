@@ -1,4 +1,5 @@
--- Tokens that have not begun at an event, and tokens that are past there, bear on no decision at it.
+-- Tokens that have not begun at an event, and tokens that are past there, bear on no decision at
+-- it.
 use Rattle.std.proofs.Common.{◌≡◌, ◌≢◌, ◌∙◌, ℕ, Bool, true, false, not, ◌&&◌, ◌||◌, List, [], ◌∷◌, map, refl, sym, ap, subst, inl, inr, arith}
 use Rattle.std.proofs.lemmas.Int.{ints}
 use Rattle.std.specs.Prelude.{◌⊎◌, Option, Some, None, pos, negsuc, filter}
@@ -288,7 +289,8 @@ spelt_in s b sound occur k at =
     let (x, in_b, e) = In-filter_map (token_of s) b k at in
     subst IsSpelt (sym (spot-token_of s x k e)) (spelt s sound.well_formed x (occur x (Contains-from_In b x in_b)))
 
--- **In two maps that are alike for a decision but for tokens that bear on none at its event, it has one outcome.**
+-- **In two maps that are alike for a decision but for tokens that bear on none at its event, it has
+-- one outcome.**
 pub outcome_but : (s n : Standing) (b c : List Moment) (t : Moment) (r : List ℕ) (stays : TokenRow Moment → Type 0)
     → IsSound s → IsSound n → AllOccur s b → AllOccur n c
     → AlikeBut stays (map_of s b) (map_of n c) t r

@@ -20,8 +20,8 @@ use Rattle.list_theory.specs.WellNamed.{IsWellNamed}
 
 -- ---- alike lists
 
--- Both lists say the same, distances aside: what is declared to occur, what an occurrence is, which rules are on a
--- kind, what a rule says, the class of a fact, and the horizon.
+-- Both lists say the same, distances aside: what is declared to occur, what an occurrence is, which
+-- rules are on a kind, what a rule says, the class of a fact, and the horizon.
 pub record SayAlike (s t : Standing) : Type 0 where
   pub declared : roots s ≡ roots t
   pub is : (x : Moment) → is_of s x ≡ is_of t x
@@ -30,13 +30,15 @@ pub record SayAlike (s t : Standing) : Type 0 where
   pub class : (fact : List ℕ) → class_of s fact ≡ class_of t fact
   pub horizon : s.horizon ≡ t.horizon
 
--- the points whose distances beliefs read: `start`, where what is declared to occur begins, and where a span ends
+-- the points whose distances beliefs read: `start`, where what is declared to occur begins, and
+-- where a span ends
 abbrev pub IsAnchor : Standing → PointName → Type 0
 IsAnchor s Start = Unit {0}
 IsAnchor s (Begin k) = Contains (roots s) (At (Begin k))
 IsAnchor s (End k) = (fact : List ℕ) × (is_of s (At (Begin k)) ≡ Some (Span, fact))
 
--- **The lists are alike in all that beliefs read**: they say the same, and those points are as far apart in both.
+-- **The lists are alike in all that beliefs read**: they say the same, and those points are as far
+-- apart in both.
 pub record AreAlike (s t : Standing) : Type 0 where
   pub say : SayAlike s t
   pub distances : (p q : PointName) → IsAnchor s p → IsAnchor s q → far_in s.premises p q ≡ far_in t.premises p q
@@ -64,8 +66,8 @@ AlikeBelieve = (s t : Standing) → AreAlike s t → BelieveAlike s t × TellsNo
 
 -- ---- premises that beliefs read
 
--- Whether beliefs read the premise itself. Of points, constraints and protections they read none: a point or a
--- constraint matters by the distances that it makes, a protection not at all.
+-- Whether beliefs read the premise itself. Of points, constraints and protections they read none: a
+-- point or a constraint matters by the distances that it makes, a protection not at all.
 abbrev pub is_read : Premise → Bool
 is_read (Point name) = false
 is_read (Dist name from to lo hi) = false
@@ -88,7 +90,8 @@ is_unread premises (Erase name) = option_map_or (λ premise. not (is_read premis
 is_unread premises (Horizon n) = false
 is_unread premises Upgrade = true
 
--- **After such an edit the list says the same**: nothing that beliefs read mentions a premise that they do not.
+-- **After such an edit the list says the same**: nothing that beliefs read mentions a premise that
+-- they do not.
 abbrev pub UnreadEditsSayAlike : Type 0
 UnreadEditsSayAlike =
     (s : Standing) (edit : Edit) → IsWellNamed s.premises → IsWellNamed (next_list s edit).premises

@@ -28,14 +28,15 @@ ClipsStay =
     → In k (believed_tokens (built old)) → SameClass (built old) (built (next_list old edit)) k.class
     → clip (built old) x ≡ clip (built (next_list old edit)) x
 
--- the second map believes no token of the class that the first does not, and those that it believes are as far apart, with
--- the same earliest dates
+-- the second map believes no token of the class that the first does not, and those that it believes
+-- are as far apart, with the same earliest dates
 pub record FewerOfClass (m n : TimeMap) (class : List ℕ) : Type 0 where
   pub back : (k : TokenRow Moment) → k.class ≡ class → In k (believed_tokens n) → In k (believed_tokens m)
   pub gaps : (k c : TokenRow Moment) → k.class ≡ class → c.class ≡ class → In k (believed_tokens n) → In c (believed_tokens n) → gap m k.spot c.spot ≡ gap n k.spot c.spot
   pub dates : (k : TokenRow Moment) → k.class ≡ class → In k (believed_tokens n) → early m.list m.far k.spot ≡ early n.list n.far k.spot
 
--- **A token of such a class keeps its clip as long as what clipped it is believed**, whatever else of the class is gone.
+-- **A token of such a class keeps its clip as long as what clipped it is believed**, whatever else
+-- of the class is gone.
 abbrev pub ClipsStayOn : Type 0
 ClipsStayOn =
     (old : Standing) (edit : Edit) → IsSound old → IsSound (next_list old edit)

@@ -41,7 +41,8 @@ is_changed old new e =
 abbrev pub changed : Standing → Standing → ℕ
 changed old new = count_by (is_changed (built old) (built new)) (decisions new (built new).believed)
 
--- **The bounds on how many decisions are made**: never more than are touched, and in the end all that are changed.
+-- **The bounds on how many decisions are made**: never more than are touched, and in the end all
+-- that are changed.
 abbrev pub EditsAreCounted : Type 0
 EditsAreCounted =
     (old : Standing) (edit : Edit) → IsSound old → IsSound (next_list old edit)
@@ -54,7 +55,8 @@ pub record AreSeeds (old new : Standing) (b : List Moment) : Type 0 where
   pub root : (p : PointName) → Contains b (At p) ↔ Contains (roots new) (At p)
   pub derived : (t : Moment) (r : List ℕ) → Contains b (After t r) ↔ (Contains (built old).believed (After t r) × Occurs new (After t r))
 
--- what is not touched as the nodes are at the beginning has its outcome still, and what is touched then is touched in the end
+-- what is not touched as the nodes are at the beginning has its outcome still, and what is touched
+-- then is touched in the end
 abbrev pub SeedsAreRight : Type 0
 SeedsAreRight =
     (old : Standing) (edit : Edit) → IsSound old → IsSound (next_list old edit)

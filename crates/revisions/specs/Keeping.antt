@@ -8,14 +8,16 @@ use Rattle.list_theory.proofs.Elements.{In}
 use Rattle.list_theory.proofs.Distinct.{Distinct}
 use Rattle.revisions.specs.Revisions.{Revision, is_firing, IsNew, IsLost}
 
--- a decision that waits: it is on a live event no earlier than d, and touched if that event is believed in the end
+-- a decision that waits: it is on a live event no earlier than d, and touched if that event is
+-- believed in the end
 pub record Waits (g : Revision) (b : List Moment) (d : ℤ) (t : Moment) (r : List ℕ) : Type 0 where
   pub live : Contains b t
   pub stands : Contains (g.rules t) r
   pub after : d ≤ℤ g.early t
   pub touched : Contains g.believed t → g.touched t r ≡ true
 
--- a decision that was made: it is one of the map after the edit, touched, on an event no later than d, and waits no more
+-- a decision that was made: it is one of the map after the edit, touched, on an event no later than
+-- d, and waits no more
 pub record Made (g : Revision) (queued : Moment → List ℕ → Type 0) (d : ℤ) (t : Moment) (r : List ℕ) : Type 0 where
   pub believed : Contains g.believed t
   pub stands : Contains (g.rules t) r
@@ -23,12 +25,14 @@ pub record Made (g : Revision) (queued : Moment → List ℕ → Type 0) (d : �
   pub touched : g.touched t r ≡ true
   pub gone : queued t r → ⊥
 
--- the outcome that is kept of a decision not made yet: that of the map before, or none yet, and then it waits
+-- the outcome that is kept of a decision not made yet: that of the map before, or none yet, and
+-- then it waits
 abbrev pub IsUntaken : Revision → (Moment → List ℕ → Outcome) → (Moment → List ℕ → Type 0) → Moment → List ℕ → Type 0
 IsUntaken g kept queued t r = ((g.was t r ≡ true) × (kept t r ≡ g.was_outcome t r)) ⊎ ((g.was t r ≡ false) × queued t r × (kept t r ≡ beyond))
 
--- **What the loop keeps.** b are the live nodes, `kept` the outcomes in the rows, `taken` the decisions made so far, and
--- d is the date of the last of them. That the live nodes up to d are those believed in the end is a consequence.
+-- **What the loop keeps.** b are the live nodes, `kept` the outcomes in the rows, `taken` the
+-- decisions made so far, and d is the date of the last of them. That the live nodes up to d are
+-- those believed in the end is a consequence.
 pub record IsKeeping (g : Revision) (b : List Moment) (kept : Moment → List ℕ → Outcome) (queued : Moment → List ℕ → Type 0)
     (taken : List (Moment × List ℕ)) (d : ℤ) : Type 0 where
   -- the live roots are the roots, and each other live node is a child of a live one by a rule

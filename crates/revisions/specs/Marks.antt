@@ -1,4 +1,5 @@
--- Which decisions are marked where a token enters or tokens leave: those that read one of them, on events no earlier.
+-- Which decisions are marked where a token enters or tokens leave: those that read one of them, on
+-- events no earlier.
 use Rattle.std.specs.Prelude.{◌≡◌, ◌⊎◌, ℕ, ℤ, ◌≤ℤ◌, true, List}
 use Rattle.std.specs.List.{Contains}
 use Rattle.belief_theory.specs.Outcomes.{Outcome}
@@ -12,8 +13,9 @@ use Rattle.revisions.specs.Steps.{IsUnder, Differs, IsMarked, Makes, Enters, Wit
 abbrev pub ReadsMoved : Revision → (Moment → Type 0) → Moment → List ℕ → Type 0
 ReadsMoved g moved u q = (x : Moment) × moved x × (g.reads u q x ≡ true) × (g.early x ≤ℤ g.early u)
 
--- What a turn does in the code's terms. The row of r at t gets the outcome; other rows keep theirs; each decision that waited
--- waits on where its event stays; besides these wait those that read what moved, and those on a new event.
+-- What a turn does in the code's terms. The row of r at t gets the outcome; other rows keep theirs;
+-- each decision that waited waits on where its event stays; besides these wait those that read what
+-- moved, and those on a new event.
 pub record Marks (g : Revision) (b c : List Moment) (kept kept_after : Moment → List ℕ → Outcome)
     (queued queued_after : Moment → List ℕ → Type 0) (t : Moment) (r : List ℕ) (moved : Moment → Type 0) : Type 0 where
   pub now : kept_after t r ≡ g.outcome b t r

@@ -1,5 +1,5 @@
--- What a revision of beliefs knows of the map before an edit and of the one after it, and the laws that it stands on.
--- Nothing here says what supports a fact.
+-- What a revision of beliefs knows of the map before an edit and of the one after it, and the laws
+-- that it stands on. Nothing here says what supports a fact.
 use Rattle.std.specs.Prelude.{◌≡◌, ◌↔◌, ◌⊎◌, ℕ, ℤ, pos, ◌≤ℤ◌, ◌<ℤ◌, Bool, true, false, List}
 use Rattle.std.specs.List.{Contains}
 use Rattle.belief_theory.specs.Outcomes.{Outcome, fires, blocked, barred, beyond}
@@ -12,9 +12,10 @@ is_firing (blocked place) = false
 is_firing (barred place) = false
 is_firing beyond = false
 
--- The map after the edit: its roots, its rules at an event, earliest dates, the outcome of a rule at an event among
--- given occurrences, and which occurrences that outcome rests on. What is believed after the edit and before it; which
--- decisions the map before had, and their outcomes; which decisions the edit touches.
+-- The map after the edit: its roots, its rules at an event, earliest dates, the outcome of a rule
+-- at an event among given occurrences, and which occurrences that outcome rests on. What is
+-- believed after the edit and before it; which decisions the map before had, and their outcomes;
+-- which decisions the edit touches.
 pub record Revision : Type 0 where
   pub roots : List Moment
   pub rules : Moment → List (List ℕ)
@@ -60,7 +61,8 @@ pub record IsLawful (g : Revision) : Type 0 where
   -- no occurrence is before 0, and an effect begins after its trigger
   pub not_before_start : (x : Moment) → IsOf g x → pos 0 ≤ℤ g.early x
   pub later : (t : Moment) (r : List ℕ) → IsOf g t → Contains (g.rules t) r → g.early t <ℤ g.early (After t r)
-  -- an outcome rests on occurrences no later than its trigger alone, and of these on those that it reads
+  -- an outcome rests on occurrences no later than its trigger alone, and of these on those that it
+  -- reads
   pub rests : (b c : List Moment) → AreOf g b → AreOf g c
       → (t : Moment) (r : List ℕ) → IsOf g t → Contains (g.rules t) r → AgreeFor g b c t r → g.outcome b t r ≡ g.outcome c t r
   -- both maps believe what is right

@@ -15,15 +15,16 @@ abbrev pub is_rule : Premise → Bool
 is_rule (Rule name trigger lo hi effect given unless_facts) = true
 is_rule _ = false
 
--- Whether a rule may fall with the premise: with a rule it does itself, and with a kind or a class all rules that mention
--- the kind or a fact of the class. A rule mentions nothing else.
+-- Whether a rule may fall with the premise: with a rule it does itself, and with a kind or a class
+-- all rules that mention the kind or a fact of the class. A rule mentions nothing else.
 abbrev pub may_rule : Premise → Bool
 may_rule (Rule name trigger lo hi effect given unless_facts) = true
 may_rule (Kind name) = true
 may_rule (Class name facts) = true
 may_rule _ = false
 
--- whether the edit adds a rule, or erases a standing premise with which a rule may fall; a horizon and a version do neither
+-- whether the edit adds a rule, or erases a standing premise with which a rule may fall; a horizon
+-- and a version do neither
 abbrev pub is_ruling : List Premise → Edit → Bool
 is_ruling premises (Add premise) = is_rule premise
 is_ruling premises (Erase name) = option_map_or may_rule (premise_in premises name) false

@@ -1,4 +1,5 @@
--- How the loop begins: what no longer occurs is withdrawn, new roots are entered, and what the edit may touch waits.
+-- How the loop begins: what no longer occurs is withdrawn, new roots are entered, and what the edit
+-- may touch waits.
 use Rattle.std.specs.Prelude.{◌≡◌, ◌↔◌, ◌⊎◌, ℕ, true, false, List}
 use Rattle.std.specs.List.{Contains}
 use Rattle.tmm_model.specs.declared.point.PointName.{PointName}
@@ -6,7 +7,8 @@ use Rattle.belief_theory.specs.Outcomes.{Outcome, beyond}
 use Rattle.tmm_model.specs.Moments.{Moment, At, After}
 use Rattle.revisions.specs.Revisions.{Revision, IsOf}
 
--- **What the loop begins with**: b are the nodes, `kept` the outcomes in the rows, and `queued` tells what waits.
+-- **What the loop begins with**: b are the nodes, `kept` the outcomes in the rows, and `queued`
+-- tells what waits.
 pub record IsSeeded (g : Revision) (b : List Moment) (kept : Moment → List ℕ → Outcome) (queued : Moment → List ℕ → Type 0) : Type 0 where
   -- the nodes are the new roots, and the old derived ones that still occur
   pub root : (p : PointName) → Contains b (At p) ↔ Contains g.roots (At p)

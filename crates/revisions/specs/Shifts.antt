@@ -12,9 +12,10 @@ use Rattle.belief_theory.specs.Touched.{watched}
 use Rattle.spots.specs.Seen.{map_of}
 use Rattle.revisions.specs.Walls.{IsSpared, AllOccur}
 
--- **From one map to the other points moved, but none of which the decision of r at t needs to know.** The rule says the same and
--- reads the same tokens. The event is as far from `start` as it was. So is each token that stays, and as far from the event, and from
--- those of its class that stay. Each other one is spared, before and after.
+-- **From one map to the other points moved, but none of which the decision of r at t needs to
+-- know.** The rule says the same and reads the same tokens. The event is as far from `start` as it
+-- was. So is each token that stays, and as far from the event, and from those of its class that
+-- stay. Each other one is spared, before and after.
 pub record IsShifted (stays : TokenRow Moment → Type 0) (m n : TimeMap) (t : Moment) (r : List ℕ) : Type 0 where
   pub text : rule_of m.list r ≡ rule_of n.list r
   pub horizon : m.list.horizon ≡ n.list.horizon

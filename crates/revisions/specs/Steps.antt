@@ -16,16 +16,17 @@ IsUnder y (After t r) = (After t r ≡ y) ⊎ IsUnder y t
 abbrev pub Differs : Moment → List ℕ → Moment → List ℕ → Type 0
 Differs t r u q = (u ≡ t) × (q ≡ r) → ⊥
 
--- a decision that is marked: it is later than the one at t, live, and touched if it is believed in the end
+-- a decision that is marked: it is later than the one at t, live, and touched if it is believed in
+-- the end
 pub record IsMarked (g : Revision) (c : List Moment) (t u : Moment) (q : List ℕ) : Type 0 where
   pub live : Contains c u
   pub stands : Contains (g.rules u) q
   pub after : g.early t <ℤ g.early u
   pub touched : Contains g.believed u → g.touched u q ≡ true
 
--- What any turn does: the row of r at t has the outcome made; other rows of nodes that stay have theirs still; others
--- wait on as long as their event is live; what else waits now is marked; and where the outcome of a decision that stays is
--- another for the nodes as they are now, it waits.
+-- What any turn does: the row of r at t has the outcome made; other rows of nodes that stay have
+-- theirs still; others wait on as long as their event is live; what else waits now is marked; and
+-- where the outcome of a decision that stays is another for the nodes as they are now, it waits.
 pub record Makes (g : Revision) (b c : List Moment) (kept kept_after : Moment → List ℕ → Outcome)
     (queued queued_after : Moment → List ℕ → Type 0) (t : Moment) (r : List ℕ) : Type 0 where
   pub now : kept_after t r ≡ g.outcome b t r

@@ -22,7 +22,8 @@ UnmovedAreAlike =
     → PointsKeepNumbers (points_in t.premises) net.names after.names → IsMovedAt moved net after → AreElsewhere t after.names moved
     → AreAlike s t
 
--- **Nodes that one of two lists sees that say the same the other sees too**, where points keep their numbers.
+-- **Nodes that one of two lists sees that say the same the other sees too**, where points keep
+-- their numbers.
 abbrev pub LikeListsSee : Type 0
 LikeListsSee =
     (s t : Standing) (net after : Net) (f : Forest) → SayAlike s t → IsNetOf t after

@@ -1,4 +1,5 @@
--- Tokens that bear on no decision at an event: those that have not begun there, and those that are past there.
+-- Tokens that bear on no decision at an event: those that have not begun there, and those that are
+-- past there.
 use Rattle.std.specs.Prelude.{◌≡◌, ◌≢◌, ◌⊎◌, ℕ, pos, int_le, Bool, true, false, List, [], ◌∷◌, Some}
 use Rattle.std.specs.List.{Contains}
 use Rattle.tmm_model.specs.declared.bound.Bound.{Bound}
@@ -28,8 +29,8 @@ module _ {P : Type 0} (far : P → P → Bound) where
     pub after : is_by far k.spot w.spot ≡ true
     pub begun : begins_by t w ≡ true
 
-  -- **Two walls between k and t**: two tokens behind k, of two different facts, among which k does not last to t. What k would
-  -- clip by t, one of the two clips as well.
+  -- **Two walls between k and t**: two tokens behind k, of two different facts, among which k does
+  -- not last to t. What k would clip by t, one of the two clips as well.
   pub record AreWallsAt (t : P) (k v w : TokenRow P) : Type 0 where
     pub one : IsBetween t k v
     pub other : IsBetween t k w
@@ -62,9 +63,9 @@ pub record IsPast (stays : TokenRow Moment → Type 0) (m : TimeMap) (t : Moment
 abbrev pub IsSpared : (TokenRow Moment → Type 0) → TimeMap → Moment → TokenRow Moment → Type 0
 IsSpared stays m t k = (has_begun m t k ≡ false) ⊎ IsPast stays m t k
 
--- **Two maps are alike for the decision of r at t but for tokens that bear on none there.** Tokens that stay are watched in
--- both, and what is sure of them and t is so in both, as is their order; all others that the rule watches are spared, each in
--- the map that believes it.
+-- **Two maps are alike for the decision of r at t but for tokens that bear on none there.** Tokens
+-- that stay are watched in both, and what is sure of them and t is so in both, as is their order;
+-- all others that the rule watches are spared, each in the map that believes it.
 pub record AlikeBut (stays : TokenRow Moment → Type 0) (m n : TimeMap) (t : Moment) (r : List ℕ) : Type 0 where
   pub text : rule_of m.list r ≡ rule_of n.list r
   pub timely : int_le (due m.list m.far t r) (pos m.list.horizon) ≡ int_le (due n.list n.far t r) (pos n.list.horizon)

@@ -60,7 +60,8 @@ pub record Begins (old new : Standing) (s : State) : Type 0 where
   pub old_rows : (t : Moment) (r : List ℕ) → Contains s.nodes t → Contains (rules_at new t) r → is_decision (built old) (t, r) ≡ true
       → s.kept t r ≡ outcome old (far_in old.premises) (built old).believed t r
   pub new_rows : (t : Moment) (r : List ℕ) → Contains s.nodes t → Contains (rules_at new t) r → is_decision (built old) (t, r) ≡ false → s.kept t r ≡ beyond
-  -- all that is touched for these nodes waits, and what waits is touched for these nodes or in the end
+  -- all that is touched for these nodes waits, and what waits is touched for these nodes or in the
+  -- end
   pub all : (t : Moment) (r : List ℕ) → Contains s.nodes t → Contains (rules_at new t) r → is_touched (built old) (map_of new s.nodes) (t, r) ≡ true → Waiting s t r
   pub only : (t : Moment) (r : List ℕ) → Waiting s t r
       → Contains s.nodes t × Contains (rules_at new t) r

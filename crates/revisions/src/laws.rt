@@ -17,7 +17,8 @@ pub fn nodes_are_final()
     ensures { NodesAreFinal }
 {}
 
-/// Where no decision waits, the nodes are those that are believed, and the rows have their outcomes.
+/// Where no decision waits, the nodes are those that are believed, and the rows have their
+/// outcomes.
 pub fn end_is_believed()
     ensures { EndIsBelieved }
 {}
@@ -77,7 +78,8 @@ pub fn clips_stay()
     ensures { ClipsStay }
 {}
 
-/// A token keeps its clip where no token of its class entered, none that stays moved, and what clipped it stays.
+/// A token keeps its clip where no token of its class entered, none that stays moved, and what
+/// clipped it stays.
 pub fn clips_stay_on()
     ensures { ClipsStayOn }
 {}
@@ -97,12 +99,14 @@ pub fn same_read_say_alike()
     ensures { SameReadSayAlike }
 {}
 
-/// What an edit adds or erases that beliefs do not read, it changes nothing of what they read but distances.
+/// What an edit adds or erases that beliefs do not read, it changes nothing of what they read but
+/// distances.
 pub fn unread_edits_say_alike()
     ensures { UnreadEditsSayAlike }
 {}
 
-/// An edit that adds no rule, and erases no rule, kind or class, leaves the rules on each kind as they are.
+/// An edit that adds no rule, and erases no rule, kind or class, leaves the rules on each kind as
+/// they are.
 pub fn unruled_edits_keep_rules()
     ensures { UnruledEditsKeepRules }
 {}
@@ -117,12 +121,14 @@ pub fn like_lists_see()
     ensures { LikeListsSee }
 {}
 
-/// In two maps that are alike for a decision but for tokens that bear on none at its event, it has one outcome.
+/// In two maps that are alike for a decision but for tokens that bear on none at its event, it has
+/// one outcome.
 pub fn outcomes_stay_but()
     ensures { OutcomesStayBut }
 {}
 
-/// A decision keeps its outcome where points moved, but for tokens that bear on none there, before and after.
+/// A decision keeps its outcome where points moved, but for tokens that bear on none there, before
+/// and after.
 pub fn shifts_keep()
     ensures { ShiftsKeep }
 {}

@@ -1,7 +1,8 @@
 //! How beliefs are kept current when the list changes: the mathematics, over plain lists.
 //!
-//! A revision begins with what still occurs of the old beliefs and with the new roots; decisions that an edit touches
-//! wait, and are made again, earliest first. Its functions have empty bodies: each ensures a law of the definitions.
+//! A revision begins with what still occurs of the old beliefs and with the new roots; decisions
+//! that an edit touches wait, and are made again, earliest first. Its functions have empty bodies:
+//! each ensures a law of the definitions.
 #![tactic(auto)]
 
 mod laws;

@@ -113,7 +113,8 @@ module _ (net : Net) (f : Forest) where
             ap (λ x. bound_less (bound_plus x (Finite (pos 0))) low) (far ∙ is),
           )
 
-  -- **The earliest dates of spots meet their distances**: none is later than its distance from another allows.
+  -- **The earliest dates of spots meet their distances**: none is later than its distance from
+  -- another allows.
   pub dates_met : (p q : Spot) → IsThere net f p → IsThere net f q → IfFinite (spot_distance net f p q) (λ w. spot_early net f q ≤ℤ (spot_early net f p +ℤ w))
   dates_met p q at_p at_q =
       let (s, seen) = at_q.0 in

@@ -7,8 +7,9 @@ use Rattle.tmm_model.specs.declared.token.Shape.TheVariants.{Event, Persistence,
 use Rattle.tmm_model.specs.Moments.{Moment, At, along}
 use Rattle.spots.specs.declared.link.Link.{Link}
 
--- what a node says of its occurrence: the name of its root, the rules that lead on from it, the numbers of
--- the root's point and of a span's end, its kind or fact, the class of a fact, and its shape
+-- what a node says of its occurrence: the name of its root, the rules that lead on from it, the
+-- numbers of the root's point and of a span's end, its kind or fact, the class of a fact, and its
+-- shape
 pub record Member : Type 0 where
   pub root : List ℕ
   pub links : List Link

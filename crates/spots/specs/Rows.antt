@@ -4,7 +4,8 @@ use Rattle.spots.specs.declared.node_row.NodeRow.{NodeRow}
 use Rattle.spots.specs.Forest.{Forest, Member, member, IsParent, last_name}
 use Rattle.spots.specs.Spots.{links_low, links_high}
 
--- the row tells what the occurrence is: what brings it about, its rules and delays, its points and its fact
+-- the row tells what the occurrence is: what brings it about, its rules and delays, its points and
+-- its fact
 pub record IsRow (f : Forest) (m : Member) (row : NodeRow) : Type 0 where
   pub parent : IsParent f m row.parent
   pub name : row.name ≡ last_name m.root m.links

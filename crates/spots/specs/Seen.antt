@@ -26,7 +26,8 @@ class_for s Event what = None
 class_for s Persistence what = Some (class_of s what)
 class_for s Span what = Some (class_of s what)
 
--- the node is an occurrence of the list, and has the values that the list and the numbers of points give it
+-- the node is an occurrence of the list, and has the values that the list and the numbers of points
+-- give it
 pub record IsMemberOf (s : Standing) (names : Names) (m : Member) : Type 0 where
   pub occurs : Occurs s (moment m)
   pub begin : IsNumberOf names m.begin (Begin m.root)
@@ -35,7 +36,8 @@ pub record IsMemberOf (s : Standing) (names : Names) (m : Member) : Type 0 where
   pub is : is_of s (moment m) ≡ Some (m.shape, m.what)
   pub class : m.class ≡ class_for s m.shape m.what
 
--- the network is the list's, and each node is an occurrence of the list, of which there is no other node
+-- the network is the list's, and each node is an occurrence of the list, of which there is no other
+-- node
 pub record IsSeen (s : Standing) (net : Net) (f : Forest) : Type 0 where
   pub network : IsNetOf s net
   pub members : (x : ℕ) (m : Member) → member f x ≡ Some m → IsMemberOf s net.names m

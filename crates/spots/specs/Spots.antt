@@ -1,4 +1,5 @@
--- Spots in time: declared points by their numbers, and the begins of nodes. Their distances and their order.
+-- Spots in time: declared points by their numbers, and the begins of nodes. Their distances and
+-- their order.
 use Rattle.std.specs.Prelude.{◌≡◌, ◌≢◌, ℕ, ℤ, pos, ◌+ℤ◌, true, false, List, [], ◌∷◌, Option, Some}
 use Rattle.std.specs.Option.{option_map, option_map_or}
 use Rattle.std.specs.List.{All, Contains}
@@ -36,7 +37,8 @@ abbrev pub links_high : List Link → Bound
 links_high [] = Finite (pos 0)
 links_high (l ∷ links) = bound_plus l.hi (links_high links)
 
--- from where u leads to where v leads, from one point: the rules that both begin with count for nothing
+-- from where u leads to where v leads, from one point: the rules that both begin with count for
+-- nothing
 abbrev pub links_apart : List Link → List Link → Bound
 links_apart (l ∷ u) (k ∷ v) =
     elim (same_name l.rule k.rule) [

@@ -51,8 +51,8 @@ pub record IsFrontOf (first s : Sums) : Type 0 where
   pub of_front : AreSums first front
   pub of_all : AreSums s (front ++ back)
 
--- The sums are those of rules that both lists begin with. What is behind these tells how far apart both
--- lead.
+-- The sums are those of rules that both lists begin with. What is behind these tells how far apart
+-- both lead.
 pub record ArePartedBy (s : Sums) (u v : List Link) : Type 0 where
   pub front : List Link
   pub first : List Link

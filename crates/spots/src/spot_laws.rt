@@ -1,8 +1,8 @@
 // Laws of spots.
 ghost use Rattle.spots.specs.Laws.{SpotsAreTheLists, RowsAreTheTokens};
 
-/// Where nodes and network are those of a list, spots have the distances, the dates and the order of
-/// the list's points and occurrences.
+/// Where nodes and network are those of a list, spots have the distances, the dates and the order
+/// of the list's points and occurrences.
 pub fn spots_are_the_lists()
     ensures { SpotsAreTheLists }
 {}

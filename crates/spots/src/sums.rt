@@ -77,8 +77,8 @@ impl Sums {
     }
 }
 
-/// From where some rules lead to where others lead, from one point, by the sums of those, of the others,
-/// and of the rules that both begin with.
+/// From where some rules lead to where others lead, from one point, by the sums of those, of the
+/// others, and of the rules that both begin with.
 pub fn between(from: Sums, to: Sums, shared: Sums) -> Bound
     requires { HaveParted from to shared }
     ensures exact { (u v : List ALink) → ArePartedBy shared u v → AreSums from u → AreSums to v → result ≡ links_apart u v }

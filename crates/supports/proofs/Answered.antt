@@ -77,7 +77,8 @@ module _ {s : Standing} {net : Net} {f : Forest} (seen : IsSeen s net f) {class 
 
   module _ (test : TokenRow Spot → Bool) (passes : TokenRow Moment → Bool) (tested : (a : TokenRow Spot) → In a rows → test a ≡ passes (go a))
       (own : (k : TokenRow Moment) → In k (tokens s b) → passes k ≡ true → k.class ≡ class) where
-    -- the tokens that pass are those of the rows that pass, where tokens that pass are of this class
+    -- the tokens that pass are those of the rows that pass, where tokens that pass are of this
+    -- class
     same_rows : IsSame order moment_order go rows (tokens s b) test passes
     same_rows = record {
       ranked = ranked;

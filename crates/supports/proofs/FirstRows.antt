@@ -1,4 +1,5 @@
--- Where the tokens that pass are those of rows: some token passes exactly where some row does, and the first of the rows is the first of the tokens.
+-- Where the tokens that pass are those of rows: some token passes exactly where some row does, and
+-- the first of the rows is the first of the tokens.
 use Rattle.std.proofs.Common.{◌≡◌, ℕ, Bool, true, false, List, [], ◌∷◌, refl, sym, ◌∙◌, ap, subst, inl}
 use Rattle.std.specs.Prelude.{Option, Some, None, IsTrue, filter, slice_index_or}
 use Rattle.std.specs.List.{list_any}

@@ -179,7 +179,8 @@ module _ {s : Standing} {net : Net} {f : Forest} (seen : IsSeen s net f) {b : Li
         by (Some e) h = no_node found h
         by None h = last found h
 
-  -- **The nearest token behind a node that clips it** is its clip, among nodes with all tokens of its class.
+  -- **The nearest token behind a node that clips it** is its clip, among nodes with all tokens of
+  -- its class.
   pub nearest_is : (nodes : List ℕ) (i : ℕ) → i < length nodes → IsStrictlySortedBy (node_cmp net f) nodes
       → (row : TokenRow Spot) → token_at f (slice_index_or nodes i 0) ≡ Some row
       → ((y : ℕ) (c : TokenRow Spot) → token_at f y ≡ Some c → c.class ≡ row.class → Contains nodes y)

@@ -30,8 +30,8 @@ abbrev pub rows_behind : Forest → List ℕ → List ℕ → List (TokenRow Spo
 rows_behind f class [] = []
 rows_behind f class (x ∷ xs) = rows_behind f class xs ++ of_class class (token_at f x)
 
--- under each class stand its tokens among the nodes, that of the first node last, and beside each where
--- the stretch of tokens of its fact begins that goes up to it
+-- under each class stand its tokens among the nodes, that of the first node last, and beside each
+-- where the stretch of tokens of its fact begins that goes up to it
 abbrev pub AreBehind : Forest → List ℕ → (List ℕ → List (Stretched Spot)) → Type 0
 AreBehind f xs behind = (class : List ℕ) → (rows_of (behind class) ≡ rows_behind f class xs) × HaveStretches (behind class)
 

@@ -18,9 +18,10 @@ use Rattle.occ_tree.specs.Touched.{IsUntouched}
 abbrev pub old_forest : Kept → Forest
 old_forest k = forest (committed k)
 
--- **The edit is made of list, network and nodes, and not committed.** The nodes of the last commit are what is believed of the
--- list before it, and the present ones of the list after it; points and nodes that stay keep their numbers; and the tokens of each
--- class of the last commit are those of its nodes.
+-- **The edit is made of list, network and nodes, and not committed.** The nodes of the last commit
+-- are what is believed of the list before it, and the present ones of the list after it; points and
+-- nodes that stay keep their numbers; and the tokens of each class of the last commit are those of
+-- its nodes.
 pub record IsEdited (lists : States) (nets : Nets) (edit : Edit) (tree : Kept) : Type 0 where
   pub list : lists.present ≡ next_list lists.committed edit
   pub points : PointsKeepNumbers (points_in lists.present.premises) nets.committed.names nets.present.names

@@ -33,7 +33,8 @@ pub record RunReplied (start : Standing) (lines : List (List ℕ)) (turns : List
   pub replies_are : replies ≡ replies_told start 0 lines turns end run
 
 module _ (start : Standing) (n : ℕ) where
-  -- the line is the summary of the replies in a run of the script, and the status tells of the same run
+  -- the line is the summary of the replies in a run of the script, and the status tells of the same
+  -- run
   pub record Summarizes (line : List ℕ) (status : Status) : Type 0 where
     pub turns : List Turn
     pub replies : List (Option Reply)

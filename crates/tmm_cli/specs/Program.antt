@@ -13,7 +13,8 @@ use Rattle.tmm_drive.specs.Endings.{Ends}
 abbrev pub usage : List ℕ
 usage = codes "usage: tmm [demo N], N from 1 to 1000\n"
 
--- with words that are none of the program's: the usage line, or for a write fault a first part of it
+-- with words that are none of the program's: the usage line, or for a write fault a first part of
+-- it
 abbrev pub UsageEnds : List ℕ → Status → Type 0
 UsageEnds output Words = output ≡ usage
 UsageEnds output WriteFault = (part : ℕ) × (output ≡ take part usage)
@@ -24,12 +25,14 @@ abbrev pub ScriptEnds : Type 0 → List ℕ → List ℕ → Status → Type 0
 ScriptEnds at_end taken output NoMemory = (taken ≡ []) × (output ≡ [])
 ScriptEnds at_end taken output status = Ends Step empty_list at_end taken output status
 
--- with the words `demo n`: what its lines from the empty list on leave, or no memory before the first of them
+-- with the words `demo n`: what its lines from the empty list on leave, or no memory before the
+-- first of them
 abbrev pub SummaryEnds : ℕ → List ℕ → Status → Type 0
 SummaryEnds n output NoMemory = output ≡ []
 SummaryEnds n output status = DemoEnds empty_list n output status
 
--- **What the program may leave**: the bytes that it takes and writes, and its status. With words it takes no byte.
+-- **What the program may leave**: the bytes that it takes and writes, and its status. With words it
+-- takes no byte.
 pub data ProgramEnds (words : List (String Global)) (at_end : Type 0) (taken output : List ℕ) (status : Status) : Type 0 where
   a_script : words ≡ [] → ScriptEnds at_end taken output status → ProgramEnds words at_end taken output status
   a_demo : (n : ℕ) → IsDemo words n → taken ≡ [] → SummaryEnds n output status → ProgramEnds words at_end taken output status

@@ -1,7 +1,8 @@
-//! `tmm`: a script of lines in, a reply for each line out. Below it, `tmm_drive` cuts
-//! a source into lines and writes replies, `tmm_session` answers a line over a map, and `run` is the whole
-//! program; with the words `demo N` it answers the lines of `demo_gen` instead. The contract of `run`
-//! says what its words, the bytes taken, the bytes written and its status have to do with each other.
+//! `tmm`: a script of lines in, a reply for each line out. Below it, `tmm_drive` cuts a source into
+//! lines and writes replies, `tmm_session` answers a line over a map, and `run` is the whole
+//! program; with the words `demo N` it answers the lines of `demo_gen` instead. The contract of
+//! `run` says what its words, the bytes taken, the bytes written and its status have to do with
+//! each other.
 #![tactic(auto)]
 
 mod demo;

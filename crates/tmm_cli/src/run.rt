@@ -12,9 +12,9 @@ use tmm_io::{Sink, Source};
 use tmm_model::{NoMemory, Seq};
 use tmm_session::Session;
 
-/// All that the program does. Without words it reads a script from the source and writes a reply for
-/// each line to the sink. With the words `demo N` it answers a generated script, and writes one line
-/// that tells of the replies; with any other words it writes how it is used.
+/// All that the program does. Without words it reads a script from the source and writes a reply
+/// for each line to the sink. With the words `demo N` it answers a generated script, and writes one
+/// line that tells of the replies; with any other words it writes how it is used.
 pub fn run<S: Source, K: Sink>(
     alloc: Global,
     words: &[String],
@@ -72,7 +72,8 @@ fn run_script<S: Source, K: Sink>(alloc: Global, source: &mut S, sink: &mut K) -
     answer_lines(alloc, &mut buffer, source, sink)
 }
 
-// Answers the lines of a script from the empty map on, with room for the part of a line that is kept.
+// Answers the lines of a script from the empty map on, with room for the part of a line that is
+// kept.
 fn answer_lines<S: Source, K: Sink>(
     alloc: Global,
     buffer: &mut Seq<u8>,

@@ -352,9 +352,9 @@ fn rows_are_answered(rt: HostRuntime) -> Result<(), Fail> {
     Ok(())
 }
 
-/// Edits that leave beliefs as they are, and among them some that do not: points and constraints that
-/// come and go beside a door that a push shuts, protections that they break and mend, roots that they
-/// move, a horizon, a token that is erased, and edits that are refused.
+/// Edits that leave beliefs as they are, and among them some that do not: points and constraints
+/// that come and go beside a door that a push shuts, protections that they break and mend, roots
+/// that they move, a horizon, a token that is erased, and edits that are refused.
 const STILL: [&[u8]; 2] = [
     b"class door open shut\nkind push\nrule shuts push 1 2 shut if open\ntoken held open\nevent e push\npoint x\ndist d held e 5 10\nprotect p open held e\npoint y\ndist m x y 3 4\nprotect q open held x\ndist n held x 2 3\ncheck\nbounds held y\nerase n\ncheck\ndist s start held 1 1\nlist\nhorizon 0\nlist\nhorizon 1000\nerase x\naudit\nwhy e/shuts\ndump\n",
     b"class c f g\nkind k\ntoken t f\nspan s f\npoint a\ndist d t a 2 2\nprotect p f t a\ntoken u g\ndist v t u 1 1\ndist w a start * -9\nerase v\ndist w t s 5 5\ndist z t a 3 3\ndist o s.end a 0 0\ndist o a s.end 9 9\nerase o\nerase d\nerase d\nerase u\nerase p\nrule r k 1 1 g if f\nevent e k\nerase a\ncheck\nlist\nsize\naudit\n",

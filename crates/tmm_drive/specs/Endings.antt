@@ -13,7 +13,8 @@ abbrev pub limit : ℕ
 limit = LONGEST_SCRIPT
 
 module _ {S : Type 0} (step : S → ℕ → List ℕ → Turn → S → Type 0) (start : S) where
-  -- the output is the replies of a run over the lines of the whole text, and the status tells of them
+  -- the output is the replies of a run over the lines of the whole text, and the status tells of
+  -- them
   pub record AnswersAll (taken output : List ℕ) (status : Status) : Type 0 where
     pub lines : List (List ℕ)
     pub rest : List ℕ
@@ -35,7 +36,8 @@ module _ {S : Type 0} (step : S → ℕ → List ℕ → Turn → S → Type 0) 
     pub output_is : output ≡ replies 0 turns
 
   -- the output is the replies of a run over the first lines of the text, and then a first part of a
-  -- reply to the line after them, which ends with byte 10, or is the last of a text that is read to its end
+  -- reply to the line after them, which ends with byte 10, or is the last of a text that is read to
+  -- its end
   pub record BreaksOff (at_end : Type 0) (taken output : List ℕ) : Type 0 where
     pub lines : List (List ℕ)
     pub line : List ℕ

@@ -19,7 +19,8 @@ pub trait Lines {
     /// Whether the next line may be given.
     ghost ready: { Self → Type 0 };
 
-    /// From the first state, the line of this number may have this turn, and leave the second state.
+    /// From the first state, the line of this number may have this turn, and leave the second
+    /// state.
     ghost step: { State → ℕ → List ℕ → Turn → State → Type 0 };
 
     /// Answers the next line, given without its end.

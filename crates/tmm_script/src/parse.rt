@@ -1,15 +1,13 @@
 // A line of a script.
-ghost use Rattle.std.specs.Prelude.{◌≡◌, ◌<◌, ◌≤◌, length, ◌↔◌, IsTrue, Ok, Err};
-ghost use Rattle.tmm_model.specs.declared.line.Line.TheVariants.{Silent, Change};
+ghost use Rattle.std.specs.Prelude.{◌≡◌, ◌<◌, ◌≤◌, ◌∷◌, false, length, option_map, ◌↔◌, IsTrue, None, Ok, Err};
+ghost use Rattle.tmm_model.specs.declared.line.Line.TheVariants.{Silent, Change, Question};
 ghost use Rattle.tmm_model.specs.declared.premise.Edit.{Edit as Edits};
 ghost use Rattle.tmm_model.specs.declared.refusal.Refusal.TheVariants.{LimitLine};
 ghost use Rattle.tmm_model.specs.declared.refusal.Stop.TheVariants.{Refused, NoMemory};
 ghost use Rattle.tmm_model.specs.Lines.{words, is_comment, IsSilent, Reads, ReadsLine};
-ghost use Rattle.tmm_grammar.specs.Bare.{bare_line};
-ghost use Rattle.tmm_grammar.specs.Reading.{line_of};
-ghost use Rattle.tmm_script.specs.Derived.{asks_derived};
-ghost use Rattle.tmm_script.specs.Given.{IsReadingOf, Gives, OnMemory};
-ghost use Rattle.tmm_script.specs.declared.fields.Misread.TheVariants.{Memory};
+ghost use Rattle.tmm_grammar.specs.Reading.{edit_of, query_of, line_of};
+ghost use Rattle.tmm_script.specs.Derived.{asked_of, asks_derived, some_derived};
+ghost use Rattle.tmm_script.specs.Given.{IsRead, IsReadingOf};
 
 use crate::edits::edit;
 use crate::fields::Misread;
@@ -38,13 +36,32 @@ pub fn parse_line(alloc: Global, version: Version, line: &[u8]) -> Result<Line, 
     if comment(word) {
         return Ok(Line::Silent);
     }
+    said(alloc, version, word, rest)
+}
+
+// What a line with this first word says, which begins no comment. A change is large, so it is read apart
+// from lines that say less, and questions apart from changes.
+fn said(alloc: Global, version: Version, word: &[u8], rest: &[u8]) -> Result<Line, Stop>
+    requires { is_comment word.now ≡ false }
+    ensures read { IsRead result (line_of version (word.now ∷ words rest.now)) }
+    ensures changes_none { result ≡ Err NoMemory → edit_of version word.now (words rest.now) ≡ None }
+    ensures memory { result ≡ Err NoMemory → IsTrue (some_derived (asked_of word.now (words rest.now))) }
+{
     match edit(version, word, rest) {
         Some(edit) => Ok(Line::Change(edit)),
-        None => match query(alloc, word, rest) {
-            Ok(query) => Ok(Line::Question(query)),
-            Err(Misread::Form) => Err(Stop::Refused(Refusal::Form)),
-            Err(Misread::Memory) => Err(Stop::NoMemory),
-        },
+        None => asked(alloc, word, rest),
+    }
+}
+
+// The question that a line with this first word asks.
+fn asked(alloc: Global, word: &[u8], rest: &[u8]) -> Result<Line, Stop>
+    ensures read { IsRead result (option_map Question (query_of word.now (words rest.now))) }
+    ensures memory { result ≡ Err NoMemory → IsTrue (some_derived (asked_of word.now (words rest.now))) }
+{
+    match query(alloc, word, rest) {
+        Ok(query) => Ok(Line::Question(query)),
+        Err(Misread::Form) => Err(Stop::Refused(Refusal::Form)),
+        Err(Misread::Memory) => Err(Stop::NoMemory),
     }
 }
 

@@ -20,7 +20,8 @@ Tells k replied kept (ReplyOf bytes kind) = (reply : Reply) × replied reply × 
 abbrev pub TellsMeaning : Standing → ℕ → Line → Told → Standing → Type 0
 TellsMeaning old k meaning told new = Tells k (λ reply. AnswersLine old meaning reply new) (new ≡ old) told
 
--- the reply that a step of the transcript tells; none where there was no memory, or the line is silent
+-- the reply that a step of the transcript tells; none where there was no memory, or the line is
+-- silent
 abbrev pub reply_told : (old : Standing) (k : ℕ) (line : List ℕ) (turn : Turn) (new : Standing) → Step old k line turn new → Option Reply
 reply_told old k line (ReplyTurn bytes refused) new step = Some step.0
 reply_told old k line turn new step = None

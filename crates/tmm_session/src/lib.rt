@@ -1,8 +1,9 @@
 //! A line of a script to its reply.
 //!
-//! `Session` reads a line, asks any `MapCore` for what it says, and makes the reply. An edit is kept
-//! once its reply is there; where there is no memory for it, the edit is undone. It answers lines for
-//! `tmm_drive`, and `tell` says of which kind a reply is, for a caller that counts replies.
+//! `Session` reads a line, asks any `MapCore` for what it says, and makes the reply. An edit is
+//! kept once its reply is there; where there is no memory for it, the edit is undone. It answers
+//! lines for `tmm_drive`, and `tell` says of which kind a reply is, for a caller that counts
+//! replies.
 #![tactic(auto)]
 
 mod session;

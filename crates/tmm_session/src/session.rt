@@ -40,7 +40,8 @@ pub struct Session<M: MapCore + Drop> {
 }
 
 impl<M: MapCore + Drop> Session<M> {
-    /// A session over a map in which nothing is pending, with no line given and no decision counted.
+    /// A session over a map in which nothing is pending, with no line given and no decision
+    /// counted.
     pub fn make(core: M) -> Session<M>
         requires { M.pending core ≡ None }
         ensures core { result.core ≡ core }
@@ -89,8 +90,8 @@ impl<M: MapCore + Drop> Lines for Session<M> {
     }
 }
 
-// Answers a line by what it says. What it says may be large, so this is kept apart from the way that
-// silent lines take.
+// Answers a line by what it says. What it says may be large, so this is kept apart from the way
+// that silent lines take.
 #[inline(never)]
 fn said<M: MapCore>(
     alloc: Global,
@@ -108,10 +109,11 @@ fn said<M: MapCore>(
         Err(Stop::Refused(refusal)) => return refuse(alloc, line, &refusal),
         Err(Stop::NoMemory) => return Told::Memory,
     };
-    match meaning {
+    // by reference: a change is large
+    match &meaning {
         Line::Silent => Told::Silent,
-        Line::Change(edit) => change(alloc, line, &edit, core, counter),
-        Line::Question(query) => answer(alloc, line, &query, core),
+        Line::Change(edit) => change(alloc, line, edit, core, counter),
+        Line::Question(query) => answer(alloc, line, query, core),
     }
 }
 

@@ -6,7 +6,8 @@ use justify::Listener;
 use replies::put_reason;
 use tmm_model::{NoMemory, Seq, WhyLine};
 
-/// The bytes of a reply to `why`, as far as its reasons were heard. No line is kept but as its bytes.
+/// The bytes of a reply to `why`, as far as its reasons were heard. No line is kept but as its
+/// bytes.
 #[derive(Drop)]
 pub(crate) struct WhyText {
     /// The bytes.

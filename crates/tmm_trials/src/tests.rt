@@ -21,8 +21,8 @@ fn line_buffer(alloc: Global) -> Result<Seq<u8>, NoMemory>
     Ok(buffer)
 }
 
-/// Answers a script over the map of the program, and tells how that ended and how many decisions the map
-/// made.
+/// Answers a script over the map of the program, and tells how that ended and how many decisions
+/// the map made.
 fn answered(
     alloc: Global,
     buffer: &mut Seq<u8>,
@@ -68,9 +68,9 @@ fn an_edit_decides_what_it_touches(rt: HostRuntime) -> Result<(), Fail> {
 /// How many edits of a still map come after its building.
 const STILL_EDITS: u32 = 2000;
 
-/// The script of a map near the greatest size: 80 tokens that begin at one date and 100 events at another, with
-/// 300 rules of which each fires at each event. Then, so many times, a point comes or goes of which nothing
-/// is said.
+/// The script of a map near the greatest size: 80 tokens that begin at one date and 100 events at
+/// another, with 300 rules of which each fires at each event. Then, so many times, a point comes or
+/// goes of which nothing is said.
 fn still_script(alloc: Global, edits: u32) -> Result<String, AllocError> {
     let mut script = String::new(alloc);
     script.push_str("class c f g\nkind t\nkind u\n")?;

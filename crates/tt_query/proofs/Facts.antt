@@ -1,4 +1,5 @@
--- What declared names are, in a well-named list: facts have a class, and events, tokens and spans are roots.
+-- What declared names are, in a well-named list: facts have a class, and events, tokens and spans
+-- are roots.
 use Rattle.std.proofs.Common.{◌≡◌, ◌∙◌, ℕ, Bool, true, false, sym, ap, subst, refl, inl, inr, cond}
 use Rattle.std.specs.Prelude.{Option, Some, None, IsSome, List, [], ◌∷◌, ◌++◌, codes}
 use Rattle.std.specs.List.{Contains, list_any}

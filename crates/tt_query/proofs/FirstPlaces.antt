@@ -24,7 +24,8 @@ In-take (suc n) (y ∷ ys) x (inl e) = inl e
 In-take (suc n) (y ∷ ys) x (inr at) = inr (In-take n ys x at)
 
 module _ {X : Type 0} (cmp : X → X → Ordering) where
-  -- **Only the first so many decide which are the first so many when one more is put in its place.**
+  -- **Only the first so many decide which are the first so many when one more is put in its
+  -- place.**
   pub take-placed : (n : ℕ) (x : X) (ys : List X) → take n (placed cmp x (take n ys)) ≡ take n (placed cmp x ys)
   take-placed zero x ys = refl
   take-placed (suc n) x [] = refl

@@ -26,9 +26,9 @@ use std::alloc::Global;
 use supports::{Guesses, NodeFault, blame};
 use tmm_model::{Answer, Blame, Bound, Cause, Name, NoMemory, Seq};
 
-/// Whether a fact holds throughout two spots: it does by its first supporter, and where none is there,
-/// its first 8 tokens in the order of occurrences are blamed. Spots of which the first is not surely at or
-/// before the second are answered `Unordered`. Without memory it answers that.
+/// Whether a fact holds throughout two spots: it does by its first supporter, and where none is
+/// there, its first 8 tokens in the order of occurrences are blamed. Spots of which the first is
+/// not surely at or before the second are answered `Unordered`. Without memory it answers that.
 pub fn ask(
     alloc: Global,
     standing: &Standing,

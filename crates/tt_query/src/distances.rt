@@ -13,8 +13,8 @@ use occ_tree::Tree;
 use spots::Spot;
 use tmm_model::Bound;
 
-/// The lower and the upper bound on the date of the second spot less that of the first, in whole time
-/// units.
+/// The lower and the upper bound on the date of the second spot less that of the first, in whole
+/// time units.
 pub fn bounds(tree: &Tree, net: &DistNet, p: Spot, q: Spot) -> (Bound, Bound)
     requires dates { IsTreeIn net.now.present tree.now }
     requires p { IsSpot net.now.present.names (forest tree.now) p }

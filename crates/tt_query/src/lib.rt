@@ -3,8 +3,8 @@
 //! `supports`.
 //!
 //! Each call takes the standing list with its network and the tree of the believed occurrences, and
-//! answers as the map of that list does. A point that is not there is refused with its cause. Without
-//! memory a call answers that.
+//! answers as the map of that list does. A point that is not there is refused with its cause.
+//! Without memory a call answers that.
 #![tactic(auto)]
 
 mod asking;

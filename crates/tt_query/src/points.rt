@@ -52,8 +52,8 @@ pub fn resolve(
 }
 
 /// The node of an occurrence whose reasons are asked for, or the cause against its word, with the
-/// occurrence as a question names it: without rules it is a declared point. Memory is asked for only for
-/// the word of an occurrence that is not believed.
+/// occurrence as a question names it: without rules it is a declared point. Memory is asked for
+/// only for the word of an occurrence that is not believed.
 pub fn resolve_why(alloc: Global, standing: &Standing, tree: &Tree, occ: &Occ) -> Result<u32, Stop>
     requires seen { (net : Net) × IsSeen standing.now.present net (forest tree.now) }
     requires holds { Holds (built standing.now.present).believed (forest tree.now) }

@@ -18,8 +18,8 @@ pub enter_effect-requires-clause-rule : goal.enter_effect-requires-clause-rule
 enter_effect-requires-clause-rule c =
     rule_there c.args.standing.now.present c.requires.tree.seen.network.sound (moment_at (forest c.args.beliefs.now.tree) c.args.trigger) c.args.rule c.requires.enters.stands
 
-pub add_rows-requires-clause-once : goal.add_rows-requires-clause-once
-add_rows-requires-clause-once c =
+pub add_rows_after-requires-clause-once : goal.add_rows_after-requires-clause-once
+add_rows_after-requires-clause-once c =
     let s = c.args.standing.now.present in
     let net = c.args.net.now.present in
     let en = c.in_ok-effect.ensures.ok net c.requires.tree in
@@ -40,14 +40,14 @@ mark_readers-requires-clause-covered c =
     let en = c.in_ok-effect.ensures.ok c.args.net.now.present c.requires.tree in
     entered_covered c.args.beliefs.now.tree c.enter_effect.new.tree c.args.beliefs.now.decisions c.args.marks.now c.requires.events en.dates c.requires.covered
 
-pub returns-in_ok-add_rows-in-None-clause-covered : goal.returns-in_ok-add_rows-in-None-clause-covered
-returns-in_ok-add_rows-in-None-clause-covered c =
+pub returns-in_ok-add_rows_after-in-None-clause-covered : goal.returns-in_ok-add_rows_after-in-None-clause-covered
+returns-in_ok-add_rows_after-in-None-clause-covered c =
     let old = c.args.beliefs.now.decisions in
     let t = c.enter_effect.new.tree in
     let en = c.in_ok-effect.ensures.ok c.args.net.now.present c.requires.tree in
     let fits : FitsSigned w64 c.early-early.result = search rules in
-    added_covered (present t) old c.add_rows.new.decisions c.args.marks.now (rules_on c.args.standing.now.present c.row-row.result.what) c.in_ok-effect.effect (to_z w64 (of_z w64 c.early-early.result))
-    (to_z-of_z w64 c.early-early.result fits ∙ c.early-early.ensures.date) c.in_ok-add_rows-in-None.ensures.adds
+    added_covered (present t) old c.add_rows_after.new.decisions c.args.marks.now (rules_on c.args.standing.now.present c.row-row.result.what) c.in_ok-effect.effect (to_z w64 (of_z w64 c.early-early.result))
+    (to_z-of_z w64 c.early-early.result fits ∙ c.early-early.ensures.date) c.in_ok-add_rows_after-in-None.ensures.adds
     (entered_covered c.args.beliefs.now.tree t old c.args.marks.now c.requires.events en.dates c.requires.covered)
 
 pub returns-in_ok-mark_readers-in-Some-clause-ok : goal.returns-in_ok-mark_readers-in-Some-clause-ok
@@ -69,12 +69,12 @@ returns-in_ok-mark_readers-in-Some-clause-ok c =
       listed = c.first.ensures.listed;
     }
 
-pub returns-in_ok-add_rows-in-None-clause-ok : goal.returns-in_ok-add_rows-in-None-clause-ok
-returns-in_ok-add_rows-in-None-clause-ok c =
+pub returns-in_ok-add_rows_after-in-None-clause-ok : goal.returns-in_ok-add_rows_after-in-None-clause-ok
+returns-in_ok-add_rows_after-in-None-clause-ok c =
     let s = c.args.standing.now.present in
     let net = c.args.net.now.present in
     let old = c.args.beliefs.now.decisions in
-    let new = c.add_rows.new.decisions in
+    let new = c.add_rows_after.new.decisions in
     let t = c.enter_effect.new.tree in
     let y = c.in_ok-effect.effect in
     let en = c.in_ok-effect.ensures.ok net c.requires.tree in
@@ -87,8 +87,8 @@ returns-in_ok-add_rows-in-None-clause-ok c =
       enters = en;
       follows = an_event (class_is_at t y en.adds.node en.adds.enters.entered ∙ none)
           (subst (λ l. AddsRows l y (early (present t) y) old new) rules_are
-          (subst (λ z. AddsRows (rules_on s c.row-row.result.what) y z old new) (to_z-of_z w64 c.early-early.result fits ∙ c.early-early.ensures.date) c.in_ok-add_rows-in-None.ensures.adds));
-      under = c.in_ok-add_rows-in-None.ensures.under;
+          (subst (λ z. AddsRows (rules_on s c.row-row.result.what) y z old new) (to_z-of_z w64 c.early-early.result fits ∙ c.early-early.ensures.date) c.in_ok-add_rows_after-in-None.ensures.adds));
+      under = c.in_ok-add_rows_after-in-None.ensures.under;
       listed = c.first.ensures.listed;
     }
 
@@ -96,6 +96,6 @@ pub returns-in_ok-mark_readers-in-Some-clause-number : goal.returns-in_ok-mark_r
 unfolding returns-in_ok-mark_readers-in-Some-clause-ok
 returns-in_ok-mark_readers-in-Some-clause-number c = (returns-in_ok-mark_readers-in-Some-clause-ok c, refl)
 
-pub returns-in_ok-add_rows-in-None-clause-number : goal.returns-in_ok-add_rows-in-None-clause-number
-unfolding returns-in_ok-add_rows-in-None-clause-ok
-returns-in_ok-add_rows-in-None-clause-number c = (returns-in_ok-add_rows-in-None-clause-ok c, refl)
+pub returns-in_ok-add_rows_after-in-None-clause-number : goal.returns-in_ok-add_rows_after-in-None-clause-number
+unfolding returns-in_ok-add_rows_after-in-None-clause-ok
+returns-in_ok-add_rows_after-in-None-clause-number c = (returns-in_ok-add_rows_after-in-None-clause-ok c, refl)

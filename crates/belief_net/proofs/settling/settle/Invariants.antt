@@ -1,5 +1,6 @@
 use Rattle.std.specs.Prelude.{◌≤◌}
 use Rattle.occ_tree.specs.Standing.{present}
+use Rattle.projection.specs.Kinds.{AreKnown}
 use Rattle.belief_net.specs.Covered.{Covers}
 use Rattle.belief_net.specs.Entering.{KeepLast}
 use Rattle.belief_net.specs.Numbered.{StayNumbered}
@@ -14,6 +15,7 @@ invariant-loop l = record {
   revising : IsRevising l.standing.present l.net.present l.beliefs;
   weighed : IsWeighed l.standing.present l.told;
   covered : Covers (present l.beliefs.tree) l.beliefs.decisions l.marks;
+  known : AreKnown l.standing.present l.known;
   so_far : IfBegun l.standing.present l.net.present l.fn.beliefs l.fn.told (IsSoFar l.net.present l.beliefs l.told l.fn.count l.count);
   numbered : StayNumbered l.standing.present l.fn.beliefs l.beliefs l.fn.told l.told;
   rises : (l.fn.count ≤ l.count) × (l.count ≤ 18446744073709551615);

@@ -1,7 +1,11 @@
 use Rattle.std.proofs.Common.{length}
 use Rattle.tmm_model.specs.Tokens.{of_one_class, supports}
 use Rattle.clipping.specs.ByDate.{NonePass}
+use Rattle.clipping.specs.Cutters.{BeginsBy}
 use Rattle.clipping.proofs.by_date.is_held_within.Given as goal
 
 abbrev pub invariant-loop-i : goal.invariant-loop-i
-invariant-loop-i g l = NonePass (supports of_one_class (g.S.Sure.distance l.order) l.tokens l.fact l.p l.q) l.tokens l.i (length l.tokens)
+invariant-loop-i g l = record {
+  none : NonePass (supports of_one_class (g.S.Sure.distance l.order) l.tokens l.fact l.p l.q) l.tokens l.i (length l.tokens);
+  begins : BeginsBy (g.S.Sure.distance l.order) l.tokens l.q l.search.cutter;
+}

@@ -1,12 +1,14 @@
-use Rattle.std.proofs.Common.{refl}
+use Rattle.std.proofs.Common.{◌∙◌, ap, refl}
+use Rattle.tmm_model.specs.Changes.{delta_of}
 use Rattle.tmm_model.specs.Maps.{built}
 use Rattle.map_engine.proofs.Told.{told}
 use Rattle.map_engine.proofs.changes.with_reports.Goals as goal
 
 pub returns : goal.returns
 returns c = λ list old new between left_out.
-    let reported = c.in_ok-broken.ensures (built list) (built c.args.standing.now.present) old new refl in
-    told list c.args.standing.now.present
+    let reported = c.in_ok-broken.ensures.delta (built list) (built c.args.standing.now.present) old new refl in
+    ap delta_of c.with_protections.ensures
+    ∙ told list c.args.standing.now.present
     (record {
       erased = c.args.erased;
       left = c.args.believed.left;

@@ -1,9 +1,11 @@
 use Rattle.std.proofs.Common.{◌≤◌, ℕ, List, sym, subst}
 use Rattle.std.proofs.lemmas.Result.{err_from_is_err_and}
-use Rattle.tmm_model.specs.Answers.{most_size}
+use Rattle.tmm_model.specs.Answers.{reports, most_size}
+use Rattle.tmm_model.specs.Maps.{built}
 use Rattle.belief_list.specs.declared.kept_rows.Difference.{Difference}
 use Rattle.belief_list.specs.KeptRows.{AreDifferences}
 use Rattle.supports.specs.Edited.{AreOthersUntouched}
+use Rattle.protections.specs.Found.{Found, AreFound, after_review}
 use Rattle.map_engine.proofs.Covering.{covers}
 use Rattle.map_engine.proofs.moved.read.Goals as goal
 
@@ -30,8 +32,8 @@ returns-in_err-size-clause-stops c =
     rw (p.1, p.2)
     (c.in_err-size.ensures.stops lists nets edit tree rows (subst (λ (ds : List Difference). AreDifferences lists nets edit tree rows ds) (sym c.as_slice.ensures.value) made) c.requires.view.counted)
 
-pub returns-in-Ok-tell-clause-view : goal.returns-in-Ok-tell-clause-view
-returns-in-Ok-tell-clause-view c =
+pub returns-clause-view : goal.returns-clause-view
+returns-clause-view c =
     let lists = c.args.standing.now in
     let nets = c.args.net.now in
     let edit = c.args.edit.now in
@@ -41,7 +43,7 @@ returns-in-Ok-tell-clause-view c =
     let sized = c.in_ok-size.ensures.size lists nets edit tree rows (subst (λ (ds : List Difference). AreDifferences lists nets edit tree rows ds) (sym c.as_slice.ensures.value) made) c.requires.view.counted in
     record {
       rows = made.after;
-      broken = c.in-Ok-tell.ensures.reports;
+      broken = subst (λ (g : Found). AreFound (reports (built lists.present)) (after_review g c.in-Ok-tell.review)) (sym c.reserve.ensures.same) c.in-Ok-tell.ensures.review.after;
       counted = sized;
       small = subst (λ (n : ℕ). n ≤ most_size) sized c.in_ok-size.ensures.small;
     }

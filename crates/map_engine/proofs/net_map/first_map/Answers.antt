@@ -1,4 +1,4 @@
-use Rattle.std.proofs.Common.{◌≡◌, ℕ, None, sym, subst}
+use Rattle.std.proofs.Common.{◌≡◌, ℕ, None, refl, sym, subst}
 use Rattle.tmm_model.specs.Maps.{built}
 use Rattle.occ_tree.specs.OfLists.{IsTreeOf}
 use Rattle.occ_tree.specs.Places.{forest}
@@ -10,13 +10,16 @@ use Rattle.map_engine.proofs.NetMaps as lemma
 use Rattle.map_engine.proofs.net_map.first_map.Goals as goal
 
 pub first_view-requires-clause-seen : goal.first_view-requires-clause-seen
-first_view-requires-clause-seen c = subst (IsTreeOf c.args.standing.present c.args.net.present) (sym c.tree.ensures) c.requires.kept.fit.tree
+first_view-requires-clause-seen c = (c.args.net.present, subst (IsTreeOf c.args.standing.present c.args.net.present) (sym c.tree.ensures) c.requires.kept.fit.tree)
 
 pub first_view-requires-clause-holds : goal.first_view-requires-clause-holds
 first_view-requires-clause-holds c = subst (λ (k : Kept). Holds (built c.args.standing.present).believed (forest k)) (sym c.tree.ensures) c.requires.kept.current.holds
 
 pub first_view-requires-clause-empty : goal.first_view-requires-clause-empty
 first_view-requires-clause-empty c = subst (λ (k : Kept). (x : ℕ) → member (forest k) x ≡ None) (sym c.tree.ensures) c.requires.empty
+
+pub first_view-requires-clause-unguarded : goal.first_view-requires-clause-unguarded
+first_view-requires-clause-unguarded c = c.requires.held.unguarded refl
 
 pub invariant_of-result : goal.invariant_of-result
 invariant_of-result c =

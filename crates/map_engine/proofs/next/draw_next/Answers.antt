@@ -70,7 +70,7 @@ returns-in-Ok-clause-nodes c =
 
 pub returns-in-Ok-clause-view : goal.returns-in-Ok-clause-view
 returns-in-Ok-clause-view c =
-    subst (λ (k : Kept). IsReadOf c.args.standing.now.present (forest k) (after c.args.view.now c.in-Ok.made.0)) c.tree-then-is_still.ensures c.in-Ok.ensures.view
+    subst (λ (k : Kept). IsReadOf c.args.standing.now.present (forest k) (after c.unmoved.new.view c.in-Ok.made.0)) c.tree-then-is_still.ensures c.in-Ok.ensures.view
 
 pub returns-in-Ok-clause-least : goal.returns-in-Ok-clause-least
 returns-in-Ok-clause-least c =

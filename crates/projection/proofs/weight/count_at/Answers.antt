@@ -12,7 +12,7 @@ returns-in-Event-clause-value c =
     let (net, seen) = c.requires.seen in
     let (m, at) = node_at f c.args.x c.requires.live in
     let row = c.row-row.ensures m at in
-    c.count_kind.ensures.value ∙ ap (λ what. length (rules_on s what)) row.what ∙ ap length (sym (rules_of_event s net f seen c.args.x m at (sym row.shape ∙ c.in-Event.is)))
+    c.rules_on_kind.ensures.value ∙ ap (λ what. length (rules_on s what)) row.what ∙ ap length (sym (rules_of_event s net f seen c.args.x m at (sym row.shape ∙ c.in-Event.is)))
 
 pub returns-in_default-clause-value : goal.returns-in_default-clause-value
 returns-in_default-clause-value c =

@@ -27,8 +27,8 @@ returns-in-Change-clause-tells g c =
     let as_change : IsReadAs version c.args.bytes.now (Change c.in-Change.edit) = subst (IsReadAs version c.args.bytes.now) c.in-Change.is read in
     TellsLine-meaning _ _ _ c.args.bytes.now (Change c.in-Change.edit) _ as_change (change_is_not_silent one_reading version c.args.bytes.now c.in-Change.edit as_change) c.change.ensures.tells
 
-pub returns-in-Question-clause-tells : goal.returns-in-Question-clause-tells
-returns-in-Question-clause-tells g c =
+pub returns-clause-tells : goal.returns-clause-tells
+returns-clause-tells g c =
     let version = (g.M.MapCore.list c.args.core.now).version in
     let read : IsReadAs version c.args.bytes.now c.in-Ok.meaning = read_line version c.args.bytes.now c.in-Ok.meaning c.read.result c.in-Ok.is c.read.ensures.too_long c.read.ensures.read in
     let as_question : IsReadAs version c.args.bytes.now (Question c.in-Question.query) = subst (IsReadAs version c.args.bytes.now) c.in-Question.is read in

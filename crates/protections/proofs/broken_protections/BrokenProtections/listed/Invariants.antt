@@ -1,0 +1,8 @@
+use Rattle.std.proofs.Common.{◌≡◌, map, take}
+use Rattle.std.specs.List.{filter_map}
+use Rattle.tmm_model.specs.Answers.{broken, report_of}
+use Rattle.tmm_model.specs.Maps.{built}
+use Rattle.protections.proofs.broken_protections.BrokenProtections.listed.Given as goal
+
+abbrev pub invariant-loop-i : goal.invariant-loop-i
+invariant-loop-i l = map report_of l.found.items ≡ filter_map (broken (built l.standing.present)) (take l.i l.standing.present.premises)

@@ -1,0 +1,27 @@
+use Rattle.std.proofs.Common.{◌≡◌, ◌∙◌, ◌+◌, ◌++◌, ◌∷◌, List, [], ap, sym, subst, take}
+use Rattle.std.specs.Prelude.{Some, slice_get}
+use Rattle.std.specs.Option.{option_copied}
+use Rattle.std.proofs.lemmas.Option.{slice_get_within, get_or_from_slice_get}
+use Rattle.tmm_model.specs.declared.premise.Premise.{Premise}
+use Rattle.tmm_model.specs.Maps.{built}
+use Rattle.protections.specs.declared.review.Reviewed.{Reviewed}
+use Rattle.protections.specs.Found.{found_in}
+use Rattle.protections.specs.Reviews.{AreReviewed}
+use Rattle.protections.proofs.Reviews.{reviewed_push}
+use Rattle.protections.proofs.Turns.{take_next}
+use Rattle.protections.proofs.reviewing.review_standing.Goals as goal
+
+pub loop-i-preserved : goal.loop-i-preserved
+loop-i-preserved c =
+    let m = built c.args.standing.now.present in
+    let found = found_in c.args.old.now in
+    let ps = c.args.standing.now.present.premises in
+    let i = c.loop-i.i in
+    let p = c.in-Some.premise.now in
+    let o = c.in_ok-review_premise-in-Some.field-0 in
+    let rs = c.loop-i.found.items in
+    let at : slice_get ps i ≡ Some p = sym c.at.ensures ∙ ap option_copied c.in-Some.is in
+    let taken : take (i + 1) ps ≡ take i ps ++ p ∷ [] = take_next ps i p p (slice_get_within ps i p at) (get_or_from_slice_get ps i p p at) in
+    subst (λ (l : List Premise). AreReviewed m found l c.push_some_to.new.list.items) (sym taken)
+    (subst (λ (l : List Reviewed). AreReviewed m found (take i ps ++ p ∷ []) l) (sym c.in_ok-push_some_to-in-Some.ensures)
+    (reviewed_push m found (take i ps) rs p o c.loop-i.invariant c.in_ok-review_premise-in-Some.ensures))

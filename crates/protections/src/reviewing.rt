@@ -1,0 +1,259 @@
+// What an edit makes of the broken protections, with what it left alone not looked at again.
+ghost use Rattle.std.specs.Prelude.{◌≡◌, [], true, false, filter, is_some, IfOk, IsSome};
+ghost use Rattle.std.specs.List.{Contains};
+ghost use Rattle.tmm_model.specs.Answers.{broken, reports};
+ghost use Rattle.tmm_model.specs.Edits.{next_list};
+ghost use Rattle.tmm_model.specs.Maps.{built};
+ghost use Rattle.tmm_model.specs.Sorts.{class_in};
+ghost use Rattle.tmm_model.specs.Standing.{Standing as AList};
+ghost use Rattle.dist_net.specs.Net.{Nets, IsMovedAt};
+ghost use Rattle.list_net.specs.Network.{IsThere};
+ghost use Rattle.spots.specs.Seen.{Holds};
+ghost use Rattle.occ_tree.specs.OfLists.{IsTreeOf};
+ghost use Rattle.occ_tree.specs.Places.{forest};
+ghost use Rattle.revisions.specs.Standing.{IsLeftOut};
+ghost use Rattle.supports.specs.Edited.{IsEdited, AreOthersUntouched};
+ghost use Rattle.protections.specs.Found.{AreFound, found_in};
+ghost use Rattle.protections.specs.Kept.{IsStill, IsOfUntouched};
+ghost use Rattle.protections.specs.Reviews.{Reviews, AreReviewed, IsReviewOf};
+
+use crate::broken_protections::BrokenProtections;
+use crate::lists::{push_some_to, push_to};
+use crate::reporting::broken;
+use crate::review::{Review, Reviewed};
+use dist_net::DistNet;
+use list_net::number_of;
+use occ_tree::Tree;
+use premise_list::Standing;
+use std::alloc::Global;
+use tmm_model::{Edit, Name, NoMemory, PointName, Premise};
+
+/// What an edit makes of the broken protections. A protection is looked at again only if the edit
+/// adds it, or touches the class of its fact, or a point of it moved; where it touches no class and
+/// moves nothing, premises are not walked.
+pub fn review_edit(
+    alloc: Global,
+    standing: &Standing,
+    tree: &Tree,
+    net: &DistNet,
+    edit: &Edit,
+    classes: &[Name],
+    erased: &[Name],
+    old: &BrokenProtections,
+) -> Result<Review, NoMemory>
+    requires seen { IsTreeOf standing.now.present net.now.present tree.now }
+    requires holds { Holds (built standing.now.present).believed (forest tree.now) }
+    requires edited { IsEdited standing.now net.now edit.now tree.now }
+    requires others { AreOthersUntouched net.now tree.now classes.now }
+    requires left_out { IsLeftOut standing.now.committed standing.now.present erased.now }
+    requires old { AreFound (reports (built standing.now.committed)) (found_in old.now) }
+    ensures { IfOk result (IsReviewOf (built standing.now.committed) (built standing.now.present) (found_in old.now)) }
+{
+    let erased = broken_among(alloc, old, erased)?;
+    let reviewed = if net.moved().is_empty() && classes.is_empty() {
+        review_added(alloc, standing, tree, net, edit, old)?
+    } else {
+        review_standing(alloc, standing, tree, net, edit, classes, old)?
+    };
+    Ok(Review { erased, reviewed })
+}
+
+// Those of the names under which there is a report.
+fn broken_among(
+    alloc: Global,
+    old: &BrokenProtections,
+    names: &[Name],
+) -> Result<Vec<Name>, NoMemory>
+    ensures { IfOk result (λ found. found.items ≡ filter (λ name. is_some (found_in old.now name)) names.now) }
+{
+    let mut found = Vec::new(alloc);
+    for name in names {
+        if old.has(*name) {
+            push_to(&mut found, *name)?;
+        }
+    }
+    Ok(found)
+}
+
+// The protection that an edit adds, which touches no class and moves no point: all others are left
+// alone.
+fn review_added(
+    alloc: Global,
+    standing: &Standing,
+    tree: &Tree,
+    net: &DistNet,
+    edit: &Edit,
+    old: &BrokenProtections,
+) -> Result<Vec<Reviewed>, NoMemory>
+    requires seen { IsTreeOf standing.now.present net.now.present tree.now }
+    requires holds { Holds (built standing.now.present).believed (forest tree.now) }
+    requires edited { IsEdited standing.now net.now edit.now tree.now }
+    requires others { AreOthersUntouched net.now tree.now [] }
+    requires unmoved { net.now.moved ≡ [] }
+    requires old { AreFound (reports (built standing.now.committed)) (found_in old.now) }
+    ensures { IfOk result (λ found. AreReviewed (built standing.now.present) (found_in old.now) standing.now.present.premises found.items) }
+{
+    // it tells the proof that the tokens of each class are those of the nodes
+    tree.have_tokens();
+    // and that nothing moved but what is listed
+    let _ = net.moved();
+    let mut found = Vec::new(alloc);
+    if let Edit::Add(premise) = edit {
+        push_some_to(
+            &mut found,
+            look(alloc, standing, tree, net, edit, old, premise)?,
+        )?;
+    }
+    Ok(found)
+}
+
+// The protections that an edit did not leave alone.
+fn review_standing(
+    alloc: Global,
+    standing: &Standing,
+    tree: &Tree,
+    net: &DistNet,
+    edit: &Edit,
+    classes: &[Name],
+    old: &BrokenProtections,
+) -> Result<Vec<Reviewed>, NoMemory>
+    requires seen { IsTreeOf standing.now.present net.now.present tree.now }
+    requires holds { Holds (built standing.now.present).believed (forest tree.now) }
+    requires edited { IsEdited standing.now net.now edit.now tree.now }
+    requires others { AreOthersUntouched net.now tree.now classes.now }
+    requires old { AreFound (reports (built standing.now.committed)) (found_in old.now) }
+    ensures { IfOk result (λ found. AreReviewed (built standing.now.present) (found_in old.now) standing.now.present.premises found.items) }
+{
+    let mut found = Vec::new(alloc);
+    for i in 0..standing.len() {
+        match standing.at(i) {
+            Some(premise) => push_some_to(
+                &mut found,
+                review_premise(alloc, standing, tree, net, edit, classes, old, premise)?,
+            )?,
+            None => unreachable!(),
+        }
+    }
+    Ok(found)
+}
+
+// A protection that the edit did not leave alone.
+fn review_premise(
+    alloc: Global,
+    standing: &Standing,
+    tree: &Tree,
+    net: &DistNet,
+    edit: &Edit,
+    classes: &[Name],
+    old: &BrokenProtections,
+    premise: &Premise,
+) -> Result<Option<Reviewed>, NoMemory>
+    requires seen { IsTreeOf standing.now.present net.now.present tree.now }
+    requires holds { Holds (built standing.now.present).believed (forest tree.now) }
+    requires edited { IsEdited standing.now net.now edit.now tree.now }
+    requires others { AreOthersUntouched net.now tree.now classes.now }
+    requires old { AreFound (reports (built standing.now.committed)) (found_in old.now) }
+    requires stands { Contains standing.now.present.premises premise.now }
+    ensures { IfOk result (Reviews (built standing.now.present) (found_in old.now) premise.now) }
+{
+    if is_left_alone(standing, tree, net, edit, classes, premise) {
+        return Ok(None);
+    }
+    look(alloc, standing, tree, net, edit, old, premise)
+}
+
+// A protection, looked at.
+fn look(
+    alloc: Global,
+    standing: &Standing,
+    tree: &Tree,
+    net: &DistNet,
+    edit: &Edit,
+    old: &BrokenProtections,
+    premise: &Premise,
+) -> Result<Option<Reviewed>, NoMemory>
+    requires seen { IsTreeOf standing.now.present net.now.present tree.now }
+    requires holds { Holds (built standing.now.present).believed (forest tree.now) }
+    requires edited { IsEdited standing.now net.now edit.now tree.now }
+    requires old { AreFound (reports (built standing.now.committed)) (found_in old.now) }
+    requires stands { Contains standing.now.present.premises premise.now }
+    ensures { IfOk result (Reviews (built standing.now.present) (found_in old.now) premise.now) }
+{
+    match premise {
+        Premise::Protect { name, .. } => {
+            let report = broken(alloc, standing, tree, net, premise)?;
+            Ok(Some(Reviewed {
+                name: *name,
+                was_broken: old.has(*name),
+                report,
+            }))
+        }
+        _ => Ok(None),
+    }
+}
+
+// Whether the edit left a protection alone: it stood before, neither of its points moved, and the
+// class of its fact is not among these.
+fn is_left_alone(
+    standing: &Standing,
+    tree: &Tree,
+    net: &DistNet,
+    edit: &Edit,
+    classes: &[Name],
+    premise: &Premise,
+) -> bool
+    requires edited { IsEdited standing.now net.now edit.now tree.now }
+    requires others { AreOthersUntouched net.now tree.now classes.now }
+    requires stands { Contains standing.now.present.premises premise.now }
+    ensures stood { result ≡ true → Contains standing.now.committed.premises premise.now }
+    ensures same { result ≡ true → broken (built standing.now.present) premise.now ≡ broken (built standing.now.committed) premise.now }
+{
+    let Premise::Protect { fact, from, to, .. } = premise else {
+        return false;
+    };
+    if is_added(edit, premise) {
+        return false;
+    }
+    if has_moved(net, *from) {
+        return false;
+    }
+    if has_moved(net, *to) {
+        return false;
+    }
+    is_untouched(standing, tree, classes, *fact)
+}
+
+// Whether the edit adds a premise of this name.
+fn is_added(edit: &Edit, premise: &Premise) -> bool
+    ensures { result ≡ false → (list : AList) → Contains (next_list list edit.now).premises premise.now → Contains list.premises premise.now }
+{
+    match edit {
+        Edit::Add(added) => added.name() == premise.name(),
+        _ => false,
+    }
+}
+
+// Whether the point is one of those that moved.
+fn has_moved(net: &DistNet, point: PointName) -> bool
+    requires { IsThere net.now.present.names point }
+    ensures still { result ≡ false → IsStill net.now point }
+    ensures apart { IsMovedAt net.now.moved net.now.committed net.now.present }
+{
+    let moved = net.moved();
+    !moved.is_empty() && moved.contains(&number_of(net, point))
+}
+
+// Whether the class of the fact is not among these.
+fn is_untouched(standing: &Standing, tree: &Tree, classes: &[Name], fact: Name) -> bool
+    requires { IsSome (class_in standing.now.present.premises fact) }
+    ensures { result ≡ true → (nets : Nets) → AreOthersUntouched nets tree.now classes.now → IsOfUntouched standing.now nets tree.now fact }
+{
+    match standing.class_of(fact) {
+        Some(class) => {
+            // the tokens of each class are those of the nodes
+            let _ = tree.tokens(&class);
+            !classes.contains(&class)
+        }
+        None => unreachable!(),
+    }
+}
