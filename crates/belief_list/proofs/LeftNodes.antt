@@ -24,22 +24,3 @@ abbrev pub gone_at : Forest → Forest → ℕ → Option Moment
 gone_at old new x = elim (is_derived (moment_at old x) && is_none (member new x)) [ true ↦ Some (moment_at old x) | false ↦ None ]
 
 module _ (old new : Forest) (left : List LeftNode) (words : AreWords old new left) (x : ℕ) (live : IsLive old x) (gone : member new x ≡ None) where
-  -- what is told of a node is its occurrence
-  pub told_at : (n : LeftNode) → Contains left n → n.node ≡ x → gone_at old new x ≡ if_derived (moment_of n.occ.now)
-  told_at n there same =
-      let own : moment_of n.occ.now ≡ moment_at old x = words.own n there (subst (IsLive old) (sym same) live, ap (member new) same ∙ gone) ∙ ap (moment_at old) same in
-      ap (λ o. elim (is_derived (moment_at old x) && is_none o) as (λ _. Option Moment) [ true ↦ Some (moment_at old x) | false ↦ None ]) gone
-      ∙ by (is_derived (moment_at old x))
-      ∙ ap if_derived (sym own)
-    where
-      by : (b : Bool) → elim (b && true) as (λ _. Option Moment) [ true ↦ Some (moment_at old x) | false ↦ None ] ≡ elim b [ true ↦ Some (moment_at old x) | false ↦ None ]
-      by true = refl
-      by false = refl
-
-  -- nothing is told only of what no rule brings about
-  pub untold_at : (Contains (map (λ n. n.node) left) x → ⊥) → gone_at old new x ≡ None
-  untold_at untold = by (is_derived (moment_at old x)) refl
-    where
-      by : (b : Bool) → is_derived (moment_at old x) ≡ b → gone_at old new x ≡ None
-      by true e = absurd (untold (words.all x (live, gone) e))
-      by false e = ap (λ b. elim (b && is_none (member new x)) as (λ _. Option Moment) [ true ↦ Some (moment_at old x) | false ↦ None ]) e

@@ -94,9 +94,6 @@ module _ (s : Standing) (net : Net) (c e : BeliefNet) (trigger : ℕ) (rule : Li
   free : IsLive f y → ⊥
   free l = let (m, at) = node_at f y l in none_some m (sym brings.enters.adds.enters.free ∙ at)
 
-  at_effect : moment_at g y ≡ effect
-  at_effect = moment_at-is g y node here ∙ brings.enters.adds.is
-
   -- what was there is there
   goes_on : (x : ℕ) → IsLive f x → IsLive g x
   goes_on x l = let (m, at) = node_at f x l in elim (eqb_tells x y) [

@@ -21,9 +21,6 @@ pub record Dropping (event : ℕ) (old new : Decisions) : Type 0 where
   pub classes : new.classes ≡ old.classes
   pub each : (i : ℕ) → IsSameRow old new i ⊎ IsDropped event old new i
 
-pub dropping_none : (event : ℕ) (d : Decisions) → Dropping event d d
-dropping_none event d = record { rules = refl; classes = refl; each = λ i. inl (record { row = refl; waits = refl }) }
-
 pub dropping_next : (event : ℕ) (old mid new : Decisions) (x : ℕ) (row : TableRow Pair 8) → Dropping event old mid
     → (table_of mid).row x ≡ Some row → row.value.trigger ≡ event
     → Removes mid.rows new.rows x → Puts (dates_in mid.waiting) (dates_in new.waiting) x None → new.rules ≡ mid.rules → new.classes ≡ mid.classes → Dropping event old new

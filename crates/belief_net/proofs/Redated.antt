@@ -37,14 +37,6 @@ pub right_first : (net : Net) (k : Kept) (x : ℕ) (m : Member) → HasList net 
     → early (present k) x ≡ point_early net m.begin → DatesFirst net x k k
 right_first net k x m list at root is roots but = right_roots_stay net (present k) x m roots at root is list but
 
--- no roots, no nodes
-pub none_follow : (s : State) → HaveRoots s → first_or None (below s None) ≡ None → (x : ℕ) → IsLive (forest s) x → ⊥
-none_follow s have none x live = let (r, on, under) = have.above x live in empty (below s None) none r on
-  where
-    empty : (l : List ℕ) → first_or None l ≡ None → (i : ℕ) → IsOn l i → ⊥
-    empty [] none i on = (let no : false ≡ true = on in cc)
-    empty (x ∷ l) none i on = (let no : Some x ≡ None = none in cc)
-
 no_member : (p : ℕ) → Contains [] p → ⊥
 no_member p on = In-from_Contains [] p on
 

@@ -81,22 +81,6 @@ module _ (s : Standing) (net : Net) (b e : BeliefNet) (rests : Rests b e) where
   waits_same : waits_in e.decisions.waiting ≡ waits_in b.decisions.waiting
   waits_same = λ j i. (ap is_some (rests.none_waits i) ∙ sym (ap is_some (rests.none_waited i))) j
 
-  pub fit_rests : IsFit s net b → IsFit s net e
-  fit_rests fit = record {
-    tree = subst (IsTreeOf s net) (sym rests.tree) fit.tree;
-    events = subst (λ (t : Kept). HaveEvents t (table_of e.decisions)) (sym rests.tree) (subst (λ rows. HaveEvents b.tree (table rows)) (sym rests.rows) fit.events);
-    under = all;
-    dated = λ i date at. absurd (let both : None ≡ Some date = sym (rests.none_waits i) ∙ at in cc);
-  }
-    where
-      both_ways : AreUnder s (record e.decisions { rows = b.decisions.rows; rules = b.decisions.rules; classes = b.decisions.classes })
-      both_ways = record { classes = fit.under.classes; named = fit.under.named }
-
-      all : AreUnder s e.decisions
-      all = subst (λ rows. AreUnder s (record e.decisions { rows = rows })) (sym rests.rows)
-          (subst (λ rules. AreUnder s (record e.decisions { rows = b.decisions.rows; rules = rules })) (sym rests.rules)
-          (subst (λ classes. AreUnder s (record e.decisions { rows = b.decisions.rows; rules = b.decisions.rules; classes = classes })) (sym rests.classes) both_ways))
-
   pub underway_rests : (old : Standing) (edit : Edit) (taken : List (Moment × List ℕ)) → IsUnderway old edit net b taken → IsUnderway old edit net e taken
   underway_rests old edit taken k =
       subst (λ (t : Kept). IsKeptBy old edit net (forest t) (table e.decisions.rows) (name_in e.decisions.rules) (waits_in e.decisions.waiting) taken) (sym rests.tree)

@@ -30,23 +30,6 @@ fast_stand nets added listed pairs kept fast moved one_of both_kept start are = 
   };
 }
   where
-    -- no two fast points make a pair
-    no_pair : (a b : ℕ) → is_moved nets added a b ≡ true → is_in fast a ≡ true → is_in fast b ≡ true → ⊥
-    no_pair a b is in_a in_b =
-        let (la, fast_a) = are.own a in_a in
-        let (lb, fast_b) = are.own b in_b in
-        let pair : has_pair pairs a b ≡ true = moved.each a b la lb ∙ is in
-        by_starts pair fast_a.1 fast_b.1 (one_of.each a b la lb pair)
-      where
-        by_starts : has_pair pairs a b ≡ true
-            → ((a ≡ 0) ⊎ ((has_pair pairs a 0 ≡ false) × (has_pair pairs 0 a ≡ false) × (Contains listed a → ⊥)))
-            → ((b ≡ 0) ⊎ ((has_pair pairs b 0 ≡ false) × (has_pair pairs 0 b ≡ false) × (Contains listed b → ⊥)))
-            → Contains listed a ⊎ Contains listed b → ⊥
-        by_starts pair (inl a_is) (inl b_is) on = not_both (is_moved nets added a b) is (not_of_one nets added a b (a_is ∙ sym b_is))
-        by_starts pair (inl a_is) (inr b_out) on = not_both (has_pair pairs a b) pair (ap (λ z. has_pair pairs z b) a_is ∙ b_out.1)
-        by_starts pair (inr a_out) (inl b_is) on = not_both (has_pair pairs a b) pair (ap (λ z. has_pair pairs a z) b_is ∙ a_out.0)
-        by_starts pair (inr a_out) (inr b_out) (inl on) = a_out.2 on
-        by_starts pair (inr a_out) (inr b_out) (inr on) = b_out.2 on
 
     by : (a b : ℕ) → is_moved nets added a b ≡ true → (v : Bool) → is_in fast a ≡ v → (w : Bool) → is_in fast b ≡ w → (is_out fast a ≡ true) ⊎ (is_out fast b ≡ true)
     by a b is false out w other = inl (ap not out)
@@ -56,45 +39,6 @@ fast_stand nets added listed pairs kept fast moved one_of both_kept start are = 
 -- ---- whether a point stands fast
 
 module _ (listed : List ℕ) (pairs kept : List Bool) (p : ℕ) where
-  -- pairs with `start`, by their places
-  pub to_start : is_in pairs (p * 256) ≡ has_pair pairs p 0
-  to_start = let same : p * 256 ≡ p * 256 + 0 = omega arith in ap (is_in pairs) same
-
-  pub from_start : is_in pairs p ≡ has_pair pairs 0 p
-  from_start = let same : p ≡ 0 * 256 + p = omega arith in ap (is_in pairs) same
-
-  pub not_kept : is_in kept p ≡ false → (false ≡ true) ↔ IsFastBy listed pairs kept p
-  not_kept gone = (λ e. cc, λ h. not_both (is_in kept p) h.0 gone)
-
-  pub kept_start : is_in kept p ≡ true → p ≡ 0 → (true ≡ true) ↔ IsFastBy listed pairs kept p
-  kept_start stays is = (λ e. (stays, inl is), λ h. refl)
-
-  pub paired : (p ≡ 0 → ⊥) → (is_in pairs (p * 256) ≡ true) ⊎ (is_in pairs p ≡ true) → (false ≡ true) ↔ IsFastBy listed pairs kept p
-  paired other pair = (
-    λ e. cc,
-    λ h. elim h.1 [
-      | inl is ↦ absurd (other is)
-      | inr out ↦ elim pair [
-        | inl to ↦ not_both (has_pair pairs p 0) (sym to_start ∙ to) out.0
-        | inr from ↦ not_both (has_pair pairs 0 p) (sym from_start ∙ from) out.1
-      ]
-    ],
-  )
-
-  pub by_list : (v : Bool) → (p ≡ 0 → ⊥) → is_in kept p ≡ true → is_in pairs (p * 256) ≡ false → is_in pairs p ≡ false → (v ≡ true) ↔ Contains listed p
-      → (not v ≡ true) ↔ IsFastBy listed pairs kept p
-  by_list v other stays to from told = (
-    (λ off. (stays, inr (sym to_start ∙ to, sym from_start ∙ from, λ on. by v off (told.1 on)))),
-    λ h. elim h.1 [ inl is ↦ absurd (other is) | inr out ↦ turned v (λ is. out.2 (told.0 is)) ],
-  )
-    where
-      by : (w : Bool) → not w ≡ true → w ≡ true → ⊥
-      by true off on = let no : false ≡ true = off in cc
-      by false off on = cc
-
-      turned : (w : Bool) → (w ≡ true → ⊥) → not w ≡ true
-      turned false off = refl
-      turned true off = absurd (off refl)
 
 -- ---- what moves
 

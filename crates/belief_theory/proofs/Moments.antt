@@ -37,10 +37,6 @@ printed-along t (r ∷ rs) = printed-along (After t r) rs ∙ append_assoc (prin
 pub printed-moment_of : (o : Occ) → printed (moment_of o) ≡ occ_word o
 printed-moment_of o = printed-along _ o.rules.items
 
-pub printed-moment_of_point : (p : QueryPoint) → printed (moment_of_point p) ≡ query_word p
-printed-moment_of_point (Declared p) = refl
-printed-moment_of_point (Derived o) = printed-moment_of o
-
 -- ---- the moment that rules lead to
 
 pub along-append : (t : Moment) (rs qs : List (List ℕ)) → along t (rs ++ qs) ≡ along (along t rs) qs

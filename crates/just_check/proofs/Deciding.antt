@@ -120,15 +120,6 @@ later_nodes s sound f nodes i x below is rising y at =
 
 module _ (s : Standing) (net : Net) (old c : Checked) (date : ℤ) (taken : IsTaken s net c) (tree : c.tree ≡ old.tree) (nodes : c.nodes ≡ old.nodes)
     (own : (x : ℕ) → In x (decided_in c) → In x (decided_in old) ⊎ (date_of s (moment_at (forest old.tree) x) ≤ℤ date)) where
-  -- where all is decided
-  pub through_all : length c.nodes.items ≤ c.decided → DecidesThrough s net old c date
-  through_all full = record {
-    taken = taken;
-    tree = tree;
-    nodes = nodes;
-    own = own;
-    all = λ x at below. subst (In x) (sym (take_all c.decided c.nodes.items full)) (subst (λ ns. In x ns.items) (sym nodes) at);
-  }
 
   -- where the next begins later
   pub through_next : (x : ℕ) → c.decided < length c.nodes.items → x ≡ get_or c.nodes.items c.decided x → date <ℤ date_of s (moment_at (forest c.tree) x) → DecidesThrough s net old c date
@@ -146,14 +137,6 @@ module _ (s : Standing) (net : Net) (old c : Checked) (date : ℤ) (taken : IsTa
     where
       apart : (a p q : ℤ) → a <ℤ p → p ≤ℤ q → q ≤ℤ a → ⊥
       apart a p q h g e = omega (arith, ints)
-
--- where all is decided
-pub all_decided : (s : Standing) (net : Net) (c : Checked) → IsTaken s net c → length c.nodes.items ≤ c.decided → IsDecided s net c
-all_decided s net c taken full = record {
-  so_far = taken.so_far;
-  live = taken.live;
-  expects = subst (λ events. Expects s (forest c.tree) (rows_of c) events c.expected) (take_all c.decided c.nodes.items full) taken.expects;
-}
 
 -- ---- the event of an origin is decided
 

@@ -71,13 +71,6 @@ awaits_none None false w e is = absurd (cc)
 awaits_none (Some x) true w e is = absurd (cc)
 awaits_none (Some x) false w e is = ((λ h. absurd (cc)), (λ h. let never : Some (Some x) ≡ Some None = is ∙ h in absurd (cc)))
 
-pub awaits_kept : (e : Expected) (o : Origin) → IsSome (entry_at e o) → Awaits e e o
-awaits_kept e o some = record { own = by (entry_at e o) some; others = λ p other. refl }
-  where
-    by : (x : Option (Option ℕ)) → IsSome x → x ≡ awaited x
-    by None h = cc
-    by (Some x) h = refl
-
 -- ---- what comes of origins
 
 pub one_node : (f : Forest) → IsOnce f → (x y : ℕ) → IsLive f x → IsLive f y → moment_at f x ≡ moment_at f y → x ≡ y

@@ -84,15 +84,6 @@ IsWalk-from_steps known p q [] own leads = leads
 IsWalk-from_steps known p q (s ∷ steps) own leads =
     (Contains-map arc_of known s (All-contains (Contains known) (s ∷ steps) s own (Contains-cons_first s steps)), leads.0, IsWalk-from_steps known s.to q steps (All-tail (Contains known) s steps own) leads.1)
 
--- a path over fewer constraints
-pub IsPath-kept : (known more : List WalkStep) → ((s : WalkStep) → Contains known s → Contains more s) → (p q : PointName) (steps : List WalkStep) → IsPath known p q steps → IsPath more p q steps
-IsPath-kept known more sub p q steps is =
-    record { own = All-from_contains (Contains more) steps (λ s m. sub s (All-contains (Contains known) steps s is.own m)); leads = is.leads; distinct = is.distinct }
-
-pub IsCycleBy-kept : (known more : List WalkStep) → ((s : WalkStep) → Contains known s → Contains more s) → (first : WalkStep) (sum : ℤ) (steps : List WalkStep) → IsCycleBy known first sum steps → IsCycleBy more first sum steps
-IsCycleBy-kept known more sub first sum steps is =
-    record { rest = is.rest; are = is.are; back = IsPath-kept known more sub first.to first.from is.rest is.back; sums = is.sums }
-
 -- ---- cycles
 
 flips : (p q : PointName) → same_point p q ≡ same_point q p

@@ -225,28 +225,6 @@ is_nothing s next none = by next none
     by (Reviewed review) e = cc
     by (Changed made) e = cc
 
--- what is held is so where less is known of protections
-held_more : (s : Standing) (net : Net) (guarded guarded_new : Bool) (edit : Edit) → guarded_new ≡ (guarded || adds_protection edit) → IsHeld s net guarded → IsHeld s net guarded_new
-held_more s net guarded guarded_new edit may held =
-    record { network = held.network; horizon = held.horizon; unguarded = λ none. held.unguarded (neither guarded (adds_protection edit) (sym may ∙ none)).0 }
-
--- where no edit is made all is as it was
-pub kept_map : (lists : States) (nets : Nets) (b : BeliefNet) (view : KeptView) (guarded : Bool) (next : Next) → IsNetMap lists nets b view guarded next
-    → (lists_new : States) (nets_new : Nets) (guarded_new : Bool) (edit : Edit) → lists_new ≡ lists → nets_new.present ≡ nets.present → nets_new.committed ≡ nets.committed
-    → guarded_new ≡ (guarded || adds_protection edit) → IsNetMap lists_new nets_new b view guarded_new next
-kept_map lists nets b view guarded next is lists_new nets_new guarded_new edit list now then_ may =
-    subst (λ (s : States). IsNetMap s nets_new b view guarded_new next) (sym list)
-    (record {
-      held = subst (λ (n : Net). IsHeld lists.committed n guarded_new) (sym then_) (held_more lists.committed nets.committed guarded guarded_new edit may is.held);
-      before = subst (λ (n : Net). MayRest lists.committed n b view) (sym then_) is.before;
-      settled = λ idle. record { list = (is.settled idle).list; net = now ∙ (is.settled idle).net ∙ sym then_ };
-      rests = λ idle. subst (λ (n : Net). IsResting lists.committed n b view) (sym then_) (is.rests idle);
-      next_held = subst (λ (n : Net). IsHeld lists.present n guarded_new) (sym now) (held_more lists.present nets.present guarded guarded_new edit may is.next_held);
-      next_nodes = subst (λ (n : Net). AreNodesOf lists.present n b) (sym now) is.next_nodes;
-      next_view = is.next_view;
-      next_places = is.next_places;
-    })
-
 -- ---- how many decisions are counted
 
 -- where no cause stands against the edit, what is counted within what it touches is so of the list

@@ -76,10 +76,3 @@ no_rows s f rows none empty =
     })
 
 -- ---- rows that are the same
-
--- rows that agree under each number are of the same nodes
-pub rows_agree : (s : Standing) (f : Forest) (rows rows_new : ℕ → Option KeptRow) → ((x : ℕ) → rows_new x ≡ rows x) → AreRowsOf s f rows → AreRowsOf s f rows_new
-rows_agree s f rows rows_new same are = record {
-  own = λ x live. let (r, at, is) = are.own x live in (r, same x ∙ at, is);
-  none = λ x gone. same x ∙ are.none x gone;
-}

@@ -160,10 +160,6 @@ IsLeastPath-end edges a b rank at steps dates same is =
       distinct = subst (λ (p : ℕ). IsDistinct same_number (points (arcs_of steps) p)) same is.distinct;
     }
 
-pub HasFar-from : (arcs : List (Arc ℕ)) (a b : ℕ) (x : Bound) → (x ≡ Free → ⊥) → IsFar arcs a b x → (s : ℤ) × IsFar arcs a b (Finite s)
-HasFar-from arcs a b (Finite s) some far = (s, far)
-HasFar-from arcs a b Free some far = absurd (some refl)
-
 -- ---- for the answers of `ranks`
 
 pub zeros : (n p : ℕ) (ranks : List ℕ) → ranks ≡ replicate n 0 → get_or ranks p 0 ≤ 0

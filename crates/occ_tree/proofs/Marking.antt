@@ -24,18 +24,6 @@ marks_stay marks = record { long = refl; kept = λ k h. h }
 pub marks_again : (a b c : List Bool) → KeepsMarks a b → KeepsMarks b c → KeepsMarks a c
 marks_again a b c first then_ = record { long = then_.long ∙ first.long; kept = λ k h. then_.kept k (first.kept k h) }
 
-pub marked_one : (marks : List Bool) (i : ℕ) → i < length marks → KeepsMarks marks (slice_set marks i true) × IsMarked (slice_set marks i true) i
-marked_one marks i within = (
-  record {
-    long = length-set marks i true;
-    kept = λ k h. elim (cases_eq k i) [
-      | inl same ↦ subst (IsMarked (slice_set marks i true)) (sym same) (get_or-set_same marks i true false within)
-      | inr other ↦ get_or-set_other marks i k true false other ∙ h
-    ];
-  },
-  get_or-set_same marks i true false within,
-)
-
 -- what was marked is marked
 pub kept_marked : (old new : List Bool) (numbers : List ℕ) → KeepsMarks old new → AreMarked old numbers → AreMarked new numbers
 kept_marked old new numbers keeps all k on within = let long = keeps.long in keeps.kept k (all k on (omega (arith, within, long)))

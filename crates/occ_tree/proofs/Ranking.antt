@@ -99,6 +99,3 @@ module _ (node : Nodes) (placed : ArePlaced node) where
       by Equal Less e t = cc
       by Equal Greater e t = cc
       by Equal Equal e t = one_word x y x_live y_live (tied_text (word_in node x) (word_in node y) e)
-
-  pub nodes_ordered : IsOrderOn (λ x. IsSome (node x)) (node_cmp node)
-  nodes_ordered = record { antisymm = λ x y _ _. (nodes_total node).antisymm x y; trans = λ x y z _ _ _. (nodes_total node).trans x y z; strict = node_strict }

@@ -54,9 +54,6 @@ links_there node x = by (node x) refl
 pub parted_to_none : (s : Sums) (u : List Link) → AreSums s [] → ArePartedBy s u []
 parted_to_none s u sums = record { front = []; first = u; second = []; sums = sums; first_is = refl; second_is = refl; apart = apart_from_none u }
 
-pub parted_from_none : (s : Sums) (v : List Link) → AreSums s [] → ArePartedBy s [] v
-parted_from_none s v sums = record { front = []; first = []; second = v; sums = sums; first_is = refl; second_is = refl; apart = apart_to_none v }
-
 -- spots to which rules lead from one point are of one root
 pub of_one_root : (net : Net) (f : Forest) → HasList net f → (p q : Spot) → base_of f p ≡ base_of f q → AreOfOneRoot f p q
 of_one_root net f list (Declared p) q base = tt
@@ -141,13 +138,3 @@ module _ (node : Nodes) (placed : ArePlaced node) (x : ℕ) (n : Node) (at : nod
       (λ i. along (At (Begin (root i))) (same i)) ∙ sym (moment_at-is (forest_in node) x (member_of (way_to node x) n) (member_at node x n at))
 
 -- ---- its word
-
--- a name with what parts it from the next one, and the names behind it
-text_piece : (node : Nodes) (u : List ℕ) → first_piece (map (name_at node) u) ++ text_on node (drop 1 u) ≡ text_on node u
-text_piece node [] = refl
-text_piece node (x ∷ []) = refl
-text_piece node (x ∷ (y ∷ u)) = append_assoc (name_at node x) (47 ∷ []) (name_at node y ++ slashed (map (name_at node) u))
-
--- a word from some name on is what stands there of it, and the word from the next name on
-pub word_piece : (node : Nodes) (x k : ℕ) → piece_at node x k ++ text_on node (drop (k + 1) (way_to node x).numbers) ≡ text_on node (drop k (way_to node x).numbers)
-word_piece node x k = ap (λ (u : List ℕ). piece_at node x k ++ text_on node u) (sym (drop-drop 1 k (way_to node x).numbers)) ∙ text_piece node (drop k (way_to node x).numbers)

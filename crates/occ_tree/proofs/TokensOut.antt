@@ -31,16 +31,6 @@ not_among x y out other free gone = elim (or_cases (eqb y x) (list_any (eqb y) o
 ]
 
 module _ (node : Nodes) (lists : ℕ → List (TokenRow Spot)) (out : List ℕ) (x : ℕ) (n : Node) (at : node x ≡ Some n) (free_x : IsOn out x → ⊥) (t : AreTokensBut node lists out) where
-  -- an event is on no list
-  pub out_event : n.list ≡ None → AreTokensBut node lists (x ∷ out)
-  out_event none = record {
-    rows = t.rows;
-    each = λ y k. (
-      λ on. let (has, free) = (t.each y k).0 on in (has, not_among x y out (λ same. no_list node lists out x n at k none (subst (λ z. HasList node z k) same has)) free),
-      λ (has, free). (t.each y k).1 (has, λ gone. free (IsOn-rest y x out gone)),
-    );
-    in_order = t.in_order;
-  }
 
   module _ (k : ℕ) (list : n.list ≡ Some k) (i : ℕ) (place : IsPlaceFor (node_cmp node) (numbers_in (lists k)) x i) where
     found : (i < length (numbers_in (lists k))) × (slice_index_or (numbers_in (lists k)) i 0 ≡ x)

@@ -136,36 +136,6 @@ module _ (old : Standing) (edit : Edit) (sound_old : IsSound old) (sound_new : I
           ((gone t r).0 (subst (λ z. In z left) is at)).1 ((seeds.derived t r).0 (subst (Contains b) is live)).1
 
   module _ (s : State) (begins : Begins old (next_list old edit) s) where
-    new_touched : (n : TimeMap) (t : Moment) (r : List ℕ) → is_decision (built old) (t, r) ≡ false → is_touched (built old) n (t, r) ≡ true
-    new_touched n t r e = by (is_decision (built old) (t, r)) (old.horizon == n.list.horizon) (same_tokens (watched (built old) r) (watched n r)) (same_gaps (built old) n (watched_points n t r)) e
-      where
-        by : (a b c d : Bool) → a ≡ false → (not a || not b || not c || not d) ≡ true
-        by false b c d e = refl
-        by true b c d e = cc
-
-    is_seeded : IsSeeded g s.nodes s.kept (Waiting s)
-    is_seeded = record {
-      root = begins.seeds.root;
-      derived = λ t r. (
-        (λ at. let h = (begins.seeds.derived t r).0 at in (h.0, occurs_of old edit sound_old sound_new (After t r) h.1)),
-        (λ h. (begins.seeds.derived t r).1 (h.0, of_occurs old edit sound_old sound_new (After t r) h.1)),
-      );
-      old_rows = begins.old_rows;
-      new_rows = λ t r at stands e. (begins.all t r at stands (new_touched (map_of new s.nodes) t r e), begins.new_rows t r at stands e);
-      right = λ t r at stands was. elim (true_or (is_touched (built old) (map_of new s.nodes) (t, r))) [
-        | inl touches ↦ inl (begins.all t r at stands touches)
-        | inr free ↦ inr (keeps old edit sound_old sound_new s.nodes begins.seeds t r stands free)
-      ];
-      waits = λ t r at. let h = begins.only t r at in (h.0, h.1);
-      touched = λ t r at believed. let h = begins.only t r at in elim h.2 [ inl first ↦ stays_touched old edit sound_old sound_new s.nodes begins.seeds t r h.1 first | inr last ↦ last ];
-    }
-
-    first_keeps : Keeps g laws s
-    first_keeps = record {
-      date = negsuc 0;
-      keeping = subst (λ made. IsKeeping g s.nodes s.kept (Waiting s) made (negsuc 0)) (sym begins.none_taken) (seeded g laws s.nodes s.kept (Waiting s) is_seeded);
-      told = subst (λ ins. IsTold g s.nodes ins s.left) (sym begins.none_entered) (told_first s.nodes s.left begins.seeds begins.gone begins.gone_derived begins.gone_once);
-    }
 
     module _ (last : State) (reaches : Reaches g s last) where
       k : Keeps g laws last

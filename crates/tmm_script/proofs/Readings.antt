@@ -32,12 +32,6 @@ module _ (version : Version) (ws : List (List ℕ)) (w : List ℕ) (rest : List 
     unfolding line_of
     line_other k = rw (is, f, k) refl
 
-    pub no_change : edit_of version w rest ≡ None → (e : Edit) → Reads version ws (Change e) → ⊥
-    no_change k e h =
-        let p = map_some Question (query_of w rest) (Change e) (sym (line_other k) ∙ line_of-complete version ws (Change e) h) in
-        let q : Question p.0 ≡ Change e = p.2 in
-        cc
-
 -- **What is read of a line's words is what the line says.**
 pub read-says : (version : Version) (line : List ℕ) (result : Result Line Stop) → IsRead result (line_of version (words line)) → IsReadingOf version line result
 read-says version line (Ok l) read = line_of-sound version (words line) l read

@@ -99,10 +99,6 @@ TellsLine-refused old k line refusal Memory answers other told = ((other, refl),
 TellsLine-refused old k line refusal (ReplyOf bytes kind) answers other told =
     ((told.0, answers told.0 told.1, told.2, ap is_refusing told.3 ∙ kind-refusal told.0), told.3)
 
--- what a session tells of a line is a step of the transcript
-pub Step-told : (old new : Standing) (k : ℕ) (line : List ℕ) (t : Told) → TellsLine old k line t new → Step old k line (turn_of t) new
-Step-told old new k line t told = told.0
-
 -- ---- a line says one thing
 
 pub change_is_not_silent : ReadingIsOne → (version : Version) (line : List ℕ) (edit : Edit) → IsReadAs version line (Change edit) → IsReadAs version line Blank → ⊥

@@ -87,18 +87,6 @@ module _ {T : Type 0} {F : ℕ} where
         | inr apart ↦ other_latest x log (Removed y) (λ same. let e : y ≡ x = cc in apart (sym e)) (logged x r (sym (others x apart) ∙ is) gone)
       ]
 
-  -- no row is gone without a log
-  pub free_at_last : (row : ℕ → Option (Row T F)) → AreLogged row [] → (x : ℕ) → live (row x) ≡ None → row x ≡ None
-  free_at_last row logged x none = by (row x) refl none
-    where
-      by : (o : Option (Row T F)) → row x ≡ o → live o ≡ None → o ≡ None
-      by None at none = refl
-      by (Some r) at none = gone_by r.gone refl none
-        where
-          gone_by : (t : Bool) → r.gone ≡ t → cond t None (Some r) ≡ None → Some r ≡ None
-          gone_by true gone none = absurd (logged x r at gone)
-          gone_by false stays none = none
-
   -- rows that were gone before
   pub AreLogged-more : (row new : ℕ → Option (Row T F)) (log log_after more : List (Change T)) → log_after ≡ log ++ more → ((x : ℕ) (r : Row T F) → new x ≡ Some r → r.gone ≡ true → (s : Row T F) × (row x ≡ Some s) × (s.gone ≡ true)) → AreLogged row log → AreLogged new log_after
   AreLogged-more row new log log_after more is were logged x r there gone =

@@ -23,9 +23,3 @@ module _ (old now new : List Lists) (heads : ℕ → Option ℕ) (change : List 
   }
 
 module _ (old now : List Lists) (heads : ℕ → Option ℕ) (change : List ℕ → List ℕ) (n : ℕ) where
-  pub AreChanged-all : AreChanged old now heads change n → ((f : ℕ) → n ≤ f → heads f ≡ None) → (f h : ℕ) → list_in now f h ≡ cond (is_head (heads f) h) (change (list_in old f h)) (list_in old f h)
-  AreChanged-all so_far none f h =
-      elim (cases_lt f n) [
-        | inl below ↦ so_far.done f h below
-        | inr above ↦ so_far.rest f h above ∙ ap (λ o. cond (is_head o h) (change (list_in old f h)) (list_in old f h)) (sym (none f above))
-      ]

@@ -128,14 +128,6 @@ module _ {T : Type 0} {F : ℕ} where
 
   -- ---- changes of lists that are logged
 
-  pub LeadsBack-none : (families : List Lists) (log : List (Change T)) → LeadsBack F families families log log
-  LeadsBack-none families log = record {
-    as_many = record { rows = λ f. le_refl (family_of families f).rows; heads = λ f. le_refl (length (family_of families f).lists) };
-    longer = ([], sym (append-nil log));
-    committed = λ rows. refl;
-    undoes = λ rows all. all;
-  }
-
   pub LeadsBack-then : (first second third : List Lists) (log more most : List (Change T)) → LeadsBack F first second log more → LeadsBack F second third more most → LeadsBack F first third log most
   LeadsBack-then first second third log more most one two = record {
     as_many = record {

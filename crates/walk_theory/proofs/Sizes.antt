@@ -57,12 +57,6 @@ lesser-past_cycle_left (Finite x) w Free f = refl
 lesser-past_cycle_left Free w (Finite y) f = refl
 lesser-past_cycle_left Free w Free f = refl
 
-pub lesser-past_cycle_right : (x : Bound) (w : ℤ) (y : Bound) → Fits w x → lesser y (through y w x) ≡ y
-lesser-past_cycle_right (Finite x) w (Finite y) f = ap (λ (z : ℤ). Finite z) (int_min-left y (y +ℤ w +ℤ x) (omega (arith, ints)))
-lesser-past_cycle_right (Finite x) w Free f = refl
-lesser-past_cycle_right Free w (Finite y) f = refl
-lesser-past_cycle_right Free w Free f = refl
-
 -- ---- constraints that fit
 
 module _ {P : Type 0} (start : P) where
