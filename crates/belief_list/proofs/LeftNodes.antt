@@ -1,10 +1,9 @@
 -- The occurrences of nodes that are gone.
-use Rattle.std.proofs.Common.{◌≡◌, ℕ, Bool, true, false, List, [], ◌∷◌, map, refl, sym, ◌∙◌, ap, subst}
+use Rattle.std.proofs.Common.{◌≡◌, ℕ, true, false, List, [], ◌∷◌, refl, ap}
 use Rattle.std.specs.Prelude.{◌&&◌, Option, Some, None}
 use Rattle.std.specs.Option.{is_none}
-use Rattle.std.specs.List.{Contains}
 use Rattle.tmm_model.specs.declared.point.PointName.{PointName}
-use Rattle.tmm_model.specs.Moments.{Moment, At, After, along, is_derived, moment_of}
+use Rattle.tmm_model.specs.Moments.{Moment, At, After, along, is_derived}
 use Rattle.spots.specs.Forest.{Forest, member, IsLive, moment_at}
 use Rattle.belief_list.specs.declared.left_nodes.LeftNode.{LeftNode}
 use Rattle.belief_list.specs.LeftNodes.{AreWords, if_derived}

@@ -3,7 +3,7 @@ use Rattle.std.proofs.Common.{◌≡◌, ◌∙◌, ℕ, ◌+◌, ◌<◌, Bool,
 use Rattle.std.specs.Prelude.{◌↔◌, ◌⊎◌, ◌==◌, not, ◌&&◌, ◌||◌, filter, cond, Option, Some, None, IfSome, nat_eq, slice_index_or}
 use Rattle.std.specs.List.{All, AllByRecursion, Contains, IsDistinct, filter_map}
 use Rattle.std.specs.List.Sorted.{IsPermutation}
-use Rattle.std.specs.Option.{is_some, is_none, option_map, option_and_then, option_eq}
+use Rattle.std.specs.Option.{is_some, is_none, option_map, option_eq}
 use Rattle.std.specs.declared.cmp.Ordering.TheVariants.{Equal}
 use Rattle.std.specs.Ordering.{int_cmp, nat_cmp, ordering_then}
 use Rattle.std.specs.Cmp.{IsTotalOrder}
@@ -20,7 +20,7 @@ use Rattle.tmm_model.specs.Answers.{Row, clip}
 use Rattle.tmm_model.specs.Changes as changes
 use Rattle.tmm_model.specs.Changes.{delta, in_order}
 use Rattle.tmm_model.specs.Maps.{built, order, is_believed}
-use Rattle.tmm_model.specs.Moments.{Moment, along, same_moment, early, printed, is_derived, moment_of}
+use Rattle.tmm_model.specs.Moments.{Moment, along, same_moment, early, printed, is_derived}
 use Rattle.tmm_model.specs.Standing.{Standing, far_in}
 use Rattle.list_theory.proofs.Distinct.{Rising}
 use Rattle.list_theory.proofs.Elements.{In, In-map, map-In, In-filter, filter-In, filter_map-In, In-from_Contains, Contains-from_In, each_in}
@@ -41,12 +41,10 @@ use Rattle.belief_list.specs.declared.left_nodes.LeftNode.{LeftNode}
 use Rattle.belief_list.specs.declared.kept_rows.KeptRow.{KeptRow}
 use Rattle.belief_list.specs.declared.kept_rows.Difference.{Difference}
 use Rattle.belief_list.specs.declared.told_changes.Told.{Told}
-use Rattle.belief_list.specs.LeftNodes.{AreWords, if_derived}
+use Rattle.belief_list.specs.LeftNodes.{AreWords}
 use Rattle.belief_list.specs.KeptRows.{row_under, rows_after, numbers_of, IsRowOf, AreRowsOf, AreDifferences}
-use Rattle.belief_list.specs.Tables.{place_in, item_under, IsTable}
+use Rattle.belief_list.specs.Tables.{IsTable}
 use Rattle.belief_list.specs.Told.{clip_of, is_entered, is_loosened, if_new, new_clip, is_told, entered_at, loosened_at, clipped_at, left_at, differences_of, told_cmp, AreInOrder, IsToldNow, IsToldThen}
-use Rattle.belief_list.proofs.LeftNodes.{gone_at, told_at, untold_at}
-use Rattle.belief_list.proofs.Tables.{at-In, under_own, under_all}
 use Rattle.belief_list.proofs.Rising.{rising_sorted, rising_map, filter_some, same_told}
 
 -- what is there or not

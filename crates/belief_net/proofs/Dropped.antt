@@ -1,5 +1,5 @@
 -- Rows that go, one after the other.
-use Rattle.std.proofs.Common.{◌≡◌, ◌∙◌, ℕ, ◌⊎◌, cond, eqb, List, [], ◌∷◌, false, true, Some, None, refl, sym, ap, inl, inr}
+use Rattle.std.proofs.Common.{◌≡◌, ◌∙◌, ℕ, ◌⊎◌, cond, eqb, List, [], ◌∷◌, false, true, Some, None, sym, ap, inl, inr}
 use Rattle.std.specs.Prelude.{◌↔◌}
 use Rattle.std.proofs.lemmas.Bool.Decides.{eqb_tells}
 use Rattle.undo_rows.specs.declared.row.Row.{Row as TableRow}

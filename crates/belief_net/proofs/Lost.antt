@@ -16,7 +16,7 @@ use Rattle.occ_tree.proofs.Numbered.{place_stays}
 use Rattle.joined.specs.Listed.{IsListedUnder}
 use Rattle.joined.specs.Marking.{Mark}
 use Rattle.belief_net.specs.declared.state.Decisions.{Decisions}
-use Rattle.belief_net.specs.Decided.{table_of, AreUnder, DropsRows, KeepsLast}
+use Rattle.belief_net.specs.Decided.{table_of, AreUnder, KeepsLast}
 use Rattle.belief_net.specs.Entering.{class_at}
 use Rattle.belief_net.specs.Leaving.{MarksNode, a_token, an_event, LosesNode, IsMarkOn, AreMarksOn, IsMarkedFor, IsLost, IsLeft, LosesRows}
 use Rattle.belief_net.specs.Marks.{HaveEvents, WaitsAt}

@@ -21,12 +21,11 @@ use Rattle.spots.specs.Forest.{Forest, Member, member}
 use Rattle.spots.specs.Seen.{IsSeen}
 use Rattle.spots.specs.Spots.{base_of, links_of, links_high, AreTokens}
 use Rattle.spots.proofs.Rows.{IsRowOf, member_of_token}
-use Rattle.spots.proofs.Nodes.{live_at}
 use Rattle.joined.specs.Gaps.{IsClassSpot, begin, an_end}
 use Rattle.joined.specs.Shifting.{IsSpotOf}
 use Rattle.belief_net.specs.declared.reach.Reach.{Reach}
 use Rattle.belief_net.specs.PointSets.{is_in, PutsIn, AreThose}
-use Rattle.belief_net.specs.Reach.{IsBaseOf, IsBoundedBaseOf, Notes, HasPlaces, AreBelow256, IsSpotBelow256}
+use Rattle.belief_net.specs.Reach.{IsBaseOf, IsBoundedBaseOf, Notes, HasPlaces, AreBelow256}
 use Rattle.belief_net.proofs.Sets.{puts_none, puts_both, puts_alike, puts_into_none}
 
 -- numbers of points are below 256 where so many have a place

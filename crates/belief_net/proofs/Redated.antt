@@ -1,17 +1,16 @@
 -- Roots that get the dates of their points, one after the other.
-use Rattle.std.proofs.Common.{◌≡◌, ◌∙◌, ℕ, ℤ, List, [], ◌∷◌, Option, Some, None, refl, sym, ap, subst, inl, inr}
-use Rattle.std.specs.Prelude.{false, true}
+use Rattle.std.proofs.Common.{◌≡◌, ◌∙◌, ℕ, ℤ, [], ◌∷◌, Option, Some, None, refl, sym, ap, subst, inl, inr}
 use Rattle.std.specs.List.{Contains}
 use Rattle.row_links.specs.Lists.{IsOn, first_or, row_after}
 use Rattle.tmm_model.specs.Moments.{negated}
 use Rattle.dist_net.specs.Net.{Net, Nets, IsMovedAt, IsInUse}
 use Rattle.list_theory.proofs.Elements.{In-from_Contains}
-use Rattle.spots.specs.Forest.{Member, member, IsLive}
+use Rattle.spots.specs.Forest.{Member, member}
 use Rattle.spots.specs.Seen.{HasList}
 use Rattle.spots.proofs.InUse.{begin_in_use, zero_in_use}
 use Rattle.occ_tree.specs.Dated.{IsDatedBut, DatesFollow, HaveRoots, point_early}
 use Rattle.occ_tree.specs.Edits.{ReDates, Stays}
-use Rattle.occ_tree.specs.Standing.{Kept, State, present, forest, early, below}
+use Rattle.occ_tree.specs.Standing.{Kept, present, forest, early, below}
 use Rattle.occ_tree.specs.Places.{forest as nodes_of}
 use Rattle.occ_tree.proofs.KeptDates.{all_may_differ, moves_keep_dates, right_roots_stay}
 use Rattle.occ_tree.proofs.Walked.{from_on, from_first, from_next, first_is_on, next_is_on}

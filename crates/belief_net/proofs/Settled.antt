@@ -1,5 +1,5 @@
 -- Turns until no row waits.
-use Rattle.std.proofs.Common.{◌≡◌, ◌∙◌, ℕ, ◌≤◌, List, [], ◌∷◌, length, true, false, Some, None, sym, ap, subst}
+use Rattle.std.proofs.Common.{◌≡◌, ◌∙◌, ℕ, ◌≤◌, List, [], ◌∷◌, length, true, false, sym, ap, subst}
 use Rattle.std.specs.Prelude.{is_some}
 use Rattle.tmm_model.specs.declared.premise.Edit.{Edit}
 use Rattle.tmm_model.specs.declared.refusal.Stop.{Stop}
@@ -11,7 +11,6 @@ use Rattle.tmm_model.specs.Standing.{Standing}
 use Rattle.belief_theory.specs.Touched.{touched}
 use Rattle.dist_net.specs.Net.{Net}
 use Rattle.undo_rows.specs.Changes.{present as table}
-use Rattle.occ_tree.specs.OfLists.{IsTreeOf}
 use Rattle.occ_tree.specs.Places.{forest}
 use Rattle.occ_tree.specs.Standing.{Kept}
 use Rattle.projection.specs.Queues.{IsTooLarge}
@@ -23,8 +22,6 @@ use Rattle.joined.proofs.Netted.{current as netted_current, counted as netted_co
 use Rattle.joined.proofs.Telling.{netted_tell}
 use Rattle.belief_net.specs.declared.state.BeliefNet.{BeliefNet}
 use Rattle.belief_net.specs.declared.told.Told.{Told}
-use Rattle.belief_net.specs.Decided.{table_of, AreUnder}
-use Rattle.belief_net.specs.Marks.{HaveEvents}
 use Rattle.belief_net.specs.Numbers.{name_in}
 use Rattle.belief_net.specs.Settling.{counted, IfBegun, IsSoFar, IsCountedIn, IsSettled, StopsFor}
 use Rattle.belief_net.specs.Telling.{ins, outs, IsWeighed}

@@ -1,7 +1,5 @@
 -- Points that stand fast.
-use Rattle.std.proofs.Common.{◌≡◌, ◌∙◌, ℕ, Bool, true, false, not, ◌+◌, ◌*◌, ◌<◌, List, Option, Some, None, refl, sym, ap, inl, inr, ◌⊎◌, arith}
-use Rattle.std.specs.List.{Contains}
-use Rattle.std.specs.Prelude.{◌↔◌}
+use Rattle.std.proofs.Common.{◌≡◌, ◌∙◌, ℕ, Bool, true, false, not, ◌<◌, List, Option, Some, None, refl, sym, ap, inl, inr, ◌⊎◌, arith}
 use Rattle.std.specs.Option.{option_map_or}
 use Rattle.tmm_model.specs.declared.point.PointName.TheVariants.{Start}
 use Rattle.dist_net.specs.Net.{Nets}

@@ -3,10 +3,8 @@ use Rattle.std.proofs.Common.{◌≡◌, ◌∙◌, ℕ, true, ◌&&◌, List, [
 use Rattle.std.specs.Bool.{Decides}
 use Rattle.std.specs.Cmp.Lexicographic.{bytes_decides, nat_list_eq_equiv}
 use Rattle.tmm_model.specs.declared.point.Occ.{Occ}
-use Rattle.tmm_model.specs.declared.point.QueryPoint.{QueryPoint}
-use Rattle.tmm_model.specs.declared.point.QueryPoint.TheVariants.{Declared, Derived}
-use Rattle.tmm_model.specs.Moments.{Moment, At, After, same_moment, along, moment_of, moment_of_point, printed, rules, base}
-use Rattle.tmm_model.specs.Points.{same_name, slashed, occ_word, query_word}
+use Rattle.tmm_model.specs.Moments.{Moment, At, After, same_moment, along, moment_of, printed, rules, base}
+use Rattle.tmm_model.specs.Points.{same_name, slashed, occ_word}
 use Rattle.list_theory.proofs.Elements.{both}
 use Rattle.walk_theory.proofs.Points.{Decides-same_point}
 

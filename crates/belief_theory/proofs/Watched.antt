@@ -1,19 +1,14 @@
 -- What supports a fact depends on the tokens of its class alone.
-use Rattle.std.proofs.Common.{◌≡◌, ℕ, Bool, true, false, not, ◌&&◌, ◌||◌, List, [], ◌∷◌, inl, inr, refl, sym, ◌∙◌, ap, subst}
-use Rattle.std.specs.Prelude.{◌↔◌, ◌⊎◌, Option, Some, None}
-use Rattle.std.specs.List.{list_any, list_all}
-use Rattle.std.specs.Cmp.{both_ways}
-use Rattle.std.specs.Cmp.Lexicographic.{bytes_decides, nat_list_eq_equiv}
+use Rattle.std.proofs.Common.{◌≡◌, ℕ, List, [], refl, subst}
+use Rattle.std.specs.Prelude.{◌↔◌, Option, Some, None}
 use Rattle.tmm_model.specs.declared.bound.Bound.{Bound}
 use Rattle.tmm_model.specs.declared.token.Shape.{Shape}
 use Rattle.tmm_model.specs.declared.token.Shape.TheVariants.{Event as AnEvent, Persistence as APersistence, Span as ASpan}
 use Rattle.tmm_model.specs.declared.token.TokenRow.{TokenRow}
-use Rattle.tmm_model.specs.Moments.{Moment, Distances, distance, read_by, rule_of}
-use Rattle.tmm_model.specs.Points.{same_name}
+use Rattle.tmm_model.specs.Moments.{Moment, Distances, distance}
 use Rattle.tmm_model.specs.Standing.{Standing}
-use Rattle.tmm_model.specs.Tokens.{clips, cuts, is_by, is_before, lasts_to, supports}
-use Rattle.tmm_model.specs.Beliefs.{class_of, contradicts_in, is_of, end_of, token_at, token_of, tokens, supported, is_free}
-use Rattle.list_theory.proofs.Elements.{both, In, list_any-In, In-list_any, In-filter_map, In-left, In-right}
+use Rattle.tmm_model.specs.Beliefs.{class_of, is_of, end_of, token_at, token_of, tokens}
+use Rattle.list_theory.proofs.Elements.{In}
 
 pub class-token_of : (s : Standing) (x : Moment) (k : TokenRow Moment) → token_of s x ≡ Some k → k.class ≡ class_of s k.fact
 class-token_of s x k h = by (is_of s x) h

@@ -14,7 +14,7 @@ use Rattle.spots.specs.Forest.{Forest}
 use Rattle.spots.specs.Spots.{AreTokens, node_early, spot_early, spot_cmp}
 use Rattle.clip_search.specs.declared.entries.Entry.{Entry}
 use Rattle.clip_search.specs.Under.{IsUnder}
-use Rattle.clip_search.specs.Entries.{no_row, no_entry, row_at, node_at, fact_at, entry_at, AreEntries, AreSorted, IsSkip}
+use Rattle.clip_search.specs.Entries.{no_row, no_entry, row_at, node_at, fact_at, entry_at, AreEntries, AreSorted}
 use Rattle.clip_search.specs.Firsts.{IsFirstOf, IsCandidate, IsBefore, AreBefore, IsPast}
 use Rattle.clip_search.proofs.Entering.{spot_is}
 

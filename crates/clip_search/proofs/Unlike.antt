@@ -1,12 +1,12 @@
 -- Where entries that are alike end.
-use Rattle.std.proofs.Common.{◌≡◌, ◌∙◌, ℕ, ◌+◌, ◌<◌, inl, inr, List, length, set, refl, sym, subst, arith}
+use Rattle.std.proofs.Common.{◌≡◌, ◌∙◌, ℕ, ◌+◌, ◌<◌, inl, inr, List, length, set, sym, subst, arith}
 use Rattle.std.specs.Prelude.{slice_index_or}
 use Rattle.std.proofs.lemmas.List.{length-set, get_or-set_same, get_or-set_other}
 use Rattle.std.proofs.lemmas.Bool.{cases_lt}
 use Rattle.tmm_model.specs.declared.token.TokenRow.{TokenRow}
 use Rattle.spots.specs.declared.spot.Spot.{Spot}
 use Rattle.clip_search.specs.declared.entries.Entry.{Entry}
-use Rattle.clip_search.specs.Entries.{entry_at, AreAlike, IsSkip, AreSkipsFrom}
+use Rattle.clip_search.specs.Entries.{IsSkip, AreSkipsFrom}
 
 module _ (rows : List (TokenRow Spot)) (entries : List Entry) (i : ℕ) (lt : i < length entries) where
 

@@ -1,10 +1,10 @@
 //! Which token supports a fact, what clips a token, and why a token is no supporter, over any
-//! distances and order of spots. Facts persist by default until they are clipped (Dean and McDermott
-//! 1987); the exact rules are this project's own.
+//! distances and order of spots. Facts persist by default until they are clipped (Dean and
+//! McDermott 1987); the exact rules are this project's own.
 //!
-//! Each call answers exactly as the definitions of support and clip
-//! say: the first token by the order of spots (`last_clipper`: the last as they stand), and none exactly
-//! where no token is such. No call takes memory.
+//! Each call answers exactly as the definitions of support and clip say: the first token by the
+//! order of spots (`last_clipper`: the last as they stand), and none exactly where no token is
+//! such. No call takes memory.
 #![tactic(auto)]
 
 ghost use Rattle.std.specs.Prelude.{◌≡◌, ◌<◌, ◌≤◌, ◌↔◌, ◌+◌, ℕ, length, IsTrue, Bool, true, false, MatchOption, slice_index_or, slice_get, IfSome};
@@ -94,8 +94,8 @@ fn is_cut<S: Sure>(
     false
 }
 
-// Whether `k` is a persistence that is cut by the token at this place, which surely begins at or before
-// `q`.
+// Whether `k` is a persistence that is cut by the token at this place, which surely begins at or
+// before `q`.
 fn is_cut_by<S: Sure>(
     order: &S,
     tokens: &[TokenRow<S::Spot>],
@@ -114,8 +114,8 @@ fn is_cut_by<S: Sure>(
     }
 }
 
-// Whether `k` supports the fact throughout `p` to `q` among the tokens. What cut a token before mostly
-// cuts this one as well, so that is asked first.
+// Whether `k` supports the fact throughout `p` to `q` among the tokens. What cut a token before
+// mostly cuts this one as well, so that is asked first.
 fn is_supporter<S: Sure>(
     order: &S,
     tokens: &[TokenRow<S::Spot>],
@@ -175,8 +175,8 @@ fn is_ahead<S: Sure>(order: &S, tokens: &[TokenRow<S::Spot>], best: Option<usize
     }
 }
 
-// The first place that supports the fact so far, one more token being looked at: the one at `i`. One
-// of another fact, or behind the best so far, is not tested whether it lasts.
+// The first place that supports the fact so far, one more token being looked at: the one at `i`.
+// One of another fact, or behind the best so far, is not tested whether it lasts.
 fn better<S: Sure>(
     order: &S,
     tokens: &[TokenRow<S::Spot>],
@@ -250,8 +250,8 @@ fn clips_until<S: Sure>(
     }
 }
 
-// The first place that clips `k` until a point so far, one more token being looked at: the one at `i`. One
-// of the same fact, or behind the best so far, is not tested whether it clips.
+// The first place that clips `k` until a point so far, one more token being looked at: the one at
+// `i`. One of the same fact, or behind the best so far, is not tested whether it clips.
 fn better_clip<S: Sure>(
     order: &S,
     tokens: &[TokenRow<S::Spot>],
@@ -281,7 +281,8 @@ fn better_clip<S: Sure>(
     }
 }
 
-// The place of the first token that clips `k`, and begins surely at or before a point where one is given.
+// The place of the first token that clips `k`, and begins surely at or before a point where one is
+// given.
 fn first_clip<S: Sure>(
     order: &S,
     tokens: &[TokenRow<S::Spot>],
@@ -325,8 +326,8 @@ pub enum Fault {
     Ends,
 }
 
-/// Why the token at `k` does not support its fact throughout `p` to `q`. The caller knows that it does
-/// not.
+/// Why the token at `k` does not support its fact throughout `p` to `q`. The caller knows that it
+/// does not.
 pub fn blame<S: Sure>(
     order: &S,
     tokens: &[TokenRow<S::Spot>],

@@ -1,7 +1,7 @@
 -- Edges taken out from the last on.
-use Rattle.std.proofs.Common.{◌≡◌, ◌∙◌, ◌≤◌, ◌+◌, ◌-◌, ℕ, List, length, take, set, get_or, ap, sym, refl, arith}
+use Rattle.std.proofs.Common.{◌≡◌, ◌∙◌, ◌≤◌, ◌+◌, ◌-◌, ℕ, List, length, take, set, get_or, ap, arith}
 use Rattle.std.specs.List.{swap_remove}
-use Rattle.std.proofs.lemmas.List.{take_all, length-take, take-set-le, take-take}
+use Rattle.std.proofs.lemmas.List.{length-take, take-set-le, take-take}
 use Rattle.dist_net.specs.declared.Edge.{Edge}
 use Rattle.dist_net.specs.Net.{Net, Nets}
 use Rattle.dist_net.proofs.Ends.{edge_at}

@@ -1,5 +1,5 @@
 -- The first look at the edges that lead to the suspects of a row.
-use Rattle.std.proofs.Common.{◌≡◌, ◌≢◌, ◌∙◌, ◌⊎◌, inl, inr, ℕ, ◌+◌, ◌<◌, ◌≤◌, ◌≤ℤ◌, ◌+ℤ◌, List, [], Option, Some, length, get_or, sym, subst, ap, arith, pos}
+use Rattle.std.proofs.Common.{◌≡◌, ◌≢◌, ◌∙◌, ◌⊎◌, inl, inr, ℕ, ◌+◌, ◌<◌, ◌≤◌, ◌≤ℤ◌, ◌+ℤ◌, List, [], Option, Some, length, get_or, sym, subst, ap, arith}
 use Rattle.std.specs.List.{Contains}
 use Rattle.std.proofs.lemmas.Bool.{cases_eq}
 use Rattle.std.proofs.lemmas.Int.{ints}
@@ -20,7 +20,7 @@ use Rattle.dist_repair.specs.Rows.{rest_of, tos_of, IsStartedRow, IsPresentBesid
 use Rattle.dist_repair.proofs.Columns.{StandsFrom, later}
 use Rattle.dist_repair.proofs.Detours.{AtMost-after_walk, IsFar-among}
 use Rattle.dist_repair.proofs.Left.{IsNet, left_sub}
-use Rattle.dist_repair.proofs.Listing.{IsAt, IsAt-last, IsAt-before, before_this, not_behind, none_to, places_to}
+use Rattle.dist_repair.proofs.Listing.{IsAt, IsAt-before, before_this, not_behind, none_to, places_to}
 use Rattle.dist_repair.proofs.Passes.{IsDoneAt-lowered}
 use Rattle.dist_repair.proofs.Rows.{left_edge}
 use Rattle.dist_repair.proofs.Starts.{IsSound-started}

@@ -8,8 +8,8 @@ use dist_net::DistNet;
 // constraints, mostly leave most distances as they are.
 const FEW: usize = 16;
 
-// Of more, so many that distances may change without are taken out one by one, and then all distances
-// are found from nothing.
+// Of more, so many that distances may change without are taken out one by one, and then all
+// distances are found from nothing.
 const SOME: usize = 4;
 
 // Where more fall than this, looking at each of them takes longer than finding all distances from

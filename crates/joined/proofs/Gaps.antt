@@ -19,7 +19,7 @@ use Rattle.tmm_model.specs.Maps.{built, gap}
 use Rattle.tmm_model.specs.Moments.{Moment, At, After, base, rules, low, high, apart, distance, rule_of}
 use Rattle.tmm_model.specs.Points.{same_name}
 use Rattle.tmm_model.specs.Standing.{Standing, points_in, far_in}
-use Rattle.list_theory.proofs.Elements.{In, In-from_Contains, Contains-from_In, In-cases, In-left, In-right, In-map, map-In, In-filter, filter-In, In-filter_map, filter_map-In}
+use Rattle.list_theory.proofs.Elements.{In, In-from_Contains, Contains-from_In, In-cases, In-left, In-right, map-In, In-filter, filter-In, In-filter_map, filter_map-In}
 use Rattle.belief_theory.specs.Right.{Occurs}
 use Rattle.belief_theory.specs.Touched.{watched, watched_points}
 use Rattle.belief_theory.proofs.SoundBeliefs.{believed_occurs}

@@ -2,7 +2,7 @@
 use Rattle.std.proofs.Common.{◌≡◌, ◌∙◌, ◌⊎◌, inl, inr, ℕ, suc, ◌+◌, ◌<◌, ◌≤◌, List, [], ◌∷◌, ◌++◌, map, take, drop, get_or, length, refl, sym, ap, subst, arith}
 use Rattle.std.proofs.Math.Seq.{drop-cons}
 use Rattle.std.proofs.lemmas.Int.{ints}
-use Rattle.std.proofs.lemmas.List.{map-append, take-append-drop, take-append-le, take_all, length-append}
+use Rattle.std.proofs.lemmas.List.{map-append, take-append-drop, take-append-le, length-append}
 use Rattle.std.proofs.lemmas.List.Elements.{All-contains}
 use Rattle.std.specs.Prelude.{ℤ, ◌≤ℤ◌, ◌<ℤ◌, Option, Some, None, IsSome}
 use Rattle.std.specs.List.{All}
@@ -24,7 +24,7 @@ use Rattle.supports.proofs.Taken.{next_taken}
 use Rattle.supports.specs.Growing.{Adds}
 use Rattle.just_check.specs.declared.auditing.Checked.{Checked}
 use Rattle.just_check.specs.declared.expected.Origin.{Origin}
-use Rattle.just_check.specs.Audited.{date_of, rows_of, decided_in, IsTaken, IsPast, IsChecked, IsReady, IsDecided, DecidesThrough, IsBehind}
+use Rattle.just_check.specs.Audited.{date_of, rows_of, decided_in, IsTaken, IsPast, IsChecked, IsReady, DecidesThrough, IsBehind}
 use Rattle.just_check.specs.Checking.{Joins, AreSoFar, is_due, Expects, AwaitsMore}
 use Rattle.just_check.specs.Origins.{comes_of, comes_from, has_event, entry_at, SetsNode}
 use Rattle.just_check.proofs.Entering.{In-take, more_so_far, nodes_live, more_rows, expects_entered, new_live, kept_moment}

@@ -2,7 +2,7 @@
 use Rattle.std.proofs.Common.{◌≡◌, ◌≢◌, ◌∙◌, inl, inr, ℕ, Bool, true, false, not, ◌&&◌, cond, List, [], ◌∷◌, ◌++◌, refl, sym, ap, suc, ◌<◌, take, drop, get_or, length}
 use Rattle.std.proofs.Math.Seq.{drop-cons}
 use Rattle.std.proofs.lemmas.List.{take-append-drop}
-use Rattle.std.specs.Prelude.{Option, Some, None, IsSome, IsTrue, is_some, ◌↔◌, nat_eq}
+use Rattle.std.specs.Prelude.{Option, Some, None, IsTrue, is_some, ◌↔◌, nat_eq}
 use Rattle.std.specs.Bool.{Decides}
 use Rattle.std.specs.Option.{option_eq, option_and_then}
 use Rattle.std.proofs.lemmas.Bool.Decides.{eqb_tells}

@@ -14,7 +14,7 @@ use Rattle.tmm_model.specs.declared.point.PointName.TheVariants.{Start}
 use Rattle.tmm_model.specs.declared.premise.Premise.{Premise}
 use Rattle.tmm_model.specs.declared.premise.Premise.TheVariants.{Class, Kind, Point, Event, Token, Span, Dist, Rule, Protect}
 use Rattle.tmm_model.specs.declared.walk.WalkStep.{WalkStep}
-use Rattle.tmm_model.specs.Cycles.{steps_in, Leads, sum_of, begins, IsPath, IsCycleBy, IsCycleOf}
+use Rattle.tmm_model.specs.Cycles.{steps_in, Leads, sum_of, begins, IsCycleOf}
 use Rattle.list_theory.specs.NegativeCycles.{IsNegativeCycle, IsCycleSum}
 use Rattle.tmm_model.specs.Points.{same_point}
 use Rattle.tmm_model.specs.Standing.{arc_of, arcs_of, arcs_in, name_of, steps_of, hi_steps, lo_steps, IsConsistent}

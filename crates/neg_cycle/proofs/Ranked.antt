@@ -8,7 +8,7 @@ use Rattle.tmm_model.specs.declared.bound.Bound.TheVariants.{Finite}
 use Rattle.tmm_model.specs.Walks.{Arc, total}
 use Rattle.walk_theory.specs.LeastWalks.{IsWalk, IsFar}
 use Rattle.dist_net.specs.declared.Edge.{Edge}
-use Rattle.neg_cycle.specs.Ranks.{IsTight, IsRanked, AreRankedWithin, AreAtMost, AreKept}
+use Rattle.neg_cycle.specs.Ranks.{IsTight, IsRanked, AreAtMost, AreKept}
 
 -- a least walk to b begins with the constraint
 abbrev pub IsTightArc : List (Arc ℕ) → ℕ → Arc ℕ → Type 0

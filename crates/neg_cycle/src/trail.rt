@@ -57,8 +57,8 @@ fn follow(
 }
 
 /// A walk from `a` to `b` over the constraints of the network that has their tightest distance as
-/// its sum and visits no point twice. None exactly where there is no walk, and that takes no memory.
-/// Without memory it answers `NoMemory`.
+/// its sum and visits no point twice. None exactly where there is no walk, and that takes no
+/// memory. Without memory it answers `NoMemory`.
 pub fn walk(alloc: Global, net: &DistNet, a: u16, b: u16) -> Result<Option<Seq<WalkStep>>, NoMemory>
     requires from { IsInUse net.now.present.names a }
     requires to { IsInUse net.now.present.names b }
@@ -80,8 +80,8 @@ pub fn walk(alloc: Global, net: &DistNet, a: u16, b: u16) -> Result<Option<Seq<W
 }
 
 /// The closed walk of a conflict: its edge, and then constraints of the network back from the
-/// edge's end to its beginning, without a repeated point. The sum is that of the conflict. Without memory
-/// it answers `NoMemory`.
+/// edge's end to its beginning, without a repeated point. The sum is that of the conflict. Without
+/// memory it answers `NoMemory`.
 pub fn cycle(
     alloc: Global,
     net: &DistNet,

@@ -9,7 +9,6 @@ use Rattle.std.specs.Cmp.Lexicographic.{slice_cmp, lists_ties, bytes_decides, na
 use Rattle.std.proofs.lemmas.Cmp.{then_total, on_total, int_cmp_total}
 use Rattle.tmm_model.specs.Names.{is_name}
 use Rattle.tmm_model.specs.Points.{slashed}
-use Rattle.tmm_model.specs.Types.{IsOrderOn}
 use Rattle.list_theory.proofs.Elements.{In}
 use Rattle.belief_theory.proofs.Spelt.{no_slash}
 use Rattle.occ_tree.specs.Ends.{way_ends}

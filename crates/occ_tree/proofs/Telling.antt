@@ -1,11 +1,10 @@
 -- What a node tells of its spot, and of where it stands.
-use Rattle.std.proofs.Common.{◌≡◌, ℕ, ◌+◌, ◌≤◌, List, [], ◌∷◌, ◌++◌, map, length, take, drop, Option, Some, None, IsSome, refl, sym, ap, ◌∙◌, arith, append_assoc}
+use Rattle.std.proofs.Common.{◌≡◌, ℕ, ◌+◌, ◌≤◌, List, [], ◌∷◌, map, length, take, drop, Option, Some, None, IsSome, refl, sym, ap, ◌∙◌, arith}
 use Rattle.std.specs.Prelude.{MatchOption}
 use Rattle.std.specs.Option.{option_map, option_map_or}
-use Rattle.std.proofs.lemmas.List.{length-take-le, drop-drop}
+use Rattle.std.proofs.lemmas.List.{length-take-le}
 use Rattle.tmm_model.specs.declared.point.PointName.TheVariants.{Begin}
 use Rattle.tmm_model.specs.Moments.{At, along}
-use Rattle.tmm_model.specs.Points.{slashed}
 use Rattle.dist_net.specs.Net.{Net}
 use Rattle.spots.specs.declared.link.Link.{Link}
 use Rattle.spots.specs.declared.spot.Spot.{Spot}
@@ -15,7 +14,7 @@ use Rattle.spots.specs.declared.sums.Sums.{Sums}
 use Rattle.spots.specs.Seen.{HasList}
 use Rattle.spots.specs.Spots.{base_of, links_of}
 use Rattle.spots.specs.Sums.{AreSums, ArePartedBy}
-use Rattle.spots.proofs.Apart.{apart_from_none, apart_to_none}
+use Rattle.spots.proofs.Apart.{apart_from_none}
 use Rattle.spots.proofs.Distances.{one_root}
 use Rattle.spots.proofs.Nodes.{last_name-push, moment_at-is}
 use Rattle.occ_tree.specs.declared.node.Node.{Node}
@@ -23,12 +22,11 @@ use Rattle.occ_tree.specs.declared.node.Above.{Above}
 use Rattle.occ_tree.specs.Ends.{way_ends}
 use Rattle.occ_tree.specs.Asked.{AreOfOneRoot}
 use Rattle.occ_tree.specs.Nodes.{Nodes, Way, no_way, way_from, link_of, parent_of, root_of, name_at, link_at, way_to, member_of, forest_in, HasParent, ArePlaced}
-use Rattle.occ_tree.specs.Words.{first_piece, piece_at}
 use Rattle.occ_tree.proofs.Ways.{length-way, node_on_way, live_by_way}
 use Rattle.occ_tree.proofs.Effects.{member_at, way_below, way_root}
 use Rattle.occ_tree.proofs.Parting.{first_name, links_on, root_on}
 use Rattle.occ_tree.proofs.Pieces.{drop_last}
-use Rattle.occ_tree.proofs.Wording.{name_of, rule_at, text_on}
+use Rattle.occ_tree.proofs.Wording.{name_of, rule_at}
 
 -- ---- a spot
 

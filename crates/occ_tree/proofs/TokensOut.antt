@@ -15,7 +15,7 @@ use Rattle.occ_tree.specs.Tokens.{number_of, numbers_in, row_in, IsInOrder, IsPl
 use Rattle.occ_tree.specs.Words.{node_cmp}
 use Rattle.occ_tree.proofs.Ranking.{nodes_total}
 use Rattle.occ_tree.proofs.InOrder.{on_one, once, without_ordered, place_is, remove-without}
-use Rattle.occ_tree.proofs.TokenLists.{each_list, only_list, no_list, length-numbers, drop-map-own}
+use Rattle.occ_tree.proofs.TokenLists.{each_list, only_list, length-numbers, drop-map-own}
 
 map-remove : {X Y : Type 0} (f : X → Y) (xs : List X) (i : ℕ) → map f (remove xs i) ≡ remove (map f xs) i
 map-remove f xs i = map-append f (take i xs) (drop (suc i) xs) ∙ (λ j. sym (take-map f i xs) j ++ sym (drop-map-own f (suc i) xs) j)

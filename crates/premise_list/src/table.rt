@@ -118,7 +118,8 @@ impl Table {
         }
     }
 
-    // The place of the premise of this name, which is declared. Those before it stay where it is erased.
+    // The place of the premise of this name, which is declared. Those before it stay where it is
+    // erased.
     pub(crate) fn place_of(&self, name: Name) -> usize
         requires { premise_cause (sort_in self.now.premises name) name ≡ None }
         ensures { IsFoundAt name self.now.premises result }
@@ -227,7 +228,8 @@ fn declare(words: &mut IndexMap<Name, Word>, name: Name, word: Word)
     let _new = words.insert(name, word);
 }
 
-// Adds the names of premises that follow those whose names are there. The first of them has this place.
+// Adds the names of premises that follow those whose names are there. The first of them has this
+// place.
 fn declare_all(words: &mut IndexMap<Name, Word>, premises: &[Premise], place: usize)
     requires few { place + length premises.now ≤ most_premises }
     requires room { length (words_known premises.now) ≤ spare words.old }

@@ -1,7 +1,7 @@
 -- What is due first is decided, and what has entered when nothing waits.
 use Rattle.std.proofs.Common.{◌≡◌, ◌∙◌, ◌⊎◌, inl, inr, ℕ, ◌+◌, ◌<◌, ◌≤◌, true, false, List, [], ◌∷◌, ◌++◌, length, refl, sym, ap, subst, arith}
 use Rattle.std.proofs.lemmas.Int.{ints}
-use Rattle.std.specs.Prelude.{ℤ, pos, ◌+ℤ◌, ◌≤ℤ◌, sum_by}
+use Rattle.std.specs.Prelude.{ℤ, pos, ◌≤ℤ◌, sum_by}
 use Rattle.std.specs.List.{Contains}
 use Rattle.std.proofs.lemmas.List.Elements.{All-contains}
 use Rattle.std.proofs.lemmas.List.Sums.{sum_by-cons, count_by-le-length}
@@ -9,13 +9,13 @@ use Rattle.std.proofs.lemmas.List.Sorted.{IsPermutation-sym, length_permutation}
 use Rattle.tmm_model.specs.Answers.{weight, size, most_size}
 use Rattle.tmm_model.specs.Beliefs.{due, is_free, rules_at}
 use Rattle.tmm_model.specs.Maps.{built}
-use Rattle.tmm_model.specs.Moments.{Moment, After, early, rule_of, rules}
+use Rattle.tmm_model.specs.Moments.{Moment, After, rules}
 use Rattle.belief_theory.specs.Right.{IsRightTo}
 use Rattle.tmm_model.specs.Standing.{Standing, far_in}
 use Rattle.list_theory.proofs.Distinct.{sum_inside}
-use Rattle.list_theory.proofs.Elements.{In, In-from_Contains, Contains-from_In, In-left, In-right}
+use Rattle.list_theory.proofs.Elements.{In, In-from_Contains, Contains-from_In}
 use Rattle.belief_theory.proofs.Inside.{inside}
-use Rattle.belief_theory.proofs.Settling.{Settling, skip, enter, right_at_end}
+use Rattle.belief_theory.proofs.Settling.{skip, right_at_end}
 use Rattle.belief_theory.proofs.SoundBeliefs.{sound_timed, map_is_right, believed_right}
 use Rattle.dist_net.specs.Net.{Net}
 use Rattle.spots.specs.Forest.{Forest, moment, moment_at}
@@ -29,7 +29,7 @@ use Rattle.projection.specs.Projecting.{IsEntry, Pends, IsGrown, IsGrowing, IsFi
 use Rattle.projection.specs.Queues.{Queues, weight_at}
 use Rattle.spots.proofs.Believed.{believed_once}
 use Rattle.projection.proofs.OnKinds.{node_rules}
-use Rattle.projection.proofs.Steps.{push_cases, too_large, pends_kept, pends_new, pends_cases, waits_more, grown_more}
+use Rattle.projection.proofs.Steps.{too_large, pends_kept, pends_new, pends_cases, waits_more, grown_more}
 use Rattle.projection.proofs.Waiting.{In-permutation, taken_once, rest_once}
 
 -- an occurrence that has entered counts no more than all

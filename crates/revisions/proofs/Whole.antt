@@ -1,36 +1,31 @@
 -- A whole revision is right.
-use Rattle.std.proofs.Common.{◌≡◌, ℕ, Bool, true, false, not, ◌||◌, ◌==◌, List, [], ◌∷◌, refl, sym, subst, inl, inr}
-use Rattle.std.specs.Prelude.{◌↔◌, ◌⊎◌, ℤ, negsuc}
+use Rattle.std.proofs.Common.{◌≡◌, ℕ, Bool, true, false, List, [], ◌∷◌, refl, sym, subst, inl, inr}
+use Rattle.std.specs.Prelude.{◌↔◌, ◌⊎◌, ℤ}
 use Rattle.std.specs.List.{Contains, list_any}
 use Rattle.std.specs.Cmp.Lexicographic.{bytes_decides}
 use Rattle.tmm_model.specs.declared.premise.Edit.{Edit}
 use Rattle.tmm_model.specs.Answers.{weight}
 use Rattle.tmm_model.specs.Beliefs.{roots, rules_at}
 use Rattle.tmm_model.specs.Edits.{next_list}
-use Rattle.tmm_model.specs.Maps.{TimeMap, built}
+use Rattle.tmm_model.specs.Maps.{built}
 use Rattle.tmm_model.specs.Moments.{Moment, At, After, same_moment}
 use Rattle.tmm_model.specs.Points.{same_name}
 use Rattle.list_theory.specs.WellNamed.{IsSound}
 use Rattle.belief_theory.specs.Right.{Occurs}
 use Rattle.tmm_model.specs.Standing.{Standing}
-use Rattle.belief_theory.specs.Touched.{same_tokens, watched, watched_points, same_gaps, is_decision, is_touched}
 use Rattle.list_theory.proofs.Distinct.{Distinct, sum_inside}
 use Rattle.list_theory.proofs.Elements.{In, In-from_Contains, Contains-from_In, list_any-In, In-list_any}
 use Rattle.belief_theory.proofs.Moments.{Decides-same_moment}
 use Rattle.belief_theory.proofs.SoundBeliefs.{believed_occurs}
-use Rattle.spots.specs.Seen.{map_of}
 use Rattle.revisions.specs.Counted.{AreSeeds}
 use Rattle.revisions.specs.Revisions.{Revision, IsLawful, IsNew, IsLost}
 use Rattle.revisions.specs.Keeping.{IsKeeping, IsTold}
 use Rattle.revisions.specs.Steps.{Turns, staying, entering, withdrawing}
-use Rattle.revisions.specs.Seeds.{IsSeeded}
 use Rattle.revisions.specs.Maps.{revision}
 use Rattle.revisions.specs.Whole.{State, Waiting, Tells, nothing, an_entry, a_leave, IsTurn, Reaches, there, further, Begins, Ends, Runs}
 use Rattle.revisions.proofs.Agreeing.{ended}
 use Rattle.revisions.proofs.Bounds.{counted}
-use Rattle.revisions.proofs.Lawful.{lawful, of_occurs, occurs_of}
-use Rattle.revisions.proofs.Seeding.{seeded}
-use Rattle.revisions.proofs.SeedsRight.{keeps, stays_touched}
+use Rattle.revisions.proofs.Lawful.{lawful}
 use Rattle.revisions.proofs.Telling.{told_stays, told_enters, told_withdraws, told_all}
 use Rattle.revisions.proofs.Turning.{turned}
 

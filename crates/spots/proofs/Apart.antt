@@ -1,11 +1,8 @@
 -- How far apart rules lead, and the last of their names.
-use Rattle.std.proofs.Common.{◌≡◌, ℕ, zero, suc, ◌+◌, Bool, true, false, List, [], ◌∷◌, ◌<◌, ◌≤◌, length, take, drop, get_or, refl, sym, ap, ◌∙◌, subst, arith}
-use Rattle.std.specs.Cmp.Lexicographic.{bytes_decides}
-use Rattle.std.specs.Prelude.{Some, slice_get}
+use Rattle.std.proofs.Common.{◌≡◌, ℕ, Bool, true, false, List, [], ◌∷◌, ◌<◌, length, get_or, refl, sym, subst}
 use Rattle.tmm_model.specs.Bounds.{bound_less}
 use Rattle.tmm_model.specs.Points.{same_name}
 use Rattle.spots.specs.declared.link.Link.{Link}
-use Rattle.spots.specs.Forest.{last_name}
 use Rattle.spots.specs.Spots.{links_low, links_high, links_apart}
 
 pub apart_from_none : (u : List Link) → links_apart u [] ≡ bound_less (links_high []) (links_low u)

@@ -1,14 +1,12 @@
 -- A set in which each decision that doesn't pend is made rightly, for the set as it is.
-use Rattle.std.proofs.Common.{ℕ, List, sym, ◌∙◌, inl, inr}
+use Rattle.std.proofs.Common.{ℕ, List}
 use Rattle.std.specs.Prelude.{◌↔◌, ◌⊎◌, pos, ◌≤ℤ◌, IsTrue}
 use Rattle.std.specs.List.{Contains}
 use Rattle.tmm_model.specs.declared.point.PointName.{PointName}
 use Rattle.tmm_model.specs.Moments.{Moment, At, After, Distances}
 use Rattle.tmm_model.specs.Standing.{Standing}
 use Rattle.tmm_model.specs.Beliefs.{roots, rules_at, due, is_free}
-use Rattle.belief_theory.specs.Right.{Occurs, IsRightTo, IsTimed}
-use Rattle.belief_theory.proofs.OneRight.{Agree, free_same}
-use Rattle.belief_theory.proofs.Settling.{before_due}
+use Rattle.belief_theory.specs.Right.{Occurs, IsTimed}
 
 module _ (s : Standing) (far : Distances) (timed : IsTimed s far) (h : ℕ) where
   -- the effect of r on t is in b exactly where r fires there

@@ -56,7 +56,8 @@ FiresWhereBelieved =
     (s : Standing) → IsSound s → (t : Moment) (r : List ℕ) → Contains (built s).believed t → Contains (rules_at s t) r
     → ((ks : List Moment) × (outcome s (far_in s.premises) (built s).believed t r ≡ fires ks)) ↔ Contains (built s).believed (After t r)
 
--- in the map of a sound list, what a believed occurrence rests on is believed, and has an earlier date
+-- in the map of a sound list, what a believed occurrence rests on is believed, and has an earlier
+-- date
 abbrev pub ReasonsAreEarlier : Type 0
 ReasonsAreEarlier =
     (s : Standing) → IsSound s → (o x : Moment)

@@ -1,5 +1,5 @@
 -- What the words of a line read as.
-use Rattle.std.proofs.Common.{◌≡◌, ℕ, true, false, List, [], ◌∷◌, Some, None, Err, refl, sym, ◌∙◌}
+use Rattle.std.proofs.Common.{◌≡◌, ℕ, true, false, List, [], ◌∷◌, Some, None, Err, refl}
 use Rattle.std.specs.Prelude.{Ok, Result, option_map}
 use Rattle.tmm_model.specs.declared.premise.Edit.{Edit}
 use Rattle.tmm_model.specs.declared.version.Version.{Version}
@@ -8,10 +8,9 @@ use Rattle.tmm_model.specs.declared.line.Line.TheVariants.{Silent, Change, Quest
 use Rattle.tmm_model.specs.declared.refusal.Refusal.TheVariants.{Form}
 use Rattle.tmm_model.specs.declared.refusal.Stop.{Stop}
 use Rattle.tmm_model.specs.declared.refusal.Stop.TheVariants.{Refused, NoMemory}
-use Rattle.tmm_model.specs.Lines.{words, is_comment, Reads}
+use Rattle.tmm_model.specs.Lines.{words, is_comment}
 use Rattle.tmm_grammar.specs.Reading.{edit_of, query_of, line_of}
-use Rattle.tmm_grammar.proofs.LineReaders.{map_some}
-use Rattle.tmm_grammar.proofs.LineForms.{line_of-complete, line_of-none, line_of-sound}
+use Rattle.tmm_grammar.proofs.LineForms.{line_of-none, line_of-sound}
 use Rattle.tmm_script.specs.Given.{IsRead, IsReadingOf}
 
 pub line_blank : (version : Version) (ws : List (List ℕ)) → ws ≡ [] → line_of version ws ≡ Some Silent

@@ -23,12 +23,12 @@ use Rattle.tmm_model.specs.Replies.{Reply, Accepted, Refused, BoundsAre, PathIs,
 use Rattle.tmm_model.specs.Standing.{Standing}
 use Rattle.tmm_model.specs.Maps.{built}
 use Rattle.tmm_model.specs.Questions.{query_cause}
-use Rattle.tmm_model.specs.Transcript.{RefusesEdit, AnswersLine, IsReadAs, LineAnswers, for_length, for_form, for_meaning, Step}
+use Rattle.tmm_model.specs.Transcript.{RefusesEdit, AnswersLine, IsReadAs, LineAnswers, for_length, for_form, for_meaning}
 use Rattle.tmm_model.specs.Verdicts.{Tells as TellsCause}
 use Rattle.tmm_script.specs.Given.{IsReadingOf}
 use Rattle.tmm_session.specs.declared.told.Told.{Told}
 use Rattle.tmm_session.specs.declared.told.Told.TheVariants.{Silent, Reply as ReplyOf, Memory}
-use Rattle.tmm_session.specs.Kinds.{kind_of, is_refusing, turn_of}
+use Rattle.tmm_session.specs.Kinds.{kind_of, is_refusing}
 use Rattle.tmm_session.specs.Sessions.{Tells, TellsMeaning, TellsLine}
 
 -- bytes that are the text of a reply, or want of memory

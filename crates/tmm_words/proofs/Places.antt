@@ -4,7 +4,6 @@ use Rattle.std.specs.Prelude.{unwrap_or, position, slice_range}
 use Rattle.std.specs.List.{prefix_len, position_or_len, list_all}
 use Rattle.std.proofs.lemmas.Bool.{and_parts, and_from, cond-true, cases_Bool, cases_lt, ltb-true, lt-ltb, le-ltb, not-true, not_from_false}
 use Rattle.std.proofs.lemmas.List.{append-nil, drop-drop, take-append-drop, length-drop, length-take-le}
-use Rattle.std.proofs.lemmas.List.Folds.{list_all-append}
 use Rattle.std.proofs.lemmas.List.Sums.{prefix_len-le-length}
 use Rattle.std.proofs.lemmas.Option.{cond_some, none-some}
 use Rattle.tmm_model.specs.Lines.{is_blank, goes_on, words}

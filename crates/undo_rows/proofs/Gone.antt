@@ -1,10 +1,10 @@
 -- Rows that are gone, and the log that says so.
-use Rattle.std.proofs.Common.{◌≡◌, ◌≢◌, ℕ, Bool, true, false, cond, List, [], ◌∷◌, ◌++◌, Option, Some, None, refl, sym, ap, ◌∙◌, subst, inl, inr, option_map, ◌⊎◌}
+use Rattle.std.proofs.Common.{◌≡◌, ◌≢◌, ℕ, true, false, List, [], ◌∷◌, ◌++◌, Option, Some, None, refl, sym, ap, ◌∙◌, subst, inl, inr, option_map, ◌⊎◌}
 use Rattle.std.proofs.lemmas.Bool.{cases_eq, both_ways}
 use Rattle.undo_rows.specs.declared.row.Row.{Row}
 use Rattle.undo_rows.specs.declared.change.Change.{Change}
 use Rattle.undo_rows.specs.declared.change.Change.TheVariants.{Entered, Linked, Unlinked, Replaced, Removed}
-use Rattle.undo_rows.specs.Tables.{Table, live, with_row}
+use Rattle.undo_rows.specs.Tables.{Table, with_row}
 use Rattle.undo_rows.specs.Changes.{before}
 use Rattle.undo_rows.specs.RowsInside.{IsLogged, AreLogged}
 use Rattle.undo_rows.proofs.Written.{with_row-same, with_row-other}

@@ -1,5 +1,5 @@
 -- What a log leads back to after one change more.
-use Rattle.std.proofs.Common.{◌≡◌, ℕ, Bool, true, false, cond, eqb, ◌&&◌, ◌<◌, ◌≤◌, List, [], ◌∷◌, ◌++◌, length, Option, None, IfSome, refl, sym, ap, ◌∙◌, subst, inl, inr, arith, set, get_or, length-set, get_or-set_same, get_or-set_other, le_refl, le_trans, lt_of_lt_of_le, eq-eqb, ne_eqb, append-nil, append_assoc}
+use Rattle.std.proofs.Common.{◌≡◌, ℕ, Bool, true, false, cond, eqb, ◌&&◌, ◌<◌, ◌≤◌, List, [], ◌∷◌, ◌++◌, length, Option, None, IfSome, refl, sym, ap, ◌∙◌, subst, inl, inr, arith, set, get_or, length-set, get_or-set_same, get_or-set_other, le_refl, le_trans, lt_of_lt_of_le, eq-eqb, ne_eqb, append_assoc}
 use Rattle.std.proofs.lemmas.Bool.{cases_eq, cases_lt, cond-true, cond-false, eqb-true, false≢true}
 use Rattle.std.proofs.lemmas.List.{get_or_past}
 use Rattle.row_links.specs.Lists.{Lists, no_lists, IsOn, IsOnNone, last_or, list_of, without, put_after}

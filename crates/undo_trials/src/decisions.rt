@@ -27,7 +27,8 @@ fn expect_decisions(rt: &impl Abort, alloc: Global, rows: &mut Rows) {
     assert!(rt; is_first(rows, 8, Decision::Beyond));
 }
 
-/// A copy has the last commit of the rows: the decision is taken back there alone. One row is on the list.
+/// A copy has the last commit of the rows: the decision is taken back there alone. One row is on
+/// the list.
 fn expect_of_copy(rt: &impl Abort, alloc: Global, rows: &Rows) {
     let mut other = rows.copy(alloc).expect(rt, "memory");
     other.rollback();
@@ -120,8 +121,8 @@ fn filled(rt: &impl Abort, alloc: Global, rows: &mut Rows) -> Vec<u32> {
     numbers
 }
 
-/// The rows on a list are those whose places have its head as their rest, in order. Each is removed before
-/// the next is found.
+/// The rows on a list are those whose places have its head as their rest, in order. Each is removed
+/// before the next is found.
 fn expect_list(
     rt: &impl Abort,
     alloc: Global,

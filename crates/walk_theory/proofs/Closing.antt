@@ -90,7 +90,8 @@ module _ {P : Type 0} (old new : List (Arc P)) (e : Arc P) (adds : Adds old e ne
       let F : P → Type 0 = λ c. AtMost (closed table e c b) (x.weight +ℤ total walk) in
       subst F h.1 (closed-first x b (total walk) h.0 in_b (closed-least x.to b (ends x h.0).1 in_b walk h.2))
 
-  -- **One more constraint.** Where it closes no negative cycle, the least sums are the old ones or go through it once.
+  -- **One more constraint.** Where it closes no negative cycle, the least sums are the old ones or
+  -- go through it once.
   pub IsFar-closed : (a b : P) → In a → In b → IsFar new a b (closed table e a b)
   IsFar-closed a b in_a in_b =
       let e_here : In e.from × In e.to = ends e adds.added in

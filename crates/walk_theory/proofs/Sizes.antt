@@ -1,4 +1,5 @@
--- How large distances are, which constraints fit, and what the closing by one constraint leaves alone.
+-- How large distances are, which constraints fit, and what the closing by one constraint leaves
+-- alone.
 use Rattle.std.proofs.Common.{neg_ℤ, ◌≡◌, ℕ, ◌<◌, ◌≤◌, ◌*◌, Bool, List, [], ◌∷◌, length, ℤ, pos, ◌+ℤ◌, ◌≤ℤ◌, ap, arith, refl}
 use Rattle.std.specs.Bool.{Decides}
 use Rattle.std.specs.Int.{int_min}
