@@ -25,7 +25,7 @@ use Rattle.list_net.specs.Network.{PointsKeepNumbers}
 use Rattle.spots.specs.declared.spot.Spot.{Spot}
 use Rattle.spots.specs.declared.spot.Spot.TheVariants.{Declared, Node}
 use Rattle.spots.specs.Forest.{Forest, Member, member, IsLive, moment_at}
-use Rattle.spots.specs.Seen.{IsSeen, Holds}
+use Rattle.spots.specs.OfLists.{IsForestOf, HasOccurrences}
 use Rattle.spots.specs.Spots.{AreTokens, token_row, row_moment, node_early}
 use Rattle.spots.proofs.Nodes.{node_at, live_at, moment_at-is}
 use Rattle.spots.proofs.Rows.{member_of_token, token_is}
@@ -61,7 +61,7 @@ token_in f g class old new are_f are_g same y n here of =
     (m, ap (member g) node ∙ own.here, own.class)
 
 -- the token that a node is has the class of the node
-module _ (s : Standing) (net : Net) (f : Forest) (seen : IsSeen s net f) (y : ℕ) (n : Member) (here : member f y ≡ Some n) where
+module _ (s : Standing) (net : Net) (f : Forest) (seen : IsForestOf s net f) (y : ℕ) (n : Member) (here : member f y ≡ Some n) where
   abbrev as_token : Option (List ℕ) → Option (TokenRow Moment)
   as_token o = option_map (row_moment net.names f) (option_map (λ class. record { spot = Node y; end = option_map Declared n.end; fact = n.what; class = class }) o)
 
@@ -113,11 +113,11 @@ module _ (lists : States) (nets : Nets) (edit : Edit) (tree : Kept) (kept : List
   abbrev s : Standing
   s = lists.committed
 
-  seen_g : IsSeen (next_list s edit) nets.present g
-  seen_g = subst (λ z. IsSeen z nets.present g) edited.list edited.seen_now
+  seen_g : IsForestOf (next_list s edit) nets.present g
+  seen_g = subst (λ z. IsForestOf z nets.present g) edited.list edited.seen_now
 
-  holds_g : Holds (built (next_list s edit)).believed g
-  holds_g = subst (λ (z : Standing). Holds (built z).believed g) edited.list edited.holds_now
+  holds_g : HasOccurrences (built (next_list s edit)).believed g
+  holds_g = subst (λ (z : Standing). HasOccurrences (built z).believed g) edited.list edited.holds_now
 
   points : PointsKeepNumbers (points_in (next_list s edit).premises) nets.committed.names nets.present.names
   points = subst (λ (z : Standing). PointsKeepNumbers (points_in z.premises) nets.committed.names nets.present.names) edited.list edited.points

@@ -6,7 +6,7 @@ ghost use Rattle.tmm_model.specs.Standing.{Standing as AStanding};
 ghost use Rattle.dist_net.specs.Net.{Net};
 ghost use Rattle.projection.specs.Kinds.{IsCountIn};
 ghost use Rattle.spots.specs.Forest.{Member, member, IsLive};
-ghost use Rattle.spots.specs.Seen.{IsSeen};
+ghost use Rattle.spots.specs.OfLists.{IsForestOf};
 ghost use Rattle.occ_tree.specs.OfLists.{IsTreeOf};
 ghost use Rattle.occ_tree.specs.Places.{forest};
 ghost use Rattle.occ_tree.specs.Standing.{Kept};
@@ -172,7 +172,7 @@ fn tell_node(
     found: &mut Found,
     last: &mut Option<KindCount>,
 ) -> Result<(), NoMemory>
-    requires seen { (net : Net) × IsSeen standing.now.present net (forest tree.now) }
+    requires seen { (net : Net) × IsForestOf standing.now.present net (forest tree.now) }
     requires long { length found.old.marks.items ≡ length kept.now }
     requires last { IfSome last.old (IsCountIn standing.now.present) }
     ensures long { OnOk result (length found.new.marks.items ≡ length kept.now) }
@@ -198,7 +198,7 @@ fn row_now(
     x: u32,
     last: &mut Option<KindCount>,
 ) -> Option<KeptRow>
-    requires seen { (net : Net) × IsSeen standing.now.present net (forest tree.now) }
+    requires seen { (net : Net) × IsForestOf standing.now.present net (forest tree.now) }
     requires last { IfSome last.old (IsCountIn standing.now.present) }
     ensures now { (net : Net) (classes : List (List ℕ)) → ((m : Member) (class : List ℕ) → member (forest tree.now) x ≡ Some m → m.class ≡ Some class → Contains classes class → ⊥)
         → IsNowUnder standing.now.present net tree.now classes was.now x result }

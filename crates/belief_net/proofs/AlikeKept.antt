@@ -18,7 +18,7 @@ use Rattle.dist_net.specs.Net.{Net}
 use Rattle.list_net.specs.Fits.{IsNetOf}
 use Rattle.list_net.specs.Network.{PointsKeepNumbers}
 use Rattle.spots.specs.Forest.{Forest, IsLive, moment_at}
-use Rattle.spots.specs.Seen.{IsSeen, Holds}
+use Rattle.spots.specs.OfLists.{IsForestOf, HasOccurrences}
 use Rattle.spots.proofs.Nodes.{node_at, moment_at-is}
 use Rattle.spots.proofs.Seen.{early_is}
 use Rattle.occ_tree.specs.Classes.{place_in}
@@ -86,7 +86,7 @@ module _ (s t : Standing) (before net : Net) (b : BeliefNet) (alike : AreAlike s
   believe : BelieveAlike s t
   believe = (alike_believe s t alike).0
 
-  seen : IsSeen t net f
+  seen : IsForestOf t net f
   seen = stay_seen s t alike.say before net f of_t keep kept.fit.tree.seen
 
   -- the occurrence of a node was believed
@@ -138,7 +138,7 @@ module _ (s t : Standing) (before net : Net) (b : BeliefNet) (alike : AreAlike s
   current : IsCurrent t net f (rows_of b)
   current = record {
     seen = seen;
-    holds = subst (λ l. Holds l f) believe.believed kept.current.holds;
+    holds = subst (λ l. HasOccurrences l f) believe.believed kept.current.holds;
     rows_are = rows_are;
     none_waits = kept.current.none_waits;
     told = told;

@@ -17,7 +17,7 @@ use Rattle.row_links.specs.Lists.{IsOn}
 use Rattle.row_links.proofs.Lists.{IsOn-first}
 use Rattle.spots.specs.declared.spot.Spot.{Spot}
 use Rattle.spots.specs.Forest.{Forest, Member, member, IsLive, moment, moment_at}
-use Rattle.spots.specs.Seen.{IsMemberOf, IsSeen, class_for}
+use Rattle.spots.specs.OfLists.{IsMemberOf, IsForestOf, class_for}
 use Rattle.spots.proofs.Nodes.{node_at, live_at, moment_at-is}
 use Rattle.spots.proofs.Seen.{occurs_at}
 use Rattle.supports.specs.Growing.{Adds}
@@ -59,7 +59,7 @@ one_class s names m n own_m own_n same =
 
 -- ---- an effect is later than its event
 
-effect_later : (s : Standing) (net : Net) (f : Forest) (x : ℕ) (rule : List ℕ) → IsSeen s net f → IsLive f x → Contains (rules_at s (moment_at f x)) rule
+effect_later : (s : Standing) (net : Net) (f : Forest) (x : ℕ) (rule : List ℕ) → IsForestOf s net f → IsLive f x → Contains (rules_at s (moment_at f x)) rule
     → date_at s (moment_at f x) <ℤ date_at s (After (moment_at f x) rule)
 effect_later s net f x rule seen live stands =
     let timed = sound_timed s seen.network.sound in

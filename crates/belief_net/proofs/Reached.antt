@@ -18,7 +18,7 @@ use Rattle.list_net.specs.Represents.{IsNumberOf}
 use Rattle.spots.specs.declared.spot.Spot.{Spot}
 use Rattle.spots.specs.declared.spot.Spot.TheVariants.{Declared, Node}
 use Rattle.spots.specs.Forest.{Forest, Member, member}
-use Rattle.spots.specs.Seen.{IsSeen}
+use Rattle.spots.specs.OfLists.{IsForestOf}
 use Rattle.spots.specs.Spots.{base_of, links_of, links_high, AreTokens}
 use Rattle.spots.proofs.Rows.{IsRowOf, member_of_token}
 use Rattle.joined.specs.Gaps.{IsClassSpot, begin, an_end}
@@ -29,7 +29,7 @@ use Rattle.belief_net.specs.Reach.{IsBaseOf, IsBoundedBaseOf, Notes, HasPlaces, 
 use Rattle.belief_net.proofs.Sets.{puts_none, puts_both, puts_alike, puts_into_none}
 
 -- numbers of points are below 256 where so many have a place
-pub numbers_below : (s : Standing) (net : Net) (f : Forest) → IsSeen s net f → length net.names ≡ 256 → AreBelow256 f
+pub numbers_below : (s : Standing) (net : Net) (f : Forest) → IsForestOf s net f → length net.names ≡ 256 → AreBelow256 f
 numbers_below s net f seen places = record { begin = λ x m at. in_place m.begin (Begin m.root) (seen.members x m at).begin; «end» = λ x m e at ends. by m.shape m.root m.end (seen.members x m at).end e ends }
   where
     in_place : (n : ℕ) (p : PointName) → IsNumberOf net.names n p → n < 256

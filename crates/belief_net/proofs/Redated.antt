@@ -6,7 +6,7 @@ use Rattle.tmm_model.specs.Moments.{negated}
 use Rattle.dist_net.specs.Net.{Net, Nets, IsMovedAt, IsInUse}
 use Rattle.list_theory.proofs.Elements.{In-from_Contains}
 use Rattle.spots.specs.Forest.{Member, member}
-use Rattle.spots.specs.Seen.{HasList}
+use Rattle.spots.specs.OfLists.{HasList}
 use Rattle.spots.proofs.InUse.{begin_in_use, zero_in_use}
 use Rattle.occ_tree.specs.Dated.{IsDatedBut, DatesFollow, HaveRoots, point_early}
 use Rattle.occ_tree.specs.Edits.{ReDates, Stays}

@@ -28,7 +28,6 @@ fast_stand nets added listed pairs kept fast moved one_of both_kept start are = 
   };
 }
   where
-
     by : (a b : ℕ) → is_moved nets added a b ≡ true → (v : Bool) → is_in fast a ≡ v → (w : Bool) → is_in fast b ≡ w → (is_out fast a ≡ true) ⊎ (is_out fast b ≡ true)
     by a b is false out w other = inl (ap not out)
     by a b is true in_a false out = inr (ap not out)

@@ -7,7 +7,7 @@ use Rattle.tmm_model.specs.Moments.{Moment}
 use Rattle.tmm_model.specs.Standing.{Standing, far_in}
 use Rattle.dist_net.specs.Net.{Net}
 use Rattle.spots.specs.Forest.{moment_at}
-use Rattle.spots.specs.Seen.{Holds}
+use Rattle.spots.specs.OfLists.{HasOccurrences}
 use Rattle.undo_rows.specs.declared.row.Row.{Row as TableRow}
 use Rattle.undo_rows.specs.Changes.{present as table}
 use Rattle.decision_rows.specs.Decisions.{Decides}
@@ -51,7 +51,7 @@ pub record IsRevising (s : Standing) (net : Net) (b : BeliefNet) : Type 0 where
 
 -- what is decided is right for the nodes
 pub record IsRight (s : Standing) (b : BeliefNet) (trigger : ℕ) (rule : List ℕ) (found : Decision) : Type 0 where
-  pub outcome : (nodes : List Moment) → Holds nodes (forest b.tree)
+  pub outcome : (nodes : List Moment) → HasOccurrences nodes (forest b.tree)
       → outcome_at (forest b.tree) found ≡ outcome s (far_in s.premises) nodes (moment_at (forest b.tree) trigger) rule
   pub live : AreLive (forest b.tree) found
 

@@ -6,7 +6,7 @@ ghost use Rattle.tmm_model.specs.Beliefs.{rules_at};
 ghost use Rattle.tmm_model.specs.Moments.{Moment};
 ghost use Rattle.tmm_model.specs.Standing.{far_in};
 ghost use Rattle.spots.specs.Forest.{IsLive, moment_at};
-ghost use Rattle.spots.specs.Seen.{Holds};
+ghost use Rattle.spots.specs.OfLists.{HasOccurrences};
 ghost use Rattle.occ_tree.specs.OfLists.{IsTreeOf};
 ghost use Rattle.occ_tree.specs.Places.{forest};
 ghost use Rattle.joined.specs.Rows.{outcome_at, AreLive};
@@ -49,7 +49,7 @@ pub(crate) fn decide(
     requires seen { IsTreeOf standing.now.present net.now.present tree.now }
     requires trigger { IsLive (forest tree.now) trigger }
     requires rule { Contains (rules_at standing.now.present (moment_at (forest tree.now) trigger)) rule }
-    ensures outcome { (b : List Moment) → Holds b (forest tree.now) → outcome_at (forest tree.now) result ≡ outcome standing.now.present (far_in standing.now.present.premises) b (moment_at (forest tree.now) trigger) rule }
+    ensures outcome { (b : List Moment) → HasOccurrences b (forest tree.now) → outcome_at (forest tree.now) result ≡ outcome standing.now.present (far_in standing.now.present.premises) b (moment_at (forest tree.now) trigger) rule }
     ensures live { AreLive (forest tree.now) result }
     ensures counted { counter.new ≡ min (counter.old + 1) 18446744073709551615 }
 {
@@ -70,7 +70,7 @@ fn decide_with(
     requires seen { IsTreeOf standing.now.present net.now.present tree.now }
     requires trigger { IsLive (forest tree.now) trigger }
     requires rule { Contains (rules_at standing.now.present (moment_at (forest tree.now) trigger)) rule }
-    ensures outcome { (b : List Moment) → Holds b (forest tree.now) → outcome_at (forest tree.now) result ≡ outcome standing.now.present (far_in standing.now.present.premises) b (moment_at (forest tree.now) trigger) rule }
+    ensures outcome { (b : List Moment) → HasOccurrences b (forest tree.now) → outcome_at (forest tree.now) result ≡ outcome standing.now.present (far_in standing.now.present.premises) b (moment_at (forest tree.now) trigger) rule }
     ensures live { AreLive (forest tree.now) result }
     ensures counted { counter.new ≡ min (counter.old + 1) 18446744073709551615 }
 {

@@ -38,7 +38,7 @@ abbrev pub IsRight : Standing → Distances → List Moment → Type 0
 IsRight s far b = IsRightTo s far s.horizon b
 
 -- distances of declared points, as of a list that some dates satisfy
-pub record IsShortest (s : Standing) (far : Distances) : Type 0 where
+pub record IsQuasiMetric (s : Standing) (far : Distances) : Type 0 where
   pub itself : (p : PointName) → far p p ≡ Finite (pos 0)
   pub triangle : (p q r : PointName) → IsTighter (far p r) (bound_plus (far p q) (far q r))
   pub from_root : (p : PointName) → Contains (roots s) (At p) → (d : ℤ) × (far p Start ≡ Finite d) × (d ≤ℤ pos 0)

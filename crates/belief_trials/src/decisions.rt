@@ -2,7 +2,7 @@
 ghost use Rattle.list_net.specs.Fits.{IsNetOf};
 ghost use Rattle.tmm_model.specs.Maps.{built};
 ghost use Rattle.spots.specs.Forest.{IsLive};
-ghost use Rattle.spots.specs.Seen.{Holds};
+ghost use Rattle.spots.specs.OfLists.{HasOccurrences};
 ghost use Rattle.occ_tree.specs.OfLists.{IsTreeOf};
 ghost use Rattle.occ_tree.specs.Places.{forest};
 ghost use Rattle.projection.specs.Kinds.{AreRules};
@@ -77,7 +77,7 @@ fn project(alloc: Global, premises: &Premises, rows: &[Row]) -> Result<Outcome, 
 // Whether the rows of what is believed are these.
 fn are_listed(alloc: Global, premises: &Premises, tree: &Tree, want: &[Row]) -> bool
     requires seen { IsTreeOf premises.now.list.present premises.now.net.present tree.now }
-    requires holds { Holds (built premises.now.list.present).believed (forest tree.now) }
+    requires holds { HasOccurrences (built premises.now.list.present).believed (forest tree.now) }
 {
     match listed(alloc, &premises.list, tree, &premises.net) {
         Ok(rows) => are_rows(rows.items(), want),

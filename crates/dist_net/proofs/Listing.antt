@@ -283,7 +283,6 @@ AreMarksListed-skip marks old new n is none = record {
 
 -- the fewer of the marked numbers are listed
 module _ (places : List ℕ) (all : Bool) (from to : List Bool) (old new : List ℕ) (marked : AreNumbersMarked places all from to) (fewer : AreMarksListed from old 256 new ⊎ AreMarksListed to old 256 new) where
-
   pub fewer_listed : AreNumbersListed places all new
   fewer_listed k lt speaks =
       elim fewer [

@@ -46,8 +46,7 @@ pub fn erase_from(net: &mut DistNet, first: usize)
 fn is_needless(net: &DistNet, place: usize) -> bool
     requires { place < length net.now.present.edges }
 {
-    // it tells the proof what holds of the network
-    let _ = net.edges();
+    net.invariants();
     let from = net.edges()[place].from;
     if !is_tight(net, place, from) {
         return true;

@@ -16,7 +16,7 @@ use Rattle.list_theory.proofs.Elements.{both}
 use Rattle.belief_theory.proofs.Moments.{Decides-same_moment}
 use Rattle.dist_net.specs.Net.{Net}
 use Rattle.spots.specs.Forest.{Forest, Member, member, moment, moment_at, IsLive}
-use Rattle.spots.specs.Seen.{IsSeen, Holds}
+use Rattle.spots.specs.OfLists.{IsForestOf, HasOccurrences}
 use Rattle.spots.proofs.Nodes.{node_at, live_at, moment_at-is}
 use Rattle.decision_rows.specs.declared.row.Decision.{Decision}
 use Rattle.revisions.specs.Keeping.{IsKeeping, IsLeast, Waits}
@@ -88,7 +88,7 @@ module _ (old : Standing) (edit : Edit) (net : Net) (f g : Forest) (rows after :
   pub record IsTurned : Type 0 where
     pub nodes : List Moment
     pub outcomes : Moment → List ℕ → Outcome
-    pub holds : Holds nodes g
+    pub holds : HasOccurrences nodes g
     pub turns : Turns (revision (built old) (built (next_list old edit))) n.nodes nodes n.kept outcomes (IsWaiting g after) (moment_at f p.trigger) p.rule
     pub netted : IsNetted old (next_list old edit) net g after ((moment_at f p.trigger, p.rule) ∷ taken)
 
@@ -177,7 +177,7 @@ module _ (old : Standing) (edit : Edit) (net : Net) (f g : Forest) (rows after :
         ap (λ v. pick v (entering && same_moment effect effect) (R.outcome n.nodes t p.rule) (n.kept effect q)) (not_same effect q (λ s. not_itself s.0))
         ∙ ap (λ v. pick false v (R.outcome n.nodes t p.rule) (n.kept effect q)) now
 
-    module _ (c : List Moment) (holds : Holds c g) (seen : IsSeen (next_list old edit) net g)
+    module _ (c : List Moment) (holds : HasOccurrences c g) (seen : IsForestOf (next_list old edit) net g)
         (stay_node : (y : ℕ) (m : Member) → member f y ≡ Some m → Contains c (moment m) → member g y ≡ Some m)
         (back_node : (y : ℕ) (m : Member) → member g y ≡ Some m → (member f y ≡ Some m) ⊎ ((moment m ≡ effect) × (entering ≡ true) × (member f y ≡ None)))
         (absent : entering ≡ true → Contains n.nodes effect → ⊥)

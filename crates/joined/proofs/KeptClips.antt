@@ -22,7 +22,7 @@ use Rattle.list_net.proofs.Nets.{is_in_use}
 use Rattle.spots.specs.declared.spot.Spot.{Spot}
 use Rattle.spots.specs.declared.spot.Spot.TheVariants.{Declared, Node}
 use Rattle.spots.specs.Forest.{Forest, Member, member, IsLive, moment, moment_at}
-use Rattle.spots.specs.Seen.{IsSeen, Holds}
+use Rattle.spots.specs.OfLists.{IsForestOf, HasOccurrences}
 use Rattle.spots.specs.Spots.{spot_moment, spot_distance, node_early, base_of, links_of, links_low, links_high, net_far, row_moment}
 use Rattle.spots.proofs.Distances.{distance-two_bases}
 use Rattle.spots.proofs.Nodes.{node_at, live_at, moment_at-is, base-moment, point_is}
@@ -34,7 +34,7 @@ use Rattle.joined.specs.KeptClips.{StandsAsBefore, NodesKeepClips}
 use Rattle.joined.proofs.Gaps.{WasThere, start_was, node_was, distance_was, one_base}
 
 module _ (old : Standing) (edit : Edit) (before net : Net) (moved : List ℕ) (f g : Forest)
-    (seen_f : IsSeen old before f) (holds_f : Holds (built old).believed f) (seen_g : IsSeen (next_list old edit) net g) (holds_g : Holds (built (next_list old edit)).believed g)
+    (seen_f : IsForestOf old before f) (holds_f : HasOccurrences (built old).believed f) (seen_g : IsForestOf (next_list old edit) net g) (holds_g : HasOccurrences (built (next_list old edit)).believed g)
     (numbers : (y : ℕ) → IsLive f y → IsLive g y → moment_at f y ≡ moment_at g y)
     (keep : PointsKeepNumbers (points_in (next_list old edit).premises) before.names net.names) (apart : IsMovedAt moved before net) where
   abbrev new : Standing

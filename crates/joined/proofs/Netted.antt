@@ -16,7 +16,7 @@ use Rattle.list_theory.proofs.Elements.{In-from_Contains}
 use Rattle.dist_net.specs.Net.{Net}
 use Rattle.list_net.specs.Fits.{IsNetOf}
 use Rattle.spots.specs.Forest.{Forest, member, moment, moment_at}
-use Rattle.spots.specs.Seen.{Holds}
+use Rattle.spots.specs.OfLists.{HasOccurrences}
 use Rattle.spots.proofs.Nodes.{node_at, moment_at-is}
 use Rattle.revisions.specs.Counted.{changed}
 use Rattle.revisions.specs.Maps.{revision}
@@ -41,7 +41,7 @@ module _ (old : Standing) (edit : Edit) (net : Net) (f : Forest) (rows : Rows) (
         × ((t : Moment) (r : List ℕ) → Contains n.nodes t → Contains (rules_at new t) r → n.kept t r ≡ outcome new (far_in new.premises) (built new).believed t r)
     end = ended (revision (built old) (built (next_list old edit))) (lawful old edit sound_old sound_new) n.nodes n.kept (IsWaiting f rows) taken n.date n.keeping none_waits
 
-    holds : Holds (built new).believed f
+    holds : HasOccurrences (built new).believed f
     holds = record { own = λ x m at. (end.0 (moment m)).0 (n.holds.own x m at); all = λ k at. n.holds.all k ((end.0 k).1 at); once = n.holds.once }
 
     told : (i : ℕ) (q : Row) → rows i ≡ Some q → AreLive f q.found × (outcome_at f q.found ≡ outcome new (far_in new.premises) (built new).believed (moment_at f q.trigger) q.rule)

@@ -21,7 +21,7 @@ use Rattle.belief_theory.proofs.Moments.{Decides-same_moment}
 use Rattle.belief_theory.proofs.Untouched.{was_decision}
 use Rattle.dist_net.specs.Net.{Net}
 use Rattle.spots.specs.Forest.{Forest, Member, member, moment, moment_at, IsLive}
-use Rattle.spots.specs.Seen.{Holds}
+use Rattle.spots.specs.OfLists.{HasOccurrences}
 use Rattle.spots.proofs.Nodes.{node_at, live_at, moment_at-is}
 use Rattle.supports.proofs.Grown.{root_name}
 use Rattle.revisions.specs.Counted.{AreSeeds}
@@ -182,7 +182,7 @@ module _ (old : Standing) (edit : Edit) (net_before net : Net) (f g : Forest) (r
       let (x, m, there, is) = current.holds.all (After t r) h.0 in
       (x, m, prepared.nodes_begin.stay x m there (subst (Occurs new) (sym is) h.1), is)
 
-  pub holds : Holds seeds g
+  pub holds : HasOccurrences seeds g
   holds = record { own = own_seed; all = node_of; once = prepared.seen.once }
 
   -- ---- what each row is

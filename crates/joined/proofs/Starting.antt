@@ -19,7 +19,7 @@ use Rattle.belief_theory.specs.Touched.{is_decision, is_touched}
 use Rattle.dist_net.specs.Net.{Net}
 use Rattle.list_net.specs.Represents.{Names}
 use Rattle.spots.specs.Forest.{Forest, Member, moment, moment_at, IsLive}
-use Rattle.spots.specs.Seen.{IsMemberOf, class_for, map_of}
+use Rattle.spots.specs.OfLists.{IsMemberOf, class_for, map_of}
 use Rattle.spots.proofs.Nodes.{node_at, live_at, moment_at-is}
 use Rattle.revisions.specs.Maps.{revision, is_watched, watches}
 use Rattle.revisions.specs.Revisions.{Revision, is_firing}

@@ -12,7 +12,7 @@ use Rattle.belief_theory.specs.Touched.{touched}
 use Rattle.dist_net.specs.Net.{Net}
 use Rattle.list_net.specs.Fits.{IsNetOf}
 use Rattle.spots.specs.Forest.{Forest, member, moment_at}
-use Rattle.spots.specs.Seen.{IsSeen, Holds}
+use Rattle.spots.specs.OfLists.{IsForestOf, HasOccurrences}
 use Rattle.revisions.specs.Counted.{changed}
 use Rattle.revisions.specs.Keeping.{IsKeeping}
 use Rattle.revisions.specs.Maps.{revision}
@@ -26,8 +26,8 @@ pub record IsNetted (old new : Standing) (net : Net) (f : Forest) (rows : Rows) 
   pub nodes : List Moment
   pub kept : Moment → List ℕ → Outcome
   pub date : ℤ
-  pub seen : IsSeen new net f
-  pub holds : Holds nodes f
+  pub seen : IsForestOf new net f
+  pub holds : HasOccurrences nodes f
   pub keeping : IsKeeping (revision (built old) (built new)) nodes kept (IsWaiting f rows) taken date
   pub rows_are : AreRowsOf new f rows
   pub told : (i : ℕ) (q : Row) → rows i ≡ Some q → (q.waits ≡ true) ⊎ (AreLive f q.found × (outcome_at f q.found ≡ kept (moment_at f q.trigger) q.rule))
@@ -36,8 +36,8 @@ pub record IsNetted (old new : Standing) (net : Net) (f : Forest) (rows : Rows) 
 -- **Nodes and rows are those of the list**: what it believes, and each decision with its outcome
 -- there.
 pub record IsCurrent (s : Standing) (net : Net) (f : Forest) (rows : Rows) : Type 0 where
-  pub seen : IsSeen s net f
-  pub holds : Holds (built s).believed f
+  pub seen : IsForestOf s net f
+  pub holds : HasOccurrences (built s).believed f
   pub rows_are : AreRowsOf s f rows
   pub none_waits : NoneWaits rows
   pub told : (i : ℕ) (q : Row) → rows i ≡ Some q

@@ -14,7 +14,7 @@ use Rattle.belief_theory.specs.Right.{Occurs}
 use Rattle.belief_theory.specs.Touched.{is_decision, is_touched}
 use Rattle.dist_net.specs.Net.{Net}
 use Rattle.spots.specs.Forest.{Forest, Member, member, moment, moment_at, IsLive}
-use Rattle.spots.specs.Seen.{IsSeen, Holds, map_of}
+use Rattle.spots.specs.OfLists.{IsForestOf, HasOccurrences, map_of}
 use Rattle.decision_rows.specs.declared.row.Decision.TheVariants.{Beyond}
 use Rattle.revisions.specs.Counted.{AreSeeds}
 use Rattle.revisions.specs.Revisions.{is_firing}
@@ -42,8 +42,8 @@ pub record AreMarked (old new : Standing) (b : List Moment) (f : Forest) (rows :
 -- **Nodes and rows begin so**, when what was erased is withdrawn, what is added has entered, and
 -- what may be touched waits.
 pub record IsStart (old new : Standing) (net : Net) (b : List Moment) (f : Forest) (rows : Rows) : Type 0 where
-  pub seen : IsSeen new net f
-  pub holds : Holds b f
+  pub seen : IsForestOf new net f
+  pub holds : HasOccurrences b f
   pub seeds : AreSeeds old new b
   pub rows_are : AreRowsOf new f rows
   pub start_as : (i : ℕ) (q : Row) → rows i ≡ Some q → StartsAs old f q
@@ -81,10 +81,10 @@ pub record RowsBegin (new : Standing) (g : Forest) (rows after : Rows) : Type 0 
 
 -- nodes f and rows are made ready for another list, as nodes g and rows after
 pub record IsPrepared (old new : Standing) (net : Net) (f g : Forest) (rows after : Rows) : Type 0 where
-  pub seen : IsSeen new net g
+  pub seen : IsForestOf new net g
   pub nodes_begin : NodesBegin new f g
   pub rows_begin : RowsBegin new g rows after
-  pub marked : (b : List Moment) → Holds b g → AreSeeds old new b → AreMarked old new b g after
+  pub marked : (b : List Moment) → HasOccurrences b g → AreSeeds old new b → AreMarked old new b g after
 
 -- **So prepared, nodes and rows of the list before stand for the revision that the edit asks for.**
 abbrev pub PreparedAreNetted : Type 0

@@ -10,7 +10,7 @@ use Rattle.tmm_model.specs.Standing.{Standing}
 use Rattle.dist_net.specs.Net.{Net}
 use Rattle.list_net.specs.Represents.{Names}
 use Rattle.spots.specs.Forest.{Forest, Member, member, moment, moment_at, Withdraws, IsLive}
-use Rattle.spots.specs.Seen.{Holds}
+use Rattle.spots.specs.OfLists.{HasOccurrences}
 use Rattle.supports.specs.Growing.{Adds}
 use Rattle.decision_rows.specs.declared.row.Decision.{Decision}
 use Rattle.decision_rows.specs.declared.row.Decision.TheVariants.{Beyond}
@@ -43,7 +43,7 @@ pub data Moved (f : Forest) (p : Row) (found : Decision) (y : Moment) : Type 0 w
 
 -- the outcome of a decision is the same for the nodes before and after
 abbrev pub SameOutcome : Revision → Forest → Forest → Moment → List ℕ → Type 0
-SameOutcome r f g u rule = (b c : List Moment) → Holds b f → Holds c g → r.outcome c u rule ≡ r.outcome b u rule
+SameOutcome r f g u rule = (b c : List Moment) → HasOccurrences b f → HasOccurrences c g → r.outcome c u rule ≡ r.outcome b u rule
 
 -- the decision at u may wait after one at t: it is later, and touched if u is believed in the end
 pub record MayWait (r : Revision) (t u : Moment) (rule : List ℕ) : Type 0 where
@@ -81,7 +81,7 @@ pub record IsDueFirst (r : Revision) (f : Forest) (rows : Rows) (x : ℕ) (p : R
 
 -- the decision is right for the nodes as they are, of which its supporters are some
 pub record IsFound (r : Revision) (f : Forest) (p : Row) (found : Decision) : Type 0 where
-  pub outcome : (b : List Moment) → Holds b f → outcome_at f found ≡ r.outcome b (moment_at f p.trigger) p.rule
+  pub outcome : (b : List Moment) → HasOccurrences b f → outcome_at f found ≡ r.outcome b (moment_at f p.trigger) p.rule
   pub live : AreLive f found
 
 -- **A turn of the code**: the row p of number x, which is due first, is decided as `found`.

@@ -120,7 +120,6 @@ later_nodes s sound f nodes i x below is rising y at =
 
 module _ (s : Standing) (net : Net) (old c : Checked) (date : ℤ) (taken : IsTaken s net c) (tree : c.tree ≡ old.tree) (nodes : c.nodes ≡ old.nodes)
     (own : (x : ℕ) → In x (decided_in c) → In x (decided_in old) ⊎ (date_of s (moment_at (forest old.tree) x) ≤ℤ date)) where
-
   -- where the next begins later
   pub through_next : (x : ℕ) → c.decided < length c.nodes.items → x ≡ get_or c.nodes.items c.decided x → date <ℤ date_of s (moment_at (forest c.tree) x) → DecidesThrough s net old c date
   through_next x below is later = record {

@@ -10,7 +10,7 @@ use Rattle.tmm_model.specs.Verdicts.{Cause, list_cause}
 use Rattle.belief_theory.specs.KeptLists.{last_horizon}
 use Rattle.belief_theory.specs.Touched.{touched}
 use Rattle.dist_net.specs.Net.{Net, Nets}
-use Rattle.list_net.specs.Fits.{IsNetOf, IsSettled}
+use Rattle.list_net.specs.Fits.{IsNetOf, NothingPending}
 use Rattle.list_net.specs.Network.{PointsKeepNumbers}
 use Rattle.premise_list.specs.States.{States}
 use Rattle.occ_tree.specs.Places.{forest}
@@ -33,7 +33,7 @@ use Rattle.map_engine.proofs.Unmoved.{still_unguarded}
 -- ---- where nothing is pending
 
 -- what rests is all that the map keeps
-pub at_rest : (lists : States) (nets : Nets) (b : BeliefNet) (view : KeptView) (guarded : Bool) (next : Next) → next ≡ Nothing → IsSettled lists nets
+pub at_rest : (lists : States) (nets : Nets) (b : BeliefNet) (view : KeptView) (guarded : Bool) (next : Next) → next ≡ Nothing → NothingPending lists nets
     → IsHeld lists.committed nets.committed guarded → IsResting lists.committed nets.committed b view → IsNetMap lists nets b view guarded next
 at_rest lists nets b view guarded next nothing settled held rests =
     subst (IsNetMap lists nets b view guarded) (sym nothing)
@@ -52,7 +52,7 @@ at_rest lists nets b view guarded next nothing settled held rests =
     })
 
 -- the map of a list in which nothing is declared to occur
-pub first_map : (lists : States) (nets : Nets) (b : BeliefNet) (view : KeptView) → IsSettled lists nets → IsHeld lists.present nets.present false
+pub first_map : (lists : States) (nets : Nets) (b : BeliefNet) (view : KeptView) → NothingPending lists nets → IsHeld lists.present nets.present false
     → IsKept lists.present nets.present b → IsReadOf lists.present (forest b.tree) (read_of view)
     → IsNetMap lists nets b view false Nothing
 first_map lists nets b view settled held kept read =

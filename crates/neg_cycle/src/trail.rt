@@ -67,8 +67,7 @@ pub fn walk(alloc: Global, net: &DistNet, a: u16, b: u16) -> Result<Option<Seq<W
     ensures least { IfOk result (λ found. MatchOption found (IsFar (arcs_of net.now.present.edges) a b Bound.Free) (λ steps. IsFar (arcs_of net.now.present.edges) a b (Bound.Finite (sum_of steps.items)))) }
     ensures path { IfOk result (λ found. IfSome found (λ steps. IsPath (steps_in_net net.now.present) (point_at net.now.present.names a) (point_at net.now.present.names b) steps.items)) }
 {
-    // it tells the proof what holds of the network
-    let _ = net.edges();
+    net.invariants();
     if net.far(a, b).is(Bound::Free) {
         return Ok(None);
     }
@@ -92,8 +91,7 @@ pub fn cycle(
     requires conflict { IsConflict net.now.present.edges edges.now found }
     ensures { IfOk result (λ steps. (d : Edge) → IsCycleBy (steps_in_net net.now.present) (step_of net.now.present.names (slice_index_or edges.now found.edge d)) found.sum steps.items) }
 {
-    // it tells the proof what holds of the network
-    let _ = net.edges();
+    net.invariants();
     let edge = &edges[found.edge];
     let rank = ranks(alloc, net, edge.to, edge.from)?;
     let mut steps = Seq::make(alloc);

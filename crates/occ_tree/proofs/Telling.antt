@@ -11,7 +11,7 @@ use Rattle.spots.specs.declared.spot.Spot.{Spot}
 use Rattle.spots.specs.declared.spot.Spot.TheVariants.{Declared, Node as OfNode}
 use Rattle.spots.specs.Forest.{Forest, Member, moment_at, IsParent, last_name}
 use Rattle.spots.specs.declared.sums.Sums.{Sums}
-use Rattle.spots.specs.Seen.{HasList}
+use Rattle.spots.specs.OfLists.{HasList}
 use Rattle.spots.specs.Spots.{base_of, links_of}
 use Rattle.spots.specs.Sums.{AreSums, ArePartedBy}
 use Rattle.spots.proofs.Apart.{apart_from_none}

@@ -90,7 +90,6 @@ module _ (node : Nodes) (lists : ℕ → List (TokenRow Spot)) (out : List ℕ) 
   only_list k m list (q, q_at, q_list) = let both : Some n ≡ Some q = sym at ∙ q_at in let same : n ≡ q = cc in let lists_same : Some m ≡ Some k = sym q_list ∙ ap (λ (z : Node). z.list) (sym same) ∙ list in cc
 
   module _ (placed : ArePlaced node) (k : ℕ) (list : n.list ≡ Some k) (free_x : IsOn out x → ⊥) (t : AreTokensBut node lists (x ∷ out)) (i : ℕ) (place : IsPlaceFor (node_cmp node) (numbers_in (lists k)) x i) where
-
     numbers_new : numbers_in (insert (lists k) i (row_in node x)) ≡ insert (numbers_in (lists k)) i x
     numbers_new = map-insert (λ (row : TokenRow Spot). number_of row.spot) (lists k) i (row_in node x)
 

@@ -31,7 +31,6 @@ not_among x y out other free gone = elim (or_cases (eqb y x) (list_any (eqb y) o
 ]
 
 module _ (node : Nodes) (lists : ℕ → List (TokenRow Spot)) (out : List ℕ) (x : ℕ) (n : Node) (at : node x ≡ Some n) (free_x : IsOn out x → ⊥) (t : AreTokensBut node lists out) where
-
   module _ (k : ℕ) (list : n.list ≡ Some k) (i : ℕ) (place : IsPlaceFor (node_cmp node) (numbers_in (lists k)) x i) where
     found : (i < length (numbers_in (lists k))) × (slice_index_or (numbers_in (lists k)) i 0 ≡ x)
     found = place_is (node_cmp node) (nodes_total node) (numbers_in (lists k)) x i (t.in_order k) ((t.each x k).1 ((n, at, list), free_x)) place

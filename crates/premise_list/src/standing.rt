@@ -195,6 +195,14 @@ impl Standing {
         self.table.premises().len()
     }
 
+    /// What holds of every list, for a proof that wants it: it does nothing.
+    pub fn invariants(&self)
+        ensures few { length self.now.present.premises ≤ most_premises }
+        ensures well_named { IsWellNamed self.now.present.premises }
+    {
+        self.table.invariants()
+    }
+
     /// The premise at this place, the oldest at 0.
     pub fn at(&self, i: usize) -> Option<&Premise>
         ensures { option_copied result ≡ slice_get self.now.present.premises i }

@@ -73,6 +73,12 @@ impl Table {
         self.premises.as_slice()
     }
 
+    // What holds of every table. It does nothing.
+    pub(crate) fn invariants(&self)
+        ensures few { length self.now.premises ≤ most_premises }
+        ensures well_named { IsWellNamed self.now.premises }
+    {}
+
     // The premise at this place.
     pub(crate) fn at(&self, place: usize) -> Option<&Premise>
         ensures { option_copied result ≡ slice_get self.now.premises place }

@@ -19,7 +19,7 @@ use Rattle.belief_theory.proofs.Settling.{skip, right_at_end}
 use Rattle.belief_theory.proofs.SoundBeliefs.{sound_timed, map_is_right, believed_right}
 use Rattle.dist_net.specs.Net.{Net}
 use Rattle.spots.specs.Forest.{Forest, moment, moment_at}
-use Rattle.spots.specs.Seen.{Holds}
+use Rattle.spots.specs.OfLists.{HasOccurrences}
 use Rattle.spots.proofs.Nodes.{node_at, moment_at-is}
 use Rattle.projection.specs.declared.pending.Pending.{Pending}
 use Rattle.projection.specs.Counted.{is_due, due_rules, decisions_due}
@@ -126,7 +126,6 @@ module _ (s : Standing) (net : Net) (f : Forest) (queue : List Pending) (n : ℕ
   }
 
   module _ (free : is_free s (far_in s.premises) growing.entered (moment_at f p.trigger) (rule_at s p) ≡ true) where
-
     module _ (new : Forest) (x : ℕ) (adds : Adds s net.names f new x (After (moment_at f p.trigger) (rule_at s p))) where
       -- where the size is too large with the effect, that of the map is
       pub effect_too_large : most_size < n + weight_at s new x → most_size < size (built s)
@@ -201,7 +200,7 @@ module _ (s : Standing) (net : Net) (f : Forest) (n : ℕ) {made : ℕ} (growing
     pend_later = λ u q never. absurd never;
   })
 
-  pub holds_at_end : Holds (built s).believed f
+  pub holds_at_end : HasOccurrences (built s).believed f
   holds_at_end =
       let same = (map_is_right s growing.sound).1 growing.entered right in
       record {

@@ -7,7 +7,7 @@ ghost use Rattle.tmm_model.specs.Moments.{Moment};
 ghost use Rattle.tmm_model.specs.Sorts.{class_in};
 ghost use Rattle.tmm_model.specs.Standing.{far_in};
 ghost use Rattle.spots.specs.Forest.{IsLive, moment_at};
-ghost use Rattle.spots.specs.Seen.{IsSeen, Holds};
+ghost use Rattle.spots.specs.OfLists.{IsForestOf, HasOccurrences};
 ghost use Rattle.occ_tree.specs.OfLists.{IsTreeOf};
 ghost use Rattle.occ_tree.specs.Places.{forest};
 ghost use Rattle.projection.specs.Decisions.{outcome_at, AreLive, tried_at};
@@ -89,7 +89,7 @@ pub fn decide(
     requires seen { IsTreeOf standing.now.present net.now.present tree.now }
     requires trigger { IsLive (forest tree.now) trigger }
     requires rule { Contains (rules_at standing.now.present (moment_at (forest tree.now) trigger)) rule }
-    ensures outcome { (b : List Moment) → Holds b (forest tree.now) → outcome_at (forest tree.now) result ≡ outcome standing.now.present (far_in standing.now.present.premises) b (moment_at (forest tree.now) trigger) rule }
+    ensures outcome { (b : List Moment) → HasOccurrences b (forest tree.now) → outcome_at (forest tree.now) result ≡ outcome standing.now.present (far_in standing.now.present.premises) b (moment_at (forest tree.now) trigger) rule }
     ensures live { AreLive (forest tree.now) result }
     ensures counted { counter.new ≡ min (counter.old + 1) 18446744073709551615 }
     ensures kept { counter.old ≤ counter.new }
@@ -127,7 +127,7 @@ fn try_facts(
     requires facts { All (λ fact. IsSome (class_in standing.now.present.premises fact)) given.now }
     requires exceptions { All (λ fact. IsSome (class_in standing.now.present.premises fact)) exceptions.now }
     requires few { length given.now ≤ 4 }
-    ensures outcome { (b : List Moment) → Holds b (forest tree.now) → outcome_at (forest tree.now) result ≡ tried_at standing.now.present b (moment_at (forest tree.now) trigger) given.now exceptions.now }
+    ensures outcome { (b : List Moment) → HasOccurrences b (forest tree.now) → outcome_at (forest tree.now) result ≡ tried_at standing.now.present b (moment_at (forest tree.now) trigger) given.now exceptions.now }
     ensures live { AreLive (forest tree.now) result }
 {
     let at = Spot::Node(trigger);
@@ -159,7 +159,7 @@ pub(crate) fn is_free(
     requires trigger { IsLive (forest tree.now) trigger }
     requires place { IsRuleAt standing.now.present place }
     requires rule { Contains (rules_at standing.now.present (moment_at (forest tree.now) trigger)) (name_at standing.now.present place) }
-    ensures { (b : List Moment) → Holds b (forest tree.now) → result ≡ is_free standing.now.present (far_in standing.now.present.premises) b (moment_at (forest tree.now) trigger) (name_at standing.now.present place) }
+    ensures { (b : List Moment) → HasOccurrences b (forest tree.now) → result ≡ is_free standing.now.present (far_in standing.now.present.premises) b (moment_at (forest tree.now) trigger) (name_at standing.now.present place) }
 {
     let mut guesses = Guesses::make(alloc);
     is_free_with(tree, net, standing, trigger, place, &mut guesses)
@@ -178,7 +178,7 @@ fn is_free_with(
     requires trigger { IsLive (forest tree.now) trigger }
     requires place { IsRuleAt standing.now.present place }
     requires rule { Contains (rules_at standing.now.present (moment_at (forest tree.now) trigger)) (name_at standing.now.present place) }
-    ensures { (b : List Moment) → Holds b (forest tree.now) → result ≡ is_free standing.now.present (far_in standing.now.present.premises) b (moment_at (forest tree.now) trigger) (name_at standing.now.present place) }
+    ensures { (b : List Moment) → HasOccurrences b (forest tree.now) → result ≡ is_free standing.now.present (far_in standing.now.present.premises) b (moment_at (forest tree.now) trigger) (name_at standing.now.present place) }
 {
     let at = Spot::Node(trigger);
     let text = text_at(standing, place);

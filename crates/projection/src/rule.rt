@@ -17,7 +17,7 @@ pub(crate) fn text_at(standing: &Standing, place: u32) -> RuleText<'_>
     ensures few { length result.given.now ≤ 4 }
 {
     // It tells the proof that names are distinct.
-    let _ = standing.len();
+    standing.invariants();
     match standing.at(place as usize) {
         Some(
             Premise::Rule {

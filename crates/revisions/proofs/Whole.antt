@@ -131,7 +131,6 @@ module _ (old : Standing) (edit : Edit) (sound_old : IsSound old) (sound_new : I
           ((gone t r).0 (subst (λ z. In z left) is at)).1 ((seeds.derived t r).0 (subst (Contains b) is live)).1
 
   module _ (s : State) (begins : Begins old (next_list old edit) s) where
-
     module _ (last : State) (reaches : Reaches g s last) where
       k : Keeps g laws last
       k = keeps_all g laws s last reaches first_keeps

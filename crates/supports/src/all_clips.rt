@@ -13,7 +13,7 @@ ghost use Rattle.occ_tree.specs.Ranks.{nodes_of};
 ghost use Rattle.clip_search.specs.Entries.{AreBranches, row_at};
 ghost use Rattle.occ_tree.specs.Tokens.{IsInOrder, numbers_in};
 ghost use Rattle.spots.specs.Forest.{IsLive, IsOnce, moment_at};
-ghost use Rattle.spots.specs.Seen.{IsSeen, HasList, Holds, map_of};
+ghost use Rattle.spots.specs.OfLists.{IsForestOf, HasList, HasOccurrences, map_of};
 ghost use Rattle.spots.specs.Spots.{IsSpot, AreTokens, spot_distance, node_cmp};
 ghost use Rattle.occ_tree.specs.OfLists.{IsTreeIn};
 ghost use Rattle.occ_tree.specs.Places.{forest};
@@ -48,7 +48,7 @@ pub fn clips(
     requires all { (x : ℕ) → IsLive (forest tree.now) x → Contains (nodes_of ranked.now) x }
     requires in_order { IsStrictlySortedBy (node_cmp net.now.present (forest tree.now)) (nodes_of ranked.now) }
     ensures live { IfOk result (λ clips. All (λ clip. IfSome clip (IsLive (forest tree.now))) clips.items) }
-    ensures first { IfOk result (λ clips. (s : Standing) (b : List Moment) → IsSeen s net.now.present (forest tree.now) → Holds b (forest tree.now) → map (option_map (moment_at (forest tree.now))) clips.items ≡ map (λ x. clip (map_of s b) (moment_at (forest tree.now) x)) (nodes_of ranked.now)) }
+    ensures first { IfOk result (λ clips. (s : Standing) (b : List Moment) → IsForestOf s net.now.present (forest tree.now) → HasOccurrences b (forest tree.now) → map (option_map (moment_at (forest tree.now))) clips.items ≡ map (λ x. clip (map_of s b) (moment_at (forest tree.now) x)) (nodes_of ranked.now)) }
 {
     let mut clips = Vec::from_elem(alloc, None, ranked.len())?;
     // the tokens behind by their classes: in each class the nearest one stands last

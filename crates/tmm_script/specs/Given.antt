@@ -34,6 +34,6 @@ Gives view (Err misreads.Memory) read = Unit {0}
 
 -- where memory ran out, this holds
 abbrev pub OnMemory : {X : Type 0} → Result X Misread → Type 0 → Type 0
-OnMemory (Ok x) Holds = Unit {0}
-OnMemory (Err misreads.Form) Holds = Unit {0}
-OnMemory (Err misreads.Memory) Holds = Holds
+OnMemory (Ok x) HasOccurrences = Unit {0}
+OnMemory (Err misreads.Form) HasOccurrences = Unit {0}
+OnMemory (Err misreads.Memory) HasOccurrences = HasOccurrences

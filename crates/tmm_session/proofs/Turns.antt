@@ -28,13 +28,13 @@ use Rattle.tmm_model.specs.Verdicts.{Tells as TellsCause}
 use Rattle.tmm_script.specs.Given.{IsReadingOf}
 use Rattle.tmm_session.specs.declared.told.Told.{Told}
 use Rattle.tmm_session.specs.declared.told.Told.TheVariants.{Silent, Reply as ReplyOf, Memory}
-use Rattle.tmm_session.specs.Kinds.{kind_of, is_refusing}
+use Rattle.tmm_session.specs.Kinds.{reply_kind, is_refusing}
 use Rattle.tmm_session.specs.Sessions.{Tells, TellsMeaning, TellsLine}
 
 -- bytes that are the text of a reply, or want of memory
 pub Tells-reply : (k : ℕ) (replied : Reply → Type 0) (kept : Type 0) (bytes : Result (Seq ℕ) NoMemory) (reply : Reply) (t : Told)
     → IfOk bytes (λ text. text.items ≡ text_of k reply) → replied reply → kept
-    → MatchResult bytes (λ text. t ≡ ReplyOf text (kind_of reply)) (λ _. t ≡ Memory) → Tells k replied kept t
+    → MatchResult bytes (λ text. t ≡ ReplyOf text (reply_kind reply)) (λ _. t ≡ Memory) → Tells k replied kept t
 Tells-reply k replied kept (Ok text) reply t is_text answers same told = subst (Tells k replied kept) (sym told) (reply, answers, is_text, refl)
 Tells-reply k replied kept (Err failed) reply t is_text answers same told = subst (Tells k replied kept) (sym told) same
 
@@ -68,7 +68,7 @@ why_text k lines old new first grown =
 -- ---- what a line is answered
 
 -- the kind of a reply tells whether it is a refusal
-pub kind-refusal : (reply : Reply) → is_refusing (kind_of reply) ≡ is_refusal reply
+pub kind-refusal : (reply : Reply) → is_refusing (reply_kind reply) ≡ is_refusal reply
 kind-refusal (Accepted changes) = refl
 kind-refusal (Refused refusal) = refl
 kind-refusal (BoundsAre lo hi) = refl

@@ -5,7 +5,7 @@ use Rattle.std.proofs.lemmas.Int.{ints}
 use Rattle.tmm_model.specs.declared.bound.Bound.{Bound}
 use Rattle.tmm_model.specs.declared.bound.Bound.TheVariants.{Finite, Free}
 use Rattle.tmm_model.specs.Bounds.{IfFinite}
-use Rattle.walk_theory.specs.LeastWalks.{AtMost, Fits, IsWalk, HasWalk, IsFar, Adds, closed}
+use Rattle.walk_theory.specs.LeastWalks.{AtMost, ClosesNoNegativeCycle, IsWalk, HasWalk, IsFar, Adds, closed}
 use Rattle.tmm_model.specs.Types.{through}
 use Rattle.tmm_model.specs.Walks.{Arc, total}
 use Rattle.walk_theory.proofs.Bounds.{AtMost-weaker, AtMost-lesser_left, AtMost-lesser_right, AtMost-lesser_cases, AtMost-through, AtMost-through_step, AtMost-past_cycle, IfFinite-lesser}
@@ -49,7 +49,7 @@ module _ {P : Type 0} where
 module _ {P : Type 0} (old new : List (Arc P)) (e : Arc P) (adds : Adds old e new) (In : P → Type 0)
     (ends : (x : Arc P) → Contains new x → In x.from × In x.to)
     (table : P → P → Bound) (is_far : (a b : P) → In a → In b → IsFar old a b (table a b))
-    (fits : Fits e.weight (table e.to e.from)) where
+    (fits : ClosesNoNegativeCycle e.weight (table e.to e.from)) where
   closed-first_old : (x : Arc P) (b : P) (s : ℤ) → Contains old x → In b → AtMost (closed table e x.to b) s → AtMost (closed table e x.from b) (x.weight +ℤ s)
   closed-first_old x b s m in_b h =
       let here : In x.from × In x.to = ends x (adds.kept x m) in

@@ -10,7 +10,7 @@ use Rattle.list_theory.proofs.Opening.{opened_at}
 use Rattle.list_net.specs.Fits.{IsNetOf}
 use Rattle.premise_list.specs.States.{States}
 use Rattle.map_engine.specs.Beliefs.{IsLeftOut}
-use Rattle.map_engine.proofs.edited.edited.Goals as goal
+use Rattle.map_engine.proofs.edits.apply_edit.Goals as goal
 
 pub returns-in-Horizon-clause-network : goal.returns-in-Horizon-clause-network
 returns-in-Horizon-clause-network c =

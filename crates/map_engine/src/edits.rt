@@ -4,7 +4,7 @@ ghost use Rattle.tmm_model.specs.Edits.{next_list};
 ghost use Rattle.tmm_model.specs.Lines.{IsWellFormedEdit};
 ghost use Rattle.tmm_model.specs.Standing.{IsConsistent, points_in};
 ghost use Rattle.tmm_model.specs.Verdicts.{list_cause};
-ghost use Rattle.list_net.specs.Fits.{IsNetOf, IsSettled};
+ghost use Rattle.list_net.specs.Fits.{IsNetOf, NothingPending};
 ghost use Rattle.list_net.specs.Network.{PointsKeepNumbers};
 ghost use Rattle.map_engine.specs.Beliefs.{IsLeftOut};
 ghost use Rattle.map_engine.specs.Stops.{StopsEdit, NamesEdited};
@@ -18,7 +18,7 @@ use tmm_model::{Edit, Name, NoMemory, Premise, Seq, Stop};
 // Makes an edit that names and counts let through, and answers the names of the premises that it
 // retracts. Every point that stays keeps its number. Where the edit is refused, or there is no
 // memory, all is as before.
-pub(crate) fn edited(
+pub(crate) fn apply_edit(
     alloc: Global,
     standing: &mut Standing,
     net: &mut DistNet,
@@ -27,7 +27,7 @@ pub(crate) fn edited(
     requires no_cause { list_cause standing.old.present edit.now ≡ None }
     requires well_formed { IsWellFormedEdit edit.now }
     requires network { IsNetOf standing.old.present net.old.present }
-    requires settled { IsSettled standing.old net.old }
+    requires settled { NothingPending standing.old net.old }
     ensures list { OnOk result (standing.new ≡ record standing.old { present = next_list standing.old.present edit.now }) }
     ensures network { OnOk result (IsNetOf standing.new.present net.new.present) }
     ensures numbers { OnOk result (PointsKeepNumbers (points_in (next_list standing.old.present edit.now).premises) net.old.present.names net.new.present.names) }
@@ -40,29 +40,27 @@ pub(crate) fn edited(
     ensures committed { net.new.committed ≡ net.old.committed }
 {
     match edit {
-        Edit::Add(premise) => added(alloc, standing, net, premise),
-        Edit::Erase(name) => match without(alloc, standing, net, *name) {
+        Edit::Add(premise) => add(alloc, standing, net, premise),
+        Edit::Erase(name) => match erase(alloc, standing, net, *name) {
             Ok(names) => Ok(names),
             Err(NoMemory) => Err(Stop::NoMemory),
         },
         Edit::Horizon(n) => {
-            // it tells the proof what holds of the list
-            let _ = standing.len();
+            standing.invariants();
             standing.set_horizon(*n);
-            let _ = net.edges();
+            net.invariants();
             Ok(Seq::make(alloc))
         }
         Edit::Upgrade => {
-            // it tells the proof what holds of the list
-            let _ = standing.len();
+            standing.invariants();
             standing.upgrade();
-            let _ = net.edges();
+            net.invariants();
             Ok(Seq::make(alloc))
         }
     }
 }
 
-fn added(
+fn add(
     alloc: Global,
     standing: &mut Standing,
     net: &mut DistNet,
@@ -71,7 +69,7 @@ fn added(
     requires no_cause { list_cause standing.old.present (Edit.Add premise.now) ≡ None }
     requires well_formed { IsWellFormedEdit (Edit.Add premise.now) }
     requires network { IsNetOf standing.old.present net.old.present }
-    requires settled { IsSettled standing.old net.old }
+    requires settled { NothingPending standing.old net.old }
     ensures list { OnOk result (standing.new ≡ record standing.old { present = next_list standing.old.present (Edit.Add premise.now) }) }
     ensures network { OnOk result (IsNetOf standing.new.present net.new.present) }
     ensures numbers { OnOk result (PointsKeepNumbers (points_in (next_list standing.old.present (Edit.Add premise.now)).premises) net.old.present.names net.new.present.names) }
@@ -84,13 +82,12 @@ fn added(
     ensures committed { net.new.committed ≡ net.old.committed }
 {
     add_premise(alloc, standing, net, premise)?;
-    // it tells the proof what holds of the list and the network
-    let _ = standing.len();
-    let _ = net.edges();
+    standing.invariants();
+    net.invariants();
     Ok(Seq::make(alloc))
 }
 
-fn without(
+fn erase(
     alloc: Global,
     standing: &mut Standing,
     net: &mut DistNet,
@@ -111,9 +108,8 @@ fn without(
         Ok(names) => names,
         Err(NoMemory) => return Err(NoMemory),
     };
-    // it tells the proof what holds of the list and the network
-    let _ = standing.len();
-    let _ = net.edges();
+    standing.invariants();
+    net.invariants();
     Ok(names)
 }
 

@@ -3,7 +3,7 @@ use Rattle.tmm_grammar.proofs.LineForms.{one_reading}
 use Rattle.tmm_model.specs.declared.line.Line.TheVariants.{Change, Question}
 use Rattle.tmm_model.specs.Transcript.{IsReadAs}
 use Rattle.tmm_session.proofs.Turns.{read_line, no_memory_is_not_silent, TellsLine-stopped, TellsLine-meaning, change_is_not_silent, question_is_not_silent}
-use Rattle.tmm_session.proofs.session.said.Goals as goal
+use Rattle.tmm_session.proofs.session.answer_line.Goals as goal
 
 pub returns-in-Err-Refused-clause-tells : goal.returns-in-Err-Refused-clause-tells
 returns-in-Err-Refused-clause-tells g c =

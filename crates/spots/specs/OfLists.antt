@@ -38,20 +38,20 @@ pub record IsMemberOf (s : Standing) (names : Names) (m : Member) : Type 0 where
 
 -- the network is the list's, and each node is an occurrence of the list, of which there is no other
 -- node
-pub record IsSeen (s : Standing) (net : Net) (f : Forest) : Type 0 where
+pub record IsForestOf (s : Standing) (net : Net) (f : Forest) : Type 0 where
   pub network : IsNetOf s net
   pub members : (x : ℕ) (m : Member) → member f x ≡ Some m → IsMemberOf s net.names m
   pub once : IsOnce f
 
 -- the nodes are these occurrences, each once
-pub record Holds (b : List Moment) (f : Forest) : Type 0 where
+pub record HasOccurrences (b : List Moment) (f : Forest) : Type 0 where
   pub own : (x : ℕ) (m : Member) → member f x ≡ Some m → Contains b (moment m)
   pub all : (k : Moment) → Contains b k → (x : ℕ) × (m : Member) × (member f x ≡ Some m) × (moment m ≡ k)
   pub once : (x y : ℕ) (m n : Member) → member f x ≡ Some m → member f y ≡ Some n → moment m ≡ moment n → x ≡ y
 
 -- nodes and network are those of some list
 abbrev pub HasList : Net → Forest → Type 0
-HasList net f = (s : Standing) × IsSeen s net f
+HasList net f = (s : Standing) × IsForestOf s net f
 
 -- the map of a list in which these occurrences are believed
 abbrev pub map_of : Standing → List Moment → TimeMap
