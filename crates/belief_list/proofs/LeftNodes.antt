@@ -4,9 +4,8 @@ use Rattle.std.specs.Prelude.{◌&&◌, Option, Some, None}
 use Rattle.std.specs.Option.{is_none}
 use Rattle.tmm_model.specs.declared.point.PointName.{PointName}
 use Rattle.tmm_model.specs.Moments.{Moment, At, After, along, is_derived}
-use Rattle.spots.specs.Forest.{Forest, member, IsLive, moment_at}
-use Rattle.belief_list.specs.declared.left_nodes.LeftNode.{LeftNode}
-use Rattle.belief_list.specs.LeftNodes.{AreWords, if_derived}
+use Rattle.spots.specs.Forest.{Forest, member, moment_at}
+use Rattle.belief_list.specs.LeftNodes.{if_derived}
 
 -- ---- what is told of nodes that are gone
 
@@ -21,5 +20,3 @@ if_some p (r ∷ rs) some = ap (λ b. elim b as (λ _. Option Moment) [ true ↦
 -- the occurrence of a node of the old forest, if it is derived and the node is gone
 abbrev pub gone_at : Forest → Forest → ℕ → Option Moment
 gone_at old new x = elim (is_derived (moment_at old x) && is_none (member new x)) [ true ↦ Some (moment_at old x) | false ↦ None ]
-
-module _ (old new : Forest) (left : List LeftNode) (words : AreWords old new left) (x : ℕ) (live : IsLive old x) (gone : member new x ≡ None) where

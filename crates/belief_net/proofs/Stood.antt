@@ -35,8 +35,6 @@ fast_stand nets added listed pairs kept fast moved one_of both_kept start are = 
 
 -- ---- whether a point stands fast
 
-module _ (listed : List ℕ) (pairs kept : List Bool) (p : ℕ) where
-
 -- ---- what moves
 
 -- `start` is of no premise

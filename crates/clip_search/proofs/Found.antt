@@ -135,5 +135,3 @@ module _ (net : Net) {f : Forest} {class : List ℕ} {rows : List (TokenRow Spot
           ]
 
 -- ---- behind the entries of a fact
-
-module _ (rows : List (TokenRow Spot)) (entries : List Entry) (from z : ℕ) (fact : List ℕ) where

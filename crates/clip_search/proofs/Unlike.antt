@@ -8,8 +8,6 @@ use Rattle.spots.specs.declared.spot.Spot.{Spot}
 use Rattle.clip_search.specs.declared.entries.Entry.{Entry}
 use Rattle.clip_search.specs.Entries.{IsSkip, AreSkipsFrom}
 
-module _ (rows : List (TokenRow Spot)) (entries : List Entry) (i : ℕ) (lt : i < length entries) where
-
 -- one more stands beside its entry
 pub skip_set : (rows : List (TokenRow Spot)) (entries : List Entry) (skips : List ℕ) (n at skip : ℕ) → n + 1 ≡ at → n < length entries → AreSkipsFrom rows entries skips at → IsSkip rows entries n skip → AreSkipsFrom rows entries (set skips n skip) n
 skip_set rows entries skips n at skip next lt are own = record {

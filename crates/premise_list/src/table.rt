@@ -83,6 +83,8 @@ impl Table {
     pub(crate) fn at(&self, place: usize) -> Option<&Premise>
         ensures { option_copied result ≡ slice_get self.now.premises place }
     {
+        // the invariant is known of a value of which a field is used
+        let _ = &self.premises;
         self.premises.get(place)
     }
 

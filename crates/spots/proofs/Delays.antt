@@ -234,8 +234,6 @@ difference_fits s t a p = subst (λ (z : ℤ). FitsSigned w64 (z -ℤ to_z w64 (
 pub difference_seen : (s t : ℤ) → IsUpTo 100000000000000 s → IsUpTo 100000000000000 t → to_z w64 (of_z w64 (to_z w64 (of_z w64 s) -ℤ to_z w64 (of_z w64 t))) ≡ s -ℤ t
 difference_seen s t a p = (λ i. to_z w64 (of_z w64 (low_seen s a i -ℤ low_seen t p i))) ∙ to_z-of_z w64 (s -ℤ t) (less_fits s t a p)
 
-module _ (s d : ℤ) (a : IsUpTo 100000000000000 s) (p : IsWithin 255000000000 d) where
-
 -- sums of sums behind others
 module _ (first whole : Sums) (front : IsFrontOf first whole) where
   pub first_small : IsUpTo 100000000000000 first.low × IsUpTo 100000000000000 first.bounded × (first.unbounded ≤ 100000)

@@ -21,5 +21,3 @@ module _ (old now new : List Lists) (heads : ℕ → Option ℕ) (change : List 
     ];
     rest = λ f h above. others f h (λ same. omega arith) ∙ so_far.rest f h (omega arith);
   }
-
-module _ (old now : List Lists) (heads : ℕ → Option ℕ) (change : List ℕ → List ℕ) (n : ℕ) where
