@@ -77,14 +77,15 @@ impl Table {
     pub(crate) fn invariants(&self)
         ensures few { length self.now.premises ≤ most_premises }
         ensures well_named { IsWellNamed self.now.premises }
-    {}
+    {
+        // the invariant is known of a value of which a field is used
+        let _ = &self.premises;
+    }
 
     // The premise at this place.
     pub(crate) fn at(&self, place: usize) -> Option<&Premise>
         ensures { option_copied result ≡ slice_get self.now.premises place }
     {
-        // the invariant is known of a value of which a field is used
-        let _ = &self.premises;
         self.premises.get(place)
     }
 
