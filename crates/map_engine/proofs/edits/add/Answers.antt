@@ -13,7 +13,7 @@ returns-clause-erased c =
     let ps = c.args.standing.now.present.premises in
     let p = c.args.premise.now in
     let new = ap (λ (s : States). s.present.premises) c.in_ok-add_premise.ensures.list in
-    c.make.ensures ∙ sym (none_gone ps (ps ++ p ∷ []) (subst IsWellNamed new c.len.ensures.well_named) (λ q at. In-left ps (p ∷ []) q at))
+    c.make.ensures ∙ sym (none_gone ps (ps ++ p ∷ []) (subst IsWellNamed new c.invariants.ensures.well_named) (λ q at. In-left ps (p ∷ []) q at))
 
 pub returns-clause-network : goal.returns-clause-network
 returns-clause-network c =
@@ -21,4 +21,4 @@ returns-clause-network c =
     let new = ap (λ (s : States). s.present.premises) c.in_ok-add_premise.ensures.list in
     net_of c.add_premise.new.standing.present c.add_premise.new.net.present
     (subst (All IsWellFormedPremise) (sym new) (All-push IsWellFormedPremise ps c.args.premise.now c.requires.network.sound.well_formed c.requires.well_formed))
-    c.len.ensures.well_named c.in_ok-add_premise.ensures.fits c.edges.ensures.distinct c.edges.ensures.start c.edges.ensures.in_use c.edges.ensures.dates
+    c.invariants.ensures.well_named c.in_ok-add_premise.ensures.fits c.invariants-2.ensures.distinct c.invariants-2.ensures.start c.invariants-2.ensures.in_use c.invariants-2.ensures.dates

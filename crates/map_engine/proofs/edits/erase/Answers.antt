@@ -13,13 +13,13 @@ returns-clause-network c =
     let new = ap (λ (s : States). s.present.premises) c.in-Ok.ensures.list in
     net_of c.erase_premise.new.standing.present c.erase_premise.new.net.present
     (subst (All IsWellFormedPremise) (sym new) (all_without IsWellFormedPremise c.args.name ps c.requires.network.sound.well_formed))
-    c.len.ensures.well_named c.in-Ok.ensures.fits c.edges.ensures.distinct c.edges.ensures.start c.edges.ensures.in_use c.edges.ensures.dates
+    c.invariants.ensures.well_named c.in-Ok.ensures.fits c.invariants-2.ensures.distinct c.invariants-2.ensures.start c.invariants-2.ensures.in_use c.invariants-2.ensures.dates
 
 pub returns-clause-dates : goal.returns-clause-dates
 returns-clause-dates c =
     let new = ap (λ (s : States). s.present.premises) c.in-Ok.ensures.list in
     subst IsConsistent new
-    (consistent c.erase_premise.new.standing.present c.erase_premise.new.net.present c.in-Ok.ensures.fits c.edges.ensures.distinct c.edges.ensures.start c.edges.ensures.in_use c.edges.ensures.dates)
+    (consistent c.erase_premise.new.standing.present c.erase_premise.new.net.present c.in-Ok.ensures.fits c.invariants-2.ensures.distinct c.invariants-2.ensures.start c.invariants-2.ensures.in_use c.invariants-2.ensures.dates)
 
 pub returns-clause-erased : goal.returns-clause-erased
 returns-clause-erased c = c.in-Ok.ensures.names ∙ sym (gone_by_erasure c.args.name c.args.standing.now.present.premises c.requires.network.sound.well_named)

@@ -54,7 +54,7 @@ returns-clause-adds c =
     let name = c.in-Some-Rule.name in
     let rule = Rule name c.in-Some-Rule.field-0-1 lo hi effect c.in-Some-Rule.field-0-5 c.in-Some-Rule.field-0-6 in
     let at_place : slice_get s.premises c.args.place ≡ Some rule = sym c.in-Some-Rule.ensures ∙ ap Some c.in-Some-Rule.field-0-is in
-    let there : premise_in s.premises r ≡ Some rule = found_at s c.len.ensures.well_named c.args.place rule at_place in
+    let there : premise_in s.premises r ≡ Some rule = found_at s c.invariants.ensures.well_named c.args.place rule at_place in
     let named : name ≡ r = sym (named_at s c.args.place rule at_place) in
     let (m, at) = node_at f t c.requires.trigger in
     let same_shape : shape ≡ effect_shape (class_in s.premises effect) = c.effect_shape-shape.ensures ∙ ap effect_shape c.class_of-class.ensures in
@@ -105,7 +105,7 @@ insert_child-requires-clause-delay c =
     let fits : FitsSigned w64 c.in-Some-Rule.lo = search rules in
     let rule = Rule c.in-Some-Rule.name c.in-Some-Rule.field-0-1 lo c.in-Some-Rule.hi c.in-Some-Rule.effect c.in-Some-Rule.field-0-5 c.in-Some-Rule.field-0-6 in
     let at_place : slice_get s.premises c.args.place ≡ Some rule = sym c.in-Some-Rule.ensures ∙ ap Some c.in-Some-Rule.field-0-is in
-    let there = found_at s c.len.ensures.well_named c.args.place rule at_place in
+    let there = found_at s c.invariants.ensures.well_named c.args.place rule at_place in
     let (m, at) = node_at f c.args.trigger c.requires.trigger in
     subst (λ z. IsNumber z × IsBound c.in-Some-Rule.hi × (pos 1 ≤ℤ z) × IsRange (Finite z) c.in-Some-Rule.hi) (sym (to_z-of_z w64 lo fits))
     (delay_is s c.requires.seen.0 f c.requires.seen.1 c.args.trigger m at (name_at s c.args.place) c.requires.enters c.in-Some-Rule.name c.in-Some-Rule.field-0-1 lo c.in-Some-Rule.hi c.in-Some-Rule.effect c.in-Some-Rule.field-0-5 c.in-Some-Rule.field-0-6 there)
@@ -118,4 +118,4 @@ insert_child-requires-clause-word c =
     let at_place : slice_get s.premises c.args.place ≡ Some rule = sym c.in-Some-Rule.ensures ∙ ap Some c.in-Some-Rule.field-0-is in
     let (m, at) = node_at f c.args.trigger c.requires.trigger in
     rule_named s c.requires.seen.0 f c.requires.seen.1 c.args.trigger m at (name_at s c.args.place) c.requires.enters c.in-Some-Rule.name c.in-Some-Rule.field-0-1 c.in-Some-Rule.lo c.in-Some-Rule.hi c.in-Some-Rule.effect c.in-Some-Rule.field-0-5 c.in-Some-Rule.field-0-6
-    (found_at s c.len.ensures.well_named c.args.place rule at_place)
+    (found_at s c.invariants.ensures.well_named c.args.place rule at_place)
