@@ -1,10 +1,10 @@
 -- What the words of a line read as.
-use Rattle.std.proofs.Common.{◌≡◌, ℕ, true, false, List, [], ◌∷◌, Some, None, Err, refl}
+use Rattle.std.proofs.Common.{◌≡◌, ℕ, false, List, ◌∷◌, Some, None, Err, refl}
 use Rattle.std.specs.Prelude.{Ok, Result, option_map}
 use Rattle.tmm_model.specs.declared.premise.Edit.{Edit}
 use Rattle.tmm_model.specs.declared.version.Version.{Version}
 use Rattle.tmm_model.specs.declared.line.Line.{Line}
-use Rattle.tmm_model.specs.declared.line.Line.TheVariants.{Silent, Change, Question}
+use Rattle.tmm_model.specs.declared.line.Line.TheVariants.{Change, Question}
 use Rattle.tmm_model.specs.declared.refusal.Refusal.TheVariants.{Form}
 use Rattle.tmm_model.specs.declared.refusal.Stop.{Stop}
 use Rattle.tmm_model.specs.declared.refusal.Stop.TheVariants.{Refused, NoMemory}
@@ -13,15 +13,7 @@ use Rattle.tmm_grammar.specs.Reading.{edit_of, query_of, line_of}
 use Rattle.tmm_grammar.proofs.LineForms.{line_of-none, line_of-sound}
 use Rattle.tmm_script.specs.Given.{IsRead, IsReadingOf}
 
-pub line_blank : (version : Version) (ws : List (List ℕ)) → ws ≡ [] → line_of version ws ≡ Some Silent
-unfolding line_of
-line_blank version ws e = rw e refl
-
 module _ (version : Version) (ws : List (List ℕ)) (w : List ℕ) (rest : List (List ℕ)) (is : ws ≡ w ∷ rest) where
-  pub line_comment : is_comment w ≡ true → line_of version ws ≡ Some Silent
-  unfolding line_of
-  line_comment t = rw (is, t) refl
-
   module _ (f : is_comment w ≡ false) where
     pub line_change : (e : Edit) → edit_of version w rest ≡ Some e → line_of version ws ≡ Some (Change e)
     unfolding line_of
