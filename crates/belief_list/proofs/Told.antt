@@ -3,7 +3,7 @@ use Rattle.std.proofs.Common.{◌≡◌, ◌∙◌, ℕ, ◌+◌, ◌<◌, Bool,
 use Rattle.std.specs.Prelude.{◌↔◌, ◌⊎◌, ◌==◌, not, ◌&&◌, ◌||◌, filter, cond, Option, Some, None, IfSome, nat_eq, slice_index_or}
 use Rattle.std.specs.List.{All, AllByRecursion, Contains, IsDistinct, filter_map}
 use Rattle.std.specs.List.Sorted.{IsPermutation}
-use Rattle.std.specs.Option.{is_some, is_none, option_map, option_eq}
+use Rattle.std.specs.Option.{is_some, is_none, option_map, option_and_then, option_eq}
 use Rattle.std.specs.declared.cmp.Ordering.TheVariants.{Equal}
 use Rattle.std.specs.Ordering.{int_cmp, nat_cmp, ordering_then}
 use Rattle.std.specs.Cmp.{IsTotalOrder}
@@ -20,7 +20,7 @@ use Rattle.tmm_model.specs.Answers.{Row, clip}
 use Rattle.tmm_model.specs.Changes as changes
 use Rattle.tmm_model.specs.Changes.{delta, in_order}
 use Rattle.tmm_model.specs.Maps.{built, order, is_believed}
-use Rattle.tmm_model.specs.Moments.{Moment, along, same_moment, early, printed, is_derived}
+use Rattle.tmm_model.specs.Moments.{Moment, along, same_moment, early, printed, is_derived, moment_of}
 use Rattle.tmm_model.specs.Standing.{Standing, far_in}
 use Rattle.list_theory.proofs.Distinct.{Rising}
 use Rattle.list_theory.proofs.Elements.{In, In-map, map-In, In-filter, filter-In, filter_map-In, In-from_Contains, Contains-from_In, each_in}
@@ -41,10 +41,12 @@ use Rattle.belief_list.specs.declared.left_nodes.LeftNode.{LeftNode}
 use Rattle.belief_list.specs.declared.kept_rows.KeptRow.{KeptRow}
 use Rattle.belief_list.specs.declared.kept_rows.Difference.{Difference}
 use Rattle.belief_list.specs.declared.told_changes.Told.{Told}
-use Rattle.belief_list.specs.LeftNodes.{AreWords}
+use Rattle.belief_list.specs.LeftNodes.{AreWords, if_derived}
 use Rattle.belief_list.specs.KeptRows.{row_under, rows_after, numbers_of, IsRowOf, AreRowsOf, AreDifferences}
-use Rattle.belief_list.specs.Tables.{IsTable}
+use Rattle.belief_list.specs.Tables.{place_in, item_under, IsTable}
 use Rattle.belief_list.specs.Told.{clip_of, is_entered, is_loosened, if_new, new_clip, is_told, entered_at, loosened_at, clipped_at, left_at, differences_of, told_cmp, AreInOrder, IsToldNow, IsToldThen}
+use Rattle.belief_list.proofs.LeftNodes.{gone_at, told_at, untold_at}
+use Rattle.belief_list.proofs.Tables.{at-In, under_own, under_all}
 use Rattle.belief_list.proofs.Rising.{rising_sorted, rising_map, filter_some, same_told}
 
 -- what is there or not
@@ -307,8 +309,18 @@ module _ (lists : States) (nets : Nets) (edit : Edit) (tree : Kept) (kept : List
       let then_ = after_in kept ds made.once d at in
       λ i. record { node = d.node; was = told i; now = sym then_ i }
 
+  other_way : (y x : ℕ) → IsLive new y → IsLive old x → (moment_at new y ≡ moment_at old x) ↔ (y ≡ x)
+  other_way y x live_y live_x =
+      let is = made.edited.numbers x y live_x live_y in (
+        (λ e. sym (is.0 (sym e))),
+        (λ e. sym (is.1 (sym e))),
+      )
+
   was_believed : (x : ℕ) → IsLive new x → is_believed (built before) (moment_at new x) ≡ is_some (was x)
   was_believed x live = believed_is before old was made.before made.edited.holds_then new made.edited.numbers x live
+
+  is_now_believed : (x : ℕ) → IsLive old x → is_believed (built after) (moment_at old x) ≡ is_some (now x)
+  is_now_believed x live = believed_is after new now made.after made.edited.holds_now old other_way x live
 
   -- a node that is there before and after is one occurrence
   one_moment : (x : ℕ) → IsLive old x → IsLive new x → moment_at old x ≡ moment_at new x
@@ -546,6 +558,55 @@ module _ (lists : States) (nets : Nets) (edit : Edit) (tree : Kept) (kept : List
         by : (o : Option Member) → member new x ≡ o → o ≡ None
         by None e = refl
         by (Some m) e = let (r, at, is) = made.after.own x (live_at new x m e) in absurd (not_both (now x) r none at)
+
+    -- what is told of a number whose node is gone
+    gone_is : (x : ℕ) → IsLive old x → now x ≡ None → gone_at old new x ≡ option_and_then (λ n. if_derived (moment_of n.occ.now)) (item_under left places x)
+    gone_is x live none = by (item_under left places x) refl
+      where
+        by : (o : Option LeftNode) → item_under left places x ≡ o → gone_at old new x ≡ option_and_then (λ n. if_derived (moment_of n.occ.now)) o
+        by None e =
+            untold_at old new left words x live (no_node x none)
+            (λ there. let (n, at) = under_all (λ (n : LeftNode). n.node) left places table x there in not_both (item_under left places x) n e at)
+        by (Some n) e =
+            told_at old new left words x live (no_node x none) n (Contains-from_In left n (at-In left (place_in places x) n e)) (under_own (λ (n : LeftNode). n.node) left places table x n e)
+
+    tells_left : (x : ℕ) → IsLive old x → elim (is_derived (moment_at old x) && not (is_believed (built after) (moment_at old x))) as (λ _. Option Moment) [ true ↦ Some (moment_at old x) | false ↦ None ] ≡ left_at left places (of_number x)
+    tells_left x live = let (r, at, is) = made.before.own x live in by r at (now x) refl
+      where
+        by : (r : KeptRow) → was x ≡ Some r → (o : Option KeptRow) → now x ≡ o
+            → elim (is_derived (moment_at old x) && not (is_believed (built after) (moment_at old x))) as (λ _. Option Moment) [ true ↦ Some (moment_at old x) | false ↦ None ] ≡ left_at left places (of_number x)
+        by r at None none =
+            let not_there : not (is_believed (built after) (moment_at old x)) ≡ is_none (member new x) = ap not (is_now_believed x live ∙ ap is_some none) ∙ ap is_none (sym (no_node x none)) in
+            (λ i. elim (is_derived (moment_at old x) && not_there i) as (λ _. Option Moment) [ true ↦ Some (moment_at old x) | false ↦ None ])
+            ∙ gone_is x live none
+            ∙ (λ i. elim (is_some (sym at i) && is_none (sym none i)) as (λ _. Option Moment) [ true ↦ option_and_then (λ n. if_derived (moment_of n.occ.now)) (item_under left places x) | false ↦ None ])
+        by r at (Some q) some =
+            let there = is_now_believed x live ∙ ap is_some some in
+            (λ i. elim (is_derived (moment_at old x) && not (there i)) as (λ _. Option Moment) [ true ↦ Some (moment_at old x) | false ↦ None ])
+            ∙ none_of (is_derived (moment_at old x))
+            ∙ (λ i. elim (is_some (sym at i) && is_none (sym some i)) as (λ _. Option Moment) [ true ↦ option_and_then (λ n. if_derived (moment_of n.occ.now)) (item_under left places x) | false ↦ None ])
+          where
+            none_of : (b : Bool) → elim (b && false) as (λ _. Option Moment) [ true ↦ Some (moment_at old x) | false ↦ None ] ≡ None
+            none_of true = refl
+            none_of false = refl
+
+    -- what is told is the occurrence of a node that was there
+    left_is : (d : Difference) → In d ds → (k : Moment) → left_at left places d ≡ Some k → IsLive old d.node × ((r : KeptRow) × (d.was ≡ Some r)) × (k ≡ moment_at old d.node)
+    left_is d there k e = by d.was refl
+      where
+        by : (o : Option KeptRow) → d.was ≡ o → IsLive old d.node × ((r : KeptRow) × (d.was ≡ Some r)) × (k ≡ moment_at old d.node)
+        by None none =
+            absurd (not_both (left_at left places d) k
+            (λ i. elim (is_some (none i) && is_none d.now) as (λ _. Option Moment) [ true ↦ option_and_then (λ n. if_derived (moment_of n.occ.now)) (item_under left places d.node) | false ↦ None ])
+            e)
+        by (Some r) some =
+            let at : was d.node ≡ Some r = sym (ap (λ (z : Difference). z.was) (is_of_number d there)) ∙ some in
+            let live = (row_of_node before old was made.before d.node r at).0 in (
+              live,
+              (r, some),
+              some_if (is_derived (moment_at old d.node) && not (is_believed (built after) (moment_at old d.node))) (moment_at old d.node) k
+                  (tells_left d.node live ∙ ap (left_at left places) (sym (is_of_number d there)) ∙ e),
+            )
 
     module _ (told : List Told) (same : IsPermutation (filter (λ d. is_some (left_at left places d)) ds) (differences_of told)) (all : All (IsToldThen left places) told) (up : AreInOrder told) where
       as_then : (t : Told) → In t told → IsToldAs before old t

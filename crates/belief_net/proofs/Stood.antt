@@ -1,5 +1,6 @@
 -- Points that stand fast.
 use Rattle.std.proofs.Common.{◌≡◌, ◌∙◌, ℕ, Bool, true, false, not, ◌<◌, List, Option, Some, None, refl, sym, ap, inl, inr, ◌⊎◌, arith}
+use Rattle.std.specs.List.{Contains}
 use Rattle.std.specs.Option.{option_map_or}
 use Rattle.tmm_model.specs.declared.point.PointName.TheVariants.{Start}
 use Rattle.dist_net.specs.Net.{Nets}
@@ -28,6 +29,24 @@ fast_stand nets added listed pairs kept fast moved one_of both_kept start are = 
   };
 }
   where
+    -- no two fast points make a pair
+    no_pair : (a b : ℕ) → is_moved nets added a b ≡ true → is_in fast a ≡ true → is_in fast b ≡ true → ⊥
+    no_pair a b is in_a in_b =
+        let (la, fast_a) = are.own a in_a in
+        let (lb, fast_b) = are.own b in_b in
+        let pair : has_pair pairs a b ≡ true = moved.each a b la lb ∙ is in
+        by_starts pair fast_a.1 fast_b.1 (one_of.each a b la lb pair)
+      where
+        by_starts : has_pair pairs a b ≡ true
+            → ((a ≡ 0) ⊎ ((has_pair pairs a 0 ≡ false) × (has_pair pairs 0 a ≡ false) × (Contains listed a → ⊥)))
+            → ((b ≡ 0) ⊎ ((has_pair pairs b 0 ≡ false) × (has_pair pairs 0 b ≡ false) × (Contains listed b → ⊥)))
+            → Contains listed a ⊎ Contains listed b → ⊥
+        by_starts pair (inl a_is) (inl b_is) on = not_both (is_moved nets added a b) is (not_of_one nets added a b (a_is ∙ sym b_is))
+        by_starts pair (inl a_is) (inr b_out) on = not_both (has_pair pairs a b) pair (ap (λ z. has_pair pairs z b) a_is ∙ b_out.1)
+        by_starts pair (inr a_out) (inl b_is) on = not_both (has_pair pairs a b) pair (ap (λ z. has_pair pairs a z) b_is ∙ a_out.0)
+        by_starts pair (inr a_out) (inr b_out) (inl on) = a_out.2 on
+        by_starts pair (inr a_out) (inr b_out) (inr on) = b_out.2 on
+
     by : (a b : ℕ) → is_moved nets added a b ≡ true → (v : Bool) → is_in fast a ≡ v → (w : Bool) → is_in fast b ≡ w → (is_out fast a ≡ true) ⊎ (is_out fast b ≡ true)
     by a b is false out w other = inl (ap not out)
     by a b is true in_a false out = inr (ap not out)

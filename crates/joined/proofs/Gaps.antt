@@ -19,7 +19,7 @@ use Rattle.tmm_model.specs.Maps.{built, gap}
 use Rattle.tmm_model.specs.Moments.{Moment, At, After, base, rules, low, high, apart, distance, rule_of}
 use Rattle.tmm_model.specs.Points.{same_name}
 use Rattle.tmm_model.specs.Standing.{Standing, points_in, far_in}
-use Rattle.list_theory.proofs.Elements.{In, In-from_Contains, Contains-from_In, In-cases, In-left, In-right, map-In, In-filter, filter-In, In-filter_map, filter_map-In}
+use Rattle.list_theory.proofs.Elements.{In, In-from_Contains, Contains-from_In, In-cases, In-left, In-right, In-map, map-In, In-filter, filter-In, In-filter_map, filter_map-In}
 use Rattle.belief_theory.specs.Right.{Occurs}
 use Rattle.belief_theory.specs.Touched.{watched, watched_points}
 use Rattle.belief_theory.proofs.SoundBeliefs.{believed_occurs}
@@ -262,6 +262,24 @@ module _ (old : Standing) (edit : Edit) (nets : Nets) (f : Forest) (net_old : Is
         by y m here reads (Some class) of e =
             let same : token y m class ≡ k = cc in
             record { number = y; node = m; class = class; here = here; of = of; reads = subst (λ z. is_watched new r z ≡ true) (sym same) reads; is = same }
+
+    watched_spot : (w : Moment) → In w points → (p : Spot) × IsSpotAt new f r x p × (at p ≡ w)
+    watched_spot w (inl is) = (Declared 0, inl (start refl), start_is new nets.present f seen ∙ is)
+    watched_spot w (inr (inl is)) = (Node x, inr refl, is)
+    watched_spot w (inr (inr on)) = elim (In-cases (map (λ k. k.spot) tokens_read) (filter_map (λ k. k.end) tokens_read) w on) [
+      | inl spots ↦ (
+          let (k, there, is) = In-map (λ (k : TokenRow Moment). k.spot) tokens_read w spots in
+          let t = token_at k there in (Node t.number, inl (read t.class t.reads (begin t.number t.node t.here t.of refl)), ap (λ (z : TokenRow Moment). z.spot) t.is ∙ is))
+      | inr ends ↦ (
+          let (k, there, is) = In-filter_map (λ (k : TokenRow Moment). k.end) tokens_read w ends in
+          let t = token_at k there in
+          by t.number t.node t.class t.here t.of t.reads t.node.end refl (ap (λ (z : TokenRow Moment). z.end) t.is ∙ is))
+    ]
+      where
+        by : (y : ℕ) (m : Member) (class : List ℕ) → member f y ≡ Some m → m.class ≡ Some class → reads_class new r class ≡ true → (o : Option ℕ) → m.end ≡ o
+            → option_map at (option_map Declared o) ≡ Some w → (p : Spot) × IsSpotAt new f r x p × (at p ≡ w)
+        by y m class here of reads None ends is = cc
+        by y m class here of reads (Some e) ends is = (Declared e, inl (read class reads (an_end y m e here of ends refl)), cc)
 
     -- ---- the law
 

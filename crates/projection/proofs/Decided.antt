@@ -1,7 +1,7 @@
 -- What is due first is decided, and what has entered when nothing waits.
 use Rattle.std.proofs.Common.{◌≡◌, ◌∙◌, ◌⊎◌, inl, inr, ℕ, ◌+◌, ◌<◌, ◌≤◌, true, false, List, [], ◌∷◌, ◌++◌, length, refl, sym, ap, subst, arith}
 use Rattle.std.proofs.lemmas.Int.{ints}
-use Rattle.std.specs.Prelude.{ℤ, pos, ◌≤ℤ◌, sum_by}
+use Rattle.std.specs.Prelude.{ℤ, pos, ◌+ℤ◌, ◌≤ℤ◌, sum_by}
 use Rattle.std.specs.List.{Contains}
 use Rattle.std.proofs.lemmas.List.Elements.{All-contains}
 use Rattle.std.proofs.lemmas.List.Sums.{sum_by-cons, count_by-le-length}
@@ -9,13 +9,13 @@ use Rattle.std.proofs.lemmas.List.Sorted.{IsPermutation-sym, length_permutation}
 use Rattle.tmm_model.specs.Answers.{weight, size, most_size}
 use Rattle.tmm_model.specs.Beliefs.{due, is_free, rules_at}
 use Rattle.tmm_model.specs.Maps.{built}
-use Rattle.tmm_model.specs.Moments.{Moment, After, rules}
+use Rattle.tmm_model.specs.Moments.{Moment, After, early, rule_of, rules}
 use Rattle.belief_theory.specs.Right.{IsRightTo}
 use Rattle.tmm_model.specs.Standing.{Standing, far_in}
 use Rattle.list_theory.proofs.Distinct.{sum_inside}
-use Rattle.list_theory.proofs.Elements.{In, In-from_Contains, Contains-from_In}
+use Rattle.list_theory.proofs.Elements.{In, In-from_Contains, Contains-from_In, In-left, In-right}
 use Rattle.belief_theory.proofs.Inside.{inside}
-use Rattle.belief_theory.proofs.Settling.{skip, right_at_end}
+use Rattle.belief_theory.proofs.Settling.{Settling, skip, enter, right_at_end}
 use Rattle.belief_theory.proofs.SoundBeliefs.{sound_timed, map_is_right, believed_right}
 use Rattle.dist_net.specs.Net.{Net}
 use Rattle.spots.specs.Forest.{Forest, moment, moment_at}
@@ -29,7 +29,7 @@ use Rattle.projection.specs.Projecting.{IsEntry, Pends, IsGrown, IsGrowing, IsFi
 use Rattle.projection.specs.Queues.{Queues, weight_at}
 use Rattle.spots.proofs.Believed.{believed_once}
 use Rattle.projection.proofs.OnKinds.{node_rules}
-use Rattle.projection.proofs.Steps.{too_large, pends_kept, pends_new, pends_cases, waits_more, grown_more}
+use Rattle.projection.proofs.Steps.{push_cases, too_large, pends_kept, pends_new, pends_cases, waits_more, grown_more}
 use Rattle.projection.proofs.Waiting.{In-permutation, taken_once, rest_once}
 
 -- an occurrence that has entered counts no more than all
@@ -126,6 +126,34 @@ module _ (s : Standing) (net : Net) (f : Forest) (queue : List Pending) (n : ℕ
   }
 
   module _ (free : is_free s (far_in s.premises) growing.entered (moment_at f p.trigger) (rule_at s p) ≡ true) where
+    with_effect : (pends : Moment → List ℕ → Type 0)
+        → ((u : Moment) (q : List ℕ) → Pends s f queue u q → pends u q ⊎ ((u ≡ moment_at f p.trigger) × (q ≡ rule_at s p)))
+        → ((u : Moment) (q : List ℕ) → pends u q → pos p.due.0 ≤ℤ due s (far_in s.premises) u q)
+        → ((q : List ℕ) → Contains (rules_at s (After (moment_at f p.trigger) (rule_at s p))) q → due s (far_in s.premises) (After (moment_at f p.trigger) (rule_at s p)) q ≤ℤ pos s.horizon → pends (After (moment_at f p.trigger) (rule_at s p)) q)
+        → Settling s (far_in s.premises) (sound_timed s growing.sound) s.horizon p.due.0 (growing.entered ++ After (moment_at f p.trigger) (rule_at s p) ∷ []) pends
+    with_effect pends keeps later_ new_pend =
+        enter s (far_in s.premises) (sound_timed s growing.sound) s.horizon growing.date p.due.0 growing.entered (growing.entered ++ After (moment_at f p.trigger) (rule_at s p) ∷ []) (Pends s f queue) pends growing.settling up
+        (moment_at f p.trigger) (rule_at s p) believed entry.stands entry.date keeps later_ free (by p.due.0 s.horizon entry.in_time)
+        (λ y at. Contains-from_In (growing.entered ++ k ∷ []) y (In-left growing.entered (k ∷ []) y (In-from_Contains growing.entered y at)))
+        (Contains-from_In (growing.entered ++ k ∷ []) k (In-right growing.entered (k ∷ []) k (inl refl)))
+        (λ y at. elim (push_cases growing.entered k y (In-from_Contains (growing.entered ++ k ∷ []) y at)) [ inl before ↦ inl (Contains-from_In growing.entered y before) | inr is ↦ inr is ])
+        new_pend
+      where
+        by : (d h : ℕ) → d ≤ h → pos d ≤ℤ pos h
+        by d h le = omega (arith, ints)
+
+    -- the rules on the effect are due later
+    effect_later : (q : List ℕ) → Contains (rules_at s (After (moment_at f p.trigger) (rule_at s p))) q → pos p.due.0 ≤ℤ due s (far_in s.premises) (After (moment_at f p.trigger) (rule_at s p)) q
+    effect_later q on =
+        let timed = sound_timed s growing.sound in
+        let occurs_t = growing.settling.member_occurs (moment_at f p.trigger) believed in
+        by (early s (far_in s.premises) (After (moment_at f p.trigger) (rule_at s p))) (rule_of s q).lo p.due.0
+        (timed.due_is (moment_at f p.trigger) (rule_at s p) occurs_t entry.stands ∙ entry.date)
+        (timed.delayed (After (moment_at f p.trigger) (rule_at s p)) q on)
+      where
+        by : (z lo : ℤ) (d : ℕ) → z ≡ pos d → pos 1 ≤ℤ lo → pos d ≤ℤ (z +ℤ lo)
+        by z lo d e le = omega (arith, ints)
+
     module _ (new : Forest) (x : ℕ) (adds : Adds s net.names f new x (After (moment_at f p.trigger) (rule_at s p))) where
       -- where the size is too large with the effect, that of the map is
       pub effect_too_large : most_size < n + weight_at s new x → most_size < size (built s)

@@ -1,19 +1,19 @@
 -- The review of an edit, from what was looked at.
-use Rattle.std.proofs.Common.{◌≡◌, ◌∙◌, ℕ, Bool, true, false, ◌||◌, cond, List, [], ◌∷◌, ◌++◌, refl, sym, ap, subst, inl, inr}
+use Rattle.std.proofs.Common.{◌≡◌, ◌∙◌, ℕ, Bool, true, false, ◌||◌, cond, List, [], ◌∷◌, ◌++◌, map, refl, sym, ap, subst, inl, inr}
 use Rattle.std.specs.Prelude.{Option, Some, None, filter, is_some}
 use Rattle.std.specs.List.{cons_option}
 use Rattle.std.specs.Option.{is_none}
 use Rattle.std.specs.Cmp.Lexicographic.{bytes_decides}
 use Rattle.tmm_model.specs.declared.premise.Edit.{Edit}
 use Rattle.tmm_model.specs.declared.premise.Premise.{Premise}
-use Rattle.tmm_model.specs.Answers.{broken, reports}
+use Rattle.tmm_model.specs.Answers.{Finding, broken, reports}
 use Rattle.tmm_model.specs.Changes.{protection_name}
 use Rattle.tmm_model.specs.Edits.{next_list}
 use Rattle.tmm_model.specs.Maps.{built}
 use Rattle.tmm_model.specs.Points.{same_name}
 use Rattle.tmm_model.specs.Standing.{Standing, name_of, premise_in}
 use Rattle.list_theory.specs.WellNamed.{IsWellNamed}
-use Rattle.list_theory.proofs.Elements.{In, In-left}
+use Rattle.list_theory.proofs.Elements.{In, In-left, In-filter, filter-In, map-In}
 use Rattle.list_theory.proofs.KnownNames.{found as found_named, finds}
 use Rattle.belief_theory.proofs.NextLists.{one_way}
 use Rattle.revisions.specs.Standing.{IsLeftOut}
@@ -35,6 +35,19 @@ without_push g (x ∷ names) name = without_push (with_report g x None) names na
 pub with_push : (g : Found) (rs : List Reviewed) (r : Reviewed) → with_all g (rs ++ r ∷ []) ≡ with_all (with_all g rs) (r ∷ [])
 with_push g [] r = refl
 with_push g (x ∷ rs) r = with_push (with_all g (x ∷ [])) rs r
+
+without_none : (names : List (List ℕ)) (g : Found) (name : List ℕ) → g name ≡ None → without g names name ≡ None
+without_none [] g name none = none
+without_none (x ∷ names) g name none = without_none names (with_report g x None) name (by (same_name x name))
+  where
+    by : (b : Bool) → cond b None (g name) ≡ None
+    by true = refl
+    by false = none
+
+without_in : (names : List (List ℕ)) (g : Found) (name : List ℕ) → In name names → without g names name ≡ None
+without_in [] g name at = absurd at
+without_in (x ∷ names) g name (inl is) = without_none names (with_report g x None) name (ap (λ b. cond b None (g name)) ((bytes_decides x name).1 is))
+without_in (x ∷ names) g name (inr at) = without_in names (with_report g x None) name at
 
 without_other : (names : List (List ℕ)) (g : Found) (name : List ℕ) → (In name names → ⊥) → without g names name ≡ g name
 without_other [] g name apart = refl
@@ -78,6 +91,31 @@ module _ (old new : Standing) (named_old : IsWellNamed old.premises) (named_new 
   module _ (erased gone : List (List ℕ)) (left_out : IsLeftOut old new erased) (is_gone : gone ≡ filter (λ name. is_some (found name)) erased) where
     abbrev falls : List ℕ → Bool
     falls name = is_none (premise_in new.premises name)
+
+    -- what stands is not taken out
+    stands_on : (name : List ℕ) (p : Premise) → premise_in new.premises name ≡ Some p → In name gone → ⊥
+    stands_on name p is at =
+        let erased_too = (In-filter (λ n. is_some (found n)) erased name (subst (In name) is_gone at)).0 in
+        let falls_too = (In-filter falls (map name_of old.premises) name (subst (In name) left_out erased_too)).1 in
+        let stays : falls name ≡ false = ap is_none is in
+        let wrong : true ≡ false = sym falls_too ∙ stays in
+        cc
+
+    -- of what stands no more nothing is found
+    taken_out : (name : List ℕ) → premise_in new.premises name ≡ None → without found gone name ≡ None
+    taken_out name none = by (premise_in old.premises name) refl
+      where
+        broken_before : (p : Premise) → premise_in old.premises name ≡ Some p → (o : Option (List ℕ × Finding)) → found name ≡ o → without found gone name ≡ None
+        broken_before p is None e = without_none gone found name e
+        broken_before p is (Some r) e =
+            let (at, named) = finds old.premises name p is in
+            let on : In name (map name_of old.premises) = subst (λ n. In n (map name_of old.premises)) named (map-In name_of old.premises p at) in
+            let erased_too : In name erased = subst (In name) (sym left_out) (filter-In falls (map name_of old.premises) name on (ap is_none none)) in
+            without_in gone found name (subst (In name) (sym is_gone) (filter-In (λ n. is_some (found n)) erased name erased_too (ap is_some e)))
+
+        by : (o : Option Premise) → premise_in old.premises name ≡ o → without found gone name ≡ None
+        by None e = without_none gone found name (none_before name e)
+        by (Some p) e = broken_before p e (found name) refl
 
     module _ (rs : List Reviewed) (reviewed : AreReviewed (built new) found new.premises rs) where
       -- **Under each name is found what is reported of the list that the edit leaves.**

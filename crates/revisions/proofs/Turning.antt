@@ -111,6 +111,9 @@ module _ (g : Revision) (laws : IsLawful g) (b : List Moment) (kept : Moment →
     at_same : (P : Moment → List ℕ → Type 0) (u : Moment) (q : List ℕ) → (u ≡ t) × (q ≡ r) → P t r → P u q
     at_same P u q same h = subst (λ v. P v q) (sym same.0) (subst (λ v. P t v) (sym same.1) h)
 
+    gone_now : queued_after t r → ⊥
+    gone_now at = elim (makes.come t r at) [ inl old ↦ old.2 (refl, refl) | inr marked ↦ never (g.early t) marked.after ]
+
     module _ (s : IsTurned g b c kept_after queued_after t r) where
       live_after : (x : Moment) → Contains c x → IsOf g x
       live_after (At p) at = (k.root p).0 ((s.root p).0 at)

@@ -1,31 +1,36 @@
 -- A whole revision is right.
-use Rattle.std.proofs.Common.{◌≡◌, ℕ, Bool, true, false, List, [], ◌∷◌, refl, sym, subst, inl, inr}
-use Rattle.std.specs.Prelude.{◌↔◌, ◌⊎◌, ℤ}
+use Rattle.std.proofs.Common.{◌≡◌, ℕ, Bool, true, false, not, ◌||◌, ◌==◌, List, [], ◌∷◌, refl, sym, subst, inl, inr}
+use Rattle.std.specs.Prelude.{◌↔◌, ◌⊎◌, ℤ, negsuc}
 use Rattle.std.specs.List.{Contains, list_any}
 use Rattle.std.specs.Cmp.Lexicographic.{bytes_decides}
 use Rattle.tmm_model.specs.declared.premise.Edit.{Edit}
 use Rattle.tmm_model.specs.Answers.{weight}
 use Rattle.tmm_model.specs.Beliefs.{roots, rules_at}
 use Rattle.tmm_model.specs.Edits.{next_list}
-use Rattle.tmm_model.specs.Maps.{built}
+use Rattle.tmm_model.specs.Maps.{TimeMap, built}
 use Rattle.tmm_model.specs.Moments.{Moment, At, After, same_moment}
 use Rattle.tmm_model.specs.Points.{same_name}
 use Rattle.list_theory.specs.WellNamed.{IsSound}
 use Rattle.belief_theory.specs.Right.{Occurs}
 use Rattle.tmm_model.specs.Standing.{Standing}
+use Rattle.belief_theory.specs.Touched.{same_tokens, watched, watched_points, same_gaps, is_decision, is_touched}
 use Rattle.list_theory.proofs.Distinct.{Distinct, sum_inside}
 use Rattle.list_theory.proofs.Elements.{In, In-from_Contains, Contains-from_In, list_any-In, In-list_any}
 use Rattle.belief_theory.proofs.Moments.{Decides-same_moment}
 use Rattle.belief_theory.proofs.SoundBeliefs.{believed_occurs}
+use Rattle.spots.specs.OfLists.{map_of}
 use Rattle.revisions.specs.Counted.{AreSeeds}
 use Rattle.revisions.specs.Revisions.{Revision, IsLawful, IsNew, IsLost}
 use Rattle.revisions.specs.Keeping.{IsKeeping, IsTold}
 use Rattle.revisions.specs.Steps.{Turns, staying, entering, withdrawing}
+use Rattle.revisions.specs.Seeds.{IsSeeded}
 use Rattle.revisions.specs.Maps.{revision}
 use Rattle.revisions.specs.Whole.{State, Waiting, Tells, nothing, an_entry, a_leave, IsTurn, Reaches, there, further, Begins, Ends, Runs}
 use Rattle.revisions.proofs.Agreeing.{ended}
 use Rattle.revisions.proofs.Bounds.{counted}
-use Rattle.revisions.proofs.Lawful.{lawful}
+use Rattle.revisions.proofs.Lawful.{lawful, of_occurs, occurs_of}
+use Rattle.revisions.proofs.Seeding.{seeded}
+use Rattle.revisions.proofs.SeedsRight.{keeps, stays_touched}
 use Rattle.revisions.proofs.Telling.{told_stays, told_enters, told_withdraws, told_all}
 use Rattle.revisions.proofs.Turning.{turned}
 
@@ -131,6 +136,37 @@ module _ (old : Standing) (edit : Edit) (sound_old : IsSound old) (sound_new : I
           ((gone t r).0 (subst (λ z. In z left) is at)).1 ((seeds.derived t r).0 (subst (Contains b) is live)).1
 
   module _ (s : State) (begins : Begins old (next_list old edit) s) where
+    new_touched : (n : TimeMap) (t : Moment) (r : List ℕ) → is_decision (built old) (t, r) ≡ false → is_touched (built old) n (t, r) ≡ true
+    new_touched n t r e = by (is_decision (built old) (t, r)) (old.horizon == n.list.horizon) (same_tokens (watched (built old) r) (watched n r)) (same_gaps (built old) n (watched_points n t r)) e
+      where
+        by : (a b c d : Bool) → a ≡ false → (not a || not b || not c || not d) ≡ true
+        by false b c d e = refl
+        by true b c d e = cc
+
+    is_seeded : IsSeeded g s.nodes s.kept (Waiting s)
+    is_seeded = record {
+      root = begins.seeds.root;
+      derived = λ t r. (
+        (λ at. let h = (begins.seeds.derived t r).0 at in (h.0, occurs_of old edit sound_old sound_new (After t r) h.1)),
+        (λ h. (begins.seeds.derived t r).1 (h.0, of_occurs old edit sound_old sound_new (After t r) h.1)),
+      );
+      old_rows = begins.old_rows;
+      new_rows = λ t r at stands e. (begins.all t r at stands (new_touched (map_of new s.nodes) t r e), begins.new_rows t r at stands e);
+      right = λ t r at stands was. elim (true_or (is_touched (built old) (map_of new s.nodes) (t, r))) [
+        | inl touches ↦ inl (begins.all t r at stands touches)
+        | inr free ↦ inr (keeps old edit sound_old sound_new s.nodes begins.seeds t r stands free)
+      ];
+      waits = λ t r at. let h = begins.only t r at in (h.0, h.1);
+      touched = λ t r at believed. let h = begins.only t r at in elim h.2 [ inl first ↦ stays_touched old edit sound_old sound_new s.nodes begins.seeds t r h.1 first | inr last ↦ last ];
+    }
+
+    first_keeps : Keeps g laws s
+    first_keeps = record {
+      date = negsuc 0;
+      keeping = subst (λ made. IsKeeping g s.nodes s.kept (Waiting s) made (negsuc 0)) (sym begins.none_taken) (seeded g laws s.nodes s.kept (Waiting s) is_seeded);
+      told = subst (λ ins. IsTold g s.nodes ins s.left) (sym begins.none_entered) (told_first s.nodes s.left begins.seeds begins.gone begins.gone_derived begins.gone_once);
+    }
+
     module _ (last : State) (reaches : Reaches g s last) where
       k : Keeps g laws last
       k = keeps_all g laws s last reaches first_keeps
