@@ -52,8 +52,6 @@ fast_stand nets added listed pairs kept fast moved one_of both_kept start are = 
     by a b is true in_a false out = inr (ap not out)
     by a b is true in_a true in_b = absurd (no_pair a b is in_a in_b)
 
--- ---- whether a point stands fast
-
 -- ---- what moves
 
 -- `start` is of no premise
