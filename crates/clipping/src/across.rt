@@ -6,11 +6,12 @@
 //! ask. Of each other list it asks those tokens alone that begin later than it, up to the last
 //! point: whether their facts are against its own, and then where they begin. So where there is no
 //! other list, an answer costs what it costs for one class. No call takes memory.
-ghost use Rattle.std.specs.Prelude.{◌≡◌, ◌≢◌, ◌<◌, ◌≤◌, ◌+◌, ℕ, Bool, length, IsTrue, IsFalse, None, true, false, IfSome, MatchOption, slice_get, slice_index_or};
+ghost use Rattle.std.specs.Prelude.{◌≡◌, ◌≢◌, ◌↔◌, ◌<◌, ◌≤◌, ◌+◌, ℕ, Bool, length, IsTrue, IsFalse, None, true, false, IfSome, MatchOption, slice_get, slice_index_or};
 ghost use Rattle.std.specs.List.{All, Contains, list_any};
 ghost use Rattle.std.specs.Option.{ForSome};
 ghost use Rattle.std.specs.Ordering.{on};
 ghost use Rattle.tmm_model.specs.declared.token.TokenRow.{TokenRow as Row};
+ghost use Rattle.tmm_model.specs.Points.{same_name};
 ghost use Rattle.tmm_model.specs.Tokens.{supports, cuts, clips, lasts_to};
 ghost use Rattle.belief_theory.specs.FirstPlaces.{IsFirstPlace};
 ghost use Rattle.clipping.specs.Across.{list_at, all_of, IsClassList, IsPlace, at_place, IsFirstPlaceInLists, IsFirstPlaceOfAll, IsClipPlace, IsFault};
@@ -19,7 +20,7 @@ ghost use Rattle.clipping.specs.Cutters.{BeginsBy, clips_until};
 ghost use Rattle.clipping.specs.Live.{IsLive};
 ghost use Rattle.clipping.specs.Rivals.{are_rivals, of_rivals};
 
-use crate::by_date::{self, Search, count_reached, count_until};
+use crate::by_date::{self, Search, count_reached, count_until, is_by_date};
 use crate::{Dated, Tokens};
 use tmm_model::{Name, Rivals, TokenRow};
 
@@ -41,6 +42,51 @@ pub enum Fault {
     Clipped(Place),
     /// It is a span that does not surely end after the last point.
     Ends,
+}
+
+/// Whether the tokens of each list stand in the order of their dates, which the other calls ask
+/// for.
+pub fn are_by_date<S: Dated, T: Tokens<Spot = S::Spot>>(order: &S, tokens: &T) -> bool
+    requires all_live { All (All (IsLive (S.live order.now))) (T.lists tokens.now) }
+    ensures { IsTrue result ↔ All (IsByDate (S.date order.now) (S.order order.now)) (T.lists tokens.now) }
+{
+    for i in 0..tokens.count() {
+        if !is_by_date(order, tokens.list(i)) {
+            return false;
+        }
+    }
+    true
+}
+
+// Whether the tokens are all of the class, or none is.
+fn agree<P>(tokens: &[TokenRow<P>], class: &Name, of_class: bool) -> bool
+    ensures { IsTrue result ↔ All (λ k. same_name k.class class.now ≡ of_class) tokens.now }
+{
+    for k in tokens {
+        if (k.class == *class) != of_class {
+            return false;
+        }
+    }
+    true
+}
+
+/// Whether the tokens of the list `own` are of one class, of which no other list has a token, which
+/// the other calls ask for.
+pub fn is_class_list<T: Tokens>(tokens: &T, own: usize) -> bool
+    requires own { own < length (T.lists tokens.now) }
+    ensures { IsTrue result ↔ IsClassList (T.lists tokens.now) own }
+{
+    let list = tokens.list(own);
+    if list.is_empty() {
+        return true;
+    }
+    let class = &list[0].class;
+    for i in 0..tokens.count() {
+        if !agree(tokens.list(i), class, i == own) {
+            return false;
+        }
+    }
+    true
 }
 
 // Whether the fact of `c` is against that of `k`, and `c` surely begins after it, and at or before
