@@ -1,5 +1,5 @@
 -- What is kept of a list is kept of each list that is alike in all that beliefs read.
-use Rattle.std.proofs.Common.{◌≡◌, ◌∙◌, ℕ, List, ◌∷◌, ◌++◌, map, sym, subst, inl, inr}
+use Rattle.std.proofs.Common.{◌≡◌, ◌∙◌, ℕ, List, ◌∷◌, ◌++◌, map, sym, ap, subst, inl, inr}
 use Rattle.std.specs.Prelude.{Some, filter}
 use Rattle.std.specs.List.{Contains, list_any, filter_map}
 use Rattle.tmm_model.specs.declared.point.PointName.TheVariants.{Start}
@@ -29,7 +29,7 @@ use Rattle.revisions.specs.Alike.{AreAlike, BelieveAlike}
 use Rattle.revisions.proofs.Alike.{IsAnchored, IsBetween, tokens_between, rules_same, distance_same, believed_anchored, alike_believe}
 use Rattle.revisions.proofs.StillEdits.{stay_seen}
 use Rattle.joined.specs.Netted.{IsCurrent}
-use Rattle.joined.specs.Rows.{Row, AreLive, AreRowsOf, outcome_at}
+use Rattle.joined.specs.Rows.{Row, AreRowsOf, decision_of}
 use Rattle.belief_net.specs.declared.state.BeliefNet.{BeliefNet}
 use Rattle.belief_net.specs.Alike.{AlikeAreKept}
 use Rattle.belief_net.specs.Decided.{rule_in, AreUnder}
@@ -129,11 +129,11 @@ module _ (s t : Standing) (before net : Net) (b : BeliefNet) (alike : AreAlike s
   }
 
   told : (i : ℕ) (q : Row) → rows_of b i ≡ Some q
-      → AreLive f q.found × (outcome_at f q.found ≡ outcome t (far_in t.premises) (built t).believed (moment_at f q.trigger) q.rule)
+      → q.found ≡ decision_of (outcome t (far_in t.premises) (built t).believed (moment_at f q.trigger) q.rule)
   told i q at =
-      let was = kept.current.told i q at in
       let live = (kept.current.rows_are.own i q at).0 in
-      (was.0, was.1 ∙ outcome_same s t alike kept.fit.tree.seen.network.sound of_t.sound (moment_at f q.trigger) (believed q.trigger live) q.rule)
+      kept.current.told i q at
+      ∙ ap decision_of (outcome_same s t alike kept.fit.tree.seen.network.sound of_t.sound (moment_at f q.trigger) (believed q.trigger live) q.rule)
 
   current : IsCurrent t net f (rows_of b)
   current = record {

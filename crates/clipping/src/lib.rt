@@ -18,13 +18,16 @@ ghost use Rattle.clipping.specs.Ahead.{IsAhead};
 ghost use Rattle.clipping.specs.Cutters.{BeginsBy, clips_until};
 ghost use Rattle.clipping.specs.Faults.{IsClipPlace, IsFault};
 
+pub mod across;
 pub mod by_date;
 mod dated;
 mod stretches;
+mod tokens;
 
 pub use dated::Dated;
 pub use stretches::{Stretched, last_clipper, stretch_behind};
 use tmm_model::{Name, Sure, TokenRow};
+pub use tokens::Tokens;
 
 // Whether `c` contradicts `k`, and surely begins after it and at or before `q`.
 fn cuts_before<S: Sure>(order: &S, k: &TokenRow<S::Spot>, c: &TokenRow<S::Spot>, q: S::Spot) -> bool

@@ -17,16 +17,14 @@ use Rattle.spots.specs.Forest.{Forest, Member, member, moment, moment_at, IsLive
 use Rattle.spots.specs.OfLists.{IsForestOf, HasOccurrences, map_of}
 use Rattle.decision_rows.specs.declared.row.Decision.TheVariants.{Beyond}
 use Rattle.revisions.specs.Counted.{AreSeeds}
-use Rattle.revisions.specs.Revisions.{is_firing}
 use Rattle.joined.specs.Netted.{IsNetted, IsCurrent}
-use Rattle.joined.specs.Rows.{Row, Rows, fires_by, outcome_at, AreLive, HasRow, HasNoRow, AreRowsOf}
+use Rattle.joined.specs.Rows.{Row, Rows, decision_of, HasRow, HasNoRow, AreRowsOf}
 
--- What a row is at the beginning. A decision of the list before keeps its outcome, of which only
--- whether it fires counts where it waits; a new one has none yet, and waits.
+-- What a row is at the beginning. A decision of the list before has what was found there; a new one
+-- has nothing yet, and waits.
 pub data StartsAs (old : Standing) (f : Forest) (q : Row) : Type 0 where
   stood : is_decision (built old) (moment_at f q.trigger, q.rule) ≡ true
-      → fires_by q.found ≡ is_firing (outcome old (far_in old.premises) (built old).believed (moment_at f q.trigger) q.rule)
-      → (q.waits ≡ true) ⊎ (AreLive f q.found × (outcome_at f q.found ≡ outcome old (far_in old.premises) (built old).believed (moment_at f q.trigger) q.rule))
+      → q.found ≡ decision_of (outcome old (far_in old.premises) (built old).believed (moment_at f q.trigger) q.rule)
       → StartsAs old f q
   comes : is_decision (built old) (moment_at f q.trigger, q.rule) ≡ false → q.found ≡ Beyond → q.waits ≡ true → StartsAs old f q
 

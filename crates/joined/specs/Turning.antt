@@ -19,7 +19,7 @@ use Rattle.revisions.specs.Marks.{ReadsMoved}
 use Rattle.revisions.specs.Revisions.{Revision}
 use Rattle.revisions.specs.Steps.{IsUnder}
 use Rattle.joined.specs.Netted.{IsNetted}
-use Rattle.joined.specs.Rows.{Row, Rows, fires_by, outcome_at, AreLive, HasRow}
+use Rattle.joined.specs.Rows.{Row, Rows, fires_by, decision_of, HasRow}
 
 -- ---- nodes
 
@@ -79,10 +79,9 @@ pub record IsDueFirst (r : Revision) (f : Forest) (rows : Rows) (x : ℕ) (p : R
   pub waits : p.waits ≡ true
   pub least : (i : ℕ) (q : Row) → rows i ≡ Some q → q.waits ≡ true → r.early (moment_at f p.trigger) ≤ℤ r.early (moment_at f q.trigger)
 
--- the decision is right for the nodes as they are, of which its supporters are some
-pub record IsFound (r : Revision) (f : Forest) (p : Row) (found : Decision) : Type 0 where
-  pub outcome : (b : List Moment) → HasOccurrences b f → outcome_at f found ≡ r.outcome b (moment_at f p.trigger) p.rule
-  pub live : AreLive f found
+-- the decision is right for the nodes as they are
+abbrev pub IsFound : Revision → Forest → Row → Decision → Type 0
+IsFound r f p found = (b : List Moment) → HasOccurrences b f → found ≡ decision_of (r.outcome b (moment_at f p.trigger) p.rule)
 
 -- **A turn of the code**: the row p of number x, which is due first, is decided as `found`.
 pub record IsCodeTurn (r : Revision) (s : Standing) (names : Names) (f g : Forest) (rows after : Rows) (x : ℕ) (p : Row) (found : Decision) : Type 0 where

@@ -20,7 +20,8 @@ ghost use Rattle.projection.specs.Places.{name_at, IsRuleAt};
 ghost use Rattle.projection.specs.Projecting.{IsStarted, IsGrowingWith, Settles, FiresAmong, left};
 ghost use Rattle.projection.specs.Queues.{Queues, weight_at, IsTooLarge};
 
-use crate::decision::{Counter, is_free};
+use crate::decision::Counter;
+use crate::judging::is_free;
 use crate::kinds::RulesByKind;
 use crate::pending::{Pending, Queue};
 use crate::rule::{due_by, text_at};

@@ -115,7 +115,6 @@ fn two_names(line: &[u8]) -> Option<(Name, Name)>
 }
 
 #[tactic(auto, unfolding(tmm_grammar::specs::Reading::class_of))]
-#[inline(never)]
 fn class(line: &[u8]) -> Option<Premise>
     ensures { result ≡ class_of (words line.now) }
 {
@@ -129,7 +128,6 @@ fn class(line: &[u8]) -> Option<Premise>
 }
 
 #[tactic(auto, unfolding(tmm_grammar::specs::Reading::dist_of))]
-#[inline(never)]
 fn dist(line: &[u8]) -> Option<Premise>
     ensures { result ≡ dist_of (words line.now) }
 {
@@ -153,7 +151,6 @@ fn dist(line: &[u8]) -> Option<Premise>
 }
 
 #[tactic(auto, unfolding(tmm_grammar::specs::Reading::rule_of))]
-#[inline(never)]
 fn rule(version: Version, line: &[u8]) -> Option<Premise>
     ensures { result ≡ rule_of version (words line.now) }
 {
@@ -231,7 +228,6 @@ fn exceptions(line: &[u8]) -> Option<ArrayVec<Name, MOST_EXCEPTIONS>>
 }
 
 #[tactic(auto, unfolding(tmm_grammar::specs::Reading::protect_of))]
-#[inline(never)]
 fn protect(line: &[u8]) -> Option<Premise>
     ensures { result ≡ protect_of (words line.now) }
 {
