@@ -295,9 +295,9 @@ module _ (lists : States) (nets : Nets) (edit : Edit) (tree : Kept) (kept : List
     settled_clip =
         let stays = still_there r.clip refl in (
           same_clipper s edit nets.committed nets.present nets.moved f g edited.seen_then edited.holds_then seen_g holds_g numbers points moved (moment_at f x) r.clip clipped stays
-          ∙ sym (keeps_near s edit nets.committed nets.present nets.moved f g edited.seen_then edited.holds_then seen_g holds_g numbers points moved x m class here of (untouched_stands x m here keeps.own)
-          r.clip clipped there near)
-          ∙ ap (λ (z : Standing). clip (built z) (moment_at g x)) (sym edited.list),
+              ∙ sym (keeps_near s edit nets.committed nets.present nets.moved f g edited.seen_then edited.holds_then seen_g holds_g numbers points moved x m class here of (untouched_stands x m here keeps.own)
+              r.clip clipped there near)
+              ∙ ap (λ (z : Standing). clip (built z) (moment_at g x)) (sym edited.list),
           stays,
         )
 

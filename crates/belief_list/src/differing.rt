@@ -55,7 +55,9 @@ pub fn differences(
     let touched = marked(alloc, nodes, kept.len())?;
     let mut found = Found::make(alloc, kept.len())?;
     for class in classes {
-        tell_class(alloc, standing, tree, net, class, kept, &touched, &mut found)?;
+        tell_class(
+            alloc, standing, tree, net, class, kept, &touched, &mut found,
+        )?;
     }
     let mut last = None;
     for x in nodes {
