@@ -1,6 +1,6 @@
 -- Differences as they are found: what was told stays told, and one more number is.
 use Rattle.std.proofs.Common.{◌≡◌, ℕ, zero, suc, ◌+◌, ◌<◌, ◌≤◌, ◌==◌, Bool, true, false, List, [], ◌∷◌, ◌++◌, length, replicate, refl, sym, ◌∙◌, ap, subst, arith, inl, inr}
-use Rattle.std.specs.Prelude.{Option, Some, None, IfSome, nat_eq, slice_index_or, slice_set}
+use Rattle.std.specs.Prelude.{◌⊎◌, Option, Some, None, IfSome, nat_eq, slice_index_or, slice_set}
 use Rattle.std.specs.List.{All, Contains, IsDistinct, list_any}
 use Rattle.std.specs.Option.{is_some, option_map, option_and_then}
 use Rattle.std.proofs.lemmas.Bool.{cases_eq}
@@ -61,6 +61,15 @@ settled_more tree nodes kept old new stay class settled x m here of = elim (sett
   | inl marked ↦ inl (stay x marked)
   | inr keeps ↦ inr keeps
 ]
+
+-- a number at a place is marked, where that is wanted, or else something holds of it
+pub marked_or : (marks wanted : List Bool) (xs : List ℕ) (P : ℕ → Type 0) (i : ℕ) → (slice_index_or wanted i true ≡ true → mark_under marks (slice_index_or xs i 0) ≡ true)
+    → (slice_index_or wanted i true ≡ false → P (slice_index_or xs i 0)) → (mark_under marks (slice_index_or xs i 0) ≡ true) ⊎ P (slice_index_or xs i 0)
+marked_or marks wanted xs P i yes no = by (slice_index_or wanted i true) refl
+  where
+    by : (b : Bool) → slice_index_or wanted i true ≡ b → (mark_under marks (slice_index_or xs i 0) ≡ true) ⊎ P (slice_index_or xs i 0)
+    by true e = inl (yes e)
+    by false e = inr (no e)
 
 -- what holds of the first items holds of one more
 pub each_more : {X : Type 0} (P Q : X → Type 0) (xs : List X) (i : ℕ) (d : X) → i < length xs → ((x : X) → P x → Q x) → Q (slice_index_or xs i d) → ((j : ℕ) (d : X) → j < i → P (slice_index_or xs j d))

@@ -45,13 +45,17 @@ module _ (date : ℕ → ℤ) (touched : List Bool) (xs : List ℕ) where
       later other = omega (arith, from, other)
 
       by : (b : Bool) → mark_under touched (slice_index_or xs i 0) ≡ b → (t : ℤ) × (new ≡ Some t) × (t ≤ℤ date (slice_index_or xs j 0))
-      by true e = (date (slice_index_or xs i 0), yes e, elim (cases_order i j) [
-        | inl same ↦ (let one = ap (λ k. date (slice_index_or xs k 0)) same in omega (arith, ints, one))
-        | inr other ↦ (elim other [
-          | inl before ↦ rise i j before lt
-          | inr after ↦ absurd (omega (arith, from, after))
-        ])
-      ])
+      by true e = (
+        date (slice_index_or xs i 0),
+        yes e,
+        elim (cases_order i j) [
+          | inl same ↦ (let one = ap (λ k. date (slice_index_or xs k 0)) same in omega (arith, ints, one))
+          | inr other ↦ (elim other [
+            | inl before ↦ rise i j before lt
+            | inr after ↦ absurd (omega (arith, from, after))
+          ])
+        ],
+      )
       by false e = elim (cases_order i j) [
         | inl same ↦ (let none : true ≡ false = sym marked ∙ ap (λ k. mark_under touched (slice_index_or xs k 0)) (sym same) ∙ e in absurd (cc none))
         | inr other ↦ (elim other [
@@ -83,20 +87,22 @@ module _ {net : Net} {k : Kept} (tree : IsTreeIn net k) {class : List ℕ} {rows
       let second = date_at j short in
       omega (arith, ints, rises, first, second)
 
+  -- if y was touched and has a later date than x, what clipped x has an earlier date than y
+  abbrev Reached : List ℕ → List (Option KeptRow) → ℕ → ℕ → Type 0
+  Reached nodes kept x y =
+      Contains nodes y → early (present k) x <ℤ early (present k) y
+      → (c : ℕ) × (q : KeptRow) × (clip_of (row_under kept x) ≡ Some c) × (row_under kept c ≡ Some q) × (q.early <ℤ early (present k) y)
+
   -- **One that is passed over keeps what clipped it.**
   pub passed_keeps : (touched : List Bool) (nodes : List ℕ) → AreMarked touched nodes → (kept : List (Option KeptRow)) (i : ℕ) → i < length rows
       → IsPassed (early (present k)) touched (numbers_in rows) kept i → KeepsClip k nodes kept class (at i)
   passed_keeps touched nodes marked kept i lt (free, next, ahead, behind) = record {
     own = λ yes. (let no : true ≡ false = sym (marked (at i) yes) ∙ free in absurd (cc no));
     free = λ c clip yes. (let no : true ≡ false = sym (marked c yes) ∙ ahead.free c clip in absurd (cc no));
-    ahead = each_token (forest k) class rows are Reached reached;
+    ahead = each_token (forest k) class rows are (Reached nodes kept (at i)) reached;
   }
     where
-      abbrev Reached : ℕ → Type 0
-      Reached y = Contains nodes y → early (present k) (at i) <ℤ early (present k) y
-          → (c : ℕ) × (q : KeptRow) × (clip_of (row_under kept (at i)) ≡ Some c) × (row_under kept c ≡ Some q) × (q.early <ℤ early (present k) y)
-
-      reached : (j : ℕ) → j < length rows → Reached (at j)
+      reached : (j : ℕ) → j < length rows → Reached nodes kept (at i) (at j)
       reached j within yes later = elim (cases_lt i j) [
         | inl less ↦ (
             let (t, is, le) = behind j (omega (arith, less)) (omega (arith, within, length-numbers)) (marked (at j) yes) in

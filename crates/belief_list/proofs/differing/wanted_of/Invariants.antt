@@ -1,4 +1,4 @@
-use Rattle.std.proofs.Common.{◌≡◌, ℕ, ◌<◌, ◌≤◌, true, false, length}
+use Rattle.std.proofs.Common.{◌≡◌, ℕ, ◌<◌, ◌≤◌, Bool, false, length}
 use Rattle.std.specs.Prelude.{slice_index_or}
 use Rattle.occ_tree.specs.Standing.{present, early}
 use Rattle.occ_tree.specs.Tokens.{numbers_in}
@@ -9,5 +9,5 @@ abbrev pub invariant-loop-i : goal.invariant-loop-i
 invariant-loop-i l = record {
   long : length l.wanted.items ≡ length l.rows;
   next : IsNext (early (present l.tree)) l.touched (numbers_in l.rows) l.i l.next;
-  passed : (j : ℕ) → l.i ≤ j → j < length l.rows → slice_index_or l.wanted.items j true ≡ false → IsPassed (early (present l.tree)) l.touched (numbers_in l.rows) l.kept j;
+  passed : (j : ℕ) (d : Bool) → l.i ≤ j → j < length l.rows → slice_index_or l.wanted.items j d ≡ false → IsPassed (early (present l.tree)) l.touched (numbers_in l.rows) l.kept j;
 }
