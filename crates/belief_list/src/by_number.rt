@@ -55,7 +55,7 @@ fn clips_kept(
 }
 
 // What is kept of a node.
-fn kept_row(kept: &[Option<KeptRow>], x: u32) -> Option<KeptRow>
+pub(crate) fn kept_row(kept: &[Option<KeptRow>], x: u32) -> Option<KeptRow>
     ensures { result ≡ row_under kept.now x }
 {
     kept.get(x as usize).copied().flatten()
