@@ -253,9 +253,6 @@ module _ (g : Forest) (class : List ℕ) (rows : List (TokenRow Spot)) (are : Ar
   pub number_at : (i : ℕ) (d : TokenRow Spot) → i < length rows → number_of (slice_index_or rows i d).spot ≡ slice_index_or (numbers_in rows) i 0
   number_at i d lt = sym (get_or-map (λ (r : TokenRow Spot). number_of r.spot) rows i d 0 lt)
 
-  pub number_within : (i : ℕ) → i < length rows → i < length (numbers_in rows)
-  number_within i lt = subst (λ n. i < n) (sym (length-map rows (λ (r : TokenRow Spot). number_of r.spot))) lt
-
   -- what holds of the numbers at all places holds of each token of the class
   pub each_token : (P : ℕ → Type 0) → ((i : ℕ) → i < length rows → P (slice_index_or (numbers_in rows) i 0)) → (x : ℕ) (m : Member) → member g x ≡ Some m → m.class ≡ Some class → P x
   each_token P each x m here of =
