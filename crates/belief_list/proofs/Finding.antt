@@ -65,11 +65,19 @@ settled_more tree nodes kept old new stay class settled x m here of = elim (sett
 -- a number at a place is marked, where that is wanted, or else something holds of it
 pub marked_or : (marks wanted : List Bool) (xs : List ℕ) (P : ℕ → Type 0) (i : ℕ) → (slice_index_or wanted i true ≡ true → mark_under marks (slice_index_or xs i 0) ≡ true)
     → (slice_index_or wanted i true ≡ false → P (slice_index_or xs i 0)) → (mark_under marks (slice_index_or xs i 0) ≡ true) ⊎ P (slice_index_or xs i 0)
-marked_or marks wanted xs P i yes no = by (slice_index_or wanted i true) refl
+marked_or marks wanted xs P i looked passed = by (slice_index_or wanted i true) refl
   where
     by : (b : Bool) → slice_index_or wanted i true ≡ b → (mark_under marks (slice_index_or xs i 0) ≡ true) ⊎ P (slice_index_or xs i 0)
-    by true e = inl (yes e)
-    by false e = inr (no e)
+    by true e = inl (looked e)
+    by false e = inr (passed e)
+
+-- what holds of the first numbers that are wanted holds of one more
+pub wanted_more : (wanted : List Bool) (P Q : ℕ → Type 0) (xs : List ℕ) (i : ℕ) → ((x : ℕ) → P x → Q x) → (slice_index_or wanted i true ≡ true → Q (slice_index_or xs i 0))
+    → ((j : ℕ) → j < i → slice_index_or wanted j true ≡ true → P (slice_index_or xs j 0)) → (j : ℕ) → j < i + 1 → slice_index_or wanted j true ≡ true → Q (slice_index_or xs j 0)
+wanted_more wanted P Q xs i follows own first j below is = elim (cases_eq j i) [
+  | inl last ↦ subst (λ k. Q (slice_index_or xs k 0)) (sym last) (own (ap (λ k. slice_index_or wanted k true) (sym last) ∙ is))
+  | inr other ↦ follows (slice_index_or xs j 0) (first j (omega (arith, below, other)) is)
+]
 
 -- what holds of the first items holds of one more
 pub each_more : {X : Type 0} (P Q : X → Type 0) (xs : List X) (i : ℕ) (d : X) → i < length xs → ((x : X) → P x → Q x) → Q (slice_index_or xs i d) → ((j : ℕ) (d : X) → j < i → P (slice_index_or xs j d))

@@ -42,7 +42,7 @@ use Rattle.joined.proofs.KeptClips.{nodes_keep_clips, same_clipper, date_unmoved
 use Rattle.belief_list.specs.declared.kept_rows.KeptRow.{KeptRow}
 use Rattle.belief_list.specs.declared.kept_rows.Difference.{Difference}
 use Rattle.belief_list.specs.KeptRows.{row_under, IsRowOf, AreRowsOf, rows_after, CoverTouched, AreDifferences}
-use Rattle.belief_list.specs.Told.{clip_of}
+use Rattle.belief_list.specs.Told.{clip_of as clip_kept}
 use Rattle.belief_list.specs.Finding.{IsClipNow, IsNow, IsNowUnder, KeepsClip, mark_under, AreClassesSettled, AreFound}
 use Rattle.belief_list.proofs.Finding.{after_none, not_told}
 use Rattle.belief_list.proofs.Ordered.{row_is}
@@ -263,8 +263,8 @@ module _ (lists : States) (nets : Nets) (edit : Edit) (tree : Kept) (kept : List
     clipped : option_map (moment_at f) r.clip ≡ clip (built s) (moment_at f x)
     clipped = clip_was x live r is
 
-    own_clip : clip_of (row_under kept x) ≡ r.clip
-    own_clip = ap clip_of at
+    own_clip : clip_kept (row_under kept x) ≡ r.clip
+    own_clip = ap clip_kept at
 
     clipper_live : (z : ℕ) → r.clip ≡ Some z → IsLive f z
     clipper_live z e = subst (λ o. IfSome o (IsLive f)) e is.clip
@@ -281,10 +281,10 @@ module _ (lists : States) (nets : Nets) (edit : Edit) (tree : Kept) (kept : List
     near y n at_y of_y later ahead = untouched_stands y n at_y touched
       where
         touched : Contains nodes y → ⊥
-        touched yes =
+        touched among =
             let date_x = dated x (live_at g x m here) in
             let date_y = dated y (live_at g y n at_y) in
-            let (c, q, clip, row, less) = keeps.ahead y n at_y of_y yes (omega (arith, ints, later, date_x, date_y)) in
+            let (c, q, clip, row, less) = keeps.ahead y n at_y of_y among (omega (arith, ints, later, date_x, date_y)) in
             let own = sym own_clip ∙ clip in
             let date_c = untouched_date c (clipper_live c own) (keeps.free c clip) q row in
             let beyond = ahead c own in

@@ -1,5 +1,5 @@
 -- Which tokens of a touched class are looked at: all others keep what clipped them.
-use Rattle.std.proofs.Common.{◌≡◌, ℕ, ◌+◌, ◌<◌, ◌≤◌, Bool, true, false, List, length, sym, ◌∙◌, ap, subst, arith, inl, inr}
+use Rattle.std.proofs.Common.{◌≡◌, ℕ, ◌+◌, ◌<◌, ◌≤◌, Bool, true, false, List, length, refl, sym, ◌∙◌, ap, subst, arith, inl, inr}
 use Rattle.std.proofs.lemmas.Bool.{cases_order, cases_lt}
 use Rattle.std.proofs.lemmas.Int.{ints}
 use Rattle.std.proofs.lemmas.List.{get_or_default, length-map}
@@ -39,7 +39,7 @@ module _ (date : ℕ → ℤ) (touched : List Bool) (xs : List ℕ) where
   -- where the dates rise, the first date is the number's own once it is marked
   pub next_more : ((i j : ℕ) → i < j → j < length xs → date (slice_index_or xs i 0) ≤ℤ date (slice_index_or xs j 0)) → (i : ℕ) (old new : Option ℤ) → IsNext (i + 1) old
       → (mark_under touched (slice_index_or xs i 0) ≡ true → new ≡ Some (date (slice_index_or xs i 0))) → (mark_under touched (slice_index_or xs i 0) ≡ false → new ≡ old) → IsNext i new
-  next_more rise i old new behind yes no j from lt marked = by (mark_under touched (slice_index_or xs i 0)) refl
+  next_more rise i old new behind own other_stays j from lt marked = by (mark_under touched (slice_index_or xs i 0)) refl
     where
       later : (j ≡ i → ⊥) → i < j
       later other = omega (arith, from, other)
@@ -47,7 +47,7 @@ module _ (date : ℕ → ℤ) (touched : List Bool) (xs : List ℕ) where
       by : (b : Bool) → mark_under touched (slice_index_or xs i 0) ≡ b → (t : ℤ) × (new ≡ Some t) × (t ≤ℤ date (slice_index_or xs j 0))
       by true e = (
         date (slice_index_or xs i 0),
-        yes e,
+        own e,
         elim (cases_order i j) [
           | inl same ↦ (let one = ap (λ k. date (slice_index_or xs k 0)) same in omega (arith, ints, one))
           | inr other ↦ (elim other [
@@ -59,7 +59,7 @@ module _ (date : ℕ → ℤ) (touched : List Bool) (xs : List ℕ) where
       by false e = elim (cases_order i j) [
         | inl same ↦ (let none : true ≡ false = sym marked ∙ ap (λ k. mark_under touched (slice_index_or xs k 0)) (sym same) ∙ e in absurd (cc none))
         | inr other ↦ (elim other [
-          | inl before ↦ (let (t, is, le) = behind j (omega (arith, before)) lt marked in (t, no e ∙ is, le))
+          | inl before ↦ (let (t, is, le) = behind j (omega (arith, before)) lt marked in (t, other_stays e ∙ is, le))
           | inr after ↦ absurd (omega (arith, from, after))
         ])
       ]
@@ -97,15 +97,15 @@ module _ {net : Net} {k : Kept} (tree : IsTreeIn net k) {class : List ℕ} {rows
   pub passed_keeps : (touched : List Bool) (nodes : List ℕ) → AreMarked touched nodes → (kept : List (Option KeptRow)) (i : ℕ) → i < length rows
       → IsPassed (early (present k)) touched (numbers_in rows) kept i → KeepsClip k nodes kept class (at i)
   passed_keeps touched nodes marked kept i lt (free, next, ahead, behind) = record {
-    own = λ yes. (let no : true ≡ false = sym (marked (at i) yes) ∙ free in absurd (cc no));
-    free = λ c clip yes. (let no : true ≡ false = sym (marked c yes) ∙ ahead.free c clip in absurd (cc no));
+    own = λ touched_here. (let none : true ≡ false = sym (marked (at i) touched_here) ∙ free in absurd (cc none));
+    free = λ c clip touched_there. (let none : true ≡ false = sym (marked c touched_there) ∙ ahead.free c clip in absurd (cc none));
     ahead = each_token (forest k) class rows are (Reached nodes kept (at i)) reached;
   }
     where
       reached : (j : ℕ) → j < length rows → Reached nodes kept (at i) (at j)
-      reached j within yes later = elim (cases_lt i j) [
+      reached j within touched_there later = elim (cases_lt i j) [
         | inl less ↦ (
-            let (t, is, le) = behind j (omega (arith, less)) (omega (arith, within, length-numbers)) (marked (at j) yes) in
+            let (t, is, le) = behind j (omega (arith, less)) (omega (arith, within, length-numbers)) (marked (at j) touched_there) in
             let (c, q, clip, row, early_q) = ahead.ahead t is in
             (c, q, clip, row, omega (arith, ints, le, early_q)))
         | inr more ↦ absurd (elim (cases_order j i) [

@@ -1,5 +1,6 @@
 use Rattle.std.proofs.Common.{◌≡◌, true, false, length, refl, sym, ◌∙◌, ap, subst, arith}
 use Rattle.std.proofs.lemmas.List.{length-replicate}
+use Rattle.std.proofs.lemmas.List.Elements.{Contains-get_or}
 use Rattle.belief_list.specs.Finding.{mark_under, AreMarked, IsClassSettled}
 use Rattle.belief_list.proofs.Finding.{found_first, each_more, settled_more, classes_settled, places_marked}
 use Rattle.belief_list.proofs.Untouched.{differences_are}
@@ -21,7 +22,7 @@ loop-class-preserved c =
     let kept = c.args.kept.now in
     let marks = c.loop-class.found.marks.items in
     let new = c.tell_class.new.found.marks.items in
-    let touched = subst (λ l. AreMarked l nodes) (sym c.deref-in-loop-class.ensures.value) c.in_ok-touched.ensures in
+    let touched = subst (λ l. AreMarked l nodes) (sym c.deref.ensures.value) c.in_ok-touched.ensures in
     record {
       long = c.in_ok-tell_class.ensures.long;
       found = c.in_ok-tell_class.ensures.found c.args.classes.now c.loop-class.invariant.found;
@@ -47,7 +48,7 @@ loop-x-preserved c =
     let new = c.tell_node.new.found.marks.items in
     record {
       long = c.in_ok-tell_node.ensures.long;
-      found = c.in_ok-tell_node.ensures.found c.args.net.now.present c.args.nodes.now c.args.classes.now (c.loop-x.x-index, c.loop-x-test.true, sym c.x-item.is) c.loop-x.invariant.classes c.loop-x.invariant.found;
+      found = c.in_ok-tell_node.ensures.found c.args.net.now.present c.args.nodes.now c.args.classes.now (Contains-get_or c.args.nodes.now c.loop-x.x-index _ c.loop-x-test.true) c.loop-x.invariant.classes c.loop-x.invariant.found;
       classes = λ class there. settled_more c.args.tree.now c.args.nodes.now c.args.kept.now marks new c.in_ok-tell_node.ensures.stay class (c.loop-x.invariant.classes class there);
       counted = c.tell_node.ensures.last;
       done = each_more (λ y. mark_under marks y ≡ true) (λ y. mark_under new y ≡ true) c.args.nodes.now c.loop-x.x-index _ c.loop-x-test.true

@@ -9,10 +9,10 @@ use Rattle.belief_list.proofs.Finding.{token_now}
 use Rattle.belief_list.proofs.differing.tell_token.Goals as goal
 
 pub early-requires : goal.early-requires
-early-requires c = let (m, here, _) = c.requires.token in live_at (forest c.args.tree.now) c.args.x m here
+early-requires c = let (m, here, class, of) = c.requires.token in live_at (forest c.args.tree.now) c.args.x m here
 
 pub weight_of-requires-clause-live : goal.weight_of-requires-clause-live
-weight_of-requires-clause-live c = let (m, here, _) = c.requires.token in live_at (forest c.args.tree.now) c.args.x m here
+weight_of-requires-clause-live c = let (m, here, class, of) = c.requires.token in live_at (forest c.args.tree.now) c.args.x m here
 
 pub returns-clause-found : goal.returns-clause-found
 returns-clause-found c =

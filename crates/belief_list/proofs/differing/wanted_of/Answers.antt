@@ -16,7 +16,7 @@ use Rattle.belief_list.proofs.differing.wanted_of.Goals as goal
 
 pub loop-i-init : goal.loop-i-init
 loop-i-init c = record {
-  long = ap length c.in_ok-wanted.ensures ∙ length-replicate (length c.tokens-rows.result.now) true;
+  long = ap length (c.in_ok-wanted.ensures.items_if_clones_equal (λ y same. same)) ∙ length-replicate (length c.tokens-rows.result.now) true;
   next = λ j from lt. absurd (omega (arith, from, lt, length-map c.tokens-rows.result.now (λ (r : TokenRow Spot). number_of r.spot)));
   passed = λ j d from lt. absurd (omega (arith, from, lt));
 }
@@ -24,8 +24,10 @@ loop-i-init c = record {
 pub is_wanted-requires : goal.is_wanted-requires
 is_wanted-requires c =
     let within : c.loop-i.i - 1 < length c.tokens-rows.result.now = omega arith in
-    token_live (forest c.args.tree.now) c.args.class.now c.tokens-rows.result.now c.tokens-rows.ensures.rows (c.loop-i.i - 1) c.index-rows-i.result within c.node_of.result
-    (c.node_of.ensures ∙ ap (λ (r : TokenRow Spot). number_of r.spot) c.index-rows-i.is)
+    record {
+      live = token_live (forest c.args.tree.now) c.args.class.now c.tokens-rows.result.now c.tokens-rows.ensures.rows (c.loop-i.i - 1) c.index-rows-i.result within c.node_of.result
+          (c.node_of.ensures ∙ ap (λ (r : TokenRow Spot). number_of r.spot) c.index-rows-i.is);
+    }
 
 pub loop-i-preserved : goal.loop-i-preserved
 loop-i-preserved c =
@@ -51,8 +53,8 @@ loop-i-preserved c =
           (subst (λ x. mark_under touched x ≡ true → new ≡ Some (date x)) number c.is_wanted.ensures.touched)
           (subst (λ x. mark_under touched x ≡ false → new ≡ old) number c.is_wanted.ensures.untouched);
       passed = set_on (λ j b. b ≡ false → IsPassed date touched xs kept j) c.loop-i.wanted.items (length rows) c.loop-i.i i wanted c.loop-i.invariant.long at within
-          (λ no.
-          (let (free, ahead) = subst (λ x. (mark_under touched x ≡ false) × IsAhead kept touched (clip_of (row_under kept x)) old) number (c.is_wanted.ensures.kept no) in
+          (λ passed.
+          (let (free, ahead) = subst (λ x. (mark_under touched x ≡ false) × IsAhead kept touched (clip_of (row_under kept x)) old) number (c.is_wanted.ensures.kept passed) in
           (free, old, ahead, behind)))
           c.loop-i.invariant.passed;
     }
@@ -67,5 +69,5 @@ returns-clause-others c = λ nodes marked.
     let (net, tree) = c.requires.dates in
     subst (λ (l : List (TokenRow Spot)). (i : ℕ) → i < length l → slice_index_or c.loop-i.wanted.items i true ≡ false → KeepsClip k nodes kept c.args.class.now (slice_index_or (numbers_in l) i 0))
     c.tokens-rows.ensures.list
-    (λ i lt no. passed_keeps tree c.tokens-rows.ensures.rows c.tokens-rows.ensures.in_order c.args.touched.now nodes marked kept i lt
-    (c.loop-i.invariant.passed i true (omega (arith, c.loop-i-test.false)) lt no))
+    (λ i lt passed. passed_keeps tree c.tokens-rows.ensures.rows c.tokens-rows.ensures.in_order c.args.touched.now nodes marked kept i lt
+    (c.loop-i.invariant.passed i true (omega (arith, c.loop-i-test.false)) lt passed))
