@@ -6,8 +6,8 @@ use Rattle.map_engine.specs.Beliefs.{AreBeliefs}
 use Rattle.list_net.proofs.Networks.{at_start}
 use Rattle.map_engine.proofs.plain.PlainMap.make.Goals as goal
 
-pub believe-requires : goal.believe-requires
-believe-requires c = record { network = at_start c.make-standing.result.present c.in_ok-net.net.present c.make-standing.ensures.present c.in_ok-net.ensures.present c.invariants.ensures.distinct c.invariants.ensures.start c.invariants.ensures.in_use c.invariants.ensures.dates }
+pub project-requires : goal.project-requires
+project-requires c = record { network = at_start c.make-standing.result.present c.in_ok-net.net.present c.make-standing.ensures.present c.in_ok-net.ensures.present c.invariants.ensures.distinct c.invariants.ensures.start c.invariants.ensures.in_use c.invariants.ensures.dates }
 
 pub invariant_of-result : goal.invariant_of-result
 invariant_of-result c =
