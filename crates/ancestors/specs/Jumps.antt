@@ -1,5 +1,6 @@
--- How far up a node jumps, by its depth. Jumps of growing length are laid so that a few of them lead to any
--- depth above: if the last two jumps from the node above are equally long, a jump takes both at once.
+-- How far up a node jumps, by its depth. Jumps of growing length are laid so that a few of them
+-- lead to any depth above: if the last two jumps from the node above are equally long, a jump takes
+-- both at once.
 use Rattle.std.specs.Prelude.{ℕ, zero, suc, cond, eqb, ◌-◌, List, [], ◌∷◌, ◌++◌, slice_index_or}
 
 -- the depth that is at this place of a list

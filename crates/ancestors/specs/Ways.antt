@@ -1,4 +1,5 @@
--- Ways from a root to a node of a tree: the numbers of the nodes on them, the root first and the node last.
+-- Ways from a root to a node of a tree: the numbers of the nodes on them, the root first and the
+-- node last.
 use Rattle.std.specs.Prelude.{◌≡◌, ℕ, cond, eqb, ◌<◌, List, [], ◌∷◌, ◌++◌, length}
 
 -- the number is of a node

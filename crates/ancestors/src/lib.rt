@@ -1,9 +1,9 @@
 //! Common ancestors of nodes of a tree.
 //!
-//! It stands on no other crate. An `Ancestry` knows of each node how deep it is, the node right above it, and
-//! one node further up to which it jumps. Nodes of one depth jump to one depth, so two of them go up side by
-//! side, and what they share is found in a number of steps that goes with the logarithm of their depth. No call
-//! takes memory.
+//! It stands on no other crate. An `Ancestry` knows of each node how deep it is, the node right
+//! above it, and one node further up to which it jumps. Nodes of one depth jump to one depth, so
+//! two of them go up side by side, and what they share is found in a number of steps that goes with
+//! the logarithm of their depth. No call takes memory.
 #![tactic(auto)]
 
 ghost use Rattle.std.specs.Prelude.{◌≡◌, ℕ, List, ◌+◌, ◌<◌, ◌≤◌, [], ◌∷◌, ◌++◌, length, take, MatchOption, IfSome};
@@ -12,7 +12,8 @@ ghost use Rattle.ancestors.specs.Jumps.{jump_depth};
 
 /// The nodes of a tree, or of several, by their numbers.
 pub trait Ancestry {
-    /// The nodes on the way to a node, its root first and itself last; none where the number is of no node.
+    /// The nodes on the way to a node, its root first and itself last; none where the number is of
+    /// no node.
     ghost way: { Self → ℕ → List ℕ };
 
     /// How many nodes are above a node.

@@ -1,6 +1,6 @@
 -- Differences as they are found: what was told stays told, and one more number is.
 use Rattle.std.proofs.Common.{◌≡◌, ℕ, zero, suc, ◌+◌, ◌<◌, ◌≤◌, ◌==◌, Bool, true, false, List, [], ◌∷◌, ◌++◌, length, replicate, refl, sym, ◌∙◌, ap, subst, arith, inl, inr}
-use Rattle.std.specs.Prelude.{Option, Some, None, IfSome, nat_eq, slice_index_or, slice_set}
+use Rattle.std.specs.Prelude.{◌⊎◌, Option, Some, None, IfSome, nat_eq, slice_index_or, slice_set}
 use Rattle.std.specs.List.{All, Contains, IsDistinct, list_any}
 use Rattle.std.specs.Option.{is_some, option_map, option_and_then}
 use Rattle.std.proofs.lemmas.Bool.{cases_eq}
@@ -26,7 +26,7 @@ use Rattle.supports.specs.Behind.{IsClip}
 use Rattle.belief_list.specs.declared.kept_rows.KeptRow.{KeptRow}
 use Rattle.belief_list.specs.declared.kept_rows.Difference.{Difference}
 use Rattle.belief_list.specs.KeptRows.{row_under, rows_after, numbers_of}
-use Rattle.belief_list.specs.Finding.{IsClipNow, IsNowUnder, mark_under, MarksStay, IsClassMarked, AreClassesMarked, AreFound}
+use Rattle.belief_list.specs.Finding.{IsClipNow, IsNowUnder, mark_under, MarksStay, IsClassSettled, AreClassesSettled, AreFound}
 
 -- ---- marks
 
@@ -53,6 +53,30 @@ pub marks_stay : (marks : List Bool) (x : ℕ) → x < length marks → MarksSta
 marks_stay marks x within y e = elim (cases_eq y x) [
   | inl same ↦ ap (mark_under (slice_set marks x true)) same ∙ marked_now marks x within
   | inr apart ↦ marks_other marks x y apart ∙ e
+]
+
+-- a class that is settled stays so
+pub settled_more : (tree : Kept) (nodes : List ℕ) (kept : List (Option KeptRow)) (old new : List Bool) → MarksStay old new → (class : List ℕ) → IsClassSettled tree nodes kept old class → IsClassSettled tree nodes kept new class
+settled_more tree nodes kept old new stay class settled x m here of = elim (settled x m here of) [
+  | inl marked ↦ inl (stay x marked)
+  | inr keeps ↦ inr keeps
+]
+
+-- a number at a place is marked, where that is wanted, or else something holds of it
+pub marked_or : (marks wanted : List Bool) (xs : List ℕ) (P : ℕ → Type 0) (i : ℕ) → (slice_index_or wanted i true ≡ true → mark_under marks (slice_index_or xs i 0) ≡ true)
+    → (slice_index_or wanted i true ≡ false → P (slice_index_or xs i 0)) → (mark_under marks (slice_index_or xs i 0) ≡ true) ⊎ P (slice_index_or xs i 0)
+marked_or marks wanted xs P i looked passed = by (slice_index_or wanted i true) refl
+  where
+    by : (b : Bool) → slice_index_or wanted i true ≡ b → (mark_under marks (slice_index_or xs i 0) ≡ true) ⊎ P (slice_index_or xs i 0)
+    by true e = inl (looked e)
+    by false e = inr (passed e)
+
+-- what holds of the first numbers that are wanted holds of one more
+pub wanted_more : (wanted : List Bool) (P Q : ℕ → Type 0) (xs : List ℕ) (i : ℕ) → ((x : ℕ) → P x → Q x) → (slice_index_or wanted i true ≡ true → Q (slice_index_or xs i 0))
+    → ((j : ℕ) → j < i → slice_index_or wanted j true ≡ true → P (slice_index_or xs j 0)) → (j : ℕ) → j < i + 1 → slice_index_or wanted j true ≡ true → Q (slice_index_or xs j 0)
+wanted_more wanted P Q xs i follows own first j below is = elim (cases_eq j i) [
+  | inl last ↦ subst (λ k. Q (slice_index_or xs k 0)) (sym last) (own (ap (λ k. slice_index_or wanted k true) (sym last) ∙ is))
+  | inr other ↦ follows (slice_index_or xs j 0) (first j (omega (arith, below, other)) is)
 ]
 
 -- what holds of the first items holds of one more
@@ -237,21 +261,19 @@ module _ (g : Forest) (class : List ℕ) (rows : List (TokenRow Spot)) (are : Ar
   pub number_at : (i : ℕ) (d : TokenRow Spot) → i < length rows → number_of (slice_index_or rows i d).spot ≡ slice_index_or (numbers_in rows) i 0
   number_at i d lt = sym (get_or-map (λ (r : TokenRow Spot). number_of r.spot) rows i d 0 lt)
 
-  pub number_within : (i : ℕ) → i < length rows → i < length (numbers_in rows)
-  number_within i lt = subst (λ n. i < n) (sym (length-map rows (λ (r : TokenRow Spot). number_of r.spot))) lt
-
-  -- all are marked where all their places are
-  pub class_marked : (marks : List Bool) → ((i : ℕ) → i < length rows → mark_under marks (slice_index_or (numbers_in rows) i 0) ≡ true) → IsClassMarked g marks class
-  class_marked marks each x m here of =
+  -- what holds of the numbers at all places holds of each token of the class
+  pub each_token : (P : ℕ → Type 0) → ((i : ℕ) → i < length rows → P (slice_index_or (numbers_in rows) i 0)) → (x : ℕ) (m : Member) → member g x ≡ Some m → m.class ≡ Some class → P x
+  each_token P each x m here of =
       let token : TokenRow Spot = record { spot = Node x; end = option_map Declared m.end; fact = m.what; class = class } in
       let is : token_row x m ≡ Some token = rw of refl in
       let (i, lt, e) = Contains-from_In (numbers_in rows) x (map-In (λ (r : TokenRow Spot). number_of r.spot) rows token (In-from_Contains rows token (are.all x m token here is refl))) in
       let within : i < length rows = subst (λ n. i < n) (length-map rows (λ (r : TokenRow Spot). number_of r.spot)) lt in
-      subst (λ z. mark_under marks z ≡ true) (get_or_default (numbers_in rows) i 0 x lt ∙ e) (each i within)
+      subst P (get_or_default (numbers_in rows) i 0 x lt ∙ e) (each i within)
 
--- all tokens of the classes are marked where those of each are
-pub classes_marked : (g : Forest) (marks : List Bool) (classes : List (List ℕ)) → ((j : ℕ) (d : List ℕ) → j < length classes → IsClassMarked g marks (slice_index_or classes j d)) → AreClassesMarked g marks classes
-classes_marked g marks classes each class (i, lt, e) = subst (IsClassMarked g marks) e (each i class lt)
+-- all classes are settled where those at all places are
+pub classes_settled : (tree : Kept) (nodes : List ℕ) (kept : List (Option KeptRow)) (marks : List Bool) (classes : List (List ℕ))
+    → ((j : ℕ) (d : List ℕ) → j < length classes → IsClassSettled tree nodes kept marks (slice_index_or classes j d)) → AreClassesSettled tree nodes kept marks classes
+classes_settled tree nodes kept marks classes each class (i, lt, e) = subst (IsClassSettled tree nodes kept marks) e (each i class lt)
 
 -- and numbers of a list where those at its places are
 pub places_marked : (marks : List Bool) (nodes : List ℕ) → ((j d : ℕ) → j < length nodes → mark_under marks (slice_index_or nodes j d) ≡ true) → (x : ℕ) → Contains nodes x → mark_under marks x ≡ true

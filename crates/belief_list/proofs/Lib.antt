@@ -11,3 +11,4 @@ pub mod Untouched
 pub mod Rising
 pub mod Told
 pub mod ByNumber
+pub mod Wanted

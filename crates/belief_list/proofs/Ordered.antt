@@ -24,7 +24,7 @@ use Rattle.belief_theory.proofs.Sorts.{sorted_in, sorted_rising}
 use Rattle.belief_theory.proofs.Spelt.{spelt}
 use Rattle.dist_net.specs.Net.{Net}
 use Rattle.spots.specs.Forest.{Forest, Member, IsLive, IsOnce, moment, moment_at}
-use Rattle.spots.specs.Seen.{IsSeen, Holds}
+use Rattle.spots.specs.OfLists.{IsForestOf, HasOccurrences}
 use Rattle.spots.specs.Spots.{node_cmp}
 use Rattle.spots.proofs.Nodes.{node_at, live_at, moment_at-is}
 use Rattle.spots.proofs.Seen.{early_is, believed_once}
@@ -106,7 +106,7 @@ listing_is net f rs cs ranked all once long live apart =
 
 -- ---- rows of the list
 
-module _ (s : Standing) (net : Net) (f : Forest) (seen : IsSeen s net f) (holds : Holds (built s).believed f) where
+module _ (s : Standing) (net : Net) (f : Forest) (seen : IsForestOf s net f) (holds : HasOccurrences (built s).believed f) where
   -- in order, nodes are the believed occurrences in order
   in_order : (nodes : List ℕ) → All (IsLive f) nodes → ((x : ℕ) → IsLive f x → Contains nodes x) → IsStrictlySortedBy (node_cmp net f) nodes
       → map (moment_at f) nodes ≡ sorted (order (built s)) (built s).believed

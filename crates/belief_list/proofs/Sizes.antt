@@ -15,7 +15,7 @@ use Rattle.tmm_model.specs.Standing.{Standing}
 use Rattle.premise_list.specs.States.{States}
 use Rattle.dist_net.specs.Net.{Net, Nets}
 use Rattle.spots.specs.Forest.{Forest, Member, member, IsLive}
-use Rattle.spots.specs.Seen.{IsSeen, Holds}
+use Rattle.spots.specs.OfLists.{IsForestOf, HasOccurrences}
 use Rattle.spots.proofs.Nodes.{node_at, live_at}
 use Rattle.occ_tree.specs.Standing.{Kept, forest, present}
 use Rattle.supports.specs.Edited.{old_forest}
@@ -124,7 +124,7 @@ module _ (kept : List (Option KeptRow)) where
 
 -- ---- the size of a map
 
-module _ (s : Standing) (net : Net) (f : Forest) (seen : IsSeen s net f) (rows : ℕ → Option KeptRow) (are : AreRowsOf s f rows) where
+module _ (s : Standing) (net : Net) (f : Forest) (seen : IsForestOf s net f) (rows : ℕ → Option KeptRow) (are : AreRowsOf s f rows) where
   counted_below : (n : ℕ) → AreCounted s f n (total rows n)
   counted_below zero = none_counted s f
   counted_below (suc n) =
@@ -147,7 +147,7 @@ module _ (s : Standing) (net : Net) (f : Forest) (seen : IsSeen s net f) (rows :
           subst (AreCounted s f (n + 1)) same (live_counted s net f seen n (total rows n) live before)
 
   -- the rows count as much as the map
-  total_is : Holds (built s).believed f → (n : ℕ) → ((x : ℕ) → IsLive f x → x < n) → total rows n ≡ size (built s)
+  total_is : HasOccurrences (built s).believed f → (n : ℕ) → ((x : ℕ) → IsLive f x → x < n) → total rows n ≡ size (built s)
   total_is holds n last = all_counted s net f seen holds n (total rows n) last (counted_below n)
 
 -- **What counts after an edit**, and what counted before of the nodes that differ, is what counted

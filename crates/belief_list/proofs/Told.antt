@@ -32,7 +32,7 @@ use Rattle.belief_theory.proofs.Upholding.{among, is_among-Contains}
 use Rattle.premise_list.specs.States.{States}
 use Rattle.dist_net.specs.Net.{Net, Nets}
 use Rattle.spots.specs.Forest.{Forest, Member, member, IsLive, moment, moment_at}
-use Rattle.spots.specs.Seen.{IsSeen, Holds}
+use Rattle.spots.specs.OfLists.{IsForestOf, HasOccurrences}
 use Rattle.spots.proofs.Nodes.{node_at, live_at, moment_at-is}
 use Rattle.spots.proofs.Seen.{early_is, occurs_at, believed_once}
 use Rattle.occ_tree.specs.Standing.{Kept, forest, present}
@@ -91,7 +91,7 @@ module _ (s : Standing) (f : Forest) (rows : ℕ → Option KeptRow) (are : AreR
   clip_is : (x : ℕ) (r : KeptRow) → rows x ≡ Some r → option_map (moment_at f) r.clip ≡ clip (built s) (moment_at f x)
   clip_is x r e = ap (λ (w : Row). w.clip) (row_of_node x r e).1.told
 
-  module _ (holds : Holds (built s).believed f) where
+  module _ (holds : HasOccurrences (built s).believed f) where
     -- nodes are what is believed
     believed_node : (x : ℕ) → IsLive f x → Contains (built s).believed (moment_at f x)
     believed_node x live =
@@ -241,7 +241,7 @@ record IsToldAs (s : Standing) (f : Forest) (t : Told) : Type 0 where
   date : t.early ≡ early s (far_in s.premises) (moment_at f t.difference.node)
   word : t.word.items ≡ printed (moment_at f t.difference.node)
 
-module _ (s : Standing) (net : Net) (f : Forest) (seen : IsSeen s net f) (holds : Holds (built s).believed f) where
+module _ (s : Standing) (net : Net) (f : Forest) (seen : IsForestOf s net f) (holds : HasOccurrences (built s).believed f) where
   -- the believed occurrences rise
   believed_rise : Rising (order (built s)) (in_order (built s))
   believed_rise = sorted_rising (ordered s (far_in s.premises)) (built s).believed each (believed_once s seen.network.sound)
@@ -336,7 +336,7 @@ module _ (lists : States) (nets : Nets) (edit : Edit) (tree : Kept) (kept : List
 
   -- Of a map and its nodes the same is told as of differences, where it is told of each node what
   -- is told of what becomes of its number, and nothing where nothing becomes of it.
-  module _ {Y : Type 0} (s : Standing) (net : Net) (f : Forest) (seen : IsSeen s net f) (holds : Holds (built s).believed f) (rows : ℕ → Option KeptRow) (are : AreRowsOf s f rows)
+  module _ {Y : Type 0} (s : Standing) (net : Net) (f : Forest) (seen : IsForestOf s net f) (holds : HasOccurrences (built s).believed f) (rows : ℕ → Option KeptRow) (are : AreRowsOf s f rows)
       (stays : (x : ℕ) → now x ≡ was x → rows x ≡ was x)
       (test : Difference → Bool) (told : List Told) (same : IsPermutation (filter test ds) (differences_of told)) (each : (t : Told) → In t told → IsToldAs s f t) (up : AreInOrder told)
       (h : Difference → Option Y) (g : Moment → Option Y) (key : Y → Moment)

@@ -1,8 +1,9 @@
 -- What an edit makes of rows: those of nodes that it did not touch stay, and with all differences
 -- the rows are those of the list after it.
-use Rattle.std.proofs.Common.{◌≡◌, ℕ, Bool, true, false, not, List, refl, sym, ◌∙◌, ap, subst, inl, inr}
-use Rattle.std.specs.Prelude.{Option, Some, None, IfSome}
-use Rattle.std.specs.List.{Contains}
+use Rattle.std.proofs.Common.{◌≡◌, ℕ, Bool, true, false, not, List, refl, sym, ◌∙◌, ap, subst, inl, inr, arith}
+use Rattle.std.proofs.lemmas.Int.{ints}
+use Rattle.std.specs.Prelude.{◌⊎◌, ◌<ℤ◌, ◌≤ℤ◌, Option, Some, None, IfSome}
+use Rattle.std.specs.List.{Contains, list_any}
 use Rattle.std.specs.Option.{option_map, option_and_then}
 use Rattle.std.specs.Cmp.Lexicographic.{bytes_decides}
 use Rattle.tmm_model.specs.declared.premise.Edit.{Edit}
@@ -15,7 +16,7 @@ use Rattle.tmm_model.specs.Moments.{Moment}
 use Rattle.tmm_model.specs.Points.{same_name}
 use Rattle.tmm_model.specs.Standing.{Standing, points_in}
 use Rattle.tmm_model.specs.Tokens.{is_before, clips}
-use Rattle.list_theory.proofs.Elements.{both, In-filter_map}
+use Rattle.list_theory.proofs.Elements.{In, both, In-filter_map, In-from_Contains, Contains-from_In, list_any-In, In-list_any}
 use Rattle.belief_theory.specs.Right.{Occurs}
 use Rattle.belief_theory.proofs.OneRight.{spot-token_of}
 use Rattle.belief_theory.proofs.Outcomes.{first_token_in}
@@ -25,7 +26,7 @@ use Rattle.list_net.specs.Network.{PointsKeepNumbers}
 use Rattle.spots.specs.declared.spot.Spot.{Spot}
 use Rattle.spots.specs.declared.spot.Spot.TheVariants.{Declared, Node}
 use Rattle.spots.specs.Forest.{Forest, Member, member, IsLive, moment_at}
-use Rattle.spots.specs.Seen.{IsSeen, Holds}
+use Rattle.spots.specs.OfLists.{IsForestOf, HasOccurrences}
 use Rattle.spots.specs.Spots.{AreTokens, token_row, row_moment, node_early}
 use Rattle.spots.proofs.Nodes.{node_at, live_at, moment_at-is}
 use Rattle.spots.proofs.Rows.{member_of_token, token_is}
@@ -37,11 +38,12 @@ use Rattle.supports.specs.Edited.{old_forest, IsEdited}
 use Rattle.supports.proofs.Answered.{event_unclipped}
 use Rattle.revisions.proofs.Tokens.{tokens_stay}
 use Rattle.joined.specs.KeptClips.{StandsAsBefore}
-use Rattle.joined.proofs.KeptClips.{nodes_keep_clips, same_clipper, date_unmoved}
+use Rattle.joined.proofs.KeptClips.{nodes_keep_clips, same_clipper, date_unmoved, keeps_near}
 use Rattle.belief_list.specs.declared.kept_rows.KeptRow.{KeptRow}
 use Rattle.belief_list.specs.declared.kept_rows.Difference.{Difference}
 use Rattle.belief_list.specs.KeptRows.{row_under, IsRowOf, AreRowsOf, rows_after, CoverTouched, AreDifferences}
-use Rattle.belief_list.specs.Finding.{IsClipNow, IsNow, IsNowUnder, mark_under, AreClassesMarked, AreFound}
+use Rattle.belief_list.specs.Told.{clip_of as clip_kept}
+use Rattle.belief_list.specs.Finding.{IsClipNow, IsNow, IsNowUnder, KeepsClip, mark_under, AreClassesSettled, AreFound}
 use Rattle.belief_list.proofs.Finding.{after_none, not_told}
 use Rattle.belief_list.proofs.Ordered.{row_is}
 
@@ -61,7 +63,7 @@ token_in f g class old new are_f are_g same y n here of =
     (m, ap (member g) node ∙ own.here, own.class)
 
 -- the token that a node is has the class of the node
-module _ (s : Standing) (net : Net) (f : Forest) (seen : IsSeen s net f) (y : ℕ) (n : Member) (here : member f y ≡ Some n) where
+module _ (s : Standing) (net : Net) (f : Forest) (seen : IsForestOf s net f) (y : ℕ) (n : Member) (here : member f y ≡ Some n) where
   abbrev as_token : Option (List ℕ) → Option (TokenRow Moment)
   as_token o = option_map (row_moment net.names f) (option_map (λ class. record { spot = Node y; end = option_map Declared n.end; fact = n.what; class = class }) o)
 
@@ -98,6 +100,19 @@ none_mapped : (h : ℕ → Moment) (o : Option ℕ) → option_map h o ≡ None 
 none_mapped h None e = refl
 none_mapped h (Some y) e = absurd (cc e)
 
+-- a class is among some, or it is not
+is_among : (classes : List (List ℕ)) (class : List ℕ) → Contains classes class ⊎ (Contains classes class → ⊥)
+is_among classes class = by (list_any (same_name class) classes) refl
+  where
+    by : (b : Bool) → list_any (same_name class) classes ≡ b → Contains classes class ⊎ (Contains classes class → ⊥)
+    by true e =
+        let (c, at, same) = list_any-In (same_name class) classes e in
+        inl (Contains-from_In classes class (subst (λ z. In z classes) (sym ((bytes_decides class c).0 same)) at))
+    by false e = inr (λ there.
+        (let yes = In-list_any (same_name class) classes class (In-from_Contains classes class there) ((bytes_decides class class).1 refl) in
+        let no : true ≡ false = sym yes ∙ e in
+        absurd (cc no)))
+
 -- ---- after an edit
 
 module _ (lists : States) (nets : Nets) (edit : Edit) (tree : Kept) (kept : List (Option KeptRow)) (nodes : List ℕ) (classes : List (List ℕ))
@@ -113,11 +128,11 @@ module _ (lists : States) (nets : Nets) (edit : Edit) (tree : Kept) (kept : List
   abbrev s : Standing
   s = lists.committed
 
-  seen_g : IsSeen (next_list s edit) nets.present g
-  seen_g = subst (λ z. IsSeen z nets.present g) edited.list edited.seen_now
+  seen_g : IsForestOf (next_list s edit) nets.present g
+  seen_g = subst (λ z. IsForestOf z nets.present g) edited.list edited.seen_now
 
-  holds_g : Holds (built (next_list s edit)).believed g
-  holds_g = subst (λ (z : Standing). Holds (built z).believed g) edited.list edited.holds_now
+  holds_g : HasOccurrences (built (next_list s edit)).believed g
+  holds_g = subst (λ (z : Standing). HasOccurrences (built z).believed g) edited.list edited.holds_now
 
   points : PointsKeepNumbers (points_in (next_list s edit).premises) nets.committed.names nets.present.names
   points = subst (λ (z : Standing). PointsKeepNumbers (points_in z.premises) nets.committed.names nets.present.names) edited.list edited.points
@@ -212,12 +227,86 @@ module _ (lists : States) (nets : Nets) (edit : Edit) (tree : Kept) (kept : List
         clipper_stays class untouched x m here of r.clip clipped is.clip,
       )
 
+  -- ---- nodes that were not touched
+
+  untouched_stands : (y : ℕ) (m : Member) → member g y ≡ Some m → (Contains nodes y → ⊥) → StandsAsBefore nets.committed nets.present nets.moved f g y m
+  untouched_stands y m here free = by (member f y) refl
+    where
+      by : (o : Option Member) → member f y ≡ o → StandsAsBefore nets.committed nets.present nets.moved f g y m
+      by None e = absurd (free (covered.entered y (live_at g y m here) e))
+      by (Some n) e =
+          let live = live_at f y n e in record {
+            was = live;
+            unmoved = λ at. free (covered.moved y m here (inr (inl at)));
+            date = date_stays y m here live (λ at. free (covered.moved y m here at));
+          }
+
+  -- one of the list before is there still
+  untouched_there : (y : ℕ) → IsLive f y → (Contains nodes y → ⊥) → (n : Member) × (member g y ≡ Some n) × StandsAsBefore nets.committed nets.present nets.moved f g y n
+  untouched_there y live free = by (member g y) refl
+    where
+      by : (o : Option Member) → member g y ≡ o → (n : Member) × (member g y ≡ Some n) × StandsAsBefore nets.committed nets.present nets.moved f g y n
+      by None e = absurd (free (covered.left y live e))
+      by (Some n) e = (n, e, untouched_stands y n e free)
+
+  -- the date that was kept of it is its date
+  untouched_date : (y : ℕ) → IsLive f y → (Contains nodes y → ⊥) → (q : KeptRow) → row_under kept y ≡ Some q → q.early ≡ node_early nets.present g y
+  untouched_date y live free q at =
+      let (r, own, is) = before.own y live in
+      let (n, here, stands) = untouched_there y live free in
+      let same : Some q ≡ Some r = sym at ∙ own in
+      let one : q ≡ r = cc in
+      ap (λ (w : KeptRow). w.early) one ∙ date_was y live r is ∙ stands.date
+
+  module _ (x : ℕ) (m : Member) (class : List ℕ) (here : member g x ≡ Some m) (of : m.class ≡ Some class) (keeps : KeepsClip tree nodes kept class x)
+      (r : KeptRow) (at : row_under kept x ≡ Some r) (is : IsRowOf s f x r) (live : IsLive f x) where
+    clipped : option_map (moment_at f) r.clip ≡ clip (built s) (moment_at f x)
+    clipped = clip_was x live r is
+
+    own_clip : clip_kept (row_under kept x) ≡ r.clip
+    own_clip = ap clip_kept at
+
+    clipper_live : (z : ℕ) → r.clip ≡ Some z → IsLive f z
+    clipper_live z e = subst (λ o. IfSome o (IsLive f)) e is.clip
+
+    there : (z : ℕ) → r.clip ≡ Some z → (n : Member) × (member g z ≡ Some n) × StandsAsBefore nets.committed nets.present nets.moved f g z n
+    there z e = untouched_there z (clipper_live z e) (keeps.free z (own_clip ∙ e))
+
+    still_there : (o : Option ℕ) → r.clip ≡ o → IfSome o (IsLive g)
+    still_there None e = tt
+    still_there (Some z) e = let (n, at_z, stands) = there z e in live_at g z n at_z
+
+    near : (y : ℕ) (n : Member) → member g y ≡ Some n → n.class ≡ Some class → node_early nets.present g x <ℤ node_early nets.present g y
+        → ((z : ℕ) → r.clip ≡ Some z → node_early nets.present g y ≤ℤ node_early nets.present g z) → StandsAsBefore nets.committed nets.present nets.moved f g y n
+    near y n at_y of_y later ahead = untouched_stands y n at_y touched
+      where
+        touched : Contains nodes y → ⊥
+        touched among =
+            let date_x = dated x (live_at g x m here) in
+            let date_y = dated y (live_at g y n at_y) in
+            let (c, q, clip, row, less) = keeps.ahead y n at_y of_y among (omega (arith, ints, later, date_x, date_y)) in
+            let own = sym own_clip ∙ clip in
+            let date_c = untouched_date c (clipper_live c own) (keeps.free c clip) q row in
+            let beyond = ahead c own in
+            absurd (omega (arith, ints, less, date_c, date_y, beyond))
+
+    -- **The clip of a token that is not touched stays**, as no touched one can come before it.
+    settled_clip : IsRightClip x r.clip
+    settled_clip =
+        let stays = still_there r.clip refl in (
+          same_clipper s edit nets.committed nets.present nets.moved f g edited.seen_then edited.holds_then seen_g holds_g numbers points moved (moment_at f x) r.clip clipped stays
+              ∙ sym (keeps_near s edit nets.committed nets.present nets.moved f g edited.seen_then edited.holds_then seen_g holds_g numbers points moved x m class here of (untouched_stands x m here keeps.own)
+              r.clip clipped there near)
+              ∙ ap (λ (z : Standing). clip (built z) (moment_at g x)) (sym edited.list),
+          stays,
+        )
+
   event_clip : (x : ℕ) (m : Member) → member g x ≡ Some m → m.class ≡ None → (o : Option ℕ) → o ≡ None → IsRightClip x o
   event_clip x m here of o none = subst (IsRightClip x) (sym none) (sym (event_unclipped edited.seen_now (built lists.present).believed x m here of), tt)
 
   -- a number was looked at, or the node is none that may have been touched
   module _ (marks : List Bool) (found : List Difference) (are : AreFound lists.present nets.present tree classes kept marks found)
-      (nodes_marked : (x : ℕ) → Contains nodes x → mark_under marks x ≡ true) (classes_marked : AreClassesMarked g marks classes) where
+      (nodes_marked : (x : ℕ) → Contains nodes x → mark_under marks x ≡ true) (settled : AreClassesSettled tree nodes kept marks classes) where
     -- the row of a node that was looked at
     row_told : (x : ℕ) (m : Member) (r : KeptRow) → member g x ≡ Some m → IsNow lists.present nets.present tree classes (row_under kept x) x m r → IsRowOf lists.present g x r
     row_told x m r here is = row_now x live r (is.date ∙ dated x live) (by m.class refl is.clip) is.weight
@@ -239,22 +328,25 @@ module _ (lists : States) (nets : Nets) (edit : Edit) (tree : Kept) (kept : List
       untold : Contains nodes x → ⊥
       untold there = let no : true ≡ false = sym (nodes_marked x there) ∙ free in absurd (cc no)
 
-      other_class : (m : Member) (class : List ℕ) → member g x ≡ Some m → m.class ≡ Some class → Contains classes class → ⊥
-      other_class m class here of there = let no : true ≡ false = sym (classes_marked class there x m here of) ∙ free in absurd (cc no)
-
       row_stays : rows_after kept found x ≡ row_under kept x
       row_stays = after_none kept found x (not_told marks found x are.marked free)
 
       -- the row of a node that was not looked at
-      row_kept : (m : Member) → member g x ≡ Some m → (live : IsLive f x) (r : KeptRow) → IsRowOf s f x r → IsRowOf lists.present g x r
-      row_kept m here live r is = row_now x live_g r (date_was x live r is ∙ date_stays x m here live (λ at. untold (covered.moved x m here at))) (by m.class refl) (is.weight ∙ covered.weights x live live_g untold)
+      row_kept : (m : Member) → member g x ≡ Some m → (live : IsLive f x) (r : KeptRow) → row_under kept x ≡ Some r → IsRowOf s f x r → IsRowOf lists.present g x r
+      row_kept m here live r at is = row_now x live_g r (date_was x live r is ∙ date_stays x m here live (λ at. untold (covered.moved x m here at))) (by m.class refl) (is.weight ∙ covered.weights x live live_g untold)
         where
           live_g : IsLive g x
           live_g = live_at g x m here
 
           by : (o : Option (List ℕ)) → m.class ≡ o → IsRightClip x r.clip
           by None of = event_clip x m here of r.clip (event_was x live r is m here of)
-          by (Some class) of = kept_clip x m class here of (other_class m class here of) r is live
+          by (Some class) of = elim (is_among classes class) [
+            | inl touched ↦ (elim (settled class touched x m here of) [
+              | inl marked ↦ let no : true ≡ false = sym marked ∙ free in absurd (cc no)
+              | inr keeps ↦ settled_clip x m class here of keeps r at is live
+            ])
+            | inr other ↦ kept_clip x m class here of other r is live
+          ]
 
     -- **The rows with the differences are those of the list after the edit.**
     own_after : (x : ℕ) → IsLive g x → (r : KeptRow) × (rows_after kept found x ≡ Some r) × IsRowOf lists.present g x r
@@ -270,7 +362,7 @@ module _ (lists : States) (nets : Nets) (edit : Edit) (tree : Kept) (kept : List
         kept_row m here free (Some n) there =
             let live_f = live_at f x n there in
             let (r, at, is) = before.own x live_f in
-            (r, row_stays x free ∙ at, row_kept x free m here live_f r is)
+            (r, row_stays x free ∙ at, row_kept x free m here live_f r at is)
 
         by : (m : Member) → member g x ≡ Some m → (b : Bool) → mark_under marks x ≡ b → (r : KeptRow) × (rows_after kept found x ≡ Some r) × IsRowOf lists.present g x r
         by m here true e = told m here (rows_after kept found x) refl (are.told x e)

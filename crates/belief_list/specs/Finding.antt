@@ -1,5 +1,5 @@
 -- Differences of what is kept of nodes, as they are found.
-use Rattle.std.specs.Prelude.{◌≡◌, ◌⊎◌, ℕ, ◌<◌, Bool, true, List, length, Option, Some, None, IfSome, MatchOption, nat_eq, slice_index_or}
+use Rattle.std.specs.Prelude.{◌≡◌, ◌⊎◌, ℕ, ◌<◌, ℤ, ◌<ℤ◌, Bool, true, false, List, length, Option, Some, None, IfSome, MatchOption, nat_eq, slice_index_or}
 use Rattle.std.specs.List.{All, Contains, IsDistinct}
 use Rattle.std.specs.Option.{option_and_then}
 use Rattle.tmm_model.specs.Standing.{Standing}
@@ -7,10 +7,12 @@ use Rattle.dist_net.specs.Net.{Net}
 use Rattle.spots.specs.Forest.{Forest, Member, member, IsLive}
 use Rattle.occ_tree.specs.Standing.{Kept, forest, present, early}
 use Rattle.projection.specs.Queues.{weight_at}
+use Rattle.occ_tree.specs.Tokens.{numbers_in}
 use Rattle.supports.specs.Behind.{IsClip}
 use Rattle.belief_list.specs.declared.kept_rows.KeptRow.{KeptRow}
 use Rattle.belief_list.specs.declared.kept_rows.Difference.{Difference}
 use Rattle.belief_list.specs.KeptRows.{row_under, rows_after, numbers_of}
+use Rattle.belief_list.specs.Told.{clip_of}
 
 -- ---- what is to be kept of a node
 
@@ -42,13 +44,39 @@ mark_under marks x = slice_index_or marks x true
 abbrev pub MarksStay : List Bool → List Bool → Type 0
 MarksStay old new = (x : ℕ) → mark_under old x ≡ true → mark_under new x ≡ true
 
--- each token of the class is marked
-abbrev pub IsClassMarked : Forest → List Bool → List ℕ → Type 0
-IsClassMarked g marks class = (x : ℕ) (m : Member) → member g x ≡ Some m → m.class ≡ Some class → mark_under marks x ≡ true
+-- all these numbers are
+abbrev pub AreMarked : List Bool → List ℕ → Type 0
+AreMarked marks nodes = (x : ℕ) → Contains nodes x → mark_under marks x ≡ true
 
--- each token of each of the classes is
-abbrev pub AreClassesMarked : Forest → List Bool → List (List ℕ) → Type 0
-AreClassesMarked g marks classes = (class : List ℕ) → Contains classes class → IsClassMarked g marks class
+-- ---- tokens of touched classes whose clips stay
+
+-- What clips a token is not marked as touched, and if `next` is the date of the first touched token
+-- behind it, what clips it has an earlier date.
+pub record IsAhead (kept : List (Option KeptRow)) (touched : List Bool) (clip : Option ℕ) (next : Option ℤ) : Type 0 where
+  pub free : (c : ℕ) → clip ≡ Some c → mark_under touched c ≡ false
+  pub ahead : (d : ℤ) → next ≡ Some d → (c : ℕ) × (q : KeptRow) × (clip ≡ Some c) × (row_under kept c ≡ Some q) × (q.early <ℤ d)
+
+-- **A token of the class keeps what clipped it**: neither it nor that was touched, and each touched
+-- token of the class that has a later date than it has a later date than what clipped it, too.
+pub record KeepsClip (tree : Kept) (nodes : List ℕ) (kept : List (Option KeptRow)) (class : List ℕ) (x : ℕ) : Type 0 where
+  pub own : Contains nodes x → ⊥
+  pub free : (c : ℕ) → clip_of (row_under kept x) ≡ Some c → Contains nodes c → ⊥
+  pub ahead : (y : ℕ) (m : Member) → member (forest (present tree)) y ≡ Some m → m.class ≡ Some class → Contains nodes y → early (present tree) x <ℤ early (present tree) y
+      → (c : ℕ) × (q : KeptRow) × (clip_of (row_under kept x) ≡ Some c) × (row_under kept c ≡ Some q) × (q.early <ℤ early (present tree) y)
+
+-- the tokens of the class that are not wanted keep what clipped them
+abbrev pub AreOthersKept : Kept → List ℕ → List (Option KeptRow) → List ℕ → List Bool → Type 0
+AreOthersKept tree nodes kept class wanted =
+    (i : ℕ) → i < length ((present tree).tokens class) → slice_index_or wanted i true ≡ false → KeepsClip tree nodes kept class (slice_index_or (numbers_in ((present tree).tokens class)) i 0)
+
+-- each token of the class is marked, or keeps what clipped it
+abbrev pub IsClassSettled : Kept → List ℕ → List (Option KeptRow) → List Bool → List ℕ → Type 0
+IsClassSettled tree nodes kept marks class =
+    (x : ℕ) (m : Member) → member (forest (present tree)) x ≡ Some m → m.class ≡ Some class → (mark_under marks x ≡ true) ⊎ KeepsClip tree nodes kept class x
+
+-- each token of each of the classes is, or does
+abbrev pub AreClassesSettled : Kept → List ℕ → List (Option KeptRow) → List Bool → List (List ℕ) → Type 0
+AreClassesSettled tree nodes kept marks classes = (class : List ℕ) → Contains classes class → IsClassSettled tree nodes kept marks class
 
 -- ---- both together
 

@@ -2,7 +2,7 @@
 ghost use Rattle.std.specs.Prelude.{◌≡◌, map, IfOk};
 ghost use Rattle.tmm_model.specs.Answers.{rows};
 ghost use Rattle.tmm_model.specs.Maps.{built};
-ghost use Rattle.spots.specs.Seen.{Holds};
+ghost use Rattle.spots.specs.OfLists.{HasOccurrences};
 ghost use Rattle.occ_tree.specs.OfLists.{IsTreeOf};
 ghost use Rattle.occ_tree.specs.Places.{forest};
 ghost use Rattle.occ_tree.specs.Ranks.{nodes_of};
@@ -28,7 +28,7 @@ pub fn listed_by_number(
     kept: &[Option<KeptRow>],
 ) -> Result<Seq<BeliefRow>, NoMemory>
     requires seen { IsTreeOf standing.now.present net.now.present tree.now }
-    requires holds { Holds (built standing.now.present).believed (forest tree.now) }
+    requires holds { HasOccurrences (built standing.now.present).believed (forest tree.now) }
     requires kept { AreRowsOf standing.now.present (forest tree.now) (row_under kept.now) }
     ensures rows { IfOk result (λ list. map (row_at (forest tree.now)) list.items ≡ rows (built standing.now.present)) }
     ensures listing { IfOk result (λ list. IsListing (forest tree.now) list.items) }
@@ -55,7 +55,7 @@ fn clips_kept(
 }
 
 // What is kept of a node.
-fn kept_row(kept: &[Option<KeptRow>], x: u32) -> Option<KeptRow>
+pub(crate) fn kept_row(kept: &[Option<KeptRow>], x: u32) -> Option<KeptRow>
     ensures { result ≡ row_under kept.now x }
 {
     kept.get(x as usize).copied().flatten()

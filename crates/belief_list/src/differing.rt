@@ -1,20 +1,24 @@
 // What an edit makes of the nodes that it may have touched.
-ghost use Rattle.std.specs.Prelude.{◌≡◌, ◌<◌, ℕ, List, [], false, true, length, Some, IfOk, IfSome, OnOk, replicate};
+ghost use Rattle.std.specs.Prelude.{◌≡◌, ◌<◌, ◌<ℤ◌, ℕ, List, [], false, true, length, Some, IfOk, IfSome, OnOk, replicate};
 ghost use Rattle.std.specs.List.{All, Contains};
 ghost use Rattle.tmm_model.specs.declared.premise.Edit.{Edit as AnEdit};
 ghost use Rattle.tmm_model.specs.Standing.{Standing as AStanding};
 ghost use Rattle.dist_net.specs.Net.{Net};
 ghost use Rattle.projection.specs.Kinds.{IsCountIn};
 ghost use Rattle.spots.specs.Forest.{Member, member, IsLive};
-ghost use Rattle.spots.specs.Seen.{IsSeen};
-ghost use Rattle.occ_tree.specs.OfLists.{IsTreeOf};
+ghost use Rattle.spots.specs.OfLists.{IsForestOf};
+ghost use Rattle.occ_tree.specs.OfLists.{IsTreeIn, IsTreeOf};
 ghost use Rattle.occ_tree.specs.Places.{forest};
-ghost use Rattle.occ_tree.specs.Standing.{Kept};
+ghost use Rattle.occ_tree.specs.Standing.{Kept, present, early};
 ghost use Rattle.occ_tree.specs.Tokens.{number_of};
+ghost use Rattle.supports.specs.Behind.{IsClip};
 ghost use Rattle.supports.specs.Edited.{IsEdited, old_forest};
+ghost use Rattle.belief_list.specs.declared.kept_rows.KeptRow.{KeptRow as AKeptRow};
 ghost use Rattle.belief_list.specs.KeptRows.{row_under, AreRowsOf, CoverTouched, AreDifferences};
-ghost use Rattle.belief_list.specs.Finding.{IsClipNow, IsNowUnder, mark_under, MarksStay, IsClassMarked, AreClassesMarked, AreFound};
+ghost use Rattle.belief_list.specs.Told.{clip_of};
+ghost use Rattle.belief_list.specs.Finding.{IsClipNow, IsNowUnder, mark_under, AreMarked, MarksStay, IsAhead, AreOthersKept, IsClassSettled, AreClassesSettled, AreFound};
 
+use crate::by_number::{clip_of, kept_row};
 use crate::kept_rows::{Difference, KeptRow};
 use dist_net::DistNet;
 use occ_tree::Tree;
@@ -27,7 +31,8 @@ use tmm_model::{Name, NoMemory, TokenRow};
 
 /// The differences that an edit makes, given nodes and classes that are all it may have touched,
 /// and what is kept of the nodes of the last commit, with a place for each present one. Only those
-/// nodes and the tokens of those classes are looked at. Without memory it answers that.
+/// nodes are looked at, and tokens of those classes that one of them may clip, or clipped. Without
+/// memory it answers that.
 pub fn differences(
     alloc: Global,
     standing: &Standing,
@@ -47,9 +52,12 @@ pub fn differences(
     // they tell the proof what holds of points that moved, and of the tokens of all classes
     let _ = net.moved();
     tree.have_tokens();
+    let touched = marked(alloc, nodes, kept.len())?;
     let mut found = Found::make(alloc, kept.len())?;
     for class in classes {
-        tell_class(alloc, standing, tree, net, class, kept, &mut found)?;
+        tell_class(
+            alloc, standing, tree, net, class, kept, &touched, &mut found,
+        )?;
     }
     let mut last = None;
     for x in nodes {
@@ -81,7 +89,7 @@ impl Found {
     fn is_marked(&self, x: u32) -> bool
         ensures { result ≡ mark_under self.now.marks.items x }
     {
-        self.marks.get(x as usize).copied().unwrap_or(true)
+        is_marked(&self.marks, x)
     }
 
     // Tells what is to be kept under a number, where it was not looked at. A row that stays is no
@@ -121,7 +129,36 @@ fn is_same(was: &Option<KeptRow>, now: &Option<KeptRow>) -> bool
     was == now
 }
 
-// Tells what is to be kept of each token of a class, with its clip found anew.
+// Whether a number is marked, or has no place.
+fn is_marked(marks: &[bool], x: u32) -> bool
+    ensures { result ≡ mark_under marks.now x }
+{
+    marks.get(x as usize).copied().unwrap_or(true)
+}
+
+// Marks a number, where it has a place.
+fn mark(marks: &mut Vec<bool>, x: u32)
+    ensures marked { mark_under marks.new.items x ≡ true }
+    ensures stay { MarksStay marks.old.items marks.new.items }
+{
+    if (x as usize) < marks.len() {
+        marks[x as usize] = true;
+    }
+}
+
+// Marks of these numbers, among so many that have a place.
+fn marked(alloc: Global, nodes: &[u32], places: usize) -> Result<Vec<bool>, NoMemory>
+    ensures { IfOk result (λ marks. AreMarked marks.items nodes.now) }
+{
+    let mut marks = Vec::from_elem(alloc, false, places)?;
+    for x in nodes {
+        mark(&mut marks, *x);
+    }
+    Ok(marks)
+}
+
+// Tells what is to be kept of the tokens of a class that may have another clip than before, or were
+// touched, each with its clip found anew.
 fn tell_class(
     alloc: Global,
     standing: &Standing,
@@ -129,6 +166,7 @@ fn tell_class(
     net: &DistNet,
     class: &Name,
     kept: &[Option<KeptRow>],
+    touched: &[bool],
     found: &mut Found,
 ) -> Result<(), NoMemory>
     requires seen { IsTreeOf standing.now.present net.now.present tree.now }
@@ -136,21 +174,121 @@ fn tell_class(
     ensures long { OnOk result (length found.new.marks.items ≡ length kept.now) }
     ensures found { OnOk result ((classes : List (List ℕ)) → AreFound standing.now.present net.now.present tree.now classes kept.now found.old.marks.items found.old.differences.items
         → AreFound standing.now.present net.now.present tree.now classes kept.now found.new.marks.items found.new.differences.items) }
-    ensures marked { OnOk result (IsClassMarked (forest tree.now) found.new.marks.items class.now) }
+    ensures settled { OnOk result ((nodes : List ℕ) → AreMarked touched.now nodes → IsClassSettled tree.now nodes kept.now found.new.marks.items class.now) }
     ensures stay { OnOk result (MarksStay found.old.marks.items found.new.marks.items) }
 {
-    let clips = class_clips(alloc, tree, net, class)?;
+    let wanted = wanted_of(alloc, tree, class, kept, touched)?;
+    let clips = class_clips(alloc, tree, net, class, &wanted)?;
     let rows = tree.tokens(class);
     for i in 0..rows.len() {
-        let x = node_of(&rows[i]);
-        let now = KeptRow {
-            early: tree.early(x),
-            clip: clips[i],
-            weight: weight_of(standing, tree, x),
-        };
-        found.tell(kept, x, Some(now))?;
+        if wanted[i] {
+            tell_token(standing, tree, node_of(&rows[i]), clips[i], kept, found)?;
+        }
     }
     Ok(())
+}
+
+// Tells what is to be kept of a token with this clip.
+fn tell_token(
+    standing: &Standing,
+    tree: &Tree,
+    x: u32,
+    clip: Option<u32>,
+    kept: &[Option<KeptRow>],
+    found: &mut Found,
+) -> Result<(), NoMemory>
+    requires seen { (net : Net) × IsForestOf standing.now.present net (forest tree.now) }
+    requires token { (m : Member) × (member (forest tree.now) x ≡ Some m) × (class : List ℕ) × (m.class ≡ Some class) }
+    requires live { IfSome clip (IsLive (forest tree.now)) }
+    requires long { length found.old.marks.items ≡ length kept.now }
+    ensures long { OnOk result (length found.new.marks.items ≡ length kept.now) }
+    ensures found { OnOk result ((net : Net) (classes : List (List ℕ)) → IsClip net (forest tree.now) x clip → AreFound standing.now.present net tree.now classes kept.now found.old.marks.items found.old.differences.items
+        → AreFound standing.now.present net tree.now classes kept.now found.new.marks.items found.new.differences.items) }
+    ensures marked { OnOk result (mark_under found.new.marks.items x ≡ true) }
+    ensures stay { OnOk result (MarksStay found.old.marks.items found.new.marks.items) }
+{
+    let now = KeptRow {
+        early: tree.early(x),
+        clip,
+        weight: weight_of(standing, tree, x),
+    };
+    found.tell(kept, x, Some(now))
+}
+
+// Which tokens of a class are to be looked at, at their places: those that were touched, and those
+// of which the clip was touched, or is not known to come before all touched ones behind the token.
+fn wanted_of(
+    alloc: Global,
+    tree: &Tree,
+    class: &Name,
+    kept: &[Option<KeptRow>],
+    touched: &[bool],
+) -> Result<Vec<bool>, NoMemory>
+    requires dates { (net : Net) × IsTreeIn net tree.now }
+    ensures long { IfOk result (λ wanted. length wanted.items ≡ length ((present tree.now).tokens class.now)) }
+    ensures others { IfOk result (λ wanted. (nodes : List ℕ) → AreMarked touched.now nodes → AreOthersKept tree.now nodes kept.now class.now wanted.items) }
+{
+    let rows = tree.tokens(class);
+    let mut wanted = Vec::from_elem(alloc, true, rows.len())?;
+    // the date of the first token behind that was touched
+    let mut next = None;
+    for i in (0..rows.len()).rev() {
+        wanted[i] = is_wanted(tree, kept, touched, node_of(&rows[i]), &mut next);
+    }
+    Ok(wanted)
+}
+
+// Whether a token is to be looked at, given the date of the first one behind it that was touched,
+// which is its own from then on, if it was.
+fn is_wanted(
+    tree: &Tree,
+    kept: &[Option<KeptRow>],
+    touched: &[bool],
+    x: u32,
+    next: &mut Option<i64>,
+) -> bool
+    requires live { IsLive (forest tree.now) x }
+    ensures touched { mark_under touched.now x ≡ true → next.new ≡ Some (early (present tree.now) x) }
+    ensures untouched { mark_under touched.now x ≡ false → next.new ≡ next.old }
+    ensures kept { result ≡ false → (mark_under touched.now x ≡ false) × IsAhead kept.now touched.now (clip_of (row_under kept.now x)) next.old }
+{
+    if is_marked(touched, x) {
+        *next = Some(tree.early(x));
+        return true;
+    }
+    !keeps_clip(kept, touched, clip_of(kept_row(kept, x)), *next)
+}
+
+// Whether what clips a token was not touched, and has an earlier date than the first one behind the
+// token that was.
+fn keeps_clip(
+    kept: &[Option<KeptRow>],
+    touched: &[bool],
+    clip: Option<u32>,
+    next: Option<i64>,
+) -> bool
+    ensures { result ≡ true → IsAhead kept.now touched.now clip next }
+{
+    let Some(c) = clip else {
+        return next.is_none();
+    };
+    if is_marked(touched, c) {
+        return false;
+    }
+    match next {
+        Some(date) => is_earlier(kept_row(kept, c), date),
+        None => true,
+    }
+}
+
+// Whether a row is kept with a date before this one.
+fn is_earlier(row: Option<KeptRow>, date: i64) -> bool
+    ensures { result ≡ true → (q : AKeptRow) × (row ≡ Some q) × (q.early <ℤ date) }
+{
+    match row {
+        Some(row) => row.early < date,
+        None => false,
+    }
 }
 
 // The number of the node at which a token begins.
@@ -163,7 +301,8 @@ fn node_of(row: &TokenRow<Spot>) -> u32
     }
 }
 
-// Tells what is to be kept of a node, if it was not looked at, so that its class was not touched.
+// Tells what is to be kept of a touched node, if it was not looked at, so that its class is none
+// that was touched.
 fn tell_node(
     standing: &Standing,
     tree: &Tree,
@@ -172,11 +311,11 @@ fn tell_node(
     found: &mut Found,
     last: &mut Option<KindCount>,
 ) -> Result<(), NoMemory>
-    requires seen { (net : Net) × IsSeen standing.now.present net (forest tree.now) }
+    requires seen { (net : Net) × IsForestOf standing.now.present net (forest tree.now) }
     requires long { length found.old.marks.items ≡ length kept.now }
     requires last { IfSome last.old (IsCountIn standing.now.present) }
     ensures long { OnOk result (length found.new.marks.items ≡ length kept.now) }
-    ensures found { OnOk result ((net : Net) (classes : List (List ℕ)) → AreClassesMarked (forest tree.now) found.old.marks.items classes → AreFound standing.now.present net tree.now classes kept.now found.old.marks.items found.old.differences.items
+    ensures found { OnOk result ((net : Net) (nodes : List ℕ) (classes : List (List ℕ)) → Contains nodes x → AreClassesSettled tree.now nodes kept.now found.old.marks.items classes → AreFound standing.now.present net tree.now classes kept.now found.old.marks.items found.old.differences.items
         → AreFound standing.now.present net tree.now classes kept.now found.new.marks.items found.new.differences.items) }
     ensures marked { OnOk result (mark_under found.new.marks.items x ≡ true) }
     ensures stay { OnOk result (MarksStay found.old.marks.items found.new.marks.items) }
@@ -198,7 +337,7 @@ fn row_now(
     x: u32,
     last: &mut Option<KindCount>,
 ) -> Option<KeptRow>
-    requires seen { (net : Net) × IsSeen standing.now.present net (forest tree.now) }
+    requires seen { (net : Net) × IsForestOf standing.now.present net (forest tree.now) }
     requires last { IfSome last.old (IsCountIn standing.now.present) }
     ensures now { (net : Net) (classes : List (List ℕ)) → ((m : Member) (class : List ℕ) → member (forest tree.now) x ≡ Some m → m.class ≡ Some class → Contains classes class → ⊥)
         → IsNowUnder standing.now.present net tree.now classes was.now x result }

@@ -6,7 +6,7 @@ ghost use Rattle.tmm_model.specs.Answers.{row_of, rows};
 ghost use Rattle.tmm_model.specs.Maps.{built};
 ghost use Rattle.tmm_model.specs.Moments.{moment_of};
 ghost use Rattle.spots.specs.Forest.{moment_at};
-ghost use Rattle.spots.specs.Seen.{Holds};
+ghost use Rattle.spots.specs.OfLists.{HasOccurrences};
 ghost use Rattle.occ_tree.specs.OfLists.{IsTreeIn, IsTreeOf};
 ghost use Rattle.occ_tree.specs.Places.{forest};
 ghost use Rattle.belief_list.specs.Rows.{belief_row, row_at, IsLiveRow, AreAllRanked, IsListing};
@@ -37,7 +37,7 @@ pub fn listed(
     net: &DistNet,
 ) -> Result<Seq<BeliefRow>, NoMemory>
     requires seen { IsTreeOf standing.now.present net.now.present tree.now }
-    requires holds { Holds (built standing.now.present).believed (forest tree.now) }
+    requires holds { HasOccurrences (built standing.now.present).believed (forest tree.now) }
     ensures rows { IfOk result (λ list. map (row_at (forest tree.now)) list.items ≡ rows (built standing.now.present)) }
     ensures listing { IfOk result (λ list. IsListing (forest tree.now) list.items) }
 {

@@ -4,7 +4,7 @@ use Rattle.tmm_model.specs.Moments.{After}
 use Rattle.tmm_model.specs.Standing.{Standing}
 use Rattle.belief_theory.specs.KeptLists.{last_horizon}
 use Rattle.dist_net.specs.Net.{Net}
-use Rattle.spots.specs.Forest.{IsLive, member, moment_at}
+use Rattle.spots.specs.Forest.{member, moment_at}
 use Rattle.supports.specs.Growing.{MayEnter}
 use Rattle.occ_tree.specs.Places.{forest}
 use Rattle.occ_tree.specs.Standing.{Kept}
@@ -22,9 +22,6 @@ module _ (s : Standing) (net : Net) (b c : BeliefNet) (due : Due) (after : IsAft
 
   pub fit_after : IsFit s net c
   fit_after = fit_decided s net b c due after.fit after.decided
-
-  pub live_after : IsLive (forest c.tree) due.trigger
-  live_after = subst (λ (t : Kept). IsLive (forest t) due.trigger) (sym d.tree) (subst (IsLive (forest b.tree)) d.trigger (after.fit.events due.row d.row d.at))
 
   pub there_after : fires_by due.before ≡ true → HasEffect c.tree due.trigger due.rule
   there_after fired =

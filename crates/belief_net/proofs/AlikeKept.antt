@@ -1,5 +1,5 @@
 -- What is kept of a list is kept of each list that is alike in all that beliefs read.
-use Rattle.std.proofs.Common.{◌≡◌, ◌∙◌, ℕ, List, ◌∷◌, ◌++◌, map, sym, subst, inl, inr}
+use Rattle.std.proofs.Common.{◌≡◌, ◌∙◌, ℕ, List, ◌∷◌, ◌++◌, map, sym, ap, subst, inl, inr}
 use Rattle.std.specs.Prelude.{Some, filter}
 use Rattle.std.specs.List.{Contains, list_any, filter_map}
 use Rattle.tmm_model.specs.declared.point.PointName.TheVariants.{Start}
@@ -18,7 +18,7 @@ use Rattle.dist_net.specs.Net.{Net}
 use Rattle.list_net.specs.Fits.{IsNetOf}
 use Rattle.list_net.specs.Network.{PointsKeepNumbers}
 use Rattle.spots.specs.Forest.{Forest, IsLive, moment_at}
-use Rattle.spots.specs.Seen.{IsSeen, Holds}
+use Rattle.spots.specs.OfLists.{IsForestOf, HasOccurrences}
 use Rattle.spots.proofs.Nodes.{node_at, moment_at-is}
 use Rattle.spots.proofs.Seen.{early_is}
 use Rattle.occ_tree.specs.Classes.{place_in}
@@ -29,7 +29,7 @@ use Rattle.revisions.specs.Alike.{AreAlike, BelieveAlike}
 use Rattle.revisions.proofs.Alike.{IsAnchored, IsBetween, tokens_between, rules_same, distance_same, believed_anchored, alike_believe}
 use Rattle.revisions.proofs.StillEdits.{stay_seen}
 use Rattle.joined.specs.Netted.{IsCurrent}
-use Rattle.joined.specs.Rows.{Row, AreLive, AreRowsOf, outcome_at}
+use Rattle.joined.specs.Rows.{Row, AreRowsOf, decision_of}
 use Rattle.belief_net.specs.declared.state.BeliefNet.{BeliefNet}
 use Rattle.belief_net.specs.Alike.{AlikeAreKept}
 use Rattle.belief_net.specs.Decided.{rule_in, AreUnder}
@@ -86,7 +86,7 @@ module _ (s t : Standing) (before net : Net) (b : BeliefNet) (alike : AreAlike s
   believe : BelieveAlike s t
   believe = (alike_believe s t alike).0
 
-  seen : IsSeen t net f
+  seen : IsForestOf t net f
   seen = stay_seen s t alike.say before net f of_t keep kept.fit.tree.seen
 
   -- the occurrence of a node was believed
@@ -129,16 +129,16 @@ module _ (s t : Standing) (before net : Net) (b : BeliefNet) (alike : AreAlike s
   }
 
   told : (i : ℕ) (q : Row) → rows_of b i ≡ Some q
-      → AreLive f q.found × (outcome_at f q.found ≡ outcome t (far_in t.premises) (built t).believed (moment_at f q.trigger) q.rule)
+      → q.found ≡ decision_of (outcome t (far_in t.premises) (built t).believed (moment_at f q.trigger) q.rule)
   told i q at =
-      let was = kept.current.told i q at in
       let live = (kept.current.rows_are.own i q at).0 in
-      (was.0, was.1 ∙ outcome_same s t alike kept.fit.tree.seen.network.sound of_t.sound (moment_at f q.trigger) (believed q.trigger live) q.rule)
+      kept.current.told i q at
+      ∙ ap decision_of (outcome_same s t alike kept.fit.tree.seen.network.sound of_t.sound (moment_at f q.trigger) (believed q.trigger live) q.rule)
 
   current : IsCurrent t net f (rows_of b)
   current = record {
     seen = seen;
-    holds = subst (λ l. Holds l f) believe.believed kept.current.holds;
+    holds = subst (λ l. HasOccurrences l f) believe.believed kept.current.holds;
     rows_are = rows_are;
     none_waits = kept.current.none_waits;
     told = told;

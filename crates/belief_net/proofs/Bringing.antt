@@ -17,7 +17,7 @@ use Rattle.row_links.specs.Lists.{IsOn}
 use Rattle.row_links.proofs.Lists.{IsOn-first}
 use Rattle.spots.specs.declared.spot.Spot.{Spot}
 use Rattle.spots.specs.Forest.{Forest, Member, member, IsLive, moment, moment_at}
-use Rattle.spots.specs.Seen.{IsMemberOf, IsSeen, class_for}
+use Rattle.spots.specs.OfLists.{IsMemberOf, IsForestOf, class_for}
 use Rattle.spots.proofs.Nodes.{node_at, live_at, moment_at-is}
 use Rattle.spots.proofs.Seen.{occurs_at}
 use Rattle.supports.specs.Growing.{Adds}
@@ -59,7 +59,7 @@ one_class s names m n own_m own_n same =
 
 -- ---- an effect is later than its event
 
-effect_later : (s : Standing) (net : Net) (f : Forest) (x : ℕ) (rule : List ℕ) → IsSeen s net f → IsLive f x → Contains (rules_at s (moment_at f x)) rule
+effect_later : (s : Standing) (net : Net) (f : Forest) (x : ℕ) (rule : List ℕ) → IsForestOf s net f → IsLive f x → Contains (rules_at s (moment_at f x)) rule
     → date_at s (moment_at f x) <ℤ date_at s (After (moment_at f x) rule)
 effect_later s net f x rule seen live stands =
     let timed = sound_timed s seen.network.sound in
@@ -93,9 +93,6 @@ module _ (s : Standing) (net : Net) (c e : BeliefNet) (trigger : ℕ) (rule : Li
 
   free : IsLive f y → ⊥
   free l = let (m, at) = node_at f y l in none_some m (sym brings.enters.adds.enters.free ∙ at)
-
-  at_effect : moment_at g y ≡ effect
-  at_effect = moment_at-is g y node here ∙ brings.enters.adds.is
 
   -- what was there is there
   goes_on : (x : ℕ) → IsLive f x → IsLive g x

@@ -8,7 +8,7 @@ use Rattle.tmm_model.specs.Standing.{Standing}
 use Rattle.list_theory.proofs.Distinct.{Distinct}
 use Rattle.dist_net.specs.Net.{Net}
 use Rattle.spots.specs.Forest.{Forest, Member, member, moment_at}
-use Rattle.spots.specs.Seen.{IsSeen, class_for}
+use Rattle.spots.specs.OfLists.{IsForestOf, class_for}
 use Rattle.spots.proofs.Believed.{rules_once}
 use Rattle.supports.proofs.OnKinds.{rules_of_event}
 use Rattle.occ_tree.specs.Places.{forest}
@@ -18,7 +18,7 @@ use Rattle.belief_net.specs.Decided.{table_of, AreUnder, KeepsLast}
 use Rattle.belief_net.specs.Entering.{class_at}
 use Rattle.belief_net.proofs.Named.{under_more}
 
-module _ (s : Standing) (net : Net) (f : Forest) (seen : IsSeen s net f) (y : ℕ) (m : Member) (at : member f y ≡ Some m) where
+module _ (s : Standing) (net : Net) (f : Forest) (seen : IsForestOf s net f) (y : ℕ) (m : Member) (at : member f y ≡ Some m) where
   pub event_of_none : m.class ≡ None → m.shape ≡ Event
   event_of_none none = by m.shape (sym (seen.members y m at).class ∙ none)
     where

@@ -20,7 +20,7 @@ use Rattle.belief_theory.proofs.SoundBeliefs.{believed_right}
 use Rattle.dist_net.specs.Net.{Net}
 use Rattle.supports.proofs.Rules.{rule_there}
 use Rattle.spots.specs.Forest.{Forest, Member, member, IsLive, moment, moment_at}
-use Rattle.spots.specs.Seen.{IsSeen}
+use Rattle.spots.specs.OfLists.{IsForestOf}
 use Rattle.spots.proofs.Nodes.{node_at, live_at, moment_at-is, base-moment}
 use Rattle.undo_rows.specs.declared.row.Row.{Row as TableRow}
 use Rattle.decision_rows.specs.declared.row.Pair.{Pair}
@@ -132,7 +132,7 @@ module _ (old : Standing) (edit : Edit) (net : Net) (b e : BeliefNet) (all : Dep
   node_stays : (x : ℕ) (m : Member) → member f x ≡ Some m → Occurs new (moment m) → member g x ≡ Some m
   node_stays x m at occurs = spares.nodes x m at ((standing_occurs old edit sound_old sound_new (moment m) (fit.tree.seen.members x m at).occurs).0 occurs)
 
-  seen_before : IsSeen old net g
+  seen_before : IsForestOf old net g
   seen_before = record {
     network = fit.tree.seen.network;
     members = λ x m at. fit.tree.seen.members x m (sheds.thins.nodes x m at);

@@ -1,5 +1,5 @@
 -- Rows that go, one after the other.
-use Rattle.std.proofs.Common.{◌≡◌, ◌∙◌, ℕ, ◌⊎◌, cond, eqb, List, [], ◌∷◌, false, true, Some, None, refl, sym, ap, inl, inr}
+use Rattle.std.proofs.Common.{◌≡◌, ◌∙◌, ℕ, ◌⊎◌, cond, eqb, List, [], ◌∷◌, false, true, Some, None, sym, ap, inl, inr}
 use Rattle.std.specs.Prelude.{◌↔◌}
 use Rattle.std.proofs.lemmas.Bool.Decides.{eqb_tells}
 use Rattle.undo_rows.specs.declared.row.Row.{Row as TableRow}
@@ -20,9 +20,6 @@ pub record Dropping (event : ℕ) (old new : Decisions) : Type 0 where
   pub rules : new.rules ≡ old.rules
   pub classes : new.classes ≡ old.classes
   pub each : (i : ℕ) → IsSameRow old new i ⊎ IsDropped event old new i
-
-pub dropping_none : (event : ℕ) (d : Decisions) → Dropping event d d
-dropping_none event d = record { rules = refl; classes = refl; each = λ i. inl (record { row = refl; waits = refl }) }
 
 pub dropping_next : (event : ℕ) (old mid new : Decisions) (x : ℕ) (row : TableRow Pair 8) → Dropping event old mid
     → (table_of mid).row x ≡ Some row → row.value.trigger ≡ event

@@ -94,13 +94,6 @@ module _ (s : Standing) (event number i : ℕ) (date : ℤ) (rule : List ℕ) (r
 
 -- ---- none, and more
 
-pub adds_none : (event : ℕ) (date : ℤ) (d : Decisions) → AddsRows [] event date d d
-adds_none event date d = record {
-  each = λ i. inl (record { row = refl; waits = refl });
-  all = λ rule none. absurd none;
-  apart = λ i j row other at there same. absurd (let both : None ≡ Some row = sym at.free ∙ at.there in cc);
-}
-
 module _ (s : Standing) (event : ℕ) (date : ℤ) (rules more : List (List ℕ)) (old mid new : Decisions) (under : AreUnder s mid) (last : KeepsLast mid new)
     (first : AddsRows rules event date old mid) (then_ : AddsRows more event date mid new) (distinct : (rule : List ℕ) → In rule rules → In rule more → ⊥) where
   -- a row that was there in between is there in the end

@@ -19,7 +19,7 @@ use Rattle.belief_theory.proofs.Sound.{rule_stands}
 use Rattle.belief_theory.proofs.SoundBeliefs.{sound_timed}
 use Rattle.dist_net.specs.Net.{Net}
 use Rattle.spots.specs.Forest.{Forest, Member, member, IsLive, moment, moment_at}
-use Rattle.spots.specs.Seen.{class_for}
+use Rattle.spots.specs.OfLists.{class_for}
 use Rattle.spots.proofs.Nodes.{node_at, live_at, moment_at-is}
 use Rattle.spots.proofs.Seen.{occurs_at}
 use Rattle.supports.proofs.Grown.{node_cases, node_kept, apart_from}

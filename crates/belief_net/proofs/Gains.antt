@@ -17,7 +17,7 @@ use Rattle.belief_theory.proofs.SoundBeliefs.{believed_right, sound_timed}
 use Rattle.dist_net.specs.Net.{Net}
 use Rattle.list_net.specs.Represents.{Names}
 use Rattle.spots.specs.Forest.{Forest, Member, member, IsLive, moment, moment_at, SameMembers}
-use Rattle.spots.specs.Seen.{IsMemberOf}
+use Rattle.spots.specs.OfLists.{IsMemberOf}
 use Rattle.spots.proofs.Nodes.{node_at, live_at, moment_at-is}
 use Rattle.spots.proofs.Seen.{occurs_at}
 use Rattle.undo_rows.specs.declared.row.Row.{Row as TableRow}

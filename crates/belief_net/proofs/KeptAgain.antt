@@ -6,7 +6,7 @@ use Rattle.std.specs.Option.{option_map}
 use Rattle.tmm_model.specs.Standing.{Standing}
 use Rattle.dist_net.specs.Net.{Net}
 use Rattle.spots.specs.Forest.{IsLive}
-use Rattle.spots.specs.Seen.{IsSeen}
+use Rattle.spots.specs.OfLists.{IsForestOf}
 use Rattle.undo_rows.specs.declared.row.Row.{Row as TableRow}
 use Rattle.undo_rows.specs.Changes.{present as rows_now, committed as rows_then}
 use Rattle.undo_rows.specs.Tables.{Table}
@@ -45,7 +45,7 @@ module _ (s : Standing) (net : Net) (b r : BeliefNet) (fit : IsFit s net b) (cur
   fit_again : IsFit s net r
   fit_again = record {
     tree = record {
-      seen = subst (λ (k : State). IsSeen s net (forest_of k)) (sym same_tree) fit.tree.seen;
+      seen = subst (λ (k : State). IsForestOf s net (forest_of k)) (sym same_tree) fit.tree.seen;
       dated = subst (IsDatedBy net) (sym same_tree) fit.tree.dated;
     };
     events = λ i row at. subst (λ (k : State). IsLive (forest_of k) row.value.trigger) (sym same_tree) (fit.events i row (was i row at));

@@ -23,7 +23,7 @@ use Rattle.dist_net.specs.Net.{Net}
 use Rattle.row_links.specs.Lists.{IsOn, AreOnce}
 use Rattle.row_links.proofs.Lists.{IsOn-first, IsOn-rest}
 use Rattle.spots.specs.Forest.{Forest, member, IsLive, moment_at}
-use Rattle.spots.specs.Seen.{IsSeen, class_for}
+use Rattle.spots.specs.OfLists.{IsForestOf, class_for}
 use Rattle.spots.proofs.Nodes.{live_at, moment_at-is}
 use Rattle.spots.proofs.Seen.{occurs_at}
 use Rattle.supports.proofs.OnKinds.{rules_of_event}
@@ -155,7 +155,7 @@ one_added p q e = cc
 
 -- of b, which is kept of the list before, what is left in e is there in m
 module _ (old : Standing) (edit : Edit) (before net : Net) (b e m : BeliefNet) (p : Premise) (added : edit ≡ Add p) (sound_old : IsSound old) (sound_new : IsSound (next_list old edit))
-    (current : IsCurrent old before (forest b.tree) (rows_of b)) (thins : Thins b e) (cleared : IsCleared old (next_list old edit) b e) (seen : IsSeen (next_list old edit) net (forest e.tree))
+    (current : IsCurrent old before (forest b.tree) (rows_of b)) (thins : Thins b e) (cleared : IsCleared old (next_list old edit) b e) (seen : IsForestOf (next_list old edit) net (forest e.tree))
     (nodes : forest m.tree ≡ forest e.tree) (rows : m.decisions.rows ≡ e.decisions.rows) (names : m.decisions.rules ≡ e.decisions.rules) where
   abbrev new : Standing
   new = next_list old edit

@@ -1,11 +1,11 @@
 pub mod Queued
-pub mod Four
 pub mod Marked
 pub mod Spared
 pub mod Named
 pub mod Entered
 pub mod Dropped
 pub mod OnKinds
+pub mod Judged
 pub mod Turned
 pub mod Moved
 pub mod Brought

@@ -16,7 +16,7 @@ use Rattle.occ_tree.proofs.Numbered.{place_stays}
 use Rattle.joined.specs.Listed.{IsListedUnder}
 use Rattle.joined.specs.Marking.{Mark}
 use Rattle.belief_net.specs.declared.state.Decisions.{Decisions}
-use Rattle.belief_net.specs.Decided.{table_of, AreUnder, DropsRows, KeepsLast}
+use Rattle.belief_net.specs.Decided.{table_of, AreUnder, KeepsLast}
 use Rattle.belief_net.specs.Entering.{class_at}
 use Rattle.belief_net.specs.Leaving.{MarksNode, a_token, an_event, LosesNode, IsMarkOn, AreMarksOn, IsMarkedFor, IsLost, IsLeft, LosesRows}
 use Rattle.belief_net.specs.Marks.{HaveEvents, WaitsAt}
@@ -233,10 +233,3 @@ module _ (net : Net) (tree : Kept) (going gone : List ℕ) (old new : Decisions)
     classes = λ i row at. under_more s old.rules new.rules old.classes new.classes row last.rules last.classes (under.named i row (left_row i row at)) (under.classes i row (left_row i row at));
     named = λ i row at. subst (λ names. row.value.rule < length names) (sym l.rules) (under.named i row (left_row i row at));
   }
-
--- the rows at a node that are dropped
-pub dropped_events : (tree : Kept) (y : ℕ) (old new : Decisions) → DropsRows y old new → HaveEvents tree (table_of old) → HaveEvents tree (table_of new)
-dropped_events tree y old new d events i row at = elim (d.each i) [
-  | inl same ↦ events i row (sym same.row ∙ at)
-  | inr dropped ↦ absurd (none_some ((table_of new).row i) row dropped.gone at)
-]

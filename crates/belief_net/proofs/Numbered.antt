@@ -16,7 +16,7 @@ use Rattle.list_theory.proofs.KnownNames.{found}
 use Rattle.belief_theory.specs.Right.{Occurs}
 use Rattle.dist_net.specs.Net.{Net}
 use Rattle.spots.specs.Forest.{Forest, Member, member, IsLive, moment, moment_at, IsOnce, Enters}
-use Rattle.spots.specs.Seen.{IsSeen, Holds}
+use Rattle.spots.specs.OfLists.{IsForestOf, HasOccurrences}
 use Rattle.spots.proofs.Nodes.{node_at, live_at, moment_at-is, base-moment}
 use Rattle.occ_tree.specs.Places.{forest}
 use Rattle.occ_tree.specs.Standing.{Kept, State, present, committed, forest as forest_of}
@@ -138,7 +138,7 @@ module _ (s : Standing) (b e : BeliefNet) (all : Departed) (at_commit : committe
 -- ---- where nodes are those of the list after
 
 module _ (s old : Standing) (net : Net) (tree : Kept) (told : Told) (h : AreNumbered s tree (left_under told.left.items))
-    (seen : IsSeen s net (forest tree)) (holds : Holds (built s).believed (forest tree)) (tells : TellsAll old s (ins told) (outs told)) where
+    (seen : IsForestOf s net (forest tree)) (holds : HasOccurrences (built s).believed (forest tree)) (tells : TellsAll old s (ins told) (outs told)) where
   -- what is told under a number is among what left
   among_left : (x : ℕ) (k : Moment) → In (x, k) (left_under told.left.items) → In k (outs told)
   among_left x k at =

@@ -1,9 +1,9 @@
 -- Rows that are let wait by their events, one rule after the other.
-use Rattle.std.proofs.Common.{◌≡◌, ◌∙◌, ℕ, true, false, ◌+◌, ◌<◌, List, [], ◌∷◌, ◌++◌, Option, Some, None, sym, ap, subst, inl, inr, arith, ◌⊎◌, ◌||◌, eqb, eqb-true}
+use Rattle.std.proofs.Common.{◌≡◌, ◌∙◌, ℕ, true, false, ◌+◌, ◌<◌, List, [], ◌∷◌, ◌++◌, Option, Some, sym, ap, subst, inl, inr, arith, ◌⊎◌, ◌||◌, eqb, eqb-true}
 use Rattle.std.specs.Prelude.{◌↔◌}
 use Rattle.std.proofs.lemmas.Bool.{cases_order, cases_Bool}
 use Rattle.std.specs.Option.{option_map_or}
-use Rattle.row_links.specs.Lists.{IsOn, first_or}
+use Rattle.row_links.specs.Lists.{IsOn}
 use Rattle.row_links.proofs.Lists.{IsOn-first, IsOn-append_left, IsOn-append_right, IsOn-append_cases}
 use Rattle.undo_rows.specs.declared.row.Row.{Row as TableRow}
 use Rattle.undo_rows.specs.Tables.{Table, AreListed}
@@ -70,9 +70,6 @@ module _ (s : State) (t : Table Pair 8) (events : Events) where
 abbrev pub OfFirst : (TableRow Pair 8 → Type 0) → ℕ → ℕ → TableRow Pair 8 → Type 0
 OfFirst P n i row = (row.value.rule < n) × P row
 
-pub rules_none : (s : State) (t : Table Pair 8) (P : TableRow Pair 8 → Type 0) (dates : Dates) → Marks s t (OfFirst P 0) dates dates
-rules_none s t P dates = marks_none s t (OfFirst P 0) dates (λ i row of. (let less = of.0 in omega (arith, less)))
-
 module _ (list : Standing) (d : Decisions) (under : AreUnder list d) (listed : AreListed (table_of d)) where
   pub on_rule : (i n : ℕ) (row : TableRow Pair 8) → (table_of d).row i ≡ Some row → IsOn ((table_of d).list 1 n) i ↔ (row.value.rule ≡ n)
   on_rule i n row at = let u = under.classes i row at in (pairs_listed d.rows i n row (classes_in u.classes) listed at u.heads).1
@@ -99,24 +96,3 @@ module _ (list : Standing) (d : Decisions) (under : AreUnder list d) (listed : A
         | inl same ↦ inr (same, p)
         | inr other ↦ elim other [ inl below ↦ inl (below, p) | inr above ↦ absurd (omega (arith, less, above)) ]
       ]
-
-  -- no row is of the rule
-  pub rules_skip : (s : State) (P : TableRow Pair 8 → Type 0) (n : ℕ) (old new : Dates) → first_or None ((table_of d).list 1 n) ≡ None
-      → Marks s (table_of d) (OfFirst P n) old new → Marks s (table_of d) (OfFirst P (n + 1)) old new
-  rules_skip s P n old new none = marks_alike s (table_of d) (OfFirst P n) (OfFirst P (n + 1)) old new
-      (λ i row at. ((λ of. (let less = of.0 in (omega (arith, less), of.1))), λ of. (before i row at of.0, of.1)))
-    where
-      nothing : (l : List ℕ) → first_or None l ≡ None → (i : ℕ) → IsOn l i → ⊥
-      nothing [] is i on = (let no : false ≡ true = on in cc)
-      nothing (x ∷ l) is i on = (let no : Some x ≡ None = is in cc)
-
-      before : (i : ℕ) (row : TableRow Pair 8) → (table_of d).row i ≡ Some row → row.value.rule < n + 1 → row.value.rule < n
-      before i row at less = elim (cases_order row.value.rule n) [
-        | inl same ↦ absurd (nothing ((table_of d).list 1 n) none i ((on_rule i n row at).1 same))
-        | inr other ↦ elim other [ inl below ↦ below | inr above ↦ absurd (omega (arith, less, above)) ]
-      ]
-
-  -- after the last one, all rows were looked at
-  pub rules_all : (s : State) (P : TableRow Pair 8 → Type 0) (n : ℕ) (old new : Dates) → ((i : ℕ) (row : TableRow Pair 8) → (table_of d).row i ≡ Some row → row.value.rule < n)
-      → Marks s (table_of d) (OfFirst P n) old new → Marks s (table_of d) (λ i row. P row) old new
-  rules_all s P n old new below marks = marks_alike s (table_of d) (OfFirst P n) (λ i row. P row) old new (λ i row at. ((λ of. of.1), λ p. (below i row at, p))) marks

@@ -25,7 +25,7 @@ use Rattle.dist_net.specs.Net.{Nets}
 use Rattle.list_net.specs.Fits.{IsNetOf}
 use Rattle.list_net.specs.Network.{PointsKeepNumbers}
 use Rattle.spots.specs.Forest.{Forest, member, moment, moment_at, IsLive, IsNoRoot}
-use Rattle.spots.specs.Seen.{IsSeen, HasList, Holds}
+use Rattle.spots.specs.OfLists.{IsForestOf, HasList, HasOccurrences}
 use Rattle.spots.specs.Spots.{links_low}
 use Rattle.spots.proofs.InUse.{begin_in_use}
 use Rattle.spots.proofs.Nodes.{live_at, base-moment}
@@ -114,7 +114,7 @@ module _ (old : Standing) (edit : Edit) (nets : Nets) (names : List (List ℕ)) 
   is_cleared : IsCleared old (next_list old edit) b e
   is_cleared = cleared old edit nets.committed b e all names sound_new h.kept.fit h.kept.current h.left_out h.sheds h.spares h.free
 
-  is_seen : IsSeen (next_list old edit) nets.present (forest e.tree)
+  is_seen : IsForestOf (next_list old edit) nets.present (forest e.tree)
   is_seen = seen_after old edit nets.committed b e all names sound_new h.kept.fit h.kept.current h.left_out h.sheds h.spares h.free nets.present h.network h.numbers
 
   left_told : LeaveFirst old (next_list old edit) (moments_of all.left.items)
@@ -140,7 +140,7 @@ module _ (old : Standing) (edit : Edit) (nets : Nets) (names : List (List ℕ)) 
   -- with dates of the new network
   re_dated : (t : Kept) → KeepsNodes e.tree t → IsDatedBy nets.present (present t) → IsFit (next_list old edit) nets.present (record e { tree = t })
   re_dated t keeps dated = record {
-    tree = record { seen = subst (IsSeen (next_list old edit) nets.present) (sym keeps.nodes) is_seen; dated = dated };
+    tree = record { seen = subst (IsForestOf (next_list old edit) nets.present) (sym keeps.nodes) is_seen; dated = dated };
     events = λ i row at. subst (λ (f : Forest). IsLive f row.value.trigger) (sym keeps.nodes) (h.sheds.thins.events i row at);
     under = is_cleared.under;
     dated = λ i date at. absurd (none_some date (sym (none_waits i) ∙ at));
@@ -318,12 +318,12 @@ module _ (old : Standing) (edit : Edit) (nets : Nets) (names : List (List ℕ)) 
       (λ l holds seeds. moved_marked old edit nets.committed nets.present f g (rows_of b) (rows_of n) (rows_of y) sound_before sound_after h.kept.current ready on
       (is_moved nets (name_added edit)) MayRestAt same apart keeps all_wait only_wait l holds seeds)
     where
-      apart : (l : List Moment) (r : List ℕ) (x : ℕ) → Holds l g → IsLive g x → Contains (built old).believed (moment_at g x)
+      apart : (l : List Moment) (r : List ℕ) (x : ℕ) → HasOccurrences l g → IsLive g x → Contains (built old).believed (moment_at g x)
           → ((u : Moment) → Contains l u → watches (next_list old edit) r u ≡ true → Contains (built old).believed u)
           → SameGaps old (next_list old edit) l (moment_at g x) r → MovesAt (is_moved nets (name_added edit)) (next_list old edit) g r x → ⊥
       apart l r x holds live was entered = (moved_rows_are_touched old edit nets g l r x h.kept.fit.tree.seen.network ready.seen h.numbers holds live was entered).0
 
-      keeps : (l : List Moment) (r : List ℕ) (x : ℕ) → Holds l g → IsLive g x → Contains (built old).believed (moment_at g x)
+      keeps : (l : List Moment) (r : List ℕ) (x : ℕ) → HasOccurrences l g → IsLive g x → Contains (built old).believed (moment_at g x)
           → Contains (rules_at old (moment_at g x)) r → Contains (rules_at (next_list old edit) (moment_at g x)) r
           → ((u : Moment) → Contains (built old).believed u → watches old r u ≡ true → Contains l u)
           → ((u : Moment) → Contains l u → watches (next_list old edit) r u ≡ true → Contains (built old).believed u)

@@ -81,24 +81,6 @@ module _ (nets : Nets) (added : Option (List ℕ)) where
     | inr other ↦ absurd (other.1 same)
   ]
 
-  pub not_kept_from : (a b : ℕ) → is_kept nets.present.names added a ≡ false → is_moved nets added a b ≡ false
-  not_kept_from a b none =
-      ap (λ v. not (a == b) && (v && (is_kept nets.present.names added b && not (same_bound (net_far nets.committed a b) (net_far nets.present a b))))) none ∙ and_false (not (a == b))
-    where
-      and_false : (v : Bool) → (v && false) ≡ false
-      and_false true = refl
-      and_false false = refl
-
-  pub not_kept_to : (a b : ℕ) → is_kept nets.present.names added b ≡ false → is_moved nets added a b ≡ false
-  not_kept_to a b none =
-      ap (λ v. not (a == b) && (is_kept nets.present.names added a && (v && not (same_bound (net_far nets.committed a b) (net_far nets.present a b))))) none
-      ∙ by (not (a == b)) (is_kept nets.present.names added a)
-    where
-      by : (v w : Bool) → (v && (w && false)) ≡ false
-      by true true = refl
-      by true false = refl
-      by false w = refl
-
   pub moved_by_far : (a b : ℕ) → a ≢ b → is_kept nets.present.names added a ≡ true → is_kept nets.present.names added b ≡ true
       → is_moved nets added a b ≡ not (same_bound (net_far nets.committed a b) (net_far nets.present a b))
   moved_by_far a b other from to = elim (eqb_tells a b) [
@@ -126,10 +108,6 @@ bound_itself : (x : Bound) → same_bound x x ≡ true
 bound_itself (Finite x) = (Decides-int_eq x x).1 refl
 bound_itself Free = refl
 
--- the test of two bounds is as the definition has it
-pub same_bound_by : (x y : Bound) (v : Bool) → ((v ≡ true) → x ≡ y) → (x ≡ y → v ≡ true) → v ≡ same_bound x y
-same_bound_by x y v to from = both_ways v (same_bound x y) (λ h. subst (λ z. same_bound x z ≡ true) (to h) (bound_itself x)) (λ h. from (same_bound_is x y h))
-
 pub bounds_differ : (x y : Bound) → same_bound x y ≡ false → x ≢ y
 bounds_differ x y differ same = let both : true ≡ false = sym (bound_itself x) ∙ ap (same_bound x) same ∙ differ in cc
 
@@ -142,22 +120,6 @@ OfPoint p n a b = ((a ≡ p) × (b < n)) ⊎ ((b ≡ p) × (a < n))
 module _ (nets : Nets) (added : Option (List ℕ)) (p : ℕ) where
   pub point_none : (s : List Bool) → PutsPairs nets added (OfPoint p 0) s s
   point_none s = pairs_none nets added (OfPoint p 0) s (λ a b la lb of moved. elim of [ inl first ↦ (let no = first.1 in omega (arith, no)) | inr second ↦ (let no = second.1 in omega (arith, no)) ])
-
-  pub point_next : (n : ℕ) (old mid then_ new : List Bool) → PutsPairs nets added (OfPoint p n) old mid → PutsPairs nets added (λ c d. (c ≡ p) × (d ≡ n)) mid then_
-      → PutsPairs nets added (λ c d. (c ≡ n) × (d ≡ p)) then_ new → PutsPairs nets added (OfPoint p (n + 1)) old new
-  point_next n old mid then_ new first second third =
-      pairs_both nets added (λ c d. OfPoint p n c d ⊎ ((c ≡ p) × (d ≡ n))) (λ c d. (c ≡ n) × (d ≡ p)) (OfPoint p (n + 1)) old then_ new apart
-      (pairs_both nets added (OfPoint p n) (λ c d. (c ≡ p) × (d ≡ n)) (λ c d. OfPoint p n c d ⊎ ((c ≡ p) × (d ≡ n))) old mid then_ (λ c d lc ld h. h) first second) third
-    where
-      by_place : (k : ℕ) → k < n + 1 → (k < n) ⊎ (k ≡ n)
-      by_place k less = elim (cases_order k n) [
-        | inl same ↦ inr same
-        | inr other ↦ elim other [ inl below ↦ inl below | inr above ↦ absurd (omega (arith, less, above)) ]
-      ]
-
-      apart : (c d : ℕ) → c < 256 → d < 256 → OfPoint p (n + 1) c d → (OfPoint p n c d ⊎ ((c ≡ p) × (d ≡ n))) ⊎ ((c ≡ n) × (d ≡ p))
-      apart c d lc ld (inl (is, less)) = elim (by_place d less) [ inl below ↦ inl (inl (inl (is, below))) | inr same ↦ inl (inr (is, same)) ]
-      apart c d lc ld (inr (is, less)) = elim (by_place c less) [ inl below ↦ inl (inl (inr (is, below))) | inr same ↦ inr (same, is) ]
 
   pub point_all : (n : ℕ) (old new : List Bool) → n ≡ 256 → PutsPairs nets added (OfPoint p n) old new → PutsPairs nets added (λ a b. (a ≡ p) ⊎ (b ≡ p)) old new
   point_all n old new whole puts = record {

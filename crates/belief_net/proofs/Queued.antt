@@ -1,7 +1,6 @@
 -- Rows that wait, and the entries of a queue.
-use Rattle.std.proofs.Common.{◌≡◌, ◌≢◌, ℕ, ◌<◌, ◌≤◌, List, [], ◌∷◌, length, Option, Some, None, slice_set, get_or-set_same, get_or-set_other, true, false, refl, sym, ap, subst, ◌∙◌, inl, inr}
+use Rattle.std.proofs.Common.{◌≡◌, ◌≢◌, ℕ, ◌<◌, ◌≤◌, List, ◌∷◌, length, Option, Some, None, slice_set, get_or-set_same, get_or-set_other, true, false, refl, sym, ap, subst, ◌∙◌, inl, inr}
 use Rattle.std.proofs.lemmas.Bool.{cases_eq}
-use Rattle.std.proofs.lemmas.List.{get_or_past}
 use Rattle.std.proofs.lemmas.Bool.Decides.{Decides-int_eq}
 use Rattle.std.specs.Int.Signed.{≤ℤ_refl}
 use Rattle.std.specs.Option.{option_eq}
@@ -24,9 +23,6 @@ dates_set dates i date within = record {
   at = get_or-set_same dates i date None within;
   others = λ j other. get_or-set_other dates i j date None other;
 }
-
-pub dates_past : (dates : List (Option ℤ)) (i : ℕ) → length dates ≤ i → Puts (dates_in dates) (dates_in dates) i None
-dates_past dates i past = record { at = get_or_past dates i None past; others = λ j other. refl }
 
 -- ---- the queue
 
@@ -61,13 +57,6 @@ queued_less old new entries rest e queued moved puts i date at = by (cases_eq i 
         found o row early (inl is) = absurd (other (sym row ∙ ap (λ y. y.row) (sym is)))
         found o row early (inr there) = (o, there, row, early)
 
-pub queued_fewer : (old new : Dates) (entries : List Entry) (i : ℕ) → AreQueued old entries → Puts old new i None → AreQueued new entries
-queued_fewer old new entries i queued puts j date at = by (cases_eq j i)
-  where
-    by : ((j ≡ i) ⊎ (j ≢ i)) → (o : Entry) × In o entries × (o.row ≡ j) × (o.early.0 ≡ date)
-    by (inl is) = absurd (let none : Some date ≡ None = sym at ∙ ap new is ∙ puts.at in cc)
-    by (inr other) = queued j date (sym (puts.others j other) ∙ at)
-
 -- the first entry whose row waits for its date is of a row that waits first
 pub first_taken : (old new : Dates) (entries rest : List Entry) (e : Entry) → AreQueued old entries → IsPermutation entries (e ∷ rest)
     → All (λ o. e.early.0 ≤ℤ o.early.0) rest → old e.row ≡ Some e.early.0 → Puts old new e.row None → Takes old new e.row e.early.0
@@ -82,13 +71,6 @@ first_taken old new entries rest e queued moved least waited puts = record { wai
         by : (o : Entry) → o.early.0 ≡ other → In o (e ∷ rest) → e.early.0 ≤ℤ other
         by o early (inl is) = subst (λ z. e.early.0 ≤ℤ z) (ap (λ y. y.early.0) is ∙ early) (≤ℤ_refl e.early.0)
         by o early (inr there) = subst (λ z. e.early.0 ≤ℤ z) early (at_most rest least o there)
-
-pub none_queued : (dates : Dates) → AreQueued dates [] → (i : ℕ) → dates i ≡ None
-none_queued dates queued i = by (dates i) (λ date at. queued i date at)
-  where
-    by : (o : Option ℤ) → ((date : ℤ) → o ≡ Some date → (e : Entry) × In e [] × (e.row ≡ i) × (e.early.0 ≡ date)) → o ≡ None
-    by None some = refl
-    by (Some date) some = let (e, there, row, early) = some date refl in absurd there
 
 -- ---- dates that are compared
 

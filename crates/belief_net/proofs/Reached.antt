@@ -18,19 +18,18 @@ use Rattle.list_net.specs.Represents.{IsNumberOf}
 use Rattle.spots.specs.declared.spot.Spot.{Spot}
 use Rattle.spots.specs.declared.spot.Spot.TheVariants.{Declared, Node}
 use Rattle.spots.specs.Forest.{Forest, Member, member}
-use Rattle.spots.specs.Seen.{IsSeen}
+use Rattle.spots.specs.OfLists.{IsForestOf}
 use Rattle.spots.specs.Spots.{base_of, links_of, links_high, AreTokens}
 use Rattle.spots.proofs.Rows.{IsRowOf, member_of_token}
-use Rattle.spots.proofs.Nodes.{live_at}
 use Rattle.joined.specs.Gaps.{IsClassSpot, begin, an_end}
 use Rattle.joined.specs.Shifting.{IsSpotOf}
 use Rattle.belief_net.specs.declared.reach.Reach.{Reach}
 use Rattle.belief_net.specs.PointSets.{is_in, PutsIn, AreThose}
-use Rattle.belief_net.specs.Reach.{IsBaseOf, IsBoundedBaseOf, Notes, HasPlaces, AreBelow256, IsSpotBelow256}
+use Rattle.belief_net.specs.Reach.{IsBaseOf, IsBoundedBaseOf, Notes, HasPlaces, AreBelow256}
 use Rattle.belief_net.proofs.Sets.{puts_none, puts_both, puts_alike, puts_into_none}
 
 -- numbers of points are below 256 where so many have a place
-pub numbers_below : (s : Standing) (net : Net) (f : Forest) → IsSeen s net f → length net.names ≡ 256 → AreBelow256 f
+pub numbers_below : (s : Standing) (net : Net) (f : Forest) → IsForestOf s net f → length net.names ≡ 256 → AreBelow256 f
 numbers_below s net f seen places = record { begin = λ x m at. in_place m.begin (Begin m.root) (seen.members x m at).begin; «end» = λ x m e at ends. by m.shape m.root m.end (seen.members x m at).end e ends }
   where
     in_place : (n : ℕ) (p : PointName) → IsNumberOf net.names n p → n < 256
@@ -71,9 +70,6 @@ module _ (f : Forest) where
         (λ p (s, at, is, most, in_time). (s, from_s s at, is, most, in_time)) (λ p (s, at, is, most, in_time). (s, from_t s at, is, most, in_time)) first.bounded then_.bounded;
   }
 
-  pub notes_places : (S : Spot → Type 0) (old new : Reach) → Notes f S old new → HasPlaces old → HasPlaces new
-  notes_places S old new notes has = record { all = notes.all.places ∙ has.all; bounded = notes.bounded.places ∙ has.bounded }
-
   -- a spot by its point, and the time that rules take from there
   pub notes_spot : (spot : Spot) (point : ℕ) (most : Bound) (old new : Reach) → base_of f spot ≡ point → links_high (links_of f spot) ≡ most
       → PutsIn (λ p. p ≡ point) old.all.items new.all.items → PutsIn (λ p. (p ≡ point) × (x : ℤ) × (most ≡ Finite x)) old.bounded.items new.bounded.items
@@ -87,16 +83,6 @@ module _ (f : Forest) where
   }
 
   -- ---- tokens of a class
-
-  pub spot_below : (below : AreBelow256 f) (row : TokenRow Spot) (x : ℕ) (m : Member) → IsRowOf f row x m → IsSpotBelow256 f row.spot
-  spot_below below row x m is = subst (IsSpotBelow256 f) (sym is.spot) (live_at f x m is.here)
-
-  pub end_below : (below : AreBelow256 f) (row : TokenRow Spot) (x : ℕ) (m : Member) → IsRowOf f row x m → (e : Spot) → row.end ≡ Some e → IsSpotBelow256 f e
-  end_below below row x m is e ends = by m.end refl (sym is.end ∙ ends)
-    where
-      by : (o : Option ℕ) → m.end ≡ o → option_map Declared o ≡ Some e → IsSpotBelow256 f e
-      by None at same = cc
-      by (Some k) at same = let one : Declared k ≡ e = cc in subst (IsSpotBelow256 f) one (below.end x m k is.here at)
 
   -- the spots of the first n rows
   abbrev pub OfFirstRows : List (TokenRow Spot) → ℕ → Spot → Type 0

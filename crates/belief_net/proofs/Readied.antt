@@ -15,7 +15,7 @@ use Rattle.belief_theory.specs.Outcomes.{outcome}
 use Rattle.belief_theory.specs.Right.{Occurs}
 use Rattle.dist_net.specs.Net.{Net}
 use Rattle.spots.specs.Forest.{Forest, Member, member, moment, moment_at, IsLive}
-use Rattle.spots.specs.Seen.{Holds}
+use Rattle.spots.specs.OfLists.{HasOccurrences}
 use Rattle.spots.proofs.Nodes.{node_at, live_at, moment_at-is}
 use Rattle.revisions.specs.Counted.{AreSeeds}
 use Rattle.revisions.specs.Maps.{watches}
@@ -78,7 +78,7 @@ module _ (old : Standing) (edit : Edit) (before net : Net) (f g : Forest) (rows 
   rows_are = begun_rows old (next_list old edit) f g rows after current.rows_are begun
 
   -- a node of an occurrence that is there still is there
-  node_stays : (b : List Moment) → Holds b g → (x : ℕ) (m : Member) → member f x ≡ Some m → Contains b (moment m) → member g x ≡ Some m
+  node_stays : (b : List Moment) → HasOccurrences b g → (x : ℕ) (m : Member) → member f x ≡ Some m → Contains b (moment m) → member g x ≡ Some m
   node_stays b holds x m at among =
       let (z, k, here, is) = holds.all (moment m) among in
       ready.nodes_begin.stay x m at (subst (Occurs (next_list old edit)) is (ready.seen.members z k here).occurs)
@@ -96,10 +96,10 @@ module _ (old : Standing) (edit : Edit) (before net : Net) (f g : Forest) (rows 
   -- where points moved, and what the marks of moved points say of rows: each that waits newly is at
   -- an event for which points moved, and each that does not wait may rest
   module _ (moves : ℕ → ℕ → Bool) (rests : List ℕ → ℕ → Type 0) (same_horizon : old.horizon ≡ (next_list old edit).horizon)
-      (apart : (b : List Moment) (r : List ℕ) (x : ℕ) → Holds b g → IsLive g x → Contains (built old).believed (moment_at g x)
+      (apart : (b : List Moment) (r : List ℕ) (x : ℕ) → HasOccurrences b g → IsLive g x → Contains (built old).believed (moment_at g x)
       → ((y : Moment) → Contains b y → watches (next_list old edit) r y ≡ true → Contains (built old).believed y)
       → SameGaps old (next_list old edit) b (moment_at g x) r → MovesAt moves (next_list old edit) g r x → ⊥)
-      (keeps : (b : List Moment) (r : List ℕ) (x : ℕ) → Holds b g → IsLive g x → Contains (built old).believed (moment_at g x)
+      (keeps : (b : List Moment) (r : List ℕ) (x : ℕ) → HasOccurrences b g → IsLive g x → Contains (built old).believed (moment_at g x)
       → Contains (rules_at old (moment_at g x)) r → Contains (rules_at (next_list old edit) (moment_at g x)) r
       → ((y : Moment) → Contains (built old).believed y → watches old r y ≡ true → Contains b y)
       → ((y : Moment) → Contains b y → watches (next_list old edit) r y ≡ true → Contains (built old).believed y)
@@ -107,7 +107,7 @@ module _ (old : Standing) (edit : Edit) (before net : Net) (f g : Forest) (rows 
       → outcome old (far_in old.premises) (built old).believed (moment_at g x) r ≡ outcome (next_list old edit) (far_in (next_list old edit).premises) b (moment_at g x) r)
       (all : (i : ℕ) (q : Row) → after i ≡ Some q → (q.waits ≡ true) ⊎ rests q.rule q.trigger)
       (only : (i : ℕ) (o q : Row) → mid i ≡ Some o → after i ≡ Some q → q.waits ≡ true → (o.waits ≡ true) ⊎ MovesAt moves (next_list old edit) g q.rule q.trigger)
-      (b : List Moment) (holds : Holds b g) where
+      (b : List Moment) (holds : HasOccurrences b g) where
     -- a row that does not wait keeps its outcome
     module _ (i : ℕ) (q : Row) (at : after i ≡ Some q) (still : q.waits ≡ false) where
       true_false : {P : Type 0} → true ≡ false → P
@@ -227,7 +227,7 @@ module _ (old : Standing) (edit : Edit) (before net : Net) (f g : Forest) (rows 
         (λ i q at. waits_or_keeps i q at q.waits refl)
         (λ i q at waits u. wait_touched i q at waits u)
 
-  pub prepared_on : ((b : List Moment) → Holds b g → AreSeeds old (next_list old edit) b → AreMarked old (next_list old edit) b g after)
+  pub prepared_on : ((b : List Moment) → HasOccurrences b g → AreSeeds old (next_list old edit) b → AreMarked old (next_list old edit) b g after)
       → IsPrepared old (next_list old edit) net f g rows after
   prepared_on marked = record { seen = ready.seen; nodes_begin = ready.nodes_begin; rows_begin = begun; marked = marked }
 
@@ -238,7 +238,7 @@ module _ (old : Standing) (n : ℕ) (before net : Net) (f g : Forest) (rows mid 
     (all : (i : ℕ) (q : Row) → after i ≡ Some q → q.waits ≡ false
     → int_le (due old (far_in old.premises) (moment_at g q.trigger) q.rule) (pos old.horizon) ≡ int_le (due old (far_in old.premises) (moment_at g q.trigger) q.rule) (pos n))
     (only : (i : ℕ) (o q : Row) → mid i ≡ Some o → after i ≡ Some q → q.waits ≡ true → (o.waits ≡ true) ⊎ (old.horizon ≢ n))
-    (b : List Moment) (holds : Holds b g) (seeds : AreSeeds old (list_until old n) b) where
+    (b : List Moment) (holds : HasOccurrences b g) (seeds : AreSeeds old (list_until old n) b) where
   began : RowsBegin (list_until old n) g rows after
   began = rows_on (list_until old n) g rows mid after ready.rows_begin on
 

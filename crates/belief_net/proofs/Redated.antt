@@ -1,17 +1,16 @@
 -- Roots that get the dates of their points, one after the other.
-use Rattle.std.proofs.Common.{◌≡◌, ◌∙◌, ℕ, ℤ, List, [], ◌∷◌, Option, Some, None, refl, sym, ap, subst, inl, inr}
-use Rattle.std.specs.Prelude.{false, true}
+use Rattle.std.proofs.Common.{◌≡◌, ◌∙◌, ℕ, ℤ, [], ◌∷◌, Option, Some, None, refl, sym, ap, subst, inl, inr}
 use Rattle.std.specs.List.{Contains}
 use Rattle.row_links.specs.Lists.{IsOn, first_or, row_after}
 use Rattle.tmm_model.specs.Moments.{negated}
 use Rattle.dist_net.specs.Net.{Net, Nets, IsMovedAt, IsInUse}
 use Rattle.list_theory.proofs.Elements.{In-from_Contains}
-use Rattle.spots.specs.Forest.{Member, member, IsLive}
-use Rattle.spots.specs.Seen.{HasList}
+use Rattle.spots.specs.Forest.{Member, member}
+use Rattle.spots.specs.OfLists.{HasList}
 use Rattle.spots.proofs.InUse.{begin_in_use, zero_in_use}
 use Rattle.occ_tree.specs.Dated.{IsDatedBut, DatesFollow, HaveRoots, point_early}
 use Rattle.occ_tree.specs.Edits.{ReDates, Stays}
-use Rattle.occ_tree.specs.Standing.{Kept, State, present, forest, early, below}
+use Rattle.occ_tree.specs.Standing.{Kept, present, forest, early, below}
 use Rattle.occ_tree.specs.Places.{forest as nodes_of}
 use Rattle.occ_tree.proofs.KeptDates.{all_may_differ, moves_keep_dates, right_roots_stay}
 use Rattle.occ_tree.proofs.Walked.{from_on, from_first, from_next, first_is_on, next_is_on}
@@ -36,14 +35,6 @@ moved_first net old new x m date list at root is moved roots but = moves_keep_da
 pub right_first : (net : Net) (k : Kept) (x : ℕ) (m : Member) → HasList net (nodes_of k) → member (nodes_of k) x ≡ Some m → m.links ≡ []
     → early (present k) x ≡ point_early net m.begin → DatesFirst net x k k
 right_first net k x m list at root is roots but = right_roots_stay net (present k) x m roots at root is list but
-
--- no roots, no nodes
-pub none_follow : (s : State) → HaveRoots s → first_or None (below s None) ≡ None → (x : ℕ) → IsLive (forest s) x → ⊥
-none_follow s have none x live = let (r, on, under) = have.above x live in empty (below s None) none r on
-  where
-    empty : (l : List ℕ) → first_or None l ≡ None → (i : ℕ) → IsOn l i → ⊥
-    empty [] none i on = (let no : false ≡ true = on in cc)
-    empty (x ∷ l) none i on = (let no : Some x ≡ None = none in cc)
 
 no_member : (p : ℕ) → Contains [] p → ⊥
 no_member p on = In-from_Contains [] p on

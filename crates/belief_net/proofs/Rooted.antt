@@ -8,7 +8,7 @@ use Rattle.tmm_model.specs.Moments.{Moment, base}
 use Rattle.tmm_model.specs.Standing.{Standing, name_of}
 use Rattle.dist_net.specs.Net.{Net}
 use Rattle.spots.specs.Forest.{Member, member, IsLive, moment, IsNoRoot}
-use Rattle.spots.specs.Seen.{IsSeen, HasList}
+use Rattle.spots.specs.OfLists.{IsForestOf, HasList}
 use Rattle.spots.proofs.Nodes.{node_at, live_at, base-moment}
 use Rattle.supports.specs.Growing.{Adds, AddsRoot}
 use Rattle.supports.proofs.Grown.{adds_seen, node_kept, root_name, root_added, root_skipped}
@@ -50,7 +50,7 @@ module _ (s : Standing) (net : Net) (p : Premise) (b : BeliefNet) (t : Kept) (fi
         let named : m.root ≡ name_of p = cc in
         unused y m at named
 
-    seen : IsSeen s net (forest t)
+    seen : IsForestOf s net (forest t)
     seen = adds_seen s net (forest b.tree) (forest t) x entered.0 entered.2 apart fit.tree.seen
 
     dates : (y : ℕ) → IsLive (forest b.tree) y → early (present t) y ≡ early (present b.tree) y

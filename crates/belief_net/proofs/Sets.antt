@@ -1,8 +1,7 @@
 -- Sets of points into which numbers are put.
-use Rattle.std.proofs.Common.{◌≡◌, ◌∙◌, ℕ, Bool, true, false, ◌+◌, ◌<◌, ◌≤◌, List, length, get_or, set, replicate, refl, sym, ap, subst, inl, inr, ◌⊎◌, arith}
+use Rattle.std.proofs.Common.{◌≡◌, ◌∙◌, ℕ, Bool, true, false, ◌+◌, ◌<◌, ◌≤◌, List, length, get_or, replicate, refl, sym, ap, subst, inl, inr, ◌⊎◌, arith}
 use Rattle.std.proofs.lemmas.Bool.{cases_order}
-use Rattle.std.proofs.lemmas.Bool.Decides.{eqb_tells}
-use Rattle.std.proofs.lemmas.List.{get_or-set_same, get_or-set_other, get_or-replicate, get_or_default, get_or_past, length-set, length-replicate}
+use Rattle.std.proofs.lemmas.List.{get_or-replicate, get_or_default, get_or_past, length-replicate}
 use Rattle.std.specs.Prelude.{◌↔◌}
 use Rattle.std.specs.List.{All, Contains}
 use Rattle.belief_net.specs.PointSets.{is_in, PutsIn, AreThose}
@@ -29,18 +28,6 @@ puts_both P Q R old mid new apart from_p from_q first then_ = record {
   all = λ p r. elim (apart p r) [ inl here ↦ then_.kept p (first.all p here) | inr here ↦ then_.all p here ];
   places = then_.places ∙ first.places;
 }
-
-pub puts_one : (s : List Bool) (q : ℕ) → q < length s → PutsIn (λ p. p ≡ q) s (set s q true)
-puts_one s q less = record { own = own; kept = kept; all = all; places = length-set s q true }
-  where
-    own : (p : ℕ) → is_in (set s q true) p ≡ true → (is_in s p ≡ true) ⊎ (p ≡ q)
-    own p is = elim (eqb_tells p q) [ inl same ↦ inr same.1 | inr other ↦ inl (sym (get_or-set_other s q p true false other.1) ∙ is) ]
-
-    all : (p : ℕ) → p ≡ q → is_in (set s q true) p ≡ true
-    all p same = subst (λ k. is_in (set s q true) k ≡ true) (sym same) (get_or-set_same s q true false less)
-
-    kept : (p : ℕ) → is_in s p ≡ true → is_in (set s q true) p ≡ true
-    kept p is = elim (eqb_tells p q) [ inl same ↦ all p same.1 | inr other ↦ get_or-set_other s q p true false other.1 ∙ is ]
 
 -- one number after the other
 pub puts_next : (F : ℕ → Type 0) (n : ℕ) (old mid new : List Bool) → PutsIn (λ k. (k < n) × F k) old mid → PutsIn (λ k. (k ≡ n) × F n) mid new → PutsIn (λ k. (k < n + 1) × F k) old new

@@ -1,5 +1,5 @@
 -- Turns until no row waits.
-use Rattle.std.proofs.Common.{◌≡◌, ◌∙◌, ℕ, ◌≤◌, List, [], ◌∷◌, length, true, false, Some, None, sym, ap, subst}
+use Rattle.std.proofs.Common.{◌≡◌, ◌∙◌, ℕ, ◌≤◌, List, [], ◌∷◌, length, true, false, sym, ap, subst}
 use Rattle.std.specs.Prelude.{is_some}
 use Rattle.tmm_model.specs.declared.premise.Edit.{Edit}
 use Rattle.tmm_model.specs.declared.refusal.Stop.{Stop}
@@ -11,7 +11,6 @@ use Rattle.tmm_model.specs.Standing.{Standing}
 use Rattle.belief_theory.specs.Touched.{touched}
 use Rattle.dist_net.specs.Net.{Net}
 use Rattle.undo_rows.specs.Changes.{present as table}
-use Rattle.occ_tree.specs.OfLists.{IsTreeOf}
 use Rattle.occ_tree.specs.Places.{forest}
 use Rattle.occ_tree.specs.Standing.{Kept}
 use Rattle.projection.specs.Queues.{IsTooLarge}
@@ -23,8 +22,6 @@ use Rattle.joined.proofs.Netted.{current as netted_current, counted as netted_co
 use Rattle.joined.proofs.Telling.{netted_tell}
 use Rattle.belief_net.specs.declared.state.BeliefNet.{BeliefNet}
 use Rattle.belief_net.specs.declared.told.Told.{Told}
-use Rattle.belief_net.specs.Decided.{table_of, AreUnder}
-use Rattle.belief_net.specs.Marks.{HaveEvents}
 use Rattle.belief_net.specs.Numbers.{name_in}
 use Rattle.belief_net.specs.Settling.{counted, IfBegun, IsSoFar, IsCountedIn, IsSettled, StopsFor}
 use Rattle.belief_net.specs.Telling.{ins, outs, IsWeighed}
@@ -80,22 +77,6 @@ stops_for s net a b told_a told before count stop w far stops old edit list begu
 module _ (s : Standing) (net : Net) (b e : BeliefNet) (rests : Rests b e) where
   waits_same : waits_in e.decisions.waiting ≡ waits_in b.decisions.waiting
   waits_same = λ j i. (ap is_some (rests.none_waits i) ∙ sym (ap is_some (rests.none_waited i))) j
-
-  pub fit_rests : IsFit s net b → IsFit s net e
-  fit_rests fit = record {
-    tree = subst (IsTreeOf s net) (sym rests.tree) fit.tree;
-    events = subst (λ (t : Kept). HaveEvents t (table_of e.decisions)) (sym rests.tree) (subst (λ rows. HaveEvents b.tree (table rows)) (sym rests.rows) fit.events);
-    under = all;
-    dated = λ i date at. absurd (let both : None ≡ Some date = sym (rests.none_waits i) ∙ at in cc);
-  }
-    where
-      both_ways : AreUnder s (record e.decisions { rows = b.decisions.rows; rules = b.decisions.rules; classes = b.decisions.classes })
-      both_ways = record { classes = fit.under.classes; named = fit.under.named }
-
-      all : AreUnder s e.decisions
-      all = subst (λ rows. AreUnder s (record e.decisions { rows = rows })) (sym rests.rows)
-          (subst (λ rules. AreUnder s (record e.decisions { rows = b.decisions.rows; rules = rules })) (sym rests.rules)
-          (subst (λ classes. AreUnder s (record e.decisions { rows = b.decisions.rows; rules = b.decisions.rules; classes = classes })) (sym rests.classes) both_ways))
 
   pub underway_rests : (old : Standing) (edit : Edit) (taken : List (Moment × List ℕ)) → IsUnderway old edit net b taken → IsUnderway old edit net e taken
   underway_rests old edit taken k =

@@ -1,7 +1,6 @@
 -- Points that stand fast.
-use Rattle.std.proofs.Common.{◌≡◌, ◌∙◌, ℕ, Bool, true, false, not, ◌+◌, ◌*◌, ◌<◌, List, Option, Some, None, refl, sym, ap, inl, inr, ◌⊎◌, arith}
+use Rattle.std.proofs.Common.{◌≡◌, ◌∙◌, ℕ, Bool, true, false, not, ◌<◌, List, Option, Some, None, refl, sym, ap, inl, inr, ◌⊎◌, arith}
 use Rattle.std.specs.List.{Contains}
-use Rattle.std.specs.Prelude.{◌↔◌}
 use Rattle.std.specs.Option.{option_map_or}
 use Rattle.tmm_model.specs.declared.point.PointName.TheVariants.{Start}
 use Rattle.dist_net.specs.Net.{Nets}
@@ -52,49 +51,6 @@ fast_stand nets added listed pairs kept fast moved one_of both_kept start are = 
     by a b is false out w other = inl (ap not out)
     by a b is true in_a false out = inr (ap not out)
     by a b is true in_a true in_b = absurd (no_pair a b is in_a in_b)
-
--- ---- whether a point stands fast
-
-module _ (listed : List ℕ) (pairs kept : List Bool) (p : ℕ) where
-  -- pairs with `start`, by their places
-  pub to_start : is_in pairs (p * 256) ≡ has_pair pairs p 0
-  to_start = let same : p * 256 ≡ p * 256 + 0 = omega arith in ap (is_in pairs) same
-
-  pub from_start : is_in pairs p ≡ has_pair pairs 0 p
-  from_start = let same : p ≡ 0 * 256 + p = omega arith in ap (is_in pairs) same
-
-  pub not_kept : is_in kept p ≡ false → (false ≡ true) ↔ IsFastBy listed pairs kept p
-  not_kept gone = (λ e. cc, λ h. not_both (is_in kept p) h.0 gone)
-
-  pub kept_start : is_in kept p ≡ true → p ≡ 0 → (true ≡ true) ↔ IsFastBy listed pairs kept p
-  kept_start stays is = (λ e. (stays, inl is), λ h. refl)
-
-  pub paired : (p ≡ 0 → ⊥) → (is_in pairs (p * 256) ≡ true) ⊎ (is_in pairs p ≡ true) → (false ≡ true) ↔ IsFastBy listed pairs kept p
-  paired other pair = (
-    λ e. cc,
-    λ h. elim h.1 [
-      | inl is ↦ absurd (other is)
-      | inr out ↦ elim pair [
-        | inl to ↦ not_both (has_pair pairs p 0) (sym to_start ∙ to) out.0
-        | inr from ↦ not_both (has_pair pairs 0 p) (sym from_start ∙ from) out.1
-      ]
-    ],
-  )
-
-  pub by_list : (v : Bool) → (p ≡ 0 → ⊥) → is_in kept p ≡ true → is_in pairs (p * 256) ≡ false → is_in pairs p ≡ false → (v ≡ true) ↔ Contains listed p
-      → (not v ≡ true) ↔ IsFastBy listed pairs kept p
-  by_list v other stays to from told = (
-    (λ off. (stays, inr (sym to_start ∙ to, sym from_start ∙ from, λ on. by v off (told.1 on)))),
-    λ h. elim h.1 [ inl is ↦ absurd (other is) | inr out ↦ turned v (λ is. out.2 (told.0 is)) ],
-  )
-    where
-      by : (w : Bool) → not w ≡ true → w ≡ true → ⊥
-      by true off on = let no : false ≡ true = off in cc
-      by false off on = cc
-
-      turned : (w : Bool) → (w ≡ true → ⊥) → not w ≡ true
-      turned false off = refl
-      turned true off = absurd (off refl)
 
 -- ---- what moves
 

@@ -283,13 +283,6 @@ module _ (s : Standing) (net : Net) (b c e : BeliefNet) (due : Due) (after : IsA
 
 -- ---- where nothing entered yet
 
-pub none_weighed : (s : Standing) (t : Told) → entered_in t ≡ [] → t.weight ≡ 0 → IsWeighed s t
-none_weighed s t none zero = record {
-  dated = λ m at. absurd (subst (In m) none at);
-  weight = zero ∙ sym (ap (λ l. sum_by (weight (built s)) (moments_of l)) none);
-  small = subst (λ n. n ≤ most_size) (sym zero) (omega arith);
-}
-
 -- what leaves at the beginning is so also the last first
 pub left_first : (old new : Standing) (t : Told) (left : List DatedOcc) → t.left.items ≡ left → LeaveFirst old new (moments_told left) → LeaveFirst old new (outs t)
 left_first old new t left is first = record {

@@ -27,7 +27,7 @@ use Rattle.revisions.specs.Maps.{revision}
 use Rattle.occ_tree.specs.Classes.{place_in}
 use Rattle.joined.specs.Listed.{IsUnderClasses}
 use Rattle.joined.specs.Kept.{IsKeptBy, WaitsNoMore}
-use Rattle.joined.specs.Rows.{Row, as_row, fires_by, outcome_at}
+use Rattle.joined.specs.Rows.{Row, as_row, fires_by, decision_of}
 use Rattle.joined.specs.Turning.{IsDueFirst, IsFound}
 use Rattle.joined.proofs.Kept.{decides_is, kept_on}
 use Rattle.belief_net.specs.declared.deciding.Due.{Due}
@@ -176,12 +176,9 @@ module _ (s : Standing) (net : Net) (b c : BeliefNet) (due : Due) (fit : IsFit s
             (subst (λ z. z ≤ℤ date_of s (far_in s.premises) (moment_at (forest b.tree) q.trigger)) first (subst (λ z. d.date ≤ℤ z) is (d.takes.least i date here)))
 
     pub found_right : IsFound (revision (built old) (built (next_list old edit))) (forest b.tree) (seen_row b due.row d.row) due.found
-    found_right = record {
-      outcome = λ nodes holds.
-          subst (λ l. outcome_at (forest b.tree) due.found ≡ outcome l (far_in l.premises) nodes (moment_at (forest b.tree) d.row.value.trigger) (rule_in b.decisions d.row)) (sym list)
-          (d.right.outcome nodes holds ∙ (λ i. outcome s (far_in s.premises) nodes (moment_at (forest b.tree) (sym d.trigger i)) (sym d.rule i)));
-      live = d.right.live;
-    }
+    found_right nodes holds =
+        subst (λ l. due.found ≡ decision_of (outcome l (far_in l.premises) nodes (moment_at (forest b.tree) d.row.value.trigger) (rule_in b.decisions d.row))) (sym list)
+        (d.right nodes holds ∙ (λ i. decision_of (outcome s (far_in s.premises) nodes (moment_at (forest b.tree) (sym d.trigger i)) (sym d.rule i))))
 
     -- **Where the rule fires as before, nodes and rows stand for the revision still.**
     pub same_kept : fires_by due.found ≡ fires_by due.before → IsUnderway old edit net c ((moment_at (forest b.tree) due.trigger, due.rule) ∷ taken)

@@ -16,7 +16,7 @@ use Rattle.dist_net.specs.Net.{Net}
 use Rattle.row_links.specs.Lists.{IsOn}
 use Rattle.spots.specs.declared.spot.Spot.{Spot}
 use Rattle.spots.specs.Forest.{Forest, Member, member, IsLive, moment, moment_at, Withdraws, IsOnce}
-use Rattle.spots.specs.Seen.{IsSeen, IsMemberOf}
+use Rattle.spots.specs.OfLists.{IsForestOf, IsMemberOf}
 use Rattle.spots.proofs.Nodes.{node_at, live_at, moment_at-is}
 use Rattle.undo_rows.specs.declared.row.Row.{Row as TableRow}
 use Rattle.decision_rows.specs.declared.row.Pair.{Pair}
@@ -110,7 +110,7 @@ module _ (s : Standing) (net : Net) (c e : BeliefNet) (x : ℕ) (m : Member) (nu
   once : IsOnce (forest e.tree)
   once y z n o at_y at_z same = fit.tree.seen.once y z n o (was_node y n at_y) (was_node z o at_z) same
 
-  seen : IsSeen s net (forest e.tree)
+  seen : IsForestOf s net (forest e.tree)
   seen = record { network = fit.tree.seen.network; members = λ y n at. fit.tree.seen.members y n (was_node y n at); once = once }
 
   -- ---- rows

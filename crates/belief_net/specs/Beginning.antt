@@ -7,7 +7,7 @@ use Rattle.tmm_model.specs.Edits.{next_list}
 use Rattle.tmm_model.specs.Standing.{Standing}
 use Rattle.dist_net.specs.Net.{Net}
 use Rattle.spots.specs.Forest.{Forest, Member, member, moment, SameMembers}
-use Rattle.spots.specs.Seen.{IsSeen}
+use Rattle.spots.specs.OfLists.{IsForestOf}
 use Rattle.occ_tree.specs.Places.{forest}
 use Rattle.occ_tree.specs.Standing.{present}
 use Rattle.revisions.specs.Maps.{watches}
@@ -64,7 +64,7 @@ pub record WaitForMoved (old new : Standing) (f g : Forest) (rows after : Rows) 
 
 -- nodes and rows are made ready for the list after, but for marks of what moved
 pub record IsReady (old new : Standing) (net : Net) (f g : Forest) (rows after : Rows) : Type 0 where
-  pub seen : IsSeen new net g
+  pub seen : IsForestOf new net g
   pub nodes_begin : NodesBegin new f g
   pub rows_begin : RowsBegin new g rows after
   pub waits : WaitForMoved old new f g rows after

@@ -12,7 +12,7 @@ use Rattle.dist_net.specs.Net.{Net}
 use Rattle.list_net.specs.Fits.{IsNetOf}
 use Rattle.list_net.specs.Network.{PointsKeepNumbers}
 use Rattle.spots.specs.Forest.{Member, member, IsLive, moment, moment_at}
-use Rattle.spots.specs.Seen.{IsSeen}
+use Rattle.spots.specs.OfLists.{IsForestOf}
 use Rattle.undo_rows.specs.declared.row.Row.{Row as TableRow}
 use Rattle.decision_rows.specs.declared.row.Pair.{Pair}
 use Rattle.occ_tree.specs.Places.{forest}
@@ -37,7 +37,7 @@ pub record IsCleared (old new : Standing) (b e : BeliefNet) : Type 0 where
 
 -- the nodes are seen by the list after, in any network of it in which points keep their numbers
 abbrev pub AreSeenAfter : Standing → Net → BeliefNet → Type 0
-AreSeenAfter new net e = (after : Net) → IsNetOf new after → PointsKeepNumbers (points_in new.premises) net.names after.names → IsSeen new after (forest e.tree)
+AreSeenAfter new net e = (after : Net) → IsNetOf new after → PointsKeepNumbers (points_in new.premises) net.names after.names → IsForestOf new after (forest e.tree)
 
 -- **When the erased premises are gone, exactly what still occurs is left**, with its rows; and what
 -- left is told.

@@ -14,7 +14,7 @@ use Rattle.dist_net.specs.Net.{Net, Nets}
 use Rattle.list_net.specs.Fits.{IsNetOf}
 use Rattle.list_net.specs.Network.{PointsKeepNumbers}
 use Rattle.spots.specs.Forest.{Forest, IsLive, moment_at}
-use Rattle.spots.specs.Seen.{IsSeen, Holds}
+use Rattle.spots.specs.OfLists.{IsForestOf, HasOccurrences}
 use Rattle.occ_tree.specs.OfLists.{IsTreeOf}
 use Rattle.occ_tree.specs.Places.{forest}
 use Rattle.occ_tree.specs.Standing.{Kept, present, early}
@@ -43,9 +43,9 @@ PointsWereThere =
 abbrev pub MovedRowsAreTouched : Type 0
 MovedRowsAreTouched =
     (old : Standing) (edit : Edit) (nets : Nets) (f : Forest) (b : List Moment) (r : List ℕ) (x : ℕ)
-    → IsNetOf old nets.committed → IsSeen (next_list old edit) nets.present f
+    → IsNetOf old nets.committed → IsForestOf (next_list old edit) nets.present f
     → PointsKeepNumbers (points_in (next_list old edit).premises) nets.committed.names nets.present.names
-    → Holds b f → IsLive f x
+    → HasOccurrences b f → IsLive f x
     → Contains (built old).believed (moment_at f x)
     → ((y : Moment) → Contains b y → watches (next_list old edit) r y ≡ true → Contains (built old).believed y)
     → (SameGaps old (next_list old edit) b (moment_at f x) r → MovesAt (is_moved nets (added_by edit)) (next_list old edit) f r x → ⊥)
@@ -56,9 +56,9 @@ MovedRowsAreTouched =
 abbrev pub RestingRowsKeep : Type 0
 RestingRowsKeep =
     (old : Standing) (edit : Edit) (nets : Nets) (loose : ℕ → Bool) (f : Forest) (b : List Moment) (r : List ℕ) (x : ℕ)
-    → IsNetOf old nets.committed → IsSeen (next_list old edit) nets.present f
+    → IsNetOf old nets.committed → IsForestOf (next_list old edit) nets.present f
     → PointsKeepNumbers (points_in (next_list old edit).premises) nets.committed.names nets.present.names
-    → AreLoose (is_moved nets (added_by edit)) loose → Holds b f → IsLive f x
+    → AreLoose (is_moved nets (added_by edit)) loose → HasOccurrences b f → IsLive f x
     → Contains (built old).believed (moment_at f x) → Contains (rules_at old (moment_at f x)) r → Contains (rules_at (next_list old edit) (moment_at f x)) r
     → old.horizon ≡ (next_list old edit).horizon
     → ((y : Moment) → Contains (built old).believed y → watches old r y ≡ true → Contains b y)

@@ -7,7 +7,7 @@ use Rattle.tmm_model.specs.Standing.{Standing, far_in}
 use Rattle.list_theory.proofs.Elements.{In}
 use Rattle.dist_net.specs.Net.{Net}
 use Rattle.spots.specs.Forest.{Forest, Member, IsLive, moment, moment_at}
-use Rattle.spots.specs.Seen.{IsMemberOf}
+use Rattle.spots.specs.OfLists.{IsMemberOf}
 use Rattle.undo_rows.specs.declared.row.Row.{Row as TableRow}
 use Rattle.undo_rows.specs.Tables.{Table, AreListed}
 use Rattle.decision_rows.specs.declared.row.Pair.{Pair}

@@ -7,7 +7,7 @@ use Rattle.tmm_model.specs.Moments.{Moment}
 use Rattle.tmm_model.specs.Standing.{Standing, far_in}
 use Rattle.dist_net.specs.Net.{Net}
 use Rattle.spots.specs.Forest.{moment_at}
-use Rattle.spots.specs.Seen.{Holds}
+use Rattle.spots.specs.OfLists.{HasOccurrences}
 use Rattle.undo_rows.specs.declared.row.Row.{Row as TableRow}
 use Rattle.undo_rows.specs.Changes.{present as table}
 use Rattle.decision_rows.specs.Decisions.{Decides}
@@ -17,7 +17,7 @@ use Rattle.occ_tree.specs.OfLists.{IsTreeOf}
 use Rattle.occ_tree.specs.Places.{forest}
 use Rattle.occ_tree.specs.Standing.{present, early}
 use Rattle.joined.specs.Kept.{IsKeptBy}
-use Rattle.joined.specs.Rows.{Rows, rows_in, outcome_at, AreLive}
+use Rattle.joined.specs.Rows.{Rows, rows_in, decision_of}
 use Rattle.belief_net.specs.declared.deciding.Due.{Due}
 use Rattle.belief_net.specs.declared.state.BeliefNet.{BeliefNet}
 use Rattle.belief_net.specs.Decided.{table_of, rule_in, AreUnder}
@@ -50,10 +50,9 @@ pub record IsRevising (s : Standing) (net : Net) (b : BeliefNet) : Type 0 where
   pub underway : IsUnderway old edit net b taken
 
 -- what is decided is right for the nodes
-pub record IsRight (s : Standing) (b : BeliefNet) (trigger : ℕ) (rule : List ℕ) (found : Decision) : Type 0 where
-  pub outcome : (nodes : List Moment) → Holds nodes (forest b.tree)
-      → outcome_at (forest b.tree) found ≡ outcome s (far_in s.premises) nodes (moment_at (forest b.tree) trigger) rule
-  pub live : AreLive (forest b.tree) found
+abbrev pub IsRight : Standing → BeliefNet → ℕ → List ℕ → Decision → Type 0
+IsRight s b trigger rule found = (nodes : List Moment) → HasOccurrences nodes (forest b.tree)
+    → found ≡ decision_of (outcome s (far_in s.premises) nodes (moment_at (forest b.tree) trigger) rule)
 
 -- the row that was due first keeps what was decided, and waits no more
 pub record IsDecided (s : Standing) (old new : BeliefNet) (due : Due) : Type 0 where

@@ -3,7 +3,7 @@ ghost use Rattle.std.specs.Prelude.{◌≡◌, [], Some, OnOk};
 ghost use Rattle.tmm_model.specs.Bounds.{IsWithin};
 ghost use Rattle.dist_net.specs.Net.{IsInUse};
 ghost use Rattle.spots.specs.Forest.{Member, member};
-ghost use Rattle.spots.specs.Seen.{HasList};
+ghost use Rattle.spots.specs.OfLists.{HasList};
 ghost use Rattle.occ_tree.specs.Dated.{IsDatedBy, point_early};
 ghost use Rattle.occ_tree.specs.Places.{forest};
 ghost use Rattle.occ_tree.specs.Standing.{present};

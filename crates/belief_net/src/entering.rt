@@ -3,7 +3,7 @@ ghost use Rattle.std.specs.Prelude.{◌≡◌, Some, None, IfOk, OnOk};
 ghost use Rattle.tmm_model.specs.Moments.{After};
 ghost use Rattle.dist_net.specs.Net.{Net};
 ghost use Rattle.spots.specs.Forest.{Member, member, IsLive, moment_at};
-ghost use Rattle.spots.specs.Seen.{IsSeen};
+ghost use Rattle.spots.specs.OfLists.{IsForestOf};
 ghost use Rattle.occ_tree.specs.OfLists.{IsTreeIn, IsTreeOf};
 ghost use Rattle.occ_tree.specs.Places.{forest};
 ghost use Rattle.occ_tree.specs.Standing.{present, committed, forest as forest_of};
@@ -98,7 +98,7 @@ fn enter_effect(
     trigger: u32,
     rule: Name,
 ) -> Result<u32, NoMemory>
-    requires seen { (net : Net) × IsSeen standing.now.present net (forest tree.old) }
+    requires seen { (net : Net) × IsForestOf standing.now.present net (forest tree.old) }
     requires trigger { IsLive (forest tree.old) trigger }
     requires rule { IsRuleOf standing.now.present rule }
     requires enters { MayEnter standing.now.present (forest tree.old) trigger rule }

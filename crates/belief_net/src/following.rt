@@ -78,7 +78,7 @@ pub(crate) fn follow(
 fn fires(decision: &Decision) -> bool
     ensures { result ≡ fires_by decision.now }
 {
-    matches!(decision, Decision::Fires { .. })
+    matches!(decision, Decision::Fires)
 }
 
 // Adds the effect of a rule that fires and did not, and tells that it entered.

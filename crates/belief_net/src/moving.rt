@@ -1,7 +1,7 @@
 // Rows that wait since points moved on whose distances they depend.
 ghost use Rattle.std.specs.Prelude.{true, false, ◌≡◌, [], length, OnOk};
 ghost use Rattle.tmm_model.specs.Moments.{read_by, rule_of};
-ghost use Rattle.spots.specs.Seen.{IsSeen};
+ghost use Rattle.spots.specs.OfLists.{IsForestOf};
 ghost use Rattle.occ_tree.specs.Places.{forest};
 ghost use Rattle.occ_tree.specs.Standing.{present};
 ghost use Rattle.undo_rows.specs.Changes.{present as table};
@@ -38,7 +38,7 @@ pub(crate) fn mark_moved(
     decisions: &mut Decisions,
     added: Option<Name>,
 ) -> Result<(), NoMemory>
-    requires seen { IsSeen standing.now.present net.now.present (forest tree.now) }
+    requires seen { IsForestOf standing.now.present net.now.present (forest tree.now) }
     requires there { WereThere net.now added }
     requires events { HaveEvents tree.now (table_of decisions.old) }
     requires under { AreUnder standing.now.present decisions.old }
@@ -47,7 +47,7 @@ pub(crate) fn mark_moved(
 {
     // they tell the proof that numbers are below 256, that rows are on their lists, and that
     // classes have their own numbers
-    let _ = net.edges();
+    net.invariants();
     let _ = decisions.rows.first(1, 0);
     decisions.classes.have_own();
     if net.moved().is_empty() {

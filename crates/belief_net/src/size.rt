@@ -4,7 +4,7 @@ ghost use Rattle.tmm_model.specs.Answers.{size, most_size};
 ghost use Rattle.tmm_model.specs.Maps.{built};
 ghost use Rattle.dist_net.specs.Net.{Net};
 ghost use Rattle.spots.specs.Forest.{IsLive};
-ghost use Rattle.spots.specs.Seen.{Holds};
+ghost use Rattle.spots.specs.OfLists.{HasOccurrences};
 ghost use Rattle.occ_tree.specs.OfLists.{IsTreeOf};
 ghost use Rattle.occ_tree.specs.Places.{forest};
 ghost use Rattle.projection.specs.Kinds.{AreRules};
@@ -20,9 +20,9 @@ use tmm_model::{MOST_SIZE, Refusal, Stop};
 /// rules and the rules on it. A size above 100,000 is refused. Without memory it answers that.
 pub fn size_of(alloc: Global, standing: &Standing, tree: &Tree) -> Result<u64, Stop>
     requires seen { (net : Net) × IsTreeOf standing.now.present net tree.now }
-    ensures size { IfOk result (λ n. Holds (built standing.now.present).believed (forest tree.now) → n ≡ size (built standing.now.present)) }
+    ensures size { IfOk result (λ n. HasOccurrences (built standing.now.present).believed (forest tree.now) → n ≡ size (built standing.now.present)) }
     ensures small { IfOk result (λ n. n ≤ most_size) }
-    ensures stops { IfErr result (λ stop. Holds (built standing.now.present).believed (forest tree.now) → IsTooLarge (size (built standing.now.present)) stop) }
+    ensures stops { IfErr result (λ stop. HasOccurrences (built standing.now.present).believed (forest tree.now) → IsTooLarge (size (built standing.now.present)) stop) }
 {
     let Ok(rules) = RulesByKind::of(alloc, standing) else {
         return Err(Stop::NoMemory);

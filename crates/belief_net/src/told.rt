@@ -4,7 +4,7 @@ ghost use Rattle.tmm_model.specs.Answers.{most_size};
 ghost use Rattle.dist_net.specs.Net.{Net};
 ghost use Rattle.row_links.specs.Lists.{IsOn};
 ghost use Rattle.spots.specs.Forest.{IsLive, moment_at};
-ghost use Rattle.spots.specs.Seen.{IsSeen};
+ghost use Rattle.spots.specs.OfLists.{IsForestOf};
 ghost use Rattle.occ_tree.specs.Places.{forest};
 ghost use Rattle.projection.specs.Kinds.{AreKnown};
 ghost use Rattle.projection.specs.Queues.{weight_at, IsTooLarge};
@@ -63,7 +63,7 @@ impl Told {
         x: u32,
         known: &mut KnownKinds,
     ) -> Result<(), Stop>
-        requires seen { (net : Net) × IsSeen standing.now.present net (forest tree.now) }
+        requires seen { (net : Net) × IsForestOf standing.now.present net (forest tree.now) }
         requires live { IsLive (forest tree.now) x }
         requires small { self.old.weight ≤ most_size }
         requires known { AreKnown standing.now.present known.old }

@@ -1,4 +1,5 @@
--- Tables of the distances of a list of premises, each made once, by which worked scripts compute fast.
+-- Tables of the distances of a list of premises, each made once, by which worked scripts compute
+-- fast.
 use Rattle.std.proofs.Common.{◌≡◌, ◌∙◌, ℕ, zero, suc, ◌-◌, Bool, true, false, List, [], ◌∷◌, map, length, pos, refl, sym, ap, cond}
 use Rattle.std.specs.Bool.{Decides}
 use Rattle.tmm_model.specs.declared.bound.Bound.{Bound}

@@ -1,17 +1,12 @@
 -- The first of a list, and its place among tokens.
-use Rattle.std.proofs.Common.{◌≡◌, ℕ, Bool, true, false, List, [], ◌∷◌, refl, sym, ◌∙◌, ap, subst, inl, inr}
-use Rattle.std.specs.Prelude.{Option, Some, None, IsTrue, filter, slice_index_or}
-use Rattle.std.specs.Option.{option_map}
+use Rattle.std.proofs.Common.{◌≡◌, Bool, true, false, List, [], ◌∷◌, refl, sym, ◌∙◌, ap, subst, inl, inr}
 use Rattle.std.specs.declared.cmp.Ordering.{Ordering}
 use Rattle.std.specs.declared.cmp.Ordering.TheVariants.{Less, Equal, Greater}
 use Rattle.std.specs.Ordering.{is_lt, is_gt, ordering_reverse, on}
-use Rattle.std.proofs.lemmas.List.{get_or_default}
-use Rattle.std.proofs.lemmas.List.Elements.{Contains-get_or}
 use Rattle.tmm_model.specs.declared.token.TokenRow.{TokenRow}
-use Rattle.tmm_model.specs.Firsts.{earliest, first}
+use Rattle.tmm_model.specs.Firsts.{earliest}
 use Rattle.tmm_model.specs.Types.{IsOrderOn}
-use Rattle.belief_theory.specs.FirstPlaces.{IsFirstPlace}
-use Rattle.list_theory.proofs.Elements.{In, In-from_Contains, Contains-from_In, In-filter, filter-In}
+use Rattle.list_theory.proofs.Elements.{In}
 
 module _ {P : Type 0} {live : P → Type 0} {order : P → P → Ordering} (law : IsOrderOn live order) where
   abbrev by_spot : TokenRow P → TokenRow P → Ordering
@@ -109,37 +104,3 @@ module _ {P : Type 0} {live : P → Type 0} {order : P → P → Ordering} (law 
               ]
             ];
           }
-
-  -- what passes and is not after any other that passes is the first
-  pub first_by_place : (test : TokenRow P → Bool) (xs : List (TokenRow P)) → Live xs → (place : Option ℕ) → IsFirstPlace by_spot test xs place
-      → (d : TokenRow P) → option_map (λ k. k.spot) (first by_spot (filter test xs)) ≡ option_map (λ i. (slice_index_or xs i d).spot) place
-  first_by_place test xs all None h d = by (filter test xs) refl
-    where
-      by : (ys : List (TokenRow P)) → filter test xs ≡ ys → option_map (λ k. k.spot) (first by_spot ys) ≡ None
-      by [] e = refl
-      by (y ∷ ys) e =
-          let (at, passes) = In-filter test xs y (subst (In y) (sym e) (inl refl)) in
-          let (k, lt, is) = Contains-from_In xs y at in
-          let no : test y ≡ false = subst (λ z. test z ≡ false) is (h k y lt) in
-          cc
-  first_by_place test xs all (Some i) h d = by (filter test xs) refl
-    where
-      x : TokenRow P
-      x = slice_index_or xs i d
-
-      here : In x xs
-      here = In-from_Contains xs x (Contains-get_or xs i d h.within)
-
-      kept : In x (filter test xs)
-      kept = filter-In test xs x here (h.passes d)
-
-      by : (ys : List (TokenRow P)) → filter test xs ≡ ys → option_map (λ k. k.spot) (first by_spot ys) ≡ Some x.spot
-      by [] e = absurd (subst (In x) e kept)
-      by (y ∷ ys) e =
-          let l = least_is y ys (λ k at. all k (In-filter test xs k (subst (In k) (sym e) at)).0) in
-          let m : TokenRow P = earliest by_spot y ys in
-          let (there, passes) = In-filter test xs m (subst (In m) (sym e) l.member) in
-          let (k, lt, is) = Contains-from_In xs m there in
-          let is_d : slice_index_or xs k d ≡ m = get_or_default xs k d m lt ∙ is in
-          let not_before : is_gt (order x.spot m.spot) ≡ false = subst (λ z. is_gt (order x.spot z.spot) ≡ false) is_d (h.least k d lt (subst (λ z. IsTrue (test z)) (sym is_d) passes)) in
-          ap Some (one_spot m.spot x.spot (all m there) (all x here) (l.below x (subst (In x) e kept)) not_before)

@@ -3,10 +3,8 @@ use Rattle.std.proofs.Common.{◌≡◌, ◌∙◌, ℕ, true, ◌&&◌, List, [
 use Rattle.std.specs.Bool.{Decides}
 use Rattle.std.specs.Cmp.Lexicographic.{bytes_decides, nat_list_eq_equiv}
 use Rattle.tmm_model.specs.declared.point.Occ.{Occ}
-use Rattle.tmm_model.specs.declared.point.QueryPoint.{QueryPoint}
-use Rattle.tmm_model.specs.declared.point.QueryPoint.TheVariants.{Declared, Derived}
-use Rattle.tmm_model.specs.Moments.{Moment, At, After, same_moment, along, moment_of, moment_of_point, printed, rules, base}
-use Rattle.tmm_model.specs.Points.{same_name, slashed, occ_word, query_word}
+use Rattle.tmm_model.specs.Moments.{Moment, At, After, same_moment, along, moment_of, printed, rules, base}
+use Rattle.tmm_model.specs.Points.{same_name, slashed, occ_word}
 use Rattle.list_theory.proofs.Elements.{both}
 use Rattle.walk_theory.proofs.Points.{Decides-same_point}
 
@@ -36,10 +34,6 @@ printed-along t (r ∷ rs) = printed-along (After t r) rs ∙ append_assoc (prin
 -- **The word of an occurrence is that of its moment.**
 pub printed-moment_of : (o : Occ) → printed (moment_of o) ≡ occ_word o
 printed-moment_of o = printed-along _ o.rules.items
-
-pub printed-moment_of_point : (p : QueryPoint) → printed (moment_of_point p) ≡ query_word p
-printed-moment_of_point (Declared p) = refl
-printed-moment_of_point (Derived o) = printed-moment_of o
 
 -- ---- the moment that rules lead to
 

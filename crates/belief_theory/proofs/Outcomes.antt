@@ -106,7 +106,8 @@ module _ (s : Standing) (far : Distances) (b : List Moment) where
       by (Some place) true h = refl
       by (Some place) false h = let e : Some place ≡ None = h.1 refl in cc
 
-  -- **A rule is free exactly where all its antecedents have a first supporter and no exception has one.**
+  -- **A rule is free exactly where all its antecedents have a first supporter and no exception has
+  -- one.**
   pub free_exactly : (t : Moment) (r : List ℕ)
       → ((first_without (supporters s far b t r) ≡ None) × (first_with (against s far b t r) ≡ None)) ↔ (is_free s far b t r ≡ true)
   free_exactly t r =

@@ -11,7 +11,8 @@ use Rattle.belief_theory.specs.Right.{Occurs, Fires, IsRightTo, IsTimed}
 use Rattle.belief_theory.proofs.OneRight.{Agree, turned, free_kept, later}
 
 module _ (s : Standing) (far : Distances) (timed : IsTimed s far) (h : ℕ) where
-  -- the occurrences b, of which the decisions due up to d are made, and those that pend are due at d or later
+  -- the occurrences b, of which the decisions due up to d are made, and those that pend are due at
+  -- d or later
   pub record Settling (d : ℕ) (b : List Moment) (pends : Moment → List ℕ → Type 0) : Type 0 where
     pub has_roots : (p : PointName) → Contains (roots s) (At p) → Contains b (At p)
     pub member_occurs : (x : Moment) → Contains b x → Occurs s x

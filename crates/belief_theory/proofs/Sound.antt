@@ -20,7 +20,7 @@ use Rattle.tmm_model.specs.Lines.{IsWellFormedPremise, IsRange}
 use Rattle.tmm_model.specs.Moments.{Moment, At, as_rule, rule_of}
 use Rattle.tmm_model.specs.Points.{same_name, same_point}
 use Rattle.list_theory.specs.WellNamed.{IsSound}
-use Rattle.belief_theory.specs.Right.{IsShortest, HasSoundRules}
+use Rattle.belief_theory.specs.Right.{IsQuasiMetric, HasSoundRules}
 use Rattle.tmm_model.specs.Standing.{Standing, name_of, points_in, base_step, arc_of, arcs_of, arcs_in, far_in, premise_in}
 use Rattle.tmm_model.specs.Walks.{Arc, total, HasDates, far, far_within}
 use Rattle.list_theory.proofs.Elements.{In, In-from_Contains, Contains-from_In, In-list_any, list_any-In, In-filter_map, flat_map-In}
@@ -109,7 +109,7 @@ at_most_zero : {P : Type 0} (arcs : List (Arc P)) (a b : P) (x : Bound) → IsFa
 at_most_zero arcs a b (Finite x) f h = (x, refl, h)
 at_most_zero arcs a b Free f h = absurd h
 
-pub shortest : (s : Standing) → IsSound s → IsShortest s (far_in s.premises)
+pub shortest : (s : Standing) → IsSound s → IsQuasiMetric s (far_in s.premises)
 shortest s sound = record {
   itself = λ p. itself_zero Start (arcs_in s.premises) sound.dates p (far_in s.premises p p) (far_in-IsFar s sound p p);
   triangle = λ p q r. triangle (arcs_in s.premises) p q r (far_in s.premises p q) (far_in s.premises q r) (far_in s.premises p r) (far_in-IsFar s sound p q) (far_in-IsFar s sound q r) (far_in-IsFar s sound p r);

@@ -1,4 +1,5 @@
--- Occurrences of a well-formed list are spelt: their names have no `/`, so their words tell them apart.
+-- Occurrences of a well-formed list are spelt: their names have no `/`, so their words tell them
+-- apart.
 use Rattle.std.proofs.Common.{◌≡◌, ℕ, true, ◌&&◌, List, [], ◌∷◌, length, sym, subst, inl, inr}
 use Rattle.std.specs.Prelude.{Some, nat_le}
 use Rattle.std.specs.List.{All, list_all}

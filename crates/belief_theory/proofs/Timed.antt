@@ -16,7 +16,7 @@ use Rattle.tmm_model.specs.Points.{same_point}
 use Rattle.tmm_model.specs.Standing.{Standing}
 use Rattle.tmm_model.specs.Tokens.{is_by}
 use Rattle.tmm_model.specs.Beliefs.{root_of, roots, rules_at, due}
-use Rattle.belief_theory.specs.Right.{Occurs, IsTimed, IsShortest, HasSoundRules}
+use Rattle.belief_theory.specs.Right.{Occurs, IsTimed, IsQuasiMetric, HasSoundRules}
 use Rattle.list_theory.proofs.Elements.{In-from_Contains, In-filter_map}
 use Rattle.walk_theory.proofs.Points.{same_point-is, same_point-self}
 use Rattle.belief_theory.proofs.Triangle.{T_left, T_right, B_same, low_high, low_apart, high_apart, apart_most, apart_triangle, same_path}
@@ -36,7 +36,7 @@ own_zero lu x (Finite z) Free e p = tt
 own_zero lu Free (Finite z) (Finite h) e p = absurd p
 own_zero lu (Finite x) (Finite z) (Finite h) e p = let q : z ≡ pos 0 = cc in omega (arith, ints)
 
-module _ (s : Standing) (far : Distances) (short : IsShortest s far) (rule_laws : HasSoundRules s) where
+module _ (s : Standing) (far : Distances) (short : IsQuasiMetric s far) (rule_laws : HasSoundRules s) where
   -- the walk by way of the bases is no shorter
   distance_most : (x y : Moment) → IsTighter (distance s far x y) (bound_less (bound_plus (far (base x) (base y)) (high s (rules y))) (low s (rules x)))
   distance_most x y = by (same_point (base x) (base y)) refl

@@ -255,7 +255,8 @@ was_decision m t r h =
       subst (λ z. Contains (rules_at m.list z) r) one (subst (Contains (rules_at m.list u)) two (Contains-from_In (rules_at m.list u) q stands)),
     )
 
--- **Where a decision is not touched, the two maps are alike for it**, if its rule says the same in both.
+-- **Where a decision is not touched, the two maps are alike for it**, if its rule says the same in
+-- both.
 pub untouched_alike : (m n : TimeMap) (t : Moment) (r : List ℕ) → rule_of m.list r ≡ rule_of n.list r → is_touched m n (t, r) ≡ false → Alike m n t r
 untouched_alike m n t r text h =
     let tests = none_of (is_decision m (t, r)) (m.list.horizon == n.list.horizon) (same_tokens (watched m r) (watched n r)) (same_gaps m n (watched_points n t r)) h in

@@ -13,7 +13,8 @@ use Rattle.tmm_model.specs.Verdicts.{most_premises, most_points}
 abbrev pub last_horizon : ℕ
 last_horizon = LAST_HORIZON
 
--- Well-formed and well-named premises of the list's version that some dates satisfy, within all limits.
+-- Well-formed and well-named premises of the list's version that some dates satisfy, within all
+-- limits.
 pub record IsKept (s : Standing) : Type 0 where
   pub sound : IsSound s
   pub versioned : All (IsOfVersion s.version) s.premises

@@ -29,11 +29,13 @@ first_with [] = None
 first_with (Some k ∷ found) = Some 0
 first_with (None ∷ found) = option_map suc (first_with found)
 
--- what becomes of a rule that these supporters leave unblocked, by the first supporters of its exceptions
+-- what becomes of a rule that these supporters leave unblocked, by the first supporters of its
+-- exceptions
 abbrev pub unblocked : List Moment → List (Option Moment) → Outcome
 unblocked ks against = elim (first_with against) [ Some place ↦ barred place | None ↦ fires ks ]
 
--- what becomes of a rule in time, by the first supporters of its antecedents, and then of its exceptions
+-- what becomes of a rule in time, by the first supporters of its antecedents, and then of its
+-- exceptions
 abbrev pub tried : List (Option Moment) → List (Option Moment) → Outcome
 tried found against = elim (first_without found) [ Some place ↦ blocked place | None ↦ unblocked (filter_map (λ k. k) found) against ]
 

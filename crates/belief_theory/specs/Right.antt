@@ -23,7 +23,8 @@ pub record Fires (s : Standing) (far : Distances) (n : ℕ) (b : List Moment) (t
   pub in_time : due s far t r ≤ℤ pos n
   pub free : IsTrue (is_free s far b t r)
 
--- x belongs to the occurrences b, up to date n: it is a root, or what a rule that fires brings about
+-- x belongs to the occurrences b, up to date n: it is a root, or what a rule that fires brings
+-- about
 abbrev pub Belongs : Standing → Distances → ℕ → List Moment → Moment → Type 0
 Belongs s far n b (At p) = Contains (roots s) (At p)
 Belongs s far n b (After t r) = Fires s far n b t r
@@ -37,7 +38,7 @@ abbrev pub IsRight : Standing → Distances → List Moment → Type 0
 IsRight s far b = IsRightTo s far s.horizon b
 
 -- distances of declared points, as of a list that some dates satisfy
-pub record IsShortest (s : Standing) (far : Distances) : Type 0 where
+pub record IsQuasiMetric (s : Standing) (far : Distances) : Type 0 where
   pub itself : (p : PointName) → far p p ≡ Finite (pos 0)
   pub triangle : (p q r : PointName) → IsTighter (far p r) (bound_plus (far p q) (far q r))
   pub from_root : (p : PointName) → Contains (roots s) (At p) → (d : ℤ) × (far p Start ≡ Finite d) × (d ≤ℤ pos 0)
@@ -47,8 +48,8 @@ pub record HasSoundRules (s : Standing) : Type 0 where
   pub sound : (r : List ℕ) → IsTighter (Finite (rule_of s r).lo) (rule_of s r).hi
   pub delayed : (t : Moment) (r : List ℕ) → Contains (rules_at s t) r → pos 1 ≤ℤ (rule_of s r).lo
 
--- earliest dates of occurrences: none is before 0, an effect is due as its rule says, and what surely
--- is at or before another is no later
+-- earliest dates of occurrences: none is before 0, an effect is due as its rule says, and what
+-- surely is at or before another is no later
 pub record IsTimed (s : Standing) (far : Distances) : Type 0 where
   pub not_before_start : (x : Moment) → Occurs s x → pos 0 ≤ℤ early s far x
   pub due_is : (t : Moment) (r : List ℕ) → Occurs s t → Contains (rules_at s t) r → early s far (After t r) ≡ due s far t r

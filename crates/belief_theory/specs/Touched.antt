@@ -1,5 +1,5 @@
--- Which decisions an edit touches: those for which it may matter. A map that keeps its beliefs current needs
--- to make no others again.
+-- Which decisions an edit touches: those for which it may matter. A map that keeps its beliefs
+-- current needs to make no others again.
 use Rattle.std.specs.Prelude.{ℕ, Bool, true, false, not, ◌&&◌, ◌||◌, ◌==◌, List, ◌∷◌, ◌++◌, map, filter, count_by}
 use Rattle.std.specs.List.{list_any, list_all, filter_map}
 use Rattle.std.specs.Option.{option_eq}
@@ -37,7 +37,8 @@ same_tokens xs ys = are_within xs ys && are_within ys xs
 abbrev pub watched : TimeMap → List ℕ → List (TokenRow Moment)
 watched m r = filter (λ k. list_any (λ fact. same_name (class_of m.list fact) k.class) (read_by (rule_of m.list r))) (believed_tokens m)
 
--- the points on whose distances a rule at t depends: `start`, t, and the begins and ends of those tokens
+-- the points on whose distances a rule at t depends: `start`, t, and the begins and ends of those
+-- tokens
 abbrev pub watched_points : TimeMap → Moment → List ℕ → List Moment
 watched_points m t r = At Start ∷ t ∷ map (λ k. k.spot) (watched m r) ++ filter_map (λ k. k.end) (watched m r)
 
@@ -50,8 +51,9 @@ abbrev pub is_decision : TimeMap → Moment × List ℕ → Bool
 is_decision m d = list_any (λ e. same_moment e.0 d.0 && same_name e.1 d.1) (decisions m.list m.believed)
 
 module _ (old new : TimeMap) where
-  -- **A decision of the new map is touched** where it is none of the old one, where the horizons differ,
-  -- where the tokens that it watches differ, or where a distance among them, its event and `start` does.
+  -- **A decision of the new map is touched** where it is none of the old one, where the horizons
+  -- differ, where the tokens that it watches differ, or where a distance among them, its event and
+  -- `start` does.
   abbrev pub is_touched : Moment × List ℕ → Bool
   is_touched d =
       not (is_decision old d)

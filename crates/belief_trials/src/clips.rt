@@ -14,11 +14,11 @@ use std::process::Abort;
 use std::test::Fail;
 use tmm_model::{Sure, TokenRow};
 
-// A line of time, a date on it, and a place that tells spots of one date apart.
-type Spot = (u8, i32, usize);
+/// A line of time, a date on it, and a place that tells spots of one date apart.
+pub type Spot = (u8, i32, usize);
 
-// Lines of time that nothing relates.
-struct Dates;
+/// Lines of time that nothing relates.
+pub struct Dates;
 
 impl Sure for Dates {
     type Spot = Spot;

@@ -2,7 +2,7 @@
 ghost use Rattle.list_net.specs.Fits.{IsNetOf};
 ghost use Rattle.tmm_model.specs.Maps.{built};
 ghost use Rattle.spots.specs.Forest.{IsLive};
-ghost use Rattle.spots.specs.Seen.{Holds};
+ghost use Rattle.spots.specs.OfLists.{HasOccurrences};
 ghost use Rattle.occ_tree.specs.OfLists.{IsTreeOf};
 ghost use Rattle.occ_tree.specs.Places.{forest};
 ghost use Rattle.projection.specs.Kinds.{AreRules};
@@ -13,7 +13,7 @@ use crate::premises::{Premises, let_through};
 use belief_list::{BeliefRow, listed};
 use occ_tree::Tree;
 use premise_list::Standing;
-use projection::{Counter, Decision, RulesByKind, decide, rebuild};
+use projection::{Counter, Decision, RulesByKind, Verdict, decide, judge, rebuild};
 use std::alloc::Global;
 use std::test::Fail;
 use supports::Guesses;
@@ -47,7 +47,8 @@ struct Outcome {
     size: u64,
     // how many decisions it took
     made: u64,
-    // how many it takes to decide each rule once more, none where one is not decided as is believed
+    // how many it takes to decide and to judge each rule once more, none where one is not as is
+    // believed
     decided: Option<u64>,
     // whether the rows are those that are wanted
     listed: bool,
@@ -77,7 +78,7 @@ fn project(alloc: Global, premises: &Premises, rows: &[Row]) -> Result<Outcome, 
 // Whether the rows of what is believed are these.
 fn are_listed(alloc: Global, premises: &Premises, tree: &Tree, want: &[Row]) -> bool
     requires seen { IsTreeOf premises.now.list.present premises.now.net.present tree.now }
-    requires holds { Holds (built premises.now.list.present).believed (forest tree.now) }
+    requires holds { HasOccurrences (built premises.now.list.present).believed (forest tree.now) }
 {
     match listed(alloc, &premises.list, tree, &premises.net) {
         Ok(rows) => are_rows(rows.items(), want),
@@ -102,8 +103,8 @@ fn node_at(rows: &[BeliefRow], place: Option<usize>) -> Option<u32> {
     Some(rows.get(place?)?.node)
 }
 
-// How many decisions it takes to decide each rule at each event, none where one fires there and its
-// effect is not believed, or the other way round.
+// How many decisions it takes to decide and to judge each rule at each event, none where one fires
+// there and its effect is not believed, or the other way round.
 fn decided(alloc: Global, premises: &Premises, tree: &Tree) -> Option<u64>
     requires { IsTreeOf premises.now.list.present premises.now.net.present tree.now }
 {
@@ -139,8 +140,11 @@ fn is_decided_as_believed(
         let rule = rule_name(&premises.list, *place);
         let (net, list) = (&premises.net, &premises.list);
         let decision = decide(tree, net, list, x, rule, counter, guesses);
-        let fires = matches!(decision, Decision::Fires { .. });
-        if fires != tree.find_effect(x, &rule).is_some() {
+        let verdict = judge(tree, net, list, x, rule, counter, guesses);
+        let fires = tree.find_effect(x, &rule).is_some();
+        if fires != matches!(decision, Decision::Fires { .. })
+            || fires != matches!(verdict, Verdict::Fires)
+        {
             return false;
         }
     }
@@ -170,6 +174,6 @@ fn no_premises_project_nothing(rt: HostRuntime) -> Result<(), Fail> {
 fn decisions_are_those_of_what_is_believed(rt: HostRuntime) -> Result<(), Fail> {
     let found = let_through(&rt, project_lines(rt.alloc(), LAMP, BELIEVED))?;
     assert_eq!(rt; (found.size, found.made), (12, 4));
-    assert_eq!(rt; (found.decided, found.listed), (Some(4), true));
+    assert_eq!(rt; (found.decided, found.listed), (Some(8), true));
     Ok(())
 }

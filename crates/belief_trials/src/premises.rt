@@ -2,7 +2,7 @@
 ghost use Rattle.std.specs.Prelude.{◌≡◌, IfOk, OnOk};
 ghost use Rattle.tmm_model.specs.Lines.{IsWellFormedEdit};
 ghost use Rattle.tmm_model.specs.Standing.{empty_list};
-ghost use Rattle.list_net.specs.Fits.{IsNetOf, IsSettled};
+ghost use Rattle.list_net.specs.Fits.{IsNetOf, NothingPending};
 
 use dist_net::DistNet;
 use list_net::add_premise;
@@ -42,8 +42,7 @@ pub fn bare_net(alloc: Global) -> Result<DistNet, NoMemory>
     ensures settled { IfOk result (λ net. net.present ≡ net.committed) }
 {
     let net = DistNet::make(alloc)?;
-    // it tells the proof what holds of the network
-    let _ = net.edges();
+    net.invariants();
     Ok(net)
 }
 
@@ -55,7 +54,7 @@ fn add_all(
     lines: &[&[u8]],
 ) -> Result<(), Stop>
     requires network { IsNetOf list.old.present net.old.present }
-    requires settled { IsSettled list.old net.old }
+    requires settled { NothingPending list.old net.old }
     ensures { OnOk result (IsNetOf list.new.present net.new.present) }
 {
     for line in lines {
@@ -67,9 +66,9 @@ fn add_all(
 // Adds the premise of a line.
 fn add_line(alloc: Global, list: &mut Standing, net: &mut DistNet, line: &[u8]) -> Result<(), Stop>
     requires network { IsNetOf list.old.present net.old.present }
-    requires settled { IsSettled list.old net.old }
+    requires settled { NothingPending list.old net.old }
     ensures network { OnOk result (IsNetOf list.new.present net.new.present) }
-    ensures settled { OnOk result (IsSettled list.new net.new) }
+    ensures settled { OnOk result (NothingPending list.new net.new) }
 {
     let Line::Change(edit) = parse_line(alloc, Version::One, line)? else {
         return Err(Stop::Refused(Refusal::Form));
@@ -81,9 +80,9 @@ fn add_line(alloc: Global, list: &mut Standing, net: &mut DistNet, line: &[u8]) 
 fn add(alloc: Global, list: &mut Standing, net: &mut DistNet, edit: &Edit) -> Result<(), Stop>
     requires well_formed { IsWellFormedEdit edit.now }
     requires network { IsNetOf list.old.present net.old.present }
-    requires settled { IsSettled list.old net.old }
+    requires settled { NothingPending list.old net.old }
     ensures network { OnOk result (IsNetOf list.new.present net.new.present) }
-    ensures settled { OnOk result (IsSettled list.new net.new) }
+    ensures settled { OnOk result (NothingPending list.new net.new) }
 {
     let Edit::Add(premise) = edit else {
         return Err(Stop::Refused(Refusal::Form));
@@ -95,7 +94,7 @@ fn add(alloc: Global, list: &mut Standing, net: &mut DistNet, edit: &Edit) -> Re
     list.commit();
     net.commit();
     let _ = list.len();
-    let _ = net.edges();
+    net.invariants();
     Ok(())
 }
 

@@ -4,7 +4,7 @@ ghost use Rattle.tmm_model.specs.Names.{is_name};
 ghost use Rattle.tmm_model.specs.Standing.{empty_list};
 ghost use Rattle.list_net.specs.Fits.{IsNetOf};
 ghost use Rattle.spots.specs.Forest.{Member, IsLive, IsTrigger, HasClass};
-ghost use Rattle.spots.specs.Seen.{HasList};
+ghost use Rattle.spots.specs.OfLists.{HasList};
 ghost use Rattle.occ_tree.specs.Standing.{present, forest};
 
 use crate::names::name;

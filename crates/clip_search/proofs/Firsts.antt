@@ -16,7 +16,7 @@ use Rattle.dist_net.specs.Net.{Net}
 use Rattle.spots.specs.declared.spot.Spot.{Spot}
 use Rattle.spots.specs.declared.spot.Spot.TheVariants.{Node}
 use Rattle.spots.specs.Forest.{Forest}
-use Rattle.spots.specs.Seen.{HasList}
+use Rattle.spots.specs.OfLists.{HasList}
 use Rattle.spots.specs.Spots.{AreTokens, spot_distance, node_early}
 use Rattle.spots.proofs.Nodes.{node_at as member_at}
 use Rattle.clip_search.specs.Under.{IsWay}

@@ -14,7 +14,7 @@ use Rattle.spots.specs.Forest.{Forest}
 use Rattle.spots.specs.Spots.{AreTokens, node_early, spot_early, spot_cmp}
 use Rattle.clip_search.specs.declared.entries.Entry.{Entry}
 use Rattle.clip_search.specs.Under.{IsUnder}
-use Rattle.clip_search.specs.Entries.{no_row, no_entry, row_at, node_at, fact_at, entry_at, AreEntries, AreSorted, IsSkip}
+use Rattle.clip_search.specs.Entries.{no_row, no_entry, row_at, node_at, fact_at, entry_at, AreEntries, AreSorted}
 use Rattle.clip_search.specs.Firsts.{IsFirstOf, IsCandidate, IsBefore, AreBefore, IsPast}
 use Rattle.clip_search.proofs.Entering.{spot_is}
 
@@ -135,17 +135,3 @@ module _ (net : Net) {f : Forest} {class : List ℕ} {rows : List (TokenRow Spot
           ]
 
 -- ---- behind the entries of a fact
-
-module _ (rows : List (TokenRow Spot)) (entries : List Entry) (from z : ℕ) (fact : List ℕ) where
-  -- there where none of them stands
-  pub past_here : (from < length entries → (entry_at entries from).node ≡ z → fact_at rows (entry_at entries from).place ≢ fact) → IsPast rows entries from z fact from
-  past_here apart = record { after = omega arith; within = λ le. le; passed = λ i le lt. absurd (omega (arith, le, lt)); next = apart }
-
-  -- where those end that are like the one there
-  pub past_alike : (entry_at entries from).node ≡ z → fact_at rows (entry_at entries from).place ≡ fact → (n : ℕ) → IsSkip rows entries from n → IsPast rows entries from z fact n
-  past_alike node own n skip = record {
-    after = omega (arith, skip.after);
-    within = λ _. skip.within;
-    passed = λ i le lt. (let (node_is, fact_is) = skip.alike i le lt in (sym node_is ∙ node, sym fact_is ∙ own));
-    next = λ lt node_is fact_is. skip.other lt (node ∙ sym node_is, own ∙ sym fact_is);
-  }

@@ -20,7 +20,7 @@ use Rattle.list_net.specs.Represents.{IsNumberOf}
 use Rattle.spots.specs.declared.link.Link.{Link}
 use Rattle.spots.specs.declared.spot.Spot.TheVariants.{Node}
 use Rattle.spots.specs.Forest.{Forest, Member, member, IsLive}
-use Rattle.spots.specs.Seen.{HasList, IsLinkOf}
+use Rattle.spots.specs.OfLists.{HasList, IsLinkOf}
 use Rattle.spots.specs.Spots.{base_of, links_of, links_low, links_high, links_apart, net_far, spot_distance, node_early}
 use Rattle.spots.proofs.Apart.{apart_from_none, apart_to_none, apart_same, apart_differ}
 use Rattle.spots.proofs.Delays.{low-append}

@@ -60,14 +60,3 @@ module _ {P : Type 0} {live : P → Type 0} {order : P → P → Ordering} (law 
 
     pub first_take : (x : TokenRow P) (i : ℕ) (best : Option ℕ) → i < length xs → x ≡ slice_index_or xs i x → IsFirstPlaceAmong cmp test xs i best → test x ≡ true → IsAhead cmp xs best i true → IsFirstPlaceAmong cmp test xs (i + 1) (Some i)
     first_take x i best lt is h sure e = first_taken i best lt h (λ d. subst (λ y. IsTrue (test y)) (get_or_read xs i x lt is d) sure) e
-
-    -- what is not before the best place leaves it as it is, whether it passes or not
-    pub first_kept : (i : ℕ) (best : Option ℕ) → IsFirstPlaceAmong cmp test xs i best → IsAhead cmp xs best i false → IsFirstPlaceAmong cmp test xs (i + 1) best
-    first_kept i None h e = cc
-    first_kept i (Some b) h e =
-        let lt : b < i = h.within in
-        record {
-          within = omega arith;
-          passes = h.passes;
-          least = λ j d. below_more (λ k. IsTrue (test (slice_index_or xs k d)) → is_gt (cmp (slice_index_or xs b d) (slice_index_or xs k d)) ≡ false) i (λ k. h.least k d) (λ t. sym (e d)) j;
-        }

@@ -16,7 +16,7 @@ use Rattle.tmm_model.specs.declared.bound.Bound.{Bound}
 use Rattle.tmm_model.specs.declared.bound.Bound.TheVariants.{Finite, Free}
 use Rattle.tmm_model.specs.Bounds.{IfFinite, bound_at_most}
 use Rattle.tmm_model.specs.Points.{same_name}
-use Rattle.tmm_model.specs.Tokens.{of_one_class, is_by, is_before, clips, cuts, lasts_to, supports}
+use Rattle.tmm_model.specs.Tokens.{is_by, is_before, clips, cuts, lasts_to, supports}
 use Rattle.tmm_model.specs.Types.{IsOrderOn}
 use Rattle.clipping.specs.Live.{IsLive}
 use Rattle.clipping.specs.ByDate.{AreDatesOn, IsByDate, AreUntil, NonePass, IsPlaceIn, IsFirstPlaceIn}
@@ -87,9 +87,9 @@ pub all_fail : {A : Type 0} (test : A → Bool) (xs : List A) (n : ℕ) → None
 all_fail test xs n front back i d from lt = elim (cases_lt i n) [ inl less ↦ front i d from less | inr more ↦ back i d more lt ]
 
 module _ {P : Type 0} {live : P → Type 0} {far : P → P → Bound} {date : P → ℤ} {order : P → P → Ordering} (dated : AreDatesOn live far date) (tokens : List (TokenRow P)) (sorted : IsByDate date order tokens) (all : All (IsLive live) tokens) (contradicts : TokenRow P → TokenRow P → Bool) where
-  -- no token behind those that begin by p supports at p
-  pub none_later : (f : List ℕ) (p q : P) → live p → (n : ℕ) → AreUntil date tokens (date p) n → NonePass (supports contradicts far tokens f p q) tokens n (length tokens)
-  none_later f p q lp n are i d from lt = no_support dated contradicts (slice_index_or tokens i d) (all i d lt).begin tokens f p q lp (are.rest i d from lt)
+  -- no token behind those that begin by p supports at p, among whichever tokens
+  pub none_later : (among : List (TokenRow P)) (f : List ℕ) (p q : P) → live p → (n : ℕ) → AreUntil date tokens (date p) n → NonePass (supports contradicts far among f p q) tokens n (length tokens)
+  none_later among f p q lp n are i d from lt = no_support dated contradicts (slice_index_or tokens i d) (all i d lt).begin among f p q lp (are.rest i d from lt)
 
   -- what cuts a token is behind it, and begins by q
   pub none_cuts : (i : ℕ) (e : TokenRow P) → i < length tokens → (q : P) → live q → (n : ℕ) → AreUntil date tokens (date q) n
@@ -118,13 +118,13 @@ one_passes test (x ∷ xs) low high i within at = list_any_at test (x ∷ xs) i 
 one_passes test [] low high i within at = absurd (let lt : i < high = at.before in omega arith)
 
 -- **The first clip behind a token's date is the first of all.**
-pub first_clip_is : {P : Type 0} {live : P → Type 0} {far : P → P → Bound} {date : P → ℤ} {order : P → P → Ordering} → IsOrderOn live order → AreDatesOn live far date → (tokens : List (TokenRow P)) → IsByDate date order tokens → All (IsLive live) tokens
+pub first_clip_is : {P : Type 0} (contradicts : TokenRow P → TokenRow P → Bool) {live : P → Type 0} {far : P → P → Bound} {date : P → ℤ} {order : P → P → Ordering} → IsOrderOn live order → AreDatesOn live far date → (tokens : List (TokenRow P)) → IsByDate date order tokens → All (IsLive live) tokens
     → (k : TokenRow P) → live k.spot → (until : Option P) → ForSome until live → (low : ℕ) → AreUntil date tokens (date k.spot) low → (high : ℕ) → MatchOption until (high ≡ length tokens) (λ q. AreUntil date tokens (date q) high)
-    → (place : Option ℕ) → IsFirstPlaceIn (clips_until of_one_class far k until) tokens low high place → IsFirstPlace (on (λ k. k.spot) order) (clips_until of_one_class far k until) tokens place
-first_clip_is {P} {live} {far} {date} {order} law dated tokens sorted all k at until there low early high late place found = by place found
+    → (place : Option ℕ) → IsFirstPlaceIn (clips_until contradicts far k until) tokens low high place → IsFirstPlace (on (λ k. k.spot) order) (clips_until contradicts far k until) tokens place
+first_clip_is {P} contradicts {live} {far} {date} {order} law dated tokens sorted all k at until there low early high late place found = by place found
   where
     test : TokenRow P → Bool
-    test = clips_until of_one_class far k until
+    test = clips_until contradicts far k until
 
     short : high ≤ length tokens
     short = by until late
@@ -139,16 +139,16 @@ first_clip_is {P} {live} {far} {date} {order} law dated tokens sorted all k at u
         lc : live (slice_index_or tokens i d).spot
         lc = (all i d (omega (arith, early.within))).begin
 
-        by : (o : Option P) → clips_until of_one_class far k o (slice_index_or tokens i d) ≡ false
-        by None = no_clip dated of_one_class k at (slice_index_or tokens i d) lc (early.first i d lt)
-        by (Some q) = too_early dated of_one_class k at (slice_index_or tokens i d) lc q (early.first i d lt)
+        by : (o : Option P) → clips_until contradicts far k o (slice_index_or tokens i d) ≡ false
+        by None = no_clip dated contradicts k at (slice_index_or tokens i d) lc (early.first i d lt)
+        by (Some q) = too_early dated contradicts k at (slice_index_or tokens i d) lc q (early.first i d lt)
 
     back : NonePass test tokens high (length tokens)
     back i d from lt = by until there late
       where
-        by : (o : Option P) → ForSome o live → MatchOption o (high ≡ length tokens) (λ q. AreUntil date tokens (date q) high) → clips_until of_one_class far k o (slice_index_or tokens i d) ≡ false
+        by : (o : Option P) → ForSome o live → MatchOption o (high ≡ length tokens) (λ q. AreUntil date tokens (date q) high) → clips_until contradicts far k o (slice_index_or tokens i d) ≡ false
         by None l e = absurd (omega arith)
-        by (Some q) l are = too_late dated of_one_class k at (slice_index_or tokens i d) (all i d lt).begin q (l q refl) (are.rest i d from lt)
+        by (Some q) l are = too_late dated contradicts k at (slice_index_or tokens i d) (all i d lt).begin q (l q refl) (are.rest i d from lt)
 
     by : (place : Option ℕ) → IsFirstPlaceIn test tokens low high place → IsFirstPlace (on (λ k. k.spot) order) test tokens place
     by None h = λ i d lt. elim (cases_lt i low) [

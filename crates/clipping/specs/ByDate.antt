@@ -6,11 +6,13 @@ use Rattle.tmm_model.specs.declared.bound.Bound.{Bound}
 use Rattle.tmm_model.specs.Bounds.{IfFinite}
 use Rattle.tmm_model.specs.declared.token.TokenRow.{TokenRow}
 
--- dates of what is live that meet the distances: none is later than its distance from another allows
+-- dates of what is live that meet the distances: none is later than its distance from another
+-- allows
 pub record AreDatesOn {P : Type 0} (live : P → Type 0) (far : P → P → Bound) (date : P → ℤ) : Type 0 where
   pub met : (p q : P) → live p → live q → IfFinite (far p q) (λ w. date q ≤ℤ (date p +ℤ w))
 
--- the tokens stand by date: dates do not fall from one to the next, and each is before those behind it
+-- the tokens stand by date: dates do not fall from one to the next, and each is before those behind
+-- it
 pub record IsByDate {P : Type 0} (date : P → ℤ) (order : P → P → Ordering) (tokens : List (TokenRow P)) : Type 0 where
   pub dates : (i j : ℕ) (d : TokenRow P) → i < j → j < length tokens → date (slice_index_or tokens i d).spot ≤ℤ date (slice_index_or tokens j d).spot
   pub before : (i j : ℕ) (d : TokenRow P) → i < j → j < length tokens → order (slice_index_or tokens i d).spot (slice_index_or tokens j d).spot ≡ Less

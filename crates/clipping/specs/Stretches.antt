@@ -7,7 +7,8 @@ use Rattle.clipping.specs.declared.stretches.Stretched.{Stretched}
 abbrev pub rows_of : {P : Type 0} → List (Stretched P) → List (TokenRow P)
 rows_of = map (λ t. t.row)
 
--- the tokens from the place `first` on and before the place n are all of the fact; the one before them is not
+-- the tokens from the place `first` on and before the place n are all of the fact; the one before
+-- them is not
 pub record IsStretch {P : Type 0} (rows : List (TokenRow P)) (fact : List ℕ) (first n : ℕ) : Type 0 where
   pub within : first ≤ n
   pub own : (i : ℕ) (d : TokenRow P) → first ≤ i → i < n → (slice_index_or rows i d).fact ≡ fact

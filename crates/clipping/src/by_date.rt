@@ -86,7 +86,11 @@ pub fn count_until<S: Dated>(order: &S, tokens: &[TokenRow<S::Spot>], q: S::Spot
 }
 
 // How many tokens have a date up to that of a point where one is given: all where none is.
-fn count_reached<S: Dated>(order: &S, tokens: &[TokenRow<S::Spot>], until: Option<S::Spot>) -> usize
+pub(crate) fn count_reached<S: Dated>(
+    order: &S,
+    tokens: &[TokenRow<S::Spot>],
+    until: Option<S::Spot>,
+) -> usize
     requires all_live { All (IsLive (S.live order.now)) tokens.now }
     requires by_date { IsByDate (S.date order.now) (S.order order.now) tokens.now }
     requires until_live { ForSome until (λ q. S.live order.now q) }
@@ -197,7 +201,7 @@ enum Near {
 
 // How the search for what cuts one token after the other stands.
 #[derive(Drop)]
-struct Search {
+pub(crate) struct Search {
     // where it begins for the next one
     near: Near,
     // whether the tokens are gone through from the first on, and not back from the last
@@ -210,7 +214,7 @@ struct Search {
 
 impl Search {
     // A search back from this place.
-    fn new(reach: usize, goes_on: bool) -> Search
+    pub(crate) fn new(reach: usize, goes_on: bool) -> Search
         ensures { result.cutter ≡ None }
     {
         Search {
@@ -361,7 +365,7 @@ fn is_cut<S: Dated>(
 
 // Whether the token at `i` supports the fact throughout `p` to `q`, where the tokens that begin by
 // the date of `q` are the first `reach`.
-fn is_supporter<S: Dated>(
+pub(crate) fn is_supporter<S: Dated>(
     order: &S,
     tokens: &[TokenRow<S::Spot>],
     guesses: &[u32],
@@ -551,7 +555,7 @@ pub fn holder_soon<S: Dated>(
 
 // The place of the first token that clips `k`, and begins surely at or before a point where one is
 // given.
-fn first_clip<S: Dated>(
+pub(crate) fn first_clip<S: Dated>(
     order: &S,
     tokens: &[TokenRow<S::Spot>],
     k: &TokenRow<S::Spot>,

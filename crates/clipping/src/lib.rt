@@ -1,10 +1,10 @@
 //! Which token supports a fact, what clips a token, and why a token is no supporter, over any
-//! distances and order of spots. Facts persist by default until they are clipped (Dean and McDermott
-//! 1987); the exact rules are this project's own.
+//! distances and order of spots. Facts persist by default until they are clipped (Dean and
+//! McDermott 1987); the exact rules are this project's own.
 //!
-//! Each call answers exactly as the definitions of support and clip
-//! say: the first token by the order of spots (`last_clipper`: the last as they stand), and none exactly
-//! where no token is such. No call takes memory.
+//! Each call answers exactly as the definitions of support and clip say: the first token by the
+//! order of spots (`last_clipper`: the last as they stand), and none exactly where no token is
+//! such. No call takes memory.
 #![tactic(auto)]
 
 ghost use Rattle.std.specs.Prelude.{◌≡◌, ◌<◌, ◌≤◌, ◌↔◌, ◌+◌, ℕ, length, IsTrue, Bool, true, false, MatchOption, slice_index_or, slice_get, IfSome};
@@ -18,13 +18,16 @@ ghost use Rattle.clipping.specs.Ahead.{IsAhead};
 ghost use Rattle.clipping.specs.Cutters.{BeginsBy, clips_until};
 ghost use Rattle.clipping.specs.Faults.{IsClipPlace, IsFault};
 
+pub mod across;
 pub mod by_date;
 mod dated;
 mod stretches;
+mod tokens;
 
 pub use dated::Dated;
 pub use stretches::{Stretched, last_clipper, stretch_behind};
 use tmm_model::{Name, Sure, TokenRow};
+pub use tokens::Tokens;
 
 // Whether `c` contradicts `k`, and surely begins after it and at or before `q`.
 fn cuts_before<S: Sure>(order: &S, k: &TokenRow<S::Spot>, c: &TokenRow<S::Spot>, q: S::Spot) -> bool
@@ -94,8 +97,8 @@ fn is_cut<S: Sure>(
     false
 }
 
-// Whether `k` is a persistence that is cut by the token at this place, which surely begins at or before
-// `q`.
+// Whether `k` is a persistence that is cut by the token at this place, which surely begins at or
+// before `q`.
 fn is_cut_by<S: Sure>(
     order: &S,
     tokens: &[TokenRow<S::Spot>],
@@ -114,8 +117,8 @@ fn is_cut_by<S: Sure>(
     }
 }
 
-// Whether `k` supports the fact throughout `p` to `q` among the tokens. What cut a token before mostly
-// cuts this one as well, so that is asked first.
+// Whether `k` supports the fact throughout `p` to `q` among the tokens. What cut a token before
+// mostly cuts this one as well, so that is asked first.
 fn is_supporter<S: Sure>(
     order: &S,
     tokens: &[TokenRow<S::Spot>],
@@ -175,8 +178,8 @@ fn is_ahead<S: Sure>(order: &S, tokens: &[TokenRow<S::Spot>], best: Option<usize
     }
 }
 
-// The first place that supports the fact so far, one more token being looked at: the one at `i`. One
-// of another fact, or behind the best so far, is not tested whether it lasts.
+// The first place that supports the fact so far, one more token being looked at: the one at `i`.
+// One of another fact, or behind the best so far, is not tested whether it lasts.
 fn better<S: Sure>(
     order: &S,
     tokens: &[TokenRow<S::Spot>],
@@ -250,8 +253,8 @@ fn clips_until<S: Sure>(
     }
 }
 
-// The first place that clips `k` until a point so far, one more token being looked at: the one at `i`. One
-// of the same fact, or behind the best so far, is not tested whether it clips.
+// The first place that clips `k` until a point so far, one more token being looked at: the one at
+// `i`. One of the same fact, or behind the best so far, is not tested whether it clips.
 fn better_clip<S: Sure>(
     order: &S,
     tokens: &[TokenRow<S::Spot>],
@@ -281,7 +284,8 @@ fn better_clip<S: Sure>(
     }
 }
 
-// The place of the first token that clips `k`, and begins surely at or before a point where one is given.
+// The place of the first token that clips `k`, and begins surely at or before a point where one is
+// given.
 fn first_clip<S: Sure>(
     order: &S,
     tokens: &[TokenRow<S::Spot>],
@@ -325,8 +329,8 @@ pub enum Fault {
     Ends,
 }
 
-/// Why the token at `k` does not support its fact throughout `p` to `q`. The caller knows that it does
-/// not.
+/// Why the token at `k` does not support its fact throughout `p` to `q`. The caller knows that it
+/// does not.
 pub fn blame<S: Sure>(
     order: &S,
     tokens: &[TokenRow<S::Spot>],

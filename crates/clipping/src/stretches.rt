@@ -1,5 +1,5 @@
-//! Stretches of tokens of one fact in a list, which a search for what clips a token passes over at once
-//! where the fact is the token's own.
+//! Stretches of tokens of one fact in a list, which a search for what clips a token passes over at
+//! once where the fact is the token's own.
 ghost use Rattle.std.specs.Prelude.{length};
 ghost use Rattle.std.specs.List.{All};
 ghost use Rattle.tmm_model.specs.Tokens.{of_one_class, clips};
@@ -10,7 +10,8 @@ ghost use Rattle.clipping.specs.Stretches.{rows_of, IsStretch, HaveStretches};
 use crate::clips_after;
 use tmm_model::{Name, Sure, TokenRow};
 
-/// A token in a list, and where in the list the stretch of tokens of its fact begins that goes up to it.
+/// A token in a list, and where in the list the stretch of tokens of its fact begins that goes up
+/// to it.
 #[derive(Clone, Copy)]
 pub struct Stretched<P> {
     /// The token.
@@ -30,8 +31,8 @@ pub fn stretch_behind<P>(tokens: &[Stretched<P>], fact: &Name) -> usize
     }
 }
 
-/// The place of the last of the tokens that clips `k`, none exactly where no token does. A stretch of its
-/// own fact is passed over at once, other tokens one by one.
+/// The place of the last of the tokens that clips `k`, none exactly where no token does. A stretch
+/// of its own fact is passed over at once, other tokens one by one.
 pub fn last_clipper<S: Sure>(
     order: &S,
     tokens: &[Stretched<S::Spot>],

@@ -12,7 +12,8 @@ use Rattle.decision_rows.specs.declared.row.Decision.TheVariants.{Beyond}
 abbrev pub classes_in : List ℕ → List (Option ℕ)
 classes_in classes = slice_get classes 0 ∷ slice_get classes 1 ∷ slice_get classes 2 ∷ slice_get classes 3 ∷ slice_get classes 4 ∷ slice_get classes 5 ∷ []
 
--- the heads of a row, by family: its trigger, its rule, and the class of each fact that the rule reads
+-- the heads of a row, by family: its trigger, its rule, and the class of each fact that the rule
+-- reads
 abbrev pub heads_of : ℕ → ℕ → List (Option ℕ) → List (Option ℕ)
 heads_of trigger rule classes = Some trigger ∷ Some rule ∷ classes
 

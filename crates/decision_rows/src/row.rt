@@ -1,15 +1,15 @@
 // What a row keeps.
 
-/// How many families of lists there are: of triggers, of rules, and of the class of each fact that a rule reads.
+/// How many families of lists there are: of triggers, of rules, and of the class of each fact that
+/// a rule reads.
 pub(crate) const FAMILIES: usize = 8;
 
-/// What was decided of a rule at a trigger: its effect is believed, or why it is not. Nodes are told by
-/// their numbers.
+/// What was decided of a rule at a trigger: its effect is believed, or why it is not. Which tokens
+/// support its antecedents is not kept: nothing that follows of a decision reads them.
 #[derive(Clone, Copy, PartialEq, Eq, Debug)]
 pub enum Decision {
-    /// Its effect is believed. The first `count` of these nodes support its antecedents, in order; the
-    /// other numbers mean nothing.
-    Fires { supports: [u32; 4], count: u8 },
+    /// Its effect is believed.
+    Fires,
     /// The antecedent at this place is the first without a supporter.
     Blocked { antecedent: usize },
     /// Each antecedent has a supporter; the exception at this place is the first that has one too.

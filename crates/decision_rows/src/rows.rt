@@ -11,7 +11,8 @@ use std::alloc::Global;
 use std::marker::Model;
 use tmm_model::NoMemory;
 
-/// One row for each decision, on lists by trigger, by rule and by the class of each fact that the rule reads.
+/// One row for each decision, on lists by trigger, by rule and by the class of each fact that the
+/// rule reads.
 #[derive(Drop)]
 pub struct Rows {
     rows: undo_rows::Rows<Pair, FAMILIES>,
@@ -38,9 +39,9 @@ impl Rows {
         }
     }
 
-    /// Adds a row of a trigger, a rule and the classes of what it reads, of which nothing is decided,
-    /// last on each of its lists, and answers its number. Without memory nothing has changed; it counts
-    /// as want of memory that a number would be 2^32 - 1 or more.
+    /// Adds a row of a trigger, a rule and the classes of what it reads, of which nothing is
+    /// decided, last on each of its lists, and answers its number. Without memory nothing has
+    /// changed; it counts as want of memory that a number would be 2^32 - 1 or more.
     pub fn add(
         &mut self,
         alloc: Global,
@@ -70,8 +71,8 @@ impl Rows {
         self.rows.add(alloc, heads, pair)
     }
 
-    /// Takes a row off all its lists. Its number is free again after the next commit. Without memory
-    /// nothing has changed.
+    /// Takes a row off all its lists. Its number is free again after the next commit. Without
+    /// memory nothing has changed.
     pub fn remove(&mut self, alloc: Global, x: u32) -> Result<(), NoMemory>
         requires { IsSome ((present self.old).row x) }
         ensures ok { OnOk result (Removes self.old self.new x) }
@@ -108,8 +109,8 @@ impl Rows {
         (pair.trigger, pair.rule)
     }
 
-    /// The first row on the list of a head in a family, none exactly where there is none: family 0 is by
-    /// trigger, 1 by rule, 2 to 7 by the class of a fact that the rule reads.
+    /// The first row on the list of a head in a family, none exactly where there is none: family 0
+    /// is by trigger, 1 by rule, 2 to 7 by the class of a fact that the rule reads.
     pub fn first(&self, family: usize, head: u32) -> Option<u32>
         ensures first { result ≡ first_or None ((present self.now).list family head) }
         ensures listed { AreListed (present self.now) }
@@ -144,7 +145,8 @@ impl Rows {
         self.rows.commit();
     }
 
-    /// Makes the rows, the lists and their orders those of the last commit again. It takes no memory.
+    /// Makes the rows, the lists and their orders those of the last commit again. It takes no
+    /// memory.
     pub fn rollback(&mut self)
         ensures present { present self.new ≡ committed self.old }
         ensures committed { committed self.new ≡ committed self.old }

@@ -1,8 +1,8 @@
 //! The lines of the script that the words `demo N` run.
 //!
 //! It stands on `tmm_model`, whose definition says the script. `line_of` works out any one line by
-//! arithmetic, so that no script is built and no memory is taken. It ensures exactly the definition's
-//! line, and `None` exactly past the end.
+//! arithmetic, so that no script is built and no memory is taken. It ensures exactly the
+//! definition's line, and `None` exactly past the end.
 #![tactic(auto)]
 
 mod places;

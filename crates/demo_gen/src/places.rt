@@ -3,8 +3,8 @@ ghost use Rattle.std.specs.Prelude.{◌≡◌, ◌≤◌, ◌<◌, ◌+◌, leng
 ghost use Rattle.tmm_model.specs.Generator.{event_lines};
 ghost use Rattle.demo_gen.specs.Blocks as spec;
 
-/// So many events stand at most: each one from this number on (from 0) first erases the one that came so
-/// many before it.
+/// So many events stand at most: each one from this number on (from 0) first erases the one that
+/// came so many before it.
 pub const KEPT: u32 = 60;
 
 /// A line of an event: which one of its lines, from 0.

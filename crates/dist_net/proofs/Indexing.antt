@@ -127,13 +127,6 @@ AreIndexed-named names old new p name is here others q = elim (cases_eq q p) [
   | inr other ↦ others q (λ n at. is q n (sym (get_or-set_other names p q (Some name) None other) ∙ at))
 ]
 
--- what stands under a name is its number, if it has one
-pub only_number : (names : List (Option PointName)) (entries : List (PointName × ℕ)) (name : PointName) (p : ℕ) → AreIndexed names entries → lookup (same_point name) entries ≡ Some p
-    → (get_or names p None ≢ Some name) → (k : ℕ) → get_or names k None ≢ Some name
-only_number names entries name p is found other k at =
-    let same : k ≡ p = some_same k p (sym (is k name at) ∙ found) in
-    other (ap (λ i. get_or names i None) (sym same) ∙ at)
-
 pub no_number : (names : List (Option PointName)) (entries : List (PointName × ℕ)) (name : PointName) → AreIndexed names entries → lookup (same_point name) entries ≡ None
     → (k : ℕ) → get_or names k None ≢ Some name
 no_number names entries name is none k at = apart_none k (sym none ∙ is k name at)

@@ -1,5 +1,5 @@
 -- What is listed of changes.
-use Rattle.std.proofs.Common.{◌≡◌, ◌∙◌, ◌⊎◌, inl, inr, ℕ, ◌+◌, ◌*◌, ◌/◌, ◌%◌, ◌<◌, ◌≤◌, ◌++◌, Bool, true, false, eqb, List, [], ◌∷◌, length, length-set, get_or, set, drop, replicate, append_assoc, ap, sym, subst, arith, refl}
+use Rattle.std.proofs.Common.{◌≡◌, ◌∙◌, ◌⊎◌, inl, inr, ℕ, ◌+◌, ◌*◌, ◌/◌, ◌%◌, ◌<◌, ◌≤◌, ◌++◌, Bool, true, false, eqb, List, [], ◌∷◌, length, length-set, get_or, set, drop, append_assoc, ap, sym, subst, arith, refl}
 use Rattle.std.specs.List.{Contains, IsDistinct, list_any}
 use Rattle.std.proofs.lemmas.Bool.{cases_eq, false≢true, eqb-true}
 use Rattle.std.proofs.Math.Seq.{drop-append_seam}
@@ -7,7 +7,7 @@ use Rattle.std.proofs.lemmas.Cmp.{nat_eq_equiv}
 use Rattle.std.proofs.lemmas.Map.Keys.{IsDistinct-push}
 use Rattle.std.proofs.lemmas.Map.Steps.{length-le_from_distinct_below}
 use Rattle.std.proofs.lemmas.Map.Views.{Contains-from_any}
-use Rattle.std.proofs.lemmas.List.{append-nil, get_or_append_left, get_or-set_other, get_or-set_same, get_or_default, get_or-replicate, length-append}
+use Rattle.std.proofs.lemmas.List.{append-nil, get_or_append_left, get_or-set_other, get_or-set_same, get_or_default, length-append}
 use Rattle.std.proofs.lemmas.List.Elements.{All-push, Contains-append_left, Contains-append_right}
 use Rattle.tmm_model.specs.declared.bound.Bound.{Bound}
 use Rattle.tmm_model.specs.declared.bound.Bound.TheVariants.{Free}
@@ -25,12 +25,6 @@ Covers-more old more new k is covered =
 Covers-last : (old more new : List ℕ) (k : ℕ) → new ≡ old ++ more → (65536 ≤ length new) ⊎ Contains more k → Covers new k
 Covers-last old more new k is covered =
     elim covered [ inl full ↦ inl full | inr m ↦ inr (subst (λ (t : List ℕ). Contains t k) (sym is) (Contains-append_right old more k m)) ]
-
-pub IsNoted-push : (list : List ℕ) (place : ℕ) → IsNoted list place (list ++ place ∷ [])
-IsNoted-push list place = record { more = place ∷ []; extends = refl; noted = inr (0, omega arith, refl) }
-
-pub IsNoted-full : (list : List ℕ) (place : ℕ) → 65536 ≤ length list → IsNoted list place list
-IsNoted-full list place full = record { more = []; extends = sym (append-nil list); noted = inl full }
 
 pub IsNoted-kept : (old : List ℕ) (place : ℕ) (new : List ℕ) (k : ℕ) → IsNoted old place new → Covers old k → Covers new k
 IsNoted-kept old place new k is covered = Covers-more old is.more new k is.extends covered
@@ -150,16 +144,6 @@ module _ (old mid new : Listed) (x y : List Bound) (marking : IsMarking old x mi
       numbers a b in_b (inl m) = let row : (a * 256 + b) / 256 ≡ a = omega arith in inl (subst (Contains new.moved) row m)
       numbers a b in_b (inr m) = let column : (a * 256 + b) % 256 ≡ b = omega arith in inr (subst (Contains new.moved) column m)
 
-pub IsListed-start : (listed : Listed) (table : List Bound) → IsListed listed table listed table
-IsListed-start listed table = record {
-  kept = λ k h. h;
-  marked = λ k lt. inl refl;
-  kept_drafted = λ k h. h;
-  drafted = λ k lt. inl refl;
-  kept_moved = λ p h. h;
-  moved = λ a b in_a in_b. inl refl;
-}
-
 pub IsListed-trans : (m n o : Listed) (x y z : List Bound) → IsListed m x n y → IsListed n y o z → IsListed m x o z
 IsListed-trans m n o x y z h g = record {
   kept = λ k c. g.kept k (h.kept k c);
@@ -227,9 +211,6 @@ set_kept marks a p lt h =
       | inr other ↦ get_or-set_other marks a p true false (λ e. other (omega arith)) ∙ h
     ]
 
-pub AreListedMarked-start : (places : List ℕ) (from to : List Bool) → length from ≡ 256 → length to ≡ 256 → AreListedMarked places from to 0 from to
-AreListedMarked-start places from to is_from is_to = record { from_places = is_from; to_places = is_to; from_kept = λ p h. h; to_kept = λ p h. h; listed = λ j k lt. absurd (omega arith) }
-
 pub AreListedMarked-more : (places : List ℕ) (old_from old_to from to : List Bool) (i : ℕ) → i < length places → get_or places i 0 < 65536 → AreListedMarked places old_from old_to i from to →
     AreListedMarked places old_from old_to (i + 1) (set from (get_or places i 0 / 256) true) (set to (get_or places i 0 % 256) true)
 AreListedMarked-more places old_from old_to from to i lt in_place is = record {
@@ -257,19 +238,6 @@ AreListedMarked-more places old_from old_to from to i lt in_place is = record {
 
     reads : (j k : ℕ) → j ≡ i → j < length places → get_or places j k ≡ k → place ≡ k
     reads j k same in_j at = sym (sym at ∙ (get_or_default places j k 0 in_j ∙ ap (λ (r : ℕ). get_or places r 0) same))
-
-pub AreNumbersMarked-filled : (places : List ℕ) (all : Bool) (old_from old_to from to : List Bool) → old_from ≡ replicate 256 all → old_to ≡ replicate 256 all → AreListedMarked places old_from old_to (length places) from to → AreNumbersMarked places all from to
-AreNumbersMarked-filled places all old_from old_to from to from_all to_all is = record {
-  from_places = is.from_places;
-  to_places = is.to_places;
-  marked = λ k lt speaks. elim speaks [
-    | inl full ↦ (
-      is.from_kept (k / 256) (ap (λ (t : List Bool). get_or t (k / 256) false) from_all ∙ (get_or-replicate 256 (k / 256) all false (omega (arith, lt)) ∙ full)),
-      is.to_kept (k % 256) (ap (λ (t : List Bool). get_or t (k % 256) false) to_all ∙ (get_or-replicate 256 (k % 256) all false (omega arith) ∙ full)),
-    )
-    | inr m ↦ is.listed m.0 k m.1 m.1 m.2
-  ];
-}
 
 -- ---- points listed
 
@@ -315,12 +283,6 @@ AreMarksListed-skip marks old new n is none = record {
 
 -- the fewer of the marked numbers are listed
 module _ (places : List ℕ) (all : Bool) (from to : List Bool) (old new : List ℕ) (marked : AreNumbersMarked places all from to) (fewer : AreMarksListed from old 256 new ⊎ AreMarksListed to old 256 new) where
-  pub fewer_points : ArePoints new
-  fewer_points = elim fewer [ inl is ↦ is.points | inr is ↦ is.points ]
-
-  pub fewer_kept : (p : ℕ) → Contains old p → Contains new p
-  fewer_kept p m = elim fewer [ inl is ↦ is.kept p m | inr is ↦ is.kept p m ]
-
   pub fewer_listed : AreNumbersListed places all new
   fewer_listed k lt speaks =
       elim fewer [

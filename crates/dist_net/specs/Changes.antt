@@ -5,7 +5,9 @@ use Rattle.tmm_model.specs.declared.bound.Bound.{Bound}
 use Rattle.tmm_model.specs.declared.bound.Bound.TheVariants.{Free}
 use Rattle.dist_net.specs.Net.{entry}
 
--- the places at which the tables of the two states may differ, the places at which the draft may differ from the present table, and points of which one is at each place at which the two tables differ; the place of a and b is a * 256 + b
+-- the places at which the tables of the two states may differ, the places at which the draft may
+-- differ from the present table, and points of which one is at each place at which the two tables
+-- differ; the place of a and b is a * 256 + b
 pub record Listed : Type 0 where
   pub places : List ℕ
   pub drafted : List ℕ
@@ -57,7 +59,8 @@ pub record IsListed (old : Listed) (before : List Bound) (new : Listed) (now : L
 abbrev pub AreNumbersListed : List ℕ → Bool → List ℕ → Type 0
 AreNumbersListed places full moved = (k : ℕ) → k < 65536 → (full ≡ true) ⊎ Contains places k → Contains moved (k / 256) ⊎ Contains moved (k % 256)
 
--- the first numbers of the first `done` places that are listed are marked in `from`, the second ones in `to`, and what was marked stays so
+-- the first numbers of the first `done` places that are listed are marked in `from`, the second
+-- ones in `to`, and what was marked stays so
 pub record AreListedMarked (places : List ℕ) (old_from old_to : List Bool) (done : ℕ) (from to : List Bool) : Type 0 where
   pub from_places : length from ≡ 256
   pub to_places : length to ≡ 256

@@ -67,8 +67,8 @@ impl Cell {
         self.number == other.number
     }
 
-    /// A number for sums: that of the bound, or one that is so great that the sum with any way is no
-    /// bound.
+    /// A number for sums: that of the bound, or one that is so great that the sum with any way is
+    /// no bound.
     pub fn addend(self) -> i64
         ensures { result ≡ addend_of self }
     {

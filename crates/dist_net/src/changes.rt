@@ -102,8 +102,8 @@ impl Changes {
         note(&mut self.drafted, place);
     }
 
-    /// Lists points of which one is at each place that was listed from `before` on: the fewer of the
-    /// first and the second numbers of these places.
+    /// Lists points of which one is at each place that was listed from `before` on: the fewer of
+    /// the first and the second numbers of these places.
     pub fn list_moved(&mut self, before: usize)
         requires { before ≤ length self.old.places }
         ensures kept { self.new ≡ record self.old { moved = self.new.moved } }

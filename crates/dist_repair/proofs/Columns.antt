@@ -31,14 +31,6 @@ pub record IsCollecting (net : Net) (u : ℕ) (row : ℕ → Bound) (b : ℕ) (c
   pub differs : (q : ℕ) → Contains columns q → IsFar (arcs_of net.edges) u q (row q) → ⊥
 
 module _ (net : Net) (u : ℕ) (row : ℕ → Bound) where
-  pub IsCollecting-none : IsCollecting net u row 0 []
-  IsCollecting-none = record {
-    few = omega arith;
-    used = λ k d lt. absurd (omega (arith, lt));
-    beside = λ q below in_q. absurd (omega (arith, below));
-    differs = λ q m far. absurd (omega (arith, m.1));
-  }
-
   pub IsCollecting-more : (b : ℕ) (columns : List ℕ) → IsCollecting net u row b columns → IsInUse net.names b → (IsFar (arcs_of net.edges) u b (row b) → ⊥) → IsCollecting net u row (b + 1) (columns ++ b ∷ [])
   IsCollecting-more b columns is in_b other = record {
     few = omega (arith, is.few, length-append columns (b ∷ []));

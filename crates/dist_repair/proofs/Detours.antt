@@ -36,8 +36,8 @@ module _ {P : Type 0} where
   IsFar-among old new sub a b x far reached = record { reached = reached; least = λ walk h. far.least walk (IsWalk-kept new old sub a b walk h) }
 
 module _ {P : Type 0} (old new : List (Arc P)) (e : Arc P) (adds : Adds new e old) where
-  -- Where each walk from the beginning of e can be no shorter than one over new, each walk can: what
-  -- comes before e is over new.
+  -- Where each walk from the beginning of e can be no shorter than one over new, each walk can:
+  -- what comes before e is over new.
   around : (b : P) → ((walk : List (Arc P)) → IsWalk old e.from b walk → (w : List (Arc P)) × IsWalk new e.from b w × (total w ≤ℤ total walk)) →
       (a : P) (walk : List (Arc P)) → IsWalk old a b walk → (w : List (Arc P)) × IsWalk new a b w × (total w ≤ℤ total walk)
   around b there a [] h = ([], h, omega (arith, ints))
@@ -50,7 +50,8 @@ module _ {P : Type 0} (old new : List (Arc P)) (e : Arc P) (adds : Adds new e ol
             subst F (sym at) (there (x ∷ walk) (subst (λ (p : P). IsWalk old p b (x ∷ walk)) at h)))
       ]
 
-  -- Where each walk from a to the end of e can be no shorter than one over new, each walk from a can.
+  -- Where each walk from a to the end of e can be no shorter than one over new, each walk from a
+  -- can.
   onward : (a b : P) → ((walk : List (Arc P)) → IsWalk old a e.to walk → (w : List (Arc P)) × IsWalk new a e.to w × (total w ≤ℤ total walk)) →
       (c : P) (front walk : List (Arc P)) → IsWalk new a c front → IsWalk old c b walk → (w : List (Arc P)) × IsWalk new a b w × (total w ≤ℤ (total front +ℤ total walk))
   onward a b there c front [] h k = (front, subst (λ (p : P). IsWalk new a p front) k h, omega (arith, ints))
@@ -92,7 +93,8 @@ module _ {P : Type 0} (old new : List (Arc P)) (e : Arc P) (adds : Adds new e ol
       (λ walk h. (let w : (w : List (Arc P)) × IsWalk new a b w × (total w ≤ℤ (pos 0 +ℤ total walk)) = onward a b (no_shorter a e.to y far_old far_new) a [] walk refl h in (w.0, w.1, omega (arith, ints, w.2))))
       far
 
-  -- **A distance to the beginning of the constraint stays**: back to it leads no walk of a negative sum.
+  -- **A distance to the beginning of the constraint stays**: back to it leads no walk of a negative
+  -- sum.
   pub IsFar-to_beginning : (start : P) → HasDates start old → (a : P) (x : Bound) → IsFar old a e.from x → IsFar new a e.from x
   IsFar-to_beginning start dates a x far =
       far_by a e.from x

@@ -54,7 +54,8 @@ reached_kept : (rest arcs : List (Arc ℕ)) → ((x : Arc ℕ) → Contains rest
 reached_kept rest arcs sub a b (Finite s) h = (h.0, IsWalk-kept rest arcs sub a b h.0 h.1, h.2)
 reached_kept rest arcs sub a b Free h = tt
 
--- a row whose listed bounds are drafted has its distances in the draft: all others are the present ones
+-- a row whose listed bounds are drafted has its distances in the draft: all others are the present
+-- ones
 pub IsFarRow-drafted : (net : Net) (place a : ℕ) (points : List ℕ) (start row old new : ℕ → Bound) → length net.names ≡ 256 → IsPresentBeside net points a start → IsLowered net.names start row → IsFarRow net place a row → IsPresentRow net a old →
     ((q : ℕ) → Contains points q → new q ≡ row q) → ((q : ℕ) → q < 256 → Contains points q ⊎ (new q ≡ old q)) → IsFarRow net place a new
 IsFarRow-drafted net place a points start row old new places beside lowered far present written kept q in_q =

@@ -32,7 +32,8 @@ module _ (net : Net) (a : ℕ) (old new : ℕ → Bound) (same : (q : ℕ) → I
 
 -- ---- the rows
 
--- the first `done` rows are repaired, the others are as the draft began, and that of the edge's beginning u stays
+-- the first `done` rows are repaired, the others are as the draft began, and that of the edge's
+-- beginning u stays
 pub record IsErasing (old : Nets) (place u : ℕ) (columns : List ℕ) (done : ℕ) (now : Nets) : Type 0 where
   pub far : (p : ℕ) → p < done → IsInUse old.present.names p → IsFarRow old.present place p (entry now.draft p)
   pub draft : (p : ℕ) → done ≤ p → IsInUse old.present.names p → p ≢ u → IsPresentRow old.present p (entry now.draft p)

@@ -62,8 +62,8 @@ module _ (net : Net) (place : ℕ) (known : IsNet net) (lt : place < length net.
   pub KeepsRow-end : (v : ℕ) → IsTo net place v → KeepsRow net place v
   KeepsRow-end v to = KeepsRow-onward v v (Finite (pos 0)) to (IsFar-itself (arcs_of net.edges) known.dates v) (IsFar-itself (rest_of net place) (rest_dates net place known) v)
 
-  -- **Where another edge begins a least walk to that end over a point from which all distances stay, they stay from
-  -- where it begins.**
+  -- **Where another edge begins a least walk to that end over a point from which all distances
+  -- stay, they stay from where it begins.**
   pub KeepsRow-before : (j c u v : ℕ) (t : ℤ) → j < length net.edges → j ≢ place → ((d : Edge) → (get_or net.edges j d).from ≡ u) → ((d : Edge) → (get_or net.edges j d).to ≡ c)
       → IsTo net place v → KeepsRow net place c → IsFar (arcs_of net.edges) c v (Finite t) → IsWayOn net j v t → KeepsRow net place u
   KeepsRow-before j c u v t below other from at to keeps far way =

@@ -1,7 +1,7 @@
 -- Edges taken out from the last on.
-use Rattle.std.proofs.Common.{◌≡◌, ◌∙◌, ◌≤◌, ◌+◌, ◌-◌, ℕ, List, length, take, set, get_or, ap, sym, refl, arith}
+use Rattle.std.proofs.Common.{◌≡◌, ◌∙◌, ◌≤◌, ◌+◌, ◌-◌, ℕ, List, length, take, set, get_or, ap, arith}
 use Rattle.std.specs.List.{swap_remove}
-use Rattle.std.proofs.lemmas.List.{take_all, length-take, take-set-le, take-take}
+use Rattle.std.proofs.lemmas.List.{length-take, take-set-le, take-take}
 use Rattle.dist_net.specs.declared.Edge.{Edge}
 use Rattle.dist_net.specs.Net.{Net, Nets}
 use Rattle.dist_net.proofs.Ends.{edge_at}
@@ -11,13 +11,6 @@ pub record IsErasingLast (old : Nets) (place : ℕ) (now : Nets) : Type 0 where
   pub present : now.present ≡ record old.present { edges = take place old.present.edges }
   pub committed : now.committed ≡ old.committed
   pub within : place ≤ length old.present.edges
-
-pub IsErasingLast-start : (old : Nets) → IsErasingLast old (length old.present.edges) old
-IsErasingLast-start old = record {
-  present = sym (ap (λ (l : List Edge). record old.present { edges = l }) (take_all (length old.present.edges) old.present.edges (omega arith)));
-  committed = refl;
-  within = omega arith;
-}
 
 -- the last edge is taken out
 pub IsErasingLast-more : (old : Nets) (place : ℕ) (now new : Nets) → IsErasingLast old (place + 1) now → ((d : Edge) → new.present ≡ record now.present { edges = swap_remove now.present.edges place d })
@@ -36,8 +29,3 @@ IsErasingLast-more old place now new is taken committed =
       committed = committed ∙ is.committed;
       within = omega (arith, is.within);
     }
-
--- those that are left, from the place on, are taken out at once
-pub IsErasingLast-end : (old : Nets) (first place : ℕ) (now new : Nets) → first ≤ place → IsErasingLast old place now → new.present ≡ record now.present { edges = take first now.present.edges } → new.present ≡ record old.present { edges = take first old.present.edges }
-IsErasingLast-end old first place now new below is kept =
-    kept ∙ ap (λ (n : Net). record n { edges = take first n.edges }) is.present ∙ ap (λ (l : List Edge). record old.present { edges = l }) (take-take first place old.present.edges below)

@@ -1,5 +1,5 @@
 -- Numbers in a row and the links between the places of each, when one more stands behind them.
-use Rattle.std.proofs.Common.{◌≡◌, ◌≢◌, ℕ, ◌+◌, ◌<◌, ◌⊎◌, inl, inr, ◌++◌, ◌∷◌, ◌∙◌, [], List, Option, None, Some, length, slice_index_or, get_or, length-append, refl, sym, ap, subst, arith}
+use Rattle.std.proofs.Common.{◌≡◌, ◌≢◌, ℕ, ◌+◌, ◌<◌, ◌⊎◌, inl, inr, ◌++◌, ◌∷◌, ◌∙◌, [], List, Option, None, Some, length, slice_index_or, get_or, length-append, sym, ap, subst, arith}
 use Rattle.std.specs.Prelude.{slice_set}
 use Rattle.std.proofs.lemmas.Bool.{cases_eq}
 use Rattle.std.proofs.lemmas.List.{length-set, get_or_append_left, get_or-set_other, get_or-set_same}
@@ -27,17 +27,6 @@ IsLastOf-step xs p n (Some i) other at = record {
   before = omega (arith, at.before);
   number = at.number;
   last = λ j behind below is. at.last j behind (below_last below (λ e. other (sym (ap (number_at xs) e) ∙ is))) is;
-}
-
--- no number stands in no row
-pub AreLinked-none : (last : List (Option ℕ)) → length last ≡ 256 → ((p : ℕ) → slice_index_or last p None ≡ None) → AreLinked [] last []
-AreLinked-none last all none = record {
-  small = λ k d below. omega (arith, below);
-  few = omega arith;
-  all = all;
-  each = refl;
-  last_is = λ p below. subst (IsLastOf [] p 0) (sym (none p)) (λ j in_none is. omega (arith, in_none));
-  before_is = λ k below. omega (arith, below);
 }
 
 module _ (numbers : List ℕ) (last before : List (Option ℕ)) (p : ℕ) (small : p < 256) (room : length numbers < 4000) (is : AreLinked numbers last before) where

@@ -25,13 +25,6 @@ module _ (numbers : List ℕ) (p i : ℕ) (here : IsAt numbers p (Some i)) (next
   pub IsAt-before : IsAt numbers p next
   IsAt-before = IsAt-last numbers p i next (omega (arith, here.0)) before_this
 
-  pub places_to-before : places_to next < places_to (Some i)
-  places_to-before = smaller next before_this
-    where
-      smaller : (at : Option ℕ) → IsLastOf numbers p i at → places_to at < i + 1
-      smaller None is_last = omega arith
-      smaller (Some k) is_last = omega (arith, is_last.before)
-
 pub not_behind : (numbers : List ℕ) (p n : ℕ) (at : Option ℕ) (j : ℕ) → IsLastOf numbers p n at → j < n → number_at numbers j ≡ p → j < places_to at
 not_behind numbers p n None j is below same = absurd (is j below same)
 not_behind numbers p n (Some i) j is below same = elim (cases_lt i j) [ inl behind ↦ absurd (is.last j behind below same) | inr not_after ↦ omega (arith, not_after) ]

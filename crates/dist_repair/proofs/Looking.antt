@@ -1,5 +1,5 @@
 -- The first look at the edges that lead to the suspects of a row.
-use Rattle.std.proofs.Common.{◌≡◌, ◌≢◌, ◌∙◌, ◌⊎◌, inl, inr, ℕ, ◌+◌, ◌<◌, ◌≤◌, ◌≤ℤ◌, ◌+ℤ◌, List, [], Option, Some, length, get_or, sym, subst, ap, arith, pos}
+use Rattle.std.proofs.Common.{◌≡◌, ◌≢◌, ◌∙◌, ◌⊎◌, inl, inr, ℕ, ◌+◌, ◌<◌, ◌≤◌, ◌≤ℤ◌, ◌+ℤ◌, List, [], Option, Some, length, get_or, sym, subst, ap, arith}
 use Rattle.std.specs.List.{Contains}
 use Rattle.std.proofs.lemmas.Bool.{cases_eq}
 use Rattle.std.proofs.lemmas.Int.{ints}
@@ -20,7 +20,7 @@ use Rattle.dist_repair.specs.Rows.{rest_of, tos_of, IsStartedRow, IsPresentBesid
 use Rattle.dist_repair.proofs.Columns.{StandsFrom, later}
 use Rattle.dist_repair.proofs.Detours.{AtMost-after_walk, IsFar-among}
 use Rattle.dist_repair.proofs.Left.{IsNet, left_sub}
-use Rattle.dist_repair.proofs.Listing.{IsAt, IsAt-last, IsAt-before, before_this, not_behind, none_to, places_to}
+use Rattle.dist_repair.proofs.Listing.{IsAt, IsAt-before, before_this, not_behind, none_to, places_to}
 use Rattle.dist_repair.proofs.Passes.{IsDoneAt-lowered}
 use Rattle.dist_repair.proofs.Rows.{left_edge}
 use Rattle.dist_repair.proofs.Starts.{IsSound-started}
@@ -79,14 +79,6 @@ pub record IsLooking (net : Net) (place a p : ℕ) (numbers : List ℕ) (old : �
 module _ (net : Net) (place a p : ℕ) (numbers : List ℕ) (old : ℕ → Bound) (before : List ℕ) (same : numbers ≡ tos_of net.edges) where
   all : length numbers ≡ length net.edges
   all = ap length same ∙ length-map net.edges (λ (e : Edge). e.to)
-
-  pub IsLooking-start : (at : Option ℕ) → IsSound net.names (rest_of net place) a old → ArePlaces net place before → IsLastOf numbers p (length numbers) at →
-      IsLooking net place a p numbers old before at old before
-  IsLooking-start at sound places is = record {
-    looked = IsLooked-none net place a old before sound places;
-    each = λ j below ne there. inr (not_behind numbers p (length numbers) at j is (omega (arith, below, all)) there);
-    here = IsAt-last numbers p (length numbers) at (omega arith) is;
-  }
 
   module _ (now : ℕ → Bound) (list : List ℕ) (i : ℕ) (is : IsLooking net place a p numbers old before (Some i) now list) (next_at : Option ℕ) (next_is : IsLastOf numbers (number_at numbers i) i next_at) where
     waits : (j : ℕ) → j < places_to (Some i) → j ≢ i → number_at numbers j ≡ p → j < places_to next_at
@@ -169,11 +161,3 @@ module _ (net : Net) (place a : ℕ) (numbers points : List ℕ) (known : IsNet 
 pub AreDone-surveyed : (net : Net) (place a : ℕ) (numbers points : List ℕ) (old now : ℕ → Bound) (list : List ℕ) (i : ℕ) → length points ≤ i → IsSurveying net place a numbers points old i now list → AreDone net place list a now
 AreDone-surveyed net place a numbers points old now list i end is j below ne =
     elim (is.each j below ne) [ inl d ↦ d | inr s ↦ absurd (omega (arith, s.1, s.2, end)) ]
-
--- a row that is lowered has begun still
-pub IsStartedRow-looked : (net : Net) (place a : ℕ) (old now : ℕ → Bound) (before list : List ℕ) → IsStartedRow net place a old → IsLooked net place a old before now list → IsStartedRow net place a now
-IsStartedRow-looked net place a old now before list started is q in_q = record {
-  reached = is.sound.reached q in_q;
-  small = is.sound.small q in_q;
-  itself = λ same. is.lowered q (pos 0) in_q ((started q in_q).itself same);
-}

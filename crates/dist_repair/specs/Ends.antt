@@ -20,7 +20,8 @@ pub record IsLastAt (numbers : List ℕ) (p n place : ℕ) : Type 0 where
 abbrev pub IsLastOf : List ℕ → ℕ → ℕ → Option ℕ → Type 0
 IsLastOf numbers p n found = MatchOption found (IsNotAmong numbers p n) (IsLastAt numbers p n)
 
--- for each number below 256 its last place, and for each place the last one before it with the same number
+-- for each number below 256 its last place, and for each place the last one before it with the same
+-- number
 pub record AreLinked (numbers : List ℕ) (last before : List (Option ℕ)) : Type 0 where
   pub small : All (λ p. p < 256) numbers
   pub few : length numbers ≤ 4000

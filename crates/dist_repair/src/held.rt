@@ -6,7 +6,8 @@ use arrayvec::ArrayVec;
 use dist_net::POINTS;
 use std::marker::Model;
 
-/// Points in the order in which they were found, and whether each is one of them. It takes no memory.
+/// Points in the order in which they were found, and whether each is one of them. It takes no
+/// memory.
 #[derive(Drop)]
 pub(crate) struct Held {
     points: ArrayVec<u16, POINTS>,

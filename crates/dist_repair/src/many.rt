@@ -8,8 +8,8 @@ use dist_net::DistNet;
 // constraints, mostly leave most distances as they are.
 const FEW: usize = 16;
 
-// Of more, so many that distances may change without are taken out one by one, and then all distances
-// are found from nothing.
+// Of more, so many that distances may change without are taken out one by one, and then all
+// distances are found from nothing.
 const SOME: usize = 4;
 
 // Where more fall than this, looking at each of them takes longer than finding all distances from
@@ -46,8 +46,7 @@ pub fn erase_from(net: &mut DistNet, first: usize)
 fn is_needless(net: &DistNet, place: usize) -> bool
     requires { place < length net.now.present.edges }
 {
-    // it tells the proof what holds of the network
-    let _ = net.edges();
+    net.invariants();
     let from = net.edges()[place].from;
     if !is_tight(net, place, from) {
         return true;

@@ -16,7 +16,7 @@ use Rattle.list_theory.proofs.Elements.{both}
 use Rattle.belief_theory.proofs.Moments.{Decides-same_moment}
 use Rattle.dist_net.specs.Net.{Net}
 use Rattle.spots.specs.Forest.{Forest, Member, member, moment, moment_at, IsLive}
-use Rattle.spots.specs.Seen.{IsSeen, Holds}
+use Rattle.spots.specs.OfLists.{IsForestOf, HasOccurrences}
 use Rattle.spots.proofs.Nodes.{node_at, live_at, moment_at-is}
 use Rattle.decision_rows.specs.declared.row.Decision.{Decision}
 use Rattle.revisions.specs.Keeping.{IsKeeping, IsLeast, Waits}
@@ -29,10 +29,9 @@ use Rattle.revisions.proofs.Lawful.{lawful}
 use Rattle.revisions.proofs.Marking.{marked}
 use Rattle.revisions.proofs.Turning.{turned}
 use Rattle.joined.specs.Netted.{IsNetted}
-use Rattle.joined.specs.Rows.{Row, Rows, fires_by, outcome_at, AreLive, HasRow, IsWaiting, AreApart}
+use Rattle.joined.specs.Rows.{Row, Rows, fires_by, decision_of, HasRow, IsWaiting, AreApart}
 use Rattle.joined.specs.Turning.{IsCodeTurn, Moved, ComesFrom, decided, kept, new}
-use Rattle.joined.proofs.Deciding.{fires_is, true_or, not_both, some_row, live_or}
-use Rattle.joined.proofs.Supporters.{decision_stays}
+use Rattle.joined.proofs.Deciding.{fires_told, true_or, not_both, some_row, live_or}
 
 -- the outcome kept after a turn: the one made, none yet, or that kept before
 abbrev pick : Bool → Bool → Outcome → Outcome → Outcome
@@ -74,21 +73,18 @@ module _ (old : Standing) (edit : Edit) (net : Net) (f g : Forest) (rows after :
       by : (a b : ℤ) → a <ℤ b → b ≡ a → ⊥
       by a b l e = omega (arith, ints)
 
-  outcome_is : outcome_at f found ≡ R.outcome n.nodes t p.rule
-  outcome_is = turn.right.outcome n.nodes n.holds
-
   pub fires_now : fires_by found ≡ is_firing (outcome (next_list old edit) (far_in (next_list old edit).premises) n.nodes (moment_at f p.trigger) p.rule)
-  fires_now = sym (fires_is f found) ∙ ap is_firing outcome_is
+  fires_now = fires_told found (R.outcome n.nodes t p.rule) (turn.right n.nodes n.holds)
 
   pub fires_was : fires_by p.found ≡ is_firing (n.kept (moment_at f p.trigger) p.rule)
-  fires_was = n.firing x p turn.first.row
+  fires_was = fires_told p.found (n.kept t p.rule) (n.told x p turn.first.row)
 
   -- what a turn comes to: nodes that one of the three kinds leaves, and with the rows they say what
   -- they have to
   pub record IsTurned : Type 0 where
     pub nodes : List Moment
     pub outcomes : Moment → List ℕ → Outcome
-    pub holds : Holds nodes g
+    pub holds : HasOccurrences nodes g
     pub turns : Turns (revision (built old) (built (next_list old edit))) n.nodes nodes n.kept outcomes (IsWaiting g after) (moment_at f p.trigger) p.rule
     pub netted : IsNetted old (next_list old edit) net g after ((moment_at f p.trigger, p.rule) ∷ taken)
 
@@ -177,7 +173,7 @@ module _ (old : Standing) (edit : Edit) (net : Net) (f g : Forest) (rows after :
         ap (λ v. pick v (entering && same_moment effect effect) (R.outcome n.nodes t p.rule) (n.kept effect q)) (not_same effect q (λ s. not_itself s.0))
         ∙ ap (λ v. pick false v (R.outcome n.nodes t p.rule) (n.kept effect q)) now
 
-    module _ (c : List Moment) (holds : Holds c g) (seen : IsSeen (next_list old edit) net g)
+    module _ (c : List Moment) (holds : HasOccurrences c g) (seen : IsForestOf (next_list old edit) net g)
         (stay_node : (y : ℕ) (m : Member) → member f y ≡ Some m → Contains c (moment m) → member g y ≡ Some m)
         (back_node : (y : ℕ) (m : Member) → member g y ≡ Some m → (member f y ≡ Some m) ⊎ ((moment m ≡ effect) × (entering ≡ true) × (member f y ≡ None)))
         (absent : entering ≡ true → Contains n.nodes effect → ⊥)
@@ -361,15 +357,6 @@ module _ (old : Standing) (edit : Edit) (net : Net) (f g : Forest) (rows after :
       keeping : IsKeeping R c kept_after (IsWaiting g after) ((t, p.rule) ∷ taken) (R.early t)
       keeping = turned R laws n.nodes n.kept (IsWaiting f rows) taken n.date n.keeping t p.rule first c kept_after (IsWaiting g after) made.0 made.1
 
-      -- a row that does not wait tells the outcome
-      row_right : (j : ℕ) (q : Row) → after j ≡ Some q → q.waits ≡ false → kept_after (moment_at g q.trigger) q.rule ≡ R.outcome c (moment_at g q.trigger) q.rule
-      row_right j q at not_waits =
-          let there = row_stands j q at in
-          elim (keeping.right (moment_at g q.trigger) q.rule (in_c q.trigger there.0) there.1) [
-            | inr is ↦ is
-            | inl h ↦ absurd (not_both q.waits (subst (λ (z : Row). z.waits ≡ true) (one_row h.0 j h.1 q h.2 at h.4 h.5) h.3) not_waits)
-          ]
-
       kept_still : (j : ℕ) (q : Row) → after j ≡ Some q → (o : Row) → rows j ≡ Some o → j ≢ x → q ≡ record o { waits = q.waits }
           → kept_after (moment_at g q.trigger) q.rule ≡ n.kept (moment_at f o.trigger) o.rule
       kept_still j q at o was other is =
@@ -379,33 +366,15 @@ module _ (old : Standing) (edit : Edit) (net : Net) (f g : Forest) (rows after :
       kept_decided : (j : ℕ) (q : Row) → after j ≡ Some q → q ≡ record p { found = found; waits = false } → kept_after (moment_at g q.trigger) q.rule ≡ R.outcome n.nodes t p.rule
       kept_decided j q at is = (λ i. kept_after (decided_t j q at (ap (λ (z : Row). z.trigger) is) i) (is i).rule) ∙ kept_now
 
-      told : (j : ℕ) (q : Row) → after j ≡ Some q → (q.waits ≡ true) ⊎ (AreLive g q.found × (outcome_at g q.found ≡ kept_after (moment_at g q.trigger) q.rule))
-      told j q at = elim (true_or q.waits) [ inl waits ↦ inl waits | inr not_waits ↦ inr (by not_waits (turn.own j q at)) ]
+      told : (j : ℕ) (q : Row) → after j ≡ Some q → q.found ≡ decision_of (kept_after (moment_at g q.trigger) q.rule)
+      told j q at = by (turn.own j q at)
         where
-          tells : (d : Decision) → q.waits ≡ false → q.found ≡ d → AreLive f d → outcome_at f d ≡ kept_after (moment_at g q.trigger) q.rule
-              → AreLive g q.found × (outcome_at g q.found ≡ kept_after (moment_at g q.trigger) q.rule)
-          tells d not_waits is live e =
-              let h = decision_stays f g c stay_node (next_list old edit) (far_in (next_list old edit).premises) (moment_at g q.trigger) q.rule d live (e ∙ row_right j q at not_waits) in
-              (subst (AreLive g) (sym is) h.0, ap (outcome_at g) is ∙ h.1 ∙ e)
-
-          by : q.waits ≡ false → ComesFrom R f g rows x p found j q → AreLive g q.found × (outcome_at g q.found ≡ kept_after (moment_at g q.trigger) q.rule)
-          by not_waits (decided number is) = tells found not_waits (ap (λ (z : Row). z.found) is) turn.right.live (outcome_is ∙ sym (kept_decided j q at is))
-          by not_waits (kept o other was is marks) =
-              elim (n.told j o was) [
-                | inl waits ↦ absurd (not_both q.waits (marks.on waits) not_waits)
-                | inr told ↦ tells o.found not_waits (ap (λ (z : Row). z.found) is) told.0 (told.1 ∙ sym (kept_still j q at o was other is))
-              ]
-          by not_waits (new free dead blank wa) = absurd (not_both q.waits wa not_waits)
-
-      firing : (j : ℕ) (q : Row) → after j ≡ Some q → fires_by q.found ≡ is_firing (kept_after (moment_at g q.trigger) q.rule)
-      firing j q at = by (turn.own j q at)
-        where
-          by : ComesFrom R f g rows x p found j q → fires_by q.found ≡ is_firing (kept_after (moment_at g q.trigger) q.rule)
-          by (decided number is) = ap (λ (z : Row). fires_by z.found) is ∙ fires_now ∙ ap is_firing (sym (kept_decided j q at is))
-          by (kept o other was is _) = ap (λ (z : Row). fires_by z.found) is ∙ n.firing j o was ∙ ap is_firing (sym (kept_still j q at o was other is))
+          by : ComesFrom R f g rows x p found j q → q.found ≡ decision_of (kept_after (moment_at g q.trigger) q.rule)
+          by (decided number is) = ap (λ (z : Row). z.found) is ∙ turn.right n.nodes n.holds ∙ ap decision_of (sym (kept_decided j q at is))
+          by (kept o other was is _) = ap (λ (z : Row). z.found) is ∙ n.told j o was ∙ ap decision_of (sym (kept_still j q at o was other is))
           by (new free dead blank wa) =
               let here = entered q.trigger (row_stands j q at).0 dead in
-              ap fires_by blank ∙ ap is_firing (sym (ap (λ u. kept_after u q.rule) here.0 ∙ kept_new q.rule here.1))
+              blank ∙ ap decision_of (sym (ap (λ u. kept_after u q.rule) here.0 ∙ kept_new q.rule here.1))
 
       netted : IsNetted old (next_list old edit) net g after ((moment_at f p.trigger, p.rule) ∷ taken)
       netted = record {
@@ -417,7 +386,6 @@ module _ (old : Standing) (edit : Edit) (net : Net) (f g : Forest) (rows after :
         keeping = keeping;
         rows_are = record { each = has_row; own = row_stands; apart = apart };
         told = told;
-        firing = firing;
       }
 
       pub turned_to : IsTurned

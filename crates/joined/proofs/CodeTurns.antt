@@ -14,7 +14,7 @@ use Rattle.tmm_model.specs.Standing.{Standing}
 use Rattle.list_theory.proofs.Elements.{In, In-from_Contains, Contains-from_In, In-right}
 use Rattle.dist_net.specs.Net.{Net}
 use Rattle.spots.specs.Forest.{Forest, Member, member, moment, moment_at, IsLive, Withdraws}
-use Rattle.spots.specs.Seen.{IsSeen, Holds}
+use Rattle.spots.specs.OfLists.{IsForestOf, HasOccurrences}
 use Rattle.spots.proofs.Nodes.{node_at, live_at, moment_at-is}
 use Rattle.supports.specs.Growing.{Adds}
 use Rattle.supports.proofs.Grown.{adds_seen, adds_holds, held_apart, node_kept}
@@ -64,7 +64,7 @@ module _ (old : Standing) (edit : Edit) (net : Net) (f g : Forest) (rows after :
   staying : fires_by found ≡ fires_by p.found → g ≡ f → Turned
   staying alike same =
       turned_to old edit net f g rows after taken x p found sound_old sound_new n turn false n.nodes
-      (subst (Holds n.nodes) (sym same) n.holds) (subst (IsSeen (next_list old edit) net) (sym same) n.seen)
+      (subst (HasOccurrences n.nodes) (sym same) n.holds) (subst (IsForestOf (next_list old edit) net) (sym same) n.seen)
       (λ y m at _. subst (λ (z : Forest). member z y ≡ Some m) (sym same) at) (λ y m at. inl (subst (λ (z : Forest). member z y ≡ Some m) same at))
       (λ e _. not_true e) (λ y at. absurd (none y at)) (λ e. not_true e)
       (inl (record { same = refl; alike = sym fires ∙ alike ∙ fired }, none))

@@ -1,17 +1,21 @@
 -- What decisions tell, and tests of them.
-use Rattle.std.proofs.Common.{◌≡◌, ◌∙◌, ℕ, Bool, true, false, refl, sym, inl, inr}
+use Rattle.std.proofs.Common.{◌≡◌, ◌∙◌, ℕ, Bool, true, false, refl, sym, ap, inl, inr}
 use Rattle.std.specs.Prelude.{◌⊎◌, Option, Some, None, IsSome}
+use Rattle.belief_theory.specs.Outcomes.{Outcome, fires, blocked, barred, beyond}
 use Rattle.spots.specs.Forest.{Forest, Member, member, IsLive}
 use Rattle.decision_rows.specs.declared.row.Decision.{Decision}
-use Rattle.decision_rows.specs.declared.row.Decision.TheVariants.{Fires, Blocked, Barred, Beyond}
 use Rattle.revisions.specs.Revisions.{is_firing}
-use Rattle.joined.specs.Rows.{Row, fires_by, outcome_at}
+use Rattle.joined.specs.Rows.{Row, fires_by, decision_of}
 
-pub fires_is : (f : Forest) (d : Decision) → is_firing (outcome_at f d) ≡ fires_by d
-fires_is f (Fires nodes count) = refl
-fires_is f (Blocked antecedent) = refl
-fires_is f (Barred exception) = refl
-fires_is f Beyond = refl
+-- what is kept of an outcome tells whether it fires
+fires_is : (o : Outcome) → fires_by (decision_of o) ≡ is_firing o
+fires_is (fires ks) = refl
+fires_is (blocked place) = refl
+fires_is (barred place) = refl
+fires_is beyond = refl
+
+pub fires_told : (d : Decision) (o : Outcome) → d ≡ decision_of o → fires_by d ≡ is_firing o
+fires_told d o is = ap fires_by is ∙ fires_is o
 
 pub true_or : (v : Bool) → (v ≡ true) ⊎ (v ≡ false)
 true_or true = inl refl

@@ -28,7 +28,7 @@ use Rattle.revisions.proofs.Lawful.{firing}
 use Rattle.joined.specs.Netted.{IsNetted}
 use Rattle.joined.specs.Rows.{Row, Rows, fires_by}
 use Rattle.joined.specs.Turning.{effect_of, IsFound}
-use Rattle.joined.proofs.Deciding.{fires_is}
+use Rattle.joined.proofs.Deciding.{fires_told}
 
 -- an occurrence is at least as late as it has rules
 rules_before : (s : Standing) → IsSound s → (x : Moment) → Occurs s x → pos (length (rules x)) ≤ℤ early s (far_in s.premises) x
@@ -52,7 +52,8 @@ module _ (old : Standing) (edit : Edit) (net : Net) (f : Forest) (rows : Rows) (
   effect_fires : Contains n.nodes (effect_of f p) ↔ (fires_by p.found ≡ true)
   effect_fires =
       let fires = n.keeping.fires (moment_at f p.trigger) p.rule live (n.rows_are.own x p at).1 in
-      ((λ there. n.firing x p at ∙ fires.0 there), (λ fired. fires.1 (sym (n.firing x p at) ∙ fired)))
+      let told = fires_told p.found (n.kept (moment_at f p.trigger) p.rule) (n.told x p at) in
+      ((λ there. told ∙ fires.0 there), (λ fired. fires.1 (sym told ∙ fired)))
 
   pub effect_there : fires_by p.found ≡ true → (y : ℕ) × (m : Member) × (member f y ≡ Some m) × (moment m ≡ effect_of f p)
   effect_there fired = n.holds.all (effect_of f p) (effect_fires.1 fired)
@@ -76,7 +77,7 @@ module _ (old : Standing) (edit : Edit) (net : Net) (f : Forest) (rows : Rows) (
 
   in_time : due new (far_in new.premises) t p.rule ≤ℤ pos new.horizon
   in_time =
-      let fires : is_firing (outcome new (far_in new.premises) n.nodes t p.rule) ≡ true = ap is_firing (sym (right.outcome n.nodes n.holds)) ∙ fires_is f found ∙ now in
+      let fires : is_firing (outcome new (far_in new.premises) n.nodes t p.rule) ≡ true = sym (fires_told found (outcome new (far_in new.premises) n.nodes t p.rule) (right n.nodes n.holds)) ∙ now in
       ((fires_exactly new (far_in new.premises) n.nodes t p.rule).0 (firing (outcome new (far_in new.premises) n.nodes t p.rule) fires)).0
 
   room : (m : Member) → member f p.trigger ≡ Some m → length m.links < 100000

@@ -33,7 +33,7 @@ use Rattle.list_net.proofs.Numbers.{number_far, number_same}
 use Rattle.spots.specs.declared.spot.Spot.{Spot}
 use Rattle.spots.specs.declared.spot.Spot.TheVariants.{Declared, Node}
 use Rattle.spots.specs.Forest.{Forest, Member, member, IsLive, moment, moment_at}
-use Rattle.spots.specs.Seen.{IsSeen, Holds, map_of}
+use Rattle.spots.specs.OfLists.{IsForestOf, HasOccurrences, map_of}
 use Rattle.spots.specs.Spots.{IsSpot, spot_moment, spot_distance, base_of, links_of, links_low, links_high, net_far, row_moment}
 use Rattle.spots.proofs.Distances.{distance-one_base, distance-two_bases}
 use Rattle.spots.proofs.Links.{low_is, high_is, apart_is}
@@ -93,7 +93,7 @@ plus_free Free h free = refl
 
 -- ---- spots of both lists
 
-module _ (old : Standing) (edit : Edit) (nets : Nets) (f : Forest) (net_old : IsNetOf old nets.committed) (seen : IsSeen (next_list old edit) nets.present f)
+module _ (old : Standing) (edit : Edit) (nets : Nets) (f : Forest) (net_old : IsNetOf old nets.committed) (seen : IsForestOf (next_list old edit) nets.present f)
     (keep : PointsKeepNumbers (points_in (next_list old edit).premises) nets.committed.names nets.present.names) where
   abbrev new : Standing
   new = next_list old edit
@@ -195,7 +195,7 @@ module _ (old : Standing) (edit : Edit) (nets : Nets) (f : Forest) (net_old : Is
 
   -- ---- what the rule reads at an event
 
-  module _ (b : List Moment) (r : List ℕ) (x : ℕ) (holds : Holds b f) (live : IsLive f x) (was : Occurs old (moment_at f x))
+  module _ (b : List Moment) (r : List ℕ) (x : ℕ) (holds : HasOccurrences b f) (live : IsLive f x) (was : Occurs old (moment_at f x))
       (entered : (y : Moment) → Contains b y → watches new r y ≡ true → Occurs old y) where
     abbrev pub tokens_read : List (TokenRow Moment)
     tokens_read = watched (map_of new b) r

@@ -9,7 +9,7 @@ use Rattle.list_theory.proofs.Elements.{In-from_Contains, Contains-from_In, In-f
 use Rattle.belief_theory.proofs.Moments.{along-append, along-push, rules-along, base-along, Decides-same_moment}
 use Rattle.dist_net.specs.Net.{Net}
 use Rattle.spots.specs.Forest.{Forest, Member, member, moment, rules_of, IsBelow, Withdraws, IsOnce}
-use Rattle.spots.specs.Seen.{IsSeen, Holds}
+use Rattle.spots.specs.OfLists.{IsForestOf, HasOccurrences}
 use Rattle.spots.proofs.Nodes.{rules-moment, base-moment}
 use Rattle.revisions.specs.Steps.{IsUnder}
 use Rattle.joined.specs.Nodes.{Leaves}
@@ -84,7 +84,7 @@ not_under x y h under = let e : false ≡ true = sym (ap not (under_told x y und
 
 -- ---- what is left
 
-module _ (s : Standing) (net : Net) (b : List Moment) (old new : Forest) (m : Member) (seen : IsSeen s net old) (holds : Holds b old) (gone : Withdraws old new m) where
+module _ (s : Standing) (net : Net) (b : List Moment) (old new : Forest) (m : Member) (seen : IsForestOf s net old) (holds : HasOccurrences b old) (gone : Withdraws old new m) where
   stays : (y : ℕ) (n : Member) → member old y ≡ Some n → is_apart (moment m) (moment n) ≡ true → member new y ≡ Some n
   stays y n at apart = gone.others y n at (λ below. not_under (moment m) (moment n) apart (below_under m n below))
 
@@ -114,7 +114,7 @@ module _ (s : Standing) (net : Net) (b : List Moment) (old new : Forest) (m : Me
   left_of : (x : Moment) → Contains (filter (is_apart (moment m)) b) x → Contains b x × (is_apart (moment m) x ≡ true)
   left_of x at = let h = In-filter (is_apart (moment m)) b x (In-from_Contains left x at) in (Contains-from_In b x h.0, h.1)
 
-  held : Holds (filter (is_apart (moment m)) b) new
+  held : HasOccurrences (filter (is_apart (moment m)) b) new
   held = record {
     own = λ y n at. (let h = stood y n at in left_in (moment n) (holds.own y n h.0) h.1);
     all = λ x at.

@@ -1,7 +1,6 @@
 pub mod Leaving
 pub mod Staying
 pub mod Deciding
-pub mod Supporters
 pub mod Starting
 pub mod Preparing
 pub mod Netted

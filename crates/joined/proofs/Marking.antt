@@ -21,7 +21,7 @@ use Rattle.belief_theory.proofs.OneRight.{spot-token_of}
 use Rattle.belief_theory.proofs.SoundBeliefs.{sound_timed}
 use Rattle.dist_net.specs.Net.{Net}
 use Rattle.spots.specs.Forest.{Forest, Member, member, moment, moment_at}
-use Rattle.spots.specs.Seen.{IsSeen, IsMemberOf, Holds, map_of}
+use Rattle.spots.specs.OfLists.{IsForestOf, IsMemberOf, HasOccurrences, map_of}
 use Rattle.spots.proofs.Nodes.{moment_at-is}
 use Rattle.supports.proofs.Grown.{node_cases, node_kept}
 use Rattle.undo_rows.specs.declared.row.Row.{Row as TableRow}
@@ -61,7 +61,7 @@ no_later a b e = grind (arith, ints)
 
 module _ (old : Standing) (edit : Edit) (net : Net) (f g : Forest) (p : Row) (found : Decision)
     (rows : Logged Pair 8) (name : ℕ → List ℕ) (number : List ℕ → Option ℕ) (marks : List Mark) (i : ℕ) (row : TableRow Pair 8) (o q : Row)
-    (seen : IsSeen (next_list old edit) net f) (seen_after : IsSeen (next_list old edit) net g) (tree : TreeTurns (next_list old edit) net.names f g p found)
+    (seen : IsForestOf (next_list old edit) net f) (seen_after : IsForestOf (next_list old edit) net g) (tree : TreeTurns (next_list old edit) net.names f g p found)
     (stays_there : StaysNode f g q.trigger)
     (numbered : AreNumbered number) (listed : AreListed (present rows))
     (here : (present rows).row i ≡ Some row) (under : IsUnderClasses (next_list old edit) name number row) (rule_is : q.rule ≡ name row.value.rule)
@@ -98,7 +98,7 @@ module _ (old : Standing) (edit : Edit) (net : Net) (f g : Forest) (p : Row) (fo
   u_occurs : Occurs new u
   u_occurs = subst (Occurs new) (sym (moment_at-is g q.trigger stays_there.node stays_there.after)) (seen_after.members q.trigger stays_there.node stays_there.after).occurs
 
-  module _ (rests : q.waits ≡ false) (b c : List Moment) (holds_b : Holds b f) (holds_c : Holds c g) where
+  module _ (rests : q.waits ≡ false) (b c : List Moment) (holds_b : HasOccurrences b f) (holds_c : HasOccurrences c g) where
     -- then each token that moved and that its rule watches is spared
     mark_spares : (m : Member) → IsMemberOf new net.names m → Moved f p found (moment m) → IsSparedIn new b c u q.rule (moment m)
     mark_spares m own moves k is reads = by (int_le (R.early (moment m)) (R.early u)) refl
@@ -165,7 +165,7 @@ module _ (old : Standing) (edit : Edit) (net : Net) (f g : Forest) (p : Row) (fo
             let left = leaves new net b f g n seen holds_b gone in
             inl (left.out x (by_holds left.nodes left.holds y m here_y is)).0
           where
-            by_holds : (d : List Moment) → Holds d g → (y : ℕ) (m : Member) → member g y ≡ Some m → moment m ≡ x → Contains d x
+            by_holds : (d : List Moment) → HasOccurrences d g → (y : ℕ) (m : Member) → member g y ≡ Some m → moment m ≡ x → Contains d x
             by_holds d holds y m at_y is = subst (Contains d) is (holds.own y m at_y)
 
     -- **So its outcome is the same.**

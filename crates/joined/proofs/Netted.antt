@@ -1,5 +1,5 @@
 -- Where no row waits, nodes and rows are those of the list after; and how many decisions were made.
-use Rattle.std.proofs.Common.{◌≡◌, ◌∙◌, ℕ, ◌≤◌, List, [], length, sym, subst, inl, inr}
+use Rattle.std.proofs.Common.{◌≡◌, ◌∙◌, ℕ, ◌≤◌, List, [], length, sym, ap, subst}
 use Rattle.std.specs.Prelude.{◌↔◌, Option, Some, None}
 use Rattle.std.specs.List.{Contains}
 use Rattle.tmm_model.specs.declared.premise.Edit.{Edit}
@@ -16,7 +16,7 @@ use Rattle.list_theory.proofs.Elements.{In-from_Contains}
 use Rattle.dist_net.specs.Net.{Net}
 use Rattle.list_net.specs.Fits.{IsNetOf}
 use Rattle.spots.specs.Forest.{Forest, member, moment, moment_at}
-use Rattle.spots.specs.Seen.{Holds}
+use Rattle.spots.specs.OfLists.{HasOccurrences}
 use Rattle.spots.proofs.Nodes.{node_at, moment_at-is}
 use Rattle.revisions.specs.Counted.{changed}
 use Rattle.revisions.specs.Maps.{revision}
@@ -26,7 +26,7 @@ use Rattle.revisions.proofs.Lawful.{lawful}
 use Rattle.revisions.proofs.StillEdits.{base_root}
 use Rattle.supports.proofs.Grown.{seen_first}
 use Rattle.joined.specs.Netted.{IsNetted, IsCurrent}
-use Rattle.joined.specs.Rows.{Row, Rows, outcome_at, AreLive, IsWaiting, NoneWaits}
+use Rattle.joined.specs.Rows.{Row, Rows, decision_of, IsWaiting, NoneWaits}
 
 module _ (old : Standing) (edit : Edit) (net : Net) (f : Forest) (rows : Rows) (taken : List (Moment × List ℕ)) (sound_old : IsSound old) (sound_new : IsSound (next_list old edit))
     (n : IsNetted old (next_list old edit) net f rows taken) where
@@ -41,14 +41,11 @@ module _ (old : Standing) (edit : Edit) (net : Net) (f : Forest) (rows : Rows) (
         × ((t : Moment) (r : List ℕ) → Contains n.nodes t → Contains (rules_at new t) r → n.kept t r ≡ outcome new (far_in new.premises) (built new).believed t r)
     end = ended (revision (built old) (built (next_list old edit))) (lawful old edit sound_old sound_new) n.nodes n.kept (IsWaiting f rows) taken n.date n.keeping none_waits
 
-    holds : Holds (built new).believed f
+    holds : HasOccurrences (built new).believed f
     holds = record { own = λ x m at. (end.0 (moment m)).0 (n.holds.own x m at); all = λ k at. n.holds.all k ((end.0 k).1 at); once = n.holds.once }
 
-    told : (i : ℕ) (q : Row) → rows i ≡ Some q → AreLive f q.found × (outcome_at f q.found ≡ outcome new (far_in new.premises) (built new).believed (moment_at f q.trigger) q.rule)
-    told i q at = elim (n.told i q at) [
-      | inl waits ↦ absurd (none i q at waits)
-      | inr is ↦ (is.0, is.1 ∙ end.1 (moment_at f q.trigger) q.rule live (n.rows_are.own i q at).1)
-    ]
+    told : (i : ℕ) (q : Row) → rows i ≡ Some q → q.found ≡ decision_of (outcome new (far_in new.premises) (built new).believed (moment_at f q.trigger) q.rule)
+    told i q at = n.told i q at ∙ ap decision_of (end.1 (moment_at f q.trigger) q.rule live (n.rows_are.own i q at).1)
       where
         live : Contains n.nodes (moment_at f q.trigger)
         live = let (m, there) = node_at f q.trigger (n.rows_are.own i q at).0 in subst (Contains n.nodes) (sym (moment_at-is f q.trigger m there)) (n.holds.own q.trigger m there)

@@ -21,18 +21,16 @@ use Rattle.belief_theory.proofs.Moments.{Decides-same_moment}
 use Rattle.belief_theory.proofs.Untouched.{was_decision}
 use Rattle.dist_net.specs.Net.{Net}
 use Rattle.spots.specs.Forest.{Forest, Member, member, moment, moment_at, IsLive}
-use Rattle.spots.specs.Seen.{Holds}
+use Rattle.spots.specs.OfLists.{HasOccurrences}
 use Rattle.spots.proofs.Nodes.{node_at, live_at, moment_at-is}
 use Rattle.supports.proofs.Grown.{root_name}
 use Rattle.revisions.specs.Counted.{AreSeeds}
-use Rattle.revisions.specs.Revisions.{is_firing}
 use Rattle.revisions.proofs.Lawful.{decided}
 use Rattle.joined.specs.Netted.{IsNetted, IsCurrent}
-use Rattle.joined.specs.Rows.{Row, Rows, fires_by, outcome_at, AreLive, HasRow, HasNoRow, AreApart, AreRowsOf}
+use Rattle.joined.specs.Rows.{Row, Rows, decision_of, HasRow, HasNoRow, AreApart, AreRowsOf}
 use Rattle.joined.specs.Starting.{StartsAs, stood, comes, NodesBegin, BeginsFrom, RowsBegin, was, is_new, IsPrepared}
-use Rattle.joined.proofs.Deciding.{fires_is, some_row, live_or}
+use Rattle.joined.proofs.Deciding.{some_row, live_or}
 use Rattle.joined.proofs.Starting.{started}
-use Rattle.joined.proofs.Supporters.{decision_stays}
 
 -- ---- a test of what occurs
 
@@ -182,7 +180,7 @@ module _ (old : Standing) (edit : Edit) (net_before net : Net) (f g : Forest) (r
       let (x, m, there, is) = current.holds.all (After t r) h.0 in
       (x, m, prepared.nodes_begin.stay x m there (subst (Occurs new) (sym is) h.1), is)
 
-  pub holds : Holds seeds g
+  pub holds : HasOccurrences seeds g
   holds = record { own = own_seed; all = node_of; once = prepared.seen.once }
 
   -- ---- what each row is
@@ -213,17 +211,8 @@ module _ (old : Standing) (edit : Edit) (net_before net : Net) (f g : Forest) (r
       by (is_new free none blank waits) = comes (none_before none (is_decision (built old) (moment_at g q.trigger, q.rule)) refl) blank waits
       by (was o at_o is) = stood
           (decided old edit sound_old sound_new (built old) (moment_at g q.trigger) q.rule believed stands)
-          (ap (λ (z : Row). fires_by z.found) is ∙ sym (fires_is f o.found) ∙ ap is_firing same_outcome)
-          (elim ((prepared.marked seeds holds are_seeds).right i q at) [
-            | inl waits ↦ inl waits
-            | inr same ↦ inr (
-                let h = decision_stays f g seeds stay new (far_in new.premises) (moment_at g q.trigger) q.rule o.found (current.told i o at_o).0 (same_outcome ∙ same) in
-                (subst (AreLive g) (sym found_is) h.0, ap (outcome_at g) found_is ∙ h.1 ∙ same_outcome))
-          ])
+          (ap (λ (z : Row). z.found) is ∙ over (λ t r. o.found ≡ decision_of (outcome_before t r)) (current.told i o at_o))
         where
-          found_is : q.found ≡ o.found
-          found_is = ap (λ (z : Row). z.found) is
-
           live : IsLive f q.trigger
           live = subst (IsLive f) (sym (ap (λ (z : Row). z.trigger) is)) (current.rows_are.own i o at_o).0
 
@@ -240,14 +229,6 @@ module _ (old : Standing) (edit : Edit) (net_before net : Net) (f g : Forest) (r
 
           stands : Contains (rules_at old (moment_at g q.trigger)) q.rule
           stands = over (λ t r. Contains (rules_at old t) r) (current.rows_are.own i o at_o).1
-
-          same_outcome : outcome_at f o.found ≡ outcome_before (moment_at g q.trigger) q.rule
-          same_outcome = over (λ t r. outcome_at f o.found ≡ outcome_before t r) (current.told i o at_o).1
-
-          stay : (y : ℕ) (m : Member) → member f y ≡ Some m → Contains seeds (moment m) → member g y ≡ Some m
-          stay y m there seed =
-              let (x, k, here, is_k) = node_of (moment m) seed in
-              prepared.nodes_begin.stay y m there (subst (Occurs new) is_k (prepared.seen.members x k here).occurs)
 
   pub prepared_netted : IsNetted old (next_list old edit) net g after []
   prepared_netted = started old edit net seeds g after sound_old sound_new (record {

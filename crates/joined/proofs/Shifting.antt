@@ -27,7 +27,7 @@ use Rattle.list_net.specs.Network.{PointsKeepNumbers}
 use Rattle.spots.specs.declared.spot.Spot.{Spot}
 use Rattle.spots.specs.declared.spot.Spot.TheVariants.{Declared, Node}
 use Rattle.spots.specs.Forest.{Forest, Member, member, IsLive, moment_at}
-use Rattle.spots.specs.Seen.{IsSeen, Holds, map_of}
+use Rattle.spots.specs.OfLists.{IsForestOf, HasOccurrences, map_of}
 use Rattle.spots.specs.Spots.{spot_moment, spot_distance, base_of, links_of, links_high}
 use Rattle.spots.proofs.Nodes.{moment_at-is}
 use Rattle.spots.proofs.Seen.{distance_is, start_is}
@@ -141,9 +141,9 @@ walls_over m t k v w class_v class_w differ after_v after_w by_v by_w None is =
 -- ---- nodes and tokens
 
 module _ (old : Standing) (edit : Edit) (nets : Nets) (moves : ℕ → ℕ → Bool) (loose : ℕ → Bool) (f : Forest) (before b : List Moment) (r : List ℕ) (x : ℕ)
-    (net_old : IsNetOf old nets.committed) (seen : IsSeen (next_list old edit) nets.present f)
+    (net_old : IsNetOf old nets.committed) (seen : IsForestOf (next_list old edit) nets.present f)
     (keep : PointsKeepNumbers (points_in (next_list old edit).premises) nets.committed.names nets.present.names)
-    (tells : TellsMoves nets moves) (cover : AreLoose moves loose) (in_old : AllOccur old before) (holds : Holds b f) (live : IsLive f x)
+    (tells : TellsMoves nets moves) (cover : AreLoose moves loose) (in_old : AllOccur old before) (holds : HasOccurrences b f) (live : IsLive f x)
     (was : Contains before (moment_at f x)) (stood : Contains (rules_at old (moment_at f x)) r) (stands : Contains (rules_at (next_list old edit) (moment_at f x)) r)
     (same_horizon : old.horizon ≡ (next_list old edit).horizon)
     (left : (y : Moment) → Contains before y → watches old r y ≡ true → Contains b y)

@@ -20,7 +20,7 @@ use Rattle.dist_net.specs.Net.{Net}
 use Rattle.spots.specs.declared.spot.Spot.{Spot}
 use Rattle.spots.specs.declared.spot.Spot.TheVariants.{Node}
 use Rattle.spots.specs.Forest.{Forest, Member, member, moment, moment_at, IsLive}
-use Rattle.spots.specs.Seen.{IsSeen, Holds, map_of}
+use Rattle.spots.specs.OfLists.{IsForestOf, HasOccurrences, map_of}
 use Rattle.spots.specs.Spots.{IsSpot, spot_moment, spot_distance, row_moment, token_row}
 use Rattle.spots.proofs.Nodes.{live_at}
 use Rattle.spots.proofs.Seen.{distance_is, end_there, token_is}
@@ -99,7 +99,7 @@ module _ (s : Standing) (b c : List Moment) (t : Moment) (r : List ℕ) where
 
 -- ---- from nodes to moments
 
-module _ (s : Standing) (net : Net) (nodes : Forest) (seen : IsSeen s net nodes) where
+module _ (s : Standing) (net : Net) (nodes : Forest) (seen : IsForestOf s net nodes) where
   abbrev far : Spot → Spot → Bound
   far = spot_distance net nodes
 
@@ -164,7 +164,7 @@ module _ (s : Standing) (net : Net) (nodes : Forest) (seen : IsSeen s net nodes)
 
 -- ---- in a turn
 
-module _ (s : Standing) (net : Net) (f g nodes : Forest) (seen : IsSeen s net nodes) (b c : List Moment) (holds_b : Holds b f) (holds_c : Holds c g)
+module _ (s : Standing) (net : Net) (f g nodes : Forest) (seen : IsForestOf s net nodes) (b c : List Moment) (holds_b : HasOccurrences b f) (holds_c : HasOccurrences c g)
     (has : (y : ℕ) (n : Member) → member f y ≡ Some n → member g y ≡ Some n → member nodes y ≡ Some n) where
   -- a token that stays is there, and believed before and after
   staying : (w : TokenRow Spot) (stay : StaysIn f g w) → IsThere s net nodes seen w × IsInBoth s b c (row_moment net.names nodes w)
@@ -207,12 +207,12 @@ module _ (s : Standing) (net : Net) (f g nodes : Forest) (seen : IsSeen s net no
       by (inr walls) = inr (walled t live k at_k walls)
 
 -- **What is spared at a node is spared at its moment.**
-pub spared_at : (s : Standing) (net : Net) (f g : Forest) → IsSeen s net f → IsSeen s net g → (b c : List Moment) → Holds b f → Holds c g
+pub spared_at : (s : Standing) (net : Net) (f g : Forest) → IsForestOf s net f → IsForestOf s net g → (b c : List Moment) → HasOccurrences b f → HasOccurrences c g
     → (t : ℕ) (node : Member) → member f t ≡ Some node → member g t ≡ Some node → (x : Moment) → IsSparedAt net f g x t
     → (k : TokenRow Moment) → token_of s x ≡ Some k → IsSpared (IsInBoth s b c) (map_of s b) (moment_at g t) k
 spared_at s net f g seen_f seen_g b c holds_b holds_c t node at_f at_g x of k is = by of.of_turn
   where
-    at : (nodes : Forest) → of.nodes ≡ nodes → IsSeen s net nodes → member nodes t ≡ Some node
+    at : (nodes : Forest) → of.nodes ≡ nodes → IsForestOf s net nodes → member nodes t ≡ Some node
         → ((y : ℕ) (n : Member) → member f y ≡ Some n → member g y ≡ Some n → member nodes y ≡ Some n) → IsSpared (IsInBoth s b c) (map_of s b) (moment_at nodes t) k
     at nodes same seen here has =
         spared_node s net f g nodes seen b c holds_b holds_c has t (live_at nodes t node here) of.number of.node of.row (ap (λ (z : Forest). member z of.number) (sym same) ∙ of.here) of.is

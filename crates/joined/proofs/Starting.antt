@@ -1,6 +1,6 @@
 -- How nodes and rows begin.
 use Rattle.std.proofs.Common.{◌≡◌, ◌∙◌, ℕ, Bool, true, false, List, [], refl, sym, ap, subst, inl, inr}
-use Rattle.std.specs.Prelude.{◌⊎◌, Option, Some, None, negsuc, pos, int_le}
+use Rattle.std.specs.Prelude.{Option, Some, None, negsuc, pos, int_le}
 use Rattle.std.specs.List.{Contains, list_any}
 use Rattle.std.specs.Option.{option_map_or}
 use Rattle.tmm_model.specs.declared.premise.Edit.{Edit}
@@ -19,16 +19,16 @@ use Rattle.belief_theory.specs.Touched.{is_decision, is_touched}
 use Rattle.dist_net.specs.Net.{Net}
 use Rattle.list_net.specs.Represents.{Names}
 use Rattle.spots.specs.Forest.{Forest, Member, moment, moment_at, IsLive}
-use Rattle.spots.specs.Seen.{IsMemberOf, class_for, map_of}
+use Rattle.spots.specs.OfLists.{IsMemberOf, class_for, map_of}
 use Rattle.spots.proofs.Nodes.{node_at, live_at, moment_at-is}
 use Rattle.revisions.specs.Maps.{revision, is_watched, watches}
-use Rattle.revisions.specs.Revisions.{Revision, is_firing}
+use Rattle.revisions.specs.Revisions.{Revision}
 use Rattle.revisions.specs.Seeds.{IsSeeded}
 use Rattle.revisions.proofs.Lawful.{lawful, of_occurs, occurs_of}
 use Rattle.revisions.proofs.Seeding.{seeded}
 use Rattle.revisions.proofs.SeedsRight.{stays_touched}
 use Rattle.joined.specs.Netted.{IsNetted}
-use Rattle.joined.specs.Rows.{Row, Rows, fires_by, outcome_at, AreLive, IsWaiting}
+use Rattle.joined.specs.Rows.{Row, Rows, decision_of, IsWaiting}
 use Rattle.joined.specs.Starting.{StartsAs, stood, comes, IsStart}
 use Rattle.joined.proofs.Deciding.{not_both}
 
@@ -77,7 +77,7 @@ module _ (old : Standing) (edit : Edit) (net : Net) (b : List Moment) (f : Fores
   waits_new t r at stands e = let (i, q, here, of_t, of_r) = row_of t r at stands in (i, q, here, by q of_t of_r (s.start_as i q here), of_t, of_r)
     where
       by : (q : Row) → moment_at f q.trigger ≡ t → q.rule ≡ r → StartsAs old f q → q.waits ≡ true
-      by q of_t of_r (stood was_one _ _) = absurd (not_both (is_decision (built old) (t, r)) (from_row (λ u o. is_decision (built old) (u, o) ≡ true) q t r of_t of_r was_one) e)
+      by q of_t of_r (stood was_one _) = absurd (not_both (is_decision (built old) (t, r)) (from_row (λ u o. is_decision (built old) (u, o) ≡ true) q t r of_t of_r was_one) e)
       by q of_t of_r (comes _ _ waits) = waits
 
   is_seeded : IsSeeded R b kept (IsWaiting f rows)
@@ -105,14 +105,9 @@ module _ (old : Standing) (edit : Edit) (net : Net) (b : List Moment) (f : Fores
     ];
   }
 
-  told : (q : Row) → StartsAs old f q → (q.waits ≡ true) ⊎ (AreLive f q.found × (outcome_at f q.found ≡ kept (moment_at f q.trigger) q.rule))
-  told q (stood was_one fires (inl waits)) = inl waits
-  told q (stood was_one fires (inr is)) = inr (is.0, is.1 ∙ sym (kept_old (moment_at f q.trigger) q.rule was_one))
-  told q (comes was_none none waits) = inl waits
-
-  firing : (q : Row) → StartsAs old f q → fires_by q.found ≡ is_firing (kept (moment_at f q.trigger) q.rule)
-  firing q (stood was_one fires _) = fires ∙ ap is_firing (sym (kept_old (moment_at f q.trigger) q.rule was_one))
-  firing q (comes was_none none waits) = ap fires_by none ∙ ap is_firing (sym (kept_new (moment_at f q.trigger) q.rule was_none))
+  told : (q : Row) → StartsAs old f q → q.found ≡ decision_of (kept (moment_at f q.trigger) q.rule)
+  told q (stood was_one is) = is ∙ ap decision_of (sym (kept_old (moment_at f q.trigger) q.rule was_one))
+  told q (comes was_none none waits) = none ∙ ap decision_of (sym (kept_new (moment_at f q.trigger) q.rule was_none))
 
   pub started : IsNetted old (next_list old edit) net f rows []
   started = record {
@@ -124,7 +119,6 @@ module _ (old : Standing) (edit : Edit) (net : Net) (b : List Moment) (f : Fores
     keeping = seeded R (lawful old edit sound_old sound_new) b kept (IsWaiting f rows) is_seeded;
     rows_are = s.rows_are;
     told = λ i q at. told q (s.start_as i q at);
-    firing = λ i q at. firing q (s.start_as i q at);
   }
 
 pub reads_by_class : (s : Standing) (names : Names) (m : Member) (r : List ℕ) → IsMemberOf s names m

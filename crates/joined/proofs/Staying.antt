@@ -20,7 +20,7 @@ use Rattle.list_net.specs.Network.{PointsKeepNumbers}
 use Rattle.list_net.specs.Represents.{IsNumberOf}
 use Rattle.spots.specs.declared.link.Link.{Link}
 use Rattle.spots.specs.Forest.{Forest, Member, member, moment, rules_of}
-use Rattle.spots.specs.Seen.{IsSeen, IsMemberOf, IsLinkOf}
+use Rattle.spots.specs.OfLists.{IsForestOf, IsMemberOf, IsLinkOf}
 use Rattle.spots.proofs.Nodes.{base-moment}
 use Rattle.revisions.specs.Alike.{IsAnchor}
 use Rattle.revisions.proofs.Alike.{span_at}
@@ -33,7 +33,7 @@ occurs_first : (s : Standing) (x : Moment) (rs : List (List ℕ)) → Occurs s (
 occurs_first s x [] h = h
 occurs_first s x (r ∷ rs) h = (occurs_first s (After x r) rs h).0
 
-module _ (old : Standing) (edit : Edit) (net after : Net) (f : Forest) (seen : IsSeen old net f) (network : IsNetOf (next_list old edit) after)
+module _ (old : Standing) (edit : Edit) (net after : Net) (f : Forest) (seen : IsForestOf old net f) (network : IsNetOf (next_list old edit) after)
     (keep : PointsKeepNumbers (points_in (next_list old edit).premises) net.names after.names)
     (occurs : (x : ℕ) (m : Member) → member f x ≡ Some m → Occurs (next_list old edit) (moment m)) where
   abbrev new : Standing
@@ -73,5 +73,5 @@ module _ (old : Standing) (edit : Edit) (net after : Net) (f : Forest) (seen : I
         class = own.class ∙ class_for_stays old edit seen.network.sound network.sound (moment m) own.occurs now m.shape m.what own.is;
       }
 
-  pub stay_seen : IsSeen (next_list old edit) after f
+  pub stay_seen : IsForestOf (next_list old edit) after f
   stay_seen = record { network = network; members = member_stays; once = seen.once }

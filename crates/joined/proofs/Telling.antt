@@ -13,7 +13,7 @@ use Rattle.list_theory.proofs.Distinct.{sum_inside}
 use Rattle.list_theory.proofs.Elements.{In-from_Contains}
 use Rattle.dist_net.specs.Net.{Net}
 use Rattle.spots.specs.Forest.{Forest, moment_at}
-use Rattle.spots.specs.Seen.{Holds}
+use Rattle.spots.specs.OfLists.{HasOccurrences}
 use Rattle.decision_rows.specs.declared.row.Decision.{Decision}
 use Rattle.belief_theory.specs.Outcomes.{Outcome}
 use Rattle.revisions.specs.Keeping.{IsTold, IsLeast}
@@ -35,7 +35,7 @@ use Rattle.joined.proofs.Preparing.{seeds, are_seeds, holds}
 -- ---- nodes as lists
 
 -- two lists of the same nodes have the same members
-same_held : (f : Forest) (b c : List Moment) → Holds b f → Holds c f → (y : Moment) → Contains b y → Contains c y
+same_held : (f : Forest) (b c : List Moment) → HasOccurrences b f → HasOccurrences c f → (y : Moment) → Contains b y → Contains c y
 same_held f b c in_b in_c y at = let (x, m, there, is) = in_b.all y at in subst (Contains c) is (in_c.own x m there)
 
 told_over : (g : Revision) (b c : List Moment) (ins outs : List Moment) → ((y : Moment) → Contains b y → Contains c y) → ((y : Moment) → Contains c y → Contains b y)
@@ -52,7 +52,7 @@ told_over g b c ins outs into back told = record {
 }
 
 -- what is told of one list of the nodes is told of each
-told_of : (old new : Standing) (f : Forest) (b ins outs : List Moment) → Holds b f → IsTold (revision (built old) (built new)) b ins outs → IsToldOf old new f ins outs
+told_of : (old new : Standing) (f : Forest) (b ins outs : List Moment) → HasOccurrences b f → IsTold (revision (built old) (built new)) b ins outs → IsToldOf old new f ins outs
 told_of old new f b ins outs in_b told = λ c in_c. told_over (revision (built old) (built new)) b c ins outs (same_held f b c in_b in_c) (same_held f c b in_c in_b) told
 
 -- ---- at the beginning

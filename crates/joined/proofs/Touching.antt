@@ -21,7 +21,7 @@ use Rattle.belief_theory.proofs.OneRight.{spot-token_of}
 use Rattle.belief_theory.proofs.SoundBeliefs.{believed_right, believed_occurs}
 use Rattle.belief_theory.proofs.Untouched.{Alike, untouched_alike, untouched_stood}
 use Rattle.spots.specs.Forest.{Forest, moment_at}
-use Rattle.spots.specs.Seen.{Holds, map_of}
+use Rattle.spots.specs.OfLists.{HasOccurrences, map_of}
 use Rattle.spots.proofs.Nodes.{node_at, moment_at-is}
 use Rattle.revisions.specs.Counted.{AreSeeds}
 use Rattle.revisions.specs.Maps.{revision, is_watched, watches}
@@ -163,7 +163,7 @@ module _ (old : Standing) (n : ℕ) (b : List Moment) (sound_old : IsSound old) 
   among_believed (At p) at = (believed_right old sound_old (At p)).1 ((seeds.root p).0 at)
   among_believed (After t r) at = ((seeds.derived t r).0 at).0
 
-module _ (old : Standing) (n : ℕ) (b : List Moment) (f : Forest) (rows : Rows) (sound_old : IsSound old) (sound_new : IsSound (list_until old n)) (in_b : Holds b f)
+module _ (old : Standing) (n : ℕ) (b : List Moment) (f : Forest) (rows : Rows) (sound_old : IsSound old) (sound_new : IsSound (list_until old n)) (in_b : HasOccurrences b f)
     (seeds : AreSeeds old (list_until old n) b) (are : AreRowsOf (list_until old n) f rows)
     (all : (i : ℕ) (q : Row) → rows i ≡ Some q → (q.waits ≡ true)
     ⊎ (int_le (due old (far_in old.premises) (moment_at f q.trigger) q.rule) (pos old.horizon) ≡ int_le (due old (far_in old.premises) (moment_at f q.trigger) q.rule) (pos n)))

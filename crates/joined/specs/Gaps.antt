@@ -19,7 +19,7 @@ use Rattle.list_net.specs.Represents.{IsNumberOf}
 use Rattle.spots.specs.declared.spot.Spot.{Spot}
 use Rattle.spots.specs.declared.spot.Spot.TheVariants.{Declared, Node}
 use Rattle.spots.specs.Forest.{Forest, Member, member, IsLive, moment_at}
-use Rattle.spots.specs.Seen.{IsSeen, Holds, map_of}
+use Rattle.spots.specs.OfLists.{IsForestOf, HasOccurrences, map_of}
 use Rattle.spots.specs.Spots.{net_far, base_of, links_of, links_high}
 use Rattle.revisions.specs.Maps.{watches}
 
@@ -71,9 +71,9 @@ pub record MovesAt (moves : ℕ → ℕ → Bool) (s : Standing) (f : Forest) (r
 abbrev pub MovedPointsTouch : Type 0
 MovedPointsTouch =
     (old : Standing) (edit : Edit) (nets : Nets) (moves : ℕ → ℕ → Bool) (f : Forest) (b : List Moment) (r : List ℕ) (x : ℕ)
-    → IsNetOf old nets.committed → IsSeen (next_list old edit) nets.present f
+    → IsNetOf old nets.committed → IsForestOf (next_list old edit) nets.present f
     → PointsKeepNumbers (points_in (next_list old edit).premises) nets.committed.names nets.present.names
-    → TellsMoves nets moves → Holds b f → IsLive f x
+    → TellsMoves nets moves → HasOccurrences b f → IsLive f x
     → Contains (built old).believed (moment_at f x)
     → ((y : Moment) → Contains b y → watches (next_list old edit) r y ≡ true → Contains (built old).believed y)
     → (SameGaps old (next_list old edit) b (moment_at f x) r → MovesAt moves (next_list old edit) f r x → ⊥)

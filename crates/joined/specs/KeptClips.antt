@@ -10,7 +10,7 @@ use Rattle.tmm_model.specs.Standing.{Standing, points_in}
 use Rattle.dist_net.specs.Net.{Net, IsMovedAt}
 use Rattle.list_net.specs.Network.{PointsKeepNumbers}
 use Rattle.spots.specs.Forest.{Forest, Member, member, IsLive, moment_at}
-use Rattle.spots.specs.Seen.{IsSeen, Holds}
+use Rattle.spots.specs.OfLists.{IsForestOf, HasOccurrences}
 use Rattle.spots.specs.Spots.{node_early}
 
 -- The node y of g, which is m, stands as it did in f: it was there, its begin is none of the points
@@ -27,8 +27,8 @@ pub record StandsAsBefore (before net : Net) (moved : List ℕ) (f g : Forest) (
 abbrev pub NodesKeepClips : Type 0
 NodesKeepClips =
     (old : Standing) (edit : Edit) (before net : Net) (moved : List ℕ) (f g : Forest)
-    → IsSeen old before f → Holds (built old).believed f
-    → IsSeen (next_list old edit) net g → Holds (built (next_list old edit)).believed g
+    → IsForestOf old before f → HasOccurrences (built old).believed f
+    → IsForestOf (next_list old edit) net g → HasOccurrences (built (next_list old edit)).believed g
     → ((y : ℕ) → IsLive f y → IsLive g y → moment_at f y ≡ moment_at g y)
     → PointsKeepNumbers (points_in (next_list old edit).premises) before.names net.names → IsMovedAt moved before net
     → (x : ℕ) (m : Member) (class : List ℕ) → member g x ≡ Some m → m.class ≡ Some class

@@ -5,7 +5,7 @@ use Rattle.tmm_model.specs.Moments.{read_by, rule_of}
 use Rattle.tmm_model.specs.Standing.{Standing}
 use Rattle.list_net.specs.Represents.{Names}
 use Rattle.spots.specs.Forest.{Member, moment}
-use Rattle.spots.specs.Seen.{IsMemberOf}
+use Rattle.spots.specs.OfLists.{IsMemberOf}
 use Rattle.row_links.specs.Lists.{IsOn}
 use Rattle.undo_rows.specs.declared.row.Row.{Row as TableRow}
 use Rattle.undo_rows.specs.Changes.{Logged, present}

@@ -7,7 +7,7 @@ use Rattle.tmm_model.specs.Standing.{Standing}
 use Rattle.list_theory.proofs.Elements.{In}
 use Rattle.dist_net.specs.Net.{Net}
 use Rattle.spots.specs.Forest.{Forest, Member, moment, moment_at}
-use Rattle.spots.specs.Seen.{IsSeen, IsMemberOf}
+use Rattle.spots.specs.OfLists.{IsForestOf, IsMemberOf}
 use Rattle.undo_rows.specs.declared.row.Row.{Row as TableRow}
 use Rattle.undo_rows.specs.Changes.{Logged, present}
 use Rattle.undo_rows.specs.Tables.{Table, AreListed}
@@ -53,7 +53,7 @@ abbrev pub ClassMarksMark : Type 0
 ClassMarksMark =
     (old : Standing) (edit : Edit) (net : Net) (f g : Forest) (p : Row) (found : Decision)
     (rows : Logged Pair 8) (name : ℕ → List ℕ) (number : List ℕ → Option ℕ) (marks : List Mark) (i : ℕ) (row : TableRow Pair 8) (o q : Row)
-    → IsSeen (next_list old edit) net f → IsSeen (next_list old edit) net g → TreeTurns (next_list old edit) net.names f g p found
+    → IsForestOf (next_list old edit) net f → IsForestOf (next_list old edit) net g → TreeTurns (next_list old edit) net.names f g p found
     → StaysNode f g q.trigger → AreNumbered number → AreListed (present rows)
     → (present rows).row i ≡ Some row → IsUnderClasses (next_list old edit) name number row → q.rule ≡ name row.value.rule
     → AreMarksOf (revision (built old) (built (next_list old edit))) (next_list old edit) net number f g p found marks

@@ -1,5 +1,5 @@
 -- How nodes and rows stand for a revision.
-use Rattle.std.specs.Prelude.{◌≡◌, ◌⊎◌, ℕ, ◌≤◌, ℤ, true, List, [], length, Some, None}
+use Rattle.std.specs.Prelude.{◌≡◌, ℕ, ◌≤◌, ℤ, List, [], length, Some, None}
 use Rattle.tmm_model.specs.declared.premise.Edit.{Edit}
 use Rattle.belief_theory.specs.Outcomes.{Outcome, outcome}
 use Rattle.tmm_model.specs.Beliefs.{roots}
@@ -12,36 +12,33 @@ use Rattle.belief_theory.specs.Touched.{touched}
 use Rattle.dist_net.specs.Net.{Net}
 use Rattle.list_net.specs.Fits.{IsNetOf}
 use Rattle.spots.specs.Forest.{Forest, member, moment_at}
-use Rattle.spots.specs.Seen.{IsSeen, Holds}
+use Rattle.spots.specs.OfLists.{IsForestOf, HasOccurrences}
 use Rattle.revisions.specs.Counted.{changed}
 use Rattle.revisions.specs.Keeping.{IsKeeping}
 use Rattle.revisions.specs.Maps.{revision}
-use Rattle.revisions.specs.Revisions.{is_firing}
-use Rattle.joined.specs.Rows.{Row, Rows, fires_by, outcome_at, AreLive, IsWaiting, NoneWaits, AreRowsOf}
+use Rattle.joined.specs.Rows.{Row, Rows, decision_of, IsWaiting, NoneWaits, AreRowsOf}
 
--- **What nodes and rows say of a revision.** The rows that do not wait tell the outcomes that are
--- kept. A row that waits may name nodes that are gone: of its outcome only whether its rule fires
--- is told.
+-- **What nodes and rows say of a revision.** Each row has what it keeps of the outcome that was
+-- found last.
 pub record IsNetted (old new : Standing) (net : Net) (f : Forest) (rows : Rows) (taken : List (Moment × List ℕ)) : Type 0 where
   pub nodes : List Moment
   pub kept : Moment → List ℕ → Outcome
   pub date : ℤ
-  pub seen : IsSeen new net f
-  pub holds : Holds nodes f
+  pub seen : IsForestOf new net f
+  pub holds : HasOccurrences nodes f
   pub keeping : IsKeeping (revision (built old) (built new)) nodes kept (IsWaiting f rows) taken date
   pub rows_are : AreRowsOf new f rows
-  pub told : (i : ℕ) (q : Row) → rows i ≡ Some q → (q.waits ≡ true) ⊎ (AreLive f q.found × (outcome_at f q.found ≡ kept (moment_at f q.trigger) q.rule))
-  pub firing : (i : ℕ) (q : Row) → rows i ≡ Some q → fires_by q.found ≡ is_firing (kept (moment_at f q.trigger) q.rule)
+  pub told : (i : ℕ) (q : Row) → rows i ≡ Some q → q.found ≡ decision_of (kept (moment_at f q.trigger) q.rule)
 
--- **Nodes and rows are those of the list**: what it believes, and each decision with its outcome
--- there.
+-- **Nodes and rows are those of the list**: what it believes, and each decision with what is kept
+-- of its outcome there.
 pub record IsCurrent (s : Standing) (net : Net) (f : Forest) (rows : Rows) : Type 0 where
-  pub seen : IsSeen s net f
-  pub holds : Holds (built s).believed f
+  pub seen : IsForestOf s net f
+  pub holds : HasOccurrences (built s).believed f
   pub rows_are : AreRowsOf s f rows
   pub none_waits : NoneWaits rows
   pub told : (i : ℕ) (q : Row) → rows i ≡ Some q
-      → AreLive f q.found × (outcome_at f q.found ≡ outcome s (far_in s.premises) (built s).believed (moment_at f q.trigger) q.rule)
+      → q.found ≡ decision_of (outcome s (far_in s.premises) (built s).believed (moment_at f q.trigger) q.rule)
 
 -- **Where no row waits, nodes and rows are those of the list after the edit.**
 abbrev pub NettedAreCurrent : Type 0

@@ -15,7 +15,7 @@ use Rattle.list_net.specs.Fits.{IsNetOf}
 use Rattle.list_net.specs.Network.{PointsKeepNumbers}
 use Rattle.list_net.specs.Represents.{Names}
 use Rattle.spots.specs.Forest.{Forest, Member, member, moment, Withdraws}
-use Rattle.spots.specs.Seen.{IsSeen, IsMemberOf, Holds}
+use Rattle.spots.specs.OfLists.{IsForestOf, IsMemberOf, HasOccurrences}
 use Rattle.revisions.specs.Maps.{watches}
 use Rattle.revisions.specs.Steps.{IsUnder}
 
@@ -24,8 +24,8 @@ use Rattle.revisions.specs.Steps.{IsUnder}
 -- the nodes that are left of b when m is withdrawn: all but m and what stands below it
 pub record Leaves (s : Standing) (net : Net) (b : List Moment) (new : Forest) (m : Member) : Type 0 where
   pub nodes : List Moment
-  pub seen : IsSeen s net new
-  pub holds : Holds nodes new
+  pub seen : IsForestOf s net new
+  pub holds : HasOccurrences nodes new
   pub out : (x : Moment) → Contains nodes x → Contains b x × (IsUnder (moment m) x → ⊥)
   pub rest : (x : Moment) → Contains b x → Contains nodes x ⊎ IsUnder (moment m) x
 
@@ -33,7 +33,7 @@ pub record Leaves (s : Standing) (net : Net) (b : List Moment) (new : Forest) (m
 abbrev pub WithdrawalsLeave : Type 0
 WithdrawalsLeave =
     (s : Standing) (net : Net) (b : List Moment) (old new : Forest) (m : Member)
-    → IsSeen s net old → Holds b old → Withdraws old new m → Leaves s net b new m
+    → IsForestOf s net old → HasOccurrences b old → Withdraws old new m → Leaves s net b new m
 
 -- ---- another list
 
@@ -42,10 +42,10 @@ WithdrawalsLeave =
 abbrev pub NodesStaySeen : Type 0
 NodesStaySeen =
     (old : Standing) (edit : Edit) (net after : Net) (f : Forest)
-    → IsSeen old net f → IsNetOf (next_list old edit) after
+    → IsForestOf old net f → IsNetOf (next_list old edit) after
     → PointsKeepNumbers (points_in (next_list old edit).premises) net.names after.names
     → ((x : ℕ) (m : Member) → member f x ≡ Some m → Occurs (next_list old edit) (moment m))
-    → IsSeen (next_list old edit) after f
+    → IsForestOf (next_list old edit) after f
 
 -- ---- reading
 

@@ -1,6 +1,6 @@
 -- Rows of decisions by their numbers, and what they say of nodes.
-use Rattle.std.specs.Prelude.{◌≡◌, ℕ, Bool, true, false, List, map, take, Option, Some}
-use Rattle.std.specs.List.{All, Contains}
+use Rattle.std.specs.Prelude.{◌≡◌, ℕ, Bool, true, false, List, Option, Some}
+use Rattle.std.specs.List.{Contains}
 use Rattle.std.specs.Option.{option_map}
 use Rattle.belief_theory.specs.Outcomes.{Outcome, fires, blocked, barred, beyond}
 use Rattle.tmm_model.specs.Beliefs.{rules_at}
@@ -37,22 +37,17 @@ rows_in t name waits i = option_map (as_row name (waits i)) (t.row i)
 
 -- whether it is that the rule fires
 abbrev pub fires_by : Decision → Bool
-fires_by (Fires supports count) = true
+fires_by Fires = true
 fires_by (Blocked antecedent) = false
 fires_by (Barred exception) = false
 fires_by Beyond = false
 
--- the outcome that it tells, where the nodes are these
-abbrev pub outcome_at : Forest → Decision → Outcome
-outcome_at f (Fires supports count) = fires (map (moment_at f) (take count supports))
-outcome_at f (Blocked antecedent) = blocked antecedent
-outcome_at f (Barred exception) = barred exception
-outcome_at f Beyond = beyond
-
--- its supporters are nodes
-abbrev pub AreLive : Forest → Decision → Type 0
-AreLive f (Fires supports count) = All (IsLive f) (take count supports)
-AreLive f _ = Unit {0}
+-- what a row keeps of an outcome: all but which tokens support
+abbrev pub decision_of : Outcome → Decision
+decision_of (fires ks) = Fires
+decision_of (blocked place) = Blocked place
+decision_of (barred place) = Barred place
+decision_of beyond = Beyond
 
 -- ---- decisions of nodes
 

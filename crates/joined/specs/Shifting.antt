@@ -16,7 +16,7 @@ use Rattle.list_net.specs.Network.{PointsKeepNumbers}
 use Rattle.spots.specs.declared.spot.Spot.{Spot}
 use Rattle.spots.specs.declared.spot.Spot.TheVariants.{Declared, Node}
 use Rattle.spots.specs.Forest.{Forest, Member, member, IsLive, moment_at}
-use Rattle.spots.specs.Seen.{IsSeen, Holds}
+use Rattle.spots.specs.OfLists.{IsForestOf, HasOccurrences}
 use Rattle.spots.specs.Spots.{spot_distance, base_of, links_of, links_high}
 use Rattle.revisions.specs.Maps.{watches}
 use Rattle.revisions.specs.Walls.{AllOccur}
@@ -93,9 +93,9 @@ pub record MayRest (moves : ℕ → ℕ → Bool) (loose : ℕ → Bool) (s : St
 abbrev pub RestingKeep : Type 0
 RestingKeep =
     (old : Standing) (edit : Edit) (nets : Nets) (moves : ℕ → ℕ → Bool) (loose : ℕ → Bool) (f : Forest) (before b : List Moment) (r : List ℕ) (x : ℕ)
-    → IsNetOf old nets.committed → IsSeen (next_list old edit) nets.present f
+    → IsNetOf old nets.committed → IsForestOf (next_list old edit) nets.present f
     → PointsKeepNumbers (points_in (next_list old edit).premises) nets.committed.names nets.present.names
-    → TellsMoves nets moves → AreLoose moves loose → AllOccur old before → Holds b f → IsLive f x
+    → TellsMoves nets moves → AreLoose moves loose → AllOccur old before → HasOccurrences b f → IsLive f x
     → Contains before (moment_at f x) → Contains (rules_at old (moment_at f x)) r → Contains (rules_at (next_list old edit) (moment_at f x)) r
     → old.horizon ≡ (next_list old edit).horizon
     → ((y : Moment) → Contains before y → watches old r y ≡ true → Contains b y)

@@ -14,19 +14,17 @@ use Rattle.belief_theory.specs.Right.{Occurs}
 use Rattle.belief_theory.specs.Touched.{is_decision, is_touched}
 use Rattle.dist_net.specs.Net.{Net}
 use Rattle.spots.specs.Forest.{Forest, Member, member, moment, moment_at, IsLive}
-use Rattle.spots.specs.Seen.{IsSeen, Holds, map_of}
+use Rattle.spots.specs.OfLists.{IsForestOf, HasOccurrences, map_of}
 use Rattle.decision_rows.specs.declared.row.Decision.TheVariants.{Beyond}
 use Rattle.revisions.specs.Counted.{AreSeeds}
-use Rattle.revisions.specs.Revisions.{is_firing}
 use Rattle.joined.specs.Netted.{IsNetted, IsCurrent}
-use Rattle.joined.specs.Rows.{Row, Rows, fires_by, outcome_at, AreLive, HasRow, HasNoRow, AreRowsOf}
+use Rattle.joined.specs.Rows.{Row, Rows, decision_of, HasRow, HasNoRow, AreRowsOf}
 
--- What a row is at the beginning. A decision of the list before keeps its outcome, of which only
--- whether it fires counts where it waits; a new one has none yet, and waits.
+-- What a row is at the beginning. A decision of the list before has what was found there; a new one
+-- has nothing yet, and waits.
 pub data StartsAs (old : Standing) (f : Forest) (q : Row) : Type 0 where
   stood : is_decision (built old) (moment_at f q.trigger, q.rule) ≡ true
-      → fires_by q.found ≡ is_firing (outcome old (far_in old.premises) (built old).believed (moment_at f q.trigger) q.rule)
-      → (q.waits ≡ true) ⊎ (AreLive f q.found × (outcome_at f q.found ≡ outcome old (far_in old.premises) (built old).believed (moment_at f q.trigger) q.rule))
+      → q.found ≡ decision_of (outcome old (far_in old.premises) (built old).believed (moment_at f q.trigger) q.rule)
       → StartsAs old f q
   comes : is_decision (built old) (moment_at f q.trigger, q.rule) ≡ false → q.found ≡ Beyond → q.waits ≡ true → StartsAs old f q
 
@@ -42,8 +40,8 @@ pub record AreMarked (old new : Standing) (b : List Moment) (f : Forest) (rows :
 -- **Nodes and rows begin so**, when what was erased is withdrawn, what is added has entered, and
 -- what may be touched waits.
 pub record IsStart (old new : Standing) (net : Net) (b : List Moment) (f : Forest) (rows : Rows) : Type 0 where
-  pub seen : IsSeen new net f
-  pub holds : Holds b f
+  pub seen : IsForestOf new net f
+  pub holds : HasOccurrences b f
   pub seeds : AreSeeds old new b
   pub rows_are : AreRowsOf new f rows
   pub start_as : (i : ℕ) (q : Row) → rows i ≡ Some q → StartsAs old f q
@@ -81,10 +79,10 @@ pub record RowsBegin (new : Standing) (g : Forest) (rows after : Rows) : Type 0 
 
 -- nodes f and rows are made ready for another list, as nodes g and rows after
 pub record IsPrepared (old new : Standing) (net : Net) (f g : Forest) (rows after : Rows) : Type 0 where
-  pub seen : IsSeen new net g
+  pub seen : IsForestOf new net g
   pub nodes_begin : NodesBegin new f g
   pub rows_begin : RowsBegin new g rows after
-  pub marked : (b : List Moment) → Holds b g → AreSeeds old new b → AreMarked old new b g after
+  pub marked : (b : List Moment) → HasOccurrences b g → AreSeeds old new b → AreMarked old new b g after
 
 -- **So prepared, nodes and rows of the list before stand for the revision that the edit asks for.**
 abbrev pub PreparedAreNetted : Type 0

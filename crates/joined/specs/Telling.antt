@@ -13,7 +13,7 @@ use Rattle.list_theory.proofs.Elements.{In}
 use Rattle.belief_theory.specs.Right.{Occurs}
 use Rattle.dist_net.specs.Net.{Net}
 use Rattle.spots.specs.Forest.{Forest, Member, member, moment}
-use Rattle.spots.specs.Seen.{Holds}
+use Rattle.spots.specs.OfLists.{HasOccurrences}
 use Rattle.decision_rows.specs.declared.row.Decision.{Decision}
 use Rattle.revisions.specs.Keeping.{IsTold}
 use Rattle.revisions.specs.Maps.{revision}
@@ -25,7 +25,7 @@ use Rattle.joined.specs.Turning.{effect_of, IsCodeTurn}
 
 -- these are the derived occurrences that entered and left so far, where the nodes are these
 abbrev pub IsToldOf : Standing → Standing → Forest → List Moment → List Moment → Type 0
-IsToldOf old new f ins outs = (b : List Moment) → Holds b f → IsTold (revision (built old) (built new)) b ins outs
+IsToldOf old new f ins outs = (b : List Moment) → HasOccurrences b f → IsTold (revision (built old) (built new)) b ins outs
 
 -- ---- at the beginning
 

@@ -13,7 +13,7 @@ use Rattle.belief_theory.specs.Outcomes.{outcome}
 use Rattle.list_theory.proofs.Elements.{In}
 use Rattle.belief_theory.specs.Touched.{watched_points}
 use Rattle.spots.specs.Forest.{Forest, moment_at}
-use Rattle.spots.specs.Seen.{Holds, map_of}
+use Rattle.spots.specs.OfLists.{HasOccurrences, map_of}
 use Rattle.revisions.specs.Counted.{AreSeeds}
 use Rattle.revisions.specs.Maps.{watches}
 use Rattle.joined.specs.Rows.{Row, Rows, AreRowsOf}
@@ -54,7 +54,7 @@ RestingAreMarked =
 abbrev pub HorizonsMark : Type 0
 HorizonsMark =
     (old : Standing) (n : ℕ) (b : List Moment) (f : Forest) (rows : Rows)
-    → IsSound old → IsSound (list_until old n) → Holds b f → AreSeeds old (list_until old n) b → AreRowsOf (list_until old n) f rows
+    → IsSound old → IsSound (list_until old n) → HasOccurrences b f → AreSeeds old (list_until old n) b → AreRowsOf (list_until old n) f rows
     → ((i : ℕ) (q : Row) → rows i ≡ Some q → (q.waits ≡ true)
     ⊎ (int_le (due old (far_in old.premises) (moment_at f q.trigger) q.rule) (pos old.horizon) ≡ int_le (due old (far_in old.premises) (moment_at f q.trigger) q.rule) (pos n)))
     → ((i : ℕ) (q : Row) → rows i ≡ Some q → q.waits ≡ true → old.horizon ≢ n)

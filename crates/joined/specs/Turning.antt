@@ -10,7 +10,7 @@ use Rattle.tmm_model.specs.Standing.{Standing}
 use Rattle.dist_net.specs.Net.{Net}
 use Rattle.list_net.specs.Represents.{Names}
 use Rattle.spots.specs.Forest.{Forest, Member, member, moment, moment_at, Withdraws, IsLive}
-use Rattle.spots.specs.Seen.{Holds}
+use Rattle.spots.specs.OfLists.{HasOccurrences}
 use Rattle.supports.specs.Growing.{Adds}
 use Rattle.decision_rows.specs.declared.row.Decision.{Decision}
 use Rattle.decision_rows.specs.declared.row.Decision.TheVariants.{Beyond}
@@ -19,7 +19,7 @@ use Rattle.revisions.specs.Marks.{ReadsMoved}
 use Rattle.revisions.specs.Revisions.{Revision}
 use Rattle.revisions.specs.Steps.{IsUnder}
 use Rattle.joined.specs.Netted.{IsNetted}
-use Rattle.joined.specs.Rows.{Row, Rows, fires_by, outcome_at, AreLive, HasRow}
+use Rattle.joined.specs.Rows.{Row, Rows, fires_by, decision_of, HasRow}
 
 -- ---- nodes
 
@@ -43,7 +43,7 @@ pub data Moved (f : Forest) (p : Row) (found : Decision) (y : Moment) : Type 0 w
 
 -- the outcome of a decision is the same for the nodes before and after
 abbrev pub SameOutcome : Revision → Forest → Forest → Moment → List ℕ → Type 0
-SameOutcome r f g u rule = (b c : List Moment) → Holds b f → Holds c g → r.outcome c u rule ≡ r.outcome b u rule
+SameOutcome r f g u rule = (b c : List Moment) → HasOccurrences b f → HasOccurrences c g → r.outcome c u rule ≡ r.outcome b u rule
 
 -- the decision at u may wait after one at t: it is later, and touched if u is believed in the end
 pub record MayWait (r : Revision) (t u : Moment) (rule : List ℕ) : Type 0 where
@@ -79,10 +79,9 @@ pub record IsDueFirst (r : Revision) (f : Forest) (rows : Rows) (x : ℕ) (p : R
   pub waits : p.waits ≡ true
   pub least : (i : ℕ) (q : Row) → rows i ≡ Some q → q.waits ≡ true → r.early (moment_at f p.trigger) ≤ℤ r.early (moment_at f q.trigger)
 
--- the decision is right for the nodes as they are, of which its supporters are some
-pub record IsFound (r : Revision) (f : Forest) (p : Row) (found : Decision) : Type 0 where
-  pub outcome : (b : List Moment) → Holds b f → outcome_at f found ≡ r.outcome b (moment_at f p.trigger) p.rule
-  pub live : AreLive f found
+-- the decision is right for the nodes as they are
+abbrev pub IsFound : Revision → Forest → Row → Decision → Type 0
+IsFound r f p found = (b : List Moment) → HasOccurrences b f → found ≡ decision_of (r.outcome b (moment_at f p.trigger) p.rule)
 
 -- **A turn of the code**: the row p of number x, which is due first, is decided as `found`.
 pub record IsCodeTurn (r : Revision) (s : Standing) (names : Names) (f g : Forest) (rows after : Rows) (x : ℕ) (p : Row) (found : Decision) : Type 0 where

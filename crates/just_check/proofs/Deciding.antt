@@ -2,7 +2,7 @@
 use Rattle.std.proofs.Common.{◌≡◌, ◌∙◌, ◌⊎◌, inl, inr, ℕ, suc, ◌+◌, ◌<◌, ◌≤◌, List, [], ◌∷◌, ◌++◌, map, take, drop, get_or, length, refl, sym, ap, subst, arith}
 use Rattle.std.proofs.Math.Seq.{drop-cons}
 use Rattle.std.proofs.lemmas.Int.{ints}
-use Rattle.std.proofs.lemmas.List.{map-append, take-append-drop, take-append-le, take_all, length-append}
+use Rattle.std.proofs.lemmas.List.{map-append, take-append-drop, take-append-le, length-append}
 use Rattle.std.proofs.lemmas.List.Elements.{All-contains}
 use Rattle.std.specs.Prelude.{ℤ, ◌≤ℤ◌, ◌<ℤ◌, Option, Some, None, IsSome}
 use Rattle.std.specs.List.{All}
@@ -24,7 +24,7 @@ use Rattle.supports.proofs.Taken.{next_taken}
 use Rattle.supports.specs.Growing.{Adds}
 use Rattle.just_check.specs.declared.auditing.Checked.{Checked}
 use Rattle.just_check.specs.declared.expected.Origin.{Origin}
-use Rattle.just_check.specs.Audited.{date_of, rows_of, decided_in, IsTaken, IsPast, IsChecked, IsReady, IsDecided, DecidesThrough, IsBehind}
+use Rattle.just_check.specs.Audited.{date_of, rows_of, decided_in, IsTaken, IsPast, IsChecked, IsReady, DecidesThrough, IsBehind}
 use Rattle.just_check.specs.Checking.{Joins, AreSoFar, is_due, Expects, AwaitsMore}
 use Rattle.just_check.specs.Origins.{comes_of, comes_from, has_event, entry_at, SetsNode}
 use Rattle.just_check.proofs.Entering.{In-take, more_so_far, nodes_live, more_rows, expects_entered, new_live, kept_moment}
@@ -120,16 +120,6 @@ later_nodes s sound f nodes i x below is rising y at =
 
 module _ (s : Standing) (net : Net) (old c : Checked) (date : ℤ) (taken : IsTaken s net c) (tree : c.tree ≡ old.tree) (nodes : c.nodes ≡ old.nodes)
     (own : (x : ℕ) → In x (decided_in c) → In x (decided_in old) ⊎ (date_of s (moment_at (forest old.tree) x) ≤ℤ date)) where
-  -- where all is decided
-  pub through_all : length c.nodes.items ≤ c.decided → DecidesThrough s net old c date
-  through_all full = record {
-    taken = taken;
-    tree = tree;
-    nodes = nodes;
-    own = own;
-    all = λ x at below. subst (In x) (sym (take_all c.decided c.nodes.items full)) (subst (λ ns. In x ns.items) (sym nodes) at);
-  }
-
   -- where the next begins later
   pub through_next : (x : ℕ) → c.decided < length c.nodes.items → x ≡ get_or c.nodes.items c.decided x → date <ℤ date_of s (moment_at (forest c.tree) x) → DecidesThrough s net old c date
   through_next x below is later = record {
@@ -146,14 +136,6 @@ module _ (s : Standing) (net : Net) (old c : Checked) (date : ℤ) (taken : IsTa
     where
       apart : (a p q : ℤ) → a <ℤ p → p ≤ℤ q → q ≤ℤ a → ⊥
       apart a p q h g e = omega (arith, ints)
-
--- where all is decided
-pub all_decided : (s : Standing) (net : Net) (c : Checked) → IsTaken s net c → length c.nodes.items ≤ c.decided → IsDecided s net c
-all_decided s net c taken full = record {
-  so_far = taken.so_far;
-  live = taken.live;
-  expects = subst (λ events. Expects s (forest c.tree) (rows_of c) events c.expected) (take_all c.decided c.nodes.items full) taken.expects;
-}
 
 -- ---- the event of an origin is decided
 

@@ -16,7 +16,7 @@ use Rattle.walk_theory.proofs.Points.{tells}
 use Rattle.belief_theory.proofs.Order.{total}
 use Rattle.dist_net.specs.Net.{Net}
 use Rattle.spots.specs.Forest.{Forest, IsLive, moment_at}
-use Rattle.spots.specs.Seen.{IsSeen}
+use Rattle.spots.specs.OfLists.{IsForestOf}
 use Rattle.spots.proofs.Nodes.{node_at, live_at, moment_at-is}
 use Rattle.spots.proofs.Seen.{order_is}
 use Rattle.supports.specs.Growing.{Adds}
@@ -44,7 +44,7 @@ module _ (s : Standing) (net : Net) (f : Forest) (b : List Moment) (so_far : Are
   sound : IsSound s
   sound = so_far.seen.network.sound
 
-  pub new_seen : IsSeen s net new
+  pub new_seen : IsForestOf s net new
   new_seen = adds_seen s net f new x k adds (held_apart s net f new x k adds b so_far.holds joins.new) so_far.seen
 
   pub new_live : IsLive new x

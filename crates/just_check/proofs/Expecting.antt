@@ -79,9 +79,6 @@ root_awaited old new name awaits ks are = record { own = own; all = all }
     ]
 
 module _ (s : Standing) (f : Forest) (b : List Moment) (x : ℕ) where
-  pub more_nothing : (e : Expected) → AwaitsMore s f b x [] e e
-  more_nothing e = record { kept = λ o some. refl; own = λ o some. inl some; fresh = λ o y h. h; all = λ r at fires. absurd at }
-
   pub more_both : (rs qs : List (List ℕ)) (old mid new : Expected) → AwaitsMore s f b x rs old mid → AwaitsMore s f b x qs mid new → AwaitsMore s f b x (rs ++ qs) old new
   more_both rs qs old mid new first second = record {
     kept = λ o some. second.kept o (subst IsSome (sym (first.kept o some)) some) ∙ first.kept o some;

@@ -13,7 +13,7 @@ use Rattle.list_theory.proofs.KnownNames.{found, finds}
 use Rattle.belief_theory.proofs.Moments.{along-push}
 use Rattle.dist_net.specs.Net.{Net}
 use Rattle.spots.specs.Forest.{Forest, moment, moment_at, IsLive, IsNoRoot}
-use Rattle.spots.specs.Seen.{Holds, HasList}
+use Rattle.spots.specs.OfLists.{HasOccurrences, HasList}
 use Rattle.spots.proofs.Nodes.{node_at, moment_at-is, base-moment}
 use Rattle.supports.specs.Growing.{Adds, AddsRoot, AddsRootAt}
 use Rattle.supports.proofs.Grown.{root_name, adds_seen}
@@ -22,15 +22,15 @@ use Rattle.just_check.specs.Checking.{Joins, AreFirst, AreSoFar, IsNoNode, Enter
 -- ---- nodes and occurrences
 
 -- what is no node is none of the occurrences
-pub none_of : (f : Forest) (b : List Moment) (k : Moment) → Holds b f → IsNoNode f k → In k b → ⊥
+pub none_of : (f : Forest) (b : List Moment) (k : Moment) → HasOccurrences b f → IsNoNode f k → In k b → ⊥
 none_of f b k holds none at = let (x, m, here, is) = holds.all k (Contains-from_In b k at) in none x m here is
 
 -- and what is none of the occurrences is no node
-pub no_node : (f : Forest) (b : List Moment) (k : Moment) → Holds b f → (In k b → ⊥) → IsNoNode f k
+pub no_node : (f : Forest) (b : List Moment) (k : Moment) → HasOccurrences b f → (In k b → ⊥) → IsNoNode f k
 no_node f b k holds apart x m here is = apart (subst (λ y. In y b) is (In-from_Contains b (moment m) (holds.own x m here)))
 
 -- a node is one of the occurrences
-pub one_of : (f : Forest) (b : List Moment) (x : ℕ) → Holds b f → IsLive f x → In (moment_at f x) b
+pub one_of : (f : Forest) (b : List Moment) (x : ℕ) → HasOccurrences b f → IsLive f x → In (moment_at f x) b
 one_of f b x holds live =
     let (m, here) = node_at f x live in
     subst (λ k. In k b) (sym (moment_at-is f x m here)) (In-from_Contains b (moment m) (holds.own x m here))

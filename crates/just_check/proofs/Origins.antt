@@ -2,7 +2,7 @@
 use Rattle.std.proofs.Common.{◌≡◌, ◌≢◌, ◌∙◌, inl, inr, ℕ, Bool, true, false, not, ◌&&◌, cond, List, [], ◌∷◌, ◌++◌, refl, sym, ap, suc, ◌<◌, take, drop, get_or, length}
 use Rattle.std.proofs.Math.Seq.{drop-cons}
 use Rattle.std.proofs.lemmas.List.{take-append-drop}
-use Rattle.std.specs.Prelude.{Option, Some, None, IsSome, IsTrue, is_some, ◌↔◌, nat_eq}
+use Rattle.std.specs.Prelude.{Option, Some, None, IsTrue, is_some, ◌↔◌, nat_eq}
 use Rattle.std.specs.Bool.{Decides}
 use Rattle.std.specs.Option.{option_eq, option_and_then}
 use Rattle.std.proofs.lemmas.Bool.Decides.{eqb_tells}
@@ -70,13 +70,6 @@ awaits_none None true w e is = ((λ h. sym is), (λ h. refl))
 awaits_none None false w e is = absurd (cc)
 awaits_none (Some x) true w e is = absurd (cc)
 awaits_none (Some x) false w e is = ((λ h. absurd (cc)), (λ h. let never : Some (Some x) ≡ Some None = is ∙ h in absurd (cc)))
-
-pub awaits_kept : (e : Expected) (o : Origin) → IsSome (entry_at e o) → Awaits e e o
-awaits_kept e o some = record { own = by (entry_at e o) some; others = λ p other. refl }
-  where
-    by : (x : Option (Option ℕ)) → IsSome x → x ≡ awaited x
-    by None h = cc
-    by (Some x) h = refl
 
 -- ---- what comes of origins
 

@@ -12,7 +12,7 @@ use Rattle.list_theory.proofs.Elements.{In}
 use Rattle.dist_net.specs.Net.{Net}
 use Rattle.list_net.specs.Represents.{Names}
 use Rattle.spots.specs.Forest.{Forest, Member, member, moment, moment_at}
-use Rattle.spots.specs.Seen.{IsSeen, Holds}
+use Rattle.spots.specs.OfLists.{IsForestOf, HasOccurrences}
 use Rattle.supports.specs.Growing.{Adds}
 use Rattle.just_check.specs.declared.expected.Origin.{Origin}
 use Rattle.just_check.specs.declared.expected.Expected.{Expected}
@@ -36,8 +36,8 @@ pub record AreFirst (s : Standing) (b : List Moment) : Type 0 where
 
 -- they are the nodes of the tree
 pub record AreSoFar (s : Standing) (net : Net) (f : Forest) (b : List Moment) : Type 0 where
-  pub seen : IsSeen s net f
-  pub holds : Holds b f
+  pub seen : IsForestOf s net f
+  pub holds : HasOccurrences b f
   pub first : AreFirst s b
 
 -- no node is of this occurrence

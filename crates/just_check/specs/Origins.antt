@@ -7,7 +7,7 @@ use Rattle.tmm_model.specs.Moments.{Moment, At, After}
 use Rattle.tmm_model.specs.Points.{same_name}
 use Rattle.list_theory.proofs.Elements.{In}
 use Rattle.spots.specs.Forest.{Forest, IsLive, moment_at}
-use Rattle.spots.specs.Seen.{Holds}
+use Rattle.spots.specs.OfLists.{HasOccurrences}
 use Rattle.just_check.specs.declared.expected.Origin.{Origin}
 use Rattle.just_check.specs.declared.expected.Expected.{Expected}
 
@@ -56,7 +56,7 @@ pub record SetsNode (old new : Expected) (o : Origin) (x : ℕ) : Type 0 where
 -- The nodes are the occurrences b, the event of each effect is among them, and the node of each is
 -- known under its origin.
 pub record Knows (f : Forest) (b : List Moment) (e : Expected) : Type 0 where
-  pub holds : Holds b f
+  pub holds : HasOccurrences b f
   pub closed : (t : Moment) (r : List ℕ) → In (After t r) b → In t b
   pub nodes : (o : Origin) (x : ℕ) → entry_at e o ≡ Some (Some x) → IsLive f x × (moment_at f x ≡ comes_from f o)
   pub all : (o : Origin) (x : ℕ) → has_event f o.event → IsLive f x → moment_at f x ≡ comes_from f o → entry_at e o ≡ Some (Some x)

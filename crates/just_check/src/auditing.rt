@@ -8,7 +8,7 @@ ghost use Rattle.tmm_model.specs.declared.point.PointName.TheVariants.{Begin};
 ghost use Rattle.list_theory.proofs.Elements.{In};
 ghost use Rattle.list_net.specs.Fits.{IsNetOf};
 ghost use Rattle.spots.specs.Forest.{IsLive, moment_at};
-ghost use Rattle.spots.specs.Seen.{Holds};
+ghost use Rattle.spots.specs.OfLists.{HasOccurrences};
 ghost use Rattle.occ_tree.specs.OfLists.{IsTreeIn, IsTreeOf};
 ghost use Rattle.occ_tree.specs.Places.{forest};
 ghost use Rattle.just_check.specs.Audited.{IsTaken, IsChecked, IsReady, rows_of, DecidesThrough, EntersBehind, Takes, ComesAfter, IsDecided};
@@ -314,7 +314,7 @@ fn expect_effects(
     requires rules { AreRules standing.now.present rules.now }
     requires seen { IsTreeOf standing.now.present net.now.present tree.now }
     requires live { IsLive (forest tree.now) x }
-    ensures { OnOk result ((b : List Moment) → Holds b (forest tree.now) → AwaitsMore standing.now.present (forest tree.now) b x (rules_at standing.now.present (moment_at (forest tree.now) x)) expected.old expected.new) }
+    ensures { OnOk result ((b : List Moment) → HasOccurrences b (forest tree.now) → AwaitsMore standing.now.present (forest tree.now) b x (rules_at standing.now.present (moment_at (forest tree.now) x)) expected.old expected.new) }
 {
     for rule in rules.at(standing, tree, x) {
         expect_effect(alloc, standing, net, tree, x, *rule, expected)?;
@@ -335,7 +335,7 @@ fn expect_effect(
     requires seen { IsTreeOf standing.now.present net.now.present tree.now }
     requires live { IsLive (forest tree.now) x }
     requires rule { Contains (rules_at standing.now.present (moment_at (forest tree.now) x)) rule }
-    ensures { OnOk result ((b : List Moment) → Holds b (forest tree.now) → AwaitsMore standing.now.present (forest tree.now) b x (rule ∷ []) expected.old expected.new) }
+    ensures { OnOk result ((b : List Moment) → HasOccurrences b (forest tree.now) → AwaitsMore standing.now.present (forest tree.now) b x (rule ∷ []) expected.old expected.new) }
 {
     if !does_fire(alloc, standing, net, tree, x, rule) {
         return Ok(());

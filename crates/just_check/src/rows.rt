@@ -6,7 +6,7 @@ ghost use Rattle.tmm_model.specs.Moments.{Moment, At, After, moment_of};
 ghost use Rattle.tmm_model.specs.declared.point.PointName.TheVariants.{Begin};
 ghost use Rattle.dist_net.specs.Net.{Net};
 ghost use Rattle.spots.specs.Forest.{Forest, IsLive, moment_at};
-ghost use Rattle.spots.specs.Seen.{IsSeen};
+ghost use Rattle.spots.specs.OfLists.{IsForestOf};
 ghost use Rattle.occ_tree.specs.Dated.{IsDatedBy};
 ghost use Rattle.occ_tree.specs.OfLists.{IsTreeOf};
 ghost use Rattle.occ_tree.specs.Places.{forest};
@@ -72,8 +72,7 @@ fn enter_root(
     ensures enters { IfOk result (λ x. (b : List Moment) → AreSoFar standing.now.present net.now.present (forest tree.old) b → EntersAs standing.now.present net.now.present.names b (At (Begin name)) (forest tree.old) (forest tree.new) x) }
     ensures dated { OnOk result (IsDatedBy net.now.present (present tree.old) → IsDatedBy net.now.present (present tree.new)) }
 {
-    // it tells the proof that names are distinct
-    let _ = standing.len();
+    standing.invariants();
     match standing.get(name) {
         Some(premise) => add_root(alloc, standing, net, tree, premise),
         None => Ok(None),
@@ -89,7 +88,7 @@ fn enter_effect(
     x: u32,
     rule: Name,
 ) -> Result<Option<u32>, NoMemory>
-    requires seen { IsSeen standing.now.present net.now.present (forest tree.old) }
+    requires seen { IsForestOf standing.now.present net.now.present (forest tree.old) }
     requires live { IsLive (forest tree.old) x }
     requires rule { Contains (rules_at standing.now.present (moment_at (forest tree.old) x)) rule }
     requires new { IsNoNode (forest tree.old) (After (moment_at (forest tree.old) x) rule) }
@@ -110,15 +109,14 @@ fn add_effect(
     x: u32,
     rule: Name,
 ) -> Result<u32, NoMemory>
-    requires seen { (net : Net) × IsSeen standing.now.present net (forest tree.old) }
+    requires seen { (net : Net) × IsForestOf standing.now.present net (forest tree.old) }
     requires live { IsLive (forest tree.old) x }
     requires rule { Contains (rules_at standing.now.present (moment_at (forest tree.old) x)) rule }
     requires new { IsNoNode (forest tree.old) (After (moment_at (forest tree.old) x) rule) }
-    ensures adds { IfOk result (λ y. (net : Net) → IsSeen standing.now.present net (forest tree.old) → Adds standing.now.present net.names (forest tree.old) (forest tree.new) y (After (moment_at (forest tree.old) x) rule)) }
+    ensures adds { IfOk result (λ y. (net : Net) → IsForestOf standing.now.present net (forest tree.old) → Adds standing.now.present net.names (forest tree.old) (forest tree.new) y (After (moment_at (forest tree.old) x) rule)) }
     ensures dated { OnOk result ((net : Net) → IsTreeOf standing.now.present net tree.old → IsDatedBy net (present tree.new)) }
 {
-    // it tells the proof that names are distinct
-    let _ = standing.len();
+    standing.invariants();
     if tree.row(x).rules >= MOST_RULES {
         return Err(NoMemory);
     }

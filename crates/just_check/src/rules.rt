@@ -6,7 +6,7 @@ ghost use Rattle.tmm_model.specs.Moments.{Moment, rule_of};
 ghost use Rattle.tmm_model.specs.Standing.{far_in};
 ghost use Rattle.dist_net.specs.Net.{Net};
 ghost use Rattle.spots.specs.Forest.{IsLive, moment_at};
-ghost use Rattle.spots.specs.Seen.{IsSeen, Holds};
+ghost use Rattle.spots.specs.OfLists.{IsForestOf, HasOccurrences};
 ghost use Rattle.occ_tree.specs.OfLists.{IsTreeOf};
 ghost use Rattle.occ_tree.specs.Places.{forest};
 ghost use Rattle.just_check.specs.Kinds.{AreRules, AddsPremise};
@@ -55,12 +55,11 @@ impl RulesByKind {
     /// The names of the rules on the kind of the event at a node, none where it is no event.
     pub fn at(&self, standing: &Standing, tree: &Tree, x: u32) -> &[Name]
         requires rules { AreRules standing.now.present self.now }
-        requires seen { (net : Net) × IsSeen standing.now.present net (forest tree.now) }
+        requires seen { (net : Net) × IsForestOf standing.now.present net (forest tree.now) }
         requires live { IsLive (forest tree.now) x }
         ensures { result.now ≡ rules_at standing.now.present (moment_at (forest tree.now) x) }
     {
-        // it tells the proof what holds of the list
-        let _ = standing.len();
+        standing.invariants();
         let row = tree.row(x);
         match row.shape {
             Shape::Event => self.rules.of(&row.what),
@@ -82,7 +81,7 @@ pub(crate) fn does_fire(
     requires seen { IsTreeOf standing.now.present net.now.present tree.now }
     requires live { IsLive (forest tree.now) x }
     requires rule { Contains (rules_at standing.now.present (moment_at (forest tree.now) x)) rule }
-    ensures { (b : List Moment) → Holds b (forest tree.now) → IsTrue result ↔ ((due standing.now.present (far_in standing.now.present.premises) (moment_at (forest tree.now) x) rule ≤ℤ pos standing.now.present.horizon) × IsTrue (is_free standing.now.present (far_in standing.now.present.premises) b (moment_at (forest tree.now) x) rule)) }
+    ensures { (b : List Moment) → HasOccurrences b (forest tree.now) → IsTrue result ↔ ((due standing.now.present (far_in standing.now.present.premises) (moment_at (forest tree.now) x) rule ≤ℤ pos standing.now.present.horizon) × IsTrue (is_free standing.now.present (far_in standing.now.present.premises) b (moment_at (forest tree.now) x) rule)) }
 {
     let text = rule_text(standing, rule);
     is_in_time(standing.horizon(), Order { tree, net }.early(x), text.lo)
@@ -124,7 +123,7 @@ fn is_free(
     requires rule { Contains (rules_at standing.now.present (moment_at (forest tree.now) x)) rule }
     requires given { given.now ≡ (rule_of standing.now.present rule).given }
     requires exceptions { exceptions.now ≡ (rule_of standing.now.present rule).exceptions }
-    ensures { (b : List Moment) → Holds b (forest tree.now) → result ≡ is_free standing.now.present (far_in standing.now.present.premises) b (moment_at (forest tree.now) x) rule }
+    ensures { (b : List Moment) → HasOccurrences b (forest tree.now) → result ≡ is_free standing.now.present (far_in standing.now.present.premises) b (moment_at (forest tree.now) x) rule }
 {
     let mut guesses = Guesses::make(alloc);
     is_free_with(
@@ -155,7 +154,7 @@ fn is_free_with(
     requires rule { Contains (rules_at standing.now.present (moment_at (forest tree.now) x)) rule }
     requires given { given.now ≡ (rule_of standing.now.present rule).given }
     requires exceptions { exceptions.now ≡ (rule_of standing.now.present rule).exceptions }
-    ensures { (b : List Moment) → Holds b (forest tree.now) → result ≡ is_free standing.now.present (far_in standing.now.present.premises) b (moment_at (forest tree.now) x) rule }
+    ensures { (b : List Moment) → HasOccurrences b (forest tree.now) → result ≡ is_free standing.now.present (far_in standing.now.present.premises) b (moment_at (forest tree.now) x) rule }
 {
     let at = Spot::Node(x);
     for fact in given {

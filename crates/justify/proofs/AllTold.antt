@@ -7,12 +7,12 @@ use Rattle.tmm_model.specs.Reasons.{Reason, AreReasons, IsWhy}
 use Rattle.tmm_model.specs.Standing.{Standing}
 use Rattle.dist_net.specs.Net.{Net}
 use Rattle.spots.specs.Forest.{Forest, IsLive, moment_at}
-use Rattle.spots.specs.Seen.{IsSeen}
+use Rattle.spots.specs.OfLists.{IsForestOf}
 use Rattle.spots.specs.Spots.{node_cmp}
 use Rattle.justify.specs.Grounds.{AreUpholders}
 use Rattle.occ_tree.proofs.Ordered.{moments_in_order}
 
-pub reasons_are : (s : Standing) (net : Net) (f : Forest) → IsSeen s net f → (x : ℕ) (found nodes : List ℕ) → AreUpholders (built s) f x found
+pub reasons_are : (s : Standing) (net : Net) (f : Forest) → IsForestOf s net f → (x : ℕ) (found nodes : List ℕ) → AreUpholders (built s) f x found
     → IsPermutation found nodes → IsStrictlySortedBy (node_cmp net f) nodes
     → (lines : List Reason) → AreReasons (built s) (map (moment_at f) nodes) lines → IsWhy (built s) (moment_at f x) lines
 reasons_are s net f seen x found nodes upholders moved sorted lines told =

@@ -9,7 +9,7 @@ use Rattle.tmm_model.specs.Standing.{Standing}
 use Rattle.dist_net.specs.Net.{Net}
 use Rattle.spots.specs.declared.link.Link.{Link}
 use Rattle.spots.specs.Forest.{Forest, Member, member, IsLive, moment_at, rules_of, last_name}
-use Rattle.spots.specs.Seen.{IsSeen}
+use Rattle.spots.specs.OfLists.{IsForestOf}
 use Rattle.spots.proofs.Nodes.{node_at, moment_at-is, last_name-push}
 use Rattle.belief_theory.specs.Right.{Occurs}
 use Rattle.belief_theory.proofs.Moments.{along-push}
@@ -34,7 +34,7 @@ effect_at f x y m n link here there root links name named =
     ∙ (λ i. After (event i) (rule i))
 
 -- the rule whose effect a node is stands at the event
-pub rule_at : (s : Standing) (net : Net) (f : Forest) → IsSeen s net f → (x event : ℕ) (rule : List ℕ) → IsLive f x → moment_at f x ≡ After (moment_at f event) rule
+pub rule_at : (s : Standing) (net : Net) (f : Forest) → IsForestOf s net f → (x event : ℕ) (rule : List ℕ) → IsLive f x → moment_at f x ≡ After (moment_at f event) rule
     → Contains (rules_at s (moment_at f event)) rule
 rule_at s net f seen x event rule live is =
     let (m, here) = node_at f x live in

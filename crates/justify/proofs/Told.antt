@@ -23,7 +23,7 @@ use Rattle.list_net.specs.Represents.{IsNumberOf}
 use Rattle.spots.specs.declared.spot.Spot.{Spot}
 use Rattle.spots.specs.declared.spot.Spot.TheVariants.{Declared, Node}
 use Rattle.spots.specs.Forest.{Forest, Member, member, IsLive, moment_at}
-use Rattle.spots.specs.Seen.{IsSeen, class_for}
+use Rattle.spots.specs.OfLists.{IsForestOf, class_for}
 use Rattle.spots.specs.Spots.{spot_moment, row_moment}
 use Rattle.spots.proofs.Nodes.{moment_at-is}
 use Rattle.spots.proofs.Rows.{token_is}
@@ -143,7 +143,7 @@ module _ (m : TimeMap) (f : Forest) (ps : List Ranked) (i : ℕ) (d : Ranked) (b
 
 -- ---- the end of what stands at a node
 
-module _ (s : Standing) (net : Net) (f : Forest) (seen : IsSeen s net f) where
+module _ (s : Standing) (net : Net) (f : Forest) (seen : IsForestOf s net f) where
   -- the token at a node ends where the node does
   pub end_is : (x : ℕ) (m : Member) → member f x ≡ Some m → option_and_then (λ (row : TokenRow Moment). row.end) (token_of s (moment_at f x)) ≡ option_map (λ e. spot_moment net.names f (Declared e)) m.end
   end_is x m here =

@@ -7,7 +7,7 @@ ghost use Rattle.tmm_model.specs.Moments.{rule_of};
 ghost use Rattle.tmm_model.specs.Reasons.{supports_at};
 ghost use Rattle.tmm_model.specs.Sorts.{class_in};
 ghost use Rattle.spots.specs.Forest.{IsLive, moment_at};
-ghost use Rattle.spots.specs.Seen.{Holds};
+ghost use Rattle.spots.specs.OfLists.{HasOccurrences};
 ghost use Rattle.occ_tree.specs.OfLists.{IsTreeOf};
 ghost use Rattle.occ_tree.specs.Places.{forest};
 ghost use Rattle.supports.specs.Rules.{IsRuleOf};
@@ -56,7 +56,7 @@ pub(crate) fn supports_at(
     rule: Name,
 ) -> ArrayVec<u32, 4>
     requires seen { IsTreeOf standing.now.present net.now.present tree.now }
-    requires holds { Holds (built standing.now.present).believed (forest tree.now) }
+    requires holds { HasOccurrences (built standing.now.present).believed (forest tree.now) }
     requires event { IsLive (forest tree.now) event }
     requires rule { Contains (rules_at standing.now.present (moment_at (forest tree.now) event)) rule }
     ensures live { All (IsLive (forest tree.now)) result.items }
@@ -87,7 +87,7 @@ fn supporters(
     guesses: &mut Guesses,
 ) -> ArrayVec<u32, 4>
     requires seen { IsTreeOf standing.now.present net.now.present tree.now }
-    requires holds { Holds (built standing.now.present).believed (forest tree.now) }
+    requires holds { HasOccurrences (built standing.now.present).believed (forest tree.now) }
     requires event { IsLive (forest tree.now) event }
     requires facts { All (λ fact. IsSome (class_in standing.now.present.premises fact)) facts.now }
     requires few { length facts.now ≤ 4 }

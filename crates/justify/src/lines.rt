@@ -5,7 +5,7 @@ ghost use Rattle.tmm_model.specs.Maps.{built};
 ghost use Rattle.tmm_model.specs.Moments.{is_derived, moment_of, moment_of_point};
 ghost use Rattle.tmm_model.specs.Reasons.{IsOrderLine, by_rule, pairs_of, reason_of};
 ghost use Rattle.spots.specs.Forest.{IsLive, moment_at};
-ghost use Rattle.spots.specs.Seen.{Holds};
+ghost use Rattle.spots.specs.OfLists.{HasOccurrences};
 ghost use Rattle.spots.specs.Spots.{IsSpot, spot_moment};
 ghost use Rattle.justify.specs.Lines.{IsInOrder, AreOrders, AreLinesOf, AreLinesOfAll, Hears};
 ghost use Rattle.justify.specs.Shapes.{IsShapedLine, IsShapedPoint};
@@ -35,7 +35,7 @@ pub(crate) fn tell_all<R: Listener>(
     listener: &mut R,
 ) -> Result<(), NoMemory>
     requires seen { IsTreeOf standing.now.present net.now.present tree.now }
-    requires holds { Holds (built standing.now.present).believed (forest tree.now) }
+    requires holds { HasOccurrences (built standing.now.present).believed (forest tree.now) }
     requires live { All (IsLive (forest tree.now)) (nodes_of ranked.now) }
     ensures { OnOk result (Hears R.parts_of (AreLinesOfAll (built standing.now.present) (map (moment_at (forest tree.now)) (nodes_of ranked.now))) (R.heard listener.old) (R.heard listener.new)) }
 {
@@ -55,7 +55,7 @@ fn tell_node<R: Listener>(
     listener: &mut R,
 ) -> Result<(), NoMemory>
     requires seen { IsTreeOf standing.now.present net.now.present tree.now }
-    requires holds { Holds (built standing.now.present).believed (forest tree.now) }
+    requires holds { HasOccurrences (built standing.now.present).believed (forest tree.now) }
     requires live { IsLive (forest tree.now) x }
     ensures { OnOk result (Hears R.parts_of (AreLinesOf (built standing.now.present) (moment_at (forest tree.now) x)) (R.heard listener.old) (R.heard listener.new)) }
 {

@@ -5,7 +5,7 @@ ghost use Rattle.tmm_model.specs.Maps.{built};
 ghost use Rattle.tmm_model.specs.Moments.{moment_of};
 ghost use Rattle.tmm_model.specs.Questions.{why_cause};
 ghost use Rattle.spots.specs.Forest.{IsLive, moment_at};
-ghost use Rattle.spots.specs.Seen.{Holds};
+ghost use Rattle.spots.specs.OfLists.{HasOccurrences};
 ghost use Rattle.occ_tree.specs.OfLists.{IsTreeOf};
 ghost use Rattle.occ_tree.specs.Places.{forest};
 ghost use Rattle.tt_query.specs.Stops.{NamesPoint, point_of};
@@ -34,7 +34,7 @@ pub fn why<R: Listener>(
     listener: &mut R,
 ) -> Result<(), Stop>
     requires seen { IsTreeOf standing.now.present net.now.present tree.now }
-    requires holds { Holds (built standing.now.present).believed (forest tree.now) }
+    requires holds { HasOccurrences (built standing.now.present).believed (forest tree.now) }
     requires well_formed { IsWellFormedOcc occ.now }
     ensures known { OnOk result (why_cause (built standing.now.present) occ.now occ.now.rules.items ≡ None) }
     ensures reasons { OnOk result (Hears R.parts_of (AreWhy (built standing.now.present) (moment_of occ.now)) (R.heard listener.old) (R.heard listener.new)) }
@@ -59,7 +59,7 @@ fn tell_reasons<R: Listener>(
     listener: &mut R,
 ) -> Result<(), NoMemory>
     requires seen { IsTreeOf standing.now.present net.now.present tree.now }
-    requires holds { Holds (built standing.now.present).believed (forest tree.now) }
+    requires holds { HasOccurrences (built standing.now.present).believed (forest tree.now) }
     requires live { IsLive (forest tree.now) x }
     ensures { OnOk result (Hears R.parts_of (AreWhy (built standing.now.present) (moment_at (forest tree.now) x)) (R.heard listener.old) (R.heard listener.new)) }
 {

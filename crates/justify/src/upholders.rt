@@ -3,7 +3,7 @@ ghost use Rattle.std.specs.Prelude.{◌≡◌, nat_eq, IfOk, OnOk};
 ghost use Rattle.tmm_model.specs.Maps.{built};
 ghost use Rattle.indexmap.specs.IndexSet.{insert_key, insert_all};
 ghost use Rattle.spots.specs.Forest.{IsLive};
-ghost use Rattle.spots.specs.Seen.{Holds};
+ghost use Rattle.spots.specs.OfLists.{HasOccurrences};
 ghost use Rattle.occ_tree.specs.OfLists.{IsTreeOf};
 ghost use Rattle.occ_tree.specs.Places.{forest};
 ghost use Rattle.justify.specs.Grounds.{AddsGrounds, AreUpholders};
@@ -25,7 +25,7 @@ pub(crate) fn upholders(
     x: u32,
 ) -> Result<IndexSet<u32>, NoMemory>
     requires seen { IsTreeOf standing.now.present net.now.present tree.now }
-    requires holds { Holds (built standing.now.present).believed (forest tree.now) }
+    requires holds { HasOccurrences (built standing.now.present).believed (forest tree.now) }
     requires live { IsLive (forest tree.now) x }
     ensures { IfOk result (λ found. AreUpholders (built standing.now.present) (forest tree.now) x found.keys) }
 {
@@ -52,7 +52,7 @@ fn add_grounds(
     found: &mut IndexSet<u32>,
 ) -> Result<(), NoMemory>
     requires seen { IsTreeOf standing.now.present net.now.present tree.now }
-    requires holds { Holds (built standing.now.present).believed (forest tree.now) }
+    requires holds { HasOccurrences (built standing.now.present).believed (forest tree.now) }
     requires live { IsLive (forest tree.now) x }
     ensures { OnOk result (AddsGrounds (built standing.now.present) (forest tree.now) x found.old.keys found.new.keys) }
 {

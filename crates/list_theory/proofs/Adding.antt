@@ -1,4 +1,5 @@
--- A premise that may be added: its points are new, and its constraints are between points that are there.
+-- A premise that may be added: its points are new, and its constraints are between points that are
+-- there.
 use Rattle.std.proofs.Common.{◌≡◌, ◌≢◌, ◌⊎◌, inl, inr, ℕ, ◌≤◌, ◌<◌, Bool, true, false, leb, List, [], ◌∷◌, ◌++◌, length, Option, Some, None, sym, subst, arith, refl, ℤ, neg_ℤ}
 use Rattle.std.specs.List.{All, Contains, flat_map}
 use Rattle.std.specs.Option.{option_or}
@@ -100,7 +101,8 @@ module _ (ps : List Premise) where
   first_in : (q : PointName) (more : List PointName) → Contains (points_in ps ++ q ∷ more) q
   first_in q more = Contains-append_right (points_in ps) (q ∷ more) q (Contains-cons_first q more)
 
-  -- **The constraints of a premise that may be added are between points that are there or its own.**
+  -- **The constraints of a premise that may be added are between points that are there or its
+  -- own.**
   pub steps_at : (p : Premise) → MayBeAdded ps p → AreAt (points_in ps ++ points_of p) (steps_of p)
   steps_at (Class name facts) may = none_at (points_in ps ++ [])
   steps_at (Kind name) may = none_at (points_in ps ++ [])

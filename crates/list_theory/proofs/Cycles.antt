@@ -14,7 +14,7 @@ use Rattle.tmm_model.specs.declared.point.PointName.TheVariants.{Start}
 use Rattle.tmm_model.specs.declared.premise.Premise.{Premise}
 use Rattle.tmm_model.specs.declared.premise.Premise.TheVariants.{Class, Kind, Point, Event, Token, Span, Dist, Rule, Protect}
 use Rattle.tmm_model.specs.declared.walk.WalkStep.{WalkStep}
-use Rattle.tmm_model.specs.Cycles.{steps_in, Leads, sum_of, begins, IsPath, IsCycleBy, IsCycleOf}
+use Rattle.tmm_model.specs.Cycles.{steps_in, Leads, sum_of, begins, IsCycleOf}
 use Rattle.list_theory.specs.NegativeCycles.{IsNegativeCycle, IsCycleSum}
 use Rattle.tmm_model.specs.Points.{same_point}
 use Rattle.tmm_model.specs.Standing.{arc_of, arcs_of, arcs_in, name_of, steps_of, hi_steps, lo_steps, IsConsistent}
@@ -83,15 +83,6 @@ pub IsWalk-from_steps : (known : List WalkStep) (p q : PointName) (steps : List 
 IsWalk-from_steps known p q [] own leads = leads
 IsWalk-from_steps known p q (s ∷ steps) own leads =
     (Contains-map arc_of known s (All-contains (Contains known) (s ∷ steps) s own (Contains-cons_first s steps)), leads.0, IsWalk-from_steps known s.to q steps (All-tail (Contains known) s steps own) leads.1)
-
--- a path over fewer constraints
-pub IsPath-kept : (known more : List WalkStep) → ((s : WalkStep) → Contains known s → Contains more s) → (p q : PointName) (steps : List WalkStep) → IsPath known p q steps → IsPath more p q steps
-IsPath-kept known more sub p q steps is =
-    record { own = All-from_contains (Contains more) steps (λ s m. sub s (All-contains (Contains known) steps s is.own m)); leads = is.leads; distinct = is.distinct }
-
-pub IsCycleBy-kept : (known more : List WalkStep) → ((s : WalkStep) → Contains known s → Contains more s) → (first : WalkStep) (sum : ℤ) (steps : List WalkStep) → IsCycleBy known first sum steps → IsCycleBy more first sum steps
-IsCycleBy-kept known more sub first sum steps is =
-    record { rest = is.rest; are = is.are; back = IsPath-kept known more sub first.to first.from is.rest is.back; sums = is.sums }
 
 -- ---- cycles
 

@@ -89,12 +89,6 @@ in_without x z (y ∷ ys) (inl e) (inr h) ne = h
 in_without x z (y ∷ ys) (inr at) (inl q) ne = inl q
 in_without x z (y ∷ ys) (inr at) (inr h) ne = inr (in_without x z ys at h ne)
 
-from_without : {X : Type 0} (x z : X) (ys : List X) (at : In x ys) → In z (without x ys at) → In z ys
-from_without x z [] at h = h
-from_without x z (y ∷ ys) (inl e) h = inr h
-from_without x z (y ∷ ys) (inr at) (inl q) = inl q
-from_without x z (y ∷ ys) (inr at) (inr h) = inr (from_without x z ys at h)
-
 -- a list without repeats whose members are all members of another sums to no more
 pub sum_inside : {X : Type 0} (f : X → ℕ) (xs ys : List X) → Distinct xs → ((x : X) → In x xs → In x ys) → sum_by f xs ≤ sum_by f ys
 sum_inside f [] ys d h = omega arith

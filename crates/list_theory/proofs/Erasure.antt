@@ -70,8 +70,8 @@ module _ (erased : List ℕ) where
   pub stays_before : (p : Premise) → same_name erased (name_of p) ≡ false → falls erased [] p ≡ false
   stays_before p e = λ i. e i || no_mention (mentioned_by p) i
 
--- What stays of the earlier premises, where the names `gone` were those of the others: it knows no more
--- names, and those that are not gone have their sorts.
+-- What stays of the earlier premises, where the names `gone` were those of the others: it knows no
+-- more names, and those that are not gone have their sorts.
 pub record IsPart (gone : List (List ℕ)) (earlier kept : List Premise) : Type 0 where
   pub fewer : (v : List ℕ) → is_among (words_known kept) v ≡ true → is_among (words_known earlier) v ≡ true
   pub sorts : (v : List ℕ) → is_among gone v ≡ false → sort_in kept v ≡ sort_in earlier v

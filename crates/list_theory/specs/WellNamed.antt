@@ -7,7 +7,8 @@ use Rattle.tmm_model.specs.Sorts.{declared_by, uses_of}
 use Rattle.tmm_model.specs.Verdicts.{first_taken, uses_cause, words_known}
 use Rattle.tmm_model.specs.Lines.{IsWellFormedPremise}
 
--- the names that the premise declares are new, and those that it uses are declared, of the wanted sorts
+-- the names that the premise declares are new, and those that it uses are declared, of the wanted
+-- sorts
 pub record Follows (earlier : List Premise) (premise : Premise) : Type 0 where
   pub new : first_taken (words_known earlier) (declared_by premise) ≡ None
   pub known : uses_cause earlier (uses_of premise) ≡ None

@@ -10,7 +10,7 @@ use Rattle.tmm_model.specs.Verdicts.{Cause, list_cause}
 use Rattle.belief_theory.specs.KeptLists.{last_horizon}
 use Rattle.belief_theory.specs.Touched.{touched}
 use Rattle.dist_net.specs.Net.{Net, Nets}
-use Rattle.list_net.specs.Fits.{IsNetOf, IsSettled}
+use Rattle.list_net.specs.Fits.{IsNetOf, NothingPending}
 use Rattle.list_net.specs.Network.{PointsKeepNumbers}
 use Rattle.premise_list.specs.States.{States}
 use Rattle.occ_tree.specs.Places.{forest}
@@ -25,7 +25,7 @@ use Rattle.map_engine.specs.declared.next.Next.{Next}
 use Rattle.map_engine.specs.declared.next.Next.TheVariants.{Nothing, Same, Reviewed, Changed}
 use Rattle.map_engine.specs.declared.kept_view.KeptView.{KeptView}
 use Rattle.map_engine.specs.Beliefs.{IsLeftOut}
-use Rattle.map_engine.specs.NetMaps.{AreNodesOf, IsResting, MayRest, IsHeld, IsNetMap, CountsEdit}
+use Rattle.map_engine.specs.NetMaps.{AreNodesOf, IsResting, IsHeld, IsNetMap, CountsEdit}
 use Rattle.map_engine.specs.Nexts.{after, pending_list, HasPlacesIn, IsUnguarded, adds_protection}
 use Rattle.map_engine.specs.Reads.{IsReadOf, read_of}
 use Rattle.map_engine.proofs.Unmoved.{still_unguarded}
@@ -33,7 +33,7 @@ use Rattle.map_engine.proofs.Unmoved.{still_unguarded}
 -- ---- where nothing is pending
 
 -- what rests is all that the map keeps
-pub at_rest : (lists : States) (nets : Nets) (b : BeliefNet) (view : KeptView) (guarded : Bool) (next : Next) → next ≡ Nothing → IsSettled lists nets
+pub at_rest : (lists : States) (nets : Nets) (b : BeliefNet) (view : KeptView) (guarded : Bool) (next : Next) → next ≡ Nothing → NothingPending lists nets
     → IsHeld lists.committed nets.committed guarded → IsResting lists.committed nets.committed b view → IsNetMap lists nets b view guarded next
 at_rest lists nets b view guarded next nothing settled held rests =
     subst (IsNetMap lists nets b view guarded) (sym nothing)
@@ -52,7 +52,7 @@ at_rest lists nets b view guarded next nothing settled held rests =
     })
 
 -- the map of a list in which nothing is declared to occur
-pub first_map : (lists : States) (nets : Nets) (b : BeliefNet) (view : KeptView) → IsSettled lists nets → IsHeld lists.present nets.present false
+pub first_map : (lists : States) (nets : Nets) (b : BeliefNet) (view : KeptView) → NothingPending lists nets → IsHeld lists.present nets.present false
     → IsKept lists.present nets.present b → IsReadOf lists.present (forest b.tree) (read_of view)
     → IsNetMap lists nets b view false Nothing
 first_map lists nets b view settled held kept read =
@@ -224,28 +224,6 @@ is_nothing s next none = by next none
     by Same e = cc
     by (Reviewed review) e = cc
     by (Changed made) e = cc
-
--- what is held is so where less is known of protections
-held_more : (s : Standing) (net : Net) (guarded guarded_new : Bool) (edit : Edit) → guarded_new ≡ (guarded || adds_protection edit) → IsHeld s net guarded → IsHeld s net guarded_new
-held_more s net guarded guarded_new edit may held =
-    record { network = held.network; horizon = held.horizon; unguarded = λ none. held.unguarded (neither guarded (adds_protection edit) (sym may ∙ none)).0 }
-
--- where no edit is made all is as it was
-pub kept_map : (lists : States) (nets : Nets) (b : BeliefNet) (view : KeptView) (guarded : Bool) (next : Next) → IsNetMap lists nets b view guarded next
-    → (lists_new : States) (nets_new : Nets) (guarded_new : Bool) (edit : Edit) → lists_new ≡ lists → nets_new.present ≡ nets.present → nets_new.committed ≡ nets.committed
-    → guarded_new ≡ (guarded || adds_protection edit) → IsNetMap lists_new nets_new b view guarded_new next
-kept_map lists nets b view guarded next is lists_new nets_new guarded_new edit list now then_ may =
-    subst (λ (s : States). IsNetMap s nets_new b view guarded_new next) (sym list)
-    (record {
-      held = subst (λ (n : Net). IsHeld lists.committed n guarded_new) (sym then_) (held_more lists.committed nets.committed guarded guarded_new edit may is.held);
-      before = subst (λ (n : Net). MayRest lists.committed n b view) (sym then_) is.before;
-      settled = λ idle. record { list = (is.settled idle).list; net = now ∙ (is.settled idle).net ∙ sym then_ };
-      rests = λ idle. subst (λ (n : Net). IsResting lists.committed n b view) (sym then_) (is.rests idle);
-      next_held = subst (λ (n : Net). IsHeld lists.present n guarded_new) (sym now) (held_more lists.present nets.present guarded guarded_new edit may is.next_held);
-      next_nodes = subst (λ (n : Net). AreNodesOf lists.present n b) (sym now) is.next_nodes;
-      next_view = is.next_view;
-      next_places = is.next_places;
-    })
 
 -- ---- how many decisions are counted
 

@@ -14,7 +14,7 @@ use Rattle.list_theory.proofs.Elements.{In-from_Contains}
 use Rattle.belief_theory.specs.Right.{Occurs}
 use Rattle.dist_net.specs.Net.{Net}
 use Rattle.spots.specs.Forest.{Forest, Member, member, moment, moment_at}
-use Rattle.spots.specs.Seen.{IsSeen, Holds}
+use Rattle.spots.specs.OfLists.{IsForestOf, HasOccurrences}
 use Rattle.spots.proofs.Nodes.{node_at, moment_at-is}
 use Rattle.belief_list.specs.declared.kept_rows.KeptRow.{KeptRow}
 use Rattle.belief_list.specs.KeptRows.{AreRowsOf, row_under}
@@ -42,7 +42,7 @@ module _ (s t : Standing) (alike : AreAlike s t) where
   }
 
   -- the rows of the nodes stay
-  pub rows_still : (f : Forest) (rows : ℕ → Option KeptRow) → Holds (built s).believed f → AreRowsOf s f rows → AreRowsOf t f rows
+  pub rows_still : (f : Forest) (rows : ℕ → Option KeptRow) → HasOccurrences (built s).believed f → AreRowsOf s f rows → AreRowsOf t f rows
   rows_still f rows holds are = record {
     own = λ x live.
         let (r, at, is) = are.own x live in
@@ -59,7 +59,7 @@ nothing_occurs s none (At p) at = absurd (In-from_Contains [] (At p) (subst (λ 
 nothing_occurs s none (After t r) at = nothing_occurs s none t at.0
 
 -- has no node
-pub no_nodes : (s : Standing) (net : Net) (f : Forest) → IsSeen s net f → roots s ≡ [] → (x : ℕ) → member f x ≡ None
+pub no_nodes : (s : Standing) (net : Net) (f : Forest) → IsForestOf s net f → roots s ≡ [] → (x : ℕ) → member f x ≡ None
 no_nodes s net f seen none x = by (member f x) refl
   where
     by : (o : Option Member) → member f x ≡ o → o ≡ None
@@ -76,10 +76,3 @@ no_rows s f rows none empty =
     })
 
 -- ---- rows that are the same
-
--- rows that agree under each number are of the same nodes
-pub rows_agree : (s : Standing) (f : Forest) (rows rows_new : ℕ → Option KeptRow) → ((x : ℕ) → rows_new x ≡ rows x) → AreRowsOf s f rows → AreRowsOf s f rows_new
-rows_agree s f rows rows_new same are = record {
-  own = λ x live. let (r, at, is) = are.own x live in (r, same x ∙ at, is);
-  none = λ x gone. same x ∙ are.none x gone;
-}

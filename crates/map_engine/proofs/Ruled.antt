@@ -14,7 +14,7 @@ use Rattle.list_theory.proofs.Elements.{In, In-right, Contains-from_In, filter_m
 use Rattle.belief_theory.proofs.Sound.{named_rule}
 use Rattle.dist_net.specs.Net.{Net}
 use Rattle.spots.specs.Forest.{Forest, IsLive, moment_at}
-use Rattle.spots.specs.Seen.{IsSeen}
+use Rattle.spots.specs.OfLists.{IsForestOf}
 use Rattle.spots.proofs.Nodes.{live_at}
 use Rattle.supports.proofs.OnKinds.{rules_of_event}
 use Rattle.revisions.specs.Ruling.{is_rule, is_ruling}
@@ -72,7 +72,7 @@ module _ (f : Forest) (premises : List Premise) where
   all_ruled edit numbers all kind changes x event = (let (m, at, _, _) = event in all x (live_at f x m at))
 
 -- where it adds a rule, the events at which that stands
-pub added_ruled : (s : Standing) (net : Net) (f : Forest) (p : Premise) (numbers : List ℕ) → IsSeen (next_list s (Add p)) net f
+pub added_ruled : (s : Standing) (net : Net) (f : Forest) (p : Premise) (numbers : List ℕ) → IsForestOf (next_list s (Add p)) net f
     → ((x : ℕ) → IsLive f x → Contains (rules_at (next_list s (Add p)) (moment_at f x)) (name_of p) → Contains numbers x) → HasRuled f s.premises (Add p) numbers
 added_ruled s net f p numbers seen has kind changes x (m, at, event, what) =
     let new = next_list s (Add p) in

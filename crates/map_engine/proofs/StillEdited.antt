@@ -15,7 +15,7 @@ use Rattle.premise_list.specs.States.{States}
 use Rattle.dist_net.specs.Net.{Nets}
 use Rattle.list_net.specs.Represents.{IsNumberOf}
 use Rattle.spots.specs.Forest.{Forest, Member, member, moment, IsLive, moment_at}
-use Rattle.spots.specs.Seen.{IsSeen, Holds}
+use Rattle.spots.specs.OfLists.{IsForestOf, HasOccurrences}
 use Rattle.spots.specs.Spots.{AreTokens}
 use Rattle.spots.proofs.Nodes.{node_at, moment_at-is, base-moment}
 use Rattle.occ_tree.specs.Places.{forest}
@@ -28,7 +28,7 @@ use Rattle.revisions.proofs.StillEdits.{base_root}
 use Rattle.belief_net.specs.declared.state.BeliefNet.{BeliefNet}
 use Rattle.belief_net.specs.Updating.{IsKept, IsPending}
 
-module _ (nets : Nets) (k : Kept) (t : Standing) (seen : IsSeen t nets.present (forest k)) (elsewhere : AreElsewhere t nets.present.names nets.moved) where
+module _ (nets : Nets) (k : Kept) (t : Standing) (seen : IsForestOf t nets.present (forest k)) (elsewhere : AreElsewhere t nets.present.names nets.moved) where
   -- no node begins or ends at a point that moved
   never : (x : ℕ) (m : Member) → member (forest k) x ≡ Some m → IsAtMoved nets.moved m → ⊥
   never x m here (inl at) = elsewhere 0 Start at seen.network.start tt
@@ -50,14 +50,14 @@ module _ (nets : Nets) (k : Kept) (t : Standing) (seen : IsSeen t nets.present (
 
 -- the nodes of both lists are the same
 pub still_edited : (lists : States) (nets : Nets) (edit : Edit) (erased : List (List ℕ)) (b : BeliefNet) → IsKept lists.committed nets.committed b → IsPending lists nets edit erased
-    → IsSeen lists.present nets.present (forest b.tree) → Holds (built lists.present).believed (forest b.tree)
+    → IsForestOf lists.present nets.present (forest b.tree) → HasOccurrences (built lists.present).believed (forest b.tree)
     → ((class : List ℕ) → AreTokens (forest_of (present b.tree)) class ((present b.tree).tokens class))
     → IsEdited lists nets edit b.tree
 still_edited lists nets edit erased b kept pending seen holds tokens = record {
   list = pending.list;
   points = pending.numbers;
-  seen_then = subst (λ (s : State). IsSeen lists.committed nets.committed (forest_of s)) (sym kept.tree) kept.fit.tree.seen;
-  holds_then = subst (λ (s : State). Holds (built lists.committed).believed (forest_of s)) (sym kept.tree) kept.current.holds;
+  seen_then = subst (λ (s : State). IsForestOf lists.committed nets.committed (forest_of s)) (sym kept.tree) kept.fit.tree.seen;
+  holds_then = subst (λ (s : State). HasOccurrences (built lists.committed).believed (forest_of s)) (sym kept.tree) kept.current.holds;
   tokens_then = λ class. subst (λ (s : State). AreTokens (forest_of s) class (s.tokens class)) (sym kept.tree) (tokens class);
   seen_now = seen;
   holds_now = holds;

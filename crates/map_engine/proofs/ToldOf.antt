@@ -13,7 +13,7 @@ use Rattle.list_theory.proofs.KnownNames.{finds}
 use Rattle.premise_list.specs.States.{States}
 use Rattle.dist_net.specs.Net.{Nets}
 use Rattle.spots.specs.Forest.{IsLive, moment_at}
-use Rattle.spots.specs.Seen.{IsSeen, Holds}
+use Rattle.spots.specs.OfLists.{IsForestOf, HasOccurrences}
 use Rattle.occ_tree.specs.Places.{forest}
 use Rattle.occ_tree.specs.Standing.{State, present, committed, forest as forest_of}
 use Rattle.belief_net.specs.declared.state.BeliefNet.{BeliefNet}
@@ -49,8 +49,8 @@ told_of lists nets edit erased b b_after before count told gone kept pending las
   edited = λ tokens. record {
     list = pending.list;
     points = pending.numbers;
-    seen_then = subst (λ (s : State). IsSeen lists.committed nets.committed (forest_of s)) same kept.fit.tree.seen;
-    holds_then = subst (λ (s : State). Holds (built lists.committed).believed (forest_of s)) same kept.current.holds;
+    seen_then = subst (λ (s : State). IsForestOf lists.committed nets.committed (forest_of s)) same kept.fit.tree.seen;
+    holds_then = subst (λ (s : State). HasOccurrences (built lists.committed).believed (forest_of s)) same kept.current.holds;
     tokens_then = tokens;
     seen_now = updated.rests.fit.tree.seen;
     holds_now = updated.current.holds;

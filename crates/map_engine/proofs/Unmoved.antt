@@ -16,7 +16,7 @@ use Rattle.tmm_model.specs.Standing.{Standing}
 use Rattle.list_theory.proofs.Elements.{In}
 use Rattle.list_theory.proofs.Erasure.{kept_before}
 use Rattle.spots.specs.Forest.{Forest}
-use Rattle.spots.specs.Seen.{Holds}
+use Rattle.spots.specs.OfLists.{HasOccurrences}
 use Rattle.revisions.specs.Alike.{AreAlike, BelieveAlike}
 use Rattle.revisions.proofs.Alike.{alike_believe}
 use Rattle.protections.specs.Found.{AreFound}
@@ -29,11 +29,11 @@ use Rattle.map_engine.proofs.Told.{told}
 -- ---- what is read of the nodes
 
 -- the nodes of what is believed after the edit are those of what was believed
-pub holds_before : (s t : Standing) (f : Forest) → AreAlike s t → Holds (built t).believed f → Holds (built s).believed f
-holds_before s t f alike holds = subst (λ (b : List Moment). Holds b f) (sym (alike_believe s t alike).0.believed) holds
+pub holds_before : (s t : Standing) (f : Forest) → AreAlike s t → HasOccurrences (built t).believed f → HasOccurrences (built s).believed f
+holds_before s t f alike holds = subst (λ (b : List Moment). HasOccurrences b f) (sym (alike_believe s t alike).0.believed) holds
 
 -- of the same nodes the same is read, protections aside
-pub read_still : (s t : Standing) (f : Forest) (r r_after : Read) → Holds (built s).believed f
+pub read_still : (s t : Standing) (f : Forest) (r r_after : Read) → HasOccurrences (built s).believed f
     → IsReadOf s f r → AreAlike s t → r_after ≡ record r { broken = r_after.broken } → AreFound (reports (built t)) r_after.broken → IsReadOf t f r_after
 read_still s t f r r_after holds old alike is told =
     let same : BelieveAlike s t = (alike_believe s t alike).0 in

@@ -3,7 +3,7 @@ pub use Rattle.revisions.specs.Standing.{IsLeftOut}
 use Rattle.tmm_model.specs.Maps.{built}
 use Rattle.tmm_model.specs.Standing.{Standing}
 use Rattle.dist_net.specs.Net.{Net}
-use Rattle.spots.specs.Seen.{Holds}
+use Rattle.spots.specs.OfLists.{HasOccurrences}
 use Rattle.occ_tree.specs.OfLists.{IsTreeOf}
 use Rattle.occ_tree.specs.Places.{forest}
 use Rattle.map_engine.specs.declared.beliefs.Beliefs.{Beliefs}
@@ -12,5 +12,5 @@ use Rattle.map_engine.specs.Views.{IsViewOf}
 -- the tree has the believed occurrences, and what is read of them is that of the list
 pub record AreBeliefs (s : Standing) (net : Net) (b : Beliefs) : Type 0 where
   pub seen : IsTreeOf s net b.tree
-  pub holds : Holds (built s).believed (forest b.tree)
+  pub holds : HasOccurrences (built s).believed (forest b.tree)
   pub view : IsViewOf s (forest b.tree) b.view

@@ -7,7 +7,7 @@ use Rattle.tmm_model.specs.Verdicts.{list_cause}
 use Rattle.belief_theory.specs.KeptLists.{last_horizon}
 use Rattle.belief_theory.specs.Touched.{touched}
 use Rattle.dist_net.specs.Net.{Net, Nets}
-use Rattle.list_net.specs.Fits.{IsNetOf, IsSettled}
+use Rattle.list_net.specs.Fits.{IsNetOf, NothingPending}
 use Rattle.premise_list.specs.States.{States}
 use Rattle.occ_tree.specs.Places.{forest}
 use Rattle.joined.specs.Netted.{IsCurrent}
@@ -52,7 +52,7 @@ pub record IsHeld (s : Standing) (net : Net) (guarded : Bool) : Type 0 where
 pub record IsNetMap (lists : States) (nets : Nets) (nodes : BeliefNet) (view : KeptView) (guarded : Bool) (next : Next) : Type 0 where
   pub held : IsHeld lists.committed nets.committed guarded
   pub before : MayRest lists.committed nets.committed nodes view
-  pub settled : pending_list lists.present next ≡ None → IsSettled lists nets
+  pub settled : pending_list lists.present next ≡ None → NothingPending lists nets
   pub rests : pending_list lists.present next ≡ None → IsResting lists.committed nets.committed nodes view
   pub next_held : IsHeld lists.present nets.present guarded
   pub next_nodes : AreNodesOf lists.present nets.present nodes

@@ -31,7 +31,7 @@ pub(crate) struct Beliefs {
 }
 
 // The beliefs of a list, from scratch. A map that is too large is refused.
-pub(crate) fn believe(
+pub(crate) fn project(
     alloc: Global,
     standing: &Standing,
     net: &DistNet,
@@ -50,7 +50,7 @@ pub(crate) fn believe(
 }
 
 // The beliefs of the list that an edit leaves, and what it changes.
-pub(crate) fn drawn(
+pub(crate) fn project_and_compare(
     alloc: Global,
     standing: &Standing,
     net: &DistNet,
@@ -66,7 +66,7 @@ pub(crate) fn drawn(
     ensures stops { IfErr result (IsTooLarge (size (built standing.now.present))) }
     ensures counted { counter.old ≤ counter.new }
 {
-    let next = believe(alloc, standing, net, counter)?;
+    let next = project(alloc, standing, net, counter)?;
     match changes_to(alloc, erased, old, &next, standing) {
         Ok(changes) => Ok((next, changes)),
         Err(NoMemory) => Err(Stop::NoMemory),

@@ -7,7 +7,7 @@ ghost use Rattle.list_net.specs.Fits.{IsNetOf};
 ghost use Rattle.occ_tree.specs.OfLists.{IsTreeOf};
 ghost use Rattle.occ_tree.specs.Places.{forest};
 ghost use Rattle.spots.specs.Forest.{member};
-ghost use Rattle.spots.specs.Seen.{Holds};
+ghost use Rattle.spots.specs.OfLists.{HasOccurrences};
 ghost use Rattle.map_engine.specs.Nexts.{IsUnguarded};
 ghost use Rattle.map_engine.specs.Reads.{IsReadOf, read_of};
 
@@ -51,7 +51,7 @@ pub(crate) fn first_view(
     tree: &Tree,
 ) -> Result<KeptView, NoMemory>
     requires seen { (net : Net) × IsTreeOf standing.now.present net tree.now }
-    requires holds { Holds (built standing.now.present).believed (forest tree.now) }
+    requires holds { HasOccurrences (built standing.now.present).believed (forest tree.now) }
     requires empty { (x : ℕ) → member (forest tree.now) x ≡ None }
     requires unguarded { IsUnguarded standing.now.present }
     ensures { IfOk result (λ view. IsReadOf standing.now.present (forest tree.now) (read_of view)) }
@@ -77,7 +77,7 @@ pub(crate) fn kept_rows(
     view: &KeptView,
 ) -> Result<Seq<ListRow>, NoMemory>
     requires seen { IsTreeOf standing.now.present net.now.present tree.now }
-    requires holds { Holds (built standing.now.present).believed (forest tree.now) }
+    requires holds { HasOccurrences (built standing.now.present).believed (forest tree.now) }
     requires view { IsReadOf standing.now.present (forest tree.now) (read_of view.now) }
     ensures { IfOk result (λ found. map row_of found.items ≡ rows (built standing.now.present)) }
 {
@@ -96,7 +96,7 @@ pub(crate) fn audited_view(
 ) -> Result<bool, NoMemory>
     requires network { IsNetOf standing.now.present net.now.present }
     requires seen { IsTreeOf standing.now.present net.now.present tree.now }
-    requires holds { Holds (built standing.now.present).believed (forest tree.now) }
+    requires holds { HasOccurrences (built standing.now.present).believed (forest tree.now) }
     requires view { IsReadOf standing.now.present (forest tree.now) (read_of view.now) }
     ensures { IfOk result (λ good. IsTrue good) }
 {

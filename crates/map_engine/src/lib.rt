@@ -14,7 +14,7 @@
 mod at_node;
 mod beliefs;
 mod changes;
-mod edited;
+mod edits;
 mod kept_view;
 mod map_core;
 mod moved;

@@ -18,7 +18,7 @@ ghost use Rattle.occ_tree.specs.Places.{forest};
 ghost use Rattle.projection.specs.Queues.{IsTooLarge};
 ghost use Rattle.revisions.specs.Counted.{changed};
 ghost use Rattle.revisions.specs.Ruling.{is_ruling};
-ghost use Rattle.spots.specs.Seen.{Holds};
+ghost use Rattle.spots.specs.OfLists.{HasOccurrences};
 ghost use Rattle.supports.specs.Edited.{IsEdited, old_forest, AreOthersUntouched};
 ghost use Rattle.map_engine.specs.Beliefs.{IsLeftOut};
 ghost use Rattle.map_engine.specs.Gone.{seen_left};
@@ -122,7 +122,7 @@ fn read(
     known: Known,
 ) -> Result<(NextView, Changes), Stop>
     requires seen { IsTreeOf standing.now.present net.now.present tree.now }
-    requires holds { Holds (built standing.now.present).believed (forest tree.now) }
+    requires holds { HasOccurrences (built standing.now.present).believed (forest tree.now) }
     requires told { IsToldOf standing.now net.now edit.now tree.now told.now others.now }
     requires ruled { HasRuled (forest tree.now) standing.now.committed.premises edit.now others.now }
     requires view { IsReadOf standing.now.committed (old_forest tree.now) (read_of view.old) }
@@ -211,7 +211,7 @@ fn tell(
     guarded: bool,
 ) -> Result<(Review, Changes), NoMemory>
     requires seen { IsTreeOf standing.now.present net.now.present tree.now }
-    requires holds { Holds (built standing.now.present).believed (forest tree.now) }
+    requires holds { HasOccurrences (built standing.now.present).believed (forest tree.now) }
     requires edited { IsEdited standing.now net.now edit.now tree.now }
     requires others { AreOthersUntouched net.now tree.now classes.now }
     requires numbers { KeepsNumbers tree.now (left_under left.now) }
@@ -254,7 +254,7 @@ fn reviewed(
     guarded: bool,
 ) -> Result<Review, NoMemory>
     requires seen { IsTreeOf standing.now.present net.now.present tree.now }
-    requires holds { Holds (built standing.now.present).believed (forest tree.now) }
+    requires holds { HasOccurrences (built standing.now.present).believed (forest tree.now) }
     requires edited { IsEdited standing.now net.now edit.now tree.now }
     requires others { AreOthersUntouched net.now tree.now classes.now }
     requires before { AreFound (reports (built standing.now.committed)) (found_in before.now) }

@@ -9,12 +9,12 @@ ghost use Rattle.belief_net.specs.Settling.{counted};
 ghost use Rattle.belief_net.specs.Updating.{IsKept};
 ghost use Rattle.occ_tree.specs.Places.{forest};
 ghost use Rattle.spots.specs.Forest.{member};
-ghost use Rattle.list_net.specs.Fits.{IsSettled};
+ghost use Rattle.list_net.specs.Fits.{NothingPending};
 ghost use Rattle.revisions.specs.Counted.{changed};
 ghost use Rattle.map_engine.specs.NetMaps.{CountsEdit, IsHeld};
 ghost use Rattle.map_engine.specs.Stops.{StopsEdit, NamesEdited};
 
-use crate::edited::{edited, roll_back};
+use crate::edits::{apply_edit, roll_back};
 use crate::kept_view::{KeptView, audited_view, first_view, kept_rows};
 use crate::map_core::{MapCore, Pending};
 use crate::next::{Known, Next, draw_next, keep, may_guard};
@@ -70,8 +70,7 @@ impl NetMap {
     {
         let standing = Standing::make(alloc);
         let net = DistNet::make(alloc)?;
-        // it tells the proof what holds of the network
-        let _ = net.edges();
+        net.invariants();
         let nodes = BeliefNet::make(alloc);
         first_map(alloc, standing, net, nodes)
     }
@@ -85,7 +84,7 @@ fn first_map(
     net: DistNet,
     nodes: BeliefNet,
 ) -> Result<NetMap, NoMemory>
-    requires settled { IsSettled standing net }
+    requires settled { NothingPending standing net }
     requires held { IsHeld standing.present net.present false }
     requires kept { IsKept standing.present net.present nodes }
     requires empty { (x : ℕ) → member (forest nodes.tree) x ≡ None }
@@ -136,7 +135,7 @@ impl MapCore for NetMap {
             guarded: self.guarded,
             before: self.standing.horizon(),
         };
-        let erased = edited(alloc, &mut self.standing, &mut self.net, edit)?;
+        let erased = apply_edit(alloc, &mut self.standing, &mut self.net, edit)?;
         match draw_next(
             alloc,
             edit,

@@ -11,7 +11,7 @@ ghost use Rattle.projection.specs.Queues.{IsTooLarge};
 ghost use Rattle.revisions.specs.Alike.{SayAlike, AreAlike};
 ghost use Rattle.revisions.specs.Counted.{changed};
 ghost use Rattle.revisions.specs.Ruling.{is_ruling};
-ghost use Rattle.spots.specs.Seen.{Holds};
+ghost use Rattle.spots.specs.OfLists.{HasOccurrences};
 ghost use Rattle.supports.specs.Edited.{IsEdited, AreOthersUntouched};
 ghost use Rattle.occ_tree.specs.OfLists.{IsTreeOf};
 ghost use Rattle.map_engine.specs.Beliefs.{IsLeftOut};
@@ -134,7 +134,7 @@ fn unmoved(
 ) -> Result<(Next, Changes), NoMemory>
     requires view { IsReadOf standing.now.committed (forest tree.now) (read_of view.old) }
     requires seen { IsTreeOf standing.now.present net.now.present tree.now }
-    requires holds { Holds (built standing.now.present).believed (forest tree.now) }
+    requires holds { HasOccurrences (built standing.now.present).believed (forest tree.now) }
     requires alike { AreAlike standing.now.committed standing.now.present }
     requires edited { IsEdited standing.now net.now edit.now tree.now }
     requires others { AreOthersUntouched net.now tree.now [] }

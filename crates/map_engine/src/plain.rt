@@ -2,8 +2,8 @@
 ghost use Rattle.std.specs.Prelude.{◌≡◌, None, IfOk};
 ghost use Rattle.tmm_model.specs.Standing.{empty_list};
 
-use crate::beliefs::{Beliefs, believe, drawn};
-use crate::edited::{edited, roll_back};
+use crate::beliefs::{Beliefs, project, project_and_compare};
+use crate::edits::{apply_edit, roll_back};
 use crate::map_core::{MapCore, Pending};
 use crate::questions::{ask_between, bounds_between, path_between, tell_why};
 use crate::view::{audited, told_rows};
@@ -49,10 +49,9 @@ impl PlainMap {
     {
         let standing = Standing::make(alloc);
         let net = DistNet::make(alloc)?;
-        // it tells the proof what holds of the network
-        let _ = net.edges();
+        net.invariants();
         let mut counter = Counter::zero();
-        match believe(alloc, &standing, &net, &mut counter) {
+        match project(alloc, &standing, &net, &mut counter) {
             Ok(beliefs) => Ok(PlainMap {
                 standing,
                 net,
@@ -79,8 +78,8 @@ impl MapCore for PlainMap {
         if let Err(refusal) = self.standing.check(edit) {
             return Err(Stop::Refused(refusal));
         }
-        let erased = edited(alloc, &mut self.standing, &mut self.net, edit)?;
-        match drawn(
+        let erased = apply_edit(alloc, &mut self.standing, &mut self.net, edit)?;
+        match project_and_compare(
             alloc,
             &self.standing,
             &self.net,

@@ -8,7 +8,7 @@ ghost use Rattle.tmm_model.specs.Maps.{built, gap};
 ghost use Rattle.tmm_model.specs.Moments.{moment_of, moment_of_point};
 ghost use Rattle.tmm_model.specs.Paths.{GivesPath};
 ghost use Rattle.tmm_model.specs.Questions.{query_cause};
-ghost use Rattle.spots.specs.Seen.{IsSeen, Holds};
+ghost use Rattle.spots.specs.OfLists.{IsForestOf, HasOccurrences};
 ghost use Rattle.spots.specs.Spots.{IsSpot, spot_moment};
 ghost use Rattle.occ_tree.specs.OfLists.{IsTreeOf};
 ghost use Rattle.occ_tree.specs.Places.{forest};
@@ -35,7 +35,7 @@ fn resolve_both(
     q: &QueryPoint,
 ) -> Result<(Spot, Spot), Stop>
     requires seen { IsTreeOf standing.now.present net.now.present tree.now }
-    requires holds { Holds (built standing.now.present).believed (forest tree.now) }
+    requires holds { HasOccurrences (built standing.now.present).believed (forest tree.now) }
     requires p_well_formed { IsWellFormedQueryPoint p.now }
     requires q_well_formed { IsWellFormedQueryPoint q.now }
     ensures known { IfOk result (λ spots. points_cause (built standing.now.present) p.now q.now ≡ None) }
@@ -59,7 +59,7 @@ pub(crate) fn bounds_between(
     q: &QueryPoint,
 ) -> Result<(Bound, Bound), Stop>
     requires seen { IsTreeOf standing.now.present net.now.present tree.now }
-    requires holds { Holds (built standing.now.present).believed (forest tree.now) }
+    requires holds { HasOccurrences (built standing.now.present).believed (forest tree.now) }
     requires p_well_formed { IsWellFormedQueryPoint p.now }
     requires q_well_formed { IsWellFormedQueryPoint q.now }
     ensures known { IfOk result (λ found. query_cause (built standing.now.present) (BoundsLine p.now q.now) ≡ None) }
@@ -83,7 +83,7 @@ pub(crate) fn ask_between(
     q: &QueryPoint,
 ) -> Result<Answer, Stop>
     requires seen { IsTreeOf standing.now.present net.now.present tree.now }
-    requires holds { Holds (built standing.now.present).believed (forest tree.now) }
+    requires holds { HasOccurrences (built standing.now.present).believed (forest tree.now) }
     requires p_well_formed { IsWellFormedQueryPoint p.now }
     requires q_well_formed { IsWellFormedQueryPoint q.now }
     ensures known { IfOk result (λ answer. query_cause (built standing.now.present) (AskLine fact p.now q.now) ≡ None) }
@@ -112,7 +112,7 @@ pub(crate) fn path_between(
     q: &QueryPoint,
 ) -> Result<(Bound, Seq<WalkStep>), Stop>
     requires seen { IsTreeOf standing.now.present net.now.present tree.now }
-    requires holds { Holds (built standing.now.present).believed (forest tree.now) }
+    requires holds { HasOccurrences (built standing.now.present).believed (forest tree.now) }
     requires p_well_formed { IsWellFormedQueryPoint p.now }
     requires q_well_formed { IsWellFormedQueryPoint q.now }
     ensures known { IfOk result (λ found. query_cause (built standing.now.present) (PathLine p.now q.now) ≡ None) }
@@ -138,7 +138,7 @@ pub(crate) fn tell_why<R: Listener>(
     listener: &mut R,
 ) -> Result<(), Stop>
     requires seen { IsTreeOf standing.now.present net.now.present tree.now }
-    requires holds { Holds (built standing.now.present).believed (forest tree.now) }
+    requires holds { HasOccurrences (built standing.now.present).believed (forest tree.now) }
     requires well_formed { IsWellFormedOcc occ.now }
     ensures known { OnOk result (query_cause (built standing.now.present) (WhyQuery occ.now) ≡ None) }
     ensures reasons { OnOk result (Hears R.parts_of (AreWhy (built standing.now.present) (moment_of occ.now)) (R.heard listener.old) (R.heard listener.new)) }

@@ -8,7 +8,7 @@ ghost use Rattle.tmm_model.specs.Standing.{Standing as AStanding};
 ghost use Rattle.list_theory.proofs.Elements.{In};
 ghost use Rattle.dist_net.specs.Net.{Net};
 ghost use Rattle.spots.specs.Forest.{Member, member, IsOnce};
-ghost use Rattle.spots.specs.Seen.{HasList};
+ghost use Rattle.spots.specs.OfLists.{HasList};
 ghost use Rattle.spots.specs.Spots.{AreTokens};
 ghost use Rattle.occ_tree.specs.Places.{forest};
 ghost use Rattle.occ_tree.specs.Standing.{committed};

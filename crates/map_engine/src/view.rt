@@ -10,7 +10,7 @@ ghost use Rattle.list_net.specs.Fits.{IsNetOf};
 ghost use Rattle.occ_tree.specs.OfLists.{IsTreeOf};
 ghost use Rattle.occ_tree.specs.Places.{forest};
 ghost use Rattle.spots.specs.Forest.{moment_at};
-ghost use Rattle.spots.specs.Seen.{Holds};
+ghost use Rattle.spots.specs.OfLists.{HasOccurrences};
 ghost use Rattle.map_engine.specs.Views.{IsViewOf};
 
 use belief_list::{BeliefRow, list_rows, listed};
@@ -42,7 +42,7 @@ pub(crate) fn view_of(
     counted: u64,
 ) -> Result<View, NoMemory>
     requires seen { IsTreeOf standing.now.present net.now.present tree.now }
-    requires holds { Holds (built standing.now.present).believed (forest tree.now) }
+    requires holds { HasOccurrences (built standing.now.present).believed (forest tree.now) }
     requires counted { counted ≡ size (built standing.now.present) }
     requires small { counted ≤ most_size }
     ensures { IfOk result (IsViewOf standing.now.present (forest tree.now)) }

@@ -1,7 +1,8 @@
-//! Lists under names: under each name the elements that came under it, in the order in which they came.
+//! Lists under names: under each name the elements that came under it, in the order in which they
+//! came.
 //!
-//! It stands on `tmm_model`. Contracts speak of the list of each name (`list_of`), which
-//! is empty where nothing has come under it. Where there is no memory nothing has changed.
+//! It stands on `tmm_model`. Contracts speak of the list of each name (`list_of`), which is empty
+//! where nothing has come under it. Where there is no memory nothing has changed.
 #![tactic(auto)]
 
 ghost use Rattle.std.specs.Prelude.{◌≡◌, ℕ, List, [], OnOk, OnErr};

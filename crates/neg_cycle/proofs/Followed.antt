@@ -10,8 +10,7 @@ use Rattle.std.proofs.lemmas.Int.{ints}
 use Rattle.std.proofs.lemmas.List.{map-append, get_or-map, length-map, get_or-replicate, get_or_past, length-replicate}
 use Rattle.std.proofs.lemmas.List.Elements.{All-push}
 use Rattle.std.proofs.lemmas.List.Sums.{count_by-le-length}
-use Rattle.tmm_model.specs.declared.bound.Bound.{Bound}
-use Rattle.tmm_model.specs.declared.bound.Bound.TheVariants.{Finite, Free}
+use Rattle.tmm_model.specs.declared.bound.Bound.TheVariants.{Finite}
 use Rattle.tmm_model.specs.declared.point.PointName.{PointName}
 use Rattle.tmm_model.specs.Walks.{Arc, HasDates, total}
 use Rattle.walk_theory.specs.LeastWalks.{IsWalk, IsFar, HasWalk, AreAmong, points}
@@ -159,10 +158,6 @@ IsLeastPath-end edges a b rank at steps dates same is =
       least = subst (λ (z : ℤ). IsFar arcs a b (Finite z)) sum is.far;
       distinct = subst (λ (p : ℕ). IsDistinct same_number (points (arcs_of steps) p)) same is.distinct;
     }
-
-pub HasFar-from : (arcs : List (Arc ℕ)) (a b : ℕ) (x : Bound) → (x ≡ Free → ⊥) → IsFar arcs a b x → (s : ℤ) × IsFar arcs a b (Finite s)
-HasFar-from arcs a b (Finite s) some far = (s, far)
-HasFar-from arcs a b Free some far = absurd (some refl)
 
 -- ---- for the answers of `ranks`
 

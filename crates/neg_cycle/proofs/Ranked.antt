@@ -8,7 +8,7 @@ use Rattle.tmm_model.specs.declared.bound.Bound.TheVariants.{Finite}
 use Rattle.tmm_model.specs.Walks.{Arc, total}
 use Rattle.walk_theory.specs.LeastWalks.{IsWalk, IsFar}
 use Rattle.dist_net.specs.declared.Edge.{Edge}
-use Rattle.neg_cycle.specs.Ranks.{IsTight, IsRanked, AreRankedWithin, AreAtMost, AreKept}
+use Rattle.neg_cycle.specs.Ranks.{IsTight, IsRanked, AreAtMost, AreKept}
 
 -- a least walk to b begins with the constraint
 abbrev pub IsTightArc : List (Arc ℕ) → ℕ → Arc ℕ → Type 0
@@ -68,16 +68,6 @@ IsRanked-more edges b k rank e is m tight in_from none some low = record {
     kept : (p : ℕ) → 0 < get_or rank p 0 → get_or (set rank e.from (k + 1)) p 0 ≡ get_or rank p 0
     kept p ranked = get_or-set_other rank e.from p (k + 1) 0 (λ same. omega (arith, ranked, none, ap (λ (q : ℕ). get_or rank q 0) same))
 
-pub kept_set : (rank : List ℕ) (i v p : ℕ) → get_or rank i 0 ≡ 0 → 0 < get_or rank p 0 → get_or (set rank i v) p 0 ≡ get_or rank p 0
-kept_set rank i v p none ranked = get_or-set_other rank i p v 0 (λ same. omega (arith, ranked, none, ap (λ (q : ℕ). get_or rank q 0) same))
-
-pub AreAtMost-set : (m : ℕ) (rank : List ℕ) (i v : ℕ) → v ≤ m → i < length rank → AreAtMost m rank → AreAtMost m (set rank i v)
-AreAtMost-set m rank i v le lt all p =
-    elim (cases_eq p i) [
-      | inl same ↦ omega (arith, le, ap (λ (q : ℕ). get_or (set rank i v) q 0) same, get_or-set_same rank i v 0 lt)
-      | inr other ↦ omega (arith, all p, get_or-set_other rank i p v 0 other)
-    ]
-
 -- ---- a round
 
 -- the first `done` edges are gone through
@@ -86,9 +76,6 @@ pub record IsSpreading (edges : List Edge) (b k done : ℕ) (start now : List �
   pub kept : AreKept start now
   pub low : AreAtMost (k + 1) now
   pub spread : (j : ℕ) (d : Edge) → j < done → IsTight edges b (get_or edges j d) → 0 < get_or start (get_or edges j d).to 0 → 0 < get_or now (get_or edges j d).from 0
-
-pub IsSpreading-start : (edges : List Edge) (b k : ℕ) (rank : List ℕ) → IsRanked edges b rank → AreAtMost k rank → IsSpreading edges b k 0 rank rank
-IsSpreading-start edges b k rank ranked low = record { ranked = ranked; kept = λ p h. refl; low = λ p. omega (arith, low p); spread = λ j d below. absurd (omega (arith, below)) }
 
 pub IsSpreading-more : (edges : List Edge) (b k i : ℕ) (start now next : List ℕ) → IsSpreading edges b k i start now → AreAtMost k start → IsRanked edges b next → AreKept now next → AreAtMost (k + 1) next →
     ((d : Edge) → IsTight edges b (get_or edges i d) → 0 < get_or now (get_or edges i d).to 0 → get_or now (get_or edges i d).to 0 ≤ k → 0 < get_or next (get_or edges i d).from 0) →
@@ -110,19 +97,3 @@ IsSpreading-more edges b k i start now next is low ranked kept next_low visited 
 pub from_ranked_set : (rank : List ℕ) (e : Edge) (k : ℕ) (f : Edge) → e ≡ f → e.from < length rank → 0 < get_or (set rank e.from (k + 1)) f.from 0
 from_ranked_set rank e k f same lt =
     subst (λ (g : Edge). 0 < get_or (set rank e.from (k + 1)) g.from 0) same (omega (arith, get_or-set_same rank e.from (k + 1) 0 lt))
-
--- the point b alone is ranked
-pub IsRanked-start : (edges : List Edge) (b : ℕ) (rank : List ℕ) → length rank ≡ 256 → b < 256 → AreAtMost 0 rank → IsRanked edges b (set rank b 1)
-IsRanked-start edges b rank places in_b none = record {
-  places = length-set rank b 1 ∙ places;
-  at_end = omega (arith, get_or-set_same rank b 1 0 (omega (arith, places)));
-  leads = λ p ranked.
-      elim (cases_eq p b) [
-        | inl same ↦ inl same
-        | inr other ↦ absurd (omega (arith, ranked, none p, get_or-set_other rank b p 1 0 other))
-      ];
-}
-
-pub AreRankedWithin-start : (edges : List Edge) (b : ℕ) (rank : List ℕ) → IsRanked edges b rank → AreRankedWithin edges b 0 rank
-AreRankedWithin-start edges b rank is p [] h far few = subst (λ (q : ℕ). 0 < get_or rank q 0) (sym h) is.at_end
-AreRankedWithin-start edges b rank is p (e ∷ walk) h far few = absurd (omega arith)

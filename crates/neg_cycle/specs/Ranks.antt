@@ -1,4 +1,5 @@
--- Ranks of points: from each ranked point a least walk goes on along an edge to a point of a lower rank.
+-- Ranks of points: from each ranked point a least walk goes on along an edge to a point of a lower
+-- rank.
 use Rattle.std.specs.Prelude.{◌≡◌, ◌⊎◌, ◌++◌, ℕ, ◌<◌, ◌≤◌, List, map, length, ℤ, ◌+ℤ◌, slice_index}
 use Rattle.std.specs.List.{All, Contains, IsDistinct}
 use Rattle.tmm_model.specs.declared.bound.Bound.TheVariants.{Finite}

@@ -111,8 +111,7 @@ fn is_known(standing: &Standing, refused: &Premise, step: &WalkStep) -> bool
 fn is_standing(standing: &Standing, step: &WalkStep) -> bool
     ensures { IsTrue result ↔ Contains (steps_in standing.now.present.premises) step.now }
 {
-    // it tells the proof what holds of the list
-    let _ = standing.len();
+    standing.invariants();
     match standing.get(step.premise) {
         Some(premise) => is_step_of(premise, step),
         None => false,

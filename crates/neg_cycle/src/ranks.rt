@@ -70,8 +70,7 @@ fn rank_points(net: &DistNet, rank: &mut [u16], a: u16, b: u16)
     ensures ranked { IsRanked net.now.present.edges b rank.new }
     ensures reached { 0 < slice_index rank.new a }
 {
-    // it tells the proof what holds of the network
-    let _ = net.edges();
+    net.invariants();
     rank[b as usize] = 1;
     let mut k = 1;
     while rank[a as usize] == 0 {

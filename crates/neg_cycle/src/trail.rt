@@ -57,8 +57,8 @@ fn follow(
 }
 
 /// A walk from `a` to `b` over the constraints of the network that has their tightest distance as
-/// its sum and visits no point twice. None exactly where there is no walk, and that takes no memory.
-/// Without memory it answers `NoMemory`.
+/// its sum and visits no point twice. None exactly where there is no walk, and that takes no
+/// memory. Without memory it answers `NoMemory`.
 pub fn walk(alloc: Global, net: &DistNet, a: u16, b: u16) -> Result<Option<Seq<WalkStep>>, NoMemory>
     requires from { IsInUse net.now.present.names a }
     requires to { IsInUse net.now.present.names b }
@@ -67,8 +67,7 @@ pub fn walk(alloc: Global, net: &DistNet, a: u16, b: u16) -> Result<Option<Seq<W
     ensures least { IfOk result (λ found. MatchOption found (IsFar (arcs_of net.now.present.edges) a b Bound.Free) (λ steps. IsFar (arcs_of net.now.present.edges) a b (Bound.Finite (sum_of steps.items)))) }
     ensures path { IfOk result (λ found. IfSome found (λ steps. IsPath (steps_in_net net.now.present) (point_at net.now.present.names a) (point_at net.now.present.names b) steps.items)) }
 {
-    // it tells the proof what holds of the network
-    let _ = net.edges();
+    net.invariants();
     if net.far(a, b).is(Bound::Free) {
         return Ok(None);
     }
@@ -80,8 +79,8 @@ pub fn walk(alloc: Global, net: &DistNet, a: u16, b: u16) -> Result<Option<Seq<W
 }
 
 /// The closed walk of a conflict: its edge, and then constraints of the network back from the
-/// edge's end to its beginning, without a repeated point. The sum is that of the conflict. Without memory
-/// it answers `NoMemory`.
+/// edge's end to its beginning, without a repeated point. The sum is that of the conflict. Without
+/// memory it answers `NoMemory`.
 pub fn cycle(
     alloc: Global,
     net: &DistNet,
@@ -92,8 +91,7 @@ pub fn cycle(
     requires conflict { IsConflict net.now.present.edges edges.now found }
     ensures { IfOk result (λ steps. (d : Edge) → IsCycleBy (steps_in_net net.now.present) (step_of net.now.present.names (slice_index_or edges.now found.edge d)) found.sum steps.items) }
 {
-    // it tells the proof what holds of the network
-    let _ = net.edges();
+    net.invariants();
     let edge = &edges[found.edge];
     let rank = ranks(alloc, net, edge.to, edge.from)?;
     let mut steps = Seq::make(alloc);

@@ -16,7 +16,7 @@ use Rattle.list_theory.proofs.Elements.{In-list_any, In-from_Contains}
 use Rattle.row_links.specs.Lists.{IsOn}
 use Rattle.spots.specs.declared.link.Link.{Link}
 use Rattle.spots.specs.Forest.{Forest, Member, member, IsLive, IsFound, moment}
-use Rattle.spots.specs.Seen.{HasList}
+use Rattle.spots.specs.OfLists.{HasList}
 use Rattle.spots.proofs.Nodes.{live_at}
 use Rattle.occ_tree.specs.AtPoints.{IsAt, owner_of, IsRootAt, HaveNodesAt}
 use Rattle.occ_tree.specs.Below.{IsBelow}

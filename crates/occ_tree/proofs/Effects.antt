@@ -84,9 +84,6 @@ module _ (node : Nodes) (placed : ArePlaced node) where
     pub links_light : AreLight (way_to node parent).links
     links_light = (placed.each parent p at).light
 
-    pub links_few : length (way_to node parent).links < 100000
-    links_few = few
-
     pub will_be_placed : (n : Node) (link : Link) (jump : ℕ) → link.rule ≡ rule → IsLight link → is_name rule ≡ true
         → n.above ≡ Some record { parent = parent; root = root_of parent p; jump = jump } → n.depth ≡ p.depth + 1 → n.begin ≡ p.begin → link_of n ≡ link
         → AreSums n.sums ((way_to node parent).links ++ link ∷ []) → (way_to node jump).numbers ≡ take (jump_depth (p.depth + 1) + 1) (way_to node parent).numbers

@@ -33,9 +33,6 @@ module _ (t new : Table Node 1) (x : ℕ) (n : Node) (free : t.row x ≡ None) (
   extends : Extends (nodes_in t) (nodes_in new)
   extends = extends_new (nodes_in t) (nodes_in new) x n (no_node_at t x free) node_new node_other
 
-  pub was_no_member : forest_in (nodes_in t) x ≡ None
-  was_no_member = ap (option_map (member_of (way_to (nodes_in t) x))) (no_node_at t x free)
-
   pub date_new : date_in (nodes_in new) x ≡ n.early
   date_new = ap (λ o. option_map_or (λ (q : Node). q.early) o (pos 0)) node_new
 

@@ -19,7 +19,7 @@ use Rattle.list_net.specs.Represents.{IsNumberOf}
 use Rattle.list_net.proofs.Numbers.{number_far}
 use Rattle.spots.specs.declared.link.Link.{Link}
 use Rattle.spots.specs.Forest.{Forest, Member, SameMembers, IsLive, moment, child_member}
-use Rattle.spots.specs.Seen.{HasList}
+use Rattle.spots.specs.OfLists.{HasList}
 use Rattle.spots.specs.Spots.{net_far, links_low, node_early}
 use Rattle.spots.proofs.Delays.{low_push}
 use Rattle.spots.proofs.Distances.{early_is}

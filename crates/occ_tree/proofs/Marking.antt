@@ -1,10 +1,9 @@
 -- Marks of numbers, and names under marked numbers.
-use Rattle.std.proofs.Common.{◌≡◌, ℕ, suc, ◌+◌, ◌<◌, ◌≤◌, Bool, true, false, cond, List, [], ◌∷◌, ◌++◌, length, Some, refl, sym, ap, ◌∙◌, subst, inl, inr, arith, slice_index_or, slice_set, get_or-set_same, get_or-set_other}
+use Rattle.std.proofs.Common.{◌≡◌, ℕ, suc, ◌+◌, ◌<◌, ◌≤◌, Bool, true, false, cond, List, [], ◌∷◌, ◌++◌, length, Some, refl, sym, ap, ◌∙◌, subst, inl, inr, arith, slice_index_or}
 use Rattle.std.specs.List.{Contains, IsDistinct, list_any, position_from}
 use Rattle.std.specs.Cmp.Lexicographic.{nat_list_eq_equiv, bytes_decides}
 use Rattle.std.proofs.lemmas.Bool.{cases_eq}
 use Rattle.std.proofs.lemmas.Iterator.Adapters.{position_from-zero}
-use Rattle.std.proofs.lemmas.List.{length-set}
 use Rattle.std.proofs.lemmas.List.Elements.{Contains-push, Contains-push_cases, Contains-append_left}
 use Rattle.std.proofs.lemmas.Map.Keys.{IsDistinct-push}
 use Rattle.std.proofs.lemmas.Map.Made.{AllPairs-from_IsDistinct}
@@ -23,18 +22,6 @@ marks_stay marks = record { long = refl; kept = λ k h. h }
 
 pub marks_again : (a b c : List Bool) → KeepsMarks a b → KeepsMarks b c → KeepsMarks a c
 marks_again a b c first then_ = record { long = then_.long ∙ first.long; kept = λ k h. then_.kept k (first.kept k h) }
-
-pub marked_one : (marks : List Bool) (i : ℕ) → i < length marks → KeepsMarks marks (slice_set marks i true) × IsMarked (slice_set marks i true) i
-marked_one marks i within = (
-  record {
-    long = length-set marks i true;
-    kept = λ k h. elim (cases_eq k i) [
-      | inl same ↦ subst (IsMarked (slice_set marks i true)) (sym same) (get_or-set_same marks i true false within)
-      | inr other ↦ get_or-set_other marks i k true false other ∙ h
-    ];
-  },
-  get_or-set_same marks i true false within,
-)
 
 -- what was marked is marked
 pub kept_marked : (old new : List Bool) (numbers : List ℕ) → KeepsMarks old new → AreMarked old numbers → AreMarked new numbers

@@ -19,7 +19,7 @@ use Rattle.tmm_model.specs.Types.{IsOrderOn}
 use Rattle.dist_net.specs.Net.{Net}
 use Rattle.spots.specs.declared.spot.Spot.TheVariants.{Node}
 use Rattle.spots.specs.Forest.{Forest, IsLive, moment_at}
-use Rattle.spots.specs.Seen.{HasList, IsSeen}
+use Rattle.spots.specs.OfLists.{HasList, IsForestOf}
 use Rattle.spots.specs.Spots.{node_cmp, spot_cmp}
 use Rattle.spots.proofs.Laws.{IsThere, ordered}
 use Rattle.spots.proofs.Seen.{order_is}
@@ -105,7 +105,7 @@ module _ (net : Net) (s : State) (list : HasList net (forest s)) (dated : IsDate
           cc
 
 -- nodes in order are moments in order
-pub moments_in_order : (s : Standing) (net : Net) (f : Forest) → IsSeen s net f → (nodes : List ℕ) → All (IsLive f) nodes → IsStrictlySortedBy (node_cmp net f) nodes → IsStrictlySortedBy (maps.order (built s)) (map (moment_at f) nodes)
+pub moments_in_order : (s : Standing) (net : Net) (f : Forest) → IsForestOf s net f → (nodes : List ℕ) → All (IsLive f) nodes → IsStrictlySortedBy (node_cmp net f) nodes → IsStrictlySortedBy (maps.order (built s)) (map (moment_at f) nodes)
 unfolding IsStrictlySortedBy
 moments_in_order s net f seen [] live up = tt
 moments_in_order s net f seen (x ∷ nodes) live up = (each nodes (All-tail (IsLive f) x nodes live) up.0, moments_in_order s net f seen nodes (All-tail (IsLive f) x nodes live) up.1)

@@ -9,7 +9,6 @@ use Rattle.std.specs.Cmp.Lexicographic.{slice_cmp, lists_ties, bytes_decides, na
 use Rattle.std.proofs.lemmas.Cmp.{then_total, on_total, int_cmp_total}
 use Rattle.tmm_model.specs.Names.{is_name}
 use Rattle.tmm_model.specs.Points.{slashed}
-use Rattle.tmm_model.specs.Types.{IsOrderOn}
 use Rattle.list_theory.proofs.Elements.{In}
 use Rattle.belief_theory.proofs.Spelt.{no_slash}
 use Rattle.occ_tree.specs.Ends.{way_ends}
@@ -99,6 +98,3 @@ module _ (node : Nodes) (placed : ArePlaced node) where
       by Equal Less e t = cc
       by Equal Greater e t = cc
       by Equal Equal e t = one_word x y x_live y_live (tied_text (word_in node x) (word_in node y) e)
-
-  pub nodes_ordered : IsOrderOn (λ x. IsSome (node x)) (node_cmp node)
-  nodes_ordered = record { antisymm = λ x y _ _. (nodes_total node).antisymm x y; trans = λ x y z _ _ _. (nodes_total node).trans x y z; strict = node_strict }

@@ -1,5 +1,5 @@
 -- Lists with room for the tokens that are out.
-use Rattle.std.proofs.Common.{◌≡◌, ◌≢◌, ℕ, zero, suc, Bool, false, cond, eqb, ◌+◌, ◌<◌, ◌≤◌, List, [], ◌∷◌, length, Option, Some, None, refl, sym, ap, ◌∙◌, subst, inl, inr, arith, eq-eqb, ne_eqb, remove, insert}
+use Rattle.std.proofs.Common.{◌≡◌, ◌≢◌, ℕ, zero, suc, Bool, false, cond, eqb, ◌+◌, ◌<◌, ◌≤◌, List, [], ◌∷◌, length, Option, Some, refl, sym, ap, ◌∙◌, subst, inl, inr, arith, eq-eqb, ne_eqb, remove, insert}
 use Rattle.std.specs.Option.{option_map_or}
 use Rattle.std.proofs.lemmas.Bool.{cases_eq, cond-true, cond-false}
 use Rattle.std.proofs.lemmas.List.Edits.{length-remove, length-insert}
@@ -25,16 +25,6 @@ module _ (node : Nodes) (x : ℕ) (n : Node) (at : node x ≡ Some n) where
 
   pub count_other : (k m : ℕ) (out : List ℕ) → n.list ≡ Some k → m ≢ k → count_of node m (x ∷ out) ≡ count_of node m out
   count_other k m out has other = cond-false (is_of node m x) (count_of node m out + 1) (count_of node m out) (is_of-list m (Some k) has ∙ ne_eqb m k other)
-
-  pub count_none : (m : ℕ) (out : List ℕ) → n.list ≡ None → count_of node m (x ∷ out) ≡ count_of node m out
-  count_none m out has = cond-false (is_of node m x) (count_of node m out + 1) (count_of node m out) (is_of-list m None has)
-
-  -- an event takes no room
-  pub room_none : (tokens : Logged (TokenRow Spot)) (out : List ℕ) → n.list ≡ None → HaveRoomFor node tokens out → HaveRoomFor node tokens (x ∷ out)
-  room_none tokens out none room = λ m some. let count = count_none m out none in let r = room m (omega (arith, some, count)) in omega (arith, r, count)
-
-  pub room_same : (tokens : Logged (TokenRow Spot)) (out : List ℕ) → n.list ≡ None → HaveRoomFor node tokens (x ∷ out) → HaveRoomFor node tokens out
-  room_same tokens out none room = λ m some. let count = count_none m out none in let r = room m (omega (arith, some, count)) in omega (arith, r, count)
 
   -- there is room for the first of those that are out
   pub room_first : (tokens : Logged (TokenRow Spot)) (out : List ℕ) → 0 < tokens.spare → HaveRoomFor node tokens (x ∷ out) → (k : ℕ) → HasList node x k → HasRoom tokens k

@@ -1,21 +1,20 @@
 -- What a node tells of its spot, and of where it stands.
-use Rattle.std.proofs.Common.{◌≡◌, ℕ, ◌+◌, ◌≤◌, List, [], ◌∷◌, ◌++◌, map, length, take, drop, Option, Some, None, IsSome, refl, sym, ap, ◌∙◌, arith, append_assoc}
+use Rattle.std.proofs.Common.{◌≡◌, ℕ, ◌+◌, ◌≤◌, List, [], ◌∷◌, map, length, take, drop, Option, Some, None, IsSome, refl, sym, ap, ◌∙◌, arith}
 use Rattle.std.specs.Prelude.{MatchOption}
 use Rattle.std.specs.Option.{option_map, option_map_or}
-use Rattle.std.proofs.lemmas.List.{length-take-le, drop-drop}
+use Rattle.std.proofs.lemmas.List.{length-take-le}
 use Rattle.tmm_model.specs.declared.point.PointName.TheVariants.{Begin}
 use Rattle.tmm_model.specs.Moments.{At, along}
-use Rattle.tmm_model.specs.Points.{slashed}
 use Rattle.dist_net.specs.Net.{Net}
 use Rattle.spots.specs.declared.link.Link.{Link}
 use Rattle.spots.specs.declared.spot.Spot.{Spot}
 use Rattle.spots.specs.declared.spot.Spot.TheVariants.{Declared, Node as OfNode}
 use Rattle.spots.specs.Forest.{Forest, Member, moment_at, IsParent, last_name}
 use Rattle.spots.specs.declared.sums.Sums.{Sums}
-use Rattle.spots.specs.Seen.{HasList}
+use Rattle.spots.specs.OfLists.{HasList}
 use Rattle.spots.specs.Spots.{base_of, links_of}
 use Rattle.spots.specs.Sums.{AreSums, ArePartedBy}
-use Rattle.spots.proofs.Apart.{apart_from_none, apart_to_none}
+use Rattle.spots.proofs.Apart.{apart_from_none}
 use Rattle.spots.proofs.Distances.{one_root}
 use Rattle.spots.proofs.Nodes.{last_name-push, moment_at-is}
 use Rattle.occ_tree.specs.declared.node.Node.{Node}
@@ -23,12 +22,11 @@ use Rattle.occ_tree.specs.declared.node.Above.{Above}
 use Rattle.occ_tree.specs.Ends.{way_ends}
 use Rattle.occ_tree.specs.Asked.{AreOfOneRoot}
 use Rattle.occ_tree.specs.Nodes.{Nodes, Way, no_way, way_from, link_of, parent_of, root_of, name_at, link_at, way_to, member_of, forest_in, HasParent, ArePlaced}
-use Rattle.occ_tree.specs.Words.{first_piece, piece_at}
 use Rattle.occ_tree.proofs.Ways.{length-way, node_on_way, live_by_way}
 use Rattle.occ_tree.proofs.Effects.{member_at, way_below, way_root}
 use Rattle.occ_tree.proofs.Parting.{first_name, links_on, root_on}
 use Rattle.occ_tree.proofs.Pieces.{drop_last}
-use Rattle.occ_tree.proofs.Wording.{name_of, rule_at, text_on}
+use Rattle.occ_tree.proofs.Wording.{name_of, rule_at}
 
 -- ---- a spot
 
@@ -53,9 +51,6 @@ links_there node x = by (node x) refl
 -- rules that begin with none in common
 pub parted_to_none : (s : Sums) (u : List Link) → AreSums s [] → ArePartedBy s u []
 parted_to_none s u sums = record { front = []; first = u; second = []; sums = sums; first_is = refl; second_is = refl; apart = apart_from_none u }
-
-pub parted_from_none : (s : Sums) (v : List Link) → AreSums s [] → ArePartedBy s [] v
-parted_from_none s v sums = record { front = []; first = []; second = v; sums = sums; first_is = refl; second_is = refl; apart = apart_to_none v }
 
 -- spots to which rules lead from one point are of one root
 pub of_one_root : (net : Net) (f : Forest) → HasList net f → (p q : Spot) → base_of f p ≡ base_of f q → AreOfOneRoot f p q
@@ -141,13 +136,3 @@ module _ (node : Nodes) (placed : ArePlaced node) (x : ℕ) (n : Node) (at : nod
       (λ i. along (At (Begin (root i))) (same i)) ∙ sym (moment_at-is (forest_in node) x (member_of (way_to node x) n) (member_at node x n at))
 
 -- ---- its word
-
--- a name with what parts it from the next one, and the names behind it
-text_piece : (node : Nodes) (u : List ℕ) → first_piece (map (name_at node) u) ++ text_on node (drop 1 u) ≡ text_on node u
-text_piece node [] = refl
-text_piece node (x ∷ []) = refl
-text_piece node (x ∷ (y ∷ u)) = append_assoc (name_at node x) (47 ∷ []) (name_at node y ++ slashed (map (name_at node) u))
-
--- a word from some name on is what stands there of it, and the word from the next name on
-pub word_piece : (node : Nodes) (x k : ℕ) → piece_at node x k ++ text_on node (drop (k + 1) (way_to node x).numbers) ≡ text_on node (drop k (way_to node x).numbers)
-word_piece node x k = ap (λ (u : List ℕ). piece_at node x k ++ text_on node u) (sym (drop-drop 1 k (way_to node x).numbers)) ∙ text_piece node (drop k (way_to node x).numbers)

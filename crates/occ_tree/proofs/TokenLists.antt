@@ -89,30 +89,7 @@ module _ (node : Nodes) (lists : ℕ → List (TokenRow Spot)) (out : List ℕ) 
   pub only_list : (k m : ℕ) → n.list ≡ Some k → HasList node x m → m ≡ k
   only_list k m list (q, q_at, q_list) = let both : Some n ≡ Some q = sym at ∙ q_at in let same : n ≡ q = cc in let lists_same : Some m ≡ Some k = sym q_list ∙ ap (λ (z : Node). z.list) (sym same) ∙ list in cc
 
-  pub no_list : (m : ℕ) → n.list ≡ None → HasList node x m → ⊥
-  no_list m none (q, q_at, q_list) = let both : Some n ≡ Some q = sym at ∙ q_at in let same : n ≡ q = cc in let lists_same : Some m ≡ None = sym q_list ∙ ap (λ (z : Node). z.list) (sym same) ∙ none in cc
-
-  -- an event is on no list
-  pub tokens_none : n.list ≡ None → AreTokensBut node lists (x ∷ out) → AreTokensBut node lists out
-  tokens_none none t = record {
-    rows = t.rows;
-    each = λ y k. (
-      λ on. let (has, free) = (t.each y k).0 on in (has, λ gone. free (IsOn-rest y x out gone)),
-      λ (has, free). (t.each y k).1 (
-        has,
-        λ gone. elim (or_cases (eqb y x) (list_any (eqb y) out) gone) [
-          | inl same ↦ no_list k none (subst (λ z. HasList node z k) (eqb-true y x same) has)
-          | inr rest ↦ free rest
-        ],
-      ),
-    );
-    in_order = t.in_order;
-  }
-
   module _ (placed : ArePlaced node) (k : ℕ) (list : n.list ≡ Some k) (free_x : IsOn out x → ⊥) (t : AreTokensBut node lists (x ∷ out)) (i : ℕ) (place : IsPlaceFor (node_cmp node) (numbers_in (lists k)) x i) where
-    nums : List ℕ
-    nums = numbers_in (lists k)
-
     numbers_new : numbers_in (insert (lists k) i (row_in node x)) ≡ insert (numbers_in (lists k)) i x
     numbers_new = map-insert (λ (row : TokenRow Spot). number_of row.spot) (lists k) i (row_in node x)
 

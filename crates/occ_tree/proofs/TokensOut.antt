@@ -15,7 +15,7 @@ use Rattle.occ_tree.specs.Tokens.{number_of, numbers_in, row_in, IsInOrder, IsPl
 use Rattle.occ_tree.specs.Words.{node_cmp}
 use Rattle.occ_tree.proofs.Ranking.{nodes_total}
 use Rattle.occ_tree.proofs.InOrder.{on_one, once, without_ordered, place_is, remove-without}
-use Rattle.occ_tree.proofs.TokenLists.{each_list, only_list, no_list, length-numbers, drop-map-own}
+use Rattle.occ_tree.proofs.TokenLists.{each_list, only_list, length-numbers, drop-map-own}
 
 map-remove : {X Y : Type 0} (f : X → Y) (xs : List X) (i : ℕ) → map f (remove xs i) ≡ remove (map f xs) i
 map-remove f xs i = map-append f (take i xs) (drop (suc i) xs) ∙ (λ j. sym (take-map f i xs) j ++ sym (drop-map-own f (suc i) xs) j)
@@ -31,17 +31,6 @@ not_among x y out other free gone = elim (or_cases (eqb y x) (list_any (eqb y) o
 ]
 
 module _ (node : Nodes) (lists : ℕ → List (TokenRow Spot)) (out : List ℕ) (x : ℕ) (n : Node) (at : node x ≡ Some n) (free_x : IsOn out x → ⊥) (t : AreTokensBut node lists out) where
-  -- an event is on no list
-  pub out_event : n.list ≡ None → AreTokensBut node lists (x ∷ out)
-  out_event none = record {
-    rows = t.rows;
-    each = λ y k. (
-      λ on. let (has, free) = (t.each y k).0 on in (has, not_among x y out (λ same. no_list node lists out x n at k none (subst (λ z. HasList node z k) same has)) free),
-      λ (has, free). (t.each y k).1 (has, λ gone. free (IsOn-rest y x out gone)),
-    );
-    in_order = t.in_order;
-  }
-
   module _ (k : ℕ) (list : n.list ≡ Some k) (i : ℕ) (place : IsPlaceFor (node_cmp node) (numbers_in (lists k)) x i) where
     found : (i < length (numbers_in (lists k))) × (slice_index_or (numbers_in (lists k)) i 0 ≡ x)
     found = place_is (node_cmp node) (nodes_total node) (numbers_in (lists k)) x i (t.in_order k) ((t.each x k).1 ((n, at, list), free_x)) place

@@ -4,7 +4,7 @@ use Rattle.row_links.specs.Lists.{IsOn, AreOnce}
 use Rattle.tmm_model.specs.Moments.{negated}
 use Rattle.dist_net.specs.Net.{Net}
 use Rattle.spots.specs.Forest.{Forest, Member, IsLive}
-use Rattle.spots.specs.Seen.{HasList}
+use Rattle.spots.specs.OfLists.{HasList}
 use Rattle.spots.specs.Spots.{IsSpot, net_far, links_low, node_early}
 use Rattle.spots.specs.declared.spot.Spot.{Spot}
 use Rattle.occ_tree.specs.Below.{IsBelow}

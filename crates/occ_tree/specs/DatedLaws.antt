@@ -4,7 +4,7 @@ use Rattle.tmm_model.specs.declared.token.Shape.{Shape}
 use Rattle.dist_net.specs.Net.{Net}
 use Rattle.spots.specs.declared.link.Link.{Link}
 use Rattle.spots.specs.Forest.{Forest, Member, IsLive, child_member}
-use Rattle.spots.specs.Seen.{HasList}
+use Rattle.spots.specs.OfLists.{HasList}
 use Rattle.spots.specs.Spots.{links_low, node_early}
 use Rattle.occ_tree.specs.Dated.{IsDatedBy, point_early, DatesFollow, HaveRoots, IsBelowNone, IsDatedBut}
 use Rattle.occ_tree.specs.Edits.{Grows, Shrinks, Moves}

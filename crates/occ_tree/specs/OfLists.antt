@@ -1,7 +1,7 @@
 -- Trees that are those of a standing list, with its dates.
 use Rattle.tmm_model.specs.Standing.{Standing}
 use Rattle.dist_net.specs.Net.{Net}
-use Rattle.spots.specs.Seen.{IsSeen, HasList}
+use Rattle.spots.specs.OfLists.{IsForestOf, HasList}
 use Rattle.occ_tree.specs.Dated.{IsDatedBy}
 use Rattle.occ_tree.specs.Places.{forest}
 use Rattle.occ_tree.specs.Standing.{Kept, present}
@@ -13,5 +13,5 @@ pub record IsTreeIn (net : Net) (k : Kept) : Type 0 where
 
 -- nodes and network are those of the list, and the dates that are kept are those of the network
 pub record IsTreeOf (s : Standing) (net : Net) (k : Kept) : Type 0 where
-  pub seen : IsSeen s net (forest k)
+  pub seen : IsForestOf s net (forest k)
   pub dated : IsDatedBy net (present k)

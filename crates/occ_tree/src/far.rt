@@ -2,7 +2,7 @@
 ghost use Rattle.std.specs.Prelude.{◌≡◌, IsSome};
 ghost use Rattle.tmm_model.specs.Bounds.{IfFinite, IsWithin};
 ghost use Rattle.spots.specs.Light.{AreLight};
-ghost use Rattle.spots.specs.Seen.{HasList};
+ghost use Rattle.spots.specs.OfLists.{HasList};
 ghost use Rattle.spots.specs.Spots.{IsSpot, base_of, links_of, spot_distance};
 ghost use Rattle.spots.specs.Sums.{AreSums, ArePartedBy};
 ghost use Rattle.occ_tree.specs.Asked.{IsThere, AreOfOneRoot};

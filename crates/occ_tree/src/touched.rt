@@ -5,7 +5,7 @@ ghost use Rattle.tmm_model.specs.declared.point.PointName.TheVariants.{Begin};
 ghost use Rattle.tmm_model.specs.Moments.{At};
 ghost use Rattle.tmm_model.specs.Points.{same_name};
 ghost use Rattle.spots.specs.Forest.{Member, member, IsLive, IsFound};
-ghost use Rattle.spots.specs.Seen.{HasList};
+ghost use Rattle.spots.specs.OfLists.{HasList};
 ghost use Rattle.spots.specs.Spots.{AreTokens};
 ghost use Rattle.occ_tree.specs.AtPoints.{owner_of, IsRootAt, HaveNodesAt};
 ghost use Rattle.occ_tree.specs.Dated.{HaveRoots};

@@ -128,18 +128,6 @@ all_lost p old mid new first others v =
     by false true z = refl
     by false false z = refl
 
--- one more name that is lost, after others
-pub one_lost : (fs : List (List ℕ)) (f : List ℕ) (old mid new : List (List ℕ)) → SameNames mid (fs ++ old) → SameNames new (f ∷ mid) → SameNames new ((fs ++ f ∷ []) ++ old)
-one_lost fs f old mid new others next v =
-    next v ∙ ap (λ x. same_name v f || x) (others v ∙ list_any-append (same_name v) fs old) ∙ by (same_name v f) (list_any (same_name v) fs) (list_any (same_name v) old)
-    ∙ ap (λ x. x || list_any (same_name v) old) (sym (list_any-append (same_name v) fs (f ∷ []))) ∙ sym (list_any-append (same_name v) (fs ++ f ∷ []) old)
-  where
-    by : (x y z : Bool) → (x || (y || z)) ≡ ((y || (x || false)) || z)
-    by true true z = refl
-    by true false z = refl
-    by false true z = refl
-    by false false z = refl
-
 -- a rule whose trigger and effect are not gone
 pub rule_mentions : (gone : List (List ℕ)) (trigger effect : List ℕ) (fs : List (List ℕ)) → is_among gone trigger ≡ false → is_among gone effect ≡ false
     → list_any (is_among gone) fs ≡ (is_among gone trigger || (is_among gone effect || list_any (is_among gone) (flat_map names_used (map fact_use fs))))

@@ -60,8 +60,8 @@ impl Standing {
         }
     }
 
-    /// Whether names and counts let the edit through, and else the first cause against it. A refused word is
-    /// told as the point of a name.
+    /// Whether names and counts let the edit through, and else the first cause against it. A
+    /// refused word is told as the point of a name.
     pub fn check(&self, edit: &Edit) -> Result<(), Refusal>
         ensures ok { IsOk result ↔ (list_cause self.now.present edit.now ≡ None) }
         ensures told { IfErr result (λ refusal. Tells refusal (list_cause self.now.present edit.now)) }
@@ -132,8 +132,8 @@ impl Standing {
     }
 
     /// Retracts the premise of this name and all that mentions, directly or through others, what is
-    /// retracted, and answers the names of these premises in their order. Without memory nothing has
-    /// changed.
+    /// retracted, and answers the names of these premises in their order. Without memory nothing
+    /// has changed.
     pub fn erase(&mut self, alloc: Global, name: Name) -> Result<Seq<Name>, NoMemory>
         requires { list_cause self.old.present (Edit.Erase name) ≡ None }
         ensures names { IfOk result (λ names. names.items ≡ map name_of (fallen_with name self.old.present.premises)) }
@@ -193,6 +193,14 @@ impl Standing {
         ensures well_named { IsWellNamed self.now.present.premises }
     {
         self.table.premises().len()
+    }
+
+    /// What holds of every list, for a proof that wants it: it does nothing.
+    pub fn invariants(&self)
+        ensures few { length self.now.present.premises ≤ most_premises }
+        ensures well_named { IsWellNamed self.now.present.premises }
+    {
+        self.table.invariants()
     }
 
     /// The premise at this place, the oldest at 0.

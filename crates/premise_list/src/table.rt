@@ -73,6 +73,15 @@ impl Table {
         self.premises.as_slice()
     }
 
+    // What holds of every table. It does nothing.
+    pub(crate) fn invariants(&self)
+        ensures few { length self.now.premises ≤ most_premises }
+        ensures well_named { IsWellNamed self.now.premises }
+    {
+        // the invariant is known of a value of which a field is used
+        let _ = &self.premises;
+    }
+
     // The premise at this place.
     pub(crate) fn at(&self, place: usize) -> Option<&Premise>
         ensures { option_copied result ≡ slice_get self.now.premises place }
@@ -118,7 +127,8 @@ impl Table {
         }
     }
 
-    // The place of the premise of this name, which is declared. Those before it stay where it is erased.
+    // The place of the premise of this name, which is declared. Those before it stay where it is
+    // erased.
     pub(crate) fn place_of(&self, name: Name) -> usize
         requires { premise_cause (sort_in self.now.premises name) name ≡ None }
         ensures { IsFoundAt name self.now.premises result }
@@ -227,7 +237,8 @@ fn declare(words: &mut IndexMap<Name, Word>, name: Name, word: Word)
     let _new = words.insert(name, word);
 }
 
-// Adds the names of premises that follow those whose names are there. The first of them has this place.
+// Adds the names of premises that follow those whose names are there. The first of them has this
+// place.
 fn declare_all(words: &mut IndexMap<Name, Word>, premises: &[Premise], place: usize)
     requires few { place + length premises.now ≤ most_premises }
     requires room { length (words_known premises.now) ≤ spare words.old }

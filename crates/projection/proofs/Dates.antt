@@ -9,7 +9,7 @@ use Rattle.tmm_model.specs.Standing.{Standing, far_in}
 use Rattle.belief_theory.proofs.SoundBeliefs.{sound_timed}
 use Rattle.dist_net.specs.Net.{Net}
 use Rattle.spots.specs.Forest.{Forest, IsLive, moment_at}
-use Rattle.spots.specs.Seen.{IsSeen}
+use Rattle.spots.specs.OfLists.{IsForestOf}
 use Rattle.spots.specs.Spots.{node_early}
 use Rattle.spots.proofs.Seen.{early_is, occurs_at}
 use Rattle.projection.specs.Decisions.{IsDueBy}
@@ -23,7 +23,7 @@ due_seen h g a b x y r fits_a fits_b same_h same_a same_b is =
     subst (λ n. IsDueBy n (x +ℤ y) r) same_h (subst (λ z. IsDueBy h (x +ℤ z) r) two (subst (λ z. IsDueBy h (z +ℤ to_z w64 (of_z w64 b)) r) one is))
 
 -- no node begins before date 0
-pub early_at : (s : Standing) (net : Net) (f : Forest) → IsSeen s net f → (x : ℕ) → IsLive f x → pos 0 ≤ℤ node_early net f x
+pub early_at : (s : Standing) (net : Net) (f : Forest) → IsForestOf s net f → (x : ℕ) → IsLive f x → pos 0 ≤ℤ node_early net f x
 early_at s net f seen x live =
     subst (λ z. pos 0 ≤ℤ z) (sym (early_is s net f seen x live)) ((sound_timed s seen.network.sound).not_before_start (moment_at f x) (occurs_at s net f seen x live))
 
@@ -43,7 +43,7 @@ past_horizon h z late = grind (arith, ints)
 -- ---- as the code has them
 
 -- the earliest date of an event
-module _ (s : Standing) (net : Net) (f : Forest) (seen : IsSeen s net f) (x : ℕ) (live : IsLive f x) (date : ℤ) (fits : FitsSigned w64 date) (is : date ≡ node_early net f x) where
+module _ (s : Standing) (net : Net) (f : Forest) (seen : IsForestOf s net f) (x : ℕ) (live : IsLive f x) (date : ℤ) (fits : FitsSigned w64 date) (is : date ≡ node_early net f x) where
   pub early_seen : pos 0 ≤ℤ to_z w64 (of_z w64 date)
   early_seen = subst (λ z. pos 0 ≤ℤ z) (sym (to_z-of_z w64 date fits ∙ is)) (early_at s net f seen x live)
 

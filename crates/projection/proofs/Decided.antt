@@ -19,7 +19,7 @@ use Rattle.belief_theory.proofs.Settling.{Settling, skip, enter, right_at_end}
 use Rattle.belief_theory.proofs.SoundBeliefs.{sound_timed, map_is_right, believed_right}
 use Rattle.dist_net.specs.Net.{Net}
 use Rattle.spots.specs.Forest.{Forest, moment, moment_at}
-use Rattle.spots.specs.Seen.{Holds}
+use Rattle.spots.specs.OfLists.{HasOccurrences}
 use Rattle.spots.proofs.Nodes.{node_at, moment_at-is}
 use Rattle.projection.specs.declared.pending.Pending.{Pending}
 use Rattle.projection.specs.Counted.{is_due, due_rules, decisions_due}
@@ -228,7 +228,7 @@ module _ (s : Standing) (net : Net) (f : Forest) (n : ℕ) {made : ℕ} (growing
     pend_later = λ u q never. absurd never;
   })
 
-  pub holds_at_end : Holds (built s).believed f
+  pub holds_at_end : HasOccurrences (built s).believed f
   holds_at_end =
       let same = (map_is_right s growing.sound).1 growing.entered right in
       record {

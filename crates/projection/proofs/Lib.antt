@@ -1,5 +1,6 @@
 pub mod AtPlaces
 pub mod Tried
+pub mod Judged
 pub mod Dates
 pub mod OnKinds
 pub mod Waiting

@@ -18,7 +18,7 @@ use Rattle.tmm_model.specs.Standing.{Standing, name_of, far_in}
 use Rattle.list_theory.proofs.Elements.{In, In-from_Contains, In-left, In-right, In-filter_map}
 use Rattle.dist_net.specs.Net.{Net}
 use Rattle.spots.specs.Forest.{Forest, moment_at}
-use Rattle.spots.specs.Seen.{IsSeen, Holds}
+use Rattle.spots.specs.OfLists.{IsForestOf, HasOccurrences}
 use Rattle.projection.specs.declared.pending.Pending.{Pending}
 use Rattle.projection.specs.Counted.{due_rules}
 use Rattle.supports.specs.Growing.{Adds}
@@ -31,7 +31,7 @@ use Rattle.projection.proofs.Steps.{push_cases, too_large, pends_kept, pends_new
 -- ---- what is declared
 
 module _ (s : Standing) (net : Net) (f : Forest) (queue : List Pending) (n : ℕ) where
-  pub started_first : IsSeen s net f → Holds [] f → queue ≡ [] → n ≡ 0 → IsStarted s net [] f queue n
+  pub started_first : IsForestOf s net f → HasOccurrences [] f → queue ≡ [] → n ≡ 0 → IsStarted s net [] f queue n
   started_first seen holds none zero_ = record {
     grown = record {
       seen = seen;

@@ -11,7 +11,7 @@ use Rattle.list_theory.proofs.Distinct.{Distinct, sum_inside}
 use Rattle.list_theory.proofs.Elements.{In, In-from_Contains, Contains-from_In}
 use Rattle.dist_net.specs.Net.{Net}
 use Rattle.spots.specs.Forest.{Forest, Member, member, moment, moment_at, IsLive}
-use Rattle.spots.specs.Seen.{IsSeen, Holds}
+use Rattle.spots.specs.OfLists.{IsForestOf, HasOccurrences}
 use Rattle.spots.proofs.Believed.{believed_once}
 use Rattle.spots.proofs.Nodes.{node_at, live_at, moment_at-is}
 use Rattle.projection.specs.Queues.{weight_at}
@@ -55,7 +55,7 @@ module _ (s : Standing) (f : Forest) where
       by x m below at true e = absurd (dead (subst (IsLive f) ((Decides-eqb x n).0 e) (live_at f x m at)))
       by x m below at false e = let ne : x ≡ n → ⊥ = λ same. let t : (x == n) ≡ true = (Decides-eqb x n).1 same in cc in before.all x m (omega (arith, below)) at
 
-module _ (s : Standing) (net : Net) (f : Forest) (seen : IsSeen s net f) where
+module _ (s : Standing) (net : Net) (f : Forest) (seen : IsForestOf s net f) where
   pub live_counted : (n counted : ℕ) → IsLive f n → AreCounted s f n counted → AreCounted s f (n + 1) (counted + weight_at s f n)
   live_counted n counted live before =
       let (here, there) = node_at f n live in
@@ -74,7 +74,7 @@ module _ (s : Standing) (net : Net) (f : Forest) (seen : IsSeen s net f) where
       by x m below at true e = inl (moment_at-is f n m (ap (member f) (sym ((Decides-eqb x n).0 e)) ∙ at))
       by x m below at false e = let ne : x ≡ n → ⊥ = λ same. let t : (x == n) ≡ true = (Decides-eqb x n).1 same in cc in inr (before.all x m (omega (arith, below)) at)
 
-  module _ (holds : Holds (built s).believed f) where
+  module _ (holds : HasOccurrences (built s).believed f) where
     -- nodes that are believed count no more than the map
     pub counted_within : (n counted : ℕ) → AreCounted s f n counted → counted ≤ size (built s)
     counted_within n counted are =

@@ -1,4 +1,5 @@
 pub mod Decisions
+pub mod Verdicts
 pub mod Places
 pub mod Kinds
 pub mod Counted

@@ -15,7 +15,7 @@ use Rattle.belief_theory.proofs.Settling.{Settling}
 use Rattle.belief_theory.proofs.SoundBeliefs.{sound_timed}
 use Rattle.dist_net.specs.Net.{Net}
 use Rattle.spots.specs.Forest.{Forest, IsLive, moment_at}
-use Rattle.spots.specs.Seen.{IsSeen, Holds}
+use Rattle.spots.specs.OfLists.{IsForestOf, HasOccurrences}
 use Rattle.occ_tree.specs.Places.{forest}
 use Rattle.projection.specs.declared.growth.Growing.{Growing}
 use Rattle.projection.specs.declared.pending.Pending.{Pending}
@@ -37,8 +37,8 @@ Pends s f queue t r = (p : Pending) × In p queue × (moment_at f p.trigger ≡ 
 
 -- the occurrences b have entered, each once, and the rules that wait are undecided
 pub record IsGrown (s : Standing) (net : Net) (b : List Moment) (f : Forest) (queue : List Pending) (size : ℕ) : Type 0 where
-  pub seen : IsSeen s net f
-  pub holds : Holds b f
+  pub seen : IsForestOf s net f
+  pub holds : HasOccurrences b f
   pub distinct : Distinct b
   pub sized : size ≡ sum_by (weight (built s)) b
   pub small : size ≤ most_size
@@ -79,7 +79,7 @@ Settles s net old p new = (made : ℕ) → IsGrowingWith s net (forest old.tree)
 
 -- among the occurrences that the nodes are, the rule that waits is free
 abbrev pub FiresAmong : Standing → Forest → Pending → Type 0
-FiresAmong s f p = (b : List Moment) → Holds b f → IsTrue (is_free s (far_in s.premises) b (moment_at f p.trigger) (rule_at s p))
+FiresAmong s f p = (b : List Moment) → HasOccurrences b f → IsTrue (is_free s (far_in s.premises) b (moment_at f p.trigger) (rule_at s p))
 
 -- how much there is left to do at most
 abbrev pub left : List Pending → ℕ → ℕ

@@ -1,27 +1,25 @@
 // What becomes of a rule at an event.
 ghost use Rattle.std.specs.Prelude.{◌≡◌, ◌≤◌, min, ◌+◌, List, length, IsSome};
 ghost use Rattle.std.specs.List.{All, Contains};
-ghost use Rattle.belief_theory.specs.Outcomes.{outcome, tried};
-ghost use Rattle.tmm_model.specs.Beliefs.{rules_at, holder, is_free};
+ghost use Rattle.belief_theory.specs.Outcomes.{outcome};
+ghost use Rattle.tmm_model.specs.Beliefs.{rules_at};
 ghost use Rattle.tmm_model.specs.Moments.{Moment};
 ghost use Rattle.tmm_model.specs.Sorts.{class_in};
 ghost use Rattle.tmm_model.specs.Standing.{far_in};
 ghost use Rattle.spots.specs.Forest.{IsLive, moment_at};
-ghost use Rattle.spots.specs.Seen.{IsSeen, Holds};
+ghost use Rattle.spots.specs.OfLists.{HasOccurrences};
 ghost use Rattle.occ_tree.specs.OfLists.{IsTreeOf};
 ghost use Rattle.occ_tree.specs.Places.{forest};
 ghost use Rattle.projection.specs.Decisions.{outcome_at, AreLive, tried_at};
-ghost use Rattle.projection.specs.Places.{name_at, IsRuleAt};
 
-use crate::rule::{due_by, text_at};
+use crate::rule::text_in_time;
 use arrayvec::ArrayVec;
 use dist_net::DistNet;
-use occ_tree::{Order, Tree};
+use occ_tree::Tree;
 use premise_list::Standing;
 use spots::Spot;
-use std::alloc::Global;
 use std::marker::Model;
-use supports::{Guesses, first_supported, is_supported, rule_text, supporter};
+use supports::{Guesses, first_supported, supporter};
 use tmm_model::Name;
 
 /// What becomes of a rule at an event.
@@ -76,7 +74,8 @@ impl Counter {
 }
 
 /// Decides a standing rule on the kind of the event at the node `trigger`, among the nodes of the
-/// tree, and counts the decision. No memory is taken but for guesses.
+/// tree, and counts the decision. No memory is taken but for guesses. Where the supporters are not
+/// asked for, `judge` tells the rest at less cost.
 pub fn decide(
     tree: &Tree,
     net: &DistNet,
@@ -89,26 +88,24 @@ pub fn decide(
     requires seen { IsTreeOf standing.now.present net.now.present tree.now }
     requires trigger { IsLive (forest tree.now) trigger }
     requires rule { Contains (rules_at standing.now.present (moment_at (forest tree.now) trigger)) rule }
-    ensures outcome { (b : List Moment) → Holds b (forest tree.now) → outcome_at (forest tree.now) result ≡ outcome standing.now.present (far_in standing.now.present.premises) b (moment_at (forest tree.now) trigger) rule }
+    ensures outcome { (b : List Moment) → HasOccurrences b (forest tree.now) → outcome_at (forest tree.now) result ≡ outcome standing.now.present (far_in standing.now.present.premises) b (moment_at (forest tree.now) trigger) rule }
     ensures live { AreLive (forest tree.now) result }
     ensures counted { counter.new ≡ min (counter.old + 1) 18446744073709551615 }
     ensures kept { counter.old ≤ counter.new }
 {
     counter.raise();
-    let early = Order { tree, net }.early(trigger);
-    let text = rule_text(standing, rule);
-    if due_by(standing.horizon(), early, text.lo).is_none() {
-        return Decision::Beyond;
+    match text_in_time(tree, net, standing, trigger, rule) {
+        Some(text) => try_facts(
+            tree,
+            net,
+            standing,
+            trigger,
+            text.given,
+            text.exceptions,
+            guesses,
+        ),
+        None => Decision::Beyond,
     }
-    try_facts(
-        tree,
-        net,
-        standing,
-        trigger,
-        text.given,
-        text.exceptions,
-        guesses,
-    )
 }
 
 // The first supporters of the antecedents at the event, or the first of these without one, or else
@@ -127,7 +124,7 @@ fn try_facts(
     requires facts { All (λ fact. IsSome (class_in standing.now.present.premises fact)) given.now }
     requires exceptions { All (λ fact. IsSome (class_in standing.now.present.premises fact)) exceptions.now }
     requires few { length given.now ≤ 4 }
-    ensures outcome { (b : List Moment) → Holds b (forest tree.now) → outcome_at (forest tree.now) result ≡ tried_at standing.now.present b (moment_at (forest tree.now) trigger) given.now exceptions.now }
+    ensures outcome { (b : List Moment) → HasOccurrences b (forest tree.now) → outcome_at (forest tree.now) result ≡ tried_at standing.now.present b (moment_at (forest tree.now) trigger) given.now exceptions.now }
     ensures live { AreLive (forest tree.now) result }
 {
     let at = Spot::Node(trigger);
@@ -142,51 +139,4 @@ fn try_facts(
         Some(exception) => Decision::Barred { exception },
         None => Decision::Fires { supports },
     }
-}
-
-// Whether the rule at this place of the list fires on the event at the node `trigger`, where its
-// effect is due: each of its antecedents has a supporter there, whichever that is, and no exception
-// has one.
-pub(crate) fn is_free(
-    alloc: Global,
-    tree: &Tree,
-    net: &DistNet,
-    standing: &Standing,
-    trigger: u32,
-    place: u32,
-) -> bool
-    requires seen { IsTreeOf standing.now.present net.now.present tree.now }
-    requires trigger { IsLive (forest tree.now) trigger }
-    requires place { IsRuleAt standing.now.present place }
-    requires rule { Contains (rules_at standing.now.present (moment_at (forest tree.now) trigger)) (name_at standing.now.present place) }
-    ensures { (b : List Moment) → Holds b (forest tree.now) → result ≡ is_free standing.now.present (far_in standing.now.present.premises) b (moment_at (forest tree.now) trigger) (name_at standing.now.present place) }
-{
-    let mut guesses = Guesses::make(alloc);
-    is_free_with(tree, net, standing, trigger, place, &mut guesses)
-}
-
-// The same with room for guesses.
-fn is_free_with(
-    tree: &Tree,
-    net: &DistNet,
-    standing: &Standing,
-    trigger: u32,
-    place: u32,
-    guesses: &mut Guesses,
-) -> bool
-    requires seen { IsTreeOf standing.now.present net.now.present tree.now }
-    requires trigger { IsLive (forest tree.now) trigger }
-    requires place { IsRuleAt standing.now.present place }
-    requires rule { Contains (rules_at standing.now.present (moment_at (forest tree.now) trigger)) (name_at standing.now.present place) }
-    ensures { (b : List Moment) → Holds b (forest tree.now) → result ≡ is_free standing.now.present (far_in standing.now.present.premises) b (moment_at (forest tree.now) trigger) (name_at standing.now.present place) }
-{
-    let at = Spot::Node(trigger);
-    let text = text_at(standing, place);
-    let given = text.given;
-    for fact in given {
-        if !is_supported(standing, tree, net, *fact, at, at, guesses) {
-            return false;
-        }
-    }
-    first_supported(standing, tree, net, text.exceptions, at, guesses).is_none()
 }

@@ -8,7 +8,7 @@ ghost use Rattle.tmm_model.specs.Moments.{After};
 ghost use Rattle.dist_net.specs.Net.{Net};
 ghost use Rattle.list_net.specs.Fits.{IsNetOf};
 ghost use Rattle.spots.specs.Forest.{IsLive, moment_at};
-ghost use Rattle.spots.specs.Seen.{IsSeen, Holds};
+ghost use Rattle.spots.specs.OfLists.{IsForestOf, HasOccurrences};
 ghost use Rattle.occ_tree.specs.Dated.{IsDatedBy};
 ghost use Rattle.occ_tree.specs.OfLists.{IsTreeOf};
 ghost use Rattle.occ_tree.specs.Places.{forest};
@@ -20,7 +20,8 @@ ghost use Rattle.projection.specs.Places.{name_at, IsRuleAt};
 ghost use Rattle.projection.specs.Projecting.{IsStarted, IsGrowingWith, Settles, FiresAmong, left};
 ghost use Rattle.projection.specs.Queues.{Queues, weight_at, IsTooLarge};
 
-use crate::decision::{Counter, is_free};
+use crate::decision::Counter;
+use crate::judging::is_free;
 use crate::kinds::RulesByKind;
 use crate::pending::{Pending, Queue};
 use crate::rule::{due_by, text_at};
@@ -60,15 +61,15 @@ fn add_effect(
     trigger: u32,
     place: u32,
 ) -> Result<u32, NoMemory>
-    requires seen { (net : Net) × IsSeen standing.now.present net (forest tree.old) }
+    requires seen { (net : Net) × IsForestOf standing.now.present net (forest tree.old) }
     requires trigger { IsLive (forest tree.old) trigger }
     requires place { IsRuleAt standing.now.present place }
     requires enters { MayEnter standing.now.present (forest tree.old) trigger (name_at standing.now.present place) }
-    ensures adds { IfOk result (λ x. (net : Net) → IsSeen standing.now.present net (forest tree.old) → Adds standing.now.present net.names (forest tree.old) (forest tree.new) x (After (moment_at (forest tree.old) trigger) (name_at standing.now.present place))) }
+    ensures adds { IfOk result (λ x. (net : Net) → IsForestOf standing.now.present net (forest tree.old) → Adds standing.now.present net.names (forest tree.old) (forest tree.new) x (After (moment_at (forest tree.old) trigger) (name_at standing.now.present place))) }
     ensures dated { OnOk result ((net : Net) → IsTreeOf standing.now.present net tree.old → IsDatedBy net (present tree.new)) }
 {
     // It tells the proof that names are distinct.
-    let _ = standing.len();
+    standing.invariants();
     let Some(
         Premise::Rule {
             name,
@@ -253,7 +254,7 @@ pub fn rebuild(
 ) -> Result<Projected, Stop>
     requires network { IsNetOf standing.now.present net.now.present }
     ensures seen { IfOk result (λ projected. IsTreeOf standing.now.present net.now.present projected.tree) }
-    ensures holds { IfOk result (λ projected. Holds (built standing.now.present).believed (forest projected.tree)) }
+    ensures holds { IfOk result (λ projected. HasOccurrences (built standing.now.present).believed (forest projected.tree)) }
     ensures size { IfOk result (λ projected. projected.size ≡ size (built standing.now.present)) }
     ensures small { IfOk result (λ projected. projected.size ≤ most_size) }
     ensures stops { IfErr result (IsTooLarge (size (built standing.now.present))) }

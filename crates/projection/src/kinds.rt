@@ -3,7 +3,7 @@ ghost use Rattle.std.specs.Prelude.{◌≡◌, ◌≤◌, length, map, IfOk, OnO
 ghost use Rattle.std.specs.List.{All};
 ghost use Rattle.tmm_model.specs.Beliefs.{rules_at};
 ghost use Rattle.spots.specs.Forest.{IsLive, moment_at};
-ghost use Rattle.spots.specs.Seen.{IsSeen};
+ghost use Rattle.spots.specs.OfLists.{IsForestOf};
 ghost use Rattle.occ_tree.specs.Places.{forest};
 ghost use Rattle.dist_net.specs.Net.{Net};
 ghost use Rattle.name_lists.specs.Lists.{list_of};
@@ -58,14 +58,13 @@ impl RulesByKind {
     /// The places of the rules on the kind of the event at a node, none where it is no event.
     pub fn at(&self, standing: &Standing, tree: &Tree, x: u32) -> &[u32]
         requires rules { AreRules standing.now.present self.now }
-        requires members { (net : Net) × IsSeen standing.now.present net (forest tree.now) }
+        requires members { (net : Net) × IsForestOf standing.now.present net (forest tree.now) }
         requires live { IsLive (forest tree.now) x }
         ensures value { map (name_at standing.now.present) result.now ≡ rules_at standing.now.present (moment_at (forest tree.now) x) }
         ensures places { All (IsRuleAt standing.now.present) result.now }
         ensures few { length result.now ≤ 2000 }
     {
-        // it tells the proof what holds of the list
-        let _ = standing.len();
+        standing.invariants();
         let row = tree.row(x);
         match row.shape {
             Shape::Event => self.rules.of(&row.what),

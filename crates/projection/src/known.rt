@@ -5,7 +5,7 @@ ghost use Rattle.occ_tree.specs.Places.{forest};
 ghost use Rattle.projection.specs.Kinds.{AreKnown, AreRulesOn, places_in};
 ghost use Rattle.projection.specs.Queues.{weight_at};
 ghost use Rattle.spots.specs.Forest.{IsLive};
-ghost use Rattle.spots.specs.Seen.{IsSeen};
+ghost use Rattle.spots.specs.OfLists.{IsForestOf};
 ghost use Rattle.tmm_model.specs.Standing.{Standing as List};
 
 use crate::kinds::RulesByKind;
@@ -67,7 +67,7 @@ impl KnownKinds {
 
     /// What the occurrence at a node counts of the size of a map.
     pub fn weight(&mut self, standing: &Standing, tree: &Tree, x: u32) -> u64
-        requires seen { (net : Net) × IsSeen standing.now.present net (forest tree.now) }
+        requires seen { (net : Net) × IsForestOf standing.now.present net (forest tree.now) }
         requires live { IsLive (forest tree.now) x }
         requires known { AreKnown standing.now.present self.old }
         ensures value { result ≡ weight_at standing.now.present (forest tree.now) x }

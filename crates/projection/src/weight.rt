@@ -4,7 +4,7 @@ ghost use Rattle.std.specs.List.{filter_map};
 ghost use Rattle.tmm_model.specs.Beliefs.{on_kind, rules_at, rules_on};
 ghost use Rattle.dist_net.specs.Net.{Net};
 ghost use Rattle.spots.specs.Forest.{IsLive, moment_at};
-ghost use Rattle.spots.specs.Seen.{IsSeen};
+ghost use Rattle.spots.specs.OfLists.{IsForestOf};
 ghost use Rattle.occ_tree.specs.Places.{forest};
 ghost use Rattle.projection.specs.Kinds.{IsCountIn};
 ghost use Rattle.projection.specs.Queues.{weight_at};
@@ -25,7 +25,7 @@ pub struct KindCount {
 /// What the occurrence at a node counts of the size of a map: itself, its rules, and the rules on
 /// it.
 pub fn weight_of(standing: &Standing, tree: &Tree, x: u32) -> u64
-    requires seen { (net : Net) × IsSeen standing.now.present net (forest tree.now) }
+    requires seen { (net : Net) × IsForestOf standing.now.present net (forest tree.now) }
     requires live { IsLive (forest tree.now) x }
     ensures value { result ≡ weight_at standing.now.present (forest tree.now) x }
     ensures few { result ≤ 4294969296 }
@@ -37,7 +37,7 @@ pub fn weight_of(standing: &Standing, tree: &Tree, x: u32) -> u64
 /// The same for one node after the other, where what was counted last is kept: of events of one
 /// kind only the first takes a walk over the premises.
 pub fn weight_after(standing: &Standing, tree: &Tree, x: u32, last: &mut Option<KindCount>) -> u64
-    requires seen { (net : Net) × IsSeen standing.now.present net (forest tree.now) }
+    requires seen { (net : Net) × IsForestOf standing.now.present net (forest tree.now) }
     requires live { IsLive (forest tree.now) x }
     requires last { IfSome last.old (IsCountIn standing.now.present) }
     ensures value { result ≡ weight_at standing.now.present (forest tree.now) x }
@@ -49,7 +49,7 @@ pub fn weight_after(standing: &Standing, tree: &Tree, x: u32, last: &mut Option<
 
 // How many standing rules are on the occurrence at a node.
 fn count_at(standing: &Standing, tree: &Tree, x: u32, last: &mut Option<KindCount>) -> u64
-    requires seen { (net : Net) × IsSeen standing.now.present net (forest tree.now) }
+    requires seen { (net : Net) × IsForestOf standing.now.present net (forest tree.now) }
     requires live { IsLive (forest tree.now) x }
     requires last { IfSome last.old (IsCountIn standing.now.present) }
     ensures value { result ≡ length (rules_at standing.now.present (moment_at (forest tree.now) x)) }

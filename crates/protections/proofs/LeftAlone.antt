@@ -32,7 +32,7 @@ use Rattle.list_net.proofs.Nets.{is_in_use}
 use Rattle.spots.specs.declared.spot.Spot.{Spot}
 use Rattle.spots.specs.declared.spot.Spot.TheVariants.{Declared, Node}
 use Rattle.spots.specs.Forest.{Forest, Member, member, IsLive, moment, moment_at}
-use Rattle.spots.specs.Seen.{IsSeen, Holds}
+use Rattle.spots.specs.OfLists.{IsForestOf, HasOccurrences}
 use Rattle.spots.specs.Spots.{spot_moment, spot_distance, base_of, links_of, links_low, links_high, net_far, AreTokens, row_moment, token_row}
 use Rattle.spots.proofs.Distances.{distance-two_bases}
 use Rattle.spots.proofs.Nodes.{live_at, moment_at-is, base-moment, point_is}
@@ -50,8 +50,8 @@ use Rattle.protections.proofs.Asks.{asks_stay}
 use Rattle.protections.proofs.Protected.{grounded}
 
 module _ (old : Standing) (edit : Edit) (nets : Nets) (f g : Forest)
-    (seen_f : IsSeen old nets.committed f) (holds_f : Holds (built old).believed f)
-    (seen_g : IsSeen (next_list old edit) nets.present g) (holds_g : Holds (built (next_list old edit)).believed g)
+    (seen_f : IsForestOf old nets.committed f) (holds_f : HasOccurrences (built old).believed f)
+    (seen_g : IsForestOf (next_list old edit) nets.present g) (holds_g : HasOccurrences (built (next_list old edit)).believed g)
     (numbers : (x y : ℕ) → IsLive f x → IsLive g y → (moment_at f x ≡ moment_at g y) ↔ (x ≡ y))
     (keep : PointsKeepNumbers (points_in (next_list old edit).premises) nets.committed.names nets.present.names)
     (apart : IsMovedAt nets.moved nets.committed nets.present) where
@@ -314,8 +314,8 @@ left_alone_stay lists nets edit tree is apart name fact from to alone =
     let old = lists.committed in
     let g = forest (present tree) in
     let class = alone.of_fact.class in
-    let seen_g : IsSeen (next_list old edit) nets.present g = subst (λ s. IsSeen s nets.present g) is.list is.seen_now in
-    let holds_g : Holds (built (next_list old edit)).believed g = subst (λ s. Holds (built s).believed g) is.list is.holds_now in
+    let seen_g : IsForestOf (next_list old edit) nets.present g = subst (λ s. IsForestOf s nets.present g) is.list is.seen_now in
+    let holds_g : HasOccurrences (built (next_list old edit)).believed g = subst (λ s. HasOccurrences (built s).believed g) is.list is.holds_now in
     let keep : PointsKeepNumbers (points_in (next_list old edit).premises) nets.committed.names nets.present.names =
     subst (λ s. PointsKeepNumbers (points_in s.premises) nets.committed.names nets.present.names) is.list is.points in
     let known = grounded old nets.committed is.seen_then.network name fact from to alone.stood in

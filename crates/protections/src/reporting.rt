@@ -4,7 +4,7 @@ ghost use Rattle.std.specs.Option.{option_map};
 ghost use Rattle.std.specs.List.{Contains};
 ghost use Rattle.tmm_model.specs.Answers.{broken, reports, report_of};
 ghost use Rattle.tmm_model.specs.Maps.{built};
-ghost use Rattle.spots.specs.Seen.{IsSeen, Holds};
+ghost use Rattle.spots.specs.OfLists.{IsForestOf, HasOccurrences};
 ghost use Rattle.occ_tree.specs.OfLists.{IsTreeOf};
 ghost use Rattle.occ_tree.specs.Places.{forest};
 
@@ -26,7 +26,7 @@ pub fn report(
     net: &DistNet,
 ) -> Result<Seq<Report>, NoMemory>
     requires seen { IsTreeOf standing.now.present net.now.present tree.now }
-    requires holds { Holds (built standing.now.present).believed (forest tree.now) }
+    requires holds { HasOccurrences (built standing.now.present).believed (forest tree.now) }
     ensures { IfOk result (λ found. map report_of found.items ≡ reports (built standing.now.present)) }
 {
     let mut found = Seq::make(alloc);
@@ -48,7 +48,7 @@ pub(crate) fn broken(
     premise: &Premise,
 ) -> Result<Option<Report>, NoMemory>
     requires seen { IsTreeOf standing.now.present net.now.present tree.now }
-    requires holds { Holds (built standing.now.present).believed (forest tree.now) }
+    requires holds { HasOccurrences (built standing.now.present).believed (forest tree.now) }
     requires stands { Contains standing.now.present.premises premise.now }
     ensures { IfOk result (λ found. option_map report_of found ≡ broken (built standing.now.present) premise.now) }
 {

@@ -8,7 +8,7 @@ ghost use Rattle.tmm_model.specs.Sorts.{class_in};
 ghost use Rattle.tmm_model.specs.Standing.{Standing as AList};
 ghost use Rattle.dist_net.specs.Net.{Nets, IsMovedAt};
 ghost use Rattle.list_net.specs.Network.{IsThere};
-ghost use Rattle.spots.specs.Seen.{Holds};
+ghost use Rattle.spots.specs.OfLists.{HasOccurrences};
 ghost use Rattle.occ_tree.specs.OfLists.{IsTreeOf};
 ghost use Rattle.occ_tree.specs.Places.{forest};
 ghost use Rattle.revisions.specs.Standing.{IsLeftOut};
@@ -42,7 +42,7 @@ pub fn review_edit(
     old: &BrokenProtections,
 ) -> Result<Review, NoMemory>
     requires seen { IsTreeOf standing.now.present net.now.present tree.now }
-    requires holds { Holds (built standing.now.present).believed (forest tree.now) }
+    requires holds { HasOccurrences (built standing.now.present).believed (forest tree.now) }
     requires edited { IsEdited standing.now net.now edit.now tree.now }
     requires others { AreOthersUntouched net.now tree.now classes.now }
     requires left_out { IsLeftOut standing.now.committed standing.now.present erased.now }
@@ -86,7 +86,7 @@ fn review_added(
     old: &BrokenProtections,
 ) -> Result<Vec<Reviewed>, NoMemory>
     requires seen { IsTreeOf standing.now.present net.now.present tree.now }
-    requires holds { Holds (built standing.now.present).believed (forest tree.now) }
+    requires holds { HasOccurrences (built standing.now.present).believed (forest tree.now) }
     requires edited { IsEdited standing.now net.now edit.now tree.now }
     requires others { AreOthersUntouched net.now tree.now [] }
     requires unmoved { net.now.moved ≡ [] }
@@ -118,7 +118,7 @@ fn review_standing(
     old: &BrokenProtections,
 ) -> Result<Vec<Reviewed>, NoMemory>
     requires seen { IsTreeOf standing.now.present net.now.present tree.now }
-    requires holds { Holds (built standing.now.present).believed (forest tree.now) }
+    requires holds { HasOccurrences (built standing.now.present).believed (forest tree.now) }
     requires edited { IsEdited standing.now net.now edit.now tree.now }
     requires others { AreOthersUntouched net.now tree.now classes.now }
     requires old { AreFound (reports (built standing.now.committed)) (found_in old.now) }
@@ -149,7 +149,7 @@ fn review_premise(
     premise: &Premise,
 ) -> Result<Option<Reviewed>, NoMemory>
     requires seen { IsTreeOf standing.now.present net.now.present tree.now }
-    requires holds { Holds (built standing.now.present).believed (forest tree.now) }
+    requires holds { HasOccurrences (built standing.now.present).believed (forest tree.now) }
     requires edited { IsEdited standing.now net.now edit.now tree.now }
     requires others { AreOthersUntouched net.now tree.now classes.now }
     requires old { AreFound (reports (built standing.now.committed)) (found_in old.now) }
@@ -173,7 +173,7 @@ fn look(
     premise: &Premise,
 ) -> Result<Option<Reviewed>, NoMemory>
     requires seen { IsTreeOf standing.now.present net.now.present tree.now }
-    requires holds { Holds (built standing.now.present).believed (forest tree.now) }
+    requires holds { HasOccurrences (built standing.now.present).believed (forest tree.now) }
     requires edited { IsEdited standing.now net.now edit.now tree.now }
     requires old { AreFound (reports (built standing.now.committed)) (found_in old.now) }
     requires stands { Contains standing.now.present.premises premise.now }

@@ -28,7 +28,7 @@ use Rattle.belief_theory.proofs.SoundBeliefs.{believed_right, believed_occurs}
 use Rattle.belief_theory.proofs.Spelt.{spelt}
 use Rattle.belief_theory.proofs.NextLists.{all_spelt}
 use Rattle.belief_theory.proofs.Untouched.{Alike, untouched_alike, untouched_stood, outcome_alike}
-use Rattle.spots.specs.Seen.{map_of}
+use Rattle.spots.specs.OfLists.{map_of}
 use Rattle.revisions.specs.Counted.{AreSeeds}
 use Rattle.revisions.specs.Maps.{is_watched}
 use Rattle.revisions.proofs.Lawful.{text, watched_back, decided}

@@ -10,7 +10,7 @@ use Rattle.tmm_model.specs.Moments.{Moment, negated, printed}
 use Rattle.tmm_model.specs.Points.{same_name}
 use Rattle.std.proofs.Common.{not}
 use Rattle.list_theory.proofs.Elements.{In, both}
-use Rattle.spots.specs.Seen.{map_of}
+use Rattle.spots.specs.OfLists.{map_of}
 use Rattle.revisions.specs.Shifts.{IsShifted, ShiftsKeep}
 use Rattle.revisions.specs.Walls.{AlikeBut}
 use Rattle.revisions.proofs.Walls.{outcomes_stay_but}

@@ -23,7 +23,7 @@ use Rattle.list_net.specs.Represents.{IsNumberOf}
 use Rattle.list_net.proofs.Nets.{is_in_use}
 use Rattle.list_net.proofs.Numbers.{number_far}
 use Rattle.spots.specs.Forest.{Forest, Member, member, moment}
-use Rattle.spots.specs.Seen.{IsSeen, IsMemberOf, IsLinkOf, class_for}
+use Rattle.spots.specs.OfLists.{IsForestOf, IsMemberOf, IsLinkOf, class_for}
 use Rattle.spots.proofs.Nodes.{base-moment}
 use Rattle.revisions.specs.Alike.{IsAnchor, SayAlike, AreAlike}
 use Rattle.revisions.specs.StillEdits.{AreElsewhere}
@@ -118,7 +118,7 @@ module _ (s t : Standing) (say : SayAlike s t) where
   occurs_over (At p) at = subst (λ l. Contains l (At p)) say.declared at
   occurs_over (After u r) at = (occurs_over u at.0, subst (λ l. Contains l r) (rules_same s t say u) at.1)
 
-  module _ (net after : Net) (f : Forest) (of_t : IsNetOf t after) (keep : PointsKeepNumbers (points_in t.premises) net.names after.names) (seen : IsSeen s net f) where
+  module _ (net after : Net) (f : Forest) (of_t : IsNetOf t after) (keep : PointsKeepNumbers (points_in t.premises) net.names after.names) (seen : IsForestOf s net f) where
     number_stays : (n : ℕ) (p : PointName) → IsAnchor s p → IsNumberOf net.names n p → IsNumberOf after.names n p
     number_stays n p at is = keep n p (Contains-from_In (points_in t.premises) p (anchor_point t p (anchor_over p at))) is
 
@@ -147,5 +147,5 @@ module _ (s t : Standing) (say : SayAlike s t) where
           class = own.class ∙ class_stays m.shape m.what;
         }
 
-    pub stay_seen : IsSeen t after f
+    pub stay_seen : IsForestOf t after f
     stay_seen = record { network = of_t; members = member_stays; once = seen.once }

@@ -23,7 +23,7 @@ use Rattle.list_theory.proofs.KnownNames.{found}
 use Rattle.belief_theory.proofs.Sound.{rule_stands}
 use Rattle.supports.proofs.Facts.{used_after, fact_known, fact-class}
 use Rattle.supports.proofs.Rules.{rule_there, read_known}
-use Rattle.spots.specs.Seen.{class_for}
+use Rattle.spots.specs.OfLists.{class_for}
 use Rattle.revisions.specs.Maps.{TokensStay, ClassesStay}
 use Rattle.revisions.proofs.Names.{sorts_within, classes_within}
 

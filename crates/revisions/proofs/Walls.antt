@@ -31,7 +31,7 @@ use Rattle.belief_theory.proofs.Sound.{shortest, sound_rules}
 use Rattle.belief_theory.proofs.Spelt.{spelt}
 use Rattle.belief_theory.proofs.Timed.{distance_triangle}
 use Rattle.belief_theory.proofs.Watched.{class-token_of}
-use Rattle.spots.specs.Seen.{map_of}
+use Rattle.spots.specs.OfLists.{map_of}
 use Rattle.revisions.specs.Walls.{has_begun, IsPast, IsSpared, AlikeBut, AllOccur, OutcomesStayBut}
 
 -- ---- distances

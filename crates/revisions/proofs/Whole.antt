@@ -18,7 +18,7 @@ use Rattle.list_theory.proofs.Distinct.{Distinct, sum_inside}
 use Rattle.list_theory.proofs.Elements.{In, In-from_Contains, Contains-from_In, list_any-In, In-list_any}
 use Rattle.belief_theory.proofs.Moments.{Decides-same_moment}
 use Rattle.belief_theory.proofs.SoundBeliefs.{believed_occurs}
-use Rattle.spots.specs.Seen.{map_of}
+use Rattle.spots.specs.OfLists.{map_of}
 use Rattle.revisions.specs.Counted.{AreSeeds}
 use Rattle.revisions.specs.Revisions.{Revision, IsLawful, IsNew, IsLost}
 use Rattle.revisions.specs.Keeping.{IsKeeping, IsTold}

@@ -13,7 +13,7 @@ use Rattle.belief_theory.specs.Right.{Occurs}
 use Rattle.tmm_model.specs.Standing.{Standing, far_in}
 use Rattle.belief_theory.specs.Touched.{is_decision, is_touched, touched}
 use Rattle.list_theory.proofs.Elements.{In}
-use Rattle.spots.specs.Seen.{map_of}
+use Rattle.spots.specs.OfLists.{map_of}
 use Rattle.revisions.specs.Keeping.{IsKeeping}
 use Rattle.revisions.specs.Maps.{revision}
 

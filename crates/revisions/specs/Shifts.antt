@@ -9,7 +9,7 @@ use Rattle.list_theory.specs.WellNamed.{IsSound}
 use Rattle.list_theory.proofs.Elements.{In}
 use Rattle.belief_theory.specs.Outcomes.{outcome}
 use Rattle.belief_theory.specs.Touched.{watched}
-use Rattle.spots.specs.Seen.{map_of}
+use Rattle.spots.specs.OfLists.{map_of}
 use Rattle.revisions.specs.Walls.{IsSpared, AllOccur}
 
 -- **From one map to the other points moved, but none of which the decision of r at t needs to

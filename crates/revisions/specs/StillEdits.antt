@@ -8,7 +8,7 @@ use Rattle.list_net.specs.Fits.{IsNetOf}
 use Rattle.list_net.specs.Network.{PointsKeepNumbers}
 use Rattle.list_net.specs.Represents.{Names, IsNumberOf}
 use Rattle.spots.specs.Forest.{Forest}
-use Rattle.spots.specs.Seen.{IsSeen}
+use Rattle.spots.specs.OfLists.{IsForestOf}
 use Rattle.revisions.specs.Alike.{IsAnchor, SayAlike, AreAlike}
 
 -- none of the numbers is that of a point whose distances beliefs read
@@ -28,4 +28,4 @@ abbrev pub LikeListsSee : Type 0
 LikeListsSee =
     (s t : Standing) (net after : Net) (f : Forest) → SayAlike s t → IsNetOf t after
     → PointsKeepNumbers (points_in t.premises) net.names after.names
-    → IsSeen s net f → IsSeen t after f
+    → IsForestOf s net f → IsForestOf t after f

@@ -14,7 +14,7 @@ use Rattle.list_theory.proofs.Elements.{In}
 use Rattle.belief_theory.specs.Outcomes.{outcome}
 use Rattle.belief_theory.specs.Right.{Occurs}
 use Rattle.belief_theory.specs.Touched.{watched}
-use Rattle.spots.specs.Seen.{map_of}
+use Rattle.spots.specs.OfLists.{map_of}
 
 -- ---- over any spots, of which `far` tells the tightest distances
 

@@ -14,7 +14,7 @@ use Rattle.tmm_model.specs.Standing.{Standing, far_in}
 use Rattle.belief_theory.specs.Touched.{is_decision, is_touched, touched}
 use Rattle.list_theory.proofs.Elements.{In}
 use Rattle.list_theory.proofs.Distinct.{Distinct}
-use Rattle.spots.specs.Seen.{map_of}
+use Rattle.spots.specs.OfLists.{map_of}
 use Rattle.revisions.specs.Revisions.{Revision}
 use Rattle.revisions.specs.Keeping.{IsLeast}
 use Rattle.revisions.specs.Steps.{Makes, Stays, Enters, Withdraws, Goes}

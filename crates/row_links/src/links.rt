@@ -35,9 +35,9 @@ impl<const F: usize> Links<F> {
         }
     }
 
-    /// Lets there be rows of all numbers below this one, and heads up to these, each in the family of its
-    /// place. A family of which no head is given takes no memory for them. The lists stay, also where there is
-    /// no memory; it counts as want of memory that a head is 2^32 - 1.
+    /// Lets there be rows of all numbers below this one, and heads up to these, each in the family
+    /// of its place. A family of which no head is given takes no memory for them. The lists stay,
+    /// also where there is no memory; it counts as want of memory that a head is 2^32 - 1.
     pub fn reserve_rows(&mut self, rows: u32, heads: &[Option<u32>]) -> Result<(), NoMemory>
         ensures ok { OnOk result ((f h : ℕ) → slice_index_or heads.now f None ≡ Some h → (rows ≤ (family_of self.new f).rows) × (h < length (family_of self.new f).lists)) }
         ensures kept { GrowEach self.old self.new }
@@ -125,8 +125,8 @@ impl<const F: usize> Links<F> {
     }
 }
 
-// Lets there be a family at this place, one more than there were if need be. Without memory nothing has
-// changed.
+// Lets there be a family at this place, one more than there were if need be. Without memory nothing
+// has changed.
 fn reach(families: &mut Vec<Family>, f: usize) -> Result<(), NoMemory>
     requires { f ≤ length families.old.items }
     ensures ok { OnOk result (f < length families.new.items) }

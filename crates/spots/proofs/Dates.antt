@@ -25,7 +25,7 @@ use Rattle.spots.specs.declared.link.Link.{Link}
 use Rattle.spots.specs.declared.spot.Spot.{Spot}
 use Rattle.spots.specs.declared.spot.Spot.TheVariants.{Declared}
 use Rattle.spots.specs.Forest.{Forest}
-use Rattle.spots.specs.Seen.{IsSeen}
+use Rattle.spots.specs.OfLists.{IsForestOf}
 use Rattle.spots.specs.Spots.{IsSpot, base_of, links_of, links_low, links_high, links_apart, net_far, spot_moment, spot_distance, spot_early}
 use Rattle.spots.proofs.Laws.{IsThere, triangle}
 use Rattle.spots.proofs.Nodes.{point_is}
@@ -75,7 +75,7 @@ is_number : (x : Bound) (s : ℤ) → AtMost x s → (d : ℤ) × (x ≡ Finite 
 is_number (Finite d) s h = (d, refl)
 is_number Free s h = absurd h
 
-far_to_start : (s : Standing) (net : Net) (f : Forest) → IsSeen s net f → (p : PointName) → Contains (points_in s.premises) p → (d : ℤ) × (far_in s.premises p Start ≡ Finite d)
+far_to_start : (s : Standing) (net : Net) (f : Forest) → IsForestOf s net f → (p : PointName) → Contains (points_in s.premises) p → (d : ℤ) × (far_in s.premises p Start ≡ Finite d)
 far_to_start s net f seen p at =
     let (walk, is) = walk_to_start s.premises p at in
     is_number (far_in s.premises p Start) (total walk) ((far_in-IsFar s seen.network.sound p Start).least walk is)
@@ -94,7 +94,7 @@ within (Finite w) Free (Finite q) a e t = absurd t
 within (Finite w) (Finite p) (Finite q) a e t = omega (arith, ints)
 
 module _ (net : Net) (f : Forest) where
-  spot_to_start : (s : Standing) → IsSeen s net f → (p : Spot) → IsSpot net.names f p → (d : ℤ) × (spot_distance net f p (Declared 0) ≡ Finite d)
+  spot_to_start : (s : Standing) → IsForestOf s net f → (p : Spot) → IsSpot net.names f p → (d : ℤ) × (spot_distance net f p (Declared 0) ≡ Finite d)
   spot_to_start s seen p at = by (same_number (base_of f p) 0) refl
     where
       low : ℤ

@@ -1,11 +1,11 @@
 -- Sums of the delays of rules.
-use Rattle.std.proofs.Common.{◌≡◌, ℕ, zero, suc, ◌+◌, ◌-◌, ◌*◌, ◌≤◌, pos, List, [], ◌∷◌, ◌++◌, length, refl, sym, ap, ◌∙◌, subst, ◌<◌, arith, w64, of_z, to_z}
+use Rattle.std.proofs.Common.{◌≡◌, ℕ, zero, suc, ◌+◌, ◌-◌, ◌*◌, ◌≤◌, pos, List, [], ◌∷◌, ◌++◌, length, refl, sym, ap, ◌∙◌, subst, arith, w64, of_z, to_z}
 use Rattle.std.specs.Int.RustNames.{FitsSigned}
-use Rattle.std.proofs.lemmas.List.{length_push, length-append}
+use Rattle.std.proofs.lemmas.List.{length-append}
 use Rattle.std.proofs.lemmas.Int.{ints, to_z-of_z}
 use Rattle.std.specs.Prelude.{◌+ℤ◌, ◌-ℤ◌, ◌≤ℤ◌, ℤ}
 use Rattle.std.specs.List.{All}
-use Rattle.std.proofs.lemmas.List.Elements.{All-head, All-tail, All-take, All-drop, All-push}
+use Rattle.std.proofs.lemmas.List.Elements.{All-head, All-tail, All-take, All-drop}
 use Rattle.std.proofs.Math.Seq.{take-append_seam, drop-append_seam}
 use Rattle.tmm_model.specs.declared.bound.Bound.{Bound}
 use Rattle.tmm_model.specs.declared.bound.Bound.TheVariants.{Finite, Free}
@@ -234,23 +234,6 @@ difference_fits s t a p = subst (λ (z : ℤ). FitsSigned w64 (z -ℤ to_z w64 (
 pub difference_seen : (s t : ℤ) → IsUpTo 100000000000000 s → IsUpTo 100000000000000 t → to_z w64 (of_z w64 (to_z w64 (of_z w64 s) -ℤ to_z w64 (of_z w64 t))) ≡ s -ℤ t
 difference_seen s t a p = (λ i. to_z w64 (of_z w64 (low_seen s a i -ℤ low_seen t p i))) ∙ to_z-of_z w64 (s -ℤ t) (less_fits s t a p)
 
--- a low sum less a distance
-distance_fits : (d : ℤ) → IsWithin 255000000000 d → FitsSigned w64 d
-distance_fits d (a, b) = omega (arith, ints)
-
-gap_in_bits : (s d : ℤ) → IsUpTo 100000000000000 s → IsWithin 255000000000 d → FitsSigned w64 (s -ℤ d)
-gap_in_bits s d (a, b) (p, q) = omega (arith, ints)
-
-module _ (s d : ℤ) (a : IsUpTo 100000000000000 s) (p : IsWithin 255000000000 d) where
-  gap_same : to_z w64 (of_z w64 s) -ℤ to_z w64 (of_z w64 d) ≡ s -ℤ d
-  gap_same = λ i. low_seen s a i -ℤ to_z-of_z w64 d (distance_fits d p) i
-
-  pub gap_fits : FitsSigned w64 (to_z w64 (of_z w64 s) -ℤ to_z w64 (of_z w64 d))
-  gap_fits = subst (FitsSigned w64) (sym gap_same) (gap_in_bits s d a p)
-
-  pub gap_seen : to_z w64 (of_z w64 (to_z w64 (of_z w64 s) -ℤ to_z w64 (of_z w64 d))) ≡ s -ℤ d
-  gap_seen = ap (λ (z : ℤ). to_z w64 (of_z w64 z)) gap_same ∙ to_z-of_z w64 (s -ℤ d) (gap_in_bits s d a p)
-
 -- sums of sums behind others
 module _ (first whole : Sums) (front : IsFrontOf first whole) where
   pub first_small : IsUpTo 100000000000000 first.low × IsUpTo 100000000000000 first.bounded × (first.unbounded ≤ 100000)
@@ -311,6 +294,3 @@ module _ (a b shared : Sums) (have : HaveParted a b shared) where
 
   pub low_first_small : (r : Sums) → AreBehind shared a r → IsWithin 100000000000000 (to_z w64 (of_z w64 r.low))
   low_first_small r behind = seen_small r.low r.low refl (low_first_within r behind)
-
-pub AreLight-push : (ls : List Link) (l : Link) → AreLight ls → length ls < 100000 → IsLight l → AreLight (ls ++ l ∷ [])
-AreLight-push ls l light room one = record { few = let n = length_push ls l in omega arith; each = All-push IsLight ls l light.each one }

@@ -13,7 +13,7 @@ use Rattle.dist_net.specs.Net.{Net}
 use Rattle.spots.specs.declared.spot.Spot.{Spot}
 use Rattle.spots.specs.declared.spot.Spot.TheVariants.{Declared, Node as OfNode}
 use Rattle.spots.specs.Forest.{Forest, Member, member}
-use Rattle.spots.specs.Seen.{HasList}
+use Rattle.spots.specs.OfLists.{HasList}
 use Rattle.spots.specs.Spots.{base_of, links_of, links_low, links_high, links_apart, net_far, spot_distance, node_early}
 use Rattle.spots.proofs.InUse.{begin_apart}
 

@@ -8,7 +8,7 @@ use Rattle.spots.specs.declared.spot.Spot.{Spot}
 use Rattle.spots.specs.declared.spot.Spot.TheVariants.{Declared, Node}
 use Rattle.spots.specs.Forest.{Forest, Member, member}
 use Rattle.spots.specs.Spots.{base_of, IsSpot}
-use Rattle.spots.specs.Seen.{HasList}
+use Rattle.spots.specs.OfLists.{HasList}
 
 pub begin_in_use : (net : Net) (f : Forest) → HasList net f → (x : ℕ) (m : Member) → member f x ≡ Some m → IsInUse net.names m.begin
 begin_in_use net f (s, seen) x m at = ap is_some (seen.members x m at).begin

@@ -19,12 +19,12 @@ use Rattle.spots.specs.declared.spot.Spot.{Spot}
 use Rattle.spots.specs.declared.spot.Spot.TheVariants.{Declared, Node}
 use Rattle.spots.specs.Forest.{Forest, IsLive, moment_at}
 use Rattle.spots.specs.Spots.{IsSpot, spot_moment, spot_distance, spot_cmp, node_early, node_cmp}
-use Rattle.spots.specs.Seen.{HasList, IsSeen}
+use Rattle.spots.specs.OfLists.{HasList, IsForestOf}
 use Rattle.spots.proofs.Nodes.{node_at, moment_at-is}
 use Rattle.spots.proofs.Seen.{distance_is, order_is, occurs_at}
 
 -- two nodes of one moment are one
-one_node : (f : Forest) (s : Standing) (net : Net) → IsSeen s net f → (x y : ℕ) → IsLive f x → IsLive f y → moment_at f x ≡ moment_at f y → x ≡ y
+one_node : (f : Forest) (s : Standing) (net : Net) → IsForestOf s net f → (x y : ℕ) → IsLive f x → IsLive f y → moment_at f x ≡ moment_at f y → x ≡ y
 one_node f s net seen x y live_x live_y same =
     let (m, here) = node_at f x live_x in
     let (n, there) = node_at f y live_y in
@@ -52,7 +52,7 @@ module _ (net : Net) (f : Forest) where
   nodes_total : IsTotalOrder (node_cmp net f)
   nodes_total = then_total (on_total (node_early net f) int_cmp_total) (on_total (λ x. printed (moment_at f x)) nat_list_cmp_total)
 
-  one_of_tied : (s : Standing) → IsSeen s net f → (x y : ℕ) → IsLive f x → IsLive f y → node_cmp net f x y ≡ Equal → x ≡ y
+  one_of_tied : (s : Standing) → IsForestOf s net f → (x y : ℕ) → IsLive f x → IsLive f y → node_cmp net f x y ≡ Equal → x ≡ y
   one_of_tied s seen x y live_x live_y tied =
       let well_formed = seen.network.sound.well_formed in
       one_node f s net seen x y live_x live_y

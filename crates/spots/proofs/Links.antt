@@ -8,7 +8,7 @@ use Rattle.tmm_model.specs.Moments.{low, high, apart}
 use Rattle.tmm_model.specs.Points.{same_name}
 use Rattle.tmm_model.specs.Standing.{Standing}
 use Rattle.spots.specs.declared.link.Link.{Link}
-use Rattle.spots.specs.Seen.{IsLinkOf}
+use Rattle.spots.specs.OfLists.{IsLinkOf}
 use Rattle.spots.specs.Spots.{links_low, links_high, links_apart}
 
 abbrev pub rules_in : List Link → List (List ℕ)

@@ -18,7 +18,7 @@ use Rattle.spots.specs.declared.spot.Spot.{Spot}
 use Rattle.spots.specs.declared.spot.Spot.TheVariants.{Declared, Node}
 use Rattle.spots.specs.Forest.{Forest, Member, member, IsLive, rules_of, moment, moment_at, last_name}
 use Rattle.spots.specs.Spots.{IsSpot, spot_moment, base_of, links_of}
-use Rattle.spots.specs.Seen.{IsSeen, IsLinkOf}
+use Rattle.spots.specs.OfLists.{IsForestOf, IsLinkOf}
 use Rattle.spots.proofs.Links.{rules_in}
 
 some_member : (o : Option Member) → IsSome o → (m : Member) × (o ≡ Some m)
@@ -45,7 +45,7 @@ rules-moment m = rules-along (At (Begin m.root)) (rules_of m)
 pub base-moment : (m : Member) → base (moment m) ≡ Begin m.root
 base-moment m = base-along (At (Begin m.root)) (rules_of m)
 
-module _ (s : Standing) (net : Net) (f : Forest) (seen : IsSeen s net f) where
+module _ (s : Standing) (net : Net) (f : Forest) (seen : IsForestOf s net f) where
   pub point_is : (p : Spot) → IsSpot net.names f p → IsNumberOf net.names (base_of f p) (base (spot_moment net.names f p))
   point_is (Declared p) at =
       let (name, is) = is_used net.names p at in

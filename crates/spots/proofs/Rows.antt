@@ -20,7 +20,7 @@ use Rattle.spots.specs.declared.spot.Spot.{Spot}
 use Rattle.spots.specs.declared.spot.Spot.TheVariants.{Declared, Node}
 use Rattle.spots.specs.Forest.{Forest, Member, member, moment, moment_at}
 use Rattle.spots.specs.Spots.{IsSpot, spot_moment, AreTokens, row_moment, token_row}
-use Rattle.spots.specs.Seen.{IsSeen, IsMemberOf, class_for}
+use Rattle.spots.specs.OfLists.{IsForestOf, IsMemberOf, class_for}
 use Rattle.spots.proofs.Nodes.{live_at, moment_at-is, base-moment}
 
 -- ---- what a row says of its node
@@ -69,7 +69,7 @@ span_is_root : (s : Standing) (y : Moment) (what : List ℕ) → is_of s y ≡ S
 span_is_root s (At p) what e = refl
 span_is_root s (After t r) what e = absurd (no_span (rule_of s r).effect (sort_in s.premises (rule_of s r).effect) what (let same : as_effect (rule_of s r).effect (sort_in s.premises (rule_of s r).effect) ≡ (Span, what) = cc in same))
 
-module _ (s : Standing) (net : Net) (f : Forest) (seen : IsSeen s net f) where
+module _ (s : Standing) (net : Net) (f : Forest) (seen : IsForestOf s net f) where
   span_end : (x : ℕ) (m : Member) → member f x ≡ Some m → m.shape ≡ Span → (k : ℕ) × (m.end ≡ Some k) × IsNumberOf net.names k (End m.root)
   span_end x m here span = by m.end refl (seen.members x m here).end
     where

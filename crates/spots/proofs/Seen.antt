@@ -22,13 +22,13 @@ use Rattle.spots.specs.declared.spot.Spot.{Spot}
 use Rattle.spots.specs.declared.spot.Spot.TheVariants.{Declared, Node}
 use Rattle.spots.specs.Forest.{Forest, IsLive, moment, moment_at}
 use Rattle.spots.specs.Spots.{IsSpot, spot_moment, spot_distance, node_early, node_cmp, AreTokens, row_moment, token_row, links_of, base_of}
-use Rattle.spots.specs.Seen.{IsSeen, Holds}
+use Rattle.spots.specs.OfLists.{IsForestOf, HasOccurrences}
 use Rattle.spots.proofs.Links.{low_is, high_is, apart_is}
 use Rattle.spots.proofs.Nodes.{node_at, moment_at-is, point_is, links_are, rules_are}
 pub use Rattle.spots.proofs.Believed.{believed_once}
 pub use Rattle.spots.proofs.Rows.{IsRowOf, member_of_token, end_there, token_is, class_of_member, class_of_fact, rows_there}
 
-module _ (s : Standing) (net : Net) (f : Forest) (seen : IsSeen s net f) where
+module _ (s : Standing) (net : Net) (f : Forest) (seen : IsForestOf s net f) where
   -- **The distance of two spots is that of their moments.**
   pub distance_is : (p q : Spot) → IsSpot net.names f p → IsSpot net.names f q → spot_distance net f p q ≡ distance s (far_in s.premises) (spot_moment net.names f p) (spot_moment net.names f q)
   distance_is p q at_p at_q =
@@ -68,7 +68,7 @@ module _ (s : Standing) (net : Net) (f : Forest) (seen : IsSeen s net f) where
       subst (Occurs s) (sym (moment_at-is f x m here)) (seen.members x m here).occurs
 
   -- **The rows of a class are the tokens of that class** among the occurrences that the nodes are.
-  pub tokens_are : (b : List Moment) → Holds b f → (class : List ℕ) (rows : List (TokenRow Spot)) → AreTokens f class rows
+  pub tokens_are : (b : List Moment) → HasOccurrences b f → (class : List ℕ) (rows : List (TokenRow Spot)) → AreTokens f class rows
       → (k : TokenRow Moment) → In k (map (row_moment net.names f) rows) ↔ (In k (tokens s b) × (same_name class k.class ≡ true))
   tokens_are b holds class rows are k = (to, λ h. from h.0 h.1)
     where

@@ -9,7 +9,7 @@ use Rattle.dist_net.specs.Net.{Net}
 use Rattle.spots.specs.declared.spot.Spot.{Spot}
 use Rattle.spots.specs.Forest.{Forest, IsLive, moment_at}
 use Rattle.spots.specs.Spots.{IsSpot, spot_moment, spot_distance, node_early, node_cmp, AreTokens, row_moment}
-use Rattle.spots.specs.Seen.{IsSeen, Holds}
+use Rattle.spots.specs.OfLists.{IsForestOf, HasOccurrences}
 
 -- spots have the distances, the dates and the order of their moments
 pub record AreOfList (s : Standing) (net : Net) (f : Forest) : Type 0 where
@@ -20,11 +20,11 @@ pub record AreOfList (s : Standing) (net : Net) (f : Forest) : Type 0 where
 
 -- **Spots are those of the list.**
 abbrev pub SpotsAreTheLists : Type 0
-SpotsAreTheLists = (s : Standing) (net : Net) (f : Forest) → IsSeen s net f → AreOfList s net f
+SpotsAreTheLists = (s : Standing) (net : Net) (f : Forest) → IsForestOf s net f → AreOfList s net f
 
 -- the rows of a class are the list's tokens of that class among the occurrences that the nodes are
 abbrev pub RowsAreTheTokens : Type 0
 RowsAreTheTokens =
-    (s : Standing) (net : Net) (f : Forest) → IsSeen s net f
-    → (b : List Moment) → Holds b f → (class : List ℕ) (rows : List (TokenRow Spot)) → AreTokens f class rows
+    (s : Standing) (net : Net) (f : Forest) → IsForestOf s net f
+    → (b : List Moment) → HasOccurrences b f → (class : List ℕ) (rows : List (TokenRow Spot)) → AreTokens f class rows
     → (k : TokenRow Moment) → Contains (map (row_moment net.names f) rows) k ↔ (Contains (tokens s b) k × (k.class ≡ class))

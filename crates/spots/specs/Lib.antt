@@ -1,7 +1,7 @@
 pub mod Forest
+pub mod OfLists
 pub mod Spots
 pub mod Light
 pub mod Sums
 pub mod Rows
-pub mod Seen
 pub mod Laws

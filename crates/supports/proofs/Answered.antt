@@ -31,14 +31,14 @@ use Rattle.spots.proofs.Seen.{token_is, distance_is, order_is, tokens_are}
 use Rattle.spots.specs.declared.spot.Spot.{Spot}
 use Rattle.spots.specs.declared.spot.Spot.TheVariants.{Declared, Node}
 use Rattle.spots.specs.Forest.{Forest, Member, member, moment_at}
-use Rattle.spots.specs.Seen.{IsSeen, Holds, map_of}
+use Rattle.spots.specs.OfLists.{IsForestOf, HasOccurrences, map_of}
 use Rattle.spots.specs.Spots.{IsSpot, spot_moment, spot_distance, spot_cmp, AreTokens, row_moment}
 use Rattle.supports.proofs.FirstRows.{IsSame, first_of_rows, some_of_rows}
 use Rattle.supports.proofs.Moved.{by_alike, clips_alike, cuts_alike, supports_alike}
 use Rattle.supports.proofs.TokenRows.{no_row, node_of, spots_there, at_place, fact_is, row_there, row_of, row_token, tokens_spelt}
 
-module _ {s : Standing} {net : Net} {f : Forest} (seen : IsSeen s net f) {class : List ℕ} {rows : List (TokenRow Spot)} (are : AreTokens f class rows)
-    {b : List Moment} (holds : Holds b f) where
+module _ {s : Standing} {net : Net} {f : Forest} (seen : IsForestOf s net f) {class : List ℕ} {rows : List (TokenRow Spot)} (are : AreTokens f class rows)
+    {b : List Moment} (holds : HasOccurrences b f) where
   abbrev mom : Spot → Moment
   mom = spot_moment net.names f
 
@@ -198,7 +198,7 @@ module _ {s : Standing} {net : Net} {f : Forest} (seen : IsSeen s net f) {class 
           by (Some z) e = cc
 
 -- an event has no clip
-pub event_unclipped : {s : Standing} {net : Net} {f : Forest} → IsSeen s net f → (b : List Moment) (x : ℕ) (m : Member) → member f x ≡ Some m → m.class ≡ None → clip (map_of s b) (moment_at f x) ≡ None
+pub event_unclipped : {s : Standing} {net : Net} {f : Forest} → IsForestOf s net f → (b : List Moment) (x : ℕ) (m : Member) → member f x ≡ Some m → m.class ≡ None → clip (map_of s b) (moment_at f x) ≡ None
 event_unclipped {s} {net} {f} seen b x m here none =
     ap (option_and_then (clip_of (map_of s b)))
     (ap (token_of s) (moment_at-is f x m here) ∙ token_is s net f seen x m here ∙ ap (λ o. option_map (row_moment net.names f) (option_map (λ class. record { spot = Node x; end = option_map Declared m.end; fact = m.what; class = class }) o)) none)
@@ -218,18 +218,18 @@ clipper_within net f rows place i lt h = by (slice_index_or rows place no_row).e
     by None h = h.within
     by (Some e) h = cc
 
-module _ {s : Standing} {net : Net} {f : Forest} (seen : IsSeen s net f) {class : List ℕ} {rows : List (TokenRow Spot)} (are : AreTokens f class rows)
+module _ {s : Standing} {net : Net} {f : Forest} (seen : IsForestOf s net f) {class : List ℕ} {rows : List (TokenRow Spot)} (are : AreTokens f class rows)
     (place x : ℕ) (lt : place < length rows) (spot : (d : TokenRow Spot) → (slice_index_or rows place d).spot ≡ Node x) where
   -- the clip of the node
   pub clip_at_place : (found : Option ℕ) → IfSome (slice_get rows place) (λ row. IsClipPlace of_one_class (spot_distance net f) (spot_cmp net f) rows row found)
-      → (b : List Moment) → Holds b f → option_map (λ i. spot_moment net.names f (slice_index_or rows i no_row).spot) found ≡ clip (map_of s b) (moment_at f x)
+      → (b : List Moment) → HasOccurrences b f → option_map (λ i. spot_moment net.names f (slice_index_or rows i no_row).spot) found ≡ clip (map_of s b) (moment_at f x)
   clip_at_place found h b holds =
       clip_is seen are holds (slice_index_or rows place no_row) (at_place seen are place no_row lt) x (spot no_row) found
       (row_at rows place (λ row. IsClipPlace of_one_class (spot_distance net f) (spot_cmp net f) rows row found) lt h) no_row
 
   -- where no token supports the fact of the node, its row does not
   pub no_support_at_place : (p q : Spot) → IsSpot net.names f p → IsSpot net.names f q
-      → ((b : List Moment) × (m : Member) × Holds b f × (member f x ≡ Some m) × IsSome m.class × (holder s (far_in s.premises) b m.what (spot_moment net.names f p) (spot_moment net.names f q) ≡ None))
+      → ((b : List Moment) × (m : Member) × HasOccurrences b f × (member f x ≡ Some m) × IsSome m.class × (holder s (far_in s.premises) b m.what (spot_moment net.names f p) (spot_moment net.names f q) ≡ None))
       → ForSome (slice_get rows place) (λ row. supports of_one_class (spot_distance net f) rows row.fact p q row ≡ false)
   no_support_at_place p q at_p at_q (b, m, holds, here, _, none) row is =
       let own : TokenRow Spot = slice_index_or rows place no_row in
@@ -249,7 +249,7 @@ module _ {s : Standing} {net : Net} {f : Forest} (seen : IsSeen s net f) {class 
   -- and why its token is no supporter
   pub fault_at_place : (p q : Spot) → IsSpot net.names f p → IsSpot net.names f q → (cause : PlaceFault)
       → IfSome (slice_get rows place) (λ row. IsFault of_one_class (spot_distance net f) (spot_cmp net f) rows row p q cause)
-      → (b : List Moment) (k : TokenRow Moment) → Holds b f → token_of s (moment_at f x) ≡ Some k
+      → (b : List Moment) (k : TokenRow Moment) → HasOccurrences b f → token_of s (moment_at f x) ≡ Some k
       → fault (map_of s b) (spot_moment net.names f p) (spot_moment net.names f q) k ≡ fault_by_place cause
   fault_at_place p q at_p at_q cause h b k holds token =
       let own : TokenRow Spot = slice_index_or rows place no_row in

@@ -26,7 +26,7 @@ use Rattle.occ_tree.specs.declared.ranks.Ranked.{Ranked}
 use Rattle.spots.specs.declared.spot.Spot.{Spot}
 use Rattle.spots.specs.declared.spot.Spot.TheVariants.{Declared, Node}
 use Rattle.spots.specs.Forest.{Forest, Member, member, IsLive}
-use Rattle.spots.specs.Seen.{IsSeen}
+use Rattle.spots.specs.OfLists.{IsForestOf}
 use Rattle.spots.specs.Spots.{IsSpot, token_row}
 use Rattle.spots.proofs.Nodes.{live_at}
 use Rattle.spots.proofs.Rows.{end_there}
@@ -54,7 +54,7 @@ pub spot_of : (f : Forest) (x : ℕ) (row : TokenRow Spot) → token_at f x ≡ 
 spot_of f x row is = let (m, _, made) = node_of_token f x row is in (token_row_spots x m row made).0
 
 -- its spots are there
-pub spots_of : (s : Standing) (net : Net) (f : Forest) → IsSeen s net f → (x : ℕ) (row : TokenRow Spot) → token_at f x ≡ Some row → IsSpot net.names f row.spot × ForSome row.end (IsSpot net.names f)
+pub spots_of : (s : Standing) (net : Net) (f : Forest) → IsForestOf s net f → (x : ℕ) (row : TokenRow Spot) → token_at f x ≡ Some row → IsSpot net.names f row.spot × ForSome row.end (IsSpot net.names f)
 spots_of s net f seen x row is =
     let (m, here, made) = node_of_token f x row is in
     let (begins, ends) = token_row_spots x m row made in
@@ -95,7 +95,7 @@ module _ (f : Forest) (class : List ℕ) where
   pub behind_of_nodes : (xs : List ℕ) → All IsOfNode (rows_behind f class xs)
   behind_of_nodes xs = All-from_contains IsOfNode (rows_behind f class xs) (λ row at. (let (x, _, is, _) = In-behind xs row (In-from_Contains (rows_behind f class xs) row at) in (x, spot_of f x row is)))
 
-  pub behind_there : (s : Standing) (net : Net) → IsSeen s net f → (xs : List ℕ) → All (λ row. IsSpot net.names f row.spot × ForSome row.end (IsSpot net.names f)) (rows_behind f class xs)
+  pub behind_there : (s : Standing) (net : Net) → IsForestOf s net f → (xs : List ℕ) → All (λ row. IsSpot net.names f row.spot × ForSome row.end (IsSpot net.names f)) (rows_behind f class xs)
   behind_there s net seen xs =
       All-from_contains (λ row. IsSpot net.names f row.spot × ForSome row.end (IsSpot net.names f)) (rows_behind f class xs)
       (λ row at. (let (x, _, is, _) = In-behind xs row (In-from_Contains (rows_behind f class xs) row at) in spots_of s net f seen x row is))

@@ -23,7 +23,7 @@ use Rattle.belief_theory.proofs.Moments.{along-push}
 use Rattle.dist_net.specs.Net.{Net}
 use Rattle.spots.specs.declared.link.Link.{Link}
 use Rattle.spots.specs.Forest.{Forest, Member, member, moment, moment_at, rules_of, Enters, IsTrigger, child_member}
-use Rattle.spots.specs.Seen.{IsLinkOf, class_for, IsSeen}
+use Rattle.spots.specs.OfLists.{IsLinkOf, class_for, IsForestOf}
 use Rattle.spots.proofs.Nodes.{moment_at-is}
 use Rattle.supports.specs.Growing.{Adds, effect_shape, MayEnter}
 use Rattle.supports.proofs.Facts.{premise_formed}
@@ -39,7 +39,7 @@ no_span : (o : Option (List ℕ)) → effect_shape o ≢ Span
 no_span (Some class) e = cc
 no_span None e = cc
 
-module _ (s : Standing) (net : Net) (f : Forest) (seen : IsSeen s net f) (x : ℕ) (m : Member) (at : member f x ≡ Some m) (r : List ℕ) (may : MayEnter s f x r) where
+module _ (s : Standing) (net : Net) (f : Forest) (seen : IsForestOf s net f) (x : ℕ) (m : Member) (at : member f x ≡ Some m) (r : List ℕ) (may : MayEnter s f x r) where
   pub is_trigger : IsTrigger f m r
   is_trigger = record {
     event = event_of_rules s net f seen x m at r may.stands;

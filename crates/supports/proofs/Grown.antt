@@ -24,7 +24,7 @@ use Rattle.dist_net.specs.Net.{Net}
 use Rattle.list_net.specs.Fits.{IsNetOf}
 use Rattle.list_net.specs.Represents.{IsNumberOf}
 use Rattle.spots.specs.Forest.{Forest, Member, member, moment, rules_of, Enters, IsNoRoot, IsOnce, root_member}
-use Rattle.spots.specs.Seen.{IsMemberOf, IsSeen, Holds}
+use Rattle.spots.specs.OfLists.{IsMemberOf, IsForestOf, HasOccurrences}
 use Rattle.supports.specs.Growing.{Adds, AddsRootAt, AddsRoot}
 use Rattle.supports.proofs.Facts.{fact_known}
 use Rattle.supports.proofs.Effects.{point_there}
@@ -55,14 +55,14 @@ no_node : (f : Forest) → ((x : ℕ) → member f x ≡ None) → (x : ℕ) (m 
 no_node f none x m at = let e : None ≡ Some m = sym (none x) ∙ at in cc
 
 -- a tree without nodes
-pub seen_first : (s : Standing) (net : Net) (f : Forest) → IsNetOf s net → ((x : ℕ) → member f x ≡ None) → IsSeen s net f
+pub seen_first : (s : Standing) (net : Net) (f : Forest) → IsNetOf s net → ((x : ℕ) → member f x ≡ None) → IsForestOf s net f
 seen_first s net f network none = record {
   network = network;
   members = λ x m at. absurd (no_node f none x m at);
   once = λ x y m n at_x at_y same. absurd (no_node f none x m at_x);
 }
 
-pub holds_first : (f : Forest) → ((x : ℕ) → member f x ≡ None) → Holds [] f
+pub holds_first : (f : Forest) → ((x : ℕ) → member f x ≡ None) → HasOccurrences [] f
 holds_first f none = record {
   own = λ x m at. absurd (no_node f none x m at);
   all = λ k at. absurd (In-from_Contains [] k at);
@@ -96,16 +96,16 @@ module _ (s : Standing) (net : Net) (old new : Forest) (x : ℕ) (k : Moment) (a
     ]
   ]
 
-  pub adds_seen : ((y : ℕ) (m : Member) → member old y ≡ Some m → moment m ≢ k) → IsSeen s net old → IsSeen s net new
+  pub adds_seen : ((y : ℕ) (m : Member) → member old y ≡ Some m → moment m ≢ k) → IsForestOf s net old → IsForestOf s net new
   adds_seen apart seen = record { network = seen.network; members = members; once = once_more seen.once apart }
     where
       members : (y : ℕ) (m : Member) → member new y ≡ Some m → IsMemberOf s net.names m
       members y m at = elim (node_cases y m at) [ inl is ↦ subst (IsMemberOf s net.names) (sym is.1) adds.own | inr before ↦ seen.members y m before ]
 
-  pub held_apart : (b : List Moment) → Holds b old → (In k b → ⊥) → (y : ℕ) (m : Member) → member old y ≡ Some m → moment m ≢ k
+  pub held_apart : (b : List Moment) → HasOccurrences b old → (In k b → ⊥) → (y : ℕ) (m : Member) → member old y ≡ Some m → moment m ≢ k
   held_apart b holds apart y m at same = apart (subst (λ o. In o b) same (In-from_Contains b (moment m) (holds.own y m at)))
 
-  pub adds_holds : (b : List Moment) → Holds b old → (In k b → ⊥) → Holds (b ++ k ∷ []) new
+  pub adds_holds : (b : List Moment) → HasOccurrences b old → (In k b → ⊥) → HasOccurrences (b ++ k ∷ []) new
   adds_holds b holds apart = record { own = own; all = all; once = once_more holds.once (held_apart b holds apart) }
     where
       own : (y : ℕ) (m : Member) → member new y ≡ Some m → Contains (b ++ k ∷ []) (moment m)
@@ -151,21 +151,21 @@ module _ (s : Standing) (sound : IsSound s) (front : List Premise) (p : Premise)
       let same : At (Begin (name_of p)) ≡ At (Begin (name_of q)) = sym (root_name p k is) ∙ root_name q k made in
       apart_from q before (same_begin (name_of p) (name_of q) cc)
 
-  pub no_root : (f : Forest) → Holds (filter_map root_of front) f → IsNoRoot f (name_of p)
+  pub no_root : (f : Forest) → HasOccurrences (filter_map root_of front) f → IsNoRoot f (name_of p)
   no_root f holds x m at named =
       let (q, before, made) = In-filter_map root_of front (moment m) (In-from_Contains (filter_map root_of front) (moment m) (holds.own x m at)) in
       let same : Begin m.root ≡ Begin (name_of q) = sym (base-along (At (Begin m.root)) (rules_of m)) ∙ ap base (root_name q (moment m) made) in
       apart_from q before (sym named ∙ same_begin m.root (name_of q) same)
 
   -- what the premise declares enters
-  pub root_seen : (net : Net) (old new : Forest) (x : Option ℕ) → Holds (filter_map root_of front) old → IsSeen s net old → AddsRoot s net.names p old new x → IsSeen s net new
+  pub root_seen : (net : Net) (old new : Forest) (x : Option ℕ) → HasOccurrences (filter_map root_of front) old → IsForestOf s net old → AddsRoot s net.names p old new x → IsForestOf s net new
   root_seen net old new x holds seen = by (root_of p) refl x
     where
-      by : (o : Option Moment) → root_of p ≡ o → (x : Option ℕ) → AddsRootAt s net.names o old new x → IsSeen s net new
+      by : (o : Option Moment) → root_of p ≡ o → (x : Option ℕ) → AddsRootAt s net.names o old new x → IsForestOf s net new
       by (Some k) e (Some x) adds = adds_seen s net old new x k adds (held_apart s net old new x k adds (filter_map root_of front) holds (new_root k e)) seen
       by (Some k) e None adds = absurd adds
       by None e (Some x) adds = absurd adds
-      by None e None same = subst (IsSeen s net) (sym same) seen
+      by None e None same = subst (IsForestOf s net) (sym same) seen
 
 -- ---- the nodes of roots
 

@@ -23,7 +23,7 @@ use Rattle.clipping.specs.Lasts.{IsLastPlace}
 use Rattle.dist_net.specs.Net.{Net}
 use Rattle.spots.specs.declared.spot.Spot.{Spot}
 use Rattle.spots.specs.Forest.{Forest, Member, member, IsLive, moment, moment_at}
-use Rattle.spots.specs.Seen.{IsSeen, Holds, map_of}
+use Rattle.spots.specs.OfLists.{IsForestOf, HasOccurrences, map_of}
 use Rattle.spots.specs.Spots.{IsSpot, spot_moment, spot_distance, spot_cmp, node_cmp, token_row, row_moment}
 use Rattle.spots.proofs.Nodes.{node_at, live_at, moment_at-is, base-moment}
 use Rattle.spots.proofs.Seen.{token_is, distance_is, order_is, occurs_at}
@@ -47,7 +47,7 @@ not_after_itself Less e = refl
 not_after_itself Equal e = refl
 not_after_itself Greater e = cc
 
-module _ {s : Standing} {net : Net} {f : Forest} (seen : IsSeen s net f) {b : List Moment} (holds : Holds b f) where
+module _ {s : Standing} {net : Net} {f : Forest} (seen : IsForestOf s net f) {b : List Moment} (holds : HasOccurrences b f) where
   abbrev mom : Spot → Moment
   mom = spot_moment net.names f
 
@@ -196,7 +196,7 @@ pub tokens_among : (f : Forest) (nodes : List ℕ) → ((y : ℕ) → IsLive f y
 tokens_among f nodes all class y c is own = let (m, here, _) = node_of_token f y c is in all y (live_at f y m here)
 
 -- a node that is no token has no clip
-pub event_has_none : {s : Standing} {net : Net} {f : Forest} → IsSeen s net f → (b : List Moment) (x : ℕ) → IsLive f x → token_at f x ≡ None → clip (map_of s b) (moment_at f x) ≡ None
+pub event_has_none : {s : Standing} {net : Net} {f : Forest} → IsForestOf s net f → (b : List Moment) (x : ℕ) → IsLive f x → token_at f x ≡ None → clip (map_of s b) (moment_at f x) ≡ None
 event_has_none {s} {net} {f} seen b x live none = let (m, here) = node_at f x live in event_unclipped seen b x m here (by m here m.class refl)
   where
     by : (m : Member) → member f x ≡ Some m → (o : Option (List ℕ)) → m.class ≡ o → m.class ≡ None

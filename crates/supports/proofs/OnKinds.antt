@@ -8,10 +8,10 @@ use Rattle.tmm_model.specs.Beliefs.{rules_on, rules_for, rules_at}
 use Rattle.tmm_model.specs.Standing.{Standing}
 use Rattle.dist_net.specs.Net.{Net}
 use Rattle.spots.specs.Forest.{Forest, Member, member, moment_at}
-use Rattle.spots.specs.Seen.{IsSeen}
+use Rattle.spots.specs.OfLists.{IsForestOf}
 use Rattle.spots.proofs.Nodes.{moment_at-is}
 
-module _ (s : Standing) (net : Net) (f : Forest) (seen : IsSeen s net f) (x : ℕ) (m : Member) (at : member f x ≡ Some m) where
+module _ (s : Standing) (net : Net) (f : Forest) (seen : IsForestOf s net f) (x : ℕ) (m : Member) (at : member f x ≡ Some m) where
   rules_is : rules_at s (moment_at f x) ≡ rules_for s (Some (m.shape, m.what))
   rules_is = ap (rules_at s) (moment_at-is f x m at) ∙ ap (rules_for s) (seen.members x m at).is
 

@@ -21,7 +21,7 @@ use Rattle.spots.proofs.Seen.{tokens_are, IsRowOf, member_of_token, token_is, ro
 use Rattle.spots.specs.declared.spot.Spot.{Spot}
 use Rattle.spots.specs.declared.spot.Spot.TheVariants.{Declared, Node}
 use Rattle.spots.specs.Forest.{Forest, Member, member, moment, moment_at, IsLive}
-use Rattle.spots.specs.Seen.{IsSeen, Holds}
+use Rattle.spots.specs.OfLists.{IsForestOf, HasOccurrences}
 use Rattle.spots.specs.Spots.{IsSpot, AreTokens, token_row, row_moment}
 use Rattle.occ_tree.specs.Dated.{IsKnown}
 use Rattle.occ_tree.specs.OfLists.{IsTreeOf}
@@ -44,7 +44,7 @@ token_row_spots x m row e = by m.class e
         let ends : Some row.end ≡ Some (option_map Declared m.end) = ap (option_map (λ k. k.end)) (sym e) in
         (cc, cc)
 
-module _ {s : Standing} {net : Net} {f : Forest} (seen : IsSeen s net f) {class : List ℕ} {rows : List (TokenRow Spot)} (are : AreTokens f class rows) where
+module _ {s : Standing} {net : Net} {f : Forest} (seen : IsForestOf s net f) {class : List ℕ} {rows : List (TokenRow Spot)} (are : AreTokens f class rows) where
   -- ---- nodes of rows
 
   -- the node of a row
@@ -97,7 +97,7 @@ module _ {s : Standing} {net : Net} {f : Forest} (seen : IsSeen s net f) {class 
       let one : y ≡ x = cc in
       ap (token_of s) (ap (moment_at f) (sym one) ∙ moment_at-is f y m here) ∙ token_is s net f seen y m here ∙ ap (option_map (row_moment net.names f)) made
 
-  module _ {b : List Moment} (holds : Holds b f) where
+  module _ {b : List Moment} (holds : HasOccurrences b f) where
     -- at moments a row is a token among the occurrences
     pub row_there : (row : TokenRow Spot) → In row rows → In (row_moment net.names f row) (tokens s b)
     row_there row at = ((tokens_are s net f seen b holds class rows are (row_moment net.names f row)).0 (map-In (row_moment net.names f) rows row at)).0
@@ -116,7 +116,7 @@ rows_live {s} {net} {k} tree {class} {rows} are i d lt =
     record { begin = ((s, tree.seen), tree.dated, there.begin); «end» = λ e is. ((s, tree.seen), tree.dated, there.«end» e is) }
 
 -- tokens among the occurrences of nodes are spelt
-pub tokens_spelt : {s : Standing} {net : Net} {f : Forest} → IsSeen s net f → {b : List Moment} → Holds b f → (k : TokenRow Moment) → In k (tokens s b) → IsSpelt k.spot
+pub tokens_spelt : {s : Standing} {net : Net} {f : Forest} → IsForestOf s net f → {b : List Moment} → HasOccurrences b f → (k : TokenRow Moment) → In k (tokens s b) → IsSpelt k.spot
 tokens_spelt {s} seen {b} holds k at =
     let (y, among, is) = In-filter_map (token_of s) b k at in
     let (x, m, here, same) = holds.all y (Contains-from_In b y among) in

@@ -13,7 +13,7 @@ use Rattle.dist_net.specs.Net.{Net}
 use Rattle.spots.specs.declared.spot.Spot.{Spot}
 use Rattle.spots.specs.declared.spot.Spot.TheVariants.{Node}
 use Rattle.spots.specs.Forest.{Forest, member, moment_at}
-use Rattle.spots.specs.Seen.{IsSeen, Holds, map_of}
+use Rattle.spots.specs.OfLists.{IsForestOf, HasOccurrences, map_of}
 use Rattle.spots.specs.Spots.{token_row}
 
 -- the token that the node is; none for an event
@@ -44,4 +44,4 @@ IsLastNode test rows found =
 -- it is what clips the node, in each list whose nodes these are
 abbrev pub IsClip : Net → Forest → ℕ → Option ℕ → Type 0
 IsClip net f x found =
-    (s : Standing) (b : List Moment) → IsSeen s net f → Holds b f → option_map (moment_at f) found ≡ clip (map_of s b) (moment_at f x)
+    (s : Standing) (b : List Moment) → IsForestOf s net f → HasOccurrences b f → option_map (moment_at f) found ≡ clip (map_of s b) (moment_at f x)

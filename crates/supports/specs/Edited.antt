@@ -9,7 +9,7 @@ use Rattle.premise_list.specs.States.{States}
 use Rattle.dist_net.specs.Net.{Nets}
 use Rattle.list_net.specs.Network.{PointsKeepNumbers}
 use Rattle.spots.specs.Forest.{Forest, IsLive, moment_at}
-use Rattle.spots.specs.Seen.{IsSeen, Holds}
+use Rattle.spots.specs.OfLists.{IsForestOf, HasOccurrences}
 use Rattle.spots.specs.Spots.{AreTokens}
 use Rattle.occ_tree.specs.Standing.{Kept, forest, present, committed}
 use Rattle.occ_tree.specs.Touched.{IsUntouched}
@@ -25,11 +25,11 @@ old_forest k = forest (committed k)
 pub record IsEdited (lists : States) (nets : Nets) (edit : Edit) (tree : Kept) : Type 0 where
   pub list : lists.present ≡ next_list lists.committed edit
   pub points : PointsKeepNumbers (points_in lists.present.premises) nets.committed.names nets.present.names
-  pub seen_then : IsSeen lists.committed nets.committed (old_forest tree)
-  pub holds_then : Holds (built lists.committed).believed (old_forest tree)
+  pub seen_then : IsForestOf lists.committed nets.committed (old_forest tree)
+  pub holds_then : HasOccurrences (built lists.committed).believed (old_forest tree)
   pub tokens_then : (class : List ℕ) → AreTokens (old_forest tree) class ((committed tree).tokens class)
-  pub seen_now : IsSeen lists.present nets.present (forest (present tree))
-  pub holds_now : Holds (built lists.present).believed (forest (present tree))
+  pub seen_now : IsForestOf lists.present nets.present (forest (present tree))
+  pub holds_now : HasOccurrences (built lists.present).believed (forest (present tree))
   pub numbers : (x y : ℕ) → IsLive (old_forest tree) x → IsLive (forest (present tree)) y → (moment_at (old_forest tree) x ≡ moment_at (forest (present tree)) y) ↔ (x ≡ y)
 
 -- every class that is not among these is untouched

@@ -9,7 +9,7 @@ use Rattle.tmm_model.specs.Moments.{Moment, After}
 use Rattle.tmm_model.specs.Standing.{Standing}
 use Rattle.list_net.specs.Represents.{Names}
 use Rattle.spots.specs.Forest.{Forest, Member, member, Enters, moment, moment_at}
-use Rattle.spots.specs.Seen.{IsMemberOf}
+use Rattle.spots.specs.OfLists.{IsMemberOf}
 
 -- the occurrence k of the list enters as the node x
 pub record Adds (s : Standing) (names : Names) (old new : Forest) (x : ℕ) (k : Moment) : Type 0 where

@@ -1,5 +1,5 @@
 // What clips the tokens of a tree, all of them at once, or those of a class.
-ghost use Rattle.std.specs.Prelude.{◌≡◌, ◌⊎◌, ◌<◌, ◌≤ℤ◌, ◌+◌, ℕ, List, map, length, drop, None, IfOk, IfSome, IsNone, MatchOption, OnOk, slice_index_or};
+ghost use Rattle.std.specs.Prelude.{◌≡◌, ◌⊎◌, ◌<◌, ◌≤◌, ◌≤ℤ◌, ◌+◌, ℕ, true, false, List, map, length, drop, None, IfOk, IfSome, IsNone, MatchOption, OnOk, slice_index_or};
 ghost use Rattle.std.specs.List.{All, Contains};
 ghost use Rattle.std.specs.List.Sorted.{IsStrictlySortedBy};
 ghost use Rattle.std.specs.Option.{option_map, ForSome};
@@ -13,7 +13,7 @@ ghost use Rattle.occ_tree.specs.Ranks.{nodes_of};
 ghost use Rattle.clip_search.specs.Entries.{AreBranches, row_at};
 ghost use Rattle.occ_tree.specs.Tokens.{IsInOrder, numbers_in};
 ghost use Rattle.spots.specs.Forest.{IsLive, IsOnce, moment_at};
-ghost use Rattle.spots.specs.Seen.{IsSeen, HasList, Holds, map_of};
+ghost use Rattle.spots.specs.OfLists.{IsForestOf, HasList, HasOccurrences, map_of};
 ghost use Rattle.spots.specs.Spots.{IsSpot, AreTokens, spot_distance, node_cmp};
 ghost use Rattle.occ_tree.specs.OfLists.{IsTreeIn};
 ghost use Rattle.occ_tree.specs.Places.{forest};
@@ -48,7 +48,7 @@ pub fn clips(
     requires all { (x : ℕ) → IsLive (forest tree.now) x → Contains (nodes_of ranked.now) x }
     requires in_order { IsStrictlySortedBy (node_cmp net.now.present (forest tree.now)) (nodes_of ranked.now) }
     ensures live { IfOk result (λ clips. All (λ clip. IfSome clip (IsLive (forest tree.now))) clips.items) }
-    ensures first { IfOk result (λ clips. (s : Standing) (b : List Moment) → IsSeen s net.now.present (forest tree.now) → Holds b (forest tree.now) → map (option_map (moment_at (forest tree.now))) clips.items ≡ map (λ x. clip (map_of s b) (moment_at (forest tree.now) x)) (nodes_of ranked.now)) }
+    ensures first { IfOk result (λ clips. (s : Standing) (b : List Moment) → IsForestOf s net.now.present (forest tree.now) → HasOccurrences b (forest tree.now) → map (option_map (moment_at (forest tree.now))) clips.items ≡ map (λ x. clip (map_of s b) (moment_at (forest tree.now) x)) (nodes_of ranked.now)) }
 {
     let mut clips = Vec::from_elem(alloc, None, ranked.len())?;
     // the tokens behind by their classes: in each class the nearest one stands last
@@ -59,16 +59,19 @@ pub fn clips(
     Ok(clips)
 }
 
-/// What clips each token of a class, in the order of its tokens: the node of the first token that
-/// does, none exactly where none does. A span has none. Without memory it answers that.
+/// What clips those tokens of a class that are wanted, each at its place: the node of the first
+/// token that does, none exactly where none does. A span has none. Tokens before all that are
+/// wanted are not looked at. Without memory it answers that.
 pub fn class_clips(
     alloc: Global,
     tree: &Tree,
     net: &DistNet,
     class: &Name,
+    wanted: &[bool],
 ) -> Result<Vec<Option<u32>>, NoMemory>
     requires dates { IsTreeIn net.now.present tree.now }
-    ensures each { IfOk result (λ clips. AreClips net.now.present (forest tree.now) ((present tree.now).tokens class.now) clips.items) }
+    requires long { length wanted.now ≡ length ((present tree.now).tokens class.now) }
+    ensures each { IfOk result (λ clips. AreClips net.now.present (forest tree.now) ((present tree.now).tokens class.now) wanted.now clips.items) }
     ensures live { IfOk result (λ clips. All (λ clip. IfSome clip (IsLive (forest tree.now))) clips.items) }
 {
     let rows = tree.tokens(class);
@@ -80,12 +83,14 @@ pub fn class_clips(
     let mut last = i64::MAX;
     // made where what clips a token is not among those right behind it
     let mut branches = None;
-    for i in (0..rows.len()).rev() {
+    let low = first_wanted(wanted);
+    for i in (low..rows.len()).rev() {
         let row = rows[i];
         let date = tree.early(node_of(&row));
         later = count_later(behind.len(), later, last, date);
         last = date;
-        let clip = class_clip(alloc, tree, net, rows, i, &behind[..later], &mut branches)?;
+        let asked = &behind[..later];
+        let clip = class_clip(alloc, tree, net, rows, i, wanted[i], asked, &mut branches)?;
         clips[i] = clip;
         let first = stretch_behind(&behind, &row.fact);
         behind.push_reserved(Stretched { row, first });
@@ -93,14 +98,28 @@ pub fn class_clips(
     Ok(clips)
 }
 
-// What clips the token at `i` among those behind it, the nearest one last, or among all of its
-// class.
+// The place of the first that is wanted, that behind all where none is.
+fn first_wanted(wanted: &[bool]) -> usize
+    ensures within { result ≤ length wanted.now }
+    ensures none { (j : ℕ) → j < result → slice_index_or wanted.now j false ≡ false }
+{
+    for i in 0..wanted.len() {
+        if wanted[i] {
+            return i;
+        }
+    }
+    wanted.len()
+}
+
+// What clips the token at `i`, where that is wanted, among those behind it, the nearest one last,
+// or among all of its class.
 fn class_clip(
     alloc: Global,
     tree: &Tree,
     net: &DistNet,
     rows: &[TokenRow<Spot>],
     i: usize,
+    wanted: bool,
     behind: &[Stretched<Spot>],
     branches: &mut Option<Branches>,
 ) -> Result<Option<u32>, NoMemory>
@@ -113,9 +132,12 @@ fn class_clip(
     requires stretches { HaveStretches behind.now }
     requires branches { IfSome branches.old (AreBranches (forest tree.now) rows.now) }
     ensures live { IfOk result (λ clip. IfSome clip (IsLive (forest tree.now))) }
-    ensures clip { IfOk result (λ clip. IsNear net.now.present (forest tree.now) (rows_of behind.now) (row_at rows.now i) (ANear.Found clip) ⊎ IsClip net.now.present (forest tree.now) (slice_index_or (numbers_in rows.now) i 0) clip) }
+    ensures clip { IfOk result (λ clip. wanted ≡ true → IsNear net.now.present (forest tree.now) (rows_of behind.now) (row_at rows.now i) (ANear.Found clip) ⊎ IsClip net.now.present (forest tree.now) (slice_index_or (numbers_in rows.now) i 0) clip) }
     ensures branches { OnOk result (IfSome branches.new (AreBranches (forest tree.now) rows.now)) }
 {
+    if !wanted {
+        return Ok(None);
+    }
     match near_clip(tree, net, behind, &rows[i]) {
         Near::Found(clip) => Ok(clip),
         Near::Open => far_clip(alloc, tree, net, rows, i, branches),

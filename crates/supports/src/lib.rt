@@ -22,7 +22,7 @@ ghost use Rattle.tmm_model.specs.Sorts.{class_in};
 ghost use Rattle.tmm_model.specs.Standing.{far_in};
 ghost use Rattle.belief_theory.specs.Outcomes.{first_with};
 ghost use Rattle.spots.specs.Forest.{Member, member, IsLive, moment_at};
-ghost use Rattle.spots.specs.Seen.{IsSeen, Holds, map_of};
+ghost use Rattle.spots.specs.OfLists.{IsForestOf, HasOccurrences, map_of};
 ghost use Rattle.spots.specs.declared.spot.Spot.{Spot};
 ghost use Rattle.spots.specs.Spots.{IsSpot, spot_moment, spot_early, spot_cmp};
 ghost use Rattle.clipping.specs.ByDate.{IsByDate};
@@ -103,7 +103,7 @@ pub fn supporter(
     requires p { IsSpot net.now.present.names (forest tree.now) p }
     requires q { IsSpot net.now.present.names (forest tree.now) q }
     ensures live { IfSome result (IsLive (forest tree.now)) }
-    ensures first { (b : List Moment) → Holds b (forest tree.now) → option_map (moment_at (forest tree.now)) result ≡ holder standing.now.present (far_in standing.now.present.premises) b fact (spot_moment net.now.present.names (forest tree.now) p) (spot_moment net.now.present.names (forest tree.now) q) }
+    ensures first { (b : List Moment) → HasOccurrences b (forest tree.now) → option_map (moment_at (forest tree.now)) result ≡ holder standing.now.present (far_in standing.now.present.premises) b fact (spot_moment net.now.present.names (forest tree.now) p) (spot_moment net.now.present.names (forest tree.now) q) }
 {
     let Some(class) = standing.class_of(fact) else {
         unreachable!()
@@ -128,7 +128,7 @@ pub fn is_supported(
     requires fact { IsSome (class_in standing.now.present.premises fact) }
     requires p { IsSpot net.now.present.names (forest tree.now) p }
     requires q { IsSpot net.now.present.names (forest tree.now) q }
-    ensures { (b : List Moment) → Holds b (forest tree.now) → result ≡ has_support standing.now.present (far_in standing.now.present.premises) b fact (spot_moment net.now.present.names (forest tree.now) p) (spot_moment net.now.present.names (forest tree.now) q) }
+    ensures { (b : List Moment) → HasOccurrences b (forest tree.now) → result ≡ has_support standing.now.present (far_in standing.now.present.premises) b fact (spot_moment net.now.present.names (forest tree.now) p) (spot_moment net.now.present.names (forest tree.now) q) }
 {
     let Some(class) = standing.class_of(fact) else {
         unreachable!()
@@ -150,7 +150,7 @@ pub fn first_supported(
     requires seen { IsTreeOf standing.now.present net.now.present tree.now }
     requires facts { All (λ fact. IsSome (class_in standing.now.present.premises fact)) facts.now }
     requires at { IsSpot net.now.present.names (forest tree.now) at }
-    ensures { (b : List Moment) → Holds b (forest tree.now) → result ≡ first_with (map (λ fact. holder standing.now.present (far_in standing.now.present.premises) b fact (spot_moment net.now.present.names (forest tree.now) at) (spot_moment net.now.present.names (forest tree.now) at)) facts.now) }
+    ensures { (b : List Moment) → HasOccurrences b (forest tree.now) → result ≡ first_with (map (λ fact. holder standing.now.present (far_in standing.now.present.premises) b fact (spot_moment net.now.present.names (forest tree.now) at) (spot_moment net.now.present.names (forest tree.now) at)) facts.now) }
 {
     for place in 0..facts.len() {
         if is_supported(standing, tree, net, facts[place], at, at, guesses) {
@@ -166,7 +166,7 @@ pub fn clip(standing: &Standing, tree: &Tree, net: &DistNet, x: u32) -> Option<u
     requires seen { IsTreeOf standing.now.present net.now.present tree.now }
     requires live { IsLive (forest tree.now) x }
     ensures live { IfSome result (IsLive (forest tree.now)) }
-    ensures first { (b : List Moment) → Holds b (forest tree.now) → option_map (moment_at (forest tree.now)) result ≡ clip (map_of standing.now.present b) (moment_at (forest tree.now) x) }
+    ensures first { (b : List Moment) → HasOccurrences b (forest tree.now) → option_map (moment_at (forest tree.now)) result ≡ clip (map_of standing.now.present b) (moment_at (forest tree.now) x) }
 {
     let class = tree.row(x).class?;
     let rows = tree.tokens(&class);
@@ -192,10 +192,10 @@ pub fn blame(standing: &Standing, tree: &Tree, net: &DistNet, x: u32, p: Spot, q
     requires seen { IsTreeOf standing.now.present net.now.present tree.now }
     requires p { IsSpot net.now.present.names (forest tree.now) p }
     requires q { IsSpot net.now.present.names (forest tree.now) q }
-    requires no_supporter { (b : List Moment) × (m : Member) × Holds b (forest tree.now) × (member (forest tree.now) x ≡ Some m) × IsSome m.class
+    requires no_supporter { (b : List Moment) × (m : Member) × HasOccurrences b (forest tree.now) × (member (forest tree.now) x ≡ Some m) × IsSome m.class
         × (holder standing.now.present (far_in standing.now.present.premises) b m.what (spot_moment net.now.present.names (forest tree.now) p) (spot_moment net.now.present.names (forest tree.now) q) ≡ None) }
     ensures live { (c : ℕ) → result ≡ NodeFault.Clipped c → IsLive (forest tree.now) c }
-    ensures fault { (b : List Moment) (k : TokenRow Moment) → Holds b (forest tree.now) → token_of standing.now.present (moment_at (forest tree.now) x) ≡ Some k
+    ensures fault { (b : List Moment) (k : TokenRow Moment) → HasOccurrences b (forest tree.now) → token_of standing.now.present (moment_at (forest tree.now) x) ≡ Some k
         → fault (map_of standing.now.present b) (spot_moment net.now.present.names (forest tree.now) p) (spot_moment net.now.present.names (forest tree.now) q) k ≡ fault_at (forest tree.now) result }
 {
     let Some(class) = tree.row(x).class else {

@@ -6,7 +6,7 @@ ghost use Rattle.tmm_model.specs.Standing.{name_of};
 ghost use Rattle.list_theory.proofs.Elements.{In};
 ghost use Rattle.dist_net.specs.Net.{IsInUse};
 ghost use Rattle.spots.specs.Forest.{Member, IsNoRoot};
-ghost use Rattle.spots.specs.Seen.{HasList};
+ghost use Rattle.spots.specs.OfLists.{HasList};
 ghost use Rattle.spots.specs.Spots.{net_far};
 ghost use Rattle.occ_tree.specs.Dated.{IsDatedBy};
 ghost use Rattle.occ_tree.specs.Edits.{Enters};

@@ -19,7 +19,7 @@ use Rattle.tmm_session.specs.declared.told.Told.{Told}
 use Rattle.tmm_session.specs.declared.told.Told.TheVariants.{Silent, Reply as ReplyOf, Memory}
 use Rattle.tmm_cli.specs.Counts.{number_word, AreCounts, HaveRoom, with_kind, counted, counts_text}
 use Rattle.tmm_cli.specs.Demo.{RunReplied, Summarizes, DemoEnds}
-use Rattle.tmm_session.specs.Kinds.{kind_of, turn_of}
+use Rattle.tmm_session.specs.Kinds.{reply_kind, turn_of}
 use Rattle.tmm_session.specs.Sessions.{TellsLine, reply_told}
 use Rattle.tmm_drive.specs.Statuses.{status_of}
 use Rattle.tmm_cli.proofs.DemoRuns.{Speaks, speaks_not_silent, RunReplied-push, RunReplied-counted, line_speaks, one_line_more}
@@ -66,20 +66,20 @@ AreCounts-plus c d replies reply told are is same = subst (λ (e : Counts). AreC
   size = same ∙ sym (last_word-push replies reply);
 })
 
-AreCounts-kind : (c : Counts) (replies : List (Option Reply)) (reply : Reply) → AreCounts c replies → AreCounts (with_kind c (kind_of reply)) (replies ++ Some reply ∷ [])
-AreCounts-kind c replies (Accepted changes) are = AreCounts-plus c (with_kind c (kind_of (Accepted changes))) replies (Some (Accepted changes)) None are refl refl
-AreCounts-kind c replies (Refused refusal) are = AreCounts-plus c (with_kind c (kind_of (Refused refusal))) replies (Some (Refused refusal)) None are refl refl
-AreCounts-kind c replies (BoundsAre lo hi) are = AreCounts-plus c (with_kind c (kind_of (BoundsAre lo hi))) replies (Some (BoundsAre lo hi)) None are refl refl
-AreCounts-kind c replies (PathIs far steps) are = AreCounts-plus c (with_kind c (kind_of (PathIs far steps))) replies (Some (PathIs far steps)) None are refl refl
-AreCounts-kind c replies (Answered (Yes by)) are = AreCounts-plus c (with_kind c (kind_of (Answered (Yes by)))) replies (Some (Answered (Yes by))) None are refl refl
-AreCounts-kind c replies (Answered (No blames more)) are = AreCounts-plus c (with_kind c (kind_of (Answered (No blames more)))) replies (Some (Answered (No blames more))) None are refl refl
-AreCounts-kind c replies (Answered Unordered) are = AreCounts-plus c (with_kind c (kind_of (Answered Unordered))) replies (Some (Answered Unordered)) None are refl refl
-AreCounts-kind c replies (Reasons lines) are = AreCounts-plus c (with_kind c (kind_of (Reasons lines))) replies (Some (Reasons lines)) None are refl refl
-AreCounts-kind c replies (BrokenAre broken) are = AreCounts-plus c (with_kind c (kind_of (BrokenAre broken))) replies (Some (BrokenAre broken)) None are refl refl
-AreCounts-kind c replies (Believed found) are = AreCounts-plus c (with_kind c (kind_of (Believed found))) replies (Some (Believed found)) None are refl refl
-AreCounts-kind c replies (DumpIs version horizon lines) are = AreCounts-plus c (with_kind c (kind_of (DumpIs version horizon lines))) replies (Some (DumpIs version horizon lines)) None are refl refl
-AreCounts-kind c replies AuditYes are = AreCounts-plus c (with_kind c (kind_of AuditYes)) replies (Some AuditYes) None are refl refl
-AreCounts-kind c replies (SizeIs n) are = AreCounts-plus c (with_kind c (kind_of (SizeIs n))) replies (Some (SizeIs n)) (Some n) are refl refl
+AreCounts-kind : (c : Counts) (replies : List (Option Reply)) (reply : Reply) → AreCounts c replies → AreCounts (with_kind c (reply_kind reply)) (replies ++ Some reply ∷ [])
+AreCounts-kind c replies (Accepted changes) are = AreCounts-plus c (with_kind c (reply_kind (Accepted changes))) replies (Some (Accepted changes)) None are refl refl
+AreCounts-kind c replies (Refused refusal) are = AreCounts-plus c (with_kind c (reply_kind (Refused refusal))) replies (Some (Refused refusal)) None are refl refl
+AreCounts-kind c replies (BoundsAre lo hi) are = AreCounts-plus c (with_kind c (reply_kind (BoundsAre lo hi))) replies (Some (BoundsAre lo hi)) None are refl refl
+AreCounts-kind c replies (PathIs far steps) are = AreCounts-plus c (with_kind c (reply_kind (PathIs far steps))) replies (Some (PathIs far steps)) None are refl refl
+AreCounts-kind c replies (Answered (Yes by)) are = AreCounts-plus c (with_kind c (reply_kind (Answered (Yes by)))) replies (Some (Answered (Yes by))) None are refl refl
+AreCounts-kind c replies (Answered (No blames more)) are = AreCounts-plus c (with_kind c (reply_kind (Answered (No blames more)))) replies (Some (Answered (No blames more))) None are refl refl
+AreCounts-kind c replies (Answered Unordered) are = AreCounts-plus c (with_kind c (reply_kind (Answered Unordered))) replies (Some (Answered Unordered)) None are refl refl
+AreCounts-kind c replies (Reasons lines) are = AreCounts-plus c (with_kind c (reply_kind (Reasons lines))) replies (Some (Reasons lines)) None are refl refl
+AreCounts-kind c replies (BrokenAre broken) are = AreCounts-plus c (with_kind c (reply_kind (BrokenAre broken))) replies (Some (BrokenAre broken)) None are refl refl
+AreCounts-kind c replies (Believed found) are = AreCounts-plus c (with_kind c (reply_kind (Believed found))) replies (Some (Believed found)) None are refl refl
+AreCounts-kind c replies (DumpIs version horizon lines) are = AreCounts-plus c (with_kind c (reply_kind (DumpIs version horizon lines))) replies (Some (DumpIs version horizon lines)) None are refl refl
+AreCounts-kind c replies AuditYes are = AreCounts-plus c (with_kind c (reply_kind AuditYes)) replies (Some AuditYes) None are refl refl
+AreCounts-kind c replies (SizeIs n) are = AreCounts-plus c (with_kind c (reply_kind (SizeIs n))) replies (Some (SizeIs n)) (Some n) are refl refl
 
 -- a line that is not silent has a reply, by which it is counted
 has_reply : (old new : Standing) (k : ℕ) (line : List ℕ) (t : Told) → Speaks line → TellsLine old k line t new → is_reply (turn_of t) ≡ true

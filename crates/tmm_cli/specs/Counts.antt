@@ -4,8 +4,8 @@ use Rattle.tmm_model.specs.Generator.{is_ok, is_yes, is_no, is_refused, is_want,
 use Rattle.tmm_model.specs.Lines.{spaced}
 use Rattle.tmm_model.specs.Replies.{Reply}
 use Rattle.tmm_cli.specs.declared.demo.Counts.{Counts}
-use Rattle.tmm_session.specs.declared.told.Kind.{Kind}
-use Rattle.tmm_session.specs.declared.told.Kind.TheVariants.{Accepted, Yes, No, Refused, Size, Other}
+use Rattle.tmm_session.specs.declared.told.ReplyKind.{ReplyKind}
+use Rattle.tmm_session.specs.declared.told.ReplyKind.TheVariants.{Accepted, Yes, No, Refused, Size, Other}
 use Rattle.tmm_session.specs.declared.told.Told.{Told}
 use Rattle.tmm_session.specs.declared.told.Told.TheVariants.{Silent, Reply as ReplyOf, Memory}
 
@@ -34,7 +34,7 @@ pub record HaveRoom (counts : Counts) : Type 0 where
   pub memory : counts.memory < 2 ^ 64 - 1
 
 -- one more reply of this kind
-abbrev pub with_kind : Counts → Kind → Counts
+abbrev pub with_kind : Counts → ReplyKind → Counts
 with_kind c Accepted = record c { lines = c.lines + 1; ok = c.ok + 1; size = None }
 with_kind c Yes = record c { lines = c.lines + 1; yes = c.yes + 1; size = None }
 with_kind c No = record c { lines = c.lines + 1; no = c.no + 1; size = None }

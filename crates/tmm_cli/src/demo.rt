@@ -18,7 +18,7 @@ use std::alloc::Global;
 use tmm_drive::Status;
 use tmm_io::Sink;
 use tmm_model::MOST_EVENTS;
-use tmm_session::{Kind, Session, Told};
+use tmm_session::{ReplyKind, Session, Told};
 use tmm_words::number;
 
 /// The greatest N.
@@ -138,19 +138,19 @@ impl Counts {
         }
     }
 
-    fn count_kind(&mut self, kind: Kind)
+    fn count_kind(&mut self, kind: ReplyKind)
         requires { HaveRoom self.old }
         ensures { self.new ≡ with_kind self.old kind }
     {
         self.lines += 1;
         self.size = None;
         match kind {
-            Kind::Accepted => self.ok += 1,
-            Kind::Yes => self.yes += 1,
-            Kind::No => self.no += 1,
-            Kind::Refused => self.refused += 1,
-            Kind::Size(n) => self.size = Some(n),
-            Kind::Other => {}
+            ReplyKind::Accepted => self.ok += 1,
+            ReplyKind::Yes => self.yes += 1,
+            ReplyKind::No => self.no += 1,
+            ReplyKind::Refused => self.refused += 1,
+            ReplyKind::Size(n) => self.size = Some(n),
+            ReplyKind::Other => {}
         }
     }
 

@@ -13,26 +13,26 @@ use Rattle.tmm_model.specs.declared.turn.Turn.{Turn}
 use Rattle.tmm_drive.specs.declared.tally.Tally.{Tally}
 use Rattle.tmm_drive.specs.declared.status.Status.{Status}
 use Rattle.tmm_drive.specs.declared.status.Status.TheVariants.{Clean, SomeRefused, SomeMemory}
-use Rattle.tmm_model.specs.Cuts.{ended, joined, IsLine, IsCut, with_rest}
+use Rattle.tmm_model.specs.Cuts.{ended, joined, IsLine, SplitsIntoLines, with_rest}
 use Rattle.tmm_model.specs.Runs.{turn_text, is_reply, is_refused, is_memory, Run, replies}
 use Rattle.tmm_drive.specs.Endings.{BreaksOff, AnswersAll, AnswersEnded, Ends, limit}
-use Rattle.tmm_drive.specs.Reading.{most_kept, counted, AnswersLine, Stands, GoesOn, GivesUp}
+use Rattle.tmm_drive.specs.Reading.{most_kept, counted, AnswersLine, ReadSoFar, GoesOn, GivesUp}
 
 -- ---- cutting
 
 joined-push : (lines : List (List ℕ)) (line : List ℕ) → joined (lines ++ line ∷ []) ≡ joined lines ++ ended line
 joined-push lines line = flat_map-append ended lines (line ∷ []) ∙ ap (λ l. joined lines ++ l) (append-nil (ended line))
 
-IsCut-part : (text : List ℕ) (lines : List (List ℕ)) (rest part : List ℕ) → IsLine part → IsCut text lines rest
-    → IsCut (text ++ part) lines (rest ++ part)
+IsCut-part : (text : List ℕ) (lines : List (List ℕ)) (rest part : List ℕ) → IsLine part → SplitsIntoLines text lines rest
+    → SplitsIntoLines (text ++ part) lines (rest ++ part)
 IsCut-part text lines rest part is_line cut = record {
   whole = ap (λ l. l ++ part) cut.whole ∙ append_assoc (joined lines) rest part;
   each = cut.each;
   last = All-append (λ b. b ≢ 10) rest part cut.last is_line;
 }
 
-IsCut-ended : (text : List ℕ) (lines : List (List ℕ)) (rest : List ℕ) → IsCut text lines rest
-    → IsCut (text ++ 10 ∷ []) (lines ++ rest ∷ []) []
+IsCut-ended : (text : List ℕ) (lines : List (List ℕ)) (rest : List ℕ) → SplitsIntoLines text lines rest
+    → SplitsIntoLines (text ++ 10 ∷ []) (lines ++ rest ∷ []) []
 IsCut-ended text lines rest cut = record {
   whole = ap (λ l. l ++ 10 ∷ []) cut.whole ∙ append_assoc (joined lines) rest (10 ∷ []) ∙ sym (joined-push lines rest) ∙ sym (append-nil (joined (lines ++ rest ∷ [])));
   each = All-push IsLine lines rest cut.each cut.last;
@@ -121,7 +121,7 @@ module _ {S : Type 0} (step : S → ℕ → List ℕ → Turn → S → Type 0) 
 
   module _ (start : S) where
     pub Stands-part : (taken output : List ℕ) (now : S) (kept : List ℕ) (tally : Tally) (part : List ℕ) → IsLine part
-        → Stands step start taken output now kept tally → Stands step start (taken ++ part) output now (take most_kept (kept ++ part)) tally
+        → ReadSoFar step start taken output now kept tally → ReadSoFar step start (taken ++ part) output now (take most_kept (kept ++ part)) tally
     Stands-part taken output now kept tally part is_line st = record {
       lines = st.lines;
       rest = st.rest ++ part;
@@ -136,31 +136,31 @@ module _ {S : Type 0} (step : S → ℕ → List ℕ → Turn → S → Type 0) 
     }
 
     -- the number of the next line
-    next_number : (taken output : List ℕ) (now : S) (kept : List ℕ) (tally : Tally) → (st : Stands step start taken output now kept tally)
+    next_number : (taken output : List ℕ) (now : S) (kept : List ℕ) (tally : Tally) → (st : ReadSoFar step start taken output now kept tally)
         → tally.lines + 1 ≡ length st.lines + 1
     next_number taken output now kept tally st = let e = st.lines_is in omega (arith, e)
 
     -- what answers the kept bytes answers the whole line
-    pub answers_kept : LongLines → (taken output : List ℕ) (now : S) (kept : List ℕ) (tally : Tally) (turn : Turn) (new : S) → (st : Stands step start taken output now kept tally)
+    pub answers_kept : LongLines → (taken output : List ℕ) (now : S) (kept : List ℕ) (tally : Tally) (turn : Turn) (new : S) → (st : ReadSoFar step start taken output now kept tally)
         → step now (tally.lines + 1) kept turn new → step now (tally.lines + 1) st.rest turn new
     answers_kept long taken output now kept tally turn new st answers =
         answers_whole long now new (tally.lines + 1) st.rest turn
         (subst (λ (l : List ℕ). step now (tally.lines + 1) l turn new) st.kept_is answers)
 
-    answers_next : (taken output : List ℕ) (now : S) (kept : List ℕ) (tally : Tally) (turn : Turn) (new : S) → (st : Stands step start taken output now kept tally)
+    answers_next : (taken output : List ℕ) (now : S) (kept : List ℕ) (tally : Tally) (turn : Turn) (new : S) → (st : ReadSoFar step start taken output now kept tally)
         → step now (tally.lines + 1) st.rest turn new → step now (length st.lines + 1) st.rest turn new
     answers_next taken output now kept tally turn new st answers =
         subst (λ (n : ℕ). step now n st.rest turn new) (next_number taken output now kept tally st) answers
 
     -- the output with one more reply
-    output_next : (taken output : List ℕ) (now : S) (kept : List ℕ) (tally : Tally) (turn : Turn) → (st : Stands step start taken output now kept tally)
+    output_next : (taken output : List ℕ) (now : S) (kept : List ℕ) (tally : Tally) (turn : Turn) → (st : ReadSoFar step start taken output now kept tally)
         → output ++ turn_text (tally.lines + 1) turn ≡ replies 0 (st.turns ++ turn ∷ [])
     output_next taken output now kept tally turn st =
         let same = Run-length start 0 st.lines st.turns now st.run in
         let e : tally.lines + 1 ≡ 0 + length st.turns + 1 = omega (arith, same, st.lines_is) in
         ap (λ l. l ++ turn_text (tally.lines + 1) turn) st.output_is ∙ ap (λ n. replies 0 st.turns ++ turn_text n turn) e ∙ sym (replies-push 0 st.turns turn)
 
-    pub run_next : (taken output : List ℕ) (now : S) (kept : List ℕ) (tally : Tally) (turn : Turn) (new : S) → (st : Stands step start taken output now kept tally)
+    pub run_next : (taken output : List ℕ) (now : S) (kept : List ℕ) (tally : Tally) (turn : Turn) (new : S) → (st : ReadSoFar step start taken output now kept tally)
         → step now (tally.lines + 1) st.rest turn new → Run step start 0 (st.lines ++ st.rest ∷ []) (st.turns ++ turn ∷ []) new
     run_next taken output now kept tally turn new st answers =
         let e : length st.lines + 1 ≡ 0 + length st.lines + 1 = omega arith in
@@ -168,8 +168,8 @@ module _ {S : Type 0} (step : S → ℕ → List ℕ → Turn → S → Type 0) 
         (subst (λ (n : ℕ). step now n st.rest turn new) e (answers_next taken output now kept tally turn new st answers))
 
     pub Stands-line : (taken output : List ℕ) (now : S) (kept : List ℕ) (tally : Tally) (turn : Turn) (new : S)
-        → (st : Stands step start taken output now kept tally) → step now (tally.lines + 1) st.rest turn new
-        → Stands step start (taken ++ 10 ∷ []) (output ++ turn_text (tally.lines + 1) turn) new [] (counted tally turn)
+        → (st : ReadSoFar step start taken output now kept tally) → step now (tally.lines + 1) st.rest turn new
+        → ReadSoFar step start (taken ++ 10 ∷ []) (output ++ turn_text (tally.lines + 1) turn) new [] (counted tally turn)
     Stands-line taken output now kept tally turn new st answers = record {
       lines = st.lines ++ st.rest ∷ [];
       rest = [];
@@ -185,7 +185,7 @@ module _ {S : Type 0} (step : S → ℕ → List ℕ → Turn → S → Type 0) 
 
     -- a write fails in the reply to a line that ends here
     pub BreaksOff-ended : (taken output : List ℕ) (now : S) (kept : List ℕ) (tally : Tally) (turn : Turn) (new : S) (part : ℕ)
-        → (st : Stands step start taken output now kept tally) → step now (tally.lines + 1) st.rest turn new → is_reply turn ≡ true
+        → (st : ReadSoFar step start taken output now kept tally) → step now (tally.lines + 1) st.rest turn new → is_reply turn ≡ true
         → BreaksOff step start ⊥ (taken ++ 10 ∷ []) (output ++ take part (turn_text (tally.lines + 1) turn))
     BreaksOff-ended taken output now kept tally turn new part st answers replied = record {
       lines = st.lines;
@@ -206,7 +206,7 @@ module _ {S : Type 0} (step : S → ℕ → List ℕ → Turn → S → Type 0) 
 
     -- a write fails in the reply to the last line, which has no byte 10
     pub BreaksOff-last : (at_end : Type 0) (taken output : List ℕ) (now : S) (kept : List ℕ) (tally : Tally) (turn : Turn) (new : S) (part : ℕ)
-        → at_end → 0 < length kept → (st : Stands step start taken output now kept tally) → step now (tally.lines + 1) st.rest turn new → is_reply turn ≡ true
+        → at_end → 0 < length kept → (st : ReadSoFar step start taken output now kept tally) → step now (tally.lines + 1) st.rest turn new → is_reply turn ≡ true
         → BreaksOff step start at_end taken (output ++ take part (turn_text (tally.lines + 1) turn))
     BreaksOff-last at_end taken output now kept tally turn new part end some st answers replied =
         let len : length kept ≡ length (take most_kept st.rest) = ap length st.kept_is in
@@ -271,7 +271,7 @@ module _ {S : Type 0} (step : S → ℕ → List ℕ → Turn → S → Type 0) 
 
     pub line_goes_on : {E : Type 0} → (taken output : List ℕ) (now : S) (kept : List ℕ) (before : Tally) (given : List ℕ) (new : S) (none : List ℕ) (after : Tally)
         (held holds : Option (List ℕ)) (result : Result (Unit {0}) E) (text : List ℕ) → taken ++ 10 ∷ [] ≡ text
-        → (st : Stands step start taken output now kept before) → ((turn : Turn) → step now (before.lines + 1) given turn new → step now (before.lines + 1) st.rest turn new)
+        → (st : ReadSoFar step start taken output now kept before) → ((turn : Turn) → step now (before.lines + 1) given turn new → step now (before.lines + 1) st.rest turn new)
         → AnswersLine step now given new before after held holds result → none ≡ []
         → MatchResult result (λ _. GoesOn step start text output held holds new none after) (λ _. GivesUp step start ⊥ text output held holds)
     line_goes_on taken output now kept before given new none after held holds (Ok done) text e st whole answered cleared =
@@ -279,9 +279,9 @@ module _ {S : Type 0} (step : S → ℕ → List ℕ → Turn → S → Type 0) 
         let stands = Stands-line taken output now kept before answered.turn new st (whole answered.turn answered.answers) in (
           reply,
           answered.writes,
-          subst (λ (l : List ℕ). Stands step start l (output ++ reply) new none after) e
-              (subst (λ (l : List ℕ). Stands step start (taken ++ 10 ∷ []) (output ++ reply) new l after) (sym cleared)
-              (subst (λ (t : Tally). Stands step start (taken ++ 10 ∷ []) (output ++ reply) new [] t) (sym answered.counted_is) stands)),
+          subst (λ (l : List ℕ). ReadSoFar step start l (output ++ reply) new none after) e
+              (subst (λ (l : List ℕ). ReadSoFar step start (taken ++ 10 ∷ []) (output ++ reply) new l after) (sym cleared)
+              (subst (λ (t : Tally). ReadSoFar step start (taken ++ 10 ∷ []) (output ++ reply) new [] t) (sym answered.counted_is) stands)),
         )
     line_goes_on taken output now kept before given new none after held holds (Err failed) text e st whole answered cleared =
         let part = answered.writes.0 in (
@@ -293,7 +293,7 @@ module _ {S : Type 0} (step : S → ℕ → List ℕ → Turn → S → Type 0) 
 
     -- nothing is kept of a line that lies whole in a piece
     pub answers_part : (taken output : List ℕ) (now : S) (kept : List ℕ) (tally : Tally) (part : List ℕ) (is_line : IsLine part) (new : S) → kept ≡ []
-        → (st : Stands step start taken output now kept tally) (turn : Turn)
+        → (st : ReadSoFar step start taken output now kept tally) (turn : Turn)
         → step now (tally.lines + 1) part turn new → step now (tally.lines + 1) (Stands-part taken output now kept tally part is_line st).rest turn new
     unfolding Stands-part
     answers_part taken output now kept tally part is_line new none st turn answers =
@@ -308,15 +308,15 @@ module _ {S : Type 0} (step : S → ℕ → List ℕ → Turn → S → Type 0) 
     pub GoesOn-then : (taken output bytes more : List ℕ) (now new : S) (kept new_kept : List ℕ) (tally new_tally : Tally)
         (held holds will : Option (List ℕ)) (all : List ℕ) → all ≡ bytes ++ more
         → GoesOn step start (taken ++ bytes) output held holds now kept tally
-        → ((sent : List ℕ) → Stands step start (taken ++ bytes) sent now kept tally → GoesOn step start ((taken ++ bytes) ++ more) sent holds will new new_kept new_tally)
+        → ((sent : List ℕ) → ReadSoFar step start (taken ++ bytes) sent now kept tally → GoesOn step start ((taken ++ bytes) ++ more) sent holds will new new_kept new_tally)
         → GoesOn step start (taken ++ all) output held will new new_kept new_tally
     GoesOn-then taken output bytes more now new kept new_kept tally new_tally held holds will all e on onward =
         let next = onward (output ++ on.0) on.2 in
         let same : (taken ++ bytes) ++ more ≡ taken ++ all = append_assoc taken bytes more ∙ ap (λ l. taken ++ l) (sym e) in (
           on.0 ++ next.0,
           Appends-trans held holds will on.0 next.0 on.1 next.1,
-          subst (λ (l : List ℕ). Stands step start (taken ++ all) l new new_kept new_tally) (append_assoc output on.0 next.0)
-              (subst (λ (l : List ℕ). Stands step start l ((output ++ on.0) ++ next.0) new new_kept new_tally) same next.2),
+          subst (λ (l : List ℕ). ReadSoFar step start (taken ++ all) l new new_kept new_tally) (append_assoc output on.0 next.0)
+              (subst (λ (l : List ℕ). ReadSoFar step start l ((output ++ on.0) ++ next.0) new new_kept new_tally) same next.2),
         )
 
     -- bytes, and then some that end no line
@@ -326,8 +326,8 @@ module _ {S : Type 0} (step : S → ℕ → List ℕ → Turn → S → Type 0) 
     GoesOn-part taken output bytes part now kept tally held holds all more_kept e is_line keeps on = (
       on.0,
       on.1,
-      subst (λ (l : List ℕ). Stands step start l (output ++ on.0) now more_kept tally) (append_assoc taken bytes part ∙ ap (λ l. taken ++ l) e)
-          (subst (λ (l : List ℕ). Stands step start ((taken ++ bytes) ++ part) (output ++ on.0) now l tally) (sym keeps)
+      subst (λ (l : List ℕ). ReadSoFar step start l (output ++ on.0) now more_kept tally) (append_assoc taken bytes part ∙ ap (λ l. taken ++ l) e)
+          (subst (λ (l : List ℕ). ReadSoFar step start ((taken ++ bytes) ++ part) (output ++ on.0) now l tally) (sym keeps)
           (Stands-part (taken ++ bytes) (output ++ on.0) now kept tally part is_line on.2)),
     )
 
@@ -335,7 +335,7 @@ module _ {S : Type 0} (step : S → ℕ → List ℕ → Turn → S → Type 0) 
     pub GivesUp-then : (taken output bytes more : List ℕ) (now : S) (kept : List ℕ) (tally : Tally)
         (held holds will : Option (List ℕ)) (text : List ℕ) → text ≡ (taken ++ bytes) ++ more
         → GoesOn step start taken output held holds now kept tally
-        → ((sent : List ℕ) → Stands step start taken sent now kept tally → GivesUp step start ⊥ (taken ++ bytes) sent holds will)
+        → ((sent : List ℕ) → ReadSoFar step start taken sent now kept tally → GivesUp step start ⊥ (taken ++ bytes) sent holds will)
         → GivesUp step start ⊥ text output held will
     GivesUp-then taken output bytes more now kept tally held holds will text e on onward =
         let next = onward (output ++ on.0) on.2 in (
@@ -348,16 +348,16 @@ module _ {S : Type 0} (step : S → ℕ → List ℕ → Turn → S → Type 0) 
 
     -- nothing yet
     pub GoesOn-none : (taken output : List ℕ) (now : S) (kept : List ℕ) (tally : Tally) (held : Option (List ℕ))
-        → Stands step start taken output now kept tally → GoesOn step start (taken ++ []) output held held now kept tally
+        → ReadSoFar step start taken output now kept tally → GoesOn step start (taken ++ []) output held held now kept tally
     GoesOn-none taken output now kept tally held st = (
       [],
       Appends-nil held,
-      subst (λ (l : List ℕ). Stands step start l (output ++ []) now kept tally) (sym (append-nil taken))
-          (subst (λ (l : List ℕ). Stands step start taken l now kept tally) (sym (append-nil output)) st),
+      subst (λ (l : List ℕ). ReadSoFar step start l (output ++ []) now kept tally) (sym (append-nil taken))
+          (subst (λ (l : List ℕ). ReadSoFar step start taken l now kept tally) (sym (append-nil output)) st),
     )
 
     -- before the first byte
-    pub Stands-none : Stands step start [] [] start [] (record { lines = 0; refused = false; memory = false })
+    pub Stands-none : ReadSoFar step start [] [] start [] (record { lines = 0; refused = false; memory = false })
     Stands-none = record {
       lines = [];
       rest = [];
@@ -376,7 +376,7 @@ module _ {S : Type 0} (step : S → ℕ → List ℕ → Turn → S → Type 0) 
     -- a text that is read to its end, and has no open line
     pub AnswersAll-ended : (taken output : List ℕ) (now : S) (kept : List ℕ) (tally : Tally) (status : Status) → kept ≡ []
         → status ≡ (if tally.memory then SomeMemory else (if tally.refused then SomeRefused else Clean))
-        → Stands step start taken output now kept tally → AnswersAll step start taken output status
+        → ReadSoFar step start taken output now kept tally → AnswersAll step start taken output status
     AnswersAll-ended taken output now kept tally status none told st =
         let len : length kept ≡ length (take most_kept st.rest) = ap length st.kept_is in
         let kept_none : length kept ≡ 0 = ap length none in
@@ -386,7 +386,7 @@ module _ {S : Type 0} (step : S → ℕ → List ℕ → Turn → S → Type 0) 
           rest = [];
           turns = st.turns;
           end = now;
-          cut = subst (λ (l : List ℕ). IsCut taken st.lines l) e st.cut;
+          cut = subst (λ (l : List ℕ). SplitsIntoLines taken st.lines l) e st.cut;
           run = st.run;
           output_is = st.output_is;
           status_is = told ∙ ap (λ b. if b then SomeMemory else (if tally.refused then SomeRefused else Clean)) st.memory_is
@@ -397,7 +397,7 @@ module _ {S : Type 0} (step : S → ℕ → List ℕ → Turn → S → Type 0) 
     pub AnswersAll-last : (taken output : List ℕ) (now : S) (kept : List ℕ) (before after : Tally) (status : Status) (turn : Turn) (new : S)
         → 0 < length kept → after ≡ counted before turn
         → status ≡ (if after.memory then SomeMemory else (if after.refused then SomeRefused else Clean))
-        → (st : Stands step start taken output now kept before) → step now (before.lines + 1) st.rest turn new
+        → (st : ReadSoFar step start taken output now kept before) → step now (before.lines + 1) st.rest turn new
         → AnswersAll step start taken (output ++ turn_text (before.lines + 1) turn) status
     AnswersAll-last taken output now kept before after status turn new some counts told st answers =
         let len : length kept ≡ length (take most_kept st.rest) = ap length st.kept_is in
@@ -423,7 +423,7 @@ module _ {S : Type 0} (step : S → ℕ → List ℕ → Turn → S → Type 0) 
         subst P (sym all.status_is) (told_as_three P (λ h. h) (λ h. h) (λ h. h) (list_any is_memory all.turns) (list_any is_refused all.turns)) (few, end, all)
 
     -- the ended lines are answered
-    pub AnswersEnded-now : (taken output : List ℕ) (now : S) (kept : List ℕ) (tally : Tally) → Stands step start taken output now kept tally → AnswersEnded step start taken output
+    pub AnswersEnded-now : (taken output : List ℕ) (now : S) (kept : List ℕ) (tally : Tally) → ReadSoFar step start taken output now kept tally → AnswersEnded step start taken output
     AnswersEnded-now taken output now kept tally st = record {
       lines = st.lines;
       rest = st.rest;
@@ -438,7 +438,7 @@ module _ {S : Type 0} (step : S → ℕ → List ℕ → Turn → S → Type 0) 
     pub last_goes_on : {E : Type 0} → LongLines → (taken output : List ℕ) (now : S) (kept : List ℕ) (before : Tally) (new : S) (after : Tally) (status : Status)
         (held holds : Option (List ℕ)) (result : Result (Unit {0}) E) → 0 < length kept
         → status ≡ (if after.memory then SomeMemory else (if after.refused then SomeRefused else Clean))
-        → Stands step start taken output now kept before → AnswersLine step now kept new before after held holds result
+        → ReadSoFar step start taken output now kept before → AnswersLine step now kept new before after held holds result
         → MatchResult result (λ _. (more : List ℕ) × Appends held holds more × AnswersAll step start taken (output ++ more) status)
         (λ _. GivesUp step start (Unit {0}) taken output held holds)
     last_goes_on long taken output now kept before new after status held holds (Ok done) some told st answered = (
@@ -457,14 +457,14 @@ module _ {S : Type 0} (step : S → ℕ → List ℕ → Turn → S → Type 0) 
     pub reads_on : (a b c held holds will : Option (List ℕ)) (taken output bytes piece : List ℕ) (new : S) (kept : List ℕ) (tally : Tally) (n m : ℕ)
         → Consumes a b taken → Consumes b c bytes → bytes ≡ piece → Appends held holds output
         → GoesOn step start (taken ++ piece) output holds will new kept tally → length taken ≡ n → length bytes ≡ m
-        → (all : List ℕ) × (sent : List ℕ) × Consumes a c all × Appends held will sent × (length all ≡ n + m) × Stands step start all sent new kept tally
+        → (all : List ℕ) × (sent : List ℕ) × Consumes a c all × Appends held will sent × (length all ≡ n + m) × ReadSoFar step start all sent new kept tally
     reads_on a b c held holds will taken output bytes piece new kept tally n m first second same wrote on long more = (
       taken ++ bytes,
       output ++ on.0,
       Consumes-trans a b c taken bytes first second,
       Appends-trans held holds will output on.0 wrote on.1,
       omega (arith, length-append taken bytes, long, more),
-      subst (λ (l : List ℕ). Stands step start (taken ++ l) (output ++ on.0) new kept tally) (sym same) on.2,
+      subst (λ (l : List ℕ). ReadSoFar step start (taken ++ l) (output ++ on.0) new kept tally) (sym same) on.2,
     )
 
     -- a piece is read, and a write fails

@@ -4,7 +4,7 @@ use Rattle.tmm_model.specs.declared.limits.TheConstants.{LONGEST_SCRIPT}
 use Rattle.tmm_model.specs.declared.turn.Turn.{Turn}
 use Rattle.tmm_drive.specs.declared.status.Status.{Status}
 use Rattle.tmm_drive.specs.declared.status.Status.TheVariants.{Clean, SomeRefused, Words, ReadFault, WriteFault, NoMemory, TooLong, SomeMemory}
-use Rattle.tmm_model.specs.Cuts.{IsLine, IsCut, joined, ended, with_rest}
+use Rattle.tmm_model.specs.Cuts.{IsLine, SplitsIntoLines, joined, ended, with_rest}
 use Rattle.tmm_model.specs.Runs.{turn_text, is_reply, Run, replies}
 use Rattle.tmm_drive.specs.Statuses.{status_of}
 
@@ -20,7 +20,7 @@ module _ {S : Type 0} (step : S → ℕ → List ℕ → Turn → S → Type 0) 
     pub rest : List ℕ
     pub turns : List Turn
     pub end : S
-    pub cut : IsCut taken lines rest
+    pub cut : SplitsIntoLines taken lines rest
     pub run : Run step start 0 (with_rest lines rest) turns end
     pub output_is : output ≡ replies 0 turns
     pub status_is : status ≡ status_of turns
@@ -31,7 +31,7 @@ module _ {S : Type 0} (step : S → ℕ → List ℕ → Turn → S → Type 0) 
     pub rest : List ℕ
     pub turns : List Turn
     pub end : S
-    pub cut : IsCut taken lines rest
+    pub cut : SplitsIntoLines taken lines rest
     pub run : Run step start 0 lines turns end
     pub output_is : output ≡ replies 0 turns
 

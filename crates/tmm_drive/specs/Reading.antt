@@ -6,7 +6,7 @@ use Rattle.std.specs.Io.KnownBytes.{Appends}
 use Rattle.tmm_io.specs.Ends.{WritesAll}
 use Rattle.tmm_model.specs.declared.turn.Turn.{Turn}
 use Rattle.tmm_drive.specs.declared.tally.Tally.{Tally}
-use Rattle.tmm_model.specs.Cuts.{IsCut}
+use Rattle.tmm_model.specs.Cuts.{SplitsIntoLines}
 use Rattle.tmm_drive.specs.Endings.{BreaksOff}
 use Rattle.tmm_model.specs.Runs.{turn_text, is_reply, is_refused, is_memory, Run, replies}
 
@@ -34,11 +34,11 @@ module _ {S : Type 0} (step : S → ℕ → List ℕ → Turn → S → Type 0) 
 
   -- Of the bytes taken so far, the ended lines are answered by this output, and of the rest the
   -- first bytes are kept.
-  pub record Stands (start : S) (taken output : List ℕ) (now : S) (kept : List ℕ) (tally : Tally) : Type 0 where
+  pub record ReadSoFar (start : S) (taken output : List ℕ) (now : S) (kept : List ℕ) (tally : Tally) : Type 0 where
     pub lines : List (List ℕ)
     pub rest : List ℕ
     pub turns : List Turn
-    pub cut : IsCut taken lines rest
+    pub cut : SplitsIntoLines taken lines rest
     pub run : Run step start 0 lines turns now
     pub output_is : output ≡ replies 0 turns
     pub lines_is : tally.lines ≡ length lines
@@ -49,7 +49,7 @@ module _ {S : Type 0} (step : S → ℕ → List ℕ → Turn → S → Type 0) 
   -- after more bytes
   abbrev pub GoesOn : S → List ℕ → List ℕ → Option (List ℕ) → Option (List ℕ) → S → List ℕ → Tally → Type 0
   GoesOn start taken output held holds now kept tally =
-      (more : List ℕ) × Appends held holds more × Stands start taken (output ++ more) now kept tally
+      (more : List ℕ) × Appends held holds more × ReadSoFar start taken (output ++ more) now kept tally
 
   -- after more bytes, a write failed in the reply to a line that was ended by one of them
   abbrev pub GivesUp : S → Type 0 → List ℕ → List ℕ → Option (List ℕ) → Option (List ℕ) → Type 0

@@ -4,7 +4,7 @@ ghost use Rattle.std.specs.Io.KnownBytes.{Appends, Consumes, IsAtEnd, Keeps};
 ghost use Rattle.tmm_io.specs.Causes.{Rose, HasCause};
 ghost use Rattle.tmm_model.specs.Cuts.{IsLine};
 ghost use Rattle.tmm_drive.specs.Endings.{Ends, AnswersAll};
-ghost use Rattle.tmm_drive.specs.Reading.{AnswersLine, Stands, GoesOn, GivesUp};
+ghost use Rattle.tmm_drive.specs.Reading.{AnswersLine, ReadSoFar, GoesOn, GivesUp};
 
 use crate::lines::Lines;
 use crate::status::Status;
@@ -105,7 +105,7 @@ fn feed<L: Lines, K: Sink>(
     ensures number { L.number lines.new ≡ tally.new.lines }
     ensures few { tally.new.lines ≤ tally.old.lines + length piece.now }
     ensures answers { (start : L.State) (taken output : List ℕ)
-        → Stands L.step start taken output (L.state lines.old) buffer.old.items tally.old
+        → ReadSoFar L.step start taken output (L.state lines.old) buffer.old.items tally.old
         → MatchResult result
         (λ _. GoesOn L.step start (taken ++ piece.now) output (K.written sink.old) (K.written sink.new) (L.state lines.new) buffer.new.items tally.new)
         (λ _. GivesUp L.step start ⊥ (taken ++ piece.now) output (K.written sink.old) (K.written sink.new)) }
@@ -161,7 +161,7 @@ fn end_line<L: Lines, K: Sink>(
     ensures number { L.number lines.new ≡ tally.new.lines }
     ensures few { tally.new.lines ≤ tally.old.lines + 1 }
     ensures answers { (start : L.State) (taken output : List ℕ)
-        → Stands L.step start taken output (L.state lines.old) buffer.old.items tally.old
+        → ReadSoFar L.step start taken output (L.state lines.old) buffer.old.items tally.old
         → MatchResult result
         (λ _. GoesOn L.step start (taken ++ (part.now ++ 10 ∷ [])) output (K.written sink.old) (K.written sink.new) (L.state lines.new) buffer.new.items tally.new)
         (λ _. GivesUp L.step start ⊥ (taken ++ (part.now ++ 10 ∷ [])) output (K.written sink.old) (K.written sink.new)) }
@@ -188,7 +188,7 @@ fn finish<L: Lines, K: Sink>(
     requires number { L.number lines.old ≡ tally.old.lines }
     requires few { tally.old.lines < 2 ^ 64 - 1 }
     ensures answers { (start : L.State) (taken output : List ℕ)
-        → Stands L.step start taken output (L.state lines.old) buffer.now.items tally.old
+        → ReadSoFar L.step start taken output (L.state lines.old) buffer.now.items tally.old
         → MatchResult result
         (λ status. (more : List ℕ) × Appends (K.written sink.old) (K.written sink.new) more × AnswersAll L.step start taken (output ++ more) status)
         (λ _. GivesUp L.step start ⊤ taken output (K.written sink.old) (K.written sink.new)) }

@@ -51,7 +51,8 @@ door = class (codes "door") (codes "open" ∷ codes "shut" ∷ [])
 abbrev pub two_tokens : List Premise
 two_tokens = door ∷ Token (codes "k") (codes "open") ∷ Token (codes "m") (codes "shut") ∷ []
 
--- class door open shut / kind push / rule r push 1 2 shut if open / token k open / dist z start k 0 0
+-- class door open shut / kind push / rule r push 1 2 shut if open / token k open / dist z start k 0
+-- 0
 abbrev pub before_push : List Premise
 before_push =
     door
@@ -61,8 +62,9 @@ before_push =
     ∷ dated (codes "z") (codes "k") 0
     ∷ []
 
--- class door open shut / class bolt fast loose / kind push / rule r push 1 1 shut if open unless fast / token k open /
--- dist z start k 0 0 / event e push / dist x start e 10 10 / token b fast / dist y start b 0 0
+-- class door open shut / class bolt fast loose / kind push / rule r push 1 1 shut if open unless
+-- fast / token k open / dist z start k 0 0 / event e push / dist x start e 10 10 / token b fast /
+-- dist y start b 0 0
 abbrev pub bolted_door : List Premise
 bolted_door =
     door
@@ -102,8 +104,8 @@ one_event =
 abbrev pub two_events : List Premise
 two_events = one_event ++ Event (codes "f") (codes "u") ∷ []
 
--- class door open shut / class lamp dark lit / kind push / rule r push 1 1 lit if open / token k open /
--- dist z start k 0 0 / token n dark / dist y start n 0 0
+-- class door open shut / class lamp dark lit / kind push / rule r push 1 1 lit if open / token k
+-- open / dist z start k 0 0 / token n dark / dist y start n 0 0
 abbrev pub lamp : List Premise
 lamp =
     door

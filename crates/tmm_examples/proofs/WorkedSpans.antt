@@ -11,7 +11,8 @@ use Rattle.tmm_model.specs.Standing.{Standing}
 use Rattle.belief_theory.proofs.FarTables.{of_map}
 use Rattle.tmm_examples.proofs.WorkedScripts.{within, class, dated, root}
 
--- class w on off / span s on / dist a start s 0 0 / dist b s s.end 5 5 / point p / dist c start p 5 5
+-- class w on off / span s on / dist a start s 0 0 / dist b s s.end 5 5 / point p / dist c start p 5
+-- 5
 abbrev work : Standing
 work =
     within 1000 (

@@ -9,7 +9,8 @@ use Rattle.belief_theory.specs.Touched.{touched, touched_decisions}
 use Rattle.belief_theory.proofs.FarTables.{of_maps}
 use Rattle.tmm_examples.proofs.WorkedScripts.{within, chain, lamp, push, shut_at_five, push_at_ten}
 
--- a chain of effects: a new rule makes four decisions; a nearer horizon touches the three that are left
+-- a chain of effects: a new rule makes four decisions; a nearer horizon touches the three that are
+-- left
 four_new : touched (within 35 []) (within 35 (chain 10)) ≡ 4
 four_new = of_maps touched_decisions (within 35 []) (within 35 (chain 10))
 

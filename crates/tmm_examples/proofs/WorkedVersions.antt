@@ -49,7 +49,8 @@ opens_once : line_of Two (words (codes "tmm 2")) ≡ None
 unfolding words line_of query_of edit_of upgrade_of premise_of
 opens_once = refl
 
--- the empty list takes version 2, and no other one does, whether its premises, its horizon or its version are others
+-- the empty list takes version 2, and no other one does, whether its premises, its horizon or its
+-- version are others
 taken_once : (list_cause empty_list Upgrade ≡ None) × (list_cause (within 1000 (Kind (codes "push") ∷ [])) Upgrade ≡ Some out_of_form)
     × (list_cause (within 5 []) Upgrade ≡ Some out_of_form) × (list_cause (within_two 1000 []) Upgrade ≡ Some out_of_form)
 taken_once = (refl, refl, refl, refl)

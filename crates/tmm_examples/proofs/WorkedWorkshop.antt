@@ -1,4 +1,5 @@
--- A workshop with a saw, a press and a crew: three cuts, three gluings, a deadline and two protections.
+-- A workshop with a saw, a press and a crew: three cuts, three gluings, a deadline and two
+-- protections.
 use Rattle.std.proofs.Common.{◌≡◌, ◌++◌, ℕ, List, [], ◌∷◌, pos, negsuc}
 use Rattle.std.specs.Prelude.{codes}
 use Rattle.tmm_model.specs.declared.bound.Bound.TheVariants.{Finite, Free}
@@ -58,7 +59,8 @@ events =
     ∷ between (codes "c9") (codes "cut-c") (codes "glue-c") 60 60
     ∷ []
 
--- all is to be glued 50 before 300; then the crew is on duty, and the press is free at the second gluing
+-- all is to be glued 50 before 300; then the crew is on duty, and the press is free at the second
+-- gluing
 abbrev wishes : List Premise
 wishes =
     Point (codes "due")

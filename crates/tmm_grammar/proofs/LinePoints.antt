@@ -119,9 +119,6 @@ point_reader = record { sound = point_of-sound; complete = point_of-complete }
 
 -- ---- occurrences
 
-not_slash : ℕ → Bool
-not_slash b = not (b == 47)
-
 -- the bytes are none, or begin with a `/`
 abbrev pub at_slash : List ℕ → Bool
 at_slash [] = true

@@ -69,11 +69,6 @@ unfolding words
 words_of [] = refl
 words_of (b ∷ line) = words_step b line (words line) (words_of line)
 
--- every word of a line is a word
-pub words-words : (line : List ℕ) (ws : List (List ℕ)) → AreWords line ws → AllByRecursion IsWord ws
-words-words line [] h = tt
-words-words line (w ∷ ws) h = (h.4, words-words h.1 ws h.6)
-
 pub one_list_of_words : (line : List ℕ) (ws : List (List ℕ)) → AreWords line ws ↔ (ws ≡ words line)
 one_list_of_words line ws = (words-are line ws, λ e. subst (AreWords line) (sym e) (words_of line))
 

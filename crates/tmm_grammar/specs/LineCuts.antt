@@ -11,7 +11,8 @@ AreBlanks gap = IsTrue (list_all is_blank gap)
 abbrev pub IsWord : List ℕ → Type 0
 IsWord w = (w ≢ []) × IsTrue (list_all (λ b. not (is_blank b)) w)
 
--- the same in other words: the line is blanks, a word that goes on no further, and so on, and blanks at the end
+-- the same in other words: the line is blanks, a word that goes on no further, and so on, and
+-- blanks at the end
 abbrev pub AreWords : List ℕ → List (List ℕ) → Type 0
 AreWords line [] = AreBlanks line
 AreWords line (w ∷ ws) = (gap : List ℕ) × (rest : List ℕ) × (line ≡ gap ++ w ++ rest) × AreBlanks gap × IsWord w × (goes_on rest ≡ false) × AreWords rest ws

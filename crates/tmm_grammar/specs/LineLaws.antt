@@ -18,8 +18,8 @@ WordsAreOne = (line : List ℕ) (ws : List (List ℕ)) → AreWords line ws ↔ 
 abbrev pub ReadingIsOne : Type 0
 ReadingIsOne = (version : Version) (ws : List (List ℕ)) (a b : Line) → Reads version ws a → Reads version ws b → SameLine a b
 
--- the line that shows a premise has at most 400 bytes, and reads as the premise in each version in which it is
--- well formed
+-- the line that shows a premise has at most 400 bytes, and reads as the premise in each version in
+-- which it is well formed
 abbrev pub ShownReads : Type 0
 ShownReads =
     (premise : Premise) → IsWellFormedPremise premise

@@ -1,5 +1,5 @@
--- The grammar of a script line as a function from words, which code follows word by word. In each version it
--- gives the values for which `Reads` holds, with no room in their lists.
+-- The grammar of a script line as a function from words, which code follows word by word. In each
+-- version it gives the values for which `Reads` holds, with no room in their lists.
 use Rattle.std.specs.Prelude.{ℕ, zero, suc, ◌+◌, ◌-◌, ◌*◌, ℤ, pos, negsuc, int_le, Bool, true, false, cond, ◌&&◌, ◌==◌, nat_le, List, [], ◌∷◌, length, take, drop, Option, Some, None, option_map, codes}
 use Rattle.std.specs.List.{list_all, list_any, slice_split}
 use Rattle.std.specs.Option.{option_or}
@@ -180,7 +180,8 @@ with_exceptions ws given = facts_of (codes "unless") 2 ws >>= λ exceptions. Som
 unfoldable pub conditions_of : Version → List (List ℕ) → Option (List (List ℕ) × List (List ℕ))
 conditions_of version ws = facts_of (codes "if") 4 (given_part version ws) >>= with_exceptions (exception_part version ws)
 
--- a name, a kind, a delay of at least 1 and a bound that is no less, an effect, antecedents and exceptions
+-- a name, a kind, a delay of at least 1 and a bound that is no less, an effect, antecedents and
+-- exceptions
 unfoldable pub rule_of : Version → List (List ℕ) → Option Premise
 rule_of version ws = both name_of (both name_of (both number_of (both bound_of (both name_of (conditions_of version))))) ws
     >>= λ t. passing (int_le (pos 1) t.1.1.0 && is_range (Finite t.1.1.0) t.1.1.1.0) (Rule t.0 t.1.0 t.1.1.0 t.1.1.1.0 t.1.1.1.1.0 (record { items = t.1.1.1.1.1.0 }) (record { items = t.1.1.1.1.1.1 }))

@@ -11,8 +11,8 @@ pub fn reading_is_one()
     ensures { ReadingIsOne }
 {}
 
-/// The line that shows a well-formed premise has at most 400 bytes, and reads as this premise in each version
-/// in which it is well formed.
+/// The line that shows a well-formed premise has at most 400 bytes, and reads as this premise in
+/// each version in which it is well formed.
 pub fn shown_premise_reads()
     ensures { ShownReads }
 {}

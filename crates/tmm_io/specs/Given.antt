@@ -14,7 +14,8 @@ pub record Steady : Type 0 where
   pub left : List ℕ
   pub piece : ℕ
 
--- a source of a line again and again: the place in the line that is next, and how many bytes are left
+-- a source of a line again and again: the place in the line that is next, and how many bytes are
+-- left
 pub record Repeated : Type 0 where
   pub line : List ℕ
   pub at : ℕ

@@ -2,8 +2,8 @@
 use Rattle.std.specs.Prelude.{ℕ, ◌-◌, min, Bool, true, not, nat_le, nat_eq, cond, List, [], ◌∷◌, ◌++◌, take, length, Option, Some, None}
 use Rattle.tmm_io.specs.Causes.{raised}
 
--- The bytes so far and how many more fit, how many calls there were, which of them fail and after how many
--- bytes, and the count of faults.
+-- The bytes so far and how many more fit, how many calls there were, which of them fail and after
+-- how many bytes, and the count of faults.
 pub record Kept : Type 0 where
   pub bytes : List ℕ
   pub room : ℕ
@@ -11,7 +11,8 @@ pub record Kept : Type 0 where
   pub fails : List (ℕ × ℕ)
   pub faults : ℕ
 
--- how many bytes are stated for a call, by the first pair with its number: none where it isn't listed
+-- how many bytes are stated for a call, by the first pair with its number: none where it isn't
+-- listed
 abbrev pub stated_for : ℕ → List (ℕ × ℕ) → Option ℕ
 stated_for call [] = None
 stated_for call (pair ∷ fails) = cond (nat_eq pair.0 call) (Some pair.1) (stated_for call fails)

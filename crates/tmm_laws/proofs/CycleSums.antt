@@ -26,8 +26,8 @@ use Rattle.list_theory.proofs.Places.{points_new}
 use Rattle.walk_theory.proofs.Removal.{Free-to_outside}
 use Rattle.belief_theory.proofs.Sound.{far_in-IsFar, shortest}
 
--- of the upper and the lower bound of a distance at most one closes a negative cycle, where the ways forth
--- and back together have no negative sum
+-- of the upper and the lower bound of a distance at most one closes a negative cycle, where the
+-- ways forth and back together have no negative sum
 not_both : (lo hi x y : ℤ) (forth back : Bound) → lo ≤ℤ hi → IsTighter (Finite (pos 0)) (bound_plus forth back)
     → after hi back ≡ Finite x → x <ℤ pos 0 → after (neg_ℤ lo) forth ≡ Finite y → y <ℤ pos 0 → ⊥
 not_both lo hi x y (Finite f) (Finite b) range round e x_neg g y_neg =

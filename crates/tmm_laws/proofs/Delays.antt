@@ -1,4 +1,5 @@
--- Delays along rules: what they sum up to, and dates that take the least on one way and the most beside it.
+-- Delays along rules: what they sum up to, and dates that take the least on one way and the most
+-- beside it.
 use Rattle.std.proofs.Common.{◌≡◌, ◌∙◌, ℕ, Bool, true, false, List, [], ◌∷◌, ◌++◌, refl, sym, ap, subst, arith}
 use Rattle.std.proofs.lemmas.Int.{ints}
 use Rattle.std.specs.Prelude.{ℤ, pos, ◌+ℤ◌, ◌-ℤ◌, ◌≤ℤ◌}
@@ -97,7 +98,8 @@ module _ (s : Standing) (n : ℤ) where
   spent (r ∷ u) [] = pos 0
   spent (r ∷ u) (q ∷ v) = elim (same_name r q) [ true ↦ (rule_of s q).lo +ℤ spent u v | false ↦ longest (q ∷ v) ]
 
-  -- dates d of points, with the least delays on the way by the rules u from the point p, and beside it the most
+  -- dates d of points, with the least delays on the way by the rules u from the point p, and beside
+  -- it the most
   abbrev pub timed : (PointName → ℤ) → PointName → List (List ℕ) → Moment → ℤ
   timed d p u x = d (base x) +ℤ spent (elim (same_point p (base x)) [ true ↦ u | false ↦ [] ]) (rules x)
 

@@ -11,12 +11,12 @@ use Rattle.tmm_model.specs.declared.point.PointName.{PointName}
 use Rattle.tmm_model.specs.Standing.{Standing, arcs_in, far_in}
 use Rattle.walk_theory.specs.LeastWalks.{IsFar}
 use Rattle.list_theory.specs.WellNamed.{IsSound}
-use Rattle.belief_theory.specs.Right.{IsRight, IsShortest, HasSoundRules, IsTimed}
+use Rattle.belief_theory.specs.Right.{IsRight, IsQuasiMetric, HasSoundRules, IsTimed}
 use Rattle.tmm_model.specs.Reasons.{Reason, rests_on, IsWhy}
 
 -- the distances of a sound list are shortest, and its rules are sound
 abbrev pub SoundListsAreShortest : Type 0
-SoundListsAreShortest = (s : Standing) → IsSound s → IsShortest s (far_in s.premises) × HasSoundRules s
+SoundListsAreShortest = (s : Standing) → IsSound s → IsQuasiMetric s (far_in s.premises) × HasSoundRules s
 
 -- and each is the least sum over all walks of its constraints, none exactly where there is no walk
 abbrev pub DistancesAreLeast : Type 0
@@ -24,12 +24,12 @@ DistancesAreLeast = (s : Standing) → IsSound s → (p q : PointName) → IsFar
 
 -- then occurrences have earliest dates as rules say
 abbrev pub PointsTimeOccurrences : Type 0
-PointsTimeOccurrences = (s : Standing) (far : Distances) → IsShortest s far → HasSoundRules s → IsTimed s far
+PointsTimeOccurrences = (s : Standing) (far : Distances) → IsQuasiMetric s far → HasSoundRules s → IsTimed s far
 
 -- and distances of any moments obey the triangle law
 abbrev pub DistancesAreShortest : Type 0
 DistancesAreShortest =
-    (s : Standing) (far : Distances) → IsShortest s far → HasSoundRules s
+    (s : Standing) (far : Distances) → IsQuasiMetric s far → HasSoundRules s
     → (x y z : Moment) → IsTighter (distance s far x z) (bound_plus (distance s far x y) (distance s far y z))
 
 -- two right sets have the same members
@@ -56,7 +56,8 @@ FiresWhereBelieved =
     (s : Standing) → IsSound s → (t : Moment) (r : List ℕ) → Contains (built s).believed t → Contains (rules_at s t) r
     → ((ks : List Moment) × (outcome s (far_in s.premises) (built s).believed t r ≡ fires ks)) ↔ Contains (built s).believed (After t r)
 
--- in the map of a sound list, what a believed occurrence rests on is believed, and has an earlier date
+-- in the map of a sound list, what a believed occurrence rests on is believed, and has an earlier
+-- date
 abbrev pub ReasonsAreEarlier : Type 0
 ReasonsAreEarlier =
     (s : Standing) → IsSound s → (o x : Moment)

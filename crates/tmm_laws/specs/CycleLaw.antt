@@ -10,8 +10,8 @@ use Rattle.tmm_model.specs.Standing.{Standing}
 use Rattle.tmm_model.specs.Verdicts.{list_cause}
 use Rattle.list_theory.specs.NegativeCycles.{IsCycleSum}
 
--- Of a premise against which names and counts have no cause, a sound list has at most one sum of a cycle,
--- though the premise may have two constraints.
+-- Of a premise against which names and counts have no cause, a sound list has at most one sum of a
+-- cycle, though the premise may have two constraints.
 abbrev pub CycleSumsAreOne : Type 0
 CycleSumsAreOne =
     (s : Standing) (refused : Premise) → IsSound s → IsWellFormedPremise refused → list_cause s (Add refused) ≡ None

@@ -1,4 +1,5 @@
--- The law of dates: constraints between declared points have dates exactly where no closed walk has a negative sum.
+-- The law of dates: constraints between declared points have dates exactly where no closed walk has
+-- a negative sum.
 use Rattle.std.specs.Prelude.{◌↔◌, ◌⊎◌, List}
 use Rattle.tmm_model.specs.declared.point.PointName.{PointName}
 use Rattle.tmm_model.specs.declared.point.PointName.TheVariants.{Start}

@@ -15,20 +15,21 @@ use Rattle.list_theory.specs.WellNamed.{IsWellNamed}
 use Rattle.tmm_model.specs.Walks.{Arc, IsDates, HasDates, far}
 use Rattle.walk_theory.specs.LeastWalks.{AreAmong}
 
--- A number is never exceeded by the date of b less that of a, and some dates reach it. Where there is
--- no bound, some dates exceed any number.
+-- A number is never exceeded by the date of b less that of a, and some dates reach it. Where there
+-- is no bound, some dates exceed any number.
 abbrev pub IsTightest : List (Arc PointName) → PointName → PointName → Bound → Type 0
 IsTightest arcs a b (Finite x) =
     ((date : PointName → ℤ) → IsDates Start arcs date → (date b -ℤ date a) ≤ℤ x) × ((date : PointName → ℤ) × IsDates Start arcs date × ((date b -ℤ date a) ≡ x))
 IsTightest arcs a b Free = (m : ℤ) → (date : PointName → ℤ) × IsDates Start arcs date × (m <ℤ (date b -ℤ date a))
 
--- where constraints among known points have dates, the distance of two of them is the tightest bound
+-- where constraints among known points have dates, the distance of two of them is the tightest
+-- bound
 abbrev pub DistancesAreTightest : Type 0
 DistancesAreTightest =
     (known : List PointName) (arcs : List (Arc PointName)) (a b : PointName) → AreAmong known arcs → HasDates Start arcs → Contains known b → IsTightest arcs a b (far same_point arcs (length known) a b)
 
--- The same over premises: where a well-named list has dates, the distance of two of its points is the
--- tightest bound.
+-- The same over premises: where a well-named list has dates, the distance of two of its points is
+-- the tightest bound.
 abbrev pub ListDistancesAreTightest : Type 0
 ListDistancesAreTightest =
     (premises : List Premise) (a b : PointName) → IsWellNamed premises → IsConsistent premises → Contains (points_in premises) b → IsTightest (arcs_in premises) a b (far_in premises a b)

@@ -21,7 +21,8 @@ DumpsTell =
     (k : ℕ) (s : Standing)
     → text_of k (DumpIs s.version s.horizon (map shown_text s.premises)) ≡ head_line k (codes "dump" ∷ decimal (length s.premises) ∷ []) ++ joined (dumped_lines s)
 
--- these lines, run from the empty list on, are all accepted, want of memory aside, and leave the list
+-- these lines, run from the empty list on, are all accepted, want of memory aside, and leave the
+-- list
 abbrev pub DumpsRun : Type 0
 DumpsRun =
     (s : Standing) → IsKept s → GrowsSmall s

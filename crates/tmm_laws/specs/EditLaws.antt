@@ -68,14 +68,14 @@ GrowsSmall s = (front back : List Premise) → s.premises ≡ front ++ back → 
 abbrev pub ReadsBack : Version → Edit → Type 0
 ReadsBack version edit = (length (dumped_line edit) ≤ LONGEST_LINE) × ReadsLine version (dumped_line edit) (Change edit)
 
--- so do the lines of all edits, made one after the other from a list on, each in the version of the list that those
--- before it leave
+-- so do the lines of all edits, made one after the other from a list on, each in the version of the
+-- list that those before it leave
 abbrev pub AllReadBack : Standing → List Edit → Type 0
 AllReadBack s [] = Unit {0}
 AllReadBack s (edit ∷ edits) = ReadsBack s.version edit × AllReadBack (next_list s edit) edits
 
--- the lines that a dump shows of a kept list tell its edits, and these are accepted from the empty list on,
--- and leave the list
+-- the lines that a dump shows of a kept list tell its edits, and these are accepted from the empty
+-- list on, and leave the list
 abbrev pub DumpReloads : Type 0
 DumpReloads =
     (s : Standing) → IsKept s → GrowsSmall s

@@ -21,21 +21,22 @@ abbrev pub AreDelays : Standing → (Moment → ℤ) → Moment → Type 0
 AreDelays s time (At p) = Unit {0}
 AreDelays s time (After t r) = AreDelays s time t × IsDelay (rule_of s r) (time (After t r) -ℤ time t)
 
--- **A timing of the moments b**: dates of the declared points that satisfy every constraint, and dates
--- of all that rules bring about on the way to b, each a delay of its rule after what brings it about.
+-- **A timing of the moments b**: dates of the declared points that satisfy every constraint, and
+-- dates of all that rules bring about on the way to b, each a delay of its rule after what brings
+-- it about.
 pub record IsTiming (s : Standing) (b : List Moment) (time : Moment → ℤ) : Type 0 where
   pub dates : IsDates Start (arcs_in s.premises) (λ p. time (At p))
   pub delays : All (AreDelays s time) b
 
--- A number is never exceeded by the date of y less that of x, and some timing reaches it. Where there is
--- no bound, some timing exceeds any number.
+-- A number is never exceeded by the date of y less that of x, and some timing reaches it. Where
+-- there is no bound, some timing exceeds any number.
 abbrev pub IsTightestOf : Standing → List Moment → Moment → Moment → Bound → Type 0
 IsTightestOf s b x y (Finite d) =
     ((time : Moment → ℤ) → IsTiming s b time → (time y -ℤ time x) ≤ℤ d) × ((time : Moment → ℤ) × IsTiming s b time × ((time y -ℤ time x) ≡ d))
 IsTightestOf s b x y Free = (n : ℤ) → (time : Moment → ℤ) × IsTiming s b time × (n <ℤ (time y -ℤ time x))
 
--- **The distance of two moments is the tightest bound over all timings**, whatever moments are timed
--- beside the two.
+-- **The distance of two moments is the tightest bound over all timings**, whatever moments are
+-- timed beside the two.
 abbrev pub TimingsAreTightest : Type 0
 TimingsAreTightest = (s : Standing) → IsSound s → (b : List Moment) (x y : Moment) → Contains b x → Contains b y → IsTightestOf s b x y (distance s (far_in s.premises) x y)
 

@@ -38,8 +38,8 @@ pub fn distances_are_tightest()
     ensures of_premises { ListDistancesAreTightest }
 {}
 
-/// The distance of points and occurrences is exactly what their timings allow, what is surely in order
-/// is so in every timing, and the earliest dates are the earliest timing.
+/// The distance of points and occurrences is exactly what their timings allow, what is surely in
+/// order is so in every timing, and the earliest dates are the earliest timing.
 pub fn timings_are_tightest()
     ensures distances { TimingsAreTightest }
     ensures sure { SureInEveryTiming }

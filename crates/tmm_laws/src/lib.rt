@@ -1,5 +1,6 @@
-//! What the definitions of `tmm_model` are worth: laws of dates, distances, timings, cycles, beliefs, reasons,
-//! edits, dumps and whole transcripts. Its functions have empty bodies, and each ensures a law. No crate stands on this one.
+//! What the definitions of `tmm_model` are worth: laws of dates, distances, timings, cycles,
+//! beliefs, reasons, edits, dumps and whole transcripts. Its functions have empty bodies, and each
+//! ensures a law. No crate stands on this one.
 #![tactic(auto)]
 
 mod beliefs;

@@ -3,8 +3,8 @@ ghost use Rattle.tmm_laws.specs.KeptRuns.{RunsKeepLists};
 ghost use Rattle.tmm_laws.specs.DumpRuns.{DumpsTell, DumpsRun, StepsLeaveOne};
 ghost use Rattle.tmm_laws.specs.OneText.{TextsAreOne};
 
-/// What a dump shows behind its first line, run again from the empty list, is accepted line by line and leaves the
-/// list, where its first premises alone do not make too large a map.
+/// What a dump shows behind its first line, run again from the empty list, is accepted line by line
+/// and leaves the list, where its first premises alone do not make too large a map.
 pub fn dumps_run()
     ensures tell { DumpsTell }
     ensures run { DumpsRun }
@@ -15,7 +15,8 @@ pub fn steps_leave_one()
     ensures { StepsLeaveOne }
 {}
 
-/// Two replies that a line may have from one list have the same bytes, or show a walk, of which there may be several.
+/// Two replies that a line may have from one list have the same bytes, or show a walk, of which
+/// there may be several.
 pub fn texts_are_one()
     ensures { TextsAreOne }
 {}

@@ -1,4 +1,5 @@
--- What a map answers: clips, whether a fact holds, broken protections, the believed occurrences and the size.
+-- What a map answers: clips, whether a fact holds, broken protections, the believed occurrences and
+-- the size.
 use Rattle.std.specs.Prelude.{ℕ, ◌+◌, ◌-◌, ℤ, Bool, true, false, List, [], map, length, take, filter, sum_by, Option, Some, None}
 use Rattle.std.specs.List.{filter_map}
 use Rattle.std.specs.Option.{option_map, option_map_or, option_and_then}
@@ -34,7 +35,8 @@ pub data Fault : Type 0 where
 pub data Finding : Type 0 where
   -- this is the first supporter
   holds : Moment → Finding
-  -- no token supports it; the first tokens of the fact with their faults, and the number of the others
+  -- no token supports it; the first tokens of the fact with their faults, and the number of the
+  -- others
   fails : List (Moment × Fault) → ℕ → Finding
   -- p is not surely at or before q
   unordered : Finding
@@ -66,8 +68,8 @@ module _ (m : TimeMap) where
 
   -- ---- clips
 
-  -- **The clip** of a persistence: the first believed token that contradicts it and surely begins after it.
-  -- A span has none.
+  -- **The clip** of a persistence: the first believed token that contradicts it and surely begins
+  -- after it. A span has none.
   abbrev pub clip_of : TokenRow Moment → Option Moment
   clip_of k = elim k.end [ Some e ↦ None | None ↦ first_believed (clips (contradicts_in m.list) (gap m) k) ]
 
@@ -90,7 +92,8 @@ module _ (m : TimeMap) where
   abbrev pub tokens_for : List ℕ → List (TokenRow Moment)
   tokens_for fact = sorted (on (λ k. k.spot) (order m)) (filter (λ k. same_name k.fact fact) (believed_tokens m))
 
-  -- the fact does not hold: its first tokens, each with its fault, and how many there are beside them
+  -- the fact does not hold: its first tokens, each with its fault, and how many there are beside
+  -- them
   abbrev pub failing : Moment → Moment → List (TokenRow Moment) → Finding
   failing p q ks = fails (map (λ k. (k.spot, fault p q k)) (take most_blames ks)) (length ks - most_blames)
 

@@ -107,7 +107,8 @@ module _ (s : Standing) (far : Distances) where
   abbrev pub supported : List Moment → Moment → List ℕ → Bool
   supported b t fact = has_support b fact t t
 
-  -- **What frees a rule at an event**: each of its antecedents has a supporter there, and no exception has one.
+  -- **What frees a rule at an event**: each of its antecedents has a supporter there, and no
+  -- exception has one.
   abbrev pub is_free : List Moment → Moment → List ℕ → Bool
   is_free b t r = list_all (supported b t) (rule_of s r).given && not (list_any (supported b t) (rule_of s r).exceptions)
 

@@ -49,7 +49,8 @@ module _ (old new : TimeMap) where
   new_clip x None = None
   new_clip x (Some c) = elim (is_believed old x && option_eq same_moment (clip old x) (Some c)) [ true ↦ None | false ↦ Some (x, c) ]
 
-  -- in the order of the old list, or of the occurrences of the map in which what is told is believed
+  -- in the order of the old list, or of the occurrences of the map in which what is told is
+  -- believed
   abbrev pub delta : Delta
   delta = record {
     erased = filter (λ name. is_none (premise_in new.list.premises name)) (map name_of old.list.premises);

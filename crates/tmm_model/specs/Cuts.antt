@@ -15,7 +15,7 @@ abbrev pub IsLine : List ℕ → Type 0
 IsLine line = All (λ byte. byte ≢ 10) line
 
 -- the text is these lines, each with its end, and then a rest without one
-pub record IsCut (text : List ℕ) (lines : List (List ℕ)) (rest : List ℕ) : Type 0 where
+pub record SplitsIntoLines (text : List ℕ) (lines : List (List ℕ)) (rest : List ℕ) : Type 0 where
   pub whole : text ≡ joined lines ++ rest
   pub each : All IsLine lines
   pub last : IsLine rest

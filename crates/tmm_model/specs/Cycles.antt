@@ -40,8 +40,8 @@ pub record IsCycleBy (known : List WalkStep) (first : WalkStep) (sum : ℤ) (ste
   pub back : IsPath known first.to first.from rest
   pub sums : sum_of steps ≡ sum
 
--- **The cycle of a refused premise**: one of its constraints and a tightest way back over the standing
--- premises, with a negative sum.
+-- **The cycle of a refused premise**: one of its constraints and a tightest way back over the
+-- standing premises, with a negative sum.
 pub record IsCycleOf (premises : List Premise) (refused : Premise) (sum : ℤ) (steps : List WalkStep) : Type 0 where
   pub first : WalkStep
   pub own : Contains (steps_of refused) first

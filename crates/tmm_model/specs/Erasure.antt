@@ -33,13 +33,14 @@ abbrev pub falls : List ℕ → List (List ℕ) → Premise → Bool
 falls erased gone premise = same_name erased (name_of premise) || list_any (is_among gone) (mentioned_by premise)
 
 module _ (erased : List ℕ) where
-  -- From the first of the premises on, where the names `gone` were declared by premises that fell before
-  -- them: those that stay. A premise that falls takes all its names along.
+  -- From the first of the premises on, where the names `gone` were declared by premises that fell
+  -- before them: those that stay. A premise that falls takes all its names along.
   abbrev pub kept_after : List (List ℕ) → List Premise → List Premise
   kept_after gone [] = []
   kept_after gone (premise ∷ premises) =
       elim (falls erased gone premise) [ true ↦ kept_after (declared_by premise ++ gone) premises | false ↦ premise ∷ kept_after gone premises ]
 
--- the premises without the one of this name and all that mention, directly or through others, what is retracted
+-- the premises without the one of this name and all that mention, directly or through others, what
+-- is retracted
 abbrev pub kept_without : List ℕ → List Premise → List Premise
 kept_without erased premises = kept_after erased [] premises

@@ -109,8 +109,8 @@ IsWellFormedEdit Upgrade = Unit {0}
 abbrev pub is_unless : List ℕ → Bool
 is_unless word = same_name word (codes "unless")
 
--- In version 1 no rule has exceptions, and `unless` is a name as any other. In version 2 the antecedents end at the
--- first word `unless`.
+-- In version 1 no rule has exceptions, and `unless` is a name as any other. In version 2 the
+-- antecedents end at the first word `unless`.
 abbrev pub AreFactsOf : Version → List (List ℕ) → List (List ℕ) → Type 0
 AreFactsOf One facts exceptions = exceptions ≡ []
 AreFactsOf Two facts exceptions = list_any is_unless facts ≡ false
@@ -187,8 +187,8 @@ abbrev pub IsSilent : List (List ℕ) → Type 0
 IsSilent [] = Unit {0}
 IsSilent (w ∷ _) = IsTrue (is_comment w)
 
--- In a version the words read as what the line says. They read as nothing exactly where they are in no form of its
--- grammar.
+-- In a version the words read as what the line says. They read as nothing exactly where they are in
+-- no form of its grammar.
 abbrev pub Reads : Version → List (List ℕ) → Line → Type 0
 Reads version ws Silent = IsSilent ws
 Reads version ws (Change edit) = (ws ≡ edit_words edit) × IsWellFormedEdit edit × IsEditOf version edit

@@ -17,8 +17,8 @@ use Rattle.tmm_model.specs.Bounds.{bound_plus, bound_less}
 use Rattle.tmm_model.specs.Points.{same_name, same_point, point_word}
 use Rattle.tmm_model.specs.Standing.{Standing, premise_in}
 
--- A declared point, or the begin of the effect of a rule on the event at a moment. The occurrence that
--- a script writes as `e/r/q` is `After (After (At (Begin e)) r) q`.
+-- A declared point, or the begin of the effect of a rule on the event at a moment. The occurrence
+-- that a script writes as `e/r/q` is `After (After (At (Begin e)) r) q`.
 pub data Moment : Type 0 where
   At : PointName → Moment
   After : Moment → List ℕ → Moment
@@ -105,8 +105,8 @@ abbrev pub high : Standing → List (List ℕ) → Bound
 high s [] = Finite (pos 0)
 high s (r ∷ rs) = bound_plus (rule_of s r).hi (high s rs)
 
--- From where rules u lead to where rules v lead, from one point: the rules that both begin with count
--- for nothing.
+-- From where rules u lead to where rules v lead, from one point: the rules that both begin with
+-- count for nothing.
 abbrev pub apart : Standing → List (List ℕ) → List (List ℕ) → Bound
 apart s (r ∷ u) (q ∷ v) =
     elim (same_name r q) [

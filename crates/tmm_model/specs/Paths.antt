@@ -19,8 +19,9 @@ abbrev pub WalksIf : TimeMap → Moment → Moment → Bound → List WalkStep �
 WalksIf m x y Free steps = steps ≡ []
 WalksIf m x y (Finite d) steps = IsLeastWalk m (base x) (base y) steps
 
--- **What a `path` is answered**: the upper bound on the distance and, where there is one, a least walk
--- between the declared points of the two moments. Rules have no steps, so the sum of the steps may be another.
+-- **What a `path` is answered**: the upper bound on the distance and, where there is one, a least
+-- walk between the declared points of the two moments. Rules have no steps, so the sum of the steps
+-- may be another.
 pub record GivesPath (m : TimeMap) (x y : Moment) (far : Bound) (steps : List WalkStep) : Type 0 where
   pub bound : far ≡ gap m x y
   pub walk : WalksIf m x y far steps

@@ -35,12 +35,14 @@ module _ (m : TimeMap) where
   point_cause (Declared p) = place_cause m.list.premises p
   point_cause (Derived o) = derived_cause o
 
-  -- the cause against an occurrence whose reasons are asked for; without a rule it is wanted as a root
+  -- the cause against an occurrence whose reasons are asked for; without a rule it is wanted as a
+  -- root
   abbrev pub why_cause : Occ → List (List ℕ) → Option Cause
   why_cause o [] = name_cause (sort_in m.list.premises o.root) o.root is_root
   why_cause o (r ∷ rules) = derived_cause o
 
-  -- **Why a question is refused**: the first of its words, from the left, for which there is a cause.
+  -- **Why a question is refused**: the first of its words, from the left, for which there is a
+  -- cause.
   abbrev pub query_cause : Query → Option Cause
   query_cause (Bounds p q) = option_or (point_cause p) (point_cause q)
   query_cause (Path p q) = option_or (point_cause p) (point_cause q)

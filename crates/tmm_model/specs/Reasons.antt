@@ -17,11 +17,11 @@ use Rattle.tmm_model.specs.Points.{point_word}
 pub data Reason : Type 0 where
   -- this premise declares it
   by_premise : List ℕ → Reason
-  -- the first is surely at or before the second: this is the upper bound on the first less the second,
-  -- and these constraints give it
+  -- the first is surely at or before the second: this is the upper bound on the first less the
+  -- second, and these constraints give it
   by_order : Moment → Moment → ℤ → List WalkStep → Reason
-  -- this occurrence is the effect of this rule on this event; these support the antecedents, and the
-  -- exceptions are these facts
+  -- this occurrence is the effect of this rule on this event; these support the antecedents, and
+  -- the exceptions are these facts
   by_rule : Moment → List ℕ → Moment → List Moment → List (List ℕ) → Reason
 
 module _ (m : TimeMap) where
@@ -61,7 +61,8 @@ module _ (m : TimeMap) where
   pairs (At p) = []
   pairs (After t r) = flat_map (pairs_of t) (supports_at m t r)
 
-  -- the line that x is surely at or before y: the distance from y to x, and a least walk of constraints
+  -- the line that x is surely at or before y: the distance from y to x, and a least walk of
+  -- constraints
   pub record IsOrderLine (pair : Moment × Moment) (line : Reason) : Type 0 where
     pub far : ℤ
     pub steps : List WalkStep
@@ -69,7 +70,8 @@ module _ (m : TimeMap) where
     pub distance : gap m pair.1 pair.0 ≡ Finite far
     pub walk : IsLeastWalk m (base pair.1) (base pair.0) steps
 
-  -- the lines of the occurrences, one after the other: the orders that each needs, and then its own line
+  -- the lines of the occurrences, one after the other: the orders that each needs, and then its own
+  -- line
   abbrev pub AreReasons : List Moment → List Reason → Type 0
   AreReasons [] lines = lines ≡ []
   AreReasons (x ∷ xs) lines =
@@ -78,8 +80,8 @@ module _ (m : TimeMap) where
       × AllZip IsOrderLine (pairs x) orders
       × AreReasons xs rest
 
--- **The reasons** of the occurrence o: the lines of o and of all that it rests on, each once, in the
--- order of occurrences.
+-- **The reasons** of the occurrence o: the lines of o and of all that it rests on, each once, in
+-- the order of occurrences.
 pub record IsWhy (m : TimeMap) (o : Moment) (lines : List Reason) : Type 0 where
   pub occs : List Moment
   pub all : (x : Moment) → Contains occs x ↔ Upholds m o x

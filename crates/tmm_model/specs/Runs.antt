@@ -29,7 +29,8 @@ is_memory (Reply bytes refused) = false
 is_memory Memory = true
 
 -- Lines are answered one after the other, each from the state that the one before left, and what
--- answers a line may choose: from `old`, the lines after line number k may have these turns, and leave `new`.
+-- answers a line may choose: from `old`, the lines after line number k may have these turns, and
+-- leave `new`.
 abbrev pub Run : {S : Type 0} → (S → ℕ → List ℕ → Turn → S → Type 0) → S → ℕ → List (List ℕ) → List Turn → S → Type 0
 Run step old k [] [] new = new ≡ old
 Run {S} step old k (line ∷ lines) (turn ∷ turns) new = (mid : S) × step old (k + 1) line turn mid × Run step mid (k + 1) lines turns new

@@ -15,7 +15,8 @@ use Rattle.tmm_model.specs.declared.walk.WalkStep.{WalkStep}
 use Rattle.tmm_model.specs.Points.{same_point, same_name}
 use Rattle.tmm_model.specs.Walks.{Arc, HasDates, far}
 
--- the version of its lines, the last date at which an effect is projected, and the premises, oldest first
+-- the version of its lines, the last date at which an effect is projected, and the premises, oldest
+-- first
 pub record Standing : Type 0 where
   pub version : Version
   pub horizon : ℕ

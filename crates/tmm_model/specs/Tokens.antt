@@ -1,4 +1,5 @@
--- Tokens that stand at spots: which of them last, support and clip, given the distances and the order of spots.
+-- Tokens that stand at spots: which of them last, support and clip, given the distances and the
+-- order of spots.
 use Rattle.std.specs.Prelude.{ℕ, pos, negsuc, Bool, not, ◌&&◌, List, Option, Some, None}
 use Rattle.std.specs.List.{list_any}
 use Rattle.tmm_model.specs.declared.bound.Bound.{Bound}

@@ -36,7 +36,8 @@ abbrev pub ClosesBy : List Premise → Edit → ℤ → List WalkStep → Type 0
 ClosesBy premises (Add premise) sum steps = IsCycleOf premises premise sum steps
 ClosesBy premises edit sum steps = ⊥
 
--- no cause among names and counts stands against the edit, and no dates satisfy what it leaves: this cycle shows it
+-- no cause among names and counts stands against the edit, and no dates satisfy what it leaves:
+-- this cycle shows it
 pub record IsCyclic (old : Standing) (edit : Edit) (sum : ℤ) (steps : List WalkStep) : Type 0 where
   pub no_cause : list_cause old edit ≡ None
   pub no_dates : IsConsistent (next_list old edit).premises → ⊥
@@ -48,15 +49,15 @@ pub record IsOversized (old : Standing) (edit : Edit) : Type 0 where
   pub dates : IsConsistent (next_list old edit).premises
   pub large : most_size < size (built (next_list old edit))
 
--- **Why an edit is refused**: for the first cause among names and counts; where there is none, for a cycle;
--- where there is none of these, for the size of the map.
+-- **Why an edit is refused**: for the first cause among names and counts; where there is none, for
+-- a cycle; where there is none of these, for the size of the map.
 abbrev pub RefusesEdit : Standing → Edit → Refusal → Type 0
 RefusesEdit old edit (Cycle sum steps) = IsCyclic old edit sum steps.items
 RefusesEdit old edit LimitSize = IsOversized old edit
 RefusesEdit old edit refusal = Tells refusal (list_cause old edit)
 
--- what an edit may be answered, and the list that it leaves: the next one where it is accepted, with what that
--- changes, and else the old one
+-- what an edit may be answered, and the list that it leaves: the next one where it is accepted,
+-- with what that changes, and else the old one
 abbrev pub AnswersEdit : Standing → Edit → Reply → Standing → Type 0
 AnswersEdit old edit (Accepted told) new = IsAccepted old edit × (delta_of told ≡ changes old new) × (new ≡ next_list old edit)
 AnswersEdit old edit (Refused refusal) new = RefusesEdit old edit refusal × (new ≡ old)
@@ -64,7 +65,8 @@ AnswersEdit old edit reply new = ⊥
 
 -- ---- questions
 
--- what a question may be answered: the first cause against it, and where there is none, what the map answers
+-- what a question may be answered: the first cause against it, and where there is none, what the
+-- map answers
 abbrev pub AnswersQuery : Standing → Query → Reply → Type 0
 AnswersQuery old query (Refused refusal) = Tells refusal (query_cause (built old) query)
 AnswersQuery old query reply = (query_cause (built old) query ≡ None) × Answers (built old) query reply
@@ -82,16 +84,17 @@ AnswersLine old Silent reply new = ⊥
 AnswersLine old (Change edit) reply new = AnswersEdit old edit reply new
 AnswersLine old (Question query) reply new = AnswersQuery old query reply × (new ≡ old)
 
--- What a line may be answered, and the list that it leaves: a line of more than 400 bytes is refused for its
--- length, a shorter one that says nothing in the version of the list for its form, and any other is answered by
--- what it says.
+-- What a line may be answered, and the list that it leaves: a line of more than 400 bytes is
+-- refused for its length, a shorter one that says nothing in the version of the list for its form,
+-- and any other is answered by what it says.
 pub data LineAnswers (old : Standing) (line : List ℕ) (reply : Reply) (new : Standing) : Type 0 where
   for_length : most_bytes < length line → reply ≡ Refused LimitLine → new ≡ old → LineAnswers old line reply new
   for_form : length line ≤ most_bytes → ((meaning : Line) → ReadsLine old.version line meaning → ⊥) → reply ≡ Refused Form → new ≡ old → LineAnswers old line reply new
   for_meaning : (meaning : Line) → IsReadAs old.version line meaning → AnswersLine old meaning reply new → LineAnswers old line reply new
 
--- **The step of the transcript.** From the list `old` the line of number k may have this turn, and leaves the
--- list `new`. A silent line has no reply. Any other may be answered `memory`, and then nothing changes.
+-- **The step of the transcript.** From the list `old` the line of number k may have this turn, and
+-- leaves the list `new`. A silent line has no reply. Any other may be answered `memory`, and then
+-- nothing changes.
 abbrev pub Step : Standing → ℕ → List ℕ → Turn → Standing → Type 0
 Step old k line NoReply new = IsReadAs old.version line Silent × (new ≡ old)
 Step old k line Memory new = (IsReadAs old.version line Silent → ⊥) × (new ≡ old)

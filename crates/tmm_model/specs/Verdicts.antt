@@ -22,8 +22,8 @@ most_premises = MOST_PREMISES
 abbrev pub most_points : ℕ
 most_points = MOST_POINTS
 
--- a cause that the names of a list and its counts decide, with the word as it stands in the line; or the line
--- opens a version that the list does not take
+-- a cause that the names of a list and its counts decide, with the word as it stands in the line;
+-- or the line opens a version that the list does not take
 pub data Cause : Type 0 where
   out_of_form : Cause
   taken : List ℕ → Cause

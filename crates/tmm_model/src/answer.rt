@@ -8,8 +8,8 @@ use crate::seq::Seq;
 pub enum Cause {
     /// It does not surely begin at or before the first point.
     Late,
-    /// It is a persistence. This token is the first that contradicts it, and surely begins after it and at
-    /// or before the last point.
+    /// It is a persistence. This token is the first that contradicts it, and surely begins after it
+    /// and at or before the last point.
     Clipped(Occ),
     /// It is a span that does not surely end after the last point.
     Ends,
@@ -29,7 +29,8 @@ pub struct Blame {
 pub enum Answer {
     /// It does, by this token.
     Yes(Occ),
-    /// It does not. The first 8 tokens of the fact are blamed, and `more` is the number of the others.
+    /// It does not. The first 8 tokens of the fact are blamed, and `more` is the number of the
+    /// others.
     No { blames: Seq<Blame>, more: u64 },
     /// The first point is not surely at or before the last.
     Unordered,

@@ -3,7 +3,8 @@ ghost use Rattle.std.specs.Prelude.{◌≡◌, ℕ, ◌+◌, ◌-◌, ◌<◌, �
 ghost use Rattle.tmm_model.specs.Bounds.{lesser, bound_negated, IsWithin};
 ghost use Rattle.tmm_model.specs.Types.{through, IsSmall};
 
-/// An upper bound on the distance from one point to another, in whole time units: a number, or none.
+/// An upper bound on the distance from one point to another, in whole time units: a number, or
+/// none.
 #[derive(Clone, Copy, PartialEq, Eq, Debug)]
 pub enum Bound {
     /// The distance is at most this number.

@@ -1,12 +1,13 @@
-//! The plain types that the layers of the time map share (`src/`), and the definitions that the contract of
-//! the program cites (`specs/`): names, points and premises, distances over constraints, what tokens support,
-//! what is believed and why, and what each line of a script is answered. **These definitions are what must
-//! be believed**, all but those of `specs/Types.antt`, which contracts below the program's cite. It stands on
-//! no other crate of this repository. The outline is that of Dean and McDermott (1987) over Dechter, Meiri
-//! and Pearl (1991).
+//! The plain types that the layers of the time map share (`src/`), and the definitions that the
+//! contract of the program cites (`specs/`): names, points and premises, distances over
+//! constraints, what tokens support, what is believed and why, and what each line of a script is
+//! answered. **These definitions are what must be believed**, all but those of `specs/Types.antt`,
+//! which contracts below the program's cite. It stands on no other crate of this repository. The
+//! outline is that of Dean and McDermott (1987) over Dechter, Meiri and Pearl (1991).
 //!
 //! What follows from the definitions stands in crates of its own: `walk_theory`, `list_theory`,
-//! `belief_theory`, `tmm_grammar`, and the laws in `tmm_laws`. `tmm_examples` computes them on worked scripts.
+//! `belief_theory`, `tmm_grammar`, and the laws in `tmm_laws`. `tmm_examples` computes them on
+//! worked scripts.
 #![tactic(auto)]
 
 mod answer;
@@ -19,6 +20,7 @@ mod name;
 mod point;
 mod premise;
 mod refusal;
+mod rivals;
 mod seq;
 mod sure;
 mod token;
@@ -40,6 +42,7 @@ pub use name::Name;
 pub use point::{Occ, PointName, QueryPoint};
 pub use premise::{Edit, Premise};
 pub use refusal::{Refusal, Stop};
+pub use rivals::Rivals;
 pub use seq::Seq;
 pub use sure::Sure;
 pub use token::{Shape, TokenRow};

@@ -18,7 +18,8 @@ pub enum PointName {
     End(Name),
 }
 
-/// An occurrence: a declared event, token or span, and the rules that lead on from it, as in `e/r/s`.
+/// An occurrence: a declared event, token or span, and the rules that lead on from it, as in
+/// `e/r/s`.
 #[derive(Drop)]
 pub struct Occ {
     /// The name of the declared event, token or span.

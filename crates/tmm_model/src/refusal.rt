@@ -21,7 +21,8 @@ pub enum Refusal {
     LimitPremises,
     /// There would be more than 256 points.
     LimitPoints,
-    /// No dates satisfy the constraint: it closes this walk, whose sum is negative, in whole time units.
+    /// No dates satisfy the constraint: it closes this walk, whose sum is negative, in whole time
+    /// units.
     Cycle { sum: i64, steps: Seq<WalkStep> },
     /// The size of the map would be above 100,000.
     LimitSize,

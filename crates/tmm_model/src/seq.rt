@@ -47,7 +47,8 @@ impl<T> Seq<T> {
         }
     }
 
-    /// Appends an item. Without memory, which is asked for only where no room is left, it comes back.
+    /// Appends an item. Without memory, which is asked for only where no room is left, it comes
+    /// back.
     pub fn push(&mut self, item: T) -> Result<(), T>
         ensures ok { OnOk result (self.new.items ≡ self.old.items ++ item ∷ []) }
         ensures room { self.old.room ≤ self.new.room + 1 }

@@ -15,7 +15,8 @@ pub enum Side {
     Length,
 }
 
-/// A constraint of a premise: the date of `to` is at most `weight` whole time units after that of `from`.
+/// A constraint of a premise: the date of `to` is at most `weight` whole time units after that of
+/// `from`.
 #[derive(Clone, Copy, PartialEq, Eq, Debug)]
 pub struct WalkStep {
     /// The name of the premise.

@@ -1,6 +1,6 @@
 -- Words written one after the other.
-use Rattle.std.proofs.Common.{◌≡◌, ℕ, suc, ◌+◌, ◌<◌, ◌≤◌, List, [], ◌∷◌, ◌++◌, length, get_or, drop, map, Result, Ok, Err, OnErr, refl, sym, ap, ◌∙◌, append_assoc, add-one}
-use Rattle.std.proofs.lemmas.List.{append-nil, drop_all, drop-map}
+use Rattle.std.proofs.Common.{◌≡◌, ℕ, suc, ◌+◌, ◌<◌, List, [], ◌∷◌, ◌++◌, length, get_or, drop, map, Result, Ok, Err, OnErr, refl, sym, ap, ◌∙◌, append_assoc, add-one}
+use Rattle.std.proofs.lemmas.List.{append-nil, drop-map}
 use Rattle.std.proofs.Math.Seq.{drop-cons}
 use Rattle.tmm_model.specs.declared.premise.Premise.{Premise}
 use Rattle.tmm_model.specs.declared.premise.Premise.TheVariants.{Class, Kind, Point, Event, Token, Span, Dist, Rule, Protect}
@@ -14,13 +14,6 @@ pub record Wrote (old out : List ℕ) (ws : List (List ℕ)) (i : ℕ) : Type 0 
   pub front : List ℕ
   pub whole : behind_spaces ws ≡ front ++ behind_spaces (drop i ws)
   pub appended : out ≡ old ++ front
-
-pub wrote_none : (old : List ℕ) (ws : List (List ℕ)) → Wrote old old ws 0
-wrote_none old ws = record { front = []; whole = refl; appended = sym (append-nil old) }
-
-pub wrote_all : (old out : List ℕ) (ws : List (List ℕ)) (i : ℕ) → Wrote old out ws i → length ws ≤ i → out ≡ old ++ behind_spaces ws
-wrote_all old out ws i h le =
-    h.appended ∙ ap (λ (t : List ℕ). old ++ t) (sym (h.whole ∙ ap (λ (t : List (List ℕ)). h.front ++ behind_spaces t) (drop_all i ws le) ∙ append-nil h.front))
 
 module _ (old out new : List ℕ) (ws : List (List ℕ)) (i : ℕ) (w : List ℕ) (h : Wrote old out ws i) (at : drop i ws ≡ w ∷ drop (i + 1) ws) where
   next : behind_spaces ws ≡ h.front ++ (32 ∷ w ++ behind_spaces (drop (i + 1) ws))

@@ -1,28 +1,19 @@
 -- What the words of a line read as.
-use Rattle.std.proofs.Common.{◌≡◌, ℕ, true, false, List, [], ◌∷◌, Some, None, Err, refl, sym, ◌∙◌}
+use Rattle.std.proofs.Common.{◌≡◌, ℕ, false, List, ◌∷◌, Some, None, Err, refl}
 use Rattle.std.specs.Prelude.{Ok, Result, option_map}
 use Rattle.tmm_model.specs.declared.premise.Edit.{Edit}
 use Rattle.tmm_model.specs.declared.version.Version.{Version}
 use Rattle.tmm_model.specs.declared.line.Line.{Line}
-use Rattle.tmm_model.specs.declared.line.Line.TheVariants.{Silent, Change, Question}
+use Rattle.tmm_model.specs.declared.line.Line.TheVariants.{Change, Question}
 use Rattle.tmm_model.specs.declared.refusal.Refusal.TheVariants.{Form}
 use Rattle.tmm_model.specs.declared.refusal.Stop.{Stop}
 use Rattle.tmm_model.specs.declared.refusal.Stop.TheVariants.{Refused, NoMemory}
-use Rattle.tmm_model.specs.Lines.{words, is_comment, Reads}
+use Rattle.tmm_model.specs.Lines.{words, is_comment}
 use Rattle.tmm_grammar.specs.Reading.{edit_of, query_of, line_of}
-use Rattle.tmm_grammar.proofs.LineReaders.{map_some}
-use Rattle.tmm_grammar.proofs.LineForms.{line_of-complete, line_of-none, line_of-sound}
+use Rattle.tmm_grammar.proofs.LineForms.{line_of-none, line_of-sound}
 use Rattle.tmm_script.specs.Given.{IsRead, IsReadingOf}
 
-pub line_blank : (version : Version) (ws : List (List ℕ)) → ws ≡ [] → line_of version ws ≡ Some Silent
-unfolding line_of
-line_blank version ws e = rw e refl
-
 module _ (version : Version) (ws : List (List ℕ)) (w : List ℕ) (rest : List (List ℕ)) (is : ws ≡ w ∷ rest) where
-  pub line_comment : is_comment w ≡ true → line_of version ws ≡ Some Silent
-  unfolding line_of
-  line_comment t = rw (is, t) refl
-
   module _ (f : is_comment w ≡ false) where
     pub line_change : (e : Edit) → edit_of version w rest ≡ Some e → line_of version ws ≡ Some (Change e)
     unfolding line_of
@@ -31,12 +22,6 @@ module _ (version : Version) (ws : List (List ℕ)) (w : List ℕ) (rest : List 
     pub line_other : edit_of version w rest ≡ None → line_of version ws ≡ option_map Question (query_of w rest)
     unfolding line_of
     line_other k = rw (is, f, k) refl
-
-    pub no_change : edit_of version w rest ≡ None → (e : Edit) → Reads version ws (Change e) → ⊥
-    no_change k e h =
-        let p = map_some Question (query_of w rest) (Change e) (sym (line_other k) ∙ line_of-complete version ws (Change e) h) in
-        let q : Question p.0 ≡ Change e = p.2 in
-        cc
 
 -- **What is read of a line's words is what the line says.**
 pub read-says : (version : Version) (line : List ℕ) (result : Result Line Stop) → IsRead result (line_of version (words line)) → IsReadingOf version line result

@@ -15,7 +15,8 @@ asked_of w ws =
     (cond (same_name w (codes "bounds") || same_name w (codes "path")) (take 2 ws)
     (cond (same_name w (codes "why")) (take 1 ws) []))
 
--- whether the words ask of a point or an occurrence whose word begins as a derived occurrence's does
+-- whether the words ask of a point or an occurrence whose word begins as a derived occurrence's
+-- does
 abbrev pub asks_derived : List (List ℕ) → Bool
 asks_derived [] = false
 asks_derived (w ∷ ws) = some_derived (asked_of w ws)

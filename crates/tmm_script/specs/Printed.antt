@@ -23,7 +23,8 @@ abbrev pub first_word : List (List ℕ) → List ℕ
 first_word [] = []
 first_word (w ∷ _) = w
 
--- the words of a premise behind the first one, but for a class's facts and what follows a rule's effect
+-- the words of a premise behind the first one, but for a class's facts and what follows a rule's
+-- effect
 abbrev pub head_words : Premise → List (List ℕ)
 head_words (premises.Class name facts) = name ∷ []
 head_words (premises.Rule name trigger lo hi effect given unless_facts) = name ∷ trigger ∷ number_word lo ∷ bound_word hi ∷ effect ∷ []

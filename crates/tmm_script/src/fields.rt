@@ -1,5 +1,5 @@
-// The words at the front of a line, read one after the other. Each function takes the first word off
-// and gives its value.
+// The words at the front of a line, read one after the other. Each function takes the first word
+// off and gives its value.
 ghost use Rattle.std.specs.Prelude.{◌≡◌, ◌∷◌, [], ℕ, List, length, take, option_map, IsSome, IsTrue, ◌↔◌};
 ghost use Rattle.tmm_model.specs.Lines.{words};
 ghost use Rattle.tmm_grammar.specs.Bare.{bare_occ, bare_point};
@@ -129,8 +129,8 @@ pub fn ends_given(version: Version, word: &[u8]) -> bool
     }
 }
 
-/// The words before the one at which antecedents end, where they are names and at most `N`, and the line
-/// from there on.
+/// The words before the one at which antecedents end, where they are names and at most `N`, and the
+/// line from there on.
 #[tactic(auto, unfolding(tmm_grammar::specs::Reading::given_part, tmm_grammar::specs::Reading::exception_part))]
 pub fn names_before<const N: usize>(
     version: Version,

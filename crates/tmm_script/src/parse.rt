@@ -16,10 +16,11 @@ use std::alloc::Global;
 use tmm_model::{LONGEST_LINE, Line, Refusal, Stop, Version};
 use tmm_words::split_word;
 
-/// What in a version a line of a script, without its line break, says. A line of more than `LONGEST_LINE`
-/// bytes is refused as `LimitLine`, and one that is in no form of the version's grammar as `Form`. A silent
-/// line and a change take no memory. Any other line takes some only where it asks of a point or an occurrence
-/// whose word begins with a name, a `/` and a further name.
+/// What in a version a line of a script, without its line break, says. A line of more than
+/// `LONGEST_LINE` bytes is refused as `LimitLine`, and one that is in no form of the version's
+/// grammar as `Form`. A silent line and a change take no memory. Any other line takes some only
+/// where it asks of a point or an occurrence whose word begins with a name, a `/` and a further
+/// name.
 pub fn parse_line(alloc: Global, version: Version, line: &[u8]) -> Result<Line, Stop>
     ensures too_long { (result ≡ Err (Refused LimitLine)) ↔ (400 < length line.now) }
     ensures read { length line.now ≤ 400 → IsReadingOf version line.now result }
@@ -39,8 +40,8 @@ pub fn parse_line(alloc: Global, version: Version, line: &[u8]) -> Result<Line, 
     said(alloc, version, word, rest)
 }
 
-// What a line with this first word says, which begins no comment. A change is large, so it is read apart
-// from lines that say less, and questions apart from changes.
+// What a line with this first word says, which begins no comment. A change is large, so it is read
+// apart from lines that say less, and questions apart from changes.
 fn said(alloc: Global, version: Version, word: &[u8], rest: &[u8]) -> Result<Line, Stop>
     requires { is_comment word.now ≡ false }
     ensures read { IsRead result (line_of version (word.now ∷ words rest.now)) }
@@ -65,8 +66,8 @@ fn asked(alloc: Global, word: &[u8], rest: &[u8]) -> Result<Line, Stop>
     }
 }
 
-/// Whether the line says nothing: it has no words, or is a comment. A line of any length is asked for
-/// its words alone.
+/// Whether the line says nothing: it has no words, or is a comment. A line of any length is asked
+/// for its words alone.
 pub fn is_silent(line: &[u8]) -> bool
     ensures { IsTrue result ↔ IsSilent (words line.now) }
 {

@@ -13,8 +13,9 @@ use tmm_model::{
     Bound, MOST_ANTECEDENTS, MOST_EXCEPTIONS, Name, NoMemory, PointName, Premise, Seq,
 };
 
-/// Appends the words that declare a premise, parted by one space. The line reads as the premise in each
-/// version in which it is well formed. Without memory a front of the text may have been appended.
+/// Appends the words that declare a premise, parted by one space. The line reads as the premise in
+/// each version in which it is well formed. Without memory a front of the text may have been
+/// appended.
 pub fn print_premise(_alloc: Global, premise: &Premise, out: &mut Seq<u8>) -> Result<(), NoMemory>
     ensures ok { OnOk result (out.new.items ≡ out.old.items ++ shown_text premise.now) }
     ensures err { OnErr result (AppendsFront out.old.items out.new.items (shown_text premise.now)) }

@@ -23,18 +23,18 @@ use Rattle.tmm_model.specs.Replies.{Reply, Accepted, Refused, BoundsAre, PathIs,
 use Rattle.tmm_model.specs.Standing.{Standing}
 use Rattle.tmm_model.specs.Maps.{built}
 use Rattle.tmm_model.specs.Questions.{query_cause}
-use Rattle.tmm_model.specs.Transcript.{RefusesEdit, AnswersLine, IsReadAs, LineAnswers, for_length, for_form, for_meaning, Step}
+use Rattle.tmm_model.specs.Transcript.{RefusesEdit, AnswersLine, IsReadAs, LineAnswers, for_length, for_form, for_meaning}
 use Rattle.tmm_model.specs.Verdicts.{Tells as TellsCause}
 use Rattle.tmm_script.specs.Given.{IsReadingOf}
 use Rattle.tmm_session.specs.declared.told.Told.{Told}
 use Rattle.tmm_session.specs.declared.told.Told.TheVariants.{Silent, Reply as ReplyOf, Memory}
-use Rattle.tmm_session.specs.Kinds.{kind_of, is_refusing, turn_of}
+use Rattle.tmm_session.specs.Kinds.{reply_kind, is_refusing}
 use Rattle.tmm_session.specs.Sessions.{Tells, TellsMeaning, TellsLine}
 
 -- bytes that are the text of a reply, or want of memory
 pub Tells-reply : (k : ℕ) (replied : Reply → Type 0) (kept : Type 0) (bytes : Result (Seq ℕ) NoMemory) (reply : Reply) (t : Told)
     → IfOk bytes (λ text. text.items ≡ text_of k reply) → replied reply → kept
-    → MatchResult bytes (λ text. t ≡ ReplyOf text (kind_of reply)) (λ _. t ≡ Memory) → Tells k replied kept t
+    → MatchResult bytes (λ text. t ≡ ReplyOf text (reply_kind reply)) (λ _. t ≡ Memory) → Tells k replied kept t
 Tells-reply k replied kept (Ok text) reply t is_text answers same told = subst (Tells k replied kept) (sym told) (reply, answers, is_text, refl)
 Tells-reply k replied kept (Err failed) reply t is_text answers same told = subst (Tells k replied kept) (sym told) same
 
@@ -68,7 +68,7 @@ why_text k lines old new first grown =
 -- ---- what a line is answered
 
 -- the kind of a reply tells whether it is a refusal
-pub kind-refusal : (reply : Reply) → is_refusing (kind_of reply) ≡ is_refusal reply
+pub kind-refusal : (reply : Reply) → is_refusing (reply_kind reply) ≡ is_refusal reply
 kind-refusal (Accepted changes) = refl
 kind-refusal (Refused refusal) = refl
 kind-refusal (BoundsAre lo hi) = refl
@@ -98,10 +98,6 @@ TellsLine-refused old k line refusal Silent answers other told = absurd told
 TellsLine-refused old k line refusal Memory answers other told = ((other, refl), tt)
 TellsLine-refused old k line refusal (ReplyOf bytes kind) answers other told =
     ((told.0, answers told.0 told.1, told.2, ap is_refusing told.3 ∙ kind-refusal told.0), told.3)
-
--- what a session tells of a line is a step of the transcript
-pub Step-told : (old new : Standing) (k : ℕ) (line : List ℕ) (t : Told) → TellsLine old k line t new → Step old k line (turn_of t) new
-Step-told old new k line t told = told.0
 
 -- ---- a line says one thing
 

@@ -8,13 +8,13 @@ use Rattle.tmm_model.specs.Standing.{Standing}
 use Rattle.tmm_model.specs.Transcript.{AnswersLine, Step}
 use Rattle.tmm_session.specs.declared.told.Told.{Told}
 use Rattle.tmm_session.specs.declared.told.Told.TheVariants.{Silent, Reply as ReplyOf, Memory}
-use Rattle.tmm_session.specs.Kinds.{kind_of, turn_of}
+use Rattle.tmm_session.specs.Kinds.{reply_kind, turn_of}
 
 -- this reply to the line of number k, with its kind, or want of memory
 abbrev pub Tells : ℕ → (Reply → Type 0) → Type 0 → Told → Type 0
 Tells k replied kept Silent = ⊥
 Tells k replied kept Memory = kept
-Tells k replied kept (ReplyOf bytes kind) = (reply : Reply) × replied reply × (bytes.items ≡ text_of k reply) × (kind ≡ kind_of reply)
+Tells k replied kept (ReplyOf bytes kind) = (reply : Reply) × replied reply × (bytes.items ≡ text_of k reply) × (kind ≡ reply_kind reply)
 
 -- a meaning is answered
 abbrev pub TellsMeaning : Standing → ℕ → Line → Told → Standing → Type 0
@@ -28,7 +28,7 @@ reply_told old k line turn new step = None
 
 -- where a reply is told, its kind is
 abbrev pub HasKind : Told → Option Reply → Type 0
-HasKind (ReplyOf bytes kind) (Some reply) = kind ≡ kind_of reply
+HasKind (ReplyOf bytes kind) (Some reply) = kind ≡ reply_kind reply
 HasKind told reply = Unit {0}
 
 -- a line is answered: the step of the transcript, with the kind of its reply

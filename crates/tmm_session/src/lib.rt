@@ -11,4 +11,4 @@ mod told;
 mod why_text;
 
 pub use session::{Session, answer};
-pub use told::{Kind, Told};
+pub use told::{ReplyKind, Told};

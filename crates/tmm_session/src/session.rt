@@ -8,11 +8,11 @@ ghost use Rattle.tmm_model.specs.Replies.{Refused, Answered, Reasons, text_of};
 ghost use Rattle.tmm_model.specs.Standing.{Standing};
 ghost use Rattle.tmm_model.specs.Transcript.{Step};
 ghost use Rattle.tmm_script.specs.Given.{IsReadingOf};
-ghost use Rattle.tmm_session.specs.Kinds.{kind_of};
+ghost use Rattle.tmm_session.specs.Kinds.{reply_kind};
 ghost use Rattle.tmm_session.specs.Sessions.{Tells, TellsLine, TellsMeaning};
 ghost use Rattle.tmm_session.specs.LongLines.{Step-long};
 
-use crate::told::{Kind, Told};
+use crate::told::{ReplyKind, Told};
 use crate::why_text::WhyText;
 use map_engine::MapCore;
 use projection::Counter;
@@ -68,7 +68,7 @@ impl<M: MapCore + Drop> Session<M> {
         if bytes.len() <= LONGEST_LINE && is_silent(bytes) {
             return Told::Silent;
         }
-        said(alloc, self.lines, bytes, &mut self.core, &mut self.counter)
+        answer_line(alloc, self.lines, bytes, &mut self.core, &mut self.counter)
     }
 }
 
@@ -93,7 +93,7 @@ impl<M: MapCore + Drop> Lines for Session<M> {
 // Answers a line by what it says. What it says may be large, so this is kept apart from the way
 // that silent lines take.
 #[inline(never)]
-fn said<M: MapCore>(
+fn answer_line<M: MapCore>(
     alloc: Global,
     line: u64,
     bytes: &[u8],
@@ -128,7 +128,7 @@ fn read<M: MapCore>(alloc: Global, bytes: &[u8], core: &M) -> Result<Line, Stop>
 }
 
 // The reply that these bytes are, where there was memory for them.
-fn reply(bytes: Result<Seq<u8>, NoMemory>, kind: Kind) -> Told
+fn reply(bytes: Result<Seq<u8>, NoMemory>, kind: ReplyKind) -> Told
     ensures { MatchResult bytes (λ text. result ≡ Told.Reply text kind) (λ _. result ≡ Told.Memory) }
 {
     match bytes {
@@ -141,7 +141,7 @@ fn reply(bytes: Result<Seq<u8>, NoMemory>, kind: Kind) -> Told
 fn refuse(alloc: Global, line: u64, refusal: &Refusal) -> Told
     ensures { Tells line (λ reply. reply ≡ Refused refusal.now) (Unit {0}) result }
 {
-    reply(reply_no(alloc, line, refusal), Kind::Refused)
+    reply(reply_no(alloc, line, refusal), ReplyKind::Refused)
 }
 
 // Makes an edit, and keeps it once there is a reply.
@@ -163,7 +163,7 @@ fn change<M: MapCore>(
                 core.commit();
                 Told::Reply {
                     bytes,
-                    kind: Kind::Accepted,
+                    kind: ReplyKind::Accepted,
                 }
             }
             Err(NoMemory) => {
@@ -189,7 +189,7 @@ pub fn answer<M: MapCore>(alloc: Global, line: u64, query: &Query, core: &M) -> 
         Query::Why(occ) => answer_why(alloc, line, occ, core),
         Query::Check => answer_check(alloc, line, core),
         Query::List => answer_list(alloc, line, core),
-        Query::Dump => reply(reply_dump(alloc, line, core.standing()), Kind::Other),
+        Query::Dump => reply(reply_dump(alloc, line, core.standing()), ReplyKind::Other),
         Query::Size => answer_size(alloc, line, core),
         Query::Audit => answer_audit(alloc, line, core),
     }
@@ -207,7 +207,7 @@ fn answer_bounds<M: MapCore>(
     ensures { TellsMeaning (M.list core.now) line (Line.Question (Query.Bounds p.now q.now)) result (M.list core.now) }
 {
     match core.bounds(alloc, p, q) {
-        Ok((lo, hi)) => reply(reply_bounds(alloc, line, lo, hi), Kind::Other),
+        Ok((lo, hi)) => reply(reply_bounds(alloc, line, lo, hi), ReplyKind::Other),
         Err(Stop::Refused(refusal)) => refuse(alloc, line, &refusal),
         Err(Stop::NoMemory) => Told::Memory,
     }
@@ -225,7 +225,10 @@ fn answer_path<M: MapCore>(
     ensures { TellsMeaning (M.list core.now) line (Line.Question (Query.Path p.now q.now)) result (M.list core.now) }
 {
     match core.path(alloc, p, q) {
-        Ok((far, steps)) => reply(reply_path(alloc, line, far, steps.items()), Kind::Other),
+        Ok((far, steps)) => reply(
+            reply_path(alloc, line, far, steps.items()),
+            ReplyKind::Other,
+        ),
         Err(Stop::Refused(refusal)) => refuse(alloc, line, &refusal),
         Err(Stop::NoMemory) => Told::Memory,
     }
@@ -257,13 +260,13 @@ fn tell_answer(alloc: Global, line: u64, answer: &Answer) -> Told
     reply(reply_answer(alloc, line, answer), answer_kind(answer))
 }
 
-fn answer_kind(answer: &Answer) -> Kind
-    ensures { result ≡ kind_of (Answered answer.now) }
+fn answer_kind(answer: &Answer) -> ReplyKind
+    ensures { result ≡ reply_kind (Answered answer.now) }
 {
     match answer {
-        Answer::Yes(_) => Kind::Yes,
-        Answer::No { .. } => Kind::No,
-        Answer::Unordered => Kind::Refused,
+        Answer::Yes(_) => ReplyKind::Yes,
+        Answer::No { .. } => ReplyKind::No,
+        Answer::Unordered => ReplyKind::Refused,
     }
 }
 
@@ -288,7 +291,7 @@ fn tell_why<M: MapCore>(alloc: Global, line: u64, occ: &Occ, core: &M, mut text:
     match core.why(alloc, occ, &mut text) {
         Ok(()) => Told::Reply {
             bytes: text.bytes,
-            kind: Kind::Other,
+            kind: ReplyKind::Other,
         },
         Err(Stop::Refused(refusal)) => refuse(alloc, line, &refusal),
         Err(Stop::NoMemory) => Told::Memory,
@@ -300,7 +303,7 @@ fn answer_check<M: MapCore>(alloc: Global, line: u64, core: &M) -> Told
     ensures { TellsMeaning (M.list core.now) line (Line.Question Query.Check) result (M.list core.now) }
 {
     match core.check(alloc) {
-        Ok(reports) => reply(reply_check(alloc, line, reports.items()), Kind::Other),
+        Ok(reports) => reply(reply_check(alloc, line, reports.items()), ReplyKind::Other),
         Err(NoMemory) => Told::Memory,
     }
 }
@@ -310,7 +313,7 @@ fn answer_list<M: MapCore>(alloc: Global, line: u64, core: &M) -> Told
     ensures { TellsMeaning (M.list core.now) line (Line.Question Query.List) result (M.list core.now) }
 {
     match core.list(alloc) {
-        Ok(rows) => reply(reply_list(alloc, line, rows.items()), Kind::Other),
+        Ok(rows) => reply(reply_list(alloc, line, rows.items()), ReplyKind::Other),
         Err(NoMemory) => Told::Memory,
     }
 }
@@ -323,7 +326,7 @@ fn answer_audit<M: MapCore>(alloc: Global, line: u64, core: &M) -> Told
     match core.audit(alloc) {
         Ok(right) => reply(
             reply_number(alloc, line, Word::Audit, u64::from(right)),
-            Kind::Other,
+            ReplyKind::Other,
         ),
         Err(NoMemory) => Told::Memory,
     }
@@ -336,6 +339,6 @@ fn answer_size<M: MapCore>(alloc: Global, line: u64, core: &M) -> Told
     let size = core.size();
     reply(
         reply_number(alloc, line, Word::Size, size),
-        Kind::Size(size),
+        ReplyKind::Size(size),
     )
 }

@@ -5,7 +5,7 @@ use tmm_model::{Seq, Turn};
 
 /// The kinds of replies that a summary tells apart.
 #[derive(Clone, Copy, PartialEq, Eq, Debug)]
-pub enum Kind {
+pub enum ReplyKind {
     /// An edit was accepted.
     Accepted,
     /// A fact holds.
@@ -20,14 +20,14 @@ pub enum Kind {
     Other,
 }
 
-impl Kind {
+impl ReplyKind {
     ghost use Rattle.tmm_session.specs.Kinds.{is_refusing};
 
     /// Whether the reply tells that the line was wrong.
     pub fn is_refusing(self) -> bool
         ensures { result ≡ is_refusing self }
     {
-        matches!(self, Kind::Refused)
+        matches!(self, ReplyKind::Refused)
     }
 }
 
@@ -37,7 +37,7 @@ pub enum Told {
     /// Nothing.
     Silent,
     /// These bytes.
-    Reply { bytes: Seq<u8>, kind: Kind },
+    Reply { bytes: Seq<u8>, kind: ReplyKind },
     /// There was no memory.
     Memory,
 }

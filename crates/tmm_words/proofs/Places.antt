@@ -4,7 +4,6 @@ use Rattle.std.specs.Prelude.{unwrap_or, position, slice_range}
 use Rattle.std.specs.List.{prefix_len, position_or_len, list_all}
 use Rattle.std.proofs.lemmas.Bool.{and_parts, and_from, cond-true, cases_Bool, cases_lt, ltb-true, lt-ltb, le-ltb, not-true, not_from_false}
 use Rattle.std.proofs.lemmas.List.{append-nil, drop-drop, take-append-drop, length-drop, length-take-le}
-use Rattle.std.proofs.lemmas.List.Folds.{list_all-append}
 use Rattle.std.proofs.lemmas.List.Sums.{prefix_len-le-length}
 use Rattle.std.proofs.lemmas.Option.{cond_some, none-some}
 use Rattle.tmm_model.specs.Lines.{is_blank, goes_on, words}
@@ -64,13 +63,6 @@ stops_blank : (xs : List ℕ) → fails_at (λ b. not (not (is_blank b))) xs ≡
 stops_blank [] h = refl
 stops_blank (b ∷ xs) h = not_twice (not (is_blank b)) h
 
-no_word_in : (xs : List ℕ) → AreBlanks xs → position_or_len is_blank xs ≡ 0
-no_word_in [] h = refl
-no_word_in (b ∷ xs) h = let k = and_parts (is_blank b) (list_all is_blank xs) h in rw (k.0) refl
-
-back_blanks : (n : ℕ) (xs : List ℕ) → AreBlanks xs → AreBlanks (drop n xs)
-back_blanks n xs h = (and_parts _ _ (sym (list_all-append is_blank (take n xs) (drop n xs)) ∙ ap (list_all is_blank) (take-append-drop n xs) ∙ h)).1
-
 -- n blanks stand at the front of the bytes, and a word of m bytes behind them
 module _ (line : List ℕ) (from n m : ℕ) (inside : from ≤ length line) (blanks : n ≡ position_or_len (λ b. not (is_blank b)) (drop from line)) (len : m ≡ position_or_len is_blank (drop (from + n) line)) where
   rest : drop n (drop from line) ≡ drop (from + n) line
@@ -86,12 +78,6 @@ module _ (line : List ℕ) (from n m : ℕ) (inside : from ≤ length line) (bla
   no_word e =
       let none : drop n (drop from line) ≡ [] = rest ∙ nothing_left (drop (from + n) line) stops (sym len ∙ e) in
       rw (← take-append-drop n (drop from line), none, append-nil (take n (drop from line))) front
-
-  pub some_word : 0 < m → AreBlanks (drop from line) → ⊥
-  some_word some h =
-      let k : AreBlanks (drop (from + n) line) = rw (← rest) (back_blanks n (drop from line) h) in
-      let z : m ≡ 0 = len ∙ no_word_in (drop (from + n) line) k in
-      omega arith
 
   pub first_word : 0 < m → IsFirstWord line from (from + n) (from + n + m)
   first_word some =

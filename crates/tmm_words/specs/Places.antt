@@ -3,7 +3,8 @@ use Rattle.std.specs.Prelude.{◌≡◌, ℕ, ◌≤◌, ◌<◌, false, List, l
 use Rattle.tmm_model.specs.Lines.{goes_on}
 use Rattle.tmm_grammar.specs.LineCuts.{AreBlanks, IsWord}
 
--- from `begin` to `end` stands the first word at or after `from`: blanks before it, and it goes on no further
+-- from `begin` to `end` stands the first word at or after `from`: blanks before it, and it goes on
+-- no further
 pub record IsFirstWord (line : List ℕ) (from begin end : ℕ) : Type 0 where
   pub after : from ≤ begin
   pub some : begin < end

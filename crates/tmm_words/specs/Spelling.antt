@@ -6,7 +6,8 @@ use Rattle.tmm_model.specs.Points.{occ_word}
 use Rattle.tmm_model.specs.Lines.{IsWellFormedOcc}
 use Rattle.tmm_grammar.specs.Reading.{parts}
 
--- The word is the spelling of the value, and there is no value exactly where the word is the spelling of none.
+-- The word is the spelling of the value, and there is no value exactly where the word is the
+-- spelling of none.
 abbrev pub IsSpelling : {A : Type 0} → (A → List ℕ) → (A → Type 0) → List ℕ → Option A → Type 0
 IsSpelling spell Ok w (Some a) = Ok a × (w ≡ spell a)
 IsSpelling {A} spell Ok w None = (a : A) → Ok a → w ≢ spell a

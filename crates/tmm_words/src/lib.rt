@@ -1,6 +1,6 @@
-//! The words of a script line, and what single words spell: numbers, bounds, points and occurrences.
-//! It stands on `tmm_model`. A word is read exactly where the grammar spells a value so, and as that
-//! value; only an occurrence with rules takes memory.
+//! The words of a script line, and what single words spell: numbers, bounds, points and
+//! occurrences. It stands on `tmm_model`. A word is read exactly where the grammar spells a value
+//! so, and as that value; only an occurrence with rules takes memory.
 #![tactic(auto)]
 
 mod numbers;

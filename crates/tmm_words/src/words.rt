@@ -4,8 +4,8 @@ ghost use Rattle.tmm_model.specs.Lines.{is_blank, words};
 ghost use Rattle.tmm_grammar.specs.LineCuts.{AreBlanks};
 ghost use Rattle.tmm_words.specs.Places.{IsFirstWord};
 
-/// Where the first word of the line at or after a place begins and ends, none exactly where there is
-/// none.
+/// Where the first word of the line at or after a place begins and ends, none exactly where there
+/// is none.
 pub fn next_word(line: &[u8], from: usize) -> Option<(usize, usize)>
     requires { from ≤ length line.now }
     ensures none { IsNone result ↔ AreBlanks (drop from line.now) }

@@ -12,7 +12,7 @@ use Rattle.tmm_model.specs.Standing.{Standing}
 use Rattle.dist_net.specs.Net.{Net}
 use Rattle.spots.specs.declared.spot.Spot.{Spot}
 use Rattle.spots.specs.Forest.{Forest}
-use Rattle.spots.specs.Seen.{IsSeen}
+use Rattle.spots.specs.OfLists.{IsForestOf}
 use Rattle.spots.specs.Spots.{IsSpot, spot_moment, spot_distance}
 use Rattle.spots.proofs.Seen.{distance_is}
 use Rattle.tt_query.specs.Firsts.{failing_of}
@@ -34,6 +34,6 @@ module _ (m : TimeMap) (fact : List ℕ) (p q : Moment) where
   ask_fails e h = ap asked e ∙ ap found h
 
 -- whether one spot is surely at or before another, by the moments
-pub surely : (s : Standing) (net : Net) (f : Forest) → IsSeen s net f → (p q : Spot) → IsSpot net.names f p → IsSpot net.names f q
+pub surely : (s : Standing) (net : Net) (f : Forest) → IsForestOf s net f → (p q : Spot) → IsSpot net.names f p → IsSpot net.names f q
     → bound_at_most (spot_distance net f q p) (pos 0) ≡ is_by (gap (built s)) (spot_moment net.names f p) (spot_moment net.names f q)
 surely s net f seen p q at_p at_q = ap (λ (d : Bound). bound_at_most d (pos 0)) (distance_is s net f seen q p at_q at_p)

@@ -18,11 +18,11 @@ use Rattle.belief_theory.proofs.SoundBeliefs.{believed_occurs, believed_right}
 use Rattle.belief_theory.proofs.Upholding.{among, is_among-Contains}
 use Rattle.dist_net.specs.Net.{Net}
 use Rattle.spots.specs.Forest.{Forest, Member, member, moment}
-use Rattle.spots.specs.Seen.{IsSeen, Holds}
+use Rattle.spots.specs.OfLists.{IsForestOf, HasOccurrences}
 use Rattle.tt_query.specs.Stops.{StopsPoint, StopsFor, StopsUnknown}
 use Rattle.tt_query.proofs.Facts.{sort_of_root_in, root_of_sort, a_root_is_known, a_plain_point}
 
-module _ (s : Standing) (f : Forest) (holds : Holds (built s).believed f) where
+module _ (s : Standing) (f : Forest) (holds : HasOccurrences (built s).believed f) where
   pub believed_node : (k : Moment) (x : ℕ) (m : Member) → member f x ≡ Some m → moment m ≡ k → Contains (built s).believed k
   believed_node k x m is e = subst (Contains (built s).believed) e (holds.own x m is)
 
@@ -56,7 +56,7 @@ stops_why m o (r ∷ rules) NoMemory other e h = ap is_some e
 
 -- ---- roots
 
-module _ (s : Standing) (net : Net) (f : Forest) (seen : IsSeen s net f) (holds : Holds (built s).believed f) where
+module _ (s : Standing) (net : Net) (f : Forest) (seen : IsForestOf s net f) (holds : HasOccurrences (built s).believed f) where
   own_moment : (o : Occ) → o.rules.items ≡ [] → moment_of o ≡ At (Begin o.root)
   own_moment o plain = ap (along (At (Begin o.root))) plain
 

@@ -141,20 +141,6 @@ sort_of_root_in s named name at =
 
 -- ---- causes
 
--- what is no place is no root
-pub no_place_no_root : (o : Option Sort) (word : List ℕ) → IsSome (name_cause o word is_place) → name_cause o word is_root ≡ name_cause o word is_place
-no_place_no_root None word h = refl
-no_place_no_root (Some a_class) word h = refl
-no_place_no_root (Some a_fact) word h = refl
-no_place_no_root (Some a_kind) word h = refl
-no_place_no_root (Some a_point) word h = cc
-no_place_no_root (Some an_event) word h = refl
-no_place_no_root (Some a_token) word h = refl
-no_place_no_root (Some a_span) word h = refl
-no_place_no_root (Some a_dist) word h = refl
-no_place_no_root (Some a_rule) word h = refl
-no_place_no_root (Some a_protection) word h = refl
-
 -- a place that is no root is a point
 pub a_plain_point : (o : Option Sort) (word : List ℕ) → name_cause o word is_place ≡ None → ((sort : Sort) → o ≡ Some sort → is_root sort ≡ true → ⊥) → name_cause o word is_root ≡ Some (ill_sorted word)
 a_plain_point None word e other = by (same_name word (codes "start")) e

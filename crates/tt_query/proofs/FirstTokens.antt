@@ -32,14 +32,14 @@ use Rattle.spots.specs.declared.spot.Spot.{Spot}
 use Rattle.spots.specs.declared.spot.Spot.TheVariants.{Declared, Node}
 use Rattle.spots.specs.Forest.{Forest, Member, member, IsLive, moment_at}
 use Rattle.spots.specs.Spots.{AreTokens, row_moment, node_cmp}
-use Rattle.spots.specs.Seen.{IsSeen, Holds}
+use Rattle.spots.specs.OfLists.{IsForestOf, HasOccurrences}
 use Rattle.spots.proofs.Nodes.{node_at, live_at, moment_at-is}
 use Rattle.spots.proofs.Seen.{order_is, token_is, class_of_member, believed_once}
 use Rattle.tt_query.specs.Firsts.{nodes_of, firsts, token_at_node, blame_at, found_of, failing_of, IsOfFact, HasNoSupporter}
 use Rattle.tt_query.proofs.FirstPlaces.{In-take, map-sorted, sorted-In, length-sorted, Distinct-filter_map, Distinct-map_in, map-alike}
 use Rattle.tt_query.proofs.FirstNodes.{nodes_once, nodes_own, nodes_all}
 
-module _ (s : Standing) (net : Net) (f : Forest) (seen : IsSeen s net f) (holds : Holds (built s).believed f) where
+module _ (s : Standing) (net : Net) (f : Forest) (seen : IsForestOf s net f) (holds : HasOccurrences (built s).believed f) where
   abbrev by_spot : TokenRow Moment → TokenRow Moment → Ordering
   by_spot = on (λ k. k.spot) (occ_cmp s (far_in s.premises))
 

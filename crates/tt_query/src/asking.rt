@@ -10,7 +10,7 @@ ghost use Rattle.tmm_model.specs.Moments.{Moment};
 ghost use Rattle.tmm_model.specs.Sorts.{class_in};
 ghost use Rattle.tmm_model.specs.Standing.{far_in};
 ghost use Rattle.spots.specs.Forest.{IsLive, moment_at};
-ghost use Rattle.spots.specs.Seen.{IsSeen, HasList, Holds};
+ghost use Rattle.spots.specs.OfLists.{IsForestOf, HasList, HasOccurrences};
 ghost use Rattle.spots.specs.Spots.{IsSpot, spot_moment, spot_distance};
 ghost use Rattle.occ_tree.specs.OfLists.{IsTreeIn, IsTreeOf};
 ghost use Rattle.occ_tree.specs.Places.{forest};
@@ -39,7 +39,7 @@ pub fn ask(
     q: Spot,
 ) -> Result<Answer, NoMemory>
     requires seen { IsTreeOf standing.now.present net.now.present tree.now }
-    requires holds { Holds (built standing.now.present).believed (forest tree.now) }
+    requires holds { HasOccurrences (built standing.now.present).believed (forest tree.now) }
     requires fact { IsSome (class_in standing.now.present.premises fact) }
     requires p { IsSpot net.now.present.names (forest tree.now) p }
     requires q { IsSpot net.now.present.names (forest tree.now) q }
@@ -72,7 +72,7 @@ fn supporter(
     requires p { IsSpot net.now.present.names (forest tree.now) p }
     requires q { IsSpot net.now.present.names (forest tree.now) q }
     ensures live { IfSome result (IsLive (forest tree.now)) }
-    ensures first { (b : List Moment) → Holds b (forest tree.now) → option_map (moment_at (forest tree.now)) result ≡ holder standing.now.present (far_in standing.now.present.premises) b fact (spot_moment net.now.present.names (forest tree.now) p) (spot_moment net.now.present.names (forest tree.now) q) }
+    ensures first { (b : List Moment) → HasOccurrences b (forest tree.now) → option_map (moment_at (forest tree.now)) result ≡ holder standing.now.present (far_in standing.now.present.premises) b fact (spot_moment net.now.present.names (forest tree.now) p) (spot_moment net.now.present.names (forest tree.now) q) }
 {
     let mut guesses = Guesses::make(alloc);
     supports::supporter(standing, tree, net, fact, p, q, &mut guesses)
@@ -102,7 +102,7 @@ fn blamed(
     q: Spot,
 ) -> Result<Answer, NoMemory>
     requires seen { IsTreeOf standing.now.present net.now.present tree.now }
-    requires holds { Holds (built standing.now.present).believed (forest tree.now) }
+    requires holds { HasOccurrences (built standing.now.present).believed (forest tree.now) }
     requires fact { IsSome (class_in standing.now.present.premises fact) }
     requires p { IsSpot net.now.present.names (forest tree.now) p }
     requires q { IsSpot net.now.present.names (forest tree.now) q }
@@ -133,7 +133,7 @@ fn blames(
     q: Spot,
 ) -> Result<Seq<Blame>, NoMemory>
     requires seen { IsTreeOf standing.now.present net.now.present tree.now }
-    requires holds { Holds (built standing.now.present).believed (forest tree.now) }
+    requires holds { HasOccurrences (built standing.now.present).believed (forest tree.now) }
     requires p { IsSpot net.now.present.names (forest tree.now) p }
     requires q { IsSpot net.now.present.names (forest tree.now) q }
     requires none { All (HasNoSupporter standing.now.present (forest tree.now) (spot_moment net.now.present.names (forest tree.now) p) (spot_moment net.now.present.names (forest tree.now) q)) nodes.now }
@@ -169,7 +169,7 @@ fn blame_node(
     q: Spot,
 ) -> Result<Blame, NoMemory>
     requires seen { IsTreeOf standing.now.present net.now.present tree.now }
-    requires holds { Holds (built standing.now.present).believed (forest tree.now) }
+    requires holds { HasOccurrences (built standing.now.present).believed (forest tree.now) }
     requires p { IsSpot net.now.present.names (forest tree.now) p }
     requires q { IsSpot net.now.present.names (forest tree.now) q }
     requires none { HasNoSupporter standing.now.present (forest tree.now) (spot_moment net.now.present.names (forest tree.now) p) (spot_moment net.now.present.names (forest tree.now) q) x }

@@ -3,7 +3,7 @@ ghost use Rattle.std.specs.Prelude.{◌≡◌};
 ghost use Rattle.tmm_model.specs.Bounds.{bound_negated, IfFinite, IsWithin};
 ghost use Rattle.tmm_model.specs.Maps.{built, gap};
 ghost use Rattle.tmm_model.specs.Standing.{Standing};
-ghost use Rattle.spots.specs.Seen.{IsSeen, HasList};
+ghost use Rattle.spots.specs.OfLists.{IsForestOf, HasList};
 ghost use Rattle.spots.specs.Spots.{IsSpot, spot_moment};
 ghost use Rattle.occ_tree.specs.OfLists.{IsTreeIn};
 ghost use Rattle.occ_tree.specs.Places.{forest};
@@ -19,8 +19,8 @@ pub fn bounds(tree: &Tree, net: &DistNet, p: Spot, q: Spot) -> (Bound, Bound)
     requires dates { IsTreeIn net.now.present tree.now }
     requires p { IsSpot net.now.present.names (forest tree.now) p }
     requires q { IsSpot net.now.present.names (forest tree.now) q }
-    ensures low { (s : Standing) → IsSeen s net.now.present (forest tree.now) → result.0 ≡ bound_negated (gap (built s) (spot_moment net.now.present.names (forest tree.now) q) (spot_moment net.now.present.names (forest tree.now) p)) }
-    ensures high { (s : Standing) → IsSeen s net.now.present (forest tree.now) → result.1 ≡ gap (built s) (spot_moment net.now.present.names (forest tree.now) p) (spot_moment net.now.present.names (forest tree.now) q) }
+    ensures low { (s : Standing) → IsForestOf s net.now.present (forest tree.now) → result.0 ≡ bound_negated (gap (built s) (spot_moment net.now.present.names (forest tree.now) q) (spot_moment net.now.present.names (forest tree.now) p)) }
+    ensures high { (s : Standing) → IsForestOf s net.now.present (forest tree.now) → result.1 ≡ gap (built s) (spot_moment net.now.present.names (forest tree.now) p) (spot_moment net.now.present.names (forest tree.now) q) }
 {
     (negated(tree.far(net, q, p)), tree.far(net, p, q))
 }

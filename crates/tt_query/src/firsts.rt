@@ -3,7 +3,7 @@ ghost use Rattle.std.specs.Prelude.{◌≡◌, ℕ, ◌≤◌, ◌∷◌, ◌++�
 ghost use Rattle.std.specs.List.{All, Contains};
 ghost use Rattle.tmm_model.specs.Firsts.{placed};
 ghost use Rattle.spots.specs.Forest.{IsLive};
-ghost use Rattle.spots.specs.Seen.{HasList};
+ghost use Rattle.spots.specs.OfLists.{HasList};
 ghost use Rattle.spots.specs.Spots.{AreTokens, node_cmp};
 ghost use Rattle.occ_tree.specs.OfLists.{IsTreeIn};
 ghost use Rattle.occ_tree.specs.Places.{forest};

@@ -6,7 +6,7 @@ ghost use Rattle.tmm_model.specs.Moments.{moment_of, moment_of_point};
 ghost use Rattle.tmm_model.specs.Questions.{point_cause, why_cause};
 ghost use Rattle.dist_net.specs.Net.{Net};
 ghost use Rattle.spots.specs.Forest.{IsLive, moment_at};
-ghost use Rattle.spots.specs.Seen.{IsSeen, Holds};
+ghost use Rattle.spots.specs.OfLists.{IsForestOf, HasOccurrences};
 ghost use Rattle.spots.specs.Spots.{IsSpot, spot_moment};
 ghost use Rattle.occ_tree.specs.OfLists.{IsTreeOf};
 ghost use Rattle.occ_tree.specs.Places.{forest};
@@ -31,7 +31,7 @@ pub fn resolve(
     point: &QueryPoint,
 ) -> Result<Spot, Stop>
     requires seen { IsTreeOf standing.now.present net.now.present tree.now }
-    requires holds { Holds (built standing.now.present).believed (forest tree.now) }
+    requires holds { HasOccurrences (built standing.now.present).believed (forest tree.now) }
     requires well_formed { IsWellFormedQueryPoint point.now }
     ensures known { IfOk result (λ spot. point_cause (built standing.now.present) point.now ≡ None) }
     ensures spot { IfOk result (IsSpot net.now.present.names (forest tree.now)) }
@@ -55,8 +55,8 @@ pub fn resolve(
 /// occurrence as a question names it: without rules it is a declared point. Memory is asked for
 /// only for the word of an occurrence that is not believed.
 pub fn resolve_why(alloc: Global, standing: &Standing, tree: &Tree, occ: &Occ) -> Result<u32, Stop>
-    requires seen { (net : Net) × IsSeen standing.now.present net (forest tree.now) }
-    requires holds { Holds (built standing.now.present).believed (forest tree.now) }
+    requires seen { (net : Net) × IsForestOf standing.now.present net (forest tree.now) }
+    requires holds { HasOccurrences (built standing.now.present).believed (forest tree.now) }
     requires well_formed { IsWellFormedOcc occ.now }
     ensures known { IfOk result (λ x. why_cause (built standing.now.present) occ.now occ.now.rules.items ≡ None) }
     ensures there { IfOk result (IsLive (forest tree.now)) }
@@ -75,8 +75,8 @@ pub fn resolve_why(alloc: Global, standing: &Standing, tree: &Tree, occ: &Occ) -
 
 // The node of a declared event, token or span.
 fn resolve_root(standing: &Standing, tree: &Tree, occ: &Occ) -> Result<u32, Stop>
-    requires seen { (net : Net) × IsSeen standing.now.present net (forest tree.now) }
-    requires holds { Holds (built standing.now.present).believed (forest tree.now) }
+    requires seen { (net : Net) × IsForestOf standing.now.present net (forest tree.now) }
+    requires holds { HasOccurrences (built standing.now.present).believed (forest tree.now) }
     requires root { occ.now.rules.items ≡ [] }
     ensures known { IfOk result (λ x. why_cause (built standing.now.present) occ.now [] ≡ None) }
     ensures there { IfOk result (IsLive (forest tree.now)) }

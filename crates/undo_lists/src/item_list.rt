@@ -5,8 +5,8 @@ use std::alloc::Global;
 use std::marker::Model;
 use tmm_model::NoMemory;
 
-/// A list of items, with the room for more at both ends: an item that enters or leaves moves those on the
-/// side of it where fewer stand.
+/// A list of items, with the room for more at both ends: an item that enters or leaves moves those
+/// on the side of it where fewer stand.
 #[derive(Drop)]
 pub(crate) struct ItemList<T> {
     // places that are free, and then the items
@@ -137,7 +137,8 @@ fn put_before<T: Copy>(places: &mut Vec<T>, start: usize, count: usize, item: T)
     places[start..start + count + 1].rotate_left(1);
 }
 
-// Moves as many items from `start` on by one, over the one behind them, and frees the place `start`.
+// Moves as many items from `start` on by one, over the one behind them, and frees the place
+// `start`.
 fn close_up<T: Copy>(places: &mut Vec<T>, start: usize, count: usize)
     requires { start + count < vec_len places.old }
     ensures items { drop (start + 1) places.new.items ≡ remove (drop start places.old.items) count }
@@ -147,8 +148,8 @@ fn close_up<T: Copy>(places: &mut Vec<T>, start: usize, count: usize)
     places[start..start + count + 1].rotate_right(1);
 }
 
-// Lets a place be free in front of the items from `start` on, and answers where they begin then. Where none is,
-// half of the room behind them comes to the front, with copies of any value.
+// Lets a place be free in front of the items from `start` on, and answers where they begin then.
+// Where none is, half of the room behind them comes to the front, with copies of any value.
 fn free_front<T: Copy>(places: &mut Vec<T>, start: usize, any: T) -> usize
     requires within { start ≤ vec_len places.old }
     requires room { vec_len places.old < vec_capacity places.old + start }
@@ -168,8 +169,8 @@ fn free_front<T: Copy>(places: &mut Vec<T>, start: usize, any: T) -> usize
     free
 }
 
-// Lets a place be free behind the items from `start` on, and answers where they begin then. Where none is, half
-// of the places in front of them come to the back.
+// Lets a place be free behind the items from `start` on, and answers where they begin then. Where
+// none is, half of the places in front of them come to the back.
 fn free_back<T: Copy>(places: &mut Vec<T>, start: usize) -> usize
     requires within { start ≤ vec_len places.old }
     requires room { vec_len places.old < vec_capacity places.old + start }

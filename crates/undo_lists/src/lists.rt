@@ -54,8 +54,8 @@ impl<T: Copy> Lists<T> {
         }
     }
 
-    /// Makes room for so many more items of a list, and for so many more changes. The lists stay, and no
-    /// room is less, also where there is no memory.
+    /// Makes room for so many more items of a list, and for so many more changes. The lists stay,
+    /// and no room is less, also where there is no memory.
     pub fn reserve(
         &mut self,
         alloc: Global,
@@ -91,8 +91,8 @@ impl<T: Copy> Lists<T> {
         });
     }
 
-    /// Takes the item out that stands at a place of a list. It takes no memory, and leaves room for the
-    /// item.
+    /// Takes the item out that stands at a place of a list. It takes no memory, and leaves room for
+    /// the item.
     pub fn remove(&mut self, number: u32, place: usize) -> T
         requires place { place < length (present self.old number) }
         requires spare { 0 < self.old.spare }
@@ -112,8 +112,8 @@ impl<T: Copy> Lists<T> {
         item
     }
 
-    /// Makes room and puts an item at a place of a list, before what stood there. Without memory the
-    /// lists stay.
+    /// Makes room and puts an item at a place of a list, before what stood there. Without memory
+    /// the lists stay.
     pub fn put(&mut self, alloc: Global, number: u32, place: usize, item: T) -> Result<(), NoMemory>
         requires { place ≤ length (present self.old number) }
         ensures ok { OnOk result (present self.new ≡ with_item (present self.old) number place item) }
@@ -125,8 +125,8 @@ impl<T: Copy> Lists<T> {
         Ok(())
     }
 
-    /// Makes room in the log, and takes the item out that stands at a place of a list. Without memory the
-    /// lists stay.
+    /// Makes room in the log, and takes the item out that stands at a place of a list. Without
+    /// memory the lists stay.
     pub fn take(&mut self, alloc: Global, number: u32, place: usize) -> Result<T, NoMemory>
         requires { place < length (present self.old number) }
         ensures item { IfOk result (λ item. item ≡ slice_index_or (present self.old number) place item) }
@@ -138,8 +138,8 @@ impl<T: Copy> Lists<T> {
         Ok(self.remove(number, place))
     }
 
-    /// The numbers of the lists that changes were made to since the last commit, one for each change, the
-    /// latest first. Every other list is that of the last commit. It takes memory.
+    /// The numbers of the lists that changes were made to since the last commit, one for each
+    /// change, the latest first. Every other list is that of the last commit. It takes memory.
     pub fn changed(&self, alloc: Global) -> Result<Vec<u32>, NoMemory>
         ensures numbers { IfOk result (λ numbers. numbers.items ≡ changed self.now) }
         ensures others { IfOk result (λ numbers. (n : ℕ) → (Contains numbers.items n → ⊥) → present self.now n ≡ committed self.now n) }

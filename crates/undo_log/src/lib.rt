@@ -3,7 +3,8 @@
 //! It stands on `tmm_model`. An `Undo` is seen as a list of changes, the latest last, and a number
 //! `spare` of changes that it still takes without memory. `reserve` is called before something is
 //! changed, and `push` as it is changed, so that no want of memory can come between the two.
-//! `pop_since` gives back what was pushed since a mark, latest first, which is the order of undoing.
+//! `pop_since` gives back what was pushed since a mark, latest first, which is the order of
+//! undoing.
 #![tactic(auto)]
 
 ghost use Rattle.std.specs.Prelude.{◌≡◌, ◌+◌, ◌<◌, ◌≤◌, [], ◌∷◌, ◌++◌, length, None, IfSome, OnSome, IfNone, IfOk, OnOk, OnErr};
@@ -78,8 +79,8 @@ impl<T: Copy> Undo<T> {
         self.changes.len()
     }
 
-    /// Takes the latest change off the log, none exactly where there is none since the mark. It takes
-    /// no memory, and leaves room for as many changes.
+    /// Takes the latest change off the log, none exactly where there is none since the mark. It
+    /// takes no memory, and leaves room for as many changes.
     pub fn pop_since(&mut self, mark: usize) -> Option<T>
         requires { mark ≤ length self.old.items }
         ensures latest { IfSome result (λ item. self.old.items ≡ self.new.items ++ item ∷ []) }

@@ -1,10 +1,10 @@
 -- Rows that are gone, and the log that says so.
-use Rattle.std.proofs.Common.{◌≡◌, ◌≢◌, ℕ, Bool, true, false, cond, List, [], ◌∷◌, ◌++◌, Option, Some, None, refl, sym, ap, ◌∙◌, subst, inl, inr, option_map, ◌⊎◌}
+use Rattle.std.proofs.Common.{◌≡◌, ◌≢◌, ℕ, true, false, List, [], ◌∷◌, ◌++◌, Option, Some, None, refl, sym, ap, ◌∙◌, subst, inl, inr, option_map, ◌⊎◌}
 use Rattle.std.proofs.lemmas.Bool.{cases_eq, both_ways}
 use Rattle.undo_rows.specs.declared.row.Row.{Row}
 use Rattle.undo_rows.specs.declared.change.Change.{Change}
 use Rattle.undo_rows.specs.declared.change.Change.TheVariants.{Entered, Linked, Unlinked, Replaced, Removed}
-use Rattle.undo_rows.specs.Tables.{Table, live, with_row}
+use Rattle.undo_rows.specs.Tables.{Table, with_row}
 use Rattle.undo_rows.specs.Changes.{before}
 use Rattle.undo_rows.specs.RowsInside.{IsLogged, AreLogged}
 use Rattle.undo_rows.proofs.Written.{with_row-same, with_row-other}
@@ -86,18 +86,6 @@ module _ {T : Type 0} {F : ℕ} where
         | inl same ↦ absurd (both_ways r.gone (own r (ap new (sym same) ∙ is)) gone)
         | inr apart ↦ other_latest x log (Removed y) (λ same. let e : y ≡ x = cc in apart (sym e)) (logged x r (sym (others x apart) ∙ is) gone)
       ]
-
-  -- no row is gone without a log
-  pub free_at_last : (row : ℕ → Option (Row T F)) → AreLogged row [] → (x : ℕ) → live (row x) ≡ None → row x ≡ None
-  free_at_last row logged x none = by (row x) refl none
-    where
-      by : (o : Option (Row T F)) → row x ≡ o → live o ≡ None → o ≡ None
-      by None at none = refl
-      by (Some r) at none = gone_by r.gone refl none
-        where
-          gone_by : (t : Bool) → r.gone ≡ t → cond t None (Some r) ≡ None → Some r ≡ None
-          gone_by true gone none = absurd (logged x r at gone)
-          gone_by false stays none = none
 
   -- rows that were gone before
   pub AreLogged-more : (row new : ℕ → Option (Row T F)) (log log_after more : List (Change T)) → log_after ≡ log ++ more → ((x : ℕ) (r : Row T F) → new x ≡ Some r → r.gone ≡ true → (s : Row T F) × (row x ≡ Some s) × (s.gone ≡ true)) → AreLogged row log → AreLogged new log_after

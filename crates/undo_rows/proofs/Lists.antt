@@ -1,6 +1,6 @@
 -- Lists after one family more has changed.
-use Rattle.std.proofs.Common.{◌≡◌, ◌≢◌, ℕ, cond, ◌+◌, ◌<◌, ◌≤◌, List, Option, None, sym, ap, ◌∙◌, subst, inl, inr, arith}
-use Rattle.std.proofs.lemmas.Bool.{cases_eq, cases_lt}
+use Rattle.std.proofs.Common.{◌≡◌, ◌≢◌, ℕ, cond, ◌+◌, ◌<◌, ◌≤◌, List, Option, sym, ap, ◌∙◌, subst, inl, inr, arith}
+use Rattle.std.proofs.lemmas.Bool.{cases_eq}
 use Rattle.row_links.specs.Lists.{Lists}
 use Rattle.row_links.specs.Families.{list_in}
 use Rattle.undo_rows.specs.Tables.{is_head}
@@ -21,11 +21,3 @@ module _ (old now new : List Lists) (heads : ℕ → Option ℕ) (change : List 
     ];
     rest = λ f h above. others f h (λ same. omega arith) ∙ so_far.rest f h (omega arith);
   }
-
-module _ (old now : List Lists) (heads : ℕ → Option ℕ) (change : List ℕ → List ℕ) (n : ℕ) where
-  pub AreChanged-all : AreChanged old now heads change n → ((f : ℕ) → n ≤ f → heads f ≡ None) → (f h : ℕ) → list_in now f h ≡ cond (is_head (heads f) h) (change (list_in old f h)) (list_in old f h)
-  AreChanged-all so_far none f h =
-      elim (cases_lt f n) [
-        | inl below ↦ so_far.done f h below
-        | inr above ↦ so_far.rest f h above ∙ ap (λ o. cond (is_head o h) (change (list_in old f h)) (list_in old f h)) (sym (none f above))
-      ]

@@ -1,5 +1,5 @@
 -- What a log leads back to after one change more.
-use Rattle.std.proofs.Common.{◌≡◌, ℕ, Bool, true, false, cond, eqb, ◌&&◌, ◌<◌, ◌≤◌, List, [], ◌∷◌, ◌++◌, length, Option, None, IfSome, refl, sym, ap, ◌∙◌, subst, inl, inr, arith, set, get_or, length-set, get_or-set_same, get_or-set_other, le_refl, le_trans, lt_of_lt_of_le, eq-eqb, ne_eqb, append-nil, append_assoc}
+use Rattle.std.proofs.Common.{◌≡◌, ℕ, Bool, true, false, cond, eqb, ◌&&◌, ◌<◌, ◌≤◌, List, [], ◌∷◌, ◌++◌, length, Option, None, IfSome, refl, sym, ap, ◌∙◌, subst, inl, inr, arith, set, get_or, length-set, get_or-set_same, get_or-set_other, le_refl, le_trans, lt_of_lt_of_le, eq-eqb, ne_eqb, append_assoc}
 use Rattle.std.proofs.lemmas.Bool.{cases_eq, cases_lt, cond-true, cond-false, eqb-true, false≢true}
 use Rattle.std.proofs.lemmas.List.{get_or_past}
 use Rattle.row_links.specs.Lists.{Lists, no_lists, IsOn, IsOnNone, last_or, list_of, without, put_after}
@@ -127,14 +127,6 @@ module _ {T : Type 0} {F : ℕ} where
   CanUndoAll-more old new more (c ∷ log) t (can, all) = (CanUndo-more old new more c (undone log t) can, CanUndoAll-more old new more log t all)
 
   -- ---- changes of lists that are logged
-
-  pub LeadsBack-none : (families : List Lists) (log : List (Change T)) → LeadsBack F families families log log
-  LeadsBack-none families log = record {
-    as_many = record { rows = λ f. le_refl (family_of families f).rows; heads = λ f. le_refl (length (family_of families f).lists) };
-    longer = ([], sym (append-nil log));
-    committed = λ rows. refl;
-    undoes = λ rows all. all;
-  }
 
   pub LeadsBack-then : (first second third : List Lists) (log more most : List (Change T)) → LeadsBack F first second log more → LeadsBack F second third more most → LeadsBack F first third log most
   LeadsBack-then first second third log more most one two = record {

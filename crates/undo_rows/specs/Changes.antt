@@ -8,9 +8,9 @@ use Rattle.undo_rows.specs.declared.change.Change.{Change}
 use Rattle.undo_rows.specs.declared.change.Change.TheVariants.{Entered, Linked, Unlinked, Replaced, Removed}
 use Rattle.undo_rows.specs.Tables.{Table, live_table, with_row, with_list, with_value}
 
--- what contracts see of a `Rows`: the rows by number, those removed since the commit among them, the
--- families of lists, how many places there are for rows, the changes since the commit, and how many more
--- it takes without memory
+-- what contracts see of a `Rows`: the rows by number, those removed since the commit among them,
+-- the families of lists, how many places there are for rows, the changes since the commit, and how
+-- many more it takes without memory
 pub record Logged (T : Type 0) (F : ℕ) : Type 0 where
   pub rows : List (Option (Row T F))
   pub families : List Lists

@@ -5,7 +5,8 @@ use Rattle.undo_rows.specs.Tables.{with_new, without_row, with_value}
 use Rattle.undo_rows.specs.Changes.{Logged, present, committed}
 
 module _ {T : Type 0} {F : ℕ} where
-  -- the row is new under a number that no row has or had at the last commit, and is last on its lists
+  -- the row is new under a number that no row has or had at the last commit, and is last on its
+  -- lists
   pub record Adds (old new : Logged T F) (x : ℕ) (r : Row T F) : Type 0 where
     pub free : (present old).row x ≡ None
     pub was_free : (committed old).row x ≡ None

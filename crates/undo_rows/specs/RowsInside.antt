@@ -42,8 +42,8 @@ module _ {T : Type 0} {F : ℕ} where
   abbrev pub AreLogged : (ℕ → Option (Row T F)) → List (Change T) → Type 0
   AreLogged row log = (x : ℕ) (r : Row T F) → row x ≡ Some r → r.gone ≡ true → IsLogged (Removed x) log
 
-  -- rows are on their lists now and as they were, the log can be undone, and the heads of a row fit in
-  -- memory
+  -- rows are on their lists now and as they were, the log can be undone, and the heads of a row fit
+  -- in memory
   pub record IsRows (rows : List (Option (Row T F))) (families : List Lists) (log : List (Change T)) : Type 0 where
     pub now_listed : AreListed (table_in rows families)
     pub then_listed : AreListed (undone log (table_in rows families))

@@ -57,9 +57,10 @@ impl<T: Copy, const F: usize> Rows<T, F> {
         }
     }
 
-    /// Adds a row that keeps a value, last on the list of each of its heads, and answers its number. A place
-    /// is added only where each holds a row, and a family of which the row has no head takes no memory for it.
-    /// Without memory nothing has changed; it counts as want of memory that a number would be 2^32 - 1 or more.
+    /// Adds a row that keeps a value, last on the list of each of its heads, and answers its
+    /// number. A place is added only where each holds a row, and a family of which the row has no
+    /// head takes no memory for it. Without memory nothing has changed; it counts as want of memory
+    /// that a number would be 2^32 - 1 or more.
     pub fn add(
         &mut self,
         _alloc: Global,
@@ -89,8 +90,8 @@ impl<T: Copy, const F: usize> Rows<T, F> {
         Ok(x)
     }
 
-    /// Makes room for so many more changes: a removal takes at most one for each family and one more, a new
-    /// value takes one. Nothing else has changed, also where there is no memory.
+    /// Makes room for so many more changes: a removal takes at most one for each family and one
+    /// more, a new value takes one. Nothing else has changed, also where there is no memory.
     pub fn reserve(&mut self, _alloc: Global, changes: usize) -> Result<(), NoMemory>
         ensures ok { OnOk result (changes ≤ self.new.spare) }
         ensures stays { Stays self.old self.new }
@@ -100,8 +101,8 @@ impl<T: Copy, const F: usize> Rows<T, F> {
         self.log.reserve(changes)
     }
 
-    /// Takes a row off all its lists. Its number is free again after the next commit. Without memory
-    /// nothing has changed.
+    /// Takes a row off all its lists. Its number is free again after the next commit. Without
+    /// memory nothing has changed.
     pub fn remove(&mut self, alloc: Global, x: u32) -> Result<(), NoMemory>
         requires { IsSome ((present self.old).row x) }
         ensures ok { OnOk result (Removes self.old self.new x) }
@@ -114,8 +115,8 @@ impl<T: Copy, const F: usize> Rows<T, F> {
         Ok(())
     }
 
-    /// Takes a row off all its lists, where there is room for the changes. It takes no memory. The number is
-    /// free again after the next commit.
+    /// Takes a row off all its lists, where there is room for the changes. It takes no memory. The
+    /// number is free again after the next commit.
     pub fn remove_reserved(&mut self, x: u32)
         requires live { IsSome ((present self.old).row x) }
         requires spare { F + 1 ≤ self.old.spare }
@@ -181,7 +182,8 @@ impl<T: Copy, const F: usize> Rows<T, F> {
         }
     }
 
-    /// How many places there are for rows: each row has a number below it, now and at the last commit.
+    /// How many places there are for rows: each row has a number below it, now and at the last
+    /// commit.
     pub fn places(&self) -> u32
         ensures places { result ≡ self.now.places }
         ensures now { (x : ℕ) → IsSome ((present self.now).row x) → x < result }
@@ -231,7 +233,8 @@ impl<T: Copy, const F: usize> Rows<T, F> {
         }
     }
 
-    /// Makes the rows, the lists and their orders those of the last commit again. It takes no memory.
+    /// Makes the rows, the lists and their orders those of the last commit again. It takes no
+    /// memory.
     pub fn rollback(&mut self)
         ensures present { present self.new ≡ committed self.old }
         ensures committed { committed self.new ≡ committed self.old }
@@ -243,7 +246,8 @@ impl<T: Copy, const F: usize> Rows<T, F> {
     }
 }
 
-// How many changes it takes at most to enter a row or to remove one: itself, and a list for each head.
+// How many changes it takes at most to enter a row or to remove one: itself, and a list for each
+// head.
 fn changes_of(heads: &[Option<u32>]) -> usize
     ensures { result ≡ length heads.now + 1 }
 {

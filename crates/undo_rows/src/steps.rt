@@ -128,9 +128,9 @@ pub(crate) fn unlink_all<T: Copy, const F: usize>(
     }
 }
 
-// The number of the next row, as long as it fits, where `slab` would take this key next and holds so many rows:
-// that of a place, or of the next one where each place holds a row. It is always one of these, which `slab` does
-// not promise, so it is asked.
+// The number of the next row, as long as it fits, where `slab` would take this key next and holds
+// so many rows: that of a place, or of the next one where each place holds a row. It is always one
+// of these, which `slab` does not promise, so it is asked.
 pub(crate) fn next_number(key: usize, held: usize, places: u32) -> Result<u32, NoMemory>
     ensures number { IfOk result (λ x. x ≡ key) }
     ensures few { IfOk result (λ x. x < 4294967295) }

@@ -6,11 +6,6 @@ use decision_rows::{Decision, Rows};
 use std::alloc::Global;
 use std::process::Abort;
 
-const FIRES: Decision = Decision::Fires {
-    supports: [9, 0, 0, 0],
-    count: 1,
-};
-
 #[test]
 fn a_rollback_brings_a_decision_back(rt: HostRuntime) {
     let mut rows = Rows::make(rt.alloc());
@@ -20,14 +15,15 @@ fn a_rollback_brings_a_decision_back(rt: HostRuntime) {
 fn expect_decisions(rt: &impl Abort, alloc: Global, rows: &mut Rows) {
     add(rt, alloc, rows, 3, 5, &[8]);
     rows.commit();
-    decide_first(rt, alloc, rows, 8, FIRES);
+    decide_first(rt, alloc, rows, 8, Decision::Fires);
     expect_of_copy(rt, alloc, rows);
-    assert!(rt; is_first(rows, 8, FIRES));
+    assert!(rt; is_first(rows, 8, Decision::Fires));
     rows.rollback();
     assert!(rt; is_first(rows, 8, Decision::Beyond));
 }
 
-/// A copy has the last commit of the rows: the decision is taken back there alone. One row is on the list.
+/// A copy has the last commit of the rows: the decision is taken back there alone. One row is on
+/// the list.
 fn expect_of_copy(rt: &impl Abort, alloc: Global, rows: &Rows) {
     let mut other = rows.copy(alloc).expect(rt, "memory");
     other.rollback();
@@ -120,8 +116,8 @@ fn filled(rt: &impl Abort, alloc: Global, rows: &mut Rows) -> Vec<u32> {
     numbers
 }
 
-/// The rows on a list are those whose places have its head as their rest, in order. Each is removed before
-/// the next is found.
+/// The rows on a list are those whose places have its head as their rest, in order. Each is removed
+/// before the next is found.
 fn expect_list(
     rt: &impl Abort,
     alloc: Global,

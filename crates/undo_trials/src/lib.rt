@@ -1,5 +1,5 @@
-//! Trials of what a log undoes: lists whose items, and rows whose places on lists, come back in their order.
-//! It has no functions but its tests, and no crate stands on it.
+//! Trials of what a log undoes: lists whose items, and rows whose places on lists, come back in
+//! their order. It has no functions but its tests, and no crate stands on it.
 #![tactic(auto)]
 
 #[cfg(test)]

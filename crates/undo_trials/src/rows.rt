@@ -6,8 +6,8 @@ use undo_rows::Rows;
 /// Rows that keep a number.
 type Numbers = Rows<u32, 2>;
 
-/// Three rows on the list of head 4 in family 0, of which the first and the last are on that of head 1 in
-/// family 1. They are committed.
+/// Three rows on the list of head 4 in family 0, of which the first and the last are on that of
+/// head 1 in family 1. They are committed.
 fn add_three(rt: &impl Abort, alloc: Global, rows: &mut Numbers) -> [u32; 3] {
     let a = rows.add(alloc, [Some(4), Some(1)], 10).expect(rt, "memory");
     let b = rows.add(alloc, [Some(4), None], 20).expect(rt, "memory");
@@ -81,7 +81,8 @@ fn the_number_of_a_removed_row_is_used_again_after_the_commit(rt: HostRuntime) {
     expect_numbers(&rt, rt.alloc(), &mut rows);
 }
 
-/// One of three rows goes. The next row has a new number, and the one after the commit that of the row that went.
+/// One of three rows goes. The next row has a new number, and the one after the commit that of the
+/// row that went.
 fn expect_numbers(rt: &impl Abort, alloc: Global, rows: &mut Numbers) {
     let [_, b, _] = add_three(rt, alloc, rows);
     assert_eq!(rt; rows.places(), 3);

@@ -6,7 +6,7 @@ use Rattle.std.proofs.lemmas.Int.{ints, clamps, by_lt_z}
 use Rattle.tmm_model.specs.declared.bound.Bound.{Bound}
 use Rattle.tmm_model.specs.declared.bound.Bound.TheVariants.{Finite, Free}
 use Rattle.tmm_model.specs.Bounds.{IfFinite, lesser, after}
-use Rattle.walk_theory.specs.LeastWalks.{AtMost, Fits}
+use Rattle.walk_theory.specs.LeastWalks.{AtMost, ClosesNoNegativeCycle}
 use Rattle.tmm_model.specs.Types.{through}
 
 pub AtMost-weaker : (x : Bound) (s t : ℤ) → AtMost x s → s ≤ℤ t → AtMost x t
@@ -57,22 +57,22 @@ AtMost-through_step (Finite x) Free d w (Finite y) s h k = h x (omega (arith, in
 AtMost-through_step (Finite x) near d w Free s h k = absurd k
 AtMost-through_step Free near d w y s h k = absurd k
 
-pub AtMost-past_cycle : (x : Bound) (w : ℤ) (y : Bound) (s : ℤ) → Fits w x → AtMost (through x w y) s → AtMost y s
+pub AtMost-past_cycle : (x : Bound) (w : ℤ) (y : Bound) (s : ℤ) → ClosesNoNegativeCycle w x → AtMost (through x w y) s → AtMost y s
 AtMost-past_cycle (Finite x) w (Finite y) s f h = omega (arith, ints)
 AtMost-past_cycle (Finite x) w Free s f h = absurd h
 AtMost-past_cycle Free w y s f h = absurd h
 
-pub Fits-or_not : (w : ℤ) (x : Bound) → Fits w x ⊎ AtMost (after w x) (negsuc 0)
+pub Fits-or_not : (w : ℤ) (x : Bound) → ClosesNoNegativeCycle w x ⊎ AtMost (after w x) (negsuc 0)
 Fits-or_not w (Finite x) = by_lt_z (w +ℤ x) (pos 0) (λ h. inr (omega (arith, ints))) (λ h. inl h)
 Fits-or_not w Free = inl tt
 
-pub Fits-lesser : (w : ℤ) (x y : Bound) → Fits w x → Fits w y → Fits w (lesser x y)
+pub Fits-lesser : (w : ℤ) (x y : Bound) → ClosesNoNegativeCycle w x → ClosesNoNegativeCycle w y → ClosesNoNegativeCycle w (lesser x y)
 Fits-lesser w x y h k =
-    let Q : Bound → Type 0 = λ z. Fits w z in
+    let Q : Bound → Type 0 = λ z. ClosesNoNegativeCycle w z in
     elim (lesser-cases x y) [ inl e ↦ subst Q (sym e) h | inr e ↦ subst Q (sym e) k ]
 
 -- back along a step: the two weights together are not negative, and no way round is
-pub Fits-back : (back w : ℤ) (x y : Bound) → pos 0 ≤ℤ (w +ℤ back) → Fits (pos 0) x → Fits (pos 0) y → Fits back (through x w y)
+pub Fits-back : (back w : ℤ) (x y : Bound) → pos 0 ≤ℤ (w +ℤ back) → ClosesNoNegativeCycle (pos 0) x → ClosesNoNegativeCycle (pos 0) y → ClosesNoNegativeCycle back (through x w y)
 Fits-back back w (Finite x) (Finite y) h f g = omega (arith, ints)
 Fits-back back w (Finite x) Free h f g = tt
 Fits-back back w Free y h f g = tt

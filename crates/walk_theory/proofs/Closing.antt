@@ -5,7 +5,7 @@ use Rattle.std.proofs.lemmas.Int.{ints}
 use Rattle.tmm_model.specs.declared.bound.Bound.{Bound}
 use Rattle.tmm_model.specs.declared.bound.Bound.TheVariants.{Finite, Free}
 use Rattle.tmm_model.specs.Bounds.{IfFinite}
-use Rattle.walk_theory.specs.LeastWalks.{AtMost, Fits, IsWalk, HasWalk, IsFar, Adds, closed}
+use Rattle.walk_theory.specs.LeastWalks.{AtMost, ClosesNoNegativeCycle, IsWalk, HasWalk, IsFar, Adds, closed}
 use Rattle.tmm_model.specs.Types.{through}
 use Rattle.tmm_model.specs.Walks.{Arc, total}
 use Rattle.walk_theory.proofs.Bounds.{AtMost-weaker, AtMost-lesser_left, AtMost-lesser_right, AtMost-lesser_cases, AtMost-through, AtMost-through_step, AtMost-past_cycle, IfFinite-lesser}
@@ -49,7 +49,7 @@ module _ {P : Type 0} where
 module _ {P : Type 0} (old new : List (Arc P)) (e : Arc P) (adds : Adds old e new) (In : P → Type 0)
     (ends : (x : Arc P) → Contains new x → In x.from × In x.to)
     (table : P → P → Bound) (is_far : (a b : P) → In a → In b → IsFar old a b (table a b))
-    (fits : Fits e.weight (table e.to e.from)) where
+    (fits : ClosesNoNegativeCycle e.weight (table e.to e.from)) where
   closed-first_old : (x : Arc P) (b : P) (s : ℤ) → Contains old x → In b → AtMost (closed table e x.to b) s → AtMost (closed table e x.from b) (x.weight +ℤ s)
   closed-first_old x b s m in_b h =
       let here : In x.from × In x.to = ends x (adds.kept x m) in
@@ -90,7 +90,8 @@ module _ {P : Type 0} (old new : List (Arc P)) (e : Arc P) (adds : Adds old e ne
       let F : P → Type 0 = λ c. AtMost (closed table e c b) (x.weight +ℤ total walk) in
       subst F h.1 (closed-first x b (total walk) h.0 in_b (closed-least x.to b (ends x h.0).1 in_b walk h.2))
 
-  -- **One more constraint.** Where it closes no negative cycle, the least sums are the old ones or go through it once.
+  -- **One more constraint.** Where it closes no negative cycle, the least sums are the old ones or
+  -- go through it once.
   pub IsFar-closed : (a b : P) → In a → In b → IsFar new a b (closed table e a b)
   IsFar-closed a b in_a in_b =
       let e_here : In e.from × In e.to = ends e adds.added in

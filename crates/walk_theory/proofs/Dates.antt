@@ -7,7 +7,7 @@ use Rattle.std.proofs.lemmas.List.Elements.{All-contains}
 use Rattle.std.proofs.lemmas.Int.{ints, clamps}
 use Rattle.tmm_model.specs.declared.bound.Bound.{Bound}
 use Rattle.tmm_model.specs.declared.bound.Bound.TheVariants.{Finite, Free}
-use Rattle.walk_theory.specs.LeastWalks.{AtMost, Fits, IsWalk, HasWalk, IsFar, Adds, closed, HasNegativeCycle}
+use Rattle.walk_theory.specs.LeastWalks.{AtMost, ClosesNoNegativeCycle, IsWalk, HasWalk, IsFar, Adds, closed, HasNegativeCycle}
 use Rattle.tmm_model.specs.Bounds.{after}
 use Rattle.tmm_model.specs.Walks.{Arc, total, IsDates, HasDates}
 use Rattle.walk_theory.proofs.Bounds.{AtMost-after, Fits-or_not}
@@ -65,7 +65,7 @@ AtMost-after_inverse w Free t h = absurd h
 module _ {P : Type 0} (start : P) (old new : List (Arc P)) (e : Arc P) (adds : Adds old e new) (In : P → Type 0)
     (ends : (x : Arc P) → Contains new x → In x.from × In x.to)
     (table : P → P → Bound) (is_far : (a b : P) → In a → In b → IsFar old a b (table a b))
-    (fits : Fits e.weight (table e.to e.from)) (date : P → ℤ) (dates : IsDates start old date) where
+    (fits : ClosesNoNegativeCycle e.weight (table e.to e.from)) (date : P → ℤ) (dates : IsDates start old date) where
   moved : P → ℤ
   moved q = earlier (date q) (after (date e.from +ℤ e.weight) (table e.to q))
 
@@ -85,7 +85,7 @@ module _ {P : Type 0} (start : P) (old new : List (Arc P)) (e : Arc P) (adds : A
       omega (arith, ints, earlier-le_bound (date x.to) (after base (table e.to x.to)) (base +ℤ ((t -ℤ base) +ℤ x.weight)) (AtMost-after base (table e.to x.to) ((t -ℤ base) +ℤ x.weight) k)))) in
       omega (arith, ints)
 
-  fits_above : (t : ℤ) (x : Bound) → Fits e.weight x → AtMost (after (date e.from +ℤ e.weight) x) t → date e.from ≤ℤ t
+  fits_above : (t : ℤ) (x : Bound) → ClosesNoNegativeCycle e.weight x → AtMost (after (date e.from +ℤ e.weight) x) t → date e.from ≤ℤ t
   fits_above t (Finite x) f h = omega (arith, ints)
   fits_above t Free f h = absurd h
 

@@ -1,5 +1,6 @@
--- Where no closed walk has a negative sum, a walk without a repeated point is as good as any.
--- So `far`, the least over walks of at most so many constraints as there are points, is the least over all.
+-- Where no closed walk has a negative sum, a walk without a repeated point is as good as any. So
+-- `far`, the least over walks of at most so many constraints as there are points, is the least over
+-- all.
 use Rattle.std.proofs.Common.{◌≡◌, ◌∙◌, ◌⊎◌, inl, inr, ℕ, suc, ◌<◌, ◌≤◌, ◌-◌, Bool, List, [], ◌∷◌, length, ℤ, pos, ◌+ℤ◌, ◌≤ℤ◌, ap, sym, subst, arith, refl, true, false}
 use Rattle.std.specs.Bool.{Decides}
 use Rattle.std.specs.List.{IsDistinct, AllByRecursion, list_any, Contains}

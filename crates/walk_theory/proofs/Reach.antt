@@ -4,7 +4,7 @@ use Rattle.std.specs.Bool.{Decides}
 use Rattle.std.proofs.lemmas.Int.{ints}
 use Rattle.tmm_model.specs.declared.bound.Bound.{Bound}
 use Rattle.tmm_model.specs.declared.bound.Bound.TheVariants.{Finite, Free}
-use Rattle.walk_theory.specs.LeastWalks.{Fits, HasWalk, IsFar}
+use Rattle.walk_theory.specs.LeastWalks.{ClosesNoNegativeCycle, HasWalk, IsFar}
 use Rattle.tmm_model.specs.Walks.{Arc, IsDates, HasDates}
 use Rattle.walk_theory.proofs.Dates.{Solved, solve, no_cycle_from_dates, difference-le_total, HasDates-closed, met_at}
 use Rattle.walk_theory.proofs.Members.{Adds-cons}
@@ -23,13 +23,13 @@ module _ {P : Type 0} (same : P → P → Bool) (decides : (x y : P) → Decides
   solved arcs dates = elim (solve same decides start arcs) [ inl cycle ↦ absurd (no_cycle_from_dates start arcs dates cycle) | inr s ↦ s ]
 
   -- a constraint back from b to a that is no tighter than the distance leaves dates
-  dates_with : (arcs : List (Arc P)) → HasDates start arcs → (a b : P) (w : ℤ) (x : Bound) → IsFar arcs a b x → Fits w x → (date : P → ℤ) × IsDates start arcs date × ((date a -ℤ date b) ≤ℤ w)
+  dates_with : (arcs : List (Arc P)) → HasDates start arcs → (a b : P) (w : ℤ) (x : Bound) → IsFar arcs a b x → ClosesNoNegativeCycle w x → (date : P → ℤ) × IsDates start arcs date × ((date a -ℤ date b) ≤ℤ w)
   dates_with arcs dates a b w x far fits =
       let s : Solved start arcs = solved arcs dates in
       let e : Arc P = record { from = b; to = a; weight = w } in
       let more : HasDates start (e ∷ arcs) =
       HasDates-closed start arcs (e ∷ arcs) e (Adds-cons arcs e) (λ _. Unit {0}) (λ _ _. (tt, tt)) s.table (λ p q _ _. s.is_far p q)
-      (subst (λ (y : Bound). Fits w y) (IsFar-same arcs a b x (s.table a b) far (s.is_far a b)) fits) s.dates.0 s.dates.1 in
+      (subst (λ (y : Bound). ClosesNoNegativeCycle w y) (IsFar-same arcs a b x (s.table a b) far (s.is_far a b)) fits) s.dates.0 s.dates.1 in
       (more.0, IsDates-fewer start (e ∷ arcs) arcs (Adds-cons arcs e).kept more.0 more.1, met_at start (e ∷ arcs) more.0 e more.1 (Adds-cons arcs e).added)
 
   -- **Some dates reach the distance.**

@@ -1,4 +1,5 @@
--- How large distances are, which constraints fit, and what the closing by one constraint leaves alone.
+-- How large distances are, which constraints fit, and what the closing by one constraint leaves
+-- alone.
 use Rattle.std.proofs.Common.{neg_ℤ, ◌≡◌, ℕ, ◌<◌, ◌≤◌, ◌*◌, Bool, List, [], ◌∷◌, length, ℤ, pos, ◌+ℤ◌, ◌≤ℤ◌, ap, arith, refl}
 use Rattle.std.specs.Bool.{Decides}
 use Rattle.std.specs.Int.{int_min}
@@ -9,7 +10,7 @@ use Rattle.tmm_model.specs.declared.bound.Bound.{Bound}
 use Rattle.tmm_model.specs.declared.bound.Bound.TheVariants.{Finite, Free}
 use Rattle.tmm_model.specs.Bounds.{IfFinite, lesser, IsWithin}
 use Rattle.tmm_model.specs.Types.{through}
-use Rattle.walk_theory.specs.LeastWalks.{Fits, IsWalk, HasWalk, IsFar, AreAmong, AreLight}
+use Rattle.walk_theory.specs.LeastWalks.{ClosesNoNegativeCycle, IsWalk, HasWalk, IsFar, AreAmong, AreLight}
 use Rattle.tmm_model.specs.Walks.{Arc, total, HasDates}
 use Rattle.walk_theory.proofs.Dates.{difference-le_total}
 use Rattle.walk_theory.proofs.Paths.{Path, shorten, closed_walks, length_lt_from_distinct}
@@ -51,30 +52,24 @@ module _ {P : Type 0} (same : P → P → Bool) (decides : (x y : P) → Decides
 pub int_min-left : (x y : ℤ) → x ≤ℤ y → int_min x y ≡ x
 int_min-left x y h = omega (arith, ints, clamps)
 
-pub lesser-past_cycle_left : (x : Bound) (w : ℤ) (y : Bound) → Fits w x → lesser y (through x w y) ≡ y
+pub lesser-past_cycle_left : (x : Bound) (w : ℤ) (y : Bound) → ClosesNoNegativeCycle w x → lesser y (through x w y) ≡ y
 lesser-past_cycle_left (Finite x) w (Finite y) f = ap (λ (z : ℤ). Finite z) (int_min-left y (x +ℤ w +ℤ y) (omega (arith, ints)))
 lesser-past_cycle_left (Finite x) w Free f = refl
 lesser-past_cycle_left Free w (Finite y) f = refl
 lesser-past_cycle_left Free w Free f = refl
 
-pub lesser-past_cycle_right : (x : Bound) (w : ℤ) (y : Bound) → Fits w x → lesser y (through y w x) ≡ y
-lesser-past_cycle_right (Finite x) w (Finite y) f = ap (λ (z : ℤ). Finite z) (int_min-left y (y +ℤ w +ℤ x) (omega (arith, ints)))
-lesser-past_cycle_right (Finite x) w Free f = refl
-lesser-past_cycle_right Free w (Finite y) f = refl
-lesser-past_cycle_right Free w Free f = refl
-
 -- ---- constraints that fit
 
 module _ {P : Type 0} (start : P) where
   -- a constraint of a list with dates fits
-  pub Fits-from_dates : (old new : List (Arc P)) (e : Arc P) (kept : (x : Arc P) → Contains old x → Contains new x) → Contains new e → HasDates start new → (x : Bound) → IsFar old e.to e.from x → Fits e.weight x
+  pub Fits-from_dates : (old new : List (Arc P)) (e : Arc P) (kept : (x : Arc P) → Contains old x → Contains new x) → Contains new e → HasDates start new → (x : Bound) → IsFar old e.to e.from x → ClosesNoNegativeCycle e.weight x
   Fits-from_dates old new e kept m dates (Finite x) far =
       let r : HasWalk old e.to e.from x = far.reached in
       omega (arith, ints, r.2, difference-le_total start new dates.0 dates.1 e.from e.from (e ∷ r.0) (m, refl, IsWalk-kept old new kept e.to e.from r.0 r.1))
   Fits-from_dates old new e kept m dates Free far = tt
 
   -- with dates, no way from a point to itself is negative
-  pub Fits-round : (arcs : List (Arc P)) → HasDates start arcs → (a : P) (x : Bound) → IsFar arcs a a x → Fits (pos 0) x
+  pub Fits-round : (arcs : List (Arc P)) → HasDates start arcs → (a : P) (x : Bound) → IsFar arcs a a x → ClosesNoNegativeCycle (pos 0) x
   Fits-round arcs dates a (Finite x) far =
       let r : HasWalk arcs a a x = far.reached in
       omega (arith, ints, r.2, difference-le_total start arcs dates.0 dates.1 a a r.0 r.1)

@@ -14,9 +14,9 @@ AtMost (Finite x) s = x ≤ℤ s
 AtMost Free s = ⊥
 
 -- a step of weight w before the bound closes no walk of negative sum
-abbrev pub Fits : ℤ → Bound → Type 0
-Fits w (Finite x) = pos 0 ≤ℤ (w +ℤ x)
-Fits w Free = Unit {0}
+abbrev pub ClosesNoNegativeCycle : ℤ → Bound → Type 0
+ClosesNoNegativeCycle w (Finite x) = pos 0 ≤ℤ (w +ℤ x)
+ClosesNoNegativeCycle w Free = Unit {0}
 
 -- the constraint between the points that f gives its own
 abbrev pub renamed : {P Q : Type 0} → (P → Q) → Arc P → Arc Q

@@ -10,14 +10,14 @@ use Rattle.dist_repair.proofs.bound_row.Goals.{then-is_suspect, else-is_suspect}
 
 pub loop-i-init : goal.loop-i-init
 loop-i-init c =
-    let known : IsNet c.args.net.now.present = record { places = c.edges.ensures.names; used = c.edges.ensures.in_use; light = c.edges.ensures.light; dates = c.edges.ensures.dates } in
+    let known : IsNet c.args.net.now.present = record { places = c.invariants.ensures.names; used = c.invariants.ensures.in_use; light = c.invariants.ensures.light; dates = c.invariants.ensures.dates } in
     subst (λ (l : List ℕ). IsBounding c.args.net.now.present c.args.place (StandsFrom c.args.columns.now 0) c.args.a 0 l (row_of c.copy_from.new.self)) (sym c.clear.ensures)
     (IsBounding-columns c.args.net.now.present c.args.place c.args.from c.args.columns.now c.args.a (entry c.args.net.now.draft c.args.from) (row_of c.copy_from.new.self) known c.requires.place c.requires.first
     (subst (λ (l : List Bound). IsPresentRow c.args.net.now.present c.args.a (row_of l)) (sym c.copy_from.ensures) c.row.ensures.least))
 
 pub loop-i-preserved : goal.loop-i-preserved
 loop-i-preserved c =
-    let known : IsNet c.args.net.now.present = record { places = c.edges.ensures.names; used = c.edges.ensures.in_use; light = c.edges.ensures.light; dates = c.edges.ensures.dates } in
+    let known : IsNet c.args.net.now.present = record { places = c.invariants.ensures.names; used = c.invariants.ensures.in_use; light = c.invariants.ensures.light; dates = c.invariants.ensures.dates } in
     let net : Net = c.args.net.now.present in
     let b : ℕ = get_or c.args.columns.now c.loop-i.i 0 in
     let at : b ≡ get_or c.args.columns.now c.loop-i.i b = get_or_default c.args.columns.now c.loop-i.i 0 b c.loop-i-test.true in

@@ -12,11 +12,11 @@ use Rattle.dist_repair.proofs.hold.Goals as goal
 pub loop-i-init : goal.loop-i-init
 loop-i-init c =
     let net : Net = c.args.net.now.present in
-    let known : IsNet net = record { places = c.edges.ensures.names; used = c.edges.ensures.in_use; light = c.edges.ensures.light; dates = c.edges.ensures.dates } in
+    let known : IsNet net = record { places = c.invariants.ensures.names; used = c.invariants.ensures.in_use; light = c.invariants.ensures.light; dates = c.invariants.ensures.dates } in
     let e : Edge = c.index-edges-place.result in
-    let at : e ≡ get_or net.edges c.args.place e = c.index-edges-place.is ∙ ap (λ (t : List Edge). get_or t c.args.place e) c.edges-2.ensures.list in
+    let at : e ≡ get_or net.edges c.args.place e = c.index-edges-place.is ∙ ap (λ (t : List Edge). get_or t c.args.place e) c.edges.ensures.list in
     let to : IsTo net c.args.place e.to = λ d. ap (λ (g : Edge). g.to) (sym (edge_read net.edges c.args.place e c.requires.place at d)) in
-    let in_to : IsInUse net.names e.to = (ends_in_use net.names net.edges e c.edges.ensures.in_use (c.args.place, c.requires.place, sym at)).1 in
+    let in_to : IsInUse net.names e.to = (ends_in_use net.names net.edges e c.invariants.ensures.in_use (c.args.place, c.requires.place, sym at)).1 in
     All-added (IsHeld net c.args.place) c.none-held.result c.add.new.self e.to
     (subst (All (IsHeld net c.args.place)) (sym c.none-held.ensures) (λ k d below. absurd (omega (arith, below))))
     (in_to, KeepsRow-end net c.args.place known c.requires.place e.to to)

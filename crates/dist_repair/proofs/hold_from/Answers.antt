@@ -15,11 +15,11 @@ use Rattle.dist_repair.proofs.hold_from.Goals as goal
 pub returns-then-is_way_on : goal.returns-then-is_way_on
 returns-then-is_way_on c =
     let net : Net = c.args.net.now.present in
-    let known : IsNet net = record { places = c.edges.ensures.names; used = c.edges.ensures.in_use; light = c.edges.ensures.light; dates = c.edges.ensures.dates } in
+    let known : IsNet net = record { places = c.invariants.ensures.names; used = c.invariants.ensures.in_use; light = c.invariants.ensures.light; dates = c.invariants.ensures.dates } in
     let e : Edge = c.index-edges-j.result in
-    let at : e ≡ get_or net.edges c.args.j e = c.index-edges-j.is ∙ ap (λ (t : List Edge). get_or t c.args.j e) c.edges-2.ensures.list in
+    let at : e ≡ get_or net.edges c.args.j e = c.index-edges-j.is ∙ ap (λ (t : List Edge). get_or t c.args.j e) c.edges.ensures.list in
     let begins : (d : Edge) → (get_or net.edges c.args.j d).from ≡ e.from = λ d. ap (λ (g : Edge). g.from) (sym (edge_read net.edges c.args.j e c.requires.j at d)) in
-    let in_from : IsInUse net.names e.from = (ends_in_use net.names net.edges e c.edges.ensures.in_use (c.args.j, c.requires.j, sym at)).0 in
+    let in_from : IsInUse net.names e.from = (ends_in_use net.names net.edges e c.invariants.ensures.in_use (c.args.j, c.requires.j, sym at)).0 in
     let fits : FitsSigned w64 c.args.rest = search rules in
     let way : IsWayOn net c.args.j c.args.to c.args.rest =
     λ d. subst (λ (z : ℤ). IsFar (arcs_of net.edges) (get_or net.edges c.args.j d).from c.args.to (Finite (z +ℤ (get_or net.edges c.args.j d).weight))) (to_z-of_z w64 c.args.rest fits) (c.if-is_way_on.ensures refl d) in

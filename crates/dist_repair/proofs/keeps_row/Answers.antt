@@ -16,5 +16,5 @@ returns-then-has c answer = (All-contains (IsHeld c.args.net.now.present c.args.
 
 pub returns : goal.returns
 returns c answer =
-    let known : IsNet c.args.net.now.present = record { places = c.edges.ensures.names; used = c.edges.ensures.in_use; light = c.edges.ensures.light; dates = c.edges.ensures.dates } in
+    let known : IsNet c.args.net.now.present = record { places = c.invariants.ensures.names; used = c.invariants.ensures.in_use; light = c.invariants.ensures.light; dates = c.invariants.ensures.dates } in
     KeepsRow-loose c.args.net.now.present c.args.place known c.requires.place c.args.a (λ tight. either c.is_tight.result answer (c.is_tight.ensures.1 tight))

@@ -9,7 +9,7 @@ use Rattle.dist_repair.proofs.look_to.Goals.{then-i-place+else-not-look_at, else
 
 pub places-preserved : goal.places-preserved
 places-preserved c =
-    let known : IsNet c.args.net.now.present = record { places = c.edges.ensures.names; used = c.edges.ensures.in_use; light = c.edges.ensures.light; dates = c.edges.ensures.dates } in
+    let known : IsNet c.args.net.now.present = record { places = c.invariants.ensures.names; used = c.invariants.ensures.in_use; light = c.invariants.ensures.light; dates = c.invariants.ensures.dates } in
     let before : List ℕ = c.args.again.now.items in
     let old : ℕ → Bound = row_of c.args.row.now in
     let is : IsLooking c.args.net.now.present c.args.place c.args.a c.args.point c.args.ends.now old before (Some c.in-Some.i) (row_of c.places.row) c.places.again.items =

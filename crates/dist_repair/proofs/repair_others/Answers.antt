@@ -22,7 +22,7 @@ repair_row-requires-clause-ends c = c.requires.ends ∙ sym (ap (λ (n : Net). t
 
 pub loop-a-preserved : goal.loop-a-preserved
 loop-a-preserved c =
-    let known : IsNet c.args.net.now.present = record { places = c.edges.ensures.names; used = c.edges.ensures.in_use; light = c.edges.ensures.light; dates = c.edges.ensures.dates } in
+    let known : IsNet c.args.net.now.present = record { places = c.invariants.ensures.names; used = c.invariants.ensures.in_use; light = c.invariants.ensures.light; dates = c.invariants.ensures.dates } in
     let P : Nets → Type 0 = IsErasing c.args.net.now c.args.place c.args.from c.args.columns.now (c.loop-a.a + 1) in
     elim c.if-is_some.branch [
       | then-is_some+then-a-from+then-not-keeps_row+else-not-repair_row w ↦ subst P (sym w.net-is)

@@ -11,14 +11,14 @@ use Rattle.dist_repair.proofs.way_over.Goals as goal
 
 pub sum_of-requires-clause-rest : goal.sum_of-requires-clause-rest
 sum_of-requires-clause-rest c =
-    let known : IsNet c.args.net.now.present = record { places = c.edges.ensures.names; used = c.edges.ensures.in_use; light = c.edges.ensures.light; dates = c.edges.ensures.dates } in
+    let known : IsNet c.args.net.now.present = record { places = c.invariants.ensures.names; used = c.invariants.ensures.in_use; light = c.invariants.ensures.light; dates = c.invariants.ensures.dates } in
     let started : IsStarted (rest_of c.args.net.now.present c.args.place) c.args.from c.args.b (entry c.args.net.now.draft c.args.from c.args.b) =
     IsStarted-far c.args.net.now.present c.args.place known c.args.from c.args.b c.requires.to (entry c.args.net.now.draft c.args.from c.args.b) (c.requires.far c.args.b c.requires.to) in
     subst (λ (x : Bound). IfFinite x (IsWithin 255000000000)) (sym c.draft.ensures) started.small
 
 pub of-requires-2 : goal.of-requires-2
 of-requires-2 c =
-    let known : IsNet c.args.net.now.present = record { places = c.edges.ensures.names; used = c.edges.ensures.in_use; light = c.edges.ensures.light; dates = c.edges.ensures.dates } in
+    let known : IsNet c.args.net.now.present = record { places = c.invariants.ensures.names; used = c.invariants.ensures.in_use; light = c.invariants.ensures.light; dates = c.invariants.ensures.dates } in
     let started : IsStarted (rest_of c.args.net.now.present c.args.place) c.args.a c.args.b c.sum_of.result =
     IsStarted-sum c.args.net.now.present c.args.place known c.args.a c.args.b c.requires.to c.args.from c.far.result c.draft.result c.sum_of.result c.if-a-b.false
     (IsFar-to_first c.args.net.now.present c.args.place known c.requires.place c.args.from c.args.a c.far.result c.requires.edge c.far.ensures.least).reached
@@ -28,7 +28,7 @@ of-requires-2 c =
 
 pub returns : goal.returns
 returns c =
-    let known : IsNet c.args.net.now.present = record { places = c.edges.ensures.names; used = c.edges.ensures.in_use; light = c.edges.ensures.light; dates = c.edges.ensures.dates } in
+    let known : IsNet c.args.net.now.present = record { places = c.invariants.ensures.names; used = c.invariants.ensures.in_use; light = c.invariants.ensures.light; dates = c.invariants.ensures.dates } in
     let started : IsStarted (rest_of c.args.net.now.present c.args.place) c.args.a c.args.b c.sum_of.result =
     IsStarted-sum c.args.net.now.present c.args.place known c.args.a c.args.b c.requires.to c.args.from c.far.result c.draft.result c.sum_of.result c.if-a-b.false
     (IsFar-to_first c.args.net.now.present c.args.place known c.requires.place c.args.from c.args.a c.far.result c.requires.edge c.far.ensures.least).reached

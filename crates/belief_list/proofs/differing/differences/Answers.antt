@@ -1,8 +1,8 @@
-use Rattle.std.proofs.Common.{◌≡◌, true, false, length, refl, ◌∙◌, ap, subst, arith}
+use Rattle.std.proofs.Common.{◌≡◌, true, false, length, refl, sym, ◌∙◌, ap, subst, arith}
 use Rattle.std.proofs.lemmas.List.{length-replicate}
-use Rattle.occ_tree.specs.Places.{forest}
-use Rattle.belief_list.specs.Finding.{mark_under, IsClassMarked}
-use Rattle.belief_list.proofs.Finding.{found_first, each_more, classes_marked, places_marked}
+use Rattle.std.proofs.lemmas.List.Elements.{Contains-get_or}
+use Rattle.belief_list.specs.Finding.{mark_under, AreMarked, IsClassSettled}
+use Rattle.belief_list.proofs.Finding.{found_first, each_more, settled_more, classes_settled, places_marked}
 use Rattle.belief_list.proofs.Untouched.{differences_are}
 use Rattle.belief_list.proofs.differing.differences.Goals as goal
 
@@ -17,14 +17,18 @@ loop-class-init c = record {
 
 pub loop-class-preserved : goal.loop-class-preserved
 loop-class-preserved c =
-    let g = forest c.args.tree.now in
+    let tree = c.args.tree.now in
+    let nodes = c.args.nodes.now in
+    let kept = c.args.kept.now in
     let marks = c.loop-class.found.marks.items in
     let new = c.tell_class.new.found.marks.items in
+    let touched = subst (λ l. AreMarked l nodes) (sym c.deref.ensures.value) c.in_ok-touched.ensures in
     record {
       long = c.in_ok-tell_class.ensures.long;
       found = c.in_ok-tell_class.ensures.found c.args.classes.now c.loop-class.invariant.found;
-      done = each_more (IsClassMarked g marks) (IsClassMarked g new) c.args.classes.now c.loop-class.class-index c.class-item.result c.loop-class-test.true
-          (λ class own x m here of. c.in_ok-tell_class.ensures.stay x (own x m here of)) (subst (IsClassMarked g new) c.class-item.is c.in_ok-tell_class.ensures.marked) c.loop-class.invariant.done;
+      done = each_more (IsClassSettled tree nodes kept marks) (IsClassSettled tree nodes kept new) c.args.classes.now c.loop-class.class-index c.class-item.result c.loop-class-test.true
+          (settled_more tree nodes kept marks new c.in_ok-tell_class.ensures.stay)
+          (subst (IsClassSettled tree nodes kept new) c.class-item.is (c.in_ok-tell_class.ensures.settled nodes touched)) c.loop-class.invariant.done;
     }
 
 pub loop-x-init : goal.loop-x-init
@@ -32,7 +36,7 @@ loop-x-init c = record {
   long = c.loop-class.invariant.long;
   found = c.loop-class.invariant.found;
   classes =
-      classes_marked (forest c.args.tree.now) c.loop-class.found.marks.items c.args.classes.now
+      classes_settled c.args.tree.now c.args.nodes.now c.args.kept.now c.loop-class.found.marks.items c.args.classes.now
       (λ j d lt. c.loop-class.invariant.done j d (omega (arith, lt, c.loop-class-test.false)));
   counted = tt;
   done = λ j d below. absurd (omega (arith, below));
@@ -44,8 +48,8 @@ loop-x-preserved c =
     let new = c.tell_node.new.found.marks.items in
     record {
       long = c.in_ok-tell_node.ensures.long;
-      found = c.in_ok-tell_node.ensures.found c.args.net.now.present c.args.classes.now c.loop-x.invariant.classes c.loop-x.invariant.found;
-      classes = λ class there x m here of. c.in_ok-tell_node.ensures.stay x (c.loop-x.invariant.classes class there x m here of);
+      found = c.in_ok-tell_node.ensures.found c.args.net.now.present c.args.nodes.now c.args.classes.now (Contains-get_or c.args.nodes.now c.loop-x.x-index _ c.loop-x-test.true) c.loop-x.invariant.classes c.loop-x.invariant.found;
+      classes = λ class there. settled_more c.args.tree.now c.args.nodes.now c.args.kept.now marks new c.in_ok-tell_node.ensures.stay class (c.loop-x.invariant.classes class there);
       counted = c.tell_node.ensures.last;
       done = each_more (λ y. mark_under marks y ≡ true) (λ y. mark_under new y ≡ true) c.args.nodes.now c.loop-x.x-index _ c.loop-x-test.true
           c.in_ok-tell_node.ensures.stay c.in_ok-tell_node.ensures.marked c.loop-x.invariant.done;

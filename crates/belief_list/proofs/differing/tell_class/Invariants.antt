@@ -9,6 +9,6 @@ invariant-loop-i l = record {
   long : length l.found.marks.items ≡ length l.kept;
   found : (classes : List (List ℕ)) → AreFound l.standing.present l.net.present l.tree classes l.kept l.fn.found.marks.items l.fn.found.differences.items
       → AreFound l.standing.present l.net.present l.tree classes l.kept l.found.marks.items l.found.differences.items;
-  done : (j d : ℕ) → j < l.i → mark_under l.found.marks.items (slice_index_or (numbers_in l.rows) j d) ≡ true;
+  done : (j : ℕ) → j < l.i → slice_index_or l.wanted.items j true ≡ true → mark_under l.found.marks.items (slice_index_or (numbers_in l.rows) j 0) ≡ true;
   stay : MarksStay l.fn.found.marks.items l.found.marks.items;
 }

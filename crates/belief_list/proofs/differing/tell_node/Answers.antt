@@ -1,4 +1,4 @@
-use Rattle.std.proofs.Common.{◌≡◌, ◌<◌, true, false, length, sym, ◌∙◌, subst, arith}
+use Rattle.std.proofs.Common.{◌≡◌, ◌<◌, true, false, length, sym, ◌∙◌, subst, arith, inl, inr}
 use Rattle.std.specs.Prelude.{None}
 use Rattle.std.proofs.lemmas.List.{get_or_default}
 use Rattle.std.proofs.lemmas.Result.{on_ok_weaker}
@@ -17,10 +17,12 @@ returns-clause-found c =
     let free : mark_under marks x ≡ false = sym c.is_marked.ensures ∙ c.if-is_marked.false in
     let within : x < length kept = (let lt = unmarked_within marks x free in omega (arith, lt, c.requires.long)) in
     on_ok_weaker c.tell.result
-    (λ told net classes marked w.
+    (λ told net nodes classes there settled w.
     told s net tree classes w
     (subst (λ o. IsNowUnder s net tree classes o x now) (get_or_default kept x _ None within)
     (c.row_now-now.ensures.now net classes
-    (λ m class here of there.
-    (let no : true ≡ false = sym (marked class there x m here of) ∙ free in absurd (cc no))))))
+    (λ m class here of among. elim (settled class among x m here of) [
+      | inl marked ↦ (let no : true ≡ false = sym marked ∙ free in absurd (cc no))
+      | inr keeps ↦ keeps.own there
+    ]))))
     c.tell.ensures.found

@@ -1,7 +1,7 @@
 use Rattle.std.proofs.Common.{◌≡◌, ◌∙◌, List, ℕ, ◌∷◌, length, None, Some, ap, sym, subst, arith}
 use Rattle.row_links.specs.Lists.{IsOn, first_or, row_after}
 use Rattle.spots.specs.Forest.{Forest}
-use Rattle.spots.specs.Seen.{HasList}
+use Rattle.spots.specs.OfLists.{HasList}
 use Rattle.spots.proofs.Nodes.{live_at}
 use Rattle.occ_tree.specs.Places.{forest}
 use Rattle.occ_tree.specs.Standing.{present, below}

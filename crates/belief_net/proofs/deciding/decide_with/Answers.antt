@@ -1,11 +1,27 @@
-use Rattle.std.proofs.Common.{◌∙◌, take, length, map, sym, ap}
-use Rattle.belief_theory.specs.Outcomes.{fires}
+use Rattle.tmm_model.specs.Standing.{far_in}
+use Rattle.belief_theory.specs.Outcomes.{outcome}
+use Rattle.projection.specs.declared.judging.Verdict.TheVariants.{Fires, Blocked, Barred, Beyond}
 use Rattle.spots.specs.Forest.{moment_at}
 use Rattle.occ_tree.specs.Places.{forest}
+use Rattle.belief_net.proofs.Judged.{judged_is}
 use Rattle.belief_net.proofs.deciding.decide_with.Goals as goal
 
-pub returns-in-Fires-clause-outcome : goal.returns-in-Fires-clause-outcome
-returns-in-Fires-clause-outcome c b holds =
-    let long = c.len.ensures.value ∙ ap length (sym c.as_slice.ensures.value) in
-    let same = ap (λ n. take n c.four.result) long ∙ c.four.ensures ∙ c.as_slice.ensures.value in
-    ap (λ l. fires (map (moment_at (forest c.args.tree.now)) l)) same ∙ c.in-Fires.ensures.outcome b holds
+pub returns-in-Fires-clause-found : goal.returns-in-Fires-clause-found
+returns-in-Fires-clause-found c b holds =
+    let s = c.args.standing.now.present in
+    judged_is (outcome s (far_in s.premises) b (moment_at (forest c.args.tree.now) c.args.trigger) c.args.rule) Fires (c.in-Fires.ensures.verdict b holds)
+
+pub returns-in-Blocked-clause-found : goal.returns-in-Blocked-clause-found
+returns-in-Blocked-clause-found c b holds =
+    let s = c.args.standing.now.present in
+    judged_is (outcome s (far_in s.premises) b (moment_at (forest c.args.tree.now) c.args.trigger) c.args.rule) (Blocked c.in-Blocked.antecedent) (c.in-Blocked.ensures.verdict b holds)
+
+pub returns-in-Barred-clause-found : goal.returns-in-Barred-clause-found
+returns-in-Barred-clause-found c b holds =
+    let s = c.args.standing.now.present in
+    judged_is (outcome s (far_in s.premises) b (moment_at (forest c.args.tree.now) c.args.trigger) c.args.rule) (Barred c.in-Barred.exception) (c.in-Barred.ensures.verdict b holds)
+
+pub returns-in-Beyond-clause-found : goal.returns-in-Beyond-clause-found
+returns-in-Beyond-clause-found c b holds =
+    let s = c.args.standing.now.present in
+    judged_is (outcome s (far_in s.premises) b (moment_at (forest c.args.tree.now) c.args.trigger) c.args.rule) Beyond (c.in-Beyond.ensures.verdict b holds)

@@ -46,13 +46,13 @@ told c = record {
 }
 
 pub wake_unread-requires-clause-below : goal.wake_unread-requires-clause-below
-wake_unread-requires-clause-below c = numbers_below c.args.standing.now.present c.args.net.now.present (forest c.args.tree.now) c.requires.seen c.edges.ensures.names
+wake_unread-requires-clause-below c = numbers_below c.args.standing.now.present c.args.net.now.present (forest c.args.tree.now) c.requires.seen c.invariants.ensures.names
 
 pub wake_unread-requires-clause-moves : goal.wake_unread-requires-clause-moves
 wake_unread-requires-clause-moves c = told (goal.at.wake_unread-requires-clause-moves c).In_ok-moves
 
 pub wake_classes-requires-clause-below : goal.wake_classes-requires-clause-below
-wake_classes-requires-clause-below c = numbers_below c.args.standing.now.present c.args.net.now.present (forest c.args.tree.now) c.requires.seen c.edges.ensures.names
+wake_classes-requires-clause-below c = numbers_below c.args.standing.now.present c.args.net.now.present (forest c.args.tree.now) c.requires.seen c.invariants.ensures.names
 
 pub wake_classes-requires-clause-moves : goal.wake_classes-requires-clause-moves
 wake_classes-requires-clause-moves c = told (goal.at.wake_classes-requires-clause-moves c).In_ok-moves
@@ -69,7 +69,7 @@ returns-clause-ok c =
     let moves = c.in_ok-moves.moves in
     let mid = c.wake_unread.new.decisions in
     let new = c.wake_classes.new.decisions in
-    let below = numbers_below list nets.present (forest c.args.tree.now) c.requires.seen c.edges.ensures.names in
+    let below = numbers_below list nets.present (forest c.args.tree.now) c.requires.seen c.invariants.ensures.names in
     let classes = subst (λ (z : Decisions). WakesForAll s nets moves z (length z.classes) (dates_in mid.waiting) (dates_in new.waiting)) c.in_ok-wake_unread.ensures.others c.in_ok-wake_classes.ensures.ok in
     all_woken nets c.args.added list s d moves c.requires.under c.first.ensures.listed below c.in_ok-moves.ensures.moved c.have_own.ensures c.in_ok-moves.ensures.fast
     (dates_in d.waiting) (dates_in mid.waiting) (dates_in new.waiting) c.in_ok-wake_unread.ensures.ok classes

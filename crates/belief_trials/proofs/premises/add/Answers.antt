@@ -17,4 +17,4 @@ returns-clause-network c =
     let well_formed : IsWellFormedPremise c.in-Add.premise = subst IsWellFormedEdit c.in-Add.is c.requires.well_formed in
     net_with c.args.list.now.present c.requires.network.sound c.in-Add.premise well_formed
     c.commit.new.self.present c.commit-2.new.self.present (list ∙ added) c.len.ensures.well_named fits
-    c.edges.ensures.distinct c.edges.ensures.start c.edges.ensures.in_use c.edges.ensures.dates
+    c.invariants.ensures.distinct c.invariants.ensures.start c.invariants.ensures.in_use c.invariants.ensures.dates

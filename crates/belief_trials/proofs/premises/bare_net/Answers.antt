@@ -5,4 +5,4 @@ use Rattle.belief_trials.proofs.premises.bare_net.Goals as goal
 
 pub returns-clause-network : goal.returns-clause-network
 returns-clause-network c =
-    at_start empty_list c.in_ok-net.net.present refl c.in_ok-net.ensures.present c.edges.ensures.distinct c.edges.ensures.start c.edges.ensures.in_use c.edges.ensures.dates
+    at_start empty_list c.in_ok-net.net.present refl c.in_ok-net.ensures.present c.invariants.ensures.distinct c.invariants.ensures.start c.invariants.ensures.in_use c.invariants.ensures.dates

@@ -35,5 +35,5 @@ returns-clause-first g c =
     let tokens = c.args.tokens.now in
     let test = supports of_one_class (g.S.Sure.distance c.args.order.now) tokens c.args.fact c.args.p c.args.q in
     let n = c.count_until-until.result in
-    let back : NonePass test tokens n (length tokens) = none_later (g.met.S.Dated.dated c.args.order.now) tokens c.requires.by_date c.requires.all_live of_one_class c.args.fact c.args.p c.args.q c.requires.p_live n c.count_until-until.ensures in
+    let back : NonePass test tokens n (length tokens) = none_later (g.met.S.Dated.dated c.args.order.now) tokens c.requires.by_date c.requires.all_live of_one_class tokens c.args.fact c.args.p c.args.q c.requires.p_live n c.count_until-until.ensures in
     λ k d lt. all_fail test tokens n (λ j e from less. c.loop-i.invariant.none j e from (omega (arith, c.loop-i-test.false))) back k d (omega arith) lt

@@ -9,7 +9,7 @@ use Rattle.clipping.proofs.by_date.is_held_within.Goals as goal
 pub loop-i-init : goal.loop-i-init
 loop-i-init g c =
     record {
-      none = none_later (g.met.S.Dated.dated c.args.order.now) c.args.tokens.now c.requires.by_date c.requires.all_live of_one_class c.args.fact c.args.p c.args.q c.requires.p_live c.count_until-until.result c.count_until-until.ensures;
+      none = none_later (g.met.S.Dated.dated c.args.order.now) c.args.tokens.now c.requires.by_date c.requires.all_live of_one_class c.args.tokens.now c.args.fact c.args.p c.args.q c.requires.p_live c.count_until-until.result c.count_until-until.ensures;
       begins = none_begins (g.S.Sure.distance c.args.order.now) c.args.tokens.now c.args.q _ c.new-search.ensures;
     }
 

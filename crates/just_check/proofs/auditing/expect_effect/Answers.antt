@@ -3,7 +3,7 @@ use Rattle.std.proofs.lemmas.Result.{on_ok_weaker}
 use Rattle.tmm_model.specs.Moments.{Moment}
 use Rattle.list_theory.proofs.Elements.{Contains-from_In}
 use Rattle.spots.specs.Forest.{moment_at}
-use Rattle.spots.specs.Seen.{Holds}
+use Rattle.spots.specs.OfLists.{HasOccurrences}
 use Rattle.occ_tree.specs.Places.{forest}
 use Rattle.just_check.specs.declared.expected.Origin.{Origin}
 use Rattle.just_check.specs.Checking.{FiresIn, AwaitsMore}
@@ -20,7 +20,7 @@ returns c =
     let old = c.args.expected.now in
     let new = c.add.new.self in
     let o : Origin = record { event = Some c.args.x; name = r } in
-    let more : Awaits old new o → (b : List Moment) → Holds b f → AwaitsMore s f b c.args.x (r ∷ []) old new = λ awaits b holds.
+    let more : Awaits old new o → (b : List Moment) → HasOccurrences b f → AwaitsMore s f b c.args.x (r ∷ []) old new = λ awaits b holds.
     let then_fires = (c.does_fire.ensures b holds).0 c.if-not-does_fire.false in
     let fires : FiresIn s b (moment_at f c.args.x) r = record { believed = Contains-from_In b (moment_at f c.args.x) (one_of f b c.args.x holds c.requires.live); stands = c.requires.rule; in_time = then_fires.0; free = then_fires.1 } in
     more_one s f b c.args.x r old new fires awaits in

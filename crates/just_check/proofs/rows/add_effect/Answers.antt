@@ -10,7 +10,7 @@ use Rattle.tmm_model.specs.Sorts.{class_in}
 use Rattle.tmm_model.specs.Standing.{premise_in}
 use Rattle.dist_net.specs.Net.{Net}
 use Rattle.spots.specs.Forest.{Member, member, Enters, child_member, moment_at}
-use Rattle.spots.specs.Seen.{IsSeen}
+use Rattle.spots.specs.OfLists.{IsForestOf}
 use Rattle.occ_tree.specs.Dated.{IsDatedBy}
 use Rattle.occ_tree.specs.Edits.{Enters as EntersTree}
 use Rattle.occ_tree.specs.OfLists.{IsTreeOf}
@@ -104,7 +104,7 @@ returns-clause-adds c =
     let link : Link = record { rule = r; lo = to_z w64 (of_z w64 lo); hi = hi } in
     IfOk-weaker c.insert_child.result
     (λ x. (n : Member) → member f c.args.x ≡ Some n → EntersTree c.args.tree.now c.insert_child.new.self x (child_member n link effect class shape) (Some c.args.x) (early (present c.args.tree.now) c.args.x +ℤ to_z w64 (of_z w64 lo)))
-    (λ x. (net : Net) → IsSeen s net f → Adds s net.names f new x (After (moment_at f c.args.x) r))
+    (λ x. (net : Net) → IsForestOf s net f → Adds s net.names f new x (After (moment_at f c.args.x) r))
     (λ x enters net seen. effect_adds s net f seen c.args.x m at r may c.in-Some-Rule.field-0-0 c.in-Some-Rule.field-0-1 lo hi effect c.in-Some-Rule.field-0-5 c.in-Some-Rule.field-0-6 there new x
     (subst (λ z. Enters f new x (child_member m (record { rule = r; lo = z; hi = hi }) effect (class_in s.premises effect) (effect_shape (class_in s.premises effect)))) (to_z-of_z w64 lo fits)
     (subst (λ o. Enters f new x (child_member m (record { rule = r; lo = to_z w64 (of_z w64 lo); hi = hi }) effect o (effect_shape (class_in s.premises effect)))) c.class_of-class.ensures
@@ -132,7 +132,7 @@ returns-clause-dated c =
     let class = c.class_of-class.result in
     let shape = c.effect_shape-shape.result in
     ok_on (λ x. ((n : Member) → member (forest old) t ≡ Some n → EntersTree old new x (child_member n link effect class shape) (Some t) (early (present old) t +ℤ to_z w64 (of_z w64 lo)))
-    × ((net : Net) → IsSeen s net (forest old) → Adds s net.names (forest old) (forest new) x (After (moment_at (forest old) t) c.args.rule)))
+    × ((net : Net) → IsForestOf s net (forest old) → Adds s net.names (forest old) (forest new) x (After (moment_at (forest old) t) c.args.rule)))
     ((net : Net) → IsTreeOf s net old → IsDatedBy net (present new)) c.insert_child.result
     (λ x (enters, adds) net tree.
     effects_keep_dates net (present old) (present new) t x m link effect class shape at (enters m at).grows

@@ -7,7 +7,7 @@ use Rattle.tmm_model.specs.Moments.{Moment, At}
 use Rattle.supports.specs.Growing.{AddsRoot}
 use Rattle.just_check.specs.Checking.{AreSoFar, EntersAs}
 use Rattle.just_check.proofs.Joining.{no_premise, premise_stands, no_root_for, root_enters, root_in}
-use Rattle.spots.specs.Seen.{HasList}
+use Rattle.spots.specs.OfLists.{HasList}
 use Rattle.occ_tree.specs.Dated.{IsDatedBy}
 use Rattle.occ_tree.specs.Places.{forest}
 use Rattle.occ_tree.specs.Standing.{present}

@@ -11,7 +11,7 @@ use Rattle.occ_tree.specs.OfLists.{IsTreeOf}
 use Rattle.occ_tree.specs.Places.{forest}
 use Rattle.occ_tree.specs.Standing.{Kept, State, forest as forest_of}
 use Rattle.spots.specs.Forest.{IsOnce}
-use Rattle.spots.specs.Seen.{Holds}
+use Rattle.spots.specs.OfLists.{HasOccurrences}
 use Rattle.supports.specs.Edited.{old_forest}
 use Rattle.map_engine.specs.Nexts.{read_next}
 use Rattle.map_engine.specs.Reads.{IsReadOf, read_of}
@@ -36,7 +36,7 @@ read-requires-clause-seen c = subst (IsTreeOf c.args.standing.now.present c.args
 
 pub read-requires-clause-holds : goal.read-requires-clause-holds
 read-requires-clause-holds c =
-    subst (λ (k : Kept). Holds (built c.args.standing.now.present).believed (forest k)) (sym c.tree-2.ensures) c.in_ok-told.ensures.ok.current.holds
+    subst (λ (k : Kept). HasOccurrences (built c.args.standing.now.present).believed (forest k)) (sym c.tree-2.ensures) c.in_ok-told.ensures.ok.current.holds
 
 pub read-requires-clause-told : goal.read-requires-clause-told
 read-requires-clause-told c =

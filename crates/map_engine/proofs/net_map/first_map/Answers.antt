@@ -4,7 +4,7 @@ use Rattle.occ_tree.specs.OfLists.{IsTreeOf}
 use Rattle.occ_tree.specs.Places.{forest}
 use Rattle.occ_tree.specs.Standing.{Kept}
 use Rattle.spots.specs.Forest.{member}
-use Rattle.spots.specs.Seen.{Holds}
+use Rattle.spots.specs.OfLists.{HasOccurrences}
 use Rattle.map_engine.specs.Reads.{IsReadOf, read_of}
 use Rattle.map_engine.proofs.NetMaps as lemma
 use Rattle.map_engine.proofs.net_map.first_map.Goals as goal
@@ -13,7 +13,7 @@ pub first_view-requires-clause-seen : goal.first_view-requires-clause-seen
 first_view-requires-clause-seen c = (c.args.net.present, subst (IsTreeOf c.args.standing.present c.args.net.present) (sym c.tree.ensures) c.requires.kept.fit.tree)
 
 pub first_view-requires-clause-holds : goal.first_view-requires-clause-holds
-first_view-requires-clause-holds c = subst (λ (k : Kept). Holds (built c.args.standing.present).believed (forest k)) (sym c.tree.ensures) c.requires.kept.current.holds
+first_view-requires-clause-holds c = subst (λ (k : Kept). HasOccurrences (built c.args.standing.present).believed (forest k)) (sym c.tree.ensures) c.requires.kept.current.holds
 
 pub first_view-requires-clause-empty : goal.first_view-requires-clause-empty
 first_view-requires-clause-empty c = subst (λ (k : Kept). (x : ℕ) → member (forest k) x ≡ None) (sym c.tree.ensures) c.requires.empty

@@ -11,7 +11,7 @@ use Rattle.occ_tree.specs.Places.{forest}
 use Rattle.occ_tree.specs.Standing.{Kept, present, forest as forest_of}
 use Rattle.revisions.specs.Alike.{AreAlike}
 use Rattle.revisions.specs.Counted.{changed}
-use Rattle.spots.specs.Seen.{Holds}
+use Rattle.spots.specs.OfLists.{HasOccurrences}
 use Rattle.spots.specs.Spots.{AreTokens}
 use Rattle.supports.specs.Edited.{IsEdited, AreOthersUntouched}
 use Rattle.map_engine.specs.Nexts.{after}
@@ -40,7 +40,7 @@ unmoved-requires-clause-holds c =
     let lists = c.args.standing.now in
     let nets = c.args.net.now in
     let kept = alike_kept lists.committed lists.present nets.committed nets.present c.args.nodes.now (c.is_still.ensures.alike c.if-is_still.true) c.requires.pending.network c.requires.pending.numbers c.requires.rests.kept in
-    subst (λ (k : Kept). Holds (built lists.present).believed (forest k)) (sym c.tree-then-is_still.ensures) kept.current.holds
+    subst (λ (k : Kept). HasOccurrences (built lists.present).believed (forest k)) (sym c.tree-then-is_still.ensures) kept.current.holds
 
 pub unmoved-requires-clause-edited : goal.unmoved-requires-clause-edited
 unmoved-requires-clause-edited c =

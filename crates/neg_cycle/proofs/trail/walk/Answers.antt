@@ -16,4 +16,4 @@ pub returns-clause-least : goal.returns-clause-least
 returns-clause-least c = IsFar-appended c.args.net.now.present c.args.a c.args.b c.reserve.new.self.items c.follow.new.steps.items (c.reserve.ensures.items ∙ c.make-steps.ensures) c.in_ok-follow.ensures
 
 pub returns-clause-path : goal.returns-clause-path
-returns-clause-path c = IsPath-appended c.args.net.now.present c.args.a c.args.b c.reserve.new.self.items c.follow.new.steps.items (c.reserve.ensures.items ∙ c.make-steps.ensures) c.in_ok-follow.ensures c.edges.ensures.distinct c.edges.ensures.in_use c.requires.to
+returns-clause-path c = IsPath-appended c.args.net.now.present c.args.a c.args.b c.reserve.new.self.items c.follow.new.steps.items (c.reserve.ensures.items ∙ c.make-steps.ensures) c.in_ok-follow.ensures c.invariants.ensures.distinct c.invariants.ensures.in_use c.requires.to

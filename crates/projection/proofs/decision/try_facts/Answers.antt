@@ -1,12 +1,14 @@
-use Rattle.std.proofs.Common.{◌∙◌, ◌+◌, ◌∷◌, [], map, length, sym, subst, ap, Some, arith}
+use Rattle.std.proofs.Common.{◌∙◌, ℕ, ◌+◌, List, ◌∷◌, [], map, take, length, sym, subst, ap, Some, arith}
+use Rattle.std.specs.Prelude.{Option}
 use Rattle.std.specs.List.{All}
 use Rattle.std.proofs.lemmas.List.{take_all, length-append}
 use Rattle.std.proofs.lemmas.List.Elements.{All-push}
 use Rattle.tmm_model.specs.Beliefs.{holder}
+use Rattle.tmm_model.specs.Moments.{Moment}
 use Rattle.tmm_model.specs.Standing.{far_in}
 use Rattle.spots.specs.Forest.{IsLive, moment_at}
 use Rattle.occ_tree.specs.Places.{forest}
-use Rattle.projection.proofs.Tried.{found_more, tried_unblocked, tried_blocked, is_barred, is_fired}
+use Rattle.projection.proofs.Tried.{all_there, found_more, tried_unblocked, tried_blocked, is_barred, is_fired}
 use Rattle.projection.proofs.decision.try_facts.Goals as goal
 
 pub returns-in-None-clause-outcome : goal.returns-in-None-clause-outcome
@@ -14,9 +16,10 @@ returns-in-None-clause-outcome c b holds =
     let s = c.args.standing.now.present in
     let f = forest c.args.tree.now in
     let t = moment_at f c.args.trigger in
-    tried_blocked (moment_at f) (λ fact. holder s (far_in s.premises) b fact t t) c.loop-antecedent.supports.items c.args.given.now
-    (map (λ fact. holder s (far_in s.premises) b fact t t) c.args.exceptions.now) c.loop-antecedent.antecedent c.index-given-antecedent.result
-    (c.loop-antecedent.invariant.found b holds) c.loop-antecedent.invariant.count (omega arith) c.index-given-antecedent.is (c.in-None.ensures.first b holds)
+    let h : List ℕ → Option Moment = λ fact. holder s (far_in s.premises) b fact t t in
+    tried_blocked h c.args.given.now c.loop-antecedent.antecedent c.index-given-antecedent.result (omega arith) c.index-given-antecedent.is
+    (all_there (moment_at f) h c.loop-antecedent.supports.items (map h (take c.loop-antecedent.antecedent c.args.given.now)) (c.loop-antecedent.invariant.found b holds))
+    (map h c.args.exceptions.now) (sym (c.in-None.ensures.first b holds))
 
 pub loop-antecedent-preserved : goal.loop-antecedent-preserved
 loop-antecedent-preserved c =

@@ -4,7 +4,7 @@ use Rattle.tmm_model.specs.Beliefs.{holder}
 use Rattle.tmm_model.specs.Moments.{Moment}
 use Rattle.tmm_model.specs.Standing.{far_in}
 use Rattle.spots.specs.Forest.{IsLive, moment_at}
-use Rattle.spots.specs.Seen.{Holds}
+use Rattle.spots.specs.OfLists.{HasOccurrences}
 use Rattle.occ_tree.specs.Places.{forest}
 use Rattle.projection.proofs.decision.try_facts.Given as goal
 
@@ -12,7 +12,7 @@ abbrev pub invariant-loop-antecedent : goal.invariant-loop-antecedent
 invariant-loop-antecedent l = record {
   count : length l.supports.items ≡ l.antecedent;
   live : All (IsLive (forest l.tree)) l.supports.items;
-  found : (b : List Moment) → Holds b (forest l.tree)
+  found : (b : List Moment) → HasOccurrences b (forest l.tree)
       → map (λ x. Some (moment_at (forest l.tree) x)) l.supports.items
       ≡ map (λ fact. holder l.standing.present (far_in l.standing.present.premises) b fact (moment_at (forest l.tree) l.trigger) (moment_at (forest l.tree) l.trigger)) (take l.antecedent l.given);
 }

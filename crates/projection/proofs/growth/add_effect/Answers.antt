@@ -9,7 +9,7 @@ use Rattle.tmm_model.specs.Sorts.{class_in}
 use Rattle.tmm_model.specs.Standing.{premise_in}
 use Rattle.dist_net.specs.Net.{Net}
 use Rattle.spots.specs.Forest.{Member, member, Enters, child_member, moment_at, IsTrigger}
-use Rattle.spots.specs.Seen.{IsSeen}
+use Rattle.spots.specs.OfLists.{IsForestOf}
 use Rattle.occ_tree.specs.Dated.{IsDatedBy}
 use Rattle.occ_tree.specs.Edits.{Enters as EntersTree}
 use Rattle.occ_tree.specs.OfLists.{IsTreeOf}
@@ -54,13 +54,13 @@ returns-clause-adds c =
     let name = c.in-Some-Rule.name in
     let rule = Rule name c.in-Some-Rule.field-0-1 lo hi effect c.in-Some-Rule.field-0-5 c.in-Some-Rule.field-0-6 in
     let at_place : slice_get s.premises c.args.place ≡ Some rule = sym c.in-Some-Rule.ensures ∙ ap Some c.in-Some-Rule.field-0-is in
-    let there : premise_in s.premises r ≡ Some rule = found_at s c.len.ensures.well_named c.args.place rule at_place in
+    let there : premise_in s.premises r ≡ Some rule = found_at s c.invariants.ensures.well_named c.args.place rule at_place in
     let named : name ≡ r = sym (named_at s c.args.place rule at_place) in
     let (m, at) = node_at f t c.requires.trigger in
     let same_shape : shape ≡ effect_shape (class_in s.premises effect) = c.effect_shape-shape.ensures ∙ ap effect_shape c.class_of-class.ensures in
     let link : Link = record { rule = name; lo = to_z w64 (of_z w64 lo); hi = hi } in
     ok_kept (λ x. (n : Member) → member f t ≡ Some n → EntersTree c.args.tree.now c.insert_child.new.self x (child_member n link effect class shape) (Some t) (early (present c.args.tree.now) t +ℤ to_z w64 (of_z w64 lo)))
-    (λ x. (net : Net) → IsSeen s net f → Adds s net.names f new x (After (moment_at f t) r)) c.insert_child.result
+    (λ x. (net : Net) → IsForestOf s net f → Adds s net.names f new x (After (moment_at f t) r)) c.insert_child.result
     (λ x enters net seen. effect_adds s net f seen t m at r c.requires.enters name c.in-Some-Rule.field-0-1 lo hi effect c.in-Some-Rule.field-0-5 c.in-Some-Rule.field-0-6 there new x
     (subst (λ z. Enters f new x (child_member m (record { rule = r; lo = z; hi = hi }) effect (class_in s.premises effect) (effect_shape (class_in s.premises effect)))) (to_z-of_z w64 lo fits)
     (subst (λ o. Enters f new x (child_member m (record { rule = r; lo = to_z w64 (of_z w64 lo); hi = hi }) effect o (effect_shape (class_in s.premises effect)))) c.class_of-class.ensures
@@ -81,7 +81,7 @@ returns-clause-dated c =
     let class = c.class_of-class.result in
     let shape = c.effect_shape-shape.result in
     ok_on (λ x. ((n : Member) → member (forest old) t ≡ Some n → EntersTree old new x (child_member n link effect class shape) (Some t) (early (present old) t +ℤ to_z w64 (of_z w64 lo)))
-    × ((net : Net) → IsSeen s net (forest old) → Adds s net.names (forest old) (forest new) x (After (moment_at (forest old) t) (name_at s c.args.place))))
+    × ((net : Net) → IsForestOf s net (forest old) → Adds s net.names (forest old) (forest new) x (After (moment_at (forest old) t) (name_at s c.args.place))))
     ((net : Net) → IsTreeOf s net old → IsDatedBy net (present new)) c.insert_child.result
     (λ x (enters, adds) net tree.
     effects_keep_dates net (present old) (present new) t x m link effect class shape at (enters m at).grows
@@ -105,7 +105,7 @@ insert_child-requires-clause-delay c =
     let fits : FitsSigned w64 c.in-Some-Rule.lo = search rules in
     let rule = Rule c.in-Some-Rule.name c.in-Some-Rule.field-0-1 lo c.in-Some-Rule.hi c.in-Some-Rule.effect c.in-Some-Rule.field-0-5 c.in-Some-Rule.field-0-6 in
     let at_place : slice_get s.premises c.args.place ≡ Some rule = sym c.in-Some-Rule.ensures ∙ ap Some c.in-Some-Rule.field-0-is in
-    let there = found_at s c.len.ensures.well_named c.args.place rule at_place in
+    let there = found_at s c.invariants.ensures.well_named c.args.place rule at_place in
     let (m, at) = node_at f c.args.trigger c.requires.trigger in
     subst (λ z. IsNumber z × IsBound c.in-Some-Rule.hi × (pos 1 ≤ℤ z) × IsRange (Finite z) c.in-Some-Rule.hi) (sym (to_z-of_z w64 lo fits))
     (delay_is s c.requires.seen.0 f c.requires.seen.1 c.args.trigger m at (name_at s c.args.place) c.requires.enters c.in-Some-Rule.name c.in-Some-Rule.field-0-1 lo c.in-Some-Rule.hi c.in-Some-Rule.effect c.in-Some-Rule.field-0-5 c.in-Some-Rule.field-0-6 there)
@@ -118,4 +118,4 @@ insert_child-requires-clause-word c =
     let at_place : slice_get s.premises c.args.place ≡ Some rule = sym c.in-Some-Rule.ensures ∙ ap Some c.in-Some-Rule.field-0-is in
     let (m, at) = node_at f c.args.trigger c.requires.trigger in
     rule_named s c.requires.seen.0 f c.requires.seen.1 c.args.trigger m at (name_at s c.args.place) c.requires.enters c.in-Some-Rule.name c.in-Some-Rule.field-0-1 c.in-Some-Rule.lo c.in-Some-Rule.hi c.in-Some-Rule.effect c.in-Some-Rule.field-0-5 c.in-Some-Rule.field-0-6
-    (found_at s c.len.ensures.well_named c.args.place rule at_place)
+    (found_at s c.invariants.ensures.well_named c.args.place rule at_place)

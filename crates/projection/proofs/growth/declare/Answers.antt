@@ -6,7 +6,7 @@ use Rattle.tmm_model.specs.Answers.{size, most_size}
 use Rattle.tmm_model.specs.Beliefs.{rules_at}
 use Rattle.tmm_model.specs.Maps.{built}
 use Rattle.spots.specs.Forest.{moment_at}
-use Rattle.spots.specs.Seen.{HasList}
+use Rattle.spots.specs.OfLists.{HasList}
 use Rattle.occ_tree.specs.Dated.{IsDatedBy}
 use Rattle.occ_tree.specs.Places.{forest}
 use Rattle.occ_tree.specs.Standing.{present}

@@ -13,18 +13,18 @@ returns-clause-lo c =
     let fits : FitsSigned w64 c.in-Some-Rule.lo = search rules in
     let rule = Rule c.in-Some-Rule.field-0-0 c.in-Some-Rule.field-0-1 lo c.in-Some-Rule.field-0-3 c.in-Some-Rule.field-0-4 c.in-Some-Rule.given c.in-Some-Rule.unless_facts in
     let at_place : slice_get s.premises c.args.place ≡ Some rule = sym c.in-Some-Rule.ensures ∙ ap Some c.in-Some-Rule.field-0-is in
-    to_z-of_z w64 lo fits ∙ ap (λ o. (as_rule o).lo) (sym (found_at s c.len.ensures.well_named c.args.place rule at_place))
+    to_z-of_z w64 lo fits ∙ ap (λ o. (as_rule o).lo) (sym (found_at s c.invariants.ensures.well_named c.args.place rule at_place))
 
 pub returns-clause-given : goal.returns-clause-given
 returns-clause-given c =
     let s = c.args.standing.now.present in
     let rule = Rule c.in-Some-Rule.field-0-0 c.in-Some-Rule.field-0-1 c.in-Some-Rule.lo c.in-Some-Rule.field-0-3 c.in-Some-Rule.field-0-4 c.in-Some-Rule.given c.in-Some-Rule.unless_facts in
     let at_place : slice_get s.premises c.args.place ≡ Some rule = sym c.in-Some-Rule.ensures ∙ ap Some c.in-Some-Rule.field-0-is in
-    c.as_slice.ensures.value ∙ ap (λ o. (as_rule o).given) (sym (found_at s c.len.ensures.well_named c.args.place rule at_place))
+    c.as_slice.ensures.value ∙ ap (λ o. (as_rule o).given) (sym (found_at s c.invariants.ensures.well_named c.args.place rule at_place))
 
 pub returns-clause-exceptions : goal.returns-clause-exceptions
 returns-clause-exceptions c =
     let s = c.args.standing.now.present in
     let rule = Rule c.in-Some-Rule.field-0-0 c.in-Some-Rule.field-0-1 c.in-Some-Rule.lo c.in-Some-Rule.field-0-3 c.in-Some-Rule.field-0-4 c.in-Some-Rule.given c.in-Some-Rule.unless_facts in
     let at_place : slice_get s.premises c.args.place ≡ Some rule = sym c.in-Some-Rule.ensures ∙ ap Some c.in-Some-Rule.field-0-is in
-    c.as_slice-in-Some-Rule.ensures.value ∙ ap (λ o. (as_rule o).exceptions) (sym (found_at s c.len.ensures.well_named c.args.place rule at_place))
+    c.as_slice-in-Some-Rule.ensures.value ∙ ap (λ o. (as_rule o).exceptions) (sym (found_at s c.invariants.ensures.well_named c.args.place rule at_place))

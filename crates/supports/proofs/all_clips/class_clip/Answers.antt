@@ -24,6 +24,6 @@ returns-in-Found-clause-clip c =
     let f = forest c.args.tree.now in
     let behind = rows_of c.args.behind.now in
     let found = c.in-Found.clip in
-    inl
+    λ _. inl
     (subst (λ row. MatchOption row.end (IsLastNode (clips of_one_class (spot_distance net f) row) behind found) (λ _. IsNone found)) (get_or_read c.args.rows.now c.args.i c.index-rows-i.result c.requires.within c.index-rows-i.is no_row)
     (subst (IsNear net f behind c.index-rows-i.result) c.in-Found.is c.near_clip.ensures))

@@ -1,11 +1,13 @@
-use Rattle.std.proofs.Common.{inl, inr, ℕ, false, ◌≡◌, ◌+◌, ◌-◌, ◌<◌, ◌≤◌, ◌∙◌, [], ◌∷◌, ◌++◌, sym, ap, subst, arith, rules, w64, of_z, to_z, FitsSigned}
+use Rattle.std.proofs.Common.{inl, inr, ℕ, true, false, ◌≡◌, ◌+◌, ◌-◌, ◌<◌, ◌≤◌, ◌∙◌, [], ◌∷◌, ◌++◌, sym, ap, subst, arith, rules, w64, of_z, to_z, FitsSigned}
+use Rattle.std.proofs.lemmas.Bool.{cases_lt}
 use Rattle.std.proofs.lemmas.Int.{to_z-of_z}
 use Rattle.std.specs.Prelude.{◌≤ℤ◌, IfSome, IsNone, MatchOption, drop, take, length, slice_index_or}
 use Rattle.std.specs.List.{All}
 use Rattle.std.specs.Option.{ForSome}
+use Rattle.std.proofs.lemmas.List.Elements.{All-set}
 use Rattle.tmm_model.specs.declared.token.TokenRow.{TokenRow}
 use Rattle.clip_search.specs.Entries.{no_row, row_at}
-use Rattle.std.proofs.lemmas.List.{get_or_read, length-set, length-map, map-append}
+use Rattle.std.proofs.lemmas.List.{get_or_read, get_or_default, length-set, length-map, map-append}
 use Rattle.tmm_model.specs.Tokens.{of_one_class, clips}
 use Rattle.clipping.specs.declared.stretches.Stretched.{Stretched}
 use Rattle.spots.specs.declared.spot.Spot.{Spot}
@@ -90,9 +92,10 @@ loop-i-preserved c =
     let there : All (λ r. IsSpot net.names f r.spot × ForSome r.end (IsSpot net.names f)) (rows_of behind) =
     subst (All (λ r. IsSpot net.names f r.spot × ForSome r.end (IsSpot net.names f))) (sym c.loop-i.invariant.behind) (behind_there f class c.requires.dates.list.0 net seen (drop c.loop-i.i nodes)) in
     let found = c.in_ok-clip.clip in
+    let in_wanted : c.loop-i.i - 1 < length c.args.wanted.now = omega (arith, within, ap length c.tokens-rows.ensures.list, c.requires.long) in
     let fails : (q : ℕ) (d : TokenRow Spot) → later ≤ q → q < length (rows_of behind) → clips of_one_class (spot_distance net f) row (slice_index_or (rows_of behind) q d) ≡ false =
     λ q d from lt. no_later_fails c.requires.dates row (slice_index_or (rows_of behind) q d) row_there (there q d lt).0 (subst (λ z. spot_early net f (slice_index_or (rows_of behind) q d).spot ≤ℤ z) (sym date_is) (up q d from lt)) in
-    let clip : IsClip net f (slice_index_or nodes (c.loop-i.i - 1) 0) found = elim c.in_ok-clip.ensures.clip [
+    let clip : slice_index_or c.args.wanted.now (c.loop-i.i - 1) false ≡ true → IsClip net f (slice_index_or nodes (c.loop-i.i - 1) 0) found = λ asked. elim (c.in_ok-clip.ensures.clip (get_or_default c.args.wanted.now (c.loop-i.i - 1) _ false in_wanted ∙ asked)) [
       | inl near ↦
           clip_here c.requires.dates are c.tokens-rows.ensures.in_order (c.loop-i.i - 1) row row within c.index-rows-i.is (rows_of behind)
           (c.loop-i.invariant.behind ∙ ap (λ n. rows_behind f class (drop n nodes)) (sym at)) found
@@ -107,9 +110,8 @@ loop-i-preserved c =
     c.loop-i.invariant.behind c.loop-i.invariant.stretches
     (subst (λ l. IsStretch (rows_of l) row.fact c.stretch_behind-first.result (length l)) c.deref-in-loop-i.ensures.value c.stretch_behind-first.ensures) in record {
       count = length-set c.loop-i.clips.items (c.loop-i.i - 1) found ∙ c.loop-i.invariant.count;
-      live = set_on (λ j found. IfSome found (IsLive f)) c.loop-i.clips.items (length rows) c.loop-i.i (c.loop-i.i - 1) found
-          c.loop-i.invariant.count at within c.in_ok-clip.ensures.live c.loop-i.invariant.live;
-      clip = set_on (λ j found. IsClip c.args.net.now.present f (slice_index_or nodes j 0) found) c.loop-i.clips.items (length rows) c.loop-i.i (c.loop-i.i - 1) found
+      live = All-set (λ found. IfSome found (IsLive f)) c.loop-i.clips.items (c.loop-i.i - 1) found c.in_ok-clip.ensures.live c.loop-i.invariant.live;
+      clip = set_on (λ j found. slice_index_or c.args.wanted.now j false ≡ true → IsClip c.args.net.now.present f (slice_index_or nodes j 0) found) c.loop-i.clips.items (length rows) c.loop-i.i (c.loop-i.i - 1) found
           c.loop-i.invariant.count at within clip c.loop-i.invariant.clip;
       room = c.push_reserved.ensures.capacity ∙ c.loop-i.invariant.room;
       long = omega (arith, c.push_reserved.ensures.len, c.loop-i.invariant.long, c.loop-i-test.true);
@@ -123,5 +125,11 @@ loop-i-preserved c =
 
 pub returns-clause-each : goal.returns-clause-each
 returns-clause-each c =
-    subst (λ rows. AreClips c.args.net.now.present (forest c.args.tree.now) rows c.loop-i.clips.items) c.tokens-rows.ensures.list
-    (record { count = c.loop-i.invariant.count; each = λ j d lt. c.loop-i.invariant.clip j d (omega (arith, c.loop-i-test.false)) lt })
+    subst (λ rows. AreClips c.args.net.now.present (forest c.args.tree.now) rows c.args.wanted.now c.loop-i.clips.items) c.tokens-rows.ensures.list
+    (record {
+      count = c.loop-i.invariant.count;
+      each = λ j d lt asked. elim (cases_lt j c.loop-i.i) [
+        | inl before ↦ let no : true ≡ false = sym asked ∙ c.first_wanted-low.ensures.none j (omega (arith, before, c.loop-i-test.false)) in absurd (cc no)
+        | inr behind ↦ c.loop-i.invariant.clip j d behind lt asked
+      ];
+    })

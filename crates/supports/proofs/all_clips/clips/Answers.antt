@@ -5,7 +5,7 @@ use Rattle.std.proofs.lemmas.List.{length-map, length-set}
 use Rattle.tmm_model.specs.Answers.{clip}
 use Rattle.occ_tree.specs.Ranks.{nodes_of}
 use Rattle.spots.specs.Forest.{IsLive, moment_at}
-use Rattle.spots.specs.Seen.{map_of}
+use Rattle.spots.specs.OfLists.{map_of}
 use Rattle.occ_tree.specs.Places.{forest}
 use Rattle.supports.specs.Behind.{IsClip}
 use Rattle.supports.proofs.Falling.{same_maps, set_on}

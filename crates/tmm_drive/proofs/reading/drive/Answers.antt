@@ -4,7 +4,7 @@ use Rattle.std.proofs.lemmas.List.{length-take, length-take-le}
 use Rattle.std.proofs.Math.Seq.{take-append_seam}
 use Rattle.tmm_drive.specs.Endings.{AnswersEnded, limit}
 use Rattle.tmm_drive.specs.declared.tally.Tally.{Tally}
-use Rattle.tmm_drive.specs.Reading.{Stands}
+use Rattle.tmm_drive.specs.Reading.{ReadSoFar}
 use Rattle.tmm_drive.proofs.Steps.{Stands-none, Consumes-none, Ends-all, BreaksOff-weaker, AnswersEnded-now, reads_on, reads_off}
 use Rattle.tmm_drive.proofs.reading.drive.Goals as goal
 
@@ -24,8 +24,8 @@ reads-init g c = record {
     Consumes-nil _,
     Appends-nil _,
     refl,
-    subst (λ (l : List ℕ). Stands g.L.Lines.step (g.L.Lines.state c.args.lines.now) [] [] (g.L.Lines.state c.args.lines.now) l c.new-tally.result) (sym c.requires.empty)
-        (subst (λ (t : Tally). Stands g.L.Lines.step (g.L.Lines.state c.args.lines.now) [] [] (g.L.Lines.state c.args.lines.now) [] t) (sym c.new-tally.ensures)
+    subst (λ (l : List ℕ). ReadSoFar g.L.Lines.step (g.L.Lines.state c.args.lines.now) [] [] (g.L.Lines.state c.args.lines.now) l c.new-tally.result) (sym c.requires.empty)
+        (subst (λ (t : Tally). ReadSoFar g.L.Lines.step (g.L.Lines.state c.args.lines.now) [] [] (g.L.Lines.state c.args.lines.now) [] t) (sym c.new-tally.ensures)
         (Stands-none g.L.Lines.step (g.L.Lines.state c.args.lines.now))),
   );
 }

@@ -1,6 +1,6 @@
 use Rattle.std.proofs.Common.{◌≡◌, ◌≤◌, ◌+◌, ◌-◌, ◌^◌, List, ℕ, length}
 use Rattle.std.specs.Io.KnownBytes.{Appends, Consumes}
-use Rattle.tmm_drive.specs.Reading.{Stands}
+use Rattle.tmm_drive.specs.Reading.{ReadSoFar}
 use Rattle.tmm_drive.proofs.reading.drive.Given as goal
 
 abbrev pub invariant-reads : goal.invariant-reads
@@ -17,7 +17,7 @@ invariant-reads g l = record {
       × Consumes (g.S.Source.left l.initial.source) (g.S.Source.left l.source) taken
       × Appends (g.K.Sink.written l.initial.sink) (g.K.Sink.written l.sink) output
       × (length taken ≡ l.taken)
-      × Stands g.L.Lines.step (g.L.Lines.state l.initial.lines) taken output (g.L.Lines.state l.lines) l.buffer.items l.tally;
+      × ReadSoFar g.L.Lines.step (g.L.Lines.state l.initial.lines) taken output (g.L.Lines.state l.lines) l.buffer.items l.tally;
 }
 
 abbrev pub decreases-reads : goal.decreases-reads

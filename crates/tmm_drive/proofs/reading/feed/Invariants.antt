@@ -1,5 +1,5 @@
 use Rattle.std.proofs.Common.{◌≡◌, ◌≤◌, ◌+◌, ◌++◌, List, ℕ, length}
-use Rattle.tmm_drive.specs.Reading.{Stands, GoesOn}
+use Rattle.tmm_drive.specs.Reading.{ReadSoFar, GoesOn}
 use Rattle.tmm_drive.proofs.reading.feed.Given as goal
 
 abbrev pub invariant-lines : goal.invariant-lines
@@ -12,7 +12,7 @@ invariant-lines g l = record {
   faults : g.K.Sink.faults l.sink ≡ g.K.Sink.faults l.initial.sink;
   answers : (done : List ℕ) × (done ++ l.rest ≡ l.piece)
       × ((start : g.L.Lines.State) (taken output : List ℕ)
-      → Stands g.L.Lines.step start taken output (g.L.Lines.state l.initial.lines) l.initial.buffer.items l.initial.tally
+      → ReadSoFar g.L.Lines.step start taken output (g.L.Lines.state l.initial.lines) l.initial.buffer.items l.initial.tally
       → GoesOn g.L.Lines.step start (taken ++ done) output (g.K.Sink.written l.initial.sink) (g.K.Sink.written l.sink) (g.L.Lines.state l.lines) l.buffer.items l.tally);
 }
 

@@ -17,14 +17,14 @@ pub first_map-requires-clause-held : goal.first_map-requires-clause-held
 first_map-requires-clause-held c =
     let s = c.make-standing.result.present in
     empty_held s c.in_ok-net.net.present c.make-standing.ensures.present
-    (at_start s c.in_ok-net.net.present c.make-standing.ensures.present c.in_ok-net.ensures.present c.edges.ensures.distinct c.edges.ensures.start c.edges.ensures.in_use c.edges.ensures.dates)
+    (at_start s c.in_ok-net.net.present c.make-standing.ensures.present c.in_ok-net.ensures.present c.invariants.ensures.distinct c.invariants.ensures.start c.invariants.ensures.in_use c.invariants.ensures.dates)
 
 pub first_map-requires-clause-kept : goal.first_map-requires-clause-kept
 first_map-requires-clause-kept c =
     let s = c.make-standing.result.present in
     let n = c.in_ok-net.net.present in
     c.make-nodes.ensures.kept s n
-    (at_start s n c.make-standing.ensures.present c.in_ok-net.ensures.present c.edges.ensures.distinct c.edges.ensures.start c.edges.ensures.in_use c.edges.ensures.dates) (ap roots c.make-standing.ensures.present)
+    (at_start s n c.make-standing.ensures.present c.in_ok-net.ensures.present c.invariants.ensures.distinct c.invariants.ensures.start c.invariants.ensures.in_use c.invariants.ensures.dates) (ap roots c.make-standing.ensures.present)
 
 pub first_map-requires-clause-empty : goal.first_map-requires-clause-empty
 first_map-requires-clause-empty c =
@@ -32,5 +32,5 @@ first_map-requires-clause-empty c =
     let n = c.in_ok-net.net.present in
     let kept : IsKept s n c.make-nodes.result =
     c.make-nodes.ensures.kept s n
-    (at_start s n c.make-standing.ensures.present c.in_ok-net.ensures.present c.edges.ensures.distinct c.edges.ensures.start c.edges.ensures.in_use c.edges.ensures.dates) (ap roots c.make-standing.ensures.present) in
+    (at_start s n c.make-standing.ensures.present c.in_ok-net.ensures.present c.invariants.ensures.distinct c.invariants.ensures.start c.invariants.ensures.in_use c.invariants.ensures.dates) (ap roots c.make-standing.ensures.present) in
     no_nodes s n (forest c.make-nodes.result.tree) kept.fit.tree.seen (ap roots c.make-standing.ensures.present)

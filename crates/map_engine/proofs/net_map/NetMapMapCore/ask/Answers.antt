@@ -1,6 +1,6 @@
 use Rattle.std.proofs.Common.{sym, subst}
 use Rattle.tmm_model.specs.Maps.{built}
-use Rattle.spots.specs.Seen.{Holds}
+use Rattle.spots.specs.OfLists.{HasOccurrences}
 use Rattle.occ_tree.specs.OfLists.{IsTreeOf}
 use Rattle.occ_tree.specs.Places.{forest}
 use Rattle.occ_tree.specs.Standing.{Kept}
@@ -11,4 +11,4 @@ ask_between-requires-clause-seen c = subst (IsTreeOf c.self.inside.standing.pres
 
 pub ask_between-requires-clause-holds : goal.ask_between-requires-clause-holds
 ask_between-requires-clause-holds c =
-    subst (λ (k : Kept). Holds (built c.self.inside.standing.present).believed (forest k)) (sym c.tree.ensures) c.self.invariant.next_nodes.current.holds
+    subst (λ (k : Kept). HasOccurrences (built c.self.inside.standing.present).believed (forest k)) (sym c.tree.ensures) c.self.invariant.next_nodes.current.holds

@@ -4,7 +4,7 @@ use Rattle.tmm_model.specs.Standing.{Standing}
 use Rattle.occ_tree.specs.OfLists.{IsTreeOf}
 use Rattle.occ_tree.specs.Places.{forest}
 use Rattle.occ_tree.specs.Standing.{Kept}
-use Rattle.spots.specs.Seen.{Holds}
+use Rattle.spots.specs.OfLists.{HasOccurrences}
 use Rattle.map_engine.specs.Plain.{MapState}
 use Rattle.map_engine.specs.Reads.{IsReadOf, read_of}
 use Rattle.map_engine.proofs.net_map.NetMapMapCore.audit.Goals as goal
@@ -14,7 +14,7 @@ audited_view-requires-clause-seen c = subst (IsTreeOf c.self.inside.standing.pre
 
 pub audited_view-requires-clause-holds : goal.audited_view-requires-clause-holds
 audited_view-requires-clause-holds c =
-    subst (λ (k : Kept). Holds (built c.self.inside.standing.present).believed (forest k)) (sym c.tree.ensures) c.self.invariant.next_nodes.current.holds
+    subst (λ (k : Kept). HasOccurrences (built c.self.inside.standing.present).believed (forest k)) (sym c.tree.ensures) c.self.invariant.next_nodes.current.holds
 
 pub audited_view-requires-clause-view : goal.audited_view-requires-clause-view
 audited_view-requires-clause-view c =

@@ -5,7 +5,7 @@ use Rattle.tmm_model.specs.Standing.{Standing}
 use Rattle.occ_tree.specs.OfLists.{IsTreeOf}
 use Rattle.occ_tree.specs.Places.{forest}
 use Rattle.occ_tree.specs.Standing.{Kept}
-use Rattle.spots.specs.Seen.{Holds}
+use Rattle.spots.specs.OfLists.{HasOccurrences}
 use Rattle.map_engine.specs.Plain.{MapState}
 use Rattle.map_engine.specs.Reads.{IsReadOf, read_of}
 use Rattle.map_engine.proofs.Told.{if_ok}
@@ -16,7 +16,7 @@ kept_rows-requires-clause-seen c = subst (IsTreeOf c.self.inside.standing.presen
 
 pub kept_rows-requires-clause-holds : goal.kept_rows-requires-clause-holds
 kept_rows-requires-clause-holds c =
-    subst (λ (k : Kept). Holds (built c.self.inside.standing.present).believed (forest k)) (sym c.tree.ensures) c.self.invariant.next_nodes.current.holds
+    subst (λ (k : Kept). HasOccurrences (built c.self.inside.standing.present).believed (forest k)) (sym c.tree.ensures) c.self.invariant.next_nodes.current.holds
 
 pub kept_rows-requires-clause-view : goal.kept_rows-requires-clause-view
 kept_rows-requires-clause-view c =

@@ -1,6 +1,6 @@
 use Rattle.std.proofs.Common.{sym, subst}
 use Rattle.tmm_model.specs.Maps.{built}
-use Rattle.spots.specs.Seen.{Holds}
+use Rattle.spots.specs.OfLists.{HasOccurrences}
 use Rattle.occ_tree.specs.OfLists.{IsTreeOf}
 use Rattle.occ_tree.specs.Places.{forest}
 use Rattle.occ_tree.specs.Standing.{Kept}
@@ -11,4 +11,4 @@ tell_why-requires-clause-seen g c = subst (IsTreeOf c.self.inside.standing.prese
 
 pub tell_why-requires-clause-holds : goal.tell_why-requires-clause-holds
 tell_why-requires-clause-holds g c =
-    subst (λ (k : Kept). Holds (built c.self.inside.standing.present).believed (forest k)) (sym c.tree.ensures) c.self.invariant.next_nodes.current.holds
+    subst (λ (k : Kept). HasOccurrences (built c.self.inside.standing.present).believed (forest k)) (sym c.tree.ensures) c.self.invariant.next_nodes.current.holds

@@ -33,24 +33,24 @@ returns-in-Ok-clause-changes c =
     let settled = c.self.invariant.settled (none_pending lists.present c.self.inside.next (ap (λ (m : MapState). m.pending) c.self.view_is ∙ c.requires.idle)) in
     let committed : lists.committed ≡ c.args.self.now.list = ap (λ (m : MapState). m.list) c.self.view_is in
     let present : lists.present ≡ c.args.self.now.list = settled.list ∙ committed in
-    let new : c.edited.new.standing.present ≡ next_list lists.present edit = ap (λ (s : States). s.present) c.in_ok-erased.ensures.list in
-    let left_out : IsLeftOut lists.committed c.edited.new.standing.present c.in_ok-erased.erased.items =
-    subst (λ (s : Standing). IsLeftOut s c.edited.new.standing.present c.in_ok-erased.erased.items) settled.list
+    let new : c.apply_edit.new.standing.present ≡ next_list lists.present edit = ap (λ (s : States). s.present) c.in_ok-erased.ensures.list in
+    let left_out : IsLeftOut lists.committed c.apply_edit.new.standing.present c.in_ok-erased.erased.items =
+    subst (λ (s : Standing). IsLeftOut s c.apply_edit.new.standing.present c.in_ok-erased.erased.items) settled.list
     (subst (λ (s : Standing). IsLeftOut lists.present s c.in_ok-erased.erased.items) (sym new) c.in_ok-erased.ensures.erased) in
     let told = c.in-Ok.ensures.changes lists.committed c.self.inside.net.committed c.self.invariant.believed left_out in
-    told ∙ ap (λ (s : Standing). changes s c.edited.new.standing.present) committed
+    told ∙ ap (λ (s : Standing). changes s c.apply_edit.new.standing.present) committed
     ∙ ap (λ (s : Standing). changes c.args.self.now.list s) (new ∙ ap (λ (s : Standing). next_list s edit) present)
 
-pub returns-in-Err-drawn-clause-stops : goal.returns-in-Err-drawn-clause-stops
-returns-in-Err-drawn-clause-stops c =
+pub returns-in-Err-project_and_compare-clause-stops : goal.returns-in-Err-project_and_compare-clause-stops
+returns-in-Err-project_and_compare-clause-stops c =
     let lists = c.self.inside.standing in
     let edit = c.args.edit.now in
     let settled = c.self.invariant.settled (none_pending lists.present c.self.inside.next (ap (λ (m : MapState). m.pending) c.self.view_is ∙ c.requires.idle)) in
     let present : lists.present ≡ c.args.self.now.list = settled.list ∙ ap (λ (m : MapState). m.list) c.self.view_is in
-    let new : c.edited.new.standing.present ≡ next_list lists.present edit = ap (λ (s : States). s.present) c.in_ok-erased.ensures.list in
-    subst (λ (s : Standing). StopsEdit s edit c.in-Err-drawn.stop) present
-    (too_large lists.present edit (c.in_default.ensures.ok.0 refl) c.in_ok-erased.ensures.dates c.in-Err-drawn.stop
-    (subst (λ (s : Standing). IsTooLarge (size (built s)) c.in-Err-drawn.stop) new c.in-Err-drawn.ensures.stops))
+    let new : c.apply_edit.new.standing.present ≡ next_list lists.present edit = ap (λ (s : States). s.present) c.in_ok-erased.ensures.list in
+    subst (λ (s : Standing). StopsEdit s edit c.in-Err-project_and_compare.stop) present
+    (too_large lists.present edit (c.in_default.ensures.ok.0 refl) c.in_ok-erased.ensures.dates c.in-Err-project_and_compare.stop
+    (subst (λ (s : Standing). IsTooLarge (size (built s)) c.in-Err-project_and_compare.stop) new c.in-Err-project_and_compare.ensures.stops))
 
-pub returns-in-Err-drawn-clause-named : goal.returns-in-Err-drawn-clause-named
-returns-in-Err-drawn-clause-named c = named_large (size (built c.edited.new.standing.present)) c.in-Err-drawn.stop c.in-Err-drawn.ensures.stops
+pub returns-in-Err-project_and_compare-clause-named : goal.returns-in-Err-project_and_compare-clause-named
+returns-in-Err-project_and_compare-clause-named c = named_large (size (built c.apply_edit.new.standing.present)) c.in-Err-project_and_compare.stop c.in-Err-project_and_compare.ensures.stops

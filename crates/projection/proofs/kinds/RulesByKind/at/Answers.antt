@@ -25,7 +25,7 @@ returns-in-Event-clause-few c =
     let s = c.args.standing.now.present in
     let kind = c.row-row.result.what in
     let is = placed s c.of.result.now (rules_on s kind) (ap (map (name_at s)) c.of.ensures ∙ c.requires.rules.named kind) in
-    omega (arith, is, length-filter_map-le (on_kind kind) s.premises, c.len.ensures.few, c.len.ensures.value)
+    omega (arith, is, length-filter_map-le (on_kind kind) s.premises, c.invariants.ensures.few)
 
 pub returns-in_default : goal.returns-in_default
 returns-in_default c =

@@ -1,0 +1,116 @@
+-- Which tokens of a touched class are looked at: all others keep what clipped them.
+use Rattle.std.proofs.Common.{◌≡◌, ℕ, ◌+◌, ◌<◌, ◌≤◌, Bool, true, false, List, length, refl, sym, ◌∙◌, ap, arith, inl, inr}
+use Rattle.std.proofs.lemmas.Bool.{cases_order, cases_lt}
+use Rattle.std.proofs.lemmas.Int.{ints}
+use Rattle.std.proofs.lemmas.List.{length-map}
+use Rattle.std.specs.Prelude.{ℤ, ◌<ℤ◌, ◌≤ℤ◌, Option, Some, slice_index_or}
+use Rattle.std.specs.List.{Contains}
+use Rattle.tmm_model.specs.declared.token.TokenRow.{TokenRow}
+use Rattle.dist_net.specs.Net.{Net}
+use Rattle.spots.specs.declared.spot.Spot.{Spot}
+use Rattle.spots.specs.Spots.{AreTokens, spot_early}
+use Rattle.occ_tree.specs.OfLists.{IsTreeIn}
+use Rattle.occ_tree.specs.Places.{forest}
+use Rattle.occ_tree.specs.Standing.{Kept, present, early, order}
+use Rattle.occ_tree.specs.Tokens.{number_of, numbers_in, IsInOrder}
+use Rattle.supports.proofs.ByDate.{by_date}
+use Rattle.supports.proofs.ClassClips.{spot_here}
+use Rattle.supports.proofs.TokenRows.{no_row}
+use Rattle.belief_list.specs.declared.kept_rows.KeptRow.{KeptRow}
+use Rattle.belief_list.specs.KeptRows.{row_under}
+use Rattle.belief_list.specs.Told.{clip_of}
+use Rattle.belief_list.specs.Finding.{mark_under, AreMarked, IsAhead, KeepsClip}
+use Rattle.belief_list.proofs.Finding.{token_live, number_at, each_token}
+
+-- ---- marked numbers of a list, and their dates
+
+module _ (date : ℕ → ℤ) (touched : List Bool) (xs : List ℕ) where
+  -- no marked number from the place on has a date before this one
+  abbrev pub IsNext : ℕ → Option ℤ → Type 0
+  IsNext i next = (j : ℕ) → i ≤ j → j < length xs → mark_under touched (slice_index_or xs j 0) ≡ true → (t : ℤ) × (next ≡ Some t) × (t ≤ℤ date (slice_index_or xs j 0))
+
+  -- the number at a place is not marked, and what clipped it comes before all marked ones behind it
+  abbrev pub IsPassed : List (Option KeptRow) → ℕ → Type 0
+  IsPassed kept i =
+      (mark_under touched (slice_index_or xs i 0) ≡ false) × (next : Option ℤ) × IsAhead kept touched (clip_of (row_under kept (slice_index_or xs i 0))) next × IsNext (i + 1) next
+
+  -- where the dates rise, the first date is the number's own once it is marked
+  pub next_more : ((i j : ℕ) → i < j → j < length xs → date (slice_index_or xs i 0) ≤ℤ date (slice_index_or xs j 0)) → (i : ℕ) (old new : Option ℤ) → IsNext (i + 1) old
+      → (mark_under touched (slice_index_or xs i 0) ≡ true → new ≡ Some (date (slice_index_or xs i 0))) → (mark_under touched (slice_index_or xs i 0) ≡ false → new ≡ old) → IsNext i new
+  next_more rise i old new behind own other_stays j from lt marked = by (mark_under touched (slice_index_or xs i 0)) refl
+    where
+      later : (j ≡ i → ⊥) → i < j
+      later other = omega (arith, from, other)
+
+      by : (b : Bool) → mark_under touched (slice_index_or xs i 0) ≡ b → (t : ℤ) × (new ≡ Some t) × (t ≤ℤ date (slice_index_or xs j 0))
+      by true e = (
+        date (slice_index_or xs i 0),
+        own e,
+        elim (cases_order i j) [
+          | inl same ↦ (let one = ap (λ k. date (slice_index_or xs k 0)) same in omega (arith, ints, one))
+          | inr other ↦ (elim other [
+            | inl before ↦ rise i j before lt
+            | inr after ↦ absurd (omega (arith, from, after))
+          ])
+        ],
+      )
+      by false e = elim (cases_order i j) [
+        | inl same ↦ (let none : true ≡ false = sym marked ∙ ap (λ k. mark_under touched (slice_index_or xs k 0)) (sym same) ∙ e in absurd (cc none))
+        | inr other ↦ (elim other [
+          | inl before ↦ (let (t, is, le) = behind j (omega (arith, before)) lt marked in (t, other_stays e ∙ is, le))
+          | inr after ↦ absurd (omega (arith, from, after))
+        ])
+      ]
+
+-- ---- the tokens of a class
+
+module _ {net : Net} {k : Kept} (tree : IsTreeIn net k) {class : List ℕ} {rows : List (TokenRow Spot)} (are : AreTokens (forest k) class rows) (up : IsInOrder (order (present k)) (numbers_in rows)) where
+  abbrev at : ℕ → ℕ
+  at i = slice_index_or (numbers_in rows) i 0
+
+  length-numbers : length (numbers_in rows) ≡ length rows
+  length-numbers = length-map rows (λ (r : TokenRow Spot). number_of r.spot)
+
+  date_at : (i : ℕ) → i < length rows → spot_early net (forest k) (slice_index_or rows i no_row).spot ≡ early (present k) (at i)
+  date_at i lt =
+      ap (spot_early net (forest k)) (spot_here (forest k) class rows are i no_row 0 lt)
+      ∙ sym (tree.dated (at i) (token_live (forest k) class rows are i no_row lt (at i) (sym (number_at (forest k) class rows are i no_row lt))))
+
+  -- their dates rise
+  pub dates_rise : (i j : ℕ) → i < j → j < length (numbers_in rows) → early (present k) (at i) ≤ℤ early (present k) (at j)
+  dates_rise i j lt within =
+      let short : j < length rows = omega (arith, within, length-numbers) in
+      let rises = (by_date tree are up).dates i j no_row lt short in
+      let first = date_at i (omega (arith, lt, short)) in
+      let second = date_at j short in
+      omega (arith, ints, rises, first, second)
+
+  -- if y was touched and has a later date than x, what clipped x has an earlier date than y
+  abbrev Reached : List ℕ → List (Option KeptRow) → ℕ → ℕ → Type 0
+  Reached nodes kept x y =
+      Contains nodes y → early (present k) x <ℤ early (present k) y
+      → (c : ℕ) × (q : KeptRow) × (clip_of (row_under kept x) ≡ Some c) × (row_under kept c ≡ Some q) × (q.early <ℤ early (present k) y)
+
+  -- **One that is passed over keeps what clipped it.**
+  pub passed_keeps : (touched : List Bool) (nodes : List ℕ) → AreMarked touched nodes → (kept : List (Option KeptRow)) (i : ℕ) → i < length rows
+      → IsPassed (early (present k)) touched (numbers_in rows) kept i → KeepsClip k nodes kept class (at i)
+  passed_keeps touched nodes marked kept i lt (free, next, ahead, behind) = record {
+    own = λ touched_here. (let none : true ≡ false = sym (marked (at i) touched_here) ∙ free in absurd (cc none));
+    free = λ c clip touched_there. (let none : true ≡ false = sym (marked c touched_there) ∙ ahead.free c clip in absurd (cc none));
+    ahead = each_token (forest k) class rows are (Reached nodes kept (at i)) reached;
+  }
+    where
+      reached : (j : ℕ) → j < length rows → Reached nodes kept (at i) (at j)
+      reached j within touched_there later = elim (cases_lt i j) [
+        | inl less ↦ (
+            let (t, is, le) = behind j (omega (arith, less)) (omega (arith, within, length-numbers)) (marked (at j) touched_there) in
+            let (c, q, clip, row, early_q) = ahead.ahead t is in
+            (c, q, clip, row, omega (arith, ints, le, early_q)))
+        | inr more ↦ absurd (elim (cases_order j i) [
+          | inl same ↦ (let one = ap (λ z. early (present k) (at z)) same in omega (arith, ints, one, later))
+          | inr other ↦ (elim other [
+            | inl before ↦ (let le = dates_rise j i before (omega (arith, lt, length-numbers)) in omega (arith, ints, le, later))
+            | inr after ↦ omega (arith, more, after)
+          ])
+        ])
+      ]
