@@ -15,9 +15,10 @@ use Rattle.tmm_model.specs.Maps.{TimeMap, built, gap}
 use Rattle.tmm_model.specs.Moments.{Moment}
 use Rattle.tmm_model.specs.Points.{same_name}
 use Rattle.tmm_model.specs.Standing.{Standing, points_in}
-use Rattle.tmm_model.specs.Tokens.{is_before, clips}
+use Rattle.tmm_model.specs.Tokens.{of_one_class, is_before, clips}
 use Rattle.list_theory.proofs.Elements.{In, both, In-filter_map, In-from_Contains, Contains-from_In, list_any-In, In-list_any}
 use Rattle.belief_theory.specs.Right.{Occurs}
+use Rattle.belief_theory.proofs.ByClass.{by_class}
 use Rattle.belief_theory.proofs.OneRight.{spot-token_of}
 use Rattle.belief_theory.proofs.Outcomes.{first_token_in}
 use Rattle.premise_list.specs.States.{States}
@@ -84,15 +85,15 @@ module _ (s : Standing) (net : Net) (f : Forest) (seen : IsForestOf s net f) (y 
       by (Some class) e = ap (λ (z : Option (TokenRow Moment)). option_map (λ (k : TokenRow Moment). k.class) z) e
 
 -- **What clips a token is a token of its class.**
-clip_in_class : (m : TimeMap) (x c : Moment) (k : TokenRow Moment) → token_of m.list x ≡ Some k → clip m x ≡ Some c → (d : TokenRow Moment) × (token_of m.list c ≡ Some d) × (d.class ≡ k.class)
-clip_in_class m x c k token e = by k.end (sym (ap (option_and_then (clip_of m)) token) ∙ e)
+clip_in_class : (m : TimeMap) → contradicts_in m.list ≡ of_one_class → (x c : Moment) (k : TokenRow Moment) → token_of m.list x ≡ Some k → clip m x ≡ Some c → (d : TokenRow Moment) × (token_of m.list c ≡ Some d) × (d.class ≡ k.class)
+clip_in_class m plain x c k token e = by k.end (sym (ap (option_and_then (clip_of m)) token) ∙ e)
   where
     by : (o : Option Moment) → elim o as (λ _. Option Moment) [ Some end ↦ None | None ↦ first_believed m (clips (contradicts_in m.list) (gap m) k) ] ≡ Some c → (d : TokenRow Moment) × (token_of m.list c ≡ Some d) × (d.class ≡ k.class)
     by (Some end) e = absurd (cc e)
     by None e =
         let (d, there, passes, spot) = first_token_in m.list m.far m.believed (clips (contradicts_in m.list) (gap m) k) c e in
         let (y, on, made) = In-filter_map (token_of m.list) m.believed d there in
-        let differ = (both (contradicts_in m.list k d) (is_before (gap m) k.spot d.spot) passes).0 in
+        let differ : of_one_class k d ≡ true = subst (λ z. z k d ≡ true) plain (both (contradicts_in m.list k d) (is_before (gap m) k.spot d.spot) passes).0 in
         let same : k.class ≡ d.class = (bytes_decides k.class d.class).0 (both (same_name k.class d.class) (not (same_name k.fact d.fact)) differ).0 in
         (d, ap (token_of m.list) (sym spot ∙ spot-token_of m.list y d made) ∙ made, sym same)
 
@@ -190,7 +191,7 @@ module _ (lists : States) (nets : Nets) (edit : Edit) (tree : Kept) (kept : List
     clipper_stays x m here of (Some y) clipped live =
         let (n, there, of_n) = was x m here of in
         let (k, token, in_class) = token_made s nets.committed f edited.seen_then x n there class of_n in
-        let (d, clipper, same) = clip_in_class (built s) (moment_at f x) (moment_at f y) k token (sym clipped) in
+        let (d, clipper, same) = clip_in_class (built s) (by_class s edited.seen_then.network.sound) (moment_at f x) (moment_at f y) k token (sym clipped) in
         let (c, here_c) = node_at f y live in
         let of_c : c.class ≡ Some class = class_of_token s nets.committed f edited.seen_then y c here_c d clipper ∙ ap Some (same ∙ in_class) in
         let (c_now, here_now, _) = stays y c here_c of_c in

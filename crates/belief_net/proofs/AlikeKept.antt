@@ -13,6 +13,7 @@ use Rattle.list_theory.proofs.Elements.{In, In-from_Contains, In-cases, In-map, 
 use Rattle.belief_theory.specs.Outcomes.{outcome}
 use Rattle.belief_theory.specs.Touched.{watched, watched_points}
 use Rattle.belief_theory.proofs.NextLists.{all_spelt}
+use Rattle.belief_theory.proofs.ByClass.{by_class}
 use Rattle.belief_theory.proofs.Untouched.{Alike, outcome_alike}
 use Rattle.dist_net.specs.Net.{Net}
 use Rattle.list_net.specs.Fits.{IsNetOf}
@@ -62,7 +63,7 @@ module _ (s t : Standing) (alike : AreAlike s t) where
 
     pub outcome_same : (x : Moment) → Contains (built s).believed x → (r : List ℕ)
         → outcome s (far_in s.premises) (built s).believed x r ≡ outcome t (far_in t.premises) (built t).believed x r
-    outcome_same x at r = outcome_alike (built s) (built t) x r decided (all_spelt s sound) (all_spelt t sound_after)
+    outcome_same x at r = outcome_alike (built s) (built t) x r decided (record { one = by_class s sound; other = by_class t sound_after }) (all_spelt s sound) (all_spelt t sound_after)
       where
         anchored : (p : Moment) → In p (watched_points (built s) x r) → IsAnchored s p
         anchored = points_anchored x (believed_anchored s t alike.say alike.distances x (In-from_Contains (built s).believed x at)) (watched (built s) r) (watched_between r)

@@ -5,7 +5,7 @@ use Rattle.tmm_model.specs.declared.point.PointName.TheVariants.{Begin}
 use Rattle.tmm_model.specs.declared.premise.Edit.{Edit}
 use Rattle.tmm_model.specs.declared.premise.Edit.TheVariants.{Add, Erase, Horizon, Upgrade}
 use Rattle.tmm_model.specs.declared.premise.Premise.{Premise}
-use Rattle.tmm_model.specs.declared.premise.Premise.TheVariants.{Class, Kind, Point, Event, Token, Span, Dist, Rule, Protect}
+use Rattle.tmm_model.specs.declared.premise.Premise.TheVariants.{Class, Kind, Point, Event, Token, Span, Dist, Rule, Protect, Against}
 use Rattle.tmm_model.specs.Beliefs.{on_kind, root_of}
 use Rattle.tmm_model.specs.Edits.{next_list}
 use Rattle.tmm_model.specs.Moments.{Moment, At}
@@ -124,6 +124,7 @@ begun_ready old (Add (Kind name)) before net b e c m r n all h = neither old (Ki
 begun_ready old (Add (Point name)) before net b e c m r n all h = neither old (Point name) before net b e c m r n all h h.enters.0 h.enters.1 refl (λ kind. refl)
 begun_ready old (Add (Dist name from to lo hi)) before net b e c m r n all h = neither old (Dist name from to lo hi) before net b e c m r n all h h.enters.0 h.enters.1 refl (λ kind. refl)
 begun_ready old (Add (Protect name fact from to)) before net b e c m r n all h = neither old (Protect name fact from to) before net b e c m r n all h h.enters.0 h.enters.1 refl (λ kind. refl)
+begun_ready old (Add (Against name one other)) before net b e c m r n all h = neither old (Against name one other) before net b e c m r n all h h.enters.0 h.enters.1 refl (λ kind. refl)
 begun_ready old (Erase name) before net b e c m r n all h = still old (Erase name) before net b e c m r n all h h.enters.0 h.enters.1 (λ p k is root. cc) (λ p kind rule is on. cc)
 begun_ready old (Horizon k) before net b e c m r n all h = still old (Horizon k) before net b e c m r n all h h.enters.0 h.enters.1 (λ p o is root. cc) (λ p kind rule is on. cc)
 begun_ready old Upgrade before net b e c m r n all h = still old Upgrade before net b e c m r n all h h.enters.0 h.enters.1 (λ p o is root. cc) (λ p kind rule is on. cc)

@@ -5,7 +5,7 @@ use Rattle.std.specs.List.{Contains}
 use Rattle.tmm_model.specs.declared.premise.Edit.{Edit}
 use Rattle.tmm_model.specs.declared.premise.Edit.TheVariants.{Add}
 use Rattle.tmm_model.specs.declared.premise.Premise.{Premise}
-use Rattle.tmm_model.specs.declared.premise.Premise.TheVariants.{Class, Kind, Point, Event, Token, Span, Dist, Rule, Protect}
+use Rattle.tmm_model.specs.declared.premise.Premise.TheVariants.{Class, Kind, Point, Event, Token, Span, Dist, Rule, Protect, Against}
 use Rattle.tmm_model.specs.declared.token.Shape.{Shape}
 use Rattle.tmm_model.specs.declared.token.Shape.TheVariants.{Event as AnEvent, Persistence as APersistence, Span as ASpan}
 use Rattle.tmm_model.specs.Beliefs.{is_of, root_of, roots, on_kind, rules_on, rules_at}
@@ -63,6 +63,7 @@ no_root_of_rule (Token name fact) kind r k on root = cc
 no_root_of_rule (Span name fact) kind r k on root = cc
 no_root_of_rule (Dist name from to lo hi) kind r k on root = cc
 no_root_of_rule (Protect name fact from to) kind r k on root = cc
+no_root_of_rule (Against name one other) kind r k on root = cc
 
 -- ---- nothing is gained
 

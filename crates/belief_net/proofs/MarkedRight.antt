@@ -7,7 +7,7 @@ use Rattle.tmm_model.specs.declared.point.PointName.{PointName}
 use Rattle.tmm_model.specs.declared.premise.Edit.{Edit}
 use Rattle.tmm_model.specs.declared.premise.Edit.TheVariants.{Add, Erase, Horizon, Upgrade}
 use Rattle.tmm_model.specs.declared.premise.Premise.{Premise}
-use Rattle.tmm_model.specs.declared.premise.Premise.TheVariants.{Class, Kind, Point, Event, Token, Span, Dist, Rule, Protect}
+use Rattle.tmm_model.specs.declared.premise.Premise.TheVariants.{Class, Kind, Point, Event, Token, Span, Dist, Rule, Protect, Against}
 use Rattle.tmm_model.specs.Beliefs.{due}
 use Rattle.tmm_model.specs.Edits.{next_list}
 use Rattle.tmm_model.specs.Maps.{built}
@@ -55,6 +55,7 @@ of_its_name n (Kind name) q none = absurd none
 of_its_name n (Dist name from to lo hi) q none = absurd none
 of_its_name n (Rule name trigger lo hi effect given unless_facts) q none = absurd none
 of_its_name n (Protect name fact from to) q none = absurd none
+of_its_name n (Against name one other) q none = absurd none
 
 -- points that stood before are none of the premise that is added
 not_added : (ps : List Premise) (p : Premise) → IsWellNamed (ps ++ p ∷ []) → (q : PointName) → In q (points_in ps) → is_of_premise (Some (name_of p)) q ≡ false

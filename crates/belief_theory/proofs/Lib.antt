@@ -1,3 +1,4 @@
+pub mod ByClass
 pub mod ClassTokens
 pub mod FarTables
 pub mod Firsts

@@ -19,7 +19,7 @@ use Rattle.tmm_model.specs.Firsts.{earliest, first}
 use Rattle.tmm_model.specs.Maps.{TimeMap, gap, order, believed_tokens}
 use Rattle.tmm_model.specs.Moments.{Moment, At, RuleText, same_moment, read_by, rule_of, negated, printed}
 use Rattle.tmm_model.specs.Points.{same_name}
-use Rattle.tmm_model.specs.Tokens.{is_by, is_before, clips, cuts, lasts_to, supports}
+use Rattle.tmm_model.specs.Tokens.{of_one_class, is_by, is_before, clips, cuts, lasts_to, supports}
 use Rattle.belief_theory.specs.Touched.{same_bound, same_token, are_within, same_tokens, watched, watched_points, same_gaps, is_decision, is_touched}
 use Rattle.list_theory.proofs.Elements.{In, both, Contains-from_In, list_any-In, In-list_any, In-filter, filter-In, In-filter_map, filter_map-In, In-map, map-In, In-left, In-right, In-cases, In-flat_map, list_all-In}
 use Rattle.belief_theory.proofs.Firsts.{least_is, one_spot}
@@ -81,7 +81,12 @@ watched_token m r k at = (In-filter (λ k. list_any (λ fact. same_name (class_o
 abbrev holds_at : TimeMap → Moment → List ℕ → TokenRow Moment → Bool
 holds_at m t f k = supports (contradicts_in m.list) (gap m) (believed_tokens m) f t t k
 
-module _ (m n : TimeMap) (t : Moment) (r : List ℕ) (a : Alike m n t r) (f : List ℕ) (given : In f (read_by (rule_of m.list r))) where
+-- in both maps tokens contradict each other by their class alone
+pub record ByClass (m n : TimeMap) : Type 0 where
+  pub one : contradicts_in m.list ≡ of_one_class
+  pub other : contradicts_in n.list ≡ of_one_class
+
+module _ (m n : TimeMap) (t : Moment) (r : List ℕ) (a : Alike m n t r) (plain : ByClass m n) (f : List ℕ) (given : In f (read_by (rule_of m.list r))) where
   given_there : In f (read_by (rule_of n.list r))
   given_there = subst (λ (x : RuleText). In f (read_by x)) a.text given
 
@@ -104,13 +109,15 @@ module _ (m n : TimeMap) (t : Moment) (r : List ℕ) (a : Alike m n t r) (f : Li
           let (c, there, cut) = list_any-In (cuts (contradicts_in n.list) (gap n) k t) (believed_tokens n) e in
           let one = both (clips (contradicts_in n.list) (gap n) k c) (is_by (gap n) c.spot t) cut in
           let two = both (contradicts_in n.list k c) (is_before (gap n) k.spot c.spot) one.0 in
-          let class = (bytes_decides k.class c.class).0 (both (same_name k.class c.class) (not (same_name k.fact c.fact)) two.0).0 in
+          let differ : of_one_class k c ≡ true = subst (λ z. z k c ≡ true) plain.other two.0 in
+          let class = (bytes_decides k.class c.class).0 (both (same_name k.class c.class) (not (same_name k.fact c.fact)) differ).0 in
+          let differ_m : contradicts_in m.list k c ≡ true = subst (λ z. z k c ≡ true) (sym plain.one) differ in
           let here : In c (watched m r) = a.back c (watches n r f c given_there there (sym class ∙ own)) in
           let c_point = begin_among t (watched m r) c here in
           let k_point = begin_among t (watched m r) k at in
           let before : is_before (gap m) k.spot c.spot ≡ true = ap (λ g. bound_at_most g (negsuc 0)) (a.gaps c.spot k.spot c_point k_point) ∙ two.1 in
           let near : is_by (gap m) c.spot t ≡ true = ap (λ g. bound_at_most g (pos 0)) (a.gaps t c.spot at_t c_point) ∙ one.1 in
-          In-list_any (cuts (contradicts_in m.list) (gap m) k t) (believed_tokens m) c (watched_token m r c here) (λ i. (two.0 i && before i) && near i)
+          In-list_any (cuts (contradicts_in m.list) (gap m) k t) (believed_tokens m) c (watched_token m r c here) (λ i. (differ_m i && before i) && near i)
 
       by : (v : Bool) → list_any (cuts (contradicts_in n.list) (gap n) k t) (believed_tokens n) ≡ v → not v ≡ true
       by false e = refl
@@ -145,7 +152,7 @@ by_begin m = on (λ k. k.spot) (order m)
 abbrev AllSpelt : TimeMap → Type 0
 AllSpelt m = (k : TokenRow Moment) → In k (believed_tokens m) → IsSpelt k.spot
 
-module _ (m n : TimeMap) (t : Moment) (r : List ℕ) (a : Alike m n t r) (spelt_m : AllSpelt m) (spelt_n : AllSpelt n) (f : List ℕ) (given : In f (read_by (rule_of m.list r))) where
+module _ (m n : TimeMap) (t : Moment) (r : List ℕ) (a : Alike m n t r) (plain : ByClass m n) (spelt_m : AllSpelt m) (spelt_n : AllSpelt n) (f : List ℕ) (given : In f (read_by (rule_of m.list r))) where
   -- **The first supporter of an antecedent or an exception is the same in both.**
   holder_alike : holder m.list m.far m.believed f t t ≡ holder n.list n.far n.believed f t t
   holder_alike = by (filter (holds_at m t f) (believed_tokens m)) refl (filter (holds_at n t f) (believed_tokens n)) refl
@@ -156,13 +163,13 @@ module _ (m n : TimeMap) (t : Moment) (r : List ℕ) (a : Alike m n t r) (spelt_
       there : (k : TokenRow Moment) → In k (filter (holds_at m t f) (believed_tokens m)) → In k (watched m r) × In k (filter (holds_at n t f) (believed_tokens n))
       there k at =
           let (in_m, passes) = In-filter (holds_at m t f) (believed_tokens m) k at in
-          let (here, in_n, holds) = support_alike m n t r a f given k in_m passes in
+          let (here, in_n, holds) = support_alike m n t r a plain f given k in_m passes in
           (here, filter-In (holds_at n t f) (believed_tokens n) k in_n holds)
 
       back : (k : TokenRow Moment) → In k (filter (holds_at n t f) (believed_tokens n)) → In k (watched m r) × In k (filter (holds_at m t f) (believed_tokens m))
       back k at =
           let (in_n, passes) = In-filter (holds_at n t f) (believed_tokens n) k at in
-          let (here, in_m, holds) = support_alike n m t r (turned m n t r a) f given_n k in_n passes in
+          let (here, in_m, holds) = support_alike n m t r (turned m n t r a) (record { one = plain.other; other = plain.one }) f given_n k in_n passes in
           (a.back k here, filter-In (holds_at m t f) (believed_tokens m) k in_m holds)
 
       by : (xs : List (TokenRow Moment)) → filter (holds_at m t f) (believed_tokens m) ≡ xs → (ys : List (TokenRow Moment)) → filter (holds_at n t f) (believed_tokens n) ≡ ys
@@ -181,14 +188,14 @@ module _ (m n : TimeMap) (t : Moment) (r : List ℕ) (a : Alike m n t r) (spelt_
           let (c_watched, c_here) = back c (subst (In c) (sym g) two.member) in
           let k_first = one.below c (subst (In c) e c_here) in
           let c_first_n = two.below k (subst (In k) g k_there) in
-          let c_first = ap is_gt (order_alike m n t r a f given c k c_watched k_watched) ∙ c_first_n in
+          let c_first = ap is_gt (order_alike m n t r a plain f given c k c_watched k_watched) ∙ c_first_n in
           ap Some (one_spot (ordered m.list m.far) k.spot c.spot (live_m k one.member) (live_n c two.member) k_first c_first)
 
-module _ (m n : TimeMap) (t : Moment) (r : List ℕ) (a : Alike m n t r) (spelt_m : AllSpelt m) (spelt_n : AllSpelt n) where
+module _ (m n : TimeMap) (t : Moment) (r : List ℕ) (a : Alike m n t r) (plain : ByClass m n) (spelt_m : AllSpelt m) (spelt_n : AllSpelt n) where
   all_alike : (facts : List (List ℕ)) → ((f : List ℕ) → In f facts → In f (read_by (rule_of m.list r))) → map (λ f. holder m.list m.far m.believed f t t) facts ≡ map (λ f. holder n.list n.far n.believed f t t) facts
   all_alike [] sub = refl
   all_alike (f ∷ facts) sub =
-      let here = holder_alike m n t r a spelt_m spelt_n f (sub f (inl refl)) in
+      let here = holder_alike m n t r a plain spelt_m spelt_n f (sub f (inl refl)) in
       let rest = all_alike facts (λ g at. sub g (inr at)) in
       λ i. here i ∷ rest i
 

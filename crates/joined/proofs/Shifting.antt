@@ -10,14 +10,14 @@ use Rattle.tmm_model.specs.declared.bound.Bound.TheVariants.{Finite, Free}
 use Rattle.tmm_model.specs.declared.point.PointName.TheVariants.{Start}
 use Rattle.tmm_model.specs.declared.premise.Edit.{Edit}
 use Rattle.tmm_model.specs.declared.token.TokenRow.{TokenRow}
-use Rattle.tmm_model.specs.Beliefs.{contradicts_in, rules_at, token_of}
+use Rattle.tmm_model.specs.Beliefs.{rules_at, token_of}
 use Rattle.tmm_model.specs.Bounds.{bound_at_most}
 use Rattle.tmm_model.specs.Edits.{next_list}
 use Rattle.tmm_model.specs.Maps.{TimeMap, gap, believed_tokens}
 use Rattle.tmm_model.specs.Moments.{Moment, At}
 use Rattle.tmm_model.specs.Points.{same_name}
 use Rattle.tmm_model.specs.Standing.{Standing, points_in}
-use Rattle.tmm_model.specs.Tokens.{is_by, is_before, cuts, lasts_to}
+use Rattle.tmm_model.specs.Tokens.{of_one_class, is_by, is_before, cuts, lasts_to}
 use Rattle.list_theory.proofs.Elements.{In, In-from_Contains, Contains-from_In, In-filter, filter-In, In-filter_map, filter_map-In, both}
 use Rattle.belief_theory.specs.Right.{Occurs}
 use Rattle.belief_theory.specs.Touched.{watched}
@@ -115,16 +115,16 @@ one_differs k v w differ = elim (true_or (same_name k v)) [
 -- a token without an end does not last where one of two walls of different facts clips it
 walls_over : (m : TimeMap) (t : Moment) (k v w : TokenRow Moment) → v.class ≡ k.class → w.class ≡ k.class → v.fact ≢ w.fact
     → is_before (gap m) k.spot v.spot ≡ true → is_before (gap m) k.spot w.spot ≡ true → is_by (gap m) v.spot t ≡ true → is_by (gap m) w.spot t ≡ true
-    → (o : Option Moment) → o ≡ None → lasts_to (contradicts_in m.list) (gap m) (v ∷ w ∷ []) k t o ≡ false
+    → (o : Option Moment) → o ≡ None → lasts_to of_one_class (gap m) (v ∷ w ∷ []) k t o ≡ false
 walls_over m t k v w class_v class_w differ after_v after_w by_v by_w (Some e) is = cc
 walls_over m t k v w class_v class_w differ after_v after_w by_v by_w None is =
     elim (one_differs k.fact v.fact w.fact differ) [
-      | inl other ↦ first (cuts (contradicts_in m.list) (gap m) k t v) (cuts (contradicts_in m.list) (gap m) k t w) (cut v class_v other after_v by_v)
-      | inr other ↦ second (cuts (contradicts_in m.list) (gap m) k t v) (cuts (contradicts_in m.list) (gap m) k t w) (cut w class_w other after_w by_w)
+      | inl other ↦ first (cuts of_one_class (gap m) k t v) (cuts of_one_class (gap m) k t w) (cut v class_v other after_v by_v)
+      | inr other ↦ second (cuts of_one_class (gap m) k t v) (cuts of_one_class (gap m) k t w) (cut w class_w other after_w by_w)
     ]
   where
     cut : (c : TokenRow Moment) → c.class ≡ k.class → same_name k.fact c.fact ≡ false → is_before (gap m) k.spot c.spot ≡ true → is_by (gap m) c.spot t ≡ true
-        → cuts (contradicts_in m.list) (gap m) k t c ≡ true
+        → cuts of_one_class (gap m) k t c ≡ true
     cut c class other after by_t =
         let one : same_name k.class c.class ≡ true = (bytes_decides k.class c.class).1 (sym class) in
         λ i. (one i && not (other i)) && after i && by_t i

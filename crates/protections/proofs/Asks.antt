@@ -11,7 +11,7 @@ use Rattle.std.specs.declared.cmp.Ordering.{Ordering}
 use Rattle.std.specs.declared.cmp.Ordering.TheVariants.{Less, Greater}
 use Rattle.tmm_model.specs.declared.token.TokenRow.{TokenRow}
 use Rattle.tmm_model.specs.Answers.{Fault, Finding, late, clipped, ends, holds, fails, unordered, first_believed, fault, fault_before, tokens_for, failing, most_blames, ask}
-use Rattle.tmm_model.specs.Beliefs.{class_of, token_of, holder}
+use Rattle.tmm_model.specs.Beliefs.{class_of, token_of, contradicts_in, holder}
 use Rattle.tmm_model.specs.Bounds.{bound_at_most}
 use Rattle.tmm_model.specs.Firsts.{earliest, first, sorted}
 use Rattle.tmm_model.specs.Maps.{TimeMap, built, gap, order, believed_tokens}
@@ -23,6 +23,7 @@ use Rattle.tmm_model.specs.Types.{IsOrderOn}
 use Rattle.list_theory.specs.WellNamed.{IsSound}
 use Rattle.list_theory.proofs.Distinct.{Distinct, Distinct-filter, one_order}
 use Rattle.list_theory.proofs.Elements.{In, both, list_any-In, In-list_any, In-filter, filter-In, In-filter_map}
+use Rattle.belief_theory.proofs.ByClass.{by_class}
 use Rattle.belief_theory.proofs.Firsts.{least_is, one_spot}
 use Rattle.belief_theory.proofs.NextLists.{all_spelt}
 use Rattle.belief_theory.proofs.OneRight.{spot-token_of}
@@ -200,12 +201,20 @@ module _ (s t : Standing) (sound_s : IsSound s) (sound_t : IsSound t) (fact : Li
       let outer = both (same_name k.fact fact && is_by (gap far) k.spot p) (lasts_to of_one_class (gap far) (believed_tokens far) k q k.end) h in
       (bytes_decides k.fact fact).0 (both (same_name k.fact fact) (is_by (gap far) k.spot p) outer.0).0
 
+  plain_m : contradicts_in m.list ≡ of_one_class
+  plain_m = by_class s sound_s
+
+  plain_n : contradicts_in n.list ≡ of_one_class
+  plain_n = by_class t sound_t
+
   holder_alike : holder m.list m.far m.believed fact p q ≡ holder n.list n.far n.believed fact p q
   holder_alike =
-      first_alike (supports of_one_class (gap m) (believed_tokens m) fact p q) (supports of_one_class (gap n) (believed_tokens n) fact p q)
+      ap (λ z. first_believed m (supports z (gap m) (believed_tokens m) fact p q)) plain_m
+      ∙ first_alike (supports of_one_class (gap m) (believed_tokens m) fact p q) (supports of_one_class (gap n) (believed_tokens n) fact p q)
       (λ k at h. own_class s sound_s fact k at (of_fact m k h))
       (λ k at h. class_there k at (of_fact n k h))
       supports_alike
+      ∙ sym (ap (λ z. first_believed n (supports z (gap n) (believed_tokens n) fact p q)) plain_n)
 
   -- ---- why there is none
 
@@ -214,7 +223,10 @@ module _ (s t : Standing) (sound_s : IsSound s) (sound_t : IsSound t) (fact : Li
     where
       lasting : (o : Option Moment) → fault_before m k q o ≡ fault_before n k q o
       lasting (Some e) = refl
-      lasting None = ap (λ c. option_map_or clipped c ends) (cut_alike k own at)
+      lasting None =
+          ap (λ z. option_map_or clipped (first_believed m (cuts z (gap m) k q)) ends) plain_m
+          ∙ ap (λ c. option_map_or clipped c ends) (cut_alike k own at)
+          ∙ sym (ap (λ z. option_map_or clipped (first_believed n (cuts z (gap n) k q)) ends) plain_n)
 
   abbrev is_token : TokenRow Moment → Bool
   is_token k = same_name k.fact fact

@@ -9,7 +9,7 @@ use Rattle.tmm_model.specs.declared.point.PointName.{PointName}
 use Rattle.tmm_model.specs.declared.point.PointName.TheVariants.{Start, Begin, End}
 use Rattle.tmm_model.specs.declared.premise.Edit.{Edit}
 use Rattle.tmm_model.specs.declared.premise.Premise.{Premise}
-use Rattle.tmm_model.specs.declared.premise.Premise.TheVariants.{Class, Kind, Point, Event, Token, Span, Dist, Rule, Protect}
+use Rattle.tmm_model.specs.declared.premise.Premise.TheVariants.{Class, Kind, Point, Event, Token, Span, Dist, Rule, Protect, Against}
 use Rattle.tmm_model.specs.declared.token.Shape.TheVariants.{Span as ASpan}
 use Rattle.tmm_model.specs.declared.token.TokenRow.{TokenRow}
 use Rattle.tmm_model.specs.Answers.{Finding, does_hold, ask, broken}
@@ -361,3 +361,4 @@ all_left_alone lists nets edit tree is apart none others tokens (Token name fact
 all_left_alone lists nets edit tree is apart none others tokens (Span name fact) stood stands = refl
 all_left_alone lists nets edit tree is apart none others tokens (Dist name from to lo hi) stood stands = refl
 all_left_alone lists nets edit tree is apart none others tokens (Rule name trigger lo hi effect given unless_facts) stood stands = refl
+all_left_alone lists nets edit tree is apart none others tokens (Against name one other) stood stands = refl

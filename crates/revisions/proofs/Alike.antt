@@ -1,5 +1,5 @@
 -- Of lists that are alike in all that beliefs read the same is believed.
-use Rattle.std.proofs.Common.{◌≡◌, ◌∙◌, ℕ, zero, suc, Bool, true, false, not, ◌&&◌, List, [], ◌∷◌, ◌++◌, map, length, refl, sym, ap, subst, inl, inr}
+use Rattle.std.proofs.Common.{◌≡◌, ◌∙◌, ℕ, zero, suc, Bool, true, false, not, ◌&&◌, ◌||◌, List, [], ◌∷◌, ◌++◌, map, length, refl, sym, ap, subst, inl, inr}
 use Rattle.std.specs.Prelude.{Option, Some, None, filter, pos, negsuc, ◌+◌, ◌+ℤ◌, sum_by}
 use Rattle.std.specs.List.{list_any, list_all, filter_map, flat_map}
 use Rattle.std.specs.Option.{option_map, option_map_or, option_and_then, option_eq, is_some, is_none}
@@ -9,7 +9,7 @@ use Rattle.tmm_model.specs.declared.bound.Bound.{Bound}
 use Rattle.tmm_model.specs.declared.point.PointName.{PointName}
 use Rattle.tmm_model.specs.declared.point.PointName.TheVariants.{Start, Begin, End}
 use Rattle.tmm_model.specs.declared.premise.Premise.{Premise}
-use Rattle.tmm_model.specs.declared.premise.Premise.TheVariants.{Class, Kind, Point, Event, Token, Span, Dist, Rule, Protect}
+use Rattle.tmm_model.specs.declared.premise.Premise.TheVariants.{Class, Kind, Point, Event, Token, Span, Dist, Rule, Protect, Against}
 use Rattle.tmm_model.specs.declared.token.Shape.{Shape}
 use Rattle.tmm_model.specs.declared.token.Shape.TheVariants.{Event as AnEvent, Persistence as APersistence, Span as ASpan}
 use Rattle.tmm_model.specs.declared.token.TokenRow.{TokenRow}
@@ -44,6 +44,7 @@ root_begins (Point name) x e = cc
 root_begins (Dist name from to lo hi) x e = cc
 root_begins (Rule name trigger lo hi effect given unless_facts) x e = cc
 root_begins (Protect name fact from to) x e = cc
+root_begins (Against name one other) x e = cc
 
 -- what a rule brings about is no span
 no_span : (x : List ℕ) (o : Option Sort) (what : List ℕ) → as_effect x o ≡ (ASpan, what) → ⊥
@@ -162,7 +163,7 @@ module _ (s t : Standing) (say : SayAlike s t) where
     -- ---- support
 
     clips_same : (k c : TokenRow Moment) → IsBetween s k → IsBetween s c → clips (contradicts_in s) (distance s f) k c ≡ clips (contradicts_in t) (distance t g) k c
-    clips_same k c at_k at_c = λ i. contradicts_in s k c && bound_at_most (distance_same c.spot k.spot at_c.begin at_k.begin i) (negsuc 0)
+    clips_same k c at_k at_c = λ i. (of_one_class k c || say.rivals k.fact c.fact i) && bound_at_most (distance_same c.spot k.spot at_c.begin at_k.begin i) (negsuc 0)
 
     module _ (b : List Moment) (anchored : AreAnchored s b) where
       lasts_same : (k : TokenRow Moment) → IsBetween s k → (q : Moment) → IsAnchored s q → (o : Option Moment) → ((e : Moment) → o ≡ Some e → IsAnchored s e)

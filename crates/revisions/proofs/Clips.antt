@@ -17,10 +17,11 @@ use Rattle.tmm_model.specs.Maps.{TimeMap, built, gap, order, believed_tokens}
 use Rattle.tmm_model.specs.Moments.{Moment, negated, printed}
 use Rattle.tmm_model.specs.Points.{same_name}
 use Rattle.tmm_model.specs.Standing.{Standing}
-use Rattle.tmm_model.specs.Tokens.{is_before, clips}
+use Rattle.tmm_model.specs.Tokens.{of_one_class, is_before, clips}
 use Rattle.list_theory.specs.WellNamed.{IsSound}
 use Rattle.list_theory.proofs.Elements.{In, both, In-filter, filter-In, In-filter_map, filter_map-In, In-from_Contains, Contains-from_In}
 use Rattle.belief_theory.proofs.Firsts.{least_is, one_spot}
+use Rattle.belief_theory.proofs.ByClass.{by_class}
 use Rattle.belief_theory.proofs.NextLists.{all_spelt}
 use Rattle.belief_theory.proofs.OneRight.{spot-token_of}
 use Rattle.belief_theory.proofs.Order.{IsSpelt, ordered}
@@ -65,43 +66,46 @@ one_first m n (x ∷ xs) (y ∷ ys) live back stays alike =
     let c_in = back c two.member in
     ap Some (one_spot (ordered m.list m.far) k.spot c.spot (live k one.member) (live c c_in) (one.below c c_in) (ap is_gt (alike c k two.member k_in) ∙ two.below k k_in))
 
-module _ (m n : TimeMap) (spelt : (k : TokenRow Moment) → In k (believed_tokens m) → IsSpelt k.spot) (k : TokenRow Moment) (there : In k (believed_tokens n)) (fewer : FewerOfClass m n k.class) where
+module _ (m n : TimeMap) (spelt : (k : TokenRow Moment) → In k (believed_tokens m) → IsSpelt k.spot) (k : TokenRow Moment) (there : In k (believed_tokens n)) (fewer : FewerOfClass m n k.class)
+    (plain_m : contradicts_in m.list ≡ of_one_class) (plain_n : contradicts_in n.list ≡ of_one_class) where
   -- what clips k is of its class
-  of_class : (p : TimeMap) (c : TokenRow Moment) → clips (contradicts_in p.list) (gap p) k c ≡ true → c.class ≡ k.class
+  of_class : (p : TimeMap) (c : TokenRow Moment) → clips of_one_class (gap p) k c ≡ true → c.class ≡ k.class
   of_class p c h =
-      let differ = (both (contradicts_in p.list k c) (is_before (gap p) k.spot c.spot) h).0 in
+      let differ = (both (of_one_class k c) (is_before (gap p) k.spot c.spot) h).0 in
       sym ((bytes_decides k.class c.class).0 (both (same_name k.class c.class) (not (same_name k.fact c.fact)) differ).0)
 
-  clips_alike : (c : TokenRow Moment) → c.class ≡ k.class → In c (believed_tokens n) → clips (contradicts_in m.list) (gap m) k c ≡ clips (contradicts_in n.list) (gap n) k c
+  clips_alike : (c : TokenRow Moment) → c.class ≡ k.class → In c (believed_tokens n) → clips of_one_class (gap m) k c ≡ clips of_one_class (gap n) k c
   clips_alike c class at = ap (λ g. (same_name k.class c.class && not (same_name k.fact c.fact)) && bound_at_most g (negsuc 0)) (fewer.gaps c k class refl at there)
 
   -- what clips k in a map
   abbrev clippers : TimeMap → List (TokenRow Moment)
-  clippers p = filter (clips (contradicts_in p.list) (gap p) k) (believed_tokens p)
+  clippers p = filter (clips of_one_class (gap p) k) (believed_tokens p)
 
   -- the clip of k in a map, where this is its end
   abbrev clip_by : TimeMap → Option Moment → Option Moment
-  clip_by p o = elim o as (λ _. Option Moment) [ Some end ↦ None | None ↦ first_believed p (clips (contradicts_in p.list) (gap p) k) ]
+  clip_by p o = elim o as (λ _. Option Moment) [ Some end ↦ None | None ↦ first_believed p (clips of_one_class (gap p) k) ]
 
-  clip_is : (p : TimeMap) (x : Moment) → token_of p.list x ≡ Some k → clip p x ≡ clip_by p k.end
-  clip_is p x is = ap (option_and_then (clip_of p)) is
+  clip_is : (p : TimeMap) → contradicts_in p.list ≡ of_one_class → (x : Moment) → token_of p.list x ≡ Some k → clip p x ≡ clip_by p k.end
+  clip_is p plain x is =
+      ap (option_and_then (clip_of p)) is
+      ∙ ap (λ z. elim k.end as (λ _. Option Moment) [ Some end ↦ None | None ↦ first_believed p (clips z (gap p) k) ]) plain
 
   first_alike : ((c : TokenRow Moment) → In c (believed_tokens m) → c.class ≡ k.class → first (by_begin m) (clippers m) ≡ Some c → In c (believed_tokens n))
       → clip_by m None ≡ clip_by n None
   first_alike stays = one_first m n (clippers m) (clippers n)
-      (λ c at. spelt c (In-filter (clips (contradicts_in m.list) (gap m) k) (believed_tokens m) c at).0)
+      (λ c at. spelt c (In-filter (clips of_one_class (gap m) k) (believed_tokens m) c at).0)
       (λ c at.
-      (let h = In-filter (clips (contradicts_in n.list) (gap n) k) (believed_tokens n) c at in
+      (let h = In-filter (clips of_one_class (gap n) k) (believed_tokens n) c at in
       let class = of_class n c h.1 in
-      filter-In (clips (contradicts_in m.list) (gap m) k) (believed_tokens m) c (fewer.back c class h.0) (clips_alike c class h.0 ∙ h.1)))
+      filter-In (clips of_one_class (gap m) k) (believed_tokens m) c (fewer.back c class h.0) (clips_alike c class h.0 ∙ h.1)))
       (λ c at is.
-      (let h = In-filter (clips (contradicts_in m.list) (gap m) k) (believed_tokens m) c at in
+      (let h = In-filter (clips of_one_class (gap m) k) (believed_tokens m) c at in
       let class = of_class m c h.1 in
       let here = stays c h.0 class is in
-      filter-In (clips (contradicts_in n.list) (gap n) k) (believed_tokens n) c here (sym (clips_alike c class here) ∙ h.1)))
+      filter-In (clips of_one_class (gap n) k) (believed_tokens n) c here (sym (clips_alike c class here) ∙ h.1)))
       (λ c d at_c at_d.
-      (let h = In-filter (clips (contradicts_in n.list) (gap n) k) (believed_tokens n) c at_c in
-      let g = In-filter (clips (contradicts_in n.list) (gap n) k) (believed_tokens n) d at_d in
+      (let h = In-filter (clips of_one_class (gap n) k) (believed_tokens n) c at_c in
+      let g = In-filter (clips of_one_class (gap n) k) (believed_tokens n) d at_d in
       let date_c = fewer.dates c (of_class n c h.1) h.0 in
       let date_d = fewer.dates d (of_class n d g.1) g.0 in
       λ i. ordering_then (int_cmp (date_c i) (date_d i)) (slice_cmp nat_cmp (printed c.spot) (printed d.spot))))
@@ -110,11 +114,11 @@ module _ (m n : TimeMap) (spelt : (k : TokenRow Moment) → In k (believed_token
   pub clip_stays : (x : Moment) → token_of m.list x ≡ Some k → token_of n.list x ≡ Some k
       → ((c : TokenRow Moment) → In c (believed_tokens m) → c.class ≡ k.class → clip m x ≡ Some c.spot → In c (believed_tokens n))
       → clip m x ≡ clip n x
-  clip_stays x one two stays = clip_is m x one ∙ by k.end refl ∙ sym (clip_is n x two)
+  clip_stays x one two stays = clip_is m plain_m x one ∙ by k.end refl ∙ sym (clip_is n plain_n x two)
     where
       by : (o : Option Moment) → k.end ≡ o → clip_by m o ≡ clip_by n o
       by (Some end) is = refl
-      by None is = first_alike (λ c at class e. stays c at class (clip_is m x one ∙ ap (clip_by m) is ∙ ap (option_map (λ (z : TokenRow Moment). z.spot)) e))
+      by None is = first_alike (λ c at class e. stays c at class (clip_is m plain_m x one ∙ ap (clip_by m) is ∙ ap (option_map (λ (z : TokenRow Moment). z.spot)) e))
 
 -- a token of the list before that is believed after an edit is one of the list after
 token_there : (old : Standing) (edit : Edit) → IsSound old → IsSound (next_list old edit) → (c : TokenRow Moment) → In c (believed_tokens (built old))
@@ -129,7 +133,7 @@ token_there old edit sound_old sound_new c at believed =
 
 pub clips_stay_on : ClipsStayOn
 clips_stay_on old edit sound_old sound_new x k one two there fewer stays =
-    clip_stays (built old) (built (next_list old edit)) (all_spelt old sound_old) k there fewer x one two
+    clip_stays (built old) (built (next_list old edit)) (all_spelt old sound_old) k there fewer (by_class old sound_old) (by_class (next_list old edit) sound_new) x one two
     (λ c at class is. token_there old edit sound_old sound_new c at (stays c.spot is))
 
 pub clips_stay : ClipsStay
@@ -140,4 +144,5 @@ clips_stay old edit sound_old sound_new x k one two there same =
       gaps = λ c d class_c class_d at_c at_d. same.gaps c d class_c class_d (same.back c class_c at_c) (same.back d class_d at_d);
       dates = λ c class at. ap negated (same.dates c class (same.back c class at));
     })
+    (by_class old sound_old) (by_class (next_list old edit) sound_new)
     x one two (λ c at class is. same.into c class at)

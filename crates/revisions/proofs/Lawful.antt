@@ -22,6 +22,7 @@ use Rattle.belief_theory.proofs.OneRight.{later, spot-token_of}
 use Rattle.belief_theory.proofs.Outcomes.{fires_exactly}
 use Rattle.belief_theory.proofs.SoundBeliefs.{sound_timed, believed_right, believed_occurs}
 use Rattle.belief_theory.proofs.Spelt.{spelt}
+use Rattle.belief_theory.proofs.ByClass.{by_class}
 use Rattle.belief_theory.proofs.Untouched.{was_decision, untouched_alike, untouched_stood}
 use Rattle.revisions.specs.Maps.{is_watched, watches, revision}
 use Rattle.revisions.specs.Revisions.{Revision, is_firing, IsOf, AreOf, AgreeFor, Belongs, IsNew, IsLost, IsLawful}
@@ -62,13 +63,13 @@ module _ (old : Standing) (edit : Edit) (sound_old : IsSound old) (sound_new : I
   occurs_of (At p) h = h
   occurs_of (After t r) h = (occurs_of t h.0, h.1)
 
-  spelt_in : (b : List Moment) → AreOf g b → (t : Moment) (r : List ℕ) → AllSpelt new (far_in new.premises) t r b
+  spelt_in : (b : List Moment) → AreOf g b → (t : Moment) (r : List ℕ) → AllSpelt new (by_class new sound_new) (far_in new.premises) t r b
   spelt_in b are t r k at =
       let (x, there, e) = In-filter_map (token_of new) b k at in
       subst IsSpelt (sym (spot-token_of new x k e)) (spelt new sound_new.well_formed x (of_occurs x (are x (Contains-from_In b x there))))
 
   sees : (b c : List Moment) → AreOf g b → (t : Moment) (r : List ℕ) → IsOf g t
-      → ((x : Moment) → g.early x ≤ℤ g.early t → g.reads t r x ≡ true → Contains b x → Contains c x) → Sees new (far_in new.premises) t r b c
+      → ((x : Moment) → g.early x ≤ℤ g.early t → g.reads t r x ≡ true → Contains b x → Contains c x) → Sees new (by_class new sound_new) (far_in new.premises) t r b c
   sees b c are t r of agree k own near at =
       let (x, there, e) = In-filter_map (token_of new) b k at in
       let is = spot-token_of new x k e in
@@ -79,7 +80,7 @@ module _ (old : Standing) (edit : Edit) (sound_old : IsSound old) (sound_new : I
 
   rests : (b c : List Moment) → AreOf g b → AreOf g c → (t : Moment) (r : List ℕ) → IsOf g t → Contains (g.rules t) r → AgreeFor g b c t r → g.outcome b t r ≡ g.outcome c t r
   rests b c are_b are_c t r of stands agree =
-      outcome_local new (far_in new.premises) t r b c
+      outcome_local new (by_class new sound_new) (far_in new.premises) t r b c
       (sees b c are_b t r of (λ x by_t reads at. (agree x by_t reads).0 at))
       (sees c b are_c t r of (λ x by_t reads at. (agree x by_t reads).1 at))
       (spelt_in b are_b t r)

@@ -15,14 +15,14 @@ use Rattle.tmm_model.specs.Firsts.{earliest, first}
 use Rattle.tmm_model.specs.Moments.{Moment, Distances, distance, occ_cmp, read_by, rule_of}
 use Rattle.tmm_model.specs.Points.{same_name}
 use Rattle.tmm_model.specs.Standing.{Standing}
-use Rattle.tmm_model.specs.Tokens.{is_by, is_before, clips, cuts, lasts_to, supports}
+use Rattle.tmm_model.specs.Tokens.{of_one_class, is_by, is_before, clips, cuts, lasts_to, supports}
 use Rattle.list_theory.proofs.Elements.{In, both, list_any-In, In-list_any, In-filter, filter-In, In-filter_map, In-left, In-right}
 use Rattle.belief_theory.proofs.Firsts.{least_is, one_spot}
 use Rattle.belief_theory.proofs.Order.{IsSpelt, ordered}
 use Rattle.belief_theory.proofs.Watched.{class-token_of}
 use Rattle.revisions.specs.Maps.{is_watched}
 
-module _ (s : Standing) (far : Distances) (t : Moment) (r : List ℕ) where
+module _ (s : Standing) (plain : contradicts_in s ≡ of_one_class) (far : Distances) (t : Moment) (r : List ℕ) where
   abbrev gap : Moment → Moment → Bound
   gap = distance s far
 
@@ -50,7 +50,8 @@ module _ (s : Standing) (far : Distances) (t : Moment) (r : List ℕ) where
             let (row, at, cut) = list_any-In (cuts (contradicts_in s) gap k t) (tokens s c) e in
             let one = both (clips (contradicts_in s) gap k row) (is_by gap row.spot t) cut in
             let differ = (both (contradicts_in s k row) (is_before gap k.spot row.spot) one.0).0 in
-            let class = (bytes_decides k.class row.class).0 (both (same_name k.class row.class) (not (same_name k.fact row.fact)) differ).0 in
+            let of_class : of_one_class k row ≡ true = subst (λ z. z k row ≡ true) plain differ in
+            let class = (bytes_decides k.class row.class).0 (both (same_name k.class row.class) (not (same_name k.fact row.fact)) of_class).0 in
             In-list_any (cuts (contradicts_in s) gap k t) (tokens s b) row (sees row (is_seen row (sym class ∙ own)) one.1 at) cut
 
         by : (v : Bool) → list_any (cuts (contradicts_in s) gap k t) (tokens s c) ≡ v → not v ≡ true

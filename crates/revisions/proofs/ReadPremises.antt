@@ -1,14 +1,14 @@
 -- Lists with the same premises of those that beliefs read say the same of all that beliefs read.
-use Rattle.std.proofs.Common.{◌≡◌, ◌∙◌, ℕ, Bool, true, false, cond, List, [], ◌∷◌, ◌++◌, refl, sym, ap, subst, inl, inr}
+use Rattle.std.proofs.Common.{◌≡◌, ◌∙◌, ℕ, Bool, true, false, ◌||◌, cond, List, [], ◌∷◌, ◌++◌, refl, sym, ap, subst, inl, inr}
 use Rattle.std.specs.Prelude.{Option, Some, None}
 use Rattle.std.specs.List.{list_any, filter_map, cons_option}
 use Rattle.std.specs.Map.{lookup}
 use Rattle.std.specs.Option.{option_or}
 use Rattle.std.specs.Cmp.Lexicographic.{bytes_decides}
 use Rattle.tmm_model.specs.declared.premise.Premise.{Premise}
-use Rattle.tmm_model.specs.declared.premise.Premise.TheVariants.{Class, Kind, Point, Event, Token, Span, Dist, Rule, Protect}
+use Rattle.tmm_model.specs.declared.premise.Premise.TheVariants.{Class, Kind, Point, Event, Token, Span, Dist, Rule, Protect, Against}
 use Rattle.tmm_model.specs.declared.point.PointName.TheVariants.{Start, Begin, End}
-use Rattle.tmm_model.specs.Beliefs.{as_root, as_effect, is_of, root_of, on_kind}
+use Rattle.tmm_model.specs.Beliefs.{as_root, as_effect, is_of, root_of, on_kind, says_against}
 use Rattle.tmm_model.specs.Moments.{Moment, At, After, as_rule, rule_of}
 use Rattle.tmm_model.specs.Points.{same_name}
 use Rattle.tmm_model.specs.Sorts.{Sort, a_point, a_dist, a_protection, declarations_of, declarations_in, declared_by, sort_in, class_in}
@@ -41,6 +41,7 @@ no_root (Span name fact) e = cc
 no_root (Dist name from to lo hi) e = refl
 no_root (Rule name trigger lo hi effect given unless_facts) e = refl
 no_root (Protect name fact from to) e = refl
+no_root (Against name one other) e = refl
 
 no_rule : (kind : List ℕ) (p : Premise) → is_read p ≡ false → on_kind kind p ≡ None
 no_rule kind (Class name facts) e = refl
@@ -52,6 +53,27 @@ no_rule kind (Span name fact) e = refl
 no_rule kind (Dist name from to lo hi) e = refl
 no_rule kind (Rule name trigger lo hi effect given unless_facts) e = cc
 no_rule kind (Protect name fact from to) e = refl
+no_rule kind (Against name one other) e = refl
+
+any_read : (h : Premise → Bool) → ((p : Premise) → is_read p ≡ false → h p ≡ false) → (ps : List Premise) → list_any h ps ≡ list_any h (read_of ps)
+any_read h unread [] = refl
+any_read h unread (p ∷ ps) = by (is_read p) refl (any_read h unread ps)
+  where
+    by : (b : Bool) → is_read p ≡ b → list_any h ps ≡ list_any h (read_of ps) → (h p || list_any h ps) ≡ list_any h (cond b (p ∷ read_of ps) (read_of ps))
+    by true e again = ap (λ b. h p || b) again
+    by false e again = ap (λ b. b || list_any h ps) (unread p e) ∙ again
+
+no_rivalry : (f g : List ℕ) (p : Premise) → is_read p ≡ false → says_against f g p ≡ false
+no_rivalry f g (Class name facts) e = refl
+no_rivalry f g (Kind name) e = refl
+no_rivalry f g (Point name) e = refl
+no_rivalry f g (Event name kind) e = refl
+no_rivalry f g (Token name fact) e = refl
+no_rivalry f g (Span name fact) e = refl
+no_rivalry f g (Dist name from to lo hi) e = refl
+no_rivalry f g (Rule name trigger lo hi effect given unless_facts) e = refl
+no_rivalry f g (Protect name fact from to) e = refl
+no_rivalry f g (Against name one other) e = cc
 
 class_read : (fact : List ℕ) (ps : List Premise) → class_in ps fact ≡ class_in (read_of ps) fact
 class_read fact [] = refl
@@ -64,6 +86,7 @@ class_read fact (Span name fact_ ∷ ps) = class_read fact ps
 class_read fact (Dist name from to lo hi ∷ ps) = class_read fact ps
 class_read fact (Rule name trigger lo hi effect given unless_facts ∷ ps) = class_read fact ps
 class_read fact (Protect name fact_ from to ∷ ps) = class_read fact ps
+class_read fact (Against name one other ∷ ps) = class_read fact ps
 
 -- ---- what is found under a name
 
@@ -104,6 +127,7 @@ no_root_found (Span name fact) e = cc
 no_root_found (Dist name from to lo hi) e = refl
 no_root_found (Rule name trigger lo hi effect given unless_facts) e = refl
 no_root_found (Protect name fact from to) e = refl
+no_root_found (Against name one other) e = refl
 
 no_rule_found : (p : Premise) → is_read p ≡ false → as_rule (Some p) ≡ as_rule None
 no_rule_found (Class name facts) e = refl
@@ -115,6 +139,7 @@ no_rule_found (Span name fact) e = refl
 no_rule_found (Dist name from to lo hi) e = refl
 no_rule_found (Rule name trigger lo hi effect given unless_facts) e = cc
 no_rule_found (Protect name fact from to) e = refl
+no_rule_found (Against name one other) e = refl
 
 -- ---- what a name is declared as
 
@@ -140,6 +165,7 @@ unread_declares x p e n sort at = by p e at
     by (Dist name from to lo hi) e at = one name a_dist refl at
     by (Rule name trigger lo hi effect given unless_facts) e at = cc
     by (Protect name fact from to) e at = one name a_protection refl at
+    by (Against name one_ other) e at = cc
 
 -- what a premise declares none after it does
 undeclared : (earlier : List Premise) (p : Premise) (ps : List Premise) → AllFollow (earlier ++ p ∷ []) ps → (n : List ℕ) → In n (declared_by p) → sort_in (read_of ps) n ≡ None
@@ -198,5 +224,7 @@ module _ (s t : Standing) (named_s : IsWellNamed s.premises) (named_t : IsWellNa
     rule = rule_same;
     class = λ fact.
         ap (λ o. elim o as (λ _. List ℕ) [ Some class ↦ class | None ↦ [] ]) (class_read fact s.premises ∙ ap (λ ps. class_in ps fact) same ∙ sym (class_read fact t.premises));
+    rivals = λ f g.
+        any_read (says_against f g) (no_rivalry f g) s.premises ∙ ap (list_any (says_against f g)) same ∙ sym (any_read (says_against f g) (no_rivalry f g) t.premises);
     horizon = horizon;
   }

@@ -27,6 +27,7 @@ use Rattle.belief_theory.proofs.Order.{IsSpelt}
 use Rattle.belief_theory.proofs.SoundBeliefs.{believed_right, believed_occurs}
 use Rattle.belief_theory.proofs.Spelt.{spelt}
 use Rattle.belief_theory.proofs.NextLists.{all_spelt}
+use Rattle.belief_theory.proofs.ByClass.{by_class}
 use Rattle.belief_theory.proofs.Untouched.{Alike, untouched_alike, untouched_stood, outcome_alike}
 use Rattle.spots.specs.OfLists.{map_of}
 use Rattle.revisions.specs.Counted.{AreSeeds}
@@ -113,7 +114,7 @@ module _ (old : Standing) (edit : Edit) (sound_old : IsSound old) (sound_new : I
     keeps h =
         let stood = untouched_stood (built old) (map_of new b) t r h in
         let same = text old edit sound_old sound_new t r stood.1 stands in
-        outcome_alike (built old) (map_of new b) t r (untouched_alike (built old) (map_of new b) t r same h) (all_spelt old sound_old) among_spelt
+        outcome_alike (built old) (map_of new b) t r (untouched_alike (built old) (map_of new b) t r same h) (record { one = by_class old sound_old; other = by_class new sound_new }) (all_spelt old sound_old) among_spelt
 
     -- what is untouched in the end is untouched at the beginning
     untouched_first : is_touched (built old) (built new) (t, r) ≡ false → is_touched (built old) (map_of new b) (t, r) ≡ false

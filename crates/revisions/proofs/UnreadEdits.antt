@@ -8,11 +8,11 @@ use Rattle.std.specs.Cmp.Lexicographic.{bytes_decides, nat_list_eq_equiv}
 use Rattle.tmm_model.specs.declared.premise.Edit.{Edit}
 use Rattle.tmm_model.specs.declared.premise.Edit.TheVariants.{Add, Erase, Horizon, Upgrade}
 use Rattle.tmm_model.specs.declared.premise.Premise.{Premise}
-use Rattle.tmm_model.specs.declared.premise.Premise.TheVariants.{Class, Kind, Point, Event, Token, Span, Dist, Rule, Protect}
+use Rattle.tmm_model.specs.declared.premise.Premise.TheVariants.{Class, Kind, Point, Event, Token, Span, Dist, Rule, Protect, Against}
 use Rattle.tmm_model.specs.Edits.{next_list}
 use Rattle.tmm_model.specs.Erasure.{names_used, mentioned_by, is_among, falls, kept_after}
 use Rattle.tmm_model.specs.Points.{same_name}
-use Rattle.tmm_model.specs.Sorts.{Sort, a_class, a_fact, a_kind, a_point, an_event, a_token, a_span, a_dist, a_rule, a_protection, is_fact, is_kind, is_effect, declarations_of, declarations_in, declared_by, sort_in, Use, a_name, fact_use, uses_of}
+use Rattle.tmm_model.specs.Sorts.{Sort, a_class, a_fact, a_kind, a_point, an_event, a_token, a_span, a_dist, a_rule, a_protection, a_rivalry, is_fact, is_kind, is_effect, declarations_of, declarations_in, declared_by, sort_in, Use, a_name, fact_use, uses_of}
 use Rattle.tmm_model.specs.Standing.{Standing, name_of, premise_in}
 use Rattle.tmm_model.specs.Verdicts.{Cause, ill_sorted, name_cause, use_cause, uses_cause, words_known}
 use Rattle.list_theory.specs.WellNamed.{Follows, AllFollow, IsWellNamed}
@@ -58,6 +58,7 @@ plain_is an_event e = cc
 plain_is a_token e = cc
 plain_is a_span e = cc
 plain_is a_rule e = cc
+plain_is a_rivalry e = cc
 
 -- the use asks for a word that is declared as something else
 record AsksOther (u : Use) : Type 0 where
@@ -78,6 +79,9 @@ asks_other (Token name fact) e u (inl is) = record { word = fact; wanted = is_fa
 asks_other (Token name fact) e u (inr at) = absurd at
 asks_other (Span name fact) e u (inl is) = record { word = fact; wanted = is_fact; is = is; refuses = λ sort e. (plain_is sort e).0 }
 asks_other (Span name fact) e u (inr at) = absurd at
+asks_other (Against name one other) e u (inl is) = record { word = one; wanted = is_fact; is = is; refuses = λ sort e. (plain_is sort e).0 }
+asks_other (Against name one other) e u (inr (inl is)) = record { word = other; wanted = is_fact; is = is; refuses = λ sort e. (plain_is sort e).0 }
+asks_other (Against name one other) e u (inr (inr at)) = absurd at
 asks_other (Rule name trigger lo hi effect given unless_facts) e u (inl is) = record { word = trigger; wanted = is_kind; is = is; refuses = λ sort e. (plain_is sort e).1 }
 asks_other (Rule name trigger lo hi effect given unless_facts) e u (inr (inl is)) = record { word = effect; wanted = is_effect; is = is; refuses = λ sort e. (plain_is sort e).2 }
 asks_other (Rule name trigger lo hi effect given unless_facts) e u (inr (inr at)) =
@@ -136,6 +140,7 @@ declares_plain earlier p e follows w at = by p e refl at
     by (Point name) e is at = (a_point, own name a_point (ap declarations_of is) (ap name_of is) (subst (λ z. In w (declared_by z)) is at), refl)
     by (Dist name from to lo hi) e is at = (a_dist, own name a_dist (ap declarations_of is) (ap name_of is) (subst (λ z. In w (declared_by z)) is at), refl)
     by (Protect name fact from to) e is at = (a_protection, own name a_protection (ap declarations_of is) (ap name_of is) (subst (λ z. In w (declared_by z)) is at), refl)
+    by (Against name one other) e is at = cc
     by (Class name facts) e is at = cc
     by (Kind name) e is at = cc
     by (Event name kind) e is at = cc

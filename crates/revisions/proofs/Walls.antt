@@ -11,19 +11,20 @@ use Rattle.std.specs.declared.cmp.Ordering.{Ordering}
 use Rattle.tmm_model.specs.declared.bound.Bound.{Bound}
 use Rattle.tmm_model.specs.declared.bound.Bound.TheVariants.{Finite, Free}
 use Rattle.tmm_model.specs.declared.token.TokenRow.{TokenRow}
-use Rattle.tmm_model.specs.Beliefs.{class_of, token_of, contradicts_in, holder, supporters, against}
+use Rattle.tmm_model.specs.Beliefs.{class_of, token_of, contradicts_in, first_token, holder, supporters, against}
 use Rattle.tmm_model.specs.Bounds.{bound_at_most, bound_plus}
 use Rattle.tmm_model.specs.Firsts.{earliest, first}
 use Rattle.tmm_model.specs.Maps.{TimeMap, gap, order, believed_tokens}
 use Rattle.tmm_model.specs.Moments.{Moment, RuleText, read_by, rule_of}
 use Rattle.tmm_model.specs.Points.{same_name}
 use Rattle.tmm_model.specs.Standing.{Standing, far_in}
-use Rattle.tmm_model.specs.Tokens.{is_by, is_before, clips, cuts, lasts_to, supports}
+use Rattle.tmm_model.specs.Tokens.{of_one_class, is_by, is_before, clips, cuts, lasts_to, supports}
 use Rattle.tmm_model.specs.Types.{IsTighter}
 use Rattle.list_theory.specs.WellNamed.{IsSound}
 use Rattle.list_theory.proofs.Elements.{In, both, Contains-from_In, list_any-In, In-list_any, In-filter, filter-In, In-filter_map, In-left, In-right}
 use Rattle.belief_theory.specs.Outcomes.{Outcome, beyond, tried, outcome}
 use Rattle.belief_theory.specs.Touched.{watched}
+use Rattle.belief_theory.proofs.ByClass.{by_class}
 use Rattle.belief_theory.proofs.Firsts.{least_is, one_spot}
 use Rattle.belief_theory.proofs.OneRight.{spot-token_of}
 use Rattle.belief_theory.proofs.Order.{IsSpelt, ordered}
@@ -67,26 +68,26 @@ watched_token : (m : TimeMap) (r : List ℕ) (k : TokenRow Moment) → In k (wat
 watched_token m r k at = (In-filter (is_read m r) (believed_tokens m) k at).0
 
 abbrev holds_at : TimeMap → Moment → List ℕ → TokenRow Moment → Bool
-holds_at m t f k = supports (contradicts_in m.list) (gap m) (believed_tokens m) f t t k
+holds_at m t f k = supports of_one_class (gap m) (believed_tokens m) f t t k
 
 abbrev cuts_at : TimeMap → Moment → TokenRow Moment → TokenRow Moment → Bool
-cuts_at m t k c = cuts (contradicts_in m.list) (gap m) k t c
+cuts_at m t k c = cuts of_one_class (gap m) k t c
 
 abbrev lasts_at : TimeMap → Moment → TokenRow Moment → Option Moment → Bool
-lasts_at m t k o = lasts_to (contradicts_in m.list) (gap m) (believed_tokens m) k t o
+lasts_at m t k o = lasts_to of_one_class (gap m) (believed_tokens m) k t o
 
 -- ---- what a cut says
 
 pub record Cut (m : TimeMap) (t : Moment) (k c : TokenRow Moment) : Type 0 where
-  pub contradicts : contradicts_in m.list k c ≡ true
+  pub contradicts : of_one_class k c ≡ true
   pub class : k.class ≡ c.class
   pub before : is_before (gap m) k.spot c.spot ≡ true
   pub begun : has_begun m t c ≡ true
 
 cut_is : (m : TimeMap) (t : Moment) (k c : TokenRow Moment) → cuts_at m t k c ≡ true → Cut m t k c
 cut_is m t k c h =
-    let one = both (clips (contradicts_in m.list) (gap m) k c) (is_by (gap m) c.spot t) h in
-    let two = both (contradicts_in m.list k c) (is_before (gap m) k.spot c.spot) one.0 in
+    let one = both (clips of_one_class (gap m) k c) (is_by (gap m) c.spot t) h in
+    let two = both (of_one_class k c) (is_before (gap m) k.spot c.spot) one.0 in
     record {
       contradicts = two.0;
       class = (bytes_decides k.class c.class).0 (both (same_name k.class c.class) (not (same_name k.fact c.fact)) two.0).0;
@@ -111,7 +112,7 @@ other_fact fact one other differ = by (same_name fact one) refl (same_name fact 
     by true e false g = inr g
     by true e true g = absurd (differ (sym ((bytes_decides fact one).0 e) ∙ (bytes_decides fact other).0 g))
 
-contradicted : (m : TimeMap) (k w : TokenRow Moment) → k.class ≡ w.class → same_name k.fact w.fact ≡ false → contradicts_in m.list k w ≡ true
+contradicted : (m : TimeMap) (k w : TokenRow Moment) → k.class ≡ w.class → same_name k.fact w.fact ≡ false → of_one_class k w ≡ true
 contradicted m k w class differ = λ i. (bytes_decides k.class w.class).1 class i && not (differ i)
 
 -- ---- two maps that are alike but for some tokens
@@ -183,11 +184,11 @@ module _ (stays : TokenRow Moment → Type 0) (m n : TimeMap) (t : Moment) (r : 
 
   -- a token that is past supports nothing
   none_past : (k : TokenRow Moment) → IsPast stays m t k → (o : Option Moment) → k.end ≡ o → lasts_at m t k o ≡ true → ⊥
-  none_past k past (Some e) is h = let over : lasts_to (contradicts_in m.list) (gap m) (past.one ∷ past.other ∷ []) k t (Some e) ≡ false = ap (lasts_to (contradicts_in m.list) (gap m) (past.one ∷ past.other ∷ []) k t) (sym is) ∙ past.walls.over in cc
+  none_past k past (Some e) is h = let over : lasts_to of_one_class (gap m) (past.one ∷ past.other ∷ []) k t (Some e) ≡ false = ap (lasts_to of_one_class (gap m) (past.one ∷ past.other ∷ []) k t) (sym is) ∙ past.walls.over in cc
   none_past k past None is h = by (cuts_at m t k past.one) refl (cuts_at m t k past.other) refl over
     where
       over : not (cuts_at m t k past.one || (cuts_at m t k past.other || false)) ≡ false
-      over = ap (lasts_to (contradicts_in m.list) (gap m) (past.one ∷ past.other ∷ []) k t) (sym is) ∙ past.walls.over
+      over = ap (lasts_to of_one_class (gap m) (past.one ∷ past.other ∷ []) k t) (sym is) ∙ past.walls.over
 
       by : (x : Bool) → cuts_at m t k past.one ≡ x → (y : Bool) → cuts_at m t k past.other ≡ y → not (x || (y || false)) ≡ false → ⊥
       by true e y g over = cut_short m t k past.one (watched_token m r past.one (a.here past.one past.one_stays)) e h
@@ -222,10 +223,14 @@ abbrev AllSpelt : TimeMap → Type 0
 AllSpelt m = (k : TokenRow Moment) → In k (believed_tokens m) → IsSpelt k.spot
 
 module _ (stays : TokenRow Moment → Type 0) (m n : TimeMap) (t : Moment) (r : List ℕ) (a : AlikeBut stays m n t r) (far_m : IsTriangular m) (far_n : IsTriangular n)
-    (spelt_m : AllSpelt m) (spelt_n : AllSpelt n) where
+    (spelt_m : AllSpelt m) (spelt_n : AllSpelt n) (plain_m : contradicts_in m.list ≡ of_one_class) (plain_n : contradicts_in n.list ≡ of_one_class) where
+  -- the first supporter in a map, where tokens contradict each other by their class alone
+  holder_is : (p : TimeMap) → contradicts_in p.list ≡ of_one_class → (f : List ℕ) → holder p.list p.far p.believed f t t ≡ option_map (λ k. k.spot) (first (by_begin p) (filter (holds_at p t f) (believed_tokens p)))
+  holder_is p plain f = ap (λ z. first_token p.list p.far p.believed (supports z (gap p) (believed_tokens p) f t t)) plain
+
   -- the first supporter of an antecedent or an exception is the same in both
   holder_alike : (f : List ℕ) → In f (read_by (rule_of m.list r)) → holder m.list m.far m.believed f t t ≡ holder n.list n.far n.believed f t t
-  holder_alike f given = by (filter (holds_at m t f) (believed_tokens m)) refl (filter (holds_at n t f) (believed_tokens n)) refl
+  holder_alike f given = holder_is m plain_m f ∙ by (filter (holds_at m t f) (believed_tokens m)) refl (filter (holds_at n t f) (believed_tokens n)) refl ∙ sym (holder_is n plain_n f)
     where
       given_n : In f (read_by (rule_of n.list r))
       given_n = subst (λ (x : RuleText). In f (read_by x)) a.text given
@@ -296,7 +301,7 @@ pub outcome_but : (s n : Standing) (b c : List Moment) (t : Moment) (r : List �
     → AlikeBut stays (map_of s b) (map_of n c) t r
     → outcome s (far_in s.premises) b t r ≡ outcome n (far_in n.premises) c t r
 outcome_but s n b c t r stays sound_s sound_n occur_b occur_c a =
-    outcome_alike_but stays (map_of s b) (map_of n c) t r a (triangular s b sound_s) (triangular n c sound_n) (spelt_in s b sound_s occur_b) (spelt_in n c sound_n occur_c)
+    outcome_alike_but stays (map_of s b) (map_of n c) t r a (triangular s b sound_s) (triangular n c sound_n) (spelt_in s b sound_s occur_b) (spelt_in n c sound_n occur_c) (by_class s sound_s) (by_class n sound_n)
 
 pub outcomes_stay_but : OutcomesStayBut
 outcomes_stay_but s n b c t r stay = outcome_but s n b c t r (λ k. In k stay)

@@ -16,6 +16,7 @@ use Rattle.tmm_model.specs.Sorts.{class_in}
 use Rattle.tmm_model.specs.Standing.{Standing, far_in}
 use Rattle.tmm_model.specs.Tokens.{of_one_class, supports, clips, cuts, is_by, is_before, lasts_to}
 use Rattle.belief_theory.specs.FirstPlaces.{IsFirstPlace, IsFirstAmong}
+use Rattle.belief_theory.proofs.ByClass.{by_class}
 use Rattle.belief_theory.proofs.ClassTokens.{support_alike}
 use Rattle.list_theory.proofs.Elements.{In, both, In-list_any, In-filter_map}
 use Rattle.belief_theory.proofs.Order.{ordered}
@@ -56,6 +57,9 @@ module _ {s : Standing} {net : Net} {f : Forest} (seen : IsForestOf s net f) {cl
 
   abbrev moment_order : Moment → Moment → Ordering
   moment_order = occ_cmp s (far_in s.premises)
+
+  plain : contradicts_in s ≡ of_one_class
+  plain = by_class s seen.network.sound
 
   abbrev IsThere : Spot → Type 0
   IsThere = IsSpot net.names f
@@ -104,9 +108,9 @@ module _ {s : Standing} {net : Net} {f : Forest} (seen : IsForestOf s net f) {cl
 
   module _ (fact : List ℕ) (in_class : class_in s.premises fact ≡ Some class) (p q : Spot) (at_p : IsThere p) (at_q : IsThere q) where
     -- what supports a fact is of its class
-    support_class : (k : TokenRow Moment) → In k (tokens s b) → supports (contradicts_in s) gap (tokens s b) fact (mom p) (mom q) k ≡ true → k.class ≡ class
+    support_class : (k : TokenRow Moment) → In k (tokens s b) → supports of_one_class gap (tokens s b) fact (mom p) (mom q) k ≡ true → k.class ≡ class
     support_class k at passed =
-        let begins = (both (same_name k.fact fact && is_by gap k.spot (mom p)) (lasts_to (contradicts_in s) gap (tokens s b) k (mom q) k.end) passed).0 in
+        let begins = (both (same_name k.fact fact && is_by gap k.spot (mom p)) (lasts_to of_one_class gap (tokens s b) k (mom q) k.end) passed).0 in
         let same = (both (same_name k.fact fact) (is_by gap k.spot (mom p)) begins).0 in
         let one : class_of s fact ≡ class = rw (in_class, class_of) refl in
         let (y, _, is) = In-filter_map (token_of s) b k at in
@@ -115,13 +119,16 @@ module _ {s : Standing} {net : Net} {f : Forest} (seen : IsForestOf s net f) {cl
     -- **The first row that supports a fact** is its first supporter.
     pub holder_is : (place : Option ℕ) → IsFirstPlace (on (λ k. k.spot) order) (supports of_one_class far rows fact p q) rows place
         → (d : TokenRow Spot) → option_map (λ i. mom (slice_index_or rows i d).spot) place ≡ holder s (far_in s.premises) b fact (mom p) (mom q)
-    holder_is = first_is (supports of_one_class far rows fact p q) (supports (contradicts_in s) gap (tokens s b) fact (mom p) (mom q)) (supports_same fact p q at_p at_q) support_class
+    holder_is place h d =
+        first_is (supports of_one_class far rows fact p q) (supports of_one_class gap (tokens s b) fact (mom p) (mom q)) (supports_same fact p q at_p at_q) support_class place h d
+        ∙ sym (ap (λ z. first_token s (far_in s.premises) b (supports z gap (tokens s b) fact (mom p) (mom q))) plain)
 
     -- **Some row supports a fact** exactly where some token does.
     pub support_is : list_any (supports of_one_class far rows fact p q) rows ≡ has_support s (far_in s.premises) b fact (mom p) (mom q)
     support_is =
-        some_of_rows order moment_order go rows (tokens s b) (supports of_one_class far rows fact p q) (supports (contradicts_in s) gap (tokens s b) fact (mom p) (mom q))
-        (same_rows (supports of_one_class far rows fact p q) (supports (contradicts_in s) gap (tokens s b) fact (mom p) (mom q)) (supports_same fact p q at_p at_q) support_class)
+        some_of_rows order moment_order go rows (tokens s b) (supports of_one_class far rows fact p q) (supports of_one_class gap (tokens s b) fact (mom p) (mom q))
+        (same_rows (supports of_one_class far rows fact p q) (supports of_one_class gap (tokens s b) fact (mom p) (mom q)) (supports_same fact p q at_p at_q) support_class)
+        ∙ sym (ap (λ z. list_any (supports z gap (tokens s b) fact (mom p) (mom q)) (tokens s b)) plain)
 
   -- where no token of its fact supports it, a row is no supporter
   pub no_support : (row : TokenRow Spot) → In row rows → (p q : Spot) → IsThere p → IsThere q
@@ -129,12 +136,12 @@ module _ {s : Standing} {net : Net} {f : Forest} (seen : IsForestOf s net f) {cl
   no_support row at p q at_p at_q none = by (passes (go row)) refl
     where
       passes : TokenRow Moment → Bool
-      passes = supports (contradicts_in s) gap (tokens s b) row.fact (mom p) (mom q)
+      passes = supports of_one_class gap (tokens s b) row.fact (mom p) (mom q)
 
       by : (v : Bool) → passes (go row) ≡ v → supports of_one_class far rows row.fact p q row ≡ false
       by false e = supports_same row.fact p q at_p at_q row at ∙ e
       by true e =
-          let nowhere : list_any passes (tokens s b) ≡ false = (no_first_token s (far_in s.premises) b passes).0 none in
+          let nowhere : list_any passes (tokens s b) ≡ false = (no_first_token s (far_in s.premises) b passes).0 (sym (ap (λ z. first_token s (far_in s.premises) b (supports z gap (tokens s b) row.fact (mom p) (mom q))) plain) ∙ none) in
           let somewhere : list_any passes (tokens s b) ≡ true = In-list_any passes (tokens s b) (go row) (row_there seen are holds row at) e in
           cc
 
@@ -151,14 +158,17 @@ module _ {s : Standing} {net : Net} {f : Forest} (seen : IsForestOf s net f) {cl
     -- **The first row that clips a row** is its clip.
     pub clip_is : (x : ℕ) → row.spot ≡ Node x → (place : Option ℕ) → IsClipPlace of_one_class far order rows row place
         → (d : TokenRow Spot) → option_map (λ i. mom (slice_index_or rows i d).spot) place ≡ clip (map_of s b) (moment_at f x)
-    clip_is x spot place h d = by row.end h ∙ sym (ap (option_and_then (clip_of (map_of s b))) (row_token seen are x row at spot))
+    clip_is x spot place h d =
+        by row.end h
+        ∙ sym (ap (λ z. elim (option_map mom row.end) as (λ _. Option Moment) [ Some e ↦ None | None ↦ first_believed (map_of s b) (clips z gap (go row)) ]) plain)
+        ∙ sym (ap (option_and_then (clip_of (map_of s b))) (row_token seen are x row at spot))
       where
         no_place : (place : Option ℕ) → IsNone place → option_map (λ i. mom (slice_index_or rows i d).spot) place ≡ None
         no_place None h = refl
         no_place (Some i) h = cc
 
         by : (o : Option Spot) → MatchOption o (IsFirstPlace (on (λ k. k.spot) order) (clips of_one_class far row) rows place) (λ _. IsNone place)
-            → option_map (λ i. mom (slice_index_or rows i d).spot) place ≡ elim (option_map mom o) [ Some e ↦ None | None ↦ first_believed (map_of s b) (clips (contradicts_in s) gap (go row)) ]
+            → option_map (λ i. mom (slice_index_or rows i d).spot) place ≡ elim (option_map mom o) [ Some e ↦ None | None ↦ first_believed (map_of s b) (clips of_one_class gap (go row)) ]
         by (Some e) h = no_place place h
         by None h =
             first_is (clips of_one_class far row) (clips of_one_class gap (go row))
@@ -178,7 +188,7 @@ module _ {s : Standing} {net : Net} {f : Forest} (seen : IsForestOf s net f) {cl
       pub ends_is : is_by far row.spot p ≡ true → IsSome row.end → fault (map_of s b) (mom p) (mom q) (go row) ≡ ends
       ends_is h e = let sure : is_by gap (go row).spot (mom p) ≡ true = sym begins ∙ h in rw (sure, fault) (by row.end e)
         where
-          by : (o : Option Spot) → IsSome o → elim (option_map mom o) [ Some e ↦ ends | None ↦ option_map_or clipped (first_believed (map_of s b) (cuts (contradicts_in s) gap (go row) (mom q))) ends ] ≡ ends
+          by : (o : Option Spot) → IsSome o → elim (option_map mom o) [ Some e ↦ ends | None ↦ option_map_or clipped (first_believed (map_of s b) (cuts of_one_class gap (go row) (mom q))) ends ] ≡ ends
           by None e = cc
           by (Some z) e = refl
 
@@ -187,13 +197,13 @@ module _ {s : Standing} {net : Net} {f : Forest} (seen : IsForestOf s net f) {cl
           → (d : TokenRow Spot) → fault (map_of s b) (mom p) (mom q) (go row) ≡ clipped (mom (slice_index_or rows c d).spot)
       clipped_is h e c first d = let sure : is_by gap (go row).spot (mom p) ≡ true = sym begins ∙ h in rw (sure, fault) (by row.end e)
         where
-          cut : Some (mom (slice_index_or rows c d).spot) ≡ first_believed (map_of s b) (cuts (contradicts_in s) gap (go row) (mom q))
+          cut : Some (mom (slice_index_or rows c d).spot) ≡ first_believed (map_of s b) (cuts of_one_class gap (go row) (mom q))
           cut =
               first_is (cuts of_one_class far row q) (cuts of_one_class gap (go row) (mom q))
               (λ a there. cuts_alike mom far gap IsThere same_far row q a (spots_there seen are row at).begin at_q (spots_there seen are a there).begin)
               (λ k _ passed. clip_class k (both (clips of_one_class gap (go row) k) (is_by gap k.spot (mom q)) passed).0) (Some c) first d
 
-          by : (o : Option Spot) → IsNone o → elim (option_map mom o) [ Some e ↦ ends | None ↦ option_map_or clipped (first_believed (map_of s b) (cuts (contradicts_in s) gap (go row) (mom q))) ends ] ≡ clipped (mom (slice_index_or rows c d).spot)
+          by : (o : Option Spot) → IsNone o → elim (option_map mom o) [ Some e ↦ ends | None ↦ option_map_or clipped (first_believed (map_of s b) (cuts of_one_class gap (go row) (mom q))) ends ] ≡ clipped (mom (slice_index_or rows c d).spot)
           by None e = sym (ap (λ o. option_map_or clipped o ends) cut)
           by (Some z) e = cc
 

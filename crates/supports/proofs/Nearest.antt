@@ -17,6 +17,7 @@ use Rattle.tmm_model.specs.Points.{same_name}
 use Rattle.tmm_model.specs.Standing.{Standing, far_in}
 use Rattle.tmm_model.specs.Tokens.{of_one_class, clips, is_before}
 use Rattle.list_theory.proofs.Elements.{In, both, In-from_Contains, Contains-from_In, In-filter_map, filter_map-In}
+use Rattle.belief_theory.proofs.ByClass.{by_class}
 use Rattle.belief_theory.proofs.Order.{ordered, total}
 use Rattle.walk_theory.proofs.Points.{same_name-is}
 use Rattle.clipping.specs.Lasts.{IsLastPlace}
@@ -56,6 +57,9 @@ module _ {s : Standing} {net : Net} {f : Forest} (seen : IsForestOf s net f) {b 
 
   abbrev far : Spot → Spot → Bound
   far = spot_distance net f
+
+  plain : contradicts_in s ≡ of_one_class
+  plain = by_class s seen.network.sound
 
   abbrev gap : Moment → Moment → Bound
   gap = distance s (far_in s.premises)
@@ -126,7 +130,7 @@ module _ {s : Standing} {net : Net} {f : Forest} (seen : IsForestOf s net f) {b 
 
     -- **The last that clips it among those behind** is the first that does.
     first_is : (place : Option ℕ) → IsLastPlace (clips of_one_class far row) rows place
-        → (d : TokenRow Spot) → option_map (λ i. mom (slice_index_or rows i d).spot) place ≡ first_believed (map_of s b) (clips (contradicts_in s) gap (go row))
+        → (d : TokenRow Spot) → option_map (λ i. mom (slice_index_or rows i d).spot) place ≡ first_believed (map_of s b) (clips of_one_class gap (go row))
     first_is place h d =
         sym (first_of_rows order moment_order go rows (tokens s b) (clips of_one_class far row) (clips of_one_class gap (go row)) (ordered s (far_in s.premises)) (tokens_spelt seen holds)
         (record { ranked = ranked; tested = tested; there = there; own = own }) place
@@ -164,18 +168,21 @@ module _ {s : Standing} {net : Net} {f : Forest} (seen : IsForestOf s net f) {b 
 
     nearest : (found : Option ℕ) → MatchOption row.end (IsLastNode (clips of_one_class far row) rows found) (λ _. IsNone found)
         → option_map (moment_at f) found ≡ clip (map_of s b) (moment_at f x)
-    nearest found h = by row.end h ∙ sym (ap (option_and_then (clip_of (map_of s b))) (token_there x row is))
+    nearest found h =
+        by row.end h
+        ∙ sym (ap (λ z. elim (option_map mom row.end) as (λ _. Option Moment) [ Some e ↦ None | None ↦ first_believed (map_of s b) (clips z gap (go row)) ]) plain)
+        ∙ sym (ap (option_and_then (clip_of (map_of s b))) (token_there x row is))
       where
         no_node : (found : Option ℕ) → IsNone found → option_map (moment_at f) found ≡ None
         no_node None h = refl
         no_node (Some y) h = cc
 
-        last : (found : Option ℕ) → IsLastNode (clips of_one_class far row) rows found → option_map (moment_at f) found ≡ first_believed (map_of s b) (clips (contradicts_in s) gap (go row))
+        last : (found : Option ℕ) → IsLastNode (clips of_one_class far row) rows found → option_map (moment_at f) found ≡ first_believed (map_of s b) (clips of_one_class gap (go row))
         last None h = first_is None h no_row
         last (Some y) (i, at, spot) = ap (λ p. Some (mom p)) (sym (spot no_row)) ∙ first_is (Some i) at no_row
 
         by : (o : Option Spot) → MatchOption o (IsLastNode (clips of_one_class far row) rows found) (λ _. IsNone found)
-            → option_map (moment_at f) found ≡ elim (option_map mom o) [ Some e ↦ None | None ↦ first_believed (map_of s b) (clips (contradicts_in s) gap (go row)) ]
+            → option_map (moment_at f) found ≡ elim (option_map mom o) [ Some e ↦ None | None ↦ first_believed (map_of s b) (clips of_one_class gap (go row)) ]
         by (Some e) h = no_node found h
         by None h = last found h
 
