@@ -14,7 +14,7 @@ use Rattle.tmm_model.specs.Points.{same_name}
 use Rattle.belief_theory.specs.Right.{Occurs}
 use Rattle.list_theory.specs.WellNamed.{IsSound}
 use Rattle.tmm_model.specs.Standing.{Standing, far_in}
-use Rattle.belief_theory.specs.Touched.{same_tokens, watched, watched_points, same_gaps, is_decision}
+use Rattle.belief_theory.specs.Touched.{is_watched, same_tokens, watched, watched_points, same_gaps, is_decision}
 use Rattle.list_theory.proofs.Elements.{In, In-from_Contains, Contains-from_In, In-filter, filter-In, In-filter_map, filter_map-In, flat_map-In, map-In, In-list_any, list_any-In}
 use Rattle.belief_theory.proofs.NextLists.{one_way, found_within}
 use Rattle.belief_theory.proofs.Moments.{Decides-same_moment}
@@ -24,7 +24,7 @@ use Rattle.belief_theory.proofs.SoundBeliefs.{sound_timed, believed_right, belie
 use Rattle.belief_theory.proofs.Spelt.{spelt}
 use Rattle.belief_theory.proofs.ByClass.{by_class}
 use Rattle.belief_theory.proofs.Untouched.{was_decision, untouched_alike, untouched_stood}
-use Rattle.revisions.specs.Maps.{is_watched, watches, revision}
+use Rattle.revisions.specs.Maps.{watches, revision}
 use Rattle.revisions.specs.Revisions.{Revision, is_firing, IsOf, AreOf, AgreeFor, Belongs, IsNew, IsLost, IsLawful}
 use Rattle.tmm_model.specs.Tokens.{is_by}
 use Rattle.belief_theory.proofs.Order.{IsSpelt}

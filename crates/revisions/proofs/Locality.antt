@@ -14,13 +14,13 @@ use Rattle.belief_theory.specs.Outcomes.{Outcome, beyond, tried, outcome}
 use Rattle.tmm_model.specs.Firsts.{earliest, first}
 use Rattle.tmm_model.specs.Moments.{Moment, Distances, distance, occ_cmp, read_by, rule_of}
 use Rattle.tmm_model.specs.Points.{same_name}
+use Rattle.belief_theory.specs.Touched.{is_watched}
 use Rattle.tmm_model.specs.Standing.{Standing}
 use Rattle.tmm_model.specs.Tokens.{of_one_class, is_by, is_before, clips, cuts, lasts_to, supports}
 use Rattle.list_theory.proofs.Elements.{In, both, list_any-In, In-list_any, In-filter, filter-In, In-filter_map, In-left, In-right}
 use Rattle.belief_theory.proofs.Firsts.{least_is, one_spot}
 use Rattle.belief_theory.proofs.Order.{IsSpelt, ordered}
 use Rattle.belief_theory.proofs.Watched.{class-token_of}
-use Rattle.revisions.specs.Maps.{is_watched}
 
 module _ (s : Standing) (plain : contradicts_in s ≡ of_one_class) (far : Distances) (t : Moment) (r : List ℕ) where
   abbrev gap : Moment → Moment → Bound

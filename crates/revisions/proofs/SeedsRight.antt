@@ -19,7 +19,7 @@ use Rattle.tmm_model.specs.Moments.{Moment, At, After, same_moment, rule_of}
 use Rattle.list_theory.specs.WellNamed.{IsSound}
 use Rattle.belief_theory.specs.Right.{Occurs}
 use Rattle.tmm_model.specs.Standing.{Standing, far_in}
-use Rattle.belief_theory.specs.Touched.{same_bound, same_token, are_within, same_tokens, watched, watched_points, same_gaps, is_decision, is_touched}
+use Rattle.belief_theory.specs.Touched.{is_watched, same_bound, same_token, are_within, same_tokens, watched, watched_points, same_gaps, is_decision, is_touched}
 use Rattle.list_theory.proofs.Elements.{In, In-from_Contains, Contains-from_In, In-filter, filter-In, In-filter_map, filter_map-In, In-list_any, In-map, map-In, In-left, In-right, In-cases}
 use Rattle.belief_theory.proofs.Moments.{Decides-same_moment}
 use Rattle.belief_theory.proofs.OneRight.{spot-token_of}
@@ -31,7 +31,6 @@ use Rattle.belief_theory.proofs.ByClass.{by_class}
 use Rattle.belief_theory.proofs.Untouched.{Alike, untouched_alike, untouched_stood, outcome_alike}
 use Rattle.spots.specs.OfLists.{map_of}
 use Rattle.revisions.specs.Counted.{AreSeeds}
-use Rattle.revisions.specs.Maps.{is_watched}
 use Rattle.revisions.proofs.Lawful.{text, watched_back, decided}
 use Rattle.revisions.proofs.Tokens.{tokens_stay}
 
