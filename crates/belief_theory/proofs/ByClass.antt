@@ -1,5 +1,5 @@
 -- As long as no line says so, no two facts of two classes contradict each other.
-use Rattle.std.proofs.Common.{◌≡◌, ◌∙◌, ℕ, Bool, true, false, ◌||◌, List, refl, ap}
+use Rattle.std.proofs.Common.{◌≡◌, ◌∙◌, ℕ, Bool, true, false, not, ◌&&◌, ◌||◌, List, refl, ap}
 use Rattle.std.specs.List.{list_any}
 use Rattle.std.proofs.lemmas.List.Elements.{All-contains}
 use Rattle.tmm_model.specs.declared.premise.Premise.{Premise}
@@ -8,6 +8,7 @@ use Rattle.tmm_model.specs.declared.token.TokenRow.{TokenRow}
 use Rattle.tmm_model.specs.Beliefs.{says_against, are_rivals, contradicts_in}
 use Rattle.tmm_model.specs.Lines.{IsWellFormedPremise}
 use Rattle.tmm_model.specs.Moments.{Moment}
+use Rattle.tmm_model.specs.Points.{same_name}
 use Rattle.tmm_model.specs.Standing.{Standing}
 use Rattle.tmm_model.specs.Tokens.{of_one_class}
 use Rattle.list_theory.specs.WellNamed.{IsSound}
@@ -26,10 +27,14 @@ says_nothing f g (Protect name fact from to) h = refl
 says_nothing f g (Against name one other) h = absurd h
 
 pub no_rivals : (s : Standing) → IsSound s → (f g : List ℕ) → are_rivals s f g ≡ false
-no_rivals s sound f g = by (are_rivals s f g) refl
+no_rivals s sound f g = neither (not (same_name f g)) (by (list_any (says_against f g) s.premises) refl)
   where
-    by : (b : Bool) → are_rivals s f g ≡ b → b ≡ false
-    by false e = refl
+    neither : (a : Bool) {b : Bool} → b ≡ false → (a && b) ≡ false
+    neither true e = e
+    neither false e = refl
+
+    by : (b : Bool) → list_any (says_against f g) s.premises ≡ b → list_any (says_against f g) s.premises ≡ false
+    by false e = e
     by true e =
         let (p, at, says) = list_any-In (says_against f g) s.premises e in
         let nothing = says_nothing f g p (All-contains IsWellFormedPremise s.premises p sound.well_formed (Contains-from_In s.premises p at)) in

@@ -1,5 +1,5 @@
 -- Lists with the same premises of those that beliefs read say the same of all that beliefs read.
-use Rattle.std.proofs.Common.{◌≡◌, ◌∙◌, ℕ, Bool, true, false, ◌||◌, cond, List, [], ◌∷◌, ◌++◌, refl, sym, ap, subst, inl, inr}
+use Rattle.std.proofs.Common.{◌≡◌, ◌∙◌, ℕ, Bool, true, false, not, ◌&&◌, ◌||◌, cond, List, [], ◌∷◌, ◌++◌, refl, sym, ap, subst, inl, inr}
 use Rattle.std.specs.Prelude.{Option, Some, None}
 use Rattle.std.specs.List.{list_any, filter_map, cons_option}
 use Rattle.std.specs.Map.{lookup}
@@ -225,6 +225,7 @@ module _ (s t : Standing) (named_s : IsWellNamed s.premises) (named_t : IsWellNa
     class = λ fact.
         ap (λ o. elim o as (λ _. List ℕ) [ Some class ↦ class | None ↦ [] ]) (class_read fact s.premises ∙ ap (λ ps. class_in ps fact) same ∙ sym (class_read fact t.premises));
     rivals = λ f g.
-        any_read (says_against f g) (no_rivalry f g) s.premises ∙ ap (list_any (says_against f g)) same ∙ sym (any_read (says_against f g) (no_rivalry f g) t.premises);
+        ap (λ b. not (same_name f g) && b)
+        (any_read (says_against f g) (no_rivalry f g) s.premises ∙ ap (list_any (says_against f g)) same ∙ sym (any_read (says_against f g) (no_rivalry f g) t.premises));
     horizon = horizon;
   }

@@ -77,9 +77,9 @@ abbrev pub says_against : List ℕ → List ℕ → Premise → Bool
 says_against f g (Against name one other) = (same_name one f && same_name other g) || (same_name one g && same_name other f)
 says_against f g _ = false
 
--- whether a premise says that the two facts contradict each other
+-- whether a premise says that the two facts, which differ, contradict each other
 abbrev pub are_rivals : Standing → List ℕ → List ℕ → Bool
-are_rivals s f g = list_any (says_against f g) s.premises
+are_rivals s f g = not (same_name f g) && list_any (says_against f g) s.premises
 
 -- **Which tokens contradict each other**: those of two different facts of one class, and those of
 -- two facts of which a premise says so.
