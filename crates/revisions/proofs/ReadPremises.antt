@@ -8,7 +8,7 @@ use Rattle.std.specs.Cmp.Lexicographic.{bytes_decides}
 use Rattle.tmm_model.specs.declared.premise.Premise.{Premise}
 use Rattle.tmm_model.specs.declared.premise.Premise.TheVariants.{Class, Kind, Point, Event, Token, Span, Dist, Rule, Protect, Against}
 use Rattle.tmm_model.specs.declared.point.PointName.TheVariants.{Start, Begin, End}
-use Rattle.tmm_model.specs.Beliefs.{as_root, as_effect, is_of, root_of, on_kind, says_against}
+use Rattle.tmm_model.specs.Beliefs.{as_root, as_effect, is_of, root_of, on_kind, class_of, says_against, are_rivals}
 use Rattle.tmm_model.specs.Moments.{Moment, At, After, as_rule, rule_of}
 use Rattle.tmm_model.specs.Points.{same_name}
 use Rattle.tmm_model.specs.Sorts.{Sort, a_point, a_dist, a_protection, declarations_of, declarations_in, declared_by, sort_in, class_in}
@@ -216,16 +216,22 @@ module _ (s t : Standing) (named_s : IsWellNamed s.premises) (named_t : IsWellNa
       ∙ sym (found_read as_root no_root_found [] t.premises named_t k)
   is_same (After u r) = ap Some (ap (λ x. as_effect x (sort_in s.premises x)) (λ i. (rule_same r i).effect) ∙ effect_same (rule_of t r).effect)
 
+  class_same : (fact : List ℕ) → class_of s fact ≡ class_of t fact
+  class_same fact =
+      ap (λ o. elim o as (λ _. List ℕ) [ Some class ↦ class | None ↦ [] ]) (class_read fact s.premises ∙ ap (λ ps. class_in ps fact) same ∙ sym (class_read fact t.premises))
+
+  rivals_same : (f g : List ℕ) → are_rivals s f g ≡ are_rivals t f g
+  rivals_same f g =
+      ap (λ b. not (same_name f g) && b)
+      (any_read (says_against f g) (no_rivalry f g) s.premises ∙ ap (list_any (says_against f g)) same ∙ sym (any_read (says_against f g) (no_rivalry f g) t.premises))
+
   pub same_read : s.horizon ≡ t.horizon → SayAlike s t
   same_read horizon = record {
     declared = filter_map_read root_of no_root s.premises ∙ ap (filter_map root_of) same ∙ sym (filter_map_read root_of no_root t.premises);
     is = is_same;
     on = λ kind. filter_map_read (on_kind kind) (no_rule kind) s.premises ∙ ap (filter_map (on_kind kind)) same ∙ sym (filter_map_read (on_kind kind) (no_rule kind) t.premises);
     rule = rule_same;
-    class = λ fact.
-        ap (λ o. elim o as (λ _. List ℕ) [ Some class ↦ class | None ↦ [] ]) (class_read fact s.premises ∙ ap (λ ps. class_in ps fact) same ∙ sym (class_read fact t.premises));
-    rivals = λ f g.
-        ap (λ b. not (same_name f g) && b)
-        (any_read (says_against f g) (no_rivalry f g) s.premises ∙ ap (list_any (says_against f g)) same ∙ sym (any_read (says_against f g) (no_rivalry f g) t.premises));
+    class = class_same;
+    contradict = λ f g i. (same_name (class_same f i) (class_same g i) && not (same_name f g)) || rivals_same f g i;
     horizon = horizon;
   }

@@ -10,26 +10,27 @@ use Rattle.tmm_model.specs.declared.premise.Premise.{Premise}
 use Rattle.tmm_model.specs.declared.premise.Premise.TheVariants.{Point, Dist, Protect}
 use Rattle.tmm_model.specs.declared.token.Shape.TheVariants.{Span}
 use Rattle.tmm_model.specs.Answers.{rows, size, clip}
-use Rattle.tmm_model.specs.Beliefs.{roots, is_of, rules_on, class_of, are_rivals}
+use Rattle.tmm_model.specs.Beliefs.{roots, is_of, rules_on, class_of}
 use Rattle.tmm_model.specs.Changes.{Delta, changes}
 use Rattle.tmm_model.specs.Edits.{next_list}
 use Rattle.tmm_model.specs.Maps.{built, gap, believed_tokens}
 use Rattle.tmm_model.specs.Moments.{Moment, At, rule_of, early}
 use Rattle.tmm_model.specs.Standing.{Standing, far_in, premise_in}
 use Rattle.list_theory.specs.WellNamed.{IsWellNamed}
+use Rattle.belief_theory.specs.Touched.{contradict}
 
 -- ---- alike lists
 
 -- Both lists say the same, distances aside: what is declared to occur, what an occurrence is, which
--- rules are on a kind, what a rule says, the class of a fact, of which facts a premise says that
--- they contradict each other, and the horizon.
+-- rules are on a kind, what a rule says, the class of a fact, which facts contradict each other, and
+-- the horizon.
 pub record SayAlike (s t : Standing) : Type 0 where
   pub declared : roots s ≡ roots t
   pub is : (x : Moment) → is_of s x ≡ is_of t x
   pub on : (kind : List ℕ) → rules_on s kind ≡ rules_on t kind
   pub rule : (r : List ℕ) → rule_of s r ≡ rule_of t r
   pub class : (fact : List ℕ) → class_of s fact ≡ class_of t fact
-  pub rivals : (f g : List ℕ) → are_rivals s f g ≡ are_rivals t f g
+  pub contradict : (f g : List ℕ) → contradict s f g ≡ contradict t f g
   pub horizon : s.horizon ≡ t.horizon
 
 -- the points whose distances beliefs read: `start`, where what is declared to occur begins, and

@@ -73,13 +73,13 @@ pub fn revisions_are_right()
     ensures { RevisionsAreRight }
 {}
 
-/// A token keeps its clip where the tokens of its class are the same, as far apart.
+/// A token keeps its clip where what contradicts it is the same, as far from it.
 pub fn clips_stay()
     ensures { ClipsStay }
 {}
 
-/// A token keeps its clip where no token of its class entered, none that stays moved, and what
-/// clipped it stays.
+/// A token keeps its clip where nothing that contradicts it entered, none of it that stays moved,
+/// and what clipped it stays.
 pub fn clips_stay_on()
     ensures { ClipsStayOn }
 {}
