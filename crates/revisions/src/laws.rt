@@ -2,7 +2,7 @@
 ghost use Rattle.revisions.specs.Laws.{NodesAreFinal, EndIsBelieved, MadeAreTouched, ChangedWereMade, TurnsKeep, SeedsKeep, ToldIsChanged};
 ghost use Rattle.revisions.specs.Maps.{EditsAreLawful};
 ghost use Rattle.revisions.specs.Standing.{StandingOccur};
-ghost use Rattle.revisions.specs.Alike.{AlikeBelieve, SameReadSayAlike, UnreadEditsSayAlike};
+ghost use Rattle.revisions.specs.Alike.{AlikeBelieve, SameReadSayAlike, UnreadEditsSayAlike, IdleEditsSayAlike};
 ghost use Rattle.revisions.specs.Clips.{ClipsStay, ClipsStayOn};
 ghost use Rattle.revisions.specs.Shifts.{ShiftsKeep};
 ghost use Rattle.revisions.specs.Ruling.{UnruledEditsKeepRules};
@@ -103,6 +103,12 @@ pub fn same_read_say_alike()
 /// distances.
 pub fn unread_edits_say_alike()
     ensures { UnreadEditsSayAlike }
+{}
+
+/// An edit that adds or erases a premise that says of two facts that they contradict each other,
+/// which they do all the same, changes nothing of what beliefs read.
+pub fn idle_edits_say_alike()
+    ensures { IdleEditsSayAlike }
 {}
 
 /// An edit that adds no rule, and erases no rule, kind or class, leaves the rules on each kind as
