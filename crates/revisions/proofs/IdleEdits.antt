@@ -1,5 +1,5 @@
--- An edit that adds or erases a premise that says of two facts that they contradict each other, which
--- they do all the same, changes nothing of what beliefs read.
+-- An edit that adds or erases a premise that says of two facts that they contradict each other,
+-- which they do all the same, changes nothing of what beliefs read.
 use Rattle.std.proofs.Common.{◌≡◌, ◌∙◌, ℕ, Bool, true, false, not, ◌&&◌, ◌||◌, cond, List, [], ◌∷◌, ◌++◌, refl, sym, ap, subst, inl, inr}
 use Rattle.std.specs.Prelude.{Option, Some, None, filter}
 use Rattle.std.specs.List.{list_any}
