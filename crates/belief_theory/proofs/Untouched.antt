@@ -56,8 +56,8 @@ pub record Alike (m n : TimeMap) (t : Moment) (r : List ℕ) : Type 0 where
   pub into : (k : TokenRow Moment) → In k (watched m r) → In k (watched n r)
   pub back : (k : TokenRow Moment) → In k (watched n r) → In k (watched m r)
   pub gaps : (p q : Moment) → In p (watched_points m t r) → In q (watched_points m t r) → gap m p q ≡ gap n p q
-  -- watched tokens of which one is of a fact that the rule reads contradict each other in both or in
-  -- neither
+  -- watched tokens of which one is of a fact that the rule reads contradict each other in both or
+  -- in neither
   pub contradict : (k c : TokenRow Moment) → In k (watched m r) → In c (watched m r) → In k.fact (read_by (rule_of m.list r)) → contradicts_in m.list k c ≡ contradicts_in n.list k c
 
 turned : (m n : TimeMap) (t : Moment) (r : List ℕ) → Alike m n t r → Alike n m t r

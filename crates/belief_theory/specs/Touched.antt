@@ -82,8 +82,8 @@ is_decision m d = list_any (λ e. same_moment e.0 d.0 && same_name e.1 d.1) (dec
 
 module _ (old new : TimeMap) where
   -- **A decision of the new map is touched** where it is none of the old one, where the horizons
-  -- differ, where other facts contradict one that it reads, where the tokens that it watches differ,
-  -- or where a distance among them, its event and `start` does.
+  -- differ, where other facts contradict one that it reads, where the tokens that it watches
+  -- differ, or where a distance among them, its event and `start` does.
   abbrev pub is_touched : Moment × List ℕ → Bool
   is_touched d =
       not (is_decision old d)
