@@ -61,9 +61,6 @@ blame-requires-clause-no_supporter c =
     (λ n there. sym (c.row-row.ensures n there).what) m here c.args.p c.args.q c.requires.p c.requires.q b holds
     (subst (λ w. holder c.args.standing.now.present (far_in c.args.standing.now.present.premises) b w (spot_moment c.args.net.now.present.names (forest c.args.tree.now) c.args.p) (spot_moment c.args.net.now.present.names (forest c.args.tree.now) c.args.q) ≡ None) (sym (c.row-row.ensures m here).what) none)
 
-pub list-in-Clipped-requires-clause-within : goal.list-in-Clipped-requires-clause-within
-list-in-Clipped-requires-clause-within c = (cutter_placed c.args.standing.now.present c.args.net.now.present (forest c.args.tree.now) (present c.args.tree.now).tokens c.row-row.result.what c.in-Some.class c.place_of-at.result c.args.p c.args.q c.in-Clipped.c (subst (λ (rows : List (TokenRow Spot)). c.place_of-at.result < length rows) c.list.ensures c.place_of-at.ensures.within) c.in-Clipped.ensures).list
-
 pub node_at-requires-clause-within : goal.node_at-requires-clause-within
 node_at-requires-clause-within c =
     subst (λ (rows : List (TokenRow Spot)). c.in-Clipped.c.at < length rows) (sym c.list-in-Clipped.ensures)

@@ -68,11 +68,6 @@ returns-in_err-clipper-clause-clip c b seen holds =
     (λ d. subst (λ (rows : List (TokenRow Spot)). (slice_index_or rows at d).spot ≡ Node c.args.x) c.list.ensures (c.place_of-at.ensures.at d))
     (λ n there. sym (c.row-row.ensures n there).what) m here b holds None c.in_err-clipper.ensures
 
-pub list-2-requires-clause-within : goal.list-2-requires-clause-within
-list-2-requires-clause-within c =
-    (clipper_placed c.args.standing.now.present c.args.net.now.present (forest c.args.tree.now) (present c.args.tree.now).tokens c.row-row.result.what c.in_ok-class.class c.place_of-at.result c.in_ok-clipper.clipper
-    (subst (λ (rows : List (TokenRow Spot)). c.place_of-at.result < length rows) c.list.ensures c.place_of-at.ensures.within) c.in_ok-clipper.ensures).list
-
 pub node_at-requires-clause-within : goal.node_at-requires-clause-within
 node_at-requires-clause-within c =
     subst (λ (rows : List (TokenRow Spot)). c.in_ok-clipper.clipper.at < length rows) (sym c.list-2.ensures)
