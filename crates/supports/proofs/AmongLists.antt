@@ -1,8 +1,8 @@
 -- What clipping answers over the lists of a fact is what the list answers of its tokens, where
 -- facts of other classes contradict it too.
-use Rattle.std.proofs.Common.{◌≡◌, ◌∙◌, ℕ, zero, suc, ◌<◌, Bool, true, false, not, ◌&&◌, ◌||◌, List, [], ◌∷◌, ◌++◌, map, length, inl, inr, refl, sym, ap, subst, arith}
-use Rattle.std.specs.Prelude.{◌≢◌, ◌⊎◌, Option, Some, None, IsNone, IsSome, MatchOption, pos, negsuc, slice_get, slice_index_or, unwrap_or}
-use Rattle.std.specs.List.{list_any, flat_map, Contains}
+use Rattle.std.proofs.Common.{◌≡◌, ◌∙◌, ℕ, zero, suc, ◌<◌, Bool, true, false, not, ◌&&◌, List, [], map, length, inl, inr, refl, sym, ap, subst, arith}
+use Rattle.std.specs.Prelude.{◌≢◌, ◌⊎◌, Option, Some, None, IsNone, IsSome, MatchOption, slice_get, slice_index_or, unwrap_or}
+use Rattle.std.specs.List.{list_any, Contains}
 use Rattle.std.specs.Option.{option_map, option_map_or, option_and_then, ForSome}
 use Rattle.std.specs.Ordering.{on}
 use Rattle.std.specs.declared.cmp.Ordering.{Ordering}
@@ -12,9 +12,8 @@ use Rattle.tmm_model.specs.declared.bound.Bound.{Bound}
 use Rattle.tmm_model.specs.declared.premise.Premise.{Premise}
 use Rattle.tmm_model.specs.declared.premise.Premise.TheVariants.{Class, Kind, Point, Event, Token, Span, Dist, Rule, Protect, Against}
 use Rattle.tmm_model.specs.declared.token.TokenRow.{TokenRow}
-use Rattle.tmm_model.specs.Answers.{Fault, clip, clip_of, fault, first_believed, late, clipped, ends}
+use Rattle.tmm_model.specs.Answers.{clip, clip_of, fault, first_believed, late, clipped, ends}
 use Rattle.tmm_model.specs.Beliefs.{tokens, token_of, class_of, says_against, are_rivals, contradicts_in, first_token, has_support, holder}
-use Rattle.tmm_model.specs.Bounds.{bound_at_most}
 use Rattle.tmm_model.specs.Moments.{Moment, distance, occ_cmp}
 use Rattle.tmm_model.specs.Points.{same_name}
 use Rattle.tmm_model.specs.Sorts.{class_in, fact_use, uses_of}
@@ -32,10 +31,10 @@ use Rattle.clipping.specs.Across.{list_at, all_of, at_place, IsClassList, IsFirs
 use Rattle.clipping.specs.Rivals.{of_rivals}
 use Rattle.dist_net.specs.Net.{Net}
 use Rattle.spots.proofs.Nodes.{live_at}
-use Rattle.spots.proofs.Seen.{IsRowOf, distance_is, order_is}
+use Rattle.spots.proofs.Seen.{distance_is, order_is}
 use Rattle.spots.specs.declared.spot.Spot.{Spot}
 use Rattle.spots.specs.declared.spot.Spot.TheVariants.{Node}
-use Rattle.spots.specs.Forest.{Forest, Member, member, moment_at}
+use Rattle.spots.specs.Forest.{Forest, moment_at}
 use Rattle.spots.specs.OfLists.{IsForestOf, HasOccurrences, map_of}
 use Rattle.spots.specs.Spots.{IsSpot, spot_moment, spot_distance, spot_cmp, AreTokens, row_moment}
 use Rattle.supports.specs.ClassTokens.{other_in, class_against, of_other, class_lists}
@@ -44,8 +43,8 @@ use Rattle.supports.proofs.Facts.{fact_known}
 use Rattle.supports.proofs.FirstRows.{IsSame, first_of_rows, some_of_rows}
 use Rattle.supports.proofs.Moved.{by_alike, before_alike}
 use Rattle.supports.proofs.NoRivals.{differ_back, not_true, or_cases}
-use Rattle.supports.proofs.SeveralLists.{first_of_all, among_all}
-use Rattle.supports.proofs.TokenRows.{no_row, node_of, spots_there, row_there, row_of, row_token, tokens_spelt}
+use Rattle.supports.proofs.SeveralLists.{first_of_all}
+use Rattle.supports.proofs.TokenRows.{node_of, spots_there, row_there, row_of, row_token, tokens_spelt}
 
 -- a value that is read of what was found is that which was read of the place
 mapped : {A B C : Type 0} (h : A → B) (g : B → C) (o : Option A) → option_map (λ x. g (h x)) o ≡ option_map g (option_map h o)
@@ -319,8 +318,6 @@ module _ {s : Standing} {net : Net} {f : Forest} (seen : IsForestOf s net f) {b 
       → supports spot_contradicts far every fact p q a ≡ supports (contradicts_in s) gap (tokens s b) fact (mom p) (mom q) (go a)
   supports_same p q at_p at_q a at = by (same_name a.fact fact) refl
     where
-
-
       begins : is_by far a.spot p ≡ is_by gap (mom a.spot) (mom p)
       begins = by_alike mom far gap IsThere same_far a.spot p (spots_there seen (are class) a at).begin at_p
 
@@ -371,7 +368,7 @@ module _ {s : Standing} {net : Net} {f : Forest} (seen : IsForestOf s net f) {b 
     -- what is first in the lists is first of the tokens
     first_place : (test : TokenRow Spot → Bool) (passes : TokenRow Moment → Bool) → ((a : TokenRow Spot) → In a every → test a ≡ passes (go a)) → ((t : TokenRow Moment) → passes t ≡ true → contradicts_in s (go row) t ≡ true)
         → (place : Option Place) → MatchOption place ((i j : ℕ) (d : TokenRow Spot) → i < length (lists s rows_in fact class) → j < length (list_at (lists s rows_in fact class) i) → test (slice_index_or (list_at (lists s rows_in fact class) i) j d) ≡ false)
-          (IsFirstInLists (on (λ k. k.spot) order) test (lists s rows_in fact class) (length (lists s rows_in fact class)))
+        (IsFirstInLists (on (λ k. k.spot) order) test (lists s rows_in fact class) (length (lists s rows_in fact class)))
         → (d : TokenRow Spot) → option_map (λ p. mom (at_place (lists s rows_in fact class) p d).spot) place ≡ first_token s (far_in s.premises) b passes
     first_place test passes tested contradict place h d =
         let (found, first, same) = first_of_all (lists s rows_in fact class) (on (λ k. k.spot) order) test d place h in
@@ -389,7 +386,7 @@ module _ {s : Standing} {net : Net} {f : Forest} (seen : IsForestOf s net f) {b 
 
         by : (o : Option Spot)
             → MatchOption o (MatchOption place ((i j : ℕ) (d : TokenRow Spot) → i < length (lists s rows_in fact class) → j < length (list_at (lists s rows_in fact class) i) → clips spot_contradicts far row (slice_index_or (list_at (lists s rows_in fact class) i) j d) ≡ false)
-                (IsFirstInLists (on (λ k. k.spot) order) (clips spot_contradicts far row) (lists s rows_in fact class) (length (lists s rows_in fact class)))) (λ _. IsNone place)
+            (IsFirstInLists (on (λ k. k.spot) order) (clips spot_contradicts far row) (lists s rows_in fact class) (length (lists s rows_in fact class)))) (λ _. IsNone place)
             → option_map (λ p. mom (at_place (lists s rows_in fact class) p d).spot) place ≡ elim (option_map mom o) [ Some e ↦ None | None ↦ first_believed (map_of s b) (clips (contradicts_in s) gap (go row)) ]
         by (Some e) h = no_place place h
         by None h =

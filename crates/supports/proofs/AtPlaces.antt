@@ -1,6 +1,6 @@
 -- The clip and the faults of a token at a place of the first list of its fact.
-use Rattle.std.proofs.Common.{◌≡◌, ◌∙◌, ℕ, zero, suc, ◌<◌, Bool, true, false, List, [], ◌∷◌, length, refl, sym, ap, subst, arith}
-use Rattle.std.specs.Prelude.{Option, Some, None, IsSome, IsNone, IfSome, MatchOption, slice_get, slice_index_or}
+use Rattle.std.proofs.Common.{◌≡◌, ◌∙◌, ℕ, ◌<◌, false, List, length, sym, ap, subst}
+use Rattle.std.specs.Prelude.{Option, Some, None, IsNone, IfSome, MatchOption, slice_get, slice_index_or}
 use Rattle.std.specs.Option.{option_map, ForSome}
 use Rattle.std.specs.Ordering.{on}
 use Rattle.std.proofs.lemmas.Option.{slice_get-get_or}
@@ -14,7 +14,7 @@ use Rattle.list_theory.proofs.Elements.{In}
 use Rattle.clipping.specs.declared.across.Place.{Place}
 use Rattle.clipping.specs.declared.across.Fault.{Fault as PlaceFault}
 use Rattle.clipping.specs.declared.across.Fault.TheVariants.{Late, Clipped, Ends}
-use Rattle.clipping.specs.Across.{list_at, all_of, at_place, IsPlace, IsFirstInLists, IsClipPlace, IsFault}
+use Rattle.clipping.specs.Across.{all_of, at_place, IsPlace, IsFirstInLists, IsClipPlace, IsFault}
 use Rattle.clipping.specs.Rivals.{of_rivals}
 use Rattle.dist_net.specs.Net.{Net}
 use Rattle.spots.specs.declared.spot.Spot.{Spot}

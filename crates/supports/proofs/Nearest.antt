@@ -11,7 +11,7 @@ use Rattle.std.proofs.lemmas.List.{drop_more, take-append-drop}
 use Rattle.tmm_model.specs.declared.bound.Bound.{Bound}
 use Rattle.tmm_model.specs.declared.token.TokenRow.{TokenRow}
 use Rattle.tmm_model.specs.Answers.{clip, clip_of, first_believed}
-use Rattle.tmm_model.specs.Beliefs.{tokens, token_of, contradicts_in}
+use Rattle.tmm_model.specs.Beliefs.{tokens, token_of}
 use Rattle.tmm_model.specs.Moments.{Moment, base, distance, occ_cmp}
 use Rattle.tmm_model.specs.Points.{same_name}
 use Rattle.tmm_model.specs.Standing.{Standing, far_in}

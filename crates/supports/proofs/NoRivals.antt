@@ -10,7 +10,7 @@ use Rattle.tmm_model.specs.Moments.{Moment}
 use Rattle.tmm_model.specs.Points.{same_name}
 use Rattle.tmm_model.specs.Standing.{Standing}
 use Rattle.tmm_model.specs.Tokens.{of_one_class, supports, clips, cuts, is_by, is_before, lasts_to}
-use Rattle.list_theory.proofs.Elements.{In, both, list_any-In, In-list_any}
+use Rattle.list_theory.proofs.Elements.{both, list_any-In, In-list_any}
 use Rattle.walk_theory.proofs.Points.{same_name-is, same_name-self}
 use Rattle.premise_list.specs.Rivalries.{rivalries, is_pair_of, sets_against, has_rivals}
 use Rattle.premise_list.proofs.PairsOfFacts.{any_pair}

@@ -1,5 +1,5 @@
 -- Elements of several lists, as elements of one.
-use Rattle.std.proofs.Common.{◌≡◌, ◌∙◌, ℕ, ◌<◌, Bool, true, false, List, [], length, refl, sym, ap, subst}
+use Rattle.std.proofs.Common.{◌≡◌, ◌∙◌, ℕ, ◌<◌, Bool, false, List, [], length, refl, sym, ap, subst}
 use Rattle.std.specs.Prelude.{Option, Some, None, IsTrue, slice_index_or}
 use Rattle.std.specs.Option.{option_map}
 use Rattle.std.specs.declared.cmp.Ordering.{Ordering}
@@ -9,7 +9,7 @@ use Rattle.std.proofs.lemmas.List.Elements.{Contains-get_or}
 use Rattle.belief_theory.specs.FirstPlaces.{IsFirstPlace}
 use Rattle.list_theory.proofs.Elements.{In, In-from_Contains, Contains-from_In, In-flat_map, flat_map-In}
 use Rattle.clipping.specs.declared.across.Place.{Place}
-use Rattle.clipping.specs.Across.{list_at, all_of, at_place, IsFirstInLists, IsFirstPlaceOfAll}
+use Rattle.clipping.specs.Across.{list_at, all_of, at_place, IsFirstPlaceOfAll}
 
 module _ {A : Type 0} (lists : List (List A)) where
   -- what stands in a list is among all

@@ -94,7 +94,17 @@ pub fn class_clips(
         later = count_later(behind.len(), later, last, date);
         last = date;
         let asked = &behind[..later];
-        let clip = class_clip(alloc, standing, tree, net, rows, i, wanted[i], asked, &mut branches)?;
+        let clip = class_clip(
+            alloc,
+            standing,
+            tree,
+            net,
+            rows,
+            i,
+            wanted[i],
+            asked,
+            &mut branches,
+        )?;
         clips[i] = clip;
         let first = stretch_behind(&behind, &row.fact);
         behind.push_reserved(Stretched { row, first });

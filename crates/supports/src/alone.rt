@@ -23,6 +23,7 @@ ghost use Rattle.occ_tree.specs.Standing.{present};
 ghost use Rattle.supports.specs.Faults.{fault_at};
 ghost use Rattle.supports.specs.Nodes.{IsOfNode, HasNode};
 ghost use Rattle.premise_list.specs.Rivalries.{has_rivals};
+
 use crate::guesses::{Guesses, first_holder, is_held};
 use crate::{NodeFault, node_at, place_of};
 use clipping::{Fault, by_date};
@@ -99,7 +100,14 @@ pub(crate) fn clip(standing: &Standing, tree: &Tree, net: &DistNet, x: u32) -> O
 }
 
 // Why the token at `x` does not support its fact throughout `p` to `q`, where no token does.
-pub(crate) fn blame(standing: &Standing, tree: &Tree, net: &DistNet, x: u32, p: Spot, q: Spot) -> NodeFault
+pub(crate) fn blame(
+    standing: &Standing,
+    tree: &Tree,
+    net: &DistNet,
+    x: u32,
+    p: Spot,
+    q: Spot,
+) -> NodeFault
     requires seen { IsTreeOf standing.now.present net.now.present tree.now }
     requires p { IsSpot net.now.present.names (forest tree.now) p }
     requires q { IsSpot net.now.present.names (forest tree.now) q }

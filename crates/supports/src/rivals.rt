@@ -119,7 +119,14 @@ pub(crate) fn clip(standing: &Standing, tree: &Tree, net: &DistNet, x: u32) -> O
 }
 
 // Why the token at `x` does not support its fact throughout `p` to `q`, where no token does.
-pub(crate) fn blame(standing: &Standing, tree: &Tree, net: &DistNet, x: u32, p: Spot, q: Spot) -> NodeFault
+pub(crate) fn blame(
+    standing: &Standing,
+    tree: &Tree,
+    net: &DistNet,
+    x: u32,
+    p: Spot,
+    q: Spot,
+) -> NodeFault
     requires seen { IsTreeOf standing.now.present net.now.present tree.now }
     requires p { IsSpot net.now.present.names (forest tree.now) p }
     requires q { IsSpot net.now.present.names (forest tree.now) q }

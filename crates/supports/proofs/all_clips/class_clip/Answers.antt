@@ -33,9 +33,11 @@ returns-in-Found-clause-clip c =
     let f = forest c.args.tree.now in
     let behind = rows_of c.args.behind.now in
     let found = c.in-Found.clip in
-    λ _. inl (subst (λ row. has_rivals c.args.standing.now.present row.fact ≡ false) (get_or_read c.args.rows.now c.args.i c.index-rows-i.result c.requires.within c.index-rows-i.is no_row) (sym c.has_rivals.ensures ∙ c.if-has_rivals.false),
-    subst (λ row. MatchOption row.end (IsLastNode (clips of_one_class (spot_distance net f) row) behind found) (λ _. IsNone found)) (get_or_read c.args.rows.now c.args.i c.index-rows-i.result c.requires.within c.index-rows-i.is no_row)
-    (subst (IsNear net f behind c.index-rows-i.result) c.in-Found.is c.near_clip.ensures))
+    λ _. inl (
+      subst (λ row. has_rivals c.args.standing.now.present row.fact ≡ false) (get_or_read c.args.rows.now c.args.i c.index-rows-i.result c.requires.within c.index-rows-i.is no_row) (sym c.has_rivals.ensures ∙ c.if-has_rivals.false),
+      subst (λ row. MatchOption row.end (IsLastNode (clips of_one_class (spot_distance net f) row) behind found) (λ _. IsNone found)) (get_or_read c.args.rows.now c.args.i c.index-rows-i.result c.requires.within c.index-rows-i.is no_row)
+          (subst (IsNear net f behind c.index-rows-i.result) c.in-Found.is c.near_clip.ensures),
+    )
 
 pub node_of-requires : goal.node_of-requires
 node_of-requires c = let (class, are) = c.requires.tokens in (

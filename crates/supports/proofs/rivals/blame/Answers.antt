@@ -1,7 +1,6 @@
-use Rattle.std.proofs.Common.{◌≡◌, ◌∙◌, ◌<◌, List, sym, ap, subst, Some, None, length, slice_index_or, arith}
+use Rattle.std.proofs.Common.{◌≡◌, ◌∙◌, ◌<◌, List, sym, ap, subst, None, length, slice_index_or, arith}
 use Rattle.std.specs.List.{All}
 use Rattle.tmm_model.specs.declared.token.TokenRow.{TokenRow}
-use Rattle.clipping.specs.Across.{list_at}
 use Rattle.clipping.specs.ByDate.{IsByDate}
 use Rattle.clipping.specs.Live.{IsLive as HasLiveSpots}
 use Rattle.tmm_model.specs.Answers.{clipped}
@@ -15,7 +14,6 @@ use Rattle.spots.specs.Spots.{spot_moment, spot_early, spot_cmp}
 use Rattle.occ_tree.specs.Dated.{IsKnown}
 use Rattle.occ_tree.specs.Places.{forest}
 use Rattle.occ_tree.specs.Standing.{present}
-use Rattle.supports.specs.ClassTokens.{class_lists}
 use Rattle.supports.specs.Nodes.{IsOfNode, HasNode}
 use Rattle.supports.proofs.AmongLists.{is_class_list}
 use Rattle.supports.proofs.AtPlaces.{no_support_here, fault_here, cutter_placed}

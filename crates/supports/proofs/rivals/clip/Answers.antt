@@ -2,7 +2,6 @@ use Rattle.std.proofs.Common.{◌≡◌, ◌∙◌, ◌<◌, List, sym, ap, subs
 use Rattle.std.specs.List.{All}
 use Rattle.std.specs.Option.{option_map}
 use Rattle.tmm_model.specs.declared.token.TokenRow.{TokenRow}
-use Rattle.clipping.specs.Across.{list_at}
 use Rattle.clipping.specs.ByDate.{IsByDate}
 use Rattle.clipping.specs.Live.{IsLive as HasLiveSpots}
 use Rattle.spots.proofs.Nodes.{node_at}
@@ -13,7 +12,6 @@ use Rattle.spots.specs.Spots.{spot_moment, spot_early, spot_cmp}
 use Rattle.occ_tree.specs.Dated.{IsKnown}
 use Rattle.occ_tree.specs.Places.{forest}
 use Rattle.occ_tree.specs.Standing.{present}
-use Rattle.supports.specs.ClassTokens.{class_lists}
 use Rattle.supports.specs.Nodes.{IsOfNode, HasNode}
 use Rattle.supports.proofs.AmongLists.{is_class_list}
 use Rattle.supports.proofs.Answered.{event_unclipped}
