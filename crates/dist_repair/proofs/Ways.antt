@@ -1,11 +1,11 @@
 -- Distances from a point to which no edge leads, and to one to which one edge alone does.
-use Rattle.std.proofs.Common.{◌≡◌, ◌≢◌, ◌∙◌, ◌⊎◌, inl, inr, ℕ, ◌+◌, ◌<◌, ◌≤◌, List, [], ◌∷◌, length, get_or, ℤ, ◌+ℤ◌, ap, sym, subst, arith, refl}
+use Rattle.std.proofs.Common.{◌≡◌, ◌≢◌, ◌∙◌, ◌⊎◌, inl, inr, ℕ, ◌+◌, ◌<◌, ◌≤◌, List, [], ◌∷◌, ◌++◌, length, get_or, ℤ, ◌+ℤ◌, ap, sym, subst, arith, refl}
 use Rattle.std.specs.List.{All, Contains}
 use Rattle.std.proofs.lemmas.Bool.{cases_eq}
 use Rattle.std.proofs.lemmas.Bool.Decides.{Decides-eqb}
 use Rattle.std.proofs.lemmas.Int.{ints}
 use Rattle.std.proofs.lemmas.List.{get_or-map, get_or_default, length-map}
-use Rattle.std.proofs.lemmas.List.Elements.{All-contains}
+use Rattle.std.proofs.lemmas.List.Elements.{All-contains, All-push, Contains-append_left}
 use Rattle.tmm_model.specs.declared.bound.Bound.{Bound}
 use Rattle.tmm_model.specs.declared.bound.Bound.TheVariants.{Finite, Free}
 use Rattle.tmm_model.specs.Bounds.{IfFinite, after, lesser}
@@ -125,6 +125,38 @@ pub record AreWaysTo (net : Net) (place u i : ℕ) (list : List ℕ) : Type 0 wh
   pub none : (j : ℕ) → j < i → j < length net.edges → IsTo net j u → ⊥
   pub ways : All (IsWayOut net place u) list
   pub all : (j : ℕ) → j < i → IsWayOut net place u j → Contains list j
+
+module _ (net : Net) (place u i : ℕ) (list : List ℕ) (e : Edge) (is : AreWaysTo net place u i list) where
+  none_yet : ((d : Edge) → e ≡ get_or net.edges i d) → e.to ≢ u → (j : ℕ) → j < i + 1 → j < length net.edges → IsTo net j u → ⊥
+  none_yet at ne j before below to =
+      elim (cases_eq j i) [
+        | inl same ↦ ne (ap (λ (g : Edge). g.to) (at e) ∙ (ap (λ (n : ℕ). (get_or net.edges n e).to) (sym same) ∙ to e))
+        | inr other ↦ is.none j (omega (arith, before, other)) below to
+      ]
+
+  -- the edge at i begins elsewhere, or is that at the place
+  pub AreWaysTo-skip : ((d : Edge) → e ≡ get_or net.edges i d) → e.to ≢ u → (e.from ≡ u → i ≢ place → ⊥) → AreWaysTo net place u (i + 1) list
+  AreWaysTo-skip at ne out = record {
+    none = none_yet at ne;
+    ways = is.ways;
+    all = λ j before way.
+        elim (cases_eq j i) [
+          | inl same ↦ absurd (out (ap (λ (g : Edge). g.from) (at e) ∙ (ap (λ (n : ℕ). (get_or net.edges n e).from) (sym same) ∙ way.from e)) (λ here. way.other (same ∙ here)))
+          | inr other ↦ is.all j (omega (arith, before, other)) way
+        ];
+  }
+
+  -- it is listed
+  pub AreWaysTo-more : i < length net.edges → ((d : Edge) → e ≡ get_or net.edges i d) → e.to ≢ u → e.from ≡ u → i ≢ place → AreWaysTo net place u (i + 1) (list ++ i ∷ [])
+  AreWaysTo-more below at ne begins differs = record {
+    none = none_yet at ne;
+    ways = All-push (IsWayOut net place u) list i is.ways (record { below = below; other = differs; from = λ d. sym (ap (λ (g : Edge). g.from) (at d)) ∙ begins });
+    all = λ j before way.
+        elim (cases_eq j i) [
+          | inl same ↦ subst (Contains (list ++ i ∷ [])) (sym same) (Contains-last list i)
+          | inr other ↦ Contains-append_left list (i ∷ []) j (is.all j (omega (arith, before, other)) way)
+        ];
+  }
 
 -- the distances to points below `done` are drafted
 pub record IsDraftingOut (old : Nets) (place u done : ℕ) (now : Nets) : Type 0 where
@@ -251,8 +283,8 @@ module _ (old : Nets) (v : ℕ) where
           ];
       others = λ p q in_p in_q one.
           elim one [
-            | inl at ↦ others p q in_p in_q (inl (λ e. ne (sym e ∙ at))) ∙ is.others p q in_p in_q one
-            | inr other ↦ others p q in_p in_q (inr other) ∙ is.others p q in_p in_q one
+            | inl at ↦ others p q in_p in_q (inl (λ e. ne (sym e ∙ at))) ∙ is.others p q in_p in_q (inl at)
+            | inr other ↦ others p q in_p in_q (inr other) ∙ is.others p q in_p in_q (inr other)
           ];
       present = present ∙ is.present;
       committed = committed ∙ is.committed;
@@ -282,3 +314,37 @@ IsFarWithout-in old now place u v done known lt from to way present all is d a b
 pub record IsSearchingIn (net : Net) (place u v i : ℕ) : Type 0 where
   pub alone : (j : ℕ) → j < i → j < length net.edges → j ≢ place → IsTo net j v → ⊥
   pub on : (j : ℕ) → j < i → j < length net.edges → j ≢ place → IsFrom net j v → KeepsEnd net place u j
+
+module _ (net : Net) (place u v i : ℕ) where
+  -- the edge at i leads elsewhere, and where it begins at v it leads to a point to which the
+  -- distance from u stays
+  pub IsSearchingIn-more : (e : Edge) → IsSearchingIn net place u v i → ((d : Edge) → e ≡ get_or net.edges i d) → e.to ≢ v → (e.from ≡ v → KeepsEnd net place u i) → IsSearchingIn net place u v (i + 1)
+  IsSearchingIn-more e is at ne keeps = record {
+    alone = λ j before below differs to.
+        elim (cases_eq j i) [
+          | inl same ↦ ne (ap (λ (g : Edge). g.to) (at e) ∙ (ap (λ (n : ℕ). (get_or net.edges n e).to) (sym same) ∙ to e))
+          | inr other ↦ is.alone j (omega (arith, before, other)) below differs to
+        ];
+    on = λ j before below differs from.
+        elim (cases_eq j i) [
+          | inl same ↦ subst (KeepsEnd net place u) (sym same) (keeps (ap (λ (g : Edge). g.from) (at e) ∙ (ap (λ (n : ℕ). (get_or net.edges n e).from) (sym same) ∙ from e)))
+          | inr other ↦ is.on j (omega (arith, before, other)) below differs from
+        ];
+  }
+
+  -- the edge at the place is passed over
+  pub IsSearchingIn-skip : IsSearchingIn net place u v i → i ≡ place → IsSearchingIn net place u v (i + 1)
+  IsSearchingIn-skip is here = record {
+    alone = λ j before below differs to. is.alone j (omega (arith, before, λ (e : j ≡ i). differs (e ∙ here))) below differs to;
+    on = λ j before below differs from. is.on j (omega (arith, before, λ (e : j ≡ i). differs (e ∙ here))) below differs from;
+  }
+
+  -- at the end
+  pub IsWayIn-searched : IsTo net place v → u ≢ v → length net.edges ≤ i → IsSearchingIn net place u v i → (lt : place < length net.edges) → IsWayIn net place u
+  IsWayIn-searched to ne all is lt =
+      let e : Edge = (edge_at net.edges place lt).0 in
+      record {
+        apart = λ at. ne (sym (at e) ∙ to e);
+        alone = λ w j to_w below differs to_j. is.alone j (omega (arith, below, all)) below differs (λ d. to_j d ∙ (sym (to_w e) ∙ to e));
+        on = λ w j to_w below differs from_j. is.on j (omega (arith, below, all)) below differs (λ d. from_j d ∙ (sym (to_w e) ∙ to e));
+      }
