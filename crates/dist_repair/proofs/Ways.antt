@@ -20,6 +20,7 @@ use Rattle.dist_net.specs.Net.{Net, Nets, IsInUse, IsFarWithout, arc_of, arcs_of
 use Rattle.dist_net.proofs.Ends.{edge_at, in_places}
 use Rattle.dist_repair.specs.Rows.{rest_of, IsFrom, IsTo, IsTight, IsTightArc, KeepsRow, IsPresentRow, IsFarRow, ChangesRow}
 use Rattle.dist_repair.specs.Ways.{IsWayOut, AreWaysOut, KeepsEnd, IsWayIn}
+use Rattle.dist_repair.proofs.Columns.{Contains-last}
 use Rattle.dist_repair.proofs.Detours.{IsFar-past}
 use Rattle.dist_repair.proofs.Keeping.{KeepsRow-loose, KeepsRow-end}
 use Rattle.dist_repair.proofs.Left.{IsNet, Adds-remove, IsFar-taken, left_at, left_from, left_sub}

@@ -1,8 +1,7 @@
 // The distances to a point to which one edge alone leads, without that edge.
-ghost use Rattle.std.specs.Prelude.{◌≡◌, ◌≢◌, ℕ, ◌<◌, length, slice_index_or, IsTrue};
-ghost use Rattle.dist_net.specs.declared.Edge.{Edge};
+ghost use Rattle.std.specs.Prelude.{◌≡◌, ℕ, ◌<◌, length, IsTrue};
 ghost use Rattle.dist_net.specs.Net.{IsInUse, IsFarWithout, entry};
-ghost use Rattle.dist_repair.specs.Rows.{IsFrom, IsTo, IsPresentRow};
+ghost use Rattle.dist_repair.specs.Rows.{IsFrom, IsPresentRow};
 ghost use Rattle.dist_repair.specs.Ways.{IsWayIn, KeepsEnd};
 
 use crate::is_suspect;

@@ -1,6 +1,5 @@
 // The distances from a point to which no edge leads, without one of the edges that begin there.
-ghost use Rattle.std.specs.Prelude.{◌≡◌, ◌≢◌, ℕ, ◌<◌, length, slice_index_or, MatchOption};
-ghost use Rattle.std.specs.List.{All, Contains};
+ghost use Rattle.std.specs.Prelude.{◌≡◌, ◌≢◌, ◌<◌, length, slice_index_or, MatchOption};
 ghost use Rattle.tmm_model.specs.Bounds.{after};
 ghost use Rattle.walk_theory.specs.LeastWalks.{IsFar};
 ghost use Rattle.dist_net.specs.declared.Edge.{Edge};
@@ -9,7 +8,7 @@ ghost use Rattle.dist_repair.specs.Rows.{rest_of, IsFrom, IsPresentRow, IsFarRow
 ghost use Rattle.dist_repair.specs.Ways.{AreWaysOut};
 
 use arrayvec::ArrayVec;
-use dist_net::{DistNet, EDGES};
+use dist_net::DistNet;
 use tmm_model::Bound;
 
 // Where more edges begin at a point, its row is found as any other.
@@ -17,7 +16,7 @@ const FEW: usize = 16;
 
 /// The places of the other edges that begin where the edge does, if no edge leads there and these
 /// are few.
-pub(crate) fn ways_out(net: &DistNet, place: usize, from: u16) -> Option<ArrayVec<u16, 16>>
+pub(crate) fn ways_out(net: &DistNet, place: usize, from: u16) -> Option<ArrayVec<u16, FEW>>
     ensures { MatchOption result (Unit {0}) (λ list. AreWaysOut net.now.present place from list.items) }
 {
     let edges = net.edges();

@@ -1,4 +1,4 @@
-use Rattle.std.proofs.Common.{◌≡◌, ◌∙◌, ◌<◌, List, get_or, ap, sym, arith}
+use Rattle.std.proofs.Common.{◌≡◌, ◌∙◌, ◌<◌, ℕ, List, get_or, ap, sym, arith}
 use Rattle.dist_net.specs.declared.Edge.{Edge}
 use Rattle.dist_net.specs.Net.{Net}
 use Rattle.dist_repair.specs.Rows.{IsTo}
@@ -14,6 +14,7 @@ returns-clause-far c =
     let known : IsNet net = record { places = c.invariants.ensures.names; used = c.invariants.ensures.in_use; light = c.invariants.ensures.light; dates = c.invariants.ensures.dates } in
     let e : Edge = c.index-edges-place.result in
     let at : e ≡ get_or net.edges c.args.place e = c.index-edges-place.is ∙ ap (λ (t : List Edge). get_or t c.args.place e) c.edges.ensures.list in
-    let to : IsTo net c.args.place e.to = λ d. ap (λ (g : Edge). g.to) (sym (edge_read net.edges c.args.place e c.requires.place at d)) in
-    IsFarWithout-in c.args.net.now c.loop-a.net c.args.place c.args.from e.to c.loop-a.a known c.requires.place c.requires.from to c.requires.way c.requires.draft
+    let v : ℕ = (get_or c.edges.result.now c.args.place e).to in
+    let to : IsTo net c.args.place v = λ d. ap (λ (g : Edge). g.to) (sym (edge_read net.edges c.args.place e c.requires.place at d) ∙ c.index-edges-place.is) in
+    IsFarWithout-in c.args.net.now c.loop-a.net c.args.place c.args.from v c.loop-a.a known c.requires.place c.requires.from to c.requires.way c.requires.draft
     (λ q in_q. omega (arith, below_limit net.names c.limit-limit.result c.limit-limit.ensures.above q in_q, c.loop-a-test.false)) c.loop-a.invariant

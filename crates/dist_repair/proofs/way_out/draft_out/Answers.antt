@@ -1,4 +1,4 @@
-use Rattle.std.proofs.Common.{◌<◌, arith}
+use Rattle.std.proofs.Common.{arith}
 use Rattle.dist_repair.proofs.Left.{IsNet}
 use Rattle.dist_repair.proofs.Starts.{below_limit}
 use Rattle.dist_repair.proofs.Ways.{IsFarRow-out}

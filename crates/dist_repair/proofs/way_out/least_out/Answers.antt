@@ -1,6 +1,5 @@
-use Rattle.std.proofs.Common.{◌≡◌, ◌+◌, ◌<◌, ℕ, get_or, sym, subst, arith}
+use Rattle.std.proofs.Common.{◌+◌, ℕ, get_or, sym, subst, arith}
 use Rattle.std.proofs.lemmas.List.{get_or_default}
-use Rattle.tmm_model.specs.declared.bound.Bound.{Bound}
 use Rattle.dist_repair.proofs.Left.{IsNet}
 use Rattle.dist_repair.proofs.Ways.{IsLeastOut, IsLeastOut-more, IsFar-least_out}
 use Rattle.dist_repair.proofs.way_out.least_out.Goals as goal
