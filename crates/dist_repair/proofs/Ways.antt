@@ -246,8 +246,8 @@ module _ (net : Net) (place u v : ℕ) (known : IsNet net) (lt : place < length 
   pub Free-way_in : (a : ℕ) → (a ≡ v → ⊥) → IsFar (rest_of net place) a v Free
   Free-way_in a ne =
       let none : (x : Arc ℕ) → Contains (rest_of net place) x → x.to ≡ v → ⊥ = λ x m same.
-          (let j : (j : ℕ) × (j < length net.edges) × (j ≢ place) × ((d : Edge) → arc_of (get_or net.edges j d) ≡ x) = left_edge_of net place x m in
-          way.alone v j.0 to j.1 j.2 (λ d. ap (λ (y : Arc ℕ). y.to) (j.3 d) ∙ same)) in
+      (let j : (j : ℕ) × (j < length net.edges) × (j ≢ place) × ((d : Edge) → arc_of (get_or net.edges j d) ≡ x) = left_edge_of net place x m in
+      way.alone v j.0 to j.1 j.2 (λ d. ap (λ (y : Arc ℕ). y.to) (j.3 d) ∙ same)) in
       record { reached = tt; least = λ walk h. absurd (no_walk_to (rest_of net place) v none a ne walk h) }
 
 -- the draft has no way from the first points to v, and is old's for all other ends

@@ -1,9 +1,8 @@
 -- Points that few edges lead to or from, whose distances are found at once.
-use Rattle.std.specs.Prelude.{◌≡◌, ◌≢◌, ℕ, ◌<◌, List, length, slice_index_or}
+use Rattle.std.specs.Prelude.{◌≢◌, ℕ, ◌<◌, List, length}
 use Rattle.std.specs.List.{All, Contains}
 use Rattle.tmm_model.specs.declared.bound.Bound.{Bound}
 use Rattle.walk_theory.specs.LeastWalks.{IsFar}
-use Rattle.dist_net.specs.declared.Edge.{Edge}
 use Rattle.dist_net.specs.Net.{Net, arcs_of}
 use Rattle.dist_repair.specs.Rows.{rest_of, IsFrom, IsTo}
 

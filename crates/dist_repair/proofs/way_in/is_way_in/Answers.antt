@@ -1,9 +1,9 @@
-use Rattle.std.proofs.Common.{◌≡◌, ◌≢◌, ◌∙◌, ◌+◌, ◌<◌, ◌≤◌, List, ℕ, get_or, length, ap, sym, subst, arith, refl}
+use Rattle.std.proofs.Common.{◌≡◌, ◌∙◌, ◌<◌, ◌≤◌, List, ℕ, get_or, length, ap, sym, subst, arith, refl}
 use Rattle.dist_net.specs.declared.Edge.{Edge}
 use Rattle.dist_net.specs.Net.{Net}
-use Rattle.dist_repair.specs.Rows.{IsFrom, IsTo}
+use Rattle.dist_repair.specs.Rows.{IsTo}
 use Rattle.dist_repair.proofs.Suspects.{edge_read}
-use Rattle.dist_repair.proofs.Ways.{IsSearchingIn, IsSearchingIn-more, IsSearchingIn-skip, IsWayIn-searched}
+use Rattle.dist_repair.proofs.Ways.{IsSearchingIn-more, IsSearchingIn-skip, IsWayIn-searched}
 use Rattle.dist_repair.proofs.way_in.is_way_in.Goals as goal
 use Rattle.dist_repair.proofs.way_in.is_way_in.Goals.{then-i-place+else-edge-to+then-edge-to-2+else-not-keeps_end, then-i-place+else-edge-to+else-edge-to-2, else-i-place}
 

@@ -1,13 +1,11 @@
 use Rattle.std.proofs.Common.{◌≡◌, ◌∙◌, ℕ, Bool, true, false, not, List, get_or, ap, sym, subst, refl}
 use Rattle.std.specs.Prelude.{IsTrue}
-use Rattle.tmm_model.specs.declared.bound.Bound.{Bound}
 use Rattle.walk_theory.specs.LeastWalks.{IsFar}
 use Rattle.dist_net.specs.declared.Edge.{Edge}
 use Rattle.dist_net.specs.Net.{Net, arcs_of}
 use Rattle.dist_repair.specs.Rows.{rest_of}
 use Rattle.dist_repair.proofs.Left.{IsNet}
 use Rattle.dist_repair.proofs.Starts.{IsFar-safe, IsFar-to_first}
-use Rattle.dist_repair.proofs.Suspects.{edge_read}
 use Rattle.dist_repair.proofs.way_in.keeps_end.Goals as goal
 
 negated : (b : Bool) → IsTrue (not b) → b ≡ false

@@ -1,7 +1,6 @@
-use Rattle.std.proofs.Common.{◌≡◌, ◌≢◌, ◌∙◌, ◌+◌, ◌<◌, List, ℕ, get_or, length, ap, sym, subst, arith}
+use Rattle.std.proofs.Common.{◌≡◌, ◌∙◌, ◌+◌, ◌<◌, List, ℕ, get_or, length, ap, sym, subst}
 use Rattle.dist_net.specs.declared.Edge.{Edge}
 use Rattle.dist_net.specs.Net.{Net}
-use Rattle.dist_repair.specs.Rows.{IsFrom, IsTo}
 use Rattle.dist_repair.proofs.Suspects.{edge_read}
 use Rattle.dist_repair.proofs.Ways.{AreWaysTo, AreWaysTo-more, AreWaysTo-skip}
 use Rattle.dist_repair.proofs.way_out.ways_out.Goals as goal
