@@ -1,5 +1,5 @@
 // Names of a script.
-ghost use Rattle.std.specs.Prelude.{◌≡◌, ◌+◌, ◌-◌, ◌<◌, ◌≤◌, ℕ, List, [], ◌∷◌, ◌++◌, take, drop, replicate, length, IsTrue, IsSome, IfSome, IsNone, ◌↔◌, nat_eq, refl};
+ghost use Rattle.std.specs.Prelude.{◌≡◌, ◌+◌, ◌-◌, ◌<◌, ◌≤◌, ℕ, List, [], ◌∷◌, ◌++◌, take, drop, replicate, length, IsTrue, IsSome, IfSome, IsNone, OnOk, ◌↔◌, nat_eq, refl};
 ghost use Rattle.std.specs.Int.{w64, from_le_bytes, to_le_bytes};
 ghost use Rattle.std.specs.List.{list_all};
 ghost use Rattle.std.specs.Ordering.{nat_cmp, as_partial_cmp};
@@ -7,9 +7,12 @@ ghost use Rattle.std.specs.Cmp.{partial_equiv_from_equiv, partial_order_from_agr
 ghost use Rattle.std.specs.Cmp.Rules.{hashing};
 ghost use Rattle.std.proofs.Common.{rules};
 ghost use Rattle.std.specs.Cmp.Lexicographic.{slice_cmp, pointwise, nat_list_cmp_total, nat_list_eq_equiv, lists_ties};
+ghost use Rattle.tmm_model.specs.Points.{slashed};
 ghost use Rattle.tmm_model.specs.Names.{is_letter, is_name_byte, is_name as is_name_of};
 
 use crate::limits::LONGEST_NAME;
+use crate::memory::NoMemory;
+use crate::seq::Seq;
 use std::cmp::Ordering;
 use std::hash::{Hash, Hasher};
 use std::marker::Model;
@@ -57,6 +60,21 @@ impl Name {
     {
         &self.bytes[..self.len as usize]
     }
+}
+
+/// Appends the names, each behind a `/`. Without memory, which is asked for where there is no room
+/// for a longest name behind one, a front of them may have been appended.
+pub fn put_links(names: &[Name], out: &mut Seq<u8>) -> Result<(), NoMemory>
+    ensures { OnOk result (out.new.items ≡ out.old.items ++ slashed names.now) }
+{
+    for name in names {
+        out.reserve(LONGEST_NAME + 1)?;
+        if out.push(b'/').is_err() {
+            return Err(NoMemory);
+        }
+        out.extend_front(&name.bytes, name.len as usize)?;
+    }
+    Ok(())
 }
 
 fn is_name(bytes: &[u8]) -> bool

@@ -1,5 +1,5 @@
 // A growable list, whose contracts see how many more items it takes without memory.
-ghost use Rattle.std.specs.Prelude.{◌≡◌, ◌+◌, ◌-◌, ◌<◌, ◌≤◌, [], ◌∷◌, ◌++◌, length, IfErr, OnOk, OnErr};
+ghost use Rattle.std.specs.Prelude.{◌≡◌, ◌+◌, ◌-◌, ◌<◌, ◌≤◌, [], ◌∷◌, ◌++◌, length, take, IfErr, OnOk, OnErr};
 
 use crate::memory::NoMemory;
 use std::alloc::Global;
@@ -31,6 +31,13 @@ impl<T> Seq<T> {
         Seq {
             inner: Vec::new(alloc),
         }
+    }
+
+    /// The list of these items, without a copy of them.
+    pub fn of(items: Vec<T>) -> Seq<T>
+        ensures { result.items ≡ items.items }
+    {
+        Seq { inner: items }
     }
 
     /// Makes room for `n` more items. Without memory the list is as before.
@@ -81,6 +88,26 @@ impl<T: Copy> Seq<T> {
     {
         match self.inner.extend_from_slice(items) {
             Ok(()) => Ok(()),
+            Err(_) => Err(NoMemory),
+        }
+    }
+}
+
+impl<T: Copy + Drop> Seq<T> {
+    /// Appends the first of the items, `count` of them, in one copy of them all. Without memory,
+    /// which is asked for only where there is too little room for all, the list is as before.
+    pub fn extend_front(&mut self, items: &[T], count: usize) -> Result<(), NoMemory>
+        requires { count ≤ length items.now }
+        ensures ok { OnOk result (self.new.items ≡ self.old.items ++ take count items.now) }
+        ensures err { OnErr result (self.new.items ≡ self.old.items) }
+        ensures full { OnErr result (self.old.room < length items.now) }
+    {
+        let before = self.inner.as_slice().len();
+        match self.inner.extend_from_slice(items) {
+            Ok(()) => {
+                self.inner.truncate(before + count);
+                Ok(())
+            }
             Err(_) => Err(NoMemory),
         }
     }
