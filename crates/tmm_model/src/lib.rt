@@ -38,7 +38,7 @@ pub use limits::{
 };
 pub use line::{Line, Query};
 pub use memory::NoMemory;
-pub use name::{Name, put_links};
+pub use name::Name;
 pub use point::{Occ, PointName, QueryPoint};
 pub use premise::{Edit, Premise};
 pub use refusal::{Refusal, Stop};

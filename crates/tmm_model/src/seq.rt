@@ -1,7 +1,9 @@
 // A growable list, whose contracts see how many more items it takes without memory.
-ghost use Rattle.std.specs.Prelude.{◌≡◌, ◌+◌, ◌-◌, ◌<◌, ◌≤◌, [], ◌∷◌, ◌++◌, length, take, IfErr, OnOk, OnErr};
+ghost use Rattle.std.specs.Prelude.{◌≡◌, ◌+◌, ◌-◌, ◌<◌, ◌≤◌, [], ◌∷◌, ◌++◌, length, IfErr, OnOk, OnErr};
+ghost use Rattle.tmm_model.specs.Points.{slashed};
 
 use crate::memory::NoMemory;
+use crate::name::{Name, append_links};
 use std::alloc::Global;
 use std::marker::Model;
 
@@ -31,13 +33,6 @@ impl<T> Seq<T> {
         Seq {
             inner: Vec::new(alloc),
         }
-    }
-
-    /// The list of these items, without a copy of them.
-    pub fn of(items: Vec<T>) -> Seq<T>
-        ensures { result.items ≡ items.items }
-    {
-        Seq { inner: items }
     }
 
     /// Makes room for `n` more items. Without memory the list is as before.
@@ -93,23 +88,14 @@ impl<T: Copy> Seq<T> {
     }
 }
 
-impl<T: Copy + Drop> Seq<T> {
-    /// Appends the first of the items, `count` of them, in one copy of them all. Without memory,
-    /// which is asked for only where there is too little room for all, the list is as before.
-    pub fn extend_front(&mut self, items: &[T], count: usize) -> Result<(), NoMemory>
-        requires { count ≤ length items.now }
-        ensures ok { OnOk result (self.new.items ≡ self.old.items ++ take count items.now) }
+impl Seq<u8> {
+    /// Appends the names, each behind a `/`. Without memory, which is asked for where there is no
+    /// room for so many of the longest names, the list is as before.
+    pub fn put_links(&mut self, names: &[Name]) -> Result<(), NoMemory>
+        ensures ok { OnOk result (self.new.items ≡ self.old.items ++ slashed names.now) }
         ensures err { OnErr result (self.new.items ≡ self.old.items) }
-        ensures full { OnErr result (self.old.room < length items.now) }
     {
-        let before = self.inner.as_slice().len();
-        match self.inner.extend_from_slice(items) {
-            Ok(()) => {
-                self.inner.truncate(before + count);
-                Ok(())
-            }
-            Err(_) => Err(NoMemory),
-        }
+        append_links(names, &mut self.inner)
     }
 }
 
