@@ -189,6 +189,7 @@ not_fact code.Span h = refl
 not_fact code.Dist h = refl
 not_fact code.Rule h = refl
 not_fact code.Protection h = refl
+not_fact code.Rivalry h = refl
 
 module _ (n : List ℕ) (ps : List Premise) (distinct : IsDistinct same_name (keys_of (placed 0 ps))) where
   -- where no name of a premise is found, no premise has the name
