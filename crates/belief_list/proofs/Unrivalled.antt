@@ -1,12 +1,14 @@
 -- Facts of which no premise says that another contradicts them.
-use Rattle.std.proofs.Common.{◌≡◌, ◌∙◌, ℕ, Bool, true, false, not, ◌&&◌, ◌||◌, List, refl, sym, ap, subst, inl, inr}
-use Rattle.std.specs.Prelude.{◌⊎◌}
+use Rattle.std.proofs.Common.{◌≡◌, ◌∙◌, ℕ, zero, suc, ◌+◌, Bool, true, false, not, ◌&&◌, ◌||◌, List, [], ◌∷◌, ◌++◌, take, refl, sym, ap, subst, inl, inr}
+use Rattle.std.specs.Prelude.{Some, slice_get}
 use Rattle.std.specs.List.{list_any}
 use Rattle.std.specs.Cmp.Lexicographic.{bytes_decides}
+use Rattle.std.proofs.lemmas.List.{take_more}
+use Rattle.std.proofs.lemmas.Option.{slice_get_within, get_or_from_slice_get}
 use Rattle.tmm_model.specs.Beliefs.{says_against, are_rivals}
 use Rattle.tmm_model.specs.Points.{same_name}
 use Rattle.tmm_model.specs.Standing.{Standing}
-use Rattle.list_theory.proofs.Elements.{both, list_any-In, In-list_any}
+use Rattle.list_theory.proofs.Elements.{In, In-cases, both, list_any-In, In-list_any}
 use Rattle.belief_theory.proofs.Rivals.{or_cases, or_left, or_right}
 use Rattle.premise_list.specs.Rivalries.{rivalries, is_pair_of, sets_against, has_rivals}
 use Rattle.premise_list.proofs.PairsOfFacts.{any_pair}
@@ -56,3 +58,36 @@ no_rival s f none g = by (are_rivals s f g) refl
         let some : has_rivals s f ≡ true = In-list_any (sets_against f) (rivalries s.premises) pair at (pair_sets f g pair differ is) in
         let never : true ≡ false = sym some ∙ none in
         cc
+
+-- ---- pairs one after the other
+
+In-slice_get : {X : Type 0} (xs : List X) (i : ℕ) (x : X) → slice_get xs i ≡ Some x → In x xs
+In-slice_get [] i x e = cc
+In-slice_get (y ∷ xs) zero x e = inl cc
+In-slice_get (y ∷ xs) (suc i) x e = inr (In-slice_get xs i x e)
+
+-- a pair of the fact is one of those that say so
+pub rival_at : (s : Standing) (f : List ℕ) (i : ℕ) (pair : List ℕ × List ℕ) → slice_get (rivalries s.premises) i ≡ Some pair → sets_against f pair ≡ true → has_rivals s f ≡ true
+rival_at s f i pair at sets = In-list_any (sets_against f) (rivalries s.premises) pair (In-slice_get (rivalries s.premises) i pair at) sets
+
+-- where no pair of the first says so, nor the next, none of the first and the next does
+pub none_more : (test : List ℕ × List ℕ → Bool) (xs : List (List ℕ × List ℕ)) (i : ℕ) (x : List ℕ × List ℕ) → slice_get xs i ≡ Some x → test x ≡ false
+    → list_any test (take i xs) ≡ false → list_any test (take (i + 1) xs) ≡ false
+none_more test xs i x at no none = by (list_any test (take (i + 1) xs)) refl
+  where
+    taken : take (i + 1) xs ≡ take i xs ++ x ∷ []
+    taken =
+        take_more xs i x (slice_get_within xs i x at)
+        ∙ (λ j. take i xs ++ get_or_from_slice_get xs i x x at j ∷ [])
+
+    by : (b : Bool) → list_any test (take (i + 1) xs) ≡ b → b ≡ false
+    by false e = refl
+    by true e =
+        let (y, there, passes) = list_any-In test (take (i + 1) xs) e in
+        elim (In-cases (take i xs) (x ∷ []) y (subst (In y) taken there)) [
+          | inl before ↦ (let some : true ≡ false = sym (In-list_any test (take i xs) y before passes) ∙ none in cc)
+          | inr here ↦ elim here [
+            | inl same ↦ (let some : true ≡ false = sym passes ∙ ap test (sym same) ∙ no in cc)
+            | inr never ↦ absurd never
+          ]
+        ]

@@ -11,7 +11,7 @@ use Rattle.map_engine.proofs.Unmoved.{holds_before, read_still, none_reported, t
 use Rattle.map_engine.proofs.next.unmoved.Goals as goal
 
 pub review_edit-requires-clause-others : goal.review_edit-requires-clause-others
-review_edit-requires-clause-others c = still_apart c.args.standing.now c.args.net.now c.args.tree.now c.requires.seen.seen.network.sound.well_named c.requires.alike.says c.requires.others
+review_edit-requires-clause-others c = still_apart c.args.standing.now c.args.net.now c.args.tree.now c.requires.seen.seen.network.sound.well_named c.requires.alike.say c.requires.others
 
 pub returns-then-not-guarded-clause-view : goal.returns-then-not-guarded-clause-view
 returns-then-not-guarded-clause-view c =
