@@ -73,7 +73,7 @@ rival_at s f i pair at sets = In-list_any (sets_against f) (rivalries s.premises
 -- where no pair of the first says so, nor the next, none of the first and the next does
 pub none_more : (test : List ℕ × List ℕ → Bool) (xs : List (List ℕ × List ℕ)) (i : ℕ) (x : List ℕ × List ℕ) → slice_get xs i ≡ Some x → test x ≡ false
     → list_any test (take i xs) ≡ false → list_any test (take (i + 1) xs) ≡ false
-none_more test xs i x at no none = by (list_any test (take (i + 1) xs)) refl
+none_more test xs i x at fails none = by (list_any test (take (i + 1) xs)) refl
   where
     taken : take (i + 1) xs ≡ take i xs ++ x ∷ []
     taken =
@@ -87,7 +87,7 @@ none_more test xs i x at no none = by (list_any test (take (i + 1) xs)) refl
         elim (In-cases (take i xs) (x ∷ []) y (subst (In y) taken there)) [
           | inl before ↦ (let some : true ≡ false = sym (In-list_any test (take i xs) y before passes) ∙ none in cc)
           | inr here ↦ elim here [
-            | inl same ↦ (let some : true ≡ false = sym passes ∙ ap test (sym same) ∙ no in cc)
+            | inl same ↦ (let some : true ≡ false = sym passes ∙ ap test (sym same) ∙ fails in cc)
             | inr never ↦ absurd never
           ]
         ]
