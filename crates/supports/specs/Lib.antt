@@ -7,3 +7,4 @@ pub mod Nodes
 pub mod Rules
 pub mod Growing
 pub mod Edited
+pub mod ClassTokens
