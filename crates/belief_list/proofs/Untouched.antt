@@ -425,7 +425,7 @@ module _ (lists : States) (nets : Nets) (edit : Edit) (tree : Kept) (kept : List
         by None of none = event_clip x m here of r.clip none
         by (Some class) of (inl (anew, there)) = (anew (built lists.present).believed edited.seen_now edited.holds_now, there)
         by (Some class) of (inr (other, same)) =
-            let (n, there, _) = was class (covered.others class other) x m here of in
+            let (n, there, _) = was class (covered.others class other).untouched x m here of in
             let live_f = live_at f x n there in
             let (q, at, own) = before.own x live_f in
             let one : r.clip ≡ q.clip = same ∙ ap (option_and_then (λ (w : KeptRow). w.clip)) at in

@@ -67,11 +67,7 @@ fn is_at(standing: &Standing, i: usize, pair: &(Name, Name)) -> bool
 }
 
 // Appends the classes of facts that contradict one of a touched class.
-fn push_near(
-    standing: &Standing,
-    touched: &[Name],
-    found: &mut Vec<Name>,
-) -> Result<(), NoMemory>
+fn push_near(standing: &Standing, touched: &[Name], found: &mut Vec<Name>) -> Result<(), NoMemory>
     ensures kept { OnOk result ((class : List ℕ) → Contains found.old.items class → Contains found.new.items class) }
     ensures near { OnOk result ((pair : List ℕ × List ℕ) → In pair (rivalries standing.now.present.premises) → FollowsBoth standing.now.present touched.now found.new.items pair) }
 {
