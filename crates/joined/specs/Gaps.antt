@@ -4,7 +4,7 @@ use Rattle.std.specs.List.{Contains, list_any}
 use Rattle.tmm_model.specs.declared.bound.Bound.TheVariants.{Finite}
 use Rattle.tmm_model.specs.declared.point.PointName.{PointName}
 use Rattle.tmm_model.specs.declared.premise.Edit.{Edit}
-use Rattle.tmm_model.specs.Beliefs.{class_of}
+use Rattle.tmm_model.specs.Beliefs.{class_of, are_rivals}
 use Rattle.tmm_model.specs.Edits.{next_list}
 use Rattle.tmm_model.specs.Maps.{built, gap}
 use Rattle.tmm_model.specs.Moments.{Moment, read_by, rule_of}
@@ -30,6 +30,10 @@ SameGaps old new b t r = (p q : Moment) → In p (watched_points (map_of new b) 
 -- whether the rule reads a fact of this class
 abbrev pub reads_class : Standing → List ℕ → List ℕ → Bool
 reads_class s r class = list_any (λ fact. same_name (class_of s fact) class) (read_by (rule_of s r))
+
+-- whether it reads a fact of which a premise says that this one contradicts it
+abbrev pub reads_rival : Standing → List ℕ → List ℕ → Bool
+reads_rival s r fact = list_any (λ f. are_rivals s f fact) (read_by (rule_of s r))
 
 -- the spot is the begin or the end of a token of this class
 pub data IsClassSpot (f : Forest) (class : List ℕ) (p : Spot) : Type 0 where
