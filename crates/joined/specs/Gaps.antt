@@ -40,10 +40,22 @@ pub data IsClassSpot (f : Forest) (class : List ℕ) (p : Spot) : Type 0 where
   begin : (y : ℕ) (m : Member) → member f y ≡ Some m → m.class ≡ Some class → p ≡ Node y → IsClassSpot f class p
   an_end : (y : ℕ) (m : Member) (e : ℕ) → member f y ≡ Some m → m.class ≡ Some class → m.end ≡ Some e → p ≡ Declared e → IsClassSpot f class p
 
--- the spot is `start`, or the begin or the end of a token that the rule reads
+-- the spot is the begin or the end of a token of this fact
+pub record IsFactSpot (f : Forest) (fact : List ℕ) (p : Spot) : Type 0 where
+  pub number : ℕ
+  pub node : Member
+  pub class : List ℕ
+  pub here : member f number ≡ Some node
+  pub of : node.class ≡ Some class
+  pub fact_is : node.what ≡ fact
+  pub is : (p ≡ Node number) ⊎ ((e : ℕ) × (node.end ≡ Some e) × (p ≡ Declared e))
+
+-- the spot is `start`, or the begin or the end of a token that the rule watches: one of a class that
+-- it reads, or of a fact that contradicts one that it reads
 pub data IsReadSpot (s : Standing) (f : Forest) (r : List ℕ) (p : Spot) : Type 0 where
   start : p ≡ Declared 0 → IsReadSpot s f r p
   read : (class : List ℕ) → reads_class s r class ≡ true → IsClassSpot f class p → IsReadSpot s f r p
+  rival : (fact : List ℕ) → reads_rival s r fact ≡ true → IsFactSpot f fact p → IsReadSpot s f r p
 
 -- on the distances of these spots the decision of the rule at the event of node x depends
 abbrev pub IsSpotAt : Standing → Forest → List ℕ → ℕ → Spot → Type 0
