@@ -1,6 +1,8 @@
 // Rows that wait since a token enters or leaves whose fact contradicts what their rules read.
-ghost use Rattle.std.specs.Prelude.{◌≡◌, ◌×◌, true, false, ℕ, List, OnOk};
+ghost use Rattle.std.specs.Prelude.{◌≡◌, ◌&&◌, ℕ, Bool, true, false, List, OnOk};
+ghost use Rattle.std.specs.List.{list_any};
 ghost use Rattle.tmm_model.specs.Beliefs.{says_against, are_rivals};
+ghost use Rattle.tmm_model.specs.Points.{same_name};
 ghost use Rattle.row_links.specs.Lists.{IsOn};
 ghost use Rattle.occ_tree.specs.Standing.{present};
 ghost use Rattle.undo_rows.specs.Changes.{present as table};
@@ -11,6 +13,7 @@ ghost use Rattle.belief_net.specs.Marks.{HaveEvents, Marks, IsAsLate};
 ghost use Rattle.belief_net.specs.Waiting.{dates_in};
 
 use crate::marking::mark_list;
+use crate::rows::facts_read;
 use crate::state::Decisions;
 use crate::waiting::Waiting;
 use decision_rows::Rows;
@@ -89,8 +92,8 @@ fn reads_rival(standing: &Standing, rule: Name, fact: Name) -> bool
                 ..
             },
         ) => {
-            has_rival(standing, given.as_slice(), fact)
-                || has_rival(standing, unless_facts.as_slice(), fact)
+            let read = facts_read(given.as_slice(), unless_facts.as_slice());
+            has_rival(standing, read.as_slice(), fact)
         }
         _ => false,
     }
@@ -100,10 +103,70 @@ fn reads_rival(standing: &Standing, rule: Name, fact: Name) -> bool
 fn has_rival(standing: &Standing, facts: &[Name], fact: Name) -> bool
     ensures { result ≡ list_any (λ f. are_rivals standing.now.present f fact) facts.now }
 {
-    for f in facts {
-        if are_rivals(standing, *f, fact) {
+    facts.iter().any(|f| are_rivals(standing, *f, fact))
+}
+
+// Whether a premise says that two facts contradict each other.
+fn are_rivals(standing: &Standing, one: Name, other: Name) -> bool
+    ensures { result ≡ are_rivals standing.now.present one other }
+{
+    if one == other {
+        return false;
+    }
+    for place in 0..standing.len() {
+        let Some(premise) = standing.at(place) else {
+            unreachable!()
+        };
+        if says_against(premise, one, other) {
             return true;
         }
     }
     false
+}
+
+// Whether the premise says that two facts contradict each other.
+fn says_against(premise: &Premise, one: Name, other: Name) -> bool
+    ensures { result ≡ says_against one other premise.now }
+{
+    match premise {
+        Premise::Against {
+            one: first,
+            other: second,
+            ..
+        } => are_both(*first, *second, one, other) || are_both(*first, *second, other, one),
+        _ => false,
+    }
+}
+
+// Whether two names are these two, in their order.
+fn are_both(first: Name, second: Name, one: Name, other: Name) -> bool
+    ensures { result ≡ (same_name first one && same_name second other) }
+{
+    first == one && second == other
+}
+
+// Whether some premise speaks of what contradicts a fact: if not, nothing contradicts it but its
+// class.
+fn has_rivals(standing: &Standing, fact: Name) -> bool
+    ensures { result ≡ false → (f : List ℕ) → are_rivals standing.now.present f fact ≡ false }
+{
+    for place in 0..standing.len() {
+        let Some(premise) = standing.at(place) else {
+            unreachable!()
+        };
+        if speaks_of(premise, fact) {
+            return true;
+        }
+    }
+    false
+}
+
+// Whether the premise says of a fact what contradicts it.
+fn speaks_of(premise: &Premise, fact: Name) -> bool
+    ensures { result ≡ false → (f : List ℕ) → says_against f fact premise.now ≡ false }
+{
+    match premise {
+        Premise::Against { one, other, .. } => *one == fact || *other == fact,
+        _ => false,
+    }
 }

@@ -1,16 +1,18 @@
 -- What a rule watches: tokens of the classes of what it reads, and those of facts that contradict
 -- what it reads.
-use Rattle.std.proofs.Common.{◌≡◌, ◌∙◌, ℕ, Bool, true, false, ◌||◌, List, [], ◌∷◌, refl, sym, ap}
+use Rattle.std.proofs.Common.{◌≡◌, ◌∙◌, ℕ, Bool, true, false, ◌||◌, List, [], ◌∷◌, refl, sym, ap, subst, inl, inr}
 use Rattle.std.specs.List.{list_any}
 use Rattle.tmm_model.specs.declared.token.TokenRow.{TokenRow}
 use Rattle.tmm_model.specs.Beliefs.{class_of, are_rivals}
-use Rattle.tmm_model.specs.Moments.{Moment, read_by, rule_of}
+use Rattle.tmm_model.specs.Moments.{Moment, RuleText, read_by, rule_of}
 use Rattle.tmm_model.specs.Points.{same_name}
 use Rattle.tmm_model.specs.Standing.{Standing}
 use Rattle.list_theory.specs.WellNamed.{IsSound}
+use Rattle.list_theory.proofs.Elements.{In, In-list_any}
 use Rattle.belief_theory.specs.Touched.{is_watched}
 use Rattle.belief_theory.proofs.ByClass.{no_rivals}
-use Rattle.joined.specs.Gaps.{reads_class, reads_rival}
+use Rattle.belief_theory.proofs.Rivals.{HaveSameRivals}
+use Rattle.joined.specs.Gaps.{reads_class, reads_rival, ReadsNoRival}
 
 -- one of two tests holds of some where one or the other does
 any_or : {X : Type 0} (P Q : X → Bool) (xs : List X) → list_any (λ x. P x || Q x) xs ≡ (list_any P xs || list_any Q xs)
@@ -50,6 +52,20 @@ or_none false b none = none
 -- a rule that reads no rival of its fact watches it by its class alone
 pub watched_plain : (s : Standing) (r : List ℕ) (k : TokenRow Moment) → reads_rival s r k.fact ≡ false → is_watched s r k ≡ reads_class s r k.class
 watched_plain s r k none = watched_either s r k ∙ or_none (reads_class s r k.class) (reads_rival s r k.fact) none
+
+-- then no premise says of what it reads that the fact contradicts it
+pub none_rival : (s : Standing) (r fact : List ℕ) → reads_rival s r fact ≡ false → (f : List ℕ) → In f (read_by (rule_of s r)) → are_rivals s f fact ≡ false
+none_rival s r fact none f at = by (are_rivals s f fact) refl
+  where
+    by : (v : Bool) → are_rivals s f fact ≡ v → v ≡ false
+    by false e = refl
+    by true e = let no : true ≡ false = sym (In-list_any (λ f. are_rivals s f fact) (read_by (rule_of s r)) f at e) ∙ none in no
+
+-- two lists of which this holds have the same rivals of what it reads: none
+pub plain_have : (s t : Standing) (r : List ℕ) → rule_of s r ≡ rule_of t r → ReadsNoRival s r → ReadsNoRival t r → (f : List ℕ) → In f (read_by (rule_of t r)) → HaveSameRivals s t f
+plain_have s t r text plain_s plain_t f at g (inl rival) =
+    let no : true ≡ false = sym rival ∙ none_rival s r g (plain_s g) f (subst (λ (x : RuleText). In f (read_by x)) (sym text) at) in cc
+plain_have s t r text plain_s plain_t f at g (inr rival) = let no : true ≡ false = sym rival ∙ none_rival t r g (plain_t g) f at in cc
 
 -- as long as no premise says that facts contradict each other, no rule reads a rival
 pub no_rival_read : (s : Standing) → IsSound s → (r fact : List ℕ) → reads_rival s r fact ≡ false

@@ -25,11 +25,11 @@ use Rattle.spots.proofs.Nodes.{live_at}
 use Rattle.spots.proofs.Seen.{distance_is, end_there, token_is}
 use Rattle.supports.proofs.Moved.{by_alike, cuts_alike}
 use Rattle.supports.proofs.TokenRows.{token_row_spots}
-use Rattle.revisions.specs.Walls.{begins_by, has_begun, IsBetween, AreWallsAt, IsPast, IsSpared, AllOccur}
+use Rattle.revisions.specs.Walls.{begins_by, has_begun, IsBetween, AreWallsAt, IsPast, IsSpared, IsAside, AllOccur}
 use Rattle.revisions.proofs.Walls.{outcome_but}
 use Rattle.joined.specs.Gaps.{reads_class, reads_rival}
 use Rattle.joined.specs.Sparing.{StaysIn, HasWalls, IsSparedAt}
-use Rattle.joined.proofs.Reading.{class_watched, watched_plain}
+use Rattle.joined.proofs.Reading.{class_watched, watched_plain, none_rival}
 
 -- ---- at moments
 
@@ -38,7 +38,7 @@ abbrev pub IsInBoth : Standing → List Moment → List Moment → TokenRow Mome
 IsInBoth s b c k = In k (tokens s b) × In k (tokens s c)
 
 -- the token bears on no decision of the rule at t: it has not surely begun there, or it is past, and
--- the rule reads no rival of its fact
+-- the rule reads no fact that contradicts its own
 abbrev pub IsSparedFor : Standing → List Moment → List Moment → Moment → List ℕ → TokenRow Moment → Type 0
 IsSparedFor s b c t r k = (has_begun (map_of s b) t k ≡ false) ⊎ (IsPast (IsInBoth s b c) (map_of s b) t k × (reads_rival s r k.fact ≡ false))
 
@@ -79,6 +79,10 @@ module _ (s : Standing) (b c : List Moment) (t : Moment) (r : List ℕ) where
   spared k reads (inl not_begun) d = inl not_begun
   spared k reads (inr (p, none)) d = inr (past k (sym (watched_plain s r k none) ∙ reads) p d, none)
 
+  aside : (d : List Moment) (k : TokenRow Moment) → Spared d k → IsAside (λ w. In w (watched (map_of s b) r) × In w (watched (map_of s c) r)) (map_of s d) t r k
+  aside d k (inl not_begun) = inl not_begun
+  aside d k (inr (p, none)) = inr (p, none_rival s r k.fact none)
+
   -- a token among the one list is among the other, or spared
   cases : (d e : List Moment) → ((x : Moment) → Contains d x → Contains e x ⊎ IsSparedIn s b c t r x) → (k : TokenRow Moment) → In k (watched (map_of s d) r)
       → In k (watched (map_of s e) r) ⊎ ((o : List Moment) → Spared o k)
@@ -102,11 +106,11 @@ module _ (s : Standing) (b c : List Moment) (t : Moment) (r : List ℕ) where
         timely = refl;
         here = λ k stay. stay.0;
         there = λ k stay. stay.1;
-        before = λ k at. elim (cases b c goes k at) [ inl in_c ↦ inl (at, in_c) | inr of ↦ inr (elim (of b) [ inl not_begun ↦ inl not_begun | inr past_there ↦ inr past_there.0 ]) ];
-        after = λ k at. elim (cases c b comes k at) [ inl in_b ↦ inl (in_b, at) | inr of ↦ inr (elim (of c) [ inl not_begun ↦ inl not_begun | inr past_there ↦ inr past_there.0 ]) ];
+        before = λ k at. elim (cases b c goes k at) [ inl in_c ↦ inl (at, in_c) | inr of ↦ inr (aside b k (of b)) ];
+        after = λ k at. elim (cases c b comes k at) [ inl in_b ↦ inl (in_b, at) | inr of ↦ inr (aside c k (of c)) ];
         begun = λ k stay. refl;
         ended = λ k e stay is. refl;
-        clipped = λ k c stay_k stay_c one. refl;
+        clipped = λ k c stay_k stay_c given. refl;
         ordered = λ k c stay_k stay_c one. refl;
       })
 

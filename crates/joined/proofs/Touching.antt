@@ -27,7 +27,7 @@ use Rattle.spots.proofs.Nodes.{node_at, moment_at-is}
 use Rattle.revisions.specs.Counted.{AreSeeds}
 use Rattle.revisions.specs.Maps.{revision, watches}
 use Rattle.revisions.specs.Revisions.{Revision, IsOf}
-use Rattle.revisions.proofs.Lawful.{lawful, text, watched_token, token_watched, decided, occurs_of}
+use Rattle.revisions.proofs.Lawful.{lawful, text, watched_token, token_watched, watched_back, decided, occurs_of}
 use Rattle.revisions.proofs.SeedsRight.{keeps, seed_occurs, untouched_from, among_more}
 use Rattle.revisions.proofs.Tokens.{tokens_stay, classes_stay}
 use Rattle.joined.specs.Rows.{Row, Rows, AreRowsOf}
@@ -37,38 +37,19 @@ use Rattle.joined.proofs.Starting.{horizons_keep}
 
 -- ---- a decision is not touched exactly where it is said so
 
--- a token that a rule of both lists watches by the one it watches by the other, if the same facts
--- contradict what it reads
-watched_across : (s t : Standing) (r : List ℕ) (k : TokenRow Moment) → rule_of s r ≡ rule_of t r
-    → ((f : List ℕ) → In f (read_by (rule_of t r)) → class_of s f ≡ class_of t f) → ((f : List ℕ) → In f (read_by (rule_of t r)) → HaveSameRivals s t f)
-    → HasClass s k → is_watched t r k ≡ true → is_watched s r k ≡ true
-watched_across s t r k text classes rivals own h =
-    let (f, at, bears) = list_any-In (λ fact. bears_on t fact k) (read_by (rule_of t r)) h in
-    In-list_any (λ fact. bears_on s fact k) (read_by (rule_of s r)) f (subst (λ (x : RuleText). In f (read_by x)) (sym text) at)
-    (bears_alike s t f (rivals f at) k own (classes f at) bears)
-
-module _ (old : Standing) (edit : Edit) (sound_old : IsSound old) (sound_new : IsSound (next_list old edit)) (t : Moment) (r : List ℕ) (k : TokenRow Moment)
-    (before : Contains (rules_at old t) r) (stands : Contains (rules_at (next_list old edit) t) r) (same : rule_of old r ≡ rule_of (next_list old edit) r)
-    (rivals : RivalsStay old (next_list old edit) r) where
-  read_old : (f : List ℕ) → In f (read_by (rule_of (next_list old edit) r)) → In f (read_by (rule_of old r))
-  read_old f at = subst (λ (x : RuleText). In f (read_by x)) (sym same) at
-
-  class_stays : (f : List ℕ) → In f (read_by (rule_of (next_list old edit) r)) → class_of old f ≡ class_of (next_list old edit) f
-  class_stays f at = classes_stay old edit sound_old sound_new t r f before stands (read_old f at) at
-
-  have : (f : List ℕ) → In f (read_by (rule_of (next_list old edit) r)) → HaveSameRivals old (next_list old edit) f
-  have f at = same_rivals_have old (next_list old edit) f (rivals f at)
-
-  -- by the old list, and so by the new one
-  pub watched_on : HasClass (next_list old edit) k → is_watched old r k ≡ true → is_watched (next_list old edit) r k ≡ true
-  watched_on own h =
-      let now : (f : List ℕ) → In f (read_by (rule_of old r)) → In f (read_by (rule_of (next_list old edit) r)) = λ f at. subst (λ (x : RuleText). In f (read_by x)) same at in
-      watched_across (next_list old edit) old r k (sym same) (λ f at. sym (class_stays f (now f at)))
-      (λ f at g said. sym (have f (now f at) g (elim said [ inl is ↦ inr is | inr is ↦ inl is ]))) own h
-
-  -- by the new list, and so by the old one
-  pub watched_then : HasClass old k → is_watched (next_list old edit) r k ≡ true → is_watched old r k ≡ true
-  watched_then own h = watched_across old (next_list old edit) r k same class_stays have own h
+-- a token that a rule of both lists watches by the old one it watches by the new one, if the same
+-- facts contradict what it reads
+pub watched_on : (old : Standing) (edit : Edit) → IsSound old → IsSound (next_list old edit) → (t : Moment) (r : List ℕ) (k : TokenRow Moment)
+    → Contains (rules_at old t) r → Contains (rules_at (next_list old edit) t) r → rule_of old r ≡ rule_of (next_list old edit) r
+    → ((f : List ℕ) → In f (read_by (rule_of (next_list old edit) r)) → HaveSameRivals old (next_list old edit) f)
+    → HasClass (next_list old edit) k → is_watched old r k ≡ true → is_watched (next_list old edit) r k ≡ true
+watched_on old edit sound_old sound_new t r k before stands same rivals own h =
+    let new = next_list old edit in
+    let (f, at, bears) = list_any-In (λ fact. bears_on old fact k) (read_by (rule_of old r)) h in
+    let at_new : In f (read_by (rule_of new r)) = subst (λ (x : RuleText). In f (read_by x)) same at in
+    let class : class_of new f ≡ class_of old f = sym (classes_stay old edit sound_old sound_new t r f before stands at at_new) in
+    let back : HaveSameRivals new old f = λ g said. sym (rivals f at_new g (elim said [ inl is ↦ inr is | inr is ↦ inl is ])) in
+    In-list_any (λ fact. bears_on new fact k) (read_by (rule_of new r)) f at_new (bears_alike new old f back k own class bears)
 
 -- what an untouched decision reads has the same rivals in both lists
 rivals_stay : (m n : TimeMap) (t : Moment) (r : List ℕ) → is_touched m n (t, r) ≡ false → RivalsStay m.list n.list r
@@ -116,19 +97,22 @@ module _ (old : Standing) (edit : Edit) (sound_old : IsSound old) (sound_new : I
       same : rule_of old r ≡ rule_of new r
       same = text old edit sound_old sound_new t r u.was.1 stands
 
+      have : (f : List ℕ) → In f (read_by (rule_of new r)) → HaveSameRivals old new f
+      have f at = same_rivals_have old new f (u.rivals f at)
+
       into : (k : TokenRow Moment) → In k (watched (built old) r) → In k (watched (map_of new b) r)
       into k at =
           let (x, believed, e, h) = of_old k at in
           let there = u.left x believed (token_watched old r x k e h) in
           let is = sym (one_token x believed there) ∙ e in
-          new_token x k there is (watched_on old edit sound_old sound_new t r k u.was.1 stands same u.rivals (class-token_of new x k is) h)
+          new_token x k there is (watched_on old edit sound_old sound_new t r k u.was.1 stands same have (class-token_of new x k is) h)
 
       back : (k : TokenRow Moment) → In k (watched (map_of new b) r) → In k (watched (built old) r)
       back k at =
           let (x, there, e, h) = of_new k at in
           let believed = u.entered x there (token_watched new r x k e h) in
           let is = one_token x believed there ∙ e in
-          old_token x k believed is (watched_then old edit sound_old sound_new t r k u.was.1 stands same u.rivals (class-token_of old x k is) h)
+          old_token x k believed is (watched_back old edit sound_old sound_new t r k u.was.1 stands same have (class-token_of old x k is) h)
 
   pub false_untouched : is_touched (built old) (map_of (next_list old edit) b) (t, r) ≡ false → IsUntouched old (next_list old edit) b t r
   false_untouched h = record { was = stood; horizon = alike.horizon; rivals = rivals_stay (built old) (map_of new b) t r h; left = left; entered = entered; gaps = gaps }

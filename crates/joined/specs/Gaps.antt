@@ -35,6 +35,10 @@ reads_class s r class = list_any (λ fact. same_name (class_of s fact) class) (r
 abbrev pub reads_rival : Standing → List ℕ → List ℕ → Bool
 reads_rival s r fact = list_any (λ f. are_rivals s f fact) (read_by (rule_of s r))
 
+-- it reads none that a fact contradicts, as a premise says
+abbrev pub ReadsNoRival : Standing → List ℕ → Type 0
+ReadsNoRival s r = (fact : List ℕ) → reads_rival s r fact ≡ false
+
 -- the spot is the begin or the end of a token of this class
 pub data IsClassSpot (f : Forest) (class : List ℕ) (p : Spot) : Type 0 where
   begin : (y : ℕ) (m : Member) → member f y ≡ Some m → m.class ≡ Some class → p ≡ Node y → IsClassSpot f class p
