@@ -31,7 +31,8 @@ use Rattle.occ_tree.specs.Places.{forest}
 use Rattle.occ_tree.specs.Standing.{present, early}
 use Rattle.revisions.specs.Maps.{watches}
 use Rattle.joined.specs.Listed.{IsListedUnder}
-use Rattle.joined.proofs.Listed.{readers_listed}
+use Rattle.joined.proofs.Listed.{class_readers}
+use Rattle.joined.proofs.Reading.{no_rival_read}
 use Rattle.belief_net.specs.declared.state.BeliefNet.{BeliefNet}
 use Rattle.belief_net.specs.declared.state.Decisions.{Decisions}
 use Rattle.belief_net.specs.Adding.{FollowsRoot, a_token, an_event, EntersAs, IsEventOf, AddsRule}
@@ -165,8 +166,9 @@ module _ (old : Standing) (p : Premise) (net : Net) (m n : BeliefNet) (sound_old
 
     reads : (i : ℕ) (row : TableRow Pair 8) → (table_of m.decisions).row i ≡ Some row → (watches new (rule_in n.decisions row) (moment z) ≡ true) ↔ IsListedUnder (table_of m.decisions) marks.number i
     reads i row at =
-        readers_listed new net.names z m.decisions.rows (name_in n.decisions.rules) (place_in n.decisions.classes) class marks.number i row
+        class_readers new net.names z m.decisions.rows (name_in n.decisions.rules) (place_in n.decisions.classes) class marks.number i row
         en.adds.own class_is marks.numbered (are_numbered n.decisions.classes) en.listed at (fit_n.under.classes i row (row_is i row at))
+        (no_rival_read new sound_new (rule_in n.decisions row) z.what)
 
     pub token_gains : Gains old (next_list old (Add p)) (Add p) m n
     token_gains = record {

@@ -1,15 +1,14 @@
 -- What an edit adds to nodes and rows, and that so begun they are ready for the list after.
-use Rattle.std.proofs.Common.{◌≡◌, ◌∙◌, ℕ, true, false, List, Option, Some, None, IsSome, refl, sym, ap, subst, inl, inr, ◌⊎◌}
+use Rattle.std.proofs.Common.{◌≡◌, ◌∙◌, ℕ, true, false, ◌||◌, List, Option, Some, None, IsSome, refl, sym, ap, subst, inl, inr, ◌⊎◌}
 use Rattle.std.specs.Prelude.{◌↔◌, is_some, pos, ◌≤ℤ◌}
-use Rattle.std.specs.List.{Contains, list_any}
+use Rattle.std.specs.List.{Contains}
 use Rattle.std.specs.Option.{option_map, option_map_or}
 use Rattle.tmm_model.specs.declared.premise.Edit.{Edit}
 use Rattle.tmm_model.specs.declared.premise.Edit.TheVariants.{Add}
 use Rattle.tmm_model.specs.declared.premise.Premise.{Premise}
-use Rattle.tmm_model.specs.Beliefs.{class_of, roots, rules_at}
+use Rattle.tmm_model.specs.Beliefs.{roots, rules_at}
 use Rattle.tmm_model.specs.Edits.{next_list}
-use Rattle.tmm_model.specs.Moments.{Moment, At, After, read_by, rule_of}
-use Rattle.tmm_model.specs.Points.{same_name}
+use Rattle.tmm_model.specs.Moments.{Moment, At, After}
 use Rattle.tmm_model.specs.Standing.{Standing}
 use Rattle.list_theory.specs.WellNamed.{IsSound}
 use Rattle.belief_theory.specs.Right.{Occurs}
@@ -32,7 +31,9 @@ use Rattle.joined.specs.Listed.{IsUnderClasses, IsListedUnder}
 use Rattle.joined.specs.Netted.{IsCurrent}
 use Rattle.joined.specs.Rows.{Row, HasRow, HasNoRow}
 use Rattle.joined.specs.Starting.{BeginsFrom, was, is_new, NodesBegin, RowsBegin}
-use Rattle.joined.proofs.Listed.{readers_listed}
+use Rattle.joined.specs.Gaps.{reads_class, reads_rival}
+use Rattle.joined.proofs.Listed.{class_readers}
+use Rattle.joined.proofs.Reading.{no_rival_read}
 use Rattle.joined.proofs.Starting.{reads_by_class}
 use Rattle.belief_net.specs.declared.erasing.Departed.{Departed}
 use Rattle.belief_net.specs.declared.state.BeliefNet.{BeliefNet}
@@ -60,7 +61,7 @@ some_or_none (Some x) = inr (x, refl)
 -- what has no class is not read
 pub unread : (s : Standing) (names : Names) (m : Member) (rule : List ℕ) → IsMemberOf s names m → m.class ≡ None → watches s rule (moment m) ≡ false
 unread s names m rule own none =
-    reads_by_class s names m rule own ∙ ap (λ o. option_map_or (λ class. list_any (λ fact. same_name (class_of s fact) class) (read_by (rule_of s rule))) o false) none
+    reads_by_class s names m rule own ∙ ap (λ o. option_map_or (λ class. reads_class s rule class || reads_rival s rule m.what) o false) none
 
 -- the edit adds a premise
 abbrev pub IsAddition : Edit → Type 0
@@ -304,8 +305,8 @@ module _ (old : Standing) (edit : Edit) (before net : Net) (b e m n : BeliefNet)
   listed_m : (x i k : ℕ) (z : Member) (class : List ℕ) (row : TableRow Pair 8) → member f x ≡ Some z → z.class ≡ Some class → place_in m.decisions.classes class ≡ Some k
       → (table_of e.decisions).row i ≡ Some row → (watches old (rule_in m.decisions row) (moment z) ≡ true) ↔ IsListedUnder (table_of e.decisions) k i
   listed_m x i k z class row at is number here =
-      readers_listed old before.names z e.decisions.rows (name_in m.decisions.rules) (place_in m.decisions.classes) class k i row
-      (fit_b.tree.seen.members x z at) is number (are_numbered m.decisions.classes) marks.listed here (under_m i row here)
+      class_readers old before.names z e.decisions.rows (name_in m.decisions.rules) (place_in m.decisions.classes) class k i row
+      (fit_b.tree.seen.members x z at) is number (are_numbered m.decisions.classes) marks.listed here (under_m i row here) (no_rival_read old sound_old (rule_in m.decisions row) z.what)
 
   -- what is read has a class
   class_there : (x : ℕ) (z : Member) (rule : List ℕ) → member f x ≡ Some z → watches old rule (moment z) ≡ true → (class : List ℕ) × (z.class ≡ Some class)

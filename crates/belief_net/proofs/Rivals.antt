@@ -14,6 +14,7 @@ use Rattle.undo_rows.specs.Tables.{AreListed}
 use Rattle.decision_rows.specs.declared.row.Pair.{Pair}
 use Rattle.occ_tree.specs.Classes.{place_in, HaveMore}
 use Rattle.occ_tree.specs.Standing.{Kept, State, present, early}
+use Rattle.occ_tree.proofs.Numbered.{no_more}
 use Rattle.joined.specs.Gaps.{reads_rival}
 use Rattle.joined.specs.Listed.{IsListedUnder}
 use Rattle.belief_net.specs.declared.state.Decisions.{Decisions}
@@ -23,7 +24,6 @@ use Rattle.belief_net.specs.Marks.{Marks, IsAsLate}
 use Rattle.belief_net.specs.Numbers.{name_in}
 use Rattle.belief_net.specs.Waiting.{Dates, dates_in}
 use Rattle.belief_net.proofs.Marked.{marks_none, marks_both}
-use Rattle.belief_net.proofs.Named.{no_more}
 use Rattle.belief_net.proofs.OfRules.{marks_alike, OfFirst, on_rule}
 
 true_false : {P : Type 0} → true ≡ false → P
