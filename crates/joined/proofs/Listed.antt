@@ -1,6 +1,6 @@
 -- A row reads a node exactly where it is on a list of the node's class, or its rule reads what
 -- contradicts the node's fact.
-use Rattle.std.proofs.Common.{◌≡◌, ◌∙◌, ℕ, zero, suc, ◌+◌, ◌<◌, Bool, true, false, ◌||◌, List, [], ◌∷◌, map, refl, sym, ap, subst, inl, inr, arith}
+use Rattle.std.proofs.Common.{◌≡◌, ◌∙◌, ℕ, zero, suc, ◌+◌, ◌<◌, Bool, true, false, ◌||◌, List, [], ◌∷◌, map, refl, sym, ap, subst, inl, inr, ◌⊎◌, arith}
 use Rattle.std.proofs.lemmas.Option.{slice_get_within}
 use Rattle.std.specs.Prelude.{◌↔◌, Option, Some, None, cond, slice_get, slice_index_or}
 use Rattle.std.specs.Option.{option_map_or}
@@ -130,17 +130,24 @@ module _ (s : Standing) (rows : Logged Pair 8) (name : ℕ → List ℕ) (number
   class_listed = ((λ reads. to_list (to_class reads)), (λ on. of_class (of_list on)))
 
 pub readers_listed : ReadersAreListed
-readers_listed s names m rows name number class k i r own is_class is_number numbered listed here under =
-    let rule = name r.value.rule in
-    let reads : watches s rule (moment m) ≡ (reads_class s rule class || reads_rival s rule m.what) =
-    reads_by_class s names m rule own ∙ ap (λ o. option_map_or (λ c. reads_class s rule c || reads_rival s rule m.what) o false) is_class in
-    let listed_by = class_listed s rows name number class k i r is_number numbered listed here under in (
-      λ h. elim (or_cases (reads_class s rule class) (reads_rival s rule m.what) (sym reads ∙ h)) [ inl by_class ↦ inl (listed_by.0 by_class) | inr rival ↦ inr rival ],
-      λ on. reads ∙ elim on [
-        | inl by_class ↦ or_left (reads_class s rule class) (reads_rival s rule m.what) (listed_by.1 by_class)
-        | inr rival ↦ or_right (reads_class s rule class) (reads_rival s rule m.what) rival
-      ],
-    )
+readers_listed s names m rows name number class k i r own is_class is_number numbered listed here under = (there, back)
+  where
+    reads : watches s (name r.value.rule) (moment m) ≡ (reads_class s (name r.value.rule) class || reads_rival s (name r.value.rule) m.what)
+    reads = reads_by_class s names m (name r.value.rule) own
+        ∙ ap (λ o. option_map_or (λ c. reads_class s (name r.value.rule) c || reads_rival s (name r.value.rule) m.what) o false) is_class
+
+    by_list : (reads_class s (name r.value.rule) class ≡ true) ↔ IsListedUnder (present rows) k i
+    by_list = class_listed s rows name number class k i r is_number numbered listed here under
+
+    there : watches s (name r.value.rule) (moment m) ≡ true → IsListedUnder (present rows) k i ⊎ (reads_rival s (name r.value.rule) m.what ≡ true)
+    there h = elim (or_cases (reads_class s (name r.value.rule) class) (reads_rival s (name r.value.rule) m.what) (sym reads ∙ h)) [
+      | inl by_class ↦ inl (by_list.0 by_class)
+      | inr rival ↦ inr rival
+    ]
+
+    back : IsListedUnder (present rows) k i ⊎ (reads_rival s (name r.value.rule) m.what ≡ true) → watches s (name r.value.rule) (moment m) ≡ true
+    back (inl on) = reads ∙ or_left (reads_class s (name r.value.rule) class) (reads_rival s (name r.value.rule) m.what) (by_list.1 on)
+    back (inr rival) = reads ∙ or_right (reads_class s (name r.value.rule) class) (reads_rival s (name r.value.rule) m.what) rival
 
 -- where the rule reads no rival of its fact, by the list alone
 pub class_readers : (s : Standing) (names : Names) (m : Member) (rows : Logged Pair 8) (name : ℕ → List ℕ) (number : List ℕ → Option ℕ)

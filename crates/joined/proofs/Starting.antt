@@ -148,7 +148,7 @@ fact_is s names m own k is = by m.shape (sym (ap token own.is) ∙ is)
     token o = elim o as (λ _. Option (TokenRow Moment)) [ None ↦ None | Some y ↦ token_at s (moment m) y ]
 
     one_fact : {j l : TokenRow Moment} → Some j ≡ Some l → l.fact ≡ j.fact
-    one_fact e = let one = e in cc
+    one_fact {j} {l} e = let one : j ≡ l = cc in ap (λ (z : TokenRow Moment). z.fact) (sym one)
 
     by : (shape : Shape) → token (Some (shape, m.what)) ≡ Some k → k.fact ≡ m.what
     by AnEvent e = cc
