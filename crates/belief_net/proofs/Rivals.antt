@@ -18,8 +18,9 @@ use Rattle.occ_tree.proofs.Numbered.{no_more}
 use Rattle.joined.specs.Gaps.{reads_rival}
 use Rattle.joined.specs.Listed.{IsListedUnder}
 use Rattle.belief_net.specs.declared.state.Decisions.{Decisions}
+use Rattle.belief_net.specs.Adding.{MarksToken}
 use Rattle.belief_net.specs.Decided.{table_of, rule_in, AreUnder, KeepsLast}
-use Rattle.belief_net.specs.Entering.{MarksOwn, MarksRivals, MarksReaders, what_at, mark_at, Calls}
+use Rattle.belief_net.specs.Entering.{MarksClass, MarksOwn, MarksRivals, MarksReaders, what_at, mark_at, Calls}
 use Rattle.belief_net.specs.Marks.{Marks, IsAsLate}
 use Rattle.belief_net.specs.Numbers.{name_in}
 use Rattle.belief_net.specs.Waiting.{Dates, dates_in}
@@ -96,6 +97,31 @@ module _ (list : Standing) (d : Decisions) (under : AreUnder list d) (listed : A
   rivals_all n old new within = marks_alike s (table_of d) (OfFirst Meant n) (λ i row. Meant row) old new (λ i row at. ((λ of. of.1), λ meant. (within i row at, meant)))
 
 -- ---- by its class, and by what contradicts it
+
+-- a token of a class and a fact has marked
+module _ (s : Standing) (st : State) (class fact : List ℕ) (from : ℤ) (old mid new : Decisions) (own : MarksClass st class from old mid) (rivals : MarksRivals s st fact from mid new) where
+  rivals_before : Marks st (table_of old) (λ i row. (reads_rival s (rule_in old row) fact ≡ true) × IsAsLate st from row) (dates_in mid.waiting) (dates_in new.waiting)
+  rivals_before =
+      subst (λ rs. Marks st (table rs) (λ i row. (reads_rival s (name_in old.rules row.value.rule) fact ≡ true) × IsAsLate st from row) (dates_in mid.waiting) (dates_in new.waiting)) own.rows
+      (subst (λ l. Marks st (table_of mid) (λ i row. (reads_rival s (name_in l row.value.rule) fact ≡ true) × IsAsLate st from row) (dates_in mid.waiting) (dates_in new.waiting)) own.rules rivals.marks)
+
+  pub token_marked : MarksToken s st class fact from old new
+  token_marked = record {
+    rows = ap (λ (d : Decisions). d.rows) rivals.same ∙ own.rows;
+    rules = ap (λ (d : Decisions). d.rules) rivals.same ∙ own.rules;
+    number = own.number;
+    numbered = ap (λ (d : Decisions). place_in d.classes class) rivals.same ∙ own.numbered;
+    marks = marks_both st (table_of old) (λ i row. IsListedUnder (table_of old) own.number i × IsAsLate st from row)
+        (λ i row. (reads_rival s (rule_in old row) fact ≡ true) × IsAsLate st from row)
+        (λ i row. (IsListedUnder (table_of old) own.number i ⊎ (reads_rival s (rule_in old row) fact ≡ true)) × IsAsLate st from row)
+        (dates_in old.waiting) (dates_in mid.waiting) (dates_in new.waiting)
+        (λ i row (asks, late). elim asks [ inl on ↦ inl (on, late) | inr rival ↦ inr (rival, late) ])
+        (λ i row (on, late). (inl on, late))
+        (λ i row (rival, late). (inr rival, late))
+        own.marks rivals_before;
+  }
+
+-- the token of a node, which enters or leaves with others, has marked
 
 module _ (s : Standing) (net : Net) (tree : Kept) (moving : List ℕ) (x : ℕ) (class : List ℕ) (old mid new : Decisions) (own : MarksOwn net tree moving x class old mid)
     (rivals : MarksRivals s (present tree) (what_at tree x) (early (present tree) x) mid new) where
