@@ -35,6 +35,7 @@ pub mod Fitting
 pub mod Noted
 pub mod Ruled
 pub mod Declared
+pub mod Departing
 pub mod Gains
 pub mod Gained
 pub mod Begun

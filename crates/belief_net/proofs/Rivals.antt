@@ -1,11 +1,12 @@
 -- Rows that wait since their rules read what contradicts a fact.
-use Rattle.std.proofs.Common.{◌≡◌, ◌∙◌, ℕ, ◌+◌, ◌<◌, Bool, true, false, ◌||◌, List, [], ◌∷◌, refl, sym, ap, subst, inl, inr, ◌⊎◌, arith}
+use Rattle.std.proofs.Common.{◌≡◌, ◌∙◌, ℕ, ◌+◌, ◌<◌, Bool, true, false, ◌||◌, List, [], ◌∷◌, ◌++◌, refl, sym, ap, subst, inl, inr, ◌⊎◌, arith}
 use Rattle.std.proofs.lemmas.Bool.{cases_order}
-use Rattle.std.specs.Prelude.{ℤ, Some}
+use Rattle.std.specs.Prelude.{ℤ, pos, Some}
 use Rattle.std.specs.List.{list_any}
 use Rattle.tmm_model.specs.Beliefs.{are_rivals}
 use Rattle.tmm_model.specs.Moments.{read_by, rule_of}
 use Rattle.tmm_model.specs.Standing.{Standing}
+use Rattle.list_theory.proofs.Elements.{In, In-left, In-right, In-cases}
 use Rattle.dist_net.specs.Net.{Net}
 use Rattle.row_links.specs.Lists.{IsOn}
 use Rattle.undo_rows.specs.declared.row.Row.{Row as TableRow}
@@ -18,7 +19,7 @@ use Rattle.occ_tree.proofs.Numbered.{no_more}
 use Rattle.joined.specs.Gaps.{reads_rival}
 use Rattle.joined.specs.Listed.{IsListedUnder}
 use Rattle.belief_net.specs.declared.state.Decisions.{Decisions}
-use Rattle.belief_net.specs.Adding.{MarksToken}
+use Rattle.belief_net.specs.Adding.{ReadsOneOf, MarksClasses, ReadsRivalOf, MarksFacts, MarksLeft, MarksToken}
 use Rattle.belief_net.specs.Decided.{table_of, rule_in, AreUnder, KeepsLast}
 use Rattle.belief_net.specs.Entering.{MarksClass, MarksOwn, MarksRivals, MarksReaders, what_at, mark_at, Calls}
 use Rattle.belief_net.specs.Marks.{Marks, IsAsLate}
@@ -95,6 +96,59 @@ module _ (list : Standing) (d : Decisions) (under : AreUnder list d) (listed : A
   pub rivals_all : (n : ℕ) (old new : Dates) → ((i : ℕ) (row : TableRow Pair 8) → (table_of d).row i ≡ Some row → row.value.rule < n)
       → Marks s (table_of d) (OfFirst Meant n) old new → Marks s (table_of d) (λ i row. Meant row) old new
   rivals_all n old new within = marks_alike s (table_of d) (OfFirst Meant n) (λ i row. Meant row) old new (λ i row at. ((λ of. of.1), λ meant. (within i row at, meant)))
+
+-- ---- one fact after the other
+
+module _ (to : Standing) (s : State) where
+  pub facts_none : (d : Decisions) → MarksFacts to s [] d d
+  facts_none d = record {
+    same = refl;
+    marks = marks_none s (table_of d) (λ i row. ReadsRivalOf to (rule_in d row) [] × IsAsLate s (pos 0) row) (dates_in d.waiting) (λ i row meant. meant.0.1);
+  }
+
+  pub facts_next : (front : List (List ℕ)) (fact : List ℕ) (old mid new : Decisions) → MarksFacts to s front old mid → MarksRivals to s fact (pos 0) mid new → MarksFacts to s (front ++ fact ∷ []) old new
+  facts_next front fact old mid new p q = record {
+    same = q.same ∙ ap (λ (d : Decisions). record d { waiting = new.waiting }) p.same;
+    marks = marks_both s (table_of old) (λ i row. ReadsRivalOf to (rule_in old row) front × IsAsLate s (pos 0) row)
+        (λ i row. (reads_rival to (rule_in old row) fact ≡ true) × IsAsLate s (pos 0) row)
+        (λ i row. ReadsRivalOf to (rule_in old row) (front ++ fact ∷ []) × IsAsLate s (pos 0) row)
+        (dates_in old.waiting) (dates_in mid.waiting) (dates_in new.waiting)
+        (λ i row ((f, at, reads), late). elim (In-cases front (fact ∷ []) f at) [
+          | inl there ↦ inl ((f, there, reads), late)
+          | inr here ↦ elim here [ inl is ↦ inr (subst (λ z. reads_rival to (rule_in old row) z ≡ true) (sym is) reads, late) | inr none ↦ absurd none ]
+        ])
+        (λ i row ((f, at, reads), late). ((f, In-left front (fact ∷ []) f at, reads), late))
+        (λ i row (reads, late). ((fact, In-right front (fact ∷ []) fact (inl refl), reads), late))
+        p.marks
+        (subst (λ (d : Decisions). Marks s (table_of d) (λ i row. (reads_rival to (rule_in d row) fact ≡ true) × IsAsLate s (pos 0) row) (dates_in mid.waiting) (dates_in new.waiting))
+        p.same q.marks);
+  }
+
+  -- classes, and then facts
+  pub left_marked : (classes facts : List (List ℕ)) (old mid new : Decisions) → MarksClasses s classes old mid → MarksFacts to s facts mid new → MarksLeft to s classes facts old new
+  left_marked classes facts old mid new p q = record {
+    rows = ap (λ (d : Decisions). d.rows) q.same ∙ p.rows;
+    rules = ap (λ (d : Decisions). d.rules) q.same ∙ p.rules;
+    listed = p.listed;
+    more = subst (HaveMore old.classes) (sym classes_stay) p.more;
+    numbered = λ c at. (let (k, is) = p.numbered c at in (k, ap (λ l. place_in l c) classes_stay ∙ is));
+    marks = marks_both s (table_of old) (λ i row. ReadsOneOf (table_of old) mid.classes classes i × IsAsLate s (pos 0) row)
+        (λ i row. ReadsRivalOf to (rule_in old row) facts × IsAsLate s (pos 0) row)
+        (λ i row. (ReadsOneOf (table_of old) new.classes classes i ⊎ ReadsRivalOf to (rule_in old row) facts) × IsAsLate s (pos 0) row)
+        (dates_in old.waiting) (dates_in mid.waiting) (dates_in new.waiting)
+        (λ i row (asks, late). elim asks [
+          | inl on ↦ inl (subst (λ l. ReadsOneOf (table_of old) l classes i) classes_stay on, late)
+          | inr rival ↦ inr (rival, late)
+        ])
+        (λ i row (on, late). (inl (subst (λ l. ReadsOneOf (table_of old) l classes i) (sym classes_stay) on), late))
+        (λ i row (rival, late). (inr rival, late))
+        p.marks
+        (subst (λ rs. Marks s (table rs) (λ i row. ReadsRivalOf to (name_in old.rules row.value.rule) facts × IsAsLate s (pos 0) row) (dates_in mid.waiting) (dates_in new.waiting)) p.rows
+        (subst (λ l. Marks s (table_of mid) (λ i row. ReadsRivalOf to (name_in l row.value.rule) facts × IsAsLate s (pos 0) row) (dates_in mid.waiting) (dates_in new.waiting)) p.rules q.marks));
+  }
+    where
+      classes_stay : new.classes ≡ mid.classes
+      classes_stay = ap (λ (d : Decisions). d.classes) q.same
 
 -- ---- by its class, and by what contradicts it
 

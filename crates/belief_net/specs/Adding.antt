@@ -40,6 +40,25 @@ pub record MarksClasses (s : State) (classes : List (List ℕ)) (old new : Decis
   pub numbered : (class : List ℕ) → In class classes → (k : ℕ) × (place_in new.classes class ≡ Some k)
   pub marks : Marks s (table_of old) (λ i row. ReadsOneOf (table_of old) new.classes classes i × IsAsLate s (pos 0) row) (dates_in old.waiting) (dates_in new.waiting)
 
+-- the rule reads what contradicts one of these facts
+abbrev pub ReadsRivalOf : Standing → List ℕ → List (List ℕ) → Type 0
+ReadsRivalOf s r facts = (fact : List ℕ) × In fact facts × (reads_rival s r fact ≡ true)
+
+-- those rows wait whose rules do
+pub record MarksFacts (s : Standing) (st : State) (facts : List (List ℕ)) (old new : Decisions) : Type 0 where
+  pub same : new ≡ record old { waiting = new.waiting }
+  pub marks : Marks st (table_of old) (λ i row. ReadsRivalOf s (rule_in old row) facts × IsAsLate st (pos 0) row) (dates_in old.waiting) (dates_in new.waiting)
+
+-- those rows wait on which tokens of these classes and facts may have borne that left
+pub record MarksLeft (s : Standing) (st : State) (classes facts : List (List ℕ)) (old new : Decisions) : Type 0 where
+  pub rows : new.rows ≡ old.rows
+  pub rules : new.rules ≡ old.rules
+  pub listed : AreListed (table_of old)
+  pub more : HaveMore old.classes new.classes
+  pub numbered : (class : List ℕ) → In class classes → (k : ℕ) × (place_in new.classes class ≡ Some k)
+  pub marks : Marks st (table_of old) (λ i row. (ReadsOneOf (table_of old) new.classes classes i ⊎ ReadsRivalOf s (rule_in old row) facts) × IsAsLate st (pos 0) row)
+      (dates_in old.waiting) (dates_in new.waiting)
+
 -- those rows wait on which a token of the class and the fact may bear, at events no earlier than the
 -- date: those that read the class, and those whose rules read what contradicts the fact
 pub record MarksToken (s : Standing) (st : State) (class fact : List ℕ) (from : ℤ) (old new : Decisions) : Type 0 where

@@ -107,7 +107,7 @@ module _ (old : Standing) (edit : Edit) (sound_old : IsSound old) (sound_new : I
   new = next_list old edit
 
   -- the same facts are of the class of what the rule reads
-  class_stays : (g : List ℕ) → same_name (class_of old f) (class_of old g) ≡ same_name (class_of new f) (class_of new g)
+  pub class_stays : (g : List ℕ) → same_name (class_of old f) (class_of old g) ≡ same_name (class_of new f) (class_of new g)
   class_stays g =
       elim (one_way old edit) [
         | inl more ↦ let (c, is) = read_class old sound_old t r f before at_old in one_class old new sound_old sound_new more f c is g

@@ -1,8 +1,10 @@
-use Rattle.std.proofs.Common.{◌≡◌, ◌∙◌, refl, sym, ap, subst, rules, w64, to_z, of_z}
+use Rattle.std.proofs.Common.{◌≡◌, ◌∙◌, true, [], sym, ap, subst, rules, w64, to_z, of_z}
 use Rattle.std.specs.Prelude.{FitsSigned}
+use Rattle.std.specs.Option.{option_map_or}
 use Rattle.std.proofs.lemmas.Int.{to_z-of_z}
 use Rattle.std.proofs.lemmas.Result.{on_ok_weaker}
-use Rattle.occ_tree.specs.Standing.{present, early}
+use Rattle.spots.specs.Forest.{Member}
+use Rattle.occ_tree.specs.Standing.{present}
 use Rattle.undo_rows.specs.Changes.{Logged, present as table}
 use Rattle.decision_rows.specs.declared.row.Pair.{Pair}
 use Rattle.joined.specs.Gaps.{reads_rival}
@@ -36,7 +38,7 @@ returns-clause-ok c =
     let (m, at, _) = c.requires.token in
     let fits : FitsSigned w64 c.early-from.result = search rules in
     let date = to_z-of_z w64 c.early-from.result fits ∙ c.early-from.ensures.date in
-    let what = sym (c.row.ensures m at).what in
+    let what : c.row.result.what ≡ what_at tree x = (c.row.ensures m at).what ∙ sym (ap (λ o. option_map_or (λ (k : Member). k.what) o []) at) in
     on_ok_weaker {P = MarksRivals list (present tree) c.row.result.what (to_z w64 (of_z w64 c.early-from.result)) mid new}
     {Q = MarksReaders list c.args.net.now.present tree c.args.moving.now x c.args.class old new} c.mark_rivals.result
     (λ rivals. readers_marked list c.args.net.now.present tree c.args.moving.now x c.args.class old mid new c.in_ok-mark_own.ensures.ok
@@ -50,7 +52,7 @@ returns-clause-covered c =
     let new = c.mark_rivals.new.decisions in
     let list = c.args.standing.now.present in
     on_ok_weaker {P = MarksRivals list s c.row.result.what (to_z w64 (of_z w64 c.early-from.result)) mid new} {Q = Covers s new c.mark_own.new.marks} c.mark_rivals.result
-    (λ rivals. marks_covered s mid new c.mark_own.new.marks (λ i row. (reads_rival list (rule_in mid row) c.row.result.what ≡ _) × IsAsLate s (to_z w64 (of_z w64 c.early-from.result)) row)
+    (λ rivals. marks_covered s mid new c.mark_own.new.marks (λ i row. (reads_rival list (rule_in mid row) c.row.result.what ≡ true) × IsAsLate s (to_z w64 (of_z w64 c.early-from.result)) row)
     (ap (λ d. d.rows) rivals.same) rivals.marks c.in_ok-mark_own.ensures.covered)
     c.mark_rivals.ensures.ok
 
