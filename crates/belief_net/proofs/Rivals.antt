@@ -1,13 +1,16 @@
 -- Rows that wait since their rules read what contradicts a fact.
-use Rattle.std.proofs.Common.{◌≡◌, ◌∙◌, ℕ, ◌+◌, ◌<◌, Bool, true, false, ◌||◌, List, [], ◌∷◌, ◌++◌, refl, sym, ap, subst, inl, inr, ◌⊎◌, arith}
+use Rattle.std.proofs.Common.{◌≡◌, ◌∙◌, ℕ, ◌+◌, ◌<◌, Bool, true, false, ◌||◌, List, [], ◌∷◌, ◌++◌, take, suc, refl, sym, ap, subst, inl, inr, ◌⊎◌, arith}
 use Rattle.std.proofs.lemmas.Bool.{cases_order}
-use Rattle.std.specs.Prelude.{ℤ, pos, Some}
+use Rattle.std.proofs.lemmas.List.Folds.{list_any-append}
+use Rattle.std.specs.Prelude.{ℤ, pos, Some, slice_get}
 use Rattle.std.specs.List.{list_any}
+use Rattle.tmm_model.specs.declared.premise.Premise.{Premise}
 use Rattle.tmm_model.specs.Beliefs.{are_rivals}
 use Rattle.tmm_model.specs.Moments.{read_by, rule_of}
 use Rattle.tmm_model.specs.Standing.{Standing}
 use Rattle.list_theory.proofs.Elements.{In, In-left, In-right, In-cases}
 use Rattle.dist_net.specs.Net.{Net}
+use Rattle.supports.proofs.Grown.{taken}
 use Rattle.row_links.specs.Lists.{IsOn}
 use Rattle.undo_rows.specs.declared.row.Row.{Row as TableRow}
 use Rattle.undo_rows.specs.Changes.{Logged, present as table, committed}
@@ -46,6 +49,14 @@ none_reads s fact none r = by (read_by (rule_of s r))
     by : (fs : List (List ℕ)) → list_any (λ f. are_rivals s f fact) fs ≡ false
     by [] = refl
     by (f ∷ fs) = ap (λ v. v || list_any (λ f. are_rivals s f fact) fs) (none f) ∙ by fs
+
+-- ---- one premise after the other
+
+-- of the first premises and one more none passes, if none of the first does and this does not
+pub none_next : (P : Premise → Bool) (ps : List Premise) (i : ℕ) (p : Premise) → slice_get ps i ≡ Some p → list_any P (take i ps) ≡ false → P p ≡ false → list_any P (take (i + 1) ps) ≡ false
+none_next P ps i p at before no =
+    let e : i + 1 ≡ suc i = omega arith in
+    ap (λ n. list_any P (take n ps)) e ∙ ap (list_any P) (taken ps i p at) ∙ list_any-append P (take i ps) (p ∷ []) ∙ (λ j. before j || (no j || false))
 
 -- ---- one rule after the other
 
