@@ -43,6 +43,7 @@ use Rattle.joined.specs.Gaps.{SameGaps, MovesAt}
 use Rattle.joined.specs.Shifting.{AreLoose, MayRest}
 use Rattle.joined.specs.Rows.{Row}
 use Rattle.joined.specs.Starting.{IsPrepared}
+use Rattle.joined.specs.Touching.{RivalsStay}
 use Rattle.joined.specs.Telling.{IsToldOf, LeaveFirst}
 use Rattle.joined.proofs.Preparing.{prepared_netted}
 use Rattle.joined.proofs.Reading.{no_rivals_change}
@@ -317,7 +318,7 @@ module _ (old : Standing) (edit : Edit) (nets : Nets) (names : List (List ℕ)) 
   prepared_moved by_move by_rest same =
       prepared_on old edit nets.committed nets.present f g (rows_of b) (rows_of n) (rows_of y) sound_before sound_after h.kept.current ready on
       (λ l holds seeds. moved_marked old edit nets.committed nets.present f g (rows_of b) (rows_of n) (rows_of y) sound_before sound_after h.kept.current ready on
-      (is_moved nets (name_added edit)) MayRestAt same (no_rivals_change old (next_list old edit) sound_before sound_after) apart keeps all_wait only_wait l holds seeds)
+      (is_moved nets (name_added edit)) MayRestAt same (λ r x rest. no_rivals_change old (next_list old edit) sound_before sound_after r) apart keeps all_wait only_wait l holds seeds)
     where
       apart : (l : List Moment) (r : List ℕ) (x : ℕ) → HasOccurrences l g → IsLive g x → Contains (built old).believed (moment_at g x)
           → ((u : Moment) → Contains l u → watches (next_list old edit) r u ≡ true → Contains (built old).believed u)
@@ -341,10 +342,11 @@ module _ (old : Standing) (edit : Edit) (nets : Nets) (names : List (List ℕ)) 
             | inr left ↦ inr (subst (λ (r : Row). MayRestAt r.rule r.trigger) (sym is) (subst (λ T. T) (by_rest row) left))
           ]
 
-      only_wait : (i : ℕ) (p q : Row) → rows_of n i ≡ Some p → rows_of y i ≡ Some q → q.waits ≡ true → (p.waits ≡ true) ⊎ MovesAt (is_moved nets (name_added edit)) (next_list old edit) g q.rule q.trigger
+      only_wait : (i : ℕ) (p q : Row) → rows_of n i ≡ Some p → rows_of y i ≡ Some q → q.waits ≡ true
+          → (p.waits ≡ true) ⊎ (MovesAt (is_moved nets (name_added edit)) (next_list old edit) g q.rule q.trigger ⊎ (RivalsStay old (next_list old edit) q.rule → ⊥))
       only_wait i p q there at waits = elim (waited_or n z.decisions.waiting (λ j r. IsTouchedBy edit (next_list old edit) nets before n r) (λ j r. IsLeftBy edit (next_list old edit) nets before n r) o.touched i p q there at waits) [
         | inl waited ↦ inl waited
-        | inr (row, here, is, marked) ↦ inr (subst (λ (r : Row). MovesAt (is_moved nets (name_added edit)) (next_list old edit) g r.rule r.trigger) (sym is) (subst (λ T. T) (by_move row) marked))
+        | inr (row, here, is, marked) ↦ inr (inl (subst (λ (r : Row). MovesAt (is_moved nets (name_added edit)) (next_list old edit) g r.rule r.trigger) (sym is) (subst (λ T. T) (by_move row) marked)))
       ]
 
 module _ (old : Standing) (k : ℕ) (nets : Nets) (names : List (List ℕ)) (before : ℕ) (b e c m n z : BeliefNet) (all : Departed) (is_before : before ≡ old.horizon)
