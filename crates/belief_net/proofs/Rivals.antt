@@ -70,7 +70,7 @@ module _ (list : Standing) (d : Decisions) (under : AreUnder list d) (listed : A
 
   pub rivals_next : (n : ℕ) (name : List ℕ) (rows : Logged Pair 8) (old mid new : Dates) → rows ≡ d.rows → name ≡ name_in d.rules n
       → Marks s (table_of d) (OfFirst Meant n) old mid
-      → (reads_rival to name fact ≡ true → Marks s (table rows) (λ i row. IsOn ((table rows).list 1 n) i × IsAsLate s from row × (◌≡◌ {A = Bool} false false)) mid new)
+      → (reads_rival to name fact ≡ true → Marks s (table rows) (λ i row. IsOn ((table rows).list 1 n) i × IsAsLate s from row) mid new)
       → (reads_rival to name fact ≡ false → new ≡ mid)
       → Marks s (table_of d) (OfFirst Meant (n + 1)) old new
   rivals_next n name rows old mid new same is_name first reads other =
@@ -92,12 +92,12 @@ module _ (list : Standing) (d : Decisions) (under : AreUnder list d) (listed : A
 
       by : (v : Bool) → reads_rival to name fact ≡ v → Marks s (table_of d) (λ i row. (row.value.rule ≡ n) × Meant row) mid new
       by true e =
-          marks_alike s (table_of d) (λ i row. IsOn ((table_of d).list 1 n) i × IsAsLate s from row × (◌≡◌ {A = Bool} false false)) (λ i row. (row.value.rule ≡ n) × Meant row) mid new
+          marks_alike s (table_of d) (λ i row. IsOn ((table_of d).list 1 n) i × IsAsLate s from row) (λ i row. (row.value.rule ≡ n) × Meant row) mid new
           (λ i row at. (
             (λ on. (let is = (on_rule list d under listed i n row at).0 on.0 in (is, ap (λ r. reads_rival to r fact) (named row is) ∙ e, on.1))),
-            λ of. ((on_rule list d under listed i n row at).1 of.0, of.1.1, refl),
+            λ of. ((on_rule list d under listed i n row at).1 of.0, of.1.1),
           ))
-          (subst (λ rs. Marks s (table rs) (λ i row. IsOn ((table rs).list 1 n) i × IsAsLate s from row × (◌≡◌ {A = Bool} false false)) mid new) same (reads e))
+          (subst (λ rs. Marks s (table rs) (λ i row. IsOn ((table rs).list 1 n) i × IsAsLate s from row) mid new) same (reads e))
       by false e =
           subst (Marks s (table_of d) (λ i row. (row.value.rule ≡ n) × Meant row) mid) (sym (other e))
           (marks_none s (table_of d) (λ i row. (row.value.rule ≡ n) × Meant row) mid
