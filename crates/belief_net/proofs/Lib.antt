@@ -20,7 +20,7 @@ pub mod Settled
 pub mod After
 pub mod Redated
 pub mod OfRules
-pub mod Rivals
+pub mod Contradicting
 pub mod Sets
 pub mod Pairs
 pub mod Reached
