@@ -22,7 +22,7 @@ use Rattle.occ_tree.specs.Standing.{Kept, present}
 use Rattle.belief_net.specs.declared.erasing.Departed.{Departed}
 use Rattle.belief_net.specs.declared.state.BeliefNet.{BeliefNet}
 use Rattle.belief_net.specs.declared.state.Decisions.{Decisions}
-use Rattle.belief_net.specs.Adding.{MarksClasses, EntersAs, StayAll, AddsRule}
+use Rattle.belief_net.specs.Adding.{MarksLeft, EntersAs, StayAll, AddsRule}
 use Rattle.belief_net.specs.Beginning.{IsBegun, IsReady}
 use Rattle.belief_net.specs.Decided.{KeepsLast}
 use Rattle.belief_net.specs.Turning.{rows_of, IsFit}
@@ -46,9 +46,9 @@ module _ (old : Standing) (edit : Edit) (before net : Net) (b e c m r n : Belief
   same : SameMembers (forest e.tree) (forest m.tree)
   same x = ap (λ (t : Kept). member (forest t) x) h.same_tree ∙ h.same_nodes x
 
-  marks : MarksClasses (present m.tree) all.classes e.decisions m.decisions
-  marks = subst (λ (d : Decisions). MarksClasses (present m.tree) all.classes d m.decisions) h.same_rows
-      (subst (λ (t : Kept). MarksClasses (present t) all.classes c.decisions m.decisions) (sym h.same_tree) h.marks)
+  marks : MarksLeft (next_list old edit) (present m.tree) all.classes all.facts e.decisions m.decisions
+  marks = subst (λ (d : Decisions). MarksLeft (next_list old edit) (present m.tree) all.classes all.facts d m.decisions) h.same_rows
+      (subst (λ (t : Kept). MarksLeft (next_list old edit) (present t) all.classes all.facts c.decisions m.decisions) (sym h.same_tree) h.marks)
 
   stood : (x : ℕ) → IsLive (forest m.tree) x → Occurs old (moment_at (forest m.tree) x)
   stood x live =

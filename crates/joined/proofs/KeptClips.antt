@@ -25,9 +25,10 @@ use Rattle.tmm_model.specs.Moments.{Moment, At, base, distance, early, negated, 
 use Rattle.tmm_model.specs.Points.{same_name}
 use Rattle.tmm_model.specs.Standing.{Standing, points_in, far_in}
 use Rattle.tmm_model.specs.Tokens.{of_one_class, is_before, clips}
+use Rattle.list_theory.specs.WellNamed.{IsSound}
 use Rattle.list_theory.proofs.Elements.{In, both, In-filter, filter-In, In-from_Contains, Contains-from_In, In-filter_map, filter_map-In}
 use Rattle.belief_theory.specs.Right.{Occurs}
-use Rattle.belief_theory.proofs.ByClass.{by_class}
+use Rattle.belief_theory.proofs.ByClass.{no_rivals, by_class}
 use Rattle.belief_theory.proofs.Firsts.{least_is, one_spot}
 use Rattle.belief_theory.proofs.NextLists.{all_spelt}
 use Rattle.belief_theory.proofs.OneRight.{spot-token_of}
@@ -45,7 +46,7 @@ use Rattle.spots.proofs.Distances.{distance-two_bases}
 use Rattle.spots.proofs.Nodes.{node_at, live_at, moment_at-is, base-moment, point_is}
 use Rattle.spots.proofs.Seen.{distance_is, early_is, order_is, start_is, occurs_at, token_is}
 use Rattle.revisions.specs.Clips.{FewerOfClass}
-use Rattle.revisions.proofs.Clips.{clip_believed, clips_stay_on}
+use Rattle.revisions.proofs.Clips.{clip_believed, clips_stay_on, fewer_around}
 use Rattle.revisions.proofs.Tokens.{tokens_stay}
 use Rattle.joined.specs.KeptClips.{StandsAsBefore, NodesKeepClips}
 use Rattle.joined.proofs.Gaps.{WasThere, start_was, node_was, distance_was, one_base}
@@ -290,7 +291,8 @@ module _ (old : Standing) (edit : Edit) (before net : Net) (moved : List ℕ) (f
       let now : token_of new (moment_at g x) ≡ Some (token x m class) = ap (token_of new) at ∙ made x m class here of in
       let on = filter_map-In (token_of new) (built new).believed (moment m) (token x m class) (In-from_Contains (built new).believed (moment m) (holds_g.own x m here)) (made x m class here of) in
       let same = numbers x stands.was live in
-      sym (clips_stay_on old edit seen_f.network.sound seen_g.network.sound (moment_at g x) (token x m class) (token_stays x stands.was live ∙ now) now on (fewer class stand)
+      sym (clips_stay_on old edit seen_f.network.sound seen_g.network.sound (moment_at g x) (token x m class) (token_stays x stands.was live ∙ now) now
+      (fewer_around (built old) (built new) (token x m class) (no_rivals old seen_f.network.sound m.what) (no_rivals new seen_g.network.sound m.what) on (fewer class stand))
       (λ c is. by clipper (same_clipper (moment_at f x) clipper was stays) stays c (ap (clip (built old)) same ∙ is)))
       ∙ ap (clip (built old)) (sym same)
     where
