@@ -38,8 +38,8 @@ returns-clause-ok c =
     let (m, at, _) = c.requires.token in
     let fits : FitsSigned w64 c.early-from.result = search rules in
     let date = to_z-of_z w64 c.early-from.result fits ∙ c.early-from.ensures.date in
-    let what : c.row.result.what ≡ what_at tree x = (c.row.ensures m at).what ∙ sym (ap (λ o. option_map_or (λ (k : Member). k.what) o []) at) in
-    on_ok_weaker {P = MarksRivals list (present tree) c.row.result.what (to_z w64 (of_z w64 c.early-from.result)) mid new}
+    let what : c.row-fact.result.what ≡ what_at tree x = (c.row-fact.ensures m at).what ∙ sym (ap (λ o. option_map_or (λ (k : Member). k.what) o []) at) in
+    on_ok_weaker {P = MarksRivals list (present tree) c.row-fact.result.what (to_z w64 (of_z w64 c.early-from.result)) mid new}
     {Q = MarksReaders list c.args.net.now.present tree c.args.moving.now x c.args.class old new} c.mark_rivals.result
     (λ rivals. readers_marked list c.args.net.now.present tree c.args.moving.now x c.args.class old mid new c.in_ok-mark_own.ensures.ok
     (subst (λ z. MarksRivals list (present tree) (what_at tree x) z mid new) date (subst (λ w. MarksRivals list (present tree) w (to_z w64 (of_z w64 c.early-from.result)) mid new) what rivals)))
@@ -51,8 +51,8 @@ returns-clause-covered c =
     let mid = c.mark_own.new.decisions in
     let new = c.mark_rivals.new.decisions in
     let list = c.args.standing.now.present in
-    on_ok_weaker {P = MarksRivals list s c.row.result.what (to_z w64 (of_z w64 c.early-from.result)) mid new} {Q = Covers s new c.mark_own.new.marks} c.mark_rivals.result
-    (λ rivals. marks_covered s mid new c.mark_own.new.marks (λ i row. (reads_rival list (rule_in mid row) c.row.result.what ≡ true) × IsAsLate s (to_z w64 (of_z w64 c.early-from.result)) row)
+    on_ok_weaker {P = MarksRivals list s c.row-fact.result.what (to_z w64 (of_z w64 c.early-from.result)) mid new} {Q = Covers s new c.mark_own.new.marks} c.mark_rivals.result
+    (λ rivals. marks_covered s mid new c.mark_own.new.marks (λ i row. (reads_rival list (rule_in mid row) c.row-fact.result.what ≡ true) × IsAsLate s (to_z w64 (of_z w64 c.early-from.result)) row)
     (ap (λ d. d.rows) rivals.same) rivals.marks c.in_ok-mark_own.ensures.covered)
     c.mark_rivals.ensures.ok
 

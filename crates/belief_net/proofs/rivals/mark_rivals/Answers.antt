@@ -51,13 +51,13 @@ returns-clause-ok c =
 pub returns-clause-others : goal.returns-clause-others
 returns-clause-others c = c.loop-rule.invariant.others
 
-pub returns-then-has_rivals-clause-ok : goal.returns-then-has_rivals-clause-ok
-returns-then-has_rivals-clause-ok c =
+pub returns-then-not-has_rivals-clause-ok : goal.returns-then-not-has_rivals-clause-ok
+returns-then-not-has_rivals-clause-ok c =
     let d = c.args.decisions.now in
     let s = present c.args.tree.now in
     let list = c.args.standing.now.present in
     record {
       same = refl;
       marks = marks_none s (table_of d) (λ i row. (reads_rival list (rule_in d row) c.args.fact ≡ true) × IsAsLate s c.args.from row) (dates_in d.waiting)
-          (λ i row meant. (let no : true ≡ _ = sym meant.0 ∙ none_reads list c.args.fact (c.has_rivals.ensures c.if-has_rivals.false) (rule_in d row) in cc));
+          (λ i row meant. (let no : true ≡ _ = sym meant.0 ∙ none_reads list c.args.fact (c.has_rivals.ensures c.if-not-has_rivals.true) (rule_in d row) in cc));
     }

@@ -13,5 +13,5 @@ returns-in-Some-Rule c =
     let exceptions = c.in-Some-Rule.unless_facts in
     let rule = Rule c.in-Some-Rule.field-0-0 c.in-Some-Rule.field-0-1 c.in-Some-Rule.field-0-2 c.in-Some-Rule.field-0-3 c.in-Some-Rule.field-0-4 given exceptions in
     let stands : premise_in s.premises c.args.rule ≡ Some rule = sym c.in-Some-Rule.ensures ∙ ap Some c.in-Some-Rule.field-0-is in
-    let read : c.facts_read-read.result.items ≡ read_by (rule_of s c.args.rule) = c.facts_read-read.ensures ∙ ap (λ o. read_by (as_rule o)) (sym stands) in
-    c.has_rival.ensures ∙ ap (list_any (λ f. are_rivals s f c.args.fact)) read
+    let read : c.facts_read-read.result.items ≡ read_by (rule_of s c.args.rule) = c.facts_read-read.ensures ∙ (λ i. c.as_slice.ensures.value i ++ c.as_slice-in-Some-Rule.ensures.value i) ∙ ap (λ o. read_by (as_rule o)) (sym stands) in
+    c.has_rival.ensures ∙ ap (list_any (λ f. are_rivals s f c.args.fact)) (c.as_slice-in-Some-Rule-2.ensures.value ∙ read)
