@@ -20,7 +20,7 @@ use Rattle.belief_theory.proofs.OneRight.{spot-token_of}
 use Rattle.belief_theory.proofs.SoundBeliefs.{sound_timed}
 use Rattle.dist_net.specs.Net.{Net}
 use Rattle.spots.specs.Forest.{Forest, Member, member, moment, moment_at}
-use Rattle.spots.specs.OfLists.{IsForestOf, IsMemberOf, HasOccurrences, map_of}
+use Rattle.spots.specs.OfLists.{IsForestOf, IsMemberOf, HasOccurrences}
 use Rattle.spots.proofs.Nodes.{moment_at-is}
 use Rattle.supports.proofs.Grown.{node_cases, node_kept}
 use Rattle.undo_rows.specs.declared.row.Row.{Row as TableRow}
@@ -32,7 +32,7 @@ use Rattle.revisions.specs.Maps.{revision, watches}
 use Rattle.revisions.specs.Marks.{ReadsMoved}
 use Rattle.revisions.specs.Revisions.{Revision}
 use Rattle.revisions.specs.Steps.{IsUnder}
-use Rattle.revisions.specs.Walls.{IsSpared, AllOccur}
+use Rattle.revisions.specs.Walls.{AllOccur}
 use Rattle.joined.specs.Gaps.{reads_class, reads_rival}
 use Rattle.joined.specs.Listed.{AreNumbered, IsUnderClasses, IsListedUnder}
 use Rattle.joined.specs.Marking.{Mark, IsMarkOf, AreMarksOf, IsMarkedBy}
@@ -41,7 +41,7 @@ use Rattle.joined.specs.Sparing.{StaysNode}
 use Rattle.joined.specs.Turning.{Moved, came, went, TreeTurns, stays, enters, withdraws, IsMarkedRow, SameOutcome, effect_of}
 use Rattle.joined.proofs.Leaving.{leaves}
 use Rattle.joined.proofs.Listed.{readers_listed}
-use Rattle.joined.proofs.Sparing.{IsInBoth, IsSparedFor, IsSparedIn, spared_for, spared_stay, spared_at}
+use Rattle.joined.proofs.Sparing.{IsSparedFor, IsSparedIn, spared_for, spared_stay, spared_at}
 use Rattle.joined.proofs.Starting.{reads_by_class, fact_is}
 
 -- what is not surely begun, by its date
