@@ -8,7 +8,7 @@ use Rattle.tmm_model.specs.declared.premise.Premise.{Premise}
 use Rattle.tmm_model.specs.Beliefs.{are_rivals}
 use Rattle.tmm_model.specs.Moments.{read_by, rule_of}
 use Rattle.tmm_model.specs.Standing.{Standing}
-use Rattle.list_theory.proofs.Elements.{In, In-left, In-right, In-cases}
+use Rattle.list_theory.proofs.Elements.{In-left, In-right, In-cases}
 use Rattle.dist_net.specs.Net.{Net}
 use Rattle.supports.proofs.Grown.{taken}
 use Rattle.row_links.specs.Lists.{IsOn}

@@ -311,8 +311,8 @@ module _ (old : Standing) (edit : Edit) (before net : Net) (b e m n : BeliefNet)
       under_more old e.decisions.rules m.decisions.rules e.decisions.classes m.decisions.classes row (subst (HaveMore e.decisions.rules) (sym marks.rules) (no_more e.decisions.rules)) marks.more
       (under.named i row at) (under.classes i row at)
 
-  -- a row watched a node that left exactly where it is on a list of its class, or its rule read what
-  -- contradicts it
+  -- a row watched a node that left exactly where it is on a list of its class, or its rule read
+  -- what contradicts it
   listed_m : (x i k : ℕ) (z : Member) (class : List ℕ) (row : TableRow Pair 8) → member f x ≡ Some z → z.class ≡ Some class → place_in m.decisions.classes class ≡ Some k
       → (table_of e.decisions).row i ≡ Some row → (watches old (rule_in m.decisions row) (moment z) ≡ true) ↔ (IsListedUnder (table_of e.decisions) k i ⊎ (reads_rival old (rule_in m.decisions row) z.what ≡ true))
   listed_m x i k z class row at is number here =
@@ -425,7 +425,8 @@ module _ (old : Standing) (edit : Edit) (before net : Net) (b e m n : BeliefNet)
             gains.waits_on i row at_m (ap is_some (marks.marks.all i row at_e (asked i x row z there at_m was_at left class is stay_so reads, late i row at_e))))
       ]
         where
-          -- it is on a list of a class that is noted, or its rule reads what contradicts a fact that is
+          -- it is on a list of a class that is noted, or its rule reads what contradicts a fact
+          -- that is
           asked : (i x : ℕ) (row : TableRow Pair 8) (z : Member) → (table_of n.decisions).row i ≡ Some row → (table_of m.decisions).row i ≡ Some row → member f x ≡ Some z → HasLeft b.tree e.tree x z
               → (class : List ℕ) → z.class ≡ Some class → RivalsStay old (next_list old edit) (rule_in n.decisions row) → watches old (rule_in n.decisions row) (moment z) ≡ true
               → ReadsOneOf (table_of e.decisions) m.decisions.classes all.classes i ⊎ ReadsRivalOf (next_list old edit) (rule_in e.decisions row) all.facts

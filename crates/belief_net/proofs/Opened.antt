@@ -178,7 +178,8 @@ module _ (old : Standing) (edit : Edit) (nets : Nets) (names : List (List ℕ)) 
 
 -- ---- rows that wait for what left
 
--- c is e with the dates of the new network; in m besides rows wait on which what left may have borne
+-- c is e with the dates of the new network; in m besides rows wait on which what left may have
+-- borne
 pub record IsMarked (s : Standing) (nets : Nets) (e c m : BeliefNet) (all : Departed) : Type 0 where
   pub keeps : KeepsNodes e.tree c.tree
   pub dated : IsDatedBy nets.present (present c.tree)

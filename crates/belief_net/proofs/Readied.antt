@@ -95,8 +95,8 @@ module _ (old : Standing) (edit : Edit) (before net : Net) (f g : Forest) (rows 
       ap (member f) (sym one) ∙ there ∙ ap Some same
 
   -- where points moved, and what the marks of moved points say of rows: each that waits newly is at
-  -- an event for which points moved, or of a rule of which other facts contradict what it reads; and
-  -- each that does not wait may rest, and the same facts contradict what its rule reads
+  -- an event for which points moved, or of a rule of which other facts contradict what it reads;
+  -- and each that does not wait may rest, and the same facts contradict what its rule reads
   module _ (moves : ℕ → ℕ → Bool) (rests : List ℕ → ℕ → Type 0) (same_horizon : old.horizon ≡ (next_list old edit).horizon)
       (stay : (r : List ℕ) (x : ℕ) → rests r x → RivalsStay old (next_list old edit) r)
       (apart : (b : List Moment) (r : List ℕ) (x : ℕ) → HasOccurrences b g → IsLive g x → Contains (built old).believed (moment_at g x)

@@ -59,8 +59,8 @@ pub record MarksLeft (s : Standing) (st : State) (classes facts : List (List ℕ
   pub marks : Marks st (table_of old) (λ i row. (ReadsOneOf (table_of old) new.classes classes i ⊎ ReadsRivalOf s (rule_in old row) facts) × IsAsLate st (pos 0) row)
       (dates_in old.waiting) (dates_in new.waiting)
 
--- those rows wait on which a token of the class and the fact may bear, at events no earlier than the
--- date: those that read the class, and those whose rules read what contradicts the fact
+-- those rows wait on which a token of the class and the fact may bear, at events no earlier than
+-- the date: those that read the class, and those whose rules read what contradicts the fact
 pub record MarksToken (s : Standing) (st : State) (class fact : List ℕ) (from : ℤ) (old new : Decisions) : Type 0 where
   pub rows : new.rows ≡ old.rows
   pub rules : new.rules ≡ old.rules
@@ -71,8 +71,8 @@ pub record MarksToken (s : Standing) (st : State) (class fact : List ℕ) (from 
 
 -- ---- a root
 
--- What becomes of rows with the root at node x: a token marks all on which it may bear, an event has
--- a row for each rule on it.
+-- What becomes of rows with the root at node x: a token marks all on which it may bear, an event
+-- has a row for each rule on it.
 pub data FollowsRoot (s : Standing) (x : ℕ) (tree : Kept) (old new : Decisions) : Type 0 where
   a_token : (class : List ℕ) → class_at tree x ≡ Some class → MarksToken s (present tree) class (what_at tree x) (pos 0) old new → FollowsRoot s x tree old new
   an_event : class_at tree x ≡ None → AddsRows (rules_at s (moment_at (forest tree) x)) x (early (present tree) x) old new → FollowsRoot s x tree old new

@@ -55,8 +55,8 @@ pub record IsBegun (old : Standing) (edit : Edit) (before net : Net) (b e c m r 
   pub names_root : KeepsLast m.decisions r.decisions
   pub names_after : KeepsLast r.decisions n.decisions
 
--- the row of this rule is one on which the token of a node bore, which left: its rule watched it, or
--- reads now what contradicts it
+-- the row of this rule is one on which the token of a node bore, which left: its rule watched it,
+-- or reads now what contradicts it
 abbrev pub IsLeftFrom : Standing → Standing → List ℕ → Member → Type 0
 IsLeftFrom old new rule m = (watches old rule (moment m) ≡ true) ⊎ ((class : List ℕ) × (m.class ≡ Some class) × (reads_rival new rule m.what ≡ true))
 

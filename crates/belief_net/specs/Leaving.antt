@@ -1,5 +1,5 @@
 -- What goes where a rule fires no more: nodes with their rows; and rows wait that read what went.
-use Rattle.std.specs.Prelude.{◌≡◌, ◌⊎◌, ◌↔◌, ℕ, true, false, List, Option, Some, None}
+use Rattle.std.specs.Prelude.{◌≡◌, ◌⊎◌, ◌↔◌, ℕ, true, List, Option, Some, None}
 use Rattle.tmm_model.specs.Standing.{Standing}
 use Rattle.list_theory.proofs.Elements.{In}
 use Rattle.dist_net.specs.Net.{Net}
@@ -23,7 +23,8 @@ use Rattle.belief_net.specs.Windows.{IsSparedBy}
 
 -- ---- one node
 
--- what a node marks that goes with these: a token those rows on which it may bear, and an event none
+-- what a node marks that goes with these: a token those rows on which it may bear, and an event
+-- none
 pub data MarksNode (s : Standing) (net : Net) (tree : Kept) (going : List ℕ) (y : ℕ) (old new : Decisions) : Type 0 where
   a_token : (class : List ℕ) → class_at tree y ≡ Some class → MarksReaders s net tree going y class old new → MarksNode s net tree going y old new
   an_event : class_at tree y ≡ None → new ≡ old → MarksNode s net tree going y old new

@@ -177,10 +177,10 @@ pub(crate) fn mark_readers(
     mark_rivals(standing, tree, decisions, fact, from)
 }
 
-// Lets those rows wait that read the class of the token at a node, which enters or leaves with these
-// nodes, but where it bears on nothing by its class. After the first few tokens of a class all its
-// rows wait from the date of one on, which serves those to come: an edit may move many tokens of a
-// class, and to walk over all its rows for each of them would take the square.
+// Lets those rows wait that read the class of the token at a node, which enters or leaves with
+// these nodes, but where it bears on nothing by its class. After the first few tokens of a class
+// all its rows wait from the date of one on, which serves those to come: an edit may move many
+// tokens of a class, and to walk over all its rows for each of them would take the square.
 fn mark_own(
     alloc: Global,
     tree: &Tree,

@@ -267,8 +267,8 @@ fn withdraw(
     Ok(())
 }
 
-// Tells of nodes that go, notes the classes and the facts of the tokens among them, and takes out the
-// rows at the events.
+// Tells of nodes that go, notes the classes and the facts of the tokens among them, and takes out
+// the rows at the events.
 fn part_with(
     alloc: Global,
     tree: &Tree,

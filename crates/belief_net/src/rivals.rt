@@ -21,8 +21,8 @@ use occ_tree::Tree;
 use premise_list::Standing;
 use tmm_model::{Name, NoMemory, Premise};
 
-// Lets those rows wait whose rules read what contradicts a fact, at events no earlier than the date:
-// rules are looked at one after the other, and only where some premise says that something
+// Lets those rows wait whose rules read what contradicts a fact, at events no earlier than the
+// date: rules are looked at one after the other, and only where some premise says that something
 // contradicts the fact.
 pub(crate) fn mark_rivals(
     standing: &Standing,

@@ -9,7 +9,7 @@ use Rattle.undo_rows.specs.Changes.{Logged, present as table}
 use Rattle.decision_rows.specs.declared.row.Pair.{Pair}
 use Rattle.joined.specs.Gaps.{reads_rival}
 use Rattle.belief_net.specs.Covered.{Covers}
-use Rattle.belief_net.specs.Decided.{table_of, rule_in}
+use Rattle.belief_net.specs.Decided.{rule_in}
 use Rattle.belief_net.specs.Entering.{MarksRivals, MarksReaders, what_at}
 use Rattle.belief_net.specs.Marks.{HaveEvents, IsAsLate}
 use Rattle.belief_net.proofs.Brought.{marks_under}

@@ -1,4 +1,4 @@
-use Rattle.std.proofs.Common.{◌∙◌, sym, ap, subst}
+use Rattle.std.proofs.Common.{sym, subst}
 use Rattle.std.proofs.lemmas.Result.{on_ok_weaker}
 use Rattle.undo_rows.specs.Changes.{Logged, present as table}
 use Rattle.decision_rows.specs.declared.row.Pair.{Pair}

@@ -4,7 +4,7 @@ use Rattle.std.proofs.lemmas.List.{take_more, take_all}
 use Rattle.occ_tree.specs.Standing.{present}
 use Rattle.belief_net.specs.declared.state.Decisions.{Decisions}
 use Rattle.belief_net.specs.Adding.{MarksFacts}
-use Rattle.belief_net.specs.Decided.{table_of, AreUnder}
+use Rattle.belief_net.specs.Decided.{table_of}
 use Rattle.belief_net.specs.Entering.{MarksRivals}
 use Rattle.belief_net.specs.Marks.{HaveEvents}
 use Rattle.belief_net.specs.Numbers.{name_in}
