@@ -1,8 +1,7 @@
 // Rows that wait since a token enters or leaves whose fact contradicts what their rules read.
 ghost use Rattle.std.specs.Prelude.{◌≡◌, ◌&&◌, ℕ, true, false, List, OnOk};
 ghost use Rattle.std.specs.List.{list_any};
-ghost use Rattle.tmm_model.specs.Beliefs.{says_against, are_rivals};
-ghost use Rattle.tmm_model.specs.Points.{same_name};
+ghost use Rattle.tmm_model.specs.Beliefs.{are_rivals};
 ghost use Rattle.row_links.specs.Lists.{IsOn};
 ghost use Rattle.occ_tree.specs.Standing.{present};
 ghost use Rattle.undo_rows.specs.Changes.{present as table};
@@ -19,7 +18,7 @@ use crate::waiting::Waiting;
 use decision_rows::Rows;
 use occ_tree::Tree;
 use premise_list::Standing;
-use tmm_model::{Name, NoMemory, Premise};
+use tmm_model::{Name, NoMemory, Premise, Rivals};
 
 // Lets those rows wait whose rules read what contradicts a fact, at events no earlier than the
 // date: rules are looked at one after the other, and only where some premise says that something
@@ -110,39 +109,7 @@ fn has_rival(standing: &Standing, facts: &[Name], fact: Name) -> bool
 fn are_rivals(standing: &Standing, one: Name, other: Name) -> bool
     ensures { result ≡ are_rivals standing.now.present one other }
 {
-    if one == other {
-        return false;
-    }
-    for place in 0..standing.len() {
-        let Some(premise) = standing.at(place) else {
-            unreachable!()
-        };
-        if says_against(premise, one, other) {
-            return true;
-        }
-    }
-    false
-}
-
-// Whether the premise says that two facts contradict each other.
-fn says_against(premise: &Premise, one: Name, other: Name) -> bool
-    ensures { result ≡ says_against one other premise.now }
-{
-    match premise {
-        Premise::Against {
-            one: first,
-            other: second,
-            ..
-        } => are_both(*first, *second, one, other) || are_both(*first, *second, other, one),
-        _ => false,
-    }
-}
-
-// Whether two names are these two, in their order.
-fn are_both(first: Name, second: Name, one: Name, other: Name) -> bool
-    ensures { result ≡ (same_name first one && same_name second other) }
-{
-    first == one && second == other
+    standing.are_against(&one, &other)
 }
 
 // Whether some premise speaks of what contradicts a fact: if not, nothing contradicts it but its
@@ -150,23 +117,5 @@ fn are_both(first: Name, second: Name, one: Name, other: Name) -> bool
 fn has_rivals(standing: &Standing, fact: Name) -> bool
     ensures { result ≡ false → (f : List ℕ) → are_rivals standing.now.present f fact ≡ false }
 {
-    for place in 0..standing.len() {
-        let Some(premise) = standing.at(place) else {
-            unreachable!()
-        };
-        if speaks_of(premise, fact) {
-            return true;
-        }
-    }
-    false
-}
-
-// Whether the premise says of a fact what contradicts it.
-fn speaks_of(premise: &Premise, fact: Name) -> bool
-    ensures { result ≡ false → (f : List ℕ) → says_against f fact premise.now ≡ false }
-{
-    match premise {
-        Premise::Against { one, other, .. } => *one == fact || *other == fact,
-        _ => false,
-    }
+    standing.has_rivals(fact)
 }
