@@ -10,6 +10,7 @@ pub mod NextLists
 pub mod OneRight
 pub mod Order
 pub mod Outcomes
+pub mod Rivals
 pub mod Settling
 pub mod Sorts
 pub mod Sound

@@ -21,7 +21,6 @@ use Rattle.belief_theory.proofs.Order.{IsSpelt}
 use Rattle.belief_theory.proofs.Sound.{rule_stands}
 use Rattle.belief_theory.proofs.SoundBeliefs.{believed_occurs}
 use Rattle.belief_theory.proofs.Spelt.{spelt}
-use Rattle.belief_theory.proofs.ByClass.{by_class}
 use Rattle.belief_theory.proofs.Untouched.{outcome_alike, untouched_alike, untouched_stood}
 use Rattle.list_theory.proofs.Erasure.{kept_before}
 
@@ -64,4 +63,4 @@ untouched old edit sound_old sound_new t r stands h =
       | inl more ↦ found_within old new sound_new more t r sound_old stood.1
       | inr fewer ↦ sym (found_within new old sound_old fewer t r sound_new stands)
     ] in
-    outcome_alike (built old) (built new) t r (untouched_alike (built old) (built new) t r text h) (record { one = by_class old sound_old; other = by_class new sound_new }) (all_spelt old sound_old) (all_spelt new sound_new)
+    outcome_alike (built old) (built new) t r (untouched_alike (built old) (built new) t r text h) (all_spelt old sound_old) (all_spelt new sound_new)

@@ -21,7 +21,7 @@ use Rattle.tmm_model.specs.Points.{same_name}
 use Rattle.tmm_model.specs.Standing.{Standing, points_in, far_in}
 use Rattle.list_theory.proofs.Elements.{In, In-from_Contains, Contains-from_In, In-cases, In-left, In-right, In-map, map-In, In-filter, filter-In, In-filter_map, filter_map-In}
 use Rattle.belief_theory.specs.Right.{Occurs}
-use Rattle.belief_theory.specs.Touched.{watched, watched_points}
+use Rattle.belief_theory.specs.Touched.{is_watched, watched, watched_points}
 use Rattle.belief_theory.proofs.SoundBeliefs.{believed_occurs}
 use Rattle.dist_net.specs.Net.{Nets}
 use Rattle.list_net.specs.Fits.{IsNetOf}
@@ -39,7 +39,7 @@ use Rattle.spots.proofs.Distances.{distance-one_base, distance-two_bases}
 use Rattle.spots.proofs.Links.{low_is, high_is, apart_is}
 use Rattle.spots.proofs.Nodes.{node_at, live_at, moment_at-is, base-moment, point_is, links_are, rules_are}
 use Rattle.spots.proofs.Seen.{distance_is, start_is, occurs_at, token_is}
-use Rattle.revisions.specs.Maps.{is_watched, watches}
+use Rattle.revisions.specs.Maps.{watches}
 use Rattle.revisions.proofs.Alike.{span_at}
 use Rattle.revisions.proofs.Lawful.{text, token_watched}
 use Rattle.revisions.proofs.StillEdits.{anchor_point, base_root}

@@ -11,6 +11,7 @@ use Rattle.tmm_model.specs.Edits.{next_list}
 use Rattle.tmm_model.specs.Maps.{built}
 use Rattle.tmm_model.specs.Moments.{Moment, distance, early, read_by, rule_of}
 use Rattle.tmm_model.specs.Points.{same_name}
+use Rattle.belief_theory.specs.Touched.{is_watched}
 use Rattle.tmm_model.specs.Standing.{Standing, far_in}
 use Rattle.tmm_model.specs.Tokens.{is_by}
 use Rattle.list_theory.specs.WellNamed.{IsSound}
@@ -29,7 +30,7 @@ use Rattle.undo_rows.specs.Changes.{Logged, present}
 use Rattle.undo_rows.specs.Tables.{AreListed}
 use Rattle.decision_rows.specs.declared.row.Pair.{Pair}
 use Rattle.decision_rows.specs.declared.row.Decision.{Decision}
-use Rattle.revisions.specs.Maps.{revision, watches, is_watched}
+use Rattle.revisions.specs.Maps.{revision, watches}
 use Rattle.revisions.specs.Marks.{ReadsMoved}
 use Rattle.revisions.specs.Revisions.{Revision}
 use Rattle.revisions.specs.Steps.{IsUnder}

@@ -20,7 +20,7 @@ use Rattle.tmm_model.specs.Standing.{Standing, points_in}
 use Rattle.tmm_model.specs.Tokens.{of_one_class, is_by, is_before, cuts, lasts_to}
 use Rattle.list_theory.proofs.Elements.{In, In-from_Contains, Contains-from_In, In-filter, filter-In, In-filter_map, filter_map-In, both}
 use Rattle.belief_theory.specs.Right.{Occurs}
-use Rattle.belief_theory.specs.Touched.{watched}
+use Rattle.belief_theory.specs.Touched.{is_watched, watched}
 use Rattle.dist_net.specs.Net.{Net, Nets}
 use Rattle.list_net.specs.Fits.{IsNetOf}
 use Rattle.list_net.specs.Network.{PointsKeepNumbers}
@@ -31,7 +31,7 @@ use Rattle.spots.specs.OfLists.{IsForestOf, HasOccurrences, map_of}
 use Rattle.spots.specs.Spots.{spot_moment, spot_distance, base_of, links_of, links_high}
 use Rattle.spots.proofs.Nodes.{moment_at-is}
 use Rattle.spots.proofs.Seen.{distance_is, start_is}
-use Rattle.revisions.specs.Maps.{is_watched, watches}
+use Rattle.revisions.specs.Maps.{watches}
 use Rattle.revisions.specs.Shifts.{IsShifted}
 use Rattle.revisions.specs.Walls.{IsSpared, AllOccur}
 use Rattle.revisions.proofs.Lawful.{text, token_watched, watched_back}

@@ -15,7 +15,7 @@ use Rattle.tmm_model.specs.Tokens.{of_one_class, lasts_to}
 use Rattle.list_theory.specs.WellNamed.{IsSound}
 use Rattle.list_theory.proofs.Elements.{In, In-from_Contains, Contains-from_In, In-filter, filter-In, In-filter_map, filter_map-In}
 use Rattle.belief_theory.specs.Outcomes.{outcome}
-use Rattle.belief_theory.specs.Touched.{watched}
+use Rattle.belief_theory.specs.Touched.{is_watched, watched}
 use Rattle.dist_net.specs.Net.{Net}
 use Rattle.spots.specs.declared.spot.Spot.{Spot}
 use Rattle.spots.specs.declared.spot.Spot.TheVariants.{Node}
@@ -26,7 +26,6 @@ use Rattle.spots.proofs.Nodes.{live_at}
 use Rattle.spots.proofs.Seen.{distance_is, end_there, token_is}
 use Rattle.supports.proofs.Moved.{by_alike, cuts_alike}
 use Rattle.supports.proofs.TokenRows.{token_row_spots}
-use Rattle.revisions.specs.Maps.{is_watched}
 use Rattle.revisions.specs.Walls.{begins_by, IsBetween, AreWallsAt, IsPast, IsSpared, AllOccur}
 use Rattle.revisions.proofs.Walls.{outcome_but}
 use Rattle.joined.specs.Sparing.{StaysIn, HasWalls, IsSparedAt}

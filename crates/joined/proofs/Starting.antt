@@ -15,13 +15,13 @@ use Rattle.tmm_model.specs.Moments.{Moment, After, Distances, read_by, rule_of}
 use Rattle.tmm_model.specs.Points.{same_name}
 use Rattle.list_theory.specs.WellNamed.{IsSound}
 use Rattle.tmm_model.specs.Standing.{Standing, far_in}
-use Rattle.belief_theory.specs.Touched.{is_decision, is_touched}
+use Rattle.belief_theory.specs.Touched.{is_watched, is_decision, is_touched}
 use Rattle.dist_net.specs.Net.{Net}
 use Rattle.list_net.specs.Represents.{Names}
 use Rattle.spots.specs.Forest.{Forest, Member, moment, moment_at, IsLive}
 use Rattle.spots.specs.OfLists.{IsMemberOf, class_for, map_of}
 use Rattle.spots.proofs.Nodes.{node_at, live_at, moment_at-is}
-use Rattle.revisions.specs.Maps.{revision, is_watched, watches}
+use Rattle.revisions.specs.Maps.{revision, watches}
 use Rattle.revisions.specs.Revisions.{Revision}
 use Rattle.revisions.specs.Seeds.{IsSeeded}
 use Rattle.revisions.proofs.Lawful.{lawful, of_occurs, occurs_of}

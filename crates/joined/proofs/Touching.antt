@@ -16,7 +16,7 @@ use Rattle.list_theory.specs.WellNamed.{IsSound}
 use Rattle.list_theory.proofs.Elements.{In, In-from_Contains, Contains-from_In, In-filter, filter-In, In-filter_map, filter_map-In, list_any-In, In-list_any}
 use Rattle.belief_theory.specs.Outcomes.{outcome}
 use Rattle.belief_theory.specs.Right.{Occurs}
-use Rattle.belief_theory.specs.Touched.{is_decision, is_touched, same_tokens, same_gaps, watched, watched_points}
+use Rattle.belief_theory.specs.Touched.{is_watched, is_decision, is_touched, same_tokens, same_gaps, watched, watched_points}
 use Rattle.belief_theory.proofs.OneRight.{spot-token_of}
 use Rattle.belief_theory.proofs.SoundBeliefs.{believed_right, believed_occurs}
 use Rattle.belief_theory.proofs.Untouched.{Alike, untouched_alike, untouched_stood}
@@ -24,7 +24,7 @@ use Rattle.spots.specs.Forest.{Forest, moment_at}
 use Rattle.spots.specs.OfLists.{HasOccurrences, map_of}
 use Rattle.spots.proofs.Nodes.{node_at, moment_at-is}
 use Rattle.revisions.specs.Counted.{AreSeeds}
-use Rattle.revisions.specs.Maps.{revision, is_watched, watches}
+use Rattle.revisions.specs.Maps.{revision, watches}
 use Rattle.revisions.specs.Revisions.{Revision, IsOf}
 use Rattle.revisions.proofs.Lawful.{lawful, text, watched_token, token_watched, watched_back, decided, occurs_of}
 use Rattle.revisions.proofs.SeedsRight.{keeps, seed_occurs, untouched_from, among_more}
