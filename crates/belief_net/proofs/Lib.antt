@@ -56,4 +56,6 @@ pub mod Stood
 pub mod Shifted
 pub mod Waking
 pub mod AtRest
+pub mod Watched
+pub mod Rivalled
 pub mod Unread

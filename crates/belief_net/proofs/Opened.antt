@@ -40,7 +40,6 @@ use Rattle.revisions.specs.Standing.{IsLeftOut}
 use Rattle.revisions.proofs.StillEdits.{base_root}
 use Rattle.revisions.proofs.Tokens.{root_named}
 use Rattle.joined.specs.Gaps.{SameGaps, MovesAt}
-use Rattle.joined.specs.Shifting.{AreLoose, MayRest}
 use Rattle.joined.specs.Rows.{Row}
 use Rattle.joined.specs.Starting.{IsPrepared}
 use Rattle.joined.specs.Telling.{IsToldOf, LeaveFirst}
@@ -69,7 +68,7 @@ use Rattle.belief_net.specs.Touching.{IsRowMoved}
 use Rattle.belief_net.specs.Turning.{rows_of, IsFit}
 use Rattle.belief_net.specs.Updating.{IsKept, IsPending, MayAdd, Entered, IsTouchedBy, IsLeftBy}
 use Rattle.belief_net.specs.Waiting.{dates_in, waits_in}
-use Rattle.belief_net.specs.Woken.{IsRowAtRest}
+use Rattle.belief_net.specs.Woken.{IsSparedThere, RestsAt, IsRowAtRest}
 use Rattle.belief_net.proofs.Begun.{begun_ready}
 use Rattle.belief_net.proofs.Cleared.{cleared, seen_after, told_first}
 use Rattle.belief_net.proofs.Entered.{one_row}
@@ -308,7 +307,7 @@ module _ (old : Standing) (edit : Edit) (nets : Nets) (names : List (List ℕ)) 
 
   -- what may rest though points moved, by a rule and the node of an event
   abbrev MayRestAt : List ℕ → ℕ → Type 0
-  MayRestAt r x = (loose : ℕ → Bool) × AreLoose (is_moved nets (name_added edit)) loose × MayRest (is_moved nets (name_added edit)) loose (next_list old edit) nets (forest n.tree) r x
+  MayRestAt r x = IsSparedThere nets (name_added edit) (next_list old edit) (forest n.tree) r x
 
   prepared_moved : ((row : TableRow Pair 8) → IsTouchedBy edit (next_list old edit) nets before n row ≡ IsRowMoved nets (name_added edit) (next_list old edit) (forest n.tree) n.decisions row)
       → ((row : TableRow Pair 8) → IsLeftBy edit (next_list old edit) nets before n row ≡ IsRowAtRest nets (name_added edit) (next_list old edit) (forest n.tree) n.decisions row)
@@ -317,12 +316,17 @@ module _ (old : Standing) (edit : Edit) (nets : Nets) (names : List (List ℕ)) 
   prepared_moved by_move by_rest same =
       prepared_on old edit nets.committed nets.present f g (rows_of b) (rows_of n) (rows_of y) sound_before sound_after h.kept.current ready on
       (λ l holds seeds. moved_marked old edit nets.committed nets.present f g (rows_of b) (rows_of n) (rows_of y) sound_before sound_after h.kept.current ready on
-      (is_moved nets (name_added edit)) MayRestAt same (no_rivals_change old (next_list old edit) sound_before sound_after) apart keeps all_wait only_wait l holds seeds)
+      (is_moved nets (name_added edit)) MayRestAt same (no_rivals_change old (next_list old edit) sound_before sound_after) apart still_apart keeps all_wait only_wait l holds seeds)
     where
       apart : (l : List Moment) (r : List ℕ) (x : ℕ) → HasOccurrences l g → IsLive g x → Contains (built old).believed (moment_at g x)
           → ((u : Moment) → Contains l u → watches (next_list old edit) r u ≡ true → Contains (built old).believed u)
           → SameGaps old (next_list old edit) l (moment_at g x) r → MovesAt (is_moved nets (name_added edit)) (next_list old edit) g r x → ⊥
       apart l r x holds live was entered = (moved_rows_are_touched old edit nets g l r x h.kept.fit.tree.seen.network ready.seen h.numbers holds live was entered).0
+
+      still_apart : (l : List Moment) (r : List ℕ) (x : ℕ) → HasOccurrences l g → IsLive g x → Contains (built old).believed (moment_at g x)
+          → ((u : Moment) → Contains l u → watches (next_list old edit) r u ≡ true → Contains (built old).believed u)
+          → (MovesAt (is_moved nets (name_added edit)) (next_list old edit) g r x → ⊥) → SameGaps old (next_list old edit) l (moment_at g x) r
+      still_apart l r x holds live was entered = (moved_rows_are_touched old edit nets g l r x h.kept.fit.tree.seen.network ready.seen h.numbers holds live was entered).1
 
       keeps : (l : List Moment) (r : List ℕ) (x : ℕ) → HasOccurrences l g → IsLive g x → Contains (built old).believed (moment_at g x)
           → Contains (rules_at old (moment_at g x)) r → Contains (rules_at (next_list old edit) (moment_at g x)) r
@@ -333,12 +337,12 @@ module _ (old : Standing) (edit : Edit) (nets : Nets) (names : List (List ℕ)) 
       keeps l r x holds live was stood stands left entered (loose, cover, rest) =
           resting_rows_keep old edit nets loose g l r x h.kept.fit.tree.seen.network ready.seen h.numbers cover holds live was stood stands same left entered rest
 
-      all_wait : (i : ℕ) (q : Row) → rows_of y i ≡ Some q → (q.waits ≡ true) ⊎ MayRestAt q.rule q.trigger
+      all_wait : (i : ℕ) (q : Row) → rows_of y i ≡ Some q → (q.waits ≡ true) ⊎ RestsAt nets (name_added edit) (next_list old edit) (forest n.tree) q.rule q.trigger
       all_wait i q at =
           let (row, here, is, waits) = waits_or n z.decisions.waiting (λ j r. IsTouchedBy edit (next_list old edit) nets before n r) (λ j r. IsLeftBy edit (next_list old edit) nets before n r) o.touched i q at in
           elim waits [
             | inl waiting ↦ inl waiting
-            | inr left ↦ inr (subst (λ (r : Row). MayRestAt r.rule r.trigger) (sym is) (subst (λ T. T) (by_rest row) left))
+            | inr left ↦ inr (subst (λ (r : Row). RestsAt nets (name_added edit) (next_list old edit) (forest n.tree) r.rule r.trigger) (sym is) (subst (λ T. T) (by_rest row) left))
           ]
 
       only_wait : (i : ℕ) (p q : Row) → rows_of n i ≡ Some p → rows_of y i ≡ Some q → q.waits ≡ true → (p.waits ≡ true) ⊎ MovesAt (is_moved nets (name_added edit)) (next_list old edit) g q.rule q.trigger

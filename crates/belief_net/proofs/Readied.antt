@@ -95,19 +95,22 @@ module _ (old : Standing) (edit : Edit) (before net : Net) (f g : Forest) (rows 
       ap (member f) (sym one) ∙ there ∙ ap Some same
 
   -- where points moved, and what the marks of moved points say of rows: each that waits newly is at
-  -- an event for which points moved, and each that does not wait may rest
+  -- an event for which points moved, and for each that does not wait none moved, or it may rest
   module _ (moves : ℕ → ℕ → Bool) (rests : List ℕ → ℕ → Type 0) (same_horizon : old.horizon ≡ (next_list old edit).horizon)
       (stay : (r : List ℕ) → RivalsStay old (next_list old edit) r)
       (apart : (b : List Moment) (r : List ℕ) (x : ℕ) → HasOccurrences b g → IsLive g x → Contains (built old).believed (moment_at g x)
       → ((y : Moment) → Contains b y → watches (next_list old edit) r y ≡ true → Contains (built old).believed y)
       → SameGaps old (next_list old edit) b (moment_at g x) r → MovesAt moves (next_list old edit) g r x → ⊥)
+      (still_apart : (b : List Moment) (r : List ℕ) (x : ℕ) → HasOccurrences b g → IsLive g x → Contains (built old).believed (moment_at g x)
+      → ((y : Moment) → Contains b y → watches (next_list old edit) r y ≡ true → Contains (built old).believed y)
+      → (MovesAt moves (next_list old edit) g r x → ⊥) → SameGaps old (next_list old edit) b (moment_at g x) r)
       (keeps : (b : List Moment) (r : List ℕ) (x : ℕ) → HasOccurrences b g → IsLive g x → Contains (built old).believed (moment_at g x)
       → Contains (rules_at old (moment_at g x)) r → Contains (rules_at (next_list old edit) (moment_at g x)) r
       → ((y : Moment) → Contains (built old).believed y → watches old r y ≡ true → Contains b y)
       → ((y : Moment) → Contains b y → watches (next_list old edit) r y ≡ true → Contains (built old).believed y)
       → rests r x
       → outcome old (far_in old.premises) (built old).believed (moment_at g x) r ≡ outcome (next_list old edit) (far_in (next_list old edit).premises) b (moment_at g x) r)
-      (all : (i : ℕ) (q : Row) → after i ≡ Some q → (q.waits ≡ true) ⊎ rests q.rule q.trigger)
+      (all : (i : ℕ) (q : Row) → after i ≡ Some q → (q.waits ≡ true) ⊎ ((MovesAt moves (next_list old edit) g q.rule q.trigger → ⊥) ⊎ rests q.rule q.trigger))
       (only : (i : ℕ) (o q : Row) → mid i ≡ Some o → after i ≡ Some q → q.waits ≡ true → (o.waits ≡ true) ⊎ MovesAt moves (next_list old edit) g q.rule q.trigger)
       (b : List Moment) (holds : HasOccurrences b g) where
     -- a row that does not wait keeps its outcome
@@ -176,6 +179,19 @@ module _ (old : Standing) (edit : Edit) (before net : Net) (f g : Forest) (rows 
           let stands = stood (begun.from i q at) in
           keeps b q.rule q.trigger holds live stands.0 stands.1 (begun.own i q at).1 watched_stays watched_was rest
 
+      -- where no points moved on which it depends, the edit does not touch it
+      row_untouched : (MovesAt moves (next_list old edit) g q.rule q.trigger → ⊥) → IsUntouched old (next_list old edit) b (moment_at g q.trigger) q.rule
+      row_untouched still_there =
+          let stands = stood (begun.from i q at) in
+          record {
+            was = stands;
+            horizon = same_horizon;
+            rivals = stay q.rule;
+            left = watched_stays;
+            entered = watched_was;
+            gaps = still_apart b q.rule q.trigger holds live stands.0 watched_was still_there;
+          }
+
     -- a row that waits is touched
     module _ (i : ℕ) (q : Row) (at : after i ≡ Some q) (waits : q.waits ≡ true) (u : IsUntouched old (next_list old edit) b (moment_at g q.trigger) q.rule) where
       abbrev o2 : Row
@@ -228,7 +244,11 @@ module _ (old : Standing) (edit : Edit) (before net : Net) (f g : Forest) (rows 
         ⊎ (IsUntouched old (next_list old edit) b (moment_at g q.trigger) q.rule
         ⊎ (outcome old (far_in old.premises) (built old).believed (moment_at g q.trigger) q.rule ≡ outcome (next_list old edit) (far_in (next_list old edit).premises) b (moment_at g q.trigger) q.rule))
     waits_or_keeps i q at true waits = inl waits
-    waits_or_keeps i q at false still = elim (all i q at) [ inl waits ↦ inl waits | inr rest ↦ inr (inr (row_keeps i q at still rest)) ]
+    waits_or_keeps i q at false still = elim (all i q at) [
+      | inl waits ↦ inl waits
+      | inr (inl unmoved) ↦ inr (inl (row_untouched i q at still unmoved))
+      | inr (inr rest) ↦ inr (inr (row_keeps i q at still rest))
+    ]
 
     pub moved_marked : AreSeeds old (next_list old edit) b → AreMarked old (next_list old edit) b g after
     moved_marked seeds = resting_marked old edit b g after sound_old sound_new seeds rows_are
