@@ -42,6 +42,7 @@ use Rattle.revisions.proofs.Tokens.{root_named}
 use Rattle.joined.specs.Gaps.{SameGaps, MovesAt}
 use Rattle.joined.specs.Rows.{Row}
 use Rattle.joined.specs.Starting.{IsPrepared}
+use Rattle.joined.specs.Touching.{RivalsStay}
 use Rattle.joined.specs.Telling.{IsToldOf, LeaveFirst}
 use Rattle.joined.proofs.Preparing.{prepared_netted}
 use Rattle.joined.proofs.Reading.{no_rivals_change}
@@ -68,7 +69,7 @@ use Rattle.belief_net.specs.Touching.{IsRowMoved}
 use Rattle.belief_net.specs.Turning.{rows_of, IsFit}
 use Rattle.belief_net.specs.Updating.{IsKept, IsPending, MayAdd, Entered, IsTouchedBy, IsLeftBy}
 use Rattle.belief_net.specs.Waiting.{dates_in, waits_in}
-use Rattle.belief_net.specs.Woken.{IsSparedThere, RestsAt, IsRowAtRest}
+use Rattle.belief_net.specs.Woken.{RestsAt, IsRowAtRest}
 use Rattle.belief_net.proofs.Begun.{begun_ready}
 use Rattle.belief_net.proofs.Cleared.{cleared, seen_after, told_first}
 use Rattle.belief_net.proofs.Entered.{one_row}
@@ -307,7 +308,7 @@ module _ (old : Standing) (edit : Edit) (nets : Nets) (names : List (List ℕ)) 
 
   -- what may rest though points moved, by a rule and the node of an event
   abbrev MayRestAt : List ℕ → ℕ → Type 0
-  MayRestAt r x = IsSparedThere nets (name_added edit) (next_list old edit) (forest n.tree) r x
+  MayRestAt r x = RestsAt nets (name_added edit) (next_list old edit) (forest n.tree) r x
 
   prepared_moved : ((row : TableRow Pair 8) → IsTouchedBy edit (next_list old edit) nets before n row ≡ IsRowMoved nets (name_added edit) (next_list old edit) (forest n.tree) n.decisions row)
       → ((row : TableRow Pair 8) → IsLeftBy edit (next_list old edit) nets before n row ≡ IsRowAtRest nets (name_added edit) (next_list old edit) (forest n.tree) n.decisions row)
@@ -316,39 +317,38 @@ module _ (old : Standing) (edit : Edit) (nets : Nets) (names : List (List ℕ)) 
   prepared_moved by_move by_rest same =
       prepared_on old edit nets.committed nets.present f g (rows_of b) (rows_of n) (rows_of y) sound_before sound_after h.kept.current ready on
       (λ l holds seeds. moved_marked old edit nets.committed nets.present f g (rows_of b) (rows_of n) (rows_of y) sound_before sound_after h.kept.current ready on
-      (is_moved nets (name_added edit)) MayRestAt same (no_rivals_change old (next_list old edit) sound_before sound_after) apart still_apart keeps all_wait only_wait l holds seeds)
+      (is_moved nets (name_added edit)) MayRestAt same (λ r x rest. no_rivals_change old (next_list old edit) sound_before sound_after r) apart keeps all_wait only_wait l holds seeds)
     where
       apart : (l : List Moment) (r : List ℕ) (x : ℕ) → HasOccurrences l g → IsLive g x → Contains (built old).believed (moment_at g x)
           → ((u : Moment) → Contains l u → watches (next_list old edit) r u ≡ true → Contains (built old).believed u)
           → SameGaps old (next_list old edit) l (moment_at g x) r → MovesAt (is_moved nets (name_added edit)) (next_list old edit) g r x → ⊥
       apart l r x holds live was entered = (moved_rows_are_touched old edit nets g l r x h.kept.fit.tree.seen.network ready.seen h.numbers holds live was entered).0
 
-      still_apart : (l : List Moment) (r : List ℕ) (x : ℕ) → HasOccurrences l g → IsLive g x → Contains (built old).believed (moment_at g x)
-          → ((u : Moment) → Contains l u → watches (next_list old edit) r u ≡ true → Contains (built old).believed u)
-          → (MovesAt (is_moved nets (name_added edit)) (next_list old edit) g r x → ⊥) → SameGaps old (next_list old edit) l (moment_at g x) r
-      still_apart l r x holds live was entered = (moved_rows_are_touched old edit nets g l r x h.kept.fit.tree.seen.network ready.seen h.numbers holds live was entered).1
-
       keeps : (l : List Moment) (r : List ℕ) (x : ℕ) → HasOccurrences l g → IsLive g x → Contains (built old).believed (moment_at g x)
           → Contains (rules_at old (moment_at g x)) r → Contains (rules_at (next_list old edit) (moment_at g x)) r
           → ((u : Moment) → Contains (built old).believed u → watches old r u ≡ true → Contains l u)
           → ((u : Moment) → Contains l u → watches (next_list old edit) r u ≡ true → Contains (built old).believed u)
           → MayRestAt r x
-          → outcome old (far_in old.premises) (built old).believed (moment_at g x) r ≡ outcome (next_list old edit) (far_in (next_list old edit).premises) l (moment_at g x) r
-      keeps l r x holds live was stood stands left entered (loose, cover, rest) =
-          resting_rows_keep old edit nets loose g l r x h.kept.fit.tree.seen.network ready.seen h.numbers cover holds live was stood stands same left entered rest
+          → SameGaps old (next_list old edit) l (moment_at g x) r
+          ⊎ (outcome old (far_in old.premises) (built old).believed (moment_at g x) r ≡ outcome (next_list old edit) (far_in (next_list old edit).premises) l (moment_at g x) r)
+      keeps l r x holds live was stood stands left entered (inl unmoved) =
+          inl ((moved_rows_are_touched old edit nets g l r x h.kept.fit.tree.seen.network ready.seen h.numbers holds live was entered).1 unmoved)
+      keeps l r x holds live was stood stands left entered (inr (loose, cover, rest)) =
+          inr (resting_rows_keep old edit nets loose g l r x h.kept.fit.tree.seen.network ready.seen h.numbers cover holds live was stood stands same left entered rest)
 
-      all_wait : (i : ℕ) (q : Row) → rows_of y i ≡ Some q → (q.waits ≡ true) ⊎ RestsAt nets (name_added edit) (next_list old edit) (forest n.tree) q.rule q.trigger
+      all_wait : (i : ℕ) (q : Row) → rows_of y i ≡ Some q → (q.waits ≡ true) ⊎ MayRestAt q.rule q.trigger
       all_wait i q at =
           let (row, here, is, waits) = waits_or n z.decisions.waiting (λ j r. IsTouchedBy edit (next_list old edit) nets before n r) (λ j r. IsLeftBy edit (next_list old edit) nets before n r) o.touched i q at in
           elim waits [
             | inl waiting ↦ inl waiting
-            | inr left ↦ inr (subst (λ (r : Row). RestsAt nets (name_added edit) (next_list old edit) (forest n.tree) r.rule r.trigger) (sym is) (subst (λ T. T) (by_rest row) left))
+            | inr left ↦ inr (subst (λ (r : Row). MayRestAt r.rule r.trigger) (sym is) (subst (λ T. T) (by_rest row) left))
           ]
 
-      only_wait : (i : ℕ) (p q : Row) → rows_of n i ≡ Some p → rows_of y i ≡ Some q → q.waits ≡ true → (p.waits ≡ true) ⊎ MovesAt (is_moved nets (name_added edit)) (next_list old edit) g q.rule q.trigger
+      only_wait : (i : ℕ) (p q : Row) → rows_of n i ≡ Some p → rows_of y i ≡ Some q → q.waits ≡ true
+          → (p.waits ≡ true) ⊎ (MovesAt (is_moved nets (name_added edit)) (next_list old edit) g q.rule q.trigger ⊎ (RivalsStay old (next_list old edit) q.rule → ⊥))
       only_wait i p q there at waits = elim (waited_or n z.decisions.waiting (λ j r. IsTouchedBy edit (next_list old edit) nets before n r) (λ j r. IsLeftBy edit (next_list old edit) nets before n r) o.touched i p q there at waits) [
         | inl waited ↦ inl waited
-        | inr (row, here, is, marked) ↦ inr (subst (λ (r : Row). MovesAt (is_moved nets (name_added edit)) (next_list old edit) g r.rule r.trigger) (sym is) (subst (λ T. T) (by_move row) marked))
+        | inr (row, here, is, marked) ↦ inr (inl (subst (λ (r : Row). MovesAt (is_moved nets (name_added edit)) (next_list old edit) g r.rule r.trigger) (sym is) (subst (λ T. T) (by_move row) marked)))
       ]
 
 module _ (old : Standing) (k : ℕ) (nets : Nets) (names : List (List ℕ)) (before : ℕ) (b e c m n z : BeliefNet) (all : Departed) (is_before : before ≡ old.horizon)

@@ -1,13 +1,16 @@
 -- Rows that wait since their rules read what contradicts a fact.
-use Rattle.std.proofs.Common.{◌≡◌, ◌∙◌, ℕ, ◌+◌, ◌<◌, Bool, true, false, ◌||◌, List, [], ◌∷◌, ◌++◌, refl, sym, ap, subst, inl, inr, ◌⊎◌, arith}
+use Rattle.std.proofs.Common.{◌≡◌, ◌∙◌, ℕ, ◌+◌, ◌<◌, Bool, true, false, ◌||◌, List, [], ◌∷◌, ◌++◌, take, suc, refl, sym, ap, subst, inl, inr, ◌⊎◌, arith}
 use Rattle.std.proofs.lemmas.Bool.{cases_order}
-use Rattle.std.specs.Prelude.{ℤ, pos, Some}
+use Rattle.std.proofs.lemmas.List.Folds.{list_any-append}
+use Rattle.std.specs.Prelude.{ℤ, pos, Some, slice_get}
 use Rattle.std.specs.List.{list_any}
+use Rattle.tmm_model.specs.declared.premise.Premise.{Premise}
 use Rattle.tmm_model.specs.Beliefs.{are_rivals}
 use Rattle.tmm_model.specs.Moments.{read_by, rule_of}
 use Rattle.tmm_model.specs.Standing.{Standing}
 use Rattle.list_theory.proofs.Elements.{In, In-left, In-right, In-cases}
 use Rattle.dist_net.specs.Net.{Net}
+use Rattle.supports.proofs.Grown.{taken}
 use Rattle.row_links.specs.Lists.{IsOn}
 use Rattle.undo_rows.specs.declared.row.Row.{Row as TableRow}
 use Rattle.undo_rows.specs.Changes.{Logged, present as table, committed}
@@ -47,6 +50,14 @@ none_reads s fact none r = by (read_by (rule_of s r))
     by [] = refl
     by (f ∷ fs) = ap (λ v. v || list_any (λ f. are_rivals s f fact) fs) (none f) ∙ by fs
 
+-- ---- one premise after the other
+
+-- of the first premises and one more none passes, if none of the first does and this does not
+pub none_next : (P : Premise → Bool) (ps : List Premise) (i : ℕ) (p : Premise) → slice_get ps i ≡ Some p → list_any P (take i ps) ≡ false → P p ≡ false → list_any P (take (i + 1) ps) ≡ false
+none_next P ps i p at before no =
+    let e : i + 1 ≡ suc i = omega arith in
+    ap (λ n. list_any P (take n ps)) e ∙ ap (list_any P) (taken ps i p at) ∙ list_any-append P (take i ps) (p ∷ []) ∙ (λ j. before j || (no j || false))
+
 -- ---- one rule after the other
 
 module _ (list : Standing) (d : Decisions) (under : AreUnder list d) (listed : AreListed (table_of d)) (to : Standing) (s : State) (fact : List ℕ) (from : ℤ) where
@@ -59,7 +70,7 @@ module _ (list : Standing) (d : Decisions) (under : AreUnder list d) (listed : A
 
   pub rivals_next : (n : ℕ) (name : List ℕ) (rows : Logged Pair 8) (old mid new : Dates) → rows ≡ d.rows → name ≡ name_in d.rules n
       → Marks s (table_of d) (OfFirst Meant n) old mid
-      → (reads_rival to name fact ≡ true → Marks s (table rows) (λ i row. IsOn ((table rows).list 1 n) i × IsAsLate s from row × (◌≡◌ {A = Bool} false false)) mid new)
+      → (reads_rival to name fact ≡ true → Marks s (table rows) (λ i row. IsOn ((table rows).list 1 n) i × IsAsLate s from row) mid new)
       → (reads_rival to name fact ≡ false → new ≡ mid)
       → Marks s (table_of d) (OfFirst Meant (n + 1)) old new
   rivals_next n name rows old mid new same is_name first reads other =
@@ -81,12 +92,12 @@ module _ (list : Standing) (d : Decisions) (under : AreUnder list d) (listed : A
 
       by : (v : Bool) → reads_rival to name fact ≡ v → Marks s (table_of d) (λ i row. (row.value.rule ≡ n) × Meant row) mid new
       by true e =
-          marks_alike s (table_of d) (λ i row. IsOn ((table_of d).list 1 n) i × IsAsLate s from row × (◌≡◌ {A = Bool} false false)) (λ i row. (row.value.rule ≡ n) × Meant row) mid new
+          marks_alike s (table_of d) (λ i row. IsOn ((table_of d).list 1 n) i × IsAsLate s from row) (λ i row. (row.value.rule ≡ n) × Meant row) mid new
           (λ i row at. (
             (λ on. (let is = (on_rule list d under listed i n row at).0 on.0 in (is, ap (λ r. reads_rival to r fact) (named row is) ∙ e, on.1))),
-            λ of. ((on_rule list d under listed i n row at).1 of.0, of.1.1, refl),
+            λ of. ((on_rule list d under listed i n row at).1 of.0, of.1.1),
           ))
-          (subst (λ rs. Marks s (table rs) (λ i row. IsOn ((table rs).list 1 n) i × IsAsLate s from row × (◌≡◌ {A = Bool} false false)) mid new) same (reads e))
+          (subst (λ rs. Marks s (table rs) (λ i row. IsOn ((table rs).list 1 n) i × IsAsLate s from row) mid new) same (reads e))
       by false e =
           subst (Marks s (table_of d) (λ i row. (row.value.rule ≡ n) × Meant row) mid) (sym (other e))
           (marks_none s (table_of d) (λ i row. (row.value.rule ≡ n) × Meant row) mid

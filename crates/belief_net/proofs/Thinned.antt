@@ -16,7 +16,7 @@ use Rattle.belief_net.specs.declared.state.BeliefNet.{BeliefNet}
 use Rattle.belief_net.specs.declared.told.DatedOcc.{DatedOcc}
 use Rattle.belief_net.specs.Decided.{table_of, rule_in, AreUnder}
 use Rattle.belief_net.specs.Entering.{KeepLast}
-use Rattle.belief_net.specs.Erasing.{moments_of, HasLeft, Tells, Notes, Thins, Sheds, Spares, IsFreeOf}
+use Rattle.belief_net.specs.Erasing.{moments_of, fact_of, HasLeft, Tells, Notes, Thins, Sheds, Spares, IsFreeOf}
 use Rattle.belief_net.specs.Marks.{HaveEvents}
 use Rattle.belief_net.specs.Numbers.{name_in}
 use Rattle.belief_net.proofs.Named.{last_stays, last_on}

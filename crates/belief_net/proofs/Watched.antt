@@ -245,3 +245,15 @@ rule_noted s f r facts old first mid new are at_start by_class by_fact =
         let (differ, said) = both (not (same_name g fact)) (list_any (says_against g fact) s.premises) rivals in
         let (premise, on, says) = list_any-In (says_against g fact) s.premises said in
         inr (premise, on, fact, (g, subst (In g) (sym are) at, not_true (same_name g fact) differ, says), spot)
+
+-- ---- as the code finds it
+
+-- a class that is found is the fact's
+pub class_found : (s : Standing) (fact class : List ℕ) → class_in s.premises fact ≡ Some class → class_of s fact ≡ class
+class_found s fact class is = ap (λ (o : Option (List ℕ)). elim o as (λ _. List ℕ) [ Some c ↦ c | None ↦ [] ]) is
+
+-- one premise more
+pub take_next : (premises : List Premise) (n : ℕ) (premise : Premise) → slice_get premises n ≡ Some premise → take (n + 1) premises ≡ take n premises ++ premise ∷ []
+take_next [] n premise at = cc
+take_next (p ∷ ps) 0 premise at = cc
+take_next (p ∷ ps) (suc n) premise at = ap (λ l. p ∷ l) (take_next ps n premise at)

@@ -1,5 +1,5 @@
 // Rows that wait since a token enters or leaves whose fact contradicts what their rules read.
-ghost use Rattle.std.specs.Prelude.{◌≡◌, ◌&&◌, ℕ, Bool, true, false, List, OnOk};
+ghost use Rattle.std.specs.Prelude.{◌≡◌, ◌&&◌, ℕ, true, false, List, OnOk};
 ghost use Rattle.std.specs.List.{list_any};
 ghost use Rattle.tmm_model.specs.Beliefs.{says_against, are_rivals};
 ghost use Rattle.tmm_model.specs.Points.{same_name};
@@ -70,7 +70,7 @@ fn mark_rival(
     from: i64,
 ) -> Result<(), NoMemory>
     requires { HaveEvents tree.now (table rows.now) }
-    ensures reads { reads_rival standing.now.present name fact ≡ true → OnOk result (Marks (present tree.now) (table rows.now) (λ i row. IsOn ((table rows.now).list 1 rule) i × IsAsLate (present tree.now) from row × (◌≡◌ {A = Bool} false false)) (dates_in waiting.old) (dates_in waiting.new)) }
+    ensures reads { reads_rival standing.now.present name fact ≡ true → OnOk result (Marks (present tree.now) (table rows.now) (λ i row. IsOn ((table rows.now).list 1 rule) i × IsAsLate (present tree.now) from row) (dates_in waiting.old) (dates_in waiting.new)) }
     ensures other { reads_rival standing.now.present name fact ≡ false → waiting.new ≡ waiting.old }
 {
     if reads_rival(standing, name, fact) {

@@ -14,7 +14,7 @@ use Rattle.tmm_model.specs.Bounds.{bound_at_most}
 use Rattle.tmm_model.specs.Edits.{next_list}
 use Rattle.tmm_model.specs.Firsts.{earliest, first}
 use Rattle.tmm_model.specs.Maps.{TimeMap, built, gap, order, believed_tokens}
-use Rattle.tmm_model.specs.Moments.{Moment, negated, printed}
+use Rattle.tmm_model.specs.Moments.{Moment, printed}
 use Rattle.tmm_model.specs.Points.{same_name}
 use Rattle.tmm_model.specs.Standing.{Standing}
 use Rattle.tmm_model.specs.Tokens.{of_one_class, is_before, clips}
@@ -27,7 +27,7 @@ use Rattle.belief_theory.proofs.Order.{IsSpelt, ordered}
 use Rattle.belief_theory.proofs.Outcomes.{first_token_in}
 use Rattle.belief_theory.proofs.Rivals.{contradicts_plain}
 use Rattle.belief_theory.proofs.SoundBeliefs.{believed_occurs}
-use Rattle.revisions.specs.Clips.{SameClass, FewerOfClass, SameAround, FewerAround, ClipsStay, ClipsStayOn}
+use Rattle.revisions.specs.Clips.{FewerOfClass, FewerAround, ClipsStay, ClipsStayOn}
 use Rattle.revisions.proofs.Tokens.{tokens_stay}
 
 abbrev by_begin : TimeMap → TokenRow Moment → TokenRow Moment → Ordering
@@ -164,16 +164,4 @@ module _ (m n : TimeMap) (k : TokenRow Moment) (alone_m : IsAlone m.list k) (alo
     back = λ c h at. fewer.back c (alone_class n.list k c alone_n h) at;
     gaps = λ c h at. fewer.gaps c k (alone_class n.list k c alone_n h) refl at there;
     dates = λ c h at. fewer.dates c (alone_class n.list k c alone_n h) at;
-  }
-
-  -- **Where the tokens of its class are the same, so is what contradicts it.**
-  pub same_around : In k (believed_tokens m) → SameClass m n k.class → SameAround m n k
-  same_around here same = record {
-    fewer = record {
-      rivals = λ c _ _. rivals_alone c;
-      back = λ c h at. same.back c (alone_class n.list k c alone_n h) at;
-      gaps = λ c h at. (let class = alone_class n.list k c alone_n h in same.gaps c k class refl (same.back c class at) here);
-      dates = λ c h at. (let class = alone_class n.list k c alone_n h in ap negated (same.dates c class (same.back c class at)));
-    };
-    into = λ c h at. same.into c (alone_class m.list k c alone_m h) at;
   }

@@ -1,6 +1,6 @@
 -- A fact that a rule of both lists reads contradicts the same facts in both, as far as premises say
 -- the same of it: a class declares the same facts as long as it stands.
-use Rattle.std.proofs.Common.{◌≡◌, ◌∙◌, ℕ, Bool, true, false, not, ◌&&◌, ◌||◌, List, [], refl, sym, ap, subst, inl, inr}
+use Rattle.std.proofs.Common.{◌≡◌, ◌∙◌, ℕ, true, not, ◌&&◌, ◌||◌, List, [], refl, sym, ap, subst, inl, inr}
 use Rattle.std.specs.Prelude.{Option, Some, None, IsSome}
 use Rattle.std.specs.List.{Contains, list_any}
 use Rattle.std.specs.Cmp.{both_ways}
@@ -114,11 +114,11 @@ module _ (old : Standing) (edit : Edit) (sound_old : IsSound old) (sound_new : I
         | inr fewer ↦ let (c, is) = read_class new sound_new t r f now at_new in sym (one_class new old sound_new sound_old fewer f c is g)
       ]
 
-  -- **A fact contradicts what the rule reads in both lists or in neither, if premises say so in both
-  -- or in neither.**
+  -- **A fact contradicts what the rule reads in both lists or in neither, if premises say so in
+  -- both or in neither.**
   pub contradict_stays : (g : List ℕ) → are_rivals old f g ≡ are_rivals new f g → contradict old f g ≡ contradict new f g
   contradict_stays g rivals = λ i. (class_stays g i && not (same_name f g)) || rivals i
 
-  -- **So what the rule reads has the same rivals, where no premise that speaks of it came or went.**
+  -- **So what the rule reads has the same rivals, where no premise that says so came or went.**
   pub same_rivals_stay : ((g : List ℕ) → are_rivals old f g ≡ are_rivals new f g) → same_rivals old new f ≡ true
   same_rivals_stay rivals = same_rivals_from old new f (λ g at. contradict_stays g (rivals g))

@@ -1,5 +1,5 @@
--- An edit that adds or erases a premise that is not kept in sight leaves those that are; so it leaves
--- those that beliefs read, where beliefs do not read it.
+-- An edit that adds or erases a premise that is not kept in sight leaves those that are; so it
+-- leaves those that beliefs read, where beliefs do not read it.
 use Rattle.std.proofs.Common.{◌≡◌, ◌∙◌, ℕ, Bool, true, false, not, ◌||◌, cond, List, [], ◌∷◌, ◌++◌, refl, sym, ap, subst, inl, inr}
 use Rattle.std.specs.Prelude.{Option, Some, None, filter}
 use Rattle.std.specs.List.{list_any}

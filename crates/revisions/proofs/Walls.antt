@@ -6,7 +6,7 @@ use Rattle.std.specs.Prelude.{◌⊎◌, Option, Some, None, pos, negsuc, filter
 use Rattle.std.specs.List.{list_any}
 use Rattle.std.specs.Option.{option_map}
 use Rattle.std.specs.Ordering.{on, is_gt}
-use Rattle.std.specs.Cmp.Lexicographic.{bytes_decides, nat_list_eq_equiv}
+use Rattle.std.specs.Cmp.Lexicographic.{bytes_decides}
 use Rattle.std.specs.declared.cmp.Ordering.{Ordering}
 use Rattle.tmm_model.specs.declared.bound.Bound.{Bound}
 use Rattle.tmm_model.specs.declared.bound.Bound.TheVariants.{Finite, Free}
@@ -23,7 +23,6 @@ use Rattle.tmm_model.specs.Types.{IsTighter}
 use Rattle.list_theory.specs.WellNamed.{IsSound}
 use Rattle.list_theory.proofs.Elements.{In, both, Contains-from_In, list_any-In, In-list_any, In-filter, filter-In, In-filter_map, In-left, In-right}
 use Rattle.belief_theory.specs.Outcomes.{Outcome, beyond, tried, outcome}
-use Rattle.belief_theory.specs.Touched.{watched}
 use Rattle.belief_theory.proofs.Firsts.{least_is, one_spot}
 use Rattle.belief_theory.proofs.OneRight.{spot-token_of}
 use Rattle.belief_theory.proofs.Order.{IsSpelt, ordered}

@@ -1,5 +1,5 @@
 -- A whole revision is right.
-use Rattle.std.proofs.Common.{◌≡◌, ℕ, Bool, true, false, not, ◌||◌, ◌==◌, List, [], ◌∷◌, refl, sym, subst, inl, inr}
+use Rattle.std.proofs.Common.{◌≡◌, ℕ, Bool, true, false, ◌==◌, List, [], ◌∷◌, refl, sym, subst, inl, inr}
 use Rattle.std.specs.Prelude.{◌↔◌, ◌⊎◌, ℤ, negsuc}
 use Rattle.std.specs.List.{Contains, list_any, list_all}
 use Rattle.std.specs.Cmp.Lexicographic.{bytes_decides}

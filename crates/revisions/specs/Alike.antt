@@ -22,8 +22,8 @@ use Rattle.belief_theory.specs.Touched.{contradict}
 -- ---- alike lists
 
 -- Both lists say the same, distances aside: what is declared to occur, what an occurrence is, which
--- rules are on a kind, what a rule says, the class of a fact, which facts contradict each other, and
--- the horizon.
+-- rules are on a kind, what a rule says, the class of a fact, which facts contradict each other,
+-- and the horizon.
 pub record SayAlike (s t : Standing) : Type 0 where
   pub declared : roots s ≡ roots t
   pub is : (x : Moment) → is_of s x ≡ is_of t x

@@ -1,15 +1,14 @@
 -- Which clips an edit may change: those of tokens of which what contradicts them entered, left or
 -- moved.
-use Rattle.std.specs.Prelude.{◌≡◌, ℕ, Bool, true, List, Some}
+use Rattle.std.specs.Prelude.{◌≡◌, ℕ, true, List, Some}
 use Rattle.std.specs.List.{Contains}
 use Rattle.tmm_model.specs.declared.premise.Edit.{Edit}
-use Rattle.tmm_model.specs.declared.point.PointName.TheVariants.{Start}
 use Rattle.tmm_model.specs.declared.token.TokenRow.{TokenRow}
 use Rattle.tmm_model.specs.Answers.{clip}
 use Rattle.tmm_model.specs.Beliefs.{token_of, contradicts_in}
 use Rattle.tmm_model.specs.Edits.{next_list}
 use Rattle.tmm_model.specs.Maps.{TimeMap, built, gap, believed_tokens}
-use Rattle.tmm_model.specs.Moments.{Moment, At, early}
+use Rattle.tmm_model.specs.Moments.{Moment, early}
 use Rattle.list_theory.specs.WellNamed.{IsSound}
 use Rattle.tmm_model.specs.Standing.{Standing}
 use Rattle.list_theory.proofs.Elements.{In}
@@ -47,13 +46,6 @@ ClipsStay =
     → clip (built old) x ≡ clip (built (next_list old edit)) x
 
 -- ---- tokens of one class
-
--- both maps believe the same tokens of the class, as far apart and as far from `start`
-pub record SameClass (m n : TimeMap) (class : List ℕ) : Type 0 where
-  pub into : (k : TokenRow Moment) → k.class ≡ class → In k (believed_tokens m) → In k (believed_tokens n)
-  pub back : (k : TokenRow Moment) → k.class ≡ class → In k (believed_tokens n) → In k (believed_tokens m)
-  pub gaps : (k c : TokenRow Moment) → k.class ≡ class → c.class ≡ class → In k (believed_tokens m) → In c (believed_tokens m) → gap m k.spot c.spot ≡ gap n k.spot c.spot
-  pub dates : (k : TokenRow Moment) → k.class ≡ class → In k (believed_tokens m) → gap m k.spot (At Start) ≡ gap n k.spot (At Start)
 
 -- the second map believes no token of the class that the first does not, and those that it believes
 -- are as far apart, with the same earliest dates
