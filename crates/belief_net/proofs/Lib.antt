@@ -20,7 +20,7 @@ pub mod Settled
 pub mod After
 pub mod Redated
 pub mod OfRules
-pub mod Rivals
+pub mod Contradicting
 pub mod Sets
 pub mod Pairs
 pub mod Reached
@@ -56,6 +56,6 @@ pub mod Stood
 pub mod Shifted
 pub mod Waking
 pub mod AtRest
-pub mod Watched
-pub mod Rivalled
+pub mod WatchedPoints
+pub mod ByRule
 pub mod Unread

@@ -21,7 +21,7 @@ use crate::fast::Moves;
 use crate::state::Decisions;
 use crate::touching::touched_by;
 use crate::waiting::Waiting;
-use crate::watched::{reach_of_rule, read_of};
+use crate::watched::{is_among, reach_of_rule, read_of};
 use decision_rows::Rows;
 use dist_net::DistNet;
 use occ_tree::Tree;
@@ -145,16 +145,7 @@ fn says_of_one(premise: &Premise, facts: &[Name]) -> bool
     ensures { result ≡ false → (f g : List ℕ) → In f facts.now → says_against f g premise.now ≡ false }
 {
     match premise {
-        Premise::Against { one, other, .. } => {
-            is_one_of(*one, facts) || is_one_of(*other, facts)
-        }
+        Premise::Against { one, other, .. } => is_among(*one, facts) || is_among(*other, facts),
         _ => false,
     }
-}
-
-// Whether a name is one of these.
-fn is_one_of(name: Name, names: &[Name]) -> bool
-    ensures { result ≡ false → In name names.now → ⊥ }
-{
-    names.iter().any(|other| name == *other)
 }

@@ -149,7 +149,14 @@ fn note_if_read(
 fn is_other_of(read: Name, fact: Name, facts: &[Name]) -> bool
     ensures { result ≡ (not (same_name read fact) && list_any (same_name read) facts.now) }
 {
-    read != fact && facts.iter().any(|f| read == *f)
+    read != fact && is_among(read, facts)
+}
+
+// Whether a name is among these.
+pub(crate) fn is_among(name: Name, names: &[Name]) -> bool
+    ensures { result ≡ list_any (same_name name) names.now }
+{
+    names.iter().any(|other| name == *other)
 }
 
 // Puts the points of the tokens of a fact in.

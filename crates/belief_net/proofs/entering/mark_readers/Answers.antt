@@ -15,7 +15,7 @@ use Rattle.belief_net.specs.Marks.{HaveEvents, IsAsLate}
 use Rattle.belief_net.proofs.Brought.{marks_under}
 use Rattle.belief_net.proofs.Covering.{marks_covered}
 use Rattle.belief_net.proofs.Named.{last_on}
-use Rattle.belief_net.proofs.Rivals.{waiting_last, readers_marked}
+use Rattle.belief_net.proofs.Contradicting.{waiting_last, readers_marked}
 use Rattle.belief_net.proofs.entering.mark_readers.Goals as goal
 
 pub mark_rivals-requires-clause-events : goal.mark_rivals-requires-clause-events

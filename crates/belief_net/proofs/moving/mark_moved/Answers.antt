@@ -12,7 +12,7 @@ use Rattle.belief_net.proofs.AtRest.{all_rest, all_woken}
 use Rattle.belief_net.proofs.Reached.{numbers_below}
 use Rattle.belief_net.proofs.Stood.{start_kept, no_pair_of_one}
 use Rattle.belief_net.proofs.Waking.{wakes_none}
-use Rattle.belief_net.proofs.Watched.{classed}
+use Rattle.belief_net.proofs.WatchedPoints.{classed}
 use Rattle.belief_net.proofs.moving.mark_moved.Goals as goal
 use Rattle.belief_net.proofs.moving.mark_moved.Goals.{In_ok-moves, In_ok-wake_classes}
 

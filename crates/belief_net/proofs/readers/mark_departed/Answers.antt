@@ -7,7 +7,7 @@ use Rattle.belief_net.specs.Adding.{MarksFacts, MarksLeft}
 use Rattle.belief_net.specs.Marks.{HaveEvents}
 use Rattle.belief_net.proofs.Brought.{marks_under}
 use Rattle.belief_net.proofs.Named.{last_on}
-use Rattle.belief_net.proofs.Rivals.{waiting_last, left_marked}
+use Rattle.belief_net.proofs.Contradicting.{waiting_last, left_marked}
 use Rattle.belief_net.proofs.readers.mark_departed.Goals as goal
 
 pub mark_facts-requires-clause-events : goal.mark_facts-requires-clause-events

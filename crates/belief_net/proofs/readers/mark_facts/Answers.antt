@@ -9,7 +9,7 @@ use Rattle.belief_net.specs.Entering.{MarksRivals}
 use Rattle.belief_net.specs.Marks.{HaveEvents}
 use Rattle.belief_net.specs.Numbers.{name_in}
 use Rattle.belief_net.proofs.Brought.{marks_under}
-use Rattle.belief_net.proofs.Rivals.{waiting_last, facts_none, facts_next}
+use Rattle.belief_net.proofs.Contradicting.{waiting_last, facts_none, facts_next}
 use Rattle.belief_net.proofs.readers.mark_facts.Goals as goal
 
 pub loop-k-init : goal.loop-k-init

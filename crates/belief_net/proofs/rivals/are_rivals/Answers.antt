@@ -5,7 +5,7 @@ use Rattle.tmm_model.specs.Beliefs.{says_against}
 use Rattle.tmm_model.specs.Points.{same_name}
 use Rattle.list_theory.proofs.Elements.{In-list_any}
 use Rattle.supports.proofs.Grown.{stands}
-use Rattle.belief_net.proofs.Rivals.{none_next}
+use Rattle.belief_net.proofs.Contradicting.{none_next}
 use Rattle.belief_net.proofs.rivals.are_rivals.Goals as goal
 
 pub returns-then-eq : goal.returns-then-eq

@@ -3,7 +3,7 @@ use Rattle.std.proofs.lemmas.List.{take_all}
 use Rattle.std.specs.List.{list_any}
 use Rattle.tmm_model.specs.Beliefs.{says_against}
 use Rattle.tmm_model.specs.Points.{same_name}
-use Rattle.belief_net.proofs.Rivals.{none_next}
+use Rattle.belief_net.proofs.Contradicting.{none_next}
 use Rattle.belief_net.proofs.rivals.has_rivals.Goals as goal
 
 pub loop-place-init : goal.loop-place-init

@@ -9,7 +9,7 @@ use Rattle.belief_net.specs.Marks.{Marks, IsAsLate}
 use Rattle.belief_net.specs.Numbers.{name_in}
 use Rattle.belief_net.specs.Waiting.{dates_in}
 use Rattle.belief_net.proofs.Marked.{marks_none}
-use Rattle.belief_net.proofs.Rivals.{none_reads, rivals_none, rivals_next, rivals_all}
+use Rattle.belief_net.proofs.Contradicting.{none_reads, rivals_none, rivals_next, rivals_all}
 use Rattle.belief_net.proofs.rivals.mark_rivals.Goals as goal
 
 pub loop-rule-init : goal.loop-rule-init

@@ -17,7 +17,7 @@ use Rattle.belief_net.specs.Entering.{MarksRivals, what_at}
 use Rattle.belief_net.specs.Marks.{HaveEvents}
 use Rattle.belief_net.proofs.Brought.{once_on_kind, rules_on_kind, class_is_at, marks_under}
 use Rattle.belief_net.proofs.Named.{last_on}
-use Rattle.belief_net.proofs.Rivals.{waiting_last, token_marked}
+use Rattle.belief_net.proofs.Contradicting.{waiting_last, token_marked}
 use Rattle.belief_net.proofs.rooting.follow_root.Goals as goal
 
 pub add_rows-requires-clause-once : goal.add_rows-requires-clause-once

@@ -3,7 +3,7 @@ use Rattle.std.specs.Prelude.{Option, Some, None}
 use Rattle.occ_tree.specs.Places.{forest}
 use Rattle.joined.specs.Gaps.{IsClassSpot}
 use Rattle.belief_net.specs.Reach.{Notes}
-use Rattle.belief_net.proofs.Watched.{class_found}
+use Rattle.belief_net.proofs.WatchedPoints.{class_found}
 use Rattle.belief_net.proofs.watched.note_class_of.Goals as goal
 
 pub returns : goal.returns

@@ -1,6 +1,6 @@
 use Rattle.std.proofs.Common.{sym}
 use Rattle.occ_tree.specs.Places.{forest}
-use Rattle.belief_net.proofs.Watched.{class_found, fact_noted}
+use Rattle.belief_net.proofs.WatchedPoints.{class_found, fact_noted}
 use Rattle.belief_net.proofs.watched.note_fact.Goals as goal
 
 pub returns : goal.returns

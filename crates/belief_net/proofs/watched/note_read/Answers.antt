@@ -1,14 +1,13 @@
-use Rattle.std.proofs.Common.{◌≡◌, ◌<◌, [], length, take, sym, subst, arith}
+use Rattle.std.proofs.Common.{◌≡◌, ◌<◌, [], length, get_or, take, sym, subst, arith}
 use Rattle.std.specs.Prelude.{IsSome}
 use Rattle.std.proofs.lemmas.List.{take_more, take_all}
 use Rattle.tmm_model.specs.Beliefs.{class_of}
 use Rattle.tmm_model.specs.Sorts.{class_in}
 use Rattle.occ_tree.specs.Places.{forest}
 use Rattle.joined.specs.Gaps.{IsClassSpot}
-use Rattle.belief_net.specs.Numbers.{name_in}
 use Rattle.belief_net.specs.Reach.{Notes}
 use Rattle.belief_net.specs.Watched.{IsSpotRead}
-use Rattle.belief_net.proofs.Watched.{read_none, read_next}
+use Rattle.belief_net.proofs.WatchedPoints.{read_none, read_next}
 use Rattle.belief_net.proofs.watched.note_read.Goals as goal
 
 pub loop-i-init : goal.loop-i-init
@@ -25,7 +24,7 @@ loop-i-preserved c =
     let facts = c.args.facts.now in
     let i = c.loop-i.i in
     subst (λ l. Notes f (IsSpotRead s f l) c.args.reach.now c.note_class_of.new.reach) (sym (take_more facts i c.index-facts-i.result c.loop-i-test.true))
-    (read_next s f (take i facts) (name_in facts i) c.args.reach.now c.loop-i.reach c.note_class_of.new.reach c.loop-i.invariant
+    (read_next s f (take i facts) (get_or facts i c.index-facts-i.result) c.args.reach.now c.loop-i.reach c.note_class_of.new.reach c.loop-i.invariant
     (subst (λ z. Notes f (IsClassSpot f (class_of s z)) c.loop-i.reach c.note_class_of.new.reach) c.index-facts-i.is c.note_class_of.ensures))
 
 pub returns : goal.returns

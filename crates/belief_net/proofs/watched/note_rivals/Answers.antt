@@ -5,7 +5,7 @@ use Rattle.supports.proofs.Grown.{stands}
 use Rattle.occ_tree.specs.Places.{forest}
 use Rattle.belief_net.specs.Reach.{Notes}
 use Rattle.belief_net.specs.Watched.{IsSpotAgainst}
-use Rattle.belief_net.proofs.Watched.{against_none, against_next, take_next}
+use Rattle.belief_net.proofs.WatchedPoints.{against_none, against_next, take_next}
 use Rattle.belief_net.proofs.watched.note_rivals.Goals as goal
 
 pub loop-place-init : goal.loop-place-init

@@ -2,7 +2,7 @@ use Rattle.std.proofs.Common.{◌≡◌, length, subst, arith}
 use Rattle.occ_tree.specs.Places.{forest}
 use Rattle.belief_net.specs.Reach.{Notes}
 use Rattle.belief_net.proofs.Reached.{row_at}
-use Rattle.belief_net.proofs.Watched.{OfFirstRowsOf, of_none, of_next, tokens_noted}
+use Rattle.belief_net.proofs.WatchedPoints.{OfFirstRowsOf, of_none, of_next, tokens_noted}
 use Rattle.belief_net.proofs.watched.note_tokens.Goals as goal
 
 pub loop-i-init : goal.loop-i-init

@@ -1,6 +1,6 @@
 use Rattle.occ_tree.specs.Places.{forest}
 use Rattle.belief_net.specs.Reach.{Notes}
-use Rattle.belief_net.proofs.Watched.{OfFirstRowsOf}
+use Rattle.belief_net.proofs.WatchedPoints.{OfFirstRowsOf}
 use Rattle.belief_net.proofs.watched.note_tokens.Given as goal
 
 abbrev pub invariant-loop-i : goal.invariant-loop-i

@@ -1,8 +1,8 @@
 -- Points of the tokens that a rule watches, put in some after the others.
-use Rattle.std.proofs.Common.{◌≡◌, ◌∙◌, ℕ, Bool, true, false, not, ◌&&◌, ◌||◌, ◌+◌, ◌<◌, List, [], ◌∷◌, ◌++◌, length, get_or, Option, Some, None, refl, sym, ap, subst, inl, inr, ◌⊎◌, arith}
+use Rattle.std.proofs.Common.{◌≡◌, ◌∙◌, ℕ, Bool, true, false, not, ◌&&◌, ◌||◌, ◌+◌, ◌<◌, List, [], ◌∷◌, ◌++◌, length, take, get_or, suc, Option, Some, None, refl, sym, ap, subst, inl, inr, ◌⊎◌, arith}
 use Rattle.std.proofs.lemmas.Bool.{cases_order, or_cases}
 use Rattle.std.proofs.lemmas.List.{get_or_default}
-use Rattle.std.specs.Prelude.{IsSome}
+use Rattle.std.specs.Prelude.{IsSome, slice_get}
 use Rattle.std.specs.Option.{option_map}
 use Rattle.std.specs.List.{Contains, list_any}
 use Rattle.std.specs.Cmp.Lexicographic.{bytes_decides}
@@ -28,6 +28,7 @@ use Rattle.spots.specs.OfLists.{IsForestOf, class_for}
 use Rattle.spots.specs.Spots.{AreTokens}
 use Rattle.spots.proofs.Rows.{member_of_token}
 use Rattle.supports.proofs.Facts.{fact_known}
+use Rattle.supports.proofs.Grown.{taken}
 use Rattle.joined.specs.Gaps.{reads_class, reads_rival, IsClassSpot, IsFactSpot, IsReadSpot, start, read, rival}
 use Rattle.belief_net.specs.declared.reach.Reach.{Reach}
 use Rattle.belief_net.specs.Reach.{Notes}
@@ -121,14 +122,14 @@ module _ (f : Forest) (fact : List ℕ) where
     an_end_at (Some e) p is = (e, refl, cc)
 
     of_token : (p : Spot) → OfFirstRowsOf rows (length rows) p → IsTokenSpot f class fact p
-    of_token p (k, row, less, is, what, at) =
+    of_token p (k, row, less, is, (what, at)) =
         let (x, m, of, one) = member_of_token f class rows are row (k, less, sym is) in
         (x, m, of.here, of.class ∙ ap Some one, sym of.fact ∙ what, elim at [ inl here ↦ inl (here ∙ of.spot) | inr ends ↦ inr (an_end_at m.end p (sym of.end ∙ ends)) ])
 
     in_rows : (p : Spot) → IsTokenSpot f class fact p → OfFirstRowsOf rows (length rows) p
     in_rows p (x, m, here, of, what, at) =
         let (k, less, same) = found f class rows are x m here of in
-        (k, row_of f class rows are x m, less, sym same, what, elim at [ inl is ↦ inl is | inr (e, ends, is) ↦ inr (ap (option_map Declared) ends ∙ ap Some (sym is)) ])
+        (k, row_of f class rows are x m, less, sym same, (what, elim at [ inl is ↦ inl is | inr (e, ends, is) ↦ inr (ap (option_map Declared) ends ∙ ap Some (sym is)) ]))
 
     pub tokens_noted : (old new : Reach) → Notes f (OfFirstRowsOf rows (length rows)) old new → Notes f (IsTokenSpot f class fact) old new
     tokens_noted old new = notes_alike f (OfFirstRowsOf rows (length rows)) (IsTokenSpot f class fact) old new of_token in_rows
@@ -164,14 +165,14 @@ module _ (f : Forest) (facts : List (List ℕ)) where
   pub said_both : (name one other : List ℕ) (old mid new : Reach) → Notes f (IsIfRead one other) old mid → Notes f (IsIfRead other one) mid new → Notes f (IsSpotSaid f facts (Against name one other)) old new
   said_both name one other old mid new =
       notes_both f (IsIfRead one other) (IsIfRead other one) (IsSpotSaid f facts (Against name one other)) old mid new apart
-      (λ p (test, spot). (other, one_of one other test (λ g is. or_left is (same_true other other refl)), spot))
+      (λ p (test, spot). (other, one_of one other test (λ g is. or_left (same_name one other && same_name other g) is (same_true other other refl)), spot))
       (λ p (test, spot). (one, one_of other one test (λ g is. or_right (same_name one g && same_name other one) (same_name one one && same_name other g) (with_ (same_true one one refl) is)), spot))
     where
       with_ : {v w : Bool} → v ≡ true → w ≡ true → (v && w) ≡ true
       with_ v w = (λ i. v i && w i)
 
-      or_left : {v w x : Bool} → v ≡ true → w ≡ true → ((v && w) || x) ≡ true
-      or_left {v} {w} {x} a b = ap (λ z. z || x) (with_ a b)
+      or_left : {v w : Bool} (x : Bool) → v ≡ true → w ≡ true → ((v && w) || x) ≡ true
+      or_left x a b = ap (λ z. z || x) (with_ a b)
 
       -- the test, where a name is one of the facts and not this one
       test_of : (of fact g : List ℕ) → In g facts → same_name g fact ≡ false → of ≡ g → (not (same_name of fact) && list_any (same_name of) facts) ≡ true
@@ -229,7 +230,7 @@ rule_noted s f r facts old first mid new are at_start by_class by_fact =
         (In-list_any (λ z. same_name (class_of s z) (class_of s fact)) (read_by (rule_of s r)) fact (subst (In fact) are at) (same_true (class_of s fact) (class_of s fact) refl)) spot
 
     to_rival : (p : Spot) → IsSpotAgainst f facts s.premises p → IsReadSpot s f r p
-    to_rival p (premise, on, fact, (g, at, differ, says), spot) =
+    to_rival p (premise, on, (fact, (g, at, differ, says), spot)) =
         rival fact
         (In-list_any (λ z. are_rivals s z fact) (read_by (rule_of s r)) g (subst (In g) are at)
         (λ i. not (differ i) && In-list_any (says_against g fact) s.premises premise on says i))
@@ -244,7 +245,7 @@ rule_noted s f r facts old first mid new are at_start by_class by_fact =
         let (g, at, rivals) = list_any-In (λ z. are_rivals s z fact) (read_by (rule_of s r)) reads in
         let (differ, said) = both (not (same_name g fact)) (list_any (says_against g fact) s.premises) rivals in
         let (premise, on, says) = list_any-In (says_against g fact) s.premises said in
-        inr (premise, on, fact, (g, subst (In g) (sym are) at, not_true (same_name g fact) differ, says), spot)
+        inr (premise, on, (fact, (g, subst (In g) (sym are) at, not_true (same_name g fact) differ, says), spot))
 
 -- ---- as the code finds it
 
@@ -254,6 +255,4 @@ class_found s fact class is = ap (λ (o : Option (List ℕ)). elim o as (λ _. L
 
 -- one premise more
 pub take_next : (premises : List Premise) (n : ℕ) (premise : Premise) → slice_get premises n ≡ Some premise → take (n + 1) premises ≡ take n premises ++ premise ∷ []
-take_next [] n premise at = cc
-take_next (p ∷ ps) 0 premise at = cc
-take_next (p ∷ ps) (suc n) premise at = ap (λ l. p ∷ l) (take_next ps n premise at)
+take_next premises n premise at = let on : n + 1 ≡ suc n = omega arith in ap (λ k. take k premises) on ∙ taken premises n premise at

@@ -1,14 +1,16 @@
 -- Rows of rules that read what other facts contradict, one rule after the other.
-use Rattle.std.proofs.Common.{◌≡◌, ◌∙◌, ℕ, Bool, true, false, not, ◌&&◌, ◌+◌, ◌<◌, List, [], ◌∷◌, Some, refl, sym, ap, subst, inl, inr, arith, ◌⊎◌, eqb}
+use Rattle.std.proofs.Common.{◌≡◌, ◌∙◌, ℕ, Bool, true, false, not, ◌&&◌, ◌||◌, ◌+◌, ◌<◌, List, [], ◌∷◌, take, Some, refl, sym, ap, subst, inl, inr, arith, ◌⊎◌, eqb}
 use Rattle.std.proofs.lemmas.Bool.{cases_order}
-use Rattle.std.specs.Prelude.{◌↔◌}
+use Rattle.std.specs.Prelude.{◌↔◌, slice_get}
 use Rattle.std.specs.List.{list_any}
+use Rattle.std.specs.Cmp.Lexicographic.{bytes_decides}
 use Rattle.tmm_model.specs.declared.premise.Premise.{Premise}
+use Rattle.tmm_model.specs.declared.premise.Premise.TheVariants.{Against}
 use Rattle.tmm_model.specs.Beliefs.{says_against, are_rivals}
 use Rattle.tmm_model.specs.Moments.{read_by, rule_of}
 use Rattle.tmm_model.specs.Points.{same_name}
 use Rattle.tmm_model.specs.Standing.{Standing}
-use Rattle.list_theory.proofs.Elements.{In}
+use Rattle.list_theory.proofs.Elements.{In, In-cases, In-list_any}
 use Rattle.row_links.specs.Lists.{IsOn}
 use Rattle.undo_rows.specs.declared.row.Row.{Row as TableRow}
 use Rattle.undo_rows.specs.Changes.{Logged, present as table}
@@ -26,7 +28,8 @@ use Rattle.belief_net.specs.Numbers.{name_in}
 use Rattle.belief_net.specs.Waiting.{Dates}
 use Rattle.belief_net.specs.Woken.{MovesByRule, StaysByRule}
 use Rattle.belief_net.proofs.OfRules.{on_rule}
-use Rattle.belief_net.proofs.Rivals.{none_reads}
+use Rattle.belief_net.proofs.Contradicting.{none_reads}
+use Rattle.belief_net.proofs.WatchedPoints.{take_next}
 use Rattle.belief_net.proofs.Waking.{wakes_none, wakes_alike, wakes_both, marks_wake}
 
 true_or : (v : Bool) → (v ≡ true) ⊎ (v ≡ false)
@@ -40,7 +43,7 @@ true_false e = cc
 
 any_false : {X : Type 0} (P : X → Bool) (xs : List X) → ((x : X) → In x xs → P x ≡ false) → list_any P xs ≡ false
 any_false P [] none = refl
-any_false P (x ∷ xs) none = rw none x (inl refl) in any_false P xs (λ y at. none y (inr at))
+any_false P (x ∷ xs) none = ap (λ v. v || list_any P xs) (none x (inl refl)) ∙ any_false P xs (λ y at. none y (inr at))
 
 and_false : (v : Bool) → (v && false) ≡ false
 and_false true = refl
@@ -129,3 +132,30 @@ module _ (list : Standing) (d : Decisions) (under : AreUnder list d) (listed : A
   pub all_plain : ((r : List ℕ) → ReadsNoRival list r) → (dates : Dates)
       → Wakes s (table_of d) (λ i row. MovesByRule moves list (forest s) (rule_in d row) row.value.trigger) (λ i row. StaysByRule moves list (forest s) (rule_in d row) row.value.trigger) dates dates
   all_plain none dates = wakes_none s (table_of d) Moved (λ i row. StaysByRule moves list (forest s) (rule_in d row) row.value.trigger) dates (λ i row at. inr (inl (none (rule_in d row))))
+
+-- ---- one premise after the other
+
+-- what holds of each of the first premises holds of one more
+pub each_next : (P : Premise → Type 0) (premises : List Premise) (n : ℕ) (premise : Premise) → slice_get premises n ≡ Some premise
+    → ((p : Premise) → In p (take n premises) → P p) → P premise → (p : Premise) → In p (take (n + 1) premises) → P p
+each_next P premises n premise at before here p on = elim (In-cases (take n premises) (premise ∷ []) p (subst (In p) (take_next premises n premise at) on)) [
+  | inl there ↦ before p there
+  | inr last ↦ elim last [ inl is ↦ subst P is here | inr none ↦ absurd none ]
+]
+
+-- premises that say nothing of the kind
+pub none_said : (s : Standing) → ((p : Premise) → In p s.premises → (f g : List ℕ) → says_against f g p ≡ false) → (f g : List ℕ) → are_rivals s f g ≡ false
+none_said s none f g = ap (λ v. not (same_name f g) && v) (any_false (says_against f g) s.premises (λ p on. none p on f g)) ∙ and_false (not (same_name f g))
+
+-- a premise says nothing of what neither of its facts is
+pub says_of_others : (name one other f g : List ℕ) → (one ≡ f → ⊥) → (other ≡ f → ⊥) → says_against f g (Against name one other) ≡ false
+says_of_others name one other f g not_one not_other = by (same_name one f) (same_name other f) refl refl
+  where
+    by : (v w : Bool) → same_name one f ≡ v → same_name other f ≡ w → says_against f g (Against name one other) ≡ false
+    by true w e u = absurd (not_one ((bytes_decides one f).0 e))
+    by false true e u = absurd (not_other ((bytes_decides other f).0 u))
+    by false false e u = (λ i. (e i && same_name other g) || (same_name one g && u i)) ∙ and_false (same_name one g)
+
+-- a name that is not among the facts is none of them
+pub not_among : (facts : List (List ℕ)) (name f : List ℕ) → list_any (same_name name) facts ≡ false → In f facts → name ≡ f → ⊥
+not_among facts name f out on is = true_false (sym (In-list_any (same_name name) facts f on ((bytes_decides name f).1 is)) ∙ out)
