@@ -226,6 +226,13 @@ module _ (nets : Nets) (added : Option (List ℕ)) (s : Standing) (st : State) (
         },
       )
 
+    abbrev Moved : ℕ → TableRow Pair 8 → Type 0
+    Moved i row = IsRowMoved nets added s f d row
+
+    -- it may rest as far as it goes by classes
+    abbrev Rests : ℕ → TableRow Pair 8 → Type 0
+    Rests i row = KeepsDate moves s f d row × RestsForFirst st nets moves d (length d.classes) i row
+
     -- **All rows have been looked at**: those of rules that read nothing, those on the lists of
     -- classes, and those of rules that read what other facts contradict.
     pub all_woken : StandFast nets added moves.fast.items → (old mid next new : Dates)
@@ -248,9 +255,3 @@ module _ (nets : Nets) (added : Option (List ℕ)) (s : Standing) (st : State) (
         (λ i row at m. from_start row m) (λ i row at m. for_some i row at m) (λ i row at dated rests. (dated, rests))
         unread classes)
         rules
-      where
-        abbrev Moved : ℕ → TableRow Pair 8 → Type 0
-        Moved i row = IsRowMoved nets added s f d row
-
-        abbrev Rests : ℕ → TableRow Pair 8 → Type 0
-        Rests i row = KeepsDate moves s f d row × RestsForFirst st nets moves d (length d.classes) i row
