@@ -54,9 +54,9 @@ none_reads s fact none r = by (read_by (rule_of s r))
 
 -- of the first premises and one more none passes, if none of the first does and this does not
 pub none_next : (P : Premise → Bool) (ps : List Premise) (i : ℕ) (p : Premise) → slice_get ps i ≡ Some p → list_any P (take i ps) ≡ false → P p ≡ false → list_any P (take (i + 1) ps) ≡ false
-none_next P ps i p at before no =
+none_next P ps i p at before fails =
     let e : i + 1 ≡ suc i = omega arith in
-    ap (λ n. list_any P (take n ps)) e ∙ ap (list_any P) (taken ps i p at) ∙ list_any-append P (take i ps) (p ∷ []) ∙ (λ j. before j || (no j || false))
+    ap (λ n. list_any P (take n ps)) e ∙ ap (list_any P) (taken ps i p at) ∙ list_any-append P (take i ps) (p ∷ []) ∙ (λ j. before j || (fails j || false))
 
 -- ---- one rule after the other
 
@@ -94,7 +94,7 @@ module _ (list : Standing) (d : Decisions) (under : AreUnder list d) (listed : A
       by true e =
           marks_alike s (table_of d) (λ i row. IsOn ((table_of d).list 1 n) i × IsAsLate s from row) (λ i row. (row.value.rule ≡ n) × Meant row) mid new
           (λ i row at. (
-            (λ on. (let is = (on_rule list d under listed i n row at).0 on.0 in (is, ap (λ r. reads_rival to r fact) (named row is) ∙ e, on.1))),
+            (λ on. (let is = (on_rule list d under listed i n row at).0 on.0 in (is, (ap (λ r. reads_rival to r fact) (named row is) ∙ e, on.1)))),
             λ of. ((on_rule list d under listed i n row at).1 of.0, of.1.1),
           ))
           (subst (λ rs. Marks s (table rs) (λ i row. IsOn ((table rs).list 1 n) i × IsAsLate s from row) mid new) same (reads e))

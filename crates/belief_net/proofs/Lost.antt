@@ -138,10 +138,10 @@ module _ (s : Standing) (net : Net) (tree : Kept) (going front : List ℕ) (y : 
 
   -- what a mark asks for it asks for before and after, as rows and rules stay
   on_old : (i : ℕ) (row : TableRow Pair 8) → (table_of n.mid).row i ≡ Some row → IsMarkedFor s (present tree) n.mid m.marks i row → IsMarkedFor s (present tree) old (l.marks ++ m.marks) i row
-  on_old i row at (mark, there, late, asks) =
+  on_old i row at (mark, there, (late, asks)) =
       let before = (was_there i row at).0 in
       let same : (table_of n.mid).row i ≡ (table_of old).row i = at ∙ sym before ∙ sym (was_first i row before) in
-      (mark, In-right l.marks m.marks mark there, late, asks_on s (table_of n.mid) (table_of old) n.listed l.listed n.mid.rules old.rules i row mark same rules_were asks)
+      (mark, In-right l.marks m.marks mark there, (late, asks_on s (table_of n.mid) (table_of old) n.listed l.listed n.mid.rules old.rules i row mark same rules_were asks))
 
   on_mid : (i : ℕ) (row : TableRow Pair 8) → (table_of n.mid).row i ≡ Some row → (mark : Mark) → AsksFor s (table_of old) mark i row.value.trigger (rule_in old row) → AsksFor s (table_of n.mid) mark i row.value.trigger (rule_in n.mid row)
   on_mid i row at mark asks =
@@ -208,15 +208,15 @@ module _ (s : Standing) (net : Net) (tree : Kept) (going front : List ℕ) (y : 
       ]
 
   all : (i : ℕ) (row : TableRow Pair 8) → (table_of new).row i ≡ Some row → IsMarkedFor s (present tree) old (l.marks ++ m.marks) i row → WaitsAt (present tree) (dates_in new.waiting) i row
-  all i row at (mark, there, late, asks) =
+  all i row at (mark, there, (late, asks)) =
       let here : (table_of n.mid).row i ≡ Some row = sym (new_is i) ∙ at in
       let (before, waits) = was_there i row here in
       elim (In-cases l.marks m.marks mark there) [
         | inl first ↦ elim (m.only i) [
-          | inl keeps ↦ keeps ∙ waits ∙ l.all i row before (mark, first, late, asks)
+          | inl keeps ↦ keeps ∙ waits ∙ l.all i row before (mark, first, (late, asks))
           | inr (r, at_r, marked, waits_r) ↦ subst (WaitsAt (present tree) (dates_in new.waiting) i) (one_row (table_of n.mid) i r row at_r here) waits_r
         ]
-        | inr last ↦ m.all i row here (mark, last, late, on_mid i row here mark asks)
+        | inr last ↦ m.all i row here (mark, last, (late, on_mid i row here mark asks))
       ]
 
   pub lost_next : LosesRows s net tree going (front ++ y ∷ []) old new

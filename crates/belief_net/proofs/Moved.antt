@@ -24,7 +24,7 @@ use Rattle.occ_tree.specs.Classes.{place_in, HaveMore}
 use Rattle.occ_tree.specs.Places.{forest}
 use Rattle.revisions.specs.Maps.{revision}
 use Rattle.revisions.specs.Revisions.{Revision}
-use Rattle.joined.specs.Marking.{AreMarksOf, IsMarkedBy}
+use Rattle.joined.specs.Marking.{AreMarksOf, AsksFor, IsMarkedBy}
 use Rattle.joined.specs.Netted.{IsNetted}
 use Rattle.joined.specs.Rows.{Row}
 use Rattle.joined.specs.Sparing.{StaysNode}
@@ -33,7 +33,7 @@ use Rattle.joined.proofs.CodeTurns.{code_turned}
 use Rattle.joined.proofs.Marking.{marked_row}
 use Rattle.belief_net.specs.declared.deciding.Due.{Due}
 use Rattle.belief_net.specs.declared.state.BeliefNet.{BeliefNet}
-use Rattle.belief_net.specs.Decided.{table_of}
+use Rattle.belief_net.specs.Decided.{table_of, rule_in}
 use Rattle.belief_net.specs.Moving.{date_at, IsMarkedAt, IsKeptRow, IsComing, TurnsOn, row_due}
 use Rattle.belief_net.specs.Numbers.{name_in}
 use Rattle.belief_net.specs.Turning.{rows_of, IsUnderway}

@@ -172,8 +172,10 @@ module _ (s : Standing) (net : Net) (c e : BeliefNet) (x : ℕ) (m : Member) (nu
       ap is_some (takes.rows.all i row at (
         mark,
         on,
-        subst (λ z. mark.from ≤ℤ z) (sym (later_is i row at)) late,
-        subst (λ l. AsksFor s (table_of c.decisions) mark i row.value.trigger (name_in l row.value.rule)) takes.rows.rules asks,
+        (
+          subst (λ z. mark.from ≤ℤ z) (sym (later_is i row at)) late,
+          subst (λ l. AsksFor s (table_of c.decisions) mark i row.value.trigger (name_in l row.value.rule)) takes.rows.rules asks,
+        ),
       ))
 
   pub moves_taken : Moves s (forest c.tree) (forest e.tree) takes.rows.marks c.decisions e.decisions

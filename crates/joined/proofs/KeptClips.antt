@@ -25,6 +25,7 @@ use Rattle.tmm_model.specs.Moments.{Moment, At, base, distance, early, negated, 
 use Rattle.tmm_model.specs.Points.{same_name}
 use Rattle.tmm_model.specs.Standing.{Standing, points_in, far_in}
 use Rattle.tmm_model.specs.Tokens.{of_one_class, is_before, clips}
+use Rattle.list_theory.specs.WellNamed.{IsSound}
 use Rattle.list_theory.proofs.Elements.{In, both, In-filter, filter-In, In-from_Contains, Contains-from_In, In-filter_map, filter_map-In}
 use Rattle.belief_theory.specs.Right.{Occurs}
 use Rattle.belief_theory.proofs.ByClass.{no_rivals, by_class}

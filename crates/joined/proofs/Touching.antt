@@ -8,7 +8,7 @@ use Rattle.tmm_model.specs.declared.premise.Edit.TheVariants.{Horizon}
 use Rattle.tmm_model.specs.declared.token.TokenRow.{TokenRow}
 use Rattle.tmm_model.specs.Beliefs.{due, class_of, rules_at, token_of}
 use Rattle.tmm_model.specs.Edits.{next_list, list_until}
-use Rattle.tmm_model.specs.Maps.{built, gap, believed_tokens}
+use Rattle.tmm_model.specs.Maps.{TimeMap, built, gap, believed_tokens}
 use Rattle.tmm_model.specs.Moments.{Moment, At, After, RuleText, read_by, rule_of}
 use Rattle.tmm_model.specs.Standing.{Standing, far_in}
 use Rattle.list_theory.specs.WellNamed.{IsSound}
@@ -221,7 +221,7 @@ module _ (old : Standing) (n : ℕ) (b : List Moment) (f : Forest) (rows : Rows)
       by : (a b c d e : Bool) → b ≡ false → (not a || not b || not c || not d || not e) ≡ true
       by true false c d e h = refl
       by false false c d e h = refl
-      by a true c d e = cc
+      by a true c d e h = cc
 
   pub horizons_marked : AreMarked old (list_until old n) b f rows
   horizons_marked = record { right = right; touched = λ i q at waits. inl (touched i q at waits) }
