@@ -105,13 +105,7 @@ fn note_rivals(standing: &Standing, tree: &Tree, facts: &[Name], reach: &mut Rea
 
 // Puts the points of the tokens in of whose facts the premise says that they contradict one of
 // these.
-fn note_said(
-    standing: &Standing,
-    tree: &Tree,
-    premise: &Premise,
-    facts: &[Name],
-    reach: &mut Reach,
-)
+fn note_said(standing: &Standing, tree: &Tree, premise: &Premise, facts: &[Name], reach: &mut Reach)
     requires sound { IsSound standing.now.present }
     requires classed { AreClassed standing.now.present (forest tree.now) }
     requires stands { In premise.now standing.now.present.premises }
