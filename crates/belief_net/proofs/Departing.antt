@@ -1,5 +1,5 @@
 -- Rows that watched a token which left: by its class, or since its fact contradicts what they read.
-use Rattle.std.proofs.Common.{◌≡◌, ◌∙◌, ℕ, true, not, ◌&&◌, ◌||◌, List, Option, Some, sym, ap, subst, inl, inr, ◌⊎◌}
+use Rattle.std.proofs.Common.{◌≡◌, ◌∙◌, ℕ, true, false, not, ◌&&◌, ◌||◌, List, Option, Some, sym, ap, subst, inl, inr, ◌⊎◌}
 use Rattle.std.specs.List.{Contains}
 use Rattle.std.specs.Option.{option_map_or}
 use Rattle.std.specs.Cmp.Lexicographic.{bytes_decides}
@@ -57,7 +57,7 @@ module _ (old : Standing) (edit : Edit) (sound_old : IsSound old) (sound_new : I
       let at_old : In f (read_by (rule_of old r)) = subst (λ (x : RuleText). In f (read_by x)) (sym same_text) at in
       let then_ : contradict old f m.what ≡ true =
       same_contradict f at (inr against) ∙ or_right (same_name (class_of new f) (class_of new m.what) && not (same_name f m.what)) (are_rivals new f m.what) against in
-      reads_by_class old names m r own ∙ ap (λ o. option_map_or (λ c. reads_class old r c || reads_rival old r m.what) o _) is
+      reads_by_class old names m r own ∙ ap (λ o. option_map_or (λ c. reads_class old r c || reads_rival old r m.what) o false) is
       ∙ by f at_old (or_cases (same_name (class_of old f) (class_of old m.what) && not (same_name f m.what)) (are_rivals old f m.what) then_)
     where
       by : (f : List ℕ) → In f (read_by (rule_of old r))

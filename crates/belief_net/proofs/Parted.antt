@@ -1,5 +1,6 @@
 -- Nodes that are withdrawn, told and noted, with the rows at their events.
-use Rattle.std.proofs.Common.{◌≡◌, ◌≢◌, ◌∙◌, ℕ, zero, suc, ◌<◌, true, false, cond, eqb, eqb-true, List, [], ◌∷◌, ◌++◌, map, filter, length, Some, None, refl, sym, ap, subst, inl, inr, ◌⊎◌, arith}
+use Rattle.std.proofs.Common.{◌≡◌, ◌≢◌, ◌∙◌, ℕ, zero, suc, ◌<◌, true, false, cond, eqb, eqb-true, List, [], ◌∷◌, ◌++◌, map, filter, length, Some, None, refl, sym, ap, subst, inl, inr, ◌⊎◌, arith, Option}
+use Rattle.std.specs.Option.{option_map_or}
 use Rattle.std.proofs.lemmas.Bool.{cases_Bool, both_ways}
 use Rattle.std.proofs.lemmas.List.{append_assoc, append-nil, map-append}
 use Rattle.std.proofs.lemmas.List.Elements.{filter-append}
