@@ -446,10 +446,10 @@ module _ (old : Standing) (edit : Edit) (before net : Net) (b e m n : BeliefNet)
                     (subst (λ r. reads_rival old r z.what ≡ true) (sym named) rival)) [
                       | inl of_class ↦ inl (class, k, noted, number, class_listed_m i k class row number at_e (subst (λ r. reads_class old r class ≡ true) named of_class))
                       | inr now ↦ inr (
-                          z.what,
-                          sheds.facts.all x z z.what left (ap (option_map (λ _. z.what)) is),
-                          subst (λ r. reads_rival new r z.what ≡ true) (named ∙ name_me row) now,
-                        )
+                        z.what,
+                        sheds.facts.all x z z.what left (ap (option_map (λ _. z.what)) is),
+                        subst (λ r. reads_rival new r z.what ≡ true) (named ∙ name_me row) now,
+                      )
                     ])
               ]
 

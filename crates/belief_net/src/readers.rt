@@ -33,11 +33,7 @@ pub(crate) fn mark_departed(
 }
 
 // Lets all rows wait that may read a token of one of these classes.
-fn mark_classes(
-    tree: &Tree,
-    decisions: &mut Decisions,
-    classes: &Numbers,
-) -> Result<(), NoMemory>
+fn mark_classes(tree: &Tree, decisions: &mut Decisions, classes: &Numbers) -> Result<(), NoMemory>
     requires { HaveEvents tree.now (table_of decisions.old) }
     ensures ok { OnOk result (MarksClasses (present tree.now) classes.now decisions.old decisions.new) }
     ensures last { KeepsLast decisions.old decisions.new }
