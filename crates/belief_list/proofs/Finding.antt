@@ -12,6 +12,7 @@ use Rattle.std.proofs.lemmas.Map.Keys.{IsDistinct-push}
 use Rattle.tmm_model.specs.declared.token.TokenRow.{TokenRow}
 use Rattle.tmm_model.specs.Standing.{Standing}
 use Rattle.list_theory.proofs.Elements.{In, In-map, map-In, In-from_Contains, Contains-from_In, list_any-In}
+use Rattle.premise_list.specs.States.{States}
 use Rattle.dist_net.specs.Net.{Net}
 use Rattle.projection.specs.Queues.{weight_at}
 use Rattle.spots.specs.declared.spot.Spot.{Spot}
@@ -56,8 +57,8 @@ marks_stay marks x within y e = elim (cases_eq y x) [
 ]
 
 -- a class that is settled stays so
-pub settled_more : (tree : Kept) (nodes : List ℕ) (kept : List (Option KeptRow)) (old new : List Bool) → MarksStay old new → (class : List ℕ) → IsClassSettled tree nodes kept old class → IsClassSettled tree nodes kept new class
-settled_more tree nodes kept old new stay class settled x m here of = elim (settled x m here of) [
+pub settled_more : (lists : States) (tree : Kept) (nodes : List ℕ) (kept : List (Option KeptRow)) (old new : List Bool) → MarksStay old new → (class : List ℕ) → IsClassSettled lists tree nodes kept old class → IsClassSettled lists tree nodes kept new class
+settled_more lists tree nodes kept old new stay class settled x m here of = elim (settled x m here of) [
   | inl marked ↦ inl (stay x marked)
   | inr keeps ↦ inr keeps
 ]
@@ -229,21 +230,21 @@ module _ (s : Standing) (net : Net) (tree : Kept) (classes : List (List ℕ)) (k
 
   -- a row of a token with its clip found anew is what is to be kept of it
   pub token_now : (x : ℕ) (m : Member) (class : List ℕ) (was : Option KeptRow) (r : KeptRow) → member g x ≡ Some m → m.class ≡ Some class → r.early ≡ early (present tree) x → r.weight ≡ weight_at s g x
-      → IsClip net g x r.clip → IfSome r.clip (IsLive g) → IsNowUnder s net tree classes was x (Some r)
+      → IsClip s net g x r.clip → IfSome r.clip (IsLive g) → IsNowUnder s net tree classes was x (Some r)
   token_now x m class was r here of date weight clip live =
-      (m, here, record { date = date; weight = weight; clip = subst (λ o. IsClipNow net g classes was x o r.clip) (sym of) (inl (clip, live)) })
+      (m, here, record { date = date; weight = weight; clip = subst (λ o. IsClipNow s net g classes was x o r.clip) (sym of) (inl (clip, live)) })
 
 -- ---- what clips a node whose class was not looked at
 
-module _ (net : Net) (g : Forest) (classes : List (List ℕ)) (was : Option KeptRow) (x : ℕ) where
-  pub event_clip : (class o : Option (List ℕ)) → class ≡ o → is_some class ≡ false → IsClipNow net g classes was x o None
-  event_clip None o same none = subst (λ z. IsClipNow net g classes was x z None) same refl
+module _ (s : Standing) (net : Net) (g : Forest) (classes : List (List ℕ)) (was : Option KeptRow) (x : ℕ) where
+  pub event_clip : (class o : Option (List ℕ)) → class ≡ o → is_some class ≡ false → IsClipNow s net g classes was x o None
+  event_clip None o same none = subst (λ z. IsClipNow s net g classes was x z None) same refl
   event_clip (Some class) o same none = absurd (cc none)
 
   pub token_clip : (class o : Option (List ℕ)) → class ≡ o → is_some class ≡ true → ((name : List ℕ) → o ≡ Some name → Contains classes name → ⊥)
-      → (clip : Option ℕ) → clip ≡ option_and_then (λ r. r.clip) was → IsClipNow net g classes was x o clip
+      → (clip : Option ℕ) → clip ≡ option_and_then (λ r. r.clip) was → IsClipNow s net g classes was x o clip
   token_clip None o same some other clip is = absurd (cc some)
-  token_clip (Some class) o same some other clip is = subst (λ z. IsClipNow net g classes was x z clip) same (inr (other class (sym same), is))
+  token_clip (Some class) o same some other clip is = subst (λ z. IsClipNow s net g classes was x z clip) same (inr (other class (sym same), is))
 
 -- ---- tokens of a class
 
@@ -271,9 +272,9 @@ module _ (g : Forest) (class : List ℕ) (rows : List (TokenRow Spot)) (are : Ar
       subst P (get_or_default (numbers_in rows) i 0 x lt ∙ e) (each i within)
 
 -- all classes are settled where those at all places are
-pub classes_settled : (tree : Kept) (nodes : List ℕ) (kept : List (Option KeptRow)) (marks : List Bool) (classes : List (List ℕ))
-    → ((j : ℕ) (d : List ℕ) → j < length classes → IsClassSettled tree nodes kept marks (slice_index_or classes j d)) → AreClassesSettled tree nodes kept marks classes
-classes_settled tree nodes kept marks classes each class (i, lt, e) = subst (IsClassSettled tree nodes kept marks) e (each i class lt)
+pub classes_settled : (lists : States) (tree : Kept) (nodes : List ℕ) (kept : List (Option KeptRow)) (marks : List Bool) (classes : List (List ℕ))
+    → ((j : ℕ) (d : List ℕ) → j < length classes → IsClassSettled lists tree nodes kept marks (slice_index_or classes j d)) → AreClassesSettled lists tree nodes kept marks classes
+classes_settled lists tree nodes kept marks classes each class (i, lt, e) = subst (IsClassSettled lists tree nodes kept marks) e (each i class lt)
 
 -- and numbers of a list where those at its places are
 pub places_marked : (marks : List Bool) (nodes : List ℕ) → ((j d : ℕ) → j < length nodes → mark_under marks (slice_index_or nodes j d) ≡ true) → (x : ℕ) → Contains nodes x → mark_under marks x ≡ true

@@ -1,6 +1,6 @@
 -- What an edit makes of rows: those of nodes that it did not touch stay, and with all differences
 -- the rows are those of the list after it.
-use Rattle.std.proofs.Common.{◌≡◌, ℕ, Bool, true, false, not, List, refl, sym, ◌∙◌, ap, subst, inl, inr, arith}
+use Rattle.std.proofs.Common.{◌≡◌, ℕ, Bool, true, false, not, ◌&&◌, ◌||◌, List, refl, sym, ◌∙◌, ap, subst, inl, inr, arith}
 use Rattle.std.proofs.lemmas.Int.{ints}
 use Rattle.std.specs.Prelude.{◌⊎◌, ◌<ℤ◌, ◌≤ℤ◌, Option, Some, None, IfSome}
 use Rattle.std.specs.List.{Contains, list_any}
@@ -9,15 +9,18 @@ use Rattle.std.specs.Cmp.Lexicographic.{bytes_decides}
 use Rattle.tmm_model.specs.declared.premise.Edit.{Edit}
 use Rattle.tmm_model.specs.declared.token.TokenRow.{TokenRow}
 use Rattle.tmm_model.specs.Answers.{row, clip, clip_of, first_believed, weight}
-use Rattle.tmm_model.specs.Beliefs.{token_of, contradicts_in}
+use Rattle.tmm_model.specs.Beliefs.{class_of, token_of, says_against, are_rivals, contradicts_in}
 use Rattle.tmm_model.specs.Edits.{next_list}
-use Rattle.tmm_model.specs.Maps.{TimeMap, built, gap}
+use Rattle.tmm_model.specs.Maps.{TimeMap, built, gap, believed_tokens}
 use Rattle.tmm_model.specs.Moments.{Moment}
 use Rattle.tmm_model.specs.Points.{same_name}
+use Rattle.tmm_model.specs.Sorts.{class_in}
 use Rattle.tmm_model.specs.Standing.{Standing, points_in}
-use Rattle.tmm_model.specs.Tokens.{is_before, clips}
+use Rattle.tmm_model.specs.Tokens.{of_one_class, is_before, clips}
 use Rattle.list_theory.proofs.Elements.{In, both, In-filter_map, In-from_Contains, Contains-from_In, list_any-In, In-list_any}
 use Rattle.belief_theory.specs.Right.{Occurs}
+use Rattle.belief_theory.proofs.Rivals.{or_cases}
+use Rattle.belief_theory.proofs.Watched.{class-token_of}
 use Rattle.belief_theory.proofs.OneRight.{spot-token_of}
 use Rattle.belief_theory.proofs.Outcomes.{first_token_in}
 use Rattle.premise_list.specs.States.{States}
@@ -34,11 +37,13 @@ use Rattle.spots.proofs.Seen.{early_is, occurs_at}
 use Rattle.occ_tree.specs.Dated.{IsDatedBy}
 use Rattle.occ_tree.specs.Standing.{Kept, forest, present, committed}
 use Rattle.occ_tree.specs.Touched.{IsAtMoved, IsUntouched}
+use Rattle.supports.specs.Apart.{IsApart}
 use Rattle.supports.specs.Edited.{old_forest, IsEdited}
 use Rattle.supports.proofs.Answered.{event_unclipped}
 use Rattle.revisions.proofs.Tokens.{tokens_stay}
 use Rattle.joined.specs.KeptClips.{StandsAsBefore}
-use Rattle.joined.proofs.KeptClips.{nodes_keep_clips, same_clipper, date_unmoved, keeps_near}
+use Rattle.belief_list.proofs.KeptClips.{same_clipper, date_unmoved, keeps_near}
+use Rattle.belief_list.proofs.KnownFacts.{token_classed, one_class}
 use Rattle.belief_list.specs.declared.kept_rows.KeptRow.{KeptRow}
 use Rattle.belief_list.specs.declared.kept_rows.Difference.{Difference}
 use Rattle.belief_list.specs.KeptRows.{row_under, IsRowOf, AreRowsOf, rows_after, CoverTouched, AreDifferences}
@@ -73,9 +78,6 @@ module _ (s : Standing) (net : Net) (f : Forest) (seen : IsForestOf s net f) (y 
   no_token : n.class ≡ None → token_of s (moment_at f y) ≡ None
   no_token of = token_there ∙ ap as_token of
 
-  token_made : (class : List ℕ) → n.class ≡ Some class → (k : TokenRow Moment) × (token_of s (moment_at f y) ≡ Some k) × (k.class ≡ class)
-  token_made class of = (row_moment net.names f (record { spot = Node y; end = option_map Declared n.end; fact = n.what; class = class }), token_there ∙ ap as_token of, refl)
-
   class_of_token : (k : TokenRow Moment) → token_of s (moment_at f y) ≡ Some k → n.class ≡ Some k.class
   class_of_token k is = by n.class (sym token_there ∙ is)
     where
@@ -83,18 +85,31 @@ module _ (s : Standing) (net : Net) (f : Forest) (seen : IsForestOf s net f) (y 
       by None e = absurd (cc e)
       by (Some class) e = ap (λ (z : Option (TokenRow Moment)). option_map (λ (k : TokenRow Moment). k.class) z) e
 
--- **What clips a token is a token of its class.**
-clip_in_class : (m : TimeMap) (x c : Moment) (k : TokenRow Moment) → token_of m.list x ≡ Some k → clip m x ≡ Some c → (d : TokenRow Moment) × (token_of m.list c ≡ Some d) × (d.class ≡ k.class)
-clip_in_class m x c k token e = by k.end (sym (ap (option_and_then (clip_of m)) token) ∙ e)
+-- **What clips a token is a token that contradicts it.**
+clip_contradicts : (m : TimeMap) (x c : Moment) (k : TokenRow Moment) → token_of m.list x ≡ Some k → clip m x ≡ Some c → (d : TokenRow Moment) × (token_of m.list c ≡ Some d) × (contradicts_in m.list k d ≡ true)
+clip_contradicts m x c k token e = by k.end (sym (ap (option_and_then (clip_of m)) token) ∙ e)
   where
-    by : (o : Option Moment) → elim o as (λ _. Option Moment) [ Some end ↦ None | None ↦ first_believed m (clips (contradicts_in m.list) (gap m) k) ] ≡ Some c → (d : TokenRow Moment) × (token_of m.list c ≡ Some d) × (d.class ≡ k.class)
+    by : (o : Option Moment) → elim o as (λ _. Option Moment) [ Some end ↦ None | None ↦ first_believed m (clips (contradicts_in m.list) (gap m) k) ] ≡ Some c → (d : TokenRow Moment) × (token_of m.list c ≡ Some d) × (contradicts_in m.list k d ≡ true)
     by (Some end) e = absurd (cc e)
     by None e =
         let (d, there, passes, spot) = first_token_in m.list m.far m.believed (clips (contradicts_in m.list) (gap m) k) c e in
         let (y, on, made) = In-filter_map (token_of m.list) m.believed d there in
-        let differ = (both (contradicts_in m.list k d) (is_before (gap m) k.spot d.spot) passes).0 in
-        let same : k.class ≡ d.class = (bytes_decides k.class d.class).0 (both (same_name k.class d.class) (not (same_name k.fact d.fact)) differ).0 in
-        (d, ap (token_of m.list) (sym spot ∙ spot-token_of m.list y d made) ∙ made, sym same)
+        (d, ap (token_of m.list) (sym spot ∙ spot-token_of m.list y d made) ∙ made, (both (contradicts_in m.list k d) (is_before (gap m) k.spot d.spot) passes).0)
+
+-- tokens of one class contradict each other where their facts differ, whatever premises say
+one_class_alike : (a b c : Bool) → (a || (a && b)) ≡ (a || (a && c))
+one_class_alike true b c = refl
+one_class_alike false b c = refl
+
+contradict_in_class : (s t : Standing) (k c : TokenRow Moment) → same_name k.class c.class ≡ true → contradicts_in s k c ≡ contradicts_in t k c
+contradict_in_class s t k c one =
+    (λ i. (one i && not (same_name k.fact c.fact)) || are_rivals s k.fact c.fact)
+    ∙ one_class_alike (not (same_name k.fact c.fact)) (list_any (says_against k.fact c.fact) s.premises) (list_any (says_against k.fact c.fact) t.premises)
+    ∙ sym (λ i. (one i && not (same_name k.fact c.fact)) || are_rivals t k.fact c.fact)
+
+-- the class of a believed token is that of its fact
+own_class : (s : Standing) (c : TokenRow Moment) → In c (believed_tokens (built s)) → c.class ≡ class_of s c.fact
+own_class s c at = let (y, on, made) = In-filter_map (token_of s) (built s).believed c at in class-token_of s y c made
 
 none_mapped : (h : ℕ → Moment) (o : Option ℕ) → option_map h o ≡ None → o ≡ None
 none_mapped h None e = refl
@@ -184,25 +199,100 @@ module _ (lists : States) (nets : Nets) (edit : Edit) (tree : Kept) (kept : List
           date = date_stays y m here live (untouched.unmoved y m here of);
         }
 
-    -- what clipped a token of it is there
-    clipper_stays : (x : ℕ) (m : Member) → member g x ≡ Some m → m.class ≡ Some class → (o : Option ℕ) → option_map (moment_at f) o ≡ clip (built s) (moment_at f x) → IfSome o (IsLive f) → IfSome o (IsLive g)
-    clipper_stays x m here of None clipped live = tt
-    clipper_stays x m here of (Some y) clipped live =
-        let (n, there, of_n) = was x m here of in
-        let (k, token, in_class) = token_made s nets.committed f edited.seen_then x n there class of_n in
-        let (d, clipper, same) = clip_in_class (built s) (moment_at f x) (moment_at f y) k token (sym clipped) in
-        let (c, here_c) = node_at f y live in
-        let of_c : c.class ≡ Some class = class_of_token s nets.committed f edited.seen_then y c here_c d clipper ∙ ap Some (same ∙ in_class) in
-        let (c_now, here_now, _) = stays y c here_c of_c in
-        live_at g y c_now here_now
+  -- ---- a token
 
-    -- **The clip of a token of it stays.**
-    clip_stays : (x : ℕ) (m : Member) → member g x ≡ Some m → m.class ≡ Some class → (o : Option ℕ) → option_map (moment_at f) o ≡ clip (built s) (moment_at f x) → IfSome o (IsLive f)
-        → option_map (moment_at g) o ≡ clip (built (next_list s edit)) (moment_at g x)
-    clip_stays x m here of o clipped live =
-        let there = clipper_stays x m here of o clipped live in
-        same_clipper s edit nets.committed nets.present nets.moved f g edited.seen_then edited.holds_then seen_g holds_g numbers points moved (moment_at f x) o clipped there
-        ∙ sym (nodes_keep_clips s edit nets.committed nets.present nets.moved f g edited.seen_then edited.holds_then seen_g holds_g numbers points moved x m class here of stands o clipped there)
+  -- the token that a node of the list after the edit is
+  abbrev token_now : ℕ → Member → List ℕ → TokenRow Moment
+  token_now y m class = row_moment nets.present.names g (record { spot = Node y; end = option_map Declared m.end; fact = m.what; class = class })
+
+  is_now : (y : ℕ) (m : Member) (class : List ℕ) → member g y ≡ Some m → m.class ≡ Some class → token_of (next_list s edit) (moment_at g y) ≡ Some (token_now y m class)
+  is_now y m class here of = token_there (next_list s edit) nets.present g seen_g y m here ∙ ap (as_token (next_list s edit) nets.present g seen_g y m here) of
+
+  -- it was the same before, if the node was there
+  was_token : (y : ℕ) (m : Member) (class : List ℕ) → member g y ≡ Some m → m.class ≡ Some class → IsLive f y → token_of s (moment_at f y) ≡ Some (token_now y m class)
+  was_token y m class here of live =
+      let live_g = live_at g y m here in
+      let word = numbers y live live_g in
+      let occurs : Occurs s (moment_at g y) = subst (Occurs s) word (occurs_at s nets.committed f edited.seen_then y live) in
+      ap (token_of s) word
+      ∙ tokens_stay s edit edited.seen_then.network.sound seen_g.network.sound (moment_at g y) occurs (occurs_at (next_list s edit) nets.present g seen_g y live_g)
+      ∙ is_now y m class here of
+
+  known_now : (y : ℕ) (m : Member) (class : List ℕ) → member g y ≡ Some m → m.class ≡ Some class → class_in (next_list s edit).premises m.what ≡ Some class
+  known_now y m class here of =
+      token_classed (next_list s edit) seen_g.network.sound (moment_at g y) (occurs_at (next_list s edit) nets.present g seen_g y (live_at g y m here)) (token_now y m class) (is_now y m class here of)
+
+  -- ---- a token of a class that is apart
+
+  module _ (x : ℕ) (m : Member) (class : List ℕ) (here : member g x ≡ Some m) (of : m.class ≡ Some class) (apart : IsApart (record lists { present = next_list s edit }) nets tree class) where
+    abbrev new : Standing
+    new = next_list s edit
+
+    abbrev k : TokenRow Moment
+    k = token_now x m class
+
+    known : class_in new.premises m.what ≡ Some class
+    known = known_now x m class here of
+
+    was_live : IsLive f x
+    was_live = let (n, there, _) = was class apart.untouched x m here of in live_at f x n there
+
+    -- what contradicts it in both lists
+    contradicts_same : (c : TokenRow Moment) → In c (believed_tokens (built s)) → In c (believed_tokens (built new)) → contradicts_in s k c ≡ contradicts_in new k c
+    contradicts_same c before after = elim (apart.rivals m.what known c.fact) [
+      | inl one ↦ contradict_in_class s new k c ((bytes_decides class c.class).1 (sym one.1 ∙ sym (own_class new c after)))
+      | inr same ↦ (λ i. of_one_class k c || same i)
+    ]
+
+    -- what contradicts it stands as before
+    near_stands : (y : ℕ) (n : Member) (c : List ℕ) → member g y ≡ Some n → n.class ≡ Some c → contradicts_in new k (token_now y n c) ≡ true → StandsAsBefore nets.committed nets.present nets.moved f g y n
+    near_stands y n c at of_c contradicts = elim (or_cases (of_one_class k (token_now y n c)) (are_rivals new m.what n.what) contradicts) [
+      | inl one ↦ (
+          let same : class ≡ c = (bytes_decides class c).0 (both (same_name class c) (not (same_name m.what n.what)) one).0 in
+          stands class apart.untouched y n at (of_c ∙ ap Some (sym same)))
+      | inr rival ↦ (
+          let (other, declared, untouched) = apart.of_rivals m.what known n.what rival in
+          let both_are : Some other ≡ Some c = sym declared ∙ known_now y n c at of_c in
+          let same : other ≡ c = cc in
+          stands other untouched y n at (of_c ∙ ap Some (sym same)))
+    ]
+
+    -- a token of the list before that contradicted it is there
+    clipper_class : (d : TokenRow Moment) → (z : ℕ) (n : Member) → member f z ≡ Some n → token_of s (moment_at f z) ≡ Some d → contradicts_in s k d ≡ true
+        → (other : List ℕ) × (d.class ≡ other) × IsUntouched nets tree other
+    clipper_class d z n there token contradicts = elim (or_cases (of_one_class k d) (are_rivals s m.what d.fact) contradicts) [
+      | inl one ↦ (class, sym ((bytes_decides class d.class).0 (both (same_name class d.class) (not (same_name m.what d.fact)) one).0), apart.untouched)
+      | inr rival ↦ (elim (apart.rivals m.what known d.fact) [
+        | inl one ↦ (class, class-token_of s (moment_at f z) d token ∙ one.0, apart.untouched)
+        | inr same ↦ (
+            let (other, declared, untouched) = apart.of_rivals m.what known d.fact (sym same ∙ rival) in
+            let before = token_classed s edited.seen_then.network.sound (moment_at f z) (occurs_at s nets.committed f edited.seen_then z (live_at f z n there)) d token in
+            (other, one_class s edit edited.seen_then.network.sound.well_named seen_g.network.sound.well_named d.fact d.class other before declared, untouched))
+      ])
+    ]
+
+    clipper_there : (o : Option ℕ) → option_map (moment_at f) o ≡ clip (built s) (moment_at f x) → IfSome o (IsLive f)
+        → (z : ℕ) → o ≡ Some z → (n : Member) × (member g z ≡ Some n) × StandsAsBefore nets.committed nets.present nets.moved f g z n
+    clipper_there o clipped live z is =
+        let live_z : IsLive f z = subst (λ (w : Option ℕ). IfSome w (IsLive f)) is live in
+        let clipped_z : clip (built s) (moment_at f x) ≡ Some (moment_at f z) = sym clipped ∙ ap (option_map (moment_at f)) is in
+        let (d, token, contradicts) = clip_contradicts (built s) (moment_at f x) (moment_at f z) k (was_token x m class here of was_live) clipped_z in
+        let (n, there) = node_at f z live_z in
+        let (other, of_d, untouched) = clipper_class d z n there token contradicts in
+        let of_n : n.class ≡ Some other = class_of_token s nets.committed f edited.seen_then z n there d token ∙ ap Some of_d in
+        let (n_now, here_now, of_now) = stays other untouched z n there of_n in
+        (n_now, here_now, stands other untouched z n_now here_now of_now)
+
+    clipper_stays : (o : Option ℕ) → option_map (moment_at f) o ≡ clip (built s) (moment_at f x) → IfSome o (IsLive f) → IfSome o (IsLive g)
+    clipper_stays None clipped live = tt
+    clipper_stays (Some z) clipped live = let (n, there, _) = clipper_there (Some z) clipped live z refl in live_at g z n there
+
+    -- **Its clip stays.**
+    clip_stays : (o : Option ℕ) → option_map (moment_at f) o ≡ clip (built s) (moment_at f x) → IfSome o (IsLive f) → option_map (moment_at g) o ≡ clip (built new) (moment_at g x)
+    clip_stays o clipped live =
+        same_clipper s edit nets.committed nets.present nets.moved f g edited.seen_then edited.holds_then seen_g holds_g numbers points moved (moment_at f x) o clipped (clipper_stays o clipped live)
+        ∙ sym (keeps_near s edit nets.committed nets.present nets.moved f g edited.seen_then edited.holds_then seen_g holds_g numbers points moved x m class here of (stands class apart.untouched x m here of)
+        o clipped (clipper_there o clipped live) contradicts_same (λ y n c at of_c contradicts later ahead. near_stands y n c at of_c contradicts))
 
   -- ---- rows of the list after the edit
 
@@ -221,10 +311,10 @@ module _ (lists : States) (nets : Nets) (edit : Edit) (tree : Kept) (kept : List
   -- the clip that was kept of a token of a class that is not among those that may have been touched
   kept_clip : (x : ℕ) (m : Member) (class : List ℕ) → member g x ≡ Some m → m.class ≡ Some class → (Contains classes class → ⊥) → (r : KeptRow) → IsRowOf s f x r → IsLive f x → IsRightClip x r.clip
   kept_clip x m class here of other r is live =
-      let untouched = covered.others class other in
+      let apart : IsApart (record lists { present = next_list s edit }) nets tree class = subst (λ (z : Standing). IsApart (record lists { present = z }) nets tree class) edited.list (covered.others class other) in
       let clipped = clip_was x live r is in (
-        clip_stays class untouched x m here of r.clip clipped is.clip ∙ ap (λ (z : Standing). clip (built z) (moment_at g x)) (sym edited.list),
-        clipper_stays class untouched x m here of r.clip clipped is.clip,
+        clip_stays x m class here of apart r.clip clipped is.clip ∙ ap (λ (z : Standing). clip (built z) (moment_at g x)) (sym edited.list),
+        clipper_stays x m class here of apart r.clip clipped is.clip,
       )
 
   -- ---- nodes that were not touched
@@ -258,7 +348,7 @@ module _ (lists : States) (nets : Nets) (edit : Edit) (tree : Kept) (kept : List
       let one : q ≡ r = cc in
       ap (λ (w : KeptRow). w.early) one ∙ date_was y live r is ∙ stands.date
 
-  module _ (x : ℕ) (m : Member) (class : List ℕ) (here : member g x ≡ Some m) (of : m.class ≡ Some class) (keeps : KeepsClip tree nodes kept class x)
+  module _ (x : ℕ) (m : Member) (class : List ℕ) (here : member g x ≡ Some m) (of : m.class ≡ Some class) (keeps : KeepsClip lists tree nodes kept class x)
       (r : KeptRow) (at : row_under kept x ≡ Some r) (is : IsRowOf s f x r) (live : IsLive f x) where
     clipped : option_map (moment_at f) r.clip ≡ clip (built s) (moment_at f x)
     clipped = clip_was x live r is
@@ -275,6 +365,22 @@ module _ (lists : States) (nets : Nets) (edit : Edit) (tree : Kept) (kept : List
     still_there : (o : Option ℕ) → r.clip ≡ o → IfSome o (IsLive g)
     still_there None e = tt
     still_there (Some z) e = let (n, at_z, stands) = there z e in live_at g z n at_z
+
+    -- no premise speaks of its fact
+    alone_was : (c : List ℕ) → are_rivals s m.what c ≡ false
+    alone_was c = (keeps.plain m here c).0
+
+    alone_now : (c : List ℕ) → are_rivals (next_list s edit) m.what c ≡ false
+    alone_now c = ap (λ (z : Standing). are_rivals z m.what c) (sym edited.list) ∙ (keeps.plain m here c).1
+
+    contradicts_alike : (c : TokenRow Moment) → contradicts_in s (token_now x m class) c ≡ contradicts_in (next_list s edit) (token_now x m class) c
+    contradicts_alike c = λ i. of_one_class (token_now x m class) c || (alone_was c.fact ∙ sym (alone_now c.fact)) i
+
+    of_class : (n : Member) (y : ℕ) (c : List ℕ) → contradicts_in (next_list s edit) (token_now x m class) (token_now y n c) ≡ true → class ≡ c
+    of_class n y c contradicts = elim (or_cases (of_one_class (token_now x m class) (token_now y n c)) (are_rivals (next_list s edit) m.what n.what) contradicts) [
+      | inl one ↦ (bytes_decides class c).0 (both (same_name class c) (not (same_name m.what n.what)) one).0
+      | inr rival ↦ (let never : true ≡ false = sym rival ∙ alone_now n.what in absurd (cc never))
+    ]
 
     near : (y : ℕ) (n : Member) → member g y ≡ Some n → n.class ≡ Some class → node_early nets.present g x <ℤ node_early nets.present g y
         → ((z : ℕ) → r.clip ≡ Some z → node_early nets.present g y ≤ℤ node_early nets.present g z) → StandsAsBefore nets.committed nets.present nets.moved f g y n
@@ -296,7 +402,8 @@ module _ (lists : States) (nets : Nets) (edit : Edit) (tree : Kept) (kept : List
         let stays = still_there r.clip refl in (
           same_clipper s edit nets.committed nets.present nets.moved f g edited.seen_then edited.holds_then seen_g holds_g numbers points moved (moment_at f x) r.clip clipped stays
               ∙ sym (keeps_near s edit nets.committed nets.present nets.moved f g edited.seen_then edited.holds_then seen_g holds_g numbers points moved x m class here of (untouched_stands x m here keeps.own)
-              r.clip clipped there near)
+              r.clip clipped there (λ c before after. contradicts_alike c)
+              (λ y n c at_y of_y contradicts. near y n at_y (of_y ∙ ap Some (sym (of_class n y c contradicts)))))
               ∙ ap (λ (z : Standing). clip (built z) (moment_at g x)) (sym edited.list),
           stays,
         )
@@ -306,7 +413,7 @@ module _ (lists : States) (nets : Nets) (edit : Edit) (tree : Kept) (kept : List
 
   -- a number was looked at, or the node is none that may have been touched
   module _ (marks : List Bool) (found : List Difference) (are : AreFound lists.present nets.present tree classes kept marks found)
-      (nodes_marked : (x : ℕ) → Contains nodes x → mark_under marks x ≡ true) (settled : AreClassesSettled tree nodes kept marks classes) where
+      (nodes_marked : (x : ℕ) → Contains nodes x → mark_under marks x ≡ true) (settled : AreClassesSettled lists tree nodes kept marks classes) where
     -- the row of a node that was looked at
     row_told : (x : ℕ) (m : Member) (r : KeptRow) → member g x ≡ Some m → IsNow lists.present nets.present tree classes (row_under kept x) x m r → IsRowOf lists.present g x r
     row_told x m r here is = row_now x live r (is.date ∙ dated x live) (by m.class refl is.clip) is.weight
@@ -314,11 +421,11 @@ module _ (lists : States) (nets : Nets) (edit : Edit) (tree : Kept) (kept : List
         live : IsLive g x
         live = live_at g x m here
 
-        by : (o : Option (List ℕ)) → m.class ≡ o → IsClipNow nets.present g classes (row_under kept x) x o r.clip → IsRightClip x r.clip
+        by : (o : Option (List ℕ)) → m.class ≡ o → IsClipNow lists.present nets.present g classes (row_under kept x) x o r.clip → IsRightClip x r.clip
         by None of none = event_clip x m here of r.clip none
-        by (Some class) of (inl (anew, there)) = (anew lists.present (built lists.present).believed edited.seen_now edited.holds_now, there)
+        by (Some class) of (inl (anew, there)) = (anew (built lists.present).believed edited.seen_now edited.holds_now, there)
         by (Some class) of (inr (other, same)) =
-            let (n, there, _) = was class (covered.others class other) x m here of in
+            let (n, there, _) = was class (covered.others class other).untouched x m here of in
             let live_f = live_at f x n there in
             let (q, at, own) = before.own x live_f in
             let one : r.clip ≡ q.clip = same ∙ ap (option_and_then (λ (w : KeptRow). w.clip)) at in

@@ -1,14 +1,18 @@
 -- Which tokens of a touched class are looked at: all others keep what clipped them.
-use Rattle.std.proofs.Common.{◌≡◌, ℕ, ◌+◌, ◌<◌, ◌≤◌, Bool, true, false, List, length, refl, sym, ◌∙◌, ap, arith, inl, inr}
+use Rattle.std.proofs.Common.{◌≡◌, ℕ, ◌+◌, ◌<◌, ◌≤◌, Bool, true, false, List, length, refl, sym, ◌∙◌, ap, subst, arith, inl, inr}
 use Rattle.std.proofs.lemmas.Bool.{cases_order, cases_lt}
 use Rattle.std.proofs.lemmas.Int.{ints}
 use Rattle.std.proofs.lemmas.List.{length-map}
+use Rattle.std.proofs.lemmas.List.Elements.{Contains-get_or}
 use Rattle.std.specs.Prelude.{ℤ, ◌<ℤ◌, ◌≤ℤ◌, Option, Some, slice_index_or}
 use Rattle.std.specs.List.{Contains}
 use Rattle.tmm_model.specs.declared.token.TokenRow.{TokenRow}
+use Rattle.premise_list.specs.States.{States}
 use Rattle.dist_net.specs.Net.{Net}
 use Rattle.spots.specs.declared.spot.Spot.{Spot}
+use Rattle.spots.specs.Forest.{Member, member}
 use Rattle.spots.specs.Spots.{AreTokens, spot_early}
+use Rattle.spots.proofs.Rows.{member_of_token}
 use Rattle.occ_tree.specs.OfLists.{IsTreeIn}
 use Rattle.occ_tree.specs.Places.{forest}
 use Rattle.occ_tree.specs.Standing.{Kept, present, early, order}
@@ -19,7 +23,7 @@ use Rattle.supports.proofs.TokenRows.{no_row}
 use Rattle.belief_list.specs.declared.kept_rows.KeptRow.{KeptRow}
 use Rattle.belief_list.specs.KeptRows.{row_under}
 use Rattle.belief_list.specs.Told.{clip_of}
-use Rattle.belief_list.specs.Finding.{mark_under, AreMarked, IsAhead, KeepsClip}
+use Rattle.belief_list.specs.Finding.{mark_under, AreMarked, IsAhead, IsUnrivalled, KeepsClip}
 use Rattle.belief_list.proofs.Finding.{token_live, number_at, each_token}
 
 -- ---- marked numbers of a list, and their dates
@@ -92,14 +96,23 @@ module _ {net : Net} {k : Kept} (tree : IsTreeIn net k) {class : List ℕ} {rows
       → (c : ℕ) × (q : KeptRow) × (clip_of (row_under kept x) ≡ Some c) × (row_under kept c ≡ Some q) × (q.early <ℤ early (present k) y)
 
   -- **One that is passed over keeps what clipped it.**
-  pub passed_keeps : (touched : List Bool) (nodes : List ℕ) → AreMarked touched nodes → (kept : List (Option KeptRow)) (i : ℕ) → i < length rows
-      → IsPassed (early (present k)) touched (numbers_in rows) kept i → KeepsClip k nodes kept class (at i)
-  passed_keeps touched nodes marked kept i lt (free, next, ahead, behind) = record {
+  pub passed_keeps : (lists : States) (touched : List Bool) (nodes : List ℕ) → AreMarked touched nodes → (kept : List (Option KeptRow)) (i : ℕ) → i < length rows
+      → IsPassed (early (present k)) touched (numbers_in rows) kept i → IsUnrivalled lists (slice_index_or rows i no_row).fact → KeepsClip lists k nodes kept class (at i)
+  passed_keeps lists touched nodes marked kept i lt (free, next, ahead, behind) plain = record {
+    plain = λ m here. subst (IsUnrivalled lists) (fact_is m here) plain;
     own = λ touched_here. (let none : true ≡ false = sym (marked (at i) touched_here) ∙ free in absurd (cc none));
     free = λ c clip touched_there. (let none : true ≡ false = sym (marked c touched_there) ∙ ahead.free c clip in absurd (cc none));
     ahead = each_token (forest k) class rows are (Reached nodes kept (at i)) reached;
   }
     where
+      fact_is : (m : Member) → member (forest k) (at i) ≡ Some m → (slice_index_or rows i no_row).fact ≡ m.what
+      fact_is m here =
+          let (x, n, own, one) = member_of_token (forest k) class rows are (slice_index_or rows i no_row) (Contains-get_or rows i no_row lt) in
+          let there : member (forest k) (at i) ≡ Some n = ap (member (forest k)) (sym (number_at (forest k) class rows are i no_row lt) ∙ ap number_of own.spot) ∙ own.here in
+          let both : Some n ≡ Some m = sym there ∙ here in
+          let same : n ≡ m = cc in
+          own.fact ∙ ap (λ (z : Member). z.what) same
+
       reached : (j : ℕ) → j < length rows → Reached nodes kept (at i) (at j)
       reached j within touched_there later = elim (cases_lt i j) [
         | inl less ↦ (

@@ -2,7 +2,9 @@
 use Rattle.std.specs.Prelude.{◌≡◌, ◌⊎◌, ℕ, ◌<◌, ℤ, ◌<ℤ◌, Bool, true, false, List, length, Option, Some, None, IfSome, MatchOption, nat_eq, slice_index_or}
 use Rattle.std.specs.List.{All, Contains, IsDistinct}
 use Rattle.std.specs.Option.{option_and_then}
+use Rattle.tmm_model.specs.Beliefs.{are_rivals}
 use Rattle.tmm_model.specs.Standing.{Standing}
+use Rattle.premise_list.specs.States.{States}
 use Rattle.dist_net.specs.Net.{Net}
 use Rattle.spots.specs.Forest.{Forest, Member, member, IsLive}
 use Rattle.occ_tree.specs.Standing.{Kept, forest, present, early}
@@ -18,16 +20,16 @@ use Rattle.belief_list.specs.Told.{clip_of}
 
 -- What clips the node, whose class this is: nothing clips an event; of a token it is found anew, or
 -- it is what clipped it, where its class is not among those that may have been touched.
-abbrev pub IsClipNow : Net → Forest → List (List ℕ) → Option KeptRow → ℕ → Option (List ℕ) → Option ℕ → Type 0
-IsClipNow net g classes was x None clip = clip ≡ None
-IsClipNow net g classes was x (Some class) clip =
-    (IsClip net g x clip × IfSome clip (IsLive g)) ⊎ ((Contains classes class → ⊥) × (clip ≡ option_and_then (λ r. r.clip) was))
+abbrev pub IsClipNow : Standing → Net → Forest → List (List ℕ) → Option KeptRow → ℕ → Option (List ℕ) → Option ℕ → Type 0
+IsClipNow s net g classes was x None clip = clip ≡ None
+IsClipNow s net g classes was x (Some class) clip =
+    (IsClip s net g x clip × IfSome clip (IsLive g)) ⊎ ((Contains classes class → ⊥) × (clip ≡ option_and_then (λ r. r.clip) was))
 
 -- the row has the date of the node, what it counts, and what clips it
 pub record IsNow (s : Standing) (net : Net) (tree : Kept) (classes : List (List ℕ)) (was : Option KeptRow) (x : ℕ) (m : Member) (r : KeptRow) : Type 0 where
   pub date : r.early ≡ early (present tree) x
   pub weight : r.weight ≡ weight_at s (forest (present tree)) x
-  pub clip : IsClipNow net (forest (present tree)) classes was x m.class r.clip
+  pub clip : IsClipNow s net (forest (present tree)) classes was x m.class r.clip
 
 -- what is to be kept under a number: the row of the node, nothing where none is
 abbrev pub IsNowUnder : Standing → Net → Kept → List (List ℕ) → Option KeptRow → ℕ → Option KeptRow → Type 0
@@ -56,27 +58,33 @@ pub record IsAhead (kept : List (Option KeptRow)) (touched : List Bool) (clip : 
   pub free : (c : ℕ) → clip ≡ Some c → mark_under touched c ≡ false
   pub ahead : (d : ℤ) → next ≡ Some d → (c : ℕ) × (q : KeptRow) × (clip ≡ Some c) × (row_under kept c ≡ Some q) × (q.early <ℤ d)
 
+-- no premise of either list says that another fact contradicts this one
+abbrev pub IsUnrivalled : States → List ℕ → Type 0
+IsUnrivalled lists f = (g : List ℕ) → (are_rivals lists.committed f g ≡ false) × (are_rivals lists.present f g ≡ false)
+
 -- **A token of the class keeps what clipped it**: neither it nor that was touched, and each touched
--- token of the class that has a later date than it has a later date than what clipped it, too.
-pub record KeepsClip (tree : Kept) (nodes : List ℕ) (kept : List (Option KeptRow)) (class : List ℕ) (x : ℕ) : Type 0 where
+-- token of the class that has a later date than it has a later date than what clipped it, too. No
+-- token of another class contradicts it.
+pub record KeepsClip (lists : States) (tree : Kept) (nodes : List ℕ) (kept : List (Option KeptRow)) (class : List ℕ) (x : ℕ) : Type 0 where
   pub own : Contains nodes x → ⊥
+  pub plain : (m : Member) → member (forest (present tree)) x ≡ Some m → IsUnrivalled lists m.what
   pub free : (c : ℕ) → clip_of (row_under kept x) ≡ Some c → Contains nodes c → ⊥
   pub ahead : (y : ℕ) (m : Member) → member (forest (present tree)) y ≡ Some m → m.class ≡ Some class → Contains nodes y → early (present tree) x <ℤ early (present tree) y
       → (c : ℕ) × (q : KeptRow) × (clip_of (row_under kept x) ≡ Some c) × (row_under kept c ≡ Some q) × (q.early <ℤ early (present tree) y)
 
 -- the tokens of the class that are not wanted keep what clipped them
-abbrev pub AreOthersKept : Kept → List ℕ → List (Option KeptRow) → List ℕ → List Bool → Type 0
-AreOthersKept tree nodes kept class wanted =
-    (i : ℕ) → i < length ((present tree).tokens class) → slice_index_or wanted i true ≡ false → KeepsClip tree nodes kept class (slice_index_or (numbers_in ((present tree).tokens class)) i 0)
+abbrev pub AreOthersKept : States → Kept → List ℕ → List (Option KeptRow) → List ℕ → List Bool → Type 0
+AreOthersKept lists tree nodes kept class wanted =
+    (i : ℕ) → i < length ((present tree).tokens class) → slice_index_or wanted i true ≡ false → KeepsClip lists tree nodes kept class (slice_index_or (numbers_in ((present tree).tokens class)) i 0)
 
 -- each token of the class is marked, or keeps what clipped it
-abbrev pub IsClassSettled : Kept → List ℕ → List (Option KeptRow) → List Bool → List ℕ → Type 0
-IsClassSettled tree nodes kept marks class =
-    (x : ℕ) (m : Member) → member (forest (present tree)) x ≡ Some m → m.class ≡ Some class → (mark_under marks x ≡ true) ⊎ KeepsClip tree nodes kept class x
+abbrev pub IsClassSettled : States → Kept → List ℕ → List (Option KeptRow) → List Bool → List ℕ → Type 0
+IsClassSettled lists tree nodes kept marks class =
+    (x : ℕ) (m : Member) → member (forest (present tree)) x ≡ Some m → m.class ≡ Some class → (mark_under marks x ≡ true) ⊎ KeepsClip lists tree nodes kept class x
 
 -- each token of each of the classes is, or does
-abbrev pub AreClassesSettled : Kept → List ℕ → List (Option KeptRow) → List Bool → List (List ℕ) → Type 0
-AreClassesSettled tree nodes kept marks classes = (class : List ℕ) → Contains classes class → IsClassSettled tree nodes kept marks class
+abbrev pub AreClassesSettled : States → Kept → List ℕ → List (Option KeptRow) → List Bool → List (List ℕ) → Type 0
+AreClassesSettled lists tree nodes kept marks classes = (class : List ℕ) → Contains classes class → IsClassSettled lists tree nodes kept marks class
 
 -- ---- both together
 

@@ -11,7 +11,8 @@ use Rattle.dist_net.specs.Net.{Nets}
 use Rattle.spots.specs.Forest.{Forest, Member, member, IsLive, moment_at}
 use Rattle.occ_tree.specs.Standing.{Kept, forest, present}
 use Rattle.occ_tree.specs.Touched.{IsAtMoved}
-use Rattle.supports.specs.Edited.{IsEdited, old_forest, AreOthersUntouched}
+use Rattle.supports.specs.Apart.{AreOthersApart}
+use Rattle.supports.specs.Edited.{IsEdited, old_forest}
 use Rattle.belief_list.specs.declared.list.BeliefRow.{BeliefRow}
 use Rattle.belief_list.specs.declared.kept_rows.KeptRow.{KeptRow}
 use Rattle.belief_list.specs.declared.kept_rows.Difference.{Difference}
@@ -50,14 +51,14 @@ numbers_of ds = map (λ d. d.node) ds
 
 -- These nodes and classes are all that an edit may have touched: what entered and left, what begins
 -- or ends at a point that moved, what counts more or less, and the classes of all others in which
--- something changed.
+-- something changed, or in what contradicts their facts.
 pub record CoverTouched (lists : States) (nets : Nets) (tree : Kept) (nodes : List ℕ) (classes : List (List ℕ)) : Type 0 where
   pub entered : (x : ℕ) → IsLive (forest (present tree)) x → member (old_forest tree) x ≡ None → Contains nodes x
   pub left : (x : ℕ) → IsLive (old_forest tree) x → member (forest (present tree)) x ≡ None → Contains nodes x
   pub moved : (x : ℕ) (m : Member) → member (forest (present tree)) x ≡ Some m → IsAtMoved nets.moved m → Contains nodes x
   pub weights : (x : ℕ) → IsLive (old_forest tree) x → IsLive (forest (present tree)) x → (Contains nodes x → ⊥)
       → weight (built lists.committed) (moment_at (old_forest tree) x) ≡ weight (built lists.present) (moment_at (forest (present tree)) x)
-  pub others : AreOthersUntouched nets tree classes
+  pub others : AreOthersApart lists nets tree classes
 
 -- **These are the differences that the edit makes**: with them the rows of the list before it
 -- become those of the list after it, and each is told once, with the row that was there.

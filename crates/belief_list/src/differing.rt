@@ -16,10 +16,11 @@ ghost use Rattle.supports.specs.Edited.{IsEdited, old_forest};
 ghost use Rattle.belief_list.specs.declared.kept_rows.KeptRow.{KeptRow as AKeptRow};
 ghost use Rattle.belief_list.specs.KeptRows.{row_under, AreRowsOf, CoverTouched, AreDifferences};
 ghost use Rattle.belief_list.specs.Told.{clip_of};
-ghost use Rattle.belief_list.specs.Finding.{IsClipNow, IsNowUnder, mark_under, AreMarked, MarksStay, IsAhead, AreOthersKept, IsClassSettled, AreClassesSettled, AreFound};
+ghost use Rattle.belief_list.specs.Finding.{IsClipNow, IsNowUnder, mark_under, AreMarked, MarksStay, IsAhead, IsUnrivalled, AreOthersKept, IsClassSettled, AreClassesSettled, AreFound};
 
 use crate::by_number::{clip_of, kept_row};
 use crate::kept_rows::{Difference, KeptRow};
+use crate::rivals::has_or_had_rivals;
 use dist_net::DistNet;
 use occ_tree::Tree;
 use premise_list::Standing;
@@ -31,8 +32,9 @@ use tmm_model::{Name, NoMemory, TokenRow};
 
 /// The differences that an edit makes, given nodes and classes that are all it may have touched,
 /// and what is kept of the nodes of the last commit, with a place for each present one. Only those
-/// nodes are looked at, and tokens of those classes that one of them may clip, or clipped. Without
-/// memory it answers that.
+/// nodes are looked at, and tokens of those classes that one of them may clip, or clipped, or of
+/// whose fact a premise says that one of another class contradicts it. Without memory it answers
+/// that.
 pub fn differences(
     alloc: Global,
     standing: &Standing,
@@ -174,11 +176,11 @@ fn tell_class(
     ensures long { OnOk result (length found.new.marks.items ≡ length kept.now) }
     ensures found { OnOk result ((classes : List (List ℕ)) → AreFound standing.now.present net.now.present tree.now classes kept.now found.old.marks.items found.old.differences.items
         → AreFound standing.now.present net.now.present tree.now classes kept.now found.new.marks.items found.new.differences.items) }
-    ensures settled { OnOk result ((nodes : List ℕ) → AreMarked touched.now nodes → IsClassSettled tree.now nodes kept.now found.new.marks.items class.now) }
+    ensures settled { OnOk result ((nodes : List ℕ) → AreMarked touched.now nodes → IsClassSettled standing.now tree.now nodes kept.now found.new.marks.items class.now) }
     ensures stay { OnOk result (MarksStay found.old.marks.items found.new.marks.items) }
 {
-    let wanted = wanted_of(alloc, tree, class, kept, touched)?;
-    let clips = class_clips(alloc, tree, net, class, &wanted)?;
+    let wanted = wanted_of(alloc, standing, tree, class, kept, touched)?;
+    let clips = class_clips(alloc, standing, tree, net, class, &wanted)?;
     let rows = tree.tokens(class);
     for i in 0..rows.len() {
         if wanted[i] {
@@ -202,7 +204,7 @@ fn tell_token(
     requires live { IfSome clip (IsLive (forest tree.now)) }
     requires long { length found.old.marks.items ≡ length kept.now }
     ensures long { OnOk result (length found.new.marks.items ≡ length kept.now) }
-    ensures found { OnOk result ((net : Net) (classes : List (List ℕ)) → IsClip net (forest tree.now) x clip → AreFound standing.now.present net tree.now classes kept.now found.old.marks.items found.old.differences.items
+    ensures found { OnOk result ((net : Net) (classes : List (List ℕ)) → IsClip standing.now.present net (forest tree.now) x clip → AreFound standing.now.present net tree.now classes kept.now found.old.marks.items found.old.differences.items
         → AreFound standing.now.present net tree.now classes kept.now found.new.marks.items found.new.differences.items) }
     ensures marked { OnOk result (mark_under found.new.marks.items x ≡ true) }
     ensures stay { OnOk result (MarksStay found.old.marks.items found.new.marks.items) }
@@ -216,9 +218,11 @@ fn tell_token(
 }
 
 // Which tokens of a class are to be looked at, at their places: those that were touched, and those
-// of which the clip was touched, or is not known to come before all touched ones behind the token.
+// of which the clip was touched, or is not known to come before all touched ones behind the token,
+// or may be of another class.
 fn wanted_of(
     alloc: Global,
+    standing: &Standing,
     tree: &Tree,
     class: &Name,
     kept: &[Option<KeptRow>],
@@ -226,14 +230,14 @@ fn wanted_of(
 ) -> Result<Vec<bool>, NoMemory>
     requires dates { (net : Net) × IsTreeIn net tree.now }
     ensures long { IfOk result (λ wanted. length wanted.items ≡ length ((present tree.now).tokens class.now)) }
-    ensures others { IfOk result (λ wanted. (nodes : List ℕ) → AreMarked touched.now nodes → AreOthersKept tree.now nodes kept.now class.now wanted.items) }
+    ensures others { IfOk result (λ wanted. (nodes : List ℕ) → AreMarked touched.now nodes → AreOthersKept standing.now tree.now nodes kept.now class.now wanted.items) }
 {
     let rows = tree.tokens(class);
     let mut wanted = Vec::from_elem(alloc, true, rows.len())?;
     // the date of the first token behind that was touched
     let mut next = None;
     for i in (0..rows.len()).rev() {
-        wanted[i] = is_wanted(tree, kept, touched, node_of(&rows[i]), &mut next);
+        wanted[i] = is_wanted(standing, tree, kept, touched, &rows[i], &mut next);
     }
     Ok(wanted)
 }
@@ -241,19 +245,25 @@ fn wanted_of(
 // Whether a token is to be looked at, given the date of the first one behind it that was touched,
 // which is its own from then on, if it was.
 fn is_wanted(
+    standing: &Standing,
     tree: &Tree,
     kept: &[Option<KeptRow>],
     touched: &[bool],
-    x: u32,
+    row: &TokenRow<Spot>,
     next: &mut Option<i64>,
 ) -> bool
-    requires live { IsLive (forest tree.now) x }
-    ensures touched { mark_under touched.now x ≡ true → next.new ≡ Some (early (present tree.now) x) }
-    ensures untouched { mark_under touched.now x ≡ false → next.new ≡ next.old }
-    ensures kept { result ≡ false → (mark_under touched.now x ≡ false) × IsAhead kept.now touched.now (clip_of (row_under kept.now x)) next.old }
+    requires live { IsLive (forest tree.now) (number_of row.now.spot) }
+    ensures touched { mark_under touched.now (number_of row.now.spot) ≡ true → next.new ≡ Some (early (present tree.now) (number_of row.now.spot)) }
+    ensures untouched { mark_under touched.now (number_of row.now.spot) ≡ false → next.new ≡ next.old }
+    ensures kept { result ≡ false → (mark_under touched.now (number_of row.now.spot) ≡ false) × IsAhead kept.now touched.now (clip_of (row_under kept.now (number_of row.now.spot))) next.old }
+    ensures plain { result ≡ false → IsUnrivalled standing.now row.now.fact }
 {
+    let x = node_of(row);
     if is_marked(touched, x) {
         *next = Some(tree.early(x));
+        return true;
+    }
+    if has_or_had_rivals(standing, row.fact) {
         return true;
     }
     !keeps_clip(kept, touched, clip_of(kept_row(kept, x)), *next)
@@ -315,7 +325,7 @@ fn tell_node(
     requires long { length found.old.marks.items ≡ length kept.now }
     requires last { IfSome last.old (IsCountIn standing.now.present) }
     ensures long { OnOk result (length found.new.marks.items ≡ length kept.now) }
-    ensures found { OnOk result ((net : Net) (nodes : List ℕ) (classes : List (List ℕ)) → Contains nodes x → AreClassesSettled tree.now nodes kept.now found.old.marks.items classes → AreFound standing.now.present net tree.now classes kept.now found.old.marks.items found.old.differences.items
+    ensures found { OnOk result ((net : Net) (nodes : List ℕ) (classes : List (List ℕ)) → Contains nodes x → AreClassesSettled standing.now tree.now nodes kept.now found.old.marks.items classes → AreFound standing.now.present net tree.now classes kept.now found.old.marks.items found.old.differences.items
         → AreFound standing.now.present net tree.now classes kept.now found.new.marks.items found.new.differences.items) }
     ensures marked { OnOk result (mark_under found.new.marks.items x ≡ true) }
     ensures stay { OnOk result (MarksStay found.old.marks.items found.new.marks.items) }
@@ -356,8 +366,8 @@ fn row_now(
 // What clipped the token that the node is, none for an event.
 fn clip_before(tree: &Tree, was: &Option<KeptRow>, x: u32) -> Option<u32>
     requires live { IsLive (forest tree.now) x }
-    ensures { (net : Net) (classes : List (List ℕ)) (m : Member) → member (forest tree.now) x ≡ Some m → ((class : List ℕ) → m.class ≡ Some class → Contains classes class → ⊥)
-        → IsClipNow net (forest tree.now) classes was.now x m.class result }
+    ensures { (s : AStanding) (net : Net) (classes : List (List ℕ)) (m : Member) → member (forest tree.now) x ≡ Some m → ((class : List ℕ) → m.class ≡ Some class → Contains classes class → ⊥)
+        → IsClipNow s net (forest tree.now) classes was.now x m.class result }
 {
     if tree.row(x).class.is_none() {
         return None;

@@ -43,7 +43,7 @@ pub fn listed(
 {
     let nodes = all_ranked(alloc, tree, net)?;
     let ranked = nodes.as_slice();
-    let clips = clips(alloc, tree, net, ranked)?;
+    let clips = clips(alloc, standing, tree, net, ranked)?;
     rows_of(alloc, ranked, clips.as_slice())
 }
 

@@ -1,19 +1,19 @@
 -- What is kept of a list is kept of each list that is alike in all that beliefs read.
 use Rattle.std.proofs.Common.{◌≡◌, ◌∙◌, ℕ, List, ◌∷◌, ◌++◌, map, sym, ap, subst, inl, inr}
-use Rattle.std.specs.Prelude.{Some, filter}
-use Rattle.std.specs.List.{Contains, list_any, filter_map}
+use Rattle.std.specs.Prelude.{Some}
+use Rattle.std.specs.List.{Contains, filter_map}
 use Rattle.tmm_model.specs.declared.point.PointName.TheVariants.{Start}
 use Rattle.tmm_model.specs.declared.token.TokenRow.{TokenRow}
 use Rattle.tmm_model.specs.Maps.{built, believed_tokens}
-use Rattle.tmm_model.specs.Moments.{Moment, At, read_by}
-use Rattle.tmm_model.specs.Points.{same_name}
+use Rattle.tmm_model.specs.Moments.{Moment, At, RuleText, read_by, rule_of}
 use Rattle.tmm_model.specs.Standing.{Standing, points_in, far_in}
 use Rattle.list_theory.specs.WellNamed.{IsSound}
-use Rattle.list_theory.proofs.Elements.{In, In-from_Contains, In-cases, In-map, In-filter, In-filter_map}
+use Rattle.list_theory.proofs.Elements.{In, In-from_Contains, In-cases, In-map, In-filter, In-filter_map, list_any-In}
 use Rattle.belief_theory.specs.Outcomes.{outcome}
-use Rattle.belief_theory.specs.Touched.{watched, watched_points}
+use Rattle.belief_theory.specs.Touched.{bears_on, is_watched, watched, watched_points}
 use Rattle.belief_theory.proofs.NextLists.{all_spelt}
-use Rattle.belief_theory.proofs.Untouched.{Alike, outcome_alike}
+use Rattle.belief_theory.proofs.Rivals.{contradicts_is, bears_alike}
+use Rattle.belief_theory.proofs.Untouched.{Alike, class_of_token, watches, watched_token, outcome_alike}
 use Rattle.dist_net.specs.Net.{Net}
 use Rattle.list_net.specs.Fits.{IsNetOf}
 use Rattle.list_net.specs.Network.{PointsKeepNumbers}
@@ -54,8 +54,26 @@ module _ (s t : Standing) (alike : AreAlike s t) where
     abbrev same : BelieveAlike s t
     same = (alike_believe s t alike).0
 
-    watched_same : (r : List ℕ) → watched (built s) r ≡ watched (built t) r
-    watched_same r = λ i. filter (λ k. list_any (λ fact. same_name (alike.say.class fact i) k.class) (read_by (alike.say.rule r i))) (same.tokens i)
+    in_t : (k : TokenRow Moment) → In k (believed_tokens (built s)) → In k (believed_tokens (built t))
+    in_t k at = subst (In k) same.tokens at
+
+    in_s : (k : TokenRow Moment) → In k (believed_tokens (built t)) → In k (believed_tokens (built s))
+    in_s k at = subst (In k) (sym same.tokens) at
+
+    -- a token that is watched in one is watched in the other
+    watched_into : (r : List ℕ) (k : TokenRow Moment) → In k (watched (built s) r) → In k (watched (built t) r)
+    watched_into r k at =
+        let (there, reads) = In-filter (is_watched s r) (believed_tokens (built s)) k at in
+        let (f, read, bears) = list_any-In (λ fact. bears_on s fact k) (read_by (rule_of s r)) reads in
+        watches (built t) r f k (subst (λ (x : RuleText). In f (read_by x)) (alike.say.rule r) read) (in_t k there)
+        (bears_alike t s f (λ g _. sym (alike.say.contradict f g)) k (class_of_token (built t) k (in_t k there)) (sym (alike.say.class f)) bears)
+
+    watched_back : (r : List ℕ) (k : TokenRow Moment) → In k (watched (built t) r) → In k (watched (built s) r)
+    watched_back r k at =
+        let (there, reads) = In-filter (is_watched t r) (believed_tokens (built t)) k at in
+        let (f, read, bears) = list_any-In (λ fact. bears_on t fact k) (read_by (rule_of t r)) reads in
+        watches (built s) r f k (subst (λ (x : RuleText). In f (read_by x)) (sym (alike.say.rule r)) read) (in_s k there)
+        (bears_alike s t f (λ g _. alike.say.contradict f g) k (class_of_token (built s) k (in_s k there)) (alike.say.class f) bears)
 
     watched_between : (r : List ℕ) (k : TokenRow Moment) → In k (watched (built s) r) → IsBetween s k
     watched_between r k at = tokens_between s (built s).believed (believed_anchored s t alike.say alike.distances) k (In-filter _ (believed_tokens (built s)) k at).0
@@ -71,9 +89,14 @@ module _ (s t : Standing) (alike : AreAlike s t) where
         decided = record {
           text = alike.say.rule r;
           horizon = alike.say.horizon;
-          into = λ k there. subst (In k) (watched_same r) there;
-          back = λ k there. subst (In k) (sym (watched_same r)) there;
+          into = watched_into r;
+          back = watched_back r;
           gaps = λ p q at_p at_q. distance_same s t alike.say alike.distances p q (anchored p at_p) (anchored q at_q);
+          contradict = λ k c at_k at_c given.
+              (let k_s = watched_token (built s) r k at_k in
+              let c_s = watched_token (built s) r c at_c in
+              contradicts_is s k c (class_of_token (built s) k k_s) (class_of_token (built s) c c_s) ∙ alike.say.contradict k.fact c.fact
+              ∙ sym (contradicts_is t k c (class_of_token (built t) k (in_t k k_s)) (class_of_token (built t) c (in_t c c_s))));
         }
 
 -- ---- nodes and rows

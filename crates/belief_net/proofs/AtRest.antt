@@ -19,7 +19,7 @@ use Rattle.undo_rows.specs.Tables.{AreListed}
 use Rattle.decision_rows.specs.declared.row.Pair.{Pair}
 use Rattle.occ_tree.specs.Classes.{place_in}
 use Rattle.occ_tree.specs.Standing.{State, forest}
-use Rattle.joined.specs.Gaps.{reads_class, begin, an_end, start, read, IsReadSpot, MovesAt}
+use Rattle.joined.specs.Gaps.{reads_class, ReadsNoRival, begin, an_end, start, read, IsReadSpot, MovesAt}
 use Rattle.joined.specs.Listed.{IsListedUnder}
 use Rattle.joined.specs.Shifting.{IsSpotOf, MovesAmong}
 use Rattle.joined.proofs.Listed.{class_listed}
@@ -45,12 +45,13 @@ true_or false = inr refl
 
 -- ---- where nothing moved
 
-pub all_rest : (nets : Nets) (added : Option (List ℕ)) (s : Standing) (f : Forest) (d : Decisions) (row : TableRow Pair 8) → WereThere nets added
+pub all_rest : (nets : Nets) (added : Option (List ℕ)) (s : Standing) (f : Forest) (d : Decisions) (row : TableRow Pair 8) → ReadsNoRival s (rule_in d row) → WereThere nets added
     → IsMovedAt nets.moved nets.committed nets.present → length nets.moved ≡ 0 → IsRowAtRest nets added s f d row
-all_rest nets added s f d row were moved_at none = (
+all_rest nets added s f d row plain were moved_at none = (
   λ n. false,
   record { each = λ a b is. absurd (none_listed nets added were moved_at none a b is); start = refl },
   record {
+    plain = plain;
     date = elim (true_or (is_moved nets added (base_of f (Node row.value.trigger)) 0)) [
       | inl is ↦ absurd (none_listed nets added were moved_at none (base_of f (Node row.value.trigger)) 0 is)
       | inr off ↦ off
@@ -75,7 +76,8 @@ among_at moves s f r are x read_of m = record {
 }
 
 module _ (nets : Nets) (added : Option (List ℕ)) (s : Standing) (st : State) (d : Decisions) (moves : Moves) (under : AreUnder s d) (listed : AreListed (table_of d))
-    (below : AreBelow256 (forest st)) (moved : AreMoved nets added moves.pairs.items) where
+    (below : AreBelow256 (forest st)) (moved : AreMoved nets added moves.pairs.items)
+    (plain : (r : List ℕ) → ReadsNoRival s r) where
   abbrev f : Forest
   f = forest st
 
@@ -207,6 +209,7 @@ module _ (nets : Nets) (added : Option (List ℕ)) (s : Standing) (st : State) (
         is_out moves.fast.items,
         fast.loose,
         record {
+          plain = plain r;
           date = same_date;
           each = λ class reads. elim (by_class class reads) [
             | inl still ↦ inl (λ m. still (from_moved (IsSpotOf f class) (class_small class) x m))

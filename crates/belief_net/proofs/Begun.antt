@@ -5,7 +5,7 @@ use Rattle.tmm_model.specs.declared.point.PointName.TheVariants.{Begin}
 use Rattle.tmm_model.specs.declared.premise.Edit.{Edit}
 use Rattle.tmm_model.specs.declared.premise.Edit.TheVariants.{Add, Erase, Horizon, Upgrade}
 use Rattle.tmm_model.specs.declared.premise.Premise.{Premise}
-use Rattle.tmm_model.specs.declared.premise.Premise.TheVariants.{Class, Kind, Point, Event, Token, Span, Dist, Rule, Protect}
+use Rattle.tmm_model.specs.declared.premise.Premise.TheVariants.{Class, Kind, Point, Event, Token, Span, Dist, Rule, Protect, Against}
 use Rattle.tmm_model.specs.Beliefs.{on_kind, root_of}
 use Rattle.tmm_model.specs.Edits.{next_list}
 use Rattle.tmm_model.specs.Moments.{Moment, At}
@@ -22,7 +22,7 @@ use Rattle.occ_tree.specs.Standing.{Kept, present}
 use Rattle.belief_net.specs.declared.erasing.Departed.{Departed}
 use Rattle.belief_net.specs.declared.state.BeliefNet.{BeliefNet}
 use Rattle.belief_net.specs.declared.state.Decisions.{Decisions}
-use Rattle.belief_net.specs.Adding.{MarksClasses, EntersAs, StayAll, AddsRule}
+use Rattle.belief_net.specs.Adding.{MarksLeft, EntersAs, StayAll, AddsRule}
 use Rattle.belief_net.specs.Beginning.{IsBegun, IsReady}
 use Rattle.belief_net.specs.Decided.{KeepsLast}
 use Rattle.belief_net.specs.Turning.{rows_of, IsFit}
@@ -46,9 +46,9 @@ module _ (old : Standing) (edit : Edit) (before net : Net) (b e c m r n : Belief
   same : SameMembers (forest e.tree) (forest m.tree)
   same x = ap (λ (t : Kept). member (forest t) x) h.same_tree ∙ h.same_nodes x
 
-  marks : MarksClasses (present m.tree) all.classes e.decisions m.decisions
-  marks = subst (λ (d : Decisions). MarksClasses (present m.tree) all.classes d m.decisions) h.same_rows
-      (subst (λ (t : Kept). MarksClasses (present t) all.classes c.decisions m.decisions) (sym h.same_tree) h.marks)
+  marks : MarksLeft (next_list old edit) (present m.tree) all.classes all.facts e.decisions m.decisions
+  marks = subst (λ (d : Decisions). MarksLeft (next_list old edit) (present m.tree) all.classes all.facts d m.decisions) h.same_rows
+      (subst (λ (t : Kept). MarksLeft (next_list old edit) (present t) all.classes all.facts c.decisions m.decisions) (sym h.same_tree) h.marks)
 
   stood : (x : ℕ) → IsLive (forest m.tree) x → Occurs old (moment_at (forest m.tree) x)
   stood x live =
@@ -124,6 +124,7 @@ begun_ready old (Add (Kind name)) before net b e c m r n all h = neither old (Ki
 begun_ready old (Add (Point name)) before net b e c m r n all h = neither old (Point name) before net b e c m r n all h h.enters.0 h.enters.1 refl (λ kind. refl)
 begun_ready old (Add (Dist name from to lo hi)) before net b e c m r n all h = neither old (Dist name from to lo hi) before net b e c m r n all h h.enters.0 h.enters.1 refl (λ kind. refl)
 begun_ready old (Add (Protect name fact from to)) before net b e c m r n all h = neither old (Protect name fact from to) before net b e c m r n all h h.enters.0 h.enters.1 refl (λ kind. refl)
+begun_ready old (Add (Against name one other)) before net b e c m r n all h = neither old (Against name one other) before net b e c m r n all h h.enters.0 h.enters.1 refl (λ kind. refl)
 begun_ready old (Erase name) before net b e c m r n all h = still old (Erase name) before net b e c m r n all h h.enters.0 h.enters.1 (λ p k is root. cc) (λ p kind rule is on. cc)
 begun_ready old (Horizon k) before net b e c m r n all h = still old (Horizon k) before net b e c m r n all h h.enters.0 h.enters.1 (λ p o is root. cc) (λ p kind rule is on. cc)
 begun_ready old Upgrade before net b e c m r n all h = still old Upgrade before net b e c m r n all h h.enters.0 h.enters.1 (λ p o is root. cc) (λ p kind rule is on. cc)

@@ -3,6 +3,7 @@ use Rattle.std.proofs.Common.{◌≡◌, ◌∙◌, ℕ, true, false, List, [], 
 use Rattle.std.proofs.lemmas.Bool.Decides.{eqb_tells}
 use Rattle.std.proofs.lemmas.Int.{ints}
 use Rattle.std.specs.Prelude.{ℤ, pos, ◌+ℤ◌, ◌≤ℤ◌, ◌<ℤ◌, is_some}
+use Rattle.std.specs.Option.{option_map_or}
 use Rattle.std.specs.List.{Contains}
 use Rattle.tmm_model.specs.declared.token.Shape.{Shape}
 use Rattle.tmm_model.specs.declared.token.TokenRow.{TokenRow}
@@ -27,16 +28,16 @@ use Rattle.decision_rows.specs.declared.row.Pair.{Pair}
 use Rattle.occ_tree.specs.Classes.{place_in}
 use Rattle.occ_tree.specs.Places.{forest}
 use Rattle.occ_tree.specs.Standing.{Kept, present, early}
-use Rattle.joined.specs.Listed.{IsListedUnder}
-use Rattle.joined.specs.Marking.{Mark}
+use Rattle.joined.specs.Marking.{Mark, AsksFor}
 use Rattle.joined.specs.Rows.{fires_by}
 use Rattle.joined.specs.Sparing.{StaysIn, IsSparedAt}
 use Rattle.joined.specs.Turning.{TreeTurns, enters, Moved, came, went, effect_of}
 use Rattle.belief_net.specs.declared.deciding.Due.{Due}
 use Rattle.belief_net.specs.declared.state.BeliefNet.{BeliefNet}
 use Rattle.belief_net.specs.Decided.{table_of, rule_in, AddsRows, IsNewRow, IsSameRow, KeepsLast}
-use Rattle.belief_net.specs.Entering.{Brings, MarksReaders, Follows, a_token, an_event, class_at}
+use Rattle.belief_net.specs.Entering.{Brings, MarksReaders, mark_at, Calls, Follows, a_token, an_event, class_at}
 use Rattle.belief_net.specs.Moving.{date_at, IsMarkAt, IsMarkedAt, Moves, TurnsOn, row_due}
+use Rattle.belief_net.specs.Numbers.{name_in}
 use Rattle.belief_net.specs.Turning.{IsFit, IsDecided}
 use Rattle.belief_net.specs.Waiting.{waits_in}
 use Rattle.belief_net.specs.Windows.{IsOfOther, IsSparedBy}
@@ -56,6 +57,16 @@ one_class s names m n own_m own_n same =
     of_kind : Option (Shape × List ℕ) → Option (List ℕ)
     of_kind None = None
     of_kind (Some k) = class_for s k.0 k.1
+
+-- and is of one kind or fact
+pub one_what : (s : Standing) (names : Names) (m n : Member) → IsMemberOf s names m → IsMemberOf s names n → moment m ≡ moment n → m.what ≡ n.what
+one_what s names m n own_m own_n same =
+    let both : Some (m.shape, m.what) ≡ Some (n.shape, n.what) = sym own_m.is ∙ ap (is_of s) same ∙ own_n.is in
+    λ i. of_kind (both i)
+  where
+    of_kind : Option (Shape × List ℕ) → List ℕ
+    of_kind None = []
+    of_kind (Some k) = k.1
 
 -- ---- an effect is later than its event
 
@@ -113,9 +124,9 @@ module _ (s : Standing) (net : Net) (c e : BeliefNet) (trigger : ℕ) (rule : Li
   class_is : (class : Option (List ℕ)) → class_at e.tree y ≡ class → node.class ≡ class
   class_is class is = sym (class_is_at e.tree y node here) ∙ is
 
-  module _ (class : List ℕ) (of : class_at e.tree y ≡ Some class) (m : MarksReaders net e.tree (y ∷ []) y class c.decisions e.decisions) where
+  module _ (class : List ℕ) (of : class_at e.tree y ≡ Some class) (m : MarksReaders s net e.tree (y ∷ []) y class c.decisions e.decisions) where
     abbrev mark : Mark
-    mark = record { class = m.number; from = early (present e.tree) y; spares = m.spares }
+    mark = mark_at e.tree y m.number m.spares
 
     row_was : (i : ℕ) (row : TableRow Pair 8) → (table_of e.decisions).row i ≡ Some row → (table_of c.decisions).row i ≡ Some row
     row_was i row at = ap (λ rows. (table_of (record c.decisions { rows = rows })).row i) (sym m.rows) ∙ at
@@ -146,25 +157,30 @@ module _ (s : Standing) (net : Net) (c e : BeliefNet) (trigger : ℕ) (rule : Li
     later_is : (i : ℕ) (row : TableRow Pair 8) → (table_of c.decisions).row i ≡ Some row → early (present e.tree) row.value.trigger ≡ date_at s (moment_at g row.value.trigger)
     later_is i row at = date_is s net e token_fit row.value.trigger (goes_on row.value.trigger (fit.events i row at))
 
-    to_mark : (i : ℕ) (row : TableRow Pair 8) → (table_of c.decisions).row i ≡ Some row → waits_in e.decisions.waiting i ≡ true → (waits_in c.decisions.waiting i ≡ true) ⊎ IsMarkedAt s g (table_of c.decisions) (mark ∷ []) i row
+    to_mark : (i : ℕ) (row : TableRow Pair 8) → (table_of c.decisions).row i ≡ Some row → waits_in e.decisions.waiting i ≡ true
+        → (waits_in c.decisions.waiting i ≡ true) ⊎ IsMarkedAt s g (table_of c.decisions) (mark ∷ []) i row (rule_in e.decisions row)
     to_mark i row there waits = elim (m.marks.only i) [
       | inl same ↦ inl (sym (ap is_some same) ∙ waits)
-      | inr marked ↦ (
-          let one = one_row (table_of c.decisions) i marked.0 row marked.1 there in
-          inr (mark, inl refl, marked.2.0, subst (λ z. early (present e.tree) y ≤ℤ z) (ap (λ (r : TableRow Pair 8). early (present e.tree) r.value.trigger) one ∙ later_is i row there) marked.2.1, subst (λ (r : TableRow Pair 8). m.spares r.value.trigger ≡ false) one marked.2.2))
+      | inr (other, at, calls, _) ↦ (
+          let one = one_row (table_of c.decisions) i other row at there in
+          let (late, asks) = subst (λ r. Calls s (present e.tree) (table_of c.decisions) mark i r (rule_in c.decisions r)) one calls in
+          inr (mark, inl refl, subst (λ z. mark.from ≤ℤ z) (later_is i row there) late, subst (λ l. AsksFor s (table_of c.decisions) mark i row.value.trigger (name_in l row.value.rule)) (sym m.rules) asks))
     ]
 
-    from_mark : (i : ℕ) (row : TableRow Pair 8) → (table_of c.decisions).row i ≡ Some row → (waits_in c.decisions.waiting i ≡ true) ⊎ IsMarkedAt s g (table_of c.decisions) (mark ∷ []) i row → waits_in e.decisions.waiting i ≡ true
+    from_mark : (i : ℕ) (row : TableRow Pair 8) → (table_of c.decisions).row i ≡ Some row
+        → (waits_in c.decisions.waiting i ≡ true) ⊎ IsMarkedAt s g (table_of c.decisions) (mark ∷ []) i row (rule_in e.decisions row) → waits_in e.decisions.waiting i ≡ true
     from_mark i row there (inl waited) = elim (m.marks.only i) [
       | inl same ↦ ap is_some same ∙ waited
       | inr marked ↦ ap is_some marked.3
     ]
-    from_mark i row there (inr (k, inr none, listed, late, unspared)) = absurd none
-    from_mark i row there (inr (k, inl is, listed, late, unspared)) =
-        let listed_here = subst (λ (z : Mark). IsListedUnder (table_of c.decisions) z.class i) (sym is) listed in
+    from_mark i row there (inr (k, inr none, late, asks)) = absurd none
+    from_mark i row there (inr (k, inl is, late, asks)) =
         let late_here = subst (λ (z : Mark). z.from ≤ℤ date_at s (moment_at g row.value.trigger)) (sym is) late in
-        let unspared_here = subst (λ (z : Mark). z.spares row.value.trigger ≡ false) (sym is) unspared in
-        ap is_some (m.marks.all i row there (listed_here, subst (λ z. early (present e.tree) y ≤ℤ z) (sym (later_is i row there)) late_here, unspared_here))
+        let asks_here = subst (λ (z : Mark). AsksFor s (table_of c.decisions) z i row.value.trigger (rule_in e.decisions row)) (sym is) asks in
+        ap is_some (m.marks.all i row there (
+          subst (λ z. early (present e.tree) y ≤ℤ z) (sym (later_is i row there)) late_here,
+          subst (λ l. AsksFor s (table_of c.decisions) mark i row.value.trigger (name_in l row.value.rule)) m.rules asks_here,
+        ))
 
     pub token_moves : Moves s f g (mark ∷ []) c.decisions e.decisions
     token_moves = record {
@@ -215,6 +231,7 @@ module _ (s : Standing) (net : Net) (c e : BeliefNet) (trigger : ℕ) (rule : Li
       class = class;
       has_class = class_is (Some class) of;
       numbered = m.numbered;
+      fact = ap (λ (o : Option Member). option_map_or (λ (m : Member). m.what) o []) here;
       from = date_is s net e token_fit y y_live ∙ ap (date_at s) (moment_at-is g y node here);
       spared = λ t spares. spared_in_turn t (m.spared t spares);
     }
@@ -326,17 +343,18 @@ module _ (s : Standing) (net : Net) (b c e : BeliefNet) (due : Due) (fit : IsFit
     decided = d;
     fit_after = token_fit s net c e due.trigger due.rule fit_c live_c on_c brings last class of m;
     tree = tree;
-    marks = record { class = m.number; from = early (present e.tree) number; spares = m.spares } ∷ [];
-    moves = of_b (record { class = m.number; from = early (present e.tree) number; spares = m.spares } ∷ []) (token_moves s net c e due.trigger due.rule fit_c live_c on_c brings last class of m);
+    marks = mark_at e.tree number m.number m.spares ∷ [];
+    moves = of_b (mark_at e.tree number m.number m.spares ∷ []) (token_moves s net c e due.trigger due.rule fit_c live_c on_c brings last class of m);
     are = record {
       own = λ k at. (entered, brings.enters.adds.own, moves_node, marked k at);
       all = λ n other own moved has. (
-        record { class = m.number; from = early (present e.tree) number; spares = m.spares },
+        mark_at e.tree number m.number m.spares,
         inl refl,
         record {
           class = class;
           has_class = one_class s net.names n entered own brings.enters.adds.own (moved_is (moment n) moved) ∙ (sym (class_is_at e.tree number entered brings.enters.adds.enters.entered) ∙ of);
           numbered = m.numbered;
+          fact = is_mark.fact ∙ one_what s net.names entered n brings.enters.adds.own own (sym (moved_is (moment n) moved));
           from = is_mark.from ∙ ap (date_at s) (sym (moved_is (moment n) moved));
           spared = λ t spares. subst (λ x. IsSparedAt net (forest b.tree) (forest e.tree) x t) (sym (moved_is (moment n) moved)) (is_mark.spared t spares);
         },
@@ -345,11 +363,11 @@ module _ (s : Standing) (net : Net) (b c e : BeliefNet) (due : Due) (fit : IsFit
     later = later;
   }
     where
-      is_mark : IsMarkAt s net (place_in e.decisions.classes) (forest b.tree) (forest e.tree) entered (record { class = m.number; from = early (present e.tree) number; spares = m.spares })
-      is_mark = subst (λ (t : Kept). IsMarkAt s net (place_in e.decisions.classes) (forest t) (forest e.tree) entered (record { class = m.number; from = early (present e.tree) number; spares = m.spares })) d.tree
+      is_mark : IsMarkAt s net (place_in e.decisions.classes) (forest b.tree) (forest e.tree) entered (mark_at e.tree number m.number m.spares)
+      is_mark = subst (λ (t : Kept). IsMarkAt s net (place_in e.decisions.classes) (forest t) (forest e.tree) entered (mark_at e.tree number m.number m.spares)) d.tree
           (token_mark s net c e due.trigger due.rule fit_c live_c on_c brings last class of m)
 
-      marked : (k : Mark) → In k (record { class = m.number; from = early (present e.tree) number; spares = m.spares } ∷ []) → IsMarkAt s net (place_in e.decisions.classes) (forest b.tree) (forest e.tree) entered k
+      marked : (k : Mark) → In k (mark_at e.tree number m.number m.spares ∷ []) → IsMarkAt s net (place_in e.decisions.classes) (forest b.tree) (forest e.tree) entered k
       marked k (inl is) = subst (IsMarkAt s net (place_in e.decisions.classes) (forest b.tree) (forest e.tree) entered) is is_mark
       marked k (inr none) = absurd none
 
@@ -359,7 +377,7 @@ module _ (s : Standing) (net : Net) (b c e : BeliefNet) (due : Due) (fit : IsFit
           (subst (λ (t : Kept). date_at s (moment_at (forest t) due.trigger) <ℤ date_at s (After (moment_at (forest c.tree) due.trigger) due.rule)) d.tree
           (effect_later s net (forest c.tree) due.trigger due.rule fit_c.tree.seen live_c on_c))
 
-      later : (k : Mark) → In k (record { class = m.number; from = early (present e.tree) number; spares = m.spares } ∷ []) → date_at s (moment_at (forest b.tree) due.trigger) <ℤ k.from
+      later : (k : Mark) → In k (mark_at e.tree number m.number m.spares ∷ []) → date_at s (moment_at (forest b.tree) due.trigger) <ℤ k.from
       later k (inl is) = subst (λ (z : Mark). date_at s (moment_at (forest b.tree) due.trigger) <ℤ z.from) is first
       later k (inr none) = absurd none
   by_kind (an_event of a) = record {

@@ -3,6 +3,7 @@ use Rattle.std.proofs.Common.{◌≡◌, ◌≢◌, ◌∙◌, ℕ, Bool, false,
 use Rattle.std.proofs.lemmas.Bool.{cases_eq, eq-eqb, ne_eqb}
 use Rattle.std.specs.Option.{option_map}
 use Rattle.std.specs.Prelude.{ℤ, ◌≤ℤ◌, slice_index_or}
+use Rattle.tmm_model.specs.Standing.{Standing}
 use Rattle.dist_net.specs.Net.{Net}
 use Rattle.spots.specs.Forest.{IsLive}
 use Rattle.undo_rows.specs.declared.row.Row.{Row as TableRow}
@@ -117,9 +118,9 @@ pub entered_covered : (old new : Kept) (d : Decisions) (m : MarkedClasses) → H
     → ((y : ℕ) → IsLive (forest old) y → early (present new) y ≡ early (present old) y) → Covers (present old) d m → Covers (present new) d m
 entered_covered old new d m events stay = dates_covered (present old) (present new) d m (λ i r here. stay r.value.trigger (events i r here))
 
-pub withdrawn_covered : (net : Net) (old new : Kept) (x : ℕ) (numbers : List ℕ) (before after : Decisions) (m : MarkedClasses)
-    → AreBelow old x numbers → Withdraws old new x → LosesRows net old numbers numbers before after → Covers (present old) after m → Covers (present new) after m
-withdrawn_covered net old new x numbers before after m below takes lost =
+pub withdrawn_covered : (s : Standing) (net : Net) (old new : Kept) (x : ℕ) (numbers : List ℕ) (before after : Decisions) (m : MarkedClasses)
+    → AreBelow old x numbers → Withdraws old new x → LosesRows s net old numbers numbers before after → Covers (present old) after m → Covers (present new) after m
+withdrawn_covered s net old new x numbers before after m below takes lost =
     dates_covered (present old) (present new) after m (λ i r here. takes.shrinks.dates r.value.trigger (λ under. lost.none i r here ((below r.value.trigger).1 under)))
 
 -- ---- the row that is due first

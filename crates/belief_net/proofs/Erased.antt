@@ -24,7 +24,7 @@ use Rattle.belief_net.specs.declared.erasing.Departed.{Departed}
 use Rattle.belief_net.specs.declared.state.BeliefNet.{BeliefNet}
 use Rattle.belief_net.specs.declared.state.Decisions.{Decisions}
 use Rattle.belief_net.specs.Decided.{table_of, rule_in, AreUnder}
-use Rattle.belief_net.specs.Erasing.{HasNoRowOf, Sheds, Spares, TakesNode}
+use Rattle.belief_net.specs.Erasing.{fact_of, HasNoRowOf, Sheds, Spares, TakesNode}
 use Rattle.belief_net.specs.Marks.{HaveEvents}
 use Rattle.belief_net.specs.Numbers.{HaveOwnNumbers}
 use Rattle.belief_net.proofs.Entered.{one_row}
@@ -106,7 +106,8 @@ module _ (b : BeliefNet) (after : Logged Pair 8) (x : ℕ) (removes : Removes b.
       classes = refl;
     };
     tells = tells_none b.tree d.left.items;
-    notes = notes_none b.tree d.classes;
+    notes = notes_none (λ m. m.class) b.tree d.classes;
+    facts = notes_none fact_of b.tree d.facts;
   }
 
   pub removed_spares : (s : Standing) (r : TableRow Pair 8) → (table_of b.decisions).row x ≡ Some r → premise_in s.premises (rule_in b.decisions r) ≡ None

@@ -2,10 +2,11 @@
 use Rattle.std.proofs.Common.{◌≡◌, ◌∙◌, ℕ, true, false, List, [], ◌∷◌, Option, Some, None, refl, sym, ap, subst, inl, inr, ◌⊎◌}
 use Rattle.std.specs.Prelude.{◌↔◌, is_some, pos, ◌≤ℤ◌}
 use Rattle.std.specs.List.{Contains}
+use Rattle.std.specs.Option.{option_map_or}
 use Rattle.tmm_model.specs.declared.premise.Edit.{Edit}
 use Rattle.tmm_model.specs.declared.premise.Edit.TheVariants.{Add}
 use Rattle.tmm_model.specs.declared.premise.Premise.{Premise}
-use Rattle.tmm_model.specs.declared.premise.Premise.TheVariants.{Class, Kind, Point, Event, Token, Span, Dist, Rule, Protect}
+use Rattle.tmm_model.specs.declared.premise.Premise.TheVariants.{Class, Kind, Point, Event, Token, Span, Dist, Rule, Protect, Against}
 use Rattle.tmm_model.specs.declared.token.Shape.{Shape}
 use Rattle.tmm_model.specs.declared.token.Shape.TheVariants.{Event as AnEvent, Persistence as APersistence, Span as ASpan}
 use Rattle.tmm_model.specs.Beliefs.{is_of, root_of, roots, on_kind, rules_on, rules_at}
@@ -30,13 +31,14 @@ use Rattle.occ_tree.specs.Classes.{place_in}
 use Rattle.occ_tree.specs.Places.{forest}
 use Rattle.occ_tree.specs.Standing.{present, early}
 use Rattle.revisions.specs.Maps.{watches}
+use Rattle.joined.specs.Gaps.{reads_rival}
 use Rattle.joined.specs.Listed.{IsListedUnder}
 use Rattle.joined.proofs.Listed.{readers_listed}
 use Rattle.belief_net.specs.declared.state.BeliefNet.{BeliefNet}
 use Rattle.belief_net.specs.declared.state.Decisions.{Decisions}
-use Rattle.belief_net.specs.Adding.{FollowsRoot, a_token, an_event, EntersAs, IsEventOf, AddsRule}
+use Rattle.belief_net.specs.Adding.{MarksToken, FollowsRoot, a_token, an_event, EntersAs, IsEventOf, AddsRule}
 use Rattle.belief_net.specs.Decided.{table_of, rule_in, AddsRows, IsNewRow, IsSameRow, KeepsLast}
-use Rattle.belief_net.specs.Entering.{MarksClass, class_at}
+use Rattle.belief_net.specs.Entering.{what_at, class_at}
 use Rattle.belief_net.specs.Numbers.{name_in}
 use Rattle.belief_net.specs.Turning.{IsFit}
 use Rattle.belief_net.proofs.Brought.{class_is_at, no_event_of_some}
@@ -63,6 +65,7 @@ no_root_of_rule (Token name fact) kind r k on root = cc
 no_root_of_rule (Span name fact) kind r k on root = cc
 no_root_of_rule (Dist name from to lo hi) kind r k on root = cc
 no_root_of_rule (Protect name fact from to) kind r k on root = cc
+no_root_of_rule (Against name one other) kind r k on root = cc
 
 -- ---- nothing is gained
 
@@ -146,7 +149,7 @@ module _ (old : Standing) (p : Premise) (net : Net) (m n : BeliefNet) (sound_old
         | inr added ↦ absurd (no_root_of_rule p added.kind rule k (ap (on_kind added.kind) (one_added p added.premise added.added) ∙ added.on) root)
       ]
 
-  module _ (class : List ℕ) (of : class_at n.tree y ≡ Some class) (marks : MarksClass (present n.tree) class (pos 0) m.decisions n.decisions) where
+  module _ (class : List ℕ) (of : class_at n.tree y ≡ Some class) (marks : MarksToken (next_list old (Add p)) (present n.tree) class (what_at n.tree y) (pos 0) m.decisions n.decisions) where
     class_is : z.class ≡ Some class
     class_is = sym (class_is_at n.tree y z here) ∙ of
 
@@ -162,10 +165,19 @@ module _ (old : Standing) (p : Premise) (net : Net) (m n : BeliefNet) (sound_old
         subst (λ w. pos 0 ≤ℤ w) (sym (date_is new net n fit_n row.value.trigger live))
         ((sound_timed new sound_new).not_before_start (moment_at g row.value.trigger) (occurs_at new net g fit_n.tree.seen row.value.trigger live))
 
-    reads : (i : ℕ) (row : TableRow Pair 8) → (table_of m.decisions).row i ≡ Some row → (watches new (rule_in n.decisions row) (moment z) ≡ true) ↔ IsListedUnder (table_of m.decisions) marks.number i
+    what_is : what_at n.tree y ≡ z.what
+    what_is = ap (λ (o : Option Member). option_map_or (λ (k : Member). k.what) o []) here
+
+    -- the row is on a list of the class, or its rule reads what contradicts the root
+    abbrev Meant : ℕ → TableRow Pair 8 → Type 0
+    Meant i row = IsListedUnder (table_of m.decisions) marks.number i ⊎ (reads_rival new (rule_in m.decisions row) (what_at n.tree y) ≡ true)
+
+    reads : (i : ℕ) (row : TableRow Pair 8) → (table_of m.decisions).row i ≡ Some row → (watches new (rule_in n.decisions row) (moment z) ≡ true) ↔ Meant i row
     reads i row at =
-        readers_listed new net.names z m.decisions.rows (name_in n.decisions.rules) (place_in n.decisions.classes) class marks.number i row
-        en.adds.own class_is marks.numbered (are_numbered n.decisions.classes) en.listed at (fit_n.under.classes i row (row_is i row at))
+        subst (λ l. (watches new (rule_in n.decisions row) (moment z) ≡ true) ↔ (IsListedUnder (table_of m.decisions) marks.number i ⊎ (reads_rival new (name_in l row.value.rule) (what_at n.tree y) ≡ true))) marks.rules
+        (subst (λ w. (watches new (rule_in n.decisions row) (moment z) ≡ true) ↔ (IsListedUnder (table_of m.decisions) marks.number i ⊎ (reads_rival new (rule_in n.decisions row) w ≡ true))) (sym what_is)
+        (readers_listed new net.names z m.decisions.rows (name_in n.decisions.rules) (place_in n.decisions.classes) class marks.number i row
+        en.adds.own class_is marks.numbered (are_numbered n.decisions.classes) en.listed at (fit_n.under.classes i row (row_is i row at))))
 
     pub token_gains : Gains old (next_list old (Add p)) (Add p) m n
     token_gains = record {
@@ -187,7 +199,7 @@ module _ (old : Standing) (p : Premise) (net : Net) (m n : BeliefNet) (sound_old
       names = λ i row at. ap (λ l. name_in l row.value.rule) marks.rules;
       waits = λ i row at w. elim (marks.marks.only i) [
         | inl same ↦ inl (sym (ap is_some same) ∙ w)
-        | inr marked ↦ inr (y, z, en.adds.enters.free, here, (reads i row at).1 marked.2.0)
+        | inr (other, there, (meant, _), _) ↦ inr (y, z, en.adds.enters.free, here, (reads i row at).1 (subst (Meant i) (one_row (table_of m.decisions) i other row there at) meant))
       ];
       waits_on = λ i row at w. elim (marks.marks.only i) [
         | inl same ↦ ap is_some same ∙ w

@@ -1,15 +1,14 @@
 -- What an edit adds to nodes and rows, and that so begun they are ready for the list after.
-use Rattle.std.proofs.Common.{◌≡◌, ◌∙◌, ℕ, true, false, List, Option, Some, None, IsSome, refl, sym, ap, subst, inl, inr, ◌⊎◌}
+use Rattle.std.proofs.Common.{◌≡◌, ◌∙◌, ℕ, true, false, ◌||◌, List, Option, Some, None, IsSome, refl, sym, ap, subst, inl, inr, ◌⊎◌}
 use Rattle.std.specs.Prelude.{◌↔◌, is_some, pos, ◌≤ℤ◌}
-use Rattle.std.specs.List.{Contains, list_any}
+use Rattle.std.specs.List.{Contains}
 use Rattle.std.specs.Option.{option_map, option_map_or}
 use Rattle.tmm_model.specs.declared.premise.Edit.{Edit}
 use Rattle.tmm_model.specs.declared.premise.Edit.TheVariants.{Add}
 use Rattle.tmm_model.specs.declared.premise.Premise.{Premise}
-use Rattle.tmm_model.specs.Beliefs.{class_of, roots, rules_at}
+use Rattle.tmm_model.specs.Beliefs.{roots, rules_at}
 use Rattle.tmm_model.specs.Edits.{next_list}
-use Rattle.tmm_model.specs.Moments.{Moment, At, After, read_by, rule_of}
-use Rattle.tmm_model.specs.Points.{same_name}
+use Rattle.tmm_model.specs.Moments.{Moment, At, After}
 use Rattle.tmm_model.specs.Standing.{Standing}
 use Rattle.list_theory.specs.WellNamed.{IsSound}
 use Rattle.belief_theory.specs.Right.{Occurs}
@@ -32,19 +31,23 @@ use Rattle.joined.specs.Listed.{IsUnderClasses, IsListedUnder}
 use Rattle.joined.specs.Netted.{IsCurrent}
 use Rattle.joined.specs.Rows.{Row, HasRow, HasNoRow}
 use Rattle.joined.specs.Starting.{BeginsFrom, was, is_new, NodesBegin, RowsBegin}
-use Rattle.joined.proofs.Listed.{readers_listed}
+use Rattle.joined.specs.Gaps.{reads_class, reads_rival}
+use Rattle.joined.specs.Touching.{RivalsStay}
+use Rattle.joined.proofs.Listed.{class_listed, readers_listed}
 use Rattle.joined.proofs.Starting.{reads_by_class}
 use Rattle.belief_net.specs.declared.erasing.Departed.{Departed}
 use Rattle.belief_net.specs.declared.state.BeliefNet.{BeliefNet}
-use Rattle.belief_net.specs.Adding.{MarksClasses}
-use Rattle.belief_net.specs.Beginning.{WaitForMoved, IsReady}
+use Rattle.belief_net.specs.Adding.{ReadsOneOf, ReadsRivalOf, MarksLeft}
+use Rattle.belief_net.specs.Beginning.{IsLeftFrom, WaitForMoved, IsReady}
 use Rattle.belief_net.specs.Clearing.{IsCleared}
 use Rattle.belief_net.specs.Decided.{table_of, rule_in}
-use Rattle.belief_net.specs.Erasing.{HasLeft, ShedsAll}
+use Rattle.belief_net.specs.Erasing.{fact_of, HasLeft, ShedsAll}
 use Rattle.belief_net.specs.Numbers.{name_in}
 use Rattle.belief_net.specs.Turning.{rows_of, IsFit}
 use Rattle.belief_net.specs.Waiting.{dates_in, waits_in}
 use Rattle.belief_net.proofs.Declared.{occurs_still}
+use Rattle.belief_net.proofs.Departing.{read_now}
+use Rattle.belief_net.proofs.Entered.{one_row}
 use Rattle.belief_net.proofs.Named.{are_numbered, under_more}
 use Rattle.belief_net.proofs.Thinned.{under_less}
 use Rattle.belief_net.proofs.Turned.{date_is, seen_row, row_there, row_of}
@@ -60,7 +63,15 @@ some_or_none (Some x) = inr (x, refl)
 -- what has no class is not read
 pub unread : (s : Standing) (names : Names) (m : Member) (rule : List ℕ) → IsMemberOf s names m → m.class ≡ None → watches s rule (moment m) ≡ false
 unread s names m rule own none =
-    reads_by_class s names m rule own ∙ ap (λ o. option_map_or (λ class. list_any (λ fact. same_name (class_of s fact) class) (read_by (rule_of s rule))) o false) none
+    reads_by_class s names m rule own ∙ ap (λ o. option_map_or (λ class. reads_class s rule class || reads_rival s rule m.what) o false) none
+
+-- the fact of a token, and that it has a class
+fact_parts : (m : Member) (fact : List ℕ) → fact_of m ≡ Some fact → (class : List ℕ) × (m.class ≡ Some class) × (m.what ≡ fact)
+fact_parts m fact e = by m.class refl e
+  where
+    by : (o : Option (List ℕ)) → m.class ≡ o → option_map (λ _. m.what) o ≡ Some fact → (class : List ℕ) × (m.class ≡ Some class) × (m.what ≡ fact)
+    by None is e = cc
+    by (Some class) is e = (class, is, cc)
 
 -- the edit adds a premise
 abbrev pub IsAddition : Edit → Type 0
@@ -98,7 +109,7 @@ pub record Gains (old new : Standing) (edit : Edit) (m n : BeliefNet) : Type 0 w
 
 module _ (old : Standing) (edit : Edit) (before net : Net) (b e m n : BeliefNet) (all : Departed) (sound_old : IsSound old) (sound_new : IsSound (next_list old edit))
     (fit_b : IsFit old before b) (current : IsCurrent old before (forest b.tree) (rows_of b)) (sheds : ShedsAll b e all) (cleared : IsCleared old (next_list old edit) b e)
-    (same : SameMembers (forest e.tree) (forest m.tree)) (marks : MarksClasses (present m.tree) all.classes e.decisions m.decisions)
+    (same : SameMembers (forest e.tree) (forest m.tree)) (marks : MarksLeft (next_list old edit) (present m.tree) all.classes all.facts e.decisions m.decisions)
     (fit_m : IsFit (next_list old edit) net m) (fit_n : IsFit (next_list old edit) net n) (gains : Gains old (next_list old edit) edit m n) where
   abbrev new : Standing
   new = next_list old edit
@@ -300,12 +311,22 @@ module _ (old : Standing) (edit : Edit) (before net : Net) (b e m n : BeliefNet)
       under_more old e.decisions.rules m.decisions.rules e.decisions.classes m.decisions.classes row (subst (HaveMore e.decisions.rules) (sym marks.rules) (no_more e.decisions.rules)) marks.more
       (under.named i row at) (under.classes i row at)
 
-  -- a row reads a node that left exactly where it is on a list of its class
+  -- a row watched a node that left exactly where it is on a list of its class, or its rule read
+  -- what contradicts it
   listed_m : (x i k : ℕ) (z : Member) (class : List ℕ) (row : TableRow Pair 8) → member f x ≡ Some z → z.class ≡ Some class → place_in m.decisions.classes class ≡ Some k
-      → (table_of e.decisions).row i ≡ Some row → (watches old (rule_in m.decisions row) (moment z) ≡ true) ↔ IsListedUnder (table_of e.decisions) k i
+      → (table_of e.decisions).row i ≡ Some row → (watches old (rule_in m.decisions row) (moment z) ≡ true) ↔ (IsListedUnder (table_of e.decisions) k i ⊎ (reads_rival old (rule_in m.decisions row) z.what ≡ true))
   listed_m x i k z class row at is number here =
       readers_listed old before.names z e.decisions.rows (name_in m.decisions.rules) (place_in m.decisions.classes) class k i row
       (fit_b.tree.seen.members x z at) is number (are_numbered m.decisions.classes) marks.listed here (under_m i row here)
+
+  -- it is on the list where its rule reads the class
+  class_listed_m : (i k : ℕ) (class : List ℕ) (row : TableRow Pair 8) → place_in m.decisions.classes class ≡ Some k → (table_of e.decisions).row i ≡ Some row
+      → reads_class old (rule_in m.decisions row) class ≡ true → IsListedUnder (table_of e.decisions) k i
+  class_listed_m i k class row number here reads =
+      (class_listed old e.decisions.rows (name_in m.decisions.rules) (place_in m.decisions.classes) class k i row number (are_numbered m.decisions.classes) marks.listed here (under_m i row here)).0 reads
+
+  name_me : (row : TableRow Pair 8) → rule_in m.decisions row ≡ rule_in e.decisions row
+  name_me row = ap (λ l. name_in l row.value.rule) marks.rules
 
   -- what is read has a class
   class_there : (x : ℕ) (z : Member) (rule : List ℕ) → member f x ≡ Some z → watches old rule (moment z) ≡ true → (class : List ℕ) × (z.class ≡ Some class)
@@ -333,14 +354,24 @@ module _ (old : Standing) (edit : Edit) (before net : Net) (b e m n : BeliefNet)
     ]
   ]
 
-  -- what begins to wait in m reads what left
+  -- what begins to wait in m watched what left, or reads what contradicts it
   waits_left : (i : ℕ) (row : TableRow Pair 8) → (table_of m.decisions).row i ≡ Some row → waits_in m.decisions.waiting i ≡ true
-      → (x : ℕ) × (z : Member) × (member f x ≡ Some z) × (member g x ≡ None) × (watches old (rule_in m.decisions row) (moment z) ≡ true)
+      → (x : ℕ) × (z : Member) × (member f x ≡ Some z) × (member g x ≡ None) × IsLeftFrom old (next_list old edit) (rule_in m.decisions row) z
   waits_left i row at waits = elim (marks.marks.only i) [
     | inl same_date ↦ absurd (let never : false ≡ true = sym (ap is_some (same_date ∙ rests_e i)) ∙ waits in cc)
-    | inr (other, there, ((class, k, noted, number, listed), _), _) ↦ elim (sheds.notes.own class noted) [
-      | inl none ↦ absurd none
-      | inr (x, z, left, is) ↦ (x, z, left.was, gone_n x z left, (listed_m x i k z class row left.was is number (row_left i row at)).1 listed)
+    | inr (other, there, (asks, _), _) ↦ elim asks [
+      | inl (class, k, noted, number, listed) ↦ elim (sheds.notes.own class noted) [
+        | inl none ↦ absurd none
+        | inr (x, z, left, is) ↦ (x, z, left.was, gone_n x z left, inl ((listed_m x i k z class row left.was is number (row_left i row at)).1 (inl listed)))
+      ]
+      | inr (fact, noted, rival) ↦ elim (sheds.facts.own fact noted) [
+        | inl none ↦ absurd none
+        | inr (x, z, left, is) ↦ (
+            let (class, of, what) = fact_parts z fact is in
+            let one = one_row (table_of e.decisions) i other row there (row_left i row at) in
+            let named : rule_in e.decisions other ≡ rule_in m.decisions row = ap (rule_in e.decisions) one ∙ sym (name_me row) in
+            (x, z, left.was, gone_n x z left, inr (class, of, subst (λ w. reads_rival new (rule_in m.decisions row) w ≡ true) (sym what) (subst (λ r. reads_rival new r fact ≡ true) named rival))))
+      ]
     ]
   ]
     where
@@ -357,9 +388,9 @@ module _ (old : Standing) (edit : Edit) (before net : Net) (b e m n : BeliefNet)
 
   waits : WaitForMoved old (next_list old edit) (forest b.tree) (forest n.tree) (rows_of b) (rows_of n)
   waits = record {
-    left = λ i x q z at was_at none reads.
+    left = λ i x q z at was_at none stay_so reads.
         let (row, there, is) = row_of n i q at in
-        ap (λ (w : Row). w.waits) is ∙ by_left i x row z there was_at none (subst (λ (w : Row). watches old w.rule (moment z) ≡ true) is reads);
+        ap (λ (w : Row). w.waits) is ∙ by_left i x row z there was_at none (subst (λ (w : Row). RivalsStay old (next_list old edit) w.rule) is stay_so) (subst (λ (w : Row). watches old w.rule (moment z) ≡ true) is reads);
     entered = λ i x q z at none now reads.
         let (row, there, is) = row_of n i q at in
         ap (λ (w : Row). w.waits) is ∙ gains.waits_new i x row z there (not_m x none) now (subst (λ (w : Row). watches new w.rule (moment z) ≡ true) is reads);
@@ -375,8 +406,8 @@ module _ (old : Standing) (edit : Edit) (before net : Net) (b e m n : BeliefNet)
                   z,
                   was_at,
                   gone,
-                  subst (λ (w : Row). watches old w.rule (moment z) ≡ true) (sym is)
-                      (subst (λ r. watches old r (moment z) ≡ true) (sym (gains.names i row at_m)) reads),
+                  subst (λ (w : Row). IsLeftFrom old (next_list old edit) w.rule z) (sym is)
+                      (subst (λ r. IsLeftFrom old (next_list old edit) r z) (sym (gains.names i row at_m)) reads),
                 )))
             | inr (x, z, none, now, reads) ↦ inr (inr (x, z, fresh_node x z none now, now, subst (λ (w : Row). watches new w.rule (moment z) ≡ true) (sym is) reads))
           ]
@@ -384,19 +415,44 @@ module _ (old : Standing) (edit : Edit) (before net : Net) (b e m n : BeliefNet)
   }
     where
       by_left : (i x : ℕ) (row : TableRow Pair 8) (z : Member) → (table_of n.decisions).row i ≡ Some row → member f x ≡ Some z → member g x ≡ None
-          → watches old (rule_in n.decisions row) (moment z) ≡ true → waits_in n.decisions.waiting i ≡ true
-      by_left i x row z there was_at none reads = elim (gains.own_rows i row there) [
+          → RivalsStay old (next_list old edit) (rule_in n.decisions row) → watches old (rule_in n.decisions row) (moment z) ≡ true → waits_in n.decisions.waiting i ≡ true
+      by_left i x row z there was_at none stay_so reads = elim (gains.own_rows i row there) [
         | inr fresh ↦ fresh.waits
         | inl at_m ↦ (
             let (class, is) = class_there x z (rule_in n.decisions row) was_at reads in
             let left = gone_e x z was_at none in
-            let noted = sheds.notes.all x z class left is in
-            let (k, number) = marks.numbered class noted in
             let at_e = row_left i row at_m in
-            let reads_m = subst (λ r. watches old r (moment z) ≡ true) (gains.names i row at_m) reads in
-            let listed = (listed_m x i k z class row was_at is number at_e).0 reads_m in
-            gains.waits_on i row at_m (ap is_some (marks.marks.all i row at_e ((class, k, noted, number, listed), late i row at_e))))
+            gains.waits_on i row at_m (ap is_some (marks.marks.all i row at_e (asked i x row z there at_m was_at left class is stay_so reads, late i row at_e))))
       ]
+        where
+          -- it is on a list of a class that is noted, or its rule reads what contradicts a fact
+          -- that is
+          asked : (i x : ℕ) (row : TableRow Pair 8) (z : Member) → (table_of n.decisions).row i ≡ Some row → (table_of m.decisions).row i ≡ Some row → member f x ≡ Some z → HasLeft b.tree e.tree x z
+              → (class : List ℕ) → z.class ≡ Some class → RivalsStay old (next_list old edit) (rule_in n.decisions row) → watches old (rule_in n.decisions row) (moment z) ≡ true
+              → ReadsOneOf (table_of e.decisions) m.decisions.classes all.classes i ⊎ ReadsRivalOf (next_list old edit) (rule_in e.decisions row) all.facts
+          asked i x row z there at_m was_at left class is stay_so reads =
+              let noted = sheds.notes.all x z class left is in
+              let (k, number) = marks.numbered class noted in
+              let at_e = row_left i row at_m in
+              let named = gains.names i row at_m in
+              elim ((listed_m x i k z class row was_at is number at_e).0 (subst (λ r. watches old r (moment z) ≡ true) named reads)) [
+                | inl listed ↦ inl (class, k, noted, number, listed)
+                | inr rival ↦ (
+                    let t = row.value.trigger in
+                    let live = fit_m.events i row at_m in
+                    let stood = (current.rows_are.own i (seen_row b i row) (row_there b i row (row_was i row at_m))).1 in
+                    let before_n : Contains (rules_at old (moment_at g t)) (rule_in n.decisions row) =
+                    subst (λ u. Contains (rules_at old u) (rule_in n.decisions row)) (sym (moment_n t live)) (subst (Contains (rules_at old (moment_at f t))) (sym (name_n i row at_m)) stood) in
+                    elim (read_now old edit sound_old sound_new (moment_at g t) (rule_in n.decisions row) before_n (own_at i row there) stay_so before.names z class (fit_b.tree.seen.members x z was_at) is
+                    (subst (λ r. reads_rival old r z.what ≡ true) (sym named) rival)) [
+                      | inl of_class ↦ inl (class, k, noted, number, class_listed_m i k class row number at_e (subst (λ r. reads_class old r class ≡ true) named of_class))
+                      | inr now ↦ inr (
+                        z.what,
+                        sheds.facts.all x z z.what left (ap (option_map (λ _. z.what)) is),
+                        subst (λ r. reads_rival new r z.what ≡ true) (named ∙ name_me row) now,
+                      )
+                    ])
+              ]
 
       not_m : (x : ℕ) → member f x ≡ None → member (forest m.tree) x ≡ None
       not_m x none = elim (some_or_none (member (forest m.tree) x)) [

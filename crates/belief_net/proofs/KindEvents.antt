@@ -9,7 +9,7 @@ use Rattle.std.specs.Option.{option_map_or}
 use Rattle.tmm_model.specs.declared.premise.Edit.{Edit}
 use Rattle.tmm_model.specs.declared.premise.Edit.TheVariants.{Add}
 use Rattle.tmm_model.specs.declared.premise.Premise.{Premise}
-use Rattle.tmm_model.specs.declared.premise.Premise.TheVariants.{Class, Kind, Point, Event, Token, Span, Dist, Rule, Protect}
+use Rattle.tmm_model.specs.declared.premise.Premise.TheVariants.{Class, Kind, Point, Event, Token, Span, Dist, Rule, Protect, Against}
 use Rattle.tmm_model.specs.declared.token.Shape.{Shape}
 use Rattle.tmm_model.specs.declared.token.Shape.TheVariants.{Event as AnEvent, Persistence as APersistence, Span as ASpan}
 use Rattle.tmm_model.specs.Beliefs.{rules_at, rules_on}
@@ -142,6 +142,7 @@ finds_still s net (Token name fact) m r stays finds = tt
 finds_still s net (Span name fact) m r stays finds = tt
 finds_still s net (Dist name from to lo hi) m r stays finds = tt
 finds_still s net (Protect name fact from to) m r stays finds = tt
+finds_still s net (Against name one other) m r stays finds = tt
 
 -- ---- what the list before has left
 
@@ -219,3 +220,4 @@ module _ (old : Standing) (edit : Edit) (before net : Net) (b e m : BeliefNet) (
       by (Span name fact) is = tt
       by (Dist name from to lo hi) is = tt
       by (Protect name fact from to) is = tt
+      by (Against name one other) is = tt

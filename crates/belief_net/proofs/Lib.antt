@@ -20,6 +20,7 @@ pub mod Settled
 pub mod After
 pub mod Redated
 pub mod OfRules
+pub mod Contradicting
 pub mod Sets
 pub mod Pairs
 pub mod Reached
@@ -34,6 +35,7 @@ pub mod Fitting
 pub mod Noted
 pub mod Ruled
 pub mod Declared
+pub mod Departing
 pub mod Gains
 pub mod Gained
 pub mod Begun

@@ -7,7 +7,7 @@ use Rattle.tmm_model.specs.declared.point.PointName.{PointName}
 use Rattle.tmm_model.specs.declared.premise.Edit.{Edit}
 use Rattle.tmm_model.specs.declared.premise.Edit.TheVariants.{Add, Erase, Horizon, Upgrade}
 use Rattle.tmm_model.specs.declared.premise.Premise.{Premise}
-use Rattle.tmm_model.specs.declared.premise.Premise.TheVariants.{Class, Kind, Point, Event, Token, Span, Dist, Rule, Protect}
+use Rattle.tmm_model.specs.declared.premise.Premise.TheVariants.{Class, Kind, Point, Event, Token, Span, Dist, Rule, Protect, Against}
 use Rattle.tmm_model.specs.Beliefs.{due}
 use Rattle.tmm_model.specs.Edits.{next_list}
 use Rattle.tmm_model.specs.Maps.{built}
@@ -31,6 +31,7 @@ use Rattle.occ_tree.specs.OfLists.{IsTreeOf}
 use Rattle.occ_tree.specs.Standing.{Kept, present, early}
 use Rattle.joined.specs.Gaps.{TellsMoves}
 use Rattle.joined.proofs.Gaps.{moved_points_touch}
+use Rattle.joined.proofs.Reading.{no_rival_read}
 use Rattle.joined.proofs.Shifting.{resting_keep}
 use Rattle.belief_net.specs.ByEvent.{differ, is_between}
 use Rattle.belief_net.specs.MarkLaws.{added_by, PointsWereThere, MovedRowsAreTouched, RestingRowsKeep, DueRowsChange}
@@ -55,6 +56,7 @@ of_its_name n (Kind name) q none = absurd none
 of_its_name n (Dist name from to lo hi) q none = absurd none
 of_its_name n (Rule name trigger lo hi effect given unless_facts) q none = absurd none
 of_its_name n (Protect name fact from to) q none = absurd none
+of_its_name n (Against name one other) q none = absurd none
 
 -- points that stood before are none of the premise that is added
 not_added : (ps : List Premise) (p : Premise) → IsWellNamed (ps ++ p ∷ []) → (q : PointName) → In q (points_in ps) → is_of_premise (Some (name_of p)) q ≡ false
@@ -134,7 +136,7 @@ moved_rows_are_touched old edit nets f b r x net_old seen keep holds live was en
 pub resting_rows_keep : RestingRowsKeep
 resting_rows_keep old edit nets loose f b r x net_old seen keep cover holds live was stood stands same left entered rest =
     resting_keep old edit nets (is_moved nets (added_by edit)) loose f (built old).believed b r x net_old seen keep (tells_moves old edit nets net_old seen.network.sound) cover
-    (believed_occurs old net_old.sound) holds live was stood stands same left entered rest
+    (believed_occurs old net_old.sound) holds live was stood stands same (no_rival_read old net_old.sound r) left entered rest
 
 -- ---- another horizon
 

@@ -24,7 +24,7 @@ use Rattle.occ_tree.specs.Classes.{place_in, HaveMore}
 use Rattle.occ_tree.specs.Places.{forest}
 use Rattle.revisions.specs.Maps.{revision}
 use Rattle.revisions.specs.Revisions.{Revision}
-use Rattle.joined.specs.Marking.{AreMarksOf, IsMarkedBy}
+use Rattle.joined.specs.Marking.{AreMarksOf, AsksFor, IsMarkedBy}
 use Rattle.joined.specs.Netted.{IsNetted}
 use Rattle.joined.specs.Rows.{Row}
 use Rattle.joined.specs.Sparing.{StaysNode}
@@ -33,7 +33,7 @@ use Rattle.joined.proofs.CodeTurns.{code_turned}
 use Rattle.joined.proofs.Marking.{marked_row}
 use Rattle.belief_net.specs.declared.deciding.Due.{Due}
 use Rattle.belief_net.specs.declared.state.BeliefNet.{BeliefNet}
-use Rattle.belief_net.specs.Decided.{table_of}
+use Rattle.belief_net.specs.Decided.{table_of, rule_in}
 use Rattle.belief_net.specs.Moving.{date_at, IsMarkedAt, IsKeptRow, IsComing, TurnsOn, row_due}
 use Rattle.belief_net.specs.Numbers.{name_in}
 use Rattle.belief_net.specs.Turning.{rows_of, IsUnderway}
@@ -104,9 +104,9 @@ module _ (old : Standing) (edit : Edit) (net : Net) (b c e : BeliefNet) (due : D
       here : moment_at g row.value.trigger ≡ moment_at f due.trigger
       here = ap (λ (z : TableRow Pair 8). moment_at g z.value.trigger) is ∙ moment_is x t.decided.row t.decided.at live_g ∙ ap (moment_at f) t.decided.trigger
 
-      by : (waits_in c.decisions.waiting x ≡ true) ⊎ IsMarkedAt s g (table_of c.decisions) t.marks x row → ⊥
+      by : (waits_in c.decisions.waiting x ≡ true) ⊎ IsMarkedAt s g (table_of c.decisions) t.marks x row (rule_in e.decisions row) → ⊥
       by (inl waited) = (let no : false ≡ true = sym (ap is_some t.decided.takes.puts.at) ∙ waited in cc)
-      by (inr (mark, at, on, late, _)) =
+      by (inr (mark, at, late, _)) =
           let early = t.later mark at in
           let no_later = subst (λ z. mark.from ≤ℤ date_at s z) here late in
           ordered (date_at s (moment_at f due.trigger)) mark.from early no_later
@@ -116,8 +116,8 @@ module _ (old : Standing) (edit : Edit) (net : Net) (b c e : BeliefNet) (due : D
 
   marks_are : AreMarksOf (revision (built old) (built (next_list old edit))) (next_list old edit) net (place_in e.decisions.classes) f g p due.found t.marks
   marks_are = record {
-    own = λ mark at. let (m, own, moves, of) = t.are.own mark at in (m, own, moves, record { class = of.class; has_class = of.has_class; numbered = of.numbered; early = of.from; spared = of.spared });
-    all = λ m class own moves has. let (mark, at, of) = t.are.all m class own moves has in (mark, at, record { class = of.class; has_class = of.has_class; numbered = of.numbered; early = of.from; spared = of.spared });
+    own = λ mark at. let (m, own, moves, of) = t.are.own mark at in (m, own, moves, record { class = of.class; has_class = of.has_class; numbered = of.numbered; fact = of.fact; early = of.from; spared = of.spared });
+    all = λ m class own moves has. let (mark, at, of) = t.are.all m class own moves has in (mark, at, record { class = of.class; has_class = of.has_class; numbered = of.numbered; fact = of.fact; early = of.from; spared = of.spared });
   }
 
   -- where a row comes from
@@ -164,17 +164,27 @@ module _ (old : Standing) (edit : Edit) (net : Net) (b c e : BeliefNet) (due : D
           as_before : i ≢ x → waits_in c.decisions.waiting i ≡ waits_in b.decisions.waiting i
           as_before other = ap is_some (t.decided.takes.puts.others i other)
 
-          to_marks : i ≢ x → q.waits ≡ true → (waits_in b.decisions.waiting i ≡ true) ⊎ IsMarkedBy (revision (built old) (built (next_list old edit))) g (table c.decisions.rows) t.marks i q
+          to_marks : i ≢ x → q.waits ≡ true → (waits_in b.decisions.waiting i ≡ true) ⊎ IsMarkedBy (revision (built old) (built (next_list old edit))) (next_list old edit) g (table c.decisions.rows) t.marks i q
           to_marks other waits = elim (keeps.waits.0 (sym (ap (λ (z : Row). z.waits) is) ∙ waits)) [
             | inl waited ↦ inl (sym (as_before other) ∙ waited)
-            | inr marked ↦ inr (marked.0, marked.1, marked.2, subst (λ (z : Row). marked.0.from ≤ℤ date_at s (moment_at g z.trigger)) (sym is) marked.3, subst (λ (z : Row). marked.0.spares z.trigger ≡ false) (sym is) marked.4)
+            | inr (mark, at, late, asks) ↦ inr (
+              mark,
+              at,
+              subst (λ (z : Row). mark.from ≤ℤ date_at s (moment_at g z.trigger)) (sym is) late,
+              subst (λ (z : Row). AsksFor s (table c.decisions.rows) mark i z.trigger z.rule) (sym is) asks,
+            )
           ]
 
-          from_marks : i ≢ x → (waits_in b.decisions.waiting i ≡ true) ⊎ IsMarkedBy (revision (built old) (built (next_list old edit))) g (table c.decisions.rows) t.marks i q → q.waits ≡ true
+          from_marks : i ≢ x → (waits_in b.decisions.waiting i ≡ true) ⊎ IsMarkedBy (revision (built old) (built (next_list old edit))) (next_list old edit) g (table c.decisions.rows) t.marks i q → q.waits ≡ true
           from_marks other (inl waited) = ap (λ (z : Row). z.waits) is ∙ keeps.waits.1 (inl (as_before other ∙ waited))
-          from_marks other (inr (mark, at, on, late, unspared)) =
+          from_marks other (inr (mark, at, late, asks)) =
               ap (λ (z : Row). z.waits) is
-              ∙ keeps.waits.1 (inr (mark, at, on, subst (λ (z : Row). mark.from ≤ℤ date_at s (moment_at g z.trigger)) is late, subst (λ (z : Row). mark.spares z.trigger ≡ false) is unspared))
+              ∙ keeps.waits.1 (inr (
+                mark,
+                at,
+                subst (λ (z : Row). mark.from ≤ℤ date_at s (moment_at g z.trigger)) is late,
+                subst (λ (z : Row). AsksFor s (table c.decisions.rows) mark i z.trigger z.rule) is asks,
+              ))
 
   live : (i : ℕ) (q : Row) → rows_of e i ≡ Some q → IsLive g q.trigger
   live i q at = let (row, there, is) = row_of e i q at in subst (λ (z : Row). IsLive g z.trigger) (sym is) (t.fit_after.events i row there)

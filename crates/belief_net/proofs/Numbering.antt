@@ -154,9 +154,9 @@ entry_numbered s net trigger rule c e told told_after brings free last same are 
     (entered_in s (then_forest c.tree) (forest c.tree) (forest e.tree) left brings.number adds.node adds.enters free (from_numbered s c.tree left are)))
 
 -- an effect is withdrawn with all below it, told under their numbers
-pub exit_numbered : (s : Standing) (net : Net) (c e : BeliefNet) (x : ℕ) (m : Member) (numbers : List ℕ) (told told_after : Told) → member (forest c.tree) x ≡ Some m → is_derived (moment m) ≡ true → TakesAway net x numbers c e
+pub exit_numbered : (list s : Standing) (net : Net) (c e : BeliefNet) (x : ℕ) (m : Member) (numbers : List ℕ) (told told_after : Told) → member (forest c.tree) x ≡ Some m → is_derived (moment m) ≡ true → TakesAway list net x numbers c e
     → left_under told_after.left.items ≡ left_under told.left.items ++ map (λ y. (y, moment_at (forest c.tree) y)) numbers → StayNumbered s c e told told_after
-exit_numbered s net c e x m numbers told told_after at derived takes tells are =
+exit_numbered list s net c e x m numbers told told_after at derived takes tells are =
     let left = left_under told.left.items in
     let shrinks = takes.tree.shrinks in
     subst (AreNumbered s e.tree) (sym tells)

@@ -43,19 +43,21 @@ use Rattle.joined.specs.Gaps.{SameGaps, MovesAt}
 use Rattle.joined.specs.Shifting.{AreLoose, MayRest}
 use Rattle.joined.specs.Rows.{Row}
 use Rattle.joined.specs.Starting.{IsPrepared}
+use Rattle.joined.specs.Touching.{RivalsStay}
 use Rattle.joined.specs.Telling.{IsToldOf, LeaveFirst}
 use Rattle.joined.proofs.Preparing.{prepared_netted}
+use Rattle.joined.proofs.Reading.{no_rivals_change}
 use Rattle.joined.proofs.Telling.{prepared_told}
 use Rattle.belief_net.specs.declared.erasing.Departed.{Departed}
 use Rattle.belief_net.specs.declared.state.BeliefNet.{BeliefNet}
 use Rattle.belief_net.specs.declared.state.Decisions.{Decisions}
 use Rattle.belief_net.specs.declared.told.Told.{Told}
-use Rattle.belief_net.specs.Adding.{ReadsOneOf, MarksClasses}
+use Rattle.belief_net.specs.Adding.{ReadsOneOf, ReadsRivalOf, MarksLeft}
 use Rattle.belief_net.specs.Beginning.{IsReady, added_by}
 use Rattle.belief_net.specs.ByEvent.{is_between}
 use Rattle.belief_net.specs.Clearing.{IsCleared}
 use Rattle.belief_net.specs.Dating.{KeepsNodes, AreDatedBefore}
-use Rattle.belief_net.specs.Decided.{table_of, rule_in, AreUnder, KeepsLast}
+use Rattle.belief_net.specs.Decided.{table_of, rule_in, AreUnder, AreOfSome, KeepsLast}
 use Rattle.belief_net.specs.Entering.{KeepLast}
 use Rattle.belief_net.specs.Erasing.{moments_of, ShedsAll, Spares, IsFreeOf}
 use Rattle.belief_net.specs.MarkLaws.{added_by as name_added}
@@ -176,13 +178,14 @@ module _ (old : Standing) (edit : Edit) (nets : Nets) (names : List (List ℕ)) 
 
 -- ---- rows that wait for what left
 
--- c is e with the dates of the new network; in m besides rows wait that may read what left
-pub record IsMarked (nets : Nets) (e c m : BeliefNet) (all : Departed) : Type 0 where
+-- c is e with the dates of the new network; in m besides rows wait on which what left may have
+-- borne
+pub record IsMarked (s : Standing) (nets : Nets) (e c m : BeliefNet) (all : Departed) : Type 0 where
   pub keeps : KeepsNodes e.tree c.tree
   pub dated : IsDatedBy nets.present (present c.tree)
   pub same_rows : c.decisions ≡ e.decisions
   pub same_tree : m.tree ≡ c.tree
-  pub marks : MarksClasses (present c.tree) all.classes c.decisions m.decisions
+  pub marks : MarksLeft s (present c.tree) all.classes all.facts c.decisions m.decisions
   pub names : KeepsLast c.decisions m.decisions
 
 pub marked_under : (s : Standing) (c m : Decisions) → m.rows ≡ c.rows → KeepsLast c m → AreUnder s c → AreUnder s m
@@ -195,13 +198,13 @@ marked_under s c m rows last under = record {
     was i row at = ap (λ rs. (table_of (record c { rows = rs })).row i) (sym rows) ∙ at
 
 module _ (old : Standing) (edit : Edit) (nets : Nets) (names : List (List ℕ)) (b e c m : BeliefNet) (all : Departed) (h : IsErased old (next_list old edit) nets names b e all)
-    (k : IsMarked nets e c m all) where
+    (k : IsMarked (next_list old edit) nets e c m all) where
   pub fit_begun : IsFit (next_list old edit) nets.present m
   fit_begun =
       let first = re_dated old edit nets names b e all h c.tree k.keeps k.dated in
       let c_is : record e { tree = c.tree } ≡ c = λ j. record { tree = c.tree; decisions = sym k.same_rows j } in
       let fit_c = subst (IsFit (next_list old edit) nets.present) c_is first in
-      let marked = fit_marked (next_list old edit) nets.present c fit_c m.decisions (λ i row. ReadsOneOf (table_of c.decisions) m.decisions.classes all.classes i × IsAsLate (present c.tree) (pos 0) row) k.marks.rows (marked_under (next_list old edit) c.decisions m.decisions k.marks.rows k.names fit_c.under) k.marks.marks in
+      let marked = fit_marked (next_list old edit) nets.present c fit_c m.decisions (λ i row. (ReadsOneOf (table_of c.decisions) m.decisions.classes all.classes i ⊎ ReadsRivalOf (next_list old edit) (rule_in c.decisions row) all.facts) × IsAsLate (present c.tree) (pos 0) row) k.marks.rows (marked_under (next_list old edit) c.decisions m.decisions k.marks.rows k.names fit_c.under) k.marks.marks in
       let m_is : record c { decisions = m.decisions } ≡ m = λ j. record { tree = sym k.same_tree j; decisions = m.decisions } in
       subst (IsFit (next_list old edit) nets.present) m_is marked
 
@@ -265,7 +268,7 @@ module _ (n : BeliefNet) (dates : List (Option ℤ)) (P R : ℕ → TableRow Pai
       (row, here, is, elim (touched.rests i row here) [ inl waits ↦ inl (ap (λ (r : Row). r.waits) is ∙ waits) | inr rests ↦ inr rests ])
 
 module _ (old : Standing) (edit : Edit) (nets : Nets) (names : List (List ℕ)) (before : ℕ) (b e c m n z : BeliefNet) (all : Departed) (is_before : before ≡ old.horizon)
-    (h : IsErased old (next_list old edit) nets names b e all) (k : IsMarked nets e c m all) (o : IsOpened (next_list old edit) nets edit before m n z) where
+    (h : IsErased old (next_list old edit) nets names b e all) (k : IsMarked (next_list old edit) nets e c m all) (o : IsOpened (next_list old edit) nets edit before m n z) where
   abbrev new : Standing
   new = next_list old edit
 
@@ -316,7 +319,7 @@ module _ (old : Standing) (edit : Edit) (nets : Nets) (names : List (List ℕ)) 
   prepared_moved by_move by_rest same =
       prepared_on old edit nets.committed nets.present f g (rows_of b) (rows_of n) (rows_of y) sound_before sound_after h.kept.current ready on
       (λ l holds seeds. moved_marked old edit nets.committed nets.present f g (rows_of b) (rows_of n) (rows_of y) sound_before sound_after h.kept.current ready on
-      (is_moved nets (name_added edit)) MayRestAt same apart keeps all_wait only_wait l holds seeds)
+      (is_moved nets (name_added edit)) MayRestAt same (λ r x rest. no_rivals_change old (next_list old edit) sound_before sound_after r) apart keeps all_wait only_wait l holds seeds)
     where
       apart : (l : List Moment) (r : List ℕ) (x : ℕ) → HasOccurrences l g → IsLive g x → Contains (built old).believed (moment_at g x)
           → ((u : Moment) → Contains l u → watches (next_list old edit) r u ≡ true → Contains (built old).believed u)
@@ -340,14 +343,15 @@ module _ (old : Standing) (edit : Edit) (nets : Nets) (names : List (List ℕ)) 
             | inr left ↦ inr (subst (λ (r : Row). MayRestAt r.rule r.trigger) (sym is) (subst (λ T. T) (by_rest row) left))
           ]
 
-      only_wait : (i : ℕ) (p q : Row) → rows_of n i ≡ Some p → rows_of y i ≡ Some q → q.waits ≡ true → (p.waits ≡ true) ⊎ MovesAt (is_moved nets (name_added edit)) (next_list old edit) g q.rule q.trigger
+      only_wait : (i : ℕ) (p q : Row) → rows_of n i ≡ Some p → rows_of y i ≡ Some q → q.waits ≡ true
+          → (p.waits ≡ true) ⊎ (MovesAt (is_moved nets (name_added edit)) (next_list old edit) g q.rule q.trigger ⊎ (RivalsStay old (next_list old edit) q.rule → ⊥))
       only_wait i p q there at waits = elim (waited_or n z.decisions.waiting (λ j r. IsTouchedBy edit (next_list old edit) nets before n r) (λ j r. IsLeftBy edit (next_list old edit) nets before n r) o.touched i p q there at waits) [
         | inl waited ↦ inl waited
-        | inr (row, here, is, marked) ↦ inr (subst (λ (r : Row). MovesAt (is_moved nets (name_added edit)) (next_list old edit) g r.rule r.trigger) (sym is) (subst (λ T. T) (by_move row) marked))
+        | inr (row, here, is, marked) ↦ inr (inl (subst (λ (r : Row). MovesAt (is_moved nets (name_added edit)) (next_list old edit) g r.rule r.trigger) (sym is) (subst (λ T. T) (by_move row) marked)))
       ]
 
 module _ (old : Standing) (k : ℕ) (nets : Nets) (names : List (List ℕ)) (before : ℕ) (b e c m n z : BeliefNet) (all : Departed) (is_before : before ≡ old.horizon)
-    (h : IsErased old (next_list old (Horizon k)) nets names b e all) (mk : IsMarked nets e c m all)
+    (h : IsErased old (next_list old (Horizon k)) nets names b e all) (mk : IsMarked (next_list old (Horizon k)) nets e c m all)
     (o : IsOpened (next_list old (Horizon k)) nets (Horizon k) before m n z) where
   abbrev until : Standing
   until = next_list old (Horizon k)
@@ -399,7 +403,7 @@ module _ (old : Standing) (k : ℕ) (nets : Nets) (names : List (List ℕ)) (bef
 -- ---- so opened, nodes and rows stand for the revision
 
 opened_prepared : (old : Standing) (edit : Edit) (nets : Nets) (names : List (List ℕ)) (before : ℕ) (b e c m n z : BeliefNet) (all : Departed) → before ≡ old.horizon
-    → IsErased old (next_list old edit) nets names b e all → IsMarked nets e c m all → IsOpened (next_list old edit) nets edit before m n z
+    → IsErased old (next_list old edit) nets names b e all → IsMarked (next_list old edit) nets e c m all → IsOpened (next_list old edit) nets edit before m n z
     → IsPrepared old (next_list old edit) nets.present (forest b.tree) (forest n.tree) (rows_of b) (rows_of (waiting_with n z.decisions.waiting))
 opened_prepared old (Add p) nets names before b e c m n z all is_before h k o = prepared_moved old (Add p) nets names before b e c m n z all is_before h k o (λ row. refl) (λ row. refl) refl
 opened_prepared old (Erase x) nets names before b e c m n z all is_before h k o = prepared_moved old (Erase x) nets names before b e c m n z all is_before h k o (λ row. refl) (λ row. refl) refl
@@ -407,7 +411,7 @@ opened_prepared old Upgrade nets names before b e c m n z all is_before h k o = 
 opened_prepared old (Horizon d) nets names before b e c m n z all is_before h k o = prepared_until old d nets names before b e c m n z all is_before h k o
 
 module _ (old : Standing) (edit : Edit) (nets : Nets) (names : List (List ℕ)) (before : ℕ) (b e c m n z : BeliefNet) (all : Departed) (is_before : before ≡ old.horizon)
-    (h : IsErased old (next_list old edit) nets names b e all) (k : IsMarked nets e c m all) (o : IsOpened (next_list old edit) nets edit before m n z) where
+    (h : IsErased old (next_list old edit) nets names b e all) (k : IsMarked (next_list old edit) nets e c m all) (o : IsOpened (next_list old edit) nets edit before m n z) where
   abbrev w : BeliefNet
   w = waiting_with n z.decisions.waiting
 
@@ -467,10 +471,16 @@ module _ (lists : States) (nets : Nets) (edit : Edit) (names : List (List ℕ)) 
   pub events_after : (t : Kept) → KeepsNodes e.tree t → HaveEvents t (table_of e.decisions)
   events_after t keeps i row at = subst (λ (f : Forest). IsLive f row.value.trigger) (sym keeps.nodes) (sheds.thins.events i row at)
 
+  pub under_after : AreOfSome e.decisions
+  under_after = (next_list before_edit edit, (is_cleared before_edit edit nets names b e all erased_next).under)
+
   pub points_there : WereThere nets (name_added edit)
   points_there = were_there before_edit edit nets names b e all erased_next
 
-  module _ (c m : BeliefNet) (k : IsMarked nets e c m all) where
+  module _ (c m : BeliefNet) (marked : IsMarked lists.present nets e c m all) where
+    k : IsMarked (next_list lists.committed edit) nets e c m all
+    k = subst (λ l. IsMarked l nets e c m all) pending.list marked
+
     pub marked_fit : IsFit lists.present nets.present m
     marked_fit = subst (λ l. IsFit l nets.present m) (sym pending.list) (fit_begun before_edit edit nets names b e c m all erased_next k)
 

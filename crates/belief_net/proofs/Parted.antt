@@ -1,5 +1,6 @@
 -- Nodes that are withdrawn, told and noted, with the rows at their events.
-use Rattle.std.proofs.Common.{◌≡◌, ◌≢◌, ◌∙◌, ℕ, zero, suc, ◌<◌, true, false, cond, eqb, eqb-true, List, [], ◌∷◌, ◌++◌, map, filter, length, Some, None, refl, sym, ap, subst, inl, inr, ◌⊎◌, arith}
+use Rattle.std.proofs.Common.{◌≡◌, ◌≢◌, ◌∙◌, ℕ, zero, suc, ◌<◌, true, false, cond, eqb, eqb-true, List, [], ◌∷◌, ◌++◌, map, filter, length, Some, None, refl, sym, ap, subst, inl, inr, ◌⊎◌, arith, Option}
+use Rattle.std.specs.Option.{option_map_or}
 use Rattle.std.proofs.lemmas.Bool.{cases_Bool, both_ways}
 use Rattle.std.proofs.lemmas.List.{append_assoc, append-nil, map-append}
 use Rattle.std.proofs.lemmas.List.Elements.{filter-append}
@@ -33,7 +34,7 @@ use Rattle.belief_net.specs.declared.state.Decisions.{Decisions}
 use Rattle.belief_net.specs.declared.told.DatedOcc.{DatedOcc}
 use Rattle.belief_net.specs.Decided.{table_of, AreUnder, DropsRows}
 use Rattle.belief_net.specs.Entering.{class_at}
-use Rattle.belief_net.specs.Erasing.{DropsRowsAt, TellsOf, NotesOf, HasLeft, Tells, Notes, Thins, Sheds, Spares, KeepRows}
+use Rattle.belief_net.specs.Erasing.{DropsRowsAt, TellsOf, fact_of, fact_at, NotesOf, HasLeft, Tells, Notes, Thins, Sheds, Spares, KeepRows}
 use Rattle.belief_net.specs.Marks.{HaveEvents}
 use Rattle.belief_net.specs.Numbers.{name_in}
 use Rattle.belief_net.proofs.Brought.{class_is_at}
@@ -84,11 +85,11 @@ module _ (tree : Kept) where
     ];
   }
 
-  pub notes_start : (l : List (List ℕ)) → NotesOf tree [] l l
-  notes_start l = record { stay = λ c at. at; own = λ c at. inl at; all = λ y c on of. (let never : false ≡ true = on in cc) }
+  pub notes_start : (of : ℕ → Option (List ℕ)) (l : List (List ℕ)) → NotesOf of [] l l
+  notes_start of l = record { stay = λ c at. at; own = λ c at. inl at; all = λ y c on has. (let never : false ≡ true = on in cc) }
 
-  pub notes_next : (xs ys : List ℕ) (a b c : List (List ℕ)) → NotesOf tree xs a b → NotesOf tree ys b c → NotesOf tree (xs ++ ys) a c
-  notes_next xs ys a b c p q = record {
+  pub notes_next : (of : ℕ → Option (List ℕ)) (xs ys : List ℕ) (a b c : List (List ℕ)) → NotesOf of xs a b → NotesOf of ys b c → NotesOf of (xs ++ ys) a c
+  notes_next of xs ys a b c p q = record {
     stay = λ k at. q.stay k (p.stay k at);
     own = λ k at. elim (q.own k at) [
       | inl there ↦ elim (p.own k there) [
@@ -97,9 +98,9 @@ module _ (tree : Kept) where
       ]
       | inr h ↦ inr (h.0, IsOn-append_right xs ys h.0 h.1, h.2)
     ];
-    all = λ y k on of. elim (IsOn-append_cases xs ys y on) [
-      | inl there ↦ q.stay k (p.all y k there of)
-      | inr there ↦ q.all y k there of
+    all = λ y k on has. elim (IsOn-append_cases xs ys y on) [
+      | inl there ↦ q.stay k (p.all y k there has)
+      | inr there ↦ q.all y k there has
     ];
   }
 
@@ -143,23 +144,23 @@ module _ (tree : Kept) where
     ];
   }
 
-  pub notes_no_token : (y : ℕ) (l : List (List ℕ)) → class_at tree y ≡ None → NotesOf tree (y ∷ []) l l
-  notes_no_token y l none = record {
+  pub notes_no_token : (at_node : ℕ → Option (List ℕ)) (y : ℕ) (l : List (List ℕ)) → at_node y ≡ None → NotesOf at_node (y ∷ []) l l
+  notes_no_token at_node y l none = record {
     stay = λ c at. at;
     own = λ c at. inl at;
-    all = λ x c on of. absurd (none_some c (sym none ∙ ap (class_at tree) (sym (alone y x on)) ∙ of));
+    all = λ x c on of. absurd (none_some c (sym none ∙ ap at_node (sym (alone y x on)) ∙ of));
   }
 
-  pub notes_one : (y : ℕ) (class : List ℕ) (old new : List (List ℕ)) → class_at tree y ≡ Some class → HaveMore old new → (k : ℕ) × (place_in new class ≡ Some k)
-      → ((other : List ℕ) → In other new → In other old ⊎ (other ≡ class)) → NotesOf tree (y ∷ []) old new
-  notes_one y class old new of (more, is) (k, placed) only = record {
+  pub notes_one : (at_node : ℕ → Option (List ℕ)) (y : ℕ) (class : List ℕ) (old new : List (List ℕ)) → at_node y ≡ Some class → HaveMore old new → (k : ℕ) × (place_in new class ≡ Some k)
+      → ((other : List ℕ) → In other new → In other old ⊎ (other ≡ class)) → NotesOf at_node (y ∷ []) old new
+  notes_one at_node y class old new of (more, is) (k, placed) only = record {
     stay = λ c at. subst (In c) (sym is) (In-left old more c at);
     own = λ c at. elim (only c at) [
       | inl was ↦ inl was
       | inr same ↦ inr (y, IsOn-first y [], of ∙ ap Some (sym same))
     ];
     all = λ x c on of_x.
-        let both : Some class ≡ Some c = sym of ∙ ap (class_at tree) (sym (alone y x on)) ∙ of_x in
+        let both : Some class ≡ Some c = sym of ∙ ap at_node (sym (alone y x on)) ∙ of_x in
         let one : class ≡ c = cc in
         subst (λ z. In z new) (placed_name new class k placed ∙ one) (in_at new k (place_within new class k placed));
   }
@@ -236,7 +237,7 @@ distinct_moments f once (y ∷ ys) live apart = (
 
 module _ (old new : BeliefNet) (before after : Departed) (x : ℕ) (numbers : List ℕ) (once : IsOnce (forest old.tree)) (events : HaveEvents old.tree (table_of old.decisions))
     (each : (y : ℕ) → IsOn numbers y ↔ IsBelow (forest old.tree) x y) (apart : AreOnce numbers)
-    (tells : TellsOf old.tree numbers before.left.items after.left.items) (notes : NotesOf old.tree numbers before.classes after.classes)
+    (tells : TellsOf old.tree numbers before.left.items after.left.items) (notes : NotesOf (class_at old.tree) numbers before.classes after.classes) (facts : NotesOf (fact_at old.tree) numbers before.facts after.facts)
     (drops : DropsRowsAt (IsOn numbers) old.decisions new.decisions) (w : Withdraws old.tree new.tree x) where
   abbrev f : Forest
   f = forest old.tree
@@ -311,20 +312,29 @@ module _ (old new : BeliefNet) (before after : Departed) (x : ℕ) (numbers : Li
     once = subst Distinct (sym tells.moments) (Distinct-filter is_derived (map (moment_at f) numbers) (distinct_moments f once numbers live_on apart));
   }
 
-  all_noted : Notes old.tree new.tree before.classes after.classes
-  all_noted = record {
-    stay = notes.stay;
-    own = λ c at. elim (notes.own c at) [
+  all_noted : (at_node : ℕ → Option (List ℕ)) (of : Member → Option (List ℕ)) → ((y : ℕ) (m : Member) → member f y ≡ Some m → at_node y ≡ of m)
+      → (a b : List (List ℕ)) → NotesOf at_node numbers a b → Notes of old.tree new.tree a b
+  all_noted at_node of same a b noted = record {
+    stay = noted.stay;
+    own = λ c at. elim (noted.own c at) [
       | inl was ↦ inl was
       | inr h ↦ inr (
           let (m, there) = node_at f h.0 (live_on h.0 h.1) in
-          (h.0, m, record { was = there; gone = gone h.0 h.1 }, sym (class_is_at old.tree h.0 m there) ∙ h.2))
+          (h.0, m, record { was = there; gone = gone h.0 h.1 }, sym (same h.0 m there) ∙ h.2))
     ];
-    all = λ y m c left of. notes.all y c (left_on y m left) (class_is_at old.tree y m left.was ∙ of);
+    all = λ y m c left has. noted.all y c (left_on y m left) (same y m left.was ∙ has);
   }
 
+  fact_is_at : (y : ℕ) (m : Member) → member f y ≡ Some m → fact_at old.tree y ≡ fact_of m
+  fact_is_at y m at = ap (λ (o : Option Member). option_map_or fact_of o None) at
+
   pub withdrawn_sheds : Sheds old new before after
-  withdrawn_sheds = record { thins = thins; tells = all_told; notes = all_noted }
+  withdrawn_sheds = record {
+    thins = thins;
+    tells = all_told;
+    notes = all_noted (class_at old.tree) (λ m. m.class) (class_is_at old.tree) before.classes after.classes notes;
+    facts = all_noted (fact_at old.tree) fact_of fact_is_at before.facts after.facts facts;
+  }
 
   pub withdrawn_rows : KeepRows old new
   withdrawn_rows = λ i row at live. drops.stay i row at (off_live row.value.trigger live)

@@ -23,11 +23,12 @@ use Rattle.joined.specs.Gaps.{SameGaps, MovesAt}
 use Rattle.joined.specs.Netted.{IsCurrent}
 use Rattle.joined.specs.Rows.{Row, Rows, HasNoRow, AreRowsOf}
 use Rattle.joined.specs.Starting.{BeginsFrom, was, is_new, RowsBegin, IsPrepared, AreMarked}
-use Rattle.joined.specs.Touching.{IsUntouched}
+use Rattle.joined.specs.Touching.{RivalsStay, IsUntouched}
 use Rattle.joined.proofs.Deciding.{some_row}
 use Rattle.joined.proofs.Preparing.{stays_same, begun_rows}
 use Rattle.joined.proofs.Touching.{resting_marked, believed_among, among_believed, horizons_marked}
-use Rattle.belief_net.specs.Beginning.{IsReady}
+use Rattle.belief_net.specs.Beginning.{IsLeftFrom, IsReady}
+use Rattle.belief_net.proofs.Departing.{read_then}
 
 none_some : {X : Type 0} (x : X) → None ≡ Some x → ⊥
 none_some x e = cc
@@ -94,8 +95,10 @@ module _ (old : Standing) (edit : Edit) (before net : Net) (f g : Forest) (rows 
       ap (member f) (sym one) ∙ there ∙ ap Some same
 
   -- where points moved, and what the marks of moved points say of rows: each that waits newly is at
-  -- an event for which points moved, and each that does not wait may rest
+  -- an event for which points moved, or of a rule of which other facts contradict what it reads;
+  -- and each that does not wait may rest, and the same facts contradict what its rule reads
   module _ (moves : ℕ → ℕ → Bool) (rests : List ℕ → ℕ → Type 0) (same_horizon : old.horizon ≡ (next_list old edit).horizon)
+      (stay : (r : List ℕ) (x : ℕ) → rests r x → RivalsStay old (next_list old edit) r)
       (apart : (b : List Moment) (r : List ℕ) (x : ℕ) → HasOccurrences b g → IsLive g x → Contains (built old).believed (moment_at g x)
       → ((y : Moment) → Contains b y → watches (next_list old edit) r y ≡ true → Contains (built old).believed y)
       → SameGaps old (next_list old edit) b (moment_at g x) r → MovesAt moves (next_list old edit) g r x → ⊥)
@@ -106,7 +109,7 @@ module _ (old : Standing) (edit : Edit) (before net : Net) (f g : Forest) (rows 
       → rests r x
       → outcome old (far_in old.premises) (built old).believed (moment_at g x) r ≡ outcome (next_list old edit) (far_in (next_list old edit).premises) b (moment_at g x) r)
       (all : (i : ℕ) (q : Row) → after i ≡ Some q → (q.waits ≡ true) ⊎ rests q.rule q.trigger)
-      (only : (i : ℕ) (o q : Row) → mid i ≡ Some o → after i ≡ Some q → q.waits ≡ true → (o.waits ≡ true) ⊎ MovesAt moves (next_list old edit) g q.rule q.trigger)
+      (only : (i : ℕ) (o q : Row) → mid i ≡ Some o → after i ≡ Some q → q.waits ≡ true → (o.waits ≡ true) ⊎ (MovesAt moves (next_list old edit) g q.rule q.trigger ⊎ (RivalsStay old (next_list old edit) q.rule → ⊥)))
       (b : List Moment) (holds : HasOccurrences b g) where
     -- a row that does not wait keeps its outcome
     module _ (i : ℕ) (q : Row) (at : after i ≡ Some q) (still : q.waits ≡ false) where
@@ -121,6 +124,9 @@ module _ (old : Standing) (edit : Edit) (before net : Net) (f g : Forest) (rows 
 
       is : q ≡ record o { waits = q.waits }
       is = (on.was i q at).2
+
+      rest : rests q.rule q.trigger
+      rest = elim (all i q at) [ inl waits ↦ true_false (sym waits ∙ still) | inr there ↦ there ]
 
       rested : o.waits ≡ true → ⊥
       rested waits = true_false (sym ((on.was i q at).3 waits) ∙ still)
@@ -145,7 +151,7 @@ module _ (old : Standing) (edit : Edit) (before net : Net) (f g : Forest) (rows 
           by y m m_at same (member g y) refl
         where
           by : (y : ℕ) (m : Member) → member f y ≡ Some m → moment m ≡ x → (v : Option Member) → member g y ≡ v → Contains b x
-          by y m m_at same None gone = absurd (rested (ready.waits.left i y o m there m_at gone
+          by y m m_at same None gone = absurd (rested (ready.waits.left i y o m there m_at gone (subst (RivalsStay old (next_list old edit)) (ap (λ (z : Row). z.rule) is) (stay q.rule q.trigger rest))
               (subst (λ z. watches old z (moment m) ≡ true) (ap (λ (z : Row). z.rule) is) (subst (λ z. watches old q.rule z ≡ true) (sym same) reads))))
           by y m m_at same (Some k) here = elim (ready.nodes_begin.own y k here) [
             | inl before ↦ (
@@ -168,9 +174,9 @@ module _ (old : Standing) (edit : Edit) (before net : Net) (f g : Forest) (rows 
             | inr added ↦ absurd (none_some k (sym added.0 ∙ before))
           ]
 
-      row_keeps : rests q.rule q.trigger → outcome old (far_in old.premises) (built old).believed (moment_at g q.trigger) q.rule
+      row_keeps : outcome old (far_in old.premises) (built old).believed (moment_at g q.trigger) q.rule
           ≡ outcome (next_list old edit) (far_in (next_list old edit).premises) b (moment_at g q.trigger) q.rule
-      row_keeps rest =
+      row_keeps =
           let stands = stood (begun.from i q at) in
           keeps b q.rule q.trigger holds live stands.0 stands.1 (begun.own i q at).1 watched_stays watched_was rest
 
@@ -199,12 +205,18 @@ module _ (old : Standing) (edit : Edit) (before net : Net) (f g : Forest) (rows 
           (subst (λ z. Contains (rules_at old z) q.rule) (is_m ∙ sym (moment_at-is f q.trigger m before)) u.was.1) in
           none j row at_j tr ru
 
+      -- what left was watched
+      watched : (x : ℕ) (m : Member) → member f x ≡ Some m → IsLeftFrom old (next_list old edit) q.rule m → watches old q.rule (moment m) ≡ true
+      watched x m at_x (inl reads) = reads
+      watched x m at_x (inr (class, is, rival)) =
+          read_then old edit sound_old sound_new (moment_at g q.trigger) q.rule u.was.1 (begun.own i q at).1 u.rivals before.names m class (current.seen.members x m at_x) is rival
+
       waited_touched : (rows i ≡ None)
-          ⊎ (((x : ℕ) × (m : Member) × (member f x ≡ Some m) × (member g x ≡ None) × (watches old o2.rule (moment m) ≡ true))
+          ⊎ (((x : ℕ) × (m : Member) × (member f x ≡ Some m) × (member g x ≡ None) × IsLeftFrom old (next_list old edit) o2.rule m)
           ⊎ ((x : ℕ) × (m : Member) × (member f x ≡ None) × (member g x ≡ Some m) × (watches (next_list old edit) o2.rule (moment m) ≡ true))) → ⊥
       waited_touched (inl free) = had_row free (begun.from i q at)
       waited_touched (inr (inl (x, m, before, gone, reads))) =
-          let among = u.left (moment m) (current.holds.own x m before) (subst (λ z. watches old z (moment m) ≡ true) (sym (ap (λ (z : Row). z.rule) is2)) reads) in
+          let among = u.left (moment m) (current.holds.own x m before) (watched x m before (subst (λ z. IsLeftFrom old (next_list old edit) z m) (sym (ap (λ (z : Row). z.rule) is2)) reads)) in
           none_some m (sym gone ∙ node_stays b holds x m before among)
       waited_touched (inr (inr (x, m, free, here, reads))) =
           let believed = u.entered (moment m) (holds.own x m here) (subst (λ z. watches (next_list old edit) z (moment m) ≡ true) (sym (ap (λ (z : Row). z.rule) is2)) reads) in
@@ -213,14 +225,14 @@ module _ (old : Standing) (edit : Edit) (before net : Net) (f g : Forest) (rows 
       wait_touched : ⊥
       wait_touched = elim (only i o2 q there2 at waits) [
         | inl waited ↦ waited_touched (ready.waits.only i o2 there2 waited)
-        | inr moved ↦ apart b q.rule q.trigger holds live2 u.was.0 u.entered u.gaps moved
+        | inr why ↦ elim why [ inl moved ↦ apart b q.rule q.trigger holds live2 u.was.0 u.entered u.gaps moved | inr changed ↦ changed u.rivals ]
       ]
 
     waits_or_keeps : (i : ℕ) (q : Row) → after i ≡ Some q → (v : Bool) → q.waits ≡ v → (q.waits ≡ true)
         ⊎ (IsUntouched old (next_list old edit) b (moment_at g q.trigger) q.rule
         ⊎ (outcome old (far_in old.premises) (built old).believed (moment_at g q.trigger) q.rule ≡ outcome (next_list old edit) (far_in (next_list old edit).premises) b (moment_at g q.trigger) q.rule))
     waits_or_keeps i q at true waits = inl waits
-    waits_or_keeps i q at false still = elim (all i q at) [ inl waits ↦ inl waits | inr rest ↦ inr (inr (row_keeps i q at still rest)) ]
+    waits_or_keeps i q at false still = inr (inr (row_keeps i q at still))
 
     pub moved_marked : AreSeeds old (next_list old edit) b → AreMarked old (next_list old edit) b g after
     moved_marked seeds = resting_marked old edit b g after sound_old sound_new seeds rows_are
@@ -267,7 +279,7 @@ module _ (old : Standing) (n : ℕ) (before net : Net) (f g : Forest) (rows mid 
   none_waited i o q there at waits = by (ready.waits.only i o there waits)
     where
       by : (rows i ≡ None)
-          ⊎ (((x : ℕ) × (m : Member) × (member f x ≡ Some m) × (member g x ≡ None) × (watches old o.rule (moment m) ≡ true))
+          ⊎ (((x : ℕ) × (m : Member) × (member f x ≡ Some m) × (member g x ≡ None) × IsLeftFrom old (list_until old n) o.rule m)
           ⊎ ((x : ℕ) × (m : Member) × (member f x ≡ None) × (member g x ≡ Some m) × (watches (list_until old n) o.rule (moment m) ≡ true))) → ⊥
       by (inl free) = row_before i q at free (began.from i q at)
       by (inr (inl (x, m, stood, gone, _))) = none_some m (sym gone ∙ node_after x m stood)

@@ -206,7 +206,7 @@ module _ (s : Standing) (net : Net) (b c e : BeliefNet) (due : Due) (after : IsA
 -- ---- where an effect is withdrawn
 
 module _ (s : Standing) (net : Net) (b c e : BeliefNet) (due : Due) (after : IsAfter s net b c due) (now : fires_by due.found ≡ false) (before : fires_by due.before ≡ true)
-    (told told_after : Told) (w : Withdraws net due.trigger due.rule c e told told_after) (last : KeepsLast c.decisions e.decisions) where
+    (told told_after : Told) (w : Withdraws s net due.trigger due.rule c e told told_after) (last : KeepsLast c.decisions e.decisions) where
   abbrev de : IsDecided s b c due
   de = after.decided
 

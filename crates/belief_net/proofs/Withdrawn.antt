@@ -1,7 +1,8 @@
 -- A turn that withdraws an effect.
-use Rattle.std.proofs.Common.{◌≡◌, ◌∙◌, ℕ, true, false, List, Option, Some, None, refl, sym, ap, subst, inl, inr, ◌⊎◌, arith}
+use Rattle.std.proofs.Common.{◌≡◌, ◌∙◌, ℕ, true, false, List, [], Option, Some, None, refl, sym, ap, subst, inl, inr, ◌⊎◌, arith}
 use Rattle.std.proofs.lemmas.Int.{ints}
 use Rattle.std.specs.Prelude.{ℤ, ◌≤ℤ◌, ◌<ℤ◌, is_some}
+use Rattle.std.specs.Option.{option_map_or}
 use Rattle.std.specs.List.{Contains}
 use Rattle.tmm_model.specs.declared.token.TokenRow.{TokenRow}
 use Rattle.tmm_model.specs.Beliefs.{rules_at}
@@ -27,20 +28,22 @@ use Rattle.occ_tree.specs.Standing.{Kept, present, early}
 use Rattle.occ_tree.proofs.KeptDates.{withdrawals_keep_dates}
 use Rattle.occ_tree.proofs.Members.{shrinking_withdraws, members_below, below_by_members}
 use Rattle.revisions.specs.Steps.{IsUnder}
-use Rattle.joined.specs.Marking.{Mark}
+use Rattle.joined.specs.Marking.{Mark, AsksFor}
 use Rattle.joined.specs.Rows.{Row, fires_by}
 use Rattle.joined.specs.Sparing.{StaysIn, IsSparedAt}
 use Rattle.joined.specs.Turning.{TreeTurns, withdraws, Moved, came, went, effect_of}
 use Rattle.joined.proofs.Leaving.{below_under, under_below}
 use Rattle.belief_net.specs.declared.deciding.Due.{Due}
 use Rattle.belief_net.specs.declared.state.BeliefNet.{BeliefNet}
-use Rattle.belief_net.specs.Decided.{table_of, KeepsLast}
+use Rattle.belief_net.specs.Decided.{table_of, rule_in, KeepsLast}
+use Rattle.belief_net.specs.Entering.{what_at, Calls}
 use Rattle.belief_net.specs.Leaving.{TakesAway}
 use Rattle.belief_net.specs.Moving.{date_at, IsMarkAt, IsMarkedAt, Moves, TurnsOn, row_due}
+use Rattle.belief_net.specs.Numbers.{name_in}
 use Rattle.belief_net.specs.Turning.{IsFit, IsDecided}
 use Rattle.belief_net.specs.Waiting.{dates_in, waits_in}
 use Rattle.belief_net.specs.Windows.{IsOfOther, IsSparedBy}
-use Rattle.belief_net.proofs.Bringing.{one_class}
+use Rattle.belief_net.proofs.Bringing.{one_class, one_what}
 use Rattle.belief_net.proofs.Brought.{class_is_at}
 use Rattle.belief_net.proofs.Entered.{one_row}
 use Rattle.belief_net.proofs.Lost.{left_row, lost_under}
@@ -70,7 +73,7 @@ under_late s sound t r (After u q) of (inr under) = by (date_at s (After t r)) (
 
 -- ---- a node with all below it is taken away
 
-module _ (s : Standing) (net : Net) (c e : BeliefNet) (x : ℕ) (m : Member) (numbers : List ℕ) (fit : IsFit s net c) (at_x : member (forest c.tree) x ≡ Some m) (takes : TakesAway net x numbers c e)
+module _ (s : Standing) (net : Net) (c e : BeliefNet) (x : ℕ) (m : Member) (numbers : List ℕ) (fit : IsFit s net c) (at_x : member (forest c.tree) x ≡ Some m) (takes : TakesAway s net x numbers c e)
     (last : KeepsLast c.decisions e.decisions) where
   abbrev f : Forest
   f = forest c.tree
@@ -116,13 +119,13 @@ module _ (s : Standing) (net : Net) (c e : BeliefNet) (x : ℕ) (m : Member) (nu
   -- ---- rows
 
   was_row : (i : ℕ) (row : TableRow Pair 8) → (table_of e.decisions).row i ≡ Some row → (table_of c.decisions).row i ≡ Some row
-  was_row = left_row net c.tree numbers numbers c.decisions e.decisions takes.rows
+  was_row = left_row s net c.tree numbers numbers c.decisions e.decisions takes.rows
 
   pub fit_taken : IsFit s net e
   fit_taken = record {
     tree = record { seen = seen; dated = withdrawals_keep_dates net (present c.tree) (present e.tree) x takes.tree.shrinks fit.tree.dated };
     events = λ i row at. is_live row.value.trigger (takes.rows.none i row at) (fit.events i row (was_row i row at));
-    under = lost_under net c.tree numbers numbers c.decisions e.decisions takes.rows last s fit.under;
+    under = lost_under s net c.tree numbers numbers c.decisions e.decisions takes.rows last s fit.under;
     dated = dated;
   }
     where
@@ -147,25 +150,33 @@ module _ (s : Standing) (net : Net) (c e : BeliefNet) (x : ℕ) (m : Member) (nu
   later_is i row at = sym (date_stays row.value.trigger (takes.rows.none i row at)) ∙ date_is s net e fit_taken row.value.trigger (fit_taken.events i row at)
 
   to_mark : (i : ℕ) (row : TableRow Pair 8) → (table_of e.decisions).row i ≡ Some row → waits_in e.decisions.waiting i ≡ true
-      → (waits_in c.decisions.waiting i ≡ true) ⊎ IsMarkedAt s (forest e.tree) (table_of c.decisions) takes.rows.marks i row
+      → (waits_in c.decisions.waiting i ≡ true) ⊎ IsMarkedAt s (forest e.tree) (table_of c.decisions) takes.rows.marks i row (rule_in e.decisions row)
   to_mark i row at waits = elim (takes.rows.each i) [
     | inl left ↦ elim left.waits [
       | inl same ↦ inl (sym (ap is_some same) ∙ waits)
-      | inr (r, there, (mark, on, listed, late, unspared), _) ↦ (
+      | inr (r, there, (mark, on, calls), _) ↦ (
           let one = one_row (table_of c.decisions) i r row there (was_row i row at) in
-          inr (mark, on, listed, subst (λ z. mark.from ≤ℤ z) (ap (λ (z : TableRow Pair 8). early (present c.tree) z.value.trigger) one ∙ later_is i row at) late, subst (λ (z : TableRow Pair 8). mark.spares z.value.trigger ≡ false) one unspared))
+          let (late, asks) = subst (λ z. Calls s (present c.tree) (table_of c.decisions) mark i z (rule_in c.decisions z)) one calls in
+          inr (mark, on, subst (λ z. mark.from ≤ℤ z) (later_is i row at) late, subst (λ l. AsksFor s (table_of c.decisions) mark i row.value.trigger (name_in l row.value.rule)) (sym takes.rows.rules) asks))
     ]
     | inr lost ↦ absurd (none_some ((table_of e.decisions).row i) row lost.lost at)
   ]
 
   from_mark : (i : ℕ) (row : TableRow Pair 8) → (table_of e.decisions).row i ≡ Some row
-      → (waits_in c.decisions.waiting i ≡ true) ⊎ IsMarkedAt s (forest e.tree) (table_of c.decisions) takes.rows.marks i row → waits_in e.decisions.waiting i ≡ true
+      → (waits_in c.decisions.waiting i ≡ true) ⊎ IsMarkedAt s (forest e.tree) (table_of c.decisions) takes.rows.marks i row (rule_in e.decisions row) → waits_in e.decisions.waiting i ≡ true
   from_mark i row at (inl waited) = elim (takes.rows.each i) [
     | inl left ↦ elim left.waits [ inl same ↦ ap is_some same ∙ waited | inr marked ↦ ap is_some marked.3 ]
     | inr lost ↦ absurd (none_some ((table_of e.decisions).row i) row lost.lost at)
   ]
-  from_mark i row at (inr (mark, on, listed, late, unspared)) =
-      ap is_some (takes.rows.all i row at (mark, on, listed, subst (λ z. mark.from ≤ℤ z) (sym (later_is i row at)) late, unspared))
+  from_mark i row at (inr (mark, on, late, asks)) =
+      ap is_some (takes.rows.all i row at (
+        mark,
+        on,
+        (
+          subst (λ z. mark.from ≤ℤ z) (sym (later_is i row at)) late,
+          subst (λ l. AsksFor s (table_of c.decisions) mark i row.value.trigger (name_in l row.value.rule)) takes.rows.rules asks,
+        ),
+      ))
 
   pub moves_taken : Moves s (forest c.tree) (forest e.tree) takes.rows.marks c.decisions e.decisions
   moves_taken = record {
@@ -206,6 +217,9 @@ module _ (s : Standing) (net : Net) (c e : BeliefNet) (x : ℕ) (m : Member) (nu
     ];
   }
 
+  what_is : (y : ℕ) (n : Member) → member (forest c.tree) y ≡ Some n → what_at c.tree y ≡ n.what
+  what_is y n at = ap (λ (o : Option Member). option_map_or (λ (m : Member). m.what) o []) at
+
   -- the node of a mark
   marked_node : (mark : Mark) → In mark takes.rows.marks
       → (y : ℕ) × (n : Member) × (member (forest c.tree) y ≡ Some n) × IsUnder (moment m) (moment n) × IsMarkAt s net (place_in e.decisions.classes) (forest c.tree) (forest e.tree) n mark
@@ -221,15 +235,16 @@ module _ (s : Standing) (net : Net) (c e : BeliefNet) (x : ℕ) (m : Member) (nu
           class = is.class;
           has_class = sym (class_is_at c.tree y n below.below_at) ∙ is.has_class;
           numbered = is.numbered;
+          fact = is.fact ∙ what_is y n below.below_at;
           from = is.from ∙ date_is s net c fit y (live_at f y n below.below_at) ∙ ap (date_at s) (moment_at-is f y n below.below_at);
           spared = λ t spares. spared_in_turn y n below.below_at t (is.spared t spares);
         },
       )
 
   -- the mark of a token that goes
-  mark_of : (n : Member) (class : List ℕ) (y : ℕ) (k : Member) → member (forest c.tree) y ≡ Some k → moment k ≡ moment n → n.class ≡ k.class → IsUnder (moment m) (moment n) → n.class ≡ Some class
+  mark_of : (n : Member) (class : List ℕ) (y : ℕ) (k : Member) → member (forest c.tree) y ≡ Some k → moment k ≡ moment n → n.class ≡ k.class → k.what ≡ n.what → IsUnder (moment m) (moment n) → n.class ≡ Some class
       → (mark : Mark) × In mark takes.rows.marks × IsMarkAt s net (place_in e.decisions.classes) (forest c.tree) (forest e.tree) n mark
-  mark_of n class y k at_y same alike under has =
+  mark_of n class y k at_y same alike whats under has =
       let on = (takes.below y).1 (below_by_members f x y m k at_x at_y (under_below m k (subst (IsUnder (moment m)) (sym same) under))) in
       let (mark, at, is) = takes.rows.are.all y class on (class_is_at c.tree y k at_y ∙ sym alike ∙ has) in (
         mark,
@@ -238,6 +253,7 @@ module _ (s : Standing) (net : Net) (c e : BeliefNet) (x : ℕ) (m : Member) (nu
           class = is.class;
           has_class = alike ∙ sym (class_is_at c.tree y k at_y) ∙ is.has_class;
           numbered = is.numbered;
+          fact = is.fact ∙ what_is y k at_y ∙ whats;
           from = is.from ∙ date_is s net c fit y (live_at f y k at_y) ∙ ap (date_at s) (moment_at-is f y k at_y ∙ same);
           spared = λ t spares. subst (λ z. IsSparedAt net (forest c.tree) (forest e.tree) z t) same (spared_in_turn y k at_y t (is.spared t spares));
         },
@@ -247,7 +263,7 @@ module _ (s : Standing) (net : Net) (c e : BeliefNet) (x : ℕ) (m : Member) (nu
 
 module _ (s : Standing) (net : Net) (b c e : BeliefNet) (due : Due) (x : ℕ) (m : Member) (numbers : List ℕ) (fit : IsFit s net b) (d : IsDecided s b c due) (now : fires_by due.found ≡ false) (before : fires_by due.before ≡ true)
     (on : Contains (rules_at s (moment_at (forest b.tree) due.trigger)) due.rule) (at_x : member (forest c.tree) x ≡ Some m) (is_effect : moment m ≡ After (moment_at (forest c.tree) due.trigger) due.rule)
-    (takes : TakesAway net x numbers c e) (last : KeepsLast c.decisions e.decisions) where
+    (takes : TakesAway s net x numbers c e) (last : KeepsLast c.decisions e.decisions) where
   fit_c : IsFit s net c
   fit_c = fit_decided s net b c due fit d
 
@@ -283,7 +299,8 @@ module _ (s : Standing) (net : Net) (b c e : BeliefNet) (due : Due) (x : ℕ) (m
   class_moved n class own (came fires fired_not is) has = true_false (sym fires ∙ now)
   class_moved n class own (went fires_not fires y k at same under) has =
       let at_k = at_c y k at in
-      subst (λ (t : Kept). (mark : Mark) × In mark takes.rows.marks × IsMarkAt s net (place_in e.decisions.classes) (forest t) (forest e.tree) n mark) d.tree (mark_of s net c e x m numbers fit_c at_x takes last n class y k at_k same (one_class s net.names n k own (fit_c.tree.seen.members y k at_k) (sym same)) (subst (λ z. IsUnder z (moment n)) (sym effect_is) under) has)
+      subst (λ (t : Kept). (mark : Mark) × In mark takes.rows.marks × IsMarkAt s net (place_in e.decisions.classes) (forest t) (forest e.tree) n mark) d.tree (mark_of s net c e x m numbers fit_c at_x takes last n class y k at_k same (one_class s net.names n k own (fit_c.tree.seen.members y k at_k) (sym same))
+      (one_what s net.names k n (fit_c.tree.seen.members y k at_k) own same) (subst (λ z. IsUnder z (moment n)) (sym effect_is) under) has)
 
   later : (mark : Mark) → In mark takes.rows.marks → date_at s (moment_at (forest b.tree) due.trigger) <ℤ mark.from
   later mark at =

@@ -1,5 +1,5 @@
 -- What is declared anew: roots with their rows or marks, and rows of a rule.
-use Rattle.std.specs.Prelude.{◌≡◌, ◌⊎◌, ℕ, pos, List, Some, None, MatchOption}
+use Rattle.std.specs.Prelude.{◌≡◌, ◌⊎◌, ℕ, ℤ, pos, true, List, Some, None, MatchOption}
 use Rattle.tmm_model.specs.declared.premise.Premise.{Premise}
 use Rattle.tmm_model.specs.declared.premise.Premise.TheVariants.{Rule}
 use Rattle.tmm_model.specs.Beliefs.{root_of, rules_at}
@@ -16,11 +16,12 @@ use Rattle.decision_rows.specs.declared.row.Pair.{Pair}
 use Rattle.occ_tree.specs.Classes.{place_in, HaveMore}
 use Rattle.occ_tree.specs.Places.{forest}
 use Rattle.occ_tree.specs.Standing.{Kept, State, present, committed, early, forest as forest_of}
+use Rattle.joined.specs.Gaps.{reads_rival}
 use Rattle.joined.specs.Listed.{IsListedUnder}
 use Rattle.belief_net.specs.declared.state.BeliefNet.{BeliefNet}
 use Rattle.belief_net.specs.declared.state.Decisions.{Decisions}
 use Rattle.belief_net.specs.Decided.{table_of, rule_in, IsNewRow, IsSameRow, AddsRows}
-use Rattle.belief_net.specs.Entering.{class_at, MarksClass}
+use Rattle.belief_net.specs.Entering.{class_at, what_at}
 use Rattle.belief_net.specs.Marks.{Marks, IsAsLate}
 use Rattle.belief_net.specs.Waiting.{dates_in}
 
@@ -39,12 +40,41 @@ pub record MarksClasses (s : State) (classes : List (List ℕ)) (old new : Decis
   pub numbered : (class : List ℕ) → In class classes → (k : ℕ) × (place_in new.classes class ≡ Some k)
   pub marks : Marks s (table_of old) (λ i row. ReadsOneOf (table_of old) new.classes classes i × IsAsLate s (pos 0) row) (dates_in old.waiting) (dates_in new.waiting)
 
+-- the rule reads what contradicts one of these facts
+abbrev pub ReadsRivalOf : Standing → List ℕ → List (List ℕ) → Type 0
+ReadsRivalOf s r facts = (fact : List ℕ) × In fact facts × (reads_rival s r fact ≡ true)
+
+-- those rows wait whose rules do
+pub record MarksFacts (s : Standing) (st : State) (facts : List (List ℕ)) (old new : Decisions) : Type 0 where
+  pub same : new ≡ record old { waiting = new.waiting }
+  pub marks : Marks st (table_of old) (λ i row. ReadsRivalOf s (rule_in old row) facts × IsAsLate st (pos 0) row) (dates_in old.waiting) (dates_in new.waiting)
+
+-- those rows wait on which tokens of these classes and facts may have borne that left
+pub record MarksLeft (s : Standing) (st : State) (classes facts : List (List ℕ)) (old new : Decisions) : Type 0 where
+  pub rows : new.rows ≡ old.rows
+  pub rules : new.rules ≡ old.rules
+  pub listed : AreListed (table_of old)
+  pub more : HaveMore old.classes new.classes
+  pub numbered : (class : List ℕ) → In class classes → (k : ℕ) × (place_in new.classes class ≡ Some k)
+  pub marks : Marks st (table_of old) (λ i row. (ReadsOneOf (table_of old) new.classes classes i ⊎ ReadsRivalOf s (rule_in old row) facts) × IsAsLate st (pos 0) row)
+      (dates_in old.waiting) (dates_in new.waiting)
+
+-- those rows wait on which a token of the class and the fact may bear, at events no earlier than
+-- the date: those that read the class, and those whose rules read what contradicts the fact
+pub record MarksToken (s : Standing) (st : State) (class fact : List ℕ) (from : ℤ) (old new : Decisions) : Type 0 where
+  pub rows : new.rows ≡ old.rows
+  pub rules : new.rules ≡ old.rules
+  pub number : ℕ
+  pub numbered : place_in new.classes class ≡ Some number
+  pub marks : Marks st (table_of old) (λ i row. (IsListedUnder (table_of old) number i ⊎ (reads_rival s (rule_in old row) fact ≡ true)) × IsAsLate st from row)
+      (dates_in old.waiting) (dates_in new.waiting)
+
 -- ---- a root
 
--- What becomes of rows with the root at node x: a token marks all that may read it, an event has a
--- row for each rule on it.
+-- What becomes of rows with the root at node x: a token marks all on which it may bear, an event
+-- has a row for each rule on it.
 pub data FollowsRoot (s : Standing) (x : ℕ) (tree : Kept) (old new : Decisions) : Type 0 where
-  a_token : (class : List ℕ) → class_at tree x ≡ Some class → MarksClass (present tree) class (pos 0) old new → FollowsRoot s x tree old new
+  a_token : (class : List ℕ) → class_at tree x ≡ Some class → MarksToken s (present tree) class (what_at tree x) (pos 0) old new → FollowsRoot s x tree old new
   an_event : class_at tree x ≡ None → AddsRows (rules_at s (moment_at (forest tree) x)) x (early (present tree) x) old new → FollowsRoot s x tree old new
 
 -- the root enters under a number that no node had at the last commit, with its rows or marks; all

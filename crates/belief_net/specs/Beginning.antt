@@ -1,5 +1,5 @@
 -- How the loop begins: nodes and rows of the list before are made those of the list after an edit.
-use Rattle.std.specs.Prelude.{◌≡◌, ◌⊎◌, ℕ, true, Option, Some, None}
+use Rattle.std.specs.Prelude.{◌≡◌, ◌⊎◌, ℕ, true, List, Option, Some, None}
 use Rattle.tmm_model.specs.declared.premise.Edit.{Edit}
 use Rattle.tmm_model.specs.declared.premise.Edit.TheVariants.{Add, Erase, Horizon, Upgrade}
 use Rattle.tmm_model.specs.declared.premise.Premise.{Premise}
@@ -11,12 +11,14 @@ use Rattle.spots.specs.OfLists.{IsForestOf}
 use Rattle.occ_tree.specs.Places.{forest}
 use Rattle.occ_tree.specs.Standing.{present}
 use Rattle.revisions.specs.Maps.{watches}
+use Rattle.joined.specs.Gaps.{reads_rival}
 use Rattle.joined.specs.Netted.{IsCurrent}
 use Rattle.joined.specs.Rows.{Row, Rows}
 use Rattle.joined.specs.Starting.{NodesBegin, RowsBegin}
+use Rattle.joined.specs.Touching.{RivalsStay}
 use Rattle.belief_net.specs.declared.erasing.Departed.{Departed}
 use Rattle.belief_net.specs.declared.state.BeliefNet.{BeliefNet}
-use Rattle.belief_net.specs.Adding.{MarksClasses, StayAll, EntersRoot, EntersRule}
+use Rattle.belief_net.specs.Adding.{MarksLeft, StayAll, EntersRoot, EntersRule}
 use Rattle.belief_net.specs.Clearing.{IsCleared}
 use Rattle.belief_net.specs.Decided.{KeepsLast}
 use Rattle.belief_net.specs.Erasing.{ShedsAll}
@@ -45,7 +47,7 @@ pub record IsBegun (old : Standing) (edit : Edit) (before net : Net) (b e c m r 
   pub same_nodes : SameMembers (forest e.tree) (forest c.tree)
   pub same_rows : c.decisions ≡ e.decisions
   pub same_tree : m.tree ≡ c.tree
-  pub marks : MarksClasses (present c.tree) all.classes c.decisions m.decisions
+  pub marks : MarksLeft (next_list old edit) (present c.tree) all.classes all.facts c.decisions m.decisions
   pub fit : IsFit (next_list old edit) net m
   pub enters : EntersAdded (next_list old edit) net (added_by edit) m r n
   pub fit_root : IsFit (next_list old edit) net r
@@ -53,13 +55,19 @@ pub record IsBegun (old : Standing) (edit : Edit) (before net : Net) (b e c m r 
   pub names_root : KeepsLast m.decisions r.decisions
   pub names_after : KeepsLast r.decisions n.decisions
 
--- Every row waits that reads a token that left or entered, and no other row that was there begins
--- to wait.
+-- the row of this rule is one on which the token of a node bore, which left: its rule watched it,
+-- or reads now what contradicts it
+abbrev pub IsLeftFrom : Standing → Standing → List ℕ → Member → Type 0
+IsLeftFrom old new rule m = (watches old rule (moment m) ≡ true) ⊎ ((class : List ℕ) × (m.class ≡ Some class) × (reads_rival new rule m.what ≡ true))
+
+-- Every row waits that watches a token that left or entered, where the same facts contradict what
+-- its rule reads; and no row that was there begins to wait but where it watched one that left, or
+-- would, or watches one that entered.
 pub record WaitForMoved (old new : Standing) (f g : Forest) (rows after : Rows) : Type 0 where
-  pub left : (i x : ℕ) (q : Row) (m : Member) → after i ≡ Some q → member f x ≡ Some m → member g x ≡ None → watches old q.rule (moment m) ≡ true → q.waits ≡ true
+  pub left : (i x : ℕ) (q : Row) (m : Member) → after i ≡ Some q → member f x ≡ Some m → member g x ≡ None → RivalsStay old new q.rule → watches old q.rule (moment m) ≡ true → q.waits ≡ true
   pub entered : (i x : ℕ) (q : Row) (m : Member) → after i ≡ Some q → member f x ≡ None → member g x ≡ Some m → watches new q.rule (moment m) ≡ true → q.waits ≡ true
   pub only : (i : ℕ) (q : Row) → after i ≡ Some q → q.waits ≡ true → (rows i ≡ None)
-      ⊎ (((x : ℕ) × (m : Member) × (member f x ≡ Some m) × (member g x ≡ None) × (watches old q.rule (moment m) ≡ true))
+      ⊎ (((x : ℕ) × (m : Member) × (member f x ≡ Some m) × (member g x ≡ None) × IsLeftFrom old new q.rule m)
       ⊎ ((x : ℕ) × (m : Member) × (member f x ≡ None) × (member g x ≡ Some m) × (watches new q.rule (moment m) ≡ true)))
 
 -- nodes and rows are made ready for the list after, but for marks of what moved

@@ -1,5 +1,6 @@
 -- What leaves with premises that the list has no more.
-use Rattle.std.specs.Prelude.{◌≡◌, ◌≢◌, ◌⊎◌, ℕ, true, List, [], ◌++◌, map, filter, Some, None}
+use Rattle.std.specs.Prelude.{◌≡◌, ◌≢◌, ◌⊎◌, ℕ, true, List, [], ◌++◌, map, filter, Option, Some, None}
+use Rattle.std.specs.Option.{option_map, option_map_or}
 use Rattle.tmm_model.specs.Moments.{Moment, After, moment_of, is_derived}
 use Rattle.tmm_model.specs.Standing.{Standing, premise_in}
 use Rattle.list_theory.proofs.Distinct.{Distinct}
@@ -16,7 +17,6 @@ use Rattle.belief_net.specs.declared.state.BeliefNet.{BeliefNet}
 use Rattle.belief_net.specs.declared.state.Decisions.{Decisions}
 use Rattle.belief_net.specs.declared.told.DatedOcc.{DatedOcc}
 use Rattle.belief_net.specs.Decided.{table_of, rule_in}
-use Rattle.belief_net.specs.Entering.{class_at}
 use Rattle.belief_net.specs.Marks.{HaveEvents}
 use Rattle.belief_net.specs.Waiting.{dates_in}
 
@@ -47,11 +47,19 @@ pub record TellsOf (tree : Kept) (numbers : List ℕ) (before after : List Dated
   pub moments : moments_of more ≡ filter is_derived (map (moment_at (forest tree)) numbers)
   pub own : (o : DatedOcc) → In o more → (y : ℕ) × IsOn numbers y × (moment_of o.occ ≡ moment_at (forest tree) y) × (o.early ≡ early (present tree) y) × (o.node ≡ y)
 
--- the classes of the tokens among these nodes are among the names, besides those before
-pub record NotesOf (tree : Kept) (numbers : List ℕ) (before after : List (List ℕ)) : Type 0 where
+-- the fact of a token, by its node, none of an event
+abbrev pub fact_of : Member → Option (List ℕ)
+fact_of m = option_map (λ _. m.what) m.class
+
+-- so at a node
+abbrev pub fact_at : Kept → ℕ → Option (List ℕ)
+fact_at tree y = option_map_or fact_of (member (forest tree) y) None
+
+-- what these nodes have there, each, is among the names, besides those before
+pub record NotesOf (at : ℕ → Option (List ℕ)) (numbers : List ℕ) (before after : List (List ℕ)) : Type 0 where
   pub stay : (class : List ℕ) → In class before → In class after
-  pub own : (class : List ℕ) → In class after → In class before ⊎ ((y : ℕ) × IsOn numbers y × (class_at tree y ≡ Some class))
-  pub all : (y : ℕ) (class : List ℕ) → IsOn numbers y → class_at tree y ≡ Some class → In class after
+  pub own : (class : List ℕ) → In class after → In class before ⊎ ((y : ℕ) × IsOn numbers y × (at y ≡ Some class))
+  pub all : (y : ℕ) (class : List ℕ) → IsOn numbers y → at y ≡ Some class → In class after
 
 -- the node was there, and is gone
 pub record HasLeft (old new : Kept) (x : ℕ) (m : Member) : Type 0 where
@@ -67,11 +75,11 @@ pub record Tells (old new : Kept) (before after : List DatedOcc) : Type 0 where
   pub all : (x : ℕ) (m : Member) → HasLeft old new x m → is_derived (moment m) ≡ true → In (moment m) (moments_of more)
   pub once : Distinct (moments_of more)
 
--- the classes of the tokens that left are among the names, besides those before
-pub record Notes (old new : Kept) (before after : List (List ℕ)) : Type 0 where
+-- what the nodes that left had of this, each, is among the names, besides those before
+pub record Notes (of : Member → Option (List ℕ)) (old new : Kept) (before after : List (List ℕ)) : Type 0 where
   pub stay : (class : List ℕ) → In class before → In class after
-  pub own : (class : List ℕ) → In class after → In class before ⊎ ((x : ℕ) × (m : Member) × HasLeft old new x m × (m.class ≡ Some class))
-  pub all : (x : ℕ) (m : Member) (class : List ℕ) → HasLeft old new x m → m.class ≡ Some class → In class after
+  pub own : (class : List ℕ) → In class after → In class before ⊎ ((x : ℕ) × (m : Member) × HasLeft old new x m × (of m ≡ Some class))
+  pub all : (x : ℕ) (m : Member) (class : List ℕ) → HasLeft old new x m → of m ≡ Some class → In class after
 
 -- ---- nodes and rows
 
@@ -88,17 +96,19 @@ pub record Thins (old new : BeliefNet) : Type 0 where
   pub rules : new.decisions.rules ≡ old.decisions.rules
   pub classes : new.decisions.classes ≡ old.decisions.classes
 
--- what left is told, and its classes noted
+-- what left is told, and its classes and facts noted
 pub record Sheds (old new : BeliefNet) (before after : Departed) : Type 0 where
   pub thins : Thins old new
   pub tells : Tells old.tree new.tree before.left.items after.left.items
-  pub notes : Notes old.tree new.tree before.classes after.classes
+  pub notes : Notes (λ m. m.class) old.tree new.tree before.classes after.classes
+  pub facts : Notes fact_of old.tree new.tree before.facts after.facts
 
--- what left is told, its classes are noted, and nothing else
+-- what left is told, its classes and facts are noted, and nothing else
 pub record ShedsAll (old new : BeliefNet) (all : Departed) : Type 0 where
   pub thins : Thins old new
   pub tells : Tells old.tree new.tree [] all.left.items
-  pub notes : Notes old.tree new.tree [] all.classes
+  pub notes : Notes (λ m. m.class) old.tree new.tree [] all.classes
+  pub facts : Notes fact_of old.tree new.tree [] all.facts
 
 -- the rows at events that stay stay
 abbrev pub KeepRows : BeliefNet → BeliefNet → Type 0

@@ -1,40 +1,40 @@
 -- What goes where a rule fires no more: nodes with their rows; and rows wait that read what went.
-use Rattle.std.specs.Prelude.{◌≡◌, ◌⊎◌, ◌↔◌, ℕ, true, false, List, Option, Some, None}
+use Rattle.std.specs.Prelude.{◌≡◌, ◌⊎◌, ◌↔◌, ℕ, true, List, Option, Some, None}
+use Rattle.tmm_model.specs.Standing.{Standing}
 use Rattle.list_theory.proofs.Elements.{In}
 use Rattle.dist_net.specs.Net.{Net}
 use Rattle.row_links.specs.Lists.{IsOn}
 use Rattle.undo_rows.specs.declared.row.Row.{Row as TableRow}
-use Rattle.undo_rows.specs.Tables.{Table, AreListed}
+use Rattle.undo_rows.specs.Tables.{AreListed}
 use Rattle.decision_rows.specs.declared.row.Pair.{Pair}
 use Rattle.occ_tree.specs.Below.{IsBelow}
 use Rattle.occ_tree.specs.Classes.{place_in}
 use Rattle.occ_tree.specs.Edits.{Withdraws}
 use Rattle.occ_tree.specs.Places.{forest}
 use Rattle.occ_tree.specs.Standing.{Kept, State, present, early}
-use Rattle.joined.specs.Listed.{IsListedUnder}
 use Rattle.joined.specs.Marking.{Mark}
 use Rattle.belief_net.specs.declared.state.BeliefNet.{BeliefNet}
 use Rattle.belief_net.specs.declared.state.Decisions.{Decisions}
-use Rattle.belief_net.specs.Decided.{table_of, DropsRows}
-use Rattle.belief_net.specs.Entering.{MarksReaders, class_at}
-use Rattle.belief_net.specs.Marks.{IsAsLate, WaitsAt}
+use Rattle.belief_net.specs.Decided.{table_of, rule_in, DropsRows}
+use Rattle.belief_net.specs.Entering.{MarksReaders, Calls, what_at, class_at}
+use Rattle.belief_net.specs.Marks.{WaitsAt}
 use Rattle.belief_net.specs.Waiting.{dates_in}
 use Rattle.belief_net.specs.Windows.{IsSparedBy}
 
 -- ---- one node
 
--- what a node marks that goes with these: a token those rows that read it, but where it is spared,
--- and an event none
-pub data MarksNode (net : Net) (tree : Kept) (going : List ℕ) (y : ℕ) (old new : Decisions) : Type 0 where
-  a_token : (class : List ℕ) → class_at tree y ≡ Some class → MarksReaders net tree going y class old new → MarksNode net tree going y old new
-  an_event : class_at tree y ≡ None → new ≡ old → MarksNode net tree going y old new
+-- what a node marks that goes with these: a token those rows on which it may bear, and an event
+-- none
+pub data MarksNode (s : Standing) (net : Net) (tree : Kept) (going : List ℕ) (y : ℕ) (old new : Decisions) : Type 0 where
+  a_token : (class : List ℕ) → class_at tree y ≡ Some class → MarksReaders s net tree going y class old new → MarksNode s net tree going y old new
+  an_event : class_at tree y ≡ None → new ≡ old → MarksNode s net tree going y old new
 
 -- all rows at the node are gone, and rows wait that read it
-pub record LosesNode (net : Net) (tree : Kept) (going : List ℕ) (y : ℕ) (old new : Decisions) : Type 0 where
+pub record LosesNode (s : Standing) (net : Net) (tree : Kept) (going : List ℕ) (y : ℕ) (old new : Decisions) : Type 0 where
   pub mid : Decisions
   pub drops : DropsRows y old mid
   pub listed : AreListed (table_of mid)
-  pub marks : MarksNode net tree going y mid new
+  pub marks : MarksNode s net tree going y mid new
 
 -- ---- some nodes
 
@@ -43,6 +43,7 @@ pub record IsMarkOn (net : Net) (tree : Kept) (going : List ℕ) (number : List 
   pub class : List ℕ
   pub has_class : class_at tree y ≡ Some class
   pub numbered : number class ≡ Some mark.class
+  pub fact : mark.fact ≡ what_at tree y
   pub from : mark.from ≡ early (present tree) y
   pub spared : (t : ℕ) → mark.spares t ≡ true → IsSparedBy net (forest tree) going y t
 
@@ -51,10 +52,9 @@ pub record AreMarksOn (net : Net) (tree : Kept) (going gone : List ℕ) (number 
   pub own : (mark : Mark) → In mark marks → (y : ℕ) × IsOn gone y × IsMarkOn net tree going number y mark
   pub all : (y : ℕ) (class : List ℕ) → IsOn gone y → class_at tree y ≡ Some class → (mark : Mark) × In mark marks × IsMarkOn net tree going number y mark
 
--- a mark is for the row of number i: it is on a list of the class, and its event is no earlier and
--- not spared
-abbrev pub IsMarkedFor : State → Table Pair 8 → List Mark → ℕ → TableRow Pair 8 → Type 0
-IsMarkedFor s t marks i row = (mark : Mark) × In mark marks × IsListedUnder t mark.class i × IsAsLate s mark.from row × (mark.spares row.value.trigger ≡ false)
+-- a mark is for the row of number i: it asks for it, and its event is no earlier
+abbrev pub IsMarkedFor : Standing → State → Decisions → List Mark → ℕ → TableRow Pair 8 → Type 0
+IsMarkedFor s st d marks i row = (mark : Mark) × In mark marks × Calls s st (table_of d) mark i row (rule_in d row)
 
 -- the row of number i was one at these nodes, and is gone
 pub record IsLost (gone : List ℕ) (old new : Decisions) (i : ℕ) : Type 0 where
@@ -65,21 +65,21 @@ pub record IsLost (gone : List ℕ) (old new : Decisions) (i : ℕ) : Type 0 whe
   pub rests : dates_in new.waiting i ≡ None
 
 -- the row of number i stays, and waits as before or for a mark
-pub record IsLeft (s : State) (marks : List Mark) (old new : Decisions) (i : ℕ) : Type 0 where
+pub record IsLeft (s : Standing) (st : State) (marks : List Mark) (old new : Decisions) (i : ℕ) : Type 0 where
   pub row : (table_of new).row i ≡ (table_of old).row i
   pub waits : (dates_in new.waiting i ≡ dates_in old.waiting i)
-      ⊎ ((r : TableRow Pair 8) × ((table_of old).row i ≡ Some r) × IsMarkedFor s (table_of old) marks i r × WaitsAt s (dates_in new.waiting) i r)
+      ⊎ ((r : TableRow Pair 8) × ((table_of old).row i ≡ Some r) × IsMarkedFor s st old marks i r × WaitsAt st (dates_in new.waiting) i r)
 
 -- All rows at these nodes, of all that go, are gone. The others stay, and wait where a token among
 -- the nodes marks them.
-pub record LosesRows (net : Net) (tree : Kept) (going gone : List ℕ) (old new : Decisions) : Type 0 where
+pub record LosesRows (s : Standing) (net : Net) (tree : Kept) (going gone : List ℕ) (old new : Decisions) : Type 0 where
   pub rules : new.rules ≡ old.rules
   pub listed : AreListed (table_of old)
   pub marks : List Mark
   pub are : AreMarksOn net tree going gone (place_in new.classes) marks
-  pub each : (i : ℕ) → IsLeft (present tree) marks old new i ⊎ IsLost gone old new i
+  pub each : (i : ℕ) → IsLeft s (present tree) marks old new i ⊎ IsLost gone old new i
   pub none : (i : ℕ) (row : TableRow Pair 8) → (table_of new).row i ≡ Some row → IsOn gone row.value.trigger → ⊥
-  pub all : (i : ℕ) (row : TableRow Pair 8) → (table_of new).row i ≡ Some row → IsMarkedFor (present tree) (table_of old) marks i row
+  pub all : (i : ℕ) (row : TableRow Pair 8) → (table_of new).row i ≡ Some row → IsMarkedFor s (present tree) old marks i row
       → WaitsAt (present tree) (dates_in new.waiting) i row
 
 -- ---- a node with all below it
@@ -90,7 +90,7 @@ AreBelow tree x numbers = (y : ℕ) → IsOn numbers y ↔ IsBelow (forest tree)
 
 -- node x is gone with all below it, which are these, and their rows; and rows wait that read what
 -- went
-pub record TakesAway (net : Net) (x : ℕ) (numbers : List ℕ) (old new : BeliefNet) : Type 0 where
+pub record TakesAway (s : Standing) (net : Net) (x : ℕ) (numbers : List ℕ) (old new : BeliefNet) : Type 0 where
   pub below : AreBelow old.tree x numbers
   pub tree : Withdraws old.tree new.tree x
-  pub rows : LosesRows net old.tree numbers numbers old.decisions new.decisions
+  pub rows : LosesRows s net old.tree numbers numbers old.decisions new.decisions

@@ -1,5 +1,5 @@
 -- A turn in which nodes enter or go: rows come, go, and wait for marks.
-use Rattle.std.specs.Prelude.{◌≡◌, ◌↔◌, ◌⊎◌, ℕ, ℤ, ◌≤ℤ◌, ◌<ℤ◌, true, false, List, Option, Some, None, IsSome}
+use Rattle.std.specs.Prelude.{◌≡◌, ◌↔◌, ◌⊎◌, ℕ, ℤ, ◌≤ℤ◌, ◌<ℤ◌, true, List, Option, Some, None, IsSome}
 use Rattle.std.specs.List.{Contains}
 use Rattle.tmm_model.specs.Beliefs.{rules_at}
 use Rattle.tmm_model.specs.Moments.{Moment, early}
@@ -14,8 +14,7 @@ use Rattle.decision_rows.specs.declared.row.Pair.{Pair}
 use Rattle.decision_rows.specs.declared.row.Decision.TheVariants.{Beyond}
 use Rattle.occ_tree.specs.Classes.{place_in}
 use Rattle.occ_tree.specs.Places.{forest}
-use Rattle.joined.specs.Listed.{IsListedUnder}
-use Rattle.joined.specs.Marking.{Mark}
+use Rattle.joined.specs.Marking.{Mark, AsksFor}
 use Rattle.joined.specs.Rows.{Row, as_row}
 use Rattle.joined.specs.Sparing.{IsSparedAt}
 use Rattle.joined.specs.Turning.{Moved, TreeTurns}
@@ -34,11 +33,12 @@ date_at s = early s (far_in s.premises)
 -- ---- marks
 
 -- the mark is that of the token that this node is, where nodes f become nodes g, and spares only
--- where that bears on no decision
+-- where that bears on no decision by its class
 pub record IsMarkAt (s : Standing) (net : Net) (number : List ℕ → Option ℕ) (f g : Forest) (m : Member) (mark : Mark) : Type 0 where
   pub class : List ℕ
   pub has_class : m.class ≡ Some class
   pub numbered : number class ≡ Some mark.class
+  pub fact : mark.fact ≡ m.what
   pub from : mark.from ≡ date_at s (moment m)
   pub spared : (t : ℕ) → mark.spares t ≡ true → IsSparedAt net f g (moment m) t
 
@@ -47,18 +47,17 @@ pub record AreMarksFor (s : Standing) (net : Net) (number : List ℕ → Option 
   pub own : (mark : Mark) → In mark marks → (m : Member) × IsMemberOf s net.names m × moved (moment m) × IsMarkAt s net number f g m mark
   pub all : (m : Member) (class : List ℕ) → IsMemberOf s net.names m → moved (moment m) → m.class ≡ Some class → (mark : Mark) × In mark marks × IsMarkAt s net number f g m mark
 
--- a mark is for the row of number i: it is on a list of the class, and its event is no earlier and
--- not spared
-abbrev pub IsMarkedAt : Standing → Forest → Table Pair 8 → List Mark → ℕ → TableRow Pair 8 → Type 0
-IsMarkedAt s g t marks i row =
-    (mark : Mark) × In mark marks × IsListedUnder t mark.class i × (mark.from ≤ℤ date_at s (moment_at g row.value.trigger)) × (mark.spares row.value.trigger ≡ false)
+-- a mark is for the row of number i, of this rule: it asks for it, and its event is no earlier
+abbrev pub IsMarkedAt : Standing → Forest → Table Pair 8 → List Mark → ℕ → TableRow Pair 8 → List ℕ → Type 0
+IsMarkedAt s g t marks i row rule =
+    (mark : Mark) × In mark marks × (mark.from ≤ℤ date_at s (moment_at g row.value.trigger)) × AsksFor s t mark i row.value.trigger rule
 
 -- ---- rows
 
 -- the row was there, and waits if it did or if a mark is for it
 pub record IsKeptRow (s : Standing) (g : Forest) (marks : List Mark) (old new : Decisions) (i : ℕ) (row : TableRow Pair 8) : Type 0 where
   pub there : (table_of old).row i ≡ Some row
-  pub waits : (waits_in new.waiting i ≡ true) ↔ ((waits_in old.waiting i ≡ true) ⊎ IsMarkedAt s g (table_of old) marks i row)
+  pub waits : (waits_in new.waiting i ≡ true) ↔ ((waits_in old.waiting i ≡ true) ⊎ IsMarkedAt s g (table_of old) marks i row (rule_in new row))
 
 -- the row is new, at an event that was not among the nodes f; nothing is decided of it, and it
 -- waits

@@ -54,5 +54,5 @@ LeavingTurnsKeep =
     → IsFit s net b → IsDecided s b c due → fires_by due.found ≡ false → fires_by due.before ≡ true
     → Contains (rules_at s (moment_at (forest b.tree) due.trigger)) due.rule
     → member (forest c.tree) x ≡ Some m → moment m ≡ After (moment_at (forest c.tree) due.trigger) due.rule
-    → TakesAway net x numbers c e → KeepsLast c.decisions e.decisions
+    → TakesAway s net x numbers c e → KeepsLast c.decisions e.decisions
     → IsFit s net e × StandsOn s net b e due

@@ -47,13 +47,13 @@ abbrev pub HasEffect : Kept → ℕ → List ℕ → Type 0
 HasEffect tree trigger rule = (x : ℕ) × (m : Member) × (member (forest tree) x ≡ Some m) × (moment m ≡ After (moment_at (forest tree) trigger) rule)
 
 -- that node is gone with all below it, and told
-pub record Withdraws (net : Net) (trigger : ℕ) (rule : List ℕ) (old new : BeliefNet) (told told_after : Told) : Type 0 where
+pub record Withdraws (s : Standing) (net : Net) (trigger : ℕ) (rule : List ℕ) (old new : BeliefNet) (told told_after : Told) : Type 0 where
   pub number : ℕ
   pub node : Member
   pub here : member (forest old.tree) number ≡ Some node
   pub is : moment node ≡ After (moment_at (forest old.tree) trigger) rule
   pub numbers : List ℕ
-  pub takes : TakesAway net number numbers old new
+  pub takes : TakesAway s net number numbers old new
   pub once : AreOnce numbers
   pub tells : TellsExits old.tree numbers told told_after
 

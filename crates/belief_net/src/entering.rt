@@ -12,12 +12,13 @@ ghost use Rattle.supports.specs.Growing.{Adds, effect_shape, MayEnter};
 ghost use Rattle.supports.specs.Rules.{IsRuleOf};
 ghost use Rattle.undo_rows.specs.Changes.{present as table};
 ghost use Rattle.belief_net.specs.Covered.{Covers};
-ghost use Rattle.belief_net.specs.Decided.{AreUnder, KeepsLast};
-ghost use Rattle.belief_net.specs.Entering.{MarksClass, MarksReaders, Brings, KeepLast, EntersIn};
+ghost use Rattle.belief_net.specs.Decided.{AreUnder, AreOfSome, KeepsLast};
+ghost use Rattle.belief_net.specs.Entering.{MarksClass, MarksOwn, MarksReaders, Brings, KeepLast, EntersIn};
 ghost use Rattle.belief_net.specs.Marks.{HaveEvents};
 
 use crate::class_marks::ClassMarks;
 use crate::marking::mark_class;
+use crate::rivals::mark_rivals;
 use crate::rows::add_rows_after;
 use crate::state::{BeliefNet, Decisions};
 use crate::windows::window_of;
@@ -63,6 +64,7 @@ pub(crate) fn bring_about(
         Some(class) => {
             mark_readers(
                 alloc,
+                standing,
                 &beliefs.tree,
                 net,
                 &mut beliefs.decisions,
@@ -148,10 +150,38 @@ pub(crate) fn mark_token(
 }
 
 // Lets those rows wait on which the token of a class at a node may bear, which enters or leaves
-// with these nodes. After the first few tokens of a class all its rows wait from the date of one
-// on, which serves those to come: an edit may move many tokens of a class, and to walk over all its
-// rows for each of them would take the square.
+// with these nodes: those that read its class, and those whose rules read what contradicts it.
 pub(crate) fn mark_readers(
+    alloc: Global,
+    standing: &Standing,
+    tree: &Tree,
+    net: &DistNet,
+    decisions: &mut Decisions,
+    marks: &mut ClassMarks,
+    class: Name,
+    x: u32,
+    moving: &[u32],
+) -> Result<(), NoMemory>
+    requires tree { IsTreeIn net.now.present tree.now }
+    requires token { (m : Member) × (member (forest tree.now) x ≡ Some m) × (m.class ≡ Some class) }
+    requires events { HaveEvents tree.now (table decisions.old.rows) }
+    requires under { AreOfSome decisions.old }
+    requires covered { Covers (present tree.now) decisions.old marks.old }
+    ensures ok { OnOk result (MarksReaders standing.now.present net.now.present tree.now moving.now x class decisions.old decisions.new) }
+    ensures covered { OnOk result (Covers (present tree.now) decisions.new marks.new) }
+    ensures last { KeepsLast decisions.old decisions.new }
+{
+    mark_own(alloc, tree, net, decisions, marks, class, x, moving)?;
+    let fact = tree.row(x).what;
+    let from = tree.early(x);
+    mark_rivals(standing, tree, decisions, fact, from)
+}
+
+// Lets those rows wait that read the class of the token at a node, which enters or leaves with
+// these nodes, but where it bears on nothing by its class. After the first few tokens of a class
+// all its rows wait from the date of one on, which serves those to come: an edit may move many
+// tokens of a class, and to walk over all its rows for each of them would take the square.
+fn mark_own(
     alloc: Global,
     tree: &Tree,
     net: &DistNet,
@@ -165,7 +195,7 @@ pub(crate) fn mark_readers(
     requires token { (m : Member) × (member (forest tree.now) x ≡ Some m) × (m.class ≡ Some class) }
     requires events { HaveEvents tree.now (table decisions.old.rows) }
     requires covered { Covers (present tree.now) decisions.old marks.old }
-    ensures ok { OnOk result (MarksReaders net.now.present tree.now moving.now x class decisions.old decisions.new) }
+    ensures ok { OnOk result (MarksOwn net.now.present tree.now moving.now x class decisions.old decisions.new) }
     ensures covered { OnOk result (Covers (present tree.now) decisions.new marks.new) }
     ensures last { KeepsLast decisions.old decisions.new }
 {

@@ -15,8 +15,8 @@ ghost use Rattle.occ_tree.specs.Places.{forest};
 ghost use Rattle.occ_tree.specs.Standing.{present};
 ghost use Rattle.revisions.specs.Standing.{Stands};
 ghost use Rattle.belief_net.specs.Decided.{table_of, AreOfSome, KeepsLast, AreNoLonger};
-ghost use Rattle.belief_net.specs.Entering.{KeepLast};
-ghost use Rattle.belief_net.specs.Erasing.{TellsOf, NotesOf, DropsRowsAt, KeepRows, TakesNode, HasNoRowOf, Sheds, ShedsAll, Spares, IsFreeOf};
+ghost use Rattle.belief_net.specs.Entering.{KeepLast, class_at};
+ghost use Rattle.belief_net.specs.Erasing.{TellsOf, NotesOf, fact_at, DropsRowsAt, KeepRows, TakesNode, HasNoRowOf, Sheds, ShedsAll, Spares, IsFreeOf};
 ghost use Rattle.belief_net.specs.Marks.{HaveEvents};
 ghost use Rattle.belief_net.specs.Numbers.{name_in, HaveOwnNumbers};
 
@@ -35,6 +35,8 @@ pub(crate) struct Departed {
     pub left: Seq<DatedOcc>,
     /// The classes of the tokens, under numbers that mean nothing.
     pub classes: Numbers,
+    /// Their facts, under numbers that mean nothing.
+    pub facts: Numbers,
 }
 
 // Withdraws what the premises of these names declared or brought about, with all below it, and
@@ -64,10 +66,12 @@ pub(crate) fn erase(
 fn nothing_yet(alloc: Global) -> Departed
     ensures left { result.left.items ≡ [] }
     ensures classes { result.classes ≡ [] }
+    ensures facts { result.facts ≡ [] }
 {
     Departed {
         left: Seq::make(alloc),
         classes: Numbers::make(alloc),
+        facts: Numbers::make(alloc),
     }
 }
 
@@ -263,8 +267,8 @@ fn withdraw(
     Ok(())
 }
 
-// Tells of nodes that go, notes the classes of the tokens among them, and takes out the rows at the
-// events.
+// Tells of nodes that go, notes the classes and the facts of the tokens among them, and takes out
+// the rows at the events.
 fn part_with(
     alloc: Global,
     tree: &Tree,
@@ -275,7 +279,8 @@ fn part_with(
     requires live { (y : ℕ) → IsOn numbers.now y → IsLive (forest tree.now) y }
     requires under { AreOfSome decisions.old }
     ensures tells { OnOk result (TellsOf tree.now numbers.now departed.old.left.items departed.new.left.items) }
-    ensures notes { OnOk result (NotesOf tree.now numbers.now departed.old.classes departed.new.classes) }
+    ensures notes { OnOk result (NotesOf (class_at tree.now) numbers.now departed.old.classes departed.new.classes) }
+    ensures facts { OnOk result (NotesOf (fact_at tree.now) numbers.now departed.old.facts departed.new.facts) }
     ensures rows { OnOk result (DropsRowsAt (IsOn numbers.now) decisions.old decisions.new) }
     ensures fewer { OnOk result (AreNoLonger decisions.old decisions.new) }
     ensures last { KeepsLast decisions.old decisions.new }
@@ -283,6 +288,7 @@ fn part_with(
     for y in numbers {
         tell(alloc, tree, &mut departed.left, *y)?;
         note(tree, &mut departed.classes, *y)?;
+        note_fact(tree, &mut departed.facts, *y)?;
         drop_rows(alloc, decisions, *y)?;
     }
     Ok(())
@@ -310,11 +316,26 @@ fn tell(alloc: Global, tree: &Tree, left: &mut Seq<DatedOcc>, y: u32) -> Result<
 // Notes the class of a node that goes, if it is a token.
 fn note(tree: &Tree, classes: &mut Numbers, y: u32) -> Result<(), NoMemory>
     requires { IsLive (forest tree.now) y }
-    ensures { OnOk result (NotesOf tree.now (y ∷ []) classes.old classes.new) }
+    ensures { OnOk result (NotesOf (class_at tree.now) (y ∷ []) classes.old classes.new) }
 {
     match tree.row(y).class {
         Some(class) => {
             classes.enter(class)?;
+            Ok(())
+        }
+        None => Ok(()),
+    }
+}
+
+// Notes the fact of a node that goes, if it is a token.
+fn note_fact(tree: &Tree, facts: &mut Numbers, y: u32) -> Result<(), NoMemory>
+    requires { IsLive (forest tree.now) y }
+    ensures { OnOk result (NotesOf (fact_at tree.now) (y ∷ []) facts.old facts.new) }
+{
+    let row = tree.row(y);
+    match row.class {
+        Some(_) => {
+            facts.enter(row.what)?;
             Ok(())
         }
         None => Ok(()),

@@ -59,6 +59,7 @@ pub(crate) fn follow(
         (false, true) => bring_effect(alloc, standing, net, beliefs, marks, told, due, known),
         (true, false) => match withdraw_effect(
             alloc,
+            standing,
             net,
             beliefs,
             marks,
@@ -125,6 +126,7 @@ fn bring_effect(
 // left.
 fn withdraw_effect(
     alloc: Global,
+    standing: &Standing,
     net: &DistNet,
     beliefs: &mut BeliefNet,
     marks: &mut ClassMarks,
@@ -138,7 +140,7 @@ fn withdraw_effect(
     requires events { HaveEvents beliefs.old.tree (table beliefs.old.decisions.rows) }
     requires under { AreOfSome beliefs.old.decisions }
     requires covered { Covers (present beliefs.old.tree) beliefs.old.decisions marks.old }
-    ensures ok { OnOk result (Withdraws net.now.present trigger rule.now beliefs.old beliefs.new told.old told.new) }
+    ensures ok { OnOk result (Withdraws standing.now.present net.now.present trigger rule.now beliefs.old beliefs.new told.old told.new) }
     ensures numbered { OnOk result ((s : List) → StayNumbered s beliefs.old beliefs.new told.old told.new) }
     ensures covered { OnOk result (Covers (present beliefs.new.tree) beliefs.new.decisions marks.new) }
     ensures last { KeepLast beliefs.old beliefs.new }
@@ -148,5 +150,13 @@ fn withdraw_effect(
     };
     let numbers = beliefs.tree.numbers_below(alloc, effect)?;
     told.leave(alloc, &beliefs.tree, numbers.as_slice())?;
-    take_away(alloc, net, beliefs, marks, effect, numbers.as_slice())
+    take_away(
+        alloc,
+        standing,
+        net,
+        beliefs,
+        marks,
+        effect,
+        numbers.as_slice(),
+    )
 }

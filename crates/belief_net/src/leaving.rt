@@ -19,6 +19,7 @@ use crate::rows::drop_rows;
 use crate::state::{BeliefNet, Decisions};
 use dist_net::DistNet;
 use occ_tree::Tree;
+use premise_list::Standing;
 use std::alloc::Global;
 use tmm_model::NoMemory;
 
@@ -26,6 +27,7 @@ use tmm_model::NoMemory;
 // token among them may bear.
 pub(crate) fn take_away(
     alloc: Global,
+    standing: &Standing,
     net: &DistNet,
     beliefs: &mut BeliefNet,
     marks: &mut ClassMarks,
@@ -38,12 +40,13 @@ pub(crate) fn take_away(
     requires events { HaveEvents beliefs.old.tree (table beliefs.old.decisions.rows) }
     requires under { AreOfSome beliefs.old.decisions }
     requires covered { Covers (present beliefs.old.tree) beliefs.old.decisions marks.old }
-    ensures ok { OnOk result (TakesAway net.now.present x numbers.now beliefs.old beliefs.new) }
+    ensures ok { OnOk result (TakesAway standing.now.present net.now.present x numbers.now beliefs.old beliefs.new) }
     ensures covered { OnOk result (Covers (present beliefs.new.tree) beliefs.new.decisions marks.new) }
     ensures last { KeepLast beliefs.old beliefs.new }
 {
     lose_rows(
         alloc,
+        standing,
         net,
         &beliefs.tree,
         &mut beliefs.decisions,
@@ -58,6 +61,7 @@ pub(crate) fn take_away(
 // bear.
 fn lose_rows(
     alloc: Global,
+    standing: &Standing,
     net: &DistNet,
     tree: &Tree,
     decisions: &mut Decisions,
@@ -69,14 +73,14 @@ fn lose_rows(
     requires events { HaveEvents tree.now (table decisions.old.rows) }
     requires under { AreOfSome decisions.old }
     requires covered { Covers (present tree.now) decisions.old marks.old }
-    ensures ok { OnOk result (LosesRows net.now.present tree.now numbers.now numbers.now decisions.old decisions.new) }
+    ensures ok { OnOk result (LosesRows standing.now.present net.now.present tree.now numbers.now numbers.now decisions.old decisions.new) }
     ensures covered { OnOk result (Covers (present tree.now) decisions.new marks.new) }
     ensures last { KeepsLast decisions.old decisions.new }
 {
     // it tells the proof that rows are on their lists
     let _ = decisions.rows.first(0, 0);
     for y in numbers {
-        lose_node(alloc, net, tree, decisions, marks, *y, numbers)?;
+        lose_node(alloc, standing, net, tree, decisions, marks, *y, numbers)?;
     }
     Ok(())
 }
@@ -85,6 +89,7 @@ fn lose_rows(
 // bear if it is a token.
 fn lose_node(
     alloc: Global,
+    standing: &Standing,
     net: &DistNet,
     tree: &Tree,
     decisions: &mut Decisions,
@@ -97,13 +102,15 @@ fn lose_node(
     requires events { HaveEvents tree.now (table decisions.old.rows) }
     requires under { AreOfSome decisions.old }
     requires covered { Covers (present tree.now) decisions.old marks.old }
-    ensures ok { OnOk result (LosesNode net.now.present tree.now going.now y decisions.old decisions.new) }
+    ensures ok { OnOk result (LosesNode standing.now.present net.now.present tree.now going.now y decisions.old decisions.new) }
     ensures covered { OnOk result (Covers (present tree.now) decisions.new marks.new) }
     ensures last { KeepsLast decisions.old decisions.new }
 {
     drop_rows(alloc, decisions, y)?;
     match tree.row(y).class {
-        Some(class) => mark_readers(alloc, tree, net, decisions, marks, class, y, going),
+        Some(class) => mark_readers(
+            alloc, standing, tree, net, decisions, marks, class, y, going,
+        ),
         None => Ok(()),
     }
 }

@@ -26,6 +26,7 @@ mod places;
 mod point_sets;
 mod reach;
 mod readers;
+mod rivals;
 mod rooting;
 mod rows;
 mod ruling;

@@ -38,7 +38,7 @@ pub(crate) fn mark_class(
 }
 
 // Lets those rows of a list wait whose events are no earlier than the date, and not spared.
-fn mark_list(
+pub(crate) fn mark_list(
     tree: &Tree,
     rows: &Rows,
     waiting: &mut Waiting,

@@ -18,7 +18,7 @@ use crate::dates::re_date_moved;
 use crate::erasing::erase;
 use crate::horizons::mark_horizon;
 use crate::moving::mark_moved;
-use crate::readers::mark_classes;
+use crate::readers::mark_departed;
 use crate::rooting::enter_root;
 use crate::ruling::enter_rule;
 use crate::state::BeliefNet;
@@ -50,7 +50,7 @@ pub(crate) fn open(
 {
     let departed = erase(alloc, beliefs, erased)?;
     re_date_moved(alloc, net, &mut beliefs.tree)?;
-    mark_classes(&beliefs.tree, &mut beliefs.decisions, &departed.classes)?;
+    mark_departed(standing, &beliefs.tree, &mut beliefs.decisions, &departed)?;
     enter_added(alloc, standing, net, beliefs, edit)?;
     mark_touched(alloc, standing, net, beliefs, edit, before)?;
     Ok(Told::of_left(alloc, departed.left))

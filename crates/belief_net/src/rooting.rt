@@ -11,6 +11,7 @@ ghost use Rattle.belief_net.specs.Entering.{KeepLast};
 ghost use Rattle.belief_net.specs.Turning.{IsFit};
 
 use crate::entering::mark_token;
+use crate::rivals::mark_rivals;
 use crate::rows::add_rows;
 use crate::state::{BeliefNet, Decisions};
 use dist_net::DistNet;
@@ -21,7 +22,7 @@ use supports::add_root;
 use tmm_model::{NoMemory, Premise};
 
 // Adds what a premise declares to occur. If that is an event, its rules get rows, which wait; if it
-// is a token, all rows wait that may read it.
+// is a token, all rows wait on which it may bear.
 pub(crate) fn enter_root(
     alloc: Global,
     standing: &Standing,
@@ -48,7 +49,7 @@ pub(crate) fn enter_root(
     }
 }
 
-// Adds the rows of a root that has entered, or lets those rows wait that may read it.
+// Adds the rows of a root that has entered, or lets those rows wait on which it may bear.
 fn follow_root(
     alloc: Global,
     standing: &Standing,
@@ -66,6 +67,7 @@ fn follow_root(
     match row.class {
         Some(class) => {
             mark_token(tree, decisions, class, 0)?;
+            mark_rivals(standing, tree, decisions, row.what, 0)?;
             Ok(())
         }
         None => {

@@ -6,7 +6,7 @@ use Rattle.std.specs.Prelude.{Some, ◌⊎◌, ℤ, pos, ◌+ℤ◌, ◌≤ℤ�
 use Rattle.std.specs.Ordering.{int_eq}
 use Rattle.std.specs.List.{Contains, flat_map}
 use Rattle.tmm_model.specs.declared.premise.Premise.{Premise}
-use Rattle.tmm_model.specs.declared.premise.Premise.TheVariants.{Class, Kind, Point, Event, Token, Span, Dist, Rule, Protect}
+use Rattle.tmm_model.specs.declared.premise.Premise.TheVariants.{Class, Kind, Point, Event, Token, Span, Dist, Rule, Protect, Against}
 use Rattle.tmm_model.specs.Moments.{Moment, At, After, Distances, early, rule_of}
 use Rattle.tmm_model.specs.Standing.{Standing}
 use Rattle.tmm_model.specs.Beliefs.{root_of, roots, rules_at, due, is_free, enters, effects, next_level, level, beliefs}
@@ -28,6 +28,7 @@ not_root s t r at = let (p, there, e) = In-filter_map root_of s.premises (After 
     by (Dist name from to lo hi) e = cc
     by (Rule name trigger lo hi effect given unless_facts) e = cc
     by (Protect name fact from to) e = cc
+    by (Against name one other) e = cc
 
 module _ (s : Standing) (far : Distances) (timed : IsTimed s far) where
   -- what enters at n

@@ -1,3 +1,4 @@
+pub mod ByClass
 pub mod ClassTokens
 pub mod FarTables
 pub mod Firsts
@@ -9,6 +10,7 @@ pub mod NextLists
 pub mod OneRight
 pub mod Order
 pub mod Outcomes
+pub mod Rivals
 pub mod Settling
 pub mod Sorts
 pub mod Sound

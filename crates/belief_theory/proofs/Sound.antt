@@ -9,7 +9,7 @@ use Rattle.tmm_model.specs.declared.bound.Bound.TheVariants.{Finite, Free}
 use Rattle.tmm_model.specs.declared.point.PointName.{PointName}
 use Rattle.tmm_model.specs.declared.point.PointName.TheVariants.{Start, Begin}
 use Rattle.tmm_model.specs.declared.premise.Premise.{Premise}
-use Rattle.tmm_model.specs.declared.premise.Premise.TheVariants.{Class, Kind, Point, Event, Token, Span, Dist, Rule, Protect}
+use Rattle.tmm_model.specs.declared.premise.Premise.TheVariants.{Class, Kind, Point, Event, Token, Span, Dist, Rule, Protect, Against}
 use Rattle.tmm_model.specs.declared.token.Shape.{Shape}
 use Rattle.tmm_model.specs.declared.token.Shape.TheVariants.{Event as AnEvent, Persistence as APersistence, Span as ASpan}
 use Rattle.tmm_model.specs.Beliefs.{root_of, roots, is_of, on_kind, rules_on, rules_for, rules_at}
@@ -104,6 +104,7 @@ base_arc premises p at =
     first (Dist name from to lo hi) e = cc
     first (Rule name trigger lo hi effect given unless_facts) e = cc
     first (Protect name fact from to) e = cc
+    first (Against name one other) e = cc
 
 at_most_zero : {P : Type 0} (arcs : List (Arc P)) (a b : P) (x : Bound) → IsFar arcs a b x → AtMost x (pos 0) → (d : ℤ) × (x ≡ Finite d) × (d ≤ℤ pos 0)
 at_most_zero arcs a b (Finite x) f h = (x, refl, h)
@@ -135,6 +136,7 @@ sound_rule (Token name fact) h = omega (arith, ints)
 sound_rule (Span name fact) h = omega (arith, ints)
 sound_rule (Dist name from to lo hi) h = omega (arith, ints)
 sound_rule (Protect name fact from to) h = omega (arith, ints)
+sound_rule (Against name one other) h = omega (arith, ints)
 
 -- the rule on a kind is known by its name
 pub named_rule : (kind : List ℕ) (p : Premise) (r : List ℕ) → on_kind kind p ≡ Some r → name_of p ≡ r
@@ -151,6 +153,7 @@ named_rule kind (Token name fact) r e = cc
 named_rule kind (Span name fact) r e = cc
 named_rule kind (Dist name from to lo hi) r e = cc
 named_rule kind (Protect name fact from to) r e = cc
+named_rule kind (Against name one other) r e = cc
 
 -- a rule that stands at a moment is the one found under its name
 pub rule_stands : (s : Standing) (t : Moment) (r : List ℕ) → Contains (rules_at s t) r → (p : Premise) × In p s.premises × (name_of p ≡ r) × (kind : List ℕ) × (on_kind kind p ≡ Some r)
@@ -177,6 +180,7 @@ delays (Token name fact) h kind r e = cc
 delays (Span name fact) h kind r e = cc
 delays (Dist name from to lo hi) h kind r e = cc
 delays (Protect name fact from to) h kind r e = cc
+delays (Against name one other) h kind r e = cc
 
 pub sound_rules : (s : Standing) → IsSound s → HasSoundRules s
 sound_rules s sound = record { sound = each; delayed = delayed }

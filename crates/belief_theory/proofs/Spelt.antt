@@ -7,7 +7,7 @@ use Rattle.std.proofs.lemmas.List.Elements.{All-contains}
 use Rattle.tmm_model.specs.declared.point.PointName.{PointName}
 use Rattle.tmm_model.specs.declared.point.PointName.TheVariants.{Begin}
 use Rattle.tmm_model.specs.declared.premise.Premise.{Premise}
-use Rattle.tmm_model.specs.declared.premise.Premise.TheVariants.{Class, Kind, Point, Event, Token, Span, Dist, Rule, Protect}
+use Rattle.tmm_model.specs.declared.premise.Premise.TheVariants.{Class, Kind, Point, Event, Token, Span, Dist, Rule, Protect, Against}
 use Rattle.tmm_model.specs.Beliefs.{root_of, roots}
 use Rattle.tmm_model.specs.Lines.{IsName, IsWellFormedPremise}
 use Rattle.tmm_model.specs.Moments.{Moment, At, After}
@@ -42,6 +42,7 @@ own_name (Span name fact) h = h.0
 own_name (Dist name from to lo hi) h = h.0
 own_name (Rule name trigger lo hi effect given unless_facts) h = h.0
 own_name (Protect name fact from to) h = h.0
+own_name (Against name one other) h = absurd h
 
 root_name : (p : Premise) (q : PointName) → root_of p ≡ Some (At q) → q ≡ Begin (name_of p)
 root_name (Event name kind) q e = cc
@@ -53,6 +54,7 @@ root_name (Point name) q e = cc
 root_name (Dist name from to lo hi) q e = cc
 root_name (Rule name trigger lo hi effect given unless_facts) q e = cc
 root_name (Protect name fact from to) q e = cc
+root_name (Against name one other) q e = cc
 
 pub spelt : (s : Standing) → All IsWellFormedPremise s.premises → (x : Moment) → Occurs s x → IsSpelt x
 spelt s formed (At q) h =

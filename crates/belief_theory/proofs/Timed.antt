@@ -6,7 +6,7 @@ use Rattle.std.specs.List.{Contains}
 use Rattle.tmm_model.specs.declared.point.PointName.{PointName}
 use Rattle.tmm_model.specs.declared.point.PointName.TheVariants.{Start, Begin}
 use Rattle.tmm_model.specs.declared.premise.Premise.{Premise}
-use Rattle.tmm_model.specs.declared.premise.Premise.TheVariants.{Class, Kind, Point, Event, Token, Span, Dist, Rule, Protect}
+use Rattle.tmm_model.specs.declared.premise.Premise.TheVariants.{Class, Kind, Point, Event, Token, Span, Dist, Rule, Protect, Against}
 use Rattle.tmm_model.specs.declared.bound.Bound.{Bound}
 use Rattle.tmm_model.specs.declared.bound.Bound.TheVariants.{Finite, Free}
 use Rattle.tmm_model.specs.Bounds.{bound_plus, bound_less, bound_at_most}
@@ -98,6 +98,7 @@ module _ (s : Standing) (far : Distances) (short : IsQuasiMetric s far) (rule_la
       by (Dist name from to lo hi) e = cc
       by (Rule name trigger lo hi effect given unless_facts) e = cc
       by (Protect name fact from to) e = cc
+      by (Against name one other) e = cc
 
   base_occurs : (x : Moment) → Occurs s x → Contains (roots s) (At (base x))
   base_occurs (At p) h = h

@@ -4,7 +4,7 @@ use Rattle.std.specs.Prelude.{Option, Some, None, pos, negsuc, ◌+ℤ◌, int_l
 use Rattle.std.specs.List.{Contains, list_any, list_all, filter_map}
 use Rattle.std.specs.Option.{option_map, option_eq}
 use Rattle.std.specs.Ordering.{on, is_gt, int_cmp, nat_cmp, ordering_then}
-use Rattle.std.specs.Cmp.Lexicographic.{slice_cmp, bytes_decides, nat_list_eq_equiv}
+use Rattle.std.specs.Cmp.Lexicographic.{slice_cmp, bytes_decides}
 use Rattle.std.specs.declared.cmp.Ordering.{Ordering}
 use Rattle.std.proofs.lemmas.Bool.{eqb-true}
 use Rattle.std.proofs.lemmas.Bool.Decides.{Decides-int_eq}
@@ -20,11 +20,12 @@ use Rattle.tmm_model.specs.Maps.{TimeMap, gap, order, believed_tokens}
 use Rattle.tmm_model.specs.Moments.{Moment, At, RuleText, same_moment, read_by, rule_of, negated, printed}
 use Rattle.tmm_model.specs.Points.{same_name}
 use Rattle.tmm_model.specs.Tokens.{is_by, is_before, clips, cuts, lasts_to, supports}
-use Rattle.belief_theory.specs.Touched.{same_bound, same_token, are_within, same_tokens, watched, watched_points, same_gaps, is_decision, is_touched}
+use Rattle.belief_theory.specs.Touched.{same_bound, same_token, are_within, same_tokens, bears_on, is_watched, watched, watched_points, same_rivals, same_gaps, is_decision, is_touched}
 use Rattle.list_theory.proofs.Elements.{In, both, Contains-from_In, list_any-In, In-list_any, In-filter, filter-In, In-filter_map, filter_map-In, In-map, map-In, In-left, In-right, In-cases, In-flat_map, list_all-In}
 use Rattle.belief_theory.proofs.Firsts.{least_is, one_spot}
 use Rattle.belief_theory.proofs.Moments.{Decides-same_moment}
 use Rattle.belief_theory.proofs.Order.{IsSpelt, ordered}
+use Rattle.belief_theory.proofs.Rivals.{HaveSameRivals, same_rivals_have, class_bears, contradicts_bears, contradicts_alike}
 use Rattle.belief_theory.proofs.Watched.{class-token_of}
 
 -- ---- points
@@ -55,6 +56,9 @@ pub record Alike (m n : TimeMap) (t : Moment) (r : List ℕ) : Type 0 where
   pub into : (k : TokenRow Moment) → In k (watched m r) → In k (watched n r)
   pub back : (k : TokenRow Moment) → In k (watched n r) → In k (watched m r)
   pub gaps : (p q : Moment) → In p (watched_points m t r) → In q (watched_points m t r) → gap m p q ≡ gap n p q
+  -- watched tokens of which one is of a fact that the rule reads contradict each other in both or
+  -- in neither
+  pub contradict : (k c : TokenRow Moment) → In k (watched m r) → In c (watched m r) → In k.fact (read_by (rule_of m.list r)) → contradicts_in m.list k c ≡ contradicts_in n.list k c
 
 turned : (m n : TimeMap) (t : Moment) (r : List ℕ) → Alike m n t r → Alike n m t r
 turned m n t r a = record {
@@ -63,20 +67,20 @@ turned m n t r a = record {
   into = a.back;
   back = a.into;
   gaps = λ p q at_p at_q. sym (a.gaps p q (among_more t (watched n r) (watched m r) a.back p at_p) (among_more t (watched n r) (watched m r) a.back q at_q));
+  contradict = λ k c at_k at_c given. sym (a.contradict k c (a.back k at_k) (a.back c at_c) (subst (λ (x : RuleText). In k.fact (read_by x)) (sym a.text) given));
 }
 
 -- a believed token has the class of its fact
-class_of_token : (m : TimeMap) (k : TokenRow Moment) → In k (believed_tokens m) → k.class ≡ class_of m.list k.fact
+pub class_of_token : (m : TimeMap) (k : TokenRow Moment) → In k (believed_tokens m) → k.class ≡ class_of m.list k.fact
 class_of_token m k at = let (x, _, e) = In-filter_map (token_of m.list) m.believed k at in class-token_of m.list x k e
 
--- a token of the class of an antecedent or an exception is watched
-watches : (m : TimeMap) (r f : List ℕ) (k : TokenRow Moment) → In f (read_by (rule_of m.list r)) → In k (believed_tokens m) → k.class ≡ class_of m.list f → In k (watched m r)
-watches m r f k given at own =
-    filter-In (λ k. list_any (λ fact. same_name (class_of m.list fact) k.class) (read_by (rule_of m.list r))) (believed_tokens m) k at
-    (In-list_any (λ fact. same_name (class_of m.list fact) k.class) (read_by (rule_of m.list r)) f given (subst (λ c. same_name (class_of m.list f) c ≡ true) (sym own) (nat_list_eq_equiv.refl (class_of m.list f))))
+-- a token that bears on an antecedent or an exception is watched
+pub watches : (m : TimeMap) (r f : List ℕ) (k : TokenRow Moment) → In f (read_by (rule_of m.list r)) → In k (believed_tokens m) → bears_on m.list f k ≡ true → In k (watched m r)
+watches m r f k given at bears =
+    filter-In (is_watched m.list r) (believed_tokens m) k at (In-list_any (λ fact. bears_on m.list fact k) (read_by (rule_of m.list r)) f given bears)
 
-watched_token : (m : TimeMap) (r : List ℕ) (k : TokenRow Moment) → In k (watched m r) → In k (believed_tokens m)
-watched_token m r k at = (In-filter (λ k. list_any (λ fact. same_name (class_of m.list fact) k.class) (read_by (rule_of m.list r))) (believed_tokens m) k at).0
+pub watched_token : (m : TimeMap) (r : List ℕ) (k : TokenRow Moment) → In k (watched m r) → In k (believed_tokens m)
+watched_token m r k at = (In-filter (is_watched m.list r) (believed_tokens m) k at).0
 
 abbrev holds_at : TimeMap → Moment → List ℕ → TokenRow Moment → Bool
 holds_at m t f k = supports (contradicts_in m.list) (gap m) (believed_tokens m) f t t k
@@ -87,7 +91,7 @@ module _ (m n : TimeMap) (t : Moment) (r : List ℕ) (a : Alike m n t r) (f : Li
 
   -- a supporter of an antecedent or an exception is watched
   supporter_watched : (k : TokenRow Moment) → In k (believed_tokens m) → k.fact ≡ f → In k (watched m r)
-  supporter_watched k at fact = watches m r f k given at (class_of_token m k at ∙ ap (class_of m.list) fact)
+  supporter_watched k at fact = watches m r f k given at (class_bears m.list f k (class_of_token m k at ∙ ap (class_of m.list) fact))
 
   abbrev at_t : In t (watched_points m t r)
   at_t = inr (inl refl)
@@ -104,13 +108,13 @@ module _ (m n : TimeMap) (t : Moment) (r : List ℕ) (a : Alike m n t r) (f : Li
           let (c, there, cut) = list_any-In (cuts (contradicts_in n.list) (gap n) k t) (believed_tokens n) e in
           let one = both (clips (contradicts_in n.list) (gap n) k c) (is_by (gap n) c.spot t) cut in
           let two = both (contradicts_in n.list k c) (is_before (gap n) k.spot c.spot) one.0 in
-          let class = (bytes_decides k.class c.class).0 (both (same_name k.class c.class) (not (same_name k.fact c.fact)) two.0).0 in
-          let here : In c (watched m r) = a.back c (watches n r f c given_there there (sym class ∙ own)) in
+          let here : In c (watched m r) = a.back c (watches n r f c given_there there (contradicts_bears n.list f k c fact own two.0)) in
+          let differ : contradicts_in m.list k c ≡ true = a.contradict k c at here (subst (λ z. In z (read_by (rule_of m.list r))) (sym fact) given) ∙ two.0 in
           let c_point = begin_among t (watched m r) c here in
           let k_point = begin_among t (watched m r) k at in
           let before : is_before (gap m) k.spot c.spot ≡ true = ap (λ g. bound_at_most g (negsuc 0)) (a.gaps c.spot k.spot c_point k_point) ∙ two.1 in
           let near : is_by (gap m) c.spot t ≡ true = ap (λ g. bound_at_most g (pos 0)) (a.gaps t c.spot at_t c_point) ∙ one.1 in
-          In-list_any (cuts (contradicts_in m.list) (gap m) k t) (believed_tokens m) c (watched_token m r c here) (λ i. (two.0 i && before i) && near i)
+          In-list_any (cuts (contradicts_in m.list) (gap m) k t) (believed_tokens m) c (watched_token m r c here) (λ i. (differ i && before i) && near i)
 
       by : (v : Bool) → list_any (cuts (contradicts_in n.list) (gap n) k t) (believed_tokens n) ≡ v → not v ≡ true
       by false e = refl
@@ -235,12 +239,29 @@ within xs ys h k at =
     let (c, there, same) = list_any-In (same_token k) ys (list_all-In (λ k. list_any (same_token k) ys) xs h k at) in
     subst (λ z. In z ys) (sym (same_token_is k c same)) there
 
-none_of : (a b c d : Bool) → (not a || not b || not c || not d) ≡ false → (a ≡ true) × (b ≡ true) × (c ≡ true) × (d ≡ true)
-none_of true true true true h = (refl, refl, refl, refl)
-none_of true true true false h = cc
-none_of true true false d h = cc
-none_of true false c d h = cc
-none_of false b c d h = cc
+-- what holds of a decision that is not touched: it is one of the old map, the horizon is the same,
+-- and so are the rivals of what its rule reads, the tokens that it watches and their distances
+pub record IsUntouched (m n : TimeMap) (t : Moment) (r : List ℕ) : Type 0 where
+  pub stood : is_decision m (t, r) ≡ true
+  pub horizon : (m.list.horizon == n.list.horizon) ≡ true
+  pub rivals : list_all (same_rivals m.list n.list) (read_by (rule_of n.list r)) ≡ true
+  pub members : same_tokens (watched m r) (watched n r) ≡ true
+  pub near : same_gaps m n (watched_points n t r) ≡ true
+
+pub is_untouched : (m n : TimeMap) (t : Moment) (r : List ℕ) → is_touched m n (t, r) ≡ false → IsUntouched m n t r
+is_untouched m n t r =
+    by (is_decision m (t, r)) refl (m.list.horizon == n.list.horizon) refl (list_all (same_rivals m.list n.list) (read_by (rule_of n.list r))) refl
+    (same_tokens (watched m r) (watched n r)) refl (same_gaps m n (watched_points n t r)) refl
+  where
+    by : (a : Bool) → is_decision m (t, r) ≡ a → (b : Bool) → (m.list.horizon == n.list.horizon) ≡ b → (c : Bool) → list_all (same_rivals m.list n.list) (read_by (rule_of n.list r)) ≡ c
+        → (d : Bool) → same_tokens (watched m r) (watched n r) ≡ d → (e : Bool) → same_gaps m n (watched_points n t r) ≡ e
+        → (not a || not b || not c || not d || not e) ≡ false → IsUntouched m n t r
+    by true p true q true u true v true w h = record { stood = p; horizon = q; rivals = u; members = v; near = w }
+    by true p true q true u true v false w h = cc
+    by true p true q true u false v e w h = cc
+    by true p true q false u d v e w h = cc
+    by true p false q c u d v e w h = cc
+    by false p b q c u d v e w h = cc
 
 -- a decision of the old map
 pub was_decision : (m : TimeMap) (t : Moment) (r : List ℕ) → is_decision m (t, r) ≡ true → Contains m.believed t × Contains (rules_at m.list t) r
@@ -255,25 +276,36 @@ was_decision m t r h =
       subst (λ z. Contains (rules_at m.list z) r) one (subst (Contains (rules_at m.list u)) two (Contains-from_In (rules_at m.list u) q stands)),
     )
 
+-- then what its rule reads has the same rivals in both lists
+pub untouched_rivals : (m n : TimeMap) (t : Moment) (r : List ℕ) → is_touched m n (t, r) ≡ false → (f : List ℕ) → In f (read_by (rule_of n.list r)) → HaveSameRivals m.list n.list f
+untouched_rivals m n t r h f given =
+    same_rivals_have m.list n.list f (list_all-In (same_rivals m.list n.list) (read_by (rule_of n.list r)) (is_untouched m n t r h).rivals f given)
+
 -- **Where a decision is not touched, the two maps are alike for it**, if its rule says the same in
 -- both.
 pub untouched_alike : (m n : TimeMap) (t : Moment) (r : List ℕ) → rule_of m.list r ≡ rule_of n.list r → is_touched m n (t, r) ≡ false → Alike m n t r
 untouched_alike m n t r text h =
-    let tests = none_of (is_decision m (t, r)) (m.list.horizon == n.list.horizon) (same_tokens (watched m r) (watched n r)) (same_gaps m n (watched_points n t r)) h in
-    let members = both (are_within (watched m r) (watched n r)) (are_within (watched n r) (watched m r)) tests.2 in
+    let u = is_untouched m n t r h in
+    let members = both (are_within (watched m r) (watched n r)) (are_within (watched n r) (watched m r)) u.members in
     let into = within (watched m r) (watched n r) members.0 in
+    let back = within (watched n r) (watched m r) members.1 in
     record {
       text = text;
-      horizon = eqb-true m.list.horizon n.list.horizon tests.1;
+      horizon = eqb-true m.list.horizon n.list.horizon u.horizon;
       into = into;
-      back = within (watched n r) (watched m r) members.1;
+      back = back;
       gaps = λ p q at_p at_q.
           same_bound_is (gap m p q) (gap n p q)
           (list_all-In (λ q. same_bound (gap m p q) (gap n p q)) (watched_points n t r)
-          (list_all-In (λ p. list_all (λ q. same_bound (gap m p q) (gap n p q)) (watched_points n t r)) (watched_points n t r) tests.3 p (among_more t (watched m r) (watched n r) into p at_p))
+          (list_all-In (λ p. list_all (λ q. same_bound (gap m p q) (gap n p q)) (watched_points n t r)) (watched_points n t r) u.near p (among_more t (watched m r) (watched n r) into p at_p))
           q (among_more t (watched m r) (watched n r) into q at_q));
+      contradict = λ k c at_k at_c given.
+          contradicts_alike m.list n.list k.fact
+          (untouched_rivals m n t r h k.fact (subst (λ (x : RuleText). In k.fact (read_by x)) text given))
+          k c refl
+          (class_of_token m k (watched_token m r k at_k)) (class_of_token n k (watched_token n r k (into k at_k)))
+          (class_of_token m c (watched_token m r c at_c)) (class_of_token n c (watched_token n r c (into c at_c)));
     }
 
 pub untouched_stood : (m n : TimeMap) (t : Moment) (r : List ℕ) → is_touched m n (t, r) ≡ false → Contains m.believed t × Contains (rules_at m.list t) r
-untouched_stood m n t r h =
-    was_decision m t r (none_of (is_decision m (t, r)) (m.list.horizon == n.list.horizon) (same_tokens (watched m r) (watched n r)) (same_gaps m n (watched_points n t r)) h).0
+untouched_stood m n t r h = was_decision m t r (is_untouched m n t r h).stood

@@ -1,5 +1,5 @@
 -- The standing lists that the program keeps.
-use Rattle.std.specs.Prelude.{◌≡◌, ℕ, ◌≤◌, length}
+use Rattle.std.specs.Prelude.{ℕ, ◌≤◌, length}
 use Rattle.std.specs.List.{All}
 use Rattle.tmm_model.specs.declared.limits.TheConstants.{LAST_HORIZON}
 use Rattle.tmm_model.specs.Answers.{size, most_size}

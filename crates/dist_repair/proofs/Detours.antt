@@ -100,3 +100,37 @@ module _ {P : Type 0} (old new : List (Arc P)) (e : Arc P) (adds : Adds new e ol
       far_by a e.from x
       (λ walk h. around e.from (λ walk h. ([], refl, (let low : (dates.0 e.from -ℤ dates.0 e.from) ≤ℤ total walk = difference-le_total start old dates.0 dates.1 e.from e.from walk h in omega (arith, ints, low)))) a walk h)
       far
+
+  -- Where each constraint from the end of e leads to a point to which a walk from the beginning of e
+  -- can do without e, each walk to a point beside that end can.
+  past : (b : P) → (e.to ≡ b → ⊥) → (e.from ≡ e.to → ⊥) → ((y : Arc P) → Contains new y → y.from ≡ e.to → (walk : List (Arc P)) → IsWalk old e.from y.to walk → (w : List (Arc P)) × IsWalk new e.from y.to w × (total w ≤ℤ total walk)) →
+      (a : P) (walk : List (Arc P)) → IsWalk old a b walk → (w : List (Arc P)) × IsWalk new a b w × (total w ≤ℤ total walk)
+  past b out apart on a [] h = ([], h, omega (arith, ints))
+  past b out apart on a (x ∷ []) h =
+      elim (adds.only x h.0) [
+        | inl m ↦ (x ∷ [], (m, h.1, h.2), omega (arith, ints))
+        | inr same ↦ absurd (out (sym (ap (λ (z : Arc P). z.to) same) ∙ h.2))
+      ]
+  past b out apart on a (x ∷ (y ∷ walk)) h =
+      elim (adds.only x h.0) [
+        | inl m ↦ (let rest : (w : List (Arc P)) × IsWalk new x.to b w × (total w ≤ℤ total (y ∷ walk)) = past b out apart on x.to (y ∷ walk) h.2 in
+            (x ∷ rest.0, (m, h.1, rest.1), omega (arith, ints, rest.2)))
+        | inr same ↦ (let ends : x.to ≡ e.to = ap (λ (z : Arc P). z.to) same in
+            let begins : e.from ≡ a = sym (ap (λ (z : Arc P). z.from) same) ∙ h.1 in
+            let at : y.from ≡ e.to = h.2.1 ∙ ends in
+            elim (adds.only y h.2.0) [
+              | inr again ↦ absurd (apart (sym (ap (λ (z : Arc P). z.from) again) ∙ at))
+              | inl n ↦ (let rest : (w : List (Arc P)) × IsWalk new y.to b w × (total w ≤ℤ total walk) = past b out apart on y.to walk h.2.2 in
+                  let near : (w : List (Arc P)) × IsWalk new e.from y.to w × (total w ≤ℤ total (x ∷ (y ∷ []))) =
+                  on y n at (x ∷ (y ∷ [])) (h.0, ap (λ (z : Arc P). z.from) same, (h.2.0, h.2.1, refl)) in
+                  let whole : IsWalk new e.from b (near.0 ++ rest.0) = IsWalk-append new e.from y.to b near.0 rest.0 near.1 rest.1 in
+                  (near.0 ++ rest.0, subst (λ (p : P). IsWalk new p b (near.0 ++ rest.0)) begins whole, omega (arith, ints, near.2, rest.2, total-append near.0 rest.0)))
+            ])
+      ]
+
+  -- **A distance to a point beside the end of the constraint stays, where those from its beginning
+  -- to the points next to that end do.**
+  pub IsFar-past : (a b : P) (x : Bound) → (e.to ≡ b → ⊥) → (e.from ≡ e.to → ⊥) → ((y : Arc P) → Contains new y → y.from ≡ e.to → (t : Bound) × IsFar old e.from y.to t × IsFar new e.from y.to t) → IsFar old a b x → IsFar new a b x
+  IsFar-past a b x out apart on far =
+      far_by a b x
+      (λ walk h. past b out apart (λ y n at w k. (let t : (t : Bound) × IsFar old e.from y.to t × IsFar new e.from y.to t = on y n at in no_shorter e.from y.to t.0 t.1 t.2 w k)) a walk h) far

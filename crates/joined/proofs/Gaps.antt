@@ -2,7 +2,7 @@
 use Rattle.std.proofs.Common.{◌≡◌, ◌≢◌, ◌∙◌, ℕ, Bool, true, false, List, [], ◌∷◌, refl, sym, ap, subst, inl, inr, arith}
 use Rattle.std.proofs.lemmas.Bool.Decides.{eqb_tells}
 use Rattle.std.proofs.lemmas.Int.{ints}
-use Rattle.std.specs.Prelude.{ℤ, pos, ◌+ℤ◌, ◌-ℤ◌, Option, Some, None, MatchOption, map}
+use Rattle.std.specs.Prelude.{◌⊎◌, ℤ, pos, ◌+ℤ◌, ◌-ℤ◌, Option, Some, None, MatchOption, map}
 use Rattle.std.specs.List.{Contains, filter_map}
 use Rattle.std.specs.Option.{option_map}
 use Rattle.tmm_model.specs.declared.bound.Bound.{Bound}
@@ -21,7 +21,8 @@ use Rattle.tmm_model.specs.Points.{same_name}
 use Rattle.tmm_model.specs.Standing.{Standing, points_in, far_in}
 use Rattle.list_theory.proofs.Elements.{In, In-from_Contains, Contains-from_In, In-cases, In-left, In-right, In-map, map-In, In-filter, filter-In, In-filter_map, filter_map-In}
 use Rattle.belief_theory.specs.Right.{Occurs}
-use Rattle.belief_theory.specs.Touched.{watched, watched_points}
+use Rattle.belief_theory.specs.Touched.{is_watched, watched, watched_points}
+use Rattle.belief_theory.proofs.Rivals.{or_cases}
 use Rattle.belief_theory.proofs.SoundBeliefs.{believed_occurs}
 use Rattle.dist_net.specs.Net.{Nets}
 use Rattle.list_net.specs.Fits.{IsNetOf}
@@ -39,12 +40,13 @@ use Rattle.spots.proofs.Distances.{distance-one_base, distance-two_bases}
 use Rattle.spots.proofs.Links.{low_is, high_is, apart_is}
 use Rattle.spots.proofs.Nodes.{node_at, live_at, moment_at-is, base-moment, point_is, links_are, rules_are}
 use Rattle.spots.proofs.Seen.{distance_is, start_is, occurs_at, token_is}
-use Rattle.revisions.specs.Maps.{is_watched, watches}
+use Rattle.revisions.specs.Maps.{watches}
 use Rattle.revisions.proofs.Alike.{span_at}
 use Rattle.revisions.proofs.Lawful.{text, token_watched}
 use Rattle.revisions.proofs.StillEdits.{anchor_point, base_root}
 use Rattle.revisions.proofs.Tokens.{is_of_stays}
-use Rattle.joined.specs.Gaps.{SameGaps, reads_class, begin, an_end, start, read, IsSpotAt, TellsMoves, MovesAt, MovedPointsTouch}
+use Rattle.joined.specs.Gaps.{SameGaps, reads_class, reads_rival, begin, an_end, IsReadSpot, start, read, rival, IsSpotAt, TellsMoves, MovesAt, MovedPointsTouch}
+use Rattle.joined.proofs.Reading.{watched_either, class_watched, rival_watched}
 
 -- ---- rules that say the same in two lists
 
@@ -212,41 +214,79 @@ module _ (old : Standing) (edit : Edit) (nets : Nets) (f : Forest) (net_old : Is
         token_is new nets.present f seen y m here
         ∙ ap (λ (o : Option (List ℕ)). option_map (row_moment names f) (option_map (λ class. record { spot = Node y; end = option_map Declared m.end; fact = m.what; class = class }) o)) is
 
-    pub is_read : (y : ℕ) (m : Member) (class : List ℕ) → member f y ≡ Some m → m.class ≡ Some class → reads_class new r class ≡ true → In (token y m class) tokens_read
+    pub is_read : (y : ℕ) (m : Member) (class : List ℕ) → member f y ≡ Some m → m.class ≡ Some class → is_watched new r (token y m class) ≡ true → In (token y m class) tokens_read
     is_read y m class here is reads =
         filter-In (is_watched new r) (tokens new b) (token y m class)
         (filter_map-In (token_of new) b (moment m) (token y m class) (In-from_Contains b (moment m) (holds.own y m here)) (made y m class here is)) reads
 
-    was_token : (y : ℕ) (m : Member) (class : List ℕ) → member f y ≡ Some m → m.class ≡ Some class → reads_class new r class ≡ true → Occurs old (moment m)
+    was_token : (y : ℕ) (m : Member) (class : List ℕ) → member f y ≡ Some m → m.class ≡ Some class → is_watched new r (token y m class) ≡ true → Occurs old (moment m)
     was_token y m class here is reads =
         entered (moment m) (holds.own y m here) (token_watched new r (moment m) (token y m class) (made y m class here is) reads)
 
+    -- the spot of a token that is watched
+    record IsTokenSpot (p : Spot) : Type 0 where
+      number : ℕ
+      node : Member
+      class : List ℕ
+      here : member f number ≡ Some node
+      of : node.class ≡ Some class
+      reads : is_watched new r (token number node class) ≡ true
+      is : (p ≡ Node number) ⊎ ((e : ℕ) × (node.end ≡ Some e) × (p ≡ Declared e))
+
+    token_spot : (p : Spot) → IsReadSpot new f r p → (p ≡ Declared 0) ⊎ IsTokenSpot p
+    token_spot p (start is) = inl is
+    token_spot p (read class reads (begin y m here of is)) =
+        inr (record { number = y; node = m; class = class; here = here; of = of; reads = class_watched new r (token y m class) reads; is = inl is })
+    token_spot p (read class reads (an_end y m e here of ends is)) =
+        inr (record { number = y; node = m; class = class; here = here; of = of; reads = class_watched new r (token y m class) reads; is = inr (e, ends, is) })
+    token_spot p (rival fact reads spot) =
+        inr (record {
+          number = spot.number;
+          node = spot.node;
+          class = spot.class;
+          here = spot.here;
+          of = spot.of;
+          reads = rival_watched new r (token spot.number spot.node spot.class) (ap (reads_rival new r) spot.fact_is ∙ reads);
+          is = spot.is;
+        })
+
     pub spot_was : (p : Spot) → IsSpotAt new f r x p → WasThere p
     spot_was p (inr is) = subst WasThere (sym is) (node_was x live was)
-    spot_was p (inl (start is)) = subst WasThere (sym is) start_was
-    spot_was p (inl (read class reads (begin y m here of is))) =
-        subst WasThere (sym is) (node_was y (live_at f y m here) (subst (Occurs old) (sym (moment_at-is f y m here)) (was_token y m class here of reads)))
-    spot_was p (inl (read class reads (an_end y m e here of ends is))) = subst WasThere (sym is) (end_was y m e here ends (was_token y m class here of reads))
+    spot_was p (inl of) = elim (token_spot p of) [
+      | inl is ↦ subst WasThere (sym is) start_was
+      | inr t ↦ (
+          let before = was_token t.number t.node t.class t.here t.of t.reads in
+          elim t.is [
+            | inl is ↦ subst WasThere (sym is) (node_was t.number (live_at f t.number t.node t.here) (subst (Occurs old) (sym (moment_at-is f t.number t.node t.here)) before))
+            | inr (e, ends, is) ↦ subst WasThere (sym is) (end_was t.number t.node e t.here ends before)
+          ])
+    ]
 
     spot_watched : (p : Spot) → IsSpotAt new f r x p → In (at p) points
     spot_watched p (inr is) = subst (λ z. In (at z) points) (sym is) (inr (inl refl))
-    spot_watched p (inl (start is)) = subst (λ z. In (at z) points) (sym is) (inl (sym (start_is new nets.present f seen)))
-    spot_watched p (inl (read class reads (begin y m here of is))) =
-        subst (λ z. In (at z) points) (sym is)
-        (inr (inr (In-left (map (λ k. k.spot) tokens_read) (filter_map (λ k. k.end) tokens_read) (moment_at f y) (map-In (λ k. k.spot) tokens_read (token y m class) (is_read y m class here of reads)))))
-    spot_watched p (inl (read class reads (an_end y m e here of ends is))) =
-        subst (λ z. In (at z) points) (sym is)
-        (inr (inr (In-right (map (λ k. k.spot) tokens_read) (filter_map (λ k. k.end) tokens_read) (at (Declared e))
-        (filter_map-In (λ k. k.end) tokens_read (token y m class) (at (Declared e)) (is_read y m class here of reads) (ap (λ o. option_map at (option_map Declared o)) ends)))))
+    spot_watched p (inl of) = elim (token_spot p of) [
+      | inl is ↦ subst (λ z. In (at z) points) (sym is) (inl (sym (start_is new nets.present f seen)))
+      | inr t ↦ (
+          let on = is_read t.number t.node t.class t.here t.of t.reads in
+          elim t.is [
+            | inl is ↦
+                subst (λ z. In (at z) points) (sym is)
+                (inr (inr (In-left (map (λ k. k.spot) tokens_read) (filter_map (λ k. k.end) tokens_read) (moment_at f t.number) (map-In (λ k. k.spot) tokens_read (token t.number t.node t.class) on))))
+            | inr (e, ends, is) ↦
+                subst (λ z. In (at z) points) (sym is)
+                (inr (inr (In-right (map (λ k. k.spot) tokens_read) (filter_map (λ k. k.end) tokens_read) (at (Declared e))
+                (filter_map-In (λ k. k.end) tokens_read (token t.number t.node t.class) (at (Declared e)) on (ap (λ o. option_map at (option_map Declared o)) ends)))))
+          ])
+    ]
 
-    -- the node of a token that is read
+    -- the node of a token that is watched
     pub record IsTokenAt (k : TokenRow Moment) : Type 0 where
       pub number : ℕ
       pub node : Member
       pub class : List ℕ
       pub here : member f number ≡ Some node
       pub of : node.class ≡ Some class
-      pub reads : reads_class new r class ≡ true
+      pub reads : is_watched new r (token number node class) ≡ true
       pub is : token number node class ≡ k
 
     pub token_at : (k : TokenRow Moment) → In k tokens_read → IsTokenAt k
@@ -263,23 +303,33 @@ module _ (old : Standing) (edit : Edit) (nets : Nets) (f : Forest) (net_old : Is
             let same : token y m class ≡ k = cc in
             record { number = y; node = m; class = class; here = here; of = of; reads = subst (λ z. is_watched new r z ≡ true) (sym same) reads; is = same }
 
+    -- its begin and its end are spots that the rule reads
+    pub read_spot : (k : TokenRow Moment) (t : IsTokenAt k) (p : Spot) → (p ≡ Node t.number) ⊎ ((e : ℕ) × (t.node.end ≡ Some e) × (p ≡ Declared e)) → IsReadSpot new f r p
+    read_spot k t p how =
+        elim (or_cases (reads_class new r t.class) (reads_rival new r t.node.what) (sym (watched_either new r (token t.number t.node t.class)) ∙ t.reads)) [
+          | inl by_class ↦ read t.class by_class (elim how [
+            | inl is ↦ begin t.number t.node t.here t.of is
+            | inr (e, ends, is) ↦ an_end t.number t.node e t.here t.of ends is
+          ])
+          | inr by_fact ↦ rival t.node.what by_fact (record { number = t.number; node = t.node; class = t.class; here = t.here; of = t.of; fact_is = refl; is = how })
+        ]
+
     watched_spot : (w : Moment) → In w points → (p : Spot) × IsSpotAt new f r x p × (at p ≡ w)
     watched_spot w (inl is) = (Declared 0, inl (start refl), start_is new nets.present f seen ∙ is)
     watched_spot w (inr (inl is)) = (Node x, inr refl, is)
     watched_spot w (inr (inr on)) = elim (In-cases (map (λ k. k.spot) tokens_read) (filter_map (λ k. k.end) tokens_read) w on) [
       | inl spots ↦ (
           let (k, there, is) = In-map (λ (k : TokenRow Moment). k.spot) tokens_read w spots in
-          let t = token_at k there in (Node t.number, inl (read t.class t.reads (begin t.number t.node t.here t.of refl)), ap (λ (z : TokenRow Moment). z.spot) t.is ∙ is))
+          let t = token_at k there in (Node t.number, inl (read_spot k t (Node t.number) (inl refl)), ap (λ (z : TokenRow Moment). z.spot) t.is ∙ is))
       | inr ends ↦ (
           let (k, there, is) = In-filter_map (λ (k : TokenRow Moment). k.end) tokens_read w ends in
           let t = token_at k there in
-          by t.number t.node t.class t.here t.of t.reads t.node.end refl (ap (λ (z : TokenRow Moment). z.end) t.is ∙ is))
+          by k t t.node.end refl (ap (λ (z : TokenRow Moment). z.end) t.is ∙ is))
     ]
       where
-        by : (y : ℕ) (m : Member) (class : List ℕ) → member f y ≡ Some m → m.class ≡ Some class → reads_class new r class ≡ true → (o : Option ℕ) → m.end ≡ o
-            → option_map at (option_map Declared o) ≡ Some w → (p : Spot) × IsSpotAt new f r x p × (at p ≡ w)
-        by y m class here of reads None ends is = cc
-        by y m class here of reads (Some e) ends is = (Declared e, inl (read class reads (an_end y m e here of ends refl)), cc)
+        by : (k : TokenRow Moment) (t : IsTokenAt k) (o : Option ℕ) → t.node.end ≡ o → option_map at (option_map Declared o) ≡ Some w → (p : Spot) × IsSpotAt new f r x p × (at p ≡ w)
+        by k t None ends is = cc
+        by k t (Some e) ends is = (Declared e, inl (read_spot k t (Declared e) (inr (e, ends, refl))), cc)
 
     -- ---- the law
 

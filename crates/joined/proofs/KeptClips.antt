@@ -16,7 +16,7 @@ use Rattle.tmm_model.specs.declared.point.PointName.TheVariants.{Start, Begin}
 use Rattle.tmm_model.specs.declared.premise.Edit.{Edit}
 use Rattle.tmm_model.specs.declared.token.TokenRow.{TokenRow}
 use Rattle.tmm_model.specs.Answers.{clip, clip_of, first_believed}
-use Rattle.tmm_model.specs.Beliefs.{token_of, contradicts_in}
+use Rattle.tmm_model.specs.Beliefs.{token_of}
 use Rattle.tmm_model.specs.Bounds.{IfFinite, bound_at_most, bound_plus, bound_less}
 use Rattle.tmm_model.specs.Edits.{next_list}
 use Rattle.tmm_model.specs.Firsts.{earliest, first}
@@ -24,9 +24,11 @@ use Rattle.tmm_model.specs.Maps.{TimeMap, built, gap, order, believed_tokens}
 use Rattle.tmm_model.specs.Moments.{Moment, At, base, distance, early, negated, printed}
 use Rattle.tmm_model.specs.Points.{same_name}
 use Rattle.tmm_model.specs.Standing.{Standing, points_in, far_in}
-use Rattle.tmm_model.specs.Tokens.{is_before, clips}
+use Rattle.tmm_model.specs.Tokens.{of_one_class, is_before, clips}
+use Rattle.list_theory.specs.WellNamed.{IsSound}
 use Rattle.list_theory.proofs.Elements.{In, both, In-filter, filter-In, In-from_Contains, Contains-from_In, In-filter_map, filter_map-In}
 use Rattle.belief_theory.specs.Right.{Occurs}
+use Rattle.belief_theory.proofs.ByClass.{no_rivals, by_class}
 use Rattle.belief_theory.proofs.Firsts.{least_is, one_spot}
 use Rattle.belief_theory.proofs.NextLists.{all_spelt}
 use Rattle.belief_theory.proofs.OneRight.{spot-token_of}
@@ -44,7 +46,7 @@ use Rattle.spots.proofs.Distances.{distance-two_bases}
 use Rattle.spots.proofs.Nodes.{node_at, live_at, moment_at-is, base-moment, point_is}
 use Rattle.spots.proofs.Seen.{distance_is, early_is, order_is, start_is, occurs_at, token_is}
 use Rattle.revisions.specs.Clips.{FewerOfClass}
-use Rattle.revisions.proofs.Clips.{clip_believed, clips_stay_on}
+use Rattle.revisions.proofs.Clips.{clip_believed, clips_stay_on, fewer_around}
 use Rattle.revisions.proofs.Tokens.{tokens_stay}
 use Rattle.joined.specs.KeptClips.{StandsAsBefore, NodesKeepClips}
 use Rattle.joined.proofs.Gaps.{WasThere, start_was, node_was, distance_was, one_base}
@@ -289,7 +291,8 @@ module _ (old : Standing) (edit : Edit) (before net : Net) (moved : List ℕ) (f
       let now : token_of new (moment_at g x) ≡ Some (token x m class) = ap (token_of new) at ∙ made x m class here of in
       let on = filter_map-In (token_of new) (built new).believed (moment m) (token x m class) (In-from_Contains (built new).believed (moment m) (holds_g.own x m here)) (made x m class here of) in
       let same = numbers x stands.was live in
-      sym (clips_stay_on old edit seen_f.network.sound seen_g.network.sound (moment_at g x) (token x m class) (token_stays x stands.was live ∙ now) now on (fewer class stand)
+      sym (clips_stay_on old edit seen_f.network.sound seen_g.network.sound (moment_at g x) (token x m class) (token_stays x stands.was live ∙ now) now
+      (fewer_around (built old) (built new) (token x m class) (no_rivals old seen_f.network.sound m.what) (no_rivals new seen_g.network.sound m.what) on (fewer class stand))
       (λ c is. by clipper (same_clipper (moment_at f x) clipper was stays) stays c (ap (clip (built old)) same ∙ is)))
       ∙ ap (clip (built old)) (sym same)
     where
@@ -323,22 +326,25 @@ module _ (old : Standing) (edit : Edit) (before net : Net) (moved : List ℕ) (f
 
     -- the token c clips k in both maps or in none, where it is as far from it
     clips_alike : (c : TokenRow Moment) → gap (built old) c.spot k.spot ≡ gap (built new) c.spot k.spot
-        → clips (contradicts_in old) (gap (built old)) k c ≡ clips (contradicts_in new) (gap (built new)) k c
+        → clips of_one_class (gap (built old)) k c ≡ clips of_one_class (gap (built new)) k c
     clips_alike c same = ap (λ g. (same_name k.class c.class && not (same_name k.fact c.fact)) && bound_at_most g (negsuc 0)) same
 
     -- what clips k in a map
     abbrev clippers : TimeMap → List (TokenRow Moment)
-    clippers p = filter (clips (contradicts_in p.list) (gap p) k) (believed_tokens p)
+    clippers p = filter (clips of_one_class (gap p) k) (believed_tokens p)
 
     -- the clip of k in a map, where this is its end
     abbrev clip_by : TimeMap → Option Moment → Option Moment
-    clip_by p o = elim o as (λ _. Option Moment) [ Some end ↦ None | None ↦ first_believed p (clips (contradicts_in p.list) (gap p) k) ]
+    clip_by p o = elim o as (λ _. Option Moment) [ Some end ↦ None | None ↦ first_believed p (clips of_one_class (gap p) k) ]
+
+    clip_is : (s : Standing) → IsSound s → clip_of (built s) k ≡ clip_by (built s) k.end
+    clip_is s sound = ap (λ z. elim k.end as (λ _. Option Moment) [ Some end ↦ None | None ↦ first_believed (built s) (clips z (gap (built s)) k) ]) (by_class s sound)
 
     module _ (no_span : k.end ≡ None) where
       -- the node of what clipped k
       clipper_of : (c : TokenRow Moment) → first (by_begin (built old)) (clippers (built old)) ≡ Some c → (z : ℕ) × (clipper ≡ Some z) × (moment_at f z ≡ c.spot)
       clipper_of c is =
-          by clipper refl (clip_was ∙ ap (option_and_then (clip_of (built old))) (token_stays x stands.was live ∙ now) ∙ ap (clip_by (built old)) no_span ∙ ap (option_map (λ (z : TokenRow Moment). z.spot)) is)
+          by clipper refl (clip_was ∙ ap (option_and_then (clip_of (built old))) (token_stays x stands.was live ∙ now) ∙ clip_is old seen_f.network.sound ∙ ap (clip_by (built old)) no_span ∙ ap (option_map (λ (z : TokenRow Moment). z.spot)) is)
         where
           by : (o : Option ℕ) → clipper ≡ o → option_map (moment_at f) o ≡ Some c.spot → (z : ℕ) × (clipper ≡ Some z) × (moment_at f z ≡ c.spot)
           by None e same = cc
@@ -346,7 +352,7 @@ module _ (old : Standing) (edit : Edit) (before net : Net) (moved : List ℕ) (f
 
       stays : (c : TokenRow Moment) → first (by_begin (built old)) (clippers (built old)) ≡ Some c → In c (clippers (built old)) → In c (clippers (built new)) × SameDate (built old) (built new) c
       stays c is at =
-          let h = In-filter (clips (contradicts_in old) (gap (built old)) k) (believed_tokens (built old)) c at in
+          let h = In-filter (clips of_one_class (gap (built old)) k) (believed_tokens (built old)) c at in
           let (z, own, spot) = clipper_of c is in
           let (n, at_z, stands_z) = there z own in
           let live_z = live_at g z n at_z in
@@ -355,7 +361,7 @@ module _ (old : Standing) (edit : Edit) (before net : Net) (moved : List ℕ) (f
           let token_z : token_of new (moment_at g z) ≡ Some c = sym (token_stays z stands_z.was live_z) ∙ ap (token_of old) (word ∙ spot-token_of old q c made_q) ∙ made_q in
           let believed : Contains (built new).believed (moment_at g z) = subst (Contains (built new).believed) (sym (moment_at-is g z n at_z)) (holds_g.own z n at_z) in
           let gaps = subst (λ w. gap (built old) w k.spot ≡ gap (built new) w k.spot) word (gaps_same z x n m at_z here stands_z stands) in (
-            filter-In (clips (contradicts_in new) (gap (built new)) k) (believed_tokens (built new)) c
+            filter-In (clips of_one_class (gap (built new)) k) (believed_tokens (built new)) c
                 (filter_map-In (token_of new) (built new).believed (moment_at g z) c (In-from_Contains (built new).believed (moment_at g z) believed) token_z) (sym (clips_alike c gaps) ∙ h.1),
             subst (λ w. early old (far_in old.premises) w ≡ early new (far_in new.premises) w) word (date_same z n live_z stands_z),
           )
@@ -363,8 +369,8 @@ module _ (old : Standing) (edit : Edit) (before net : Net) (moved : List ℕ) (f
       back : (c : TokenRow Moment) → In c (clippers (built new)) → ((d : TokenRow Moment) → first (by_begin (built old)) (clippers (built old)) ≡ Some d → is_gt (order (built new) c.spot d.spot) ≡ false)
           → In c (clippers (built old)) × SameDate (built old) (built new) c
       back c at ahead =
-          let h = In-filter (clips (contradicts_in new) (gap (built new)) k) (believed_tokens (built new)) c at in
-          let (differ, before_c) = both (contradicts_in new k c) (is_before (gap (built new)) k.spot c.spot) h.1 in
+          let h = In-filter (clips of_one_class (gap (built new)) k) (believed_tokens (built new)) c at in
+          let (differ, before_c) = both (of_one_class k c) (is_before (gap (built new)) k.spot c.spot) h.1 in
           let in_class : c.class ≡ class = sym ((bytes_decides class c.class).0 (both (same_name class c.class) (not (same_name k.fact c.fact)) differ).0) in
           let n = node_of c h.0 in
           let y = n.number in
@@ -372,7 +378,7 @@ module _ (old : Standing) (edit : Edit) (before net : Net) (moved : List ℕ) (f
           let late = later_than net g new seen_g y x n.live live (ap (λ b. bound_at_most b (negsuc 0)) far ∙ before_c) in
           let stands_y = near y n.node n.here (n.of ∙ ap Some in_class) late (λ z own. not_beyond c n ahead z own) in
           let gaps = subst (λ w. gap (built old) w k.spot ≡ gap (built new) w k.spot) n.spot (gaps_same y x n.node m n.here here stands_y stands) in (
-            filter-In (clips (contradicts_in old) (gap (built old)) k) (believed_tokens (built old)) c (token_before y c stands_y.was n.live n.is) (clips_alike c gaps ∙ h.1),
+            filter-In (clips of_one_class (gap (built old)) k) (believed_tokens (built old)) c (token_before y c stands_y.was n.live n.is) (clips_alike c gaps ∙ h.1),
             subst (λ w. early old (far_in old.premises) w ≡ early new (far_in new.premises) w) n.spot (date_same y n.node n.live stands_y),
           )
         where
@@ -383,7 +389,7 @@ module _ (old : Standing) (edit : Edit) (before net : Net) (moved : List ℕ) (f
               by : (o : Option (TokenRow Moment)) → first (by_begin (built old)) (clippers (built old)) ≡ o → node_early net g n.number ≤ℤ node_early net g z
               by None e =
                   let none : Some (moment_at f z) ≡ None =
-                  ap (option_map (moment_at f)) (sym own) ∙ clip_was ∙ ap (option_and_then (clip_of (built old))) (token_stays x stands.was live ∙ now) ∙ ap (clip_by (built old)) no_span
+                  ap (option_map (moment_at f)) (sym own) ∙ clip_was ∙ ap (option_and_then (clip_of (built old))) (token_stays x stands.was live ∙ now) ∙ clip_is old seen_f.network.sound ∙ ap (clip_by (built old)) no_span
                   ∙ ap (option_map (λ (z : TokenRow Moment). z.spot)) e in
                   absurd (cc none)
               by (Some d) e =
@@ -399,14 +405,15 @@ module _ (old : Standing) (edit : Edit) (before net : Net) (moved : List ℕ) (f
       first_stays : option_map (λ k. k.spot) (first (by_begin (built old)) (clippers (built old))) ≡ option_map (λ k. k.spot) (first (by_begin (built new)) (clippers (built new)))
       first_stays =
           one_near (built old) (built new) (clippers (built old)) (clippers (built new))
-          (λ c at. all_spelt old seen_f.network.sound c (In-filter (clips (contradicts_in old) (gap (built old)) k) (believed_tokens (built old)) c at).0)
-          (λ c at. all_spelt new seen_g.network.sound c (In-filter (clips (contradicts_in new) (gap (built new)) k) (believed_tokens (built new)) c at).0)
+          (λ c at. all_spelt old seen_f.network.sound c (In-filter (clips of_one_class (gap (built old)) k) (believed_tokens (built old)) c at).0)
+          (λ c at. all_spelt new seen_g.network.sound c (In-filter (clips of_one_class (gap (built new)) k) (believed_tokens (built new)) c at).0)
           stays back
 
     -- **The clip stays**, as nothing that stands otherwise than before comes before it.
     pub keeps_near : clip (built new) (moment_at g x) ≡ clip (built old) (moment_at f x)
     keeps_near =
-        ap (option_and_then (clip_of (built new))) now ∙ by k.end refl ∙ sym (ap (option_and_then (clip_of (built old))) (token_stays x stands.was live ∙ now))
+        ap (option_and_then (clip_of (built new))) now ∙ clip_is new seen_g.network.sound ∙ by k.end refl ∙ sym (clip_is old seen_f.network.sound)
+        ∙ sym (ap (option_and_then (clip_of (built old))) (token_stays x stands.was live ∙ now))
         ∙ ap (clip (built old)) (sym (numbers x stands.was live))
       where
         by : (o : Option Moment) → k.end ≡ o → clip_by (built new) o ≡ clip_by (built old) o

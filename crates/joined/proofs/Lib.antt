@@ -1,6 +1,7 @@
 pub mod Leaving
 pub mod Staying
 pub mod Deciding
+pub mod Reading
 pub mod Starting
 pub mod Preparing
 pub mod Netted

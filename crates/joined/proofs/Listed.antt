@@ -1,5 +1,6 @@
--- A row reads a node exactly where it is on a list of the node's class.
-use Rattle.std.proofs.Common.{◌≡◌, ◌∙◌, ℕ, zero, suc, ◌+◌, ◌<◌, Bool, true, false, List, [], ◌∷◌, map, refl, sym, ap, subst, inl, inr, arith}
+-- A row reads a node exactly where it is on a list of the node's class, or its rule reads what
+-- contradicts the node's fact.
+use Rattle.std.proofs.Common.{◌≡◌, ◌∙◌, ℕ, zero, suc, ◌+◌, ◌<◌, Bool, true, false, ◌||◌, List, [], ◌∷◌, map, refl, sym, ap, subst, inl, inr, ◌⊎◌, arith}
 use Rattle.std.proofs.lemmas.Option.{slice_get_within}
 use Rattle.std.specs.Prelude.{◌↔◌, Option, Some, None, cond, slice_get, slice_index_or}
 use Rattle.std.specs.Option.{option_map_or}
@@ -9,14 +10,19 @@ use Rattle.tmm_model.specs.Moments.{read_by, rule_of}
 use Rattle.tmm_model.specs.Points.{same_name}
 use Rattle.tmm_model.specs.Standing.{Standing}
 use Rattle.list_theory.proofs.Elements.{In, In-map, map-In, list_any-In, In-list_any}
+use Rattle.belief_theory.proofs.Rivals.{or_cases, or_left, or_right}
+use Rattle.list_net.specs.Represents.{Names}
+use Rattle.spots.specs.Forest.{Member, moment}
+use Rattle.spots.specs.OfLists.{IsMemberOf}
 use Rattle.supports.proofs.Grown.{stands}
+use Rattle.revisions.specs.Maps.{watches}
 use Rattle.row_links.specs.Lists.{IsOn}
 use Rattle.undo_rows.specs.declared.row.Row.{Row as TableRow}
 use Rattle.undo_rows.specs.Changes.{Logged, present}
 use Rattle.undo_rows.specs.Tables.{AreListed, head_of, live}
 use Rattle.decision_rows.specs.Decisions.{classes_in, heads_of}
 use Rattle.decision_rows.specs.declared.row.Pair.{Pair}
-use Rattle.joined.specs.Gaps.{reads_class}
+use Rattle.joined.specs.Gaps.{reads_class, reads_rival}
 use Rattle.joined.specs.Listed.{AreNumbered, IsUnderClasses, IsListedUnder, ReadersAreListed}
 use Rattle.joined.proofs.Starting.{reads_by_class}
 
@@ -124,7 +130,33 @@ module _ (s : Standing) (rows : Logged Pair 8) (name : ℕ → List ℕ) (number
   class_listed = ((λ reads. to_list (to_class reads)), (λ on. of_class (of_list on)))
 
 pub readers_listed : ReadersAreListed
-readers_listed s names m rows name number class k i r own is_class is_number numbered listed here under =
-    let reads = reads_by_class s names m (name r.value.rule) own ∙ ap (λ o. option_map_or (λ c. reads_class s (name r.value.rule) c) o false) is_class in
-    let listed_by = class_listed s rows name number class k i r is_number numbered listed here under in
-    ((λ h. listed_by.0 (sym reads ∙ h)), λ on. reads ∙ listed_by.1 on)
+readers_listed s names m rows name number class k i r own is_class is_number numbered listed here under = (there, back)
+  where
+    reads : watches s (name r.value.rule) (moment m) ≡ (reads_class s (name r.value.rule) class || reads_rival s (name r.value.rule) m.what)
+    reads = reads_by_class s names m (name r.value.rule) own
+        ∙ ap (λ o. option_map_or (λ c. reads_class s (name r.value.rule) c || reads_rival s (name r.value.rule) m.what) o false) is_class
+
+    by_list : (reads_class s (name r.value.rule) class ≡ true) ↔ IsListedUnder (present rows) k i
+    by_list = class_listed s rows name number class k i r is_number numbered listed here under
+
+    there : watches s (name r.value.rule) (moment m) ≡ true → IsListedUnder (present rows) k i ⊎ (reads_rival s (name r.value.rule) m.what ≡ true)
+    there h = elim (or_cases (reads_class s (name r.value.rule) class) (reads_rival s (name r.value.rule) m.what) (sym reads ∙ h)) [
+      | inl by_class ↦ inl (by_list.0 by_class)
+      | inr rival ↦ inr rival
+    ]
+
+    back : IsListedUnder (present rows) k i ⊎ (reads_rival s (name r.value.rule) m.what ≡ true) → watches s (name r.value.rule) (moment m) ≡ true
+    back (inl on) = reads ∙ or_left (reads_class s (name r.value.rule) class) (reads_rival s (name r.value.rule) m.what) (by_list.1 on)
+    back (inr rival) = reads ∙ or_right (reads_class s (name r.value.rule) class) (reads_rival s (name r.value.rule) m.what) rival
+
+-- where the rule reads no rival of its fact, by the list alone
+pub class_readers : (s : Standing) (names : Names) (m : Member) (rows : Logged Pair 8) (name : ℕ → List ℕ) (number : List ℕ → Option ℕ)
+    (class : List ℕ) (k i : ℕ) (r : TableRow Pair 8)
+    → IsMemberOf s names m → m.class ≡ Some class → number class ≡ Some k → AreNumbered number
+    → AreListed (present rows) → (present rows).row i ≡ Some r → IsUnderClasses s name number r → reads_rival s (name r.value.rule) m.what ≡ false
+    → (watches s (name r.value.rule) (moment m) ≡ true) ↔ IsListedUnder (present rows) k i
+class_readers s names m rows name number class k i r own is_class is_number numbered listed here under none =
+    let both = readers_listed s names m rows name number class k i r own is_class is_number numbered listed here under in (
+      λ h. elim (both.0 h) [ inl on ↦ on | inr rival ↦ (let no : true ≡ false = sym rival ∙ none in cc) ],
+      λ on. both.1 (inl on),
+    )

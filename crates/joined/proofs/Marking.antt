@@ -1,16 +1,15 @@
 -- Rows that are marked by the lists of classes are marked as a turn asks.
-use Rattle.std.proofs.Common.{◌≡◌, ◌∙◌, ℕ, Bool, true, false, List, refl, sym, ap, subst, inl, inr, arith}
+use Rattle.std.proofs.Common.{◌≡◌, ◌∙◌, ℕ, Bool, true, false, ◌||◌, List, refl, sym, ap, subst, inl, inr, arith}
 use Rattle.std.proofs.lemmas.Int.{ints}
 use Rattle.std.specs.Prelude.{◌↔◌, ◌⊎◌, Option, Some, None, ℤ, ◌≤ℤ◌, int_le}
-use Rattle.std.specs.List.{Contains, list_any}
+use Rattle.std.specs.List.{Contains}
 use Rattle.std.specs.Option.{option_map_or}
 use Rattle.tmm_model.specs.declared.premise.Edit.{Edit}
 use Rattle.tmm_model.specs.declared.token.TokenRow.{TokenRow}
-use Rattle.tmm_model.specs.Beliefs.{class_of}
 use Rattle.tmm_model.specs.Edits.{next_list}
 use Rattle.tmm_model.specs.Maps.{built}
-use Rattle.tmm_model.specs.Moments.{Moment, distance, early, read_by, rule_of}
-use Rattle.tmm_model.specs.Points.{same_name}
+use Rattle.tmm_model.specs.Moments.{Moment, distance, early}
+use Rattle.belief_theory.specs.Touched.{is_watched}
 use Rattle.tmm_model.specs.Standing.{Standing, far_in}
 use Rattle.tmm_model.specs.Tokens.{is_by}
 use Rattle.list_theory.specs.WellNamed.{IsSound}
@@ -21,7 +20,7 @@ use Rattle.belief_theory.proofs.OneRight.{spot-token_of}
 use Rattle.belief_theory.proofs.SoundBeliefs.{sound_timed}
 use Rattle.dist_net.specs.Net.{Net}
 use Rattle.spots.specs.Forest.{Forest, Member, member, moment, moment_at}
-use Rattle.spots.specs.OfLists.{IsForestOf, IsMemberOf, HasOccurrences, map_of}
+use Rattle.spots.specs.OfLists.{IsForestOf, IsMemberOf, HasOccurrences}
 use Rattle.spots.proofs.Nodes.{moment_at-is}
 use Rattle.supports.proofs.Grown.{node_cases, node_kept}
 use Rattle.undo_rows.specs.declared.row.Row.{Row as TableRow}
@@ -29,20 +28,21 @@ use Rattle.undo_rows.specs.Changes.{Logged, present}
 use Rattle.undo_rows.specs.Tables.{AreListed}
 use Rattle.decision_rows.specs.declared.row.Pair.{Pair}
 use Rattle.decision_rows.specs.declared.row.Decision.{Decision}
-use Rattle.revisions.specs.Maps.{revision, watches, is_watched}
+use Rattle.revisions.specs.Maps.{revision, watches}
 use Rattle.revisions.specs.Marks.{ReadsMoved}
 use Rattle.revisions.specs.Revisions.{Revision}
 use Rattle.revisions.specs.Steps.{IsUnder}
-use Rattle.revisions.specs.Walls.{IsSpared, AllOccur}
-use Rattle.joined.specs.Listed.{AreNumbered, IsUnderClasses}
+use Rattle.revisions.specs.Walls.{AllOccur}
+use Rattle.joined.specs.Gaps.{reads_class, reads_rival}
+use Rattle.joined.specs.Listed.{AreNumbered, IsUnderClasses, IsListedUnder}
 use Rattle.joined.specs.Marking.{Mark, IsMarkOf, AreMarksOf, IsMarkedBy}
 use Rattle.joined.specs.Rows.{Row}
 use Rattle.joined.specs.Sparing.{StaysNode}
 use Rattle.joined.specs.Turning.{Moved, came, went, TreeTurns, stays, enters, withdraws, IsMarkedRow, SameOutcome, effect_of}
 use Rattle.joined.proofs.Leaving.{leaves}
 use Rattle.joined.proofs.Listed.{readers_listed}
-use Rattle.joined.proofs.Sparing.{IsInBoth, IsSparedIn, spared_stay, spared_at}
-use Rattle.joined.proofs.Starting.{reads_by_class}
+use Rattle.joined.proofs.Sparing.{IsSparedFor, IsSparedIn, spared_for, spared_stay, spared_at}
+use Rattle.joined.proofs.Starting.{reads_by_class, fact_is}
 
 -- what is not surely begun, by its date
 later_not_begun : (s : Standing) → IsSound s → (x t : Moment) → Occurs s x → Occurs s t → int_le (early s (far_in s.premises) x) (early s (far_in s.premises) t) ≡ false
@@ -66,7 +66,7 @@ module _ (old : Standing) (edit : Edit) (net : Net) (f g : Forest) (p : Row) (fo
     (numbered : AreNumbered number) (listed : AreListed (present rows))
     (here : (present rows).row i ≡ Some row) (under : IsUnderClasses (next_list old edit) name number row) (rule_is : q.rule ≡ name row.value.rule)
     (are : AreMarksOf (revision (built old) (built (next_list old edit))) (next_list old edit) net number f g p found marks)
-    (waits : (q.waits ≡ true) ↔ ((o.waits ≡ true) ⊎ IsMarkedBy (revision (built old) (built (next_list old edit))) g (present rows) marks i q)) where
+    (waits : (q.waits ≡ true) ↔ ((o.waits ≡ true) ⊎ IsMarkedBy (revision (built old) (built (next_list old edit))) (next_list old edit) g (present rows) marks i q)) where
   abbrev new : Standing
   new = next_list old edit
 
@@ -83,15 +83,23 @@ module _ (old : Standing) (edit : Edit) (net : Net) (f g : Forest) (p : Row) (fo
   class_read : (m : Member) → IsMemberOf new net.names m → watches new q.rule (moment m) ≡ true → (class : List ℕ) × (m.class ≡ Some class)
   class_read m own reads = by m.class (sym (reads_by_class new net.names m q.rule own) ∙ reads)
     where
-      by : (c : Option (List ℕ)) → option_map_or (λ class. list_any (λ fact. same_name (class_of new fact) class) (read_by (rule_of new q.rule))) c false ≡ true → (class : List ℕ) × (c ≡ Some class)
+      by : (c : Option (List ℕ)) → option_map_or (λ class. reads_class new q.rule class || reads_rival new q.rule m.what) c false ≡ true → (class : List ℕ) × (c ≡ Some class)
       by (Some class) e = (class, refl)
       by None e = cc
 
-  only : IsMarkedBy R g (present rows) marks i q → ReadsMoved R (Moved f p found) u q.rule
-  only (mark, at, on, by_u, _) =
+  -- the row reads a token exactly where it is on a list of its class, or its rule reads a rival
+  read_by_mark : (m : Member) → IsMemberOf new net.names m → (mark : Mark) → IsMarkOf R net number f g m mark
+      → (watches new q.rule (moment m) ≡ true) ↔ (IsListedUnder (present rows) mark.class i ⊎ (reads_rival new q.rule mark.fact ≡ true))
+  read_by_mark m own mark of =
+      subst (λ r. (watches new r (moment m) ≡ true) ↔ (IsListedUnder (present rows) mark.class i ⊎ (reads_rival new r mark.fact ≡ true))) (sym rule_is)
+      (subst (λ x. (watches new (name row.value.rule) (moment m) ≡ true) ↔ (IsListedUnder (present rows) mark.class i ⊎ (reads_rival new (name row.value.rule) x ≡ true))) (sym of.fact)
+      (readers_listed new net.names m rows name number of.class mark.class i row own of.has_class of.numbered numbered listed here under))
+
+  only : IsMarkedBy R new g (present rows) marks i q → ReadsMoved R (Moved f p found) u q.rule
+  only (mark, at, by_u, asks) =
       let (m, own, moves, of) = are.own mark at in
-      let reads = (readers_listed new net.names m rows name number of.class mark.class i row own of.has_class of.numbered numbered listed here under).1 on in
-      (moment m, moves, subst (λ z. watches new z (moment m) ≡ true) (sym rule_is) reads, subst (λ z. z ≤ℤ R.early u) of.early by_u)
+      let reads = (read_by_mark m own mark of).1 (elim asks [ inl on ↦ inl on.0 | inr rival ↦ inr rival ]) in
+      (moment m, moves, reads, subst (λ z. z ≤ℤ R.early u) of.early by_u)
 
   -- ---- a row that is not let wait
 
@@ -106,21 +114,27 @@ module _ (old : Standing) (edit : Edit) (net : Net) (f g : Forest) (p : Row) (fo
         reads_m : watches new q.rule (moment m) ≡ true
         reads_m = ap (λ (z : Option (TokenRow Moment)). elim z as (λ _. Bool) [ None ↦ false | Some w ↦ is_watched new q.rule w ]) is ∙ reads
 
-        by_mark : R.early (moment m) ≤ℤ R.early u → (v : Bool) → (mark : Mark) → In mark marks → IsMarkOf R net number f g m mark → mark.spares q.trigger ≡ v
-            → IsSpared (IsInBoth new b c) (map_of new b) u k
-        by_mark by_u true mark at of spares =
-            spared_at new net f g seen seen_after b c holds_b holds_c q.trigger stays_there.node stays_there.before stays_there.after (moment m) (of.spared q.trigger spares) k is
-        by_mark by_u false mark at of spares =
-            let on = (readers_listed new net.names m rows name number of.class mark.class i row own of.has_class of.numbered numbered listed here under).0
-            (subst (λ z. watches new z (moment m) ≡ true) rule_is reads_m) in
-            not_true (sym rests ∙ waits.1 (inr (mark, at, on, subst (λ z. z ≤ℤ R.early u) (sym of.early) by_u, spares)))
+        rests_not : {P : Type 0} → IsMarkedBy R new g (present rows) marks i q → P
+        rests_not marked = not_true (sym rests ∙ waits.1 (inr marked))
 
-        by : (v : Bool) → int_le (R.early (moment m)) (R.early u) ≡ v → IsSpared (IsInBoth new b c) (map_of new b) u k
+        -- as the row does not wait, its rule reads no rival of the token, and the mark spares it
+        by_mark : R.early (moment m) ≤ℤ R.early u → (mark : Mark) → In mark marks → IsMarkOf R net number f g m mark → (v w : Bool) → reads_rival new q.rule mark.fact ≡ v → mark.spares q.trigger ≡ w
+            → IsSparedFor new b c u q.rule k
+        by_mark by_u mark at of true w rival spares = rests_not (mark, at, subst (λ z. z ≤ℤ R.early u) (sym of.early) by_u, inr rival)
+        by_mark by_u mark at of false true none spares =
+            spared_for new b c u q.rule k (spared_at new net f g seen seen_after b c holds_b holds_c q.trigger stays_there.node stays_there.before stays_there.after (moment m) (of.spared q.trigger spares) k is)
+            (ap (reads_rival new q.rule) (fact_is new net.names m own k is ∙ sym of.fact) ∙ none)
+        by_mark by_u mark at of false false none spares = elim ((read_by_mark m own mark of).0 reads_m) [
+          | inl on ↦ rests_not (mark, at, subst (λ z. z ≤ℤ R.early u) (sym of.early) by_u, inl (on, spares))
+          | inr rival ↦ not_true (sym none ∙ rival)
+        ]
+
+        by : (v : Bool) → int_le (R.early (moment m)) (R.early u) ≡ v → IsSparedFor new b c u q.rule k
         by false later = inl (ap (λ z. is_by (distance new (far_in new.premises)) z u) (spot-token_of new (moment m) k is) ∙ later_not_begun new seen.network.sound (moment m) u own.occurs u_occurs later)
         by true e =
             let (class, has) = class_read m own reads_m in
             let (mark, at, of) = are.all m class own moves has in
-            by_mark (no_later (R.early (moment m)) (R.early u) e) (mark.spares q.trigger) mark at of refl
+            by_mark (no_later (R.early (moment m)) (R.early u) e) mark at of (reads_rival new q.rule mark.fact) (mark.spares q.trigger) refl refl
 
     spared_moment : (m : Member) → IsMemberOf new net.names m → (x : Moment) → moment m ≡ x → Moved f p found x → IsSparedIn new b c u q.rule x
     spared_moment m own x is moves = subst (IsSparedIn new b c u q.rule) is (mark_spares m own (subst (Moved f p found) (sym is) moves))

@@ -14,13 +14,15 @@ use Rattle.tmm_model.specs.Beliefs.{contradicts_in, rules_at, token_of}
 use Rattle.tmm_model.specs.Bounds.{bound_at_most}
 use Rattle.tmm_model.specs.Edits.{next_list}
 use Rattle.tmm_model.specs.Maps.{TimeMap, gap, believed_tokens}
-use Rattle.tmm_model.specs.Moments.{Moment, At}
+use Rattle.tmm_model.specs.Moments.{Moment, At, read_by, rule_of}
 use Rattle.tmm_model.specs.Points.{same_name}
 use Rattle.tmm_model.specs.Standing.{Standing, points_in}
-use Rattle.tmm_model.specs.Tokens.{is_by, is_before, cuts, lasts_to}
+use Rattle.tmm_model.specs.Tokens.{of_one_class, is_by, is_before, cuts, lasts_to}
 use Rattle.list_theory.proofs.Elements.{In, In-from_Contains, Contains-from_In, In-filter, filter-In, In-filter_map, filter_map-In, both}
 use Rattle.belief_theory.specs.Right.{Occurs}
-use Rattle.belief_theory.specs.Touched.{watched}
+use Rattle.belief_theory.specs.Touched.{is_watched, watched}
+use Rattle.belief_theory.proofs.Rivals.{HaveSameRivals, contradicts_plain}
+use Rattle.belief_theory.proofs.Watched.{class-token_of}
 use Rattle.dist_net.specs.Net.{Net, Nets}
 use Rattle.list_net.specs.Fits.{IsNetOf}
 use Rattle.list_net.specs.Network.{PointsKeepNumbers}
@@ -31,15 +33,16 @@ use Rattle.spots.specs.OfLists.{IsForestOf, HasOccurrences, map_of}
 use Rattle.spots.specs.Spots.{spot_moment, spot_distance, base_of, links_of, links_high}
 use Rattle.spots.proofs.Nodes.{moment_at-is}
 use Rattle.spots.proofs.Seen.{distance_is, start_is}
-use Rattle.revisions.specs.Maps.{is_watched, watches}
+use Rattle.revisions.specs.Maps.{watches}
 use Rattle.revisions.specs.Shifts.{IsShifted}
-use Rattle.revisions.specs.Walls.{IsSpared, AllOccur}
+use Rattle.revisions.specs.Walls.{IsSpared, IsPlain, IsAside, AllOccur}
 use Rattle.revisions.proofs.Lawful.{text, token_watched, watched_back}
 use Rattle.revisions.proofs.Shifts.{shifts_keep}
 use Rattle.revisions.proofs.Tokens.{tokens_stay}
-use Rattle.joined.specs.Gaps.{reads_class, begin, an_end, start, read, IsSpotAt, TellsMoves}
+use Rattle.joined.specs.Gaps.{reads_class, ReadsNoRival, begin, an_end, start, read, IsSpotAt, TellsMoves}
 use Rattle.joined.specs.Shifting.{IsSpotOf, MovesAmong, AreLoose, IsFast, IsWallAt, IsSparedAt, SparesClass, MayRest, RestingKeep}
 use Rattle.joined.proofs.Gaps.{WasThere, distance_was, token, is_read, IsTokenAt, token_at, spot_was, unmoved_same}
+use Rattle.joined.proofs.Reading.{class_watched, watched_plain, none_rival, plain_have}
 use Rattle.joined.proofs.Touching.{watched_on}
 
 -- ---- a list in two parts
@@ -115,16 +118,16 @@ one_differs k v w differ = elim (true_or (same_name k v)) [
 -- a token without an end does not last where one of two walls of different facts clips it
 walls_over : (m : TimeMap) (t : Moment) (k v w : TokenRow Moment) → v.class ≡ k.class → w.class ≡ k.class → v.fact ≢ w.fact
     → is_before (gap m) k.spot v.spot ≡ true → is_before (gap m) k.spot w.spot ≡ true → is_by (gap m) v.spot t ≡ true → is_by (gap m) w.spot t ≡ true
-    → (o : Option Moment) → o ≡ None → lasts_to (contradicts_in m.list) (gap m) (v ∷ w ∷ []) k t o ≡ false
+    → (o : Option Moment) → o ≡ None → lasts_to of_one_class (gap m) (v ∷ w ∷ []) k t o ≡ false
 walls_over m t k v w class_v class_w differ after_v after_w by_v by_w (Some e) is = cc
 walls_over m t k v w class_v class_w differ after_v after_w by_v by_w None is =
     elim (one_differs k.fact v.fact w.fact differ) [
-      | inl other ↦ first (cuts (contradicts_in m.list) (gap m) k t v) (cuts (contradicts_in m.list) (gap m) k t w) (cut v class_v other after_v by_v)
-      | inr other ↦ second (cuts (contradicts_in m.list) (gap m) k t v) (cuts (contradicts_in m.list) (gap m) k t w) (cut w class_w other after_w by_w)
+      | inl other ↦ first (cuts of_one_class (gap m) k t v) (cuts of_one_class (gap m) k t w) (cut v class_v other after_v by_v)
+      | inr other ↦ second (cuts of_one_class (gap m) k t v) (cuts of_one_class (gap m) k t w) (cut w class_w other after_w by_w)
     ]
   where
     cut : (c : TokenRow Moment) → c.class ≡ k.class → same_name k.fact c.fact ≡ false → is_before (gap m) k.spot c.spot ≡ true → is_by (gap m) c.spot t ≡ true
-        → cuts (contradicts_in m.list) (gap m) k t c ≡ true
+        → cuts of_one_class (gap m) k t c ≡ true
     cut c class other after by_t =
         let one : same_name k.class c.class ≡ true = (bytes_decides k.class c.class).1 (sym class) in
         λ i. (one i && not (other i)) && after i && by_t i
@@ -145,7 +148,7 @@ module _ (old : Standing) (edit : Edit) (nets : Nets) (moves : ℕ → ℕ → B
     (keep : PointsKeepNumbers (points_in (next_list old edit).premises) nets.committed.names nets.present.names)
     (tells : TellsMoves nets moves) (cover : AreLoose moves loose) (in_old : AllOccur old before) (holds : HasOccurrences b f) (live : IsLive f x)
     (was : Contains before (moment_at f x)) (stood : Contains (rules_at old (moment_at f x)) r) (stands : Contains (rules_at (next_list old edit) (moment_at f x)) r)
-    (same_horizon : old.horizon ≡ (next_list old edit).horizon)
+    (same_horizon : old.horizon ≡ (next_list old edit).horizon) (was_plain : ReadsNoRival old r)
     (left : (y : Moment) → Contains before y → watches old r y ≡ true → Contains b y)
     (entered : (y : Moment) → Contains b y → watches (next_list old edit) r y ≡ true → Contains before y)
     (rest : MayRest moves loose (next_list old edit) nets f r x) where
@@ -185,8 +188,25 @@ module _ (old : Standing) (edit : Edit) (nets : Nets) (moves : ℕ → ℕ → B
   abbrev SpotWas : Spot → Type 0
   SpotWas = WasThere old edit nets f net_old seen keep
 
+  -- the class of a token that is read is one that the rule reads
+  class_read : (k : TokenRow Moment) (a : TokenAt k) → reads_class new r a.class ≡ true
+  class_read k a = sym (watched_plain new r (the_token a.number a.node a.class) (rest.plain a.node.what)) ∙ a.reads
+
   was_at : (p : Spot) → IsSpotAt new f r x p → SpotWas p
   was_at = spot_was old edit nets f net_old seen keep b r x holds live was_event were
+
+  same_text : rule_of old r ≡ rule_of new r
+  same_text = text old edit net_old.sound seen.network.sound t r stood stands
+
+  -- no premise of either list says that a fact contradicts what the rule reads
+  have : (f : List ℕ) → In f (read_by (rule_of new r)) → HaveSameRivals old new f
+  have = plain_have old new r same_text was_plain rest.plain
+
+  plain_before : (k : TokenRow Moment) → IsPlain old r k
+  plain_before k = none_rival old r k.fact (was_plain k.fact)
+
+  plain_after : (k : TokenRow Moment) → IsPlain new r k
+  plain_after k = none_rival new r k.fact (rest.plain k.fact)
 
   -- ---- distances before and after
 
@@ -298,7 +318,7 @@ module _ (old : Standing) (edit : Edit) (nets : Nets) (moves : ℕ → ℕ → B
   stays_in : (y : ℕ) (k : Member) (class : List ℕ) → member f y ≡ Some k → k.class ≡ Some class → reads_class new r class ≡ true → stays_by class (choice class) k ≡ true
       → In (the_token y k class) stay
   stays_in y k class here of reads stays =
-      elim (stays_or (the_token y k class) (is_read old edit nets f net_old seen keep b r x holds live was_event were y k class here of reads)) [
+      elim (stays_or (the_token y k class) (is_read old edit nets f net_old seen keep b r x holds live was_event were y k class here of (class_watched new r (the_token y k class) reads))) [
         | inl on ↦ on
         | inr off ↦
             let a = off.token in
@@ -316,7 +336,7 @@ module _ (old : Standing) (edit : Edit) (nets : Nets) (moves : ℕ → ℕ → B
 
   -- the spots of a token that is read
   begin_was : (k : TokenRow Moment) (a : TokenAt k) → SpotWas (Node a.number)
-  begin_was k a = was_at (Node a.number) (inl (read a.class a.reads (begin a.number a.node a.here a.of refl)))
+  begin_was k a = was_at (Node a.number) (inl (read a.class (class_read k a) (begin a.number a.node a.here a.of refl)))
 
   event_was : SpotWas (Node x)
   event_was = was_at (Node x) (inr refl)
@@ -364,7 +384,7 @@ module _ (old : Standing) (edit : Edit) (nets : Nets) (moves : ℕ → ℕ → B
           let c = choice a.class in
           let one : at (Declared z) ≡ e = cc in
           subst (λ w. gap m w t ≡ gap n w t) one
-          (same_gap (Declared z) (Node x) (was_at (Declared z) (inl (read a.class a.reads (an_end a.number a.node z a.here a.of is refl)))) event_was
+          (same_gap (Declared z) (Node x) (was_at (Declared z) (inl (read a.class (class_read k a) (an_end a.number a.node z a.here a.of is refl)))) event_was
           (good_unmoved a.class c (Declared z) (Node x) (good_end a.class c a.number a.node z a.here a.of o.is is) (good_event a.class c a.node o.is)))
 
   same_among : (k l : TokenRow Moment) → In k stay → In l stay → k.class ≡ l.class → gap m l.spot k.spot ≡ gap n l.spot k.spot
@@ -429,16 +449,16 @@ module _ (old : Standing) (edit : Edit) (nets : Nets) (moves : ℕ → ℕ → B
   spared_by : (k : TokenRow Moment) (a : TokenAt k) (c : Choice a.class) → choice a.class ≡ c → stays_by a.class c a.node ≡ false
       → IsSpared (λ w. In w stay) m t k × IsSpared (λ w. In w stay) n t k
   unfolding stays_by
-  spared_by k a (inl none) is goes = not_both (reads_class new r a.class) a.reads none
+  spared_by k a (inl none) is goes = not_both (reads_class new r a.class) (class_read k a) none
   spared_by k a (inr (inl still)) is goes = cc
   spared_by k a (inr (inr spares)) is goes = elim (spares.each a.number a.node a.here a.of) [
     | inl fast ↦ not_both (is_fast loose a.node) (is_fast_of loose a.node fast) goes
     | inr spared ↦
         let fast_stays : (v : ℕ) (w : Member) → member f v ≡ Some w → w.class ≡ Some a.class → IsFast loose w → In (the_token v w a.class) stay =
-        λ v w there of fast. stays_in v w a.class there of a.reads (subst (λ c. stays_by a.class c w ≡ true) (sym is) (is_fast_of loose w fast)) in
+        λ v w there of fast. stays_in v w a.class there of (class_read k a) (subst (λ c. stays_by a.class c w ≡ true) (sym is) (is_fast_of loose w fast)) in
         subst (λ z. IsSpared (λ w. In w stay) m t z × IsSpared (λ w. In w stay) n t z) a.is (
-          spared_at nets.committed m gap_was a.number a.node a.class a.here a.of a.reads fast_stays spared.0,
-          spared_at nets.present n gap_is a.number a.node a.class a.here a.of a.reads fast_stays spared.1,
+          spared_at nets.committed m gap_was a.number a.node a.class a.here a.of (class_read k a) fast_stays spared.0,
+          spared_at nets.present n gap_is a.number a.node a.class a.here a.of (class_read k a) fast_stays spared.1,
         )
   ]
 
@@ -455,7 +475,7 @@ module _ (old : Standing) (edit : Edit) (nets : Nets) (moves : ℕ → ℕ → B
       let stayed = left z known (token_watched old r z k e h.1) in
       let is = sym (tokens_stay old edit net_old.sound seen.network.sound z (in_old z known) (in_new z stayed)) ∙ e in
       filter-In (is_watched new r) (believed_tokens n) k (filter_map-In (token_of new) b z k (In-from_Contains b z stayed) is)
-      (watched_on old edit net_old.sound seen.network.sound t r k stood stands (text old edit net_old.sound seen.network.sound t r stood stands) h.1)
+      (watched_on old edit net_old.sound seen.network.sound t r k stood stands same_text have (class-token_of new z k is) h.1)
 
   back : (k : TokenRow Moment) → In k (watched (map_of new b) r) → In k (watched (map_of old before) r)
   back k on =
@@ -465,12 +485,23 @@ module _ (old : Standing) (edit : Edit) (nets : Nets) (moves : ℕ → ℕ → B
       let came = entered z known (token_watched new r z k e h.1) in
       let is = tokens_stay old edit net_old.sound seen.network.sound z (in_old z came) (in_new z known) ∙ e in
       filter-In (is_watched old r) (believed_tokens m) k (filter_map-In (token_of old) before z k (In-from_Contains before z came) is)
-      (watched_back old edit net_old.sound seen.network.sound t r k stood stands (text old edit net_old.sound seen.network.sound t r stood stands) h.1)
+      (watched_back old edit net_old.sound seen.network.sound t r k stood stands same_text have (class-token_of old z k is) h.1)
+
+  -- what contradicts a token of a fact that the rule reads is of its class
+  one_class : (k c : TokenRow Moment) → In k.fact (read_by (rule_of new r)) → contradicts_in new k c ≡ true → k.class ≡ c.class
+  one_class k c given contradict =
+      let by_class : of_one_class k c ≡ true = sym (contradicts_plain new k c (plain_after c k.fact given)) ∙ contradict in
+      (bytes_decides k.class c.class).0 (both (same_name k.class c.class) (not (same_name k.fact c.fact)) by_class).0
+
+  aside : (h : TimeMap) (k : TokenRow Moment) → IsPlain h.list r k → IsSpared (λ w. In w stay) h t k → IsAside (λ w. In w stay) h t r k
+  aside h k plain (inl not_begun) = inl not_begun
+  aside h k plain (inr past) = inr (past, plain)
 
   shifted : IsShifted (λ k. In k stay) (map_of old before) (map_of new b) (moment_at f x) r
   shifted = record {
-    text = text old edit net_old.sound seen.network.sound t r stood stands;
+    text = same_text;
     horizon = same_horizon;
+    rivals = have;
     into = into;
     back = back;
     date = same_date;
@@ -479,14 +510,14 @@ module _ (old : Standing) (edit : Edit) (nets : Nets) (moves : ℕ → ℕ → B
     dates = same_dates;
     begins = same_begins;
     ends = same_ends;
-    among = same_among;
-    spared = λ k on. elim (stays_or k on) [ inl stays ↦ inl stays | inr goes ↦ inr (spared_both k goes) ];
+    among = λ k c on_k on_c given contradict. same_among k c on_k on_c (one_class k c given contradict);
+    spared = λ k on. elim (stays_or k on) [ inl stays ↦ inl stays | inr goes ↦ inr (let h = spared_both k goes in (aside m k (plain_before k) h.0, aside n k (plain_after k) h.1)) ];
   }
 
 pub resting_keep : RestingKeep
-resting_keep old edit nets moves loose f before b r x net_old seen keep tells cover in_old holds live was stood stands same_horizon left entered rest =
+resting_keep old edit nets moves loose f before b r x net_old seen keep tells cover in_old holds live was stood stands same_horizon was_plain left entered rest =
     shifts_keep old (next_list old edit) before b (moment_at f x) r
-    (stay old edit nets moves loose f before b r x net_old seen keep tells cover in_old holds live was stood stands same_horizon left entered rest)
+    (stay old edit nets moves loose f before b r x net_old seen keep tells cover in_old holds live was stood stands same_horizon was_plain left entered rest)
     net_old.sound seen.network.sound in_old
-    (in_new old edit nets moves loose f before b r x net_old seen keep tells cover in_old holds live was stood stands same_horizon left entered rest)
-    (shifted old edit nets moves loose f before b r x net_old seen keep tells cover in_old holds live was stood stands same_horizon left entered rest)
+    (in_new old edit nets moves loose f before b r x net_old seen keep tells cover in_old holds live was stood stands same_horizon was_plain left entered rest)
+    (shifted old edit nets moves loose f before b r x net_old seen keep tells cover in_old holds live was stood stands same_horizon was_plain left entered rest)

@@ -2,20 +2,19 @@
 -- outcomes.
 use Rattle.std.proofs.Common.{◌≡◌, ◌∙◌, ℕ, true, false, not, ◌||◌, List, [], ◌∷◌, refl, sym, ap, subst, inl, inr}
 use Rattle.std.specs.Prelude.{◌⊎◌, Option, Some, None, negsuc}
-use Rattle.std.specs.List.{Contains, list_any}
+use Rattle.std.specs.List.{Contains}
 use Rattle.std.specs.Option.{option_map, ForSome}
 use Rattle.tmm_model.specs.declared.bound.Bound.{Bound}
 use Rattle.tmm_model.specs.declared.token.TokenRow.{TokenRow}
-use Rattle.tmm_model.specs.Beliefs.{class_of, token_of, tokens}
+use Rattle.tmm_model.specs.Beliefs.{token_of, tokens}
 use Rattle.tmm_model.specs.Bounds.{bound_at_most}
-use Rattle.tmm_model.specs.Moments.{Moment, distance, read_by, rule_of}
-use Rattle.tmm_model.specs.Points.{same_name}
+use Rattle.tmm_model.specs.Moments.{Moment, distance}
 use Rattle.tmm_model.specs.Standing.{Standing, far_in}
 use Rattle.tmm_model.specs.Tokens.{of_one_class, lasts_to}
 use Rattle.list_theory.specs.WellNamed.{IsSound}
 use Rattle.list_theory.proofs.Elements.{In, In-from_Contains, Contains-from_In, In-filter, filter-In, In-filter_map, filter_map-In}
 use Rattle.belief_theory.specs.Outcomes.{outcome}
-use Rattle.belief_theory.specs.Touched.{watched}
+use Rattle.belief_theory.specs.Touched.{is_watched, watched}
 use Rattle.dist_net.specs.Net.{Net}
 use Rattle.spots.specs.declared.spot.Spot.{Spot}
 use Rattle.spots.specs.declared.spot.Spot.TheVariants.{Node}
@@ -26,10 +25,11 @@ use Rattle.spots.proofs.Nodes.{live_at}
 use Rattle.spots.proofs.Seen.{distance_is, end_there, token_is}
 use Rattle.supports.proofs.Moved.{by_alike, cuts_alike}
 use Rattle.supports.proofs.TokenRows.{token_row_spots}
-use Rattle.revisions.specs.Maps.{is_watched}
-use Rattle.revisions.specs.Walls.{begins_by, IsBetween, AreWallsAt, IsPast, IsSpared, AllOccur}
+use Rattle.revisions.specs.Walls.{begins_by, has_begun, IsBetween, AreWallsAt, IsPast, IsSpared, IsAside, AllOccur}
 use Rattle.revisions.proofs.Walls.{outcome_but}
+use Rattle.joined.specs.Gaps.{reads_class, reads_rival}
 use Rattle.joined.specs.Sparing.{StaysIn, HasWalls, IsSparedAt}
+use Rattle.joined.proofs.Reading.{class_watched, watched_plain, none_rival}
 
 -- ---- at moments
 
@@ -37,22 +37,32 @@ use Rattle.joined.specs.Sparing.{StaysIn, HasWalls, IsSparedAt}
 abbrev pub IsInBoth : Standing → List Moment → List Moment → TokenRow Moment → Type 0
 IsInBoth s b c k = In k (tokens s b) × In k (tokens s c)
 
--- a token that x is, and that the rule watches, bears on no decision at t
+-- the token bears on no decision of the rule at t: it has not surely begun there, or it is past, and
+-- the rule reads no fact that contradicts its own
+abbrev pub IsSparedFor : Standing → List Moment → List Moment → Moment → List ℕ → TokenRow Moment → Type 0
+IsSparedFor s b c t r k = (has_begun (map_of s b) t k ≡ false) ⊎ (IsPast (IsInBoth s b c) (map_of s b) t k × (reads_rival s r k.fact ≡ false))
+
+-- so does a token that x is, and that the rule watches
 abbrev pub IsSparedIn : Standing → List Moment → List Moment → Moment → List ℕ → Moment → Type 0
-IsSparedIn s b c t r x = (k : TokenRow Moment) → token_of s x ≡ Some k → is_watched s r k ≡ true → IsSpared (IsInBoth s b c) (map_of s b) t k
+IsSparedIn s b c t r x = (k : TokenRow Moment) → token_of s x ≡ Some k → is_watched s r k ≡ true → IsSparedFor s b c t r k
+
+pub spared_for : (s : Standing) (b c : List Moment) (t : Moment) (r : List ℕ) (k : TokenRow Moment) → IsSpared (IsInBoth s b c) (map_of s b) t k → reads_rival s r k.fact ≡ false
+    → IsSparedFor s b c t r k
+spared_for s b c t r k (inl not_begun) none = inl not_begun
+spared_for s b c t r k (inr past) none = inr (past, none)
 
 module _ (s : Standing) (b c : List Moment) (t : Moment) (r : List ℕ) where
   abbrev stays : TokenRow Moment → Type 0
   stays k = In k (watched (map_of s b) r) × In k (watched (map_of s c) r)
 
-  -- a token of the class of one that the rule watches is watched
-  watched_class : (k w : TokenRow Moment) → w.class ≡ k.class → is_watched s r k ≡ true → is_watched s r w ≡ true
-  watched_class k w class reads = ap (λ x. list_any (λ fact. same_name (class_of s fact) x) (read_by (rule_of s r))) class ∙ reads
+  -- a token of a class that the rule reads is watched
+  watched_class : (k w : TokenRow Moment) → w.class ≡ k.class → reads_class s r k.class ≡ true → is_watched s r w ≡ true
+  watched_class k w class reads = class_watched s r w (ap (reads_class s r) class ∙ reads)
 
   stays_watched : (k : TokenRow Moment) → IsInBoth s b c k → is_watched s r k ≡ true → stays k
   stays_watched k (in_b, in_c) reads = (filter-In (is_watched s r) (tokens s b) k in_b reads, filter-In (is_watched s r) (tokens s c) k in_c reads)
 
-  past : (k : TokenRow Moment) → is_watched s r k ≡ true → IsPast (IsInBoth s b c) (map_of s b) t k → (d : List Moment) → IsPast (λ w. In w (watched (map_of s b) r) × In w (watched (map_of s c) r)) (map_of s d) t k
+  past : (k : TokenRow Moment) → reads_class s r k.class ≡ true → IsPast (IsInBoth s b c) (map_of s b) t k → (d : List Moment) → IsPast (λ w. In w (watched (map_of s b) r) × In w (watched (map_of s c) r)) (map_of s d) t k
   past k reads p d = record {
     one = p.one;
     other = p.other;
@@ -61,14 +71,21 @@ module _ (s : Standing) (b c : List Moment) (t : Moment) (r : List ℕ) where
     walls = p.walls;
   }
 
-  spared : (k : TokenRow Moment) → is_watched s r k ≡ true → IsSpared (IsInBoth s b c) (map_of s b) t k → (d : List Moment)
-      → IsSpared (λ w. In w (watched (map_of s b) r) × In w (watched (map_of s c) r)) (map_of s d) t k
+  -- what is spared is so by those that stay, in either map
+  abbrev Spared : (d : List Moment) → TokenRow Moment → Type 0
+  Spared d k = (has_begun (map_of s d) t k ≡ false) ⊎ (IsPast (λ w. In w (watched (map_of s b) r) × In w (watched (map_of s c) r)) (map_of s d) t k × (reads_rival s r k.fact ≡ false))
+
+  spared : (k : TokenRow Moment) → is_watched s r k ≡ true → IsSparedFor s b c t r k → (d : List Moment) → Spared d k
   spared k reads (inl not_begun) d = inl not_begun
-  spared k reads (inr p) d = inr (past k reads p d)
+  spared k reads (inr (p, none)) d = inr (past k (sym (watched_plain s r k none) ∙ reads) p d, none)
+
+  aside : (d : List Moment) (k : TokenRow Moment) → Spared d k → IsAside (λ w. In w (watched (map_of s b) r) × In w (watched (map_of s c) r)) (map_of s d) t r k
+  aside d k (inl not_begun) = inl not_begun
+  aside d k (inr (p, none)) = inr (p, none_rival s r k.fact none)
 
   -- a token among the one list is among the other, or spared
   cases : (d e : List Moment) → ((x : Moment) → Contains d x → Contains e x ⊎ IsSparedIn s b c t r x) → (k : TokenRow Moment) → In k (watched (map_of s d) r)
-      → In k (watched (map_of s e) r) ⊎ ((o : List Moment) → IsSpared (λ w. In w (watched (map_of s b) r) × In w (watched (map_of s c) r)) (map_of s o) t k)
+      → In k (watched (map_of s e) r) ⊎ ((o : List Moment) → Spared o k)
   cases d e goes k at =
       let (in_d, reads) = In-filter (is_watched s r) (tokens s d) k at in
       let (x, there, is) = In-filter_map (token_of s) d k in_d in
@@ -89,11 +106,11 @@ module _ (s : Standing) (b c : List Moment) (t : Moment) (r : List ℕ) where
         timely = refl;
         here = λ k stay. stay.0;
         there = λ k stay. stay.1;
-        before = λ k at. elim (cases b c goes k at) [ inl in_c ↦ inl (at, in_c) | inr of ↦ inr (of b) ];
-        after = λ k at. elim (cases c b comes k at) [ inl in_b ↦ inl (in_b, at) | inr of ↦ inr (of c) ];
+        before = λ k at. elim (cases b c goes k at) [ inl in_c ↦ inl (at, in_c) | inr of ↦ inr (aside b k (of b)) ];
+        after = λ k at. elim (cases c b comes k at) [ inl in_b ↦ inl (in_b, at) | inr of ↦ inr (aside c k (of c)) ];
         begun = λ k stay. refl;
         ended = λ k e stay is. refl;
-        clipped = λ k c stay_k stay_c one. refl;
+        clipped = λ k c stay_k stay_c given. refl;
         ordered = λ k c stay_k stay_c one. refl;
       })
 

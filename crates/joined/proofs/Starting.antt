@@ -1,36 +1,37 @@
 -- How nodes and rows begin.
-use Rattle.std.proofs.Common.{◌≡◌, ◌∙◌, ℕ, Bool, true, false, List, [], refl, sym, ap, subst, inl, inr}
+use Rattle.std.proofs.Common.{◌≡◌, ◌∙◌, ℕ, Bool, true, false, ◌||◌, List, [], refl, sym, ap, subst, inl, inr}
 use Rattle.std.specs.Prelude.{Option, Some, None, negsuc, pos, int_le}
-use Rattle.std.specs.List.{Contains, list_any}
+use Rattle.std.specs.List.{Contains}
 use Rattle.std.specs.Option.{option_map_or}
 use Rattle.tmm_model.specs.declared.premise.Edit.{Edit}
 use Rattle.tmm_model.specs.declared.token.Shape.{Shape}
 use Rattle.tmm_model.specs.declared.token.Shape.TheVariants.{Event as AnEvent, Persistence as APersistence, Span as ASpan}
 use Rattle.tmm_model.specs.declared.token.TokenRow.{TokenRow}
 use Rattle.belief_theory.specs.Outcomes.{Outcome, beyond, tried, outcome}
-use Rattle.tmm_model.specs.Beliefs.{due, supporters, against, class_of, token_at, rules_at}
+use Rattle.tmm_model.specs.Beliefs.{due, supporters, against, class_of, end_of, token_at, token_of, rules_at}
 use Rattle.tmm_model.specs.Edits.{next_list, list_until}
 use Rattle.tmm_model.specs.Maps.{built}
-use Rattle.tmm_model.specs.Moments.{Moment, After, Distances, read_by, rule_of}
-use Rattle.tmm_model.specs.Points.{same_name}
+use Rattle.tmm_model.specs.Moments.{Moment, After, Distances}
 use Rattle.list_theory.specs.WellNamed.{IsSound}
 use Rattle.tmm_model.specs.Standing.{Standing, far_in}
-use Rattle.belief_theory.specs.Touched.{is_decision, is_touched}
+use Rattle.belief_theory.specs.Touched.{is_watched, is_decision, is_touched}
 use Rattle.dist_net.specs.Net.{Net}
 use Rattle.list_net.specs.Represents.{Names}
 use Rattle.spots.specs.Forest.{Forest, Member, moment, moment_at, IsLive}
 use Rattle.spots.specs.OfLists.{IsMemberOf, class_for, map_of}
 use Rattle.spots.proofs.Nodes.{node_at, live_at, moment_at-is}
-use Rattle.revisions.specs.Maps.{revision, is_watched, watches}
+use Rattle.revisions.specs.Maps.{revision, watches}
 use Rattle.revisions.specs.Revisions.{Revision}
 use Rattle.revisions.specs.Seeds.{IsSeeded}
 use Rattle.revisions.proofs.Lawful.{lawful, of_occurs, occurs_of}
 use Rattle.revisions.proofs.Seeding.{seeded}
 use Rattle.revisions.proofs.SeedsRight.{stays_touched}
+use Rattle.joined.specs.Gaps.{reads_class, reads_rival}
 use Rattle.joined.specs.Netted.{IsNetted}
 use Rattle.joined.specs.Rows.{Row, Rows, decision_of, IsWaiting}
 use Rattle.joined.specs.Starting.{StartsAs, stood, comes, IsStart}
 use Rattle.joined.proofs.Deciding.{not_both}
+use Rattle.joined.proofs.Reading.{watched_either}
 
 module _ (old : Standing) (edit : Edit) (net : Net) (b : List Moment) (f : Forest) (rows : Rows) (sound_old : IsSound old) (sound_new : IsSound (next_list old edit)) (s : IsStart old (next_list old edit) net b f rows) where
   abbrev new : Standing
@@ -122,7 +123,7 @@ module _ (old : Standing) (edit : Edit) (net : Net) (b : List Moment) (f : Fores
   }
 
 pub reads_by_class : (s : Standing) (names : Names) (m : Member) (r : List ℕ) → IsMemberOf s names m
-    → watches s r (moment m) ≡ option_map_or (λ class. list_any (λ fact. same_name (class_of s fact) class) (read_by (rule_of s r))) m.class false
+    → watches s r (moment m) ≡ option_map_or (λ class. reads_class s r class || reads_rival s r m.what) m.class false
 reads_by_class s names m r own = ap (λ o. tells (token o)) own.is ∙ by m.shape ∙ ap (λ o. option_map_or watched_class o false) (sym own.class)
   where
     token : Option (Shape × List ℕ) → Option (TokenRow Moment)
@@ -132,12 +133,27 @@ reads_by_class s names m r own = ap (λ o. tells (token o)) own.is ∙ by m.shap
     tells o = elim o as (λ _. Bool) [ None ↦ false | Some k ↦ is_watched s r k ]
 
     watched_class : List ℕ → Bool
-    watched_class class = list_any (λ fact. same_name (class_of s fact) class) (read_by (rule_of s r))
+    watched_class class = reads_class s r class || reads_rival s r m.what
 
     by : (shape : Shape) → tells (token (Some (shape, m.what))) ≡ option_map_or watched_class (class_for s shape m.what) false
     by AnEvent = refl
-    by APersistence = refl
-    by ASpan = refl
+    by APersistence = watched_either s r (record { spot = moment m; end = None; fact = m.what; class = class_of s m.what })
+    by ASpan = watched_either s r (record { spot = moment m; end = Some (end_of (moment m)); fact = m.what; class = class_of s m.what })
+
+-- the token of a node is of what the node is
+pub fact_is : (s : Standing) (names : Names) (m : Member) → IsMemberOf s names m → (k : TokenRow Moment) → token_of s (moment m) ≡ Some k → k.fact ≡ m.what
+fact_is s names m own k is = by m.shape (sym (ap token own.is) ∙ is)
+  where
+    token : Option (Shape × List ℕ) → Option (TokenRow Moment)
+    token o = elim o as (λ _. Option (TokenRow Moment)) [ None ↦ None | Some y ↦ token_at s (moment m) y ]
+
+    one_fact : {j l : TokenRow Moment} → Some j ≡ Some l → l.fact ≡ j.fact
+    one_fact {j} {l} e = let one : j ≡ l = cc in ap (λ (z : TokenRow Moment). z.fact) (sym one)
+
+    by : (shape : Shape) → token (Some (shape, m.what)) ≡ Some k → k.fact ≡ m.what
+    by AnEvent e = cc
+    by APersistence e = one_fact e
+    by ASpan e = one_fact e
 
 pub horizons_keep : (s : Standing) (n : ℕ) (far : Distances) (b : List Moment) (t : Moment) (r : List ℕ)
     → int_le (due s far t r) (pos s.horizon) ≡ int_le (due s far t r) (pos n)

@@ -2,50 +2,67 @@
 use Rattle.std.proofs.Common.{◌≡◌, ◌∙◌, ℕ, Bool, true, false, not, ◌||◌, ◌==◌, List, refl, sym, subst, inl, inr}
 use Rattle.std.proofs.lemmas.Bool.Decides.{eqb_tells}
 use Rattle.std.specs.Prelude.{◌⊎◌, ◌≢◌, Some, pos, int_le}
-use Rattle.std.specs.List.{Contains}
+use Rattle.std.specs.List.{Contains, list_all}
 use Rattle.tmm_model.specs.declared.premise.Edit.{Edit}
 use Rattle.tmm_model.specs.declared.premise.Edit.TheVariants.{Horizon}
 use Rattle.tmm_model.specs.declared.token.TokenRow.{TokenRow}
 use Rattle.tmm_model.specs.Beliefs.{due, class_of, rules_at, token_of}
 use Rattle.tmm_model.specs.Edits.{next_list, list_until}
-use Rattle.tmm_model.specs.Maps.{built, gap, believed_tokens}
+use Rattle.tmm_model.specs.Maps.{TimeMap, built, gap, believed_tokens}
 use Rattle.tmm_model.specs.Moments.{Moment, At, After, RuleText, read_by, rule_of}
-use Rattle.tmm_model.specs.Points.{same_name}
 use Rattle.tmm_model.specs.Standing.{Standing, far_in}
 use Rattle.list_theory.specs.WellNamed.{IsSound}
-use Rattle.list_theory.proofs.Elements.{In, In-from_Contains, Contains-from_In, In-filter, filter-In, In-filter_map, filter_map-In, list_any-In, In-list_any}
+use Rattle.list_theory.proofs.Elements.{In, In-from_Contains, Contains-from_In, In-filter, filter-In, In-filter_map, filter_map-In, list_any-In, In-list_any, list_all-In}
 use Rattle.belief_theory.specs.Outcomes.{outcome}
 use Rattle.belief_theory.specs.Right.{Occurs}
-use Rattle.belief_theory.specs.Touched.{is_decision, is_touched, same_tokens, same_gaps, watched, watched_points}
+use Rattle.belief_theory.specs.Touched.{bears_on, is_watched, is_decision, is_touched, same_rivals, same_tokens, same_gaps, watched, watched_points}
 use Rattle.belief_theory.proofs.OneRight.{spot-token_of}
+use Rattle.belief_theory.proofs.Rivals.{HasClass, HaveSameRivals, same_rivals_have, bears_alike}
 use Rattle.belief_theory.proofs.SoundBeliefs.{believed_right, believed_occurs}
 use Rattle.belief_theory.proofs.Untouched.{Alike, untouched_alike, untouched_stood}
+use Rattle.belief_theory.proofs.Watched.{class-token_of}
 use Rattle.spots.specs.Forest.{Forest, moment_at}
 use Rattle.spots.specs.OfLists.{HasOccurrences, map_of}
 use Rattle.spots.proofs.Nodes.{node_at, moment_at-is}
 use Rattle.revisions.specs.Counted.{AreSeeds}
-use Rattle.revisions.specs.Maps.{revision, is_watched, watches}
+use Rattle.revisions.specs.Maps.{revision, watches}
 use Rattle.revisions.specs.Revisions.{Revision, IsOf}
 use Rattle.revisions.proofs.Lawful.{lawful, text, watched_token, token_watched, watched_back, decided, occurs_of}
 use Rattle.revisions.proofs.SeedsRight.{keeps, seed_occurs, untouched_from, among_more}
 use Rattle.revisions.proofs.Tokens.{tokens_stay, classes_stay}
 use Rattle.joined.specs.Rows.{Row, Rows, AreRowsOf}
 use Rattle.joined.specs.Starting.{AreMarked}
-use Rattle.joined.specs.Touching.{IsUntouched, TouchedAreMarked, RestingAreMarked}
+use Rattle.joined.specs.Touching.{RivalsStay, IsUntouched, TouchedAreMarked, RestingAreMarked}
 use Rattle.joined.proofs.Starting.{horizons_keep}
 
 -- ---- a decision is not touched exactly where it is said so
 
--- a token that a rule of both lists reads by the old one it reads by the new one
+-- a token that a rule of both lists watches by the old one it watches by the new one, if the same
+-- facts contradict what it reads
 pub watched_on : (old : Standing) (edit : Edit) → IsSound old → IsSound (next_list old edit) → (t : Moment) (r : List ℕ) (k : TokenRow Moment)
     → Contains (rules_at old t) r → Contains (rules_at (next_list old edit) t) r → rule_of old r ≡ rule_of (next_list old edit) r
-    → is_watched old r k ≡ true → is_watched (next_list old edit) r k ≡ true
-watched_on old edit sound_old sound_new t r k before stands same h =
+    → ((f : List ℕ) → In f (read_by (rule_of (next_list old edit) r)) → HaveSameRivals old (next_list old edit) f)
+    → HasClass (next_list old edit) k → is_watched old r k ≡ true → is_watched (next_list old edit) r k ≡ true
+watched_on old edit sound_old sound_new t r k before stands same rivals own h =
     let new = next_list old edit in
-    let (f, at, of_class) = list_any-In (λ fact. same_name (class_of old fact) k.class) (read_by (rule_of old r)) h in
+    let (f, at, bears) = list_any-In (λ fact. bears_on old fact k) (read_by (rule_of old r)) h in
     let at_new : In f (read_by (rule_of new r)) = subst (λ (x : RuleText). In f (read_by x)) same at in
-    let class : class_of old f ≡ class_of new f = classes_stay old edit sound_old sound_new t r f before stands at at_new in
-    In-list_any (λ fact. same_name (class_of new fact) k.class) (read_by (rule_of new r)) f at_new (subst (λ c. same_name c k.class ≡ true) class of_class)
+    let class : class_of new f ≡ class_of old f = sym (classes_stay old edit sound_old sound_new t r f before stands at at_new) in
+    let back : HaveSameRivals new old f = λ g said. sym (rivals f at_new g (elim said [ inl is ↦ inr is | inr is ↦ inl is ])) in
+    In-list_any (λ fact. bears_on new fact k) (read_by (rule_of new r)) f at_new (bears_alike new old f back k own class bears)
+
+-- what an untouched decision reads has the same rivals in both lists
+rivals_stay : (m n : TimeMap) (t : Moment) (r : List ℕ) → is_touched m n (t, r) ≡ false → RivalsStay m.list n.list r
+rivals_stay m n t r h f at =
+    list_all-In (same_rivals m.list n.list) (read_by (rule_of n.list r))
+    (third (is_decision m (t, r)) (m.list.horizon == n.list.horizon) (list_all (same_rivals m.list n.list) (read_by (rule_of n.list r)))
+    (same_tokens (watched m r) (watched n r)) (same_gaps m n (watched_points n t r)) h) f at
+  where
+    third : (a b c d e : Bool) → (not a || not b || not c || not d || not e) ≡ false → c ≡ true
+    third a b true d e h = refl
+    third true true false d e h = cc
+    third true false false d e h = cc
+    third false b false d e h = cc
 
 module _ (old : Standing) (edit : Edit) (sound_old : IsSound old) (sound_new : IsSound (next_list old edit)) (b : List Moment) (seeds : AreSeeds old (next_list old edit) b)
     (t : Moment) (r : List ℕ) (stands : Contains (rules_at (next_list old edit) t) r) where
@@ -75,25 +92,30 @@ module _ (old : Standing) (edit : Edit) (sound_old : IsSound old) (sound_new : I
   one_token x believed at = tokens_stay old edit sound_old sound_new x (believed_occurs old sound_old x believed) (seed_occurs old edit sound_old sound_new b seeds x at)
 
   pub untouched_false : IsUntouched old (next_list old edit) b t r → is_touched (built old) (map_of (next_list old edit) b) (t, r) ≡ false
-  untouched_false u = untouched_from (built old) (map_of new b) t r (decided old edit sound_old sound_new (built old) t r u.was.0 u.was.1) u.horizon into back u.gaps
+  untouched_false u = untouched_from (built old) (map_of new b) t r (decided old edit sound_old sound_new (built old) t r u.was.0 u.was.1) u.horizon u.rivals into back u.gaps
     where
       same : rule_of old r ≡ rule_of new r
       same = text old edit sound_old sound_new t r u.was.1 stands
+
+      have : (f : List ℕ) → In f (read_by (rule_of new r)) → HaveSameRivals old new f
+      have f at = same_rivals_have old new f (u.rivals f at)
 
       into : (k : TokenRow Moment) → In k (watched (built old) r) → In k (watched (map_of new b) r)
       into k at =
           let (x, believed, e, h) = of_old k at in
           let there = u.left x believed (token_watched old r x k e h) in
-          new_token x k there (sym (one_token x believed there) ∙ e) (watched_on old edit sound_old sound_new t r k u.was.1 stands same h)
+          let is = sym (one_token x believed there) ∙ e in
+          new_token x k there is (watched_on old edit sound_old sound_new t r k u.was.1 stands same have (class-token_of new x k is) h)
 
       back : (k : TokenRow Moment) → In k (watched (map_of new b) r) → In k (watched (built old) r)
       back k at =
           let (x, there, e, h) = of_new k at in
           let believed = u.entered x there (token_watched new r x k e h) in
-          old_token x k believed (one_token x believed there ∙ e) (watched_back old edit sound_old sound_new t r k u.was.1 stands same h)
+          let is = one_token x believed there ∙ e in
+          old_token x k believed is (watched_back old edit sound_old sound_new t r k u.was.1 stands same have (class-token_of old x k is) h)
 
   pub false_untouched : is_touched (built old) (map_of (next_list old edit) b) (t, r) ≡ false → IsUntouched old (next_list old edit) b t r
-  false_untouched h = record { was = stood; horizon = alike.horizon; left = left; entered = entered; gaps = gaps }
+  false_untouched h = record { was = stood; horizon = alike.horizon; rivals = rivals_stay (built old) (map_of new b) t r h; left = left; entered = entered; gaps = gaps }
     where
       stood : Contains (built old).believed t × Contains (rules_at old t) r
       stood = untouched_stood (built old) (map_of new b) t r h
@@ -191,14 +213,15 @@ module _ (old : Standing) (n : ℕ) (b : List Moment) (f : Forest) (rows : Rows)
     | inl same ↦ absurd (only i q at waits same.1)
     | inr other ↦
         by (is_decision (built old) (moment_at f q.trigger, q.rule)) (old.horizon == n)
+        (list_all (same_rivals old (list_until old n)) (read_by (rule_of (list_until old n) q.rule)))
         (same_tokens (watched (built old) q.rule) (watched (map_of (list_until old n) b) q.rule))
         (same_gaps (built old) (map_of (list_until old n) b) (watched_points (map_of (list_until old n) b) (moment_at f q.trigger) q.rule)) other.0
   ]
     where
-      by : (a b c d : Bool) → b ≡ false → (not a || not b || not c || not d) ≡ true
-      by true false c d e = refl
-      by false false c d e = refl
-      by a true c d e = cc
+      by : (a b c d e : Bool) → b ≡ false → (not a || not b || not c || not d || not e) ≡ true
+      by true false c d e h = refl
+      by false false c d e h = refl
+      by a true c d e h = cc
 
   pub horizons_marked : AreMarked old (list_until old n) b f rows
   horizons_marked = record { right = right; touched = λ i q at waits. inl (touched i q at waits) }

@@ -4,7 +4,7 @@ use Rattle.std.specs.List.{Contains, list_any}
 use Rattle.tmm_model.specs.declared.bound.Bound.TheVariants.{Finite}
 use Rattle.tmm_model.specs.declared.point.PointName.{PointName}
 use Rattle.tmm_model.specs.declared.premise.Edit.{Edit}
-use Rattle.tmm_model.specs.Beliefs.{class_of}
+use Rattle.tmm_model.specs.Beliefs.{class_of, are_rivals}
 use Rattle.tmm_model.specs.Edits.{next_list}
 use Rattle.tmm_model.specs.Maps.{built, gap}
 use Rattle.tmm_model.specs.Moments.{Moment, read_by, rule_of}
@@ -31,15 +31,35 @@ SameGaps old new b t r = (p q : Moment) → In p (watched_points (map_of new b) 
 abbrev pub reads_class : Standing → List ℕ → List ℕ → Bool
 reads_class s r class = list_any (λ fact. same_name (class_of s fact) class) (read_by (rule_of s r))
 
+-- whether it reads a fact of which a premise says that this one contradicts it
+abbrev pub reads_rival : Standing → List ℕ → List ℕ → Bool
+reads_rival s r fact = list_any (λ f. are_rivals s f fact) (read_by (rule_of s r))
+
+-- it reads none that a fact contradicts, as a premise says
+abbrev pub ReadsNoRival : Standing → List ℕ → Type 0
+ReadsNoRival s r = (fact : List ℕ) → reads_rival s r fact ≡ false
+
 -- the spot is the begin or the end of a token of this class
 pub data IsClassSpot (f : Forest) (class : List ℕ) (p : Spot) : Type 0 where
   begin : (y : ℕ) (m : Member) → member f y ≡ Some m → m.class ≡ Some class → p ≡ Node y → IsClassSpot f class p
   an_end : (y : ℕ) (m : Member) (e : ℕ) → member f y ≡ Some m → m.class ≡ Some class → m.end ≡ Some e → p ≡ Declared e → IsClassSpot f class p
 
--- the spot is `start`, or the begin or the end of a token that the rule reads
+-- the spot is the begin or the end of a token of this fact
+pub record IsFactSpot (f : Forest) (fact : List ℕ) (p : Spot) : Type 0 where
+  pub number : ℕ
+  pub node : Member
+  pub class : List ℕ
+  pub here : member f number ≡ Some node
+  pub of : node.class ≡ Some class
+  pub fact_is : node.what ≡ fact
+  pub is : (p ≡ Node number) ⊎ ((e : ℕ) × (node.end ≡ Some e) × (p ≡ Declared e))
+
+-- the spot is `start`, or the begin or the end of a token that the rule watches: one of a class that
+-- it reads, or of a fact that contradicts one that it reads
 pub data IsReadSpot (s : Standing) (f : Forest) (r : List ℕ) (p : Spot) : Type 0 where
   start : p ≡ Declared 0 → IsReadSpot s f r p
   read : (class : List ℕ) → reads_class s r class ≡ true → IsClassSpot f class p → IsReadSpot s f r p
+  rival : (fact : List ℕ) → reads_rival s r fact ≡ true → IsFactSpot f fact p → IsReadSpot s f r p
 
 -- on the distances of these spots the decision of the rule at the event of node x depends
 abbrev pub IsSpotAt : Standing → Forest → List ℕ → ℕ → Spot → Type 0

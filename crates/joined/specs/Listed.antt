@@ -1,5 +1,5 @@
 -- Rows on the lists of classes: those that may read a node.
-use Rattle.std.specs.Prelude.{◌≡◌, ◌↔◌, ℕ, ◌+◌, ◌<◌, ◌≤◌, true, List, map, length, Option, Some}
+use Rattle.std.specs.Prelude.{◌≡◌, ◌↔◌, ◌⊎◌, ℕ, ◌+◌, ◌<◌, ◌≤◌, true, List, map, length, Option, Some}
 use Rattle.tmm_model.specs.Beliefs.{class_of}
 use Rattle.tmm_model.specs.Moments.{read_by, rule_of}
 use Rattle.tmm_model.specs.Standing.{Standing}
@@ -13,6 +13,7 @@ use Rattle.undo_rows.specs.Tables.{Table, AreListed}
 use Rattle.decision_rows.specs.Decisions.{classes_in, heads_of}
 use Rattle.decision_rows.specs.declared.row.Pair.{Pair}
 use Rattle.revisions.specs.Maps.{watches}
+use Rattle.joined.specs.Gaps.{reads_rival}
 
 -- no two classes have one number
 abbrev pub AreNumbered : (List ℕ → Option ℕ) → Type 0
@@ -29,14 +30,15 @@ pub record IsUnderClasses (s : Standing) (name : ℕ → List ℕ) (number : Lis
 abbrev pub IsListedUnder : Table Pair 8 → ℕ → ℕ → Type 0
 IsListedUnder t k i = (place : ℕ) × (place < 6) × IsOn (t.list (place + 2) k) i
 
--- **A row reads a node exactly where it is on a list of the node's class.**
+-- **A row reads a node exactly where it is on a list of the node's class**, or its rule reads what
+-- contradicts the node's fact.
 abbrev pub ReadersAreListed : Type 0
 ReadersAreListed =
     (s : Standing) (names : Names) (m : Member) (rows : Logged Pair 8) (name : ℕ → List ℕ) (number : List ℕ → Option ℕ)
     (class : List ℕ) (k i : ℕ) (r : TableRow Pair 8)
     → IsMemberOf s names m → m.class ≡ Some class → number class ≡ Some k → AreNumbered number
     → AreListed (present rows) → (present rows).row i ≡ Some r → IsUnderClasses s name number r
-    → (watches s (name r.value.rule) (moment m) ≡ true) ↔ IsListedUnder (present rows) k i
+    → (watches s (name r.value.rule) (moment m) ≡ true) ↔ (IsListedUnder (present rows) k i ⊎ (reads_rival s (name r.value.rule) m.what ≡ true))
 
 -- **A row is on the lists of its trigger and of its rule**, and on no other of these two families.
 abbrev pub PairsAreListed : Type 0

@@ -1,13 +1,11 @@
 -- What becomes of nodes when some leave, and when the list changes; and what a decision reads of a
 -- node.
-use Rattle.std.specs.Prelude.{◌≡◌, ◌⊎◌, ℕ, false, List, Some}
-use Rattle.std.specs.List.{Contains, list_any}
+use Rattle.std.specs.Prelude.{◌≡◌, ◌⊎◌, ℕ, false, ◌||◌, List, Some}
+use Rattle.std.specs.List.{Contains}
 use Rattle.std.specs.Option.{option_map_or}
 use Rattle.tmm_model.specs.declared.premise.Edit.{Edit}
-use Rattle.tmm_model.specs.Beliefs.{class_of}
 use Rattle.tmm_model.specs.Edits.{next_list}
-use Rattle.tmm_model.specs.Moments.{Moment, read_by, rule_of}
-use Rattle.tmm_model.specs.Points.{same_name}
+use Rattle.tmm_model.specs.Moments.{Moment}
 use Rattle.tmm_model.specs.Standing.{Standing, points_in}
 use Rattle.belief_theory.specs.Right.{Occurs}
 use Rattle.dist_net.specs.Net.{Net}
@@ -18,6 +16,7 @@ use Rattle.spots.specs.Forest.{Forest, Member, member, moment, Withdraws}
 use Rattle.spots.specs.OfLists.{IsForestOf, IsMemberOf, HasOccurrences}
 use Rattle.revisions.specs.Maps.{watches}
 use Rattle.revisions.specs.Steps.{IsUnder}
+use Rattle.joined.specs.Gaps.{reads_class, reads_rival}
 
 -- ---- withdrawing
 
@@ -49,9 +48,9 @@ NodesStaySeen =
 
 -- ---- reading
 
--- **A decision reads a node exactly where the class of the node is that of an antecedent or an
--- exception.**
+-- **A decision reads a node exactly where the node has a class, and that is the class of an
+-- antecedent or an exception, or its fact contradicts one of these.**
 abbrev pub ReadsByClass : Type 0
 ReadsByClass =
     (s : Standing) (names : Names) (m : Member) (r : List ℕ) → IsMemberOf s names m
-    → watches s r (moment m) ≡ option_map_or (λ class. list_any (λ fact. same_name (class_of s fact) class) (read_by (rule_of s r))) m.class false
+    → watches s r (moment m) ≡ option_map_or (λ class. reads_class s r class || reads_rival s r m.what) m.class false

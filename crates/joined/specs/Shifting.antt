@@ -20,7 +20,7 @@ use Rattle.spots.specs.OfLists.{IsForestOf, HasOccurrences}
 use Rattle.spots.specs.Spots.{spot_distance, base_of, links_of, links_high}
 use Rattle.revisions.specs.Maps.{watches}
 use Rattle.revisions.specs.Walls.{AllOccur}
-use Rattle.joined.specs.Gaps.{reads_class, IsClassSpot, TellsMoves}
+use Rattle.joined.specs.Gaps.{reads_class, ReadsNoRival, IsClassSpot, TellsMoves}
 
 -- ---- what moved, as far as a class goes
 
@@ -82,14 +82,16 @@ pub record SparesClass (nets : Nets) (f : Forest) (loose : ℕ → Bool) (class 
   pub each : (y : ℕ) (m : Member) → member f y ≡ Some m → m.class ≡ Some class
       → IsFast loose m ⊎ (IsSparedAt nets.committed f loose class x y m × IsSparedAt nets.present f loose class x y m)
 
--- The decision of the rule at the event of node x may rest: the event keeps its date, and of each
--- class that the rule reads no points moved on which the decision depends, or what moved is spared.
+-- The decision of the rule at the event of node x may rest: no premise says that a fact contradicts
+-- one that it reads, the event keeps its date, and of each class that the rule reads no points moved
+-- on which the decision depends, or what moved is spared.
 pub record MayRest (moves : ℕ → ℕ → Bool) (loose : ℕ → Bool) (s : Standing) (nets : Nets) (f : Forest) (r : List ℕ) (x : ℕ) : Type 0 where
+  pub plain : ReadsNoRival s r
   pub date : moves (base_of f (Node x)) 0 ≡ false
   pub each : (class : List ℕ) → reads_class s r class ≡ true → (MovesAmong moves f (IsSpotOf f class) x → ⊥) ⊎ SparesClass nets f loose class x
 
--- **Then it keeps its outcome**, if the decision was there, the horizon is the same, and no token
--- that it reads left or entered.
+-- **Then it keeps its outcome**, if the decision was there, the horizon is the same, no premise said
+-- that a fact contradicts one that it reads, and no token that it watches left or entered.
 abbrev pub RestingKeep : Type 0
 RestingKeep =
     (old : Standing) (edit : Edit) (nets : Nets) (moves : ℕ → ℕ → Bool) (loose : ℕ → Bool) (f : Forest) (before b : List Moment) (r : List ℕ) (x : ℕ)
@@ -97,7 +99,7 @@ RestingKeep =
     → PointsKeepNumbers (points_in (next_list old edit).premises) nets.committed.names nets.present.names
     → TellsMoves nets moves → AreLoose moves loose → AllOccur old before → HasOccurrences b f → IsLive f x
     → Contains before (moment_at f x) → Contains (rules_at old (moment_at f x)) r → Contains (rules_at (next_list old edit) (moment_at f x)) r
-    → old.horizon ≡ (next_list old edit).horizon
+    → old.horizon ≡ (next_list old edit).horizon → ReadsNoRival old r
     → ((y : Moment) → Contains before y → watches old r y ≡ true → Contains b y)
     → ((y : Moment) → Contains b y → watches (next_list old edit) r y ≡ true → Contains before y)
     → MayRest moves loose (next_list old edit) nets f r x

@@ -6,12 +6,12 @@ use Rattle.tmm_model.specs.declared.premise.Edit.{Edit}
 use Rattle.tmm_model.specs.Beliefs.{due, rules_at}
 use Rattle.tmm_model.specs.Edits.{next_list, list_until}
 use Rattle.tmm_model.specs.Maps.{built, gap}
-use Rattle.tmm_model.specs.Moments.{Moment}
+use Rattle.tmm_model.specs.Moments.{Moment, read_by, rule_of}
 use Rattle.tmm_model.specs.Standing.{Standing, far_in}
 use Rattle.list_theory.specs.WellNamed.{IsSound}
 use Rattle.belief_theory.specs.Outcomes.{outcome}
 use Rattle.list_theory.proofs.Elements.{In}
-use Rattle.belief_theory.specs.Touched.{watched_points}
+use Rattle.belief_theory.specs.Touched.{same_rivals, watched_points}
 use Rattle.spots.specs.Forest.{Forest, moment_at}
 use Rattle.spots.specs.OfLists.{HasOccurrences, map_of}
 use Rattle.revisions.specs.Counted.{AreSeeds}
@@ -19,12 +19,17 @@ use Rattle.revisions.specs.Maps.{watches}
 use Rattle.joined.specs.Rows.{Row, Rows, AreRowsOf}
 use Rattle.joined.specs.Starting.{AreMarked}
 
+-- the same facts contradict in both lists what the rule reads
+abbrev pub RivalsStay : Standing → Standing → List ℕ → Type 0
+RivalsStay old new r = (f : List ℕ) → In f (read_by (rule_of new r)) → same_rivals old new f ≡ true
+
 -- The edit does not touch the decision of r at t, where these occurrences are live: there was this
--- decision, the horizon is the same, no token that it reads left or entered, and the points on
--- which it depends are as far apart as they were.
+-- decision, the horizon is the same, the same facts contradict those that it reads, no token that it
+-- watches left or entered, and the points on which it depends are as far apart as they were.
 pub record IsUntouched (old new : Standing) (b : List Moment) (t : Moment) (r : List ℕ) : Type 0 where
   pub was : Contains (built old).believed t × Contains (rules_at old t) r
   pub horizon : old.horizon ≡ new.horizon
+  pub rivals : RivalsStay old new r
   pub left : (x : Moment) → Contains (built old).believed x → watches old r x ≡ true → Contains b x
   pub entered : (x : Moment) → Contains b x → watches new r x ≡ true → Contains (built old).believed x
   pub gaps : (p q : Moment) → In p (watched_points (map_of new b) t r) → In q (watched_points (map_of new b) t r) → gap (built old) p q ≡ gap (map_of new b) p q

@@ -9,7 +9,7 @@ use Rattle.tmm_model.specs.declared.bound.Bound.TheVariants.{Finite, Free}
 use Rattle.tmm_model.specs.declared.point.PointName.{PointName}
 use Rattle.tmm_model.specs.declared.point.PointName.TheVariants.{Start, Begin, End}
 use Rattle.tmm_model.specs.declared.premise.Premise.{Premise}
-use Rattle.tmm_model.specs.declared.premise.Premise.TheVariants.{Class, Kind, Point, Event, Token, Span, Dist, Rule, Protect}
+use Rattle.tmm_model.specs.declared.premise.Premise.TheVariants.{Class, Kind, Point, Event, Token, Span, Dist, Rule, Protect, Against}
 use Rattle.tmm_model.specs.declared.premise.Edit.TheVariants.{Add}
 use Rattle.tmm_model.specs.declared.walk.Side.TheVariants.{Hi, Lo}
 use Rattle.tmm_model.specs.declared.walk.WalkStep.{WalkStep}
@@ -121,6 +121,7 @@ module _ (ps : List Premise) where
       (Contains-append_left (points_in ps) [] from (place_known ps from first.0)) (Contains-append_left (points_in ps) [] to (place_known ps to second.0))
   steps_at (Rule name trigger lo hi effect given unless_facts) may = none_at (points_in ps ++ [])
   steps_at (Protect name fact from to) may = none_at (points_in ps ++ [])
+  steps_at (Against name one other) may = none_at (points_in ps ++ [])
 
 -- a premise that declares points has constraints from these alone, to others
 abbrev pub StartAtOwn : Premise → Type 0
@@ -155,3 +156,4 @@ own_or_none (Span name fact) = inl (span_own name)
 own_or_none (Dist name from to lo hi) = inr refl
 own_or_none (Rule name trigger lo hi effect given unless_facts) = inr refl
 own_or_none (Protect name fact from to) = inr refl
+own_or_none (Against name one other) = inr refl

@@ -12,7 +12,7 @@ use Rattle.tmm_model.specs.declared.bound.Bound.TheVariants.{Finite, Free}
 use Rattle.tmm_model.specs.declared.point.PointName.{PointName}
 use Rattle.tmm_model.specs.declared.point.PointName.TheVariants.{Start}
 use Rattle.tmm_model.specs.declared.premise.Premise.{Premise}
-use Rattle.tmm_model.specs.declared.premise.Premise.TheVariants.{Class, Kind, Point, Event, Token, Span, Dist, Rule, Protect}
+use Rattle.tmm_model.specs.declared.premise.Premise.TheVariants.{Class, Kind, Point, Event, Token, Span, Dist, Rule, Protect, Against}
 use Rattle.tmm_model.specs.declared.walk.WalkStep.{WalkStep}
 use Rattle.tmm_model.specs.Cycles.{steps_in, Leads, sum_of, begins, IsCycleOf}
 use Rattle.list_theory.specs.NegativeCycles.{IsNegativeCycle, IsCycleSum}
@@ -64,6 +64,7 @@ names_its (Span name fact) s (inr (inr none)) = absurd none
 names_its (Dist name from to lo hi) s m = elim (In-cases (hi_steps name from to hi) (lo_steps name from to lo) s m) [ inl h ↦ names_hi name from to hi s h | inr l ↦ names_lo name from to lo s l ]
 names_its (Rule name trigger lo hi effect given unless_facts) s m = absurd m
 names_its (Protect name fact from to) s m = absurd m
+names_its (Against name one other) s m = absurd m
 
 -- **A constraint names its premise.**
 pub names_own : (p : Premise) (s : WalkStep) → Contains (steps_of p) s → s.premise ≡ name_of p

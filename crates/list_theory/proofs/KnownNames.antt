@@ -8,7 +8,7 @@ use Rattle.tmm_model.specs.declared.bound.Bound.TheVariants.{Finite, Free}
 use Rattle.tmm_model.specs.declared.point.PointName.{PointName}
 use Rattle.tmm_model.specs.declared.point.PointName.TheVariants.{Begin, End}
 use Rattle.tmm_model.specs.declared.premise.Premise.{Premise}
-use Rattle.tmm_model.specs.declared.premise.Premise.TheVariants.{Class, Kind, Point, Event, Token, Span, Dist, Rule, Protect}
+use Rattle.tmm_model.specs.declared.premise.Premise.TheVariants.{Class, Kind, Point, Event, Token, Span, Dist, Rule, Protect, Against}
 use Rattle.tmm_model.specs.declared.walk.WalkStep.{WalkStep}
 use Rattle.tmm_model.specs.Points.{same_name}
 use Rattle.tmm_model.specs.Sorts.{declarations_of, declarations_in, declared_by, a_place}
@@ -37,6 +37,7 @@ own_name (Span name fact) = inl refl
 own_name (Dist name from to lo hi) = inl refl
 own_name (Rule name trigger lo hi effect given unless_facts) = inl refl
 own_name (Protect name fact from to) = inl refl
+own_name (Against name one other) = inl refl
 
 -- the own name of a premise that follows was not known
 pub own_new : (earlier : List Premise) (p : Premise) → Follows earlier p → list_any (same_name (name_of p)) (words_known earlier) ≡ false
@@ -143,6 +144,7 @@ steps_known earlier (Dist name from to lo hi) f e at =
     e at
 steps_known earlier (Rule name trigger lo hi effect given unless_facts) f e at = absurd at
 steps_known earlier (Protect name fact from to) f e at = absurd at
+steps_known earlier (Against name one other) f e at = absurd at
 
 arcs_after : (earlier premises : List Premise) → AllFollow earlier premises → (e : Arc PointName) → In e (flat_map arcs_of premises) → In e.from (points_in (earlier ++ premises)) × In e.to (points_in (earlier ++ premises))
 arcs_after earlier [] h e at = absurd at

@@ -13,10 +13,10 @@ use Rattle.tmm_model.specs.declared.bound.Bound.TheVariants.{Finite, Free}
 use Rattle.tmm_model.specs.declared.point.PointName.{PointName}
 use Rattle.tmm_model.specs.declared.point.PointName.TheVariants.{Start, Begin, End}
 use Rattle.tmm_model.specs.declared.premise.Premise.{Premise}
-use Rattle.tmm_model.specs.declared.premise.Premise.TheVariants.{Class, Kind, Point, Event, Token, Span, Dist, Rule, Protect}
+use Rattle.tmm_model.specs.declared.premise.Premise.TheVariants.{Class, Kind, Point, Event, Token, Span, Dist, Rule, Protect, Against}
 use Rattle.tmm_model.specs.Points.{same_name}
 use Rattle.tmm_model.specs.Standing.{name_of, points_of, points_in, arcs_of, arcs_in}
-use Rattle.tmm_model.specs.Sorts.{Sort, a_class, a_fact, a_kind, a_point, an_event, a_token, a_span, a_dist, a_rule, a_protection, is_place, fact_declaration, declarations_of, declarations_in, sort_in, declared_by}
+use Rattle.tmm_model.specs.Sorts.{Sort, a_class, a_fact, a_kind, a_point, an_event, a_token, a_span, a_dist, a_rule, a_protection, a_rivalry, is_place, fact_declaration, declarations_of, declarations_in, sort_in, declared_by}
 use Rattle.tmm_model.specs.Verdicts.{Cause, unknown, ill_sorted, place_cause, name_cause, end_cause, first_taken, words_known}
 use Rattle.walk_theory.proofs.Members.{Contains-cons, Contains-cons_first, Contains-cons_cases}
 use Rattle.walk_theory.proofs.Points.{same_name-is, same_name-self}
@@ -44,6 +44,7 @@ length-arcs_of-le (Span name fact) = omega arith
 length-arcs_of-le (Dist name from to lo hi) = length-arcs_of_dist name from to lo hi
 length-arcs_of-le (Rule name trigger lo hi effect given unless_facts) = omega arith
 length-arcs_of-le (Protect name fact from to) = omega arith
+length-arcs_of-le (Against name one other) = omega arith
 
 pub length-arcs_in-le : (ps : List Premise) → length (arcs_in ps) ≤ 2 * length ps
 length-arcs_in-le [] = omega arith
@@ -76,6 +77,7 @@ HasPoints-more old new sub k a_kind h = tt
 HasPoints-more old new sub k a_dist h = tt
 HasPoints-more old new sub k a_rule h = tt
 HasPoints-more old new sub k a_protection h = tt
+HasPoints-more old new sub k a_rivalry h = tt
 
 -- the first entry is what is looked up, or a later one is
 lookup-cons : (k name : List ℕ) (s sort : Sort) (entries : List (List ℕ × Sort)) → lookup (same_name k) ((name, s) ∷ entries) ≡ Some sort
@@ -130,6 +132,7 @@ has_points (Span name fact) k sort found =
 has_points (Dist name from to lo hi) k sort found = one_has [] k name a_dist sort tt found
 has_points (Rule name trigger lo hi effect given unless_facts) k sort found = one_has [] k name a_rule sort tt found
 has_points (Protect name fact from to) k sort found = one_has [] k name a_protection sort tt found
+has_points (Against name one other) k sort found = one_has [] k name a_rivalry sort tt found
 
 have_points : (ps : List Premise) (k : List ℕ) (sort : Sort) → lookup (same_name k) (declarations_in ps) ≡ Some sort → HasPoints (flat_map points_of ps) k sort
 have_points [] k sort found = absurd (cc (found))
@@ -150,6 +153,7 @@ begins points k a_kind place has = absurd (cc (place))
 begins points k a_dist place has = absurd (cc (place))
 begins points k a_rule place has = absurd (cc (place))
 begins points k a_protection place has = absurd (cc (place))
+begins points k a_rivalry place has = absurd (cc (place))
 
 name_known : (points : List PointName) (k : List ℕ) (o : Option Sort) → name_cause o k is_place ≡ None → ((sort : Sort) → o ≡ Some sort → HasPoints points k sort) → Contains points (Begin k)
 name_known points k None none has = by (same_name k (codes "start")) none
@@ -175,6 +179,7 @@ end_known points k word (Some a_token) none has = absurd (cc (none))
 end_known points k word (Some a_dist) none has = absurd (cc (none))
 end_known points k word (Some a_rule) none has = absurd (cc (none))
 end_known points k word (Some a_protection) none has = absurd (cc (none))
+end_known points k word (Some a_rivalry) none has = absurd (cc (none))
 
 -- **A point that has no cause against it is there.**
 pub place_known : (ps : List Premise) (p : PointName) → place_cause ps p ≡ None → Contains (points_in ps) p
@@ -207,6 +212,7 @@ point_name (Span name fact) q m = elim (Contains-cons_cases (Begin name) (End na
 point_name (Dist name from to lo hi) q m = absurd (omega (arith, m.1))
 point_name (Rule name trigger lo hi effect given unless_facts) q m = absurd (omega (arith, m.1))
 point_name (Protect name fact from to) q m = absurd (omega (arith, m.1))
+point_name (Against name one other) q m = absurd (omega (arith, m.1))
 
 -- the first name that a premise declares is its own
 pub first_declared : (p : Premise) → (rest : List (List ℕ)) × (declared_by p ≡ name_of p ∷ rest)
@@ -219,6 +225,7 @@ first_declared (Span name fact) = ([], refl)
 first_declared (Dist name from to lo hi) = ([], refl)
 first_declared (Rule name trigger lo hi effect given unless_facts) = ([], refl)
 first_declared (Protect name fact from to) = ([], refl)
+first_declared (Against name one other) = ([], refl)
 
 list_any-here : (w : List ℕ) (ws more : List (List ℕ)) → list_any (same_name w) ((w ∷ ws) ++ more) ≡ true
 list_any-here w ws more = ap (λ b. b || list_any (same_name w) (ws ++ more)) (same_name-self w)

@@ -9,7 +9,7 @@ use Rattle.std.proofs.lemmas.List.{length-append, map-append}
 use Rattle.std.proofs.lemmas.List.Folds.{list_any-append}
 use Rattle.tmm_model.specs.declared.point.PointName.TheVariants.{Start}
 use Rattle.tmm_model.specs.declared.premise.Premise.{Premise}
-use Rattle.tmm_model.specs.declared.premise.Premise.TheVariants.{Class, Kind, Point, Event, Token, Span, Dist, Rule, Protect}
+use Rattle.tmm_model.specs.declared.premise.Premise.TheVariants.{Class, Kind, Point, Event, Token, Span, Dist, Rule, Protect, Against}
 use Rattle.tmm_model.specs.Points.{same_name}
 use Rattle.tmm_model.specs.Standing.{points_of, points_in}
 use Rattle.tmm_model.specs.Sorts.{Sort, is_reserved, declarations_of, declarations_in, declared_by, sort_in}
@@ -36,6 +36,7 @@ points_of-few (Span name fact) = omega arith
 points_of-few (Dist name from to lo hi) = omega arith
 points_of-few (Rule name trigger lo hi effect given unless_facts) = omega arith
 points_of-few (Protect name fact from to) = omega arith
+points_of-few (Against name one other) = omega arith
 
 pub points_in-few : (ps : List Premise) → length (flat_map points_of ps) ≤ 2 * length ps
 points_in-few [] = omega arith

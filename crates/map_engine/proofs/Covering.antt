@@ -29,7 +29,8 @@ use Rattle.spots.specs.Forest.{Forest, Member, member, moment, IsLive, moment_at
 use Rattle.spots.proofs.Nodes.{node_at, live_at, moment_at-is, base-moment}
 use Rattle.occ_tree.specs.Standing.{Kept, forest, present}
 use Rattle.occ_tree.specs.Touched.{IsAtMoved}
-use Rattle.supports.specs.Edited.{IsEdited, old_forest, AreOthersUntouched}
+use Rattle.supports.specs.Apart.{AreOthersApart}
+use Rattle.supports.specs.Edited.{IsEdited, old_forest}
 use Rattle.revisions.specs.Standing.{Stands}
 use Rattle.revisions.proofs.Tokens.{root_named, is_of_stays}
 use Rattle.belief_list.specs.KeptRows.{CoverTouched}
@@ -57,7 +58,7 @@ module _ (lists : States) (nets : Nets) (edit : Edit) (tree : Kept) (told : Told
     (takes : TakesIn (forest (present tree)) told (name_added edit) gone numbers)
     (moved : (x : ℕ) (m : Member) → member (forest (present tree)) x ≡ Some m → IsAtMoved nets.moved m → Contains numbers x)
     (ruled : HasRuled (forest (present tree)) lists.committed.premises edit numbers)
-    (others : AreOthersUntouched nets tree classes) where
+    (others : AreOthersApart lists nets tree classes) where
   abbrev f : Forest
   f = old_forest tree
 

@@ -5,7 +5,7 @@ use Rattle.std.specs.Option.{is_some}
 use Rattle.tmm_model.specs.declared.point.PointName.{PointName}
 use Rattle.tmm_model.specs.declared.point.PointName.TheVariants.{Start, Begin, End}
 use Rattle.tmm_model.specs.declared.premise.Premise.{Premise}
-use Rattle.tmm_model.specs.declared.premise.Premise.TheVariants.{Class, Kind, Point, Event, Token, Span, Dist, Rule, Protect}
+use Rattle.tmm_model.specs.declared.premise.Premise.TheVariants.{Class, Kind, Point, Event, Token, Span, Dist, Rule, Protect, Against}
 use Rattle.tmm_model.specs.Beliefs.{as_root, root_of, roots}
 use Rattle.tmm_model.specs.Moments.{At}
 use Rattle.tmm_model.specs.Standing.{Standing, name_of, premise_in}
@@ -28,6 +28,7 @@ declared_at (Point name) k e = cc
 declared_at (Dist name from to lo hi) k e = cc
 declared_at (Rule name trigger lo hi effect given unless_facts) k e = cc
 declared_at (Protect name fact from to) k e = cc
+declared_at (Against name one other) k e = cc
 
 anchor_seen : (s : Standing) → IsWellNamed s.premises → (p : PointName) → IsAnchor s p → is_anchor s.premises p ≡ true
 anchor_seen s named Start at = refl

@@ -4,6 +4,8 @@ mod Rows
 mod Finding
 mod Reading
 mod Ruled
+mod RivalClasses
+mod Apart
 mod Covering
 mod ToldOf
 mod Elsewhere

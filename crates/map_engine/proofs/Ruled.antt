@@ -5,7 +5,7 @@ use Rattle.std.specs.List.{Contains, filter_map, cons_option}
 use Rattle.tmm_model.specs.declared.premise.Edit.{Edit}
 use Rattle.tmm_model.specs.declared.premise.Edit.TheVariants.{Add, Erase, Horizon, Upgrade}
 use Rattle.tmm_model.specs.declared.premise.Premise.{Premise}
-use Rattle.tmm_model.specs.declared.premise.Premise.TheVariants.{Class, Kind, Point, Event, Token, Span, Dist, Rule, Protect}
+use Rattle.tmm_model.specs.declared.premise.Premise.TheVariants.{Class, Kind, Point, Event, Token, Span, Dist, Rule, Protect, Against}
 use Rattle.tmm_model.specs.Beliefs.{on_kind, rules_at, rules_on}
 use Rattle.tmm_model.specs.Edits.{next_list}
 use Rattle.tmm_model.specs.Standing.{Standing, name_of}
@@ -52,6 +52,7 @@ on_rule kind (Span name fact) e = e
 on_rule kind (Dist name from to lo hi) e = e
 on_rule kind (Rule name trigger lo hi effect given unless_facts) e = refl
 on_rule kind (Protect name fact from to) e = e
+on_rule kind (Against name one other) e = e
 
 some_there : {X : Type 0} (o : Option X) → is_some o ≡ true → (x : X) × (o ≡ Some x)
 some_there None e = cc

@@ -6,7 +6,7 @@ use Rattle.tmm_model.specs.declared.changes.Changes.{Changes as CodeChanges}
 use Rattle.tmm_model.specs.declared.premise.Edit.{Edit}
 use Rattle.tmm_model.specs.declared.premise.Edit.TheVariants.{Add, Erase, Horizon, Upgrade}
 use Rattle.tmm_model.specs.declared.premise.Premise.{Premise}
-use Rattle.tmm_model.specs.declared.premise.Premise.TheVariants.{Class, Kind, Point, Event, Token, Span, Dist, Rule, Protect}
+use Rattle.tmm_model.specs.declared.premise.Premise.TheVariants.{Class, Kind, Point, Event, Token, Span, Dist, Rule, Protect, Against}
 use Rattle.tmm_model.specs.Answers.{broken, reports, report_of, most_size}
 use Rattle.tmm_model.specs.Changes.{changes, delta_of, protection_name, is_broken}
 use Rattle.tmm_model.specs.Edits.{next_list}
@@ -59,6 +59,7 @@ none_broken m (Span name fact ∷ ps) none = none_broken m ps none
 none_broken m (Dist name from to lo hi ∷ ps) none = none_broken m ps none
 none_broken m (Rule name trigger lo hi effect given unless_facts ∷ ps) none = none_broken m ps none
 none_broken m (Protect name fact from to ∷ ps) none = cc
+none_broken m (Against name one other ∷ ps) none = none_broken m ps none
 
 pub none_reported : (s : Standing) → IsUnguarded s → reports (built s) ≡ []
 none_reported s none = none_broken (built s) s.premises none
@@ -88,6 +89,7 @@ no_name (Span name fact) e = refl
 no_name (Dist name from to lo hi) e = refl
 no_name (Rule name trigger lo hi effect given unless_facts) e = refl
 no_name (Protect name fact from to) e = cc
+no_name (Against name one other) e = refl
 
 added_unguarded : (ps : List Premise) (p : Premise) → is_protection p ≡ false → filter_map protection_name ps ≡ [] → filter_map protection_name (ps ++ p ∷ []) ≡ []
 added_unguarded [] p e none = ap (λ o. cons_option o []) (no_name p e)

@@ -10,3 +10,4 @@ pub mod Ruled
 pub mod Touching
 pub mod Gone
 pub mod NetMaps
+pub mod RivalClasses

@@ -22,6 +22,7 @@ mod net_map;
 mod next;
 mod plain;
 mod questions;
+mod rival_classes;
 mod still;
 mod touching;
 mod view;

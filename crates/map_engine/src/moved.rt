@@ -19,7 +19,8 @@ ghost use Rattle.projection.specs.Queues.{IsTooLarge};
 ghost use Rattle.revisions.specs.Counted.{changed};
 ghost use Rattle.revisions.specs.Ruling.{is_ruling};
 ghost use Rattle.spots.specs.OfLists.{HasOccurrences};
-ghost use Rattle.supports.specs.Edited.{IsEdited, old_forest, AreOthersUntouched};
+ghost use Rattle.supports.specs.Apart.{AreOthersApart};
+ghost use Rattle.supports.specs.Edited.{IsEdited, old_forest};
 ghost use Rattle.map_engine.specs.Beliefs.{IsLeftOut};
 ghost use Rattle.map_engine.specs.Gone.{seen_left};
 ghost use Rattle.map_engine.specs.NetMaps.{AreNodesOf};
@@ -135,7 +136,7 @@ fn read(
     ensures changes { IfOk result (λ made. delta_of made.1 ≡ changes standing.now.committed standing.now.present) }
     ensures stops { IfErr result (IsTooLarge (size (built standing.now.present))) }
 {
-    let Ok(found) = touched(alloc, edit, net, tree, told, others) else {
+    let Ok(found) = touched(alloc, edit, standing, net, tree, told, others) else {
         return Err(Stop::NoMemory);
     };
     let Ok(made) = differing(alloc, standing, net, tree, &found, &mut view.rows) else {
@@ -213,7 +214,7 @@ fn tell(
     requires seen { IsTreeOf standing.now.present net.now.present tree.now }
     requires holds { HasOccurrences (built standing.now.present).believed (forest tree.now) }
     requires edited { IsEdited standing.now net.now edit.now tree.now }
-    requires others { AreOthersUntouched net.now tree.now classes.now }
+    requires others { AreOthersApart standing.now net.now tree.now classes.now }
     requires numbers { KeepsNumbers tree.now (left_under left.now) }
     requires made { (kept : List (Option AKeptRow)) × AreDifferences standing.now net.now edit.now tree.now kept made.now }
     requires before { AreFound (reports (built standing.now.committed)) (found_in before.now) }
@@ -256,7 +257,7 @@ fn reviewed(
     requires seen { IsTreeOf standing.now.present net.now.present tree.now }
     requires holds { HasOccurrences (built standing.now.present).believed (forest tree.now) }
     requires edited { IsEdited standing.now net.now edit.now tree.now }
-    requires others { AreOthersUntouched net.now tree.now classes.now }
+    requires others { AreOthersApart standing.now net.now tree.now classes.now }
     requires before { AreFound (reports (built standing.now.committed)) (found_in before.now) }
     requires left_out { IsLeftOut standing.now.committed standing.now.present erased.now }
     requires unguarded_before { guarded ≡ false → IsUnguarded standing.now.committed }

@@ -13,7 +13,8 @@ ghost use Rattle.spots.specs.Spots.{AreTokens};
 ghost use Rattle.occ_tree.specs.Places.{forest};
 ghost use Rattle.occ_tree.specs.Standing.{committed};
 ghost use Rattle.occ_tree.specs.Touched.{IsAtMoved};
-ghost use Rattle.supports.specs.Edited.{old_forest, AreOthersUntouched};
+ghost use Rattle.supports.specs.Apart.{AreOthersApart};
+ghost use Rattle.supports.specs.Edited.{old_forest};
 ghost use Rattle.revisions.specs.Ruling.{is_ruling};
 ghost use Rattle.joined.specs.Netted.{IsCurrent};
 ghost use Rattle.belief_net.specs.MarkLaws.{added_by as name_added};
@@ -24,9 +25,11 @@ ghost use Rattle.map_engine.specs.Ruled.{HasRuled};
 ghost use Rattle.map_engine.specs.Touching.{HasNodeOf, entered_of, TakesIn};
 
 use crate::at_node::is_at;
+use crate::rival_classes::with_rivals;
 use belief_net::{BeliefNet, DatedOcc, Told};
 use dist_net::DistNet;
 use occ_tree::{Touched, Tree};
+use premise_list::Standing;
 use std::alloc::Global;
 use tmm_model::{Edit, Name, NoMemory, Occ, Seq};
 
@@ -42,12 +45,13 @@ pub(crate) fn roots_named(alloc: Global, tree: &Tree, names: &[Name]) -> Result<
     Ok(found)
 }
 
-// All that an edit may have touched: nodes that entered, left or moved, and the classes of tokens;
-// and these other nodes, which are the roots that are gone, and those on which the rules may have
-// changed.
+// All that an edit may have touched: nodes that entered, left or moved, and the classes of tokens,
+// with those of which other tokens contradict theirs; and these other nodes, which are the roots
+// that are gone, and those on which the rules may have changed.
 pub(crate) fn touched(
     alloc: Global,
     edit: &Edit,
+    standing: &Standing,
     net: &DistNet,
     tree: &Tree,
     told: &Told,
@@ -57,16 +61,14 @@ pub(crate) fn touched(
     requires once { IsOnce (forest tree.now) }
     ensures takes { IfOk result (λ found. TakesIn (forest tree.now) told.now (name_added edit.now) others.now found.nodes.items) }
     ensures moved { IfOk result (λ found. (x : ℕ) (m : Member) → member (forest tree.now) x ≡ Some m → IsAtMoved net.now.moved m → Contains found.nodes.items x) }
-    ensures classes { IfOk result (λ found. AreOthersUntouched net.now tree.now found.classes.items) }
+    ensures classes { IfOk result (λ found. AreOthersApart standing.now net.now tree.now found.classes.items) }
     ensures before { IfOk result (λ found. (class : List ℕ) → AreTokens (old_forest tree.now) class ((committed tree.now).tokens class)) }
 {
     let moved = tree.touched(alloc, net)?;
     let mut nodes = touched_nodes(alloc, tree, edit, told, others)?;
     push_numbers(moved.nodes.as_slice(), &mut nodes)?;
-    Ok(Touched {
-        nodes,
-        classes: moved.classes,
-    })
+    let classes = with_rivals(alloc, standing, moved.classes)?;
+    Ok(Touched { nodes, classes })
 }
 
 // The nodes of what an update tells as entered, and of the root that the edit adds; those of what

@@ -89,10 +89,7 @@ fn joined(alloc: Global, names: &[Name]) -> Result<Seq<u8>, NoMemory>
     let mut word = Seq::make(alloc);
     if let [first, rest @ ..] = names {
         word.extend(first.bytes())?;
-        for name in rest {
-            word.extend(b"/")?;
-            word.extend(name.bytes())?;
-        }
+        word.put_links(rest)?;
     }
     Ok(word)
 }

@@ -1,3 +1,4 @@
 pub mod Lookups
 pub mod TableFacts
 pub mod Parts
+pub mod PairsOfFacts

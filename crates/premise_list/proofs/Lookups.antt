@@ -9,7 +9,7 @@ use Rattle.std.proofs.lemmas.List.Elements.{Contains-append_left, Contains-appen
 use Rattle.std.proofs.lemmas.Map.Views.{lookup-from_Contains, Contains-from_any}
 use Rattle.walk_theory.proofs.Members.{Contains-map, Contains-cons, Contains-cons_first}
 use Rattle.tmm_model.specs.declared.premise.Premise.{Premise}
-use Rattle.tmm_model.specs.declared.premise.Premise.TheVariants.{Class, Kind, Point, Event, Token, Span, Dist, Rule, Protect}
+use Rattle.tmm_model.specs.declared.premise.Premise.TheVariants.{Class, Kind, Point, Event, Token, Span, Dist, Rule, Protect, Against}
 use Rattle.tmm_model.specs.Points.{same_name}
 use Rattle.tmm_model.specs.Standing.{name_of, premise_in}
 use Rattle.tmm_model.specs.Sorts.{Sort, a_fact, is_fact, fact_declaration, declarations_of, declarations_in, class_in}
@@ -30,6 +30,7 @@ declarations_parted (Span name fact) = refl
 declarations_parted (Dist name from to lo hi) = refl
 declarations_parted (Rule name trigger lo hi effect given unless_facts) = refl
 declarations_parted (Protect name fact from to) = refl
+declarations_parted (Against name one other) = refl
 
 own_sort_no_fact : (p : Premise) → is_fact (own_sort p) ≡ false
 own_sort_no_fact (Class name facts) = refl
@@ -41,6 +42,7 @@ own_sort_no_fact (Span name fact) = refl
 own_sort_no_fact (Dist name from to lo hi) = refl
 own_sort_no_fact (Rule name trigger lo hi effect given unless_facts) = refl
 own_sort_no_fact (Protect name fact from to) = refl
+own_sort_no_fact (Against name one other) = refl
 
 -- the sorts among placed declarations
 lookup-at_place : (test : List ℕ → Bool) (i : ℕ) (ds : List (List ℕ × Sort)) → option_map (λ v. v.0) (lookup test (map (at_place i) ds)) ≡ lookup test ds
@@ -102,6 +104,7 @@ class_in-has n (Span name fact) ps e = cc
 class_in-has n (Dist name from to lo hi) ps e = cc
 class_in-has n (Rule name trigger lo hi effect given unless_facts) ps e = cc
 class_in-has n (Protect name fact from to) ps e = cc
+class_in-has n (Against name one other) ps e = cc
 
 class_in-has_not : (n : List ℕ) (p : Premise) (ps : List Premise) → list_any (same_name n) (facts_of p) ≡ false → class_in (p ∷ ps) n ≡ class_in ps n
 class_in-has_not n (Class name facts) ps e = rw (e, class_in) refl
@@ -113,6 +116,7 @@ class_in-has_not n (Span name fact) ps e = refl
 class_in-has_not n (Dist name from to lo hi) ps e = refl
 class_in-has_not n (Rule name trigger lo hi effect given unless_facts) ps e = refl
 class_in-has_not n (Protect name fact from to) ps e = refl
+class_in-has_not n (Against name one other) ps e = refl
 
 -- where a name other than a fact is found, there stands the premise of this name
 pub premise_found : (n : List ℕ) (i : ℕ) (ps : List Premise) (s : Sort) (k : ℕ) → lookup (same_name n) (placed i ps) ≡ Some (s, k) → is_fact s ≡ false
@@ -185,6 +189,7 @@ not_fact code.Span h = refl
 not_fact code.Dist h = refl
 not_fact code.Rule h = refl
 not_fact code.Protection h = refl
+not_fact code.Rivalry h = refl
 
 module _ (n : List ℕ) (ps : List Premise) (distinct : IsDistinct same_name (keys_of (placed 0 ps))) where
   -- where no name of a premise is found, no premise has the name

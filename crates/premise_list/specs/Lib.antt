@@ -6,3 +6,6 @@ pub mod States
 pub mod StandingInside
 pub mod Gone
 pub mod Found
+pub mod Rivalries
+pub mod RivalriesInside
+pub mod RivalLaws

@@ -1,9 +1,10 @@
 -- What holds of the fields of a `Standing`.
-use Rattle.std.specs.Prelude.{◌+◌, ◌++◌, ◌≤◌, List, length, take}
+use Rattle.std.specs.Prelude.{◌≡◌, ◌+◌, ◌++◌, ◌≤◌, List, length, take}
 use Rattle.tmm_model.specs.declared.premise.Premise.{Premise}
 use Rattle.tmm_model.specs.Verdicts.{most_premises, words_known}
 use Rattle.list_theory.specs.WellNamed.{IsWellNamed}
 use Rattle.premise_list.specs.declared.standing.Standing.TheInside.{Inside}
+use Rattle.premise_list.specs.Rivalries.{rivalries}
 use Rattle.premise_list.specs.States.{States}
 
 -- the premises of the last commit: those that are shared, and the rest
@@ -25,3 +26,6 @@ pub record IsStanding (s : Inside) : Type 0 where
   -- what the list of the last commit was when it was the present one
   pub few : length (committed_premises s) ≤ most_premises
   pub well_named : IsWellNamed (committed_premises s)
+  -- the facts that premises of each list set against each other
+  pub rivals : s.rivalries.present ≡ rivalries s.table.premises
+  pub rivals_before : s.rivalries.committed ≡ rivalries (committed_premises s)

@@ -105,6 +105,10 @@ impl Table {
                 self.check_place(*from)?;
                 self.check_place(*to)
             }
+            Premise::Against { one, other, .. } => {
+                self.check_name(*one, Wanted::Fact)?;
+                self.check_name(*other, Wanted::Fact)
+            }
         }
     }
 

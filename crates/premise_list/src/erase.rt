@@ -81,6 +81,7 @@ fn mentions(gone: &IndexSet<Name>, premise: &Premise) -> bool
         Premise::Protect { fact, from, to, .. } => {
             gone.contains(fact) || mentions_point(gone, *from) || mentions_point(gone, *to)
         }
+        Premise::Against { one, other, .. } => gone.contains(one) || gone.contains(other),
     }
 }
 

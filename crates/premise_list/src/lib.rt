@@ -10,6 +10,7 @@
 mod check;
 mod erase;
 mod premise;
+mod rivalries;
 mod standing;
 mod table;
 

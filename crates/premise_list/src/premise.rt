@@ -19,6 +19,7 @@ pub(crate) enum Sort {
     Dist,
     Rule,
     Protection,
+    Rivalry,
 }
 
 // The name that a premise declares for itself.
@@ -34,7 +35,8 @@ pub(crate) fn name_of(premise: &Premise) -> Name
         | Premise::Span { name, .. }
         | Premise::Dist { name, .. }
         | Premise::Rule { name, .. }
-        | Premise::Protect { name, .. } => *name,
+        | Premise::Protect { name, .. }
+        | Premise::Against { name, .. } => *name,
     }
 }
 
@@ -52,6 +54,7 @@ pub(crate) fn sort_of(premise: &Premise) -> Sort
         Premise::Dist { .. } => Sort::Dist,
         Premise::Rule { .. } => Sort::Rule,
         Premise::Protect { .. } => Sort::Protection,
+        Premise::Against { .. } => Sort::Rivalry,
     }
 }
 
@@ -141,6 +144,11 @@ pub(crate) fn copy_of(premise: &Premise) -> Premise
             fact: *fact,
             from: *from,
             to: *to,
+        },
+        Premise::Against { name, one, other } => Premise::Against {
+            name: *name,
+            one: *one,
+            other: *other,
         },
     }
 }

@@ -1,5 +1,6 @@
 // The standing list, present and committed.
-ghost use Rattle.std.specs.Prelude.{◌≡◌, ◌≤◌, ◌↔◌, ◌++◌, None, length, map, slice_get, IsOk, IfOk, IfErr, OnOk, OnErr, vec_len, vec_capacity, ◌+◌};
+ghost use Rattle.std.specs.Prelude.{◌≡◌, ◌<◌, ◌≤◌, Some, ◌↔◌, ◌++◌, None, length, map, slice_get, IsOk, IfOk, IfErr, OnOk, OnErr, vec_len, vec_capacity, ◌+◌};
+ghost use Rattle.std.specs.List.{list_any};
 ghost use Rattle.std.specs.Option.{option_copied};
 ghost use Rattle.tmm_model.specs.Standing.{empty_list, is_empty, name_of, premise_in};
 ghost use Rattle.list_theory.specs.Fallen.{fallen_with};
@@ -7,15 +8,21 @@ ghost use Rattle.tmm_model.specs.Sorts.{class_in, fact_use};
 ghost use Rattle.tmm_model.specs.Verdicts.{list_cause, place_cause, upgrade_cause, use_cause, most_premises, Tells};
 ghost use Rattle.list_theory.specs.WellNamed.{IsWellNamed};
 ghost use Rattle.tmm_model.specs.Edits.{list_with, list_without, list_until, upgraded};
+ghost use Rattle.tmm_model.specs.Beliefs.{are_rivals};
 ghost use Rattle.premise_list.specs.Judged.{Judges, NamesPlainly};
+ghost use Rattle.premise_list.specs.Rivalries.{rivalries, has_rivals, is_pair_of, sets_against};
+ghost use Rattle.premise_list.specs.RivalLaws.{no_rival_of_itself, rivals_of_each_other};
 
 use crate::check::Wanted;
 use crate::erase::fall_with;
 use crate::premise::{copy_of, facts_of};
+use crate::rivalries::{Rivalries, rivalry_count};
 use crate::table::{Table, word_count};
 use std::alloc::Global;
 use std::marker::Model;
-use tmm_model::{Edit, FIRST_HORIZON, Name, NoMemory, PointName, Premise, Refusal, Seq, Version};
+use tmm_model::{
+    Edit, FIRST_HORIZON, Name, NoMemory, PointName, Premise, Refusal, Rivals, Seq, Version,
+};
 
 /// The standing list with its version and its horizon, now and as they were at the last commit.
 #[derive(Drop)]
@@ -27,6 +34,8 @@ pub struct Standing {
     shared: usize,
     // what the list of the last commit has behind those
     rest: Vec<Premise>,
+    // the facts that premises of both lists set against each other
+    rivalries: Rivalries,
     committed_version: Version,
     committed_horizon: u32,
 }
@@ -55,6 +64,7 @@ impl Standing {
             horizon: FIRST_HORIZON,
             shared: 0,
             rest: Vec::new(alloc),
+            rivalries: Rivalries::make(alloc),
             committed_version: Version::One,
             committed_horizon: FIRST_HORIZON,
         }
@@ -127,6 +137,7 @@ impl Standing {
     {
         let owed = word_count(self.rest.as_slice());
         self.table.reserve(1, 1 + facts_of(premise).len() + owed)?;
+        self.rivalries.add(premise)?;
         self.table.push(copy_of(premise));
         Ok(())
     }
@@ -145,12 +156,18 @@ impl Standing {
         let mut fall = fall_with(alloc, name, &premises[first..])?;
         let shared = self.shared.min(first);
         let owed = word_count(&premises[shared..self.shared]) + word_count(self.rest.as_slice());
+        let gone = rivalry_count(&premises[first..]);
         self.table
             .reserve(0, word_count(fall.kept.as_slice()) + owed)?;
         self.rest.reserve(self.shared - shared)?;
+        let back = rivalry_count(fall.kept.as_slice());
+        self.rivalries.reserve(back)?;
         let mut cut = self.table.cut(first)?;
         cut.truncate(self.shared - shared);
         put_before(&mut self.rest, cut);
+        self.rivalries
+            .truncate(self.rivalries.present().len() - gone);
+        self.rivalries.add_all(fall.kept.as_slice());
         self.table.append(&mut fall.kept);
         self.shared = shared;
         Ok(fall.names)
@@ -224,12 +241,53 @@ impl Standing {
         self.table.class_of(fact)
     }
 
+    /// How many premises set two facts against each other.
+    pub fn rivalries(&self) -> usize
+        ensures { result ≡ length (rivalries self.now.present.premises) }
+    {
+        self.rivalries.present().len()
+    }
+
+    /// The two facts that the `i`-th of these premises sets against each other, the oldest at 0.
+    pub fn rivalry(&self, i: usize) -> (Name, Name)
+        requires { i < length (rivalries self.now.present.premises) }
+        ensures { slice_get (rivalries self.now.present.premises) i ≡ Some result }
+    {
+        self.rivalries.present()[i]
+    }
+
+    /// How many premises of the list of the last commit set two facts against each other.
+    pub fn rivalries_before(&self) -> usize
+        ensures { result ≡ length (rivalries self.now.committed.premises) }
+    {
+        self.rivalries.committed().len()
+    }
+
+    /// The two facts that the `i`-th of these premises sets against each other, the oldest at 0.
+    pub fn rivalry_before(&self, i: usize) -> (Name, Name)
+        requires { i < length (rivalries self.now.committed.premises) }
+        ensures { slice_get (rivalries self.now.committed.premises) i ≡ Some result }
+    {
+        self.rivalries.committed()[i]
+    }
+
+    /// Whether a premise sets the fact against another one.
+    pub fn has_rivals(&self, fact: Name) -> bool
+        ensures { result ≡ has_rivals self.now.present fact }
+    {
+        self.rivalries
+            .present()
+            .iter()
+            .any(|pair| sets_against(pair, fact))
+    }
+
     /// Makes the present list the one of the last commit. It takes no memory.
     pub fn commit(&mut self)
         ensures { self.new ≡ record self.old { committed = self.old.present } }
     {
         self.shared = self.table.premises().len();
         self.rest.clear();
+        self.rivalries.commit();
         self.committed_version = self.version;
         self.committed_horizon = self.horizon;
     }
@@ -240,10 +298,50 @@ impl Standing {
     {
         self.table.truncate(self.shared);
         self.table.append(&mut self.rest);
+        self.rivalries.rollback();
         self.shared = self.table.premises().len();
         self.version = self.committed_version;
         self.horizon = self.committed_horizon;
     }
+}
+
+impl Standing {
+    // Whether a premise sets the facts against each other.
+    fn are_paired(&self, one: &Name, other: &Name) -> bool
+        ensures { result ≡ list_any (is_pair_of one.now other.now) (rivalries self.now.present.premises) }
+    {
+        self.rivalries
+            .present()
+            .iter()
+            .any(|pair| is_pair_of(pair, one, other))
+    }
+}
+
+impl Rivals for Standing {
+    ghost against = { λ s f g. are_rivals s.present f g };
+
+    #[tactic(auto, using(crate::proofs::PairsOfFacts::any_pair))]
+    fn are_against(&self, one: &Name, other: &Name) -> bool {
+        *one != *other && self.are_paired(one, other)
+    }
+
+    ghost irreflexive = { λ s f. no_rival_of_itself s.present f };
+
+    ghost symmetric = { λ s f g. rivals_of_each_other s.present f g };
+}
+
+// Whether the pair is of these two facts, in either order.
+fn is_pair_of(pair: &(Name, Name), one: &Name, other: &Name) -> bool
+    ensures { result ≡ is_pair_of one.now other.now pair.now }
+{
+    (pair.0 == *one && pair.1 == *other) || (pair.0 == *other && pair.1 == *one)
+}
+
+// Whether the pair is of the fact and another one.
+fn sets_against(pair: &(Name, Name), fact: Name) -> bool
+    ensures { result ≡ sets_against fact pair.now }
+{
+    (pair.0 == fact || pair.1 == fact) && pair.0 != pair.1
 }
 
 // Moves the premises to the front of a list that has room for them.

@@ -6,7 +6,7 @@ use Rattle.std.specs.Option.{option_map_or}
 use Rattle.std.proofs.lemmas.List.{get_or_default, map-append, length-map}
 use Rattle.std.proofs.lemmas.List.Elements.{All-push, filter_map-append}
 use Rattle.tmm_model.specs.declared.premise.Premise.{Premise}
-use Rattle.tmm_model.specs.declared.premise.Premise.TheVariants.{Class, Kind, Point, Event, Token, Span, Dist, Rule, Protect}
+use Rattle.tmm_model.specs.declared.premise.Premise.TheVariants.{Class, Kind, Point, Event, Token, Span, Dist, Rule, Protect, Against}
 use Rattle.tmm_model.specs.Beliefs.{on_kind}
 use Rattle.tmm_model.specs.Standing.{Standing, name_of, premise_in}
 use Rattle.list_theory.specs.WellNamed.{IsWellNamed}
@@ -50,6 +50,7 @@ rule_on kind p r e = (named_rule kind p r e, is_rule p e)
     is_rule (Span name fact) e = cc
     is_rule (Dist name from to lo hi) e = cc
     is_rule (Protect name fact from to) e = cc
+    is_rule (Against name one other) e = cc
 
 module _ (s : Standing) (kind : List ℕ) (i : ℕ) (p : Premise) (at : slice_get s.premises i ≡ Some p) where
   own_name : map (name_at s) (map (λ name. i) (filter_map (on_kind kind) (p ∷ []))) ≡ filter_map (on_kind kind) (p ∷ [])

@@ -1,29 +1,33 @@
 -- Of a protection that an edit left alone the same is found as before.
-use Rattle.std.proofs.Common.{◌≡◌, ◌∙◌, ℕ, true, false, List, [], map, refl, sym, ap, subst, inl, inr}
+use Rattle.std.proofs.Common.{◌≡◌, ◌∙◌, ℕ, Bool, true, false, not, ◌&&◌, ◌||◌, List, [], map, refl, sym, ap, subst, inl, inr}
 use Rattle.std.proofs.lemmas.Bool.Decides.{eqb_tells}
-use Rattle.std.specs.Prelude.{◌↔◌, ◌≢◌, Option, Some, None, IsSome, MatchOption}
-use Rattle.std.specs.List.{Contains}
+use Rattle.std.specs.Prelude.{◌↔◌, ◌⊎◌, ◌≢◌, Option, Some, None, IsSome, MatchOption}
+use Rattle.std.specs.List.{Contains, list_any}
 use Rattle.std.specs.Option.{option_map, option_map_or}
 use Rattle.std.specs.Cmp.Lexicographic.{bytes_decides}
 use Rattle.tmm_model.specs.declared.point.PointName.{PointName}
 use Rattle.tmm_model.specs.declared.point.PointName.TheVariants.{Start, Begin, End}
 use Rattle.tmm_model.specs.declared.premise.Edit.{Edit}
 use Rattle.tmm_model.specs.declared.premise.Premise.{Premise}
-use Rattle.tmm_model.specs.declared.premise.Premise.TheVariants.{Class, Kind, Point, Event, Token, Span, Dist, Rule, Protect}
+use Rattle.tmm_model.specs.declared.premise.Premise.TheVariants.{Class, Kind, Point, Event, Token, Span, Dist, Rule, Protect, Against}
 use Rattle.tmm_model.specs.declared.token.Shape.TheVariants.{Span as ASpan}
 use Rattle.tmm_model.specs.declared.token.TokenRow.{TokenRow}
 use Rattle.tmm_model.specs.Answers.{Finding, does_hold, ask, broken}
-use Rattle.tmm_model.specs.Beliefs.{token_of, class_of}
+use Rattle.tmm_model.specs.Beliefs.{token_of, class_of, says_against, are_rivals, contradicts_in}
 use Rattle.tmm_model.specs.Bounds.{bound_plus, bound_less}
 use Rattle.tmm_model.specs.Edits.{next_list}
 use Rattle.tmm_model.specs.Maps.{built, gap, believed_tokens}
 use Rattle.tmm_model.specs.Moments.{Moment, At, base}
+use Rattle.tmm_model.specs.Points.{same_name}
 use Rattle.tmm_model.specs.Sorts.{class_in}
 use Rattle.tmm_model.specs.Standing.{Standing, points_in}
+use Rattle.tmm_model.specs.Tokens.{of_one_class}
 use Rattle.list_theory.specs.WellNamed.{IsWellNamed}
-use Rattle.list_theory.proofs.Elements.{In, In-from_Contains, Contains-from_In, In-map, map-In}
+use Rattle.list_theory.proofs.Elements.{In, both, list_any-In, In-filter_map, In-from_Contains, Contains-from_In, In-map, map-In}
 use Rattle.belief_theory.specs.Right.{Occurs}
 use Rattle.belief_theory.proofs.NextLists.{one_way}
+use Rattle.belief_theory.proofs.Rivals.{or_cases}
+use Rattle.belief_theory.proofs.Watched.{class-token_of}
 use Rattle.dist_net.specs.Net.{Nets, IsMovedAt}
 use Rattle.list_net.specs.Network.{PointsKeepNumbers, IsThere}
 use Rattle.list_net.specs.Represents.{IsNumberOf}
@@ -39,15 +43,28 @@ use Rattle.spots.proofs.Nodes.{live_at, moment_at-is, base-moment, point_is}
 use Rattle.spots.proofs.Seen.{IsRowOf, member_of_token, distance_is, start_is, token_is, tokens_are}
 use Rattle.premise_list.specs.States.{States}
 use Rattle.occ_tree.specs.Standing.{Kept, forest, present}
-use Rattle.occ_tree.specs.Touched.{IsAtMoved}
-use Rattle.supports.specs.Edited.{IsEdited, AreOthersUntouched, old_forest}
+use Rattle.occ_tree.specs.Touched.{IsAtMoved, IsUntouched}
+use Rattle.supports.specs.Apart.{IsApart, AreOthersApart}
+use Rattle.supports.specs.Edited.{IsEdited, old_forest}
+use Rattle.supports.proofs.Facts.{fact_known}
 use Rattle.revisions.proofs.Names.{classes_within}
 use Rattle.revisions.proofs.Tokens.{tokens_stay}
 use Rattle.joined.proofs.Gaps.{WasThere, start_was, node_was, distance_was, one_base}
-use Rattle.protections.specs.Asks.{SameForPoints}
+use Rattle.protections.specs.Asks.{BearsOn, SameForPoints}
 use Rattle.protections.specs.Kept.{IsStill, LeftAloneStay}
 use Rattle.protections.proofs.Asks.{asks_stay}
 use Rattle.protections.proofs.Protected.{grounded}
+
+-- tokens of one class contradict each other where their facts differ, whatever premises say
+one_class_alike : (a b c : Bool) → (a || (a && b)) ≡ (a || (a && c))
+one_class_alike true b c = refl
+one_class_alike false b c = refl
+
+contradict_in_class : (s t : Standing) (k c : TokenRow Moment) → same_name k.class c.class ≡ true → contradicts_in s k c ≡ contradicts_in t k c
+contradict_in_class s t k c one =
+    (λ i. (one i && not (same_name k.fact c.fact)) || are_rivals s k.fact c.fact)
+    ∙ one_class_alike (not (same_name k.fact c.fact)) (list_any (says_against k.fact c.fact) s.premises) (list_any (says_against k.fact c.fact) t.premises)
+    ∙ sym (λ i. (one i && not (same_name k.fact c.fact)) || are_rivals t k.fact c.fact)
 
 module _ (old : Standing) (edit : Edit) (nets : Nets) (f g : Forest)
     (seen_f : IsForestOf old nets.committed f) (holds_f : HasOccurrences (built old).believed f)
@@ -126,8 +143,30 @@ module _ (old : Standing) (edit : Edit) (nets : Nets) (f g : Forest)
 
   -- ---- a class that is untouched
 
-  module _ (class : List ℕ) (rows : List (TokenRow Spot)) (tokens_f : AreTokens f class rows) (tokens_g : AreTokens g class rows)
-      (unmoved : (y : ℕ) (m : Member) → member g y ≡ Some m → m.class ≡ Some class → IsAtMoved nets.moved m → ⊥) where
+  -- the tokens of the class are the same in both, and none of them moved
+  record IsSettled (class : List ℕ) : Type 0 where
+    rows : List (TokenRow Spot)
+    tokens_f : AreTokens f class rows
+    tokens_g : AreTokens g class rows
+    unmoved : (y : ℕ) (m : Member) → member g y ≡ Some m → m.class ≡ Some class → IsAtMoved nets.moved m → ⊥
+
+  class_settled : (class : List ℕ) (rows : List (TokenRow Spot)) → AreTokens f class rows → AreTokens g class rows
+      → ((y : ℕ) (m : Member) → member g y ≡ Some m → m.class ≡ Some class → IsAtMoved nets.moved m → ⊥) → IsSettled class
+  class_settled class rows tokens_f tokens_g unmoved = record { rows = rows; tokens_f = tokens_f; tokens_g = tokens_g; unmoved = unmoved }
+
+  module _ (class : List ℕ) (settled : IsSettled class) where
+    abbrev rows : List (TokenRow Spot)
+    rows = settled.rows
+
+    abbrev tokens_f : AreTokens f class rows
+    tokens_f = settled.tokens_f
+
+    abbrev tokens_g : AreTokens g class rows
+    tokens_g = settled.tokens_g
+
+    abbrev unmoved : (y : ℕ) (m : Member) → member g y ≡ Some m → m.class ≡ Some class → IsAtMoved nets.moved m → ⊥
+    unmoved = settled.unmoved
+
     -- the node of a row before the edit and after it
     record IsNodeOf (row : TokenRow Spot) : Type 0 where
       number : ℕ
@@ -274,19 +313,87 @@ module _ (old : Standing) (edit : Edit) (nets : Nets) (f g : Forest)
     token_fixed : (k : TokenRow Moment) → k.class ≡ class → In k (believed_tokens (built old)) → IsFixed k.spot
     token_fixed k own believed = let r = row_of k own believed in subst (λ (z : TokenRow Moment). IsFixed z.spot) r.is (node_fixed r.row r.on)
 
-    -- **The class is the same for points that did not move.**
-    same_for : (p q : Moment) → IsFixed p → IsFixed q → SameForPoints (built old) (built new) class p q
+    -- so did `start` where it has a token, and the end of a span of it
+    start_still : (k : TokenRow Moment) → k.class ≡ class → In k (believed_tokens (built old)) → IsFixed (At Start)
+    start_still k own believed = let r = row_of k own believed in start_fixed r.row r.on
+
+    end_still : (k : TokenRow Moment) (e : Moment) → k.class ≡ class → In k (believed_tokens (built old)) → k.end ≡ Some e → IsFixed e
+    end_still k e own believed ends = let r = row_of k own believed in end_fixed r.row r.on e (ap (λ (z : TokenRow Moment). z.end) r.is ∙ ends)
+
+  -- ---- a fact of a class that is apart
+
+  module _ (fact class : List ℕ) (settled : IsSettled class) (class_then : class_of old fact ≡ class) (class_now : class_of new fact ≡ class)
+      (rivals : (x : List ℕ) → ((class_of old x ≡ class) × (class_of new x ≡ class)) ⊎ (are_rivals old fact x ≡ are_rivals new fact x))
+      (of_rivals : (x : List ℕ) → are_rivals old fact x ≡ true → are_rivals new fact x ≡ true → (other : List ℕ) × (class_of old x ≡ other) × (class_of new x ≡ other) × IsSettled other) where
+    abbrev Bears : TokenRow Moment → Type 0
+    Bears = BearsOn (built old) (built new) fact
+
+    -- a token that bears on the fact is of its class, or of a rival of it
+    bears_how : (k : TokenRow Moment) → Bears k → (k.class ≡ class) ⊎ ((are_rivals old fact k.fact ≡ true) ⊎ (are_rivals new fact k.fact ≡ true))
+    bears_how k (inl e) = elim (or_cases (same_name (class_of old fact) k.class) (are_rivals old fact k.fact) e) [
+      | inl one ↦ inl (sym ((bytes_decides (class_of old fact) k.class).0 one) ∙ class_then)
+      | inr rival ↦ inr (inl rival)
+    ]
+    bears_how k (inr e) = elim (or_cases (same_name (class_of new fact) k.class) (are_rivals new fact k.fact) e) [
+      | inl one ↦ inl (sym ((bytes_decides (class_of new fact) k.class).0 one) ∙ class_now)
+      | inr rival ↦ inr (inr rival)
+    ]
+
+    -- so its class is settled
+    record HasSettled (k : TokenRow Moment) : Type 0 where
+      in_class : List ℕ
+      own : k.class ≡ in_class
+      is : IsSettled in_class
+
+    rival_settled : (x : List ℕ) → (are_rivals old fact x ≡ true) ⊎ (are_rivals new fact x ≡ true) → (other : List ℕ) × (class_of old x ≡ other) × (class_of new x ≡ other) × IsSettled other
+    rival_settled x either = elim (rivals x) [
+      | inl one ↦ (class, one.0, one.1, settled)
+      | inr same ↦ of_rivals x (elim either [ inl before ↦ before | inr now ↦ same ∙ now ]) (elim either [ inl before ↦ sym same ∙ before | inr now ↦ now ])
+    ]
+
+    own_class : (s : Standing) (k : TokenRow Moment) → In k (believed_tokens (built s)) → k.class ≡ class_of s k.fact
+    own_class s k at = let (y, on, is_made) = In-filter_map (token_of s) (built s).believed k at in class-token_of s y k is_made
+
+    settled_then : (k : TokenRow Moment) → Bears k → In k (believed_tokens (built old)) → HasSettled k
+    settled_then k bears at = elim (bears_how k bears) [
+      | inl own ↦ record { in_class = class; own = own; is = settled }
+      | inr either ↦ (let (other, before, now, is_settled) = rival_settled k.fact either in record { in_class = other; own = own_class old k at ∙ before; is = is_settled })
+    ]
+
+    settled_now : (k : TokenRow Moment) → Bears k → In k (believed_tokens (built new)) → HasSettled k
+    settled_now k bears at = elim (bears_how k bears) [
+      | inl own ↦ record { in_class = class; own = own; is = settled }
+      | inr either ↦ (let (other, before, now, is_settled) = rival_settled k.fact either in record { in_class = other; own = own_class new k at ∙ now; is = is_settled })
+    ]
+
+    fixed : (k : TokenRow Moment) → Bears k → In k (believed_tokens (built old)) → IsFixed k.spot
+    fixed k bears at = let h = settled_then k bears at in token_fixed h.in_class h.is k h.own at
+
+    contradict_alike : (k c : TokenRow Moment) → k.fact ≡ fact → In k (believed_tokens (built old)) → In c (believed_tokens (built old)) → In c (believed_tokens (built new))
+        → contradicts_in old k c ≡ contradicts_in new k c
+    contradict_alike k c is_fact at_k before now = elim (rivals c.fact) [
+      | inl one ↦ (
+          let own_k : k.class ≡ class = own_class old k at_k ∙ ap (class_of old) is_fact ∙ class_then in
+          let own_c : c.class ≡ class = own_class old c before ∙ one.0 in
+          contradict_in_class old new k c ((bytes_decides k.class c.class).1 (own_k ∙ sym own_c)))
+      | inr same ↦ (
+          let rival : are_rivals old k.fact c.fact ≡ are_rivals new k.fact c.fact =
+          ap (λ z. are_rivals old z c.fact) is_fact ∙ same ∙ sym (ap (λ z. are_rivals new z c.fact) is_fact) in
+          λ i. of_one_class k c || rival i)
+    ]
+
+    -- **What bears on the fact is the same for points that did not move.**
+    same_for : (p q : Moment) → IsFixed p → IsFixed q → SameForPoints (built old) (built new) fact p q
     same_for p q fix_p fix_q = record {
-      tokens = record {
-        into = into;
-        back = back;
-        gaps = λ k c own_k own_c at_k at_c. gap_same k.spot c.spot (token_fixed k own_k at_k) (token_fixed c own_c at_c);
-        dates = λ k own on. (let r = row_of k own on in gap_same k.spot (At Start) (token_fixed k own on) (start_fixed r.row r.on));
-      };
+      into = λ k bears at. (let h = settled_then k bears at in into h.in_class h.is k h.own at);
+      back = λ k bears at. (let h = settled_now k bears at in back h.in_class h.is k h.own at);
+      rivals = contradict_alike;
+      gaps = λ k c bears_k bears_c at_k at_c. gap_same k.spot c.spot (fixed k bears_k at_k) (fixed c bears_c at_c);
+      dates = λ k bears at. (let h = settled_then k bears at in gap_same k.spot (At Start) (fixed k bears at) (start_still h.in_class h.is k h.own at));
       points = gap_same q p fix_q fix_p;
-      first = λ k own on. gap_same p k.spot fix_p (token_fixed k own on);
-      last = λ k own on. gap_same q k.spot fix_q (token_fixed k own on);
-      ends = λ k e own on ends. (let r = row_of k own on in gap_same e q (end_fixed r.row r.on e (ap (λ (z : TokenRow Moment). z.end) r.is ∙ ends)) fix_q);
+      first = λ k bears at. gap_same p k.spot fix_p (fixed k bears at);
+      last = λ k bears at. gap_same q k.spot fix_q (fixed k bears at);
+      ends = λ k e bears at ends. (let h = settled_then k bears at in gap_same e q (end_still h.in_class h.is k e h.own at ends) fix_q);
     }
 
 -- ---- the class of a fact
@@ -309,29 +416,63 @@ one_class old edit named_old named_new fact class known is =
 class_is : (s : Standing) (fact class : List ℕ) → class_in s.premises fact ≡ Some class → class_of s fact ≡ class
 class_is s fact class is = ap (λ (o : Option (List ℕ)). elim o as (λ _. List ℕ) [ Some c ↦ c | None ↦ [] ]) is
 
+-- a fact that a premise sets against another is declared
+rival_known : (s : Standing) → IsWellNamed s.premises → (f x : List ℕ) → are_rivals s f x ≡ true → IsSome (class_in s.premises x)
+rival_known s named f x rival =
+    let (p, at, says) = list_any-In (says_against f x) s.premises (both (not (same_name f x)) (list_any (says_against f x) s.premises) rival).1 in
+    by p at says
+  where
+    by : (p : Premise) → In p s.premises → says_against f x p ≡ true → IsSome (class_in s.premises x)
+    by (Class name facts) at says = cc
+    by (Kind name) at says = cc
+    by (Point name) at says = cc
+    by (Event name kind) at says = cc
+    by (Token name fact) at says = cc
+    by (Span name fact) at says = cc
+    by (Dist name from to lo hi) at says = cc
+    by (Rule name trigger lo hi effect given unless_facts) at says = cc
+    by (Protect name fact from to) at says = cc
+    by (Against name one other) at says = elim (or_cases (same_name one f && same_name other x) (same_name one x && same_name other f) says) [
+      | inl h ↦ (
+          let is : other ≡ x = (bytes_decides other x).0 (both (same_name one f) (same_name other x) h).1 in
+          subst (λ z. IsSome (class_in s.premises z)) is (fact_known s.premises named (Against name one other) at other (inr (inl refl))))
+      | inr h ↦ (
+          let is : one ≡ x = (bytes_decides one x).0 (both (same_name one x) (same_name other f) h).0 in
+          subst (λ z. IsSome (class_in s.premises z)) is (fact_known s.premises named (Against name one other) at one (inl refl)))
+    ]
+
 pub left_alone_stay : LeftAloneStay
 left_alone_stay lists nets edit tree is apart name fact from to alone =
     let old = lists.committed in
+    let new = next_list old edit in
+    let f = old_forest tree in
     let g = forest (present tree) in
     let class = alone.of_fact.class in
-    let seen_g : IsForestOf (next_list old edit) nets.present g = subst (λ s. IsForestOf s nets.present g) is.list is.seen_now in
-    let holds_g : HasOccurrences (built (next_list old edit)).believed g = subst (λ s. HasOccurrences (built s).believed g) is.list is.holds_now in
-    let keep : PointsKeepNumbers (points_in (next_list old edit).premises) nets.committed.names nets.present.names =
+    let named_old = is.seen_then.network.sound.well_named in
+    let seen_g : IsForestOf new nets.present g = subst (λ s. IsForestOf s nets.present g) is.list is.seen_now in
+    let named_new = seen_g.network.sound.well_named in
+    let holds_g : HasOccurrences (built new).believed g = subst (λ s. HasOccurrences (built s).believed g) is.list is.holds_now in
+    let keep : PointsKeepNumbers (points_in new.premises) nets.committed.names nets.present.names =
     subst (λ s. PointsKeepNumbers (points_in s.premises) nets.committed.names nets.present.names) is.list is.points in
     let known = grounded old nets.committed is.seen_then.network name fact from to alone.stood in
-    let now : class_in (next_list old edit).premises fact ≡ Some class = subst (λ s. class_in s.premises fact ≡ Some class) is.list alone.of_fact.of_class in
-    let was = one_class old edit is.seen_then.network.sound.well_named seen_g.network.sound.well_named fact class known.known now in
-    let class_was = class_is old fact class was in
-    let tokens_f = subst (AreTokens (old_forest tree) class) (sym alone.of_fact.untouched.tokens) (is.tokens_then class) in
-    let first = still_fixed old edit nets (old_forest tree) g is.seen_then is.holds_then seen_g holds_g is.numbers keep apart from known.first alone.first in
-    let last = still_fixed old edit nets (old_forest tree) g is.seen_then is.holds_then seen_g holds_g is.numbers keep apart to known.last alone.last in
+    let now : class_in new.premises fact ≡ Some class = subst (λ s. class_in s.premises fact ≡ Some class) is.list alone.of_fact.of_class in
+    let was = one_class old edit named_old named_new fact class known.known now in
+    let of_class : IsApart (record lists { present = new }) nets tree class = subst (λ s. IsApart (record lists { present = s }) nets tree class) is.list alone.of_fact.apart in
+    let settled = λ (c : List ℕ) (untouched : IsUntouched nets tree c).
+    class_settled old edit nets f g is.seen_then is.holds_then seen_g holds_g is.numbers keep apart c ((present tree).tokens c)
+    (subst (AreTokens f c) (sym untouched.tokens) (is.tokens_then c)) (alone.of_fact.tokens c) untouched.unmoved in
+    let first = still_fixed old edit nets f g is.seen_then is.holds_then seen_g holds_g is.numbers keep apart from known.first alone.first in
+    let last = still_fixed old edit nets f g is.seen_then is.holds_then seen_g holds_g is.numbers keep apart to known.last alone.last in
     let same =
-    same_for old edit nets (old_forest tree) g is.seen_then is.holds_then seen_g holds_g is.numbers keep apart
-    class ((present tree).tokens class) tokens_f alone.of_fact.tokens alone.of_fact.untouched.unmoved (At from) (At to) first last in
-    let stays : ask (built old) fact (At from) (At to) ≡ ask (built (next_list old edit)) fact (At from) (At to) =
-    asks_stay old (next_list old edit) is.seen_then.network.sound seen_g.network.sound fact (At from) (At to)
-    (class_was ∙ sym (class_is (next_list old edit) fact class now))
-    (subst (λ c. SameForPoints (built old) (built (next_list old edit)) c (At from) (At to)) (sym class_was) same) in
+    same_for old edit nets f g is.seen_then is.holds_then seen_g holds_g is.numbers keep apart
+    fact class (settled class of_class.untouched) (class_is old fact class was) (class_is new fact class now) (of_class.rivals fact now)
+    (λ x rival_then rival.
+    (let (other, declared, untouched) = of_class.of_rivals fact now x rival in
+    let before = one_class old edit named_old named_new x other (rival_known old named_old fact x rival_then) declared in
+    (other, class_is old x other before, class_is new x other declared, settled other untouched)))
+    (At from) (At to) first last in
+    let stays : ask (built old) fact (At from) (At to) ≡ ask (built new) fact (At from) (At to) =
+    asks_stay old new is.seen_then.network.sound seen_g.network.sound fact (At from) (At to) same in
     subst (λ s. broken (built s) (Protect name fact from to) ≡ broken (built old) (Protect name fact from to)) (sym is.list)
     (ap (λ (found : Finding). elim (does_hold found) as (λ _. Option (List ℕ × Finding)) [ true ↦ None | false ↦ Some (name, found) ]) (sym stays))
 
@@ -341,7 +482,7 @@ still_point nets none p (k, numbered) = record { number = k; is = numbered; unmo
 
 -- **Where no point moves and no class is touched, the same is found of all that stood before.**
 pub all_left_alone : (lists : States) (nets : Nets) (edit : Edit) (tree : Kept) → IsEdited lists nets edit tree → IsMovedAt nets.moved nets.committed nets.present → nets.moved ≡ []
-    → AreOthersUntouched nets tree [] → ((class : List ℕ) → AreTokens (forest (present tree)) class ((present tree).tokens class))
+    → AreOthersApart lists nets tree [] → ((class : List ℕ) → AreTokens (forest (present tree)) class ((present tree).tokens class))
     → (p : Premise) → Contains lists.committed.premises p → Contains lists.present.premises p → broken (built lists.present) p ≡ broken (built lists.committed) p
 all_left_alone lists nets edit tree is apart none others tokens (Protect name fact from to) stood stands =
     let known = grounded lists.present nets.present is.seen_now.network name fact from to stands in
@@ -351,7 +492,7 @@ all_left_alone lists nets edit tree is apart none others tokens (Protect name fa
       stood = stood;
       first = still_point nets none from known.first;
       last = still_point nets none to known.last;
-      of_fact = record { class = class; of_class = of_class; untouched = others class (λ at. In-from_Contains [] class at); tokens = tokens class };
+      of_fact = record { class = class; of_class = of_class; apart = others class (λ at. In-from_Contains [] class at); tokens = tokens };
     })
 all_left_alone lists nets edit tree is apart none others tokens (Class name facts) stood stands = refl
 all_left_alone lists nets edit tree is apart none others tokens (Kind name) stood stands = refl
@@ -361,3 +502,4 @@ all_left_alone lists nets edit tree is apart none others tokens (Token name fact
 all_left_alone lists nets edit tree is apart none others tokens (Span name fact) stood stands = refl
 all_left_alone lists nets edit tree is apart none others tokens (Dist name from to lo hi) stood stands = refl
 all_left_alone lists nets edit tree is apart none others tokens (Rule name trigger lo hi effect given unless_facts) stood stands = refl
+all_left_alone lists nets edit tree is apart none others tokens (Against name one other) stood stands = refl

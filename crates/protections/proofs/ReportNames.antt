@@ -5,7 +5,7 @@ use Rattle.std.specs.Prelude.{Option, Some, None}
 use Rattle.std.specs.List.{filter_map, cons_option}
 use Rattle.std.specs.Cmp.Lexicographic.{bytes_decides}
 use Rattle.tmm_model.specs.declared.premise.Premise.{Premise}
-use Rattle.tmm_model.specs.declared.premise.Premise.TheVariants.{Class, Kind, Point, Event, Token, Span, Dist, Rule, Protect}
+use Rattle.tmm_model.specs.declared.premise.Premise.TheVariants.{Class, Kind, Point, Event, Token, Span, Dist, Rule, Protect, Against}
 use Rattle.tmm_model.specs.Answers.{Finding, does_hold, ask, broken, reports}
 use Rattle.tmm_model.specs.Maps.{TimeMap}
 use Rattle.tmm_model.specs.Moments.{At}
@@ -31,6 +31,7 @@ report_named m (Token name fact) r e = cc
 report_named m (Span name fact) r e = cc
 report_named m (Dist name from to lo hi) r e = cc
 report_named m (Rule name trigger lo hi effect given unless_facts) r e = cc
+report_named m (Against name one other) r e = cc
 
 module _ (m : TimeMap) (p : Premise) where
   -- of these premises none but p has its name

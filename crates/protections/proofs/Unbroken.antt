@@ -3,7 +3,7 @@ use Rattle.std.proofs.Common.{◌≡◌, ℕ, List, refl}
 use Rattle.std.specs.Prelude.{Some, None}
 use Rattle.tmm_model.specs.declared.point.PointName.{PointName}
 use Rattle.tmm_model.specs.declared.premise.Premise.{Premise}
-use Rattle.tmm_model.specs.declared.premise.Premise.TheVariants.{Class, Kind, Point, Event, Token, Span, Dist, Rule, Protect}
+use Rattle.tmm_model.specs.declared.premise.Premise.TheVariants.{Class, Kind, Point, Event, Token, Span, Dist, Rule, Protect, Against}
 use Rattle.tmm_model.specs.Answers.{broken}
 use Rattle.tmm_model.specs.Changes.{protection_name}
 use Rattle.tmm_model.specs.Maps.{TimeMap}
@@ -20,6 +20,7 @@ unbroken m (Span name fact) none = refl
 unbroken m (Dist name from to lo hi) none = refl
 unbroken m (Rule name trigger lo hi effect given unless_facts) none = refl
 unbroken m (Protect name fact from to) none = cc
+unbroken m (Against name one other) none = refl
 
 -- the name of a protection is that of the premise
 pub name_is : (p : Premise) (name : List ℕ) → protection_name p ≡ Some name → name_of p ≡ name
@@ -32,6 +33,7 @@ name_is (Token own fact) name is = cc
 name_is (Span own fact) name is = cc
 name_is (Dist own from to lo hi) name is = cc
 name_is (Rule own trigger lo hi effect given unless_facts) name is = cc
+name_is (Against own one other) name is = cc
 
 pub no_protection : (p : Premise) → ((name fact : List ℕ) (from to : PointName) → p ≡ Protect name fact from to → ⊥) → protection_name p ≡ None
 no_protection (Protect name fact from to) never = absurd (never name fact from to refl)
@@ -43,3 +45,4 @@ no_protection (Token name fact) never = refl
 no_protection (Span name fact) never = refl
 no_protection (Dist name from to lo hi) never = refl
 no_protection (Rule name trigger lo hi effect given unless_facts) never = refl
+no_protection (Against name one other) never = refl

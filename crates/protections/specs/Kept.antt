@@ -12,7 +12,7 @@ use Rattle.dist_net.specs.Net.{Nets, IsMovedAt}
 use Rattle.list_net.specs.Represents.{IsNumberOf}
 use Rattle.spots.specs.Spots.{AreTokens}
 use Rattle.occ_tree.specs.Standing.{Kept, forest, present}
-use Rattle.occ_tree.specs.Touched.{IsUntouched}
+use Rattle.supports.specs.Apart.{IsApart}
 use Rattle.supports.specs.Edited.{IsEdited}
 
 -- the point has a number, and is none of those that moved
@@ -21,20 +21,21 @@ pub record IsStill (nets : Nets) (p : PointName) : Type 0 where
   pub is : IsNumberOf nets.present.names number p
   pub unmoved : Contains nets.moved number → ⊥
 
--- the class of the fact is untouched, and the tokens that are kept of it are those of the nodes
-pub record IsOfUntouched (lists : States) (nets : Nets) (tree : Kept) (fact : List ℕ) : Type 0 where
+-- the class of the fact is apart from what the edit touched, and the tokens that are kept of each
+-- class are those of the nodes
+pub record IsOfApart (lists : States) (nets : Nets) (tree : Kept) (fact : List ℕ) : Type 0 where
   pub class : List ℕ
   pub of_class : class_in lists.present.premises fact ≡ Some class
-  pub untouched : IsUntouched nets tree class
-  pub tokens : AreTokens (forest (present tree)) class ((present tree).tokens class)
+  pub apart : IsApart lists nets tree class
+  pub tokens : (other : List ℕ) → AreTokens (forest (present tree)) other ((present tree).tokens other)
 
 -- The edit left the protection alone: it stood before, neither of its points moved, and the class
--- of its fact is untouched.
+-- of its fact is apart from what the edit touched.
 pub record IsLeftAlone (lists : States) (nets : Nets) (tree : Kept) (name fact : List ℕ) (from to : PointName) : Type 0 where
   pub stood : Contains lists.committed.premises (Protect name fact from to)
   pub first : IsStill nets from
   pub last : IsStill nets to
-  pub of_fact : IsOfUntouched lists nets tree fact
+  pub of_fact : IsOfApart lists nets tree fact
 
 -- **Of such a protection the same is found as before the edit.**
 abbrev pub LeftAloneStay : Type 0

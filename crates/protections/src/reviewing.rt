@@ -12,9 +12,10 @@ ghost use Rattle.spots.specs.OfLists.{HasOccurrences};
 ghost use Rattle.occ_tree.specs.OfLists.{IsTreeOf};
 ghost use Rattle.occ_tree.specs.Places.{forest};
 ghost use Rattle.revisions.specs.Standing.{IsLeftOut};
-ghost use Rattle.supports.specs.Edited.{IsEdited, AreOthersUntouched};
+ghost use Rattle.supports.specs.Apart.{AreOthersApart};
+ghost use Rattle.supports.specs.Edited.{IsEdited};
 ghost use Rattle.protections.specs.Found.{AreFound, found_in};
-ghost use Rattle.protections.specs.Kept.{IsStill, IsOfUntouched};
+ghost use Rattle.protections.specs.Kept.{IsStill, IsOfApart};
 ghost use Rattle.protections.specs.Reviews.{Reviews, AreReviewed, IsReviewOf};
 
 use crate::broken_protections::BrokenProtections;
@@ -28,9 +29,9 @@ use premise_list::Standing;
 use std::alloc::Global;
 use tmm_model::{Edit, Name, NoMemory, PointName, Premise};
 
-/// What an edit makes of the broken protections. A protection is looked at again only if the edit
-/// adds it, or touches the class of its fact, or a point of it moved; where it touches no class and
-/// moves nothing, premises are not walked.
+/// What an edit makes of the broken protections, given classes from which all others are apart. A
+/// protection is looked at again only if the edit adds it, or its fact is of one of these classes, or
+/// a point of it moved; where there is no class and nothing moved, premises are not walked.
 pub fn review_edit(
     alloc: Global,
     standing: &Standing,
@@ -44,7 +45,7 @@ pub fn review_edit(
     requires seen { IsTreeOf standing.now.present net.now.present tree.now }
     requires holds { HasOccurrences (built standing.now.present).believed (forest tree.now) }
     requires edited { IsEdited standing.now net.now edit.now tree.now }
-    requires others { AreOthersUntouched net.now tree.now classes.now }
+    requires others { AreOthersApart standing.now net.now tree.now classes.now }
     requires left_out { IsLeftOut standing.now.committed standing.now.present erased.now }
     requires old { AreFound (reports (built standing.now.committed)) (found_in old.now) }
     ensures { IfOk result (IsReviewOf (built standing.now.committed) (built standing.now.present) (found_in old.now)) }
@@ -88,7 +89,7 @@ fn review_added(
     requires seen { IsTreeOf standing.now.present net.now.present tree.now }
     requires holds { HasOccurrences (built standing.now.present).believed (forest tree.now) }
     requires edited { IsEdited standing.now net.now edit.now tree.now }
-    requires others { AreOthersUntouched net.now tree.now [] }
+    requires others { AreOthersApart standing.now net.now tree.now [] }
     requires unmoved { net.now.moved ≡ [] }
     requires old { AreFound (reports (built standing.now.committed)) (found_in old.now) }
     ensures { IfOk result (λ found. AreReviewed (built standing.now.present) (found_in old.now) standing.now.present.premises found.items) }
@@ -120,7 +121,7 @@ fn review_standing(
     requires seen { IsTreeOf standing.now.present net.now.present tree.now }
     requires holds { HasOccurrences (built standing.now.present).believed (forest tree.now) }
     requires edited { IsEdited standing.now net.now edit.now tree.now }
-    requires others { AreOthersUntouched net.now tree.now classes.now }
+    requires others { AreOthersApart standing.now net.now tree.now classes.now }
     requires old { AreFound (reports (built standing.now.committed)) (found_in old.now) }
     ensures { IfOk result (λ found. AreReviewed (built standing.now.present) (found_in old.now) standing.now.present.premises found.items) }
 {
@@ -151,7 +152,7 @@ fn review_premise(
     requires seen { IsTreeOf standing.now.present net.now.present tree.now }
     requires holds { HasOccurrences (built standing.now.present).believed (forest tree.now) }
     requires edited { IsEdited standing.now net.now edit.now tree.now }
-    requires others { AreOthersUntouched net.now tree.now classes.now }
+    requires others { AreOthersApart standing.now net.now tree.now classes.now }
     requires old { AreFound (reports (built standing.now.committed)) (found_in old.now) }
     requires stands { Contains standing.now.present.premises premise.now }
     ensures { IfOk result (Reviews (built standing.now.present) (found_in old.now) premise.now) }
@@ -203,7 +204,7 @@ fn is_left_alone(
     premise: &Premise,
 ) -> bool
     requires edited { IsEdited standing.now net.now edit.now tree.now }
-    requires others { AreOthersUntouched net.now tree.now classes.now }
+    requires others { AreOthersApart standing.now net.now tree.now classes.now }
     requires stands { Contains standing.now.present.premises premise.now }
     ensures stood { result ≡ true → Contains standing.now.committed.premises premise.now }
     ensures same { result ≡ true → broken (built standing.now.present) premise.now ≡ broken (built standing.now.committed) premise.now }
@@ -246,12 +247,12 @@ fn has_moved(net: &DistNet, point: PointName) -> bool
 // Whether the class of the fact is not among these.
 fn is_untouched(standing: &Standing, tree: &Tree, classes: &[Name], fact: Name) -> bool
     requires { IsSome (class_in standing.now.present.premises fact) }
-    ensures { result ≡ true → (nets : Nets) → AreOthersUntouched nets tree.now classes.now → IsOfUntouched standing.now nets tree.now fact }
+    ensures { result ≡ true → (nets : Nets) → AreOthersApart standing.now nets tree.now classes.now → IsOfApart standing.now nets tree.now fact }
 {
     match standing.class_of(fact) {
         Some(class) => {
             // the tokens of each class are those of the nodes
-            let _ = tree.tokens(&class);
+            tree.have_tokens();
             !classes.contains(&class)
         }
         None => unreachable!(),

@@ -80,11 +80,7 @@ pub fn put_occ(out: &mut Seq<u8>, occ: &Occ) -> Result<(), NoMemory>
     ensures { OnOk result (out.new.items ≡ out.old.items ++ occ_word occ.now) }
 {
     out.extend(occ.root.bytes())?;
-    for rule in occ.rules.items() {
-        out.extend(b"/")?;
-        out.extend(rule.bytes())?;
-    }
-    Ok(())
+    out.put_links(occ.rules.items())
 }
 
 /// Appends the word of a point that a question names.

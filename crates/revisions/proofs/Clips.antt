@@ -1,5 +1,5 @@
--- Clips stay where the tokens of their class do, but for some that are gone.
-use Rattle.std.proofs.Common.{◌≡◌, ◌∙◌, true, not, ◌&&◌, List, [], ◌∷◌, refl, sym, ap, subst, inl}
+-- Clips stay where what contradicts a token does, but for some that is gone.
+use Rattle.std.proofs.Common.{◌≡◌, ◌∙◌, ℕ, Bool, true, false, not, ◌&&◌, List, [], ◌∷◌, refl, sym, ap, subst, inl}
 use Rattle.std.specs.Prelude.{Option, Some, None, negsuc, filter}
 use Rattle.std.specs.List.{Contains}
 use Rattle.std.specs.Option.{option_map, option_and_then}
@@ -9,15 +9,15 @@ use Rattle.std.specs.declared.cmp.Ordering.{Ordering}
 use Rattle.tmm_model.specs.declared.premise.Edit.{Edit}
 use Rattle.tmm_model.specs.declared.token.TokenRow.{TokenRow}
 use Rattle.tmm_model.specs.Answers.{clip, clip_of, first_believed}
-use Rattle.tmm_model.specs.Beliefs.{token_of, contradicts_in}
+use Rattle.tmm_model.specs.Beliefs.{token_of, are_rivals, contradicts_in}
 use Rattle.tmm_model.specs.Bounds.{bound_at_most}
 use Rattle.tmm_model.specs.Edits.{next_list}
 use Rattle.tmm_model.specs.Firsts.{earliest, first}
 use Rattle.tmm_model.specs.Maps.{TimeMap, built, gap, order, believed_tokens}
-use Rattle.tmm_model.specs.Moments.{Moment, negated, printed}
+use Rattle.tmm_model.specs.Moments.{Moment, printed}
 use Rattle.tmm_model.specs.Points.{same_name}
 use Rattle.tmm_model.specs.Standing.{Standing}
-use Rattle.tmm_model.specs.Tokens.{is_before, clips}
+use Rattle.tmm_model.specs.Tokens.{of_one_class, is_before, clips}
 use Rattle.list_theory.specs.WellNamed.{IsSound}
 use Rattle.list_theory.proofs.Elements.{In, both, In-filter, filter-In, In-filter_map, filter_map-In, In-from_Contains, Contains-from_In}
 use Rattle.belief_theory.proofs.Firsts.{least_is, one_spot}
@@ -25,8 +25,9 @@ use Rattle.belief_theory.proofs.NextLists.{all_spelt}
 use Rattle.belief_theory.proofs.OneRight.{spot-token_of}
 use Rattle.belief_theory.proofs.Order.{IsSpelt, ordered}
 use Rattle.belief_theory.proofs.Outcomes.{first_token_in}
+use Rattle.belief_theory.proofs.Rivals.{contradicts_plain}
 use Rattle.belief_theory.proofs.SoundBeliefs.{believed_occurs}
-use Rattle.revisions.specs.Clips.{FewerOfClass, ClipsStay, ClipsStayOn}
+use Rattle.revisions.specs.Clips.{FewerOfClass, FewerAround, ClipsStay, ClipsStayOn}
 use Rattle.revisions.proofs.Tokens.{tokens_stay}
 
 abbrev by_begin : TimeMap → TokenRow Moment → TokenRow Moment → Ordering
@@ -65,56 +66,60 @@ one_first m n (x ∷ xs) (y ∷ ys) live back stays alike =
     let c_in = back c two.member in
     ap Some (one_spot (ordered m.list m.far) k.spot c.spot (live k one.member) (live c c_in) (one.below c c_in) (ap is_gt (alike c k two.member k_in) ∙ two.below k k_in))
 
-module _ (m n : TimeMap) (spelt : (k : TokenRow Moment) → In k (believed_tokens m) → IsSpelt k.spot) (k : TokenRow Moment) (there : In k (believed_tokens n)) (fewer : FewerOfClass m n k.class) where
-  -- what clips k is of its class
-  of_class : (p : TimeMap) (c : TokenRow Moment) → clips (contradicts_in p.list) (gap p) k c ≡ true → c.class ≡ k.class
-  of_class p c h =
-      let differ = (both (contradicts_in p.list k c) (is_before (gap p) k.spot c.spot) h).0 in
-      sym ((bytes_decides k.class c.class).0 (both (same_name k.class c.class) (not (same_name k.fact c.fact)) differ).0)
+module _ (m n : TimeMap) (spelt : (k : TokenRow Moment) → In k (believed_tokens m) → IsSpelt k.spot) (k : TokenRow Moment) (fewer : FewerAround m n k) where
+  abbrev clips_in : TimeMap → TokenRow Moment → Bool
+  clips_in p = clips (contradicts_in p.list) (gap p) k
 
-  clips_alike : (c : TokenRow Moment) → c.class ≡ k.class → In c (believed_tokens n) → clips (contradicts_in m.list) (gap m) k c ≡ clips (contradicts_in n.list) (gap n) k c
-  clips_alike c class at = ap (λ g. (same_name k.class c.class && not (same_name k.fact c.fact)) && bound_at_most g (negsuc 0)) (fewer.gaps c k class refl at there)
+  -- what clips k contradicts it
+  against : (p : TimeMap) (c : TokenRow Moment) → clips_in p c ≡ true → contradicts_in p.list k c ≡ true
+  against p c h = (both (contradicts_in p.list k c) (is_before (gap p) k.spot c.spot) h).0
+
+  clips_alike : (c : TokenRow Moment) → In c (believed_tokens m) → In c (believed_tokens n) → clips_in m c ≡ clips_in n c
+  clips_alike c here there = ap (λ b. b && is_before (gap m) k.spot c.spot) (fewer.rivals c here there) ∙ by (contradicts_in n.list k c) refl
+    where
+      by : (b : Bool) → contradicts_in n.list k c ≡ b → (contradicts_in n.list k c && is_before (gap m) k.spot c.spot) ≡ (contradicts_in n.list k c && is_before (gap n) k.spot c.spot)
+      by true e = ap (λ g. contradicts_in n.list k c && bound_at_most g (negsuc 0)) (fewer.gaps c e there)
+      by false e = ap (λ b. b && is_before (gap m) k.spot c.spot) e ∙ sym (ap (λ b. b && is_before (gap n) k.spot c.spot) e)
 
   -- what clips k in a map
   abbrev clippers : TimeMap → List (TokenRow Moment)
-  clippers p = filter (clips (contradicts_in p.list) (gap p) k) (believed_tokens p)
+  clippers p = filter (clips_in p) (believed_tokens p)
 
   -- the clip of k in a map, where this is its end
   abbrev clip_by : TimeMap → Option Moment → Option Moment
-  clip_by p o = elim o as (λ _. Option Moment) [ Some end ↦ None | None ↦ first_believed p (clips (contradicts_in p.list) (gap p) k) ]
+  clip_by p o = elim o as (λ _. Option Moment) [ Some end ↦ None | None ↦ first_believed p (clips_in p) ]
 
   clip_is : (p : TimeMap) (x : Moment) → token_of p.list x ≡ Some k → clip p x ≡ clip_by p k.end
   clip_is p x is = ap (option_and_then (clip_of p)) is
 
-  first_alike : ((c : TokenRow Moment) → In c (believed_tokens m) → c.class ≡ k.class → first (by_begin m) (clippers m) ≡ Some c → In c (believed_tokens n))
+  first_alike : ((c : TokenRow Moment) → In c (believed_tokens m) → contradicts_in m.list k c ≡ true → first (by_begin m) (clippers m) ≡ Some c → In c (believed_tokens n))
       → clip_by m None ≡ clip_by n None
   first_alike stays = one_first m n (clippers m) (clippers n)
-      (λ c at. spelt c (In-filter (clips (contradicts_in m.list) (gap m) k) (believed_tokens m) c at).0)
+      (λ c at. spelt c (In-filter (clips_in m) (believed_tokens m) c at).0)
       (λ c at.
-      (let h = In-filter (clips (contradicts_in n.list) (gap n) k) (believed_tokens n) c at in
-      let class = of_class n c h.1 in
-      filter-In (clips (contradicts_in m.list) (gap m) k) (believed_tokens m) c (fewer.back c class h.0) (clips_alike c class h.0 ∙ h.1)))
+      (let h = In-filter (clips_in n) (believed_tokens n) c at in
+      let here = fewer.back c (against n c h.1) h.0 in
+      filter-In (clips_in m) (believed_tokens m) c here (clips_alike c here h.0 ∙ h.1)))
       (λ c at is.
-      (let h = In-filter (clips (contradicts_in m.list) (gap m) k) (believed_tokens m) c at in
-      let class = of_class m c h.1 in
-      let here = stays c h.0 class is in
-      filter-In (clips (contradicts_in n.list) (gap n) k) (believed_tokens n) c here (sym (clips_alike c class here) ∙ h.1)))
+      (let h = In-filter (clips_in m) (believed_tokens m) c at in
+      let there = stays c h.0 (against m c h.1) is in
+      filter-In (clips_in n) (believed_tokens n) c there (sym (clips_alike c h.0 there) ∙ h.1)))
       (λ c d at_c at_d.
-      (let h = In-filter (clips (contradicts_in n.list) (gap n) k) (believed_tokens n) c at_c in
-      let g = In-filter (clips (contradicts_in n.list) (gap n) k) (believed_tokens n) d at_d in
-      let date_c = fewer.dates c (of_class n c h.1) h.0 in
-      let date_d = fewer.dates d (of_class n d g.1) g.0 in
+      (let h = In-filter (clips_in n) (believed_tokens n) c at_c in
+      let g = In-filter (clips_in n) (believed_tokens n) d at_d in
+      let date_c = fewer.dates c (against n c h.1) h.0 in
+      let date_d = fewer.dates d (against n d g.1) g.0 in
       λ i. ordering_then (int_cmp (date_c i) (date_d i)) (slice_cmp nat_cmp (printed c.spot) (printed d.spot))))
 
   -- **The clip stays** if the token that is the clip is among those of the second map.
   pub clip_stays : (x : Moment) → token_of m.list x ≡ Some k → token_of n.list x ≡ Some k
-      → ((c : TokenRow Moment) → In c (believed_tokens m) → c.class ≡ k.class → clip m x ≡ Some c.spot → In c (believed_tokens n))
+      → ((c : TokenRow Moment) → In c (believed_tokens m) → contradicts_in m.list k c ≡ true → clip m x ≡ Some c.spot → In c (believed_tokens n))
       → clip m x ≡ clip n x
   clip_stays x one two stays = clip_is m x one ∙ by k.end refl ∙ sym (clip_is n x two)
     where
       by : (o : Option Moment) → k.end ≡ o → clip_by m o ≡ clip_by n o
       by (Some end) is = refl
-      by None is = first_alike (λ c at class e. stays c at class (clip_is m x one ∙ ap (clip_by m) is ∙ ap (option_map (λ (z : TokenRow Moment). z.spot)) e))
+      by None is = first_alike (λ c at contradicts e. stays c at contradicts (clip_is m x one ∙ ap (clip_by m) is ∙ ap (option_map (λ (z : TokenRow Moment). z.spot)) e))
 
 -- a token of the list before that is believed after an edit is one of the list after
 token_there : (old : Standing) (edit : Edit) → IsSound old → IsSound (next_list old edit) → (c : TokenRow Moment) → In c (believed_tokens (built old))
@@ -128,16 +133,35 @@ token_there old edit sound_old sound_new c at believed =
     (sym (tokens_stay old edit sound_old sound_new c.spot before now) ∙ ap (token_of old) spot ∙ made)
 
 pub clips_stay_on : ClipsStayOn
-clips_stay_on old edit sound_old sound_new x k one two there fewer stays =
-    clip_stays (built old) (built (next_list old edit)) (all_spelt old sound_old) k there fewer x one two
-    (λ c at class is. token_there old edit sound_old sound_new c at (stays c.spot is))
+clips_stay_on old edit sound_old sound_new x k one two fewer stays =
+    clip_stays (built old) (built (next_list old edit)) (all_spelt old sound_old) k fewer x one two
+    (λ c at contradicts is. token_there old edit sound_old sound_new c at (stays c.spot is))
 
 pub clips_stay : ClipsStay
-clips_stay old edit sound_old sound_new x k one two there same =
-    clip_stays (built old) (built (next_list old edit)) (all_spelt old sound_old) k (same.into k refl there)
-    (record {
-      back = same.back;
-      gaps = λ c d class_c class_d at_c at_d. same.gaps c d class_c class_d (same.back c class_c at_c) (same.back d class_d at_d);
-      dates = λ c class at. ap negated (same.dates c class (same.back c class at));
-    })
-    x one two (λ c at class is. same.into c class at)
+clips_stay old edit sound_old sound_new x k one two same =
+    clip_stays (built old) (built (next_list old edit)) (all_spelt old sound_old) k same.fewer x one two (λ c at contradicts is. same.into c contradicts at)
+
+-- ---- a token of whose fact no premise says that another contradicts it
+
+-- in the list the token contradicts others by its class alone
+abbrev pub IsAlone : Standing → TokenRow Moment → Type 0
+IsAlone s k = (g : List ℕ) → are_rivals s k.fact g ≡ false
+
+-- then what contradicts it is of its class
+pub alone_class : (s : Standing) (k c : TokenRow Moment) → IsAlone s k → contradicts_in s k c ≡ true → c.class ≡ k.class
+alone_class s k c alone h =
+    let one : of_one_class k c ≡ true = sym (contradicts_plain s k c (alone c.fact)) ∙ h in
+    sym ((bytes_decides k.class c.class).0 (both (same_name k.class c.class) (not (same_name k.fact c.fact)) one).0)
+
+module _ (m n : TimeMap) (k : TokenRow Moment) (alone_m : IsAlone m.list k) (alone_n : IsAlone n.list k) where
+  rivals_alone : (c : TokenRow Moment) → contradicts_in m.list k c ≡ contradicts_in n.list k c
+  rivals_alone c = contradicts_plain m.list k c (alone_m c.fact) ∙ sym (contradicts_plain n.list k c (alone_n c.fact))
+
+  -- **Where no token of its class entered, none of those that contradict it did.**
+  pub fewer_around : In k (believed_tokens n) → FewerOfClass m n k.class → FewerAround m n k
+  fewer_around there fewer = record {
+    rivals = λ c _ _. rivals_alone c;
+    back = λ c h at. fewer.back c (alone_class n.list k c alone_n h) at;
+    gaps = λ c h at. fewer.gaps c k (alone_class n.list k c alone_n h) refl at there;
+    dates = λ c h at. fewer.dates c (alone_class n.list k c alone_n h) at;
+  }

@@ -1,7 +1,7 @@
 -- The revision that an edit asks for is lawful.
 use Rattle.std.proofs.Common.{◌≡◌, ◌∙◌, ℕ, Bool, true, false, not, ◌&&◌, ◌||◌, ◌==◌, List, map, refl, sym, ap, subst, inl, inr}
 use Rattle.std.specs.Prelude.{◌↔◌, ◌⊎◌, Option, Some, None, ◌≤ℤ◌}
-use Rattle.std.specs.List.{Contains}
+use Rattle.std.specs.List.{Contains, list_all}
 use Rattle.std.specs.Cmp.Lexicographic.{nat_list_eq_equiv}
 use Rattle.tmm_model.specs.declared.premise.Edit.{Edit}
 use Rattle.tmm_model.specs.declared.token.TokenRow.{TokenRow}
@@ -14,7 +14,7 @@ use Rattle.tmm_model.specs.Points.{same_name}
 use Rattle.belief_theory.specs.Right.{Occurs}
 use Rattle.list_theory.specs.WellNamed.{IsSound}
 use Rattle.tmm_model.specs.Standing.{Standing, far_in}
-use Rattle.belief_theory.specs.Touched.{same_tokens, watched, watched_points, same_gaps, is_decision}
+use Rattle.belief_theory.specs.Touched.{bears_on, is_watched, same_rivals, same_tokens, watched, watched_points, same_gaps, is_decision}
 use Rattle.list_theory.proofs.Elements.{In, In-from_Contains, Contains-from_In, In-filter, filter-In, In-filter_map, filter_map-In, flat_map-In, map-In, In-list_any, list_any-In}
 use Rattle.belief_theory.proofs.NextLists.{one_way, found_within}
 use Rattle.belief_theory.proofs.Moments.{Decides-same_moment}
@@ -22,13 +22,19 @@ use Rattle.belief_theory.proofs.OneRight.{later, spot-token_of}
 use Rattle.belief_theory.proofs.Outcomes.{fires_exactly}
 use Rattle.belief_theory.proofs.SoundBeliefs.{sound_timed, believed_right, believed_occurs}
 use Rattle.belief_theory.proofs.Spelt.{spelt}
-use Rattle.belief_theory.proofs.Untouched.{was_decision, untouched_alike, untouched_stood}
-use Rattle.revisions.specs.Maps.{is_watched, watches, revision}
+use Rattle.belief_theory.proofs.Rivals.{HasClass, HaveSameRivals, bears_alike}
+use Rattle.belief_theory.proofs.Untouched.{was_decision, class_of_token, untouched_alike, untouched_stood, untouched_rivals}
+use Rattle.revisions.specs.Maps.{watches, revision}
 use Rattle.revisions.specs.Revisions.{Revision, is_firing, IsOf, AreOf, AgreeFor, Belongs, IsNew, IsLost, IsLawful}
 use Rattle.tmm_model.specs.Tokens.{is_by}
 use Rattle.belief_theory.proofs.Order.{IsSpelt}
 use Rattle.revisions.proofs.Tokens.{tokens_stay, classes_stay}
 use Rattle.revisions.proofs.Locality.{Sees, AllSpelt, outcome_local}
+
+-- a decision that is none of the old map is touched
+pub first_touches : (a b c d e : Bool) → a ≡ false → (not a || not b || not c || not d || not e) ≡ true
+first_touches false b c d e h = refl
+first_touches true b c d e h = cc
 
 pub firing : (o : Outcome) → is_firing o ≡ true → (ks : List Moment) × (o ≡ fires ks)
 firing (fires ks) e = (ks, refl)
@@ -111,13 +117,10 @@ module _ (old : Standing) (edit : Edit) (sound_old : IsSound old) (sound_new : I
   true_or true = inl refl
   true_or false = inr refl
 
-  untouched_parts : (a b c d : Bool) → a ≡ false → (not a || not b || not c || not d) ≡ true
-  untouched_parts false b c d e = refl
-  untouched_parts true b c d e = cc
-
   new_touched : (t : Moment) (r : List ℕ) → g.was t r ≡ false → g.touched t r ≡ true
   new_touched t r e =
-      untouched_parts (is_decision (built old) (t, r)) (old.horizon == new.horizon) (same_tokens (watched (built old) r) (watched (built new) r)) (same_gaps (built old) (built new) (watched_points (built new) t r)) e
+      first_touches (is_decision (built old) (t, r)) (old.horizon == new.horizon) (list_all (same_rivals old new) (read_by (rule_of new r)))
+      (same_tokens (watched (built old) r) (watched (built new) r)) (same_gaps (built old) (built new) (watched_points (built new) t r)) e
 
   abbrev was_in : Moment → List ℕ → Type 0
   was_in t r = Contains (built old).believed t × Contains (rules_at old t) r
@@ -140,13 +143,15 @@ module _ (old : Standing) (edit : Edit) (sound_old : IsSound old) (sound_new : I
         | inr fewer ↦ sym (found_within new old sound_old fewer t r sound_new now)
       ]
 
-  -- a token that the rule watches by the new list it watches by the old one
-  pub watched_back : (t : Moment) (r : List ℕ) (k : TokenRow Moment) → Contains (rules_at old t) r → Contains (rules_at new t) r → rule_of old r ≡ rule_of new r → is_watched new r k ≡ true → is_watched old r k ≡ true
-  watched_back t r k before now same h =
-      let (f, at, of_class) = list_any-In (λ fact. same_name (class_of new fact) k.class) (read_by (rule_of new r)) h in
+  -- a token of the old list that the rule watches by the new one it watches by the old one, where
+  -- what it reads has the same rivals in both
+  pub watched_back : (t : Moment) (r : List ℕ) (k : TokenRow Moment) → Contains (rules_at old t) r → Contains (rules_at new t) r → rule_of old r ≡ rule_of new r
+      → ((f : List ℕ) → In f (read_by (rule_of new r)) → HaveSameRivals old new f) → HasClass old k → is_watched new r k ≡ true → is_watched old r k ≡ true
+  watched_back t r k before now same rivals own h =
+      let (f, at, bears) = list_any-In (λ fact. bears_on new fact k) (read_by (rule_of new r)) h in
       let at_old : In f (read_by (rule_of old r)) = subst (λ (x : RuleText). In f (read_by x)) (sym same) at in
       let class : class_of old f ≡ class_of new f = classes_stay old edit sound_old sound_new t r f before now at_old at in
-      In-list_any (λ fact. same_name (class_of old fact) k.class) (read_by (rule_of old r)) f at_old (subst (λ c. same_name c k.class ≡ true) (sym class) of_class)
+      In-list_any (λ fact. bears_on old fact k) (read_by (rule_of old r)) f at_old (bears_alike old new f (rivals f at) k own class bears)
 
   moved_touched : (t : Moment) (r : List ℕ) (x : Moment) → Contains g.believed t → Contains (g.rules t) r → IsOf g x → IsNew g x ⊎ IsLost g x → g.reads t r x ≡ true → g.touched t r ≡ true
   moved_touched t r x at stands of moved reads = elim (true_or (g.touched t r)) [ inl touched ↦ touched | inr not_touched ↦ absurd (never not_touched) ]
@@ -166,7 +171,7 @@ module _ (old : Standing) (edit : Edit) (sound_old : IsSound old) (sound_new : I
             | inr l ↦
                 let is_old : token_of old x ≡ Some k = tokens_stay old edit sound_old sound_new x (believed_occurs old sound_old x l.before) (of_occurs x of) ∙ is in
                 let there : In k (believed_tokens (built old)) = filter_map-In (token_of old) (built old).believed x k (In-from_Contains (built old).believed x l.before) is_old in
-                let own_old : is_watched old r k ≡ true = watched_back t r k stood.1 stands same own in
+                let own_old : is_watched old r k ≡ true = watched_back t r k stood.1 stands same (untouched_rivals (built old) (built new) t r e) (class_of_token (built old) k there) own in
                 let now_there = (In-filter (is_watched new r) (believed_tokens (built new)) k (alike.into k (filter-In (is_watched old r) (believed_tokens (built old)) k there own_old))).0 in
                 let (y, in_new, made) = In-filter_map (token_of new) (built new).believed k now_there in
                 l.not_now (subst (Contains (built new).believed) (sym (spot-token_of new y k made) ∙ spot-token_of new x k is) (Contains-from_In (built new).believed y in_new))

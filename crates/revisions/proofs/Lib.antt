@@ -7,6 +7,8 @@ pub mod Telling
 pub mod Names
 pub mod Tokens
 pub mod Locality
+pub mod Contradictions
+pub mod IdleEdits
 pub mod Lawful
 pub mod Bounds
 pub mod SeedsRight

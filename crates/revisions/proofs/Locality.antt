@@ -1,11 +1,11 @@
--- The outcome of a decision rests on the tokens of the classes of what it reads alone, and of these
--- on those that begin surely at or before its event.
-use Rattle.std.proofs.Common.{◌≡◌, ◌∙◌, ℕ, Bool, true, false, not, ◌&&◌, List, [], ◌∷◌, map, refl, sym, ap, subst, inl, inr}
+-- The outcome of a decision rests on the tokens alone that bear on what it reads, and of these on
+-- those that begin surely at or before its event.
+use Rattle.std.proofs.Common.{◌≡◌, ◌∙◌, ℕ, Bool, true, false, not, ◌&&◌, List, [], ◌∷◌, map, refl, ap, inl, inr}
 use Rattle.std.specs.Prelude.{Option, Some, None, pos, int_le, filter}
 use Rattle.std.specs.List.{list_any}
 use Rattle.std.specs.Option.{option_map}
 use Rattle.std.specs.Ordering.{on}
-use Rattle.std.specs.Cmp.Lexicographic.{bytes_decides, nat_list_eq_equiv}
+use Rattle.std.specs.Cmp.Lexicographic.{bytes_decides}
 use Rattle.std.specs.declared.cmp.Ordering.{Ordering}
 use Rattle.tmm_model.specs.declared.bound.Bound.{Bound}
 use Rattle.tmm_model.specs.declared.token.TokenRow.{TokenRow}
@@ -14,13 +14,14 @@ use Rattle.belief_theory.specs.Outcomes.{Outcome, beyond, tried, outcome}
 use Rattle.tmm_model.specs.Firsts.{earliest, first}
 use Rattle.tmm_model.specs.Moments.{Moment, Distances, distance, occ_cmp, read_by, rule_of}
 use Rattle.tmm_model.specs.Points.{same_name}
+use Rattle.belief_theory.specs.Touched.{bears_on, is_watched}
 use Rattle.tmm_model.specs.Standing.{Standing}
 use Rattle.tmm_model.specs.Tokens.{is_by, is_before, clips, cuts, lasts_to, supports}
 use Rattle.list_theory.proofs.Elements.{In, both, list_any-In, In-list_any, In-filter, filter-In, In-filter_map, In-left, In-right}
 use Rattle.belief_theory.proofs.Firsts.{least_is, one_spot}
 use Rattle.belief_theory.proofs.Order.{IsSpelt, ordered}
+use Rattle.belief_theory.proofs.Rivals.{class_bears, contradicts_bears}
 use Rattle.belief_theory.proofs.Watched.{class-token_of}
-use Rattle.revisions.specs.Maps.{is_watched}
 
 module _ (s : Standing) (far : Distances) (t : Moment) (r : List ℕ) where
   abbrev gap : Moment → Moment → Bound
@@ -37,21 +38,20 @@ module _ (s : Standing) (far : Distances) (t : Moment) (r : List ℕ) where
   own_class b k at = let (x, _, e) = In-filter_map (token_of s) b k at in class-token_of s x k e
 
   module _ (f : List ℕ) (given : In f (read_by (rule_of s r))) where
-    is_seen : (k : TokenRow Moment) → k.class ≡ class_of s f → is_watched s r k ≡ true
-    is_seen k own = In-list_any (λ fact. same_name (class_of s fact) k.class) (read_by (rule_of s r)) f given (subst (λ c. same_name (class_of s f) c ≡ true) (sym own) (nat_list_eq_equiv.refl (class_of s f)))
+    is_seen : (k : TokenRow Moment) → bears_on s f k ≡ true → is_watched s r k ≡ true
+    is_seen k bears = In-list_any (λ fact. bears_on s fact k) (read_by (rule_of s r)) f given bears
 
-    lasts_alike : (b c : List Moment) → Sees c b → (k : TokenRow Moment) → k.class ≡ class_of s f → (o : Option Moment)
+    lasts_alike : (b c : List Moment) → Sees c b → (k : TokenRow Moment) → k.fact ≡ f → k.class ≡ class_of s f → (o : Option Moment)
         → lasts_to (contradicts_in s) gap (tokens s b) k t o ≡ true → lasts_to (contradicts_in s) gap (tokens s c) k t o ≡ true
-    lasts_alike b c sees k own (Some e) h = h
-    lasts_alike b c sees k own None h = by (list_any (cuts (contradicts_in s) gap k t) (tokens s c)) refl
+    lasts_alike b c sees k fact own (Some e) h = h
+    lasts_alike b c sees k fact own None h = by (list_any (cuts (contradicts_in s) gap k t) (tokens s c)) refl
       where
         found : list_any (cuts (contradicts_in s) gap k t) (tokens s c) ≡ true → list_any (cuts (contradicts_in s) gap k t) (tokens s b) ≡ true
         found e =
             let (row, at, cut) = list_any-In (cuts (contradicts_in s) gap k t) (tokens s c) e in
             let one = both (clips (contradicts_in s) gap k row) (is_by gap row.spot t) cut in
             let differ = (both (contradicts_in s k row) (is_before gap k.spot row.spot) one.0).0 in
-            let class = (bytes_decides k.class row.class).0 (both (same_name k.class row.class) (not (same_name k.fact row.fact)) differ).0 in
-            In-list_any (cuts (contradicts_in s) gap k t) (tokens s b) row (sees row (is_seen row (sym class ∙ own)) one.1 at) cut
+            In-list_any (cuts (contradicts_in s) gap k t) (tokens s b) row (sees row (is_seen row (contradicts_bears s f k row fact own differ)) one.1 at) cut
 
         by : (v : Bool) → list_any (cuts (contradicts_in s) gap k t) (tokens s c) ≡ v → not v ≡ true
         by false e = refl
@@ -62,9 +62,10 @@ module _ (s : Standing) (far : Distances) (t : Moment) (r : List ℕ) where
     support_alike b c into back k at h =
         let outer = both (same_name k.fact f && is_by gap k.spot t) (lasts_to (contradicts_in s) gap (tokens s b) k t k.end) h in
         let inner = both (same_name k.fact f) (is_by gap k.spot t) outer.0 in
-        let own : k.class ≡ class_of s f = own_class b k at ∙ ap (class_of s) ((bytes_decides k.fact f).0 inner.0) in
-        let lasting = lasts_alike b c back k own k.end outer.1 in
-        (into k (is_seen k own) inner.1 at, λ i. outer.0 i && lasting i)
+        let fact : k.fact ≡ f = (bytes_decides k.fact f).0 inner.0 in
+        let own : k.class ≡ class_of s f = own_class b k at ∙ ap (class_of s) fact in
+        let lasting = lasts_alike b c back k fact own k.end outer.1 in
+        (into k (is_seen k (class_bears s f k own)) inner.1 at, λ i. outer.0 i && lasting i)
 
   abbrev by_begin : TokenRow Moment → TokenRow Moment → Ordering
   by_begin = on (λ k. k.spot) (occ_cmp s far)

@@ -117,7 +117,7 @@ sorts_within ps qs within named n x e = let (p, at, d) = sort_found ps n x e in 
 
 -- ---- classes
 
-class_found : (ps : List Premise) (n c : List ℕ) → class_in ps n ≡ Some c → (p : Premise) × In p ps × (list_any (same_name n) (facts_of p) ≡ true) × (name_of p ≡ c)
+pub class_found : (ps : List Premise) (n c : List ℕ) → class_in ps n ≡ Some c → (p : Premise) × In p ps × (list_any (same_name n) (facts_of p) ≡ true) × (name_of p ≡ c)
 class_found [] n c e = cc
 class_found (p ∷ ps) n c e = by (class_found ps n c) (list_any (same_name n) (facts_of p)) refl (sym (class_in-cons n p ps) ∙ e)
   where
@@ -126,7 +126,7 @@ class_found (p ∷ ps) n c e = by (class_found ps n c) (list_any (same_name n) (
     by again true eb h = let is : name_of p ≡ c = cc in (p, inl refl, eb, is)
     by again false eb h = let (q, at, has, is) = again h in (q, inr at, has, is)
 
-class_after : (earlier premises : List Premise) → AllFollow earlier premises → (p : Premise) → In p premises → (n : List ℕ) → list_any (same_name n) (facts_of p) ≡ true → class_in premises n ≡ Some (name_of p)
+pub class_after : (earlier premises : List Premise) → AllFollow earlier premises → (p : Premise) → In p premises → (n : List ℕ) → list_any (same_name n) (facts_of p) ≡ true → class_in premises n ≡ Some (name_of p)
 class_after earlier [] h p at n has = absurd at
 class_after earlier (o ∷ premises) h p (inl is) n has =
     let there : list_any (same_name n) (facts_of o) ≡ true = subst (λ z. list_any (same_name n) (facts_of z) ≡ true) (sym is) has in

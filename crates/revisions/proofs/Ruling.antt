@@ -8,12 +8,12 @@ use Rattle.std.specs.Cmp.Lexicographic.{bytes_decides, nat_list_eq_equiv}
 use Rattle.tmm_model.specs.declared.premise.Edit.{Edit}
 use Rattle.tmm_model.specs.declared.premise.Edit.TheVariants.{Add, Erase, Horizon, Upgrade}
 use Rattle.tmm_model.specs.declared.premise.Premise.{Premise}
-use Rattle.tmm_model.specs.declared.premise.Premise.TheVariants.{Class, Kind, Point, Event, Token, Span, Dist, Rule, Protect}
+use Rattle.tmm_model.specs.declared.premise.Premise.TheVariants.{Class, Kind, Point, Event, Token, Span, Dist, Rule, Protect, Against}
 use Rattle.tmm_model.specs.Beliefs.{on_kind, rules_on}
 use Rattle.tmm_model.specs.Edits.{next_list}
 use Rattle.tmm_model.specs.Erasure.{names_used, mentioned_by, is_among, falls, kept_after}
 use Rattle.tmm_model.specs.Points.{same_name}
-use Rattle.tmm_model.specs.Sorts.{Sort, a_class, a_fact, a_kind, a_point, an_event, a_token, a_span, a_dist, a_rule, a_protection, is_fact, is_kind, is_effect, declarations_of, declarations_in, declared_by, sort_in, Use, a_name, fact_use, uses_of}
+use Rattle.tmm_model.specs.Sorts.{Sort, a_class, a_fact, a_kind, a_point, an_event, a_token, a_span, a_dist, a_rule, a_protection, a_rivalry, is_fact, is_kind, is_effect, declarations_of, declarations_in, declared_by, sort_in, Use, a_name, fact_use, uses_of}
 use Rattle.tmm_model.specs.Standing.{Standing, name_of, premise_in}
 use Rattle.tmm_model.specs.Verdicts.{Cause, ill_sorted, name_cause, use_cause, uses_cause, words_known}
 use Rattle.list_theory.specs.WellNamed.{Follows, AllFollow, IsWellNamed}
@@ -37,6 +37,7 @@ no_rule_on kind (Span name fact) e = refl
 no_rule_on kind (Dist name from to lo hi) e = refl
 no_rule_on kind (Rule name trigger lo hi effect given unless_facts) e = cc
 no_rule_on kind (Protect name fact from to) e = refl
+no_rule_on kind (Against name one other) e = refl
 
 -- with a rule it falls itself
 no_rule_itself : (p : Premise) → may_rule p ≡ false → is_rule p ≡ false
@@ -49,6 +50,7 @@ no_rule_itself (Span name fact) e = refl
 no_rule_itself (Dist name from to lo hi) e = refl
 no_rule_itself (Rule name trigger lo hi effect given unless_facts) e = cc
 no_rule_itself (Protect name fact from to) e = refl
+no_rule_itself (Against name one other) e = refl
 
 rules_push : (kind : List ℕ) (ps : List Premise) (p : Premise) → is_rule p ≡ false → filter_map (on_kind kind) (ps ++ p ∷ []) ≡ filter_map (on_kind kind) ps
 rules_push kind [] p e = ap (λ o. cons_option o []) (no_rule_on kind p e)
@@ -70,6 +72,7 @@ no_fact a_span e = refl
 no_fact a_dist e = refl
 no_fact a_rule e = refl
 no_fact a_protection e = refl
+no_fact a_rivalry e = refl
 
 no_kind : (sort : Sort) → is_effect sort ≡ false → is_kind sort ≡ false
 no_kind a_kind e = cc
@@ -82,6 +85,7 @@ no_kind a_span e = refl
 no_kind a_dist e = refl
 no_kind a_rule e = refl
 no_kind a_protection e = refl
+no_kind a_rivalry e = refl
 
 -- the use asks for a kind or a fact
 record AsksEffect (u : Use) : Type 0 where
@@ -99,6 +103,7 @@ asks_effect (Token name fact) e u at = cc
 asks_effect (Span name fact) e u at = cc
 asks_effect (Dist name from to lo hi) e u at = cc
 asks_effect (Protect name fact from to) e u at = cc
+asks_effect (Against name one other) e u at = cc
 asks_effect (Rule name trigger lo hi effect given unless_facts) e u (inl is) = record { word = trigger; wanted = is_kind; is = is; refuses = no_kind }
 asks_effect (Rule name trigger lo hi effect given unless_facts) e u (inr (inl is)) = record { word = effect; wanted = is_effect; is = is; refuses = λ sort none. none }
 asks_effect (Rule name trigger lo hi effect given unless_facts) e u (inr (inr at)) =
@@ -160,6 +165,7 @@ declares_other earlier p e follows w at = by p e refl at
     by (Span name fact) e is at = (a_span, own name a_span (ap declarations_of is) (ap name_of is) (subst (λ z. In w (declared_by z)) is at), refl)
     by (Dist name from to lo hi) e is at = (a_dist, own name a_dist (ap declarations_of is) (ap name_of is) (subst (λ z. In w (declared_by z)) is at), refl)
     by (Protect name fact from to) e is at = (a_protection, own name a_protection (ap declarations_of is) (ap name_of is) (subst (λ z. In w (declared_by z)) is at), refl)
+    by (Against name one other) e is at = (a_rivalry, own name a_rivalry (ap declarations_of is) (ap name_of is) (subst (λ z. In w (declared_by z)) is at), refl)
     by (Class name facts) e is at = cc
     by (Kind name) e is at = cc
     by (Rule name trigger lo hi effect given unless_facts) e is at = cc

@@ -15,22 +15,22 @@ use Rattle.tmm_model.specs.Beliefs.{rules_at, token_of}
 use Rattle.belief_theory.specs.Outcomes.{outcome}
 use Rattle.tmm_model.specs.Edits.{next_list}
 use Rattle.tmm_model.specs.Maps.{TimeMap, built, gap, believed_tokens}
-use Rattle.tmm_model.specs.Moments.{Moment, At, After, same_moment, rule_of}
+use Rattle.tmm_model.specs.Moments.{Moment, At, After, same_moment, read_by, rule_of}
 use Rattle.list_theory.specs.WellNamed.{IsSound}
 use Rattle.belief_theory.specs.Right.{Occurs}
 use Rattle.tmm_model.specs.Standing.{Standing, far_in}
-use Rattle.belief_theory.specs.Touched.{same_bound, same_token, are_within, same_tokens, watched, watched_points, same_gaps, is_decision, is_touched}
-use Rattle.list_theory.proofs.Elements.{In, In-from_Contains, Contains-from_In, In-filter, filter-In, In-filter_map, filter_map-In, In-list_any, In-map, map-In, In-left, In-right, In-cases}
+use Rattle.belief_theory.specs.Touched.{is_watched, same_bound, same_token, are_within, same_tokens, watched, watched_points, same_rivals, same_gaps, is_decision, is_touched}
+use Rattle.list_theory.proofs.Elements.{In, list_all-In, In-from_Contains, Contains-from_In, In-filter, filter-In, In-filter_map, filter_map-In, In-list_any, In-map, map-In, In-left, In-right, In-cases}
 use Rattle.belief_theory.proofs.Moments.{Decides-same_moment}
 use Rattle.belief_theory.proofs.OneRight.{spot-token_of}
 use Rattle.belief_theory.proofs.Order.{IsSpelt}
 use Rattle.belief_theory.proofs.SoundBeliefs.{believed_right, believed_occurs}
 use Rattle.belief_theory.proofs.Spelt.{spelt}
 use Rattle.belief_theory.proofs.NextLists.{all_spelt}
-use Rattle.belief_theory.proofs.Untouched.{Alike, untouched_alike, untouched_stood, outcome_alike}
+use Rattle.belief_theory.proofs.Untouched.{Alike, is_untouched, untouched_rivals, untouched_alike, untouched_stood, outcome_alike}
+use Rattle.belief_theory.proofs.Watched.{class-token_of}
 use Rattle.spots.specs.OfLists.{map_of}
 use Rattle.revisions.specs.Counted.{AreSeeds}
-use Rattle.revisions.specs.Maps.{is_watched}
 use Rattle.revisions.proofs.Lawful.{text, watched_back, decided}
 use Rattle.revisions.proofs.Tokens.{tokens_stay}
 
@@ -54,24 +54,23 @@ within_from xs ys sub = In-list_all (λ k. list_any (same_token k) ys) xs (λ k 
 
 -- where two maps are alike for a decision that the first has, it is not touched
 pub untouched_from : (m n : TimeMap) (t : Moment) (r : List ℕ) → is_decision m (t, r) ≡ true → m.list.horizon ≡ n.list.horizon
+    → ((f : List ℕ) → In f (read_by (rule_of n.list r)) → same_rivals m.list n.list f ≡ true)
     → ((k : TokenRow Moment) → In k (watched m r) → In k (watched n r)) → ((k : TokenRow Moment) → In k (watched n r) → In k (watched m r))
     → ((p q : Moment) → In p (watched_points n t r) → In q (watched_points n t r) → gap m p q ≡ gap n p q)
     → is_touched m n (t, r) ≡ false
-untouched_from m n t r was horizon into back gaps =
-    all_true (is_decision m (t, r)) (m.list.horizon == n.list.horizon) (same_tokens (watched m r) (watched n r)) (same_gaps m n (watched_points n t r))
+untouched_from m n t r was horizon rivals into back gaps =
+    all_true (is_decision m (t, r)) (m.list.horizon == n.list.horizon) (list_all (same_rivals m.list n.list) (read_by (rule_of n.list r)))
+    (same_tokens (watched m r) (watched n r)) (same_gaps m n (watched_points n t r))
     was
     (ap (λ h. m.list.horizon == h) (sym horizon) ∙ eq-eqb m.list.horizon m.list.horizon refl)
+    (In-list_all (same_rivals m.list n.list) (read_by (rule_of n.list r)) rivals)
     (λ i. within_from (watched m r) (watched n r) into i && within_from (watched n r) (watched m r) back i)
     (In-list_all (λ p. list_all (λ q. same_bound (gap m p q) (gap n p q)) (watched_points n t r)) (watched_points n t r)
     (λ p at_p. In-list_all (λ q. same_bound (gap m p q) (gap n p q)) (watched_points n t r)
     (λ q at_q. ap (λ x. same_bound x (gap n p q)) (gaps p q at_p at_q) ∙ bound_itself (gap n p q))))
   where
-    all_true : (a b c d : Bool) → a ≡ true → b ≡ true → c ≡ true → d ≡ true → (not a || not b || not c || not d) ≡ false
-    all_true true true true true e f g h = refl
-    all_true false b c d e f g h = cc
-    all_true true false c d e f g h = cc
-    all_true true true false d e f g h = cc
-    all_true true true true false e f g h = cc
+    all_true : (a b c d e : Bool) → a ≡ true → b ≡ true → c ≡ true → d ≡ true → e ≡ true → (not a || not b || not c || not d || not e) ≡ false
+    all_true a b c d e p q u v w = λ i. not (p i) || not (q i) || not (u i) || not (v i) || not (w i)
 
 abbrev pub points_among : Moment → List (TokenRow Moment) → List Moment
 points_among t ks = At Start ∷ t ∷ map (λ k. k.spot) ks ++ filter_map (λ k. k.end) ks
@@ -118,7 +117,8 @@ module _ (old : Standing) (edit : Edit) (sound_old : IsSound old) (sound_new : I
     -- what is untouched in the end is untouched at the beginning
     untouched_first : is_touched (built old) (built new) (t, r) ≡ false → is_touched (built old) (map_of new b) (t, r) ≡ false
     untouched_first h =
-        untouched_from (built old) (map_of new b) t r was alike.horizon into back
+        untouched_from (built old) (map_of new b) t r was alike.horizon
+        (λ f given. list_all-In (same_rivals old new) (read_by (rule_of new r)) (is_untouched (built old) (built new) t r h).rivals f given) into back
         (λ p q at_p at_q. alike.gaps p q (among_more t (watched (map_of new b) r) (watched (built old) r) back p at_p) (among_more t (watched (map_of new b) r) (watched (built old) r) back q at_q))
       where
         stood : Contains (built old).believed t × Contains (rules_at old t) r
@@ -151,7 +151,8 @@ module _ (old : Standing) (edit : Edit) (sound_old : IsSound old) (sound_new : I
               | inl before ↦
                   let of_old = tokens_stay old edit sound_old sound_new x (believed_occurs old sound_old x before) (seed_occurs x here) ∙ e in
                   filter-In (is_watched old r) (believed_tokens (built old)) k (filter_map-In (token_of old) (built old).believed x k (In-from_Contains (built old).believed x before) of_old)
-                  (watched_back old edit sound_old sound_new t r k stood.1 stands same seed.1)
+                  (watched_back old edit sound_old sound_new t r k stood.1 stands same (untouched_rivals (built old) (built new) t r h)
+                  (class-token_of old x k of_old) seed.1)
               | inr now ↦ alike.back k (filter-In (is_watched new r) (believed_tokens (built new)) k (filter_map-In (token_of new) (built new).believed x k (In-from_Contains (built new).believed x now) e) seed.1)
             ]
 

@@ -5,7 +5,7 @@ use Rattle.std.specs.List.{Contains}
 use Rattle.tmm_model.specs.declared.point.PointName.TheVariants.{Start, Begin, End}
 use Rattle.tmm_model.specs.declared.premise.Edit.{Edit}
 use Rattle.tmm_model.specs.declared.premise.Premise.{Premise}
-use Rattle.tmm_model.specs.declared.premise.Premise.TheVariants.{Class, Kind, Point, Event, Token, Span, Dist, Rule, Protect}
+use Rattle.tmm_model.specs.declared.premise.Premise.TheVariants.{Class, Kind, Point, Event, Token, Span, Dist, Rule, Protect, Against}
 use Rattle.tmm_model.specs.declared.token.Shape.{Shape}
 use Rattle.tmm_model.specs.declared.token.Shape.TheVariants.{Event as AnEvent, Persistence as APersistence, Span as ASpan}
 use Rattle.tmm_model.specs.Beliefs.{is_of, root_of, roots, on_kind, rules_on, rules_for, rules_at}
@@ -32,6 +32,7 @@ not_root s (Point name) e = cc
 not_root s (Dist name from to lo hi) e = cc
 not_root s (Rule name trigger lo hi effect given unless_facts) e = cc
 not_root s (Protect name fact from to) e = cc
+not_root s (Against name one other) e = cc
 
 no_end : (p : Premise) (k : List ℕ) → root_of p ≡ Some (At (End k)) → ⊥
 no_end (Event name kind) k e = cc
@@ -43,6 +44,7 @@ no_end (Point name) k e = cc
 no_end (Dist name from to lo hi) k e = cc
 no_end (Rule name trigger lo hi effect given unless_facts) k e = cc
 no_end (Protect name fact from to) k e = cc
+no_end (Against name one other) k e = cc
 
 some_in : (o : Option Premise) → IsSome o → (p : Premise) × (o ≡ Some p)
 some_in None h = absurd (cc (h))

@@ -6,7 +6,7 @@ use Rattle.std.proofs.lemmas.List.Elements.{All-contains}
 use Rattle.tmm_model.specs.declared.point.PointName.{PointName}
 use Rattle.tmm_model.specs.declared.point.PointName.TheVariants.{Start, Begin, End}
 use Rattle.tmm_model.specs.declared.premise.Premise.{Premise}
-use Rattle.tmm_model.specs.declared.premise.Premise.TheVariants.{Class, Kind, Point, Event, Token, Span, Dist, Rule, Protect}
+use Rattle.tmm_model.specs.declared.premise.Premise.TheVariants.{Class, Kind, Point, Event, Token, Span, Dist, Rule, Protect, Against}
 use Rattle.tmm_model.specs.declared.token.Shape.{Shape}
 use Rattle.tmm_model.specs.declared.token.Shape.TheVariants.{Event as AnEvent, Persistence as APersistence, Span as ASpan}
 use Rattle.tmm_model.specs.Beliefs.{as_root, is_of, root_of, roots}
@@ -46,6 +46,7 @@ root_points s k at =
     own (Dist name from to lo hi) e = cc
     own (Rule name trigger lo hi effect given unless_facts) e = cc
     own (Protect name fact from to) e = cc
+    own (Against name one other) e = cc
 
 -- the shape of what occurs
 abbrev shape_of : Option (Shape × List ℕ) → Shape
@@ -65,6 +66,7 @@ span_end s k (Some (Point name)) is fact e = cc
 span_end s k (Some (Dist name from to lo hi)) is fact e = cc
 span_end s k (Some (Rule name trigger lo hi effect given unless_facts)) is fact e = cc
 span_end s k (Some (Protect name fact_ from to)) is fact e = cc
+span_end s k (Some (Against name one other)) is fact e = cc
 
 pub anchor_point : (s : Standing) (p : PointName) → IsAnchor s p → In p (points_in s.premises)
 anchor_point s Start at = inl refl

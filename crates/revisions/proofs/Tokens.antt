@@ -6,7 +6,7 @@ use Rattle.std.proofs.lemmas.List.Elements.{All-contains}
 use Rattle.tmm_model.specs.declared.point.PointName.TheVariants.{Start, Begin, End}
 use Rattle.tmm_model.specs.declared.premise.Edit.{Edit}
 use Rattle.tmm_model.specs.declared.premise.Premise.{Premise}
-use Rattle.tmm_model.specs.declared.premise.Premise.TheVariants.{Class, Kind, Point, Event, Token, Span, Dist, Rule, Protect}
+use Rattle.tmm_model.specs.declared.premise.Premise.TheVariants.{Class, Kind, Point, Event, Token, Span, Dist, Rule, Protect, Against}
 use Rattle.tmm_model.specs.declared.token.Shape.{Shape}
 use Rattle.tmm_model.specs.declared.token.Shape.TheVariants.{Event as AnEvent, Persistence as APersistence, Span as ASpan}
 use Rattle.tmm_model.specs.declared.token.TokenRow.{TokenRow}
@@ -15,7 +15,7 @@ use Rattle.tmm_model.specs.Edits.{next_list}
 use Rattle.tmm_model.specs.Moments.{Moment, At, After, as_rule, read_by, rule_of}
 use Rattle.belief_theory.specs.Right.{Occurs}
 use Rattle.list_theory.specs.WellNamed.{IsSound}
-use Rattle.tmm_model.specs.Sorts.{Sort, a_class, a_fact, a_kind, a_point, an_event, a_token, a_span, a_dist, a_rule, a_protection, is_effect, sort_in, class_in}
+use Rattle.tmm_model.specs.Sorts.{Sort, a_class, a_fact, a_kind, a_point, an_event, a_token, a_span, a_dist, a_rule, a_protection, a_rivalry, is_effect, sort_in, class_in}
 use Rattle.tmm_model.specs.Standing.{Standing, name_of, premise_in}
 use Rattle.belief_theory.proofs.NextLists.{AreWithin, one_way}
 use Rattle.list_theory.proofs.Elements.{In, In-from_Contains, Contains-from_In, In-filter_map}
@@ -45,6 +45,7 @@ root_named (Point name) k e = cc
 root_named (Dist name from to lo hi) k e = cc
 root_named (Rule name trigger lo hi effect given unless_facts) k e = cc
 root_named (Protect name fact from to) k e = cc
+root_named (Against name one other) k e = cc
 
 abbrev effect_in : Standing → Premise → Shape × List ℕ
 effect_in z p = as_effect (as_rule (Some p)).effect (sort_in z.premises (as_rule (Some p)).effect)
@@ -72,6 +73,7 @@ module _ (s t : Standing) (sound_s : IsSound s) (sound_t : IsSound t) (within : 
   root_classed (Dist name from to lo hi) at = tt
   root_classed (Rule name trigger lo hi effect given unless_facts) at = tt
   root_classed (Protect name fact from to) at = tt
+  root_classed (Against name one other) at = tt
 
   record Alike (x : Moment) : Type 0 where
     same : is_of s x ≡ is_of t x
@@ -109,6 +111,7 @@ module _ (s t : Standing) (sound_s : IsSound s) (sound_t : IsSound t) (within : 
       declared x a_dist e i = cc
       declared x a_rule e i = cc
       declared x a_protection e i = cc
+      declared x a_rivalry e i = cc
 
       effect : (p : Premise) → In p s.premises → (kind : List ℕ) → on_kind kind p ≡ Some r → (effect_in s p ≡ effect_in t p) × IsClassed (Some (effect_in s p))
       effect (Rule name trigger lo hi x given unless_facts) at kind is =
@@ -125,6 +128,7 @@ module _ (s t : Standing) (sound_s : IsSound s) (sound_t : IsSound t) (within : 
       effect (Span name fact) at kind is = cc
       effect (Dist name from to lo hi) at kind is = cc
       effect (Protect name fact from to) at kind is = cc
+      effect (Against name one other) at kind is = cc
 
   token_stays : (x : Moment) → Occurs s x → token_of s x ≡ token_of t x
   token_stays x h = let a = alike x h in by (is_of s x) refl a.classed ∙ ap (λ o. elim o as (λ _. Option (TokenRow Moment)) [ None ↦ None | Some y ↦ token_at t x y ]) a.same

@@ -6,33 +6,33 @@ use Rattle.std.specs.Prelude.{◌⊎◌, Option, Some, None, pos, negsuc, filter
 use Rattle.std.specs.List.{list_any}
 use Rattle.std.specs.Option.{option_map}
 use Rattle.std.specs.Ordering.{on, is_gt}
-use Rattle.std.specs.Cmp.Lexicographic.{bytes_decides, nat_list_eq_equiv}
+use Rattle.std.specs.Cmp.Lexicographic.{bytes_decides}
 use Rattle.std.specs.declared.cmp.Ordering.{Ordering}
 use Rattle.tmm_model.specs.declared.bound.Bound.{Bound}
 use Rattle.tmm_model.specs.declared.bound.Bound.TheVariants.{Finite, Free}
 use Rattle.tmm_model.specs.declared.token.TokenRow.{TokenRow}
-use Rattle.tmm_model.specs.Beliefs.{class_of, token_of, contradicts_in, holder, supporters, against}
+use Rattle.tmm_model.specs.Beliefs.{class_of, are_rivals, token_of, contradicts_in, holder, supporters, against}
 use Rattle.tmm_model.specs.Bounds.{bound_at_most, bound_plus}
 use Rattle.tmm_model.specs.Firsts.{earliest, first}
 use Rattle.tmm_model.specs.Maps.{TimeMap, gap, order, believed_tokens}
 use Rattle.tmm_model.specs.Moments.{Moment, RuleText, read_by, rule_of}
 use Rattle.tmm_model.specs.Points.{same_name}
 use Rattle.tmm_model.specs.Standing.{Standing, far_in}
-use Rattle.tmm_model.specs.Tokens.{is_by, is_before, clips, cuts, lasts_to, supports}
+use Rattle.tmm_model.specs.Tokens.{of_one_class, is_by, is_before, clips, cuts, lasts_to, supports}
 use Rattle.tmm_model.specs.Types.{IsTighter}
 use Rattle.list_theory.specs.WellNamed.{IsSound}
 use Rattle.list_theory.proofs.Elements.{In, both, Contains-from_In, list_any-In, In-list_any, In-filter, filter-In, In-filter_map, In-left, In-right}
 use Rattle.belief_theory.specs.Outcomes.{Outcome, beyond, tried, outcome}
-use Rattle.belief_theory.specs.Touched.{watched}
 use Rattle.belief_theory.proofs.Firsts.{least_is, one_spot}
 use Rattle.belief_theory.proofs.OneRight.{spot-token_of}
 use Rattle.belief_theory.proofs.Order.{IsSpelt, ordered}
+use Rattle.belief_theory.proofs.Rivals.{or_left, class_bears, contradicts_bears, contradicts_plain}
 use Rattle.belief_theory.proofs.Sound.{shortest, sound_rules}
 use Rattle.belief_theory.proofs.Spelt.{spelt}
 use Rattle.belief_theory.proofs.Timed.{distance_triangle}
-use Rattle.belief_theory.proofs.Watched.{class-token_of}
+use Rattle.belief_theory.proofs.Untouched.{class_of_token, watches, watched_token}
 use Rattle.spots.specs.OfLists.{map_of}
-use Rattle.revisions.specs.Walls.{has_begun, IsPast, IsSpared, AlikeBut, AllOccur, OutcomesStayBut}
+use Rattle.revisions.specs.Walls.{has_begun, IsPast, IsPlain, IsAside, AlikeBut, AllOccur, OutcomesStayBut}
 
 -- ---- distances
 
@@ -49,22 +49,7 @@ then_by long Free two h g near = cc
 before_by : (m : TimeMap) → IsTriangular m → (k x w : Moment) → is_before (gap m) k x ≡ true → is_by (gap m) x w ≡ true → is_before (gap m) k w ≡ true
 before_by m far k x w one two = then_by (gap m w k) (gap m w x) (gap m x k) two one (far w x k)
 
--- ---- the tokens that a map believes
-
-class_of_token : (m : TimeMap) (k : TokenRow Moment) → In k (believed_tokens m) → k.class ≡ class_of m.list k.fact
-class_of_token m k at = let (x, _, e) = In-filter_map (token_of m.list) m.believed k at in class-token_of m.list x k e
-
-abbrev is_read : TimeMap → List ℕ → TokenRow Moment → Bool
-is_read m r k = list_any (λ fact. same_name (class_of m.list fact) k.class) (read_by (rule_of m.list r))
-
--- a token of the class of an antecedent or an exception is watched
-watches : (m : TimeMap) (r f : List ℕ) (k : TokenRow Moment) → In f (read_by (rule_of m.list r)) → In k (believed_tokens m) → k.class ≡ class_of m.list f → In k (watched m r)
-watches m r f k given at own =
-    filter-In (is_read m r) (believed_tokens m) k at
-    (In-list_any (λ fact. same_name (class_of m.list fact) k.class) (read_by (rule_of m.list r)) f given (subst (λ c. same_name (class_of m.list f) c ≡ true) (sym own) (nat_list_eq_equiv.refl (class_of m.list f))))
-
-watched_token : (m : TimeMap) (r : List ℕ) (k : TokenRow Moment) → In k (watched m r) → In k (believed_tokens m)
-watched_token m r k at = (In-filter (is_read m r) (believed_tokens m) k at).0
+-- ---- what supports and cuts in a map
 
 abbrev holds_at : TimeMap → Moment → List ℕ → TokenRow Moment → Bool
 holds_at m t f k = supports (contradicts_in m.list) (gap m) (believed_tokens m) f t t k
@@ -79,7 +64,6 @@ lasts_at m t k o = lasts_to (contradicts_in m.list) (gap m) (believed_tokens m) 
 
 pub record Cut (m : TimeMap) (t : Moment) (k c : TokenRow Moment) : Type 0 where
   pub contradicts : contradicts_in m.list k c ≡ true
-  pub class : k.class ≡ c.class
   pub before : is_before (gap m) k.spot c.spot ≡ true
   pub begun : has_begun m t c ≡ true
 
@@ -87,12 +71,14 @@ cut_is : (m : TimeMap) (t : Moment) (k c : TokenRow Moment) → cuts_at m t k c 
 cut_is m t k c h =
     let one = both (clips (contradicts_in m.list) (gap m) k c) (is_by (gap m) c.spot t) h in
     let two = both (contradicts_in m.list k c) (is_before (gap m) k.spot c.spot) one.0 in
-    record {
-      contradicts = two.0;
-      class = (bytes_decides k.class c.class).0 (both (same_name k.class c.class) (not (same_name k.fact c.fact)) two.0).0;
-      before = two.1;
-      begun = one.1;
-    }
+    record { contradicts = two.0; before = two.1; begun = one.1 }
+
+-- what cuts a token by its class cuts it
+class_cuts : (m : TimeMap) (t : Moment) (k c : TokenRow Moment) → cuts of_one_class (gap m) k t c ≡ true → cuts_at m t k c ≡ true
+class_cuts m t k c h =
+    let one = both (clips of_one_class (gap m) k c) (is_by (gap m) c.spot t) h in
+    let two = both (of_one_class k c) (is_before (gap m) k.spot c.spot) one.0 in
+    λ i. (or_left (of_one_class k c) (are_rivals m.list k.fact c.fact) two.0 i && two.1 i) && one.1 i
 
 -- a token with such a cut does not last
 cut_short : (m : TimeMap) (t : Moment) (k c : TokenRow Moment) → In c (believed_tokens m) → cuts_at m t k c ≡ true → lasts_at m t k None ≡ true → ⊥
@@ -111,7 +97,7 @@ other_fact fact one other differ = by (same_name fact one) refl (same_name fact 
     by true e false g = inr g
     by true e true g = absurd (differ (sym ((bytes_decides fact one).0 e) ∙ (bytes_decides fact other).0 g))
 
-contradicted : (m : TimeMap) (k w : TokenRow Moment) → k.class ≡ w.class → same_name k.fact w.fact ≡ false → contradicts_in m.list k w ≡ true
+contradicted : (m : TimeMap) (k w : TokenRow Moment) → k.class ≡ w.class → same_name k.fact w.fact ≡ false → of_one_class k w ≡ true
 contradicted m k w class differ = λ i. (bytes_decides k.class w.class).1 class i && not (differ i)
 
 -- ---- two maps that are alike but for some tokens
@@ -126,7 +112,7 @@ turned stays m n t r a = record {
   after = a.before;
   begun = λ k at. sym (a.begun k at);
   ended = λ k e at is. sym (a.ended k e at is);
-  clipped = λ k c at_k at_c one. sym (a.clipped k c at_k at_c one);
+  clipped = λ k c at_k at_c given. sym (a.clipped k c at_k at_c (subst (λ (x : RuleText). In k.fact (read_by x)) (sym a.text) given));
   ordered = λ k c at_k at_c one. sym (a.ordered k c at_k at_c one);
 }
 
@@ -136,36 +122,47 @@ module _ (stays : TokenRow Moment → Type 0) (m n : TimeMap) (t : Moment) (r : 
   given_there = subst (λ (x : RuleText). In f (read_by x)) a.text given
 
   -- what cuts a token that stays in the second map, and stays itself, cuts it in the first
-  cut_back : (k c : TokenRow Moment) → stays k → stays c → Cut n t k c → cuts_at m t k c ≡ true
-  cut_back k c stays_k stays_c cut =
-      let before : is_before (gap m) k.spot c.spot ≡ true = a.clipped k c stays_k stays_c cut.contradicts ∙ cut.before in
+  cut_back : (k c : TokenRow Moment) → k.fact ≡ f → stays k → stays c → Cut n t k c → cuts_at m t k c ≡ true
+  cut_back k c fact stays_k stays_c cut =
+      let clip_n : clips (contradicts_in n.list) (gap n) k c ≡ true = λ i. cut.contradicts i && cut.before i in
+      let clip : clips (contradicts_in m.list) (gap m) k c ≡ true = a.clipped k c stays_k stays_c (subst (λ z. In z (read_by (rule_of m.list r))) (sym fact) given) ∙ clip_n in
       let begun : has_begun m t c ≡ true = a.begun c stays_c ∙ cut.begun in
-      λ i. (cut.contradicts i && before i) && begun i
+      λ i. clip i && begun i
 
-  -- so does a wall behind what cuts it, if it is of another fact
-  wall_back : (k c w : TokenRow Moment) → stays k → stays w → Cut n t k c → w.class ≡ c.class → is_by (gap n) c.spot w.spot ≡ true → has_begun n t w ≡ true → same_name k.fact w.fact ≡ false → cuts_at m t k w ≡ true
-  wall_back k c w stays_k stays_w cut class after begun differ =
-      cut_back k w stays_k stays_w (record {
-        contradicts = contradicted n k w (cut.class ∙ sym class) differ;
-        class = cut.class ∙ sym class;
+  -- so does a wall behind what cuts it by its class, if it is of another fact
+  wall_back : (k c w : TokenRow Moment) → k.fact ≡ f → stays k → stays w → Cut n t k c → k.class ≡ c.class → w.class ≡ c.class → is_by (gap n) c.spot w.spot ≡ true → has_begun n t w ≡ true
+      → same_name k.fact w.fact ≡ false → cuts_at m t k w ≡ true
+  wall_back k c w fact stays_k stays_w cut one_class class after begun differ =
+      cut_back k w fact stays_k stays_w (record {
+        contradicts = or_left (of_one_class k w) (are_rivals n.list k.fact w.fact) (contradicted n k w (one_class ∙ sym class) differ);
         before = before_by n far_n k.spot c.spot w.spot cut.before after;
         begun = begun;
       })
 
+  -- what contradicts a token of f without being a rival is of its class
+  plain_class : (k c : TokenRow Moment) → k.fact ≡ f → contradicts_in n.list k c ≡ true → IsPlain n.list r c → k.class ≡ c.class
+  plain_class k c fact contradicts plain =
+      let none : are_rivals n.list k.fact c.fact ≡ false = ap (λ z. are_rivals n.list z c.fact) fact ∙ plain f given_there in
+      let one : of_one_class k c ≡ true = sym (contradicts_plain n.list k c none) ∙ contradicts in
+      (bytes_decides k.class c.class).0 (both (same_name k.class c.class) (not (same_name k.fact c.fact)) one).0
+
   -- a token that is cut in the second map is cut in the first
-  found_back : (k c : TokenRow Moment) → stays k → k.class ≡ class_of n.list f → In c (believed_tokens n) → Cut n t k c → (d : TokenRow Moment) × In d (believed_tokens m) × (cuts_at m t k d ≡ true)
-  found_back k c stays_k own at cut = by (a.after c (watches n r f c given_there at (sym cut.class ∙ own)))
+  found_back : (k c : TokenRow Moment) → k.fact ≡ f → stays k → k.class ≡ class_of n.list f → In c (believed_tokens n) → Cut n t k c
+      → (d : TokenRow Moment) × In d (believed_tokens m) × (cuts_at m t k d ≡ true)
+  found_back k c fact stays_k own at cut = by (a.after c (watches n r f c given_there at (contradicts_bears n.list f k c fact own cut.contradicts)))
     where
       among : (d : TokenRow Moment) → stays d → In d (believed_tokens m)
       among d stay = watched_token m r d (a.here d stay)
 
-      by : stays c ⊎ IsSpared stays n t c → (d : TokenRow Moment) × In d (believed_tokens m) × (cuts_at m t k d ≡ true)
-      by (inl stay) = (c, among c stay, cut_back k c stays_k stay cut)
+      by : stays c ⊎ IsAside stays n t r c → (d : TokenRow Moment) × In d (believed_tokens m) × (cuts_at m t k d ≡ true)
+      by (inl stay) = (c, among c stay, cut_back k c fact stays_k stay cut)
       by (inr (inl not_begun)) = let begun : has_begun n t c ≡ true = cut.begun in cc
-      by (inr (inr past)) = elim (other_fact k.fact past.one.fact past.other.fact past.walls.differ) [
-        | inl differ ↦ (past.one, among past.one past.one_stays, wall_back k c past.one stays_k past.one_stays cut past.walls.one.class past.walls.one.after past.walls.one.begun differ)
-        | inr differ ↦ (past.other, among past.other past.other_stays, wall_back k c past.other stays_k past.other_stays cut past.walls.other.class past.walls.other.after past.walls.other.begun differ)
-      ]
+      by (inr (inr (past, plain))) =
+          let class = plain_class k c fact cut.contradicts plain in
+          elim (other_fact k.fact past.one.fact past.other.fact past.walls.differ) [
+            | inl differ ↦ (past.one, among past.one past.one_stays, wall_back k c past.one fact stays_k past.one_stays cut class past.walls.one.class past.walls.one.after past.walls.one.begun differ)
+            | inr differ ↦ (past.other, among past.other past.other_stays, wall_back k c past.other fact stays_k past.other_stays cut class past.walls.other.class past.walls.other.after past.walls.other.begun differ)
+          ]
 
   lasts_alike : (k : TokenRow Moment) → stays k → k.fact ≡ f → (o : Option Moment) → k.end ≡ o → lasts_at m t k o ≡ true → lasts_at n t k o ≡ true
   lasts_alike k stay fact (Some e) is h = sym (a.ended k e stay is) ∙ h
@@ -178,25 +175,25 @@ module _ (stays : TokenRow Moment → Type 0) (m n : TimeMap) (t : Moment) (r : 
       by false e = refl
       by true e =
           let (c, at, cut) = list_any-In (cuts_at n t k) (believed_tokens n) e in
-          let (d, here, short) = found_back k c stay own at (cut_is n t k c cut) in
+          let (d, here, short) = found_back k c fact stay own at (cut_is n t k c cut) in
           absurd (cut_short m t k d here short h)
 
   -- a token that is past supports nothing
   none_past : (k : TokenRow Moment) → IsPast stays m t k → (o : Option Moment) → k.end ≡ o → lasts_at m t k o ≡ true → ⊥
-  none_past k past (Some e) is h = let over : lasts_to (contradicts_in m.list) (gap m) (past.one ∷ past.other ∷ []) k t (Some e) ≡ false = ap (lasts_to (contradicts_in m.list) (gap m) (past.one ∷ past.other ∷ []) k t) (sym is) ∙ past.walls.over in cc
-  none_past k past None is h = by (cuts_at m t k past.one) refl (cuts_at m t k past.other) refl over
+  none_past k past (Some e) is h = let over : lasts_to of_one_class (gap m) (past.one ∷ past.other ∷ []) k t (Some e) ≡ false = ap (lasts_to of_one_class (gap m) (past.one ∷ past.other ∷ []) k t) (sym is) ∙ past.walls.over in cc
+  none_past k past None is h = by (cuts of_one_class (gap m) k t past.one) refl (cuts of_one_class (gap m) k t past.other) refl over
     where
-      over : not (cuts_at m t k past.one || (cuts_at m t k past.other || false)) ≡ false
-      over = ap (lasts_to (contradicts_in m.list) (gap m) (past.one ∷ past.other ∷ []) k t) (sym is) ∙ past.walls.over
+      over : not (cuts of_one_class (gap m) k t past.one || (cuts of_one_class (gap m) k t past.other || false)) ≡ false
+      over = ap (lasts_to of_one_class (gap m) (past.one ∷ past.other ∷ []) k t) (sym is) ∙ past.walls.over
 
-      by : (x : Bool) → cuts_at m t k past.one ≡ x → (y : Bool) → cuts_at m t k past.other ≡ y → not (x || (y || false)) ≡ false → ⊥
-      by true e y g over = cut_short m t k past.one (watched_token m r past.one (a.here past.one past.one_stays)) e h
-      by false e true g over = cut_short m t k past.other (watched_token m r past.other (a.here past.other past.other_stays)) g h
+      by : (x : Bool) → cuts of_one_class (gap m) k t past.one ≡ x → (y : Bool) → cuts of_one_class (gap m) k t past.other ≡ y → not (x || (y || false)) ≡ false → ⊥
+      by true e y g over = cut_short m t k past.one (watched_token m r past.one (a.here past.one past.one_stays)) (class_cuts m t k past.one e) h
+      by false e true g over = cut_short m t k past.other (watched_token m r past.other (a.here past.other past.other_stays)) (class_cuts m t k past.other g) h
       by false e false g over = cc
 
   -- **A supporter in the one map stays, and is one in the other.**
   support_alike : (k : TokenRow Moment) → In k (believed_tokens m) → holds_at m t f k ≡ true → stays k × (k.fact ≡ f) × In k (believed_tokens n) × (holds_at n t f k ≡ true)
-  support_alike k at h = by (a.before k (watches m r f k given at (class_of_token m k at ∙ ap (class_of m.list) fact)))
+  support_alike k at h = by (a.before k (watches m r f k given at (class_bears m.list f k (class_of_token m k at ∙ ap (class_of m.list) fact))))
     where
       outer : ((same_name k.fact f && is_by (gap m) k.spot t) ≡ true) × (lasts_at m t k k.end ≡ true)
       outer = both (same_name k.fact f && is_by (gap m) k.spot t) (lasts_at m t k k.end) h
@@ -207,13 +204,13 @@ module _ (stays : TokenRow Moment → Type 0) (m n : TimeMap) (t : Moment) (r : 
       fact : k.fact ≡ f
       fact = (bytes_decides k.fact f).0 inner.0
 
-      by : stays k ⊎ IsSpared stays m t k → stays k × (k.fact ≡ f) × In k (believed_tokens n) × (holds_at n t f k ≡ true)
+      by : stays k ⊎ IsAside stays m t r k → stays k × (k.fact ≡ f) × In k (believed_tokens n) × (holds_at n t f k ≡ true)
       by (inl stay) =
           let begun : has_begun n t k ≡ true = sym (a.begun k stay) ∙ inner.1 in
           let lasting = lasts_alike k stay fact k.end refl outer.1 in
           (stay, fact, watched_token n r k (a.there k stay), λ i. (inner.0 i && begun i) && lasting i)
       by (inr (inl not_begun)) = let begun : has_begun m t k ≡ true = inner.1 in cc
-      by (inr (inr past)) = absurd (none_past k past k.end refl outer.1)
+      by (inr (inr (past, plain))) = absurd (none_past k past k.end refl outer.1)
 
 abbrev by_begin : TimeMap → TokenRow Moment → TokenRow Moment → Ordering
 by_begin m = on (λ k. k.spot) (order m)

@@ -1,19 +1,19 @@
 -- A whole revision is right.
-use Rattle.std.proofs.Common.{◌≡◌, ℕ, Bool, true, false, not, ◌||◌, ◌==◌, List, [], ◌∷◌, refl, sym, subst, inl, inr}
+use Rattle.std.proofs.Common.{◌≡◌, ℕ, Bool, true, false, ◌==◌, List, [], ◌∷◌, refl, sym, subst, inl, inr}
 use Rattle.std.specs.Prelude.{◌↔◌, ◌⊎◌, ℤ, negsuc}
-use Rattle.std.specs.List.{Contains, list_any}
+use Rattle.std.specs.List.{Contains, list_any, list_all}
 use Rattle.std.specs.Cmp.Lexicographic.{bytes_decides}
 use Rattle.tmm_model.specs.declared.premise.Edit.{Edit}
 use Rattle.tmm_model.specs.Answers.{weight}
 use Rattle.tmm_model.specs.Beliefs.{roots, rules_at}
 use Rattle.tmm_model.specs.Edits.{next_list}
 use Rattle.tmm_model.specs.Maps.{TimeMap, built}
-use Rattle.tmm_model.specs.Moments.{Moment, At, After, same_moment}
+use Rattle.tmm_model.specs.Moments.{Moment, At, After, read_by, rule_of, same_moment}
 use Rattle.tmm_model.specs.Points.{same_name}
 use Rattle.list_theory.specs.WellNamed.{IsSound}
 use Rattle.belief_theory.specs.Right.{Occurs}
 use Rattle.tmm_model.specs.Standing.{Standing}
-use Rattle.belief_theory.specs.Touched.{same_tokens, watched, watched_points, same_gaps, is_decision, is_touched}
+use Rattle.belief_theory.specs.Touched.{same_rivals, same_tokens, watched, watched_points, same_gaps, is_decision, is_touched}
 use Rattle.list_theory.proofs.Distinct.{Distinct, sum_inside}
 use Rattle.list_theory.proofs.Elements.{In, In-from_Contains, Contains-from_In, list_any-In, In-list_any}
 use Rattle.belief_theory.proofs.Moments.{Decides-same_moment}
@@ -28,7 +28,7 @@ use Rattle.revisions.specs.Maps.{revision}
 use Rattle.revisions.specs.Whole.{State, Waiting, Tells, nothing, an_entry, a_leave, IsTurn, Reaches, there, further, Begins, Ends, Runs}
 use Rattle.revisions.proofs.Agreeing.{ended}
 use Rattle.revisions.proofs.Bounds.{counted}
-use Rattle.revisions.proofs.Lawful.{lawful, of_occurs, occurs_of}
+use Rattle.revisions.proofs.Lawful.{first_touches, lawful, of_occurs, occurs_of}
 use Rattle.revisions.proofs.Seeding.{seeded}
 use Rattle.revisions.proofs.SeedsRight.{keeps, stays_touched}
 use Rattle.revisions.proofs.Telling.{told_stays, told_enters, told_withdraws, told_all}
@@ -137,11 +137,9 @@ module _ (old : Standing) (edit : Edit) (sound_old : IsSound old) (sound_new : I
 
   module _ (s : State) (begins : Begins old (next_list old edit) s) where
     new_touched : (n : TimeMap) (t : Moment) (r : List ℕ) → is_decision (built old) (t, r) ≡ false → is_touched (built old) n (t, r) ≡ true
-    new_touched n t r e = by (is_decision (built old) (t, r)) (old.horizon == n.list.horizon) (same_tokens (watched (built old) r) (watched n r)) (same_gaps (built old) n (watched_points n t r)) e
-      where
-        by : (a b c d : Bool) → a ≡ false → (not a || not b || not c || not d) ≡ true
-        by false b c d e = refl
-        by true b c d e = cc
+    new_touched n t r e =
+        first_touches (is_decision (built old) (t, r)) (old.horizon == n.list.horizon) (list_all (same_rivals old n.list) (read_by (rule_of n.list r)))
+        (same_tokens (watched (built old) r) (watched n r)) (same_gaps (built old) n (watched_points n t r)) e
 
     is_seeded : IsSeeded g s.nodes s.kept (Waiting s)
     is_seeded = record {

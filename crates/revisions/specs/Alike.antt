@@ -1,5 +1,5 @@
 -- Lists that are alike in all that beliefs read, and what is the same of them then.
-use Rattle.std.specs.Prelude.{◌≡◌, ℕ, Bool, true, false, not, List, [], filter, Some}
+use Rattle.std.specs.Prelude.{◌≡◌, ℕ, Bool, true, false, not, ◌&&◌, List, [], filter, Option, Some, None}
 use Rattle.std.specs.List.{Contains}
 use Rattle.std.specs.Option.{option_map_or}
 use Rattle.tmm_model.specs.declared.point.PointName.{PointName}
@@ -7,7 +7,7 @@ use Rattle.tmm_model.specs.declared.point.PointName.TheVariants.{Start, Begin, E
 use Rattle.tmm_model.specs.declared.premise.Edit.{Edit}
 use Rattle.tmm_model.specs.declared.premise.Edit.TheVariants.{Add, Erase, Horizon, Upgrade}
 use Rattle.tmm_model.specs.declared.premise.Premise.{Premise}
-use Rattle.tmm_model.specs.declared.premise.Premise.TheVariants.{Point, Dist, Protect}
+use Rattle.tmm_model.specs.declared.premise.Premise.TheVariants.{Point, Dist, Protect, Against}
 use Rattle.tmm_model.specs.declared.token.Shape.TheVariants.{Span}
 use Rattle.tmm_model.specs.Answers.{rows, size, clip}
 use Rattle.tmm_model.specs.Beliefs.{roots, is_of, rules_on, class_of}
@@ -17,17 +17,20 @@ use Rattle.tmm_model.specs.Maps.{built, gap, believed_tokens}
 use Rattle.tmm_model.specs.Moments.{Moment, At, rule_of, early}
 use Rattle.tmm_model.specs.Standing.{Standing, far_in, premise_in}
 use Rattle.list_theory.specs.WellNamed.{IsWellNamed}
+use Rattle.belief_theory.specs.Touched.{contradict}
 
 -- ---- alike lists
 
 -- Both lists say the same, distances aside: what is declared to occur, what an occurrence is, which
--- rules are on a kind, what a rule says, the class of a fact, and the horizon.
+-- rules are on a kind, what a rule says, the class of a fact, which facts contradict each other,
+-- and the horizon.
 pub record SayAlike (s t : Standing) : Type 0 where
   pub declared : roots s ≡ roots t
   pub is : (x : Moment) → is_of s x ≡ is_of t x
   pub on : (kind : List ℕ) → rules_on s kind ≡ rules_on t kind
   pub rule : (r : List ℕ) → rule_of s r ≡ rule_of t r
   pub class : (fact : List ℕ) → class_of s fact ≡ class_of t fact
+  pub contradict : (f g : List ℕ) → contradict s f g ≡ contradict t f g
   pub horizon : s.horizon ≡ t.horizon
 
 -- the points whose distances beliefs read: `start`, where what is declared to occur begins, and
@@ -96,3 +99,36 @@ abbrev pub UnreadEditsSayAlike : Type 0
 UnreadEditsSayAlike =
     (s : Standing) (edit : Edit) → IsWellNamed s.premises → IsWellNamed (next_list s edit).premises
     → is_unread s.premises edit ≡ true → SayAlike s (next_list s edit)
+
+-- ---- premises that say which facts contradict each other
+
+-- whether beliefs read of the premise more than which facts contradict each other
+abbrev pub is_told : Premise → Bool
+is_told (Against name one other) = false
+is_told p = is_read p
+
+-- the premises of which they do, in their order
+abbrev pub told_of : List Premise → List Premise
+told_of premises = filter is_told premises
+
+-- the facts of which the premise says that they contradict each other
+abbrev pub rivalry_in : Option Premise → Option (List ℕ × List ℕ)
+rivalry_in (Some (Against name one other)) = Some (one, other)
+rivalry_in _ = None
+
+-- those of which a premise says so that the edit adds or erases
+abbrev pub rivalry_of : List Premise → Edit → Option (List ℕ × List ℕ)
+rivalry_of premises (Add premise) = rivalry_in (Some premise)
+rivalry_of premises (Erase name) = rivalry_in (premise_in premises name)
+rivalry_of premises _ = None
+
+-- whether the edit adds or erases a premise that says that two facts contradict each other, and
+-- without it they do all the same
+abbrev pub is_idle : Standing → Edit → Bool
+is_idle s edit = option_map_or (λ pair. contradict s pair.0 pair.1 && contradict (next_list s edit) pair.0 pair.1) (rivalry_of s.premises edit) false
+
+-- **After such an edit the list says the same.**
+abbrev pub IdleEditsSayAlike : Type 0
+IdleEditsSayAlike =
+    (s : Standing) (edit : Edit) → IsWellNamed s.premises → IsWellNamed (next_list s edit).premises
+    → is_idle s edit ≡ true → SayAlike s (next_list s edit)

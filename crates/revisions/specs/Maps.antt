@@ -1,26 +1,21 @@
 -- The revision that an edit asks for, and what is known of it.
 use Rattle.std.specs.Prelude.{◌≡◌, ℕ, Bool, false, List, Some, None}
-use Rattle.std.specs.List.{Contains, list_any}
+use Rattle.std.specs.List.{Contains}
 use Rattle.tmm_model.specs.declared.premise.Edit.{Edit}
-use Rattle.tmm_model.specs.declared.token.TokenRow.{TokenRow}
 use Rattle.tmm_model.specs.Beliefs.{class_of, roots, rules_at, token_of}
 use Rattle.belief_theory.specs.Outcomes.{outcome}
 use Rattle.tmm_model.specs.Edits.{next_list}
 use Rattle.tmm_model.specs.Maps.{TimeMap, built}
 use Rattle.tmm_model.specs.Moments.{Moment, early, read_by, rule_of}
-use Rattle.tmm_model.specs.Points.{same_name}
 use Rattle.list_theory.specs.WellNamed.{IsSound}
 use Rattle.belief_theory.specs.Right.{Occurs}
 use Rattle.tmm_model.specs.Standing.{Standing}
-use Rattle.belief_theory.specs.Touched.{is_decision, is_touched}
+use Rattle.belief_theory.specs.Touched.{is_watched, is_decision, is_touched}
 use Rattle.list_theory.proofs.Elements.{In}
 use Rattle.revisions.specs.Revisions.{Revision, IsLawful}
 
--- the token is of the class of an antecedent or an exception of the rule
-abbrev pub is_watched : Standing → List ℕ → TokenRow Moment → Bool
-is_watched s r k = list_any (λ fact. same_name (class_of s fact) k.class) (read_by (rule_of s r))
-
--- so is the token that an occurrence is
+-- whether the token that an occurrence is bears on what supports an antecedent or an exception of
+-- the rule
 abbrev pub watches : Standing → List ℕ → Moment → Bool
 watches s r x = elim (token_of s x) [ None ↦ false | Some k ↦ is_watched s r k ]
 

@@ -4,11 +4,11 @@ use Rattle.std.specs.Prelude.{◌≡◌, ◌≢◌, ◌⊎◌, ℕ, pos, int_le,
 use Rattle.std.specs.List.{Contains}
 use Rattle.tmm_model.specs.declared.bound.Bound.{Bound}
 use Rattle.tmm_model.specs.declared.token.TokenRow.{TokenRow}
-use Rattle.tmm_model.specs.Beliefs.{due}
+use Rattle.tmm_model.specs.Beliefs.{are_rivals, contradicts_in, due}
 use Rattle.tmm_model.specs.Maps.{TimeMap, gap, order}
-use Rattle.tmm_model.specs.Moments.{Moment, rule_of}
+use Rattle.tmm_model.specs.Moments.{Moment, read_by, rule_of}
 use Rattle.tmm_model.specs.Standing.{Standing, far_in}
-use Rattle.tmm_model.specs.Tokens.{of_one_class, is_by, is_before, lasts_to}
+use Rattle.tmm_model.specs.Tokens.{of_one_class, is_by, is_before, clips, lasts_to}
 use Rattle.list_theory.specs.WellNamed.{IsSound}
 use Rattle.list_theory.proofs.Elements.{In}
 use Rattle.belief_theory.specs.Outcomes.{outcome}
@@ -59,23 +59,33 @@ pub record IsPast (stays : TokenRow Moment → Type 0) (m : TimeMap) (t : Moment
   pub other_stays : stays other
   pub walls : AreWalls m t k one other
 
--- k bears on no decision at t: it has not surely begun there, or it is past
+-- k bears on no decision at t by its class: it has not surely begun there, or it is past
 abbrev pub IsSpared : (TokenRow Moment → Type 0) → TimeMap → Moment → TokenRow Moment → Type 0
 IsSpared stays m t k = (has_begun m t k ≡ false) ⊎ IsPast stays m t k
 
+-- of no fact that the rule reads a premise says that the token's fact contradicts it
+abbrev pub IsPlain : Standing → List ℕ → TokenRow Moment → Type 0
+IsPlain s r k = (f : List ℕ) → In f (read_by (rule_of s r)) → are_rivals s f k.fact ≡ false
+
+-- k bears on no decision of r at t: it has not surely begun there, or it is past and by its class
+-- alone it would
+abbrev pub IsAside : (TokenRow Moment → Type 0) → TimeMap → Moment → List ℕ → TokenRow Moment → Type 0
+IsAside stays m t r k = (has_begun m t k ≡ false) ⊎ (IsPast stays m t k × IsPlain m.list r k)
+
 -- **Two maps are alike for the decision of r at t but for tokens that bear on none there.** Tokens
--- that stay are watched in both, and what is sure of them and t is so in both, as is their order;
--- all others that the rule watches are spared, each in the map that believes it.
+-- that stay are watched in both, and what is sure of them and t is so in both, as are their order
+-- and what clips those of a fact that the rule reads; all others that it watches are aside, each in
+-- the map that believes it.
 pub record AlikeBut (stays : TokenRow Moment → Type 0) (m n : TimeMap) (t : Moment) (r : List ℕ) : Type 0 where
   pub text : rule_of m.list r ≡ rule_of n.list r
   pub timely : int_le (due m.list m.far t r) (pos m.list.horizon) ≡ int_le (due n.list n.far t r) (pos n.list.horizon)
   pub here : (k : TokenRow Moment) → stays k → In k (watched m r)
   pub there : (k : TokenRow Moment) → stays k → In k (watched n r)
-  pub before : (k : TokenRow Moment) → In k (watched m r) → stays k ⊎ IsSpared stays m t k
-  pub after : (k : TokenRow Moment) → In k (watched n r) → stays k ⊎ IsSpared stays n t k
+  pub before : (k : TokenRow Moment) → In k (watched m r) → stays k ⊎ IsAside stays m t r k
+  pub after : (k : TokenRow Moment) → In k (watched n r) → stays k ⊎ IsAside stays n t r k
   pub begun : (k : TokenRow Moment) → stays k → has_begun m t k ≡ has_begun n t k
   pub ended : (k : TokenRow Moment) (e : Moment) → stays k → k.end ≡ Some e → is_before (gap m) t e ≡ is_before (gap n) t e
-  pub clipped : (k c : TokenRow Moment) → stays k → stays c → of_one_class k c ≡ true → is_before (gap m) k.spot c.spot ≡ is_before (gap n) k.spot c.spot
+  pub clipped : (k c : TokenRow Moment) → stays k → stays c → In k.fact (read_by (rule_of m.list r)) → clips (contradicts_in m.list) (gap m) k c ≡ clips (contradicts_in n.list) (gap n) k c
   pub ordered : (k c : TokenRow Moment) → stays k → stays c → k.fact ≡ c.fact → order m k.spot c.spot ≡ order n k.spot c.spot
 
 -- all of these occur in the list

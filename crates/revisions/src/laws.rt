@@ -2,7 +2,7 @@
 ghost use Rattle.revisions.specs.Laws.{NodesAreFinal, EndIsBelieved, MadeAreTouched, ChangedWereMade, TurnsKeep, SeedsKeep, ToldIsChanged};
 ghost use Rattle.revisions.specs.Maps.{EditsAreLawful};
 ghost use Rattle.revisions.specs.Standing.{StandingOccur};
-ghost use Rattle.revisions.specs.Alike.{AlikeBelieve, SameReadSayAlike, UnreadEditsSayAlike};
+ghost use Rattle.revisions.specs.Alike.{AlikeBelieve, SameReadSayAlike, UnreadEditsSayAlike, IdleEditsSayAlike};
 ghost use Rattle.revisions.specs.Clips.{ClipsStay, ClipsStayOn};
 ghost use Rattle.revisions.specs.Shifts.{ShiftsKeep};
 ghost use Rattle.revisions.specs.Ruling.{UnruledEditsKeepRules};
@@ -73,13 +73,13 @@ pub fn revisions_are_right()
     ensures { RevisionsAreRight }
 {}
 
-/// A token keeps its clip where the tokens of its class are the same, as far apart.
+/// A token keeps its clip where what contradicts it is the same, as far from it.
 pub fn clips_stay()
     ensures { ClipsStay }
 {}
 
-/// A token keeps its clip where no token of its class entered, none that stays moved, and what
-/// clipped it stays.
+/// A token keeps its clip where nothing that contradicts it entered, none of it that stays moved,
+/// and what clipped it stays.
 pub fn clips_stay_on()
     ensures { ClipsStayOn }
 {}
@@ -103,6 +103,12 @@ pub fn same_read_say_alike()
 /// distances.
 pub fn unread_edits_say_alike()
     ensures { UnreadEditsSayAlike }
+{}
+
+/// An edit that adds or erases a premise that says of two facts that they contradict each other,
+/// which they do all the same, changes nothing of what beliefs read.
+pub fn idle_edits_say_alike()
+    ensures { IdleEditsSayAlike }
 {}
 
 /// An edit that adds no rule, and erases no rule, kind or class, leaves the rules on each kind as

@@ -5,7 +5,7 @@ use Rattle.std.specs.List.{filter_map, cons_option}
 use Rattle.std.specs.Cmp.Lexicographic.{bytes_decides}
 use Rattle.tmm_model.specs.declared.point.PointName.TheVariants.{Start, Begin, End}
 use Rattle.tmm_model.specs.declared.premise.Premise.{Premise}
-use Rattle.tmm_model.specs.declared.premise.Premise.TheVariants.{Class, Kind, Point, Event, Token, Span, Dist, Rule, Protect}
+use Rattle.tmm_model.specs.declared.premise.Premise.TheVariants.{Class, Kind, Point, Event, Token, Span, Dist, Rule, Protect, Against}
 use Rattle.tmm_model.specs.declared.token.Shape.{Shape}
 use Rattle.tmm_model.specs.declared.token.Shape.TheVariants.{Event as AnEvent, Persistence as APersistence, Span as ASpan}
 use Rattle.tmm_model.specs.Beliefs.{root_of, roots, is_of, on_kind, rules_for, rules_at}
@@ -53,6 +53,7 @@ named_root (Point name) y e = cc
 named_root (Dist name from to lo hi) y e = cc
 named_root (Rule name trigger lo hi effect given unless_facts) y e = cc
 named_root (Protect name fact from to) y e = cc
+named_root (Against name one other) y e = cc
 
 -- no root stands twice
 pub roots_once : (s : Standing) → IsSound s → Distinct (roots s)

@@ -8,7 +8,7 @@ use Rattle.tmm_model.specs.declared.bound.Bound.TheVariants.{Finite, Free}
 use Rattle.tmm_model.specs.declared.point.PointName.{PointName}
 use Rattle.tmm_model.specs.declared.point.PointName.TheVariants.{Start, Begin, End}
 use Rattle.tmm_model.specs.declared.premise.Premise.{Premise}
-use Rattle.tmm_model.specs.declared.premise.Premise.TheVariants.{Class, Kind, Point, Event, Token, Span, Dist, Rule, Protect}
+use Rattle.tmm_model.specs.declared.premise.Premise.TheVariants.{Class, Kind, Point, Event, Token, Span, Dist, Rule, Protect, Against}
 use Rattle.tmm_model.specs.Bounds.{IfFinite, bound_plus, bound_less}
 use Rattle.tmm_model.specs.Moments.{negated, base}
 use Rattle.tmm_model.specs.Standing.{Standing, points_of, points_in, arcs_of, arcs_in, far_in}
@@ -64,6 +64,7 @@ walk_of premises q there p at = by q there at
     by (Dist name from to lo hi) there at = absurd at
     by (Rule name trigger lo hi effect given unless_facts) there at = absurd at
     by (Protect name fact from to) there at = absurd at
+    by (Against name one other) there at = absurd at
 
 walk_to_start : (premises : List Premise) (p : PointName) → Contains (points_in premises) p → (walk : List (Arc PointName)) × IsWalk (arcs_in premises) p Start walk
 walk_to_start premises p at = elim (In-from_Contains (points_in premises) p at) [

@@ -33,6 +33,8 @@ use Rattle.spots.specs.declared.spot.Spot.TheVariants.{Declared, Node}
 use Rattle.spots.specs.Forest.{Forest, Member, member, moment_at}
 use Rattle.spots.specs.OfLists.{IsForestOf, HasOccurrences, map_of}
 use Rattle.spots.specs.Spots.{IsSpot, spot_moment, spot_distance, spot_cmp, AreTokens, row_moment}
+use Rattle.premise_list.specs.Rivalries.{has_rivals}
+use Rattle.supports.proofs.NoRivals.{supports_alone, clips_alone, cuts_alone}
 use Rattle.supports.proofs.FirstRows.{IsSame, first_of_rows, some_of_rows}
 use Rattle.supports.proofs.Moved.{by_alike, clips_alike, cuts_alike, supports_alike}
 use Rattle.supports.proofs.TokenRows.{no_row, node_of, spots_there, at_place, fact_is, row_there, row_of, row_token, tokens_spelt}
@@ -79,7 +81,7 @@ module _ {s : Standing} {net : Net} {f : Forest} (seen : IsForestOf s net f) {cl
       (own : (k : TokenRow Moment) → In k (tokens s b) → passes k ≡ true → k.class ≡ class) where
     -- the tokens that pass are those of the rows that pass, where tokens that pass are of this
     -- class
-    same_rows : IsSame order moment_order go rows (tokens s b) test passes
+    pub same_rows : IsSame order moment_order go rows (tokens s b) test passes
     same_rows = record {
       ranked = ranked;
       tested = tested;
@@ -88,7 +90,7 @@ module _ {s : Standing} {net : Net} {f : Forest} (seen : IsForestOf s net f) {cl
     }
 
     -- then the place of the first row that passes is that of the first token
-    first_is : (place : Option ℕ) → IsFirstPlace (on (λ k. k.spot) order) test rows place
+    pub first_is : (place : Option ℕ) → IsFirstPlace (on (λ k. k.spot) order) test rows place
         → (d : TokenRow Spot) → option_map (λ i. mom (slice_index_or rows i d).spot) place ≡ first_token s (far_in s.premises) b passes
     first_is place h d =
         sym (first_of_rows order moment_order go rows (tokens s b) test passes (ordered s (far_in s.premises)) (tokens_spelt seen holds) same_rows place h d)
@@ -102,11 +104,11 @@ module _ {s : Standing} {net : Net} {f : Forest} (seen : IsForestOf s net f) {cl
       supports_alike mom far gap IsThere same_far rows (λ c there. (spots_there seen are c there).begin) fact p q at_p at_q a (spots_there seen are a at)
       ∙ support_alike gap class (tokens s b) (map go rows) (tokens_are s net f seen b holds class rows are) fact (mom p) (mom q) (go a) (class_is a at)
 
-  module _ (fact : List ℕ) (in_class : class_in s.premises fact ≡ Some class) (p q : Spot) (at_p : IsThere p) (at_q : IsThere q) where
+  module _ (fact : List ℕ) (in_class : class_in s.premises fact ≡ Some class) (alone : has_rivals s fact ≡ false) (p q : Spot) (at_p : IsThere p) (at_q : IsThere q) where
     -- what supports a fact is of its class
-    support_class : (k : TokenRow Moment) → In k (tokens s b) → supports (contradicts_in s) gap (tokens s b) fact (mom p) (mom q) k ≡ true → k.class ≡ class
+    support_class : (k : TokenRow Moment) → In k (tokens s b) → supports of_one_class gap (tokens s b) fact (mom p) (mom q) k ≡ true → k.class ≡ class
     support_class k at passed =
-        let begins = (both (same_name k.fact fact && is_by gap k.spot (mom p)) (lasts_to (contradicts_in s) gap (tokens s b) k (mom q) k.end) passed).0 in
+        let begins = (both (same_name k.fact fact && is_by gap k.spot (mom p)) (lasts_to of_one_class gap (tokens s b) k (mom q) k.end) passed).0 in
         let same = (both (same_name k.fact fact) (is_by gap k.spot (mom p)) begins).0 in
         let one : class_of s fact ≡ class = rw (in_class, class_of) refl in
         let (y, _, is) = In-filter_map (token_of s) b k at in
@@ -115,32 +117,35 @@ module _ {s : Standing} {net : Net} {f : Forest} (seen : IsForestOf s net f) {cl
     -- **The first row that supports a fact** is its first supporter.
     pub holder_is : (place : Option ℕ) → IsFirstPlace (on (λ k. k.spot) order) (supports of_one_class far rows fact p q) rows place
         → (d : TokenRow Spot) → option_map (λ i. mom (slice_index_or rows i d).spot) place ≡ holder s (far_in s.premises) b fact (mom p) (mom q)
-    holder_is = first_is (supports of_one_class far rows fact p q) (supports (contradicts_in s) gap (tokens s b) fact (mom p) (mom q)) (supports_same fact p q at_p at_q) support_class
+    holder_is place h d =
+        first_is (supports of_one_class far rows fact p q) (supports of_one_class gap (tokens s b) fact (mom p) (mom q)) (supports_same fact p q at_p at_q) support_class place h d
+        ∙ sym (ap (first_token s (far_in s.premises) b) (supports_alone s gap (tokens s b) fact alone (mom p) (mom q)))
 
     -- **Some row supports a fact** exactly where some token does.
     pub support_is : list_any (supports of_one_class far rows fact p q) rows ≡ has_support s (far_in s.premises) b fact (mom p) (mom q)
     support_is =
-        some_of_rows order moment_order go rows (tokens s b) (supports of_one_class far rows fact p q) (supports (contradicts_in s) gap (tokens s b) fact (mom p) (mom q))
-        (same_rows (supports of_one_class far rows fact p q) (supports (contradicts_in s) gap (tokens s b) fact (mom p) (mom q)) (supports_same fact p q at_p at_q) support_class)
+        some_of_rows order moment_order go rows (tokens s b) (supports of_one_class far rows fact p q) (supports of_one_class gap (tokens s b) fact (mom p) (mom q))
+        (same_rows (supports of_one_class far rows fact p q) (supports of_one_class gap (tokens s b) fact (mom p) (mom q)) (supports_same fact p q at_p at_q) support_class)
+        ∙ sym (ap (λ test. list_any test (tokens s b)) (supports_alone s gap (tokens s b) fact alone (mom p) (mom q)))
 
   -- where no token of its fact supports it, a row is no supporter
-  pub no_support : (row : TokenRow Spot) → In row rows → (p q : Spot) → IsThere p → IsThere q
+  pub no_support : (row : TokenRow Spot) → In row rows → has_rivals s row.fact ≡ false → (p q : Spot) → IsThere p → IsThere q
       → holder s (far_in s.premises) b row.fact (mom p) (mom q) ≡ None → supports of_one_class far rows row.fact p q row ≡ false
-  no_support row at p q at_p at_q none = by (passes (go row)) refl
+  no_support row at alone p q at_p at_q none = by (passes (go row)) refl
     where
       passes : TokenRow Moment → Bool
-      passes = supports (contradicts_in s) gap (tokens s b) row.fact (mom p) (mom q)
+      passes = supports of_one_class gap (tokens s b) row.fact (mom p) (mom q)
 
       by : (v : Bool) → passes (go row) ≡ v → supports of_one_class far rows row.fact p q row ≡ false
       by false e = supports_same row.fact p q at_p at_q row at ∙ e
       by true e =
-          let nowhere : list_any passes (tokens s b) ≡ false = (no_first_token s (far_in s.premises) b passes).0 none in
+          let nowhere : list_any passes (tokens s b) ≡ false = (no_first_token s (far_in s.premises) b passes).0 (sym (ap (first_token s (far_in s.premises) b) (supports_alone s gap (tokens s b) row.fact alone (mom p) (mom q))) ∙ none) in
           let somewhere : list_any passes (tokens s b) ≡ true = In-list_any passes (tokens s b) (go row) (row_there seen are holds row at) e in
           cc
 
   -- ---- clips
 
-  module _ (row : TokenRow Spot) (at : In row rows) where
+  module _ (row : TokenRow Spot) (at : In row rows) (alone : has_rivals s row.fact ≡ false) where
     -- what clips a row is of its class
     clip_class : (k : TokenRow Moment) → clips of_one_class gap (go row) k ≡ true → k.class ≡ class
     clip_class k clip =
@@ -151,14 +156,17 @@ module _ {s : Standing} {net : Net} {f : Forest} (seen : IsForestOf s net f) {cl
     -- **The first row that clips a row** is its clip.
     pub clip_is : (x : ℕ) → row.spot ≡ Node x → (place : Option ℕ) → IsClipPlace of_one_class far order rows row place
         → (d : TokenRow Spot) → option_map (λ i. mom (slice_index_or rows i d).spot) place ≡ clip (map_of s b) (moment_at f x)
-    clip_is x spot place h d = by row.end h ∙ sym (ap (option_and_then (clip_of (map_of s b))) (row_token seen are x row at spot))
+    clip_is x spot place h d =
+        by row.end h
+        ∙ sym (ap (λ test. elim (option_map mom row.end) as (λ _. Option Moment) [ Some e ↦ None | None ↦ first_believed (map_of s b) test ]) (clips_alone s gap (go row) alone))
+        ∙ sym (ap (option_and_then (clip_of (map_of s b))) (row_token seen are x row at spot))
       where
         no_place : (place : Option ℕ) → IsNone place → option_map (λ i. mom (slice_index_or rows i d).spot) place ≡ None
         no_place None h = refl
         no_place (Some i) h = cc
 
         by : (o : Option Spot) → MatchOption o (IsFirstPlace (on (λ k. k.spot) order) (clips of_one_class far row) rows place) (λ _. IsNone place)
-            → option_map (λ i. mom (slice_index_or rows i d).spot) place ≡ elim (option_map mom o) [ Some e ↦ None | None ↦ first_believed (map_of s b) (clips (contradicts_in s) gap (go row)) ]
+            → option_map (λ i. mom (slice_index_or rows i d).spot) place ≡ elim (option_map mom o) [ Some e ↦ None | None ↦ first_believed (map_of s b) (clips of_one_class gap (go row)) ]
         by (Some e) h = no_place place h
         by None h =
             first_is (clips of_one_class far row) (clips of_one_class gap (go row))
@@ -192,6 +200,7 @@ module _ {s : Standing} {net : Net} {f : Forest} (seen : IsForestOf s net f) {cl
               first_is (cuts of_one_class far row q) (cuts of_one_class gap (go row) (mom q))
               (λ a there. cuts_alike mom far gap IsThere same_far row q a (spots_there seen are row at).begin at_q (spots_there seen are a there).begin)
               (λ k _ passed. clip_class k (both (clips of_one_class gap (go row) k) (is_by gap k.spot (mom q)) passed).0) (Some c) first d
+              ∙ sym (ap (first_believed (map_of s b)) (cuts_alone s gap (go row) alone (mom q)))
 
           by : (o : Option Spot) → IsNone o → elim (option_map mom o) [ Some e ↦ ends | None ↦ option_map_or clipped (first_believed (map_of s b) (cuts (contradicts_in s) gap (go row) (mom q))) ends ] ≡ clipped (mom (slice_index_or rows c d).spot)
           by None e = sym (ap (λ o. option_map_or clipped o ends) cut)
@@ -206,7 +215,7 @@ event_unclipped {s} {net} {f} seen b x m here none =
 -- ---- of the row at a place
 
 -- what is said of the row at a place, at that row
-row_at : (rows : List (TokenRow Spot)) (i : ℕ) (P : TokenRow Spot → Type 0) → i < length rows → IfSome (slice_get rows i) P → P (slice_index_or rows i no_row)
+pub row_at : (rows : List (TokenRow Spot)) (i : ℕ) (P : TokenRow Spot → Type 0) → i < length rows → IfSome (slice_get rows i) P → P (slice_index_or rows i no_row)
 row_at rows i P lt h = let is : slice_get rows i ≡ Some (slice_index_or rows i no_row) = slice_get-get_or rows i no_row lt in rw is at h
 
 -- a clipper's place is within the rows
@@ -219,12 +228,23 @@ clipper_within net f rows place i lt h = by (slice_index_or rows place no_row).e
     by (Some e) h = cc
 
 module _ {s : Standing} {net : Net} {f : Forest} (seen : IsForestOf s net f) {class : List ℕ} {rows : List (TokenRow Spot)} (are : AreTokens f class rows)
-    (place x : ℕ) (lt : place < length rows) (spot : (d : TokenRow Spot) → (slice_index_or rows place d).spot ≡ Node x) where
+    (place x : ℕ) (lt : place < length rows) (spot : (d : TokenRow Spot) → (slice_index_or rows place d).spot ≡ Node x)
+    (alone : (m : Member) → member f x ≡ Some m → has_rivals s m.what ≡ false) where
+  -- its fact has no rivals
+  fact_alone : has_rivals s (slice_index_or rows place no_row).fact ≡ false
+  fact_alone =
+      let there = at_place seen are place no_row lt in
+      let (y, m, is, _) = node_of seen are (slice_index_or rows place no_row) there in
+      let node : Node y ≡ Node x = sym is.spot ∙ spot no_row in
+      let one : y ≡ x = cc in
+      let here : member f x ≡ Some m = ap (member f) (sym one) ∙ is.here in
+      ap (has_rivals s) is.fact ∙ alone m here
+
   -- the clip of the node
   pub clip_at_place : (found : Option ℕ) → IfSome (slice_get rows place) (λ row. IsClipPlace of_one_class (spot_distance net f) (spot_cmp net f) rows row found)
       → (b : List Moment) → HasOccurrences b f → option_map (λ i. spot_moment net.names f (slice_index_or rows i no_row).spot) found ≡ clip (map_of s b) (moment_at f x)
   clip_at_place found h b holds =
-      clip_is seen are holds (slice_index_or rows place no_row) (at_place seen are place no_row lt) x (spot no_row) found
+      clip_is seen are holds (slice_index_or rows place no_row) (at_place seen are place no_row lt) fact_alone x (spot no_row) found
       (row_at rows place (λ row. IsClipPlace of_one_class (spot_distance net f) (spot_cmp net f) rows row found) lt h) no_row
 
   -- where no token supports the fact of the node, its row does not
@@ -238,7 +258,7 @@ module _ {s : Standing} {net : Net} {f : Forest} (seen : IsForestOf s net f) {cl
       let one : own ≡ row = cc in
       let fact = fact_is seen are own there x (spot no_row) m here in
       subst (λ k. supports of_one_class (spot_distance net f) rows k.fact p q k ≡ false) one
-      (no_support seen are holds own there p q at_p at_q (subst (λ w. holder s (far_in s.premises) b w (spot_moment net.names f p) (spot_moment net.names f q) ≡ None) (sym fact) none))
+      (no_support seen are holds own there fact_alone p q at_p at_q (subst (λ w. holder s (far_in s.premises) b w (spot_moment net.names f p) (spot_moment net.names f q) ≡ None) (sym fact) none))
 
   -- the fault by the place of the first that cuts
   abbrev pub fault_by_place : PlaceFault → Fault
@@ -261,9 +281,9 @@ module _ {s : Standing} {net : Net} {f : Forest} (seen : IsForestOf s net f) {cl
     where
       by : In (slice_index_or rows place no_row) rows → (cause : PlaceFault) → IsFault of_one_class (spot_distance net f) (spot_cmp net f) rows (slice_index_or rows place no_row) p q cause
           → fault (map_of s b) (spot_moment net.names f p) (spot_moment net.names f q) (row_moment net.names f (slice_index_or rows place no_row)) ≡ fault_by_place cause
-      by there Late h = late_is seen are holds (slice_index_or rows place no_row) there p q at_p at_q h
-      by there (Clipped c) (sure, persists, first) = clipped_is seen are holds (slice_index_or rows place no_row) there p q at_p at_q sure persists c first no_row
-      by there Ends (sure, span) = ends_is seen are holds (slice_index_or rows place no_row) there p q at_p at_q sure span
+      by there Late h = late_is seen are holds (slice_index_or rows place no_row) there fact_alone p q at_p at_q h
+      by there (Clipped c) (sure, persists, first) = clipped_is seen are holds (slice_index_or rows place no_row) there fact_alone p q at_p at_q sure persists c first no_row
+      by there Ends (sure, span) = ends_is seen are holds (slice_index_or rows place no_row) there fact_alone p q at_p at_q sure span
 
 -- the place of the first that cuts is within the rows
 pub cutter_within : (net : Net) (f : Forest) (rows : List (TokenRow Spot)) (place c : ℕ) (p q : Spot) → place < length rows

@@ -11,6 +11,8 @@ use Rattle.tmm_model.specs.declared.token.TokenRow.{TokenRow}
 use Rattle.tmm_model.specs.Points.{same_name}
 use Rattle.tmm_model.specs.Tokens.{of_one_class, clips}
 use Rattle.list_theory.proofs.Elements.{In, In-from_Contains, Contains-from_In, map-In}
+use Rattle.tmm_model.specs.Standing.{Standing}
+use Rattle.premise_list.specs.Rivalries.{has_rivals}
 use Rattle.dist_net.specs.Net.{Net}
 use Rattle.spots.specs.declared.spot.Spot.{Spot}
 use Rattle.spots.specs.declared.spot.Spot.TheVariants.{Node}
@@ -78,13 +80,13 @@ module _ {net : Net} {k : Kept} (tree : IsTreeIn net k) {class : List ℕ} {rows
       sym (λ t. spot_cmp net (forest k) (spot_here (forest k) class rows are i no_row d (omega arith) t) (spot_here (forest k) class rows are j no_row d less t))
       ∙ (by_date tree are up).before i j no_row lt less)
 
-  -- **The last token of those behind that clips it** is its clip.
+  -- **The last token of those behind that clips it** is its clip, where its fact has no rivals.
   pub clip_here : (i : ℕ) (d row : TokenRow Spot) → i < length rows → row ≡ slice_index_or rows i d → (others : List (TokenRow Spot)) → others ≡ rows_behind (forest k) class (drop (i + 1) (numbers_in rows))
       → (found : Option ℕ) → MatchOption row.end (IsLastNode (clips of_one_class (spot_distance net (forest k)) row) others found) (λ _. IsNone found)
-      → IsClip net (forest k) (slice_index_or (numbers_in rows) i 0) found
-  clip_here i d row lt is others behind found h s b seen holds =
+      → (s : Standing) → has_rivals s row.fact ≡ false → IsClip s net (forest k) (slice_index_or (numbers_in rows) i 0) found
+  clip_here i d row lt is others behind found h s alone b seen holds =
       nearest_is seen holds (numbers_in rows) i (within_numbers (forest k) class rows are i lt) nodes_rise row (token_here (forest k) class rows are i d lt ∙ ap Some (sym is))
-      (λ y c is_c own. all_there (forest k) class rows are y c is_c (own ∙ own_class)) found
+      (λ y c is_c own. all_there (forest k) class rows are y c is_c (own ∙ own_class)) alone found
       (subst (λ l. MatchOption row.end (IsLastNode (clips of_one_class (spot_distance net (forest k)) row) l found) (λ _. IsNone found))
       (behind ∙ ap (λ z. rows_behind (forest k) z (drop (i + 1) (numbers_in rows))) (sym own_class)) h)
     where

@@ -7,11 +7,11 @@ use Rattle.std.proofs.lemmas.List.Folds.{list_any-append}
 use Rattle.std.proofs.Math.Bool.{or-true}
 use Rattle.tmm_model.specs.declared.point.PointName.{PointName}
 use Rattle.tmm_model.specs.declared.premise.Premise.{Premise}
-use Rattle.tmm_model.specs.declared.premise.Premise.TheVariants.{Class, Kind, Point, Event, Token, Span, Dist, Rule, Protect}
+use Rattle.tmm_model.specs.declared.premise.Premise.TheVariants.{Class, Kind, Point, Event, Token, Span, Dist, Rule, Protect, Against}
 use Rattle.tmm_model.specs.declared.token.Shape.TheVariants.{Persistence}
 use Rattle.tmm_model.specs.Beliefs.{as_effect}
 use Rattle.tmm_model.specs.Points.{same_name}
-use Rattle.tmm_model.specs.Sorts.{Sort, a_class, a_fact, a_kind, a_point, an_event, a_token, a_span, a_dist, a_rule, a_protection, is_effect, fact_declaration, declared_by, sort_in, class_in, a_name, uses_of}
+use Rattle.tmm_model.specs.Sorts.{Sort, a_class, a_fact, a_kind, a_point, an_event, a_token, a_span, a_dist, a_rule, a_protection, a_rivalry, is_effect, fact_declaration, declared_by, sort_in, class_in, a_name, uses_of}
 use Rattle.tmm_model.specs.Standing.{name_of, points_of, points_in}
 use Rattle.tmm_model.specs.Verdicts.{first_taken, words_known}
 use Rattle.list_theory.specs.WellNamed.{AllFollow, IsWellNamed}
@@ -76,6 +76,7 @@ kind_alone (Span name fact) e = cc
 kind_alone (Dist name from to lo hi) e = cc
 kind_alone (Rule name trigger lo hi effect given unless_facts) e = cc
 kind_alone (Protect name fact from to) e = cc
+kind_alone (Against name one other) e = cc
 
 kind_after : (n : List ℕ) (earlier premises : List Premise) → AllFollow earlier premises → sort_in premises n ≡ Some a_kind → class_in premises n ≡ None
 kind_after n earlier [] h e = refl
@@ -121,3 +122,4 @@ effect_is premises h p at n use_ = let (sort, declared, wanted) = used_after [] 
     by a_dist e w = cc
     by a_rule e w = cc
     by a_protection e w = cc
+    by a_rivalry e w = cc

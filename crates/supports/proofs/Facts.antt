@@ -7,9 +7,9 @@ use Rattle.std.specs.Option.{option_or}
 use Rattle.std.proofs.lemmas.Grind.{flat_map-append}
 use Rattle.std.proofs.lemmas.List.Elements.{All-contains}
 use Rattle.tmm_model.specs.declared.premise.Premise.{Premise}
-use Rattle.tmm_model.specs.declared.premise.Premise.TheVariants.{Class, Kind, Point, Event, Token, Span, Dist, Rule, Protect}
+use Rattle.tmm_model.specs.declared.premise.Premise.TheVariants.{Class, Kind, Point, Event, Token, Span, Dist, Rule, Protect, Against}
 use Rattle.tmm_model.specs.Points.{same_name}
-use Rattle.tmm_model.specs.Sorts.{Sort, a_class, a_fact, a_kind, a_point, an_event, a_token, a_span, a_dist, a_rule, a_protection, is_fact, fact_declaration, declarations_of, declarations_in, sort_in, class_in, Use, a_name, fact_use, uses_of}
+use Rattle.tmm_model.specs.Sorts.{Sort, a_class, a_fact, a_kind, a_point, an_event, a_token, a_span, a_dist, a_rule, a_protection, a_rivalry, is_fact, fact_declaration, declarations_of, declarations_in, sort_in, class_in, Use, a_name, fact_use, uses_of}
 use Rattle.tmm_model.specs.Lines.{IsWellFormedPremise}
 use Rattle.tmm_model.specs.Standing.{Standing, name_of}
 use Rattle.tmm_model.specs.Verdicts.{Cause, unknown, ill_sorted, name_cause, use_cause, uses_cause}
@@ -37,6 +37,7 @@ class_in-cons n (Span name fact) ps = refl
 class_in-cons n (Dist name from to lo hi) ps = refl
 class_in-cons n (Rule name trigger lo hi effect given unless_facts) ps = refl
 class_in-cons n (Protect name fact from to) ps = refl
+class_in-cons n (Against name one other) ps = refl
 
 lookup-facts : (n : List ℕ) (fs : List (List ℕ)) (rest : List (List ℕ × Sort)) → lookup (same_name n) (map fact_declaration fs ++ rest) ≡ cond (list_any (same_name n) fs) (Some a_fact) (lookup (same_name n) rest)
 lookup-facts n [] rest = refl
@@ -64,6 +65,7 @@ own_sort_other (Span name fact) e = cc
 own_sort_other (Dist name from to lo hi) e = cc
 own_sort_other (Rule name trigger lo hi effect given unless_facts) e = cc
 own_sort_other (Protect name fact from to) e = cc
+own_sort_other (Against name one other) e = cc
 
 -- what is declared as a fact has a class
 pub fact-class : (n : List ℕ) (ps : List Premise) → sort_in ps n ≡ Some a_fact → IsSome (class_in ps n)
@@ -111,6 +113,7 @@ only_fact a_span e = cc
 only_fact a_dist e = cc
 only_fact a_rule e = cc
 only_fact a_protection e = cc
+only_fact a_rivalry e = cc
 
 -- a sort of a list is the sort in a longer one
 sort-more : (n : List ℕ) (sort : Sort) (ps qs : List Premise) → sort_in ps n ≡ Some sort → sort_in (ps ++ qs) n ≡ Some sort

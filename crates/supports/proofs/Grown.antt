@@ -7,7 +7,7 @@ use Rattle.std.proofs.lemmas.List.Elements.{Contains-append_left, Contains-appen
 use Rattle.tmm_model.specs.declared.point.PointName.{PointName}
 use Rattle.tmm_model.specs.declared.point.PointName.TheVariants.{Begin, End}
 use Rattle.tmm_model.specs.declared.premise.Premise.{Premise}
-use Rattle.tmm_model.specs.declared.premise.Premise.TheVariants.{Class, Kind, Point, Event, Token, Span, Dist, Rule, Protect}
+use Rattle.tmm_model.specs.declared.premise.Premise.TheVariants.{Class, Kind, Point, Event, Token, Span, Dist, Rule, Protect, Against}
 use Rattle.tmm_model.specs.declared.token.Shape.TheVariants.{Event as AnEvent, Persistence as APersistence, Span as ASpan}
 use Rattle.tmm_model.specs.Beliefs.{as_root, root_of, roots, class_of}
 use Rattle.tmm_model.specs.Moments.{Moment, At, base}
@@ -133,6 +133,7 @@ root_name (Point name) k e = cc
 root_name (Dist name from to lo hi) k e = cc
 root_name (Rule name trigger lo hi effect given unless_facts) k e = cc
 root_name (Protect name fact from to) k e = cc
+root_name (Against name one other) k e = cc
 
 same_begin : (a b : List ℕ) → Begin a ≡ Begin b → a ≡ b
 same_begin a b e = cc

@@ -5,7 +5,10 @@ pub mod TokenRows
 pub mod Later
 pub mod Falling
 pub mod Behind
+pub mod NoRivals
+pub mod SeveralLists
 pub mod Answered
+pub mod AmongLists
 pub mod Nearest
 pub mod Facts
 pub mod Rules
@@ -18,3 +21,5 @@ pub mod ByDate
 pub mod ClassClips
 pub mod OfLaterDates
 pub mod FirstBehind
+pub mod ListsThere
+pub mod AtPlaces

@@ -19,7 +19,7 @@ module _ {P Q : Type 0} (go : P → Q) (far : P → P → Bound) (gap : Q → Q 
   pub by_alike : (x y : P) → live x → live y → is_by far x y ≡ is_by gap (go x) (go y)
   by_alike x y lx ly = ap (λ d. bound_at_most d (pos 0)) (alike y x ly lx)
 
-  before_alike : (x y : P) → live x → live y → is_before far x y ≡ is_before gap (go x) (go y)
+  pub before_alike : (x y : P) → live x → live y → is_before far x y ≡ is_before gap (go x) (go y)
   before_alike x y lx ly = ap (λ d. bound_at_most d (negsuc 0)) (alike y x ly lx)
 
   pub clips_alike : (k c : TokenRow P) → live k.spot → live c.spot → clips of_one_class far k c ≡ clips of_one_class gap (moved k) (moved c)

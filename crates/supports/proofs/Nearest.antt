@@ -11,7 +11,7 @@ use Rattle.std.proofs.lemmas.List.{drop_more, take-append-drop}
 use Rattle.tmm_model.specs.declared.bound.Bound.{Bound}
 use Rattle.tmm_model.specs.declared.token.TokenRow.{TokenRow}
 use Rattle.tmm_model.specs.Answers.{clip, clip_of, first_believed}
-use Rattle.tmm_model.specs.Beliefs.{tokens, token_of, contradicts_in}
+use Rattle.tmm_model.specs.Beliefs.{tokens, token_of}
 use Rattle.tmm_model.specs.Moments.{Moment, base, distance, occ_cmp}
 use Rattle.tmm_model.specs.Points.{same_name}
 use Rattle.tmm_model.specs.Standing.{Standing, far_in}
@@ -28,6 +28,8 @@ use Rattle.spots.specs.Spots.{IsSpot, spot_moment, spot_distance, spot_cmp, node
 use Rattle.spots.proofs.Nodes.{node_at, live_at, moment_at-is, base-moment}
 use Rattle.spots.proofs.Seen.{token_is, distance_is, order_is, occurs_at}
 use Rattle.supports.specs.Behind.{token_at, rows_behind, IsLastNode}
+use Rattle.premise_list.specs.Rivalries.{has_rivals}
+use Rattle.supports.proofs.NoRivals.{clips_alone}
 use Rattle.supports.proofs.Answered.{event_unclipped}
 use Rattle.supports.proofs.Behind.{token_made, node_of_token, spot_of, In-behind, behind-In, rows_fall}
 use Rattle.supports.proofs.Falling.{stands_behind, sorted_back, last_is_first}
@@ -126,7 +128,7 @@ module _ {s : Standing} {net : Net} {f : Forest} (seen : IsForestOf s net f) {b 
 
     -- **The last that clips it among those behind** is the first that does.
     first_is : (place : Option ℕ) → IsLastPlace (clips of_one_class far row) rows place
-        → (d : TokenRow Spot) → option_map (λ i. mom (slice_index_or rows i d).spot) place ≡ first_believed (map_of s b) (clips (contradicts_in s) gap (go row))
+        → (d : TokenRow Spot) → option_map (λ i. mom (slice_index_or rows i d).spot) place ≡ first_believed (map_of s b) (clips of_one_class gap (go row))
     first_is place h d =
         sym (first_of_rows order moment_order go rows (tokens s b) (clips of_one_class far row) (clips of_one_class gap (go row)) (ordered s (far_in s.premises)) (tokens_spelt seen holds)
         (record { ranked = ranked; tested = tested; there = there; own = own }) place
@@ -162,34 +164,37 @@ module _ {s : Standing} {net : Net} {f : Forest} (seen : IsForestOf s net f) {b 
             let one = same_name-is row.class a.class (both (same_name row.class a.class) (not (same_name row.fact a.fact)) differ).0 in
             (a, behind-In f row.class back y a (clips_behind y a is_a (sym one) before) is_a (sym one), same)
 
-    nearest : (found : Option ℕ) → MatchOption row.end (IsLastNode (clips of_one_class far row) rows found) (λ _. IsNone found)
+    nearest : has_rivals s row.fact ≡ false → (found : Option ℕ) → MatchOption row.end (IsLastNode (clips of_one_class far row) rows found) (λ _. IsNone found)
         → option_map (moment_at f) found ≡ clip (map_of s b) (moment_at f x)
-    nearest found h = by row.end h ∙ sym (ap (option_and_then (clip_of (map_of s b))) (token_there x row is))
+    nearest alone found h =
+        by row.end h
+        ∙ sym (ap (λ test. elim (option_map mom row.end) as (λ _. Option Moment) [ Some e ↦ None | None ↦ first_believed (map_of s b) test ]) (clips_alone s gap (go row) alone))
+        ∙ sym (ap (option_and_then (clip_of (map_of s b))) (token_there x row is))
       where
         no_node : (found : Option ℕ) → IsNone found → option_map (moment_at f) found ≡ None
         no_node None h = refl
         no_node (Some y) h = cc
 
-        last : (found : Option ℕ) → IsLastNode (clips of_one_class far row) rows found → option_map (moment_at f) found ≡ first_believed (map_of s b) (clips (contradicts_in s) gap (go row))
+        last : (found : Option ℕ) → IsLastNode (clips of_one_class far row) rows found → option_map (moment_at f) found ≡ first_believed (map_of s b) (clips of_one_class gap (go row))
         last None h = first_is None h no_row
         last (Some y) (i, at, spot) = ap (λ p. Some (mom p)) (sym (spot no_row)) ∙ first_is (Some i) at no_row
 
         by : (o : Option Spot) → MatchOption o (IsLastNode (clips of_one_class far row) rows found) (λ _. IsNone found)
-            → option_map (moment_at f) found ≡ elim (option_map mom o) [ Some e ↦ None | None ↦ first_believed (map_of s b) (clips (contradicts_in s) gap (go row)) ]
+            → option_map (moment_at f) found ≡ elim (option_map mom o) [ Some e ↦ None | None ↦ first_believed (map_of s b) (clips of_one_class gap (go row)) ]
         by (Some e) h = no_node found h
         by None h = last found h
 
   -- **The nearest token behind a node that clips it** is its clip, among nodes with all tokens of
-  -- its class.
+  -- its class, where its fact has no rivals.
   pub nearest_is : (nodes : List ℕ) (i : ℕ) → i < length nodes → IsStrictlySortedBy (node_cmp net f) nodes
       → (row : TokenRow Spot) → token_at f (slice_index_or nodes i 0) ≡ Some row
       → ((y : ℕ) (c : TokenRow Spot) → token_at f y ≡ Some c → c.class ≡ row.class → Contains nodes y)
-      → (found : Option ℕ) → MatchOption row.end (IsLastNode (clips of_one_class far row) (rows_behind f row.class (drop (i + 1) nodes)) found) (λ _. IsNone found)
+      → has_rivals s row.fact ≡ false → (found : Option ℕ) → MatchOption row.end (IsLastNode (clips of_one_class far row) (rows_behind f row.class (drop (i + 1) nodes)) found) (λ _. IsNone found)
       → option_map (moment_at f) found ≡ clip (map_of s b) (moment_at f (slice_index_or nodes i 0))
-  nearest_is nodes i lt up row is all =
+  nearest_is nodes i lt up row is all alone =
       let parted : nodes ≡ take i nodes ++ slice_index_or nodes i 0 ∷ drop (i + 1) nodes = sym (take-append-drop i nodes) ∙ ap (λ l. take i nodes ++ l) (drop_more nodes i 0 lt) in
       nearest (take i nodes) (slice_index_or nodes i 0) (drop (i + 1) nodes) (subst (IsStrictlySortedBy (node_cmp net f)) parted up) row is
-      (λ y c is_c own. subst (In y) parted (In-from_Contains nodes y (all y c is_c own)))
+      (λ y c is_c own. subst (In y) parted (In-from_Contains nodes y (all y c is_c own))) alone
 
 -- among all nodes is each token of a class
 pub tokens_among : (f : Forest) (nodes : List ℕ) → ((y : ℕ) → IsLive f y → Contains nodes y) → (class : List ℕ) (y : ℕ) (c : TokenRow Spot) → token_at f y ≡ Some c → c.class ≡ class → Contains nodes y

@@ -4,7 +4,7 @@ use Rattle.std.specs.Prelude.{Some, IsSome}
 use Rattle.std.specs.List.{All, Contains}
 use Rattle.std.proofs.lemmas.List.Elements.{All-contains}
 use Rattle.tmm_model.specs.declared.premise.Premise.{Premise}
-use Rattle.tmm_model.specs.declared.premise.Premise.TheVariants.{Class, Kind, Point, Event, Token, Span, Dist, Rule, Protect}
+use Rattle.tmm_model.specs.declared.premise.Premise.TheVariants.{Class, Kind, Point, Event, Token, Span, Dist, Rule, Protect, Against}
 use Rattle.tmm_model.specs.Beliefs.{rules_at, on_kind}
 use Rattle.tmm_model.specs.Moments.{Moment, as_rule, read_by, rule_of}
 use Rattle.list_theory.specs.WellNamed.{IsSound}
@@ -27,6 +27,7 @@ rule_on (Token name fact) kind r e = cc
 rule_on (Span name fact) kind r e = cc
 rule_on (Dist name from to lo hi) kind r e = cc
 rule_on (Protect name fact from to) kind r e = cc
+rule_on (Against name one other) kind r e = cc
 
 -- a rule that stands at a moment is a premise of the list
 pub rule_there : (s : Standing) → IsSound s → (t : Moment) (r : List ℕ) → Contains (rules_at s t) r → IsRuleOf s r
@@ -49,6 +50,7 @@ read_known s sound r (p, there, is) = subst (λ o. All (λ fact. IsSome (class_i
     by (Span name fact_) stands fact at = absurd at
     by (Dist name from to lo hi) stands fact at = absurd at
     by (Protect name fact_ from to) stands fact at = absurd at
+    by (Against name one other) stands fact at = absurd at
 
 -- the fact has a class in the list
 abbrev IsKnown : Standing → List ℕ → Type 0

@@ -41,7 +41,7 @@ IsLastNode test rows found =
     MatchOption found ((k : ℕ) (d : TokenRow Spot) → k < length rows → test (slice_index_or rows k d) ≡ false)
     (λ x. (i : ℕ) × IsLast test rows i × ((d : TokenRow Spot) → (slice_index_or rows i d).spot ≡ Node x))
 
--- it is what clips the node, in each list whose nodes these are
-abbrev pub IsClip : Net → Forest → ℕ → Option ℕ → Type 0
-IsClip net f x found =
-    (s : Standing) (b : List Moment) → IsForestOf s net f → HasOccurrences b f → option_map (moment_at f) found ≡ clip (map_of s b) (moment_at f x)
+-- it is what clips the node, where nodes and network are those of the list
+abbrev pub IsClip : Standing → Net → Forest → ℕ → Option ℕ → Type 0
+IsClip s net f x found =
+    (b : List Moment) → IsForestOf s net f → HasOccurrences b f → option_map (moment_at f) found ≡ clip (map_of s b) (moment_at f x)

@@ -1,3 +1,4 @@
+pub mod Apart
 pub mod Behind
 pub mod Near
 pub mod ClassClips
@@ -6,3 +7,4 @@ pub mod Nodes
 pub mod Rules
 pub mod Growing
 pub mod Edited
+pub mod ClassTokens

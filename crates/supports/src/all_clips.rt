@@ -5,7 +5,8 @@ ghost use Rattle.std.specs.List.Sorted.{IsStrictlySortedBy};
 ghost use Rattle.std.specs.Option.{option_map, ForSome};
 ghost use Rattle.tmm_model.specs.Answers.{clip};
 ghost use Rattle.tmm_model.specs.Moments.{Moment};
-ghost use Rattle.tmm_model.specs.Standing.{Standing};
+ghost use Rattle.tmm_model.specs.Standing.{Standing as StandingList};
+ghost use Rattle.premise_list.specs.Rivalries.{has_rivals};
 ghost use Rattle.tmm_model.specs.Tokens.{of_one_class, clips};
 ghost use Rattle.clipping.specs.Stretches.{rows_of, HaveStretches};
 ghost use Rattle.name_lists.specs.Lists.{list_of};
@@ -25,12 +26,13 @@ ghost use Rattle.supports.specs.Nodes.{IsOfNode};
 ghost use Rattle.supports.specs.declared.near.Near.{Near as ANear};
 
 use crate::near::{Near, near_clip};
-use crate::node_of;
+use crate::{node_of, rivals};
 use clip_search::Branches;
 use clipping::{Stretched, last_clipper, stretch_behind};
 use dist_net::DistNet;
 use name_lists::NameLists;
 use occ_tree::{Order, Ranked, Tree};
+use premise_list::Standing;
 use spots::Spot;
 use std::alloc::Global;
 use tmm_model::{Name, NoMemory, TokenRow};
@@ -39,6 +41,7 @@ use tmm_model::{Name, NoMemory, TokenRow};
 /// none exactly where no token does. A span and an event have none. Without memory it answers that.
 pub fn clips(
     alloc: Global,
+    standing: &Standing,
     tree: &Tree,
     net: &DistNet,
     ranked: &[Ranked],
@@ -48,13 +51,13 @@ pub fn clips(
     requires all { (x : ℕ) → IsLive (forest tree.now) x → Contains (nodes_of ranked.now) x }
     requires in_order { IsStrictlySortedBy (node_cmp net.now.present (forest tree.now)) (nodes_of ranked.now) }
     ensures live { IfOk result (λ clips. All (λ clip. IfSome clip (IsLive (forest tree.now))) clips.items) }
-    ensures first { IfOk result (λ clips. (s : Standing) (b : List Moment) → IsForestOf s net.now.present (forest tree.now) → HasOccurrences b (forest tree.now) → map (option_map (moment_at (forest tree.now))) clips.items ≡ map (λ x. clip (map_of s b) (moment_at (forest tree.now) x)) (nodes_of ranked.now)) }
+    ensures first { IfOk result (λ clips. (b : List Moment) → IsForestOf standing.now.present net.now.present (forest tree.now) → HasOccurrences b (forest tree.now) → map (option_map (moment_at (forest tree.now))) clips.items ≡ map (λ x. clip (map_of standing.now.present b) (moment_at (forest tree.now) x)) (nodes_of ranked.now)) }
 {
     let mut clips = Vec::from_elem(alloc, None, ranked.len())?;
     // the tokens behind by their classes: in each class the nearest one stands last
     let mut behind = NameLists::make(alloc);
     for i in (0..ranked.len()).rev() {
-        clips[i] = clip_at(alloc, tree, net, ranked, i, &mut behind)?;
+        clips[i] = clip_at(alloc, standing, tree, net, ranked, i, &mut behind)?;
     }
     Ok(clips)
 }
@@ -64,6 +67,7 @@ pub fn clips(
 /// wanted are not looked at. Without memory it answers that.
 pub fn class_clips(
     alloc: Global,
+    standing: &Standing,
     tree: &Tree,
     net: &DistNet,
     class: &Name,
@@ -71,7 +75,7 @@ pub fn class_clips(
 ) -> Result<Vec<Option<u32>>, NoMemory>
     requires dates { IsTreeIn net.now.present tree.now }
     requires long { length wanted.now ≡ length ((present tree.now).tokens class.now) }
-    ensures each { IfOk result (λ clips. AreClips net.now.present (forest tree.now) ((present tree.now).tokens class.now) wanted.now clips.items) }
+    ensures each { IfOk result (λ clips. AreClips standing.now.present net.now.present (forest tree.now) ((present tree.now).tokens class.now) wanted.now clips.items) }
     ensures live { IfOk result (λ clips. All (λ clip. IfSome clip (IsLive (forest tree.now))) clips.items) }
 {
     let rows = tree.tokens(class);
@@ -90,7 +94,17 @@ pub fn class_clips(
         later = count_later(behind.len(), later, last, date);
         last = date;
         let asked = &behind[..later];
-        let clip = class_clip(alloc, tree, net, rows, i, wanted[i], asked, &mut branches)?;
+        let clip = class_clip(
+            alloc,
+            standing,
+            tree,
+            net,
+            rows,
+            i,
+            wanted[i],
+            asked,
+            &mut branches,
+        )?;
         clips[i] = clip;
         let first = stretch_behind(&behind, &row.fact);
         behind.push_reserved(Stretched { row, first });
@@ -111,10 +125,11 @@ fn first_wanted(wanted: &[bool]) -> usize
     wanted.len()
 }
 
-// What clips the token at `i`, where that is wanted, among those behind it, the nearest one last,
-// or among all of its class.
+// What clips the token at `i`, where that is wanted: among those behind it, the nearest one last, or
+// among all of its class, or where its fact has rivals, among those of their classes too.
 fn class_clip(
     alloc: Global,
+    standing: &Standing,
     tree: &Tree,
     net: &DistNet,
     rows: &[TokenRow<Spot>],
@@ -132,19 +147,23 @@ fn class_clip(
     requires stretches { HaveStretches behind.now }
     requires branches { IfSome branches.old (AreBranches (forest tree.now) rows.now) }
     ensures live { IfOk result (λ clip. IfSome clip (IsLive (forest tree.now))) }
-    ensures clip { IfOk result (λ clip. wanted ≡ true → IsNear net.now.present (forest tree.now) (rows_of behind.now) (row_at rows.now i) (ANear.Found clip) ⊎ IsClip net.now.present (forest tree.now) (slice_index_or (numbers_in rows.now) i 0) clip) }
+    ensures clip { IfOk result (λ clip. wanted ≡ true → ((has_rivals standing.now.present (row_at rows.now i).fact ≡ false) × IsNear net.now.present (forest tree.now) (rows_of behind.now) (row_at rows.now i) (ANear.Found clip)) ⊎ IsClip standing.now.present net.now.present (forest tree.now) (slice_index_or (numbers_in rows.now) i 0) clip) }
     ensures branches { OnOk result (IfSome branches.new (AreBranches (forest tree.now) rows.now)) }
 {
     if !wanted {
         return Ok(None);
     }
-    match near_clip(tree, net, behind, &rows[i]) {
+    let row = &rows[i];
+    if standing.has_rivals(row.fact) {
+        return Ok(rivals::clip(standing, tree, net, node_of(row)));
+    }
+    match near_clip(tree, net, behind, row) {
         Near::Found(clip) => Ok(clip),
         Near::Open => far_clip(alloc, tree, net, rows, i, branches),
     }
 }
 
-// What clips the token at `i`, which is no span, by the nodes under which tokens are. These are
+// What clips the token at `i`, which is no span and whose fact has no rivals, by the nodes under which tokens are. These are
 // gathered where they are first asked for.
 fn far_clip(
     alloc: Global,
@@ -161,7 +180,7 @@ fn far_clip(
     requires no_span { (row_at rows.now i).end ≡ None }
     requires branches { IfSome branches.old (AreBranches (forest tree.now) rows.now) }
     ensures live { IfOk result (λ clip. IfSome clip (IsLive (forest tree.now))) }
-    ensures clip { IfOk result (IsClip net.now.present (forest tree.now) (slice_index_or (numbers_in rows.now) i 0)) }
+    ensures clip { IfOk result (λ clip. (s : StandingList) → has_rivals s (row_at rows.now i).fact ≡ false → IsClip s net.now.present (forest tree.now) (slice_index_or (numbers_in rows.now) i 0) clip) }
     ensures branches { OnOk result (IfSome branches.new (AreBranches (forest tree.now) rows.now)) }
 {
     let table = gathered(alloc, tree, rows, branches.take())?;
@@ -203,6 +222,7 @@ fn count_later(count: usize, later: usize, last: i64, date: i64) -> usize
 // added. What clips a token begins after it, so it is the nearest behind it that does.
 fn clip_at(
     alloc: Global,
+    standing: &Standing,
     tree: &Tree,
     net: &DistNet,
     ranked: &[Ranked],
@@ -216,17 +236,43 @@ fn clip_at(
     requires within { i < length ranked.now }
     requires behind { AreBehind (forest tree.now) (drop (i + 1) (nodes_of ranked.now)) (list_of behind.old) }
     ensures live { IfOk result (λ clip. IfSome clip (IsLive (forest tree.now))) }
-    ensures clip { IfOk result (IsClip net.now.present (forest tree.now) (slice_index_or (nodes_of ranked.now) i 0)) }
+    ensures clip { IfOk result (IsClip standing.now.present net.now.present (forest tree.now) (slice_index_or (nodes_of ranked.now) i 0)) }
     ensures behind { OnOk result (AreBehind (forest tree.now) (drop i (nodes_of ranked.now)) (list_of behind.new)) }
 {
     let Some(token) = token_at(tree, ranked[i].node) else {
         return Ok(None);
     };
     let others = behind.of(&token.class);
-    let clip = next_clip(tree, net, others, &token);
+    let clip = token_clip(standing, tree, net, others, &token, ranked[i].node);
     let first = stretch_behind(others, &token.fact);
     behind.push(alloc, token.class, Stretched { row: token, first })?;
     Ok(clip)
+}
+
+// What clips the token of a node: the last that does of those behind it, or where its fact has
+// rivals, the first of the tokens of all these classes.
+fn token_clip(
+    standing: &Standing,
+    tree: &Tree,
+    net: &DistNet,
+    behind: &[Stretched<Spot>],
+    k: &TokenRow<Spot>,
+    x: u32,
+) -> Option<u32>
+    requires dates { IsTreeIn net.now.present tree.now }
+    requires nodes { All IsOfNode (rows_of behind.now) }
+    requires live { All (λ row. IsSpot net.now.present.names (forest tree.now) row.spot × ForSome row.end (IsSpot net.now.present.names (forest tree.now))) (rows_of behind.now) }
+    requires stretches { HaveStretches behind.now }
+    requires k_live { IsSpot net.now.present.names (forest tree.now) k.now.spot }
+    requires x_live { IsLive (forest tree.now) x }
+    ensures live { IfSome result (IsLive (forest tree.now)) }
+    ensures clip { ((has_rivals standing.now.present k.now.fact ≡ false) × MatchOption k.now.end (IsLastNode (clips of_one_class (spot_distance net.now.present (forest tree.now)) k.now) (rows_of behind.now) result) (λ _. IsNone result)) ⊎ IsClip standing.now.present net.now.present (forest tree.now) x result }
+{
+    if standing.has_rivals(k.fact) {
+        rivals::clip(standing, tree, net, x)
+    } else {
+        next_clip(tree, net, behind, k)
+    }
 }
 
 // The token that a node is, none for an event.

@@ -4,6 +4,10 @@
 //! a premise declares to occur, as a node of a tree. It stands on `occ_tree`, `clipping`,
 //! `clip_search` and `name_lists`.
 //!
+//! Two facts of one class contradict each other, and two that a premise sets against each other. A
+//! fact of which no premise speaks asks the tokens of its class alone, any other one the tokens of
+//! the classes of its rivals too (`clipping::across`).
+//!
 //! Each call answers the definition for the list, over the occurrences that the nodes are. `clips`,
 //! `class_clips` and `add_root` alone take memory, and `supporter` and `is_supported` for guesses:
 //! they look for what cuts a token near what cut the one before, and where that takes long they
@@ -35,16 +39,18 @@ ghost use Rattle.supports.specs.Faults.{fault_at};
 ghost use Rattle.supports.specs.Nodes.{IsOfNode, HasNode};
 
 mod all_clips;
+mod alone;
+mod class_tokens;
 mod guesses;
 mod near;
+mod rivals;
 mod root;
 mod rule;
 
 pub use all_clips::{class_clips, clips};
-use clipping::{Fault, by_date};
+use clipping::by_date;
 use dist_net::DistNet;
 pub use guesses::Guesses;
-use guesses::{first_holder, is_held};
 use occ_tree::{Order, Tree};
 use premise_list::Standing;
 pub use root::add_root;
@@ -105,12 +111,11 @@ pub fn supporter(
     ensures live { IfSome result (IsLive (forest tree.now)) }
     ensures first { (b : List Moment) → HasOccurrences b (forest tree.now) → option_map (moment_at (forest tree.now)) result ≡ holder standing.now.present (far_in standing.now.present.premises) b fact (spot_moment net.now.present.names (forest tree.now) p) (spot_moment net.now.present.names (forest tree.now) q) }
 {
-    let Some(class) = standing.class_of(fact) else {
-        unreachable!()
-    };
-    let rows = tree.tokens(&class);
-    let place = first_holder(&Order { tree, net }, rows, fact, p, q, guesses)?;
-    Some(node_at(rows, place))
+    if standing.has_rivals(fact) {
+        rivals::supporter(standing, tree, net, fact, p, q)
+    } else {
+        alone::supporter(standing, tree, net, fact, p, q, guesses)
+    }
 }
 
 /// Whether a token supports the fact throughout `p` to `q`. That is found sooner than which is the
@@ -130,11 +135,11 @@ pub fn is_supported(
     requires q { IsSpot net.now.present.names (forest tree.now) q }
     ensures { (b : List Moment) → HasOccurrences b (forest tree.now) → result ≡ has_support standing.now.present (far_in standing.now.present.premises) b fact (spot_moment net.now.present.names (forest tree.now) p) (spot_moment net.now.present.names (forest tree.now) q) }
 {
-    let Some(class) = standing.class_of(fact) else {
-        unreachable!()
-    };
-    let rows = tree.tokens(&class);
-    is_held(&Order { tree, net }, rows, fact, p, q, guesses)
+    if standing.has_rivals(fact) {
+        rivals::is_supported(standing, tree, net, fact, p, q)
+    } else {
+        alone::is_supported(standing, tree, net, fact, p, q, guesses)
+    }
 }
 
 /// The place of the first of these facts that a token supports at a point, none exactly where no
@@ -168,12 +173,11 @@ pub fn clip(standing: &Standing, tree: &Tree, net: &DistNet, x: u32) -> Option<u
     ensures live { IfSome result (IsLive (forest tree.now)) }
     ensures first { (b : List Moment) → HasOccurrences b (forest tree.now) → option_map (moment_at (forest tree.now)) result ≡ clip (map_of standing.now.present b) (moment_at (forest tree.now) x) }
 {
-    let class = tree.row(x).class?;
-    let rows = tree.tokens(&class);
-    let order = Order { tree, net };
-    let place = place_of(&order, rows, x);
-    let clipper = by_date::first_clipper(&order, rows, place)?;
-    Some(node_at(rows, clipper))
+    if standing.has_rivals(tree.row(x).what) {
+        rivals::clip(standing, tree, net, x)
+    } else {
+        alone::clip(standing, tree, net, x)
+    }
 }
 
 /// Why a token does not support its fact.
@@ -198,15 +202,9 @@ pub fn blame(standing: &Standing, tree: &Tree, net: &DistNet, x: u32, p: Spot, q
     ensures fault { (b : List Moment) (k : TokenRow Moment) → HasOccurrences b (forest tree.now) → token_of standing.now.present (moment_at (forest tree.now) x) ≡ Some k
         → fault (map_of standing.now.present b) (spot_moment net.now.present.names (forest tree.now) p) (spot_moment net.now.present.names (forest tree.now) q) k ≡ fault_at (forest tree.now) result }
 {
-    let Some(class) = tree.row(x).class else {
-        unreachable!()
-    };
-    let rows = tree.tokens(&class);
-    let order = Order { tree, net };
-    let place = place_of(&order, rows, x);
-    match by_date::blame(&order, rows, place, p, q) {
-        Fault::Late => NodeFault::Late,
-        Fault::Clipped(c) => NodeFault::Clipped(node_at(rows, c)),
-        Fault::Ends => NodeFault::Ends,
+    if standing.has_rivals(tree.row(x).what) {
+        rivals::blame(standing, tree, net, x, p, q)
+    } else {
+        alone::blame(standing, tree, net, x, p, q)
     }
 }

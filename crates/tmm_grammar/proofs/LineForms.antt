@@ -11,7 +11,7 @@ use Rattle.tmm_model.specs.declared.point.PointName.{PointName}
 use Rattle.tmm_model.specs.declared.point.QueryPoint.{QueryPoint}
 use Rattle.tmm_model.specs.declared.point.QueryPoint.TheVariants.{Declared, Derived}
 use Rattle.tmm_model.specs.declared.premise.Premise.{Premise}
-use Rattle.tmm_model.specs.declared.premise.Premise.TheVariants.{Class, Kind, Point, Event, Token, Span, Dist, Rule, Protect}
+use Rattle.tmm_model.specs.declared.premise.Premise.TheVariants.{Class, Kind, Point, Event, Token, Span, Dist, Rule, Protect, Against}
 use Rattle.tmm_model.specs.declared.premise.Edit.{Edit}
 use Rattle.tmm_model.specs.declared.premise.Edit.TheVariants.{Add, Erase, Horizon, Upgrade}
 use Rattle.tmm_model.specs.declared.version.Version.{Version}
@@ -221,6 +221,7 @@ premise_in-shown version (Rule n t lo hi x given unless_facts) h of_version =
     sym (rule-again version (n, (t, (lo, (hi, (x, (given.items, unless_facts.items)))))) (h.0, (h.1, (h.2, (h.3, (h.6, (((h.7, h.8), (h.9, h.10)), of_version)))))))
     ∙ rw (int_le_from (pos 1) lo h.4, range_from (Finite lo) hi h.5) refl
 premise_in-shown version (Protect n f p q) h of_version = protect-again n f p q h.0 h.1 h.2 h.3
+premise_in-shown version (Against n f g) h of_version = absurd h
 
 -- ---- changes
 
@@ -276,6 +277,7 @@ edit_in-add version (Span n k) = refl
 edit_in-add version (Dist n p q lo hi) = refl
 edit_in-add version (Rule n t lo hi x given unless_facts) = refl
 edit_in-add version (Protect n f p q) = refl
+edit_in-add version (Against n f g) = refl
 
 upgrade-again : (version : Version) → IsEditOf version Upgrade → upgrade_of version (codes "2" ∷ []) ≡ Some Upgrade
 unfolding upgrade_of
@@ -389,6 +391,7 @@ spoken-premise version (Span n k) = line_of-spoken _ _ _ refl
 spoken-premise version (Dist n p q lo hi) = line_of-spoken _ _ _ refl
 spoken-premise version (Rule n t lo hi x given unless_facts) = line_of-spoken _ _ _ refl
 spoken-premise version (Protect n f p q) = line_of-spoken _ _ _ refl
+spoken-premise version (Against n f g) = line_of-spoken _ _ _ refl
 
 spoken-edit : (version : Version) (e : Edit) → line_of version (edit_words e) ≡ spoken version (edit_words e)
 spoken-edit version (Add p) = spoken-premise version p

@@ -8,7 +8,7 @@ use Rattle.tmm_model.specs.declared.bound.Bound.TheVariants.{Finite, Free}
 use Rattle.tmm_model.specs.declared.point.PointName.{PointName}
 use Rattle.tmm_model.specs.declared.premise.Edit.TheVariants.{Add}
 use Rattle.tmm_model.specs.declared.premise.Premise.{Premise}
-use Rattle.tmm_model.specs.declared.premise.Premise.TheVariants.{Class, Kind, Point, Event, Token, Span, Dist, Rule, Protect}
+use Rattle.tmm_model.specs.declared.premise.Premise.TheVariants.{Class, Kind, Point, Event, Token, Span, Dist, Rule, Protect, Against}
 use Rattle.tmm_model.specs.declared.walk.WalkStep.{WalkStep}
 use Rattle.tmm_model.specs.Types.{IsTighter}
 use Rattle.tmm_model.specs.Bounds.{after, bound_plus}
@@ -103,6 +103,7 @@ module _ (s : Standing) (sound : IsSound s) where
   by_kind (Kind name) wf (inr none) may x y a b = absurd (In-from_Contains [] a.first a.own)
   by_kind (Rule name trigger lo hi effect given unless_facts) wf (inr none) may x y a b = absurd (In-from_Contains [] a.first a.own)
   by_kind (Protect name fact from to) wf (inr none) may x y a b = absurd (In-from_Contains [] a.first a.own)
+  by_kind (Against name one other) wf (inr none) may x y a b = absurd (In-from_Contains [] a.first a.own)
   by_kind (Point name) wf (inr none) may x y a b = cc
   by_kind (Event name kind) wf (inr none) may x y a b = cc
   by_kind (Token name fact) wf (inr none) may x y a b = cc

@@ -9,7 +9,7 @@ use Rattle.tmm_model.specs.declared.bound.Bound.TheVariants.{Finite, Free}
 use Rattle.tmm_model.specs.declared.point.PointName.{PointName}
 use Rattle.tmm_model.specs.declared.point.PointName.TheVariants.{Start, Begin}
 use Rattle.tmm_model.specs.declared.premise.Premise.{Premise}
-use Rattle.tmm_model.specs.declared.premise.Premise.TheVariants.{Class, Kind, Point, Event, Token, Span, Dist, Rule, Protect}
+use Rattle.tmm_model.specs.declared.premise.Premise.TheVariants.{Class, Kind, Point, Event, Token, Span, Dist, Rule, Protect, Against}
 use Rattle.walk_theory.specs.LeastWalks.{AtMost, IsFar, IsWalk}
 use Rattle.tmm_model.specs.Bounds.{bound_plus, bound_less}
 use Rattle.tmm_model.specs.Moments.{Moment, At, After, base, rules, rule_of, low, apart, early, negated}
@@ -63,6 +63,7 @@ module _ (premises : List Premise) where
       declares (Dist name from to lo hi) there p none = absurd none
       declares (Rule name trigger lo hi effect given unless_facts) there p none = absurd none
       declares (Protect name fact from to) there p none = absurd none
+      declares (Against name one other) there p none = absurd none
 
       from_start : In p (points_in premises) → HasWayBack p
       from_start (inl is) = ([], sym is, omega (arith, ints))

@@ -1,2 +1,3 @@
+mod Links
 mod Padded
 mod Words

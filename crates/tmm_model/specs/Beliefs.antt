@@ -1,11 +1,11 @@
 -- What is believed of a standing list: its events, tokens and spans, and what rules bring about.
-use Rattle.std.specs.Prelude.{ℕ, suc, zero, ℤ, pos, ◌+ℤ◌, Bool, true, false, not, ◌&&◌, List, [], ◌++◌, map, filter, Option, Some, None}
+use Rattle.std.specs.Prelude.{ℕ, suc, zero, ℤ, pos, ◌+ℤ◌, Bool, true, false, not, ◌&&◌, ◌||◌, List, [], ◌++◌, map, filter, Option, Some, None}
 use Rattle.std.specs.List.{list_any, list_all, filter_map, flat_map}
 use Rattle.std.specs.Option.{option_map}
 use Rattle.std.specs.Ordering.{int_eq, on}
 use Rattle.tmm_model.specs.declared.point.PointName.TheVariants.{Begin, End}
 use Rattle.tmm_model.specs.declared.premise.Premise.{Premise}
-use Rattle.tmm_model.specs.declared.premise.Premise.TheVariants.{Event, Token, Span, Rule}
+use Rattle.tmm_model.specs.declared.premise.Premise.TheVariants.{Event, Token, Span, Rule, Against}
 use Rattle.tmm_model.specs.declared.token.Shape.{Shape}
 use Rattle.tmm_model.specs.declared.token.Shape.TheVariants.{Event as AnEvent, Persistence as APersistence, Span as ASpan}
 use Rattle.tmm_model.specs.declared.token.TokenRow.{TokenRow}
@@ -72,9 +72,19 @@ token_of s k = elim (is_of s k) [ None ↦ None | Some x ↦ token_at s k x ]
 abbrev pub tokens : Standing → List Moment → List (TokenRow Moment)
 tokens s b = filter_map (token_of s) b
 
--- **Which tokens contradict each other**: those of two different facts of one class.
+-- whether the premise says, in either order, that the two facts contradict each other
+abbrev pub says_against : List ℕ → List ℕ → Premise → Bool
+says_against f g (Against name one other) = (same_name one f && same_name other g) || (same_name one g && same_name other f)
+says_against f g _ = false
+
+-- whether a premise says that the two facts, which differ, contradict each other
+abbrev pub are_rivals : Standing → List ℕ → List ℕ → Bool
+are_rivals s f g = not (same_name f g) && list_any (says_against f g) s.premises
+
+-- **Which tokens contradict each other**: those of two different facts of one class, and those of
+-- two facts of which a premise says so.
 abbrev pub contradicts_in : Standing → TokenRow Moment → TokenRow Moment → Bool
-contradicts_in s = of_one_class
+contradicts_in s k c = of_one_class k c || are_rivals s k.fact c.fact
 
 -- ---- rules at an event
 

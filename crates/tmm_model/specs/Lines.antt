@@ -11,7 +11,7 @@ use Rattle.tmm_model.specs.declared.point.Occ.{Occ}
 use Rattle.tmm_model.specs.declared.point.QueryPoint.{QueryPoint}
 use Rattle.tmm_model.specs.declared.point.QueryPoint.TheVariants.{Declared, Derived}
 use Rattle.tmm_model.specs.declared.premise.Premise.{Premise}
-use Rattle.tmm_model.specs.declared.premise.Premise.TheVariants.{Class, Kind, Point, Event, Token, Span, Dist, Rule, Protect}
+use Rattle.tmm_model.specs.declared.premise.Premise.TheVariants.{Class, Kind, Point, Event, Token, Span, Dist, Rule, Protect, Against}
 use Rattle.tmm_model.specs.declared.premise.Edit.{Edit}
 use Rattle.tmm_model.specs.declared.premise.Edit.TheVariants.{Add, Erase, Horizon, Upgrade}
 use Rattle.tmm_model.specs.declared.version.Version.{Version}
@@ -97,6 +97,8 @@ IsWellFormedPremise (Rule name trigger lo hi effect given unless_facts) =
     IsName name × IsName trigger × IsNumber lo × IsBound hi × (pos 1 ≤ℤ lo) × IsRange (Finite lo) hi × IsName effect
     × AreNames given.items × (length given.items ≤ MOST_ANTECEDENTS) × AreNames unless_facts.items × (length unless_facts.items ≤ MOST_EXCEPTIONS)
 IsWellFormedPremise (Protect name fact from to) = IsName name × IsName fact × IsWellFormedPoint from × IsWellFormedPoint to
+-- no line says so yet
+IsWellFormedPremise (Against name one other) = ⊥
 
 -- what an edit can say, in whichever version
 abbrev pub IsWellFormedEdit : Edit → Type 0
@@ -157,6 +159,7 @@ shown (Rule name trigger lo hi effect given unless_facts) =
     codes "rule" ∷ name ∷ trigger ∷ number_word lo ∷ bound_word hi ∷ effect
     ∷ facts_words (codes "if") given.items ++ facts_words (codes "unless") unless_facts.items
 shown (Protect name fact from to) = codes "protect" ∷ name ∷ fact ∷ point_word from ∷ point_word to ∷ []
+shown (Against name one other) = codes "against" ∷ name ∷ one ∷ other ∷ []
 
 -- the words that make a change
 abbrev pub edit_words : Edit → List (List ℕ)

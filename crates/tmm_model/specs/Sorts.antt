@@ -4,7 +4,7 @@ use Rattle.std.specs.List.{flat_map, list_any}
 use Rattle.std.specs.Map.{lookup}
 use Rattle.tmm_model.specs.declared.point.PointName.{PointName}
 use Rattle.tmm_model.specs.declared.premise.Premise.{Premise}
-use Rattle.tmm_model.specs.declared.premise.Premise.TheVariants.{Class, Kind, Point, Event, Token, Span, Dist, Rule, Protect}
+use Rattle.tmm_model.specs.declared.premise.Premise.TheVariants.{Class, Kind, Point, Event, Token, Span, Dist, Rule, Protect, Against}
 use Rattle.tmm_model.specs.Points.{same_name}
 
 -- what a name is declared as
@@ -19,6 +19,7 @@ pub data Sort : Type 0 where
   a_dist : Sort
   a_rule : Sort
   a_protection : Sort
+  a_rivalry : Sort
 
 -- no line may declare these
 abbrev pub is_reserved : List ℕ → Bool
@@ -39,6 +40,7 @@ declarations_of (Span name fact) = (name, a_span) ∷ []
 declarations_of (Dist name from to lo hi) = (name, a_dist) ∷ []
 declarations_of (Rule name trigger lo hi effect given unless_facts) = (name, a_rule) ∷ []
 declarations_of (Protect name fact from to) = (name, a_protection) ∷ []
+declarations_of (Against name one other) = (name, a_rivalry) ∷ []
 
 -- the names alone
 abbrev pub declared_by : Premise → List (List ℕ)
@@ -102,6 +104,7 @@ uses_of (Span name fact) = fact_use fact ∷ []
 uses_of (Dist name from to lo hi) = a_place from ∷ a_place to ∷ []
 uses_of (Rule name trigger lo hi effect given unless_facts) = a_name trigger is_kind ∷ a_name effect is_effect ∷ map fact_use (given.items ++ unless_facts.items)
 uses_of (Protect name fact from to) = fact_use fact ∷ a_place from ∷ a_place to ∷ []
+uses_of (Against name one other) = fact_use one ∷ fact_use other ∷ []
 
 -- the class that declares the fact
 abbrev pub class_in : List Premise → List ℕ → Option (List ℕ)

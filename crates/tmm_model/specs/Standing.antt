@@ -7,7 +7,7 @@ use Rattle.tmm_model.specs.declared.bound.Bound.TheVariants.{Finite, Free}
 use Rattle.tmm_model.specs.declared.point.PointName.{PointName}
 use Rattle.tmm_model.specs.declared.point.PointName.TheVariants.{Start, Begin, End}
 use Rattle.tmm_model.specs.declared.premise.Premise.{Premise}
-use Rattle.tmm_model.specs.declared.premise.Premise.TheVariants.{Class, Kind, Point, Event, Token, Span, Dist, Rule, Protect}
+use Rattle.tmm_model.specs.declared.premise.Premise.TheVariants.{Class, Kind, Point, Event, Token, Span, Dist, Rule, Protect, Against}
 use Rattle.tmm_model.specs.declared.version.Version.{Version}
 use Rattle.tmm_model.specs.declared.version.Version.TheVariants.{One}
 use Rattle.tmm_model.specs.declared.walk.Side.TheVariants.{Hi, Lo, Base, Length}
@@ -46,6 +46,7 @@ name_of (Span name fact) = name
 name_of (Dist name from to lo hi) = name
 name_of (Rule name trigger lo hi effect given unless_facts) = name
 name_of (Protect name fact from to) = name
+name_of (Against name one other) = name
 
 -- the points that a premise declares
 abbrev pub points_of : Premise → List PointName

@@ -1,5 +1,5 @@
 // Names of a script.
-ghost use Rattle.std.specs.Prelude.{◌≡◌, ◌+◌, ◌-◌, ◌<◌, ◌≤◌, ℕ, List, [], ◌∷◌, ◌++◌, take, drop, replicate, length, IsTrue, IsSome, IfSome, IsNone, ◌↔◌, nat_eq, refl};
+ghost use Rattle.std.specs.Prelude.{◌≡◌, ◌+◌, ◌*◌, ◌-◌, ◌<◌, ◌≤◌, ℕ, List, [], ◌∷◌, ◌++◌, take, drop, replicate, length, IsTrue, IsSome, IfSome, IsNone, OnOk, OnErr, ◌↔◌, nat_eq, refl};
 ghost use Rattle.std.specs.Int.{w64, from_le_bytes, to_le_bytes};
 ghost use Rattle.std.specs.List.{list_all};
 ghost use Rattle.std.specs.Ordering.{nat_cmp, as_partial_cmp};
@@ -7,9 +7,11 @@ ghost use Rattle.std.specs.Cmp.{partial_equiv_from_equiv, partial_order_from_agr
 ghost use Rattle.std.specs.Cmp.Rules.{hashing};
 ghost use Rattle.std.proofs.Common.{rules};
 ghost use Rattle.std.specs.Cmp.Lexicographic.{slice_cmp, pointwise, nat_list_cmp_total, nat_list_eq_equiv, lists_ties};
+ghost use Rattle.tmm_model.specs.Points.{slashed};
 ghost use Rattle.tmm_model.specs.Names.{is_letter, is_name_byte, is_name as is_name_of};
 
 use crate::limits::LONGEST_NAME;
+use crate::memory::NoMemory;
 use std::cmp::Ordering;
 use std::hash::{Hash, Hasher};
 use std::marker::Model;
@@ -57,6 +59,52 @@ impl Name {
     {
         &self.bytes[..self.len as usize]
     }
+}
+
+// Appends the names, each behind a `/`. Without memory the bytes stay. There is room first for the
+// longest names, so that each is written in one copy of its padded bytes.
+pub(crate) fn append_links(names: &[Name], out: &mut Vec<u8>) -> Result<(), NoMemory>
+    ensures ok { OnOk result (out.new.items ≡ out.old.items ++ slashed names.now) }
+    ensures err { OnErr result (out.new.items ≡ out.old.items) }
+{
+    let before = out.as_slice().len();
+    let Some(most) = names.len().checked_mul(LONGEST_NAME + 1) else {
+        return Err(NoMemory);
+    };
+    let Some(room) = before.checked_add(most) else {
+        return Err(NoMemory);
+    };
+    if out.resize(room, 0).is_err() {
+        return Err(NoMemory);
+    }
+    let end = write_links(names, out.as_mut_slice(), before);
+    out.truncate(end);
+    Ok(())
+}
+
+// Writes the names from a place on, each behind a `/`, and answers where they end.
+fn write_links(names: &[Name], out: &mut [u8], from: usize) -> usize
+    requires { from + length names.now * 25 ≤ length out.old }
+    ensures size { length out.new ≡ length out.old }
+    ensures written { take result out.new ≡ take from out.old ++ slashed names.now }
+{
+    let mut at = from;
+    for name in names {
+        at = write_link(name, out, at);
+    }
+    at
+}
+
+// Writes a name behind a `/` at a place, and answers where it ends.
+fn write_link(name: &Name, out: &mut [u8], at: usize) -> usize
+    requires { at + 25 ≤ length out.old }
+    ensures size { length out.new ≡ length out.old }
+    ensures within { result ≤ at + 25 }
+    ensures written { take result out.new ≡ take at out.old ++ 47 ∷ name.now }
+{
+    out[at] = b'/';
+    out[at + 1..at + 25].copy_from_slice(&name.bytes);
+    at + 1 + name.len as usize
 }
 
 fn is_name(bytes: &[u8]) -> bool

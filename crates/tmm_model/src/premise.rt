@@ -67,6 +67,12 @@ pub enum Premise {
         from: PointName,
         to: PointName,
     },
+    /// Two facts contradict each other, of whichever classes they are.
+    Against {
+        name: Name,
+        one: Name,
+        other: Name,
+    },
 }
 
 impl Premise {
@@ -86,7 +92,8 @@ impl Premise {
             | Premise::Span { name, .. }
             | Premise::Dist { name, .. }
             | Premise::Rule { name, .. }
-            | Premise::Protect { name, .. } => *name,
+            | Premise::Protect { name, .. }
+            | Premise::Against { name, .. } => *name,
         }
     }
 

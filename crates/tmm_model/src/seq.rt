@@ -1,7 +1,9 @@
 // A growable list, whose contracts see how many more items it takes without memory.
 ghost use Rattle.std.specs.Prelude.{◌≡◌, ◌+◌, ◌-◌, ◌<◌, ◌≤◌, [], ◌∷◌, ◌++◌, length, IfErr, OnOk, OnErr};
+ghost use Rattle.tmm_model.specs.Points.{slashed};
 
 use crate::memory::NoMemory;
+use crate::name::{Name, append_links};
 use std::alloc::Global;
 use std::marker::Model;
 
@@ -83,6 +85,17 @@ impl<T: Copy> Seq<T> {
             Ok(()) => Ok(()),
             Err(_) => Err(NoMemory),
         }
+    }
+}
+
+impl Seq<u8> {
+    /// Appends the names, each behind a `/`. Without memory, which is asked for where there is no
+    /// room for so many of the longest names, the list is as before.
+    pub fn put_links(&mut self, names: &[Name]) -> Result<(), NoMemory>
+        ensures ok { OnOk result (self.new.items ≡ self.old.items ++ slashed names.now) }
+        ensures err { OnErr result (self.new.items ≡ self.old.items) }
+    {
+        append_links(names, &mut self.inner)
     }
 }
 

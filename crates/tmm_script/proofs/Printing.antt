@@ -3,7 +3,7 @@ use Rattle.std.proofs.Common.{◌≡◌, ℕ, suc, ◌+◌, ◌<◌, List, [], �
 use Rattle.std.proofs.lemmas.List.{append-nil, drop-map}
 use Rattle.std.proofs.Math.Seq.{drop-cons}
 use Rattle.tmm_model.specs.declared.premise.Premise.{Premise}
-use Rattle.tmm_model.specs.declared.premise.Premise.TheVariants.{Class, Kind, Point, Event, Token, Span, Dist, Rule, Protect}
+use Rattle.tmm_model.specs.declared.premise.Premise.TheVariants.{Class, Kind, Point, Event, Token, Span, Dist, Rule, Protect, Against}
 use Rattle.std.specs.Prelude.{codes}
 use Rattle.tmm_model.specs.Points.{point_word}
 use Rattle.tmm_model.specs.Lines.{number_word, bound_word, facts_words, behind_spaces, shown, shown_text}
@@ -69,6 +69,7 @@ shown_parts (Span n k) = whole (codes "span") (n ∷ k ∷ [])
 shown_parts (Dist n p q lo hi) = whole (codes "dist") (n ∷ point_word p ∷ point_word q ∷ bound_word lo ∷ bound_word hi ∷ [])
 shown_parts (Rule n t lo hi x given unless_facts) = in_parts (codes "rule") (n ∷ t ∷ number_word lo ∷ bound_word hi ∷ x ∷ []) (facts_words (codes "if") given.items ++ facts_words (codes "unless") unless_facts.items)
 shown_parts (Protect n f p q) = whole (codes "protect") (n ∷ f ∷ point_word p ∷ point_word q ∷ [])
+shown_parts (Against n f g) = whole (codes "against") (n ∷ f ∷ g ∷ [])
 
 -- text that was appended, and text behind it of which a front was
 pub front_behind : (old mid new x y : List ℕ) → mid ≡ old ++ x → AppendsFront mid new y → AppendsFront old new (x ++ y)

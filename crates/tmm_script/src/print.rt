@@ -54,6 +54,7 @@ fn keyword(premise: &Premise) -> &'static [u8]
         Premise::Dist { .. } => b"dist",
         Premise::Rule { .. } => b"rule",
         Premise::Protect { .. } => b"protect",
+        Premise::Against { .. } => b"against",
     }
 }
 
@@ -109,6 +110,11 @@ fn fields(premise: &Premise) -> ArrayVec<Field, 5>
             fields.push(Field::Name(*fact));
             fields.push(Field::Point(*from));
             fields.push(Field::Point(*to));
+        }
+        Premise::Against { name, one, other } => {
+            fields.push(Field::Name(*name));
+            fields.push(Field::Name(*one));
+            fields.push(Field::Name(*other));
         }
     }
     fields

@@ -11,12 +11,12 @@ use Rattle.std.proofs.lemmas.Grind.{flat_map-append}
 use Rattle.std.proofs.lemmas.List.Folds.{list_any-append}
 use Rattle.tmm_model.specs.declared.point.PointName.TheVariants.{Begin}
 use Rattle.tmm_model.specs.declared.premise.Premise.{Premise}
-use Rattle.tmm_model.specs.declared.premise.Premise.TheVariants.{Class, Kind, Point, Event, Token, Span, Dist, Rule, Protect}
+use Rattle.tmm_model.specs.declared.premise.Premise.TheVariants.{Class, Kind, Point, Event, Token, Span, Dist, Rule, Protect, Against}
 use Rattle.tmm_model.specs.Beliefs.{roots, root_of}
 use Rattle.tmm_model.specs.Moments.{At}
 use Rattle.tmm_model.specs.Points.{same_name}
 use Rattle.tmm_model.specs.Questions.{is_root}
-use Rattle.tmm_model.specs.Sorts.{Sort, a_class, a_fact, a_kind, a_point, an_event, a_token, a_span, a_dist, a_rule, a_protection, is_fact, is_place, declarations_of, declarations_in, declared_by, fact_declaration, sort_in, class_in, fact_use}
+use Rattle.tmm_model.specs.Sorts.{Sort, a_class, a_fact, a_kind, a_point, an_event, a_token, a_span, a_dist, a_rule, a_protection, a_rivalry, is_fact, is_place, declarations_of, declarations_in, declared_by, fact_declaration, sort_in, class_in, fact_use}
 use Rattle.tmm_model.specs.Standing.{Standing, name_of}
 use Rattle.tmm_model.specs.Verdicts.{Cause, ill_sorted, unknown, words_known, name_cause, use_cause}
 use Rattle.list_theory.specs.WellNamed.{Follows, AllFollow, IsWellNamed}
@@ -58,6 +58,7 @@ a_fact_is (Some a_span) word e = cc
 a_fact_is (Some a_dist) word e = cc
 a_fact_is (Some a_rule) word e = cc
 a_fact_is (Some a_protection) word e = cc
+a_fact_is (Some a_rivalry) word e = cc
 
 -- **A fact that may be named is one of a class**, in the list and in each that goes on from it.
 pub fact_known : (before after : List Premise) (fact : List ℕ) → use_cause before (fact_use fact) ≡ None → IsSome (class_in (before ++ after) fact)
@@ -79,6 +80,7 @@ root_here (Point k) name sort at e = let w : false ≡ true = ap is_root (only (
 root_here (Dist k from to lo hi) name sort at e = let w : false ≡ true = ap is_root (only (k, a_dist) name sort at).1 ∙ e in cc
 root_here (Rule k trigger lo hi effect given unless_facts) name sort at e = let w : false ≡ true = ap is_root (only (k, a_rule) name sort at).1 ∙ e in cc
 root_here (Protect k g from to) name sort at e = let w : false ≡ true = ap is_root (only (k, a_protection) name sort at).1 ∙ e in cc
+root_here (Against k one other) name sort at e = let w : false ≡ true = ap is_root (only (k, a_rivalry) name sort at).1 ∙ e in cc
 root_here (Class k facts) name sort (inl q) e = let w : false ≡ true = ap (λ d. is_root d.1) q ∙ e in cc
 root_here (Class k facts) name sort (inr at) e =
     let (g, there, q) = In-map fact_declaration facts.items (name, sort) at in
@@ -105,6 +107,7 @@ sort_of_root (Point k) name e = cc
 sort_of_root (Dist k from to lo hi) name e = cc
 sort_of_root (Rule k trigger lo hi effect given unless_facts) name e = cc
 sort_of_root (Protect k g from to) name e = cc
+sort_of_root (Against k one other) name e = cc
 sort_of_root (Class k facts) name e = cc
 
 -- the own name of a premise is not known before it
@@ -158,6 +161,7 @@ a_plain_point (Some a_kind) word e other = refl
 a_plain_point (Some a_dist) word e other = refl
 a_plain_point (Some a_rule) word e other = refl
 a_plain_point (Some a_protection) word e other = refl
+a_plain_point (Some a_rivalry) word e other = refl
 
 pub a_root_is_known : (sort : Sort) (word : List ℕ) → is_root sort ≡ true → name_cause (Some sort) word is_root ≡ None
 a_root_is_known an_event word e = refl
@@ -170,3 +174,4 @@ a_root_is_known a_kind word e = cc
 a_root_is_known a_dist word e = cc
 a_root_is_known a_rule word e = cc
 a_root_is_known a_protection word e = cc
+a_root_is_known a_rivalry word e = cc

@@ -17,6 +17,7 @@ loop-class-init c = record {
 
 pub loop-class-preserved : goal.loop-class-preserved
 loop-class-preserved c =
+    let lists = c.args.standing.now in
     let tree = c.args.tree.now in
     let nodes = c.args.nodes.now in
     let kept = c.args.kept.now in
@@ -26,9 +27,9 @@ loop-class-preserved c =
     record {
       long = c.in_ok-tell_class.ensures.long;
       found = c.in_ok-tell_class.ensures.found c.args.classes.now c.loop-class.invariant.found;
-      done = each_more (IsClassSettled tree nodes kept marks) (IsClassSettled tree nodes kept new) c.args.classes.now c.loop-class.class-index c.class-item.result c.loop-class-test.true
-          (settled_more tree nodes kept marks new c.in_ok-tell_class.ensures.stay)
-          (subst (IsClassSettled tree nodes kept new) c.class-item.is (c.in_ok-tell_class.ensures.settled nodes touched)) c.loop-class.invariant.done;
+      done = each_more (IsClassSettled lists tree nodes kept marks) (IsClassSettled lists tree nodes kept new) c.args.classes.now c.loop-class.class-index c.class-item.result c.loop-class-test.true
+          (settled_more lists tree nodes kept marks new c.in_ok-tell_class.ensures.stay)
+          (subst (IsClassSettled lists tree nodes kept new) c.class-item.is (c.in_ok-tell_class.ensures.settled nodes touched)) c.loop-class.invariant.done;
     }
 
 pub loop-x-init : goal.loop-x-init
@@ -36,7 +37,7 @@ loop-x-init c = record {
   long = c.loop-class.invariant.long;
   found = c.loop-class.invariant.found;
   classes =
-      classes_settled c.args.tree.now c.args.nodes.now c.args.kept.now c.loop-class.found.marks.items c.args.classes.now
+      classes_settled c.args.standing.now c.args.tree.now c.args.nodes.now c.args.kept.now c.loop-class.found.marks.items c.args.classes.now
       (λ j d lt. c.loop-class.invariant.done j d (omega (arith, lt, c.loop-class-test.false)));
   counted = tt;
   done = λ j d below. absurd (omega (arith, below));
@@ -49,7 +50,7 @@ loop-x-preserved c =
     record {
       long = c.in_ok-tell_node.ensures.long;
       found = c.in_ok-tell_node.ensures.found c.args.net.now.present c.args.nodes.now c.args.classes.now (Contains-get_or c.args.nodes.now c.loop-x.x-index _ c.loop-x-test.true) c.loop-x.invariant.classes c.loop-x.invariant.found;
-      classes = λ class there. settled_more c.args.tree.now c.args.nodes.now c.args.kept.now marks new c.in_ok-tell_node.ensures.stay class (c.loop-x.invariant.classes class there);
+      classes = λ class there. settled_more c.args.standing.now c.args.tree.now c.args.nodes.now c.args.kept.now marks new c.in_ok-tell_node.ensures.stay class (c.loop-x.invariant.classes class there);
       counted = c.tell_node.ensures.last;
       done = each_more (λ y. mark_under marks y ≡ true) (λ y. mark_under new y ≡ true) c.args.nodes.now c.loop-x.x-index _ c.loop-x-test.true
           c.in_ok-tell_node.ensures.stay c.in_ok-tell_node.ensures.marked c.loop-x.invariant.done;

@@ -17,6 +17,6 @@ returns-clause-now c = λ net classes other.
       record {
         date = to_z-of_z w64 c.early.result fits ∙ c.early.ensures.date;
         weight = c.weight_after.ensures.value;
-        clip = c.clip_before.ensures net classes m here (λ class of there. other m class here of there);
+        clip = c.clip_before.ensures c.args.standing.now.present net classes m here (λ class of there. other m class here of there);
       },
     )

@@ -53,9 +53,9 @@ loop-i-preserved c =
           w.node_of.ensures ∙ ap (λ (r : TokenRow Spot). number_of r.spot) w.index-rows-i.is ∙ number_at g c.args.class.now rows are i row lt in
           let asked : slice_index_or c.deref.result.now i false ≡ true =
           ap (λ l. slice_index_or l i false) c.deref.ensures.value ∙ get_or_default wanted i false c.index.result.now within ∙ sym c.index.ensures ∙ w.if-index.true in
-          let each : AreClips net g rows c.deref.result.now clips = subst (λ l. AreClips net g l c.deref.result.now clips) (sym c.tokens-rows.ensures.list) c.in_ok-clips.ensures.each in
-          let own : IsClip net g w.node_of.result clip =
-          subst (λ y. IsClip net g y clip) (sym number) (subst (IsClip net g (slice_index_or (numbers_in rows) i 0)) (sym w.index-then-index.ensures) (each.each i clip lt asked)) in
+          let each : AreClips s net g rows c.deref.result.now clips = subst (λ l. AreClips s net g l c.deref.result.now clips) (sym c.tokens-rows.ensures.list) c.in_ok-clips.ensures.each in
+          let own : IsClip s net g w.node_of.result clip =
+          subst (λ y. IsClip s net g y clip) (sym number) (subst (IsClip s net g (slice_index_or (numbers_in rows) i 0)) (sym w.index-then-index.ensures) (each.each i clip lt asked)) in
           record {
             long = ap (λ (z : Found). length z.marks.items) w.found-is ∙ told.long;
             found = λ classes v. subst (λ (z : Found). AreFound s net tree classes kept z.marks.items z.differences.items) (sym w.found-is) (told.found net classes own (c.loop-i.invariant.found classes v));
@@ -78,13 +78,14 @@ loop-i-preserved c =
 
 pub returns-clause-settled : goal.returns-clause-settled
 returns-clause-settled c = λ nodes marked.
+    let lists = c.args.standing.now in
     let k = c.args.tree.now in
     let kept = c.args.kept.now in
     let class = c.args.class.now in
     let rows = c.tokens-rows.result.now in
     let marks = c.loop-i.found.marks.items in
     let wanted = c.in_ok-wanted.wanted.items in
-    let others = subst (λ (l : List (TokenRow Spot)). (i : ℕ) → i < length l → slice_index_or wanted i true ≡ false → KeepsClip k nodes kept class (slice_index_or (numbers_in l) i 0))
+    let others = subst (λ (l : List (TokenRow Spot)). (i : ℕ) → i < length l → slice_index_or wanted i true ≡ false → KeepsClip lists k nodes kept class (slice_index_or (numbers_in l) i 0))
     (sym c.tokens-rows.ensures.list) (c.in_ok-wanted.ensures.others nodes marked) in
-    each_token (forest k) class rows c.tokens-rows.ensures.rows (λ x. (mark_under marks x ≡ true) ⊎ KeepsClip k nodes kept class x)
-    (λ i lt. marked_or marks wanted (numbers_in rows) (KeepsClip k nodes kept class) i (c.loop-i.invariant.done i (omega (arith, lt, c.loop-i-test.false))) (others i lt))
+    each_token (forest k) class rows c.tokens-rows.ensures.rows (λ x. (mark_under marks x ≡ true) ⊎ KeepsClip lists k nodes kept class x)
+    (λ i lt. marked_or marks wanted (numbers_in rows) (KeepsClip lists k nodes kept class) i (c.loop-i.invariant.done i (omega (arith, lt, c.loop-i-test.false))) (others i lt))

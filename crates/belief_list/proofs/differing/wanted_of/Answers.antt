@@ -1,5 +1,5 @@
 use Rattle.std.proofs.Common.{◌≡◌, ℕ, ◌+◌, ◌-◌, ◌<◌, true, false, List, length, sym, ◌∙◌, ap, subst, arith}
-use Rattle.std.proofs.lemmas.List.{length-map, length-set, length-replicate}
+use Rattle.std.proofs.lemmas.List.{length-map, length-set, length-replicate, get_or_default}
 use Rattle.std.specs.Prelude.{Some, slice_index_or}
 use Rattle.tmm_model.specs.declared.token.TokenRow.{TokenRow}
 use Rattle.spots.specs.declared.spot.Spot.{Spot}
@@ -7,9 +7,10 @@ use Rattle.occ_tree.specs.Places.{forest}
 use Rattle.occ_tree.specs.Standing.{present, early}
 use Rattle.occ_tree.specs.Tokens.{number_of, numbers_in}
 use Rattle.supports.proofs.Falling.{set_on}
+use Rattle.supports.proofs.TokenRows.{no_row}
 use Rattle.belief_list.specs.KeptRows.{row_under}
 use Rattle.belief_list.specs.Told.{clip_of}
-use Rattle.belief_list.specs.Finding.{mark_under, IsAhead, KeepsClip}
+use Rattle.belief_list.specs.Finding.{mark_under, IsAhead, IsUnrivalled, KeepsClip}
 use Rattle.belief_list.proofs.Finding.{token_live, number_at}
 use Rattle.belief_list.proofs.Wanted.{IsNext, IsPassed, next_more, dates_rise, passed_keeps}
 use Rattle.belief_list.proofs.differing.wanted_of.Goals as goal
@@ -25,8 +26,8 @@ pub is_wanted-requires : goal.is_wanted-requires
 is_wanted-requires c =
     let within : c.loop-i.i - 1 < length c.tokens-rows.result.now = omega arith in
     record {
-      live = token_live (forest c.args.tree.now) c.args.class.now c.tokens-rows.result.now c.tokens-rows.ensures.rows (c.loop-i.i - 1) c.index-rows-i.result within c.node_of.result
-          (c.node_of.ensures ∙ ap (λ (r : TokenRow Spot). number_of r.spot) c.index-rows-i.is);
+      live = token_live (forest c.args.tree.now) c.args.class.now c.tokens-rows.result.now c.tokens-rows.ensures.rows (c.loop-i.i - 1) c.index-rows-i.result within (number_of c.index-rows-i.result.spot)
+          (ap (λ (r : TokenRow Spot). number_of r.spot) c.index-rows-i.is);
     }
 
 pub loop-i-preserved : goal.loop-i-preserved
@@ -45,17 +46,20 @@ loop-i-preserved c =
     let old = c.loop-i.next in
     let new = c.is_wanted.new.next in
     let wanted = c.is_wanted.result in
-    let number : c.node_of.result ≡ slice_index_or xs i 0 = c.node_of.ensures ∙ ap (λ (r : TokenRow Spot). number_of r.spot) c.index-rows-i.is ∙ number_at (forest k) c.args.class.now rows are i c.index-rows-i.result within in
+    let lists = c.args.standing.now in
+    let row = c.index-rows-i.result in
+    let number : number_of row.spot ≡ slice_index_or xs i 0 = ap (λ (r : TokenRow Spot). number_of r.spot) c.index-rows-i.is ∙ number_at (forest k) c.args.class.now rows are i row within in
+    let fact : row.fact ≡ (slice_index_or rows i no_row).fact = ap (λ (r : TokenRow Spot). r.fact) (c.index-rows-i.is ∙ get_or_default rows i row no_row within) in
     let behind : IsNext date touched xs (i + 1) old = subst (λ n. IsNext date touched xs n old) (sym at) c.loop-i.invariant.next in
     record {
       long = length-set c.loop-i.wanted.items i wanted ∙ c.loop-i.invariant.long;
       next = next_more date touched xs (dates_rise tree are c.tokens-rows.ensures.in_order) i old new behind
           (subst (λ x. mark_under touched x ≡ true → new ≡ Some (date x)) number c.is_wanted.ensures.touched)
           (subst (λ x. mark_under touched x ≡ false → new ≡ old) number c.is_wanted.ensures.untouched);
-      passed = set_on (λ j b. b ≡ false → IsPassed date touched xs kept j) c.loop-i.wanted.items (length rows) c.loop-i.i i wanted c.loop-i.invariant.long at within
+      passed = set_on (λ j b. b ≡ false → IsPassed date touched xs kept j × IsUnrivalled lists (slice_index_or rows j no_row).fact) c.loop-i.wanted.items (length rows) c.loop-i.i i wanted c.loop-i.invariant.long at within
           (λ passed.
           (let (free, ahead) = subst (λ x. (mark_under touched x ≡ false) × IsAhead kept touched (clip_of (row_under kept x)) old) number (c.is_wanted.ensures.kept passed) in
-          (free, old, ahead, behind)))
+          ((free, old, ahead, behind), subst (IsUnrivalled lists) fact (c.is_wanted.ensures.plain passed))))
           c.loop-i.invariant.passed;
     }
 
@@ -64,10 +68,12 @@ returns-clause-long c = c.loop-i.invariant.long ∙ ap length c.tokens-rows.ensu
 
 pub returns-clause-others : goal.returns-clause-others
 returns-clause-others c = λ nodes marked.
+    let lists = c.args.standing.now in
     let k = c.args.tree.now in
     let kept = c.args.kept.now in
     let (net, tree) = c.requires.dates in
-    subst (λ (l : List (TokenRow Spot)). (i : ℕ) → i < length l → slice_index_or c.loop-i.wanted.items i true ≡ false → KeepsClip k nodes kept c.args.class.now (slice_index_or (numbers_in l) i 0))
+    subst (λ (l : List (TokenRow Spot)). (i : ℕ) → i < length l → slice_index_or c.loop-i.wanted.items i true ≡ false → KeepsClip lists k nodes kept c.args.class.now (slice_index_or (numbers_in l) i 0))
     c.tokens-rows.ensures.list
-    (λ i lt passed. passed_keeps tree c.tokens-rows.ensures.rows c.tokens-rows.ensures.in_order c.args.touched.now nodes marked kept i lt
-    (c.loop-i.invariant.passed i true (omega (arith, c.loop-i-test.false)) lt passed))
+    (λ i lt passed.
+    (let (own, plain) = c.loop-i.invariant.passed i true (omega (arith, c.loop-i-test.false)) lt passed in
+    passed_keeps tree c.tokens-rows.ensures.rows c.tokens-rows.ensures.in_order lists c.args.touched.now nodes marked kept i lt own plain))

@@ -28,7 +28,7 @@ rows_of-requires c =
     let rs = c.as_slice-ranked.result.now in
     let cs = c.as_slice.result.now in
     let clipped : map (option_map (moment_at f)) cs ≡ map (λ x. clip (built s) (moment_at f x)) (nodes_of rs) =
-    ap (map (option_map (moment_at f))) c.as_slice.ensures.value ∙ c.in_ok-clips.ensures.first s (built s).believed c.requires.seen.seen c.requires.holds in
+    ap (map (option_map (moment_at f))) c.as_slice.ensures.value ∙ c.in_ok-clips.ensures.first (built s).believed c.requires.seen.seen c.requires.holds in
     as_many s c.args.net.now.present f c.requires.seen.seen c.requires.holds rs cs clipped
 
 pub returns-clause-rows : goal.returns-clause-rows
@@ -39,7 +39,7 @@ returns-clause-rows c =
     let cs = c.as_slice.result.now in
     let all = subst (AreAllRanked c.args.net.now.present (forest c.args.tree.now)) (sym c.as_slice-ranked.ensures.value) c.in_ok-nodes.ensures in
     let clipped : map (option_map (moment_at f)) cs ≡ map (λ x. clip (built s) (moment_at f x)) (nodes_of rs) =
-    ap (map (option_map (moment_at f))) c.as_slice.ensures.value ∙ c.in_ok-clips.ensures.first s (built s).believed c.requires.seen.seen c.requires.holds in
+    ap (map (option_map (moment_at f))) c.as_slice.ensures.value ∙ c.in_ok-clips.ensures.first (built s).believed c.requires.seen.seen c.requires.holds in
     IfOk-weaker c.rows_of.result (λ list. list.items ≡ map belief_row (zip rs cs)) (λ list. map (row_at f) list.items ≡ rows (built s))
     (λ list told. rows_told s c.args.net.now.present f c.requires.seen.seen c.requires.holds rs all cs clipped list.items told)
     c.rows_of.ensures
@@ -52,7 +52,7 @@ returns-clause-listing c =
     let cs = c.as_slice.result.now in
     let all = subst (AreAllRanked c.args.net.now.present (forest c.args.tree.now)) (sym c.as_slice-ranked.ensures.value) c.in_ok-nodes.ensures in
     let clipped : map (option_map (moment_at f)) cs ≡ map (λ x. clip (built s) (moment_at f x)) (nodes_of rs) =
-    ap (map (option_map (moment_at f))) c.as_slice.ensures.value ∙ c.in_ok-clips.ensures.first s (built s).believed c.requires.seen.seen c.requires.holds in
+    ap (map (option_map (moment_at f))) c.as_slice.ensures.value ∙ c.in_ok-clips.ensures.first (built s).believed c.requires.seen.seen c.requires.holds in
     let live : All (λ (c : Option ℕ). IfSome c (IsLive f)) cs = subst (λ (l : List (Option ℕ)). All (λ (c : Option ℕ). IfSome c (IsLive f)) l) (sym c.as_slice.ensures.value) c.in_ok-clips.ensures.live in
     IfOk-weaker c.rows_of.result (λ list. list.items ≡ map belief_row (zip rs cs)) (λ list. IsListing f list.items)
     (λ list told. nodes_listed s c.args.net.now.present f c.requires.seen.seen c.requires.holds rs all cs clipped list.items told live)

@@ -35,6 +35,9 @@ mark_readers-requires-clause-token c =
     let en = c.in_ok-effect.ensures.ok c.args.net.now.present c.requires.tree in
     (en.adds.node, en.adds.enters.entered, sym (c.row-row.ensures en.adds.node en.adds.enters.entered).class ∙ c.in-Some.is)
 
+pub mark_readers-requires-clause-under : goal.mark_readers-requires-clause-under
+mark_readers-requires-clause-under c = (c.args.standing.now.present, c.requires.under)
+
 pub mark_readers-requires-clause-covered : goal.mark_readers-requires-clause-covered
 mark_readers-requires-clause-covered c =
     let en = c.in_ok-effect.ensures.ok c.args.net.now.present c.requires.tree in
@@ -60,7 +63,7 @@ returns-in_ok-mark_readers-in-Some-clause-ok c =
     let y = c.in_ok-effect.effect in
     let en = c.in_ok-effect.ensures.ok net c.requires.tree in
     let row = c.row-row.ensures en.adds.node en.adds.enters.entered in
-    let marks : MarksReaders net t (y ∷ []) y c.in-Some.class old new = c.in_ok-mark_readers-in-Some.ensures.ok in
+    let marks : MarksReaders s net t (y ∷ []) y c.in-Some.class old new = c.in_ok-mark_readers-in-Some.ensures.ok in
     record {
       number = y;
       enters = en;

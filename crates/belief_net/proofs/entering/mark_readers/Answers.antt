@@ -1,135 +1,62 @@
-use Rattle.std.proofs.Common.{◌≡◌, ◌∙◌, ℕ, Bool, true, false, refl, sym, subst, rules, w64, to_z, of_z}
+use Rattle.std.proofs.Common.{◌≡◌, ◌∙◌, true, [], sym, ap, subst, rules, w64, to_z, of_z}
+use Rattle.std.specs.Prelude.{FitsSigned}
+use Rattle.std.specs.Option.{option_map_or}
 use Rattle.std.proofs.lemmas.Int.{to_z-of_z}
 use Rattle.std.proofs.lemmas.Result.{on_ok_weaker}
-use Rattle.std.specs.Prelude.{FitsSigned}
-use Rattle.spots.specs.Spots.{spot_distance}
-use Rattle.undo_rows.specs.Changes.{present as table}
-use Rattle.occ_tree.specs.Places.{forest}
-use Rattle.occ_tree.specs.Standing.{present, early}
-use Rattle.occ_tree.proofs.Numbered.{no_more}
-use Rattle.joined.specs.Listed.{IsListedUnder}
-use Rattle.belief_net.specs.ClassMarks.{CoversFrom, MarksFrom}
+use Rattle.spots.specs.Forest.{Member}
+use Rattle.occ_tree.specs.Standing.{present}
+use Rattle.undo_rows.specs.Changes.{Logged, present as table}
+use Rattle.decision_rows.specs.declared.row.Pair.{Pair}
+use Rattle.joined.specs.Gaps.{reads_rival}
 use Rattle.belief_net.specs.Covered.{Covers}
-use Rattle.belief_net.specs.Entering.{MarksReaders}
-use Rattle.belief_net.specs.Marks.{Marks, IsAsLate}
-use Rattle.belief_net.specs.Waiting.{dates_in}
-use Rattle.belief_net.specs.Windows.{IsSparedBy, is_spared, net_in, tree_in}
-use Rattle.belief_net.proofs.Covering.{covered_marks, marks_covered, class_covered}
-use Rattle.belief_net.proofs.Spared.{spared_by}
+use Rattle.belief_net.specs.Decided.{rule_in}
+use Rattle.belief_net.specs.Entering.{MarksRivals, MarksReaders, what_at}
+use Rattle.belief_net.specs.Marks.{HaveEvents, IsAsLate}
+use Rattle.belief_net.proofs.Brought.{marks_under}
+use Rattle.belief_net.proofs.Covering.{marks_covered}
+use Rattle.belief_net.proofs.Named.{last_on}
+use Rattle.belief_net.proofs.Contradicting.{waiting_last, readers_marked}
 use Rattle.belief_net.proofs.entering.mark_readers.Goals as goal
 
-pub returns-in_err-number-clause-last : goal.returns-in_err-number-clause-last
-returns-in_err-number-clause-last c = record { rows = refl; rules = no_more c.args.decisions.now.rules; classes = c.enter.ensures.more }
+pub mark_rivals-requires-clause-events : goal.mark_rivals-requires-clause-events
+mark_rivals-requires-clause-events c = subst (λ (rs : Logged Pair 8). HaveEvents c.args.tree.now (table rs)) (sym c.in_ok-mark_own.ensures.ok.rows) c.requires.events
 
-pub returns-then-covers-clause-last : goal.returns-then-covers-clause-last
-returns-then-covers-clause-last c = record { rows = refl; rules = no_more c.args.decisions.now.rules; classes = c.enter.ensures.more }
-
-pub returns-in_err-many-clause-last : goal.returns-in_err-many-clause-last
-returns-in_err-many-clause-last c = record { rows = refl; rules = no_more c.args.decisions.now.rules; classes = c.enter.ensures.more }
-
-pub returns-in_err-window-clause-last : goal.returns-in_err-window-clause-last
-returns-in_err-window-clause-last c = record { rows = refl; rules = no_more c.args.decisions.now.rules; classes = c.enter.ensures.more }
-
-pub returns-in_err-mark_class-clause-last : goal.returns-in_err-mark_class-clause-last
-returns-in_err-mark_class-clause-last c = record { rows = refl; rules = no_more c.args.decisions.now.rules; classes = c.enter.ensures.more }
-
-pub returns-in_err-mark_class-2-clause-last : goal.returns-in_err-mark_class-2-clause-last
-returns-in_err-mark_class-2-clause-last c = record { rows = refl; rules = no_more c.args.decisions.now.rules; classes = c.enter.ensures.more }
-
-pub returns-then-many-clause-last : goal.returns-then-many-clause-last
-returns-then-many-clause-last c = record { rows = refl; rules = no_more c.args.decisions.now.rules; classes = c.enter.ensures.more }
-
-pub returns-clause-last : goal.returns-clause-last
-returns-clause-last c = record { rows = refl; rules = no_more c.args.decisions.now.rules; classes = c.enter.ensures.more }
-
--- ---- where the class is marked already
-
-pub returns-then-covers-clause-ok : goal.returns-then-covers-clause-ok
-returns-then-covers-clause-ok c =
-    let s = present c.args.tree.now in
-    let number = c.in_ok-number.number in
-    let fits : FitsSigned w64 c.early-from.result = search rules in
-    let date = to_z-of_z w64 c.early-from.result fits ∙ c.early-from.ensures.date in
-    record {
-      rows = refl;
-      rules = refl;
-      number = number;
-      numbered = c.in_ok-number.ensures.entered;
-      spares = λ t. false;
-      spared = λ t e. absurd (let no : false ≡ true = e in cc);
-      marks = covered_marks s c.args.decisions.now c.args.marks.now number (early s c.args.x) c.first.ensures.listed c.requires.covered
-          (subst (CoversFrom c.args.marks.now number) date (c.covers.ensures.0 c.if-covers.true));
-    }
-
--- ---- where there were many tokens
-
-pub returns-then-many-clause-ok : goal.returns-then-many-clause-ok
-returns-then-many-clause-ok c =
-    let s = present c.args.tree.now in
-    let rows = table c.args.decisions.now.rows in
-    let new = c.mark_class.new.waiting in
-    let number = c.in_ok-number.number in
-    let fits : FitsSigned w64 c.early-from.result = search rules in
-    let date = to_z-of_z w64 c.early-from.result fits ∙ c.early-from.ensures.date in
-    let net = c.args.net.now.present in
-    on_ok_weaker {P = MarksFrom c.count.new.self c.mark.new.self number (to_z w64 (of_z w64 c.early-from.result))}
-    {Q = MarksReaders net c.args.tree.now c.args.moving.now c.args.x c.args.class c.args.decisions.now (record c.args.decisions.now { classes = c.enter.new.self; waiting = new })} c.mark.result
-    (λ marked. record {
-      rows = refl;
-      rules = refl;
-      number = number;
-      numbered = c.in_ok-number.ensures.entered;
-      spares = λ t. false;
-      spared = λ t e. absurd (let no : false ≡ true = e in cc);
-      marks = subst (λ z. Marks s rows (λ i row. IsListedUnder rows number i × IsAsLate s z row × (◌≡◌ {A = Bool} false false)) (dates_in c.args.decisions.now.waiting) (dates_in new))
-          date c.in_ok-mark_class.ensures;
-    })
-    c.mark.ensures
-
-pub returns-then-many-clause-covered : goal.returns-then-many-clause-covered
-returns-then-many-clause-covered c =
-    let s = present c.args.tree.now in
-    let old = c.args.decisions.now in
-    let new = record old { classes = c.enter.new.self; waiting = c.mark_class.new.waiting } in
-    let m = c.count.new.self in
-    let number = c.in_ok-number.number in
-    let from = to_z w64 (of_z w64 c.early-from.result) in
-    on_ok_weaker {P = MarksFrom m c.mark.new.self number from} {Q = Covers s new c.mark.new.self} c.mark.result
-    (λ marked. class_covered s old new m c.mark.new.self number from c.first.ensures.listed refl c.in_ok-mark_class.ensures marked (subst (Covers s old) (sym c.count.ensures) c.requires.covered))
-    c.mark.ensures
-
--- ---- where there were few
-
-pub mark_class-requires-2-clause-window : goal.mark_class-requires-2-clause-window
-mark_class-requires-2-clause-window c = ((c.args.moving.now, c.args.x, c.in_ok-window.ensures.window), c.in_ok-window.ensures.tree)
+pub mark_rivals-requires-clause-under : goal.mark_rivals-requires-clause-under
+mark_rivals-requires-clause-under c =
+    let own = c.in_ok-mark_own.ensures.ok in
+    let (list, under) = c.requires.under in
+    (list, marks_under list c.args.decisions.now c.mark_own.new.decisions own.rows own.rules c.in_ok-mark_own.ensures.last under)
 
 pub returns-clause-ok : goal.returns-clause-ok
 returns-clause-ok c =
+    let list = c.args.standing.now.present in
     let tree = c.args.tree.now in
     let x = c.args.x in
-    let rows = table c.args.decisions.now.rows in
-    let number = c.in_ok-number.number in
-    let w = c.in_ok-window.window in
-    let spares : ℕ → Bool = λ t. is_spared (spot_distance (net_in w) (forest (tree_in w))) w.token w.walls.items t in
+    let old = c.args.decisions.now in
+    let mid = c.mark_own.new.decisions in
+    let new = c.mark_rivals.new.decisions in
+    let (m, at, _) = c.requires.token in
     let fits : FitsSigned w64 c.early-from.result = search rules in
-    record {
-      rows = refl;
-      rules = refl;
-      number = number;
-      numbered = c.in_ok-number.ensures.entered;
-      spares = spares;
-      spared = λ t e. subst (λ net. IsSparedBy net (forest tree) c.args.moving.now x t) c.in_ok-window.ensures.net
-          (subst (λ k. IsSparedBy (net_in w) (forest k) c.args.moving.now x t) c.in_ok-window.ensures.tree (spared_by c.args.moving.now x w c.in_ok-window.ensures.window t e));
-      marks = subst (λ z. Marks (present tree) rows (λ i row. IsListedUnder rows number i × IsAsLate (present tree) z row × (spares row.value.trigger ≡ false)) (dates_in c.args.decisions.now.waiting) (dates_in c.mark_class-2.new.waiting))
-          (to_z-of_z w64 c.early-from.result fits ∙ c.early-from.ensures.date) c.in_ok-mark_class-2.ensures;
-    }
+    let date = to_z-of_z w64 c.early-from.result fits ∙ c.early-from.ensures.date in
+    let what : c.row-fact.result.what ≡ what_at tree x = (c.row-fact.ensures m at).what ∙ sym (ap (λ o. option_map_or (λ (k : Member). k.what) o []) at) in
+    on_ok_weaker {P = MarksRivals list (present tree) c.row-fact.result.what (to_z w64 (of_z w64 c.early-from.result)) mid new}
+    {Q = MarksReaders list c.args.net.now.present tree c.args.moving.now x c.args.class old new} c.mark_rivals.result
+    (λ rivals. readers_marked list c.args.net.now.present tree c.args.moving.now x c.args.class old mid new c.in_ok-mark_own.ensures.ok
+    (subst (λ z. MarksRivals list (present tree) (what_at tree x) z mid new) date (subst (λ w. MarksRivals list (present tree) w (to_z w64 (of_z w64 c.early-from.result)) mid new) what rivals)))
+    c.mark_rivals.ensures.ok
 
 pub returns-clause-covered : goal.returns-clause-covered
 returns-clause-covered c =
     let s = present c.args.tree.now in
-    let old = c.args.decisions.now in
-    let rows = table old.rows in
-    let w = c.in_ok-window.window in
-    let spares : ℕ → Bool = λ t. is_spared (spot_distance (net_in w) (forest (tree_in w))) w.token w.walls.items t in
-    marks_covered s old (record old { classes = c.enter.new.self; waiting = c.mark_class-2.new.waiting }) c.count.new.self
-    (λ i row. IsListedUnder rows c.in_ok-number.number i × IsAsLate s (to_z w64 (of_z w64 c.early-from.result)) row × (spares row.value.trigger ≡ false)) refl c.in_ok-mark_class-2.ensures (subst (Covers s old) (sym c.count.ensures) c.requires.covered)
+    let mid = c.mark_own.new.decisions in
+    let new = c.mark_rivals.new.decisions in
+    let list = c.args.standing.now.present in
+    on_ok_weaker {P = MarksRivals list s c.row-fact.result.what (to_z w64 (of_z w64 c.early-from.result)) mid new} {Q = Covers s new c.mark_own.new.marks} c.mark_rivals.result
+    (λ rivals. marks_covered s mid new c.mark_own.new.marks (λ i row. (reads_rival list (rule_in mid row) c.row-fact.result.what ≡ true) × IsAsLate s (to_z w64 (of_z w64 c.early-from.result)) row)
+    (ap (λ d. d.rows) rivals.same) rivals.marks c.in_ok-mark_own.ensures.covered)
+    c.mark_rivals.ensures.ok
+
+pub returns-clause-last : goal.returns-clause-last
+returns-clause-last c =
+    last_on c.args.decisions.now c.mark_own.new.decisions c.mark_rivals.new.decisions c.mark_own.ensures.last
+    (waiting_last c.mark_own.new.decisions c.mark_rivals.new.decisions c.mark_rivals.ensures.others)

@@ -4,7 +4,7 @@ use Rattle.supports.proofs.Taken.{next_taken}
 use Rattle.tmm_model.specs.Standing.{Standing, premise_in}
 use Rattle.list_theory.proofs.Elements.{In, In-left, In-right, In-cases}
 use Rattle.belief_net.specs.declared.state.BeliefNet.{BeliefNet}
-use Rattle.belief_net.specs.Erasing.{Tells, Notes, IsFreeOf}
+use Rattle.belief_net.specs.Erasing.{Tells, fact_of, Notes, IsFreeOf}
 use Rattle.belief_net.proofs.Thinned.{once_less, under_less, free_less, thins_none, tells_none, notes_none, spares_none, keep_stays, thins_on, tells_on, notes_on, spares_on, keep_on}
 use Rattle.belief_net.proofs.erasing.erase.Goals as goal
 
@@ -15,7 +15,8 @@ loop-name-init c =
       sheds = record {
         thins = thins_none b c.requires.events;
         tells = subst (Tells b.tree b.tree []) (sym c.nothing_yet-departed.ensures.left) (tells_none b.tree []);
-        notes = subst (Notes b.tree b.tree []) (sym c.nothing_yet-departed.ensures.classes) (notes_none b.tree []);
+        notes = subst (Notes (λ m. m.class) b.tree b.tree []) (sym c.nothing_yet-departed.ensures.classes) (notes_none (λ m. m.class) b.tree []);
+        facts = subst (Notes fact_of b.tree b.tree []) (sym c.nothing_yet-departed.ensures.facts) (notes_none fact_of b.tree []);
       };
       spares = λ s out. spares_none s b;
       free = λ name at. absurd at;
@@ -60,7 +61,8 @@ loop-name-preserved c =
       sheds = record {
         thins = thins_on old mid new inv.sheds.thins e.sheds.thins;
         tells = tells_on old mid new inv.sheds.thins e.sheds.thins [] c.loop-name.departed.left.items c.erase_premise.new.departed.left.items c.requires.once inv.sheds.tells e.sheds.tells;
-        notes = notes_on old mid new inv.sheds.thins e.sheds.thins [] c.loop-name.departed.classes c.erase_premise.new.departed.classes inv.sheds.notes e.sheds.notes;
+        notes = notes_on old mid new inv.sheds.thins e.sheds.thins (λ m. m.class) [] c.loop-name.departed.classes c.erase_premise.new.departed.classes inv.sheds.notes e.sheds.notes;
+        facts = notes_on old mid new inv.sheds.thins e.sheds.thins fact_of [] c.loop-name.departed.facts c.erase_premise.new.departed.facts inv.sheds.facts e.sheds.facts;
       };
       spares = λ s out.
           let (first, this) = more_out s (take i names) (take (i + 1) names) c.name-item.result (next_taken names i c.name-item.result within c.name-item.is) out in

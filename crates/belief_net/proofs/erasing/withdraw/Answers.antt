@@ -5,7 +5,8 @@ use Rattle.occ_tree.specs.Places.{forest}
 use Rattle.occ_tree.specs.Standing.{present}
 use Rattle.occ_tree.proofs.Members.{shrinking_withdraws}
 use Rattle.belief_net.specs.declared.state.BeliefNet.{BeliefNet}
-use Rattle.belief_net.specs.Erasing.{TellsOf, NotesOf, DropsRowsAt}
+use Rattle.belief_net.specs.Entering.{class_at}
+use Rattle.belief_net.specs.Erasing.{TellsOf, fact_at, NotesOf, DropsRowsAt}
 use Rattle.belief_net.proofs.Parted.{withdrawn_sheds, withdrawn_rows, withdrawn_spares}
 use Rattle.belief_net.proofs.erasing.withdraw.Goals as goal
 
@@ -22,7 +23,8 @@ returns-clause-sheds c =
     let after = c.part_with.new.departed in
     withdrawn_sheds old new before after c.args.x c.in_ok-numbers.numbers.items c.requires.once c.requires.events c.in_ok-numbers.ensures.each c.in_ok-numbers.ensures.once
     (subst (λ l. TellsOf old.tree l before.left.items after.left.items) c.as_slice.ensures.value c.in_ok-part_with.ensures.tells)
-    (subst (λ l. NotesOf old.tree l before.classes after.classes) c.as_slice.ensures.value c.in_ok-part_with.ensures.notes)
+    (subst (λ l. NotesOf (class_at old.tree) l before.classes after.classes) c.as_slice.ensures.value c.in_ok-part_with.ensures.notes)
+    (subst (λ l. NotesOf (fact_at old.tree) l before.facts after.facts) c.as_slice.ensures.value c.in_ok-part_with.ensures.facts)
     (subst (λ l. DropsRowsAt (IsOn l) old.decisions new.decisions) c.as_slice.ensures.value c.in_ok-part_with.ensures.rows)
     c.in_ok-withdraw.ensures.ok
 
@@ -34,7 +36,8 @@ returns-clause-spares c =
     let after = c.part_with.new.departed in
     withdrawn_spares old new before after c.args.x c.in_ok-numbers.numbers.items c.requires.once c.requires.events c.in_ok-numbers.ensures.each c.in_ok-numbers.ensures.once
     (subst (λ l. TellsOf old.tree l before.left.items after.left.items) c.as_slice.ensures.value c.in_ok-part_with.ensures.tells)
-    (subst (λ l. NotesOf old.tree l before.classes after.classes) c.as_slice.ensures.value c.in_ok-part_with.ensures.notes)
+    (subst (λ l. NotesOf (class_at old.tree) l before.classes after.classes) c.as_slice.ensures.value c.in_ok-part_with.ensures.notes)
+    (subst (λ l. NotesOf (fact_at old.tree) l before.facts after.facts) c.as_slice.ensures.value c.in_ok-part_with.ensures.facts)
     (subst (λ l. DropsRowsAt (IsOn l) old.decisions new.decisions) c.as_slice.ensures.value c.in_ok-part_with.ensures.rows)
     c.in_ok-withdraw.ensures.ok
 
@@ -49,6 +52,7 @@ returns-clause-rows c =
     let after = c.part_with.new.departed in
     withdrawn_rows old new before after c.args.x c.in_ok-numbers.numbers.items c.requires.once c.requires.events c.in_ok-numbers.ensures.each c.in_ok-numbers.ensures.once
     (subst (λ l. TellsOf old.tree l before.left.items after.left.items) c.as_slice.ensures.value c.in_ok-part_with.ensures.tells)
-    (subst (λ l. NotesOf old.tree l before.classes after.classes) c.as_slice.ensures.value c.in_ok-part_with.ensures.notes)
+    (subst (λ l. NotesOf (class_at old.tree) l before.classes after.classes) c.as_slice.ensures.value c.in_ok-part_with.ensures.notes)
+    (subst (λ l. NotesOf (fact_at old.tree) l before.facts after.facts) c.as_slice.ensures.value c.in_ok-part_with.ensures.facts)
     (subst (λ l. DropsRowsAt (IsOn l) old.decisions new.decisions) c.as_slice.ensures.value c.in_ok-part_with.ensures.rows)
     c.in_ok-withdraw.ensures.ok

@@ -7,12 +7,18 @@ use Rattle.belief_net.specs.Entering.{MarksReaders}
 use Rattle.belief_net.specs.Leaving.{LosesNode, a_token, an_event}
 use Rattle.belief_net.proofs.Brought.{class_is_at}
 use Rattle.belief_net.proofs.Covering.{dropped_covered}
+use Rattle.belief_net.proofs.Lost.{under_drops}
 use Rattle.belief_net.proofs.leaving.lose_node.Goals as goal
 
 pub mark_readers-requires-clause-token : goal.mark_readers-requires-clause-token
 mark_readers-requires-clause-token c =
     let (m, at) = node_at (forest c.args.tree.now) c.args.y c.requires.live in
     (m, at, sym (c.row.ensures m at).class ∙ c.in-Some.is)
+
+pub mark_readers-requires-clause-under : goal.mark_readers-requires-clause-under
+mark_readers-requires-clause-under c =
+    let (list, under) = c.requires.under in
+    (list, under_drops list c.args.y c.args.decisions.now c.drop_rows.new.decisions c.in_ok-drop_rows.ensures.drops under)
 
 pub mark_readers-requires-clause-covered : goal.mark_readers-requires-clause-covered
 mark_readers-requires-clause-covered c =
@@ -24,6 +30,7 @@ returns-in-None-clause-covered c =
 
 pub returns-in-Some-clause-ok : goal.returns-in-Some-clause-ok
 returns-in-Some-clause-ok c =
+    let list = c.args.standing.now.present in
     let net = c.args.net.now.present in
     let tree = c.args.tree.now in
     let going = c.args.going.now in
@@ -32,7 +39,7 @@ returns-in-Some-clause-ok c =
     let new = c.mark_readers.new.decisions in
     let (m, at) = node_at (forest tree) y c.requires.live in
     let row = c.row.ensures m at in
-    on_ok_weaker {P = MarksReaders net tree going y c.in-Some.class mid new} {Q = LosesNode net tree going y c.args.decisions.now new} c.mark_readers.result
+    on_ok_weaker {P = MarksReaders list net tree going y c.in-Some.class mid new} {Q = LosesNode list net tree going y c.args.decisions.now new} c.mark_readers.result
     (λ marks. record {
       mid = mid;
       drops = c.in_ok-drop_rows.ensures.drops;

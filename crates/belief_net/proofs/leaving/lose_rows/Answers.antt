@@ -7,7 +7,7 @@ use Rattle.belief_net.proofs.leaving.lose_rows.Goals as goal
 
 pub loop-y-init : goal.loop-y-init
 loop-y-init c = record {
-  lost = lost_none c.args.net.now.present c.args.tree.now c.args.numbers.now c.args.decisions.now c.first.ensures.listed;
+  lost = lost_none c.args.standing.now.present c.args.net.now.present c.args.tree.now c.args.numbers.now c.args.decisions.now c.first.ensures.listed;
   events = c.requires.events;
   under = c.requires.under;
   covered = c.requires.covered;
@@ -19,6 +19,7 @@ lose_node-requires-clause-live c = c.requires.live _ (on_at c.args.numbers.now c
 
 pub loop-y-preserved : goal.loop-y-preserved
 loop-y-preserved c =
+    let list = c.args.standing.now.present in
     let net = c.args.net.now.present in
     let tree = c.args.tree.now in
     let old = c.args.decisions.now in
@@ -26,13 +27,13 @@ loop-y-preserved c =
     let numbers = c.args.numbers.now in
     let i = c.loop-y.y-index in
     let within : i < length numbers = omega (arith, c.loop-y-test.true) in
-    let lost = subst (λ l. LosesRows net tree numbers l old new) (sym (take_more numbers i _ within))
-    (lost_next net tree numbers (take i numbers) _ old c.loop-y.decisions new c.loop-y.invariant.lost c.in_ok-lose_node.ensures.ok c.in_ok-lose_node.ensures.last.classes) in
+    let lost = subst (λ l. LosesRows list net tree numbers l old new) (sym (take_more numbers i _ within))
+    (lost_next list net tree numbers (take i numbers) _ old c.loop-y.decisions new c.loop-y.invariant.lost c.in_ok-lose_node.ensures.ok c.in_ok-lose_node.ensures.last.classes) in
     let last = last_on old c.loop-y.decisions new c.loop-y.invariant.last c.in_ok-lose_node.ensures.last in
     record {
       lost = lost;
-      events = lost_events net tree numbers _ old new lost c.requires.events;
-      under = (c.requires.under.0, lost_under net tree numbers _ old new lost last c.requires.under.0 c.requires.under.1);
+      events = lost_events list net tree numbers _ old new lost c.requires.events;
+      under = (c.requires.under.0, lost_under list net tree numbers _ old new lost last c.requires.under.0 c.requires.under.1);
       covered = c.in_ok-lose_node.ensures.covered;
       last = last;
     }
@@ -40,4 +41,4 @@ loop-y-preserved c =
 pub returns-clause-ok : goal.returns-clause-ok
 returns-clause-ok c =
     let numbers = c.args.numbers.now in
-    subst (λ l. LosesRows c.args.net.now.present c.args.tree.now numbers l c.args.decisions.now c.loop-y.decisions) (take_all c.loop-y.y-index numbers (omega (arith, c.loop-y-test.false))) c.loop-y.invariant.lost
+    subst (λ l. LosesRows c.args.standing.now.present c.args.net.now.present c.args.tree.now numbers l c.args.decisions.now c.loop-y.decisions) (take_all c.loop-y.y-index numbers (omega (arith, c.loop-y-test.false))) c.loop-y.invariant.lost

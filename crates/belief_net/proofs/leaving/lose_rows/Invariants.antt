@@ -8,7 +8,7 @@ use Rattle.belief_net.proofs.leaving.lose_rows.Given as goal
 
 abbrev pub invariant-loop-y : goal.invariant-loop-y
 invariant-loop-y l = record {
-  lost : LosesRows l.net.present l.tree l.numbers (take l.y-index l.numbers) l.fn.decisions l.decisions;
+  lost : LosesRows l.standing.present l.net.present l.tree l.numbers (take l.y-index l.numbers) l.fn.decisions l.decisions;
   events : HaveEvents l.tree (table_of l.decisions);
   under : AreOfSome l.decisions;
   covered : Covers (present l.tree) l.decisions l.marks;

@@ -2,8 +2,9 @@ use Rattle.std.proofs.Common.{◌≡◌, ◌∙◌, length, sym, ap, subst, inr,
 use Rattle.undo_rows.specs.Changes.{present as table}
 use Rattle.occ_tree.specs.Places.{forest}
 use Rattle.occ_tree.specs.Standing.{present}
+use Rattle.joined.proofs.Reading.{no_rival_read}
 use Rattle.belief_net.specs.declared.state.Decisions.{Decisions}
-use Rattle.belief_net.specs.Decided.{table_of}
+use Rattle.belief_net.specs.Decided.{table_of, rule_in}
 use Rattle.belief_net.specs.Marks.{HaveEvents}
 use Rattle.belief_net.specs.Touching.{IsRowMoved}
 use Rattle.belief_net.specs.Waiting.{dates_in}
@@ -22,7 +23,7 @@ returns-then-is_empty-clause-ok c =
     let f = forest c.args.tree.now in
     let none : length c.args.net.now.moved ≡ 0 = ap length (sym c.moved.ensures.list) ∙ eqb-true (length c.moved.result.now) 0 (sym c.is_empty.ensures ∙ c.if-is_empty.true) in
     wakes_none (present c.args.tree.now) (table_of d) (λ i row. IsRowMoved c.args.net.now c.args.added list f d row) (λ i row. IsRowAtRest c.args.net.now c.args.added list f d row) (dates_in d.waiting)
-    (λ i row at. inr (all_rest c.args.net.now c.args.added list f d row c.requires.there c.moved.ensures.moved none))
+    (λ i row at. inr (all_rest c.args.net.now c.args.added list f d row (no_rival_read list c.requires.seen.network.sound (rule_in d row)) c.requires.there c.moved.ensures.moved none))
 
 pub returns-then-len-eq0-clause-ok : goal.returns-then-len-eq0-clause-ok
 returns-then-len-eq0-clause-ok c =
@@ -71,7 +72,7 @@ returns-clause-ok c =
     let new = c.wake_classes.new.decisions in
     let below = numbers_below list nets.present (forest c.args.tree.now) c.requires.seen c.invariants.ensures.names in
     let classes = subst (λ (z : Decisions). WakesForAll s nets moves z (length z.classes) (dates_in mid.waiting) (dates_in new.waiting)) c.in_ok-wake_unread.ensures.others c.in_ok-wake_classes.ensures.ok in
-    all_woken nets c.args.added list s d moves c.requires.under c.first.ensures.listed below c.in_ok-moves.ensures.moved c.have_own.ensures c.in_ok-moves.ensures.fast
+    all_woken nets c.args.added list s d moves c.requires.under c.first.ensures.listed below c.in_ok-moves.ensures.moved (no_rival_read list c.requires.seen.network.sound) c.have_own.ensures c.in_ok-moves.ensures.fast
     (dates_in d.waiting) (dates_in mid.waiting) (dates_in new.waiting) c.in_ok-wake_unread.ensures.ok classes
 
 pub returns-clause-others : goal.returns-clause-others

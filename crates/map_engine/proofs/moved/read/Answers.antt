@@ -4,7 +4,7 @@ use Rattle.tmm_model.specs.Answers.{reports, most_size}
 use Rattle.tmm_model.specs.Maps.{built}
 use Rattle.belief_list.specs.declared.kept_rows.Difference.{Difference}
 use Rattle.belief_list.specs.KeptRows.{AreDifferences}
-use Rattle.supports.specs.Edited.{AreOthersUntouched}
+use Rattle.supports.specs.Apart.{AreOthersApart}
 use Rattle.protections.specs.Found.{Found, AreFound, after_review}
 use Rattle.map_engine.proofs.Covering.{covers}
 use Rattle.map_engine.proofs.moved.read.Goals as goal
@@ -18,7 +18,7 @@ differing-requires-clause-covered c =
 
 pub tell-requires-clause-others : goal.tell-requires-clause-others
 tell-requires-clause-others c =
-    subst (λ (classes : List (List ℕ)). AreOthersUntouched c.args.net.now c.args.tree.now classes) (sym c.as_slice-2.ensures.value) c.in-Ok.ensures.classes
+    subst (λ (classes : List (List ℕ)). AreOthersApart c.args.standing.now c.args.net.now c.args.tree.now classes) (sym c.as_slice-2.ensures.value) c.in-Ok.ensures.classes
 
 pub returns-in_err-size-clause-stops : goal.returns-in_err-size-clause-stops
 returns-in_err-size-clause-stops c =

@@ -6,8 +6,12 @@ use Rattle.occ_tree.specs.Places.{forest}
 use Rattle.protections.specs.Found.{Found, AreFound, found_in, after_review}
 use Rattle.protections.specs.Reported.{Reports}
 use Rattle.map_engine.specs.Reads.{read_of}
+use Rattle.map_engine.proofs.Apart.{still_apart}
 use Rattle.map_engine.proofs.Unmoved.{holds_before, read_still, none_reported, told_still, told_unguarded}
 use Rattle.map_engine.proofs.next.unmoved.Goals as goal
+
+pub review_edit-requires-clause-others : goal.review_edit-requires-clause-others
+review_edit-requires-clause-others c = still_apart c.args.standing.now c.args.net.now c.args.tree.now c.requires.seen.seen.network.sound.well_named c.requires.alike.say c.requires.others
 
 pub returns-then-not-guarded-clause-view : goal.returns-then-not-guarded-clause-view
 returns-then-not-guarded-clause-view c =

@@ -1,6 +1,6 @@
 use Rattle.std.proofs.Common.{◌≡◌, ◌∙◌, List, [], ◌∷◌, length, refl, sym, subst, eqb-true}
 use Rattle.tmm_model.specs.Maps.{built}
-use Rattle.supports.specs.Edited.{AreOthersUntouched}
+use Rattle.supports.specs.Apart.{AreOthersApart}
 use Rattle.protections.specs.Found.{found_in}
 use Rattle.protections.specs.Reviews.{AreReviewed}
 use Rattle.protections.proofs.AfterReview.{review_of}
@@ -14,7 +14,7 @@ none_there (x ∷ xs) none = cc
 pub review_added-requires-clause-others : goal.review_added-requires-clause-others
 review_added-requires-clause-others c =
     let none : c.args.classes.now ≡ [] = none_there c.args.classes.now (eqb-true (length c.args.classes.now) 0 (sym c.is_empty-then-is_empty.ensures ∙ c.if-is_empty-2.true)) in
-    subst (AreOthersUntouched c.args.net.now c.args.tree.now) none c.requires.others
+    subst (AreOthersApart c.args.standing.now c.args.net.now c.args.tree.now) none c.requires.others
 
 pub review_added-requires-clause-unmoved : goal.review_added-requires-clause-unmoved
 review_added-requires-clause-unmoved c =

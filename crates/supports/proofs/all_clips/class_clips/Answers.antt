@@ -16,6 +16,7 @@ use Rattle.occ_tree.specs.Places.{forest}
 use Rattle.occ_tree.specs.Tokens.{numbers_in}
 use Rattle.spots.specs.Forest.{IsLive}
 use Rattle.spots.specs.Spots.{IsSpot, spot_distance, spot_early}
+use Rattle.premise_list.specs.Rivalries.{has_rivals}
 use Rattle.supports.specs.Behind.{rows_behind, IsLastNode, IsClip}
 use Rattle.supports.specs.ClassClips.{AreClips}
 use Rattle.supports.specs.Nodes.{IsOfNode}
@@ -76,6 +77,7 @@ loop-i-preserved c =
     let later = c.count_later-later.result in
     let behind = c.loop-i.behind.items in
     let net = c.args.net.now.present in
+    let s = c.args.standing.now.present in
     let seen = c.requires.dates.list.1 in
     let row_there : IsSpot net.names f row.spot =
     subst (λ z. IsSpot net.names f z.spot) (sym c.index-rows-i.is) (spots_there seen are (slice_index_or rows (c.loop-i.i - 1) row) (at_place seen are (c.loop-i.i - 1) row within)).begin in
@@ -95,13 +97,14 @@ loop-i-preserved c =
     let in_wanted : c.loop-i.i - 1 < length c.args.wanted.now = omega (arith, within, ap length c.tokens-rows.ensures.list, c.requires.long) in
     let fails : (q : ℕ) (d : TokenRow Spot) → later ≤ q → q < length (rows_of behind) → clips of_one_class (spot_distance net f) row (slice_index_or (rows_of behind) q d) ≡ false =
     λ q d from lt. no_later_fails c.requires.dates row (slice_index_or (rows_of behind) q d) row_there (there q d lt).0 (subst (λ z. spot_early net f (slice_index_or (rows_of behind) q d).spot ≤ℤ z) (sym date_is) (up q d from lt)) in
-    let clip : slice_index_or c.args.wanted.now (c.loop-i.i - 1) false ≡ true → IsClip net f (slice_index_or nodes (c.loop-i.i - 1) 0) found = λ asked. elim (c.in_ok-clip.ensures.clip (get_or_default c.args.wanted.now (c.loop-i.i - 1) _ false in_wanted ∙ asked)) [
-      | inl near ↦
+    let clip : slice_index_or c.args.wanted.now (c.loop-i.i - 1) false ≡ true → IsClip s net f (slice_index_or nodes (c.loop-i.i - 1) 0) found = λ asked. elim (c.in_ok-clip.ensures.clip (get_or_default c.args.wanted.now (c.loop-i.i - 1) _ false in_wanted ∙ asked)) [
+      | inl (alone, near) ↦
           clip_here c.requires.dates are c.tokens-rows.ensures.in_order (c.loop-i.i - 1) row row within c.index-rows-i.is (rows_of behind)
           (c.loop-i.invariant.behind ∙ ap (λ n. rows_behind f class (drop n nodes)) (sym at)) found
           (found_in_first (clips of_one_class (spot_distance net f) row) behind later in_behind fails row.end found
           (subst (λ r. MatchOption r.end (IsLastNode (clips of_one_class (spot_distance net f) r) (rows_of (take later behind)) found) (λ _. IsNone found)) (sym (get_or_read rows (c.loop-i.i - 1) row within c.index-rows-i.is no_row))
           (subst (λ l. MatchOption (row_at rows (c.loop-i.i - 1)).end (IsLastNode (clips of_one_class (spot_distance net f) (row_at rows (c.loop-i.i - 1))) (rows_of (take later l)) found) (λ _. IsNone found)) c.deref.ensures.value near)))
+          s (subst (λ r. has_rivals s r.fact ≡ false) (sym (get_or_read rows (c.loop-i.i - 1) row within c.index-rows-i.is no_row)) alone)
       | inr own ↦ own
     ] in
     let pushed = one_more c.loop-i.behind.items c.push_reserved.new.self.items row c.stretch_behind-first.result (rows_behind f class (drop c.loop-i.i nodes)) (rows_behind f class (drop (c.loop-i.i - 1) nodes))
@@ -111,7 +114,7 @@ loop-i-preserved c =
     (subst (λ l. IsStretch (rows_of l) row.fact c.stretch_behind-first.result (length l)) c.deref-in-loop-i.ensures.value c.stretch_behind-first.ensures) in record {
       count = length-set c.loop-i.clips.items (c.loop-i.i - 1) found ∙ c.loop-i.invariant.count;
       live = All-set (λ found. IfSome found (IsLive f)) c.loop-i.clips.items (c.loop-i.i - 1) found c.in_ok-clip.ensures.live c.loop-i.invariant.live;
-      clip = set_on (λ j found. slice_index_or c.args.wanted.now j false ≡ true → IsClip c.args.net.now.present f (slice_index_or nodes j 0) found) c.loop-i.clips.items (length rows) c.loop-i.i (c.loop-i.i - 1) found
+      clip = set_on (λ j found. slice_index_or c.args.wanted.now j false ≡ true → IsClip s c.args.net.now.present f (slice_index_or nodes j 0) found) c.loop-i.clips.items (length rows) c.loop-i.i (c.loop-i.i - 1) found
           c.loop-i.invariant.count at within clip c.loop-i.invariant.clip;
       room = c.push_reserved.ensures.capacity ∙ c.loop-i.invariant.room;
       long = omega (arith, c.push_reserved.ensures.len, c.loop-i.invariant.long, c.loop-i-test.true);
@@ -125,7 +128,7 @@ loop-i-preserved c =
 
 pub returns-clause-each : goal.returns-clause-each
 returns-clause-each c =
-    subst (λ rows. AreClips c.args.net.now.present (forest c.args.tree.now) rows c.args.wanted.now c.loop-i.clips.items) c.tokens-rows.ensures.list
+    subst (λ rows. AreClips c.args.standing.now.present c.args.net.now.present (forest c.args.tree.now) rows c.args.wanted.now c.loop-i.clips.items) c.tokens-rows.ensures.list
     (record {
       count = c.loop-i.invariant.count;
       each = λ j d lt asked. elim (cases_lt j c.loop-i.i) [

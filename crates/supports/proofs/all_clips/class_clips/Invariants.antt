@@ -15,7 +15,7 @@ abbrev pub invariant-loop-i : goal.invariant-loop-i
 invariant-loop-i l = record {
   count : length l.clips.items ≡ length l.rows;
   live : All (λ clip. IfSome clip (IsLive (forest l.tree))) l.clips.items;
-  clip : (j : ℕ) (d : Option ℕ) → l.i ≤ j → j < length l.rows → slice_index_or l.wanted j false ≡ true → IsClip l.net.present (forest l.tree) (slice_index_or (numbers_in l.rows) j 0) (slice_index_or l.clips.items j d);
+  clip : (j : ℕ) (d : Option ℕ) → l.i ≤ j → j < length l.rows → slice_index_or l.wanted j false ≡ true → IsClip l.standing.present l.net.present (forest l.tree) (slice_index_or (numbers_in l.rows) j 0) (slice_index_or l.clips.items j d);
   room : vec_capacity l.behind ≡ length l.rows;
   long : vec_len l.behind + l.i ≡ length l.rows;
   behind : rows_of l.behind.items ≡ rows_behind (forest l.tree) l.class (drop l.i (numbers_in l.rows));

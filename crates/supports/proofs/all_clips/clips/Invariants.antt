@@ -11,6 +11,6 @@ abbrev pub invariant-loop-i : goal.invariant-loop-i
 invariant-loop-i l = record {
   count : length l.clips.items ≡ length l.ranked;
   live : (j : ℕ) (d : Option ℕ) → l.i ≤ j → j < length l.ranked → IfSome (slice_index_or l.clips.items j d) (IsLive (forest l.tree));
-  clip : (j : ℕ) (d : Option ℕ) → l.i ≤ j → j < length l.ranked → IsClip l.net.present (forest l.tree) (slice_index_or (nodes_of l.ranked) j 0) (slice_index_or l.clips.items j d);
+  clip : (j : ℕ) (d : Option ℕ) → l.i ≤ j → j < length l.ranked → IsClip l.standing.present l.net.present (forest l.tree) (slice_index_or (nodes_of l.ranked) j 0) (slice_index_or l.clips.items j d);
   behind : AreBehind (forest l.tree) (drop l.i (nodes_of l.ranked)) (list_of l.behind);
 }

@@ -42,8 +42,8 @@ returns-in-Some-clause-clip c =
     let rows = c.args.rows.now in
     let place = c.in-Some.place in
     let first = subst (IsFirstOf (IsClipper net f rows c.args.i)) c.in-Some.is c.in_ok-place.ensures in
-    subst (λ y. IsClip net f (slice_index_or (numbers_in rows) c.args.i 0) (Some y)) (sym (node_read f class rows are place first.0.0 c.index-rows-place.result c.index-rows-place.is c.node_of.result c.node_of.ensures))
-    (first_is_clip c.requires.dates are c.requires.in_order c.args.i c.requires.within c.requires.no_span (Some place) first)
+    λ s alone. subst (λ y. IsClip s net f (slice_index_or (numbers_in rows) c.args.i 0) (Some y)) (sym (node_read f class rows are place first.0.0 c.index-rows-place.result c.index-rows-place.is c.node_of.result c.node_of.ensures))
+    (first_is_clip c.requires.dates are c.requires.in_order c.args.i c.requires.within c.requires.no_span (Some place) first s alone)
 
 pub returns-in-None-clause-clip : goal.returns-in-None-clause-clip
 returns-in-None-clause-clip c =

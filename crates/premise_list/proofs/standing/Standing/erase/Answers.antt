@@ -9,6 +9,8 @@ use Rattle.list_theory.proofs.WellNamed.{words_known-append}
 use Rattle.premise_list.specs.declared.standing.Standing.TheInside.{Inside}
 use Rattle.premise_list.specs.States.{States}
 use Rattle.premise_list.proofs.TableFacts.{rest_of}
+use Rattle.premise_list.specs.Rivalries.{rivalries}
+use Rattle.premise_list.proofs.PairsOfFacts.{rivalries-append, rivalries_cut, rivalry_counts}
 use Rattle.premise_list.proofs.Parts.{follow_before, no_more_shared, committed_same}
 use Rattle.premise_list.proofs.standing.Standing.erase.Goals as goal
 use Rattle.premise_list.proofs.standing.Standing.erase.Goals.{After-drop-fall-2}
@@ -47,6 +49,31 @@ committed_now c =
     (λ i. take c.min-shared.result (present_now c i) ++ rest_now c i)
     ∙ committed_same c.self.inside.shared c.place_of-first.result c.min-shared.result ps c.min-shared.ensures c.in_ok-fall.fall.kept.items c.self.inside.rest.items (omega arith)
 
+pub overflow_sub-present : goal.overflow_sub-present
+overflow_sub-present c =
+    let first = c.place_of-first.result in
+    let ps = c.self.inside.table.premises in
+    let gone = c.rivalry_count-gone.ensures ∙ ap (λ l. length (rivalries l)) (rest_of first c.premises-premises.result.now ps c.premises-premises.ensures.value) in
+    let count : length c.present.result.now ≡ length (rivalries ps) = ap length (c.present.ensures ∙ c.reserve-3.ensures.present ∙ c.self.invariant.rivals) in
+    omega (arith, gone, count, rivalry_counts first ps)
+
+-- how many pairs stood behind the first premises
+gone_is : (c : After-drop-fall-2) → c.rivalry_count-gone.result ≡ length (rivalries (drop c.place_of-first.result c.self.inside.table.premises))
+gone_is c =
+    let first = c.place_of-first.result in
+    let ps = c.self.inside.table.premises in
+    c.rivalry_count-gone.ensures ∙ ap (λ l. length (rivalries l)) (rest_of first c.premises-premises.result.now ps c.premises-premises.ensures.value)
+
+-- the pairs of the first premises
+pairs_kept : (c : After-drop-fall-2) → c.truncate-2.new.self.present ≡ rivalries (take c.place_of-first.result c.self.inside.table.premises)
+pairs_kept c =
+    let first = c.place_of-first.result in
+    let ps = c.self.inside.table.premises in
+    let before : c.reserve-3.new.self.present ≡ rivalries ps = c.reserve-3.ensures.present ∙ c.self.invariant.rivals in
+    let count : length c.present.result.now ≡ length (rivalries ps) = ap length (c.present.ensures ∙ before) in
+    ap (λ r. r.present) c.truncate-2.ensures ∙ ap (take (length c.present.result.now - c.rivalry_count-gone.result)) before
+    ∙ rivalries_cut first (length c.present.result.now - c.rivalry_count-gone.result) ps (λ i. count i - gone_is c i)
+
 pub invariant_of-self-2 : goal.invariant_of-self-2
 invariant_of-self-2 c =
     let first = c.place_of-first.result in
@@ -74,6 +101,10 @@ invariant_of-self-2 c =
       words = omega (arith, c.in_ok-reserve.ensures.words, c.in_ok-cut.ensures.words, c.append.ensures.words);
       few = subst (λ l. length l ≤ most_premises) (sym (committed_now c)) c.self.invariant.few;
       well_named = subst IsWellNamed (sym (committed_now c)) c.self.invariant.well_named;
+      rivals = ap (λ r. r.present) c.add_all.ensures ∙ (λ i. pairs_kept c i ++ rivalries (c.as_slice-4.ensures.value i)) ∙ sym (ap rivalries (present_now c) ∙ rivalries-append (take first ps) kept);
+      rivals_before =
+          ap (λ r. r.committed) c.add_all.ensures ∙ ap (λ r. r.committed) c.truncate-2.ensures ∙ c.reserve-3.ensures.committed
+          ∙ c.self.invariant.rivals_before ∙ sym (ap rivalries (committed_now c));
     }
 
 abbrev states : Inside → List Premise → List Premise → States
