@@ -40,7 +40,6 @@ use Rattle.revisions.specs.Standing.{IsLeftOut}
 use Rattle.revisions.proofs.StillEdits.{base_root}
 use Rattle.revisions.proofs.Tokens.{root_named}
 use Rattle.joined.specs.Gaps.{SameGaps, MovesAt}
-use Rattle.joined.specs.Shifting.{AreLoose, MayRest}
 use Rattle.joined.specs.Rows.{Row}
 use Rattle.joined.specs.Starting.{IsPrepared}
 use Rattle.joined.specs.Touching.{RivalsStay}
@@ -70,7 +69,7 @@ use Rattle.belief_net.specs.Touching.{IsRowMoved}
 use Rattle.belief_net.specs.Turning.{rows_of, IsFit}
 use Rattle.belief_net.specs.Updating.{IsKept, IsPending, MayAdd, Entered, IsTouchedBy, IsLeftBy}
 use Rattle.belief_net.specs.Waiting.{dates_in, waits_in}
-use Rattle.belief_net.specs.Woken.{IsRowAtRest}
+use Rattle.belief_net.specs.Woken.{RestsAt, IsRowAtRest}
 use Rattle.belief_net.proofs.Begun.{begun_ready}
 use Rattle.belief_net.proofs.Cleared.{cleared, seen_after, told_first}
 use Rattle.belief_net.proofs.Entered.{one_row}
@@ -310,7 +309,7 @@ module _ (old : Standing) (edit : Edit) (nets : Nets) (names : List (List ℕ)) 
 
   -- what may rest though points moved, by a rule and the node of an event
   abbrev MayRestAt : List ℕ → ℕ → Type 0
-  MayRestAt r x = (loose : ℕ → Bool) × AreLoose (is_moved nets (name_added edit)) loose × MayRest (is_moved nets (name_added edit)) loose (next_list old edit) nets (forest n.tree) r x
+  MayRestAt r x = RestsAt nets (name_added edit) (next_list old edit) (forest n.tree) r x
 
   prepared_moved : ((row : TableRow Pair 8) → IsTouchedBy edit (next_list old edit) nets before n row ≡ IsRowMoved nets (name_added edit) (next_list old edit) (forest n.tree) n.decisions row)
       → ((row : TableRow Pair 8) → IsLeftBy edit (next_list old edit) nets before n row ≡ IsRowAtRest nets (name_added edit) (next_list old edit) (forest n.tree) n.decisions row)
@@ -331,9 +330,12 @@ module _ (old : Standing) (edit : Edit) (nets : Nets) (names : List (List ℕ)) 
           → ((u : Moment) → Contains (built old).believed u → watches old r u ≡ true → Contains l u)
           → ((u : Moment) → Contains l u → watches (next_list old edit) r u ≡ true → Contains (built old).believed u)
           → MayRestAt r x
-          → outcome old (far_in old.premises) (built old).believed (moment_at g x) r ≡ outcome (next_list old edit) (far_in (next_list old edit).premises) l (moment_at g x) r
-      keeps l r x holds live was stood stands left entered (loose, cover, rest) =
-          resting_rows_keep old edit nets loose g l r x h.kept.fit.tree.seen.network ready.seen h.numbers cover holds live was stood stands same left entered rest
+          → SameGaps old (next_list old edit) l (moment_at g x) r
+          ⊎ (outcome old (far_in old.premises) (built old).believed (moment_at g x) r ≡ outcome (next_list old edit) (far_in (next_list old edit).premises) l (moment_at g x) r)
+      keeps l r x holds live was stood stands left entered (inl unmoved) =
+          inl ((moved_rows_are_touched old edit nets g l r x h.kept.fit.tree.seen.network ready.seen h.numbers holds live was entered).1 unmoved)
+      keeps l r x holds live was stood stands left entered (inr (loose, cover, rest)) =
+          inr (resting_rows_keep old edit nets loose g l r x h.kept.fit.tree.seen.network ready.seen h.numbers cover holds live was stood stands same left entered rest)
 
       all_wait : (i : ℕ) (q : Row) → rows_of y i ≡ Some q → (q.waits ≡ true) ⊎ MayRestAt q.rule q.trigger
       all_wait i q at =

@@ -107,7 +107,8 @@ module _ (old : Standing) (edit : Edit) (before net : Net) (f g : Forest) (rows 
       → ((y : Moment) → Contains (built old).believed y → watches old r y ≡ true → Contains b y)
       → ((y : Moment) → Contains b y → watches (next_list old edit) r y ≡ true → Contains (built old).believed y)
       → rests r x
-      → outcome old (far_in old.premises) (built old).believed (moment_at g x) r ≡ outcome (next_list old edit) (far_in (next_list old edit).premises) b (moment_at g x) r)
+      → SameGaps old (next_list old edit) b (moment_at g x) r
+      ⊎ (outcome old (far_in old.premises) (built old).believed (moment_at g x) r ≡ outcome (next_list old edit) (far_in (next_list old edit).premises) b (moment_at g x) r))
       (all : (i : ℕ) (q : Row) → after i ≡ Some q → (q.waits ≡ true) ⊎ rests q.rule q.trigger)
       (only : (i : ℕ) (o q : Row) → mid i ≡ Some o → after i ≡ Some q → q.waits ≡ true → (o.waits ≡ true) ⊎ (MovesAt moves (next_list old edit) g q.rule q.trigger ⊎ (RivalsStay old (next_list old edit) q.rule → ⊥)))
       (b : List Moment) (holds : HasOccurrences b g) where
@@ -174,11 +175,16 @@ module _ (old : Standing) (edit : Edit) (before net : Net) (f g : Forest) (rows 
             | inr added ↦ absurd (none_some k (sym added.0 ∙ before))
           ]
 
-      row_keeps : outcome old (far_in old.premises) (built old).believed (moment_at g q.trigger) q.rule
-          ≡ outcome (next_list old edit) (far_in (next_list old edit).premises) b (moment_at g q.trigger) q.rule
+      -- the edit does not touch it, or it keeps its outcome
+      row_keeps : IsUntouched old (next_list old edit) b (moment_at g q.trigger) q.rule
+          ⊎ (outcome old (far_in old.premises) (built old).believed (moment_at g q.trigger) q.rule
+          ≡ outcome (next_list old edit) (far_in (next_list old edit).premises) b (moment_at g q.trigger) q.rule)
       row_keeps =
           let stands = stood (begun.from i q at) in
-          keeps b q.rule q.trigger holds live stands.0 stands.1 (begun.own i q at).1 watched_stays watched_was rest
+          elim (keeps b q.rule q.trigger holds live stands.0 stands.1 (begun.own i q at).1 watched_stays watched_was rest) [
+            | inr same ↦ inr same
+            | inl gaps ↦ inl (record { was = stands; horizon = same_horizon; rivals = stay q.rule q.trigger rest; left = watched_stays; entered = watched_was; gaps = gaps })
+          ]
 
     -- a row that waits is touched
     module _ (i : ℕ) (q : Row) (at : after i ≡ Some q) (waits : q.waits ≡ true) (u : IsUntouched old (next_list old edit) b (moment_at g q.trigger) q.rule) where
@@ -232,7 +238,7 @@ module _ (old : Standing) (edit : Edit) (before net : Net) (f g : Forest) (rows 
         ⊎ (IsUntouched old (next_list old edit) b (moment_at g q.trigger) q.rule
         ⊎ (outcome old (far_in old.premises) (built old).believed (moment_at g q.trigger) q.rule ≡ outcome (next_list old edit) (far_in (next_list old edit).premises) b (moment_at g q.trigger) q.rule))
     waits_or_keeps i q at true waits = inl waits
-    waits_or_keeps i q at false still = inr (inr (row_keeps i q at still))
+    waits_or_keeps i q at false still = inr (row_keeps i q at still)
 
     pub moved_marked : AreSeeds old (next_list old edit) b → AreMarked old (next_list old edit) b g after
     moved_marked seeds = resting_marked old edit b g after sound_old sound_new seeds rows_are

@@ -23,6 +23,7 @@ pub mod Places
 pub mod Fast
 pub mod Shifts
 pub mod Woken
+pub mod Watched
 pub mod Touching
 pub mod MarkLaws
 pub mod Erasing

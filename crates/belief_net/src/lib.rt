@@ -26,6 +26,7 @@ mod places;
 mod point_sets;
 mod reach;
 mod readers;
+mod rivalled;
 mod rivals;
 mod rooting;
 mod rows;
@@ -42,6 +43,7 @@ mod undo;
 mod update;
 mod waiting;
 mod walls;
+mod watched;
 mod windows;
 mod woken;
 

@@ -17,6 +17,7 @@ ghost use Rattle.belief_net.specs.Woken.{TellMoves, MovesFrom, KeepsDate, WakesF
 use crate::by_event::{Events, mark_rule};
 use crate::fast::{Moves, moves_of};
 use crate::reach::reach_of_start;
+use crate::rivalled::wake_rivalled;
 use crate::state::Decisions;
 use crate::touching::touched_by;
 use crate::waiting::Waiting;
@@ -60,6 +61,7 @@ pub(crate) fn mark_moved(
     let moves = moves_of(alloc, net, added)?;
     wake_unread(alloc, standing, net, tree, decisions, &moves)?;
     wake_classes(alloc, net, tree, decisions, &moves)?;
+    wake_rivalled(alloc, standing, net, tree, decisions, &moves)?;
     Ok(())
 }
 

@@ -79,15 +79,6 @@ module _ (s : Standing) (rows_in : List ℕ → List (TokenRow Spot)) (fact clas
       let short : i < length pairs = omega (arith, lt, length-map pairs against_fact) in
       subst IsOther (sym (get_or-map against_fact pairs i ([], []) [] short)) (other_list (class_against s fact (slice_index_or pairs i ([], []))))
 
-  -- the list of a pair
-  pub pair_list : (i : ℕ) (pair : List ℕ × List ℕ) → i < length (rivalries s.premises) → slice_get (rivalries s.premises) i ≡ Some pair → list_at lists (suc i) ≡ against_fact pair
-  pair_list i pair lt is =
-      let read : Some (slice_index_or (rivalries s.premises) i pair) ≡ Some pair = sym (slice_get-get_or (rivalries s.premises) i pair lt) ∙ is in
-      get_or-map against_fact (rivalries s.premises) i pair [] lt ∙ ap against_fact (cc_some (slice_index_or (rivalries s.premises) i pair) pair read)
-    where
-      cc_some : (x y : List ℕ × List ℕ) → Some x ≡ Some y → x ≡ y
-      cc_some x y e = ap (λ o. unwrap_or {T = List ℕ × List ℕ} o x) e
-
   module _ (f : Forest) (are : (class : List ℕ) → AreTokens f class (rows_in class)) where
     class_of_row : (c : List ℕ) (row : TokenRow Spot) → Contains (rows_in c) row → row.class ≡ c
     class_of_row c row at = let (_, _, _, _, own) = (are c).own row at in own
