@@ -1,5 +1,6 @@
 -- Facts of which no premise says that another contradicts them.
-use Rattle.std.proofs.Common.{◌≡◌, ◌∙◌, ℕ, zero, suc, ◌+◌, Bool, true, false, not, ◌&&◌, ◌||◌, List, [], ◌∷◌, ◌++◌, take, refl, sym, ap, subst, inl, inr}
+use Rattle.std.proofs.Common.{◌≡◌, ◌∙◌, ℕ, ◌+◌, Bool, true, false, not, ◌&&◌, ◌||◌, List, [], ◌∷◌, ◌++◌, take, refl, sym, ap, subst, inl, inr}
+use Rattle.std.proofs.lemmas.Bool.{or_cases, or_left, or_right}
 use Rattle.std.specs.Prelude.{Some, slice_get}
 use Rattle.std.specs.List.{list_any}
 use Rattle.std.specs.Cmp.Lexicographic.{bytes_decides}
@@ -8,8 +9,7 @@ use Rattle.std.proofs.lemmas.Option.{slice_get_within, get_or_from_slice_get}
 use Rattle.tmm_model.specs.Beliefs.{says_against, are_rivals}
 use Rattle.tmm_model.specs.Points.{same_name}
 use Rattle.tmm_model.specs.Standing.{Standing}
-use Rattle.list_theory.proofs.Elements.{In, In-cases, both, list_any-In, In-list_any}
-use Rattle.belief_theory.proofs.Rivals.{or_cases, or_left, or_right}
+use Rattle.list_theory.proofs.Elements.{In, In-cases, both, list_any-In, In-list_any, In-slice_get}
 use Rattle.premise_list.specs.Rivalries.{rivalries, is_pair_of, sets_against, has_rivals}
 use Rattle.premise_list.proofs.PairsOfFacts.{any_pair}
 
@@ -60,11 +60,6 @@ no_rival s f none g = by (are_rivals s f g) refl
         cc
 
 -- ---- pairs one after the other
-
-In-slice_get : {X : Type 0} (xs : List X) (i : ℕ) (x : X) → slice_get xs i ≡ Some x → In x xs
-In-slice_get [] i x e = cc
-In-slice_get (y ∷ xs) zero x e = inl cc
-In-slice_get (y ∷ xs) (suc i) x e = inr (In-slice_get xs i x e)
 
 -- a pair of the fact is one of those that say so
 pub rival_at : (s : Standing) (f : List ℕ) (i : ℕ) (pair : List ℕ × List ℕ) → slice_get (rivalries s.premises) i ≡ Some pair → sets_against f pair ≡ true → has_rivals s f ≡ true

@@ -16,7 +16,6 @@ pub mod Marking
 pub mod Whole
 pub mod Clips
 pub mod Standing
-pub mod Pointwise
 pub mod Alike
 pub mod ReadPremises
 pub mod UnreadEdits

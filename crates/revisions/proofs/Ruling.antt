@@ -15,9 +15,9 @@ use Rattle.tmm_model.specs.Erasure.{names_used, mentioned_by, is_among, falls, k
 use Rattle.tmm_model.specs.Points.{same_name}
 use Rattle.tmm_model.specs.Sorts.{Sort, a_class, a_fact, a_kind, a_point, an_event, a_token, a_span, a_dist, a_rule, a_protection, a_rivalry, is_fact, is_kind, is_effect, declarations_of, declarations_in, declared_by, sort_in, Use, a_name, fact_use, uses_of}
 use Rattle.tmm_model.specs.Standing.{Standing, name_of, premise_in}
-use Rattle.tmm_model.specs.Verdicts.{Cause, ill_sorted, name_cause, use_cause, uses_cause, words_known}
+use Rattle.tmm_model.specs.Verdicts.{Cause, ill_sorted, name_cause, use_cause, words_known}
 use Rattle.list_theory.specs.WellNamed.{Follows, AllFollow, IsWellNamed}
-use Rattle.list_theory.proofs.Adding.{uses_none}
+use Rattle.list_theory.proofs.Adding.{each_use}
 use Rattle.list_theory.proofs.Elements.{In, list_any-In, In-map, In-flat_map, In-cases}
 use Rattle.list_theory.proofs.Erasure.{kept_after-falls, kept_after-stays}
 use Rattle.list_theory.proofs.KnownNames.{found, own_new}
@@ -109,11 +109,6 @@ asks_effect (Rule name trigger lo hi effect given unless_facts) e u (inr (inl is
 asks_effect (Rule name trigger lo hi effect given unless_facts) e u (inr (inr at)) =
     let (fact, _, is) = In-map fact_use (given.items ++ unless_facts.items) u at in
     record { word = fact; wanted = is_fact; is = is; refuses = no_fact }
-
-each_use : (earlier : List Premise) (us : List Use) → uses_cause earlier us ≡ None → (u : Use) → In u us → use_cause earlier u ≡ None
-each_use earlier [] e u at = absurd at
-each_use earlier (v ∷ us) e u (inl is) = subst (λ w. use_cause earlier w ≡ None) is (uses_none earlier v us e).0
-each_use earlier (v ∷ us) e u (inr at) = each_use earlier us (uses_none earlier v us e).1 u at
 
 -- the names are declared, none as a kind or a fact
 abbrev AreOther : List Premise → List (List ℕ) → Type 0

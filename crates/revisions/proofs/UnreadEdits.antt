@@ -1,6 +1,7 @@
 -- An edit that adds or erases a premise that is not kept in sight leaves those that are; so it
 -- leaves those that beliefs read, where beliefs do not read it.
 use Rattle.std.proofs.Common.{◌≡◌, ◌∙◌, ℕ, Bool, true, false, not, ◌||◌, cond, List, [], ◌∷◌, ◌++◌, refl, sym, ap, subst, inl, inr}
+use Rattle.std.proofs.lemmas.Bool.{not-true}
 use Rattle.std.specs.Prelude.{Option, Some, None, filter}
 use Rattle.std.specs.List.{list_any}
 use Rattle.std.specs.Map.{lookup}
@@ -15,9 +16,9 @@ use Rattle.tmm_model.specs.Erasure.{names_used, mentioned_by, is_among, falls, k
 use Rattle.tmm_model.specs.Points.{same_name}
 use Rattle.tmm_model.specs.Sorts.{Sort, a_class, a_fact, a_kind, a_point, an_event, a_token, a_span, a_dist, a_rule, a_protection, a_rivalry, is_fact, is_kind, is_effect, declarations_of, declarations_in, declared_by, sort_in, Use, a_name, fact_use, uses_of}
 use Rattle.tmm_model.specs.Standing.{Standing, name_of, premise_in}
-use Rattle.tmm_model.specs.Verdicts.{Cause, ill_sorted, name_cause, use_cause, uses_cause, words_known}
+use Rattle.tmm_model.specs.Verdicts.{Cause, ill_sorted, name_cause, use_cause, words_known}
 use Rattle.list_theory.specs.WellNamed.{Follows, AllFollow, IsWellNamed}
-use Rattle.list_theory.proofs.Adding.{uses_none}
+use Rattle.list_theory.proofs.Adding.{each_use}
 use Rattle.list_theory.proofs.Elements.{In, list_any-In, In-map, In-flat_map, In-cases}
 use Rattle.list_theory.proofs.Erasure.{kept_after-falls, kept_after-stays}
 use Rattle.list_theory.proofs.KnownNames.{found, own_new}
@@ -76,11 +77,6 @@ asks_other (Rule name trigger lo hi effect given unless_facts) e u (inr (inl is)
 asks_other (Rule name trigger lo hi effect given unless_facts) e u (inr (inr at)) =
     let (fact, _, is) = In-map fact_use (given.items ++ unless_facts.items) u at in
     record { word = fact; wanted = is_fact; is = is; refuses = λ sort e. (plain_is sort e).0 }
-
-each_use : (earlier : List Premise) (us : List Use) → uses_cause earlier us ≡ None → (u : Use) → In u us → use_cause earlier u ≡ None
-each_use earlier [] e u at = absurd at
-each_use earlier (v ∷ us) e u (inl is) = subst (λ w. use_cause earlier w ≡ None) is (uses_none earlier v us e).0
-each_use earlier (v ∷ us) e u (inr at) = each_use earlier us (uses_none earlier v us e).1 u at
 
 -- the names are declared as points, constraints, protections and rivalries
 abbrev ArePlain : List Premise → List (List ℕ) → Type 0
@@ -189,10 +185,6 @@ module _ (seen : Premise → Bool) (reads : (p : Premise) → seen p ≡ true �
 
 -- ---- an edit
 
-unread : (b : Bool) → not b ≡ true → b ≡ false
-unread true e = cc
-unread false e = refl
-
 -- what is told beliefs read
 pub told_reads : (p : Premise) → is_told p ≡ true → is_read p ≡ true
 told_reads (Class name facts) e = refl
@@ -219,11 +211,11 @@ erased_is ps named name p at same = subst (λ n. premise_in ps n ≡ Some p) (sy
 
 edit_reads : (s : Standing) (edit : Edit) → IsWellNamed s.premises → is_unread s.premises edit ≡ true
     → (read_of s.premises ≡ read_of (next_list s edit).premises) × (s.horizon ≡ (next_list s edit).horizon)
-edit_reads s (Add p) named e = (sym (seen_push is_read (λ p e. e) unread_untold s.premises p (unread (is_read p) e)), refl)
+edit_reads s (Add p) named e = (sym (seen_push is_read (λ p e. e) unread_untold s.premises p (not-true (is_read p) e)), refl)
 edit_reads s (Erase name) named e = (sym (seen_kept is_read (λ p e. e) unread_untold name [] [] s.premises named (λ w at. absurd at) erased), refl)
   where
     erased : (p : Premise) → In p s.premises → same_name name (name_of p) ≡ true → is_read p ≡ false
-    erased p at same = unread (is_read p) (ap (λ o. option_map_or (λ q. not (is_read q)) o false) (sym (erased_is s.premises named name p at same)) ∙ e)
+    erased p at same = not-true (is_read p) (ap (λ o. option_map_or (λ q. not (is_read q)) o false) (sym (erased_is s.premises named name p at same)) ∙ e)
 edit_reads s (Horizon n) named e = cc
 edit_reads s Upgrade named e = (refl, refl)
 

@@ -1,9 +1,9 @@
 use Rattle.std.proofs.Common.{◌+◌, ℕ, List, take, sym, subst, arith, inl, inr}
 use Rattle.std.proofs.lemmas.List.{take_all}
-use Rattle.list_theory.proofs.Elements.{In}
+use Rattle.list_theory.proofs.Elements.{In, In-slice_get}
 use Rattle.premise_list.specs.Rivalries.{rivalries}
 use Rattle.map_engine.specs.RivalClasses.{IsThereOr}
-use Rattle.map_engine.proofs.RivalClasses.{AreKept, is_there_more, each_taken, In-slice_get}
+use Rattle.map_engine.proofs.RivalClasses.{AreKept, is_there_more, each_taken}
 use Rattle.map_engine.proofs.rival_classes.push_changed.Goals.{then-is_at, else-is_at+in_ok-push_both}
 use Rattle.map_engine.proofs.rival_classes.push_changed.Goals as goal
 
