@@ -12,10 +12,10 @@ use Rattle.tmm_model.specs.declared.premise.Premise.{Premise}
 use Rattle.tmm_model.specs.declared.premise.Premise.TheVariants.{Class, Kind, Point, Event, Token, Span, Dist, Rule, Protect, Against}
 use Rattle.tmm_model.specs.Beliefs.{says_against, are_rivals}
 use Rattle.tmm_model.specs.Points.{same_name}
-use Rattle.tmm_model.specs.Sorts.{Sort, a_class, a_fact, a_kind, a_point, an_event, a_token, a_span, a_dist, a_rule, a_protection, a_rivalry, is_fact, fact_declaration, declarations_of, declarations_in, sort_in, class_in, Use, a_name, fact_use, uses_of}
+use Rattle.tmm_model.specs.Sorts.{Sort, a_class, a_fact, a_kind, a_point, an_event, a_token, a_span, a_dist, a_rule, a_protection, a_rivalry, is_fact, fact_declaration, declarations_of, declarations_in, sort_in, class_in, a_name, fact_use, uses_of}
 use Rattle.tmm_model.specs.Lines.{IsWellFormedPremise}
 use Rattle.tmm_model.specs.Standing.{Standing, name_of}
-use Rattle.tmm_model.specs.Verdicts.{Cause, unknown, ill_sorted, name_cause, use_cause, uses_cause}
+use Rattle.tmm_model.specs.Verdicts.{Cause, unknown, ill_sorted, name_cause, use_cause}
 use Rattle.list_theory.specs.WellNamed.{AllFollow, IsWellNamed, IsSound}
 use Rattle.list_theory.proofs.Adding.{each_use}
 use Rattle.list_theory.proofs.Elements.{In, Contains-from_In, both, list_any-In}

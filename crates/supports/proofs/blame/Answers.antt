@@ -20,7 +20,7 @@ use Rattle.supports.proofs.AtPlaces.{no_support_here, fault_here, cutter_placed}
 use Rattle.supports.proofs.ByDate.{tree_in, by_date}
 use Rattle.supports.proofs.ListsThere.{live_at, nodes_at, all_live, all_by_date, node_live}
 use Rattle.supports.proofs.TokenRows.{no_row, has_node}
-use Rattle.supports.proofs.rivals.blame.Goals as goal
+use Rattle.supports.proofs.blame.Goals as goal
 
 pub place_of-at-requires-clause-live : goal.place_of-at-requires-clause-live
 place_of-at-requires-clause-live c =
