@@ -1,11 +1,7 @@
 -- Classes of facts that contradict others, as they are found.
-use Rattle.std.proofs.Common.{◌≡◌, ◌∙◌, ℕ, ◌+◌, ◌<◌, List, [], ◌∷◌, ◌++◌, take, subst, inl, inr}
-use Rattle.std.specs.Prelude.{◌⊎◌, Some, slice_get}
+use Rattle.std.proofs.Common.{◌≡◌, ℕ, List, [], ◌∷◌, inl, inr}
 use Rattle.std.specs.List.{Contains}
-use Rattle.std.proofs.lemmas.Option.{slice_get_within, get_or_from_slice_get}
-use Rattle.std.proofs.lemmas.List.{take_more}
 use Rattle.tmm_model.specs.Standing.{Standing}
-use Rattle.list_theory.proofs.Elements.{In, In-cases}
 use Rattle.map_engine.specs.RivalClasses.{HasClassOf, HasClassesOf, Follows, FollowsBoth, IsThereOr}
 
 -- more classes are among more
@@ -30,18 +26,3 @@ follows_both_more s touched old new kept pair both = (follows_more s touched old
 pub is_there_more : (s : Standing) (old new : List (List ℕ)) → AreKept old new → (pairs : List (List ℕ × List ℕ)) (pair : List ℕ × List ℕ) → IsThereOr s old pairs pair → IsThereOr s new pairs pair
 is_there_more s old new kept pairs pair (inl there) = inl there
 is_there_more s old new kept pairs pair (inr has) = inr (has_classes_more s old new kept pair has)
-
--- ---- what holds of the first and of one more
-
-pub each_taken : {X : Type 0} (P Q : X → Type 0) (xs : List X) (i : ℕ) (x : X) → slice_get xs i ≡ Some x → ((y : X) → P y → Q y) → Q x
-    → ((y : X) → In y (take i xs) → P y) → (y : X) → In y (take (i + 1) xs) → Q y
-each_taken P Q xs i x at follows own first y there =
-    elim (In-cases (take i xs) (x ∷ []) y (subst (In y) taken there)) [
-      | inl before ↦ follows y (first y before)
-      | inr here ↦ elim here [ inl same ↦ subst Q same own | inr none ↦ absurd none ]
-    ]
-  where
-    taken : take (i + 1) xs ≡ take i xs ++ x ∷ []
-    taken =
-        take_more xs i x (slice_get_within xs i x at)
-        ∙ (λ j. take i xs ++ get_or_from_slice_get xs i x x at j ∷ [])
