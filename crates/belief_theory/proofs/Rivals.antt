@@ -1,7 +1,7 @@
 -- Which tokens contradict one of a fact, and where two lists tell the same of it.
 use Rattle.std.proofs.Common.{◌≡◌, ◌∙◌, ℕ, Bool, true, false, not, ◌&&◌, ◌||◌, List, [], ◌∷◌, ◌++◌, refl, sym, ap, subst, inl, inr}
 pub use Rattle.std.proofs.lemmas.Bool.{or_cases, or_left, or_right}
-use Rattle.std.specs.Prelude.{Option, Some, None, ◌⊎◌}
+use Rattle.std.specs.Prelude.{Option, Some, None, IsSome, ◌⊎◌}
 use Rattle.std.specs.List.{list_any, list_all, flat_map}
 use Rattle.std.specs.Cmp.Lexicographic.{bytes_decides, nat_list_eq_equiv}
 use Rattle.tmm_model.specs.declared.premise.Premise.{Premise}
@@ -23,6 +23,14 @@ or_false false = refl
 -- the class that declares a fact is its class
 pub class_is : (s : Standing) (fact class : List ℕ) → class_in s.premises fact ≡ Some class → class_of s fact ≡ class
 class_is s fact class is = ap (λ (o : Option (List ℕ)). elim o as (λ _. List ℕ) [ Some c ↦ c | None ↦ [] ]) is
+
+-- and it is a class that declares the fact, where one does
+pub known_class : (s : Standing) (fact : List ℕ) → IsSome (class_in s.premises fact) → class_in s.premises fact ≡ Some (class_of s fact)
+known_class s fact known = by (class_in s.premises fact) known
+  where
+    by : (o : Option (List ℕ)) → IsSome o → o ≡ Some (elim o as (λ _. List ℕ) [ Some c ↦ c | None ↦ [] ])
+    by (Some c) h = refl
+    by None h = cc
 
 -- ---- premises that say so
 

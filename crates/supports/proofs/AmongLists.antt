@@ -21,7 +21,7 @@ use Rattle.tmm_model.specs.Standing.{Standing, far_in}
 use Rattle.tmm_model.specs.Tokens.{of_one_class, supports, clips, cuts, is_by, is_before, lasts_to}
 use Rattle.belief_theory.specs.FirstPlaces.{IsFirstPlace}
 use Rattle.belief_theory.proofs.Order.{ordered}
-use Rattle.belief_theory.proofs.Rivals.{class_is}
+use Rattle.belief_theory.proofs.Rivals.{known_class}
 use Rattle.belief_theory.proofs.Outcomes.{no_first_token}
 use Rattle.belief_theory.proofs.Watched.{class-token_of}
 use Rattle.list_theory.proofs.Elements.{In, both, list_any-In, In-list_any, In-filter_map, filter_map-In, In-flat_map, flat_map-In, In-left, In-right, In-map, map-In}
@@ -199,12 +199,7 @@ module _ {s : Standing} {net : Net} {f : Forest} (seen : IsForestOf s net f) {b 
 
     -- the class of a fact that is declared is the token's
     declared_class : IsSome (class_in s.premises t.fact) → class_in s.premises t.fact ≡ Some t.class
-    declared_class some = by (class_in s.premises t.fact) refl some
-      where
-        by : (o : Option (List ℕ)) → class_in s.premises t.fact ≡ o → IsSome o → class_in s.premises t.fact ≡ Some t.class
-        by None e some = cc
-        by (Some c) e some =
-            e ∙ ap Some (sym (token_class ∙ class_is s t.fact c e))
+    declared_class some = known_class s t.fact some ∙ ap Some (sym token_class)
 
     module _ (a : TokenRow Spot) (here : In a (rows_in t.class)) where
       by_own : t.class ≡ class → In a every
