@@ -18,6 +18,7 @@ pub mod Clips
 pub mod Standing
 pub mod Alike
 pub mod ReadPremises
+pub mod Unasked
 pub mod UnreadEdits
 pub mod StillEdits
 pub mod Ruling
