@@ -1,5 +1,5 @@
 -- Of lists that are alike in all that beliefs read the same is believed.
-use Rattle.std.proofs.Common.{◌≡◌, ◌∙◌, ℕ, zero, suc, Bool, true, false, not, ◌&&◌, ◌||◌, List, [], ◌∷◌, ◌++◌, map, length, refl, sym, ap, subst, inl, inr}
+use Rattle.std.proofs.Common.{◌≡◌, ◌∙◌, ℕ, zero, suc, Bool, true, false, not, ◌&&◌, List, [], ◌∷◌, ◌++◌, map, length, refl, sym, ap, subst, inl, inr}
 use Rattle.std.proofs.lemmas.Bool.{and_right}
 use Rattle.std.specs.Prelude.{Option, Some, None, filter, pos, negsuc, ◌+◌, ◌+ℤ◌, sum_by}
 use Rattle.std.specs.List.{list_any, list_all, filter_map, flat_map}
@@ -26,7 +26,6 @@ use Rattle.tmm_model.specs.Sorts.{Sort, is_kind, sort_in}
 use Rattle.tmm_model.specs.Standing.{Standing, far_in}
 use Rattle.tmm_model.specs.Tokens.{supports, lasts_to, cuts, clips}
 use Rattle.list_theory.proofs.Elements.{In, In-from_Contains, Contains-from_In, In-filter_map, In-cases, In-flat_map, In-map, In-filter}
-use Rattle.belief_theory.specs.Touched.{contradict}
 use Rattle.belief_theory.proofs.Moments.{Decides-same_moment}
 use Rattle.belief_theory.proofs.OneRight.{spot-token_of}
 use Rattle.belief_theory.proofs.Rivals.{HasClass, contradicts_is}

@@ -1,6 +1,6 @@
 -- An edit that adds or erases a premise that is not kept in sight leaves those that are; so it
 -- leaves those that beliefs read, where beliefs do not read it.
-use Rattle.std.proofs.Common.{◌≡◌, ◌∙◌, ℕ, Bool, true, false, not, ◌||◌, cond, List, [], ◌∷◌, ◌++◌, refl, sym, ap, subst, inl, inr}
+use Rattle.std.proofs.Common.{◌≡◌, ◌∙◌, ℕ, Bool, true, false, not, cond, List, [], ◌∷◌, ◌++◌, refl, sym, ap, subst, inl, inr}
 use Rattle.std.proofs.lemmas.Bool.{not-true}
 use Rattle.std.specs.Prelude.{Some, filter}
 use Rattle.std.specs.Option.{option_map_or}
