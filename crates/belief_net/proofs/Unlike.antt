@@ -1,6 +1,6 @@
 -- Facts that another one contradicts by one of two lists alone, and rules that read them.
 use Rattle.std.proofs.Common.{◌≡◌, ◌≢◌, ◌∙◌, ℕ, length, ◌+◌, ◌<◌, Bool, true, false, not, ◌&&◌, ◌||◌, List, [], ◌∷◌, take, Option, Some, refl, sym, ap, subst, inl, inr, ◌⊎◌, eqb}
-use Rattle.std.specs.Prelude.{pos, is_some, None}
+use Rattle.std.specs.Prelude.{ℤ, pos, ◌≤ℤ◌, is_some, None}
 use Rattle.std.specs.List.{Contains, list_any}
 use Rattle.std.specs.Cmp.Lexicographic.{bytes_decides}
 use Rattle.tmm_model.specs.declared.premise.Edit.{Edit}
@@ -14,23 +14,32 @@ use Rattle.list_theory.specs.WellNamed.{IsSound}
 use Rattle.list_theory.proofs.Elements.{In, both, list_any-In, In-list_any}
 use Rattle.belief_theory.specs.Touched.{contradict}
 use Rattle.belief_theory.proofs.Rivals.{same_rivals_have, same_rivals_from}
+use Rattle.belief_theory.proofs.SoundBeliefs.{sound_timed}
 use Rattle.premise_list.specs.Rivalries.{rivalries, is_pair_of, AreChanges}
 use Rattle.premise_list.proofs.PairsOfFacts.{any_pair}
+use Rattle.dist_net.specs.Net.{Net}
 use Rattle.row_links.specs.Lists.{IsOn}
+use Rattle.spots.specs.Forest.{moment_at}
+use Rattle.spots.proofs.Seen.{occurs_at}
 use Rattle.undo_rows.specs.declared.row.Row.{Row as TableRow}
 use Rattle.undo_rows.specs.Tables.{Table}
 use Rattle.decision_rows.specs.declared.row.Pair.{Pair}
-use Rattle.occ_tree.specs.Standing.{State}
+use Rattle.occ_tree.specs.Places.{forest}
+use Rattle.occ_tree.specs.Standing.{State, present}
 use Rattle.revisions.proofs.Contradictions.{read_class, declared, class_stays, contradict_stays}
 use Rattle.revisions.proofs.Lawful.{text}
 use Rattle.joined.specs.Gaps.{ReadsNoRival}
 use Rattle.joined.specs.Touching.{RivalsStay}
+use Rattle.belief_net.specs.declared.state.BeliefNet.{BeliefNet}
 use Rattle.belief_net.specs.Contradicted.{ShareClass, AreUnlike, AreAlike, ReadsUnlike, ReadsAlike, IsAlikeRow}
+use Rattle.belief_net.specs.Decided.{table_of}
 use Rattle.belief_net.specs.Marks.{Marks, IsAsLate, Wakes}
+use Rattle.belief_net.specs.Turning.{IsFit}
 use Rattle.belief_net.specs.Waiting.{Dates}
 use Rattle.belief_net.specs.Woken.{IsPlainRule}
 use Rattle.belief_net.proofs.ByRule.{reads_none}
-use Rattle.belief_net.proofs.Waking.{wakes_none, wakes_alike, marks_wake}
+use Rattle.belief_net.proofs.Turned.{date_is}
+use Rattle.belief_net.proofs.Waking.{wakes_none}
 
 true_false : {P : Type 0} → true ≡ false → P
 true_false e = cc
@@ -119,6 +128,15 @@ module _ (st : State) (t : Table Pair 8) (before s : Standing) (name : List ℕ)
   pub alike_wake : ReadsAlike before s name → (dates : Dates)
       → Wakes st t (λ i row. IsOn (t.list 1 n) i × ReadsUnlike before s name) (λ i row. IsOn (t.list 1 n) i → IsAlikeRow before s st name row) dates dates
   alike_wake alike dates = wakes_none st t IsHere RestsHere dates (λ i row at. inr (λ on late. alike))
+
+-- ---- dates
+
+-- no event is before 0
+pub none_before_0 : (s : Standing) (net : Net) (b : BeliefNet) → IsFit s net b → (i : ℕ) (row : TableRow Pair 8) → (table_of b.decisions).row i ≡ Some row → IsAsLate (present b.tree) (pos 0) row
+none_before_0 s net b fit i row at =
+    let live = fit.events i row at in
+    subst (λ z. pos 0 ≤ℤ z) (sym (date_is s net b fit row.value.trigger live))
+    ((sound_timed s fit.tree.seen.network.sound).not_before_start (moment_at (forest b.tree) row.value.trigger) (occurs_at s net (forest b.tree) fit.tree.seen row.value.trigger live))
 
 -- ---- an edit
 

@@ -18,7 +18,7 @@ returns-then-is_empty-clause-ok c =
     let s = c.args.standing.now.present in
     let old = c.args.standing.now.committed in
     let st = present c.args.tree.now in
-    let none : length c.in_ok-changed.changed.items ≡ 0 = eqb-true (length c.in_ok-changed.changed.items) 0 (sym c.is_empty.ensures ∙ c.if-is_empty.true) in
+    let none : length c.in_ok-changed.changed.items ≡ 0 = omega (arith, c.in_ok-changed.changed.ok.0, eqb-true _ 0 (sym c.is_empty.ensures ∙ c.if-is_empty.true)) in
     all_rest s d c.requires.under c.first.ensures.listed st (λ r row. ReadsUnlike old s r) (λ r row. IsAlikeRow old s st r row)
     (λ r row late. none_unlike old s c.in_ok-changed.changed.items none c.in_ok-changed.ensures r) (dates_in d.waiting)
 
