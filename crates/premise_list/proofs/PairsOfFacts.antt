@@ -1,5 +1,5 @@
 -- The facts that the premises of parts of a list set against each other.
-use Rattle.std.proofs.Common.{◌≡◌, ℕ, zero, suc, ◌+◌, ◌-◌, ◌<◌, ◌&&◌, ◌||◌, List, [], ◌∷◌, ◌++◌, length, take, drop, slice_index_or, refl, ap, sym, subst, inl, inr, ◌∙◌, arith}
+use Rattle.std.proofs.Common.{◌≡◌, ℕ, ◌+◌, ◌-◌, ◌<◌, ◌&&◌, ◌||◌, List, [], ◌∷◌, ◌++◌, length, take, drop, slice_index_or, refl, ap, sym, subst, inl, inr, ◌∙◌, arith}
 use Rattle.std.specs.Prelude.{Some, slice_get}
 use Rattle.std.specs.List.{list_any}
 use Rattle.std.proofs.Math.Seq.{take-append_seam}
@@ -10,6 +10,7 @@ use Rattle.tmm_model.specs.declared.premise.Premise.{Premise}
 use Rattle.tmm_model.specs.declared.premise.Premise.TheVariants.{Class, Kind, Point, Event, Token, Span, Dist, Rule, Protect, Against}
 use Rattle.tmm_model.specs.Beliefs.{says_against}
 use Rattle.tmm_model.specs.Points.{same_name}
+pub use Rattle.list_theory.proofs.Elements.{In-slice_get}
 use Rattle.list_theory.proofs.Elements.{In, In-cases}
 use Rattle.premise_list.specs.Rivalries.{rivalry_of, rivalries, is_pair_of}
 
@@ -63,8 +64,3 @@ each_taken P Q xs i x at follows own first y there =
     taken =
         take_more xs i x (slice_get_within xs i x at)
         ∙ (λ j. take i xs ++ get_or_from_slice_get xs i x x at j ∷ [])
-
-pub In-slice_get : {X : Type 0} (xs : List X) (i : ℕ) (x : X) → slice_get xs i ≡ Some x → In x xs
-In-slice_get [] i x e = cc
-In-slice_get (y ∷ xs) zero x e = inl cc
-In-slice_get (y ∷ xs) (suc i) x e = inr (In-slice_get xs i x e)

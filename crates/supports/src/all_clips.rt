@@ -14,7 +14,7 @@ ghost use Rattle.occ_tree.specs.Ranks.{nodes_of};
 ghost use Rattle.clip_search.specs.Entries.{AreBranches, row_at};
 ghost use Rattle.occ_tree.specs.Tokens.{IsInOrder, numbers_in};
 ghost use Rattle.spots.specs.Forest.{IsLive, IsOnce, moment_at};
-ghost use Rattle.spots.specs.OfLists.{IsForestOf, HasList, HasOccurrences, map_of};
+ghost use Rattle.spots.specs.OfLists.{IsForestOf, HasOccurrences, map_of};
 ghost use Rattle.spots.specs.Spots.{IsSpot, AreTokens, spot_distance, node_cmp};
 ghost use Rattle.occ_tree.specs.OfLists.{IsTreeIn};
 ghost use Rattle.occ_tree.specs.Places.{forest};

@@ -2,8 +2,8 @@ use Rattle.std.proofs.Common.{◌≡◌, ◌∙◌, ◌⊎◌, ◌++◌, ◌∷�
 use Rattle.std.specs.Prelude.{slice_get}
 use Rattle.std.proofs.lemmas.List.{take_all}
 use Rattle.std.proofs.lemmas.Option.{slice_get-get_or}
-use Rattle.list_theory.proofs.Elements.{In, In-left, In-right, In-cases}
-use Rattle.premise_list.proofs.PairsOfFacts.{each_taken, In-slice_get}
+use Rattle.list_theory.proofs.Elements.{In, In-left, In-right, In-cases, In-slice_get}
+use Rattle.premise_list.proofs.PairsOfFacts.{each_taken}
 use Rattle.premise_list.proofs.rivalries.changed_pairs.Goals.{then-is_pair_at, else-is_pair_at+in_ok-add_pair}
 use Rattle.premise_list.proofs.rivalries.changed_pairs.Goals as goal
 
