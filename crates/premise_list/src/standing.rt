@@ -263,14 +263,6 @@ impl Standing {
         self.rivalries.committed().len()
     }
 
-    /// The two facts that the `i`-th of these premises sets against each other, the oldest at 0.
-    pub fn rivalry_before(&self, i: usize) -> (Name, Name)
-        requires { i < length (rivalries self.now.committed.premises) }
-        ensures { slice_get (rivalries self.now.committed.premises) i ≡ Some result }
-    {
-        self.rivalries.committed()[i]
-    }
-
     /// Whether a premise sets the fact against another one.
     pub fn has_rivals(&self, fact: Name) -> bool
         ensures { result ≡ has_rivals self.now.present fact }
@@ -279,6 +271,14 @@ impl Standing {
             .present()
             .iter()
             .any(|pair| sets_against(pair, fact))
+    }
+
+    /// Whether a premise of the list of the last commit did.
+    pub fn had_rivals(&self, fact: Name) -> bool
+        ensures { result ≡ has_rivals self.now.committed fact }
+    {
+        let pairs = self.rivalries.committed();
+        pairs.iter().any(|pair| sets_against(pair, fact))
     }
 
     /// The pairs of facts that premises set against each other in the present list or in that of the
