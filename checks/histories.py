@@ -53,10 +53,13 @@ class History:
         if version == 2:
             self.weights["against"] = rng.choice([2, 6, 15])
             self.say("tmm 2")
-        for _ in range(rng.choice([1, 2, 5])):
-            facts = [self.name("fact") for _ in range(rng.choice([1, 2, 2, 3, 8]))]
+        counts, sizes = ([1, 2, 5], [1, 2, 2, 3, 8]) if version == 1 else ([2, 3, 5], [1, 2, 2, 3])
+        for _ in range(rng.choice(counts)):
+            facts = [self.name("fact") for _ in range(rng.choice(sizes))]
             self.facts.append(facts)
             self.say(f"class {self.name('class')} {' '.join(facts)}")
+        # in version 2 the facts of most lines, of several classes, so that many of them contradict each other
+        self.common = [rng.choice(facts) for facts in self.facts[:3]] if version == 2 else []
         for _ in range(rng.choice([1, 2, 6])):
             kind = self.name("kind")
             self.kinds.append(kind)
@@ -86,6 +89,8 @@ class History:
         return self.rng.choice(list(self.dates)) if self.rng.random() < 0.95 else "start"
 
     def fact(self) -> str:
+        if self.common and self.rng.random() < 0.6:
+            return self.rng.choice(self.common)
         return self.rng.choice(self.rng.choice(self.facts))
 
     def declare(self, sort: str, what: str) -> None:
@@ -131,13 +136,17 @@ class History:
                 condition += f" unless {' '.join(self.fact() for _ in range(rng.choice([1, 1, 2])))}"
             self.say(f"rule {self.name('rule')} {rng.choice(self.kinds)} {least} {most} {effect}{condition}")
         elif sort == "against":
-            self.say(f"against {self.name('against')} {self.fact()} {self.fact()}")
+            one, other = self.fact(), self.fact()
+            if one != other or rng.random() < 0.05:
+                self.say(f"against {self.name('against')} {one} {other}")
         elif sort == "protect":
             self.say(f"protect {self.name('protect')} {self.fact()} {self.point()} {self.point()}")
         elif sort == "horizon":
             self.say(f"horizon {rng.choice([0, 5, 20, 60, 200])}")
         else:
             gone = self.any_of("dist", "rule", "protect", "token", "event", "span", "point", "against")
+            if self.version == 2 and rng.random() < 0.2:
+                gone = self.any_of("against")
             if rng.random() < 0.02:
                 gone = self.any_of("kind", "class")
             self.say(f"erase {gone}")
