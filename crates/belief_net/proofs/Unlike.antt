@@ -1,6 +1,6 @@
 -- Facts that another one contradicts by one of two lists alone, and rules that read them.
-use Rattle.std.proofs.Common.{◌≡◌, ◌≢◌, ◌∙◌, ℕ, length, ◌+◌, ◌<◌, Bool, true, false, not, ◌&&◌, ◌||◌, List, [], ◌∷◌, take, Option, Some, refl, sym, ap, subst, inl, inr, ◌⊎◌, eqb}
-use Rattle.std.specs.Prelude.{ℤ, pos, ◌≤ℤ◌, is_some, None}
+use Rattle.std.proofs.Common.{◌≡◌, ◌∙◌, ℕ, length, Bool, true, false, not, ◌&&◌, ◌||◌, List, [], ◌∷◌, Option, Some, refl, sym, ap, subst, inl, inr, ◌⊎◌}
+use Rattle.std.specs.Prelude.{pos, ◌≤ℤ◌, is_some, None}
 use Rattle.std.specs.List.{Contains, list_any}
 use Rattle.std.specs.Cmp.Lexicographic.{bytes_decides}
 use Rattle.tmm_model.specs.declared.premise.Edit.{Edit}
@@ -8,7 +8,6 @@ use Rattle.tmm_model.specs.Beliefs.{class_of, says_against, are_rivals, rules_at
 use Rattle.tmm_model.specs.Edits.{next_list}
 use Rattle.tmm_model.specs.Moments.{Moment, RuleText, read_by, rule_of}
 use Rattle.tmm_model.specs.Points.{same_name}
-use Rattle.tmm_model.specs.Sorts.{class_in}
 use Rattle.tmm_model.specs.Standing.{Standing}
 use Rattle.list_theory.specs.WellNamed.{IsSound}
 use Rattle.list_theory.proofs.Elements.{In, both, list_any-In, In-list_any}
@@ -31,7 +30,7 @@ use Rattle.revisions.proofs.Lawful.{text}
 use Rattle.joined.specs.Gaps.{ReadsNoRival}
 use Rattle.joined.specs.Touching.{RivalsStay}
 use Rattle.belief_net.specs.declared.state.BeliefNet.{BeliefNet}
-use Rattle.belief_net.specs.Contradicted.{ShareClass, AreUnlike, AreAlike, ReadsUnlike, ReadsAlike, IsAlikeRow}
+use Rattle.belief_net.specs.Contradicted.{AreAlike, ReadsUnlike, ReadsAlike, IsAlikeRow}
 use Rattle.belief_net.specs.Decided.{table_of}
 use Rattle.belief_net.specs.Marks.{Marks, IsAsLate, Wakes}
 use Rattle.belief_net.specs.Turning.{IsFit}

@@ -4,7 +4,7 @@ use Rattle.std.proofs.lemmas.Bool.{cases_order, or_cases}
 use Rattle.std.proofs.lemmas.List.{get_or_default}
 use Rattle.std.specs.Prelude.{IsSome, slice_get}
 use Rattle.std.specs.Option.{option_map}
-use Rattle.std.specs.List.{Contains, list_any}
+use Rattle.std.specs.List.{list_any}
 use Rattle.std.specs.Cmp.Lexicographic.{bytes_decides}
 use Rattle.tmm_model.specs.declared.premise.Premise.{Premise}
 use Rattle.tmm_model.specs.declared.premise.Premise.TheVariants.{Class, Kind, Point, Event, Token, Span, Dist, Rule, Protect, Against}
@@ -22,14 +22,14 @@ use Rattle.list_theory.proofs.KnownNames.{finds}
 use Rattle.walk_theory.proofs.Members.{All-from_contains}
 use Rattle.dist_net.specs.Net.{Net}
 use Rattle.spots.specs.declared.spot.Spot.{Spot}
-use Rattle.spots.specs.declared.spot.Spot.TheVariants.{Declared, Node}
-use Rattle.spots.specs.Forest.{Forest, Member, member}
+use Rattle.spots.specs.declared.spot.Spot.TheVariants.{Declared}
+use Rattle.spots.specs.Forest.{Forest}
 use Rattle.spots.specs.OfLists.{IsForestOf, class_for}
 use Rattle.spots.specs.Spots.{AreTokens}
 use Rattle.spots.proofs.Rows.{member_of_token}
 use Rattle.supports.proofs.Facts.{fact_known}
 use Rattle.supports.proofs.Grown.{taken}
-use Rattle.joined.specs.Gaps.{reads_class, reads_rival, IsClassSpot, IsFactSpot, IsReadSpot, start, read, rival}
+use Rattle.joined.specs.Gaps.{IsClassSpot, IsFactSpot, IsReadSpot, start, read, rival}
 use Rattle.belief_net.specs.declared.reach.Reach.{Reach}
 use Rattle.belief_net.specs.Reach.{Notes}
 use Rattle.belief_net.specs.Watched.{AreClassed, AreDeclared, IsSpotRead, IsSaid, IsSpotSaid, IsSpotAgainst, IsTokenSpot}

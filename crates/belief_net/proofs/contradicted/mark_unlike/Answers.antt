@@ -1,10 +1,7 @@
-use Rattle.std.proofs.Common.{◌≡◌, Bool, false, subst, rules, w64, to_z, of_z}
-use Rattle.std.specs.Prelude.{FitsSigned, pos}
-use Rattle.std.proofs.lemmas.Int.{to_z-of_z}
+use Rattle.std.specs.Prelude.{pos}
 use Rattle.row_links.specs.Lists.{IsOn}
 use Rattle.undo_rows.specs.Changes.{present as table}
 use Rattle.occ_tree.specs.Standing.{present}
-use Rattle.belief_net.specs.Marks.{Marks, IsAsLate}
 use Rattle.belief_net.specs.Waiting.{dates_in}
 use Rattle.belief_net.proofs.Marked.{none_spared}
 use Rattle.belief_net.proofs.Unlike.{unlike_wake, alike_wake}

@@ -1,6 +1,4 @@
-use Rattle.std.proofs.Common.{◌≡◌, ◌∙◌, ℕ, List, ap, subst, inl, inr}
-use Rattle.undo_rows.specs.declared.row.Row.{Row as TableRow}
-use Rattle.decision_rows.specs.declared.row.Pair.{Pair}
+use Rattle.std.proofs.Common.{subst, inl, inr}
 use Rattle.occ_tree.specs.Places.{forest}
 use Rattle.occ_tree.specs.Standing.{present}
 use Rattle.belief_net.specs.declared.state.Decisions.{Decisions}

@@ -1,5 +1,4 @@
-use Rattle.std.proofs.Common.{◌≡◌, ◌∙◌, List, ap, sym, subst}
-use Rattle.std.specs.Prelude.{Option, Some, None}
+use Rattle.std.proofs.Common.{sym, subst}
 use Rattle.occ_tree.specs.Places.{forest}
 use Rattle.joined.specs.Gaps.{IsClassSpot}
 use Rattle.belief_net.specs.Reach.{Notes}

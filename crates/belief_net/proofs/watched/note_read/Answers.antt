@@ -1,4 +1,4 @@
-use Rattle.std.proofs.Common.{◌≡◌, ◌<◌, [], length, get_or, take, sym, subst, arith}
+use Rattle.std.proofs.Common.{◌≡◌, get_or, take, sym, subst, arith}
 use Rattle.std.specs.Prelude.{IsSome}
 use Rattle.std.proofs.lemmas.List.{take_more, take_all}
 use Rattle.tmm_model.specs.Beliefs.{class_of}

@@ -1,5 +1,4 @@
 use Rattle.std.proofs.Common.{sym, subst}
-use Rattle.tmm_model.specs.declared.premise.Premise.TheVariants.{Against}
 use Rattle.list_theory.proofs.Elements.{In}
 use Rattle.occ_tree.specs.Places.{forest}
 use Rattle.belief_net.specs.Reach.{Notes}

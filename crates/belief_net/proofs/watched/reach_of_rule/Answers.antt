@@ -1,4 +1,4 @@
-use Rattle.std.proofs.Common.{◌≡◌, ◌∙◌, sym, subst}
+use Rattle.std.proofs.Common.{◌∙◌, sym, subst}
 use Rattle.occ_tree.specs.Places.{forest}
 use Rattle.joined.specs.Gaps.{IsReadSpot}
 use Rattle.belief_net.specs.Reach.{Notes}

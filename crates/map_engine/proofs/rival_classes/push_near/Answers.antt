@@ -1,4 +1,4 @@
-use Rattle.std.proofs.Common.{ℕ, List, take, sym, subst, arith}
+use Rattle.std.proofs.Common.{sym, subst, arith}
 use Rattle.std.proofs.lemmas.List.{take_all}
 use Rattle.list_theory.proofs.Elements.{In}
 use Rattle.premise_list.specs.Rivalries.{rivalries}
