@@ -1,6 +1,6 @@
--- A fact that a rule of both lists reads is of one class with the same facts in both: a class
--- declares the same facts as long as it stands.
-use Rattle.std.proofs.Common.{◌≡◌, ◌∙◌, ℕ, true, List, [], refl, sym, ap, subst, inl, inr}
+-- A fact that a rule of both lists reads contradicts the same facts in both, as far as premises say
+-- the same of it: a class declares the same facts as long as it stands.
+use Rattle.std.proofs.Common.{◌≡◌, ◌∙◌, ℕ, true, List, [], refl, sym, ap, subst, inl, inr, not, ◌&&◌, ◌||◌}
 use Rattle.std.specs.Prelude.{Option, Some, None, IsSome}
 use Rattle.std.specs.List.{Contains, list_any}
 use Rattle.std.specs.Cmp.{both_ways}
@@ -9,7 +9,7 @@ use Rattle.std.proofs.lemmas.List.Elements.{All-contains}
 use Rattle.tmm_model.specs.declared.premise.Edit.{Edit}
 use Rattle.tmm_model.specs.declared.premise.Premise.{Premise}
 use Rattle.tmm_model.specs.declared.premise.Premise.TheVariants.{Class, Kind, Point, Event, Token, Span, Dist, Rule, Protect, Against}
-use Rattle.tmm_model.specs.Beliefs.{class_of, rules_at}
+use Rattle.tmm_model.specs.Beliefs.{class_of, rules_at, are_rivals}
 use Rattle.tmm_model.specs.Edits.{next_list}
 use Rattle.tmm_model.specs.Lines.{IsName, IsWellFormedPremise}
 use Rattle.tmm_model.specs.Moments.{Moment, read_by, rule_of}
@@ -19,6 +19,7 @@ use Rattle.tmm_model.specs.Standing.{Standing, name_of, premise_in}
 use Rattle.list_theory.specs.WellNamed.{IsSound}
 use Rattle.list_theory.proofs.Elements.{In, Contains-from_In, some_value}
 use Rattle.list_theory.proofs.KnownNames.{found}
+use Rattle.belief_theory.specs.Touched.{contradict}
 use Rattle.belief_theory.proofs.NextLists.{AreWithin, one_way}
 use Rattle.belief_theory.proofs.Rivals.{class_is}
 use Rattle.premise_list.specs.Words.{facts_of}
@@ -104,3 +105,8 @@ module _ (old : Standing) (edit : Edit) (sound_old : IsSound old) (sound_new : I
         | inl more ↦ let (c, is) = read_class old sound_old t r f before at_old in one_class old new sound_old sound_new more f c is g
         | inr fewer ↦ let (c, is) = read_class new sound_new t r f now at_new in sym (one_class new old sound_new sound_old fewer f c is g)
       ]
+
+  -- **A fact contradicts what the rule reads in both lists or in neither, if premises say so in
+  -- both or in neither.**
+  pub contradict_stays : (g : List ℕ) → are_rivals old f g ≡ are_rivals new f g → contradict old f g ≡ contradict new f g
+  contradict_stays g rivals = λ i. (class_stays g i && not (same_name f g)) || rivals i
