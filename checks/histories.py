@@ -51,7 +51,7 @@ class History:
             ]
         )
         if version == 2:
-            self.weights["against"] = rng.choice([2, 6, 15])
+            self.weights.update(against=rng.choice([2, 6, 15]), rule=rng.choice([5, 10]), event=rng.choice([8, 15]))
             self.say("tmm 2")
         counts, sizes = ([1, 2, 5], [1, 2, 2, 3, 8]) if version == 1 else ([2, 3, 5], [1, 2, 2, 3])
         for _ in range(rng.choice(counts)):
@@ -129,7 +129,7 @@ class History:
         elif sort == "rule":
             least = rng.randint(1, 9)
             most = rng.choice([str(least), str(least + 3), "*"])
-            effect = rng.choice(self.kinds) if rng.random() < 0.3 else self.fact()
+            effect = rng.choice(self.kinds) if rng.random() < (0.3 if self.version == 1 else 0.03) else self.fact()
             facts = [self.fact() for _ in range(rng.choice([0, 1, 1, 2, 4]))]
             condition = f" if {' '.join(facts)}" if facts else ""
             if self.version == 2 and rng.random() < 0.4:
