@@ -1,9 +1,10 @@
 #!/usr/bin/env python3
 """Random histories of edits: what is kept current says the same as a map that is made anew.
 
-    checks/histories.py [--seeds 1-20] [--jobs N] [--seconds S] [--tmm PROGRAM] [--print SEED]
+    checks/histories.py [--version V] [--seeds 1-20] [--jobs N] [--seconds S] [--tmm PROGRAM] [--print SEED]
 
-A history adds and erases premises and moves the horizon, some hundred times. Now and then it asks for
+A history adds and erases premises and moves the horizon, some hundred times. Those of version 2 have rules with
+exceptions, and premises that say which facts contradict each other. Now and then it asks for
 `dump`, `list`, `check`, `size`, `audit` and some bounds. What `dump` tells is then run as a script of its own,
 with the same questions behind it, and has to be answered alike. Each run has S seconds (20 without a word).
 `--print` writes the history of a seed, to be run through another program.
@@ -25,8 +26,9 @@ QUESTIONS = ["list", "check", "size", "audit"]
 class History:
     """The lines of a history. Each point has a date that it is meant to have, so that most constraints fit."""
 
-    def __init__(self, seed: int) -> None:
+    def __init__(self, seed: int, version: int) -> None:
         self.rng = rng = random.Random(seed)
+        self.version = version
         self.lines: List[str] = []
         self.dates: Dict[str, int] = {"start": 0}
         self.names: Dict[str, str] = {}  # what stands or stood, and its sort
@@ -48,10 +50,16 @@ class History:
                 {"point": 8, "dist": 25, "token": 12, "event": 12, "span": 6, "rule": 9, "protect": 8, "erase": 25, "horizon": 4},
             ]
         )
-        for _ in range(rng.choice([1, 2, 5])):
-            facts = [self.name("fact") for _ in range(rng.choice([1, 2, 2, 3, 8]))]
+        if version == 2:
+            self.weights.update(against=rng.choice([2, 6, 15]), rule=rng.choice([5, 10]), event=rng.choice([8, 15]))
+            self.say("tmm 2")
+        counts, sizes = ([1, 2, 5], [1, 2, 2, 3, 8]) if version == 1 else ([2, 3, 5], [1, 2, 2, 3])
+        for _ in range(rng.choice(counts)):
+            facts = [self.name("fact") for _ in range(rng.choice(sizes))]
             self.facts.append(facts)
             self.say(f"class {self.name('class')} {' '.join(facts)}")
+        # in version 2 the facts of most lines, of several classes, so that many of them contradict each other
+        self.common = [rng.choice(facts) for facts in self.facts[:3]] if version == 2 else []
         for _ in range(rng.choice([1, 2, 6])):
             kind = self.name("kind")
             self.kinds.append(kind)
@@ -81,6 +89,8 @@ class History:
         return self.rng.choice(list(self.dates)) if self.rng.random() < 0.95 else "start"
 
     def fact(self) -> str:
+        if self.common and self.rng.random() < 0.6:
+            return self.rng.choice(self.common)
         return self.rng.choice(self.rng.choice(self.facts))
 
     def declare(self, sort: str, what: str) -> None:
@@ -119,16 +129,24 @@ class History:
         elif sort == "rule":
             least = rng.randint(1, 9)
             most = rng.choice([str(least), str(least + 3), "*"])
-            effect = rng.choice(self.kinds) if rng.random() < 0.3 else self.fact()
+            effect = rng.choice(self.kinds) if rng.random() < (0.3 if self.version == 1 else 0.03) else self.fact()
             facts = [self.fact() for _ in range(rng.choice([0, 1, 1, 2, 4]))]
             condition = f" if {' '.join(facts)}" if facts else ""
+            if self.version == 2 and rng.random() < 0.4:
+                condition += f" unless {' '.join(self.fact() for _ in range(rng.choice([1, 1, 2])))}"
             self.say(f"rule {self.name('rule')} {rng.choice(self.kinds)} {least} {most} {effect}{condition}")
+        elif sort == "against":
+            one, other = self.fact(), self.fact()
+            if one != other or rng.random() < 0.05:
+                self.say(f"against {self.name('against')} {one} {other}")
         elif sort == "protect":
             self.say(f"protect {self.name('protect')} {self.fact()} {self.point()} {self.point()}")
         elif sort == "horizon":
             self.say(f"horizon {rng.choice([0, 5, 20, 60, 200])}")
         else:
-            gone = self.any_of("dist", "rule", "protect", "token", "event", "span", "point")
+            gone = self.any_of("dist", "rule", "protect", "token", "event", "span", "point", "against")
+            if self.version == 2 and rng.random() < 0.2:
+                gone = self.any_of("against")
             if rng.random() < 0.02:
                 gone = self.any_of("kind", "class")
             self.say(f"erase {gone}")
@@ -160,9 +178,9 @@ def replies(program: str, lines: List[str], seconds: float) -> List[List[str]]:
     return found
 
 
-def differs(program: str, seed: int, seconds: float) -> str:
+def differs(program: str, version: int, seed: int, seconds: float) -> str:
     """Where the history of a seed is answered unlike the map made anew; nothing where it is not."""
-    lines = History(seed).lines
+    lines = History(seed, version).lines
     try:
         told = replies(program, lines, seconds)
         for at in (i for i, line in enumerate(lines) if line == "dump"):
@@ -187,6 +205,7 @@ def seeds_of(text: str) -> Tuple[int, int]:
 
 def main() -> int:
     parser = argparse.ArgumentParser(description=__doc__, formatter_class=argparse.RawDescriptionHelpFormatter)
+    parser.add_argument("--version", type=int, choices=[1, 2], default=1)
     parser.add_argument("--seeds", type=seeds_of, default=(1, 20))
     parser.add_argument("--jobs", type=int, default=os.cpu_count())
     parser.add_argument("--seconds", type=float, default=20)
@@ -194,17 +213,17 @@ def main() -> int:
     parser.add_argument("--print", type=int, metavar="SEED")
     words = parser.parse_args()
     if words.print is not None:
-        print("\n".join(History(words.print).lines))
+        print("\n".join(History(words.print, words.version).lines))
         return 0
     first, last = words.seeds
     bad = 0
     with ThreadPoolExecutor(words.jobs) as pool:
         seeds = range(first, last + 1)
-        for seed, why in zip(seeds, pool.map(lambda seed: differs(words.tmm, seed, words.seconds), seeds)):
+        for seed, why in zip(seeds, pool.map(lambda seed: differs(words.tmm, words.version, seed, words.seconds), seeds)):
             if why:
                 bad += 1
                 print(f"history {seed}: {why}")
-    print(f"histories: {last - first + 1}, of which {bad} are answered unlike a map made anew")
+    print(f"histories of version {words.version}: {last - first + 1}, of which {bad} are answered unlike a map made anew")
     return 1 if bad else 0
 
 

@@ -68,6 +68,28 @@ def unordered(events: int, rules: int) -> List[str]:
     return lines + [f"rule r{i} k 1 * {'fg'[i % 2]}" for i in range(rules)]
 
 
+def against(events: int, own: int, others: int, pairs: int) -> List[str]:
+    """Tokens of a class of eight facts, and of ten classes more whose facts premises set against those of the first."""
+    ten, eight = range(10), range(8)
+    lines = ["tmm 2", f"class c {' '.join(f'c{i}' for i in eight)}"]
+    lines += [f"class d{k} {' '.join(f'd{k}-{i}' for i in eight)}" for k in ten]
+    lines += ["kind k", "horizon 0"]
+    for i in range(events):
+        lines += [f"event e{i} k", f"dist ed{i} start e{i} {i} {i}"]
+    lines += [f"rule r{i} k {1 + i} {2 + i} c{i % 8}" for i in range(own)]
+    lines += [f"rule s{k}-{i} k {1 + i} {2 + i} d{k}-{i % 8}" for k in ten for i in range(others)]
+    all_pairs = [f"c{i} d{k}-{(i + j) % 8}" for j in eight for i in eight for k in ten]
+    return lines + [f"against x{i} {pair}" for i, pair in enumerate(all_pairs[:pairs])]
+
+
+def watched(events: int, rules: int, tokens: int) -> List[str]:
+    """Rules that ask for a fact, and tokens of another class of which each begins between a token of the fact and the events."""
+    lines = ["tmm 2", "class other g", *crowded(events, rules, tokens)]
+    for i in range(tokens):
+        lines += [f"token u{i} g", f"dist ud{i} o u{i} 5 5"]
+    return [*lines, "horizon 1000"]
+
+
 def ticks(number: int) -> List[str]:
     """A chain of effects, each of the one before."""
     return ["kind t", "event e t", "dist z start e 0 0", f"horizon {number}", "rule r t 1 1 t"]
@@ -101,6 +123,10 @@ def cases(part: int) -> List[Tuple[str, Case]]:
     many = contradicting(40 // part, 250 // part)
     deep = "e" + "/r" * (190 // part)
     way = far_reasons(240 // part, 240 // part + 190 // part)
+    ten = against(40 // part, 25 // part, 20 // part, 500 // part)
+    made = [*ten, "horizon 1000"]
+    two = watched(80 // part, 300 // part, 80 // part)
+    open_order = ["tmm 2", "class d h", *unordered(20, 1650 // part), "horizon 1000"]
     no_event = [line for line in ticks(444 // part) if not line.startswith(("event", "dist"))]
     return [
         ("point", Case("crowded", full, "point x")),
@@ -130,6 +156,25 @@ def cases(part: int) -> List[Tuple[str, Case]]:
         ("size", Case("crowded", full, "size")),
         ("audit", Case("crowded", full, "audit")),
         ("audit", Case("contradicting", many, "audit")),
+        ("against", Case("eleven classes", made, "against y c0 c1")),
+        ("against", Case("eleven classes", made, "against y c0 d0-0")),
+        ("against", Case("crowded, of two classes", two, "against y f g")),
+        ("against", Case("no order is sure", open_order, "against y f h")),
+        ("erase", Case("eleven classes, a premise against", made, "erase x0")),
+        ("erase", Case("eleven classes, the first", made, "erase c")),
+        ("erase", Case("eleven classes, another one", made, "erase d0")),
+        ("erase", Case("crowded, of two classes", [*two, "against y f g"], "erase y")),
+        ("token", Case("eleven classes", made, "token y c0")),
+        ("token", Case("no order is sure, against", [*open_order, "against x f h"], "token y h")),
+        ("span", Case("eleven classes", made, "span y d0-0")),
+        ("rule", Case("eleven classes", made, "rule y k 3 4 c0")),
+        ("event", Case("eleven classes", made, "event y k")),
+        ("horizon", Case("eleven classes", ten, "horizon 1000")),
+        ("ask", Case("eleven classes", made, f"ask c0 e0 e{40 // part - 1}")),
+        ("protect", Case("eleven classes", made, "protect y c0 e0 e1")),
+        ("list", Case("eleven classes", made, "list")),
+        ("dump", Case("eleven classes", made, "dump")),
+        ("audit", Case("eleven classes", made, "audit")),
     ]
 
 

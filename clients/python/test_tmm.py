@@ -376,6 +376,21 @@ class TimeMapTest(unittest.TestCase):
             self.map.upgrade()
         self.assertIs(caught.exception.cause, tmm.Cause.FORM)
 
+    def test_facts_of_two_classes_that_contradict(self) -> None:
+        self.map.upgrade()
+        self.map.class_("door", "open", "shut")
+        self.map.class_("alarm", "calm", "ringing")
+        self.map.token("held", "open")
+        self.map.dist("h", "start", "held", 0, 0)
+        self.map.token("bell", "ringing")
+        self.map.dist("b", "start", "bell", 4, 4)
+        self.assertEqual(self.map.against("apart", "open", "ringing"), tmm.Changes(clips=(tmm.Clip("held", "bell"),)))
+        self.assertEqual(self.map.dump().premises[-1], "against apart open ringing")
+        self.assertEqual(self.map.erase("apart"), tmm.Changes(erased=("apart",), loosened=("held",)))
+        with self.assertRaises(tmm.Refused) as caught:
+            self.map.against("apart", "open", "open")
+        self.assertIs(caught.exception.cause, tmm.Cause.FORM)
+
     def test_the_line_of_each_premise_and_of_the_horizon(self) -> None:
         self.map.horizon(300)
         self.map.class_("day", "light", "dark")

@@ -735,10 +735,17 @@ class TimeMap:
         """The fact is to hold throughout the interval."""
         return self._answer(Changes, "protect", name, fact, begin, end)
 
+    def against(self, name: str, one: str, other: str) -> Changes:
+        """The two facts contradict each other, of whichever classes they are; in version 2 alone."""
+        return self._answer(Changes, "against", name, one, other)
+
     # ---- the other edits
 
     def upgrade(self) -> Changes:
-        """Opens version 2 of the script, in which rules may have exceptions; from the empty map alone."""
+        """Opens version 2 of the script, from the empty map alone.
+
+        In it rules may have exceptions, and facts of two classes may contradict each other.
+        """
         return self._answer(Changes, "tmm", "2")
 
     def horizon(self, date: int) -> Changes:

@@ -1,27 +1,23 @@
--- The fact of a token that occurs is declared, and by one class in two lists of which an edit makes
--- one of the other.
+-- The fact of a token that occurs is declared.
 use Rattle.std.proofs.Common.{◌≡◌, ◌∙◌, ℕ, true, List, [], refl, sym, subst, inl, inr}
 use Rattle.std.specs.Prelude.{Option, Some, None, IsSome}
 use Rattle.tmm_model.specs.declared.point.PointName.TheVariants.{Start, Begin, End}
-use Rattle.tmm_model.specs.declared.premise.Edit.{Edit}
 use Rattle.tmm_model.specs.declared.premise.Premise.{Premise}
 use Rattle.tmm_model.specs.declared.premise.Premise.TheVariants.{Class, Kind, Point, Event, Token, Span, Dist, Rule, Protect, Against}
 use Rattle.tmm_model.specs.declared.token.Shape.{Shape}
 use Rattle.tmm_model.specs.declared.token.Shape.TheVariants.{Event as AnEvent, Persistence as APersistence, Span as ASpan}
 use Rattle.tmm_model.specs.declared.token.TokenRow.{TokenRow}
-use Rattle.tmm_model.specs.Beliefs.{as_root, as_effect, is_of, root_of, roots, class_of, token_at, token_of, on_kind}
-use Rattle.tmm_model.specs.Edits.{next_list}
+use Rattle.tmm_model.specs.Beliefs.{as_root, as_effect, is_of, root_of, roots, token_at, token_of, on_kind}
 use Rattle.tmm_model.specs.Moments.{Moment, At, After, as_rule}
 use Rattle.tmm_model.specs.Sorts.{Sort, a_class, a_fact, a_kind, a_point, an_event, a_token, a_span, a_dist, a_rule, a_protection, a_rivalry, is_effect, sort_in, class_in}
 use Rattle.tmm_model.specs.Standing.{Standing, premise_in}
-use Rattle.list_theory.specs.WellNamed.{IsWellNamed, IsSound}
+use Rattle.list_theory.specs.WellNamed.{IsSound}
 use Rattle.list_theory.proofs.Elements.{In, In-from_Contains, In-filter_map}
 use Rattle.list_theory.proofs.KnownNames.{found}
 use Rattle.belief_theory.specs.Right.{Occurs}
-use Rattle.belief_theory.proofs.NextLists.{one_way}
+use Rattle.belief_theory.proofs.Rivals.{known_class}
 use Rattle.belief_theory.proofs.Sound.{rule_stands}
 use Rattle.supports.proofs.Facts.{used_after, fact_known, fact-class}
-use Rattle.revisions.proofs.Names.{classes_within}
 use Rattle.revisions.proofs.Tokens.{root_named}
 
 module _ (s : Standing) (sound : IsSound s) where
@@ -82,13 +78,6 @@ module _ (s : Standing) (sound : IsSound s) where
       let here : premise_in s.premises r ≡ Some p = subst (λ n. premise_in s.premises n ≡ Some p) named (found s.premises sound.well_named p at) in
       subst (λ o. IsClassed (Some (as_effect (as_rule o).effect (sort_in s.premises (as_rule o).effect)))) (sym here) (rule_classed p at kind r is)
 
-  known_is : (f : List ℕ) → IsSome (class_in s.premises f) → class_in s.premises f ≡ Some (class_of s f)
-  known_is f known = by (class_in s.premises f) known
-    where
-      by : (o : Option (List ℕ)) → IsSome o → o ≡ Some (elim o as (λ _. List ℕ) [ Some c ↦ c | None ↦ [] ])
-      by None h = cc
-      by (Some c) h = refl
-
   abbrev IsDeclared : Option (TokenRow Moment) → Type 0
   IsDeclared None = Unit {0}
   IsDeclared (Some k) = class_in s.premises k.fact ≡ Some k.class
@@ -100,14 +89,5 @@ module _ (s : Standing) (sound : IsSound s) where
       by : (o : Option (Shape × List ℕ)) → IsClassed o → elim o as (λ _. Option (TokenRow Moment)) [ None ↦ None | Some y ↦ token_at s x y ] ≡ Some k → class_in s.premises k.fact ≡ Some k.class
       by None known e = cc
       by (Some (AnEvent, f)) known e = cc
-      by (Some (APersistence, f)) known e = subst IsDeclared e (known_is f known)
-      by (Some (ASpan, f)) known e = subst IsDeclared e (known_is f known)
-
--- a fact that both lists declare is of one class
-pub one_class : (old : Standing) (edit : Edit) → IsWellNamed old.premises → IsWellNamed (next_list old edit).premises
-    → (fact was is : List ℕ) → class_in old.premises fact ≡ Some was → class_in (next_list old edit).premises fact ≡ Some is → was ≡ is
-one_class old edit named_old named_new fact was is before now =
-    elim (one_way old edit) [
-      | inl more ↦ (let there : Some was ≡ Some is = sym (classes_within old.premises (next_list old edit).premises more named_new fact was before) ∙ now in cc)
-      | inr fewer ↦ (let there : Some was ≡ Some is = sym before ∙ classes_within (next_list old edit).premises old.premises fewer named_old fact is now in cc)
-    ]
+      by (Some (APersistence, f)) known e = subst IsDeclared e (known_class s f known)
+      by (Some (ASpan, f)) known e = subst IsDeclared e (known_class s f known)

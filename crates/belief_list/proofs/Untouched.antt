@@ -1,6 +1,7 @@
 -- What an edit makes of rows: those of nodes that it did not touch stay, and with all differences
 -- the rows are those of the list after it.
 use Rattle.std.proofs.Common.{◌≡◌, ℕ, Bool, true, false, not, ◌&&◌, ◌||◌, List, refl, sym, ◌∙◌, ap, subst, inl, inr, arith}
+use Rattle.std.proofs.lemmas.Bool.{or_cases}
 use Rattle.std.proofs.lemmas.Int.{ints}
 use Rattle.std.specs.Prelude.{◌⊎◌, ◌<ℤ◌, ◌≤ℤ◌, Option, Some, None, IfSome}
 use Rattle.std.specs.List.{Contains, list_any}
@@ -9,7 +10,7 @@ use Rattle.std.specs.Cmp.Lexicographic.{bytes_decides}
 use Rattle.tmm_model.specs.declared.premise.Edit.{Edit}
 use Rattle.tmm_model.specs.declared.token.TokenRow.{TokenRow}
 use Rattle.tmm_model.specs.Answers.{row, clip, clip_of, first_believed, weight}
-use Rattle.tmm_model.specs.Beliefs.{class_of, token_of, says_against, are_rivals, contradicts_in}
+use Rattle.tmm_model.specs.Beliefs.{class_of, token_of, are_rivals, contradicts_in}
 use Rattle.tmm_model.specs.Edits.{next_list}
 use Rattle.tmm_model.specs.Maps.{TimeMap, built, gap, believed_tokens}
 use Rattle.tmm_model.specs.Moments.{Moment}
@@ -19,7 +20,7 @@ use Rattle.tmm_model.specs.Standing.{Standing, points_in}
 use Rattle.tmm_model.specs.Tokens.{of_one_class, is_before, clips}
 use Rattle.list_theory.proofs.Elements.{In, both, In-filter_map, In-from_Contains, Contains-from_In, list_any-In, In-list_any}
 use Rattle.belief_theory.specs.Right.{Occurs}
-use Rattle.belief_theory.proofs.Rivals.{or_cases}
+use Rattle.belief_theory.proofs.Rivals.{contradict_in_class}
 use Rattle.belief_theory.proofs.Watched.{class-token_of}
 use Rattle.belief_theory.proofs.OneRight.{spot-token_of}
 use Rattle.belief_theory.proofs.Outcomes.{first_token_in}
@@ -41,9 +42,10 @@ use Rattle.supports.specs.Apart.{IsApart}
 use Rattle.supports.specs.Edited.{old_forest, IsEdited}
 use Rattle.supports.proofs.Answered.{event_unclipped}
 use Rattle.revisions.proofs.Tokens.{tokens_stay}
-use Rattle.joined.specs.KeptClips.{StandsAsBefore}
+use Rattle.revisions.proofs.Names.{class_kept}
+use Rattle.belief_list.specs.AsBefore.{StandsAsBefore}
 use Rattle.belief_list.proofs.KeptClips.{same_clipper, date_unmoved, keeps_near}
-use Rattle.belief_list.proofs.KnownFacts.{token_classed, one_class}
+use Rattle.belief_list.proofs.KnownFacts.{token_classed}
 use Rattle.belief_list.specs.declared.kept_rows.KeptRow.{KeptRow}
 use Rattle.belief_list.specs.declared.kept_rows.Difference.{Difference}
 use Rattle.belief_list.specs.KeptRows.{row_under, IsRowOf, AreRowsOf, rows_after, CoverTouched, AreDifferences}
@@ -95,17 +97,6 @@ clip_contradicts m x c k token e = by k.end (sym (ap (option_and_then (clip_of m
         let (d, there, passes, spot) = first_token_in m.list m.far m.believed (clips (contradicts_in m.list) (gap m) k) c e in
         let (y, on, made) = In-filter_map (token_of m.list) m.believed d there in
         (d, ap (token_of m.list) (sym spot ∙ spot-token_of m.list y d made) ∙ made, (both (contradicts_in m.list k d) (is_before (gap m) k.spot d.spot) passes).0)
-
--- tokens of one class contradict each other where their facts differ, whatever premises say
-one_class_alike : (a b c : Bool) → (a || (a && b)) ≡ (a || (a && c))
-one_class_alike true b c = refl
-one_class_alike false b c = refl
-
-contradict_in_class : (s t : Standing) (k c : TokenRow Moment) → same_name k.class c.class ≡ true → contradicts_in s k c ≡ contradicts_in t k c
-contradict_in_class s t k c one =
-    (λ i. (one i && not (same_name k.fact c.fact)) || are_rivals s k.fact c.fact)
-    ∙ one_class_alike (not (same_name k.fact c.fact)) (list_any (says_against k.fact c.fact) s.premises) (list_any (says_against k.fact c.fact) t.premises)
-    ∙ sym (λ i. (one i && not (same_name k.fact c.fact)) || are_rivals t k.fact c.fact)
 
 -- the class of a believed token is that of its fact
 own_class : (s : Standing) (c : TokenRow Moment) → In c (believed_tokens (built s)) → c.class ≡ class_of s c.fact
@@ -267,7 +258,7 @@ module _ (lists : States) (nets : Nets) (edit : Edit) (tree : Kept) (kept : List
         | inr same ↦ (
             let (other, declared, untouched) = apart.of_rivals m.what known d.fact (sym same ∙ rival) in
             let before = token_classed s edited.seen_then.network.sound (moment_at f z) (occurs_at s nets.committed f edited.seen_then z (live_at f z n there)) d token in
-            (other, one_class s edit edited.seen_then.network.sound.well_named seen_g.network.sound.well_named d.fact d.class other before declared, untouched))
+            (other, class_kept s edit edited.seen_then.network.sound.well_named seen_g.network.sound.well_named d.fact d.class other before declared, untouched))
       ])
     ]
 

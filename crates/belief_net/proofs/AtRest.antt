@@ -19,7 +19,7 @@ use Rattle.undo_rows.specs.Tables.{AreListed}
 use Rattle.decision_rows.specs.declared.row.Pair.{Pair}
 use Rattle.occ_tree.specs.Classes.{place_in}
 use Rattle.occ_tree.specs.Standing.{State, forest}
-use Rattle.joined.specs.Gaps.{reads_class, ReadsNoRival, begin, an_end, start, read, IsReadSpot, MovesAt}
+use Rattle.joined.specs.Gaps.{reads_class, begin, an_end, start, read, rival, IsReadSpot, MovesAt}
 use Rattle.joined.specs.Listed.{IsListedUnder}
 use Rattle.joined.specs.Shifting.{IsSpotOf, MovesAmong}
 use Rattle.joined.proofs.Listed.{class_listed}
@@ -34,7 +34,8 @@ use Rattle.belief_net.specs.PointSets.{has_pair}
 use Rattle.belief_net.specs.Reach.{AreBelow256}
 use Rattle.belief_net.specs.Touching.{IsRowMoved}
 use Rattle.belief_net.specs.Waiting.{Dates}
-use Rattle.belief_net.specs.Woken.{RestsFor, MovesFrom, KeepsDate, RestsForFirst, MovesForSome, WakesForAll, IsRowAtRest}
+use Rattle.belief_net.specs.Woken.{RestsFor, MovesFrom, KeepsDate, RestsForFirst, MovesForSome, WakesForAll, IsPlainRule, MovesByRule, StaysByRule, IsSparedThere, IsRowAtRest}
+use Rattle.belief_net.proofs.ByRule.{reads_none}
 use Rattle.belief_net.proofs.Named.{are_numbered, placed_name}
 use Rattle.belief_net.proofs.Pairs.{none_listed}
 use Rattle.belief_net.proofs.Waking.{wakes_both}
@@ -45,20 +46,9 @@ true_or false = inr refl
 
 -- ---- where nothing moved
 
-pub all_rest : (nets : Nets) (added : Option (List ℕ)) (s : Standing) (f : Forest) (d : Decisions) (row : TableRow Pair 8) → ReadsNoRival s (rule_in d row) → WereThere nets added
-    → IsMovedAt nets.moved nets.committed nets.present → length nets.moved ≡ 0 → IsRowAtRest nets added s f d row
-all_rest nets added s f d row plain were moved_at none = (
-  λ n. false,
-  record { each = λ a b is. absurd (none_listed nets added were moved_at none a b is); start = refl },
-  record {
-    plain = plain;
-    date = elim (true_or (is_moved nets added (base_of f (Node row.value.trigger)) 0)) [
-      | inl is ↦ absurd (none_listed nets added were moved_at none (base_of f (Node row.value.trigger)) 0 is)
-      | inr off ↦ off
-    ];
-    each = λ class reads. inl (λ m. none_listed nets added were moved_at none (base_of f m.from) (base_of f m.to) m.moved);
-  },
-)
+pub all_rest : (nets : Nets) (added : Option (List ℕ)) (before s : Standing) (f : Forest) (d : Decisions) (row : TableRow Pair 8) → WereThere nets added
+    → IsMovedAt nets.moved nets.committed nets.present → length nets.moved ≡ 0 → IsRowAtRest nets added before s f d row
+all_rest nets added before s f d row were moved_at none = inl (λ m. none_listed nets added were moved_at none (base_of f m.from) (base_of f m.to) m.moved)
 
 -- ---- where points moved
 
@@ -75,9 +65,8 @@ among_at moves s f r are x read_of m = record {
   moved = m.moved;
 }
 
-module _ (nets : Nets) (added : Option (List ℕ)) (s : Standing) (st : State) (d : Decisions) (moves : Moves) (under : AreUnder s d) (listed : AreListed (table_of d))
-    (below : AreBelow256 (forest st)) (moved : AreMoved nets added moves.pairs.items)
-    (plain : (r : List ℕ) → ReadsNoRival s r) where
+module _ (nets : Nets) (added : Option (List ℕ)) (before s : Standing) (st : State) (d : Decisions) (moves : Moves) (under : AreUnder s d) (listed : AreListed (table_of d))
+    (below : AreBelow256 (forest st)) (moved : AreMoved nets added moves.pairs.items) where
   abbrev f : Forest
   f = forest st
 
@@ -97,6 +86,14 @@ module _ (nets : Nets) (added : Option (List ℕ)) (s : Standing) (st : State) (
   class_small class p (inl is) = subst Small (sym is) (omega arith)
   class_small class p (inr (begin y m here of is)) = subst Small (sym is) (node_small y)
   class_small class p (inr (an_end y m e here of ends is)) = subst Small (sym is) (below.end y m e here ends)
+
+  read_small : (r : List ℕ) (p : Spot) → IsReadSpot s f r p → Small p
+  read_small r p (start is) = subst Small (sym is) (omega arith)
+  read_small r p (read class reads spot) = class_small class p (inr spot)
+  read_small r p (rival fact reads spot) = elim spot.is [
+    | inl is ↦ subst Small (sym is) (node_small spot.number)
+    | inr (e, ends, is) ↦ subst Small (sym is) (below.end spot.number spot.node e spot.here ends)
+  ]
 
   small_or : (are : Spot → Type 0) → ((p : Spot) → are p → Small p) → (x : ℕ) (p : Spot) → are p ⊎ (p ≡ Node x) → Small p
   small_or are small x p (inl is) = small p is
@@ -152,6 +149,18 @@ module _ (nets : Nets) (added : Option (List ℕ)) (s : Standing) (st : State) (
       among_at (is_moved nets added) s f (rule_in d row) (λ p. p ≡ Declared 0) row.value.trigger (λ p is. start is)
       (to_moved (λ p. p ≡ Declared 0) (λ p is. subst Small (sym is) (omega arith)) row.value.trigger m)
 
+  -- what a rule watches, and what contradicts what it reads
+  by_rule : (row : TableRow Pair 8) → MovesByRule moves s (forest st) (rule_in d row) row.value.trigger → IsRowMoved nets added s (forest st) d row
+  by_rule row m =
+      let r = rule_in d row in
+      among_at (is_moved nets added) s f r (IsReadSpot s f r) row.value.trigger (λ p is. is) (to_moved (IsReadSpot s f r) (read_small r) row.value.trigger m)
+
+  still_by_rule : (row : TableRow Pair 8) → (MovesByRule moves s (forest st) (rule_in d row) row.value.trigger → ⊥) → IsRowMoved nets added s (forest st) d row → ⊥
+  still_by_rule row still m =
+      let r = rule_in d row in
+      still (from_moved (IsReadSpot s f r) (read_small r) row.value.trigger
+      (record { from = m.from; to = m.to; from_is = m.from_is; to_is = m.to_is; most = m.most; bounded = m.bounded; moved = m.moved }))
+
   module _ (own : HaveOwnNumbers d.classes) where
     for_some : (i : ℕ) (row : TableRow Pair 8) → (table_of d).row i ≡ Some row → MovesForSome st moves d i row → IsRowMoved nets added s (forest st) d row
     for_some i row at (k, less, on, m) =
@@ -162,7 +171,7 @@ module _ (nets : Nets) (added : Option (List ℕ)) (s : Standing) (st : State) (
 
     -- ---- rows that may rest
 
-    module _ (fast : StandFast nets added moves.fast.items) (i : ℕ) (row : TableRow Pair 8) (at : (table_of d).row i ≡ Some row)
+    module _ (fast : StandFast nets added moves.fast.items) (i : ℕ) (row : TableRow Pair 8) (at : (table_of d).row i ≡ Some row) (plain : IsPlainRule before s (rule_in d row))
         (dated : KeepsDate moves s (forest st) d row) (rests : RestsForFirst st nets moves d (length d.classes) i row) where
       abbrev x : ℕ
       x = row.value.trigger
@@ -204,12 +213,13 @@ module _ (nets : Nets) (added : Option (List ℕ)) (s : Standing) (st : State) (
               In-list_any (λ z. same_name (class_of s z) class) (read_by (rule_of s r)) fact (subst (In fact) (sym some) (inl refl)) ((bytes_decides class class).1 refl) in
               unmoved_date class (by_class class reads)
 
-      at_rest : IsRowAtRest nets added s (forest st) d row
-      at_rest = (
+      spared : IsSparedThere nets added before s (forest st) (rule_in d row) row.value.trigger
+      spared = (
+        plain,
         is_out moves.fast.items,
         fast.loose,
         record {
-          plain = plain r;
+          plain = reads_none s r (λ f at g. (plain f at g).1);
           date = same_date;
           each = λ class reads. elim (by_class class reads) [
             | inl still ↦ inl (λ m. still (from_moved (IsSpotOf f class) (class_small class) x m))
@@ -218,14 +228,32 @@ module _ (nets : Nets) (added : Option (List ℕ)) (s : Standing) (st : State) (
         },
       )
 
-    -- **All rows have been looked at**: those of rules that read nothing, and those on the lists of
-    -- classes.
-    pub all_woken : StandFast nets added moves.fast.items → (old mid new : Dates)
+    abbrev Moved : ℕ → TableRow Pair 8 → Type 0
+    Moved i row = IsRowMoved nets added s f d row
+
+    -- it may rest as far as it goes by classes
+    abbrev Rests : ℕ → TableRow Pair 8 → Type 0
+    Rests i row = KeepsDate moves s f d row × RestsForFirst st nets moves d (length d.classes) i row
+
+    -- **All rows have been looked at**: those of rules that read nothing, those on the lists of
+    -- classes, and those of rules that read what other facts contradict.
+    pub all_woken : StandFast nets added moves.fast.items → (old mid next new : Dates)
         → Wakes st (table_of d) (λ i row. MovesFrom moves (forest st) row.value.trigger) (λ i row. KeepsDate moves s (forest st) d row) old mid
-        → WakesForAll st nets moves d (length d.classes) mid new
-        → Wakes st (table_of d) (λ i row. IsRowMoved nets added s (forest st) d row) (λ i row. IsRowAtRest nets added s (forest st) d row) old new
-    all_woken fast old mid new =
-        wakes_both st (table_of d) (λ i row. MovesFrom moves f row.value.trigger) (λ i row. KeepsDate moves s f d row)
+        → WakesForAll st nets moves d (length d.classes) mid next
+        → Wakes st (table_of d) (λ i row. MovesByRule moves s (forest st) (rule_in d row) row.value.trigger) (λ i row. StaysByRule moves before s (forest st) (rule_in d row) row.value.trigger) next new
+        → Wakes st (table_of d) (λ i row. IsRowMoved nets added s (forest st) d row) (λ i row. IsRowAtRest nets added before s (forest st) d row) old new
+    all_woken fast old mid next new unread classes rules =
+        wakes_both st (table_of d) Moved (λ i row. Rests i row)
+        (λ i row. MovesByRule moves s f (rule_in d row) row.value.trigger) (λ i row. StaysByRule moves before s f (rule_in d row) row.value.trigger)
+        Moved (λ i row. IsRowAtRest nets added before s f d row) old next new
+        (λ i row at m. m) (λ i row at m. by_rule row m)
+        (λ i row at (dated, rests) stays. elim stays [
+          | inl plain ↦ inr (spared fast i row at plain dated rests)
+          | inr still ↦ inl (still_by_rule row still)
+        ])
+        (wakes_both st (table_of d) (λ i row. MovesFrom moves f row.value.trigger) (λ i row. KeepsDate moves s f d row)
         (MovesForSome st moves d) (RestsForFirst st nets moves d (length d.classes))
-        (λ i row. IsRowMoved nets added s f d row) (λ i row. IsRowAtRest nets added s f d row) old mid new
-        (λ i row at m. from_start row m) (λ i row at m. for_some i row at m) (λ i row at dated rests. at_rest fast i row at dated rests)
+        Moved (λ i row. Rests i row) old mid next
+        (λ i row at m. from_start row m) (λ i row at m. for_some i row at m) (λ i row at dated rests. (dated, rests))
+        unread classes)
+        rules

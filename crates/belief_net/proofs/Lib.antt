@@ -56,4 +56,7 @@ pub mod Stood
 pub mod Shifted
 pub mod Waking
 pub mod AtRest
+pub mod WatchedPoints
+pub mod ByRule
 pub mod Unread
+pub mod Unlike

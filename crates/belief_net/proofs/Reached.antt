@@ -106,10 +106,10 @@ module _ (f : Forest) where
         by x m here class_is (Some e) at same = an_end x m e here class_is at cc
 
     -- the row of a token
-    abbrev row_of : ℕ → Member → TokenRow Spot
+    abbrev pub row_of : ℕ → Member → TokenRow Spot
     row_of x m = record { spot = Node x; end = option_map Declared m.end; fact = m.what; class = class }
 
-    found : (x : ℕ) (m : Member) → member f x ≡ Some m → m.class ≡ Some class → Contains rows (row_of x m)
+    pub found : (x : ℕ) (m : Member) → member f x ≡ Some m → m.class ≡ Some class → Contains rows (row_of x m)
     found x m here is = are.all x m (row_of x m) here (ap (λ (o : Option (List ℕ)). option_map (λ class. record { spot = Node x; end = option_map Declared m.end; fact = m.what; class = class }) o) is) refl
 
     in_class : (p : Spot) → IsClassSpot f class p → OfFirstRows rows (length rows) p

@@ -23,6 +23,7 @@ pub mod Places
 pub mod Fast
 pub mod Shifts
 pub mod Woken
+pub mod Watched
 pub mod Touching
 pub mod MarkLaws
 pub mod Erasing
@@ -33,3 +34,4 @@ pub mod Beginning
 pub mod Updating
 pub mod Numbered
 pub mod Alike
+pub mod Contradicted

@@ -17,6 +17,7 @@ ghost use Rattle.belief_net.specs.Woken.{TellMoves, MovesFrom, KeepsDate, WakesF
 use crate::by_event::{Events, mark_rule};
 use crate::fast::{Moves, moves_of};
 use crate::reach::reach_of_start;
+use crate::rivalled::wake_rivalled;
 use crate::state::Decisions;
 use crate::touching::touched_by;
 use crate::waiting::Waiting;
@@ -42,7 +43,7 @@ pub(crate) fn mark_moved(
     requires there { WereThere net.now added }
     requires events { HaveEvents tree.now (table_of decisions.old) }
     requires under { AreUnder standing.now.present decisions.old }
-    ensures ok { OnOk result (Wakes (present tree.now) (table_of decisions.old) (λ i row. IsRowMoved net.now added standing.now.present (forest tree.now) decisions.old row) (λ i row. IsRowAtRest net.now added standing.now.present (forest tree.now) decisions.old row) (dates_in decisions.old.waiting) (dates_in decisions.new.waiting)) }
+    ensures ok { OnOk result (Wakes (present tree.now) (table_of decisions.old) (λ i row. IsRowMoved net.now added standing.now.present (forest tree.now) decisions.old row) (λ i row. IsRowAtRest net.now added standing.now.committed standing.now.present (forest tree.now) decisions.old row) (dates_in decisions.old.waiting) (dates_in decisions.new.waiting)) }
     ensures others { decisions.new ≡ record decisions.old { waiting = decisions.new.waiting } }
 {
     // they tell the proof that numbers are below 256, that rows are on their lists, and that
@@ -60,6 +61,7 @@ pub(crate) fn mark_moved(
     let moves = moves_of(alloc, net, added)?;
     wake_unread(alloc, standing, net, tree, decisions, &moves)?;
     wake_classes(alloc, net, tree, decisions, &moves)?;
+    wake_rivalled(alloc, standing, net, tree, decisions, &moves)?;
     Ok(())
 }
 

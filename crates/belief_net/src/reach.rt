@@ -51,7 +51,7 @@ pub(crate) fn reach_of(alloc: Global, tree: &Tree, class: &Name) -> Result<Reach
 }
 
 // No points.
-fn reach_of_none(alloc: Global) -> Result<Reach, NoMemory>
+pub(crate) fn reach_of_none(alloc: Global) -> Result<Reach, NoMemory>
     ensures places { IfOk result HasPlaces }
     ensures all { IfOk result (λ reach. (p : ℕ) → is_in reach.all.items p ≡ false) }
     ensures bounded { IfOk result (λ reach. (p : ℕ) → is_in reach.bounded.items p ≡ false) }
@@ -63,7 +63,7 @@ fn reach_of_none(alloc: Global) -> Result<Reach, NoMemory>
 }
 
 // Puts the points of the tokens of a class in.
-fn note_class(tree: &Tree, class: &Name, reach: &mut Reach)
+pub(crate) fn note_class(tree: &Tree, class: &Name, reach: &mut Reach)
     requires below { AreBelow256 (forest tree.now) }
     requires places { HasPlaces reach.old }
     ensures { Notes (forest tree.now) (IsClassSpot (forest tree.now) class.now) reach.old reach.new }
@@ -75,7 +75,7 @@ fn note_class(tree: &Tree, class: &Name, reach: &mut Reach)
 }
 
 // Puts the points of a token in.
-fn note_token(tree: &Tree, row: &TokenRow<Spot>, reach: &mut Reach)
+pub(crate) fn note_token(tree: &Tree, row: &TokenRow<Spot>, reach: &mut Reach)
     requires row { (x : ℕ) × (m : Member) × IsRowOf (forest tree.now) row.now x m }
     requires below { AreBelow256 (forest tree.now) }
     requires places { HasPlaces reach.old }
@@ -88,7 +88,7 @@ fn note_token(tree: &Tree, row: &TokenRow<Spot>, reach: &mut Reach)
 }
 
 // Puts the point of a spot in.
-fn note_spot(tree: &Tree, spot: Spot, reach: &mut Reach)
+pub(crate) fn note_spot(tree: &Tree, spot: Spot, reach: &mut Reach)
     requires spot { IsSpotBelow256 (forest tree.now) spot }
     requires below { AreBelow256 (forest tree.now) }
     requires places { HasPlaces reach.old }

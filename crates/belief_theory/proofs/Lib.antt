@@ -1,4 +1,3 @@
-pub mod ByClass
 pub mod ClassTokens
 pub mod FarTables
 pub mod Firsts

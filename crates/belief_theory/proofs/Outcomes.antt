@@ -1,5 +1,6 @@
 -- The outcome of a decision, and what frees its rule.
 use Rattle.std.proofs.Common.{◌≡◌, ℕ, suc, Bool, true, false, not, ◌&&◌, ◌||◌, List, [], ◌∷◌, map, refl, subst, inl, inr, arith}
+use Rattle.std.proofs.lemmas.Bool.{not-true}
 use Rattle.std.proofs.lemmas.Int.{ints}
 use Rattle.std.specs.Prelude.{◌↔◌, Option, Some, None, is_none, ℤ, pos, ◌≤ℤ◌, int_le, filter, cond}
 use Rattle.std.specs.List.{list_any, list_all, filter_map}
@@ -115,12 +116,8 @@ module _ (s : Standing) (far : Distances) (b : List Moment) where
       let none = none_with t (rule_of s r).exceptions in (
         (λ h. (let held = all.0 h.0 in let open_ = none.0 h.1 in λ i. held i && not (open_ i))),
         (λ h. (let parts = both (list_all (supported s far b t) (rule_of s r).given) (not (list_any (supported s far b t) (rule_of s r).exceptions)) h in
-            (all.1 parts.0, none.1 (turned (list_any (supported s far b t) (rule_of s r).exceptions) parts.1)))),
+            (all.1 parts.0, none.1 (not-true (list_any (supported s far b t) (rule_of s r).exceptions) parts.1)))),
       )
-    where
-      turned : (v : Bool) → not v ≡ true → v ≡ false
-      turned true e = cc
-      turned false e = refl
 
   -- **A decision fires exactly where its effect is due by the horizon and its rule is free.**
   pub fires_exactly : (t : Moment) (r : List ℕ) → ((ks : List Moment) × (outcome s far b t r ≡ fires ks)) ↔ ((due s far t r ≤ℤ pos s.horizon) × (is_free s far b t r ≡ true))

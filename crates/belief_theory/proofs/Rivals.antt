@@ -1,6 +1,7 @@
 -- Which tokens contradict one of a fact, and where two lists tell the same of it.
 use Rattle.std.proofs.Common.{◌≡◌, ◌∙◌, ℕ, Bool, true, false, not, ◌&&◌, ◌||◌, List, [], ◌∷◌, ◌++◌, refl, sym, ap, subst, inl, inr}
-use Rattle.std.specs.Prelude.{◌⊎◌}
+pub use Rattle.std.proofs.lemmas.Bool.{or_cases, or_left, or_right}
+use Rattle.std.specs.Prelude.{Option, Some, None, IsSome, ◌⊎◌}
 use Rattle.std.specs.List.{list_any, list_all, flat_map}
 use Rattle.std.specs.Cmp.Lexicographic.{bytes_decides, nat_list_eq_equiv}
 use Rattle.tmm_model.specs.declared.premise.Premise.{Premise}
@@ -9,21 +10,27 @@ use Rattle.tmm_model.specs.declared.token.TokenRow.{TokenRow}
 use Rattle.tmm_model.specs.Beliefs.{class_of, says_against, are_rivals, contradicts_in}
 use Rattle.tmm_model.specs.Moments.{Moment}
 use Rattle.tmm_model.specs.Points.{same_name}
+use Rattle.tmm_model.specs.Sorts.{class_in}
 use Rattle.tmm_model.specs.Standing.{Standing}
 use Rattle.tmm_model.specs.Tokens.{of_one_class}
 use Rattle.list_theory.proofs.Elements.{In, both, list_any-In, list_all-In, flat_map-In, In-left, In-right}
 use Rattle.belief_theory.specs.Touched.{same_bool, bears_on, contradict, facts_said, same_rivals}
 
-pub or_cases : (a b : Bool) → (a || b) ≡ true → (a ≡ true) ⊎ (b ≡ true)
-or_cases true b e = inl refl
-or_cases false b e = inr e
+pub or_false : (b : Bool) → (b || false) ≡ b
+or_false true = refl
+or_false false = refl
 
-pub or_left : (a b : Bool) → a ≡ true → (a || b) ≡ true
-or_left a b e = ap (λ x. x || b) e
+-- the class that declares a fact is its class
+pub class_is : (s : Standing) (fact class : List ℕ) → class_in s.premises fact ≡ Some class → class_of s fact ≡ class
+class_is s fact class is = ap (λ (o : Option (List ℕ)). elim o as (λ _. List ℕ) [ Some c ↦ c | None ↦ [] ]) is
 
-pub or_right : (a b : Bool) → b ≡ true → (a || b) ≡ true
-or_right true b e = refl
-or_right false b e = e
+-- and it is a class that declares the fact, where one does
+pub known_class : (s : Standing) (fact : List ℕ) → IsSome (class_in s.premises fact) → class_in s.premises fact ≡ Some (class_of s fact)
+known_class s fact known = by (class_in s.premises fact) known
+  where
+    by : (o : Option (List ℕ)) → IsSome o → o ≡ Some (elim o as (λ _. List ℕ) [ Some c ↦ c | None ↦ [] ])
+    by (Some c) h = refl
+    by None h = cc
 
 -- ---- premises that say so
 
@@ -63,10 +70,17 @@ contradicts_is s k c own_k own_c = λ i. (same_name (own_k i) (own_c i) && not (
 -- tokens of whose facts no premise says that they are rivals contradict each other by their class
 pub contradicts_plain : (s : Standing) (k c : TokenRow Moment) → are_rivals s k.fact c.fact ≡ false → contradicts_in s k c ≡ of_one_class k c
 contradicts_plain s k c none = ap (λ b. of_one_class k c || b) none ∙ or_false (of_one_class k c)
-  where
-    or_false : (b : Bool) → (b || false) ≡ b
-    or_false true = refl
-    or_false false = refl
+
+-- tokens of one class contradict each other where their facts differ, whatever premises say
+one_class_alike : (a b c : Bool) → (a || (a && b)) ≡ (a || (a && c))
+one_class_alike true b c = refl
+one_class_alike false b c = refl
+
+pub contradict_in_class : (s t : Standing) (k c : TokenRow Moment) → same_name k.class c.class ≡ true → contradicts_in s k c ≡ contradicts_in t k c
+contradict_in_class s t k c one =
+    (λ i. (one i && not (same_name k.fact c.fact)) || are_rivals s k.fact c.fact)
+    ∙ one_class_alike (not (same_name k.fact c.fact)) (list_any (says_against k.fact c.fact) s.premises) (list_any (says_against k.fact c.fact) t.premises)
+    ∙ sym (λ i. (one i && not (same_name k.fact c.fact)) || are_rivals t k.fact c.fact)
 
 -- a token of the class of a fact bears on it
 pub class_bears : (s : Standing) (f : List ℕ) (k : TokenRow Moment) → k.class ≡ class_of s f → bears_on s f k ≡ true

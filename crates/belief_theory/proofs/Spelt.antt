@@ -42,7 +42,7 @@ own_name (Span name fact) h = h.0
 own_name (Dist name from to lo hi) h = h.0
 own_name (Rule name trigger lo hi effect given unless_facts) h = h.0
 own_name (Protect name fact from to) h = h.0
-own_name (Against name one other) h = absurd h
+own_name (Against name one other) h = h.0
 
 root_name : (p : Premise) (q : PointName) → root_of p ≡ Some (At q) → q ≡ Begin (name_of p)
 root_name (Event name kind) q e = cc

@@ -1,5 +1,6 @@
 -- What an occurrence rests on, found by tests.
-use Rattle.std.proofs.Common.{◌≡◌, ℕ, zero, suc, Bool, true, false, ◌||◌, List, refl, sym, subst, inl, inr, Contains}
+use Rattle.std.proofs.Common.{◌≡◌, ℕ, zero, suc, Bool, true, ◌||◌, List, refl, sym, subst, inl, inr, Contains}
+use Rattle.std.proofs.lemmas.Bool.{or_cases}
 use Rattle.std.specs.Prelude.{◌↔◌, ◌⊎◌}
 use Rattle.std.specs.List.{list_any, list_all}
 use Rattle.tmm_model.specs.Maps.{TimeMap, is_among}
@@ -25,13 +26,9 @@ among xs x e =
 pub is_among-Contains : (xs : List Moment) (x : Moment) → Contains xs x → is_among xs x ≡ true
 is_among-Contains xs x at = In-list_any (same_moment x) xs x (In-from_Contains xs x at) ((Decides-same_moment x x).1 refl)
 
-either : (a b : Bool) → (a || b) ≡ true → (a ≡ true) ⊎ (b ≡ true)
-either true b h = inl refl
-either false b h = inr h
-
 upheld : (m : TimeMap) (n : ℕ) (o x : Moment) → reaches m n o x ≡ true → Upholds m o x
 upheld m zero o x e = subst (Upholds m o) ((Decides-same_moment o x).0 e) itself
-upheld m (suc n) o x e = by (λ y. upheld m n y x) (either (same_moment o x) (list_any (λ y. reaches m n y x) (rests_on m o)) e)
+upheld m (suc n) o x e = by (λ y. upheld m n y x) (or_cases (same_moment o x) (list_any (λ y. reaches m n y x) (rests_on m o)) e)
   where
     by : ((y : Moment) → reaches m n y x ≡ true → Upholds m y x) → (same_moment o x ≡ true) ⊎ (list_any (λ y. reaches m n y x) (rests_on m o) ≡ true) → Upholds m o x
     by again (inl is) = subst (Upholds m o) ((Decides-same_moment o x).0 is) itself

@@ -1,14 +1,12 @@
--- What supports a fact depends on the tokens of its class alone.
+-- A token is of the class that declares its fact.
 use Rattle.std.proofs.Common.{◌≡◌, ℕ, List, refl, subst}
-use Rattle.std.specs.Prelude.{◌↔◌, Option, Some, None}
-use Rattle.tmm_model.specs.declared.bound.Bound.{Bound}
+use Rattle.std.specs.Prelude.{Option, Some, None}
 use Rattle.tmm_model.specs.declared.token.Shape.{Shape}
 use Rattle.tmm_model.specs.declared.token.Shape.TheVariants.{Event as AnEvent, Persistence as APersistence, Span as ASpan}
 use Rattle.tmm_model.specs.declared.token.TokenRow.{TokenRow}
-use Rattle.tmm_model.specs.Moments.{Moment, Distances, distance}
+use Rattle.tmm_model.specs.Moments.{Moment}
 use Rattle.tmm_model.specs.Standing.{Standing}
-use Rattle.tmm_model.specs.Beliefs.{class_of, is_of, end_of, token_at, token_of, tokens}
-use Rattle.list_theory.proofs.Elements.{In}
+use Rattle.tmm_model.specs.Beliefs.{class_of, is_of, end_of, token_at, token_of}
 
 pub class-token_of : (s : Standing) (x : Moment) (k : TokenRow Moment) → token_of s x ≡ Some k → k.class ≡ class_of s k.fact
 class-token_of s x k h = by (is_of s x) h
@@ -21,11 +19,3 @@ class-token_of s x k h = by (is_of s x) h
     by (Some (AnEvent, f)) h = cc
     by (Some (APersistence, f)) h = told f None cc
     by (Some (ASpan, f)) h = told f (Some (end_of x)) cc
-
-module _ (s : Standing) (far : Distances) where
-  abbrev far_apart : Moment → Moment → Bound
-  far_apart = distance s far
-
-  -- b and c have the same tokens of a class
-  abbrev pub SameTokens : List ℕ → List Moment → List Moment → Type 0
-  SameTokens class b c = (k : TokenRow Moment) → k.class ≡ class → In k (tokens s b) ↔ In k (tokens s c)

@@ -3,10 +3,11 @@ use Rattle.std.proofs.Common.{◌≡◌, ◌≢◌, ◌∙◌, ℕ, suc, ◌<◌
 use Rattle.std.specs.Prelude.{Option, Some, None, IsFalse, slice_index_or, nat_eq}
 use Rattle.std.specs.List.{All, list_any, Contains}
 use Rattle.std.specs.Cmp.Lexicographic.{bytes_decides}
-use Rattle.std.proofs.lemmas.Bool.{cases_order, or_left, and_left, and_parts, false_from_ne_true, both_ways, eqb-true}
+use Rattle.std.proofs.lemmas.Bool.{cases_order, or_left, and_left, and_parts, false_from_ne_true, both_ways, eqb-true, not-true, not-false}
 use Rattle.std.proofs.lemmas.List.Elements.{Contains-get_or}
 use Rattle.std.specs.declared.cmp.Ordering.{Ordering}
 use Rattle.belief_theory.specs.FirstPlaces.{IsFirstPlace}
+use Rattle.belief_theory.proofs.Rivals.{or_false}
 use Rattle.tmm_model.specs.declared.bound.Bound.{Bound}
 use Rattle.tmm_model.specs.declared.token.TokenRow.{TokenRow}
 use Rattle.tmm_model.specs.Points.{same_name}
@@ -52,10 +53,6 @@ module _ {P : Type 0} (against : List ℕ → List ℕ → Bool) (k c : TokenRow
           let same : k.fact ≡ c.fact = (bytes_decides k.fact c.fact).0 e in
           let apart : against k.fact c.fact ≡ false = ap (against k.fact) (sym same) ∙ irreflexive k.fact in
           ap (λ b. of_one_class k c || b) apart ∙ or_false (of_one_class k c)
-        where
-          or_false : (b : Bool) → (b || false) ≡ b
-          or_false true = refl
-          or_false false = refl
       by false e =
           let declared : of_one_class k c ≡ true = λ i. (bytes_decides k.class c.class).1 class i && not (e i) in
           or_left (of_one_class k c) (are_rivals against k c) declared ∙ sym declared
@@ -78,11 +75,7 @@ module _ {P : Type 0} (against : List ℕ → List ℕ → Bool) (irreflexive : 
   -- what does not last in its own list does not last
   pub no_lasting : (q : P) (o : Option P) → lasts_to of_one_class far (list_at lists own) k q o ≡ false → lasts_to (of_rivals against) far (all_of lists) k q o ≡ false
   no_lasting q (Some e) h = h
-  no_lasting q None h = ap not (any_of_all (cuts (of_rivals against) far k q) lists own within (cut_alike q ∙ by (list_any (cuts of_one_class far k q) (list_at lists own)) h))
-    where
-      by : (b : Bool) → not b ≡ false → b ≡ true
-      by true e = refl
-      by false e = cc
+  no_lasting q None h = ap not (any_of_all (cuts (of_rivals against) far k q) lists own within (cut_alike q ∙ not-false (list_any (cuts of_one_class far k q) (list_at lists own)) h))
 
   -- what does, and is cut in no other list, lasts
   pub lasting : (q : P) → list_any (cuts of_one_class far k q) (list_at lists own) ≡ false
@@ -119,11 +112,7 @@ module _ {P : Type 0} (against : List ℕ → List ℕ → Bool) (irreflexive : 
         lasts b e = λ i. parts.0 i && (ap (lasts_to (of_rivals against) far (all_of lists) k q) no_end ∙ ap not e) i
 
         in_own : list_any (cuts of_one_class far k q) (list_at lists own) ≡ false
-        in_own = flipped (list_any (cuts of_one_class far k q) (list_at lists own)) (sym (ap (lasts_to of_one_class far (list_at lists own) k q) no_end) ∙ parts.1)
-          where
-            flipped : (b : Bool) → not b ≡ true → b ≡ false
-            flipped true e = sym e
-            flipped false e = refl
+        in_own = not-true (list_any (cuts of_one_class far k q) (list_at lists own)) (sym (ap (lasts_to of_one_class far (list_at lists own) k q) no_end) ∙ parts.1)
 
         by : (r : Bool) → (IsTrue r → list_any (cuts (of_rivals against) far k q) (all_of lists) ≡ true) → (IsFalse r → (i : ℕ) → i < length lists → i ≢ own → list_any (cuts (of_rivals against) far k q) (list_at lists i) ≡ false) → supports (of_rivals against) far (all_of lists) f p q k ≡ not r
         by true c u = lasts true (c refl)

@@ -6,13 +6,13 @@
 //! ask. Of each other list it asks those tokens alone that begin later than it, up to the last
 //! point: whether their facts are against its own, and then where they begin. So where there is no
 //! other list, an answer costs what it costs for one class. No call takes memory.
-ghost use Rattle.std.specs.Prelude.{◌≡◌, ◌≢◌, ◌↔◌, ◌<◌, ◌≤◌, ◌+◌, ℕ, Bool, length, IsTrue, IsFalse, None, true, false, IfSome, MatchOption, slice_get, slice_index_or};
+ghost use Rattle.std.specs.Prelude.{◌≡◌, ◌≢◌, ◌↔◌, ◌<◌, ◌≤◌, ◌+◌, ℕ, Bool, length, IsTrue, IsFalse, None, true, false, IfSome, slice_get, slice_index_or};
 ghost use Rattle.std.specs.List.{All, Contains, list_any};
 ghost use Rattle.std.specs.Option.{ForSome};
 ghost use Rattle.std.specs.Ordering.{on};
 ghost use Rattle.tmm_model.specs.declared.token.TokenRow.{TokenRow as Row};
 ghost use Rattle.tmm_model.specs.Points.{same_name};
-ghost use Rattle.tmm_model.specs.Tokens.{supports, cuts, clips, lasts_to};
+ghost use Rattle.tmm_model.specs.Tokens.{supports, cuts, clips};
 ghost use Rattle.belief_theory.specs.FirstPlaces.{IsFirstPlace};
 ghost use Rattle.clipping.specs.Across.{list_at, all_of, IsClassList, IsPlace, at_place, IsFirstPlaceInLists, IsFirstPlaceOfAll, IsClipPlace, IsFault};
 ghost use Rattle.clipping.specs.ByDate.{IsByDate, AreUntil, IsFirstPlaceIn};

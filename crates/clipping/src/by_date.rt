@@ -24,7 +24,7 @@ ghost use Rattle.std.specs.Option.{ForSome};
 ghost use Rattle.std.specs.Ordering.{on};
 ghost use Rattle.std.specs.declared.cmp.Ordering.TheVariants.{Less};
 ghost use Rattle.tmm_model.specs.declared.token.TokenRow.{TokenRow};
-ghost use Rattle.tmm_model.specs.Tokens.{of_one_class, supports, cuts, lasts_to};
+ghost use Rattle.tmm_model.specs.Tokens.{of_one_class, supports, cuts};
 ghost use Rattle.belief_theory.specs.FirstPlaces.{IsFirstPlace};
 ghost use Rattle.clipping.specs.ByDate.{IsByDate, AreUntil, AreBefore, IsAnyPlaceIn, IsFirstPlaceIn, IsPlaceOf};
 ghost use Rattle.clipping.specs.Cutters.{BeginsBy, clips_until};

@@ -7,7 +7,7 @@
 //! such. No call takes memory.
 #![tactic(auto)]
 
-ghost use Rattle.std.specs.Prelude.{◌≡◌, ◌<◌, ◌≤◌, ◌↔◌, ◌+◌, ℕ, length, IsTrue, Bool, true, false, MatchOption, slice_index_or, slice_get, IfSome};
+ghost use Rattle.std.specs.Prelude.{◌≡◌, ◌<◌, ◌≤◌, ◌↔◌, ◌+◌, ℕ, length, IsTrue, true, false, slice_get, IfSome};
 ghost use Rattle.std.specs.List.{list_any, All};
 ghost use Rattle.std.specs.Ordering.{on};
 ghost use Rattle.tmm_model.specs.Tokens.{of_one_class, supports, cuts, clips, lasts_to};

@@ -1,17 +1,13 @@
 -- What is listed of changes.
-use Rattle.std.proofs.Common.{◌≡◌, ◌∙◌, ◌⊎◌, inl, inr, ℕ, ◌+◌, ◌*◌, ◌/◌, ◌%◌, ◌<◌, ◌≤◌, ◌++◌, Bool, true, false, eqb, List, [], ◌∷◌, length, length-set, get_or, set, drop, append_assoc, ap, sym, subst, arith, refl}
-use Rattle.std.specs.List.{Contains, IsDistinct, list_any}
-use Rattle.std.proofs.lemmas.Bool.{cases_eq, false≢true, eqb-true}
+use Rattle.std.proofs.Common.{◌≡◌, ◌∙◌, ◌⊎◌, inl, inr, ℕ, ◌+◌, ◌*◌, ◌/◌, ◌%◌, ◌<◌, ◌≤◌, ◌++◌, Bool, true, false, List, [], length, get_or, set, drop, append_assoc, ap, sym, subst, arith, refl}
+use Rattle.std.specs.List.{Contains}
+use Rattle.std.proofs.lemmas.Bool.{cases_eq, false≢true}
 use Rattle.std.proofs.Math.Seq.{drop-append_seam}
-use Rattle.std.proofs.lemmas.Cmp.{nat_eq_equiv}
-use Rattle.std.proofs.lemmas.Map.Keys.{IsDistinct-push}
-use Rattle.std.proofs.lemmas.Map.Steps.{length-le_from_distinct_below}
-use Rattle.std.proofs.lemmas.Map.Views.{Contains-from_any}
-use Rattle.std.proofs.lemmas.List.{append-nil, get_or_append_left, get_or-set_other, get_or-set_same, get_or_default, length-append}
-use Rattle.std.proofs.lemmas.List.Elements.{All-push, Contains-append_left, Contains-append_right}
+use Rattle.std.proofs.lemmas.List.{append-nil, get_or_append_left, get_or-set_other, get_or_default, length-append}
+use Rattle.std.proofs.lemmas.List.Elements.{Contains-append_left, Contains-append_right}
 use Rattle.tmm_model.specs.declared.bound.Bound.{Bound}
 use Rattle.tmm_model.specs.declared.bound.Bound.TheVariants.{Free}
-use Rattle.dist_net.specs.Changes.{Listed, Covers, AreMarked, AreMoved, ArePoints, IsNoted, IsMarking, IsListed, AreNumbersListed, AreListedMarked, AreNumbersMarked, AreMarksListed}
+use Rattle.dist_net.specs.Changes.{Listed, Covers, AreMarked, AreMoved, IsNoted, IsMarking, IsListed, AreNumbersListed, AreGathered, AreAmong}
 
 -- ---- one more place
 
@@ -144,6 +140,35 @@ module _ (old mid new : Listed) (x y : List Bound) (marking : IsMarking old x mi
       numbers a b in_b (inl m) = let row : (a * 256 + b) / 256 ≡ a = omega arith in inl (subst (Contains new.moved) row m)
       numbers a b in_b (inr m) = let column : (a * 256 + b) % 256 ≡ b = omega arith in inr (subst (Contains new.moved) column m)
 
+-- the same, where the points of one of two lists are listed
+pub IsListed-fewer : (old mid new : Listed) (x y : List Bound) (some others : List ℕ) → IsMarking old x mid y → new ≡ record { places = mid.places; drafted = mid.drafted; moved = new.moved } → AreAmong mid.moved new.moved →
+    AreAmong some new.moved ⊎ AreAmong others new.moved → AreMoved some x y → AreMoved others x y → IsListed old x new y
+IsListed-fewer old mid new x y some others marking same more fewer first second = record {
+  kept = λ k. Covers-more old.places marking.more new.places k places_are;
+  marked = λ k lt. elim (marking.marked k lt) [ inl unchanged ↦ inl unchanged | inr covered ↦ inr (Covers-last old.places marking.more new.places k places_are (shown k covered)) ];
+  kept_drafted = λ k. Covers-more old.drafted marking.more_drafted new.drafted k (drafted_is ∙ marking.extends_drafted);
+  drafted = subst (λ (t : List ℕ). AreMarked t x y) (sym drafted_is) marking.drafted;
+  kept_moved = λ p m. more p (subst (λ (t : List ℕ). Contains t p) (sym marking.moved) m);
+  moved = elim fewer [ inl among ↦ moved_in some among first | inr among ↦ moved_in others among second ];
+}
+  where
+    places_are : new.places ≡ old.places ++ marking.more
+    places_are = ap (λ (s : Listed). s.places) same ∙ marking.extends
+
+    drafted_is : new.drafted ≡ mid.drafted
+    drafted_is = ap (λ (s : Listed). s.drafted) same
+
+    shown : (k : ℕ) → (65536 ≤ length mid.places) ⊎ Contains marking.more k → (65536 ≤ length new.places) ⊎ Contains marking.more k
+    shown k (inl full) = inl (omega (arith, full, ap (λ (s : Listed). length s.places) same))
+    shown k (inr m) = inr m
+
+    moved_in : (points : List ℕ) → AreAmong points new.moved → AreMoved points x y → AreMoved new.moved x y
+    moved_in points among are a b in_a in_b =
+        elim (are a b in_a in_b) [
+          | inl unchanged ↦ inl unchanged
+          | inr has ↦ inr (elim has [ inl m ↦ inl (among a m) | inr m ↦ inr (among b m) ])
+        ]
+
 pub IsListed-trans : (m n o : Listed) (x y z : List Bound) → IsListed m x n y → IsListed n y o z → IsListed m x o z
 IsListed-trans m n o x y z h g = record {
   kept = λ k c. g.kept k (h.kept k c);
@@ -202,90 +227,23 @@ AreDrafted-all places old new done k le is covered =
       | inr m ↦ is.listed m.0 k (omega (arith, m.1, le)) m.1 m.2
     ]
 
--- ---- numbers marked
-
-set_kept : (marks : List Bool) (a p : ℕ) → a < length marks → get_or marks p false ≡ true → get_or (set marks a true) p false ≡ true
-set_kept marks a p lt h =
-    elim (cases_eq p a) [
-      | inl same ↦ subst (λ (r : ℕ). get_or (set marks a true) r false ≡ true) (sym same) (get_or-set_same marks a true false lt)
-      | inr other ↦ get_or-set_other marks a p true false (λ e. other (omega arith)) ∙ h
-    ]
-
-pub AreListedMarked-more : (places : List ℕ) (old_from old_to from to : List Bool) (i : ℕ) → i < length places → get_or places i 0 < 65536 → AreListedMarked places old_from old_to i from to →
-    AreListedMarked places old_from old_to (i + 1) (set from (get_or places i 0 / 256) true) (set to (get_or places i 0 % 256) true)
-AreListedMarked-more places old_from old_to from to i lt in_place is = record {
-  from_places = length-set from (place / 256) true ∙ is.from_places;
-  to_places = length-set to (place % 256) true ∙ is.to_places;
-  from_kept = λ p h. set_kept from (place / 256) p in_from (is.from_kept p h);
-  to_kept = λ p h. set_kept to (place % 256) p in_to (is.to_kept p h);
-  listed = λ j k lt_j in_j at.
-      elim (cases_eq j i) [
-        | inl same ↦ subst (λ (r : ℕ). (get_or (set from (place / 256) true) (r / 256) false ≡ true) × (get_or (set to (place % 256) true) (r % 256) false ≡ true)) (reads j k same in_j at)
-            (get_or-set_same from (place / 256) true false in_from, get_or-set_same to (place % 256) true false in_to)
-        | inr other ↦ (let h : (get_or from (k / 256) false ≡ true) × (get_or to (k % 256) false ≡ true) = is.listed j k (omega (arith, other, lt_j)) in_j at in
-            (set_kept from (place / 256) (k / 256) in_from h.0, set_kept to (place % 256) (k % 256) in_to h.1))
-      ];
-}
-  where
-    place : ℕ
-    place = get_or places i 0
-
-    in_from : place / 256 < length from
-    in_from = omega (arith, in_place, is.from_places)
-
-    in_to : place % 256 < length to
-    in_to = omega (arith, is.to_places)
-
-    reads : (j k : ℕ) → j ≡ i → j < length places → get_or places j k ≡ k → place ≡ k
-    reads j k same in_j at = sym (sym at ∙ (get_or_default places j k 0 in_j ∙ ap (λ (r : ℕ). get_or places r 0) same))
-
 -- ---- points listed
 
-pub ArePoints-none : ArePoints []
-unfolding IsDistinct
-ArePoints-none = record { below = λ k d lt. absurd (omega (arith, lt)); distinct = tt }
+pub AreGathered-more : (places from to next_from next_to : List ℕ) (done : ℕ) → done < length places → AreAmong from next_from → AreAmong to next_to →
+    Contains next_from (get_or places done 0 / 256) → Contains next_to (get_or places done 0 % 256) → AreGathered places done from to → AreGathered places (done + 1) next_from next_to
+AreGathered-more places from to next_from next_to done lt kept_from kept_to first second is j k lt_j in_j at =
+    elim (cases_eq j done) [
+      | inl same ↦ subst (λ (r : ℕ). Contains next_from (r / 256) × Contains next_to (r % 256)) (ap (λ (r : ℕ). get_or places r 0) (sym same) ∙ (sym (get_or_default places j k 0 in_j) ∙ at)) (first, second)
+      | inr other ↦ (let h : Contains from (k / 256) × Contains to (k % 256) = is j k (omega (arith, other, lt_j)) in_j at in
+          (kept_from (k / 256) h.0, kept_to (k % 256) h.1))
+    ]
 
--- there is room for a point that is not listed
-module _ (points : List ℕ) (p : ℕ) (is : ArePoints points) (in_p : p < 256) (absent : Contains points p → ⊥) where
-  pub ArePoints-push : ArePoints (points ++ p ∷ [])
-  ArePoints-push = record { below = All-push (λ q. q < 256) points p is.below in_p; distinct = IsDistinct-push nat_eq_equiv points p is.distinct (not_any (list_any (eqb p) points) refl) }
-    where
-      not_any : (t : Bool) → list_any (eqb p) points ≡ t → list_any (eqb p) points ≡ false
-      not_any true e = absurd (absent (Contains-from_any (λ x y. eqb-true x y) p points e))
-      not_any false e = e
+-- the fewer of the numbers are listed
+pub fewer_listed : (places from to moved : List ℕ) → AreGathered places (length places) from to → AreAmong from moved ⊎ AreAmong to moved → AreNumbersListed places false moved
+fewer_listed places from to moved is fewer k lt (inl e) = absurd (false≢true e)
+fewer_listed places from to moved is fewer k lt (inr m) =
+    let both : Contains from (k / 256) × Contains to (k % 256) = is m.0 k m.1 m.1 m.2 in
+    elim fewer [ inl first ↦ inl (first (k / 256) both.0) | inr second ↦ inr (second (k % 256) both.1) ]
 
-  pub points_room : length points < 256
-  points_room =
-      let most : length (points ++ p ∷ []) ≤ 256 = length-le_from_distinct_below (points ++ p ∷ []) 256 ArePoints-push.distinct
-      (λ q e. (let m : Contains (points ++ p ∷ []) q = Contains-from_any (λ x y. eqb-true x y) q (points ++ p ∷ []) e in
-      subst (λ (r : ℕ). r < 256) m.2 (ArePoints-push.below m.0 q m.1))) in
-      omega (arith, most, length-append points (p ∷ []))
-
-pub AreMarksListed-start : (marks : List Bool) (points : List ℕ) → ArePoints points → AreMarksListed marks points 0 points
-AreMarksListed-start marks points is = record { points = is; kept = λ p m. m; listed = λ p lt. absurd (omega arith) }
-
-pub AreMarksListed-more : (marks : List Bool) (old new next : List ℕ) (n : ℕ) → AreMarksListed marks old n new → ArePoints next → ((q : ℕ) → Contains new q → Contains next q) → Contains next n → AreMarksListed marks old (n + 1) next
-AreMarksListed-more marks old new next n is points kept here = record {
-  points = points;
-  kept = λ p m. kept p (is.kept p m);
-  listed = λ p lt marked. elim (cases_eq p n) [ inl same ↦ subst (Contains next) (sym same) here | inr other ↦ kept p (is.listed p (omega (arith, lt, other)) marked) ];
-}
-
-pub AreMarksListed-skip : (marks : List Bool) (old new : List ℕ) (n : ℕ) → AreMarksListed marks old n new → get_or marks n false ≡ false → AreMarksListed marks old (n + 1) new
-AreMarksListed-skip marks old new n is none = record {
-  points = is.points;
-  kept = is.kept;
-  listed = λ p lt marked. elim (cases_eq p n) [
-    | inl same ↦ absurd (false≢true (sym none ∙ (ap (λ (r : ℕ). get_or marks r false) (sym same) ∙ marked)))
-    | inr other ↦ is.listed p (omega (arith, lt, other)) marked
-  ];
-}
-
--- the fewer of the marked numbers are listed
-module _ (places : List ℕ) (all : Bool) (from to : List Bool) (old new : List ℕ) (marked : AreNumbersMarked places all from to) (fewer : AreMarksListed from old 256 new ⊎ AreMarksListed to old 256 new) where
-  pub fewer_listed : AreNumbersListed places all new
-  fewer_listed k lt speaks =
-      elim fewer [
-        | inl is ↦ inl (is.listed (k / 256) (omega (arith, lt)) (marked.marked k lt speaks).0)
-        | inr is ↦ inr (is.listed (k % 256) (omega arith) (marked.marked k lt speaks).1)
-      ]
+pub all_listed : (places moved : List ℕ) (full : Bool) → ((p : ℕ) → p < 256 → Contains moved p) → AreNumbersListed places full moved
+all_listed places moved full all k lt speaks = inl (all (k / 256) (omega (arith, lt)))

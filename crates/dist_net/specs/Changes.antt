@@ -25,6 +25,11 @@ AreMarked places before now = (k : ℕ) → k < 65536 → (slice_index_or before
 abbrev pub AreMoved : List ℕ → List Bound → List Bound → Type 0
 AreMoved moved before now = (a b : ℕ) → a < 256 → b < 256 → (entry before a b ≡ entry now a b) ⊎ (Contains moved a ⊎ Contains moved b)
 
+-- the same of a list of numbers below 256
+pub record AreMovedBelow (moved : List ℕ) (before now : List Bound) : Type 0 where
+  pub below : All (λ p. p < 256) moved
+  pub moved_are : AreMoved moved before now
+
 -- numbers of points, each once
 pub record ArePoints (points : List ℕ) : Type 0 where
   pub below : All (λ p. p < 256) points
@@ -59,23 +64,23 @@ pub record IsListed (old : Listed) (before : List Bound) (new : Listed) (now : L
 abbrev pub AreNumbersListed : List ℕ → Bool → List ℕ → Type 0
 AreNumbersListed places full moved = (k : ℕ) → k < 65536 → (full ≡ true) ⊎ Contains places k → Contains moved (k / 256) ⊎ Contains moved (k % 256)
 
--- the first numbers of the first `done` places that are listed are marked in `from`, the second
--- ones in `to`, and what was marked stays so
-pub record AreListedMarked (places : List ℕ) (old_from old_to : List Bool) (done : ℕ) (from to : List Bool) : Type 0 where
-  pub from_places : length from ≡ 256
-  pub to_places : length to ≡ 256
-  pub from_kept : (p : ℕ) → slice_index_or old_from p false ≡ true → slice_index_or from p false ≡ true
-  pub to_kept : (p : ℕ) → slice_index_or old_to p false ≡ true → slice_index_or to p false ≡ true
-  pub listed : (j k : ℕ) → j < done → j < length places → slice_index_or places j k ≡ k → (slice_index_or from (k / 256) false ≡ true) × (slice_index_or to (k % 256) false ≡ true)
+-- the first numbers of the first `done` places that are listed stand in `from`, the second ones in
+-- `to`
+abbrev pub AreGathered : List ℕ → ℕ → List ℕ → List ℕ → Type 0
+AreGathered places done from to = (j k : ℕ) → j < done → j < length places → slice_index_or places j k ≡ k → Contains from (k / 256) × Contains to (k % 256)
 
--- both numbers of each place of which the list speaks are marked
-pub record AreNumbersMarked (places : List ℕ) (full : Bool) (from to : List Bool) : Type 0 where
-  pub from_places : length from ≡ 256
-  pub to_places : length to ≡ 256
-  pub marked : (k : ℕ) → k < 65536 → (full ≡ true) ⊎ Contains places k → (slice_index_or from (k / 256) false ≡ true) × (slice_index_or to (k % 256) false ≡ true)
+-- what is in the one list is in the other
+abbrev pub AreAmong : List ℕ → List ℕ → Type 0
+AreAmong points list = (p : ℕ) → Contains points p → Contains list p
 
--- what was listed stays so, and each of the first `done` numbers that are marked is listed
-pub record AreMarksListed (marks : List Bool) (old : List ℕ) (done : ℕ) (new : List ℕ) : Type 0 where
-  pub points : ArePoints new
-  pub kept : (p : ℕ) → Contains old p → Contains new p
-  pub listed : (p : ℕ) → p < done → slice_index_or marks p false ≡ true → Contains new p
+-- just the numbers that are listed are marked
+pub record AreMarks (points : List ℕ) (marks : List Bool) : Type 0 where
+  pub places : length marks ≡ 256
+  pub listed : (p : ℕ) → slice_index_or marks p false ≡ true → Contains points p
+  pub marked : (p : ℕ) → Contains points p → slice_index_or marks p false ≡ true
+
+-- what is marked was so, and is none of the first `done` points
+pub record AreUnmarked (points : List ℕ) (done : ℕ) (old new : List Bool) : Type 0 where
+  pub places : length new ≡ 256
+  pub rest : (p : ℕ) → slice_index_or new p false ≡ true → slice_index_or old p false ≡ true
+  pub none : (j p : ℕ) → j < done → j < length points → slice_index_or points j p ≡ p → slice_index_or new p false ≡ false

@@ -1,8 +1,9 @@
 // What is listed of changes of the table of distances.
-ghost use Rattle.std.specs.Prelude.{◌≡◌, ◌⊎◌, ℕ, ◌<◌, ◌≤◌, ◌↔◌, [], true, false, length, drop, slice_index_or, IfOk, IsTrue, vec_capacity};
-ghost use Rattle.std.specs.List.{All, Contains, count_by};
-ghost use Rattle.dist_net.specs.Changes.{Covers, IsNoted, ArePoints, AreNumbersListed, AreListedMarked, AreNumbersMarked, AreMarksListed};
+ghost use Rattle.std.specs.Prelude.{◌≡◌, ◌⊎◌, ℕ, ◌<◌, ◌≤◌, [], true, false, length, drop, slice_index_or, IfOk, vec_capacity};
+ghost use Rattle.std.specs.List.{All, Contains};
+ghost use Rattle.dist_net.specs.Changes.{Covers, IsNoted, AreNumbersListed, AreGathered, AreAmong};
 
+use crate::numbers::Numbers;
 use crate::{PLACES, POINTS};
 use std::alloc::Global;
 use std::marker::Model;
@@ -18,22 +19,22 @@ pub struct Changes {
     // where the draft may differ from the table of the present state
     drafted: Vec<u16>,
     // points of which one is at each place where the tables of the two states differ, each once
-    moved: Vec<u16>,
-    // room for marks of the first numbers of places
-    from: Vec<bool>,
-    // room for marks of the second numbers of places
-    to: Vec<bool>,
+    moved: Numbers,
+    // room for the first numbers of places
+    from: Numbers,
+    // room for the second numbers of places
+    to: Numbers,
 }
 
 impl Model for Changes {
-    ghost use Rattle.std.specs.Prelude.{◌≡◌, ℕ, length, vec_capacity};
-    ghost use Rattle.dist_net.specs.Changes.{Listed, ArePoints};
+    ghost use Rattle.std.specs.Prelude.{◌≡◌, ℕ, vec_capacity};
+    ghost use Rattle.dist_net.specs.Changes.{Listed};
 
     ghost Value = { Listed };
 
-    ghost view = { λ c. record { places = c.places.items; drafted = c.drafted.items; moved = c.moved.items } };
+    ghost view = { λ c. record { places = c.places.items; drafted = c.drafted.items; moved = c.moved } };
 
-    ghost invariant = { λ c. ArePoints c.moved.items × (vec_capacity c.places ≡ 65536) × (vec_capacity c.drafted ≡ 65536) × (vec_capacity c.moved ≡ 256) × (length c.from.items ≡ 256) × (length c.to.items ≡ 256) };
+    ghost invariant = { λ c. (vec_capacity c.places ≡ 65536) × (vec_capacity c.drafted ≡ 65536) };
 }
 
 impl Changes {
@@ -46,9 +47,9 @@ impl Changes {
         Ok(Changes {
             places: Vec::with_capacity(alloc, PLACES)?,
             drafted: Vec::with_capacity(alloc, PLACES)?,
-            moved: Vec::with_capacity(alloc, POINTS)?,
-            from: vec![in alloc; false; POINTS]?,
-            to: vec![in alloc; false; POINTS]?,
+            moved: Numbers::make(alloc)?,
+            from: Numbers::make(alloc)?,
+            to: Numbers::make(alloc)?,
         })
     }
 
@@ -79,7 +80,7 @@ impl Changes {
         ensures list { result.now ≡ self.now.moved }
         ensures points { All (λ p. p < 256) self.now.moved }
     {
-        &self.moved
+        self.moved.list()
     }
 
     /// Lists a place of the present table that is written.
@@ -111,9 +112,23 @@ impl Changes {
         ensures full { 65536 ≤ length self.old.places → AreNumbersListed [] true self.new.moved }
         ensures moved { AreNumbersListed (drop before self.old.places) false self.new.moved }
     {
-        let full = self.places.len() >= PLACES;
-        mark_numbers(&self.places[before..], full, &mut self.from, &mut self.to);
-        list_fewer(&mut self.moved, &self.from, &self.to);
+        if self.places.len() >= PLACES {
+            list_all(&mut self.moved);
+            return;
+        }
+        gather_numbers(&self.places[before..], &mut self.from, &mut self.to);
+        list_fewer(&mut self.moved, self.from.list(), self.to.list());
+    }
+
+    /// Lists the points of one of the two lists, of that with fewer.
+    pub fn list_fewer(&mut self, some: &[u16], others: &[u16])
+        requires points { All (λ p. p < 256) some.now }
+        requires other_points { All (λ p. p < 256) others.now }
+        ensures kept { self.new ≡ record self.old { moved = self.new.moved } }
+        ensures more { AreAmong self.old.moved self.new.moved }
+        ensures listed { AreAmong some.now self.new.moved ⊎ AreAmong others.now self.new.moved }
+    {
+        list_fewer(&mut self.moved, some, others);
     }
 
     /// The draft is the present table.
@@ -165,84 +180,49 @@ fn note_all(list: &mut Vec<u16>, places: &[u16])
     }
 }
 
-// Marks the first and the second number of each place that is listed, or all numbers.
-fn mark_numbers(places: &[u16], all: bool, from: &mut [bool], to: &mut [bool])
-    requires from { length from.old ≡ 256 }
-    requires to { length to.old ≡ 256 }
-    ensures marked { AreNumbersMarked places.now all from.new to.new }
+// Lists the first and the second numbers of the places that are listed.
+fn gather_numbers(places: &[u16], from: &mut Numbers, to: &mut Numbers)
+    ensures { AreGathered places.now (length places.now) from.new to.new }
 {
-    from.fill(all);
-    to.fill(all);
-    mark_listed(places, from, to);
-}
-
-// Marks the first and the second number of each place that is listed.
-fn mark_listed(places: &[u16], from: &mut [bool], to: &mut [bool])
-    requires from { length from.old ≡ 256 }
-    requires to { length to.old ≡ 256 }
-    ensures marked { AreListedMarked places.now from.old to.old (length places.now) from.new to.new }
-{
+    from.clear();
+    to.clear();
     for place in places {
-        from[*place as usize / POINTS] = true;
-        to[*place as usize % POINTS] = true;
+        from.add(place / POINTS as u16);
+        to.add(place % POINTS as u16);
     }
 }
 
-// Lists the numbers that are marked in one of the two, in that of fewer marks.
-fn list_fewer(moved: &mut Vec<u16>, from: &[bool], to: &[bool])
-    requires points { ArePoints moved.old.items }
-    requires room { vec_capacity moved.old ≡ 256 }
-    requires from { length from.now ≡ 256 }
-    requires to { length to.now ≡ 256 }
-    ensures listed { AreMarksListed from.now moved.old.items 256 moved.new.items ⊎ AreMarksListed to.now moved.old.items 256 moved.new.items }
-    ensures capacity { vec_capacity moved.new ≡ 256 }
+// Lists the points of one of the two lists, of that with fewer.
+fn list_fewer(moved: &mut Numbers, some: &[u16], others: &[u16])
+    requires points { All (λ p. p < 256) some.now }
+    requires other_points { All (λ p. p < 256) others.now }
+    ensures kept { AreAmong moved.old moved.new }
+    ensures listed { AreAmong some.now moved.new ⊎ AreAmong others.now moved.new }
 {
-    if count_marks(from) <= count_marks(to) {
-        list_marked(moved, from);
+    if some.len() <= others.len() {
+        list_each(moved, some);
     } else {
-        list_marked(moved, to);
+        list_each(moved, others);
     }
 }
 
-fn count_marks(marks: &[bool]) -> usize
-    ensures { result ≡ count_by (λ mark. mark) marks.now }
+// Lists each of these points.
+fn list_each(moved: &mut Numbers, points: &[u16])
+    requires points { All (λ p. p < 256) points.now }
+    ensures kept { AreAmong moved.old moved.new }
+    ensures listed { AreAmong points.now moved.new }
 {
-    marks.iter().filter(|mark| **mark).count()
-}
-
-// Lists the numbers that are marked.
-fn list_marked(moved: &mut Vec<u16>, marks: &[bool])
-    requires points { ArePoints moved.old.items }
-    requires room { vec_capacity moved.old ≡ 256 }
-    requires marks { length marks.now ≡ 256 }
-    ensures listed { AreMarksListed marks.now moved.old.items 256 moved.new.items }
-    ensures capacity { vec_capacity moved.new ≡ 256 }
-{
-    for p in 0..POINTS {
-        if marks[p] {
-            list_point(moved, p as u16);
-        }
+    for p in points {
+        moved.add(*p);
     }
 }
 
-// Lists a point that is not listed yet.
-fn list_point(moved: &mut Vec<u16>, p: u16)
-    requires points { ArePoints moved.old.items }
-    requires room { vec_capacity moved.old ≡ 256 }
-    requires point { p < 256 }
-    ensures points { ArePoints moved.new.items }
-    ensures kept { (q : ℕ) → Contains moved.old.items q → Contains moved.new.items q }
-    ensures listed { Contains moved.new.items p }
-    ensures capacity { vec_capacity moved.new ≡ 256 }
+// Lists all numbers.
+fn list_all(moved: &mut Numbers)
+    ensures kept { AreAmong moved.old moved.new }
+    ensures listed { (p : ℕ) → p < 256 → Contains moved.new p }
 {
-    if !is_listed(moved, p) {
-        moved.push_reserved(p);
+    for p in 0..POINTS as u16 {
+        moved.add(p);
     }
-}
-
-// Whether a point is listed.
-fn is_listed(moved: &[u16], p: u16) -> bool
-    ensures { IsTrue result ↔ Contains moved.now p }
-{
-    moved.contains(&p)
 }

@@ -101,8 +101,8 @@ module _ {P : Type 0} (old new : List (Arc P)) (e : Arc P) (adds : Adds new e ol
       (λ walk h. around e.from (λ walk h. ([], refl, (let low : (dates.0 e.from -ℤ dates.0 e.from) ≤ℤ total walk = difference-le_total start old dates.0 dates.1 e.from e.from walk h in omega (arith, ints, low)))) a walk h)
       far
 
-  -- Where each constraint from the end of e leads to a point to which a walk from the beginning of e
-  -- can do without e, each walk to a point beside that end can.
+  -- Where each constraint from the end of e leads to a point to which a walk from the beginning of
+  -- e can do without e, each walk to a point beside that end can.
   past : (b : P) → (e.to ≡ b → ⊥) → (e.from ≡ e.to → ⊥) → ((y : Arc P) → Contains new y → y.from ≡ e.to → (walk : List (Arc P)) → IsWalk old e.from y.to walk → (w : List (Arc P)) × IsWalk new e.from y.to w × (total w ≤ℤ total walk)) →
       (a : P) (walk : List (Arc P)) → IsWalk old a b walk → (w : List (Arc P)) × IsWalk new a b w × (total w ≤ℤ total walk)
   past b out apart on a [] h = ([], h, omega (arith, ints))

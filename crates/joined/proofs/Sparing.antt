@@ -37,8 +37,8 @@ use Rattle.joined.proofs.Reading.{class_watched, watched_plain, none_rival}
 abbrev pub IsInBoth : Standing → List Moment → List Moment → TokenRow Moment → Type 0
 IsInBoth s b c k = In k (tokens s b) × In k (tokens s c)
 
--- the token bears on no decision of the rule at t: it has not surely begun there, or it is past, and
--- the rule reads no fact that contradicts its own
+-- the token bears on no decision of the rule at t: it has not surely begun there, or it is past,
+-- and the rule reads no fact that contradicts its own
 abbrev pub IsSparedFor : Standing → List Moment → List Moment → Moment → List ℕ → TokenRow Moment → Type 0
 IsSparedFor s b c t r k = (has_begun (map_of s b) t k ≡ false) ⊎ (IsPast (IsInBoth s b c) (map_of s b) t k × (reads_rival s r k.fact ≡ false))
 

@@ -54,8 +54,8 @@ pub record IsFactSpot (f : Forest) (fact : List ℕ) (p : Spot) : Type 0 where
   pub fact_is : node.what ≡ fact
   pub is : (p ≡ Node number) ⊎ ((e : ℕ) × (node.end ≡ Some e) × (p ≡ Declared e))
 
--- the spot is `start`, or the begin or the end of a token that the rule watches: one of a class that
--- it reads, or of a fact that contradicts one that it reads
+-- the spot is `start`, or the begin or the end of a token that the rule watches: one of a class
+-- that it reads, or of a fact that contradicts one that it reads
 pub data IsReadSpot (s : Standing) (f : Forest) (r : List ℕ) (p : Spot) : Type 0 where
   start : p ≡ Declared 0 → IsReadSpot s f r p
   read : (class : List ℕ) → reads_class s r class ≡ true → IsClassSpot f class p → IsReadSpot s f r p

@@ -46,8 +46,8 @@ pub record AreMarksOf (r : Revision) (s : Standing) (net : Net) (number : List �
   pub own : (mark : Mark) → In mark marks → (m : Member) × IsMemberOf s net.names m × Moved f p found (moment m) × IsMarkOf r net number f g m mark
   pub all : (m : Member) (class : List ℕ) → IsMemberOf s net.names m → Moved f p found (moment m) → m.class ≡ Some class → (mark : Mark) × In mark marks × IsMarkOf r net number f g m mark
 
--- the mark asks for the row of number i, of this rule at the event of node x: it is on a list of the
--- class and the event is not spared, or its rule reads what contradicts the fact
+-- the mark asks for the row of number i, of this rule at the event of node x: it is on a list of
+-- the class and the event is not spared, or its rule reads what contradicts the fact
 abbrev pub AsksFor : Standing → Table Pair 8 → Mark → ℕ → ℕ → List ℕ → Type 0
 AsksFor s t mark i x rule = (IsListedUnder t mark.class i × (mark.spares x ≡ false)) ⊎ (reads_rival s rule mark.fact ≡ true)
 

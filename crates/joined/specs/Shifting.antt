@@ -83,15 +83,15 @@ pub record SparesClass (nets : Nets) (f : Forest) (loose : ℕ → Bool) (class 
       → IsFast loose m ⊎ (IsSparedAt nets.committed f loose class x y m × IsSparedAt nets.present f loose class x y m)
 
 -- The decision of the rule at the event of node x may rest: no premise says that a fact contradicts
--- one that it reads, the event keeps its date, and of each class that the rule reads no points moved
--- on which the decision depends, or what moved is spared.
+-- one that it reads, the event keeps its date, and of each class that the rule reads no points
+-- moved on which the decision depends, or what moved is spared.
 pub record MayRest (moves : ℕ → ℕ → Bool) (loose : ℕ → Bool) (s : Standing) (nets : Nets) (f : Forest) (r : List ℕ) (x : ℕ) : Type 0 where
   pub plain : ReadsNoRival s r
   pub date : moves (base_of f (Node x)) 0 ≡ false
   pub each : (class : List ℕ) → reads_class s r class ≡ true → (MovesAmong moves f (IsSpotOf f class) x → ⊥) ⊎ SparesClass nets f loose class x
 
--- **Then it keeps its outcome**, if the decision was there, the horizon is the same, no premise said
--- that a fact contradicts one that it reads, and no token that it watches left or entered.
+-- **Then it keeps its outcome**, if the decision was there, the horizon is the same, no premise
+-- said that a fact contradicts one that it reads, and no token that it watches left or entered.
 abbrev pub RestingKeep : Type 0
 RestingKeep =
     (old : Standing) (edit : Edit) (nets : Nets) (moves : ℕ → ℕ → Bool) (loose : ℕ → Bool) (f : Forest) (before b : List Moment) (r : List ℕ) (x : ℕ)

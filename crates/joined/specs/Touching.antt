@@ -24,8 +24,8 @@ abbrev pub RivalsStay : Standing → Standing → List ℕ → Type 0
 RivalsStay old new r = (f : List ℕ) → In f (read_by (rule_of new r)) → same_rivals old new f ≡ true
 
 -- The edit does not touch the decision of r at t, where these occurrences are live: there was this
--- decision, the horizon is the same, the same facts contradict those that it reads, no token that it
--- watches left or entered, and the points on which it depends are as far apart as they were.
+-- decision, the horizon is the same, the same facts contradict those that it reads, no token that
+-- it watches left or entered, and the points on which it depends are as far apart as they were.
 pub record IsUntouched (old new : Standing) (b : List Moment) (t : Moment) (r : List ℕ) : Type 0 where
   pub was : Contains (built old).believed t × Contains (rules_at old t) r
   pub horizon : old.horizon ≡ new.horizon

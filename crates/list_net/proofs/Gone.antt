@@ -21,7 +21,7 @@ use Rattle.walk_theory.proofs.Points.{same_name-is, same_name-self}
 use Rattle.dist_net.specs.declared.Edge.{Edge}
 use Rattle.dist_net.specs.Net.{Net}
 use Rattle.neg_cycle.specs.Steps.{step_of, steps_in_net}
-use Rattle.list_net.specs.Cutting.{stands_in, IsTold, AreTold}
+use Rattle.list_net.specs.Cutting.{stands_in, IsListedIfFallen, AreListedIfFallen}
 use Rattle.list_net.specs.Fits.{Fits}
 use Rattle.list_net.proofs.Owned.{own_steps}
 
@@ -38,7 +38,7 @@ module _ (erased : List ℕ) (ps : List Premise) (h : IsWellNamed ps) where
   kept = kept_without erased ps
 
   -- a name of a premise is among those that fell exactly where no premise that is left has it
-  told : (n : List ℕ) → In n (map name_of ps) → IsTold kept (map name_of (fallen_with erased ps)) n
+  told : (n : List ℕ) → In n (map name_of ps) → IsListedIfFallen kept (map name_of (fallen_with erased ps)) n
   told n at = by (stands_in kept n) refl
     where
       by : (b : Bool) → stands_in kept n ≡ b → list_any (same_name n) (map name_of (fallen_with erased ps)) ≡ not (stands_in kept n)
@@ -56,11 +56,11 @@ module _ (erased : List ℕ) (ps : List Premise) (h : IsWellNamed ps) where
 
 -- **Of each edge the names tell whether its premise falls.**
 pub are_told : (list : Standing) (erased : List ℕ) (h : IsWellNamed list.premises) (net : Net) (fits : Fits list net) (after : Standing) → after ≡ list_without list erased
-    → (gone : List (List ℕ)) → gone ≡ map name_of (fallen_with erased list.premises) → AreTold after.premises gone net.edges
+    → (gone : List (List ℕ)) → gone ≡ map name_of (fallen_with erased list.premises) → AreListedIfFallen after.premises gone net.edges
 are_told list erased h net fits after is gone are =
-    subst (λ (s : Standing). AreTold s.premises gone net.edges) (sym is)
-    (subst (λ (names : List (List ℕ)). AreTold (kept_without erased list.premises) names net.edges) (sym are)
-    (All-from_contains (λ (e : Edge). IsTold (kept_without erased list.premises) (map name_of (fallen_with erased list.premises)) e.owner) net.edges
+    subst (λ (s : Standing). AreListedIfFallen s.premises gone net.edges) (sym is)
+    (subst (λ (names : List (List ℕ)). AreListedIfFallen (kept_without erased list.premises) names net.edges) (sym are)
+    (All-from_contains (λ (e : Edge). IsListedIfFallen (kept_without erased list.premises) (map name_of (fallen_with erased list.premises)) e.owner) net.edges
     (λ e m. told erased list.premises h e.owner (owned e m))))
   where
     owned : (e : Edge) → Contains net.edges e → In e.owner (map name_of list.premises)

@@ -10,13 +10,13 @@ use Rattle.tmm_model.specs.declared.point.PointName.{PointName}
 use Rattle.tmm_model.specs.declared.point.PointName.TheVariants.{Start, Begin, End}
 use Rattle.tmm_model.specs.declared.premise.Premise.{Premise}
 use Rattle.tmm_model.specs.declared.premise.Premise.TheVariants.{Class, Kind, Point, Event, Token, Span, Dist, Rule, Protect, Against}
-use Rattle.tmm_model.specs.declared.premise.Edit.TheVariants.{Add}
 use Rattle.tmm_model.specs.declared.walk.Side.TheVariants.{Hi, Lo}
 use Rattle.tmm_model.specs.declared.walk.WalkStep.{WalkStep}
 use Rattle.tmm_model.specs.Standing.{points_of, points_in, steps_of, base_step, length_step, hi_steps, lo_steps}
 use Rattle.tmm_model.specs.Sorts.{Use, a_place, uses_of, declared_by}
 use Rattle.tmm_model.specs.Verdicts.{Cause, too_many_premises, too_many_points, most_premises, most_points, use_cause, uses_cause, first_taken, words_known, premises_cause, points_cause, add_cause}
 use Rattle.walk_theory.proofs.Members.{All-from_contains, Contains-cons, Contains-cons_first, Contains-cons_cases}
+use Rattle.list_theory.proofs.Elements.{In}
 use Rattle.list_theory.proofs.Places.{place_known}
 
 -- ---- what no cause means
@@ -60,6 +60,11 @@ uses_none ps use_ uses none = by (use_cause ps use_) refl none
     by : (o : Option Cause) → use_cause ps use_ ≡ o → elim o as (λ _. Option Cause) [ Some cause ↦ Some cause | None ↦ uses_cause ps uses ] ≡ None → (use_cause ps use_ ≡ None) × (uses_cause ps uses ≡ None)
     by (Some cause) e h = absurd (cc (h))
     by None e h = (e, h)
+
+pub each_use : (ps : List Premise) (uses : List Use) → uses_cause ps uses ≡ None → (use_ : Use) → In use_ uses → use_cause ps use_ ≡ None
+each_use ps [] none use_ at = absurd at
+each_use ps (first ∷ uses) none use_ (inl is) = subst (λ u. use_cause ps u ≡ None) is (uses_none ps first uses none).0
+each_use ps (first ∷ uses) none use_ (inr at) = each_use ps uses (uses_none ps first uses none).1 use_ at
 
 -- ---- constraints of a premise
 

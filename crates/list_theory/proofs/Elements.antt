@@ -1,6 +1,7 @@
 -- Members of lists, by recursion.
-use Rattle.std.proofs.Common.{◌≡◌, zero, suc, Bool, true, false, ◌&&◌, ◌||◌, List, [], ◌∷◌, ◌++◌, refl, sym, ◌∙◌, ap, subst, inl, inr, arith}
-use Rattle.std.specs.Prelude.{Option, Some, None, ◌⊎◌, filter, map, cond}
+use Rattle.std.proofs.Common.{◌≡◌, ℕ, zero, suc, Bool, true, false, ◌&&◌, ◌||◌, List, [], ◌∷◌, ◌++◌, refl, sym, ◌∙◌, ap, subst, inl, inr, arith}
+use Rattle.std.proofs.lemmas.Bool.{or_right}
+use Rattle.std.specs.Prelude.{Option, Some, None, IsSome, ◌⊎◌, filter, map, cond, slice_get}
 use Rattle.std.specs.List.{Contains, AllByRecursion, list_any, list_all, filter_map, cons_option, flat_map}
 
 -- x is in the list
@@ -17,6 +18,16 @@ pub Contains-from_In : {X : Type 0} (xs : List X) (x : X) → In x xs → Contai
 Contains-from_In [] x h = absurd h
 Contains-from_In (y ∷ ys) x (inl e) = (0, omega arith, e)
 Contains-from_In (y ∷ ys) x (inr h) = let (k, lt, e) = Contains-from_In ys x h in (suc k, omega arith, e)
+
+pub In-slice_get : {X : Type 0} (xs : List X) (i : ℕ) (x : X) → slice_get xs i ≡ Some x → In x xs
+In-slice_get [] i x e = cc
+In-slice_get (y ∷ xs) zero x e = inl cc
+In-slice_get (y ∷ xs) (suc i) x e = inr (In-slice_get xs i x e)
+
+-- the value that is there
+pub some_value : {X : Type 0} (o : Option X) → IsSome o → (x : X) × (o ≡ Some x)
+some_value None h = cc
+some_value (Some x) h = (x, refl)
 
 -- both tests pass where their conjunction does
 pub both : (a b : Bool) → (a && b) ≡ true → (a ≡ true) × (b ≡ true)
@@ -36,11 +47,7 @@ list_any-In {X} p (y ∷ ys) h = by (list_any-In p ys) (p y) refl h
 pub In-list_any : {X : Type 0} (p : X → Bool) (xs : List X) (x : X) → In x xs → p x ≡ true → list_any p xs ≡ true
 In-list_any p [] x h e = absurd h
 In-list_any p (y ∷ ys) x (inl q) e = let first : p y ≡ true = subst (λ z. p z ≡ true) (sym q) e in rw first refl
-In-list_any p (y ∷ ys) x (inr h) e = or_right (p y) (In-list_any p ys x h e)
-  where
-    or_right : (a : Bool) {c : Bool} → c ≡ true → (a || c) ≡ true
-    or_right true h = refl
-    or_right false h = h
+In-list_any p (y ∷ ys) x (inr h) e = or_right (p y) (list_any p ys) (In-list_any p ys x h e)
 
 pub list_all-In : {X : Type 0} (p : X → Bool) (xs : List X) → list_all p xs ≡ true → (x : X) → In x xs → p x ≡ true
 list_all-In p [] h x at = absurd at

@@ -22,7 +22,7 @@ names_agree : (ps qs : List Premise) (names : List (List ℕ)) → ((n : List �
 names_agree ps qs [] h = refl
 names_agree ps qs (n ∷ names) h = λ i. cond (h n (inl refl) i) (n ∷ names_agree ps qs names (λ m at. h m (inr at)) i) (names_agree ps qs names (λ m at. h m (inr at)) i)
 
-not_found : (ps : List Premise) (name : List ℕ) → ((p : Premise) → In p ps → same_name name (name_of p) ≡ true → ⊥) → premise_in ps name ≡ None
+pub not_found : (ps : List Premise) (name : List ℕ) → ((p : Premise) → In p ps → same_name name (name_of p) ≡ true → ⊥) → premise_in ps name ≡ None
 not_found [] name h = refl
 not_found (p ∷ ps) name h = by (not_found ps name (λ q at. h q (inr at))) (same_name name (name_of p)) refl
   where

@@ -7,4 +7,5 @@ pub mod Erasure
 pub mod KnownNames
 pub mod Opening
 pub mod Places
+pub mod Pointwise
 pub mod WellNamed

@@ -1,19 +1,18 @@
 -- Every class is apart from what an edit touched that is not among the classes that were found.
 use Rattle.std.proofs.Common.{◌≡◌, ◌∙◌, ℕ, Bool, true, false, not, ◌&&◌, ◌||◌, List, [], refl, sym, ap, subst, inl, inr}
-use Rattle.std.specs.Prelude.{◌⊎◌, Option, Some, None, IsSome}
+use Rattle.std.proofs.lemmas.Bool.{or_cases, or_right}
+use Rattle.std.specs.Prelude.{◌⊎◌, Some}
 use Rattle.std.specs.List.{Contains, list_any}
 use Rattle.std.specs.Cmp.{both_ways}
 use Rattle.std.specs.Cmp.Lexicographic.{bytes_decides}
-use Rattle.tmm_model.specs.declared.premise.Premise.{Premise}
-use Rattle.tmm_model.specs.declared.premise.Premise.TheVariants.{Class, Kind, Point, Event, Token, Span, Dist, Rule, Protect, Against}
 use Rattle.tmm_model.specs.Beliefs.{class_of, says_against, are_rivals}
 use Rattle.tmm_model.specs.Points.{same_name}
 use Rattle.tmm_model.specs.Sorts.{class_in}
 use Rattle.tmm_model.specs.Standing.{Standing}
-use Rattle.list_theory.specs.WellNamed.{IsWellNamed, IsSound}
-use Rattle.list_theory.proofs.Elements.{In, both, list_any-In, In-list_any, In-from_Contains}
+use Rattle.list_theory.specs.WellNamed.{IsWellNamed}
+use Rattle.list_theory.proofs.Elements.{In, both, list_any-In, In-list_any, In-from_Contains, some_value}
 use Rattle.belief_theory.specs.Touched.{contradict}
-use Rattle.belief_theory.proofs.Rivals.{or_cases, or_right}
+use Rattle.belief_theory.proofs.Rivals.{class_is}
 use Rattle.premise_list.specs.Rivalries.{rivalries, is_pair_of}
 use Rattle.premise_list.specs.States.{States}
 use Rattle.premise_list.proofs.PairsOfFacts.{any_pair}
@@ -22,7 +21,7 @@ use Rattle.occ_tree.specs.Standing.{Kept}
 use Rattle.occ_tree.specs.Touched.{IsUntouched}
 use Rattle.supports.specs.Apart.{IsApart, HasSameRivals, AreRivalsUntouched, AreOthersApart}
 use Rattle.supports.specs.Edited.{AreOthersUntouched}
-use Rattle.supports.proofs.Facts.{fact_known}
+use Rattle.supports.proofs.Facts.{rival_known}
 use Rattle.revisions.specs.Alike.{SayAlike}
 use Rattle.map_engine.specs.RivalClasses.{HasClassOf, HasClassesOf, Follows, IsThereOr, TakesInRivals}
 
@@ -105,38 +104,6 @@ others_apart lists nets tree touched found takes untouched class out = is_apart 
 
 -- ---- where the lists say the same
 
--- a fact that a premise sets against another is declared
-rival_known : (s : Standing) → IsWellNamed s.premises → (f x : List ℕ) → are_rivals s f x ≡ true → IsSome (class_in s.premises x)
-rival_known s named f x rival =
-    let (p, at, says) = list_any-In (says_against f x) s.premises (both (not (same_name f x)) (list_any (says_against f x) s.premises) rival).1 in
-    by p at says
-  where
-    by : (p : Premise) → In p s.premises → says_against f x p ≡ true → IsSome (class_in s.premises x)
-    by (Class name facts) at says = cc
-    by (Kind name) at says = cc
-    by (Point name) at says = cc
-    by (Event name kind) at says = cc
-    by (Token name fact) at says = cc
-    by (Span name fact) at says = cc
-    by (Dist name from to lo hi) at says = cc
-    by (Rule name trigger lo hi effect given unless_facts) at says = cc
-    by (Protect name fact from to) at says = cc
-    by (Against name one other) at says = elim (or_cases (same_name one f && same_name other x) (same_name one x && same_name other f) says) [
-      | inl h ↦ (
-          let is : other ≡ x = (bytes_decides other x).0 (both (same_name one f) (same_name other x) h).1 in
-          subst (λ z. IsSome (class_in s.premises z)) is (fact_known s.premises named (Against name one other) at other (inr (inl refl))))
-      | inr h ↦ (
-          let is : one ≡ x = (bytes_decides one x).0 (both (same_name one x) (same_name other f) h).0 in
-          subst (λ z. IsSome (class_in s.premises z)) is (fact_known s.premises named (Against name one other) at one (inl refl)))
-    ]
-
-some_class : (o : Option (List ℕ)) → IsSome o → (c : List ℕ) × (o ≡ Some c)
-some_class None h = cc
-some_class (Some c) h = (c, refl)
-
-class_is : (s : Standing) (f class : List ℕ) → class_in s.premises f ≡ Some class → class_of s f ≡ class
-class_is s f class is = ap (λ (o : Option (List ℕ)). elim o as (λ _. List ℕ) [ Some c ↦ c | None ↦ [] ]) is
-
 -- facts that contradict each other without a premise that says so are of one class
 one_class : (s : Standing) (f g class : List ℕ) → class_of s f ≡ class → contradict s f g ≡ true → are_rivals s f g ≡ false → class_of s g ≡ class
 one_class s f g class own e none = elim (or_cases (same_name (class_of s f) (class_of s g) && not (same_name f g)) (are_rivals s f g) e) [
@@ -173,5 +140,5 @@ still_apart lists nets tree named say others class out = record { untouched = al
 
     of_rivals : (f : List ℕ) → class_in lists.present.premises f ≡ Some class → AreRivalsUntouched lists nets tree f
     of_rivals f known g rival =
-        let (other, declared) = some_class (class_in lists.present.premises g) (rival_known lists.present named f g rival) in
+        let (other, declared) = some_value (class_in lists.present.premises g) (rival_known lists.present named f g rival) in
         (other, declared, all other)

@@ -1,14 +1,8 @@
 -- Classes of facts that contradict others, as they are found.
-use Rattle.std.proofs.Common.{◌≡◌, ◌∙◌, ℕ, zero, suc, ◌+◌, ◌<◌, List, [], ◌∷◌, ◌++◌, length, take, sym, subst, inl, inr}
-use Rattle.std.specs.Prelude.{◌⊎◌, Some, slice_get}
+use Rattle.std.proofs.Common.{◌≡◌, ℕ, List, [], ◌∷◌, inl, inr}
 use Rattle.std.specs.List.{Contains}
-use Rattle.std.proofs.lemmas.Option.{slice_get_within, get_or_from_slice_get}
-use Rattle.std.proofs.lemmas.List.{take_more}
 use Rattle.tmm_model.specs.Standing.{Standing}
-use Rattle.list_theory.proofs.Elements.{In, In-cases}
-use Rattle.premise_list.specs.Rivalries.{rivalries}
-use Rattle.premise_list.specs.States.{States}
-use Rattle.map_engine.specs.RivalClasses.{HasClassOf, HasClassesOf, Follows, FollowsBoth, IsThereOr, TakesInRivals}
+use Rattle.map_engine.specs.RivalClasses.{HasClassOf, HasClassesOf, Follows, FollowsBoth, IsThereOr}
 
 -- more classes are among more
 abbrev pub AreKept : List (List ℕ) → List (List ℕ) → Type 0
@@ -32,37 +26,3 @@ follows_both_more s touched old new kept pair both = (follows_more s touched old
 pub is_there_more : (s : Standing) (old new : List (List ℕ)) → AreKept old new → (pairs : List (List ℕ × List ℕ)) (pair : List ℕ × List ℕ) → IsThereOr s old pairs pair → IsThereOr s new pairs pair
 is_there_more s old new kept pairs pair (inl there) = inl there
 is_there_more s old new kept pairs pair (inr has) = inr (has_classes_more s old new kept pair has)
-
--- ---- what holds of the first and of one more
-
-pub each_taken : {X : Type 0} (P Q : X → Type 0) (xs : List X) (i : ℕ) (x : X) → slice_get xs i ≡ Some x → ((y : X) → P y → Q y) → Q x
-    → ((y : X) → In y (take i xs) → P y) → (y : X) → In y (take (i + 1) xs) → Q y
-each_taken P Q xs i x at follows own first y there =
-    elim (In-cases (take i xs) (x ∷ []) y (subst (In y) taken there)) [
-      | inl before ↦ follows y (first y before)
-      | inr here ↦ elim here [ inl same ↦ subst Q same own | inr none ↦ absurd none ]
-    ]
-  where
-    taken : take (i + 1) xs ≡ take i xs ++ x ∷ []
-    taken =
-        take_more xs i x (slice_get_within xs i x at)
-        ∙ (λ j. take i xs ++ get_or_from_slice_get xs i x x at j ∷ [])
-
-pub In-slice_get : {X : Type 0} (xs : List X) (i : ℕ) (x : X) → slice_get xs i ≡ Some x → In x xs
-In-slice_get [] i x e = cc
-In-slice_get (y ∷ xs) zero x e = inl cc
-In-slice_get (y ∷ xs) (suc i) x e = inr (In-slice_get xs i x e)
-
--- ---- where no premise sets facts against each other
-
-none_there : {X : Type 0} (xs : List X) → length xs ≡ 0 → (x : X) → In x xs → ⊥
-none_there [] none x at = at
-none_there (y ∷ xs) none x at = cc
-
-pub takes_in_none : (lists : States) (touched : List (List ℕ)) → length (rivalries lists.present.premises) ≡ 0 → length (rivalries lists.committed.premises) ≡ 0 → TakesInRivals lists touched touched
-takes_in_none lists touched now then = record {
-  own = λ class at. at;
-  gone = λ pair at. absurd (none_there (rivalries lists.committed.premises) then pair at);
-  come = λ pair at. absurd (none_there (rivalries lists.present.premises) now pair at);
-  near = λ pair at. absurd (none_there (rivalries lists.present.premises) now pair at);
-}

@@ -31,7 +31,7 @@ use Rattle.belief_theory.proofs.Rivals.{class_bears, contradicts_bears}
 use Rattle.belief_theory.proofs.Sorts.{sorted_in, sorted_rising}
 use Rattle.belief_theory.proofs.Watched.{class-token_of}
 use Rattle.spots.proofs.Seen.{believed_once}
-use Rattle.revisions.proofs.Pointwise.{map_same, sorted_same}
+use Rattle.list_theory.proofs.Pointwise.{map_same, sorted_same}
 use Rattle.tt_query.proofs.FirstPlaces.{In-take, Distinct-filter_map, sorted-In}
 use Rattle.protections.specs.Asks.{BearsOn, SameForPoints, AsksStay}
 

@@ -1,8 +1,9 @@
 -- Of a protection that an edit left alone the same is found as before.
-use Rattle.std.proofs.Common.{◌≡◌, ◌∙◌, ℕ, Bool, true, false, not, ◌&&◌, ◌||◌, List, [], map, refl, sym, ap, subst, inl, inr}
+use Rattle.std.proofs.Common.{◌≡◌, ◌∙◌, ℕ, true, false, ◌&&◌, ◌||◌, List, [], map, refl, sym, ap, subst, inl, inr}
+use Rattle.std.proofs.lemmas.Bool.{or_cases}
 use Rattle.std.proofs.lemmas.Bool.Decides.{eqb_tells}
 use Rattle.std.specs.Prelude.{◌↔◌, ◌⊎◌, ◌≢◌, Option, Some, None, IsSome, MatchOption}
-use Rattle.std.specs.List.{Contains, list_any}
+use Rattle.std.specs.List.{Contains}
 use Rattle.std.specs.Option.{option_map, option_map_or}
 use Rattle.std.specs.Cmp.Lexicographic.{bytes_decides}
 use Rattle.tmm_model.specs.declared.point.PointName.{PointName}
@@ -13,7 +14,7 @@ use Rattle.tmm_model.specs.declared.premise.Premise.TheVariants.{Class, Kind, Po
 use Rattle.tmm_model.specs.declared.token.Shape.TheVariants.{Span as ASpan}
 use Rattle.tmm_model.specs.declared.token.TokenRow.{TokenRow}
 use Rattle.tmm_model.specs.Answers.{Finding, does_hold, ask, broken}
-use Rattle.tmm_model.specs.Beliefs.{token_of, class_of, says_against, are_rivals, contradicts_in}
+use Rattle.tmm_model.specs.Beliefs.{token_of, class_of, are_rivals, contradicts_in}
 use Rattle.tmm_model.specs.Bounds.{bound_plus, bound_less}
 use Rattle.tmm_model.specs.Edits.{next_list}
 use Rattle.tmm_model.specs.Maps.{built, gap, believed_tokens}
@@ -23,10 +24,9 @@ use Rattle.tmm_model.specs.Sorts.{class_in}
 use Rattle.tmm_model.specs.Standing.{Standing, points_in}
 use Rattle.tmm_model.specs.Tokens.{of_one_class}
 use Rattle.list_theory.specs.WellNamed.{IsWellNamed}
-use Rattle.list_theory.proofs.Elements.{In, both, list_any-In, In-filter_map, In-from_Contains, Contains-from_In, In-map, map-In}
+use Rattle.list_theory.proofs.Elements.{In, both, In-filter_map, In-from_Contains, Contains-from_In, In-map, map-In, some_value}
 use Rattle.belief_theory.specs.Right.{Occurs}
-use Rattle.belief_theory.proofs.NextLists.{one_way}
-use Rattle.belief_theory.proofs.Rivals.{or_cases}
+use Rattle.belief_theory.proofs.Rivals.{class_is, contradict_in_class}
 use Rattle.belief_theory.proofs.Watched.{class-token_of}
 use Rattle.dist_net.specs.Net.{Nets, IsMovedAt}
 use Rattle.list_net.specs.Network.{PointsKeepNumbers, IsThere}
@@ -46,25 +46,14 @@ use Rattle.occ_tree.specs.Standing.{Kept, forest, present}
 use Rattle.occ_tree.specs.Touched.{IsAtMoved, IsUntouched}
 use Rattle.supports.specs.Apart.{IsApart, AreOthersApart}
 use Rattle.supports.specs.Edited.{IsEdited, old_forest}
-use Rattle.supports.proofs.Facts.{fact_known}
-use Rattle.revisions.proofs.Names.{classes_within}
+use Rattle.supports.proofs.Facts.{rival_known}
+use Rattle.revisions.proofs.Names.{class_kept}
 use Rattle.revisions.proofs.Tokens.{tokens_stay}
 use Rattle.joined.proofs.Gaps.{WasThere, start_was, node_was, distance_was, one_base}
 use Rattle.protections.specs.Asks.{BearsOn, SameForPoints}
 use Rattle.protections.specs.Kept.{IsStill, LeftAloneStay}
 use Rattle.protections.proofs.Asks.{asks_stay}
 use Rattle.protections.proofs.Protected.{grounded}
-
--- tokens of one class contradict each other where their facts differ, whatever premises say
-one_class_alike : (a b c : Bool) → (a || (a && b)) ≡ (a || (a && c))
-one_class_alike true b c = refl
-one_class_alike false b c = refl
-
-contradict_in_class : (s t : Standing) (k c : TokenRow Moment) → same_name k.class c.class ≡ true → contradicts_in s k c ≡ contradicts_in t k c
-contradict_in_class s t k c one =
-    (λ i. (one i && not (same_name k.fact c.fact)) || are_rivals s k.fact c.fact)
-    ∙ one_class_alike (not (same_name k.fact c.fact)) (list_any (says_against k.fact c.fact) s.premises) (list_any (says_against k.fact c.fact) t.premises)
-    ∙ sym (λ i. (one i && not (same_name k.fact c.fact)) || are_rivals t k.fact c.fact)
 
 module _ (old : Standing) (edit : Edit) (nets : Nets) (f g : Forest)
     (seen_f : IsForestOf old nets.committed f) (holds_f : HasOccurrences (built old).believed f)
@@ -398,48 +387,12 @@ module _ (old : Standing) (edit : Edit) (nets : Nets) (f g : Forest)
 
 -- ---- the class of a fact
 
-some_class : (o : Option (List ℕ)) → IsSome o → (c : List ℕ) × (o ≡ Some c)
-some_class None h = cc
-some_class (Some c) h = (c, refl)
-
 -- a fact that both lists declare is of one class
 one_class : (old : Standing) (edit : Edit) → IsWellNamed old.premises → IsWellNamed (next_list old edit).premises
     → (fact class : List ℕ) → IsSome (class_in old.premises fact) → class_in (next_list old edit).premises fact ≡ Some class → class_in old.premises fact ≡ Some class
 one_class old edit named_old named_new fact class known is =
-    elim (one_way old edit) [
-      | inl more ↦ (
-          let (c, was) = some_class (class_in old.premises fact) known in
-          was ∙ sym (classes_within old.premises (next_list old edit).premises more named_new fact c was) ∙ is)
-      | inr fewer ↦ classes_within (next_list old edit).premises old.premises fewer named_old fact class is
-    ]
-
-class_is : (s : Standing) (fact class : List ℕ) → class_in s.premises fact ≡ Some class → class_of s fact ≡ class
-class_is s fact class is = ap (λ (o : Option (List ℕ)). elim o as (λ _. List ℕ) [ Some c ↦ c | None ↦ [] ]) is
-
--- a fact that a premise sets against another is declared
-rival_known : (s : Standing) → IsWellNamed s.premises → (f x : List ℕ) → are_rivals s f x ≡ true → IsSome (class_in s.premises x)
-rival_known s named f x rival =
-    let (p, at, says) = list_any-In (says_against f x) s.premises (both (not (same_name f x)) (list_any (says_against f x) s.premises) rival).1 in
-    by p at says
-  where
-    by : (p : Premise) → In p s.premises → says_against f x p ≡ true → IsSome (class_in s.premises x)
-    by (Class name facts) at says = cc
-    by (Kind name) at says = cc
-    by (Point name) at says = cc
-    by (Event name kind) at says = cc
-    by (Token name fact) at says = cc
-    by (Span name fact) at says = cc
-    by (Dist name from to lo hi) at says = cc
-    by (Rule name trigger lo hi effect given unless_facts) at says = cc
-    by (Protect name fact from to) at says = cc
-    by (Against name one other) at says = elim (or_cases (same_name one f && same_name other x) (same_name one x && same_name other f) says) [
-      | inl h ↦ (
-          let is : other ≡ x = (bytes_decides other x).0 (both (same_name one f) (same_name other x) h).1 in
-          subst (λ z. IsSome (class_in s.premises z)) is (fact_known s.premises named (Against name one other) at other (inr (inl refl))))
-      | inr h ↦ (
-          let is : one ≡ x = (bytes_decides one x).0 (both (same_name one x) (same_name other f) h).0 in
-          subst (λ z. IsSome (class_in s.premises z)) is (fact_known s.premises named (Against name one other) at one (inl refl)))
-    ]
+    let (c, was) = some_value (class_in old.premises fact) known in
+    was ∙ ap Some (class_kept old edit named_old named_new fact c class was is)
 
 pub left_alone_stay : LeftAloneStay
 left_alone_stay lists nets edit tree is apart name fact from to alone =
@@ -486,7 +439,7 @@ pub all_left_alone : (lists : States) (nets : Nets) (edit : Edit) (tree : Kept) 
     → (p : Premise) → Contains lists.committed.premises p → Contains lists.present.premises p → broken (built lists.present) p ≡ broken (built lists.committed) p
 all_left_alone lists nets edit tree is apart none others tokens (Protect name fact from to) stood stands =
     let known = grounded lists.present nets.present is.seen_now.network name fact from to stands in
-    let (class, of_class) = some_class (class_in lists.present.premises fact) known.known in
+    let (class, of_class) = some_value (class_in lists.present.premises fact) known.known in
     left_alone_stay lists nets edit tree is apart name fact from to
     (record {
       stood = stood;

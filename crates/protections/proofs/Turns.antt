@@ -1,6 +1,6 @@
 -- Lists that are gone through one by one.
-use Rattle.std.proofs.Common.{◌≡◌, ◌∙◌, ℕ, Bool, true, false, not, ◌||◌, List, [], ◌∷◌, ◌++◌, map, take, length, ◌<◌, ◌+◌, refl, ap, inl, inr, zero, suc, get_or, add-one}
-use Rattle.std.specs.Prelude.{Option, Some, None, filter, cond, slice_get}
+use Rattle.std.proofs.Common.{◌≡◌, ◌∙◌, ℕ, Bool, true, false, not, ◌||◌, List, [], ◌∷◌, ◌++◌, map, take, length, ◌<◌, ◌+◌, refl, ap, get_or, add-one}
+use Rattle.std.specs.Prelude.{Option, Some, None, filter, cond}
 use Rattle.std.specs.Option.{option_map}
 use Rattle.std.specs.List.{filter_map, cons_option, list_any}
 use Rattle.std.proofs.Math.Seq.{take-suc}
@@ -11,7 +11,6 @@ use Rattle.tmm_model.specs.declared.premise.Premise.{Premise}
 use Rattle.tmm_model.specs.Points.{same_name}
 use Rattle.tmm_model.specs.Answers.{Finding, report_of}
 use Rattle.tmm_model.specs.Changes.{protection_name}
-use Rattle.list_theory.proofs.Elements.{In}
 use Rattle.protections.specs.Reported.{Reports, is_reported, new_of, newly_broken, is_mended, if_mended, name_if, mended_of, mended}
 
 -- the first i + 1
@@ -70,9 +69,3 @@ pub filter_map-mapped : {X Y Z : Type 0} (h : Y → Option Z) (f : X → Y) (xs 
     → filter_map h (map f (take (i + 1) xs)) ≡ filter_map h (map f (take i xs)) ++ cons_option (h (f x)) []
 filter_map-mapped h f xs i x d lt is =
     ap (λ l. filter_map h (map f l)) (take_next xs i x d lt is) ∙ ap (filter_map h) (map-append f (take i xs) (x ∷ [])) ∙ filter_map-append h (map f (take i xs)) (f x ∷ [])
-
--- what is at a place is a member
-pub there : {X : Type 0} (xs : List X) (i : ℕ) (x : X) → slice_get xs i ≡ Some x → In x xs
-there [] i x at = cc
-there (y ∷ xs) zero x at = inl cc
-there (y ∷ xs) (suc i) x at = inr (there xs i x at)

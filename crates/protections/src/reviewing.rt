@@ -30,8 +30,8 @@ use std::alloc::Global;
 use tmm_model::{Edit, Name, NoMemory, PointName, Premise};
 
 /// What an edit makes of the broken protections, given classes from which all others are apart. A
-/// protection is looked at again only if the edit adds it, or its fact is of one of these classes, or
-/// a point of it moved; where there is no class and nothing moved, premises are not walked.
+/// protection is looked at again only if the edit adds it, or its fact is of one of these classes,
+/// or a point of it moved; where there is no class and nothing moved, premises are not walked.
 pub fn review_edit(
     alloc: Global,
     standing: &Standing,

@@ -42,9 +42,6 @@ module _ (g : Revision) (laws : IsLawful g) where
           by : (a f : ℤ) → a <ℤ f → f ≤ℤ e → a <ℤ e
           by a f l h = omega (arith, ints)
 
-      weaker : (a : ℤ) → a <ℤ e → a ≤ℤ e
-      weaker a h = omega (arith, ints)
-
       step : (n : ℕ) → AgreeTo n → AgreeTo (suc n)
       step n a (At p) of below by_e = (λ at. (laws.right (At p)).1 ((k.root p).0 at), λ at. (k.root p).1 ((laws.right (At p)).0 at))
       step n a (After t r) of below by_e = (into, back)

@@ -1,10 +1,11 @@
 -- Of lists that are alike in all that beliefs read the same is believed.
-use Rattle.std.proofs.Common.{◌≡◌, ◌∙◌, ℕ, zero, suc, Bool, true, false, not, ◌&&◌, ◌||◌, List, [], ◌∷◌, ◌++◌, map, length, refl, sym, ap, subst, inl, inr}
+use Rattle.std.proofs.Common.{◌≡◌, ◌∙◌, ℕ, zero, suc, Bool, true, false, not, ◌&&◌, List, [], ◌∷◌, ◌++◌, map, length, refl, sym, ap, subst, inl, inr}
+use Rattle.std.proofs.lemmas.Bool.{and_right}
 use Rattle.std.specs.Prelude.{Option, Some, None, filter, pos, negsuc, ◌+◌, ◌+ℤ◌, sum_by}
 use Rattle.std.specs.List.{list_any, list_all, filter_map, flat_map}
 use Rattle.std.specs.Option.{option_map, option_map_or, option_and_then, option_eq, is_some, is_none}
 use Rattle.std.specs.Ordering.{int_eq, int_cmp, nat_cmp, on, ordering_then}
-use Rattle.std.specs.Cmp.Lexicographic.{slice_cmp, bytes_decides}
+use Rattle.std.specs.Cmp.Lexicographic.{slice_cmp}
 use Rattle.tmm_model.specs.declared.bound.Bound.{Bound}
 use Rattle.tmm_model.specs.declared.point.PointName.{PointName}
 use Rattle.tmm_model.specs.declared.point.PointName.TheVariants.{Start, Begin, End}
@@ -14,25 +15,24 @@ use Rattle.tmm_model.specs.declared.token.Shape.{Shape}
 use Rattle.tmm_model.specs.declared.token.Shape.TheVariants.{Event as AnEvent, Persistence as APersistence, Span as ASpan}
 use Rattle.tmm_model.specs.declared.token.TokenRow.{TokenRow}
 use Rattle.tmm_model.specs.Answers.{clip, clip_of, first_believed, row, rows, size}
-use Rattle.tmm_model.specs.Beliefs.{as_effect, is_of, root_of, roots, end_of, class_of, token_at, token_of, tokens, are_rivals, contradicts_in, rules_for, rules_at, has_support, is_free, due, enters, effects, next_level, level}
+use Rattle.tmm_model.specs.Beliefs.{as_effect, is_of, root_of, roots, end_of, token_at, token_of, tokens, contradicts_in, rules_for, rules_at, has_support, is_free, due, enters, effects, next_level, level}
 use Rattle.tmm_model.specs.Bounds.{bound_plus, bound_less, bound_at_most}
 use Rattle.tmm_model.specs.Changes.{changes, in_order, new_clip}
 use Rattle.tmm_model.specs.Maps.{built, gap, order, is_believed}
-use Rattle.tmm_model.specs.Moments.{Moment, At, After, Distances, base, rules, is_derived, low, high, apart, negated, distance, early, occ_cmp, printed, RuleText, read_by, rule_of, same_moment}
+use Rattle.tmm_model.specs.Moments.{Moment, At, After, Distances, base, rules, is_derived, low, high, apart, negated, distance, early, occ_cmp, printed, rule_of, same_moment}
 use Rattle.tmm_model.specs.Firsts.{first, sorted}
 use Rattle.tmm_model.specs.Points.{same_name, same_point}
 use Rattle.tmm_model.specs.Sorts.{Sort, is_kind, sort_in}
 use Rattle.tmm_model.specs.Standing.{Standing, far_in}
 use Rattle.tmm_model.specs.Tokens.{supports, lasts_to, cuts, clips}
 use Rattle.list_theory.proofs.Elements.{In, In-from_Contains, Contains-from_In, In-filter_map, In-cases, In-flat_map, In-map, In-filter}
-use Rattle.belief_theory.specs.Touched.{bears_on, is_watched, watched, contradict}
 use Rattle.belief_theory.proofs.Moments.{Decides-same_moment}
 use Rattle.belief_theory.proofs.OneRight.{spot-token_of}
-use Rattle.belief_theory.proofs.Rivals.{HasClass, contradicts_is, class_bears}
+use Rattle.belief_theory.proofs.Rivals.{HasClass, contradicts_is}
 use Rattle.belief_theory.proofs.Watched.{class-token_of}
 use Rattle.belief_theory.proofs.Upholding.{is_among-Contains}
 use Rattle.revisions.specs.Alike.{IsAnchor, SayAlike, AreAlike, BelieveAlike, TellsNoBelief}
-use Rattle.revisions.proofs.Pointwise.{any_same, filter_same, map_same, flat_map_same, filter_none, filter_map_none, In_sorted, sorted_same, first_same}
+use Rattle.list_theory.proofs.Pointwise.{any_same, filter_same, map_same, flat_map_same, filter_none, filter_map_none, In_sorted, sorted_same, first_same}
 
 -- ---- where occurrences and their ends stand
 
@@ -101,21 +101,6 @@ tokens_between s b anchored k at =
 
 -- ---- all that is the same
 
-and_false : (a : Bool) → (a && false) ≡ false
-and_false true = refl
-and_false false = refl
-
--- a token of another fact bears on one where the facts contradict each other
-bears_other : (s : Standing) (fact : List ℕ) (k : TokenRow Moment) → same_name fact k.fact ≡ false → HasClass s k → contradict s fact k.fact ≡ bears_on s fact k
-bears_other s fact k differ own =
-    ap (λ b. (same_name (class_of s fact) (class_of s k.fact) && not b) || are_rivals s fact k.fact) differ
-    ∙ ap (λ b. b || are_rivals s fact k.fact) (and_true (same_name (class_of s fact) (class_of s k.fact)))
-    ∙ sym (ap (λ c. same_name (class_of s fact) c || are_rivals s fact k.fact) own)
-  where
-    and_true : (b : Bool) → (b && true) ≡ b
-    and_true true = refl
-    and_true false = refl
-
 module _ (s t : Standing) (say : SayAlike s t) where
   -- ---- without distances
 
@@ -142,24 +127,6 @@ module _ (s t : Standing) (say : SayAlike s t) where
       contradicts_is s k c own_k own_c
       ∙ say.contradict k.fact c.fact
       ∙ sym (contradicts_is t k c (own_k ∙ say.class k.fact) (own_c ∙ say.class c.fact))
-
-  -- and bear on what a rule reads in both or in neither
-  bears_same : (fact : List ℕ) (k : TokenRow Moment) → HasClass s k → bears_on s fact k ≡ bears_on t fact k
-  bears_same fact k own = by (same_name fact k.fact) refl
-    where
-      own_t : HasClass t k
-      own_t = own ∙ say.class k.fact
-
-      by : (b : Bool) → same_name fact k.fact ≡ b → bears_on s fact k ≡ bears_on t fact k
-      by true e =
-          let is = (bytes_decides fact k.fact).0 e in
-          class_bears s fact k (own ∙ ap (class_of s) (sym is)) ∙ sym (class_bears t fact k (own_t ∙ ap (class_of t) (sym is)))
-      by false e = sym (bears_other s fact k e own) ∙ say.contradict fact k.fact ∙ bears_other t fact k e own_t
-
-  pub is_watched_same : (r : List ℕ) (k : TokenRow Moment) → HasClass s k → is_watched s r k ≡ is_watched t r k
-  is_watched_same r k own =
-      any_same (λ fact. bears_on s fact k) (λ fact. bears_on t fact k) (read_by (rule_of s r)) (λ fact at. bears_same fact k own)
-      ∙ ap (λ (x : RuleText). list_any (λ fact. bears_on t fact k) (read_by x)) (say.rule r)
 
   pub rules_same : (x : Moment) → rules_at s x ≡ rules_at t x
   rules_same x = rules_for_same (is_of s x) ∙ ap (rules_for t) (say.is x)
@@ -304,12 +271,6 @@ module _ (s t : Standing) (say : SayAlike s t) where
             ∙ clip_of_same k (record { class = class-token_of s x k e; begin = subst (IsAnchored s) (sym (spot-token_of s x k e)) at; «end» = token_end s x k e }) k.end
             ∙ sym (ap (option_and_then (clip_of (built t))) (sym (token_same x) ∙ e))
 
-    -- a rule watches the same tokens in both maps
-    pub watched_same : (r : List ℕ) → watched (built s) r ≡ watched (built t) r
-    watched_same r =
-        filter_same (is_watched s r) (is_watched t r) (tokens s here) (λ k at. is_watched_same r k (tokens_between s here believed_anchored k at).class)
-        ∙ ap (filter (is_watched t r)) (tokens_same here ∙ ap (tokens t) believed_same)
-
     row_same : (x : Moment) → IsAnchored s x → row (built s) x ≡ row (built t) x
     row_same x at = λ i. record { date = early_same x at i; occ = x; what = option_map_or (λ y. y.1) (say.is x i) []; clip = clip_same x at i }
 
@@ -352,7 +313,7 @@ module _ (s t : Standing) (say : SayAlike s t) where
     none_loose : (a : Bool) (o : Option Moment) → ((a && is_some o) && is_none o) ≡ false
     none_loose true None = refl
     none_loose false None = refl
-    none_loose a (Some c) = and_false (a && true)
+    none_loose a (Some c) = and_right (a && true) false refl
 
     no_new_clip : (x : Moment) → is_believed (built s) x ≡ true → (o : Option Moment) → clip (built s) x ≡ o → new_clip (built s) (built t) x o ≡ None
     no_new_clip x believed None e = refl
@@ -363,9 +324,9 @@ module _ (s t : Standing) (say : SayAlike s t) where
     tells : TellsNoBelief (changes s t)
     tells = record {
       left = filter_none (λ x. is_derived x && not (is_believed (built t) x)) (in_order (built s))
-          (λ x at. ap (λ b. is_derived x && not b) (new_believed x (In_sorted (order (built s)) here x at)) ∙ and_false (is_derived x));
+          (λ x at. ap (λ b. is_derived x && not b) (new_believed x (In_sorted (order (built s)) here x at)) ∙ and_right (is_derived x) false refl);
       entered = filter_none (λ x. is_derived x && not (is_believed (built s) x)) (in_order (built t))
-          (λ x at. ap (λ b. is_derived x && not b) (old_believed x (in_old x at)) ∙ and_false (is_derived x));
+          (λ x at. ap (λ b. is_derived x && not b) (old_believed x (in_old x at)) ∙ and_right (is_derived x) false refl);
       loose = filter_none (λ x. is_believed (built s) x && is_some (clip (built s) x) && is_none (clip (built t) x)) (in_order (built t))
           (λ x at. ap (λ o. (is_believed (built s) x && is_some (clip (built s) x)) && is_none o) (sym (clip_same x (believed_anchored x (in_old x at)))) ∙ none_loose (is_believed (built s) x) (clip (built s) x));
       clips = filter_map_none (λ x. new_clip (built s) (built t) x (clip (built t) x)) (in_order (built t))

@@ -1,6 +1,6 @@
 -- A fact that a rule of both lists reads contradicts the same facts in both, as far as premises say
 -- the same of it: a class declares the same facts as long as it stands.
-use Rattle.std.proofs.Common.{◌≡◌, ◌∙◌, ℕ, true, not, ◌&&◌, ◌||◌, List, [], refl, sym, ap, subst, inl, inr}
+use Rattle.std.proofs.Common.{◌≡◌, ◌∙◌, ℕ, true, List, [], refl, sym, ap, subst, inl, inr, not, ◌&&◌, ◌||◌}
 use Rattle.std.specs.Prelude.{Option, Some, None, IsSome}
 use Rattle.std.specs.List.{Contains, list_any}
 use Rattle.std.specs.Cmp.{both_ways}
@@ -17,20 +17,16 @@ use Rattle.tmm_model.specs.Points.{same_name}
 use Rattle.tmm_model.specs.Sorts.{class_in}
 use Rattle.tmm_model.specs.Standing.{Standing, name_of, premise_in}
 use Rattle.list_theory.specs.WellNamed.{IsSound}
-use Rattle.list_theory.proofs.Elements.{In, Contains-from_In}
+use Rattle.list_theory.proofs.Elements.{In, Contains-from_In, some_value}
 use Rattle.list_theory.proofs.KnownNames.{found}
-use Rattle.belief_theory.specs.Touched.{contradict, same_rivals}
+use Rattle.belief_theory.specs.Touched.{contradict}
 use Rattle.belief_theory.proofs.NextLists.{AreWithin, one_way}
-use Rattle.belief_theory.proofs.Rivals.{same_rivals_from}
+use Rattle.belief_theory.proofs.Rivals.{class_is}
 use Rattle.premise_list.specs.Words.{facts_of}
 use Rattle.supports.proofs.Rules.{rule_there, read_known}
 use Rattle.revisions.proofs.Names.{class_found, class_after, classes_within}
 
 -- ---- the class of a fact
-
--- the name of the class, none where no class declares the fact
-abbrev or_none : Option (List ℕ) → List ℕ
-or_none o = elim o as (λ _. List ℕ) [ Some class ↦ class | None ↦ [] ]
 
 class_name : (p : Premise) → IsWellFormedPremise p → (f : List ℕ) → list_any (same_name f) (facts_of p) ≡ true → IsName (name_of p)
 class_name (Class name facts) h f e = h.0
@@ -53,12 +49,12 @@ named s sound f c is none =
     cc
 
 -- so what is of the class is declared by it
-declared : (s : Standing) → IsSound s → (f c : List ℕ) → class_in s.premises f ≡ Some c → (g : List ℕ) → class_of s g ≡ c → class_in s.premises g ≡ Some c
+pub declared : (s : Standing) → IsSound s → (f c : List ℕ) → class_in s.premises f ≡ Some c → (g : List ℕ) → class_of s g ≡ c → class_in s.premises g ≡ Some c
 declared s sound f c is g same = by (class_in s.premises g) refl
   where
     by : (o : Option (List ℕ)) → class_in s.premises g ≡ o → class_in s.premises g ≡ Some c
-    by None e = absurd (named s sound f c is (sym same ∙ ap or_none e))
-    by (Some d) e = let is_c : d ≡ c = sym (ap or_none e) ∙ same in e ∙ ap Some is_c
+    by None e = absurd (named s sound f c is (sym same ∙ ap (λ (o : Option (List ℕ)). elim o as (λ _. List ℕ) [ Some class ↦ class | None ↦ [] ]) e))
+    by (Some d) e = e ∙ ap Some (sym (class_is s g d e) ∙ same)
 
 module _ (s t : Standing) (sound_s : IsSound s) (sound_t : IsSound t) (within : AreWithin s.premises t.premises) (f c : List ℕ) (is : class_in s.premises f ≡ Some c) where
   is_there : class_in t.premises f ≡ Some c
@@ -80,24 +76,20 @@ module _ (s t : Standing) (sound_s : IsSound s) (sound_t : IsSound t) (within : 
     where
       out : same_name (class_of s f) (class_of s g) ≡ true → same_name (class_of t f) (class_of t g) ≡ true
       out e =
-          let here = declared s sound_s f c is g (sym ((bytes_decides (class_of s f) (class_of s g)).0 e) ∙ ap or_none is) in
+          let here = declared s sound_s f c is g (sym ((bytes_decides (class_of s f) (class_of s g)).0 e) ∙ class_is s f c is) in
           let there = classes_within s.premises t.premises within sound_t.well_named g c here in
-          (bytes_decides (class_of t f) (class_of t g)).1 (ap or_none is_there ∙ sym (ap or_none there))
+          (bytes_decides (class_of t f) (class_of t g)).1 (class_is t f c is_there ∙ sym (class_is t g c there))
 
       back : same_name (class_of t f) (class_of t g) ≡ true → same_name (class_of s f) (class_of s g) ≡ true
       back e =
-          let there = declared t sound_t f c is_there g (sym ((bytes_decides (class_of t f) (class_of t g)).0 e) ∙ ap or_none is_there) in
-          (bytes_decides (class_of s f) (class_of s g)).1 (ap or_none is ∙ sym (ap or_none (same_facts g there)))
+          let there = declared t sound_t f c is_there g (sym ((bytes_decides (class_of t f) (class_of t g)).0 e) ∙ class_is t f c is_there) in
+          (bytes_decides (class_of s f) (class_of s g)).1 (class_is s f c is ∙ sym (class_is s g c (same_facts g there)))
 
 -- a fact that a rule reads has a class
-read_class : (s : Standing) → IsSound s → (t : Moment) (r f : List ℕ) → Contains (rules_at s t) r → In f (read_by (rule_of s r)) → (c : List ℕ) × (class_in s.premises f ≡ Some c)
+pub read_class : (s : Standing) → IsSound s → (t : Moment) (r f : List ℕ) → Contains (rules_at s t) r → In f (read_by (rule_of s r)) → (c : List ℕ) × (class_in s.premises f ≡ Some c)
 read_class s sound t r f stands at =
-    by (class_in s.premises f) refl
+    some_value (class_in s.premises f)
     (All-contains (λ fact. IsSome (class_in s.premises fact)) (read_by (rule_of s r)) f (read_known s sound r (rule_there s sound t r stands)) (Contains-from_In (read_by (rule_of s r)) f at))
-  where
-    by : (o : Option (List ℕ)) → class_in s.premises f ≡ o → IsSome o → (c : List ℕ) × (class_in s.premises f ≡ Some c)
-    by None e h = cc
-    by (Some c) e h = (c, e)
 
 -- ---- an edit
 
@@ -118,7 +110,3 @@ module _ (old : Standing) (edit : Edit) (sound_old : IsSound old) (sound_new : I
   -- both or in neither.**
   pub contradict_stays : (g : List ℕ) → are_rivals old f g ≡ are_rivals new f g → contradict old f g ≡ contradict new f g
   contradict_stays g rivals = λ i. (class_stays g i && not (same_name f g)) || rivals i
-
-  -- **So what the rule reads has the same rivals, where no premise that says so came or went.**
-  pub same_rivals_stay : ((g : List ℕ) → are_rivals old f g ≡ are_rivals new f g) → same_rivals old new f ≡ true
-  same_rivals_stay rivals = same_rivals_from old new f (λ g at. contradict_stays g (rivals g))

@@ -1,6 +1,7 @@
 -- An edit that adds or erases a premise that says of two facts that they contradict each other,
 -- which they do all the same, changes nothing of what beliefs read.
 use Rattle.std.proofs.Common.{◌≡◌, ◌∙◌, ℕ, Bool, true, false, not, ◌&&◌, ◌||◌, cond, List, [], ◌∷◌, refl, sym, ap, inl, inr}
+use Rattle.std.proofs.lemmas.Bool.{or_cases}
 use Rattle.std.specs.Prelude.{Option, Some, None, filter}
 use Rattle.std.specs.List.{list_any}
 use Rattle.std.specs.Option.{option_map_or}
@@ -17,9 +18,8 @@ use Rattle.tmm_model.specs.Standing.{Standing, name_of, premise_in}
 use Rattle.list_theory.specs.WellNamed.{IsWellNamed}
 use Rattle.list_theory.proofs.Elements.{In, both}
 use Rattle.belief_theory.specs.Touched.{contradict}
-use Rattle.belief_theory.proofs.Rivals.{or_cases}
 use Rattle.revisions.specs.Alike.{SayAlike, is_read, is_told, told_of, rivalry_in, rivalry_of, IdleEditsSayAlike}
-use Rattle.revisions.proofs.Pointwise.{any_same}
+use Rattle.list_theory.proofs.Pointwise.{any_same}
 use Rattle.revisions.proofs.ReadPremises.{same_told, contradict_same}
 use Rattle.revisions.proofs.UnreadEdits.{seen_push, seen_kept, told_reads, erased_is}
 

@@ -1,5 +1,6 @@
 -- The revision that an edit asks for is lawful.
 use Rattle.std.proofs.Common.{◌≡◌, ◌∙◌, ℕ, Bool, true, false, not, ◌&&◌, ◌||◌, ◌==◌, List, map, refl, sym, ap, subst, inl, inr}
+use Rattle.std.proofs.lemmas.Bool.{cases_Bool}
 use Rattle.std.specs.Prelude.{◌↔◌, ◌⊎◌, Option, Some, None, ◌≤ℤ◌}
 use Rattle.std.specs.List.{Contains, list_all}
 use Rattle.std.specs.Cmp.Lexicographic.{nat_list_eq_equiv}
@@ -113,10 +114,6 @@ module _ (old : Standing) (edit : Edit) (sound_old : IsSound old) (sound_new : I
       (flat_map-In (λ t. map (λ r. (t, r)) (rules_at m.list t)) m.believed t (t, r) (In-from_Contains m.believed t at) (map-In (λ r. (t, r)) (rules_at m.list t) r (In-from_Contains (rules_at m.list t) r stands)))
       (λ i. (Decides-same_moment t t).1 refl i && nat_list_eq_equiv.refl r i)
 
-  true_or : (v : Bool) → (v ≡ true) ⊎ (v ≡ false)
-  true_or true = inl refl
-  true_or false = inr refl
-
   new_touched : (t : Moment) (r : List ℕ) → g.was t r ≡ false → g.touched t r ≡ true
   new_touched t r e =
       first_touches (is_decision (built old) (t, r)) (old.horizon == new.horizon) (list_all (same_rivals old new) (read_by (rule_of new r)))
@@ -154,7 +151,7 @@ module _ (old : Standing) (edit : Edit) (sound_old : IsSound old) (sound_new : I
       In-list_any (λ fact. bears_on old fact k) (read_by (rule_of old r)) f at_old (bears_alike old new f (rivals f at) k own class bears)
 
   moved_touched : (t : Moment) (r : List ℕ) (x : Moment) → Contains g.believed t → Contains (g.rules t) r → IsOf g x → IsNew g x ⊎ IsLost g x → g.reads t r x ≡ true → g.touched t r ≡ true
-  moved_touched t r x at stands of moved reads = elim (true_or (g.touched t r)) [ inl touched ↦ touched | inr not_touched ↦ absurd (never not_touched) ]
+  moved_touched t r x at stands of moved reads = elim (cases_Bool (g.touched t r)) [ inl touched ↦ touched | inr not_touched ↦ absurd (never not_touched) ]
     where
       never : g.touched t r ≡ false → ⊥
       never e =

@@ -16,9 +16,9 @@ pub mod Marking
 pub mod Whole
 pub mod Clips
 pub mod Standing
-pub mod Pointwise
 pub mod Alike
 pub mod ReadPremises
+pub mod Unasked
 pub mod UnreadEdits
 pub mod StillEdits
 pub mod Ruling

@@ -1,31 +1,30 @@
 -- What a name is declared as in a well-named list is what it is declared as in one with fewer
 -- premises.
-use Rattle.std.proofs.Common.{◌≡◌, ◌∙◌, ℕ, Bool, true, false, ◌||◌, cond, List, [], ◌∷◌, ◌++◌, map, refl, sym, ap, subst, inl, inr}
+use Rattle.std.proofs.Common.{◌≡◌, ◌∙◌, ℕ, Bool, true, false, cond, List, [], ◌∷◌, ◌++◌, map, refl, sym, ap, subst, inl, inr}
+use Rattle.std.proofs.lemmas.Bool.{cases_Bool, or_parts}
 use Rattle.std.specs.Prelude.{◌⊎◌, Some, None}
 use Rattle.std.specs.List.{list_any}
 use Rattle.std.specs.Cmp.Lexicographic.{bytes_decides}
+use Rattle.tmm_model.specs.declared.premise.Edit.{Edit}
 use Rattle.tmm_model.specs.declared.premise.Premise.{Premise}
+use Rattle.tmm_model.specs.Edits.{next_list}
 use Rattle.tmm_model.specs.Points.{same_name}
 use Rattle.tmm_model.specs.Sorts.{Sort, a_fact, fact_declaration, declarations_of, declarations_in, declared_by, sort_in, class_in}
-use Rattle.tmm_model.specs.Standing.{name_of}
+use Rattle.tmm_model.specs.Standing.{Standing, name_of}
 use Rattle.tmm_model.specs.Verdicts.{first_taken, words_known}
 use Rattle.list_theory.specs.WellNamed.{AllFollow, IsWellNamed}
 use Rattle.list_theory.proofs.Elements.{In, In-list_any, list_any-In, In-left, In-right, map-In, flat_map-In, In-map}
-use Rattle.belief_theory.proofs.NextLists.{AreWithin}
+use Rattle.belief_theory.proofs.NextLists.{AreWithin, one_way}
 use Rattle.list_theory.proofs.WellNamed.{first_taken-none}
 use Rattle.premise_list.specs.Words.{facts_of, own_sort}
 use Rattle.premise_list.proofs.Lookups.{declarations_parted}
 use Rattle.supports.proofs.Facts.{class_in-cons, sort_in-cons}
 
-no_part : (a b : Bool) → (a || b) ≡ false → b ≡ false
-no_part false b e = e
-no_part true b e = cc
-
 -- each of some new words was not known
 new_of : (known ws : List (List ℕ)) → first_taken known ws ≡ None → (w : List ℕ) → In w ws → list_any (same_name w) known ≡ false
 new_of known [] e w at = absurd at
 new_of known (v ∷ ws) e w (inl is) = subst (λ z. list_any (same_name z) known ≡ false) is (first_taken-none known v ws e).new
-new_of known (v ∷ ws) e w (inr at) = no_part (same_name w v) (list_any (same_name w) known) (new_of (v ∷ known) ws (first_taken-none known v ws e).rest w at)
+new_of known (v ∷ ws) e w (inr at) = (or_parts (same_name w v) (list_any (same_name w) known) (new_of (v ∷ known) ws (first_taken-none known v ws e).rest w at)).1
 
 known_word : (earlier : List Premise) (q : Premise) (n : List ℕ) → In q earlier → In n (declared_by q) → In n (words_known earlier)
 known_word earlier q n at own =
@@ -56,10 +55,6 @@ declares_fact p n e =
     let here = map-In (λ (d : List ℕ × Sort). d.0) (map fact_declaration (facts_of p)) (fact_declaration f) (map-In fact_declaration (facts_of p) f at) in
     declared_parted p n (inr (subst (λ m. In m (map (λ (d : List ℕ × Sort). d.0) (map fact_declaration (facts_of p)))) (sym ((bytes_decides n f).0 same)) here))
 
-true_or : (v : Bool) → (v ≡ true) ⊎ (v ≡ false)
-true_or true = inl refl
-true_or false = inr refl
-
 -- the premise declares the name as this
 data Declares (p : Premise) (n : List ℕ) (x : Sort) : Type 0 where
   as_name : same_name n (name_of p) ≡ true → own_sort p ≡ x → Declares p n x
@@ -82,7 +77,7 @@ sort_found (p ∷ ps) n x e = by (sort_found ps n x) (same_name n (name_of p)) r
 -- another premise before it declares no such name
 not_other : (earlier premises : List Premise) (o : Premise) → AllFollow (earlier ++ o ∷ []) premises → (p : Premise) → In p premises → (n : List ℕ) → In n (declared_by p)
     → (same_name n (name_of o) ≡ false) × (list_any (same_name n) (facts_of o) ≡ false)
-not_other earlier premises o h p at n own = (name (true_or (same_name n (name_of o))), fact (true_or (list_any (same_name n) (facts_of o))))
+not_other earlier premises o h p at n own = (name (cases_Bool (same_name n (name_of o))), fact (cases_Bool (list_any (same_name n) (facts_of o))))
   where
     never : In n (declared_by o) → ⊥
     never there = fresh_word (earlier ++ o ∷ []) premises h p at n own o (In-right earlier (o ∷ []) o (inl refl)) there
@@ -139,3 +134,12 @@ class_after earlier (o ∷ premises) h p (inr at) n has =
 -- **A fact has its class in more premises.**
 pub classes_within : (ps qs : List Premise) → AreWithin ps qs → IsWellNamed qs → (n c : List ℕ) → class_in ps n ≡ Some c → class_in qs n ≡ Some c
 classes_within ps qs within named n c e = let (p, at, has, is) = class_found ps n c e in class_after [] qs named p (within p at) n has ∙ ap Some is
+
+-- a fact that both lists declare is of one class
+pub class_kept : (old : Standing) (edit : Edit) → IsWellNamed old.premises → IsWellNamed (next_list old edit).premises
+    → (fact was is : List ℕ) → class_in old.premises fact ≡ Some was → class_in (next_list old edit).premises fact ≡ Some is → was ≡ is
+class_kept old edit named_old named_new fact was is before now =
+    elim (one_way old edit) [
+      | inl more ↦ (let there : Some was ≡ Some is = sym (classes_within old.premises (next_list old edit).premises more named_new fact was before) ∙ now in cc)
+      | inr fewer ↦ (let there : Some was ≡ Some is = sym before ∙ classes_within (next_list old edit).premises old.premises fewer named_old fact is now in cc)
+    ]

@@ -1,6 +1,6 @@
 -- Lists with the same premises of those that beliefs read say the same of all that beliefs read, if
 -- the same facts contradict each other.
-use Rattle.std.proofs.Common.{◌≡◌, ◌∙◌, ℕ, Bool, true, false, not, ◌&&◌, ◌||◌, cond, List, [], ◌∷◌, ◌++◌, refl, sym, ap, subst, inl, inr}
+use Rattle.std.proofs.Common.{◌≡◌, ◌∙◌, ℕ, Bool, true, false, not, ◌&&◌, ◌||◌, cond, List, [], ◌∷◌, ◌++◌, refl, sym, ap, subst, inl}
 use Rattle.std.specs.Prelude.{Option, Some, None}
 use Rattle.std.specs.List.{list_any, filter_map, cons_option}
 use Rattle.std.specs.Map.{lookup}
@@ -17,6 +17,7 @@ use Rattle.tmm_model.specs.Standing.{Standing, name_of, premise_in}
 use Rattle.tmm_model.specs.Verdicts.{words_known}
 use Rattle.list_theory.specs.WellNamed.{AllFollow, IsWellNamed}
 use Rattle.list_theory.proofs.Elements.{In, list_any-In, In-right, In-filter, In-map, map-In, In-flat_map}
+use Rattle.list_theory.proofs.Erased.{not_found}
 use Rattle.list_theory.proofs.KnownNames.{fresh}
 use Rattle.list_theory.proofs.WellNamed.{lookup-append, lookup-unknown}
 use Rattle.belief_theory.specs.Touched.{contradict}
@@ -71,14 +72,6 @@ class_told fact (Protect name fact_ from to ∷ ps) = class_told fact ps
 class_told fact (Against name one other ∷ ps) = class_told fact ps
 
 -- ---- what is found under a name
-
-not_found : (ps : List Premise) (name : List ℕ) → ((p : Premise) → In p ps → same_name name (name_of p) ≡ true → ⊥) → premise_in ps name ≡ None
-not_found [] name h = refl
-not_found (p ∷ ps) name h = by (not_found ps name (λ q at. h q (inr at))) (same_name name (name_of p)) refl
-  where
-    by : premise_in ps name ≡ None → (b : Bool) → same_name name (name_of p) ≡ b → cond b (Some p) (premise_in ps name) ≡ None
-    by rest true e = absurd (h p (inl refl) e)
-    by rest false e = rest
 
 -- what sees no premise that is not told sees the same under each name
 found_told : {X : Type 0} (h : Option Premise → X) → ((p : Premise) → is_told p ≡ false → h (Some p) ≡ h None)

@@ -1,5 +1,6 @@
 -- The loop begins with what it keeps.
-use Rattle.std.proofs.Common.{◌≡◌, ◌∙◌, ℕ, Bool, true, false, List, [], refl, sym, ap, inl, inr, arith}
+use Rattle.std.proofs.Common.{◌≡◌, ◌∙◌, ℕ, true, List, [], sym, ap, inl, inr, arith}
+use Rattle.std.proofs.lemmas.Bool.{both_ways, cases_Bool}
 use Rattle.std.proofs.lemmas.Int.{ints}
 use Rattle.std.specs.Prelude.{◌↔◌, ◌⊎◌, ℤ, pos, negsuc, ◌≤ℤ◌}
 use Rattle.std.specs.List.{Contains}
@@ -8,13 +9,6 @@ use Rattle.tmm_model.specs.Moments.{Moment, At, After}
 use Rattle.revisions.specs.Revisions.{Revision, is_firing, IsOf, IsLawful}
 use Rattle.revisions.specs.Keeping.{IsKeeping, IsUntaken, Waits}
 use Rattle.revisions.specs.Seeds.{IsSeeded}
-
-not_both : (v : Bool) → v ≡ true → v ≡ false → ⊥
-not_both v h e = let f : true ≡ false = sym h ∙ e in cc
-
-true_or : (v : Bool) → (v ≡ true) ⊎ (v ≡ false)
-true_or true = inl refl
-true_or false = inr refl
 
 module _ (g : Revision) (laws : IsLawful g) (b : List Moment) (kept : Moment → List ℕ → Outcome) (queued : Moment → List ℕ → Type 0) (s : IsSeeded g b kept queued) where
   seed_of : (x : Moment) → Contains b x → IsOf g x
@@ -38,28 +32,28 @@ module _ (g : Revision) (laws : IsLawful g) (b : List Moment) (kept : Moment →
 
   fires : (t : Moment) (r : List ℕ) → Contains b t → Contains (g.rules t) r → Contains b (After t r) ↔ (is_firing (kept t r) ≡ true)
   fires t r at stands =
-      elim (true_or (g.was t r)) [
+      elim (cases_Bool (g.was t r)) [
         | inl was ↦
             let same : kept t r ≡ g.was_outcome t r = s.old_rows t r at stands was in (
               λ h. ap is_firing same ∙ ((laws.was_right t r).0 ((s.derived t r).0 h).0).1,
               λ h. (s.derived t r).1 ((laws.was_right t r).1 (was, ap is_firing (sym same) ∙ h), (seed_of t at, stands)),
             )
         | inr new ↦ (
-          λ h. absurd (not_both (g.was t r) ((laws.was_right t r).0 ((s.derived t r).0 h).0).0 new),
-          λ h. absurd (not_both (is_firing (kept t r)) h (ap is_firing (s.new_rows t r at stands new).1)),
+          λ h. absurd (both_ways (g.was t r) new ((laws.was_right t r).0 ((s.derived t r).0 h).0).0),
+          λ h. absurd (both_ways (is_firing (kept t r)) (ap is_firing (s.new_rows t r at stands new).1) h),
         )
       ]
 
   right : (t : Moment) (r : List ℕ) → Contains b t → Contains (g.rules t) r → queued t r ⊎ (kept t r ≡ g.outcome b t r)
   right t r at stands =
-      elim (true_or (g.was t r)) [
+      elim (cases_Bool (g.was t r)) [
         | inl was ↦ elim (s.right t r at stands was) [ inl waits ↦ inl waits | inr is ↦ inr (s.old_rows t r at stands was ∙ is) ]
         | inr new ↦ inl (s.new_rows t r at stands new).0
       ]
 
   first : (t : Moment) (r : List ℕ) → Contains b t → Contains (g.rules t) r → IsUntaken g kept queued t r
   first t r at stands =
-      elim (true_or (g.was t r)) [
+      elim (cases_Bool (g.was t r)) [
         | inl was ↦ inl (was, s.old_rows t r at stands was)
         | inr new ↦ (let h = s.new_rows t r at stands new in inr (new, h.0, h.1))
       ]

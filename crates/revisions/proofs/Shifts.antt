@@ -17,8 +17,8 @@ use Rattle.revisions.specs.Shifts.{IsShifted, ShiftsKeep}
 use Rattle.revisions.specs.Walls.{AlikeBut}
 use Rattle.revisions.proofs.Walls.{outcomes_stay_but}
 
--- what clips a token that stays and is of a fact that the rule reads, if it stays itself, does so in
--- both maps
+-- what clips a token that stays and is of a fact that the rule reads, if it stays itself, does so
+-- in both maps
 clipped_alike : (stays : TokenRow Moment → Type 0) (m n : TimeMap) (t : Moment) (r : List ℕ) → IsShifted stays m n t r → (k c : TokenRow Moment) → stays k → stays c
     → In k.fact (read_by (rule_of n.list r)) → clips (contradicts_in m.list) (gap m) k c ≡ clips (contradicts_in n.list) (gap n) k c
 clipped_alike stays m n t r s k c on_k on_c given = ap (λ b. b && is_before (gap m) k.spot c.spot) same ∙ by (contradicts_in n.list k c) refl

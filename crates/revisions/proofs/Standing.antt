@@ -1,5 +1,5 @@
 -- What occurred still occurs exactly where its root and its rules stand.
-use Rattle.std.proofs.Common.{◌≡◌, ◌∙◌, ℕ, List, refl, sym, ap, subst, inl, inr}
+use Rattle.std.proofs.Common.{◌≡◌, ◌∙◌, ℕ, List, sym, ap, subst, inl, inr}
 use Rattle.std.specs.Prelude.{◌↔◌, Option, Some, None, IsSome, is_some}
 use Rattle.std.specs.List.{Contains}
 use Rattle.tmm_model.specs.declared.point.PointName.TheVariants.{Start, Begin, End}
@@ -15,7 +15,7 @@ use Rattle.list_theory.specs.WellNamed.{IsSound}
 use Rattle.belief_theory.specs.Right.{Occurs}
 use Rattle.tmm_model.specs.Standing.{Standing, name_of, premise_in}
 use Rattle.belief_theory.proofs.NextLists.{one_way}
-use Rattle.list_theory.proofs.Elements.{In, In-from_Contains, Contains-from_In, In-filter_map, filter_map-In}
+use Rattle.list_theory.proofs.Elements.{In, In-from_Contains, Contains-from_In, In-filter_map, filter_map-In, some_value}
 use Rattle.list_theory.proofs.KnownNames.{found, finds}
 use Rattle.belief_theory.proofs.Sound.{named_rule}
 use Rattle.supports.proofs.Rules.{rule_there}
@@ -46,10 +46,6 @@ no_end (Rule name trigger lo hi effect given unless_facts) k e = cc
 no_end (Protect name fact from to) k e = cc
 no_end (Against name one other) k e = cc
 
-some_in : (o : Option Premise) → IsSome o → (p : Premise) × (o ≡ Some p)
-some_in None h = absurd (cc (h))
-some_in (Some p) h = (p, refl)
-
 module _ (old : Standing) (edit : Edit) (sound_old : IsSound old) (sound_new : IsSound (next_list old edit)) where
   abbrev new : Standing
   new = next_list old edit
@@ -60,7 +56,7 @@ module _ (old : Standing) (edit : Edit) (sound_old : IsSound old) (sound_new : I
       elim (one_way old edit) [
         | inl more ↦ more p at
         | inr fewer ↦ (
-            let (q, is) = some_in (premise_in new.premises k) stands in
+            let (q, is) = some_value (premise_in new.premises k) stands in
             let (there, same) = finds new.premises k q is in
             let one : premise_in old.premises k ≡ Some q = subst (λ z. premise_in old.premises z ≡ Some q) same (found old.premises sound_old.well_named q (fewer q there)) in
             let two : premise_in old.premises k ≡ Some p = subst (λ z. premise_in old.premises z ≡ Some p) named (found old.premises sound_old.well_named p at) in

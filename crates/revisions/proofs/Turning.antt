@@ -1,5 +1,6 @@
 -- A turn of the loop keeps what the loop keeps.
 use Rattle.std.proofs.Common.{◌≡◌, ◌∙◌, ℕ, Bool, true, false, List, ◌∷◌, refl, sym, ap, subst, inl, inr, arith}
+use Rattle.std.proofs.lemmas.Bool.{both_ways}
 use Rattle.std.proofs.lemmas.Int.{ints}
 use Rattle.std.specs.Prelude.{◌↔◌, ◌⊎◌, ℤ, ◌≤ℤ◌, ◌<ℤ◌}
 use Rattle.std.specs.List.{Contains}
@@ -24,9 +25,6 @@ not_after z w h l = omega (arith, ints)
 
 less_equal : (z w : ℤ) → z <ℤ w → z ≤ℤ w
 less_equal z w h = omega (arith, ints)
-
-not_both : (v : Bool) → v ≡ true → v ≡ false → ⊥
-not_both v h e = let f : true ≡ false = sym h ∙ e in cc
 
 -- a node that has come: none of its rules has an effect yet
 pub record IsFresh (g : Revision) (c : List Moment) (kept_after : Moment → List ℕ → Outcome) (queued_after : Moment → List ℕ → Type 0) (u : Moment) (q : List ℕ) : Type 0 where
@@ -78,8 +76,8 @@ module _ (g : Revision) (laws : IsLawful g) (b : List Moment) (kept : Moment →
         elim (k.first t r w.live w.stands) [
           | inl made ↦ not_made made
           | inr before ↦ elim before [
-            | inl old ↦ not_both (is_firing (kept t r)) (ap is_firing old.1 ∙ was.1) fired_not
-            | inr new ↦ not_both (g.was t r) was.0 new.0
+            | inl old ↦ both_ways (is_firing (kept t r)) fired_not (ap is_firing old.1 ∙ was.1)
+            | inr new ↦ both_ways (g.was t r) new.0 was.0
           ]
         ];
   }
@@ -89,7 +87,7 @@ module _ (g : Revision) (laws : IsLawful g) (b : List Moment) (kept : Moment →
   lost_below fires_not (At p) under at = let e : At p ≡ After t r = under in cc
   lost_below fires_not (After u q) (inr under) at = lost_below fires_not u under ((laws.right (After u q)).0 at).0
   lost_below fires_not (After u q) (inl e) at =
-      not_both (is_firing (g.outcome b t r)) (ap is_firing decided_right ∙ ((laws.right (After t r)).0 (subst (Contains g.believed) e at)).2) fires_not
+      both_ways (is_firing (g.outcome b t r)) fires_not (ap is_firing decided_right ∙ ((laws.right (After t r)).0 (subst (Contains g.believed) e at)).2)
 
   pub lost : is_firing (g.outcome b t r) ≡ false → (x : Moment) → Contains b x → IsUnder (After t r) x → IsLost g x
   lost fires_not x at under = record {
@@ -127,7 +125,7 @@ module _ (g : Revision) (laws : IsLawful g) (b : List Moment) (kept : Moment →
           elim (s.new u at) [
             | inr fresh ↦
                 let f = fresh q stands in
-                (λ h. absurd (f.none h), λ h. absurd (not_both (is_firing (kept_after u q)) h (ap is_firing f.blank)))
+                (λ h. absurd (f.none h), λ h. absurd (both_ways (is_firing (kept_after u q)) (ap is_firing f.blank) h))
             | inl old ↦ elim (same_or t r u q) [
               | inl same ↦ at_same (λ v p. Contains c (After v p) ↔ (is_firing (kept_after v p) ≡ true)) u q same
                   (λ h. ap is_firing makes.now ∙ s.this.0 h, λ h. s.this.1 (ap is_firing (sym makes.now) ∙ h))
@@ -260,7 +258,7 @@ module _ (g : Revision) (laws : IsLawful g) (b : List Moment) (kept : Moment →
             ]
 
         not_live : Contains b (After t r) → ⊥
-        not_live at = not_both (is_firing (kept t r)) ((k.fires t r w.live w.stands).0 at) h.fired_not
+        not_live at = both_ways (is_firing (kept t r)) h.fired_not ((k.fires t r w.live w.stands).0 at)
 
         fresh : (q : List ℕ) → Contains (g.rules (After t r)) q → IsFresh g c kept_after queued_after (After t r) q
         fresh q stands = record {
@@ -292,7 +290,7 @@ module _ (g : Revision) (laws : IsLawful g) (b : List Moment) (kept : Moment →
         ],
         λ at. (h.out x at).0,
       );
-      this = (λ at. absurd ((h.out (After t r) at).1 (inl refl)), λ e. absurd (not_both (is_firing (g.outcome b t r)) e h.fires_not));
+      this = (λ at. absurd ((h.out (After t r) at).1 (inl refl)), λ e. absurd (both_ways (is_firing (g.outcome b t r)) h.fires_not e));
       other = λ u q _ live _ differs. (λ at. (h.out (After u q) at).0, λ at. elim (h.rest (After u q) at) [ inl there ↦ there | inr under ↦ absurd (not_under u q live differs under) ]);
       new = λ u at. inl (h.out u at).0;
     }

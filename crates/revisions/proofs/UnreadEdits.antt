@@ -1,28 +1,25 @@
 -- An edit that adds or erases a premise that is not kept in sight leaves those that are; so it
 -- leaves those that beliefs read, where beliefs do not read it.
-use Rattle.std.proofs.Common.{◌≡◌, ◌∙◌, ℕ, Bool, true, false, not, ◌||◌, cond, List, [], ◌∷◌, ◌++◌, refl, sym, ap, subst, inl, inr}
-use Rattle.std.specs.Prelude.{Option, Some, None, filter}
-use Rattle.std.specs.List.{list_any}
-use Rattle.std.specs.Map.{lookup}
-use Rattle.std.specs.Option.{option_or, option_map_or}
-use Rattle.std.specs.Cmp.Lexicographic.{bytes_decides, nat_list_eq_equiv}
+use Rattle.std.proofs.Common.{◌≡◌, ◌∙◌, ℕ, Bool, true, false, not, cond, List, [], ◌∷◌, ◌++◌, refl, sym, ap, subst, inl, inr}
+use Rattle.std.proofs.lemmas.Bool.{not-true}
+use Rattle.std.specs.Prelude.{Some, filter}
+use Rattle.std.specs.Option.{option_map_or}
+use Rattle.std.specs.Cmp.Lexicographic.{bytes_decides}
 use Rattle.tmm_model.specs.declared.premise.Edit.{Edit}
 use Rattle.tmm_model.specs.declared.premise.Edit.TheVariants.{Add, Erase, Horizon, Upgrade}
 use Rattle.tmm_model.specs.declared.premise.Premise.{Premise}
 use Rattle.tmm_model.specs.declared.premise.Premise.TheVariants.{Class, Kind, Point, Event, Token, Span, Dist, Rule, Protect, Against}
 use Rattle.tmm_model.specs.Edits.{next_list}
-use Rattle.tmm_model.specs.Erasure.{names_used, mentioned_by, is_among, falls, kept_after}
+use Rattle.tmm_model.specs.Erasure.{falls, kept_after}
 use Rattle.tmm_model.specs.Points.{same_name}
-use Rattle.tmm_model.specs.Sorts.{Sort, a_class, a_fact, a_kind, a_point, an_event, a_token, a_span, a_dist, a_rule, a_protection, a_rivalry, is_fact, is_kind, is_effect, declarations_of, declarations_in, declared_by, sort_in, Use, a_name, fact_use, uses_of}
+use Rattle.tmm_model.specs.Sorts.{Sort, a_class, a_fact, a_kind, a_point, an_event, a_token, a_span, a_dist, a_rule, a_protection, a_rivalry, is_fact, is_kind, is_effect, declarations_of, declared_by, fact_use}
 use Rattle.tmm_model.specs.Standing.{Standing, name_of, premise_in}
-use Rattle.tmm_model.specs.Verdicts.{Cause, ill_sorted, name_cause, use_cause, uses_cause, words_known}
 use Rattle.list_theory.specs.WellNamed.{Follows, AllFollow, IsWellNamed}
-use Rattle.list_theory.proofs.Adding.{uses_none}
-use Rattle.list_theory.proofs.Elements.{In, list_any-In, In-map, In-flat_map, In-cases}
+use Rattle.list_theory.proofs.Elements.{In, In-map}
 use Rattle.list_theory.proofs.Erasure.{kept_after-falls, kept_after-stays}
-use Rattle.list_theory.proofs.KnownNames.{found, own_new}
-use Rattle.list_theory.proofs.WellNamed.{lookup-unknown, sort_in-push}
+use Rattle.list_theory.proofs.KnownNames.{found}
 use Rattle.revisions.specs.Alike.{SayAlike, is_read, read_of, is_told, is_unread}
+use Rattle.revisions.proofs.Unasked.{RefusesEach, AreDeclared, still_declared, more_declared, declares_alone, falls_alone}
 use Rattle.revisions.proofs.ReadPremises.{same_read}
 
 -- ---- what mentions a premise that is not told
@@ -49,14 +46,11 @@ plain_is a_token e = cc
 plain_is a_span e = cc
 plain_is a_rule e = cc
 
--- the use asks for a word that is declared as something else
-record AsksOther (u : Use) : Type 0 where
-  word : List ℕ
-  wanted : Sort → Bool
-  is : a_name word wanted ≡ u
-  refuses : (sort : Sort) → is_plain sort ≡ true → wanted sort ≡ false
+abbrev IsPlain : Sort → Type 0
+IsPlain sort = is_plain sort ≡ true
 
-asks_other : (p : Premise) → is_read p ≡ true → (u : Use) → In u (uses_of p) → AsksOther u
+-- what beliefs read asks for something else
+asks_other : (p : Premise) → is_read p ≡ true → RefusesEach IsPlain p
 asks_other (Class name facts) e u at = absurd at
 asks_other (Kind name) e u at = absurd at
 asks_other (Point name) e u at = cc
@@ -77,50 +71,23 @@ asks_other (Rule name trigger lo hi effect given unless_facts) e u (inr (inr at)
     let (fact, _, is) = In-map fact_use (given.items ++ unless_facts.items) u at in
     record { word = fact; wanted = is_fact; is = is; refuses = λ sort e. (plain_is sort e).0 }
 
-each_use : (earlier : List Premise) (us : List Use) → uses_cause earlier us ≡ None → (u : Use) → In u us → use_cause earlier u ≡ None
-each_use earlier [] e u at = absurd at
-each_use earlier (v ∷ us) e u (inl is) = subst (λ w. use_cause earlier w ≡ None) is (uses_none earlier v us e).0
-each_use earlier (v ∷ us) e u (inr at) = each_use earlier us (uses_none earlier v us e).1 u at
-
--- the names are declared as points, constraints, protections and rivalries
-abbrev ArePlain : List Premise → List (List ℕ) → Type 0
-ArePlain earlier gone = (w : List ℕ) → In w gone → (sort : Sort) × (sort_in earlier w ≡ Some sort) × (is_plain sort ≡ true)
-
--- the name that such a premise declares
-declares_plain : (earlier : List Premise) (p : Premise) → is_told p ≡ false → Follows earlier p → ArePlain (earlier ++ p ∷ []) (declared_by p)
-declares_plain earlier p e follows w at = by p e refl at
+-- the name that a premise declares that is not told
+declares_plain : (earlier : List Premise) (p : Premise) → is_told p ≡ false → Follows earlier p → AreDeclared IsPlain (earlier ++ p ∷ []) (declared_by p)
+declares_plain earlier p e follows = by p e refl
   where
-    own : (name : List ℕ) (sort : Sort) → declarations_of p ≡ (name, sort) ∷ [] → name_of p ≡ name → In w (name ∷ []) → sort_in (earlier ++ p ∷ []) w ≡ Some sort
-    own name sort declares named (inl is) =
-        let new : lookup (same_name name) (declarations_in earlier) ≡ None = lookup-unknown (same_name name) (declarations_in earlier) (subst (λ n. list_any (same_name n) (words_known earlier) ≡ false) named (own_new earlier p follows)) in
-        subst (λ n. sort_in (earlier ++ p ∷ []) n ≡ Some sort) is
-        (sort_in-push earlier p name
-        ∙ ap (λ o. option_or o (lookup (same_name name) (declarations_of p))) new
-        ∙ ap (lookup (same_name name)) declares
-        ∙ ap (λ b. cond b (Some sort) None) (nat_list_eq_equiv.refl name))
-    own name sort declares named (inr at) = absurd at
-
-    by : (q : Premise) → is_told q ≡ false → p ≡ q → In w (declared_by p) → (sort : Sort) × (sort_in (earlier ++ p ∷ []) w ≡ Some sort) × (is_plain sort ≡ true)
-    by (Point name) e is at = (a_point, own name a_point (ap declarations_of is) (ap name_of is) (subst (λ z. In w (declared_by z)) is at), refl)
-    by (Dist name from to lo hi) e is at = (a_dist, own name a_dist (ap declarations_of is) (ap name_of is) (subst (λ z. In w (declared_by z)) is at), refl)
-    by (Protect name fact from to) e is at = (a_protection, own name a_protection (ap declarations_of is) (ap name_of is) (subst (λ z. In w (declared_by z)) is at), refl)
-    by (Against name one other) e is at = (a_rivalry, own name a_rivalry (ap declarations_of is) (ap name_of is) (subst (λ z. In w (declared_by z)) is at), refl)
-    by (Class name facts) e is at = cc
-    by (Kind name) e is at = cc
-    by (Event name kind) e is at = cc
-    by (Token name fact) e is at = cc
-    by (Span name fact) e is at = cc
-    by (Rule name trigger lo hi effect given unless_facts) e is at = cc
+    by : (q : Premise) → is_told q ≡ false → p ≡ q → AreDeclared IsPlain (earlier ++ p ∷ []) (declared_by p)
+    by (Point name) e is = declares_alone IsPlain earlier p follows name a_point (ap declarations_of is) (ap name_of is) refl
+    by (Dist name from to lo hi) e is = declares_alone IsPlain earlier p follows name a_dist (ap declarations_of is) (ap name_of is) refl
+    by (Protect name fact from to) e is = declares_alone IsPlain earlier p follows name a_protection (ap declarations_of is) (ap name_of is) refl
+    by (Against name one other) e is = declares_alone IsPlain earlier p follows name a_rivalry (ap declarations_of is) (ap name_of is) refl
+    by (Class name facts) e is = cc
+    by (Kind name) e is = cc
+    by (Event name kind) e is = cc
+    by (Token name fact) e is = cc
+    by (Span name fact) e is = cc
+    by (Rule name trigger lo hi effect given unless_facts) e is = cc
 
 -- ---- an erasure
-
-still_plain : (earlier : List Premise) (gone : List (List ℕ)) (p : Premise) → ArePlain earlier gone → ArePlain (earlier ++ p ∷ []) gone
-still_plain earlier gone p plain w at =
-    let (sort, declared, is) = plain w at in
-    (sort, sort_in-push earlier p w ∙ ap (λ o. option_or o (lookup (same_name w) (declarations_of p))) declared, is)
-
-more_plain : (earlier : List Premise) (own gone : List (List ℕ)) → ArePlain earlier own → ArePlain earlier gone → ArePlain earlier (own ++ gone)
-more_plain earlier own gone one two w at = elim (In-cases own gone w at) [ inl here ↦ one w here | inr there ↦ two w there ]
 
 -- Premises are kept in sight: all that are told are, and none that beliefs do not read.
 module _ (seen : Premise → Bool) (reads : (p : Premise) → seen p ≡ true → is_read p ≡ true) (tells : (p : Premise) → seen p ≡ false → is_told p ≡ false) where
@@ -135,40 +102,15 @@ module _ (seen : Premise → Bool) (reads : (p : Premise) → seen p ≡ true �
   seen_past : (p : Premise) (ps : List Premise) → seen p ≡ false → seen_of (p ∷ ps) ≡ seen_of ps
   seen_past p ps e = ap (λ b. cond b (p ∷ seen_of ps) (seen_of ps)) e
 
-  -- a premise that mentions one of these is not seen itself
-  mentions_plain : (earlier : List Premise) (gone : List (List ℕ)) → ArePlain earlier gone → (p : Premise) → Follows earlier p → list_any (is_among gone) (mentioned_by p) ≡ true → seen p ≡ false
-  mentions_plain earlier gone plain p follows mentions = by (seen p) refl
-    where
-      refused : (word : List ℕ) (wanted : Sort → Bool) (sort : Sort) (b : Bool) → b ≡ false → (elim b as (λ _. Option Cause) [ true ↦ None | false ↦ Some (ill_sorted word) ]) ≡ None → ⊥
-      refused word wanted sort true e none = cc
-      refused word wanted sort false e none = cc
-
-      by : (b : Bool) → seen p ≡ b → b ≡ false
-      by false e = refl
-      by true e =
-          let (w, mentioned, among) = list_any-In (is_among gone) (mentioned_by p) mentions in
-          let (v, there, same) = list_any-In (same_name w) gone among in
-          let (sort, declared, is_plain_) = plain w (subst (λ z. In z gone) (sym ((bytes_decides w v).0 same)) there) in
-          let (u, used, in_use) = In-flat_map names_used (uses_of p) w mentioned in
-          let other = asks_other p (reads p e) u used in
-          let word : other.word ≡ w = one other.word w (subst (λ z. In w (names_used z)) (sym other.is) in_use) in
-          let known : use_cause earlier (a_name other.word other.wanted) ≡ None = subst (λ z. use_cause earlier z ≡ None) (sym other.is) (each_use earlier (uses_of p) follows.known u used) in
-          let none : name_cause (Some sort) w other.wanted ≡ None = ap (λ o. name_cause o w other.wanted) (sym declared) ∙ subst (λ z. use_cause earlier (a_name z other.wanted) ≡ None) word known in
-          absurd (refused w other.wanted sort (other.wanted sort) (other.refuses sort is_plain_) none)
-        where
-          one : (a b : List ℕ) → In b (a ∷ []) → a ≡ b
-          one a b (inl is) = is
-          one a b (inr at) = absurd at
-
-  falls_unseen : (erased : List ℕ) (earlier : List Premise) (gone : List (List ℕ)) → ArePlain earlier gone → (p : Premise) → Follows earlier p
+  falls_unseen : (erased : List ℕ) (earlier : List Premise) (gone : List (List ℕ)) → AreDeclared IsPlain earlier gone → (p : Premise) → Follows earlier p
       → (same_name erased (name_of p) ≡ true → seen p ≡ false) → falls erased gone p ≡ true → seen p ≡ false
-  falls_unseen erased earlier gone plain p follows own e = by (same_name erased (name_of p)) refl e
+  falls_unseen erased earlier gone plain p follows own e = by (seen p) refl
     where
-      by : (b : Bool) → same_name erased (name_of p) ≡ b → (b || list_any (is_among gone) (mentioned_by p)) ≡ true → seen p ≡ false
-      by true named e = own named
-      by false named e = mentions_plain earlier gone plain p follows e
+      by : (b : Bool) → seen p ≡ b → seen p ≡ false
+      by false h = h
+      by true h = own (falls_alone IsPlain erased earlier gone plain p follows (asks_other p (reads p h)) e)
 
-  pub seen_kept : (erased : List ℕ) (earlier : List Premise) (gone : List (List ℕ)) (ps : List Premise) → AllFollow earlier ps → ArePlain earlier gone
+  pub seen_kept : (erased : List ℕ) (earlier : List Premise) (gone : List (List ℕ)) (ps : List Premise) → AllFollow earlier ps → AreDeclared IsPlain earlier gone
       → ((p : Premise) → In p ps → same_name erased (name_of p) ≡ true → seen p ≡ false) → seen_of (kept_after erased gone ps) ≡ seen_of ps
   seen_kept erased earlier gone [] follow plain own = refl
   seen_kept erased earlier gone (p ∷ ps) follow plain own =
@@ -177,21 +119,17 @@ module _ (seen : Premise → Bool) (reads : (p : Premise) → seen p ≡ true �
       rest : (q : Premise) → In q ps → same_name erased (name_of q) ≡ true → seen q ≡ false
       rest q at = own q (inr at)
 
-      by : (ArePlain (earlier ++ p ∷ []) (declared_by p ++ gone) → ((q : Premise) → In q ps → same_name erased (name_of q) ≡ true → seen q ≡ false) → seen_of (kept_after erased (declared_by p ++ gone) ps) ≡ seen_of ps)
-          → (ArePlain (earlier ++ p ∷ []) gone → ((q : Premise) → In q ps → same_name erased (name_of q) ≡ true → seen q ≡ false) → seen_of (kept_after erased gone ps) ≡ seen_of ps)
+      by : (AreDeclared IsPlain (earlier ++ p ∷ []) (declared_by p ++ gone) → ((q : Premise) → In q ps → same_name erased (name_of q) ≡ true → seen q ≡ false) → seen_of (kept_after erased (declared_by p ++ gone) ps) ≡ seen_of ps)
+          → (AreDeclared IsPlain (earlier ++ p ∷ []) gone → ((q : Premise) → In q ps → same_name erased (name_of q) ≡ true → seen q ≡ false) → seen_of (kept_after erased gone ps) ≡ seen_of ps)
           → (b : Bool) → falls erased gone p ≡ b → seen_of (kept_after erased gone (p ∷ ps)) ≡ seen_of (p ∷ ps)
       by one two true e =
           let unseen_p = falls_unseen erased earlier gone plain p follow.0 (own p (inl refl)) e in
           ap seen_of (kept_after-falls erased gone p ps e)
-          ∙ one (more_plain (earlier ++ p ∷ []) (declared_by p) gone (declares_plain earlier p (tells p unseen_p) follow.0) (still_plain earlier gone p plain)) rest
+          ∙ one (more_declared IsPlain (earlier ++ p ∷ []) (declared_by p) gone (declares_plain earlier p (tells p unseen_p) follow.0) (still_declared IsPlain earlier gone p plain)) rest
           ∙ sym (seen_past p ps unseen_p)
-      by one two false e = ap seen_of (kept_after-stays erased gone p ps e) ∙ ap (λ l. cond (seen p) (p ∷ l) l) (two (still_plain earlier gone p plain) rest)
+      by one two false e = ap seen_of (kept_after-stays erased gone p ps e) ∙ ap (λ l. cond (seen p) (p ∷ l) l) (two (still_declared IsPlain earlier gone p plain) rest)
 
 -- ---- an edit
-
-unread : (b : Bool) → not b ≡ true → b ≡ false
-unread true e = cc
-unread false e = refl
 
 -- what is told beliefs read
 pub told_reads : (p : Premise) → is_told p ≡ true → is_read p ≡ true
@@ -219,11 +157,11 @@ erased_is ps named name p at same = subst (λ n. premise_in ps n ≡ Some p) (sy
 
 edit_reads : (s : Standing) (edit : Edit) → IsWellNamed s.premises → is_unread s.premises edit ≡ true
     → (read_of s.premises ≡ read_of (next_list s edit).premises) × (s.horizon ≡ (next_list s edit).horizon)
-edit_reads s (Add p) named e = (sym (seen_push is_read (λ p e. e) unread_untold s.premises p (unread (is_read p) e)), refl)
+edit_reads s (Add p) named e = (sym (seen_push is_read (λ p e. e) unread_untold s.premises p (not-true (is_read p) e)), refl)
 edit_reads s (Erase name) named e = (sym (seen_kept is_read (λ p e. e) unread_untold name [] [] s.premises named (λ w at. absurd at) erased), refl)
   where
     erased : (p : Premise) → In p s.premises → same_name name (name_of p) ≡ true → is_read p ≡ false
-    erased p at same = unread (is_read p) (ap (λ o. option_map_or (λ q. not (is_read q)) o false) (sym (erased_is s.premises named name p at same)) ∙ e)
+    erased p at same = not-true (is_read p) (ap (λ o. option_map_or (λ q. not (is_read q)) o false) (sym (erased_is s.premises named name p at same)) ∙ e)
 edit_reads s (Horizon n) named e = cc
 edit_reads s Upgrade named e = (refl, refl)
 

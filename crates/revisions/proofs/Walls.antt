@@ -1,6 +1,7 @@
 -- Tokens that have not begun at an event, and tokens that are past there, bear on no decision at
 -- it.
 use Rattle.std.proofs.Common.{◌≡◌, ◌≢◌, ◌∙◌, ℕ, Bool, true, false, not, ◌&&◌, ◌||◌, List, [], ◌∷◌, map, refl, sym, ap, subst, inl, inr, arith}
+use Rattle.std.proofs.lemmas.Bool.{or_left}
 use Rattle.std.proofs.lemmas.Int.{ints}
 use Rattle.std.specs.Prelude.{◌⊎◌, Option, Some, None, pos, negsuc, filter}
 use Rattle.std.specs.List.{list_any}
@@ -26,7 +27,7 @@ use Rattle.belief_theory.specs.Outcomes.{Outcome, beyond, tried, outcome}
 use Rattle.belief_theory.proofs.Firsts.{least_is, one_spot}
 use Rattle.belief_theory.proofs.OneRight.{spot-token_of}
 use Rattle.belief_theory.proofs.Order.{IsSpelt, ordered}
-use Rattle.belief_theory.proofs.Rivals.{or_left, class_bears, contradicts_bears, contradicts_plain}
+use Rattle.belief_theory.proofs.Rivals.{class_bears, contradicts_bears, contradicts_plain}
 use Rattle.belief_theory.proofs.Sound.{shortest, sound_rules}
 use Rattle.belief_theory.proofs.Spelt.{spelt}
 use Rattle.belief_theory.proofs.Timed.{distance_triangle}

@@ -1,5 +1,6 @@
 -- A whole revision is right.
 use Rattle.std.proofs.Common.{◌≡◌, ℕ, Bool, true, false, ◌==◌, List, [], ◌∷◌, refl, sym, subst, inl, inr}
+use Rattle.std.proofs.lemmas.Bool.{cases_Bool}
 use Rattle.std.specs.Prelude.{◌↔◌, ◌⊎◌, ℤ, negsuc}
 use Rattle.std.specs.List.{Contains, list_any, list_all}
 use Rattle.std.specs.Cmp.Lexicographic.{bytes_decides}
@@ -104,10 +105,6 @@ module _ (old : Standing) (edit : Edit) (sound_old : IsSound old) (sound_new : I
   laws : IsLawful g
   laws = lawful old edit sound_old sound_new
 
-  true_or : (v : Bool) → (v ≡ true) ⊎ (v ≡ false)
-  true_or true = inl refl
-  true_or false = inr refl
-
   -- what is told at the beginning: that all derived occurrences left that occur no longer
   pub told_first : (b left : List Moment) → AreSeeds old (next_list old edit) b
       → ((t : Moment) (r : List ℕ) → In (After t r) left ↔ (Contains (built old).believed (After t r) × (Occurs (next_list old edit) (After t r) → ⊥)))
@@ -150,7 +147,7 @@ module _ (old : Standing) (edit : Edit) (sound_old : IsSound old) (sound_new : I
       );
       old_rows = begins.old_rows;
       new_rows = λ t r at stands e. (begins.all t r at stands (new_touched (map_of new s.nodes) t r e), begins.new_rows t r at stands e);
-      right = λ t r at stands was. elim (true_or (is_touched (built old) (map_of new s.nodes) (t, r))) [
+      right = λ t r at stands was. elim (cases_Bool (is_touched (built old) (map_of new s.nodes) (t, r))) [
         | inl touches ↦ inl (begins.all t r at stands touches)
         | inr free ↦ inr (keeps old edit sound_old sound_new s.nodes begins.seeds t r stands free)
       ];

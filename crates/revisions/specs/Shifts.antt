@@ -17,8 +17,8 @@ use Rattle.revisions.specs.Walls.{IsAside, AllOccur}
 -- **From one map to the other points moved, but none of which the decision of r at t needs to
 -- know.** The rule says the same and reads the same tokens, and what it reads has the same rivals.
 -- The event is as far from `start` as it was. So is each token that stays, and as far from the
--- event, and from those that stay and contradict it, where it is of a fact that the rule reads. Each
--- other one is aside, before and after.
+-- event, and from those that stay and contradict it, where it is of a fact that the rule reads.
+-- Each other one is aside, before and after.
 pub record IsShifted (stays : TokenRow Moment → Type 0) (m n : TimeMap) (t : Moment) (r : List ℕ) : Type 0 where
   pub text : rule_of m.list r ≡ rule_of n.list r
   pub horizon : m.list.horizon ≡ n.list.horizon

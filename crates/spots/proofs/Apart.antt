@@ -1,5 +1,5 @@
 -- How far apart rules lead, and the last of their names.
-use Rattle.std.proofs.Common.{◌≡◌, ℕ, Bool, true, false, List, [], ◌∷◌, ◌<◌, length, get_or, refl, sym, subst}
+use Rattle.std.proofs.Common.{◌≡◌, ℕ, Bool, true, false, List, [], ◌∷◌, ◌<◌, refl, sym, subst}
 use Rattle.tmm_model.specs.Bounds.{bound_less}
 use Rattle.tmm_model.specs.Points.{same_name}
 use Rattle.spots.specs.declared.link.Link.{Link}
@@ -21,7 +21,3 @@ module _ (l k : Link) (u v : List Link) where
 pub apart_to_none : (v : List Link) → links_apart [] v ≡ bound_less (links_high v) (links_low [])
 apart_to_none [] = refl
 apart_to_none (k ∷ v) = refl
-
--- the rules at a place do not have one name, where neither list ends
-abbrev pub Differ : List Link → List Link → ℕ → Type 0
-Differ u v i = i < length u → i < length v → (d : Link) → same_name (get_or u i d).rule (get_or v i d).rule ≡ false

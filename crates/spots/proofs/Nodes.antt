@@ -1,6 +1,6 @@
 -- What a spot is of a list: its point with its number and name, its rules, and its moment.
-use Rattle.std.proofs.Common.{◌≡◌, ℕ, List, [], ◌∷◌, ◌++◌, Option, Some, None, ap, refl, sym, subst}
-use Rattle.std.specs.Prelude.{IsSome, is_some}
+use Rattle.std.proofs.Common.{◌≡◌, ℕ, List, [], ◌∷◌, ◌++◌, Option, Some, ap, refl, sym, subst}
+use Rattle.std.specs.Prelude.{is_some}
 use Rattle.std.specs.Option.{option_map_or}
 use Rattle.std.specs.List.{All}
 use Rattle.std.proofs.lemmas.List.Elements.{All-nil}
@@ -8,6 +8,7 @@ use Rattle.tmm_model.specs.declared.point.PointName.{PointName}
 use Rattle.tmm_model.specs.declared.point.PointName.TheVariants.{Start, Begin}
 use Rattle.tmm_model.specs.Moments.{At, base, rules}
 use Rattle.tmm_model.specs.Standing.{Standing}
+use Rattle.list_theory.proofs.Elements.{some_value}
 use Rattle.belief_theory.proofs.Moments.{rules-along, base-along}
 use Rattle.dist_net.specs.Net.{Net}
 use Rattle.list_net.specs.Represents.{IsNumberOf}
@@ -21,13 +22,9 @@ use Rattle.spots.specs.Spots.{IsSpot, spot_moment, base_of, links_of}
 use Rattle.spots.specs.OfLists.{IsForestOf, IsLinkOf}
 use Rattle.spots.proofs.Links.{rules_in}
 
-some_member : (o : Option Member) → IsSome o → (m : Member) × (o ≡ Some m)
-some_member (Some m) h = (m, refl)
-some_member None h = absurd (cc (h))
-
 -- a live number is that of a node
 pub node_at : (f : Forest) (x : ℕ) → IsLive f x → (m : Member) × (member f x ≡ Some m)
-node_at f x live = some_member (member f x) live
+node_at f x live = some_value (member f x) live
 
 pub live_at : (f : Forest) (x : ℕ) (m : Member) → member f x ≡ Some m → IsLive f x
 live_at f x m here = ap (λ (o : Option Member). is_some o) here

@@ -1,13 +1,13 @@
 -- What clipping answers over the lists of a fact is what the list answers of its tokens, where
 -- facts of other classes contradict it too.
 use Rattle.std.proofs.Common.{◌≡◌, ◌∙◌, ℕ, zero, suc, ◌<◌, Bool, true, false, not, ◌&&◌, List, [], map, length, inl, inr, refl, sym, ap, subst, arith}
-use Rattle.std.specs.Prelude.{◌≢◌, ◌⊎◌, Option, Some, None, IsNone, IsSome, MatchOption, slice_get, slice_index_or, unwrap_or}
+use Rattle.std.proofs.lemmas.Bool.{or_cases, not-true}
+use Rattle.std.specs.Prelude.{◌≢◌, ◌⊎◌, Option, Some, None, IsNone, IsSome, MatchOption, slice_index_or}
 use Rattle.std.specs.List.{list_any, Contains}
 use Rattle.std.specs.Option.{option_map, option_map_or, option_and_then, ForSome}
 use Rattle.std.specs.Ordering.{on}
 use Rattle.std.specs.declared.cmp.Ordering.{Ordering}
 use Rattle.std.proofs.lemmas.List.{get_or-map, length-map}
-use Rattle.std.proofs.lemmas.Option.{slice_get-get_or}
 use Rattle.tmm_model.specs.declared.bound.Bound.{Bound}
 use Rattle.tmm_model.specs.declared.premise.Premise.{Premise}
 use Rattle.tmm_model.specs.declared.premise.Premise.TheVariants.{Class, Kind, Point, Event, Token, Span, Dist, Rule, Protect, Against}
@@ -21,6 +21,7 @@ use Rattle.tmm_model.specs.Standing.{Standing, far_in}
 use Rattle.tmm_model.specs.Tokens.{of_one_class, supports, clips, cuts, is_by, is_before, lasts_to}
 use Rattle.belief_theory.specs.FirstPlaces.{IsFirstPlace}
 use Rattle.belief_theory.proofs.Order.{ordered}
+use Rattle.belief_theory.proofs.Rivals.{known_class}
 use Rattle.belief_theory.proofs.Outcomes.{no_first_token}
 use Rattle.belief_theory.proofs.Watched.{class-token_of}
 use Rattle.list_theory.proofs.Elements.{In, both, list_any-In, In-list_any, In-filter_map, filter_map-In, In-flat_map, flat_map-In, In-left, In-right, In-map, map-In}
@@ -42,7 +43,7 @@ use Rattle.supports.proofs.Answered.{first_is, same_rows}
 use Rattle.supports.proofs.Facts.{fact_known}
 use Rattle.supports.proofs.FirstRows.{IsSame, first_of_rows, some_of_rows}
 use Rattle.supports.proofs.Moved.{by_alike, before_alike}
-use Rattle.supports.proofs.NoRivals.{differ_back, not_true, or_cases}
+use Rattle.supports.proofs.NoRivals.{differ_back}
 use Rattle.supports.proofs.SeveralLists.{first_of_all}
 use Rattle.supports.proofs.TokenRows.{node_of, spots_there, row_there, row_of, row_token, tokens_spelt}
 
@@ -78,15 +79,6 @@ module _ (s : Standing) (rows_in : List ℕ → List (TokenRow Spot)) (fact clas
       let pairs = rivalries s.premises in
       let short : i < length pairs = omega (arith, lt, length-map pairs against_fact) in
       subst IsOther (sym (get_or-map against_fact pairs i ([], []) [] short)) (other_list (class_against s fact (slice_index_or pairs i ([], []))))
-
-  -- the list of a pair
-  pub pair_list : (i : ℕ) (pair : List ℕ × List ℕ) → i < length (rivalries s.premises) → slice_get (rivalries s.premises) i ≡ Some pair → list_at lists (suc i) ≡ against_fact pair
-  pair_list i pair lt is =
-      let read : Some (slice_index_or (rivalries s.premises) i pair) ≡ Some pair = sym (slice_get-get_or (rivalries s.premises) i pair lt) ∙ is in
-      get_or-map against_fact (rivalries s.premises) i pair [] lt ∙ ap against_fact (cc_some (slice_index_or (rivalries s.premises) i pair) pair read)
-    where
-      cc_some : (x y : List ℕ × List ℕ) → Some x ≡ Some y → x ≡ y
-      cc_some x y e = ap (λ o. unwrap_or {T = List ℕ × List ℕ} o x) e
 
   module _ (f : Forest) (are : (class : List ℕ) → AreTokens f class (rows_in class)) where
     class_of_row : (c : List ℕ) (row : TokenRow Spot) → Contains (rows_in c) row → row.class ≡ c
@@ -207,13 +199,7 @@ module _ {s : Standing} {net : Net} {f : Forest} (seen : IsForestOf s net f) {b 
 
     -- the class of a fact that is declared is the token's
     declared_class : IsSome (class_in s.premises t.fact) → class_in s.premises t.fact ≡ Some t.class
-    declared_class some = by (class_in s.premises t.fact) refl some
-      where
-        by : (o : Option (List ℕ)) → class_in s.premises t.fact ≡ o → IsSome o → class_in s.premises t.fact ≡ Some t.class
-        by None e some = cc
-        by (Some c) e some =
-            let one : class_of s t.fact ≡ c = ap (λ o. elim o as (λ _. List ℕ) [ Some class ↦ class | None ↦ [] ]) e in
-            e ∙ ap Some (sym (token_class ∙ one))
+    declared_class some = known_class s t.fact some ∙ ap Some (sym token_class)
 
     module _ (a : TokenRow Spot) (here : In a (rows_in t.class)) where
       by_own : t.class ≡ class → In a every
@@ -273,7 +259,7 @@ module _ {s : Standing} {net : Net} {f : Forest} (seen : IsForestOf s net f) {b 
         | inr rivals ↦
             (let (differ, says) = both (not (same_name k.fact t.fact)) (list_any (says_against k.fact t.fact) s.premises) rivals in
             let (p, among, said) = list_any-In (says_against k.fact t.fact) s.premises says in
-            by_premise (not_true (same_name k.fact t.fact) differ) p among said)
+            by_premise (not-true (same_name k.fact t.fact) differ) p among said)
       ]
 
     complete : contradicts_in s (go k) t ≡ true → (a : TokenRow Spot) × In a every × (go a ≡ t)

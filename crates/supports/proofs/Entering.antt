@@ -15,6 +15,7 @@ use Rattle.tmm_model.specs.Lines.{IsWellFormedPremise, IsNumber, IsBound, IsRang
 use Rattle.tmm_model.specs.Names.{is_name}
 use Rattle.tmm_model.specs.Moments.{At, After, along, as_rule}
 use Rattle.belief_theory.specs.Right.{Occurs}
+use Rattle.belief_theory.proofs.Rivals.{known_class}
 use Rattle.tmm_model.specs.Sorts.{sort_in, class_in}
 use Rattle.tmm_model.specs.Standing.{Standing, premise_in}
 use Rattle.list_theory.proofs.Elements.{In}
@@ -28,7 +29,6 @@ use Rattle.spots.proofs.Nodes.{moment_at-is}
 use Rattle.supports.specs.Growing.{Adds, effect_shape, MayEnter}
 use Rattle.supports.proofs.Facts.{premise_formed}
 use Rattle.supports.proofs.Effects.{effect_is}
-use Rattle.supports.proofs.Grown.{class_is}
 use Rattle.supports.proofs.OnKinds.{event_of_rules}
 
 -- what a rule leads to begins after the event
@@ -74,7 +74,7 @@ module _ (s : Standing) (net : Net) (f : Forest) (seen : IsForestOf s net f) (x 
 
     class_for_effect : (o : Option (List ℕ)) → class_in s.premises effect ≡ o → o ≡ class_for s (effect_shape o) effect
     class_for_effect None e = refl
-    class_for_effect (Some name_) e = sym e ∙ class_is s effect (subst IsSome (sym e) refl)
+    class_for_effect (Some name_) e = sym e ∙ known_class s effect (subst IsSome (sym e) refl)
 
     pub effect_adds : (new : Forest) (y : ℕ) → Enters f new y (child_member m (record { rule = r; lo = lo; hi = hi }) effect (class_in s.premises effect) (effect_shape (class_in s.premises effect)))
         → Adds s net.names f new y (After (moment_at f x) r)

@@ -1,21 +1,24 @@
 -- What a well-named list says of the facts that it uses.
-use Rattle.std.proofs.Common.{◌≡◌, ◌∙◌, inl, inr, Bool, true, false, ◌||◌, cond, ℕ, List, [], ◌∷◌, ◌++◌, map, refl, sym, ap, subst, append_assoc}
+use Rattle.std.proofs.Common.{◌≡◌, ◌∙◌, inl, inr, Bool, true, false, not, ◌&&◌, ◌||◌, cond, ℕ, List, [], ◌∷◌, ◌++◌, map, refl, sym, ap, subst, append_assoc}
+use Rattle.std.proofs.lemmas.Bool.{or_cases}
 use Rattle.std.specs.Prelude.{Option, Some, None, IsSome}
 use Rattle.std.specs.List.{list_any}
 use Rattle.std.specs.Map.{lookup}
 use Rattle.std.specs.Option.{option_or}
+use Rattle.std.specs.Cmp.Lexicographic.{bytes_decides}
 use Rattle.std.proofs.lemmas.Grind.{flat_map-append}
 use Rattle.std.proofs.lemmas.List.Elements.{All-contains}
 use Rattle.tmm_model.specs.declared.premise.Premise.{Premise}
 use Rattle.tmm_model.specs.declared.premise.Premise.TheVariants.{Class, Kind, Point, Event, Token, Span, Dist, Rule, Protect, Against}
+use Rattle.tmm_model.specs.Beliefs.{says_against, are_rivals}
 use Rattle.tmm_model.specs.Points.{same_name}
-use Rattle.tmm_model.specs.Sorts.{Sort, a_class, a_fact, a_kind, a_point, an_event, a_token, a_span, a_dist, a_rule, a_protection, a_rivalry, is_fact, fact_declaration, declarations_of, declarations_in, sort_in, class_in, Use, a_name, fact_use, uses_of}
+use Rattle.tmm_model.specs.Sorts.{Sort, a_class, a_fact, a_kind, a_point, an_event, a_token, a_span, a_dist, a_rule, a_protection, a_rivalry, is_fact, fact_declaration, declarations_of, declarations_in, sort_in, class_in, a_name, fact_use, uses_of}
 use Rattle.tmm_model.specs.Lines.{IsWellFormedPremise}
 use Rattle.tmm_model.specs.Standing.{Standing, name_of}
-use Rattle.tmm_model.specs.Verdicts.{Cause, unknown, ill_sorted, name_cause, use_cause, uses_cause}
+use Rattle.tmm_model.specs.Verdicts.{Cause, unknown, ill_sorted, name_cause, use_cause}
 use Rattle.list_theory.specs.WellNamed.{AllFollow, IsWellNamed, IsSound}
-use Rattle.list_theory.proofs.Adding.{uses_none}
-use Rattle.list_theory.proofs.Elements.{In, Contains-from_In}
+use Rattle.list_theory.proofs.Adding.{each_use}
+use Rattle.list_theory.proofs.Elements.{In, Contains-from_In, both, list_any-In}
 use Rattle.list_theory.proofs.WellNamed.{lookup-append}
 use Rattle.premise_list.specs.Words.{facts_of, own_sort}
 use Rattle.premise_list.proofs.Lookups.{declarations_parted}
@@ -81,11 +84,6 @@ fact-class n (p ∷ ps) h =
 
 -- ---- uses
 
-each_use : (premises : List Premise) (us : List Use) → uses_cause premises us ≡ None → (u : Use) → In u us → use_cause premises u ≡ None
-each_use premises [] e u at = absurd at
-each_use premises (v ∷ us) e u (inl is) = subst (λ w. use_cause premises w ≡ None) is (uses_none premises v us e).0
-each_use premises (v ∷ us) e u (inr at) = each_use premises us (uses_none premises v us e).1 u at
-
 -- what a name is declared as, where that is as wanted
 wanted_sort : (premises : List Premise) (n : List ℕ) (wanted : Sort → Bool) → use_cause premises (a_name n wanted) ≡ None → (sort : Sort) × (sort_in premises n ≡ Some sort) × (wanted sort ≡ true)
 wanted_sort premises n wanted e = by (sort_in premises n) refl e
@@ -137,6 +135,31 @@ pub fact_known : (premises : List Premise) → IsWellNamed premises → (p : Pre
 fact_known premises h p at fact use_ =
     let (sort, declared, as_fact) = used_after [] premises h p at fact is_fact use_ in
     fact-class fact premises (declared ∙ ap Some (only_fact sort as_fact))
+
+-- a fact that a premise sets against another is declared
+pub rival_known : (s : Standing) → IsWellNamed s.premises → (f x : List ℕ) → are_rivals s f x ≡ true → IsSome (class_in s.premises x)
+rival_known s named f x rival =
+    let (p, at, says) = list_any-In (says_against f x) s.premises (both (not (same_name f x)) (list_any (says_against f x) s.premises) rival).1 in
+    by p at says
+  where
+    by : (p : Premise) → In p s.premises → says_against f x p ≡ true → IsSome (class_in s.premises x)
+    by (Class name facts) at says = cc
+    by (Kind name) at says = cc
+    by (Point name) at says = cc
+    by (Event name kind) at says = cc
+    by (Token name fact) at says = cc
+    by (Span name fact) at says = cc
+    by (Dist name from to lo hi) at says = cc
+    by (Rule name trigger lo hi effect given unless_facts) at says = cc
+    by (Protect name fact from to) at says = cc
+    by (Against name one other) at says = elim (or_cases (same_name one f && same_name other x) (same_name one x && same_name other f) says) [
+      | inl h ↦ (
+          let is : other ≡ x = (bytes_decides other x).0 (both (same_name one f) (same_name other x) h).1 in
+          subst (λ z. IsSome (class_in s.premises z)) is (fact_known s.premises named (Against name one other) at other (inr (inl refl))))
+      | inr h ↦ (
+          let is : one ≡ x = (bytes_decides one x).0 (both (same_name one x) (same_name other f) h).0 in
+          subst (λ z. IsSome (class_in s.premises z)) is (fact_known s.premises named (Against name one other) at one (inl refl)))
+    ]
 
 -- a premise of a sound list is well formed
 pub premise_formed : (s : Standing) → IsSound s → (p : Premise) → In p s.premises → IsWellFormedPremise p

@@ -1,6 +1,6 @@
 -- How what a tree holds grows with an occurrence that enters.
 use Rattle.std.proofs.Common.{◌≡◌, ◌≢◌, ◌∙◌, ◌⊎◌, inl, inr, ℕ, zero, suc, ◌<◌, true, List, [], ◌∷◌, ◌++◌, take, drop, length, refl, sym, ap, subst, arith}
-use Rattle.std.specs.Prelude.{Option, Some, None, IsSome, slice_get}
+use Rattle.std.specs.Prelude.{Option, Some, None, slice_get}
 use Rattle.std.specs.List.{Contains, filter_map}
 use Rattle.std.proofs.lemmas.Bool.Decides.{eqb_tells}
 use Rattle.std.proofs.lemmas.List.Elements.{Contains-append_left, Contains-append_cases}
@@ -9,13 +9,14 @@ use Rattle.tmm_model.specs.declared.point.PointName.TheVariants.{Begin, End}
 use Rattle.tmm_model.specs.declared.premise.Premise.{Premise}
 use Rattle.tmm_model.specs.declared.premise.Premise.TheVariants.{Class, Kind, Point, Event, Token, Span, Dist, Rule, Protect, Against}
 use Rattle.tmm_model.specs.declared.token.Shape.TheVariants.{Event as AnEvent, Persistence as APersistence, Span as ASpan}
-use Rattle.tmm_model.specs.Beliefs.{as_root, root_of, roots, class_of}
+use Rattle.tmm_model.specs.Beliefs.{as_root, root_of, roots}
 use Rattle.tmm_model.specs.Moments.{Moment, At, base}
 use Rattle.tmm_model.specs.Points.{same_name}
 use Rattle.list_theory.specs.WellNamed.{IsSound, AllFollow}
 use Rattle.tmm_model.specs.Sorts.{class_in}
 use Rattle.tmm_model.specs.Standing.{Standing, name_of, points_of}
 use Rattle.list_theory.proofs.Elements.{In, In-from_Contains, Contains-from_In, In-filter_map, filter_map-In, In-right}
+use Rattle.belief_theory.proofs.Rivals.{known_class}
 use Rattle.list_theory.proofs.KnownNames.{found, fresh}
 use Rattle.belief_theory.proofs.Moments.{base-along}
 use Rattle.list_theory.proofs.WellNamed.{AllFollow-append}
@@ -170,13 +171,6 @@ module _ (s : Standing) (sound : IsSound s) (front : List Premise) (p : Premise)
 
 -- ---- the nodes of roots
 
-pub class_is : (s : Standing) (fact : List ℕ) → IsSome (class_in s.premises fact) → class_in s.premises fact ≡ Some (class_of s fact)
-class_is s fact known = by (class_in s.premises fact) known
-  where
-    by : (o : Option (List ℕ)) → IsSome o → o ≡ Some (elim o as (λ _. List ℕ) [ Some class ↦ class | None ↦ [] ])
-    by (Some class) h = refl
-    by None h = absurd (cc (h))
-
 module _ (s : Standing) (sound : IsSound s) (net : Net) (network : IsNetOf s net) where
   -- a point that a premise declares has a number
   pub number_there : (p : Premise) (q : PointName) → In p s.premises → In q (points_of p) → (n : ℕ) × IsNumberOf net.names n q
@@ -215,7 +209,7 @@ module _ (s : Standing) (sound : IsSound s) (net : Net) (network : IsNetOf s net
       «end» = λ e. cc;
       links = λ i l below. absurd (omega arith);
       is = root_is (Token name fact) at;
-      class = class_is s fact (fact_known s.premises sound.well_named (Token name fact) at fact (inl refl));
+      class = known_class s fact (fact_known s.premises sound.well_named (Token name fact) at fact (inl refl));
     };
     is = refl;
   }
@@ -231,7 +225,7 @@ module _ (s : Standing) (sound : IsSound s) (net : Net) (network : IsNetOf s net
       «end» = (refl, ended);
       links = λ i l below. absurd (omega arith);
       is = root_is (Span name fact) at;
-      class = class_is s fact (fact_known s.premises sound.well_named (Span name fact) at fact (inl refl));
+      class = known_class s fact (fact_known s.premises sound.well_named (Span name fact) at fact (inl refl));
     };
     is = refl;
   }

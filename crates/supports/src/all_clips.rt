@@ -14,7 +14,7 @@ ghost use Rattle.occ_tree.specs.Ranks.{nodes_of};
 ghost use Rattle.clip_search.specs.Entries.{AreBranches, row_at};
 ghost use Rattle.occ_tree.specs.Tokens.{IsInOrder, numbers_in};
 ghost use Rattle.spots.specs.Forest.{IsLive, IsOnce, moment_at};
-ghost use Rattle.spots.specs.OfLists.{IsForestOf, HasList, HasOccurrences, map_of};
+ghost use Rattle.spots.specs.OfLists.{IsForestOf, HasOccurrences, map_of};
 ghost use Rattle.spots.specs.Spots.{IsSpot, AreTokens, spot_distance, node_cmp};
 ghost use Rattle.occ_tree.specs.OfLists.{IsTreeIn};
 ghost use Rattle.occ_tree.specs.Places.{forest};
@@ -125,8 +125,8 @@ fn first_wanted(wanted: &[bool]) -> usize
     wanted.len()
 }
 
-// What clips the token at `i`, where that is wanted: among those behind it, the nearest one last, or
-// among all of its class, or where its fact has rivals, among those of their classes too.
+// What clips the token at `i`, where that is wanted: among those behind it, the nearest one last,
+// or among all of its class, or where its fact has rivals, among those of their classes too.
 fn class_clip(
     alloc: Global,
     standing: &Standing,
@@ -163,8 +163,8 @@ fn class_clip(
     }
 }
 
-// What clips the token at `i`, which is no span and whose fact has no rivals, by the nodes under which tokens are. These are
-// gathered where they are first asked for.
+// What clips the token at `i`, which is no span and whose fact has no rivals, by the nodes under
+// which tokens are. These are gathered where they are first asked for.
 fn far_clip(
     alloc: Global,
     tree: &Tree,

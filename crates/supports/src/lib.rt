@@ -1,4 +1,4 @@
-//! Which believed token supports a fact, what clips a token, and why a token is no supporter: what
+//! Which believed token supports a fact, what clips tokens, and why a token is no supporter: what
 //! `clipping` answers over the tokens of a tree, told of the occurrences of the standing list; what
 //! a standing rule says, whose antecedents want supporters and whose exceptions want none; and what
 //! a premise declares to occur, as a node of a tree. It stands on `occ_tree`, `clipping`,
@@ -19,14 +19,14 @@ ghost use Rattle.std.specs.Prelude.{◌≡◌, ◌<◌, ℕ, List, map, length, 
 ghost use Rattle.std.specs.List.{All};
 ghost use Rattle.std.specs.Option.{option_map};
 ghost use Rattle.tmm_model.specs.declared.token.TokenRow.{TokenRow};
-ghost use Rattle.tmm_model.specs.Answers.{clip, fault};
+ghost use Rattle.tmm_model.specs.Answers.{fault};
 ghost use Rattle.tmm_model.specs.Beliefs.{has_support, holder, token_of};
 ghost use Rattle.tmm_model.specs.Moments.{Moment};
 ghost use Rattle.tmm_model.specs.Sorts.{class_in};
 ghost use Rattle.tmm_model.specs.Standing.{far_in};
 ghost use Rattle.belief_theory.specs.Outcomes.{first_with};
 ghost use Rattle.spots.specs.Forest.{Member, member, IsLive, moment_at};
-ghost use Rattle.spots.specs.OfLists.{IsForestOf, HasOccurrences, map_of};
+ghost use Rattle.spots.specs.OfLists.{HasOccurrences, map_of};
 ghost use Rattle.spots.specs.declared.spot.Spot.{Spot};
 ghost use Rattle.spots.specs.Spots.{IsSpot, spot_moment, spot_early, spot_cmp};
 ghost use Rattle.clipping.specs.ByDate.{IsByDate};
@@ -48,7 +48,9 @@ mod root;
 mod rule;
 
 pub use all_clips::{class_clips, clips};
-use clipping::by_date;
+use class_tokens::ClassTokens;
+use clipping::across::{self, Fault, Place};
+use clipping::{Tokens, by_date};
 use dist_net::DistNet;
 pub use guesses::Guesses;
 use occ_tree::{Order, Tree};
@@ -165,21 +167,6 @@ pub fn first_supported(
     None
 }
 
-/// The node of the first token that clips the one at `x`, none exactly where no token does. A span
-/// and an event have none.
-pub fn clip(standing: &Standing, tree: &Tree, net: &DistNet, x: u32) -> Option<u32>
-    requires seen { IsTreeOf standing.now.present net.now.present tree.now }
-    requires live { IsLive (forest tree.now) x }
-    ensures live { IfSome result (IsLive (forest tree.now)) }
-    ensures first { (b : List Moment) → HasOccurrences b (forest tree.now) → option_map (moment_at (forest tree.now)) result ≡ clip (map_of standing.now.present b) (moment_at (forest tree.now) x) }
-{
-    if standing.has_rivals(tree.row(x).what) {
-        rivals::clip(standing, tree, net, x)
-    } else {
-        alone::clip(standing, tree, net, x)
-    }
-}
-
 /// Why a token does not support its fact.
 #[derive(Clone, Copy, PartialEq, Eq, Debug)]
 pub enum NodeFault {
@@ -202,9 +189,23 @@ pub fn blame(standing: &Standing, tree: &Tree, net: &DistNet, x: u32, p: Spot, q
     ensures fault { (b : List Moment) (k : TokenRow Moment) → HasOccurrences b (forest tree.now) → token_of standing.now.present (moment_at (forest tree.now) x) ≡ Some k
         → fault (map_of standing.now.present b) (spot_moment net.now.present.names (forest tree.now) p) (spot_moment net.now.present.names (forest tree.now) q) k ≡ fault_at (forest tree.now) result }
 {
-    if standing.has_rivals(tree.row(x).what) {
-        rivals::blame(standing, tree, net, x, p, q)
-    } else {
-        alone::blame(standing, tree, net, x, p, q)
+    let row = tree.row(x);
+    let Some(class) = row.class else {
+        unreachable!()
+    };
+    let tokens = ClassTokens {
+        standing,
+        tree,
+        fact: row.what,
+        class,
+    };
+    tokens.are_in_order();
+    tree.have_tokens();
+    let order = Order { tree, net };
+    let at = place_of(&order, tokens.list(0), x);
+    match across::blame(&order, &tokens, standing, Place { list: 0, at }, p, q) {
+        Fault::Late => NodeFault::Late,
+        Fault::Clipped(c) => NodeFault::Clipped(node_at(tokens.list(c.list), c.at)),
+        Fault::Ends => NodeFault::Ends,
     }
 }

@@ -1,14 +1,12 @@
 // What clips a token, by the nearest of the tokens behind it.
-ghost use Rattle.std.specs.Prelude.{◌≡◌, IsNone, MatchOption, IfSome};
+ghost use Rattle.std.specs.Prelude.{◌≡◌};
 ghost use Rattle.std.specs.List.{All};
 ghost use Rattle.std.specs.Option.{ForSome};
 ghost use Rattle.tmm_model.specs.Tokens.{of_one_class, clips};
 ghost use Rattle.clipping.specs.Stretches.{rows_of, HaveStretches};
-ghost use Rattle.spots.specs.Forest.{IsLive};
 ghost use Rattle.spots.specs.Spots.{IsSpot, spot_distance};
 ghost use Rattle.occ_tree.specs.OfLists.{IsTreeIn};
 ghost use Rattle.occ_tree.specs.Places.{forest};
-ghost use Rattle.supports.specs.Behind.{IsLastNode};
 ghost use Rattle.supports.specs.Nodes.{IsOfNode};
 ghost use Rattle.supports.specs.Near.{IsNear};
 

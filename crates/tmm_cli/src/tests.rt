@@ -342,6 +342,18 @@ const ROWS: &[(&[u8], &[u8], Status)] = &[
         b"1 ok\n2 ok\n3 ok\n4 ok\n5 ok\n  in e/r\n  in e/r/r\n  in e/r/r/r\n6 ok\n  out e/r/r/r\n7 size 9\n",
         Status::Clean,
     ),
+    // facts of two classes that contradict each other as long as a premise says so
+    (
+        b"tmm 2\nclass door open shut\nclass alarm calm ringing\ntoken k open\ndist z start k 0 0\ntoken n ringing\ndist y start n 4 4\npoint p\ndist x start p 6 6\nprotect g open k p\nagainst a open ringing\nask open k p\nerase a\nagainst a open open\nagainst a open door\n",
+        b"1 ok\n2 ok\n3 ok\n4 ok\n5 ok\n6 ok\n7 ok\n8 ok\n9 ok\n10 ok\n11 ok\n  clip k by n\n  broken g\n    k clipped n\n12 no\n  k clipped n\n13 ok\n  erased a\n  loose k\n  mended g\n14 no form\n15 no sort door\n",
+        Status::SomeRefused,
+    ),
+    // a rule that such a fact blocks
+    (
+        b"tmm 2\nclass door open shut\nclass alarm calm ringing\nkind push\nrule r push 1 1 shut if open\ntoken k open\ndist z start k 0 0\ntoken n ringing\ndist y start n 4 4\nevent e push\ndist x start e 10 10\nagainst a open ringing\nlist\nerase y\ndist y start n 12 12\nerase alarm\naudit\n",
+        b"1 ok\n2 ok\n3 ok\n4 ok\n5 ok\n6 ok\n7 ok\n8 ok\n9 ok\n10 ok\n  in e/r\n  clip k by e/r\n11 ok\n12 ok\n  out e/r\n  clip k by n\n13 list 3\n  0 k open clip n\n  4 n ringing\n  10 e push\n14 ok\n  erased y\n  in e/r\n  clip k by e/r\n15 ok\n16 ok\n  erased alarm\n  erased n\n  erased a\n  erased y\n17 audit yes\n",
+        Status::Clean,
+    ),
 ];
 
 #[test]

@@ -8,6 +8,7 @@ mod WorkedPaths
 mod WorkedQuestions
 mod WorkedReasons
 mod WorkedReplies
+mod WorkedRivals
 mod WorkedScripts
 mod WorkedSizes
 mod WorkedSpans

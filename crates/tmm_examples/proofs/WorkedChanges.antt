@@ -15,7 +15,7 @@ use Rattle.tmm_model.specs.Edits.{next_list}
 use Rattle.belief_theory.proofs.FarTables.{of_map, of_maps}
 use Rattle.tmm_examples.proofs.WorkedScripts.{within, rule, root, effect, dated, apart_by, two_tokens, before_push, push, one_event, lamp, shut_at_five, push_at_ten, chain, guarded}
 
-abbrev none : Delta
+abbrev pub none : Delta
 none = record { erased = []; left = []; entered = []; loose = []; clips = []; broken = []; mended = [] }
 
 abbrev k : Moment

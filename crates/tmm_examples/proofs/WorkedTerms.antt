@@ -34,7 +34,7 @@ words_of_lines : (edit_words (Erase (codes "e")) ≡ codes "erase" ∷ codes "e"
 words_of_lines = (refl, refl)
 
 -- the list after premises are added, the first first
-abbrev added_to : Standing → List Premise → Standing
+abbrev pub added_to : Standing → List Premise → Standing
 added_to s [] = s
 added_to s (p ∷ ps) = added_to (next_list s (Add p)) ps
 

@@ -35,6 +35,7 @@ use Rattle.tmm_model.specs.Lines.{words}
 use Rattle.tmm_grammar.specs.Bare.{bare_line}
 use Rattle.tmm_model.specs.Types.{Listed}
 use Rattle.tmm_model.specs.Questions.{query_cause}
+use Rattle.tmm_model.specs.declared.version.Version.{Version}
 use Rattle.tmm_model.specs.declared.version.Version.TheVariants.{One}
 use Rattle.tmm_grammar.specs.Reading.{line_of, query_of, edit_of, premise_of, ask_of, two_points_of, query_point_of, point_of, occ_of, parts, two_names_of, name_alone_of, dist_of, bound_of, number_of, natural_of, digits_on}
 use Rattle.tmm_model.specs.Replies.{Accepted, Refused, Answered}
@@ -45,22 +46,22 @@ use Rattle.list_theory.proofs.Cycles.{IsNegativeCycle-from_cycle, no_dates_from_
 use Rattle.belief_theory.proofs.FarTables.{by_table, of_map, of_maps}
 use Rattle.tmm_examples.proofs.WorkedScripts.{within, root, effect, before_push, push}
 
-abbrev seq : {T : Type 0} → List T → Listed T
+abbrev pub seq : {T : Type 0} → List T → Listed T
 seq xs = record { items = xs; room = 0 }
 
-abbrev occ : List ℕ → List (List ℕ) → Occ
+abbrev pub occ : List ℕ → List (List ℕ) → Occ
 occ name rules = record { root = name; rules = seq rules }
 
 -- the bytes of a reply that is none of a refusal, and those of one
-abbrev told : List ℕ → Turn
+abbrev pub told : List ℕ → Turn
 told text = ReplyOf (seq text) false
 
-abbrev refused : List ℕ → Turn
+abbrev pub refused : List ℕ → Turn
 refused text = ReplyOf (seq text) true
 
 -- a line that the function reads so is read so
-read_as : (line : List ℕ) (l : Line) → length line ≤ 400 → line_of One (words line) ≡ Some (bare_line l) → IsReadAs One line l
-read_as line l short is = record { short = short; reads = line_of-sound One (words line) l is }
+pub read_as : (version : Version) (line : List ℕ) (l : Line) → length line ≤ 400 → line_of version (words line) ≡ Some (bare_line l) → IsReadAs version line l
+read_as version line l short is = record { short = short; reads = line_of-sound version (words line) l is }
 
 -- what holds of one after the other holds of all
 pub each : {X : Type 0} (F : X → Type 0) (xs : List X) → AllByRecursion F xs → All F xs
@@ -112,7 +113,7 @@ an_event : Step before 6 (codes "event e push") (told (codes "6 ok\n  in e/r\n  
 unfolding digits
 an_event = (
   Accepted news,
-  for_meaning (Change add_event) (read_as (codes "event e push") (Change add_event) (omega arith) event_reads) (accepted, sym (of_maps delta before (next_list before add_event)), refl),
+  for_meaning (Change add_event) (read_as One (codes "event e push") (Change add_event) (omega arith) event_reads) (accepted, sym (of_maps delta before (next_list before add_event)), refl),
   refl,
   refl,
 )
@@ -134,7 +135,7 @@ open_at_push : Step pushed 8 (codes "ask open e e") (told (codes "8 yes k\n")) p
 unfolding digits
 open_at_push = (
   Answered (Yes (occ (codes "k") [])),
-  for_meaning (Question is_open) (read_as (codes "ask open e e") (Question is_open) (omega arith) is_open_reads) (
+  for_meaning (Question is_open) (read_as One (codes "ask open e e") (Question is_open) (omega arith) is_open_reads) (
     (of_map (λ m. query_cause m is_open) pushed, sym (of_map (λ m. ask m (codes "open") (root (codes "e")) (root (codes "e"))) pushed)),
     refl,
   ),
@@ -154,7 +155,7 @@ not_open_after : Step pushed 9 (codes "ask open e e/r") (told (codes "9 no\n  k 
 unfolding digits
 not_open_after = (
   Answered (No (seq (record { token = occ (codes "k") []; cause = Clipped (occ (codes "e") (codes "r" ∷ [])) } ∷ [])) 0),
-  for_meaning (Question stays_open) (read_as (codes "ask open e e/r") (Question stays_open) (omega arith) stays_open_reads) (
+  for_meaning (Question stays_open) (read_as One (codes "ask open e e/r") (Question stays_open) (omega arith) stays_open_reads) (
     (of_map (λ m. query_cause m stays_open) pushed, sym (of_map (λ m. ask m (codes "open") (root (codes "e")) (effect (codes "e") (codes "r"))) pushed)),
     refl,
   ),
@@ -174,7 +175,7 @@ unknown_fact : Step pushed 10 (codes "token t h") (refused (codes "10 no unknown
 unfolding digits
 unknown_fact = (
   Refused (Unknown (Declared (Begin (codes "h")))),
-  for_meaning (Change add_token) (read_as (codes "token t h") (Change add_token) (omega arith) token_reads) ((refl, refl), refl),
+  for_meaning (Change add_token) (read_as One (codes "token t h") (Change add_token) (omega arith) token_reads) ((refl, refl), refl),
   refl,
   refl,
 )
@@ -194,7 +195,7 @@ unfolding words line_of
 comment_reads = refl
 
 silence : Step pushed 12 (codes "# x") NoReply pushed
-silence = (read_as (codes "# x") Silent (omega arith) comment_reads, refl)
+silence = (read_as One (codes "# x") Silent (omega arith) comment_reads, refl)
 
 -- ---- line 13: dist y k e 11 *, but x has e at 10
 
@@ -238,7 +239,7 @@ no_dates : Step pushed 13 (codes "dist y k e 11 *") (refused (codes "13 no cycle
 unfolding digits
 no_dates = (
   Refused (Cycle (negsuc 0) (seq (y_lo ∷ k_base ∷ x_hi ∷ []))),
-  for_meaning (Change add_dist) (read_as (codes "dist y k e 11 *") (Change add_dist) (omega arith) dist_reads) (
+  for_meaning (Change add_dist) (read_as One (codes "dist y k e 11 *") (Change add_dist) (omega arith) dist_reads) (
     record {
       no_cause = refl;
       no_dates = no_dates_from_cycle push late (y_lo ∷ k_base ∷ x_hi ∷ []) (IsNegativeCycle-from_cycle push late (negsuc 0) (y_lo ∷ k_base ∷ x_hi ∷ []) cycle);

@@ -1,8 +1,8 @@
 -- What each form of a line reads as, and that a line reads as at most one thing.
-use Rattle.std.proofs.Common.{◌≡◌, ℕ, ◌≤◌, ℤ, pos, true, false, cond, List, [], ◌∷◌, length, Option, Some, None, refl, sym, ap, subst, ◌∙◌, inl, inr, arith}
+use Rattle.std.proofs.Common.{◌≡◌, ◌≢◌, ℕ, ◌≤◌, ℤ, pos, true, false, not, cond, List, [], ◌∷◌, length, Option, Some, None, refl, sym, ap, subst, ◌∙◌, inl, inr, arith}
 use Rattle.std.specs.Prelude.{◌≤ℤ◌, int_le, decimal, option_map, ◌&&◌, nat_le, codes}
 use Rattle.std.specs.Option.{option_or}
-use Rattle.std.proofs.lemmas.Bool.{and_parts, leb-true, le-leb, true≢false}
+use Rattle.std.proofs.lemmas.Bool.{and_parts, leb-true, le-leb, not-true, true≢false}
 use Rattle.std.proofs.lemmas.Int.{ints}
 use Rattle.std.proofs.lemmas.Option.{same_Some, none-some}
 use Rattle.tmm_model.specs.declared.bound.Bound.{Bound}
@@ -21,14 +21,14 @@ use Rattle.tmm_model.specs.declared.line.Query.TheVariants.{Bounds, Path, Ask, W
 use Rattle.tmm_model.specs.declared.line.Line.{Line}
 use Rattle.tmm_model.specs.declared.line.Line.TheVariants.{Silent, Change, Question}
 use Rattle.tmm_model.specs.Points.{same_name, point_word, occ_word, query_word}
-use Rattle.tmm_model.specs.Lines.{IsName, AreNames, number_word, bound_word, IsNumber, IsBound, IsRange, IsWellFormedPoint, IsWellFormedPremise, IsWellFormedEdit, IsWellFormedQuery, IsWellFormedQueryPoint, IsOfVersion, IsEditOf, shown, edit_words, query_words, is_comment, Reads}
+use Rattle.tmm_model.specs.Lines.{IsName, AreNames, number_word, bound_word, IsNumber, IsBound, IsRange, IsWellFormedPoint, IsWellFormedPremise, IsWellFormedEdit, IsWellFormedQuery, IsWellFormedQueryPoint, IsOfVersion, IsEditOf, IsTwo, shown, edit_words, query_words, is_comment, Reads}
 use Rattle.tmm_grammar.specs.Bare.{bare_point, bare_query, bare_line, SameLine}
-use Rattle.tmm_grammar.specs.Reading.{◌>>=◌, passing, ended, alone, both, name_of, names_of, number_of, bound_of, point_of, occ_of, horizon_of, is_range, class_of, dist_of, conditions_of, rule_of, protect_of, name_alone_of, two_names_of, two_points_of, ask_of, premise_of, two_of, upgrade_of, edit_of, query_of, line_of}
+use Rattle.tmm_grammar.specs.Reading.{◌>>=◌, passing, ended, alone, both, name_of, names_of, number_of, bound_of, point_of, occ_of, horizon_of, is_range, class_of, dist_of, conditions_of, rule_of, protect_of, name_alone_of, two_names_of, rivals_of, against_of, two_points_of, ask_of, premise_of, two_of, upgrade_of, edit_of, query_of, line_of}
 use Rattle.tmm_grammar.proofs.LineReaders.{chosen, bind_some, map_some, passing_some, ended_some, IsReader, alone_reader, both_reader}
 use Rattle.tmm_grammar.proofs.LineFacts.{names_reader, Conditions, condition_words, AreConditions, conditions_reader}
 use Rattle.tmm_grammar.proofs.LineNumbers.{number_reader}
 use Rattle.tmm_grammar.proofs.LinePoints.{name_reader, bound_reader, point_reader, IsBareOcc, occ_reader, IsBarePoint, query_point_reader, horizon_reader}
-use Rattle.walk_theory.proofs.Points.{same_name-is}
+use Rattle.walk_theory.proofs.Points.{same_name-is, names_differ, names_apart}
 
 -- in the version the words declare the premise
 abbrev pub Declares : Version → List (List ℕ) → Premise → Type 0
@@ -166,6 +166,37 @@ two_names : IsReader {A = List ℕ × List ℕ} (λ t. t.0 ∷ t.1 ∷ []) (λ t
 unfolding two_names_of
 two_names = both_reader name_reader (alone_reader name_reader)
 
+rivals_words : IsReader {A = List ℕ × (List ℕ × List ℕ)} (λ t. t.0 ∷ t.1.0 ∷ t.1.1 ∷ []) (λ t. IsName t.0 × (IsName t.1.0 × IsName t.1.1)) (both name_of two_names_of)
+rivals_words = both_reader name_reader two_names
+
+rivals_from : List ℕ × (List ℕ × List ℕ) → Option Premise
+rivals_from t = passing (not (same_name t.1.0 t.1.1)) (Against t.0 t.1.0 t.1.1)
+
+rivals-sound : (ws : List (List ℕ)) (p : Premise) → rivals_of ws ≡ Some p → Declares Two (codes "against" ∷ ws) p
+unfolding rivals_of rivals_from
+rivals-sound ws p e =
+    let a = bind_some (both name_of two_names_of ws) rivals_from p e in
+    let t = a.0 in
+    let c = passing_some (not (same_name t.1.0 t.1.1)) (Against t.0 t.1.0 t.1.1) p a.2 in
+    let r = rivals_words.sound ws t a.1 in
+    subst (Declares Two (codes "against" ∷ ws)) c.1 (ap (λ (x : List (List ℕ)). codes "against" ∷ x) r.1, (r.0.0, r.0.1.0, r.0.1.1, names_apart t.1.0 t.1.1 (not-true (same_name t.1.0 t.1.1) c.0)), tt)
+
+rivals-again : (n f g : List ℕ) → IsName n → IsName f → IsName g → f ≢ g → rivals_of (n ∷ f ∷ g ∷ []) ≡ Some (Against n f g)
+unfolding rivals_of rivals_from
+rivals-again n f g h k j apart =
+    ap (λ (r : Option (List ℕ × (List ℕ × List ℕ))). r >>= rivals_from) (rivals_words.complete (n, (f, g)) (h, (k, j)))
+    ∙ rw (names_differ f g apart) refl
+
+against-sound : (version : Version) (ws : List (List ℕ)) (p : Premise) → against_of version ws ≡ Some p → Declares version (codes "against" ∷ ws) p
+unfolding against_of
+against-sound One ws p e = absurd cc
+against-sound Two ws p e = rivals-sound ws p e
+
+against-again : (version : Version) (n f g : List ℕ) → IsName n → IsName f → IsName g → f ≢ g → IsTwo version → against_of version (n ∷ f ∷ g ∷ []) ≡ Some (Against n f g)
+unfolding against_of
+against-again One n f g h k j apart two = absurd two
+against-again Two n f g h k j apart two = rivals-again n f g h k j apart
+
 -- one keyword after the other
 keyed : {A : Type 0} (w k : List ℕ) (x y : Option A) (p : A) (P : List ℕ → Type 0) → cond (same_name w k) x y ≡ Some p → (x ≡ Some p → P k) → (y ≡ Some p → P w) → P w
 keyed w k x y p P e here else =
@@ -201,7 +232,8 @@ premise_of-sound version w ws p e =
     keyed w (codes "span") _ _ p P e (two_name_premise Span ws p (Declares version (codes "span" ∷ ws)) (λ n m h k q. (behind _ ws _ q, (h, k), tt))) (λ e.
     keyed w (codes "dist") _ _ p P e (dist-sound version ws p) (λ e.
     keyed w (codes "rule") _ _ p P e (rule-sound version ws p) (λ e.
-    keyed w (codes "protect") _ _ p P e (protect-sound version ws p) (λ e. absurd cc)))))))))
+    keyed w (codes "protect") _ _ p P e (protect-sound version ws p) (λ e.
+    keyed w (codes "against") _ _ p P e (against-sound version ws p) (λ e. absurd cc))))))))))
 
 -- what the first word and the words behind it read as
 premise_in : Version → List (List ℕ) → Option Premise
@@ -221,7 +253,7 @@ premise_in-shown version (Rule n t lo hi x given unless_facts) h of_version =
     sym (rule-again version (n, (t, (lo, (hi, (x, (given.items, unless_facts.items)))))) (h.0, (h.1, (h.2, (h.3, (h.6, (((h.7, h.8), (h.9, h.10)), of_version)))))))
     ∙ rw (int_le_from (pos 1) lo h.4, range_from (Finite lo) hi h.5) refl
 premise_in-shown version (Protect n f p q) h of_version = protect-again n f p q h.0 h.1 h.2 h.3
-premise_in-shown version (Against n f g) h of_version = absurd h
+premise_in-shown version (Against n f g) h of_version = against-again version n f g h.0 h.1 h.2 h.3 of_version
 
 -- ---- changes
 

@@ -83,7 +83,7 @@ shown_are_words (Rule n t lo hi x given unless_facts) h =
     (facts_are_words (codes "if") ((λ e. cc), refl) given.items h.7) (facts_are_words (codes "unless") ((λ e. cc), refl) unless_facts.items h.9) in
     (((λ e. cc), refl), (name_is_word n h.0, (name_is_word t h.1, (number_is_word lo h.2, (bound_is_word hi h.3, (name_is_word x h.6, conditions))))))
 shown_are_words (Protect n f p q) h = (((λ e. cc), refl), (name_is_word n h.0, (name_is_word f h.1, (point_is_word p h.2, (point_is_word q h.3, tt)))))
-shown_are_words (Against n f g) h = absurd h
+shown_are_words (Against n f g) h = (((λ e. cc), refl), (name_is_word n h.0, (name_is_word f h.1, (name_is_word g h.2, tt))))
 
 -- how long words are
 
@@ -180,7 +180,10 @@ shown_short (Protect n f p q) h =
     short_line (codes "protect") (n ∷ f ∷ point_word p ∷ point_word q ∷ []) (omega arith)
     (omega (arith, name_length n h.0), (omega (arith, name_length f h.1), (point_length p h.2, (point_length q h.3, tt))))
     (omega arith)
-shown_short (Against n f g) h = absurd h
+shown_short (Against n f g) h =
+    short_line (codes "against") (n ∷ f ∷ g ∷ []) (omega arith)
+    (omega (arith, name_length n h.0), (omega (arith, name_length f h.1), (omega (arith, name_length g h.2), tt)))
+    (omega arith)
 
 pub shown_reads : (p : Premise) → IsWellFormedPremise p → (length (shown_text p) ≤ 400) × ((version : Version) → IsOfVersion version p → ReadsLine version (shown_text p) (Change (Add p)))
 shown_reads p h = (omega (arith, shown_short p h), λ version of_version. (words-spaced (shown p) (shown_are_words p h), h, of_version))

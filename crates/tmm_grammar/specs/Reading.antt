@@ -1,6 +1,6 @@
 -- The grammar of a script line as a function from words, which code follows word by word. In each
 -- version it gives the values for which `Reads` holds, with no room in their lists.
-use Rattle.std.specs.Prelude.{ℕ, zero, suc, ◌+◌, ◌-◌, ◌*◌, ℤ, pos, negsuc, int_le, Bool, true, false, cond, ◌&&◌, ◌==◌, nat_le, List, [], ◌∷◌, length, take, drop, Option, Some, None, option_map, codes}
+use Rattle.std.specs.Prelude.{ℕ, zero, suc, ◌+◌, ◌-◌, ◌*◌, ℤ, pos, negsuc, int_le, Bool, true, false, cond, not, ◌&&◌, ◌==◌, nat_le, List, [], ◌∷◌, length, take, drop, Option, Some, None, option_map, codes}
 use Rattle.std.specs.List.{list_all, list_any, slice_split}
 use Rattle.std.specs.Option.{option_or}
 use Rattle.tmm_model.specs.declared.limits.TheConstants.{GREATEST_NUMBER, LAST_HORIZON}
@@ -198,6 +198,15 @@ name_alone_of = alone name_of
 unfoldable pub two_names_of : List (List ℕ) → Option (List ℕ × List ℕ)
 two_names_of = both name_of (alone name_of)
 
+-- a name, and two facts that differ
+unfoldable pub rivals_of : List (List ℕ) → Option Premise
+rivals_of ws = both name_of two_names_of ws >>= λ t. passing (not (same_name t.1.0 t.1.1)) (Against t.0 t.1.0 t.1.1)
+
+-- version 2 alone says which facts contradict each other
+unfoldable pub against_of : Version → List (List ℕ) → Option Premise
+against_of One ws = None
+against_of Two ws = rivals_of ws
+
 -- two points of a question
 unfoldable pub two_points_of : List (List ℕ) → Option (QueryPoint × QueryPoint)
 two_points_of = both query_point_of (alone query_point_of)
@@ -219,7 +228,8 @@ premise_of version w ws =
     (cond (same_name w (codes "span")) (option_map (λ p. Span p.0 p.1) (two_names_of ws))
     (cond (same_name w (codes "dist")) (dist_of ws)
     (cond (same_name w (codes "rule")) (rule_of version ws)
-    (cond (same_name w (codes "protect")) (protect_of ws) None))))))))
+    (cond (same_name w (codes "protect")) (protect_of ws)
+    (cond (same_name w (codes "against")) (against_of version ws) None)))))))))
 
 -- the word `2`
 abbrev pub two_of : List ℕ → Option Edit

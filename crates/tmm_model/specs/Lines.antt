@@ -97,8 +97,7 @@ IsWellFormedPremise (Rule name trigger lo hi effect given unless_facts) =
     IsName name × IsName trigger × IsNumber lo × IsBound hi × (pos 1 ≤ℤ lo) × IsRange (Finite lo) hi × IsName effect
     × AreNames given.items × (length given.items ≤ MOST_ANTECEDENTS) × AreNames unless_facts.items × (length unless_facts.items ≤ MOST_EXCEPTIONS)
 IsWellFormedPremise (Protect name fact from to) = IsName name × IsName fact × IsWellFormedPoint from × IsWellFormedPoint to
--- no line says so yet
-IsWellFormedPremise (Against name one other) = ⊥
+IsWellFormedPremise (Against name one other) = IsName name × IsName one × IsName other × (one ≢ other)
 
 -- what an edit can say, in whichever version
 abbrev pub IsWellFormedEdit : Edit → Type 0
@@ -117,9 +116,16 @@ abbrev pub AreFactsOf : Version → List (List ℕ) → List (List ℕ) → Type
 AreFactsOf One facts exceptions = exceptions ≡ []
 AreFactsOf Two facts exceptions = list_any is_unless facts ≡ false
 
--- what a premise can say in a version
+-- what version 2 alone has
+abbrev pub IsTwo : Version → Type 0
+IsTwo One = ⊥
+IsTwo Two = Unit {0}
+
+-- What a premise can say in a version: in version 1 none says which facts contradict each other
+-- beyond those of a class.
 abbrev pub IsOfVersion : Version → Premise → Type 0
 IsOfVersion version (Rule name trigger lo hi effect given unless_facts) = AreFactsOf version given.items unless_facts.items
+IsOfVersion version (Against name one other) = IsTwo version
 IsOfVersion version premise = Unit {0}
 
 -- version 1 opens version 2

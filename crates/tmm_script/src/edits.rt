@@ -1,7 +1,7 @@
 // Lines that change the standing premises. Each function reads the words behind a line's first one.
 ghost use Rattle.std.specs.Prelude.{◌≡◌, option_map, codes};
 ghost use Rattle.tmm_model.specs.Lines.{words};
-ghost use Rattle.tmm_grammar.specs.Reading.{class_of, dist_of, rule_of, facts_of, conditions_of, protect_of, name_alone_of, two_names_of, premise_of, alone, two_of, upgrade_of, edit_of, is_range as is_range_of};
+ghost use Rattle.tmm_grammar.specs.Reading.{class_of, dist_of, rule_of, facts_of, conditions_of, protect_of, name_alone_of, two_names_of, rivals_of, against_of, premise_of, alone, two_of, upgrade_of, edit_of, is_range as is_range_of};
 ghost use Rattle.tmm_script.specs.Conditions.{Cut, given_cut};
 
 use crate::fields::{
@@ -89,6 +89,9 @@ fn premise(version: Version, word: &[u8], rest: &[u8]) -> Option<Premise>
     }
     if word == b"protect".as_slice() {
         return protect(rest);
+    }
+    if word == b"against".as_slice() {
+        return against(version, rest);
     }
     None
 }
@@ -243,6 +246,30 @@ fn protect(line: &[u8]) -> Option<Premise>
         from,
         to,
     })
+}
+
+// Version 2 says which facts contradict each other.
+#[tactic(auto, unfolding(tmm_grammar::specs::Reading::against_of))]
+fn against(version: Version, line: &[u8]) -> Option<Premise>
+    ensures { result ≡ against_of version (words line.now) }
+{
+    match version {
+        Version::One => None,
+        Version::Two => rivals(line),
+    }
+}
+
+#[tactic(auto, unfolding(tmm_grammar::specs::Reading::rivals_of))]
+fn rivals(line: &[u8]) -> Option<Premise>
+    ensures { result ≡ rivals_of (words line.now) }
+{
+    let mut rest = line;
+    let name = take_name(&mut rest)?;
+    let (one, other) = two_names(rest)?;
+    if one == other {
+        return None;
+    }
+    Some(Premise::Against { name, one, other })
 }
 
 // Whether the bounds leave a distance.

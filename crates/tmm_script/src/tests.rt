@@ -36,12 +36,12 @@ fn lines_are_read(rt: HostRuntime) {
 #[test]
 fn lines_of_version_2_are_read(rt: HostRuntime) -> Result<(), Fail> {
     let alloc = rt.alloc();
-    for line in data::RULES.split(|b| *b == b'\n') {
+    for line in data::PREMISES_OF_2.split(|b| *b == b'\n') {
         let mut out = Seq::make(alloc);
         print_again(alloc, Version::Two, line, &mut out)?;
         assert_eq!(rt; out.items(), line);
     }
-    for line in data::REFUSED_RULES.split(|b| *b == b'\n') {
+    for line in data::REFUSED_OF_2.split(|b| *b == b'\n') {
         assert_eq!(rt; told(alloc, Version::Two, line), "form");
     }
     assert_eq!(rt; told(alloc, Version::One, b"tmm 2"), "change");
@@ -49,6 +49,7 @@ fn lines_of_version_2_are_read(rt: HostRuntime) -> Result<(), Fail> {
         told(alloc, Version::One, b"rule r t 1 1 x unless g"),
         "form"
     );
+    assert_eq!(rt; told(alloc, Version::One, b"against a f g"), "form");
     Ok(())
 }
 

@@ -25,23 +25,33 @@ rule r t 7 9 if if if if f g\n\
 protect x f p q\n\
 protect x f start k.end";
 
-// Rules of version 2, as they are printed.
-pub const RULES: &[u8] = b"\
+// Premises of version 2, as they are printed.
+pub const PREMISES_OF_2: &[u8] = b"\
 rule r t 1 1 x\n\
 rule r t 1 1 x if f\n\
 rule r t 1 1 x unless g\n\
 rule r t 7 9 x if f g h i unless j k\n\
-rule r t 7 9 unless if if if unless if unless";
+rule r t 7 9 unless if if if unless if unless\n\
+against a f g\n\
+against against if unless";
 
 // Lines in no form of version 2.
-pub const REFUSED_RULES: &[u8] = b"\
+pub const REFUSED_OF_2: &[u8] = b"\
 tmm 2\n\
 tmm 1\n\
 rule r t 1 1 x if\n\
 rule r t 1 1 x if unless g\n\
 rule r t 1 1 x unless\n\
 rule r t 1 1 x unless g if h\n\
-rule r t 1 1 x if a b c d e unless g";
+rule r t 1 1 x if a b c d e unless g\n\
+against\n\
+against a\n\
+against a f\n\
+against a f f\n\
+against a f g h\n\
+against a f.end g\n\
+against a f g.end\n\
+against 9a f g";
 
 // Other changes.
 pub const CHANGES: &[u8] = b"\

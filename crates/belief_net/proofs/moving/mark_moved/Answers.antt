@@ -2,19 +2,19 @@ use Rattle.std.proofs.Common.{◌≡◌, ◌∙◌, length, sym, ap, subst, inr,
 use Rattle.undo_rows.specs.Changes.{present as table}
 use Rattle.occ_tree.specs.Places.{forest}
 use Rattle.occ_tree.specs.Standing.{present}
-use Rattle.joined.proofs.Reading.{no_rival_read}
 use Rattle.belief_net.specs.declared.state.Decisions.{Decisions}
-use Rattle.belief_net.specs.Decided.{table_of, rule_in}
-use Rattle.belief_net.specs.Marks.{HaveEvents}
+use Rattle.belief_net.specs.Decided.{table_of, rule_in, AreUnder}
+use Rattle.belief_net.specs.Marks.{HaveEvents, Wakes}
 use Rattle.belief_net.specs.Touching.{IsRowMoved}
 use Rattle.belief_net.specs.Waiting.{dates_in}
-use Rattle.belief_net.specs.Woken.{TellMoves, IsRowAtRest, WakesForAll}
+use Rattle.belief_net.specs.Woken.{TellMoves, MovesByRule, StaysByRule, IsRowAtRest, WakesForAll}
 use Rattle.belief_net.proofs.AtRest.{all_rest, all_woken}
 use Rattle.belief_net.proofs.Reached.{numbers_below}
 use Rattle.belief_net.proofs.Stood.{start_kept, no_pair_of_one}
 use Rattle.belief_net.proofs.Waking.{wakes_none}
+use Rattle.belief_net.proofs.WatchedPoints.{classed}
 use Rattle.belief_net.proofs.moving.mark_moved.Goals as goal
-use Rattle.belief_net.proofs.moving.mark_moved.Goals.{In_ok-moves}
+use Rattle.belief_net.proofs.moving.mark_moved.Goals.{In_ok-moves, In_ok-wake_classes}
 
 pub returns-then-is_empty-clause-ok : goal.returns-then-is_empty-clause-ok
 returns-then-is_empty-clause-ok c =
@@ -22,15 +22,15 @@ returns-then-is_empty-clause-ok c =
     let list = c.args.standing.now.present in
     let f = forest c.args.tree.now in
     let none : length c.args.net.now.moved ≡ 0 = ap length (sym c.moved.ensures.list) ∙ eqb-true (length c.moved.result.now) 0 (sym c.is_empty.ensures ∙ c.if-is_empty.true) in
-    wakes_none (present c.args.tree.now) (table_of d) (λ i row. IsRowMoved c.args.net.now c.args.added list f d row) (λ i row. IsRowAtRest c.args.net.now c.args.added list f d row) (dates_in d.waiting)
-    (λ i row at. inr (all_rest c.args.net.now c.args.added list f d row (no_rival_read list c.requires.seen.network.sound (rule_in d row)) c.requires.there c.moved.ensures.moved none))
+    wakes_none (present c.args.tree.now) (table_of d) (λ i row. IsRowMoved c.args.net.now c.args.added list f d row) (λ i row. IsRowAtRest c.args.net.now c.args.added c.args.standing.now.committed list f d row) (dates_in d.waiting)
+    (λ i row at. inr (all_rest c.args.net.now c.args.added c.args.standing.now.committed list f d row c.requires.there c.moved.ensures.moved none))
 
 pub returns-then-len-eq0-clause-ok : goal.returns-then-len-eq0-clause-ok
 returns-then-len-eq0-clause-ok c =
     let d = c.args.decisions.now in
     let list = c.args.standing.now.present in
     let f = forest c.args.tree.now in
-    wakes_none (present c.args.tree.now) (table_of d) (λ i row. IsRowMoved c.args.net.now c.args.added list f d row) (λ i row. IsRowAtRest c.args.net.now c.args.added list f d row) (dates_in d.waiting)
+    wakes_none (present c.args.tree.now) (table_of d) (λ i row. IsRowMoved c.args.net.now c.args.added list f d row) (λ i row. IsRowAtRest c.args.net.now c.args.added c.args.standing.now.committed list f d row) (dates_in d.waiting)
     (λ i row at. (let h = c.requires.under.named i row at in absurd (omega (arith, h, c.len.ensures, c.if-len-eq0.true))))
 
 pub moves_of-requires-clause-start : goal.moves_of-requires-clause-start
@@ -61,19 +61,49 @@ wake_classes-requires-clause-moves c = told (goal.at.wake_classes-requires-claus
 pub wake_classes-requires-clause-events : goal.wake_classes-requires-clause-events
 wake_classes-requires-clause-events c = subst (λ (d : Decisions). HaveEvents c.args.tree.now (table d.rows)) (sym c.in_ok-wake_unread.ensures.others) c.requires.events
 
+-- all but what waits is as before the rows on the lists of classes are looked at, and after
+same_classes : (c : In_ok-wake_classes) → c.wake_classes.new.decisions ≡ record c.args.decisions.now { waiting = c.wake_classes.new.decisions.waiting }
+same_classes c = c.in_ok-wake_classes.ensures.others ∙ ap (λ (z : Decisions). record z { waiting = c.wake_classes.new.decisions.waiting }) c.in_ok-wake_unread.ensures.others
+
+pub wake_rivalled-requires-clause-sound : goal.wake_rivalled-requires-clause-sound
+wake_rivalled-requires-clause-sound c = c.requires.seen.network.sound
+
+pub wake_rivalled-requires-clause-classed : goal.wake_rivalled-requires-clause-classed
+wake_rivalled-requires-clause-classed c = classed c.args.standing.now.present c.args.net.now.present (forest c.args.tree.now) c.requires.seen
+
+pub wake_rivalled-requires-clause-below : goal.wake_rivalled-requires-clause-below
+wake_rivalled-requires-clause-below c = numbers_below c.args.standing.now.present c.args.net.now.present (forest c.args.tree.now) c.requires.seen c.invariants.ensures.names
+
+pub wake_rivalled-requires-clause-moves : goal.wake_rivalled-requires-clause-moves
+wake_rivalled-requires-clause-moves c = told (goal.at.wake_rivalled-requires-clause-moves c).In_ok-moves
+
+pub wake_rivalled-requires-clause-events : goal.wake_rivalled-requires-clause-events
+wake_rivalled-requires-clause-events c =
+    subst (λ (d : Decisions). HaveEvents c.args.tree.now (table d.rows)) (sym (same_classes (goal.at.wake_rivalled-requires-clause-events c).In_ok-wake_classes)) c.requires.events
+
+pub wake_rivalled-requires-clause-under : goal.wake_rivalled-requires-clause-under
+wake_rivalled-requires-clause-under c =
+    subst (AreUnder c.args.standing.now.present) (sym (same_classes (goal.at.wake_rivalled-requires-clause-under c).In_ok-wake_classes))
+    (record { classes = c.requires.under.classes; named = c.requires.under.named })
+
 pub returns-clause-ok : goal.returns-clause-ok
 returns-clause-ok c =
     let list = c.args.standing.now.present in
     let nets = c.args.net.now in
     let s = present c.args.tree.now in
+    let f = forest c.args.tree.now in
     let d = c.args.decisions.now in
     let moves = c.in_ok-moves.moves in
     let mid = c.wake_unread.new.decisions in
-    let new = c.wake_classes.new.decisions in
+    let next = c.wake_classes.new.decisions in
+    let new = c.wake_rivalled.new.decisions in
     let below = numbers_below list nets.present (forest c.args.tree.now) c.requires.seen c.invariants.ensures.names in
-    let classes = subst (λ (z : Decisions). WakesForAll s nets moves z (length z.classes) (dates_in mid.waiting) (dates_in new.waiting)) c.in_ok-wake_unread.ensures.others c.in_ok-wake_classes.ensures.ok in
-    all_woken nets c.args.added list s d moves c.requires.under c.first.ensures.listed below c.in_ok-moves.ensures.moved (no_rival_read list c.requires.seen.network.sound) c.have_own.ensures c.in_ok-moves.ensures.fast
-    (dates_in d.waiting) (dates_in mid.waiting) (dates_in new.waiting) c.in_ok-wake_unread.ensures.ok classes
+    let classes = subst (λ (z : Decisions). WakesForAll s nets moves z (length z.classes) (dates_in mid.waiting) (dates_in next.waiting)) c.in_ok-wake_unread.ensures.others c.in_ok-wake_classes.ensures.ok in
+    let rules = subst (λ (z : Decisions). Wakes s (table_of z) (λ i row. MovesByRule moves list f (rule_in z row) row.value.trigger) (λ i row. StaysByRule moves c.args.standing.now.committed list f (rule_in z row) row.value.trigger)
+    (dates_in next.waiting) (dates_in new.waiting)) (same_classes (goal.at.returns-clause-ok c).In_ok-wake_classes) c.in_ok-wake_rivalled.ensures.ok in
+    all_woken nets c.args.added c.args.standing.now.committed list s d moves c.requires.under c.first.ensures.listed below c.in_ok-moves.ensures.moved c.have_own.ensures c.in_ok-moves.ensures.fast
+    (dates_in d.waiting) (dates_in mid.waiting) (dates_in next.waiting) (dates_in new.waiting) c.in_ok-wake_unread.ensures.ok classes rules
 
 pub returns-clause-others : goal.returns-clause-others
-returns-clause-others c = c.in_ok-wake_classes.ensures.others ∙ ap (λ (z : Decisions). record z { waiting = c.wake_classes.new.decisions.waiting }) c.in_ok-wake_unread.ensures.others
+returns-clause-others c =
+    c.in_ok-wake_rivalled.ensures.others ∙ ap (λ (z : Decisions). record z { waiting = c.wake_rivalled.new.decisions.waiting }) (same_classes (goal.at.returns-clause-others c).In_ok-wake_classes)

@@ -2,7 +2,7 @@ use Rattle.std.proofs.Common.{ℕ, List, sym, subst}
 use Rattle.std.specs.List.{Contains}
 use Rattle.premise_list.specs.Rivalries.{rivalries}
 use Rattle.map_engine.specs.RivalClasses.{FollowsBoth}
-use Rattle.map_engine.proofs.RivalClasses.{is_there_more, takes_in_none}
+use Rattle.map_engine.proofs.RivalClasses.{is_there_more}
 use Rattle.map_engine.proofs.rival_classes.with_rivals.Goals as goal
 
 pub returns : goal.returns
