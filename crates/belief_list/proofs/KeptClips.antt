@@ -44,8 +44,8 @@ use Rattle.spots.proofs.Nodes.{node_at, live_at, moment_at-is, base-moment, poin
 use Rattle.spots.proofs.Seen.{distance_is, early_is, order_is, start_is, occurs_at, token_is}
 use Rattle.revisions.proofs.Clips.{clip_believed}
 use Rattle.revisions.proofs.Tokens.{tokens_stay}
-use Rattle.joined.specs.KeptClips.{StandsAsBefore}
 use Rattle.joined.proofs.Gaps.{WasThere, start_was, node_was, distance_was, one_base}
+use Rattle.belief_list.specs.AsBefore.{StandsAsBefore}
 
 -- ---- the first of some tokens by two maps
 

@@ -9,7 +9,6 @@ pub mod Sizes
 pub mod Finding
 pub mod KeptClips
 pub mod KnownFacts
-pub mod Unrivalled
 pub mod Untouched
 pub mod Rising
 pub mod Told

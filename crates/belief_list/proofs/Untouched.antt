@@ -41,7 +41,7 @@ use Rattle.supports.specs.Apart.{IsApart}
 use Rattle.supports.specs.Edited.{old_forest, IsEdited}
 use Rattle.supports.proofs.Answered.{event_unclipped}
 use Rattle.revisions.proofs.Tokens.{tokens_stay}
-use Rattle.joined.specs.KeptClips.{StandsAsBefore}
+use Rattle.belief_list.specs.AsBefore.{StandsAsBefore}
 use Rattle.belief_list.proofs.KeptClips.{same_clipper, date_unmoved, keeps_near}
 use Rattle.belief_list.proofs.KnownFacts.{token_classed, one_class}
 use Rattle.belief_list.specs.declared.kept_rows.KeptRow.{KeptRow}

@@ -7,3 +7,4 @@ pub mod KeptRows
 pub mod Sizes
 pub mod Finding
 pub mod Told
+pub mod AsBefore

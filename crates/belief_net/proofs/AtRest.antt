@@ -19,7 +19,7 @@ use Rattle.undo_rows.specs.Tables.{AreListed}
 use Rattle.decision_rows.specs.declared.row.Pair.{Pair}
 use Rattle.occ_tree.specs.Classes.{place_in}
 use Rattle.occ_tree.specs.Standing.{State, forest}
-use Rattle.joined.specs.Gaps.{reads_class, ReadsNoRival, begin, an_end, start, read, rival, IsReadSpot, MovesAt}
+use Rattle.joined.specs.Gaps.{reads_class, begin, an_end, start, read, rival, IsReadSpot, MovesAt}
 use Rattle.joined.specs.Listed.{IsListedUnder}
 use Rattle.joined.specs.Shifting.{IsSpotOf, MovesAmong}
 use Rattle.joined.proofs.Listed.{class_listed}
@@ -34,7 +34,8 @@ use Rattle.belief_net.specs.PointSets.{has_pair}
 use Rattle.belief_net.specs.Reach.{AreBelow256}
 use Rattle.belief_net.specs.Touching.{IsRowMoved}
 use Rattle.belief_net.specs.Waiting.{Dates}
-use Rattle.belief_net.specs.Woken.{RestsFor, MovesFrom, KeepsDate, RestsForFirst, MovesForSome, WakesForAll, MovesByRule, StaysByRule, IsSparedThere, IsRowAtRest}
+use Rattle.belief_net.specs.Woken.{RestsFor, MovesFrom, KeepsDate, RestsForFirst, MovesForSome, WakesForAll, IsPlainRule, MovesByRule, StaysByRule, IsSparedThere, IsRowAtRest}
+use Rattle.belief_net.proofs.ByRule.{reads_none}
 use Rattle.belief_net.proofs.Named.{are_numbered, placed_name}
 use Rattle.belief_net.proofs.Pairs.{none_listed}
 use Rattle.belief_net.proofs.Waking.{wakes_both}
@@ -45,9 +46,9 @@ true_or false = inr refl
 
 -- ---- where nothing moved
 
-pub all_rest : (nets : Nets) (added : Option (List ℕ)) (s : Standing) (f : Forest) (d : Decisions) (row : TableRow Pair 8) → WereThere nets added
-    → IsMovedAt nets.moved nets.committed nets.present → length nets.moved ≡ 0 → IsRowAtRest nets added s f d row
-all_rest nets added s f d row were moved_at none = inl (λ m. none_listed nets added were moved_at none (base_of f m.from) (base_of f m.to) m.moved)
+pub all_rest : (nets : Nets) (added : Option (List ℕ)) (before s : Standing) (f : Forest) (d : Decisions) (row : TableRow Pair 8) → WereThere nets added
+    → IsMovedAt nets.moved nets.committed nets.present → length nets.moved ≡ 0 → IsRowAtRest nets added before s f d row
+all_rest nets added before s f d row were moved_at none = inl (λ m. none_listed nets added were moved_at none (base_of f m.from) (base_of f m.to) m.moved)
 
 -- ---- where points moved
 
@@ -64,7 +65,7 @@ among_at moves s f r are x read_of m = record {
   moved = m.moved;
 }
 
-module _ (nets : Nets) (added : Option (List ℕ)) (s : Standing) (st : State) (d : Decisions) (moves : Moves) (under : AreUnder s d) (listed : AreListed (table_of d))
+module _ (nets : Nets) (added : Option (List ℕ)) (before s : Standing) (st : State) (d : Decisions) (moves : Moves) (under : AreUnder s d) (listed : AreListed (table_of d))
     (below : AreBelow256 (forest st)) (moved : AreMoved nets added moves.pairs.items) where
   abbrev f : Forest
   f = forest st
@@ -170,7 +171,7 @@ module _ (nets : Nets) (added : Option (List ℕ)) (s : Standing) (st : State) (
 
     -- ---- rows that may rest
 
-    module _ (fast : StandFast nets added moves.fast.items) (i : ℕ) (row : TableRow Pair 8) (at : (table_of d).row i ≡ Some row) (plain : ReadsNoRival s (rule_in d row))
+    module _ (fast : StandFast nets added moves.fast.items) (i : ℕ) (row : TableRow Pair 8) (at : (table_of d).row i ≡ Some row) (plain : IsPlainRule before s (rule_in d row))
         (dated : KeepsDate moves s (forest st) d row) (rests : RestsForFirst st nets moves d (length d.classes) i row) where
       abbrev x : ℕ
       x = row.value.trigger
@@ -212,12 +213,13 @@ module _ (nets : Nets) (added : Option (List ℕ)) (s : Standing) (st : State) (
               In-list_any (λ z. same_name (class_of s z) class) (read_by (rule_of s r)) fact (subst (In fact) (sym some) (inl refl)) ((bytes_decides class class).1 refl) in
               unmoved_date class (by_class class reads)
 
-      spared : IsSparedThere nets added s (forest st) (rule_in d row) row.value.trigger
+      spared : IsSparedThere nets added before s (forest st) (rule_in d row) row.value.trigger
       spared = (
+        plain,
         is_out moves.fast.items,
         fast.loose,
         record {
-          plain = plain;
+          plain = reads_none s r (λ f at g. (plain f at g).1);
           date = same_date;
           each = λ class reads. elim (by_class class reads) [
             | inl still ↦ inl (λ m. still (from_moved (IsSpotOf f class) (class_small class) x m))
@@ -238,12 +240,12 @@ module _ (nets : Nets) (added : Option (List ℕ)) (s : Standing) (st : State) (
     pub all_woken : StandFast nets added moves.fast.items → (old mid next new : Dates)
         → Wakes st (table_of d) (λ i row. MovesFrom moves (forest st) row.value.trigger) (λ i row. KeepsDate moves s (forest st) d row) old mid
         → WakesForAll st nets moves d (length d.classes) mid next
-        → Wakes st (table_of d) (λ i row. MovesByRule moves s (forest st) (rule_in d row) row.value.trigger) (λ i row. StaysByRule moves s (forest st) (rule_in d row) row.value.trigger) next new
-        → Wakes st (table_of d) (λ i row. IsRowMoved nets added s (forest st) d row) (λ i row. IsRowAtRest nets added s (forest st) d row) old new
+        → Wakes st (table_of d) (λ i row. MovesByRule moves s (forest st) (rule_in d row) row.value.trigger) (λ i row. StaysByRule moves before s (forest st) (rule_in d row) row.value.trigger) next new
+        → Wakes st (table_of d) (λ i row. IsRowMoved nets added s (forest st) d row) (λ i row. IsRowAtRest nets added before s (forest st) d row) old new
     all_woken fast old mid next new unread classes rules =
         wakes_both st (table_of d) Moved (λ i row. Rests i row)
-        (λ i row. MovesByRule moves s f (rule_in d row) row.value.trigger) (λ i row. StaysByRule moves s f (rule_in d row) row.value.trigger)
-        Moved (λ i row. IsRowAtRest nets added s f d row) old next new
+        (λ i row. MovesByRule moves s f (rule_in d row) row.value.trigger) (λ i row. StaysByRule moves before s f (rule_in d row) row.value.trigger)
+        Moved (λ i row. IsRowAtRest nets added before s f d row) old next new
         (λ i row at m. m) (λ i row at m. by_rule row m)
         (λ i row at (dated, rests) stays. elim stays [
           | inl plain ↦ inr (spared fast i row at plain dated rests)

@@ -59,3 +59,4 @@ pub mod AtRest
 pub mod WatchedPoints
 pub mod ByRule
 pub mod Unread
+pub mod Unlike

@@ -31,7 +31,6 @@ use Rattle.occ_tree.specs.OfLists.{IsTreeOf}
 use Rattle.occ_tree.specs.Standing.{Kept, present, early}
 use Rattle.joined.specs.Gaps.{TellsMoves}
 use Rattle.joined.proofs.Gaps.{moved_points_touch}
-use Rattle.joined.proofs.Reading.{no_rival_read}
 use Rattle.joined.proofs.Shifting.{resting_keep}
 use Rattle.belief_net.specs.ByEvent.{differ, is_between}
 use Rattle.belief_net.specs.MarkLaws.{added_by, PointsWereThere, MovedRowsAreTouched, RestingRowsKeep, DueRowsChange}
@@ -134,9 +133,9 @@ moved_rows_are_touched old edit nets f b r x net_old seen keep holds live was en
     moved_points_touch old edit nets (is_moved nets (added_by edit)) f b r x net_old seen keep (tells_moves old edit nets net_old seen.network.sound) holds live was entered
 
 pub resting_rows_keep : RestingRowsKeep
-resting_rows_keep old edit nets loose f b r x net_old seen keep cover holds live was stood stands same left entered rest =
+resting_rows_keep old edit nets loose f b r x net_old seen keep cover holds live was stood stands same plain left entered rest =
     resting_keep old edit nets (is_moved nets (added_by edit)) loose f (built old).believed b r x net_old seen keep (tells_moves old edit nets net_old seen.network.sound) cover
-    (believed_occurs old net_old.sound) holds live was stood stands same (no_rival_read old net_old.sound r) left entered rest
+    (believed_occurs old net_old.sound) holds live was stood stands same plain left entered rest
 
 -- ---- another horizon
 

@@ -45,7 +45,6 @@ use Rattle.joined.specs.Starting.{IsPrepared}
 use Rattle.joined.specs.Touching.{RivalsStay}
 use Rattle.joined.specs.Telling.{IsToldOf, LeaveFirst}
 use Rattle.joined.proofs.Preparing.{prepared_netted}
-use Rattle.joined.proofs.Reading.{no_rivals_change}
 use Rattle.joined.proofs.Telling.{prepared_told}
 use Rattle.belief_net.specs.declared.erasing.Departed.{Departed}
 use Rattle.belief_net.specs.declared.state.BeliefNet.{BeliefNet}
@@ -55,6 +54,7 @@ use Rattle.belief_net.specs.Adding.{ReadsOneOf, ReadsRivalOf, MarksLeft}
 use Rattle.belief_net.specs.Beginning.{IsReady, added_by}
 use Rattle.belief_net.specs.ByEvent.{is_between}
 use Rattle.belief_net.specs.Clearing.{IsCleared}
+use Rattle.belief_net.specs.Contradicted.{ReadsUnlike, ReadsAlike}
 use Rattle.belief_net.specs.Dating.{KeepsNodes, AreDatedBefore}
 use Rattle.belief_net.specs.Decided.{table_of, rule_in, AreUnder, AreOfSome, KeepsLast}
 use Rattle.belief_net.specs.Entering.{KeepLast}
@@ -65,11 +65,10 @@ use Rattle.belief_net.specs.MovedPairs.{WereThere, is_moved}
 use Rattle.belief_net.specs.Numbered.{AreNumbered, left_under}
 use Rattle.belief_net.specs.Settling.{Begins}
 use Rattle.belief_net.specs.Telling.{entered_in, outs, moments_of as last_first}
-use Rattle.belief_net.specs.Touching.{IsRowMoved}
 use Rattle.belief_net.specs.Turning.{rows_of, IsFit}
-use Rattle.belief_net.specs.Updating.{IsKept, IsPending, MayAdd, Entered, IsTouchedBy, IsLeftBy}
+use Rattle.belief_net.specs.Updating.{IsKept, IsPending, MayAdd, Entered, IsChanged, IsUnchanged, IsTouchedBy, IsLeftBy}
 use Rattle.belief_net.specs.Waiting.{dates_in, waits_in}
-use Rattle.belief_net.specs.Woken.{RestsAt, IsRowAtRest}
+use Rattle.belief_net.specs.Woken.{RestsAt}
 use Rattle.belief_net.proofs.Begun.{begun_ready}
 use Rattle.belief_net.proofs.Cleared.{cleared, seen_after, told_first}
 use Rattle.belief_net.proofs.Entered.{one_row}
@@ -82,6 +81,7 @@ use Rattle.belief_net.proofs.Numbered.{numbered_on, numbered_added, numbered_era
 use Rattle.belief_net.proofs.Readied.{WaitOn, moved_marked, due_marked, prepared_on}
 use Rattle.belief_net.proofs.Telling.{left_first}
 use Rattle.belief_net.proofs.Turned.{seen_row, row_there, row_of}
+use Rattle.belief_net.proofs.Unlike.{plain_before, alike_stay, unlike_changes}
 
 none_some : {X : Type 0} (x : X) → None ≡ Some x → ⊥
 none_some x e = cc
@@ -217,9 +217,9 @@ module _ (old : Standing) (edit : Edit) (nets : Nets) (names : List (List ℕ)) 
 
 -- in n what the edit adds has entered, and in z besides rows wait that it touches, and all others
 -- may rest
-pub record IsOpened (s : Standing) (nets : Nets) (edit : Edit) (before : ℕ) (m n z : BeliefNet) : Type 0 where
+pub record IsOpened (old s : Standing) (nets : Nets) (edit : Edit) (before : ℕ) (m n z : BeliefNet) : Type 0 where
   pub entered : Entered s nets.present edit m n
-  pub touched : Wakes (present n.tree) (table_of n.decisions) (λ i row. IsTouchedBy edit s nets before n row) (λ i row. IsLeftBy edit s nets before n row) (dates_in n.decisions.waiting) (dates_in z.decisions.waiting)
+  pub touched : Wakes (present n.tree) (table_of n.decisions) (λ i row. IsTouchedBy edit old s nets before n row) (λ i row. IsLeftBy edit old s nets before n row) (dates_in n.decisions.waiting) (dates_in z.decisions.waiting)
   pub others : z ≡ record n { decisions = record n.decisions { waiting = z.decisions.waiting } }
 
 -- other dates for which rows wait
@@ -267,7 +267,7 @@ module _ (n : BeliefNet) (dates : List (Option ℤ)) (P R : ℕ → TableRow Pai
       (row, here, is, elim (touched.rests i row here) [ inl waits ↦ inl (ap (λ (r : Row). r.waits) is ∙ waits) | inr rests ↦ inr rests ])
 
 module _ (old : Standing) (edit : Edit) (nets : Nets) (names : List (List ℕ)) (before : ℕ) (b e c m n z : BeliefNet) (all : Departed) (is_before : before ≡ old.horizon)
-    (h : IsErased old (next_list old edit) nets names b e all) (k : IsMarked (next_list old edit) nets e c m all) (o : IsOpened (next_list old edit) nets edit before m n z) where
+    (h : IsErased old (next_list old edit) nets names b e all) (k : IsMarked (next_list old edit) nets e c m all) (o : IsOpened old (next_list old edit) nets edit before m n z) where
   abbrev new : Standing
   new = next_list old edit
 
@@ -305,20 +305,23 @@ module _ (old : Standing) (edit : Edit) (nets : Nets) (names : List (List ℕ)) 
   })
 
   on : WaitOn (rows_of n) (rows_of (waiting_with n z.decisions.waiting))
-  on = wait_on n z.decisions.waiting (λ i row. IsTouchedBy edit (next_list old edit) nets before n row) (λ i row. IsLeftBy edit (next_list old edit) nets before n row) o.touched
+  on = wait_on n z.decisions.waiting (λ i row. IsTouchedBy edit old (next_list old edit) nets before n row) (λ i row. IsLeftBy edit old (next_list old edit) nets before n row) o.touched
 
-  -- what may rest though points moved, by a rule and the node of an event
+  -- what may rest, by a rule and the node of an event: the same facts contradict what the rule
+  -- reads, and points that moved let it rest
   abbrev MayRestAt : List ℕ → ℕ → Type 0
-  MayRestAt r x = RestsAt nets (name_added edit) (next_list old edit) (forest n.tree) r x
+  MayRestAt r x = ReadsAlike old (next_list old edit) r × RestsAt nets (name_added edit) old (next_list old edit) (forest n.tree) r x
 
-  prepared_moved : ((row : TableRow Pair 8) → IsTouchedBy edit (next_list old edit) nets before n row ≡ IsRowMoved nets (name_added edit) (next_list old edit) (forest n.tree) n.decisions row)
-      → ((row : TableRow Pair 8) → IsLeftBy edit (next_list old edit) nets before n row ≡ IsRowAtRest nets (name_added edit) (next_list old edit) (forest n.tree) n.decisions row)
+  prepared_moved : ((row : TableRow Pair 8) → IsTouchedBy edit old (next_list old edit) nets before n row ≡ IsChanged (name_added edit) old (next_list old edit) nets n row)
+      → ((row : TableRow Pair 8) → IsLeftBy edit old (next_list old edit) nets before n row ≡ IsUnchanged (name_added edit) old (next_list old edit) nets n row)
       → old.horizon ≡ (next_list old edit).horizon
       → IsPrepared old (next_list old edit) nets.present (forest b.tree) (forest n.tree) (rows_of b) (rows_of (waiting_with n z.decisions.waiting))
   prepared_moved by_move by_rest same =
       prepared_on old edit nets.committed nets.present f g (rows_of b) (rows_of n) (rows_of y) sound_before sound_after h.kept.current ready on
       (λ l holds seeds. moved_marked old edit nets.committed nets.present f g (rows_of b) (rows_of n) (rows_of y) sound_before sound_after h.kept.current ready on
-      (is_moved nets (name_added edit)) MayRestAt same (λ r x rest. no_rivals_change old (next_list old edit) sound_before sound_after r) apart keeps all_wait only_wait l holds seeds)
+      (is_moved nets (name_added edit)) MayRestAt same
+      (λ r x was is rest. alike_stay old edit sound_before sound_after (moment_at g x) r was is rest.0)
+      apart keeps all_wait only_wait l holds seeds)
     where
       apart : (l : List Moment) (r : List ℕ) (x : ℕ) → HasOccurrences l g → IsLive g x → Contains (built old).believed (moment_at g x)
           → ((u : Moment) → Contains l u → watches (next_list old edit) r u ≡ true → Contains (built old).believed u)
@@ -332,29 +335,38 @@ module _ (old : Standing) (edit : Edit) (nets : Nets) (names : List (List ℕ)) 
           → MayRestAt r x
           → SameGaps old (next_list old edit) l (moment_at g x) r
           ⊎ (outcome old (far_in old.premises) (built old).believed (moment_at g x) r ≡ outcome (next_list old edit) (far_in (next_list old edit).premises) l (moment_at g x) r)
-      keeps l r x holds live was stood stands left entered (inl unmoved) =
+      keeps l r x holds live was stood stands left entered (_, inl unmoved) =
           inl ((moved_rows_are_touched old edit nets g l r x h.kept.fit.tree.seen.network ready.seen h.numbers holds live was entered).1 unmoved)
-      keeps l r x holds live was stood stands left entered (inr (loose, cover, rest)) =
-          inr (resting_rows_keep old edit nets loose g l r x h.kept.fit.tree.seen.network ready.seen h.numbers cover holds live was stood stands same left entered rest)
+      keeps l r x holds live was stood stands left entered (_, inr (plain, loose, cover, rest)) =
+          inr (resting_rows_keep old edit nets loose g l r x h.kept.fit.tree.seen.network ready.seen h.numbers cover holds live was stood stands same
+          (plain_before old edit sound_before sound_after (moment_at g x) r stood stands plain) left entered rest)
 
       all_wait : (i : ℕ) (q : Row) → rows_of y i ≡ Some q → (q.waits ≡ true) ⊎ MayRestAt q.rule q.trigger
       all_wait i q at =
-          let (row, here, is, waits) = waits_or n z.decisions.waiting (λ j r. IsTouchedBy edit (next_list old edit) nets before n r) (λ j r. IsLeftBy edit (next_list old edit) nets before n r) o.touched i q at in
+          let (row, here, is, waits) = waits_or n z.decisions.waiting (λ j r. IsTouchedBy edit old (next_list old edit) nets before n r) (λ j r. IsLeftBy edit old (next_list old edit) nets before n r) o.touched i q at in
           elim waits [
             | inl waiting ↦ inl waiting
             | inr left ↦ inr (subst (λ (r : Row). MayRestAt r.rule r.trigger) (sym is) (subst (λ T. T) (by_rest row) left))
           ]
 
       only_wait : (i : ℕ) (p q : Row) → rows_of n i ≡ Some p → rows_of y i ≡ Some q → q.waits ≡ true
-          → (p.waits ≡ true) ⊎ (MovesAt (is_moved nets (name_added edit)) (next_list old edit) g q.rule q.trigger ⊎ (RivalsStay old (next_list old edit) q.rule → ⊥))
-      only_wait i p q there at waits = elim (waited_or n z.decisions.waiting (λ j r. IsTouchedBy edit (next_list old edit) nets before n r) (λ j r. IsLeftBy edit (next_list old edit) nets before n r) o.touched i p q there at waits) [
+          → (p.waits ≡ true) ⊎ (MovesAt (is_moved nets (name_added edit)) (next_list old edit) g q.rule q.trigger
+          ⊎ (Contains (rules_at old (moment_at g q.trigger)) q.rule → Contains (rules_at (next_list old edit) (moment_at g q.trigger)) q.rule → RivalsStay old (next_list old edit) q.rule → ⊥))
+      only_wait i p q there at waits = elim (waited_or n z.decisions.waiting (λ j r. IsTouchedBy edit old (next_list old edit) nets before n r) (λ j r. IsLeftBy edit old (next_list old edit) nets before n r) o.touched i p q there at waits) [
         | inl waited ↦ inl waited
-        | inr (row, here, is, marked) ↦ inr (inl (subst (λ (r : Row). MovesAt (is_moved nets (name_added edit)) (next_list old edit) g r.rule r.trigger) (sym is) (subst (λ T. T) (by_move row) marked)))
+        | inr (row, here, is, marked) ↦ inr (why q row is (subst (λ T. T) (by_move row) marked))
       ]
+        where
+          why : (q : Row) (row : TableRow Pair 8) → q ≡ seen_row y i row → IsChanged (name_added edit) old (next_list old edit) nets n row
+              → MovesAt (is_moved nets (name_added edit)) (next_list old edit) g q.rule q.trigger
+              ⊎ (Contains (rules_at old (moment_at g q.trigger)) q.rule → Contains (rules_at (next_list old edit) (moment_at g q.trigger)) q.rule → RivalsStay old (next_list old edit) q.rule → ⊥)
+          why q row is (inr moved) = inl (subst (λ (r : Row). MovesAt (is_moved nets (name_added edit)) (next_list old edit) g r.rule r.trigger) (sym is) moved)
+          why q row is (inl unlike) = inr (λ was stands.
+              unlike_changes old edit sound_before sound_after (moment_at g q.trigger) q.rule was stands (subst (λ (r : Row). ReadsUnlike old (next_list old edit) r.rule) (sym is) unlike))
 
 module _ (old : Standing) (k : ℕ) (nets : Nets) (names : List (List ℕ)) (before : ℕ) (b e c m n z : BeliefNet) (all : Departed) (is_before : before ≡ old.horizon)
     (h : IsErased old (next_list old (Horizon k)) nets names b e all) (mk : IsMarked (next_list old (Horizon k)) nets e c m all)
-    (o : IsOpened (next_list old (Horizon k)) nets (Horizon k) before m n z) where
+    (o : IsOpened old (next_list old (Horizon k)) nets (Horizon k) before m n z) where
   abbrev until : Standing
   until = next_list old (Horizon k)
 
@@ -380,7 +392,7 @@ module _ (old : Standing) (k : ℕ) (nets : Nets) (names : List (List ℕ)) (bef
 
   all_due : (i : ℕ) (q : Row) → rows_of v i ≡ Some q → q.waits ≡ false → is_in_time q old.horizon ≡ is_in_time q k
   all_due i q at rests =
-      let (row, here, is, waits) = waits_or n z.decisions.waiting (λ j r. IsTouchedBy (Horizon k) until nets before n r) (λ j r. IsLeftBy (Horizon k) until nets before n r) o.touched i q at in
+      let (row, here, is, waits) = waits_or n z.decisions.waiting (λ j r. IsTouchedBy (Horizon k) old until nets before n r) (λ j r. IsLeftBy (Horizon k) old until nets before n r) o.touched i q at in
       let same = (due_changes row (o.entered.fit.events i row here)).0 (elim waits [ inl waiting ↦ true_false (sym waiting ∙ rests) | inr left ↦ not_between row left (between row) refl ]) in
       subst (λ d. is_in_time q d ≡ is_in_time q k) is_before (subst (λ (r : Row). is_in_time r before ≡ is_in_time r k) (sym is) same)
     where
@@ -389,7 +401,7 @@ module _ (old : Standing) (k : ℕ) (nets : Nets) (names : List (List ℕ)) (bef
       not_between row left true is = absurd (left is)
 
   only_due : (i : ℕ) (p q : Row) → rows_of n i ≡ Some p → rows_of v i ≡ Some q → q.waits ≡ true → (p.waits ≡ true) ⊎ (old.horizon ≢ k)
-  only_due i p q there at waits = elim (waited_or n z.decisions.waiting (λ j r. IsTouchedBy (Horizon k) until nets before n r) (λ j r. IsLeftBy (Horizon k) until nets before n r) o.touched i p q there at waits) [
+  only_due i p q there at waits = elim (waited_or n z.decisions.waiting (λ j r. IsTouchedBy (Horizon k) old until nets before n r) (λ j r. IsLeftBy (Horizon k) old until nets before n r) o.touched i p q there at waits) [
     | inl waited ↦ inl waited
     | inr (row, here, is, marked) ↦ inr (λ same.
         (due_changes row (o.entered.fit.events i row here)).1 marked (ap (λ d. is_in_time (seen_row v 0 row) d) (is_before ∙ same)))
@@ -405,7 +417,7 @@ module _ (old : Standing) (k : ℕ) (nets : Nets) (names : List (List ℕ)) (bef
 -- ---- so opened, nodes and rows stand for the revision
 
 opened_prepared : (old : Standing) (edit : Edit) (nets : Nets) (names : List (List ℕ)) (before : ℕ) (b e c m n z : BeliefNet) (all : Departed) → before ≡ old.horizon
-    → IsErased old (next_list old edit) nets names b e all → IsMarked (next_list old edit) nets e c m all → IsOpened (next_list old edit) nets edit before m n z
+    → IsErased old (next_list old edit) nets names b e all → IsMarked (next_list old edit) nets e c m all → IsOpened old (next_list old edit) nets edit before m n z
     → IsPrepared old (next_list old edit) nets.present (forest b.tree) (forest n.tree) (rows_of b) (rows_of (waiting_with n z.decisions.waiting))
 opened_prepared old (Add p) nets names before b e c m n z all is_before h k o = prepared_moved old (Add p) nets names before b e c m n z all is_before h k o (λ row. refl) (λ row. refl) refl
 opened_prepared old (Erase x) nets names before b e c m n z all is_before h k o = prepared_moved old (Erase x) nets names before b e c m n z all is_before h k o (λ row. refl) (λ row. refl) refl
@@ -413,7 +425,7 @@ opened_prepared old Upgrade nets names before b e c m n z all is_before h k o = 
 opened_prepared old (Horizon d) nets names before b e c m n z all is_before h k o = prepared_until old d nets names before b e c m n z all is_before h k o
 
 module _ (old : Standing) (edit : Edit) (nets : Nets) (names : List (List ℕ)) (before : ℕ) (b e c m n z : BeliefNet) (all : Departed) (is_before : before ≡ old.horizon)
-    (h : IsErased old (next_list old edit) nets names b e all) (k : IsMarked (next_list old edit) nets e c m all) (o : IsOpened (next_list old edit) nets edit before m n z) where
+    (h : IsErased old (next_list old edit) nets names b e all) (k : IsMarked (next_list old edit) nets e c m all) (o : IsOpened old (next_list old edit) nets edit before m n z) where
   abbrev w : BeliefNet
   w = waiting_with n z.decisions.waiting
 
@@ -422,7 +434,7 @@ module _ (old : Standing) (edit : Edit) (nets : Nets) (names : List (List ℕ)) 
 
   pub fit_opened : IsFit (next_list old edit) nets.present z
   fit_opened = subst (IsFit (next_list old edit) nets.present) (sym o.others)
-      (fit_only (next_list old edit) nets.present n o.entered.fit w.decisions (λ i row. IsTouchedBy edit (next_list old edit) nets before n row) refl
+      (fit_only (next_list old edit) nets.present n o.entered.fit w.decisions (λ i row. IsTouchedBy edit old (next_list old edit) nets before n row) refl
       (record { classes = o.entered.fit.under.classes; named = o.entered.fit.under.named }) o.touched.only)
 
   pub opened_begins : (told : Told) → entered_in told ≡ [] → told.left.items ≡ all.left.items → Begins old edit nets.present z told
@@ -489,9 +501,9 @@ module _ (lists : States) (nets : Nets) (edit : Edit) (names : List (List ℕ)) 
     pub marked_may_add : MayAdd lists.present edit m
     marked_may_add = subst (λ l. MayAdd l edit m) (sym pending.list) (may_add_begun before_edit edit nets names b e c m all erased_next k)
 
-    module _ (before : ℕ) (n z : BeliefNet) (is_before : before ≡ lists.committed.horizon) (o : IsOpened lists.present nets edit before m n z) where
-      opened_next : IsOpened (next_list lists.committed edit) nets edit before m n z
-      opened_next = subst (λ l. IsOpened l nets edit before m n z) pending.list o
+    module _ (before : ℕ) (n z : BeliefNet) (is_before : before ≡ lists.committed.horizon) (o : IsOpened lists.committed lists.present nets edit before m n z) where
+      opened_next : IsOpened lists.committed (next_list lists.committed edit) nets edit before m n z
+      opened_next = subst (λ l. IsOpened lists.committed l nets edit before m n z) pending.list o
 
       pub opened_fit : IsFit lists.present nets.present z
       opened_fit = subst (λ l. IsFit l nets.present z) (sym pending.list) (fit_opened before_edit edit nets names before b e c m n z all is_before erased_next k opened_next)

@@ -98,7 +98,7 @@ module _ (old : Standing) (edit : Edit) (before net : Net) (f g : Forest) (rows 
   -- an event for which points moved, or of a rule of which other facts contradict what it reads;
   -- and each that does not wait may rest, and the same facts contradict what its rule reads
   module _ (moves : ℕ → ℕ → Bool) (rests : List ℕ → ℕ → Type 0) (same_horizon : old.horizon ≡ (next_list old edit).horizon)
-      (stay : (r : List ℕ) (x : ℕ) → rests r x → RivalsStay old (next_list old edit) r)
+      (stay : (r : List ℕ) (x : ℕ) → Contains (rules_at old (moment_at g x)) r → Contains (rules_at (next_list old edit) (moment_at g x)) r → rests r x → RivalsStay old (next_list old edit) r)
       (apart : (b : List Moment) (r : List ℕ) (x : ℕ) → HasOccurrences b g → IsLive g x → Contains (built old).believed (moment_at g x)
       → ((y : Moment) → Contains b y → watches (next_list old edit) r y ≡ true → Contains (built old).believed y)
       → SameGaps old (next_list old edit) b (moment_at g x) r → MovesAt moves (next_list old edit) g r x → ⊥)
@@ -110,7 +110,8 @@ module _ (old : Standing) (edit : Edit) (before net : Net) (f g : Forest) (rows 
       → SameGaps old (next_list old edit) b (moment_at g x) r
       ⊎ (outcome old (far_in old.premises) (built old).believed (moment_at g x) r ≡ outcome (next_list old edit) (far_in (next_list old edit).premises) b (moment_at g x) r))
       (all : (i : ℕ) (q : Row) → after i ≡ Some q → (q.waits ≡ true) ⊎ rests q.rule q.trigger)
-      (only : (i : ℕ) (o q : Row) → mid i ≡ Some o → after i ≡ Some q → q.waits ≡ true → (o.waits ≡ true) ⊎ (MovesAt moves (next_list old edit) g q.rule q.trigger ⊎ (RivalsStay old (next_list old edit) q.rule → ⊥)))
+      (only : (i : ℕ) (o q : Row) → mid i ≡ Some o → after i ≡ Some q → q.waits ≡ true → (o.waits ≡ true) ⊎ (MovesAt moves (next_list old edit) g q.rule q.trigger
+      ⊎ (Contains (rules_at old (moment_at g q.trigger)) q.rule → Contains (rules_at (next_list old edit) (moment_at g q.trigger)) q.rule → RivalsStay old (next_list old edit) q.rule → ⊥)))
       (b : List Moment) (holds : HasOccurrences b g) where
     -- a row that does not wait keeps its outcome
     module _ (i : ℕ) (q : Row) (at : after i ≡ Some q) (still : q.waits ≡ false) where
@@ -146,13 +147,16 @@ module _ (old : Standing) (edit : Edit) (before net : Net) (f g : Forest) (rows 
             subst (λ z. Contains (rules_at old z) q.rule) (sym same) (subst (λ (z : Row). Contains (rules_at old (moment_at f z.trigger)) z.rule) (sym is_r) h.1),
           )
 
+      same_rivals : RivalsStay old (next_list old edit) q.rule
+      same_rivals = stay q.rule q.trigger (stood (begun.from i q at)).1 (begun.own i q at).1 rest
+
       watched_stays : (x : Moment) → Contains (built old).believed x → watches old q.rule x ≡ true → Contains b x
       watched_stays x believed reads =
           let (y, m, m_at, same) = current.holds.all x believed in
           by y m m_at same (member g y) refl
         where
           by : (y : ℕ) (m : Member) → member f y ≡ Some m → moment m ≡ x → (v : Option Member) → member g y ≡ v → Contains b x
-          by y m m_at same None gone = absurd (rested (ready.waits.left i y o m there m_at gone (subst (RivalsStay old (next_list old edit)) (ap (λ (z : Row). z.rule) is) (stay q.rule q.trigger rest))
+          by y m m_at same None gone = absurd (rested (ready.waits.left i y o m there m_at gone (subst (RivalsStay old (next_list old edit)) (ap (λ (z : Row). z.rule) is) same_rivals)
               (subst (λ z. watches old z (moment m) ≡ true) (ap (λ (z : Row). z.rule) is) (subst (λ z. watches old q.rule z ≡ true) (sym same) reads))))
           by y m m_at same (Some k) here = elim (ready.nodes_begin.own y k here) [
             | inl before ↦ (
@@ -183,7 +187,7 @@ module _ (old : Standing) (edit : Edit) (before net : Net) (f g : Forest) (rows 
           let stands = stood (begun.from i q at) in
           elim (keeps b q.rule q.trigger holds live stands.0 stands.1 (begun.own i q at).1 watched_stays watched_was rest) [
             | inr same ↦ inr same
-            | inl gaps ↦ inl (record { was = stands; horizon = same_horizon; rivals = stay q.rule q.trigger rest; left = watched_stays; entered = watched_was; gaps = gaps })
+            | inl gaps ↦ inl (record { was = stands; horizon = same_horizon; rivals = same_rivals; left = watched_stays; entered = watched_was; gaps = gaps })
           ]
 
     -- a row that waits is touched
@@ -231,7 +235,7 @@ module _ (old : Standing) (edit : Edit) (before net : Net) (f g : Forest) (rows 
       wait_touched : ⊥
       wait_touched = elim (only i o2 q there2 at waits) [
         | inl waited ↦ waited_touched (ready.waits.only i o2 there2 waited)
-        | inr why ↦ elim why [ inl moved ↦ apart b q.rule q.trigger holds live2 u.was.0 u.entered u.gaps moved | inr changed ↦ changed u.rivals ]
+        | inr why ↦ elim why [ inl moved ↦ apart b q.rule q.trigger holds live2 u.was.0 u.entered u.gaps moved | inr changed ↦ changed u.was.1 (begun.own i q at).1 u.rivals ]
       ]
 
     waits_or_keeps : (i : ℕ) (q : Row) → after i ≡ Some q → (v : Bool) → q.waits ≡ v → (q.waits ≡ true)

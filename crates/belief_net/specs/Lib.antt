@@ -34,3 +34,4 @@ pub mod Beginning
 pub mod Updating
 pub mod Numbered
 pub mod Alike
+pub mod Contradicted

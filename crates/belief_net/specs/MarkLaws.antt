@@ -19,7 +19,7 @@ use Rattle.occ_tree.specs.OfLists.{IsTreeOf}
 use Rattle.occ_tree.specs.Places.{forest}
 use Rattle.occ_tree.specs.Standing.{Kept, present, early}
 use Rattle.revisions.specs.Maps.{watches}
-use Rattle.joined.specs.Gaps.{SameGaps, MovesAt}
+use Rattle.joined.specs.Gaps.{SameGaps, ReadsNoRival, MovesAt}
 use Rattle.joined.specs.Shifting.{AreLoose, MayRest}
 use Rattle.belief_net.specs.ByEvent.{is_between}
 use Rattle.belief_net.specs.MovedPairs.{WereThere, is_moved}
@@ -52,7 +52,8 @@ MovedRowsAreTouched =
     × ((MovesAt (is_moved nets (added_by edit)) (next_list old edit) f r x → ⊥) → SameGaps old (next_list old edit) b (moment_at f x) r)
 
 -- **A decision that may rest though points moved keeps its outcome**, if it was there, the horizon
--- is the same, and no token that it reads left or entered.
+-- is the same, no premise said that another fact contradicts one that it reads, and no token that it
+-- reads left or entered.
 abbrev pub RestingRowsKeep : Type 0
 RestingRowsKeep =
     (old : Standing) (edit : Edit) (nets : Nets) (loose : ℕ → Bool) (f : Forest) (b : List Moment) (r : List ℕ) (x : ℕ)
@@ -60,7 +61,7 @@ RestingRowsKeep =
     → PointsKeepNumbers (points_in (next_list old edit).premises) nets.committed.names nets.present.names
     → AreLoose (is_moved nets (added_by edit)) loose → HasOccurrences b f → IsLive f x
     → Contains (built old).believed (moment_at f x) → Contains (rules_at old (moment_at f x)) r → Contains (rules_at (next_list old edit) (moment_at f x)) r
-    → old.horizon ≡ (next_list old edit).horizon
+    → old.horizon ≡ (next_list old edit).horizon → ReadsNoRival old r
     → ((y : Moment) → Contains (built old).believed y → watches old r y ≡ true → Contains b y)
     → ((y : Moment) → Contains b y → watches (next_list old edit) r y ≡ true → Contains (built old).believed y)
     → MayRest (is_moved nets (added_by edit)) loose (next_list old edit) nets f r x

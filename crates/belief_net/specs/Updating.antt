@@ -1,5 +1,5 @@
 -- An update: nodes and rows of the list before an edit become those of the list after it.
-use Rattle.std.specs.Prelude.{◌≡◌, ℕ, ◌≤◌, List, [], None, MatchOption}
+use Rattle.std.specs.Prelude.{◌≡◌, ◌⊎◌, ℕ, ◌≤◌, List, [], Option, None, MatchOption}
 use Rattle.tmm_model.specs.declared.premise.Edit.{Edit}
 use Rattle.tmm_model.specs.declared.premise.Edit.TheVariants.{Horizon}
 use Rattle.tmm_model.specs.declared.premise.Premise.{Premise}
@@ -26,7 +26,8 @@ use Rattle.joined.specs.Telling.{TellsAll}
 use Rattle.belief_net.specs.declared.state.BeliefNet.{BeliefNet}
 use Rattle.belief_net.specs.declared.told.Told.{Told}
 use Rattle.belief_net.specs.Beginning.{added_by, EntersAdded}
-use Rattle.belief_net.specs.Decided.{KeepsLast}
+use Rattle.belief_net.specs.Contradicted.{ReadsUnlike, ReadsAlike}
+use Rattle.belief_net.specs.Decided.{KeepsLast, rule_in}
 use Rattle.belief_net.specs.Entering.{KeepLast}
 use Rattle.belief_net.specs.Horizons.{IsDueBetween}
 use Rattle.belief_net.specs.KindEvents.{FindsOthers}
@@ -79,17 +80,26 @@ pub record Entered (s : Standing) (net : Net) (edit : Edit) (old new : BeliefNet
   pub names_mid : KeepsLast old.decisions mid.decisions
   pub names : KeepsLast mid.decisions new.decisions
 
+-- the row is changed by an edit that adds a premise of this name, or none: other facts contradict
+-- what its rule reads, or points moved on which it depends
+abbrev pub IsChanged : Option (List ℕ) → Standing → Standing → Nets → BeliefNet → TableRow Pair 8 → Type 0
+IsChanged added old s nets b row = ReadsUnlike old s (rule_in b.decisions row) ⊎ IsRowMoved nets added s (forest b.tree) b.decisions row
+
+-- it is not: the same facts contradict what its rule reads, and points that moved let it rest
+abbrev pub IsUnchanged : Option (List ℕ) → Standing → Standing → Nets → BeliefNet → TableRow Pair 8 → Type 0
+IsUnchanged added old s nets b row = ReadsAlike old s (rule_in b.decisions row) × IsRowAtRest nets added old s (forest b.tree) b.decisions row
+
 -- The edit touches the row, beside what left and entered: another horizon brings its effect into
--- time or puts it beyond; by another edit points moved on which it depends.
-abbrev pub IsTouchedBy : Edit → Standing → Nets → ℕ → BeliefNet → TableRow Pair 8 → Type 0
-IsTouchedBy (Horizon n) s nets before b row = IsDueBetween s (present b.tree) b.decisions before s.horizon row
-IsTouchedBy edit s nets before b row = IsRowMoved nets (name_added edit) s (forest b.tree) b.decisions row
+-- time or puts it beyond; another edit changes it.
+abbrev pub IsTouchedBy : Edit → Standing → Standing → Nets → ℕ → BeliefNet → TableRow Pair 8 → Type 0
+IsTouchedBy (Horizon n) old s nets before b row = IsDueBetween s (present b.tree) b.decisions before s.horizon row
+IsTouchedBy edit old s nets before b row = IsChanged (name_added edit) old s nets b row
 
 -- It leaves the row as it is, beside what left and entered: another horizon does not touch it, and
--- points that moved let it rest.
-abbrev pub IsLeftBy : Edit → Standing → Nets → ℕ → BeliefNet → TableRow Pair 8 → Type 0
-IsLeftBy (Horizon n) s nets before b row = IsDueBetween s (present b.tree) b.decisions before s.horizon row → ⊥
-IsLeftBy edit s nets before b row = IsRowAtRest nets (name_added edit) s (forest b.tree) b.decisions row
+-- another edit does not change it.
+abbrev pub IsLeftBy : Edit → Standing → Standing → Nets → ℕ → BeliefNet → TableRow Pair 8 → Type 0
+IsLeftBy (Horizon n) old s nets before b row = IsDueBetween s (present b.tree) b.decisions before s.horizon row → ⊥
+IsLeftBy edit old s nets before b row = IsUnchanged (name_added edit) old s nets b row
 
 -- ---- what an update does
 

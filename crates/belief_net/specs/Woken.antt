@@ -1,7 +1,9 @@
 -- Rows that wait since points moved, by the classes that they read.
 use Rattle.std.specs.Prelude.{◌≡◌, ◌⊎◌, ◌↔◌, ℕ, ◌<◌, Bool, true, false, [], List, length, Option, MatchOption}
+use Rattle.tmm_model.specs.Beliefs.{are_rivals}
 use Rattle.tmm_model.specs.Moments.{read_by, rule_of}
 use Rattle.tmm_model.specs.Standing.{Standing}
+use Rattle.list_theory.proofs.Elements.{In}
 use Rattle.dist_net.specs.Net.{Nets}
 use Rattle.spots.specs.declared.spot.Spot.TheVariants.{Declared, Node}
 use Rattle.spots.specs.Forest.{Forest}
@@ -10,7 +12,7 @@ use Rattle.undo_rows.specs.declared.row.Row.{Row as TableRow}
 use Rattle.undo_rows.specs.Tables.{Table}
 use Rattle.decision_rows.specs.declared.row.Pair.{Pair}
 use Rattle.occ_tree.specs.Standing.{State, forest}
-use Rattle.joined.specs.Gaps.{ReadsNoRival, IsReadSpot, MovesAt}
+use Rattle.joined.specs.Gaps.{IsReadSpot, MovesAt}
 use Rattle.joined.specs.Listed.{IsListedUnder}
 use Rattle.joined.specs.Shifting.{IsSpotOf, MovesAmong, AreLoose, SparesClass, MayRest}
 use Rattle.belief_net.specs.declared.fast.Moves.{Moves}
@@ -87,22 +89,27 @@ KeepsDate moves s f d row = read_by (rule_of s (rule_in d row)) ≡ [] → has_p
 abbrev pub MovesByRule : Moves → Standing → Forest → List ℕ → ℕ → Type 0
 MovesByRule moves s f r x = MovesAmong (has_pair moves.pairs.items) f (IsReadSpot s f r) x
 
--- no premise says that a fact contradicts one that the rule reads, or no such points moved
-abbrev pub StaysByRule : Moves → Standing → Forest → List ℕ → ℕ → Type 0
-StaysByRule moves s f r x = ReadsNoRival s r ⊎ (MovesByRule moves s f r x → ⊥)
+-- no premise of either list says of a fact that the rule reads that another one contradicts it
+abbrev pub IsPlainRule : Standing → Standing → List ℕ → Type 0
+IsPlainRule old s r = (f : List ℕ) → In f (read_by (rule_of s r)) → (g : List ℕ) → (are_rivals old f g ≡ false) × (are_rivals s f g ≡ false)
+
+-- so it is, or no such points moved
+abbrev pub StaysByRule : Moves → Standing → Standing → Forest → List ℕ → ℕ → Type 0
+StaysByRule moves old s f r x = IsPlainRule old s r ⊎ (MovesByRule moves s f r x → ⊥)
 
 -- ---- at rest
 
--- no premise says that a fact contradicts one that the rule reads, and what moved of the classes
--- that it reads is spared at the event of node x
-abbrev pub IsSparedThere : Nets → Option (List ℕ) → Standing → Forest → List ℕ → ℕ → Type 0
-IsSparedThere nets added s f r x = (loose : ℕ → Bool) × AreLoose (is_moved nets added) loose × MayRest (is_moved nets added) loose s nets f r x
+-- no premise of either list says that another fact contradicts one that the rule reads, and what
+-- moved of the classes that it reads is spared at the event of node x
+abbrev pub IsSparedThere : Nets → Option (List ℕ) → Standing → Standing → Forest → List ℕ → ℕ → Type 0
+IsSparedThere nets added old s f r x =
+    IsPlainRule old s r × (loose : ℕ → Bool) × AreLoose (is_moved nets added) loose × MayRest (is_moved nets added) loose s nets f r x
 
 -- the decision of the rule at the event of node x may rest though points moved: none moved on which
 -- it depends, or what moved is spared
-abbrev pub RestsAt : Nets → Option (List ℕ) → Standing → Forest → List ℕ → ℕ → Type 0
-RestsAt nets added s f r x = (MovesAt (is_moved nets added) s f r x → ⊥) ⊎ IsSparedThere nets added s f r x
+abbrev pub RestsAt : Nets → Option (List ℕ) → Standing → Standing → Forest → List ℕ → ℕ → Type 0
+RestsAt nets added old s f r x = (MovesAt (is_moved nets added) s f r x → ⊥) ⊎ IsSparedThere nets added old s f r x
 
 -- so the row may
-abbrev pub IsRowAtRest : Nets → Option (List ℕ) → Standing → Forest → Decisions → TableRow Pair 8 → Type 0
-IsRowAtRest nets added s f d row = RestsAt nets added s f (rule_in d row) row.value.trigger
+abbrev pub IsRowAtRest : Nets → Option (List ℕ) → Standing → Standing → Forest → Decisions → TableRow Pair 8 → Type 0
+IsRowAtRest nets added old s f d row = RestsAt nets added old s f (rule_in d row) row.value.trigger

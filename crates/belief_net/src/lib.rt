@@ -6,6 +6,7 @@ mod alike_laws;
 mod beginning_laws;
 mod by_event;
 mod class_marks;
+mod contradicted;
 mod dates;
 mod deciding;
 mod entering;

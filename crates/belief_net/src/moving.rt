@@ -43,7 +43,7 @@ pub(crate) fn mark_moved(
     requires there { WereThere net.now added }
     requires events { HaveEvents tree.now (table_of decisions.old) }
     requires under { AreUnder standing.now.present decisions.old }
-    ensures ok { OnOk result (Wakes (present tree.now) (table_of decisions.old) (λ i row. IsRowMoved net.now added standing.now.present (forest tree.now) decisions.old row) (λ i row. IsRowAtRest net.now added standing.now.present (forest tree.now) decisions.old row) (dates_in decisions.old.waiting) (dates_in decisions.new.waiting)) }
+    ensures ok { OnOk result (Wakes (present tree.now) (table_of decisions.old) (λ i row. IsRowMoved net.now added standing.now.present (forest tree.now) decisions.old row) (λ i row. IsRowAtRest net.now added standing.now.committed standing.now.present (forest tree.now) decisions.old row) (dates_in decisions.old.waiting) (dates_in decisions.new.waiting)) }
     ensures others { decisions.new ≡ record decisions.old { waiting = decisions.new.waiting } }
 {
     // they tell the proof that numbers are below 256, that rows are on their lists, and that

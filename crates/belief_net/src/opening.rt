@@ -11,9 +11,10 @@ ghost use Rattle.belief_net.specs.Numbered.{AreNumbered, left_under};
 ghost use Rattle.belief_net.specs.Settling.{Begins};
 ghost use Rattle.belief_net.specs.Telling.{IsWeighed};
 ghost use Rattle.belief_net.specs.Turning.{IsFit};
-ghost use Rattle.belief_net.specs.Updating.{IsKept, IsPending, MayAdd, Entered, IsTouchedBy, IsLeftBy};
+ghost use Rattle.belief_net.specs.Updating.{IsKept, IsPending, MayAdd, Entered, IsChanged, IsUnchanged, IsTouchedBy, IsLeftBy};
 ghost use Rattle.belief_net.specs.Waiting.{dates_in};
 
+use crate::contradicted::mark_contradicted;
 use crate::dates::re_date_moved;
 use crate::erasing::erase;
 use crate::horizons::mark_horizon;
@@ -90,7 +91,7 @@ fn mark_touched(
 ) -> Result<(), NoMemory>
     requires fit { IsFit standing.now.present net.now.present beliefs.old }
     requires there { WereThere net.now (name_added edit.now) }
-    ensures ok { OnOk result (Wakes (present beliefs.old.tree) (table_of beliefs.old.decisions) (λ i row. IsTouchedBy edit.now standing.now.present net.now before beliefs.old row) (λ i row. IsLeftBy edit.now standing.now.present net.now before beliefs.old row) (dates_in beliefs.old.decisions.waiting) (dates_in beliefs.new.decisions.waiting)) }
+    ensures ok { OnOk result (Wakes (present beliefs.old.tree) (table_of beliefs.old.decisions) (λ i row. IsTouchedBy edit.now standing.now.committed standing.now.present net.now before beliefs.old row) (λ i row. IsLeftBy edit.now standing.now.committed standing.now.present net.now before beliefs.old row) (dates_in beliefs.old.decisions.waiting) (dates_in beliefs.new.decisions.waiting)) }
     ensures others { beliefs.new ≡ record beliefs.old { decisions = record beliefs.old.decisions { waiting = beliefs.new.decisions.waiting } } }
 {
     let added = match edit {
@@ -102,6 +103,24 @@ fn mark_touched(
             return Ok(());
         }
     };
+    mark_changed(alloc, standing, net, beliefs, added)
+}
+
+// Lets those rows wait whose rules read what other facts contradict since the edit, and those that
+// depend on points that moved and may not rest.
+fn mark_changed(
+    alloc: Global,
+    standing: &Standing,
+    net: &DistNet,
+    beliefs: &mut BeliefNet,
+    added: Option<Name>,
+) -> Result<(), NoMemory>
+    requires fit { IsFit standing.now.present net.now.present beliefs.old }
+    requires there { WereThere net.now added }
+    ensures ok { OnOk result (Wakes (present beliefs.old.tree) (table_of beliefs.old.decisions) (λ i row. IsChanged added standing.now.committed standing.now.present net.now beliefs.old row) (λ i row. IsUnchanged added standing.now.committed standing.now.present net.now beliefs.old row) (dates_in beliefs.old.decisions.waiting) (dates_in beliefs.new.decisions.waiting)) }
+    ensures others { beliefs.new ≡ record beliefs.old { decisions = record beliefs.old.decisions { waiting = beliefs.new.decisions.waiting } } }
+{
+    mark_contradicted(alloc, standing, &beliefs.tree, &mut beliefs.decisions)?;
     mark_moved(
         alloc,
         standing,

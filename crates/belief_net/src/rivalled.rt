@@ -1,33 +1,31 @@
 // Rows that wait since points moved, of rules that read what other facts contradict, as premises
 // say.
 ghost use Rattle.std.specs.Prelude.{◌≡◌, ℕ, List, true, false, OnOk};
-ghost use Rattle.tmm_model.specs.Beliefs.{says_against, are_rivals};
-ghost use Rattle.list_theory.proofs.Elements.{In};
+ghost use Rattle.tmm_model.specs.Beliefs.{are_rivals};
 ghost use Rattle.list_theory.specs.WellNamed.{IsSound};
 ghost use Rattle.row_links.specs.Lists.{IsOn};
 ghost use Rattle.occ_tree.specs.Places.{forest};
 ghost use Rattle.occ_tree.specs.Standing.{present};
 ghost use Rattle.undo_rows.specs.Changes.{present as table};
-ghost use Rattle.joined.specs.Gaps.{ReadsNoRival};
 ghost use Rattle.belief_net.specs.Decided.{table_of, rule_in, AreUnder};
 ghost use Rattle.belief_net.specs.Marks.{HaveEvents, Wakes};
 ghost use Rattle.belief_net.specs.Reach.{AreBelow256};
 ghost use Rattle.belief_net.specs.Waiting.{dates_in};
 ghost use Rattle.belief_net.specs.Watched.{AreClassed};
-ghost use Rattle.belief_net.specs.Woken.{TellMoves, MovesByRule, StaysByRule};
+ghost use Rattle.belief_net.specs.Woken.{TellMoves, IsPlainRule, MovesByRule, StaysByRule};
 
 use crate::by_event::mark_rule;
 use crate::fast::Moves;
 use crate::state::Decisions;
 use crate::touching::touched_by;
 use crate::waiting::Waiting;
-use crate::watched::{is_among, reach_of_rule, read_of};
+use crate::watched::{reach_of_rule, read_of};
 use decision_rows::Rows;
 use dist_net::DistNet;
 use occ_tree::Tree;
 use premise_list::Standing;
 use std::alloc::Global;
-use tmm_model::{Name, NoMemory, Premise};
+use tmm_model::{Name, NoMemory};
 
 // Lets those rows wait whose rules read what other facts contradict, if points moved on which their
 // decisions depend.
@@ -45,7 +43,7 @@ pub(crate) fn wake_rivalled(
     requires moves { TellMoves net.now moves.now }
     requires events { HaveEvents tree.now (table_of decisions.old) }
     requires under { AreUnder standing.now.present decisions.old }
-    ensures ok { OnOk result (Wakes (present tree.now) (table_of decisions.old) (λ i row. MovesByRule moves.now standing.now.present (forest tree.now) (rule_in decisions.old row) row.value.trigger) (λ i row. StaysByRule moves.now standing.now.present (forest tree.now) (rule_in decisions.old row) row.value.trigger) (dates_in decisions.old.waiting) (dates_in decisions.new.waiting)) }
+    ensures ok { OnOk result (Wakes (present tree.now) (table_of decisions.old) (λ i row. MovesByRule moves.now standing.now.present (forest tree.now) (rule_in decisions.old row) row.value.trigger) (λ i row. StaysByRule moves.now standing.now.committed standing.now.present (forest tree.now) (rule_in decisions.old row) row.value.trigger) (dates_in decisions.old.waiting) (dates_in decisions.new.waiting)) }
     ensures others { decisions.new ≡ record decisions.old { waiting = decisions.new.waiting } }
 {
     // it tells the proof that rows are on their lists
@@ -88,7 +86,7 @@ fn wake_rule(
     requires below { AreBelow256 (forest tree.now) }
     requires moves { TellMoves net.now moves.now }
     requires events { HaveEvents tree.now (table rows.now) }
-    ensures { OnOk result (Wakes (present tree.now) (table rows.now) (λ i row. IsOn ((table rows.now).list 1 rule) i × MovesByRule moves.now standing.now.present (forest tree.now) name row.value.trigger) (λ i row. IsOn ((table rows.now).list 1 rule) i → StaysByRule moves.now standing.now.present (forest tree.now) name row.value.trigger) (dates_in waiting.old) (dates_in waiting.new)) }
+    ensures { OnOk result (Wakes (present tree.now) (table rows.now) (λ i row. IsOn ((table rows.now).list 1 rule) i × MovesByRule moves.now standing.now.present (forest tree.now) name row.value.trigger) (λ i row. IsOn ((table rows.now).list 1 rule) i → StaysByRule moves.now standing.now.committed standing.now.present (forest tree.now) name row.value.trigger) (dates_in waiting.old) (dates_in waiting.new)) }
 {
     if reads_no_rival(standing, name) {
         return Ok(());
@@ -98,54 +96,31 @@ fn wake_rule(
     mark_rule(tree, rows, waiting, rule, &events)
 }
 
-// Whether no premise says that facts contradict each other.
+// Whether no premise of either list says that facts contradict each other.
 fn says_none(standing: &Standing) -> bool
-    ensures { result ≡ true → (f g : List ℕ) → are_rivals standing.now.present f g ≡ false }
+    ensures { result ≡ true → (f g : List ℕ) → (are_rivals standing.now.committed f g ≡ false) × (are_rivals standing.now.present f g ≡ false) }
 {
-    for place in 0..standing.len() {
-        let Some(premise) = standing.at(place) else {
-            unreachable!()
-        };
-        if says_some(premise) {
-            return false;
-        }
-    }
-    true
+    standing.rivalries() == 0 && standing.rivalries_before() == 0
 }
 
-// Whether the premise says that two facts contradict each other.
-fn says_some(premise: &Premise) -> bool
-    ensures { result ≡ false → (f g : List ℕ) → says_against f g premise.now ≡ false }
-{
-    match premise {
-        Premise::Against { .. } => true,
-        _ => false,
-    }
-}
-
-// Whether no premise says that a fact contradicts one that the rule reads. It may answer no where
-// none does.
+// Whether no premise of either list says of a fact that the rule reads that another one contradicts
+// it.
 fn reads_no_rival(standing: &Standing, rule: Name) -> bool
-    ensures { result ≡ true → ReadsNoRival standing.now.present rule }
+    ensures { result ≡ true → IsPlainRule standing.now.committed standing.now.present rule }
 {
     let read = read_of(standing, rule);
-    for place in 0..standing.len() {
-        let Some(premise) = standing.at(place) else {
-            unreachable!()
-        };
-        if says_of_one(premise, read.as_slice()) {
+    let facts = read.as_slice();
+    for i in 0..facts.len() {
+        if has_or_had_rivals(standing, facts[i]) {
             return false;
         }
     }
     true
 }
 
-// Whether the premise says of one of these facts what contradicts it.
-fn says_of_one(premise: &Premise, facts: &[Name]) -> bool
-    ensures { result ≡ false → (f g : List ℕ) → In f facts.now → says_against f g premise.now ≡ false }
+// Whether a premise of one of both lists says of a fact that another one contradicts it.
+fn has_or_had_rivals(standing: &Standing, fact: Name) -> bool
+    ensures { result ≡ false → (g : List ℕ) → (are_rivals standing.now.committed fact g ≡ false) × (are_rivals standing.now.present fact g ≡ false) }
 {
-    match premise {
-        Premise::Against { one, other, .. } => is_among(*one, facts) || is_among(*other, facts),
-        _ => false,
-    }
+    standing.has_rivals(fact) || standing.had_rivals(fact)
 }

@@ -147,7 +147,7 @@ fn is_other_of(read: Name, fact: Name, facts: &[Name]) -> bool
 }
 
 // Whether a name is among these.
-pub(crate) fn is_among(name: Name, names: &[Name]) -> bool
+fn is_among(name: Name, names: &[Name]) -> bool
     ensures { result ≡ list_any (same_name name) names.now }
 {
     names.iter().any(|other| name == *other)

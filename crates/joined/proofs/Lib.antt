@@ -15,5 +15,4 @@ pub mod Sparing
 pub mod Marking
 pub mod Touching
 pub mod Gaps
-pub mod KeptClips
 pub mod Shifting

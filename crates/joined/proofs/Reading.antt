@@ -1,23 +1,17 @@
 -- What a rule watches: tokens of the classes of what it reads, and those of facts that contradict
 -- what it reads.
-use Rattle.std.proofs.Common.{◌≡◌, ◌∙◌, ℕ, Bool, true, false, ◌||◌, List, [], ◌∷◌, ◌++◌, refl, sym, ap, subst, inl, inr}
-use Rattle.std.specs.List.{list_any, flat_map}
-use Rattle.std.proofs.lemmas.List.Elements.{All-contains}
+use Rattle.std.proofs.Common.{◌≡◌, ◌∙◌, ℕ, Bool, true, false, ◌||◌, List, [], ◌∷◌, refl, sym, ap, subst, inl, inr}
+use Rattle.std.specs.List.{list_any}
 use Rattle.tmm_model.specs.declared.premise.Premise.{Premise}
-use Rattle.tmm_model.specs.declared.premise.Premise.TheVariants.{Class, Kind, Point, Event, Token, Span, Dist, Rule, Protect, Against}
 use Rattle.tmm_model.specs.declared.token.TokenRow.{TokenRow}
 use Rattle.tmm_model.specs.Beliefs.{class_of, are_rivals}
-use Rattle.tmm_model.specs.Lines.{IsWellFormedPremise}
 use Rattle.tmm_model.specs.Moments.{Moment, RuleText, read_by, rule_of}
 use Rattle.tmm_model.specs.Points.{same_name}
 use Rattle.tmm_model.specs.Standing.{Standing}
-use Rattle.list_theory.specs.WellNamed.{IsSound}
-use Rattle.list_theory.proofs.Elements.{In, Contains-from_In, In-cases, In-flat_map, In-list_any}
-use Rattle.belief_theory.specs.Touched.{facts_said, is_watched}
-use Rattle.belief_theory.proofs.ByClass.{no_rivals}
-use Rattle.belief_theory.proofs.Rivals.{HaveSameRivals, same_rivals_from}
+use Rattle.list_theory.proofs.Elements.{In, In-list_any}
+use Rattle.belief_theory.specs.Touched.{is_watched}
+use Rattle.belief_theory.proofs.Rivals.{HaveSameRivals}
 use Rattle.joined.specs.Gaps.{reads_class, reads_rival, ReadsNoRival}
-use Rattle.joined.specs.Touching.{RivalsStay}
 
 -- one of two tests holds of some where one or the other does
 any_or : {X : Type 0} (P Q : X → Bool) (xs : List X) → list_any (λ x. P x || Q x) xs ≡ (list_any P xs || list_any Q xs)
@@ -71,41 +65,3 @@ pub plain_have : (s t : Standing) (r : List ℕ) → rule_of s r ≡ rule_of t r
 plain_have s t r text plain_s plain_t f at g (inl rival) =
     let no : true ≡ false = sym rival ∙ none_rival s r g (plain_s g) f (subst (λ (x : RuleText). In f (read_by x)) (sym text) at) in cc
 plain_have s t r text plain_s plain_t f at g (inr rival) = let no : true ≡ false = sym rival ∙ none_rival t r g (plain_t g) f at in cc
-
--- as long as no premise says that facts contradict each other, no rule reads a rival
-pub no_rival_read : (s : Standing) → IsSound s → (r fact : List ℕ) → reads_rival s r fact ≡ false
-no_rival_read s sound r fact = by (read_by (rule_of s r))
-  where
-    by : (fs : List (List ℕ)) → list_any (λ f. are_rivals s f fact) fs ≡ false
-    by [] = refl
-    by (f ∷ fs) = ap (λ v. v || list_any (λ f. are_rivals s f fact) fs) (no_rivals s sound f fact) ∙ by fs
-
--- nor does an edit change what contradicts what it reads
-pub no_rivals_change : (s t : Standing) → IsSound s → IsSound t → (r : List ℕ) → RivalsStay s t r
-no_rivals_change s t sound_s sound_t r f at = same_rivals_from s t f (λ g said. absurd (never g said))
-  where
-    nothing : (p : Premise) → IsWellFormedPremise p → (g : List ℕ) → In g (facts_said p) → ⊥
-    nothing (Class name facts) h g on = on
-    nothing (Kind name) h g on = on
-    nothing (Point name) h g on = on
-    nothing (Event name kind) h g on = on
-    nothing (Token name fact) h g on = on
-    nothing (Span name fact) h g on = on
-    nothing (Dist name from to lo hi) h g on = on
-    nothing (Rule name trigger lo hi effect given unless_facts) h g on = on
-    nothing (Protect name fact from to) h g on = on
-    nothing (Against name one other) h g on = h
-
-    of : (l : Standing) → IsSound l → (p : Premise) → In p l.premises → IsWellFormedPremise p
-    of l sound p on = All-contains IsWellFormedPremise l.premises p sound.well_formed (Contains-from_In l.premises p on)
-
-    never : (g : List ℕ) → In g (flat_map facts_said (s.premises ++ t.premises)) → ⊥
-    never g said =
-        let (p, there, own) = In-flat_map facts_said (s.premises ++ t.premises) g said in
-        elim (In-cases s.premises t.premises p there) [
-          | inl on ↦ nothing p (of s sound_s p on) g own
-          | inr on ↦ nothing p (of t sound_t p on) g own
-        ]
-
-pub watched_by_class : (s : Standing) → IsSound s → (r : List ℕ) (k : TokenRow Moment) → is_watched s r k ≡ reads_class s r k.class
-watched_by_class s sound r k = watched_plain s r k (no_rival_read s sound r k.fact)

@@ -10,5 +10,4 @@ pub mod Sparing
 pub mod Marking
 pub mod Touching
 pub mod Gaps
-pub mod KeptClips
 pub mod Shifting

@@ -1,7 +1,6 @@
 // Laws of how nodes and rows stand for a revision.
 ghost use Rattle.joined.specs.Gaps.{MovedPointsTouch};
 ghost use Rattle.joined.specs.Kept.{EffectsAreThere, EffectsMayEnter, SameDecisionsKeep};
-ghost use Rattle.joined.specs.KeptClips.{NodesKeepClips};
 ghost use Rattle.joined.specs.Listed.{PairsAreListed, ReadersAreListed};
 ghost use Rattle.joined.specs.Marking.{ClassMarksMark};
 ghost use Rattle.joined.specs.Netted.{NettedAreCurrent, NettedAreCounted, NothingIsCurrent};
@@ -73,12 +72,6 @@ pub fn moved_points_touch()
 /// bears on none there, before and after.
 pub fn resting_keep()
     ensures { RestingKeep }
-{}
-
-/// A node keeps its clip where the nodes of its class stand as before and what clipped it is there
-/// still.
-pub fn nodes_keep_clips()
-    ensures { NodesKeepClips }
 {}
 
 /// What fires now and did not may enter: there is room for it, and no node is of it yet.

@@ -1,11 +1,8 @@
 -- Classes of facts that contradict others, as they are found.
-use Rattle.std.proofs.Common.{◌≡◌, ◌∙◌, ℕ, zero, suc, ◌+◌, ◌<◌, List, [], ◌∷◌, ◌++◌, length, take, sym, subst, inl, inr}
-use Rattle.std.specs.Prelude.{◌⊎◌, Some, slice_get}
+use Rattle.std.proofs.Common.{◌≡◌, ℕ, List, [], ◌∷◌, length, inl, inr}
 use Rattle.std.specs.List.{Contains}
-use Rattle.std.proofs.lemmas.Option.{slice_get_within, get_or_from_slice_get}
-use Rattle.std.proofs.lemmas.List.{take_more}
 use Rattle.tmm_model.specs.Standing.{Standing}
-use Rattle.list_theory.proofs.Elements.{In, In-cases}
+use Rattle.list_theory.proofs.Elements.{In}
 use Rattle.premise_list.specs.Rivalries.{rivalries}
 use Rattle.premise_list.specs.States.{States}
 use Rattle.map_engine.specs.RivalClasses.{HasClassOf, HasClassesOf, Follows, FollowsBoth, IsThereOr, TakesInRivals}
@@ -32,26 +29,6 @@ follows_both_more s touched old new kept pair both = (follows_more s touched old
 pub is_there_more : (s : Standing) (old new : List (List ℕ)) → AreKept old new → (pairs : List (List ℕ × List ℕ)) (pair : List ℕ × List ℕ) → IsThereOr s old pairs pair → IsThereOr s new pairs pair
 is_there_more s old new kept pairs pair (inl there) = inl there
 is_there_more s old new kept pairs pair (inr has) = inr (has_classes_more s old new kept pair has)
-
--- ---- what holds of the first and of one more
-
-pub each_taken : {X : Type 0} (P Q : X → Type 0) (xs : List X) (i : ℕ) (x : X) → slice_get xs i ≡ Some x → ((y : X) → P y → Q y) → Q x
-    → ((y : X) → In y (take i xs) → P y) → (y : X) → In y (take (i + 1) xs) → Q y
-each_taken P Q xs i x at follows own first y there =
-    elim (In-cases (take i xs) (x ∷ []) y (subst (In y) taken there)) [
-      | inl before ↦ follows y (first y before)
-      | inr here ↦ elim here [ inl same ↦ subst Q same own | inr none ↦ absurd none ]
-    ]
-  where
-    taken : take (i + 1) xs ≡ take i xs ++ x ∷ []
-    taken =
-        take_more xs i x (slice_get_within xs i x at)
-        ∙ (λ j. take i xs ++ get_or_from_slice_get xs i x x at j ∷ [])
-
-pub In-slice_get : {X : Type 0} (xs : List X) (i : ℕ) (x : X) → slice_get xs i ≡ Some x → In x xs
-In-slice_get [] i x e = cc
-In-slice_get (y ∷ xs) zero x e = inl cc
-In-slice_get (y ∷ xs) (suc i) x e = inr (In-slice_get xs i x e)
 
 -- ---- where no premise sets facts against each other
 

@@ -1,5 +1,5 @@
 // Which classes an edit touches besides, as premises say that their facts contradict others.
-ghost use Rattle.std.specs.Prelude.{◌≡◌, ◌<◌, ◌≤◌, ℕ, List, true, false, length, Some, slice_get, IfOk, OnOk};
+ghost use Rattle.std.specs.Prelude.{◌≡◌, ℕ, List, true, IfOk, OnOk};
 ghost use Rattle.std.specs.List.{Contains};
 ghost use Rattle.tmm_model.specs.Sorts.{class_in};
 ghost use Rattle.list_theory.proofs.Elements.{In};
@@ -25,45 +25,26 @@ pub(crate) fn with_rivals(
     }
     let mut found = Vec::new(alloc);
     push_names(touched.as_slice(), &mut found)?;
-    push_changed(standing, &mut found)?;
+    push_changed(alloc, standing, &mut found)?;
     push_near(standing, touched.as_slice(), &mut found)?;
     Ok(found)
 }
 
-// Appends the classes of facts that contradict each other in one list alone. Both lists of pairs
-// are in the order of premises, so most stand side by side.
-fn push_changed(standing: &Standing, found: &mut Vec<Name>) -> Result<(), NoMemory>
+// Appends the classes of facts that contradict each other in one list alone.
+fn push_changed(
+    alloc: Global,
+    standing: &Standing,
+    found: &mut Vec<Name>,
+) -> Result<(), NoMemory>
     ensures kept { OnOk result ((class : List ℕ) → Contains found.old.items class → Contains found.new.items class) }
     ensures gone { OnOk result ((pair : List ℕ × List ℕ) → In pair (rivalries standing.now.committed.premises) → IsThereOr standing.now.present found.new.items (rivalries standing.now.present.premises) pair) }
     ensures come { OnOk result ((pair : List ℕ × List ℕ) → In pair (rivalries standing.now.present.premises) → IsThereOr standing.now.present found.new.items (rivalries standing.now.committed.premises) pair) }
 {
-    let present = standing.rivalries();
-    // how many of the present pairs were among those before
-    let mut next = 0;
-    for i in 0..standing.rivalries_before() {
-        let pair = standing.rivalry_before(i);
-        if is_at(standing, next, &pair) {
-            next += 1;
-        } else {
-            push_both(standing, &pair, found)?;
-        }
-    }
-    for j in next..present {
-        push_both(standing, &standing.rivalry(j), found)?;
+    let changed = standing.changed_rivalries(alloc)?;
+    for i in 0..changed.len() {
+        push_both(standing, &changed[i], found)?;
     }
     Ok(())
-}
-
-// Whether the pair is the present one at this place.
-fn is_at(standing: &Standing, i: usize, pair: &(Name, Name)) -> bool
-    ensures within { result ≡ true → i < length (rivalries standing.now.present.premises) }
-    ensures is { result ≡ true → slice_get (rivalries standing.now.present.premises) i ≡ Some pair.now }
-{
-    if i >= standing.rivalries() {
-        return false;
-    }
-    let there = standing.rivalry(i);
-    there.0 == pair.0 && there.1 == pair.1
 }
 
 // Appends the classes of facts that contradict one of a touched class.

@@ -1,13 +1,16 @@
 -- The facts that the premises of parts of a list set against each other.
-use Rattle.std.proofs.Common.{◌≡◌, ℕ, ◌+◌, ◌-◌, ◌<◌, ◌&&◌, ◌||◌, List, [], ◌∷◌, ◌++◌, length, take, drop, slice_index_or, refl, ap, sym, ◌∙◌, arith}
+use Rattle.std.proofs.Common.{◌≡◌, ℕ, zero, suc, ◌+◌, ◌-◌, ◌<◌, ◌&&◌, ◌||◌, List, [], ◌∷◌, ◌++◌, length, take, drop, slice_index_or, refl, ap, sym, subst, inl, inr, ◌∙◌, arith}
+use Rattle.std.specs.Prelude.{Some, slice_get}
 use Rattle.std.specs.List.{list_any}
 use Rattle.std.proofs.Math.Seq.{take-append_seam}
 use Rattle.std.proofs.lemmas.List.{take_more, take-append-drop, length-append}
 use Rattle.std.proofs.lemmas.List.Elements.{filter_map-append}
+use Rattle.std.proofs.lemmas.Option.{slice_get_within, get_or_from_slice_get}
 use Rattle.tmm_model.specs.declared.premise.Premise.{Premise}
 use Rattle.tmm_model.specs.declared.premise.Premise.TheVariants.{Class, Kind, Point, Event, Token, Span, Dist, Rule, Protect, Against}
 use Rattle.tmm_model.specs.Beliefs.{says_against}
 use Rattle.tmm_model.specs.Points.{same_name}
+use Rattle.list_theory.proofs.Elements.{In, In-cases}
 use Rattle.premise_list.specs.Rivalries.{rivalry_of, rivalries, is_pair_of}
 
 pub rivalries-append : (ps qs : List Premise) → rivalries (ps ++ qs) ≡ rivalries ps ++ rivalries qs
@@ -44,3 +47,24 @@ any_pair f g (Dist name from to lo hi ∷ ps) = any_pair f g ps
 any_pair f g (Rule name trigger lo hi effect given unless_facts ∷ ps) = any_pair f g ps
 any_pair f g (Protect name fact from to ∷ ps) = any_pair f g ps
 any_pair f g (Against name one other ∷ ps) = ap (λ b. ((same_name one f && same_name other g) || (same_name one g && same_name other f)) || b) (any_pair f g ps)
+
+-- ---- one pair after the other
+
+-- what holds of the first and of one more
+pub each_taken : {X : Type 0} (P Q : X → Type 0) (xs : List X) (i : ℕ) (x : X) → slice_get xs i ≡ Some x → ((y : X) → P y → Q y) → Q x
+    → ((y : X) → In y (take i xs) → P y) → (y : X) → In y (take (i + 1) xs) → Q y
+each_taken P Q xs i x at follows own first y there =
+    elim (In-cases (take i xs) (x ∷ []) y (subst (In y) taken there)) [
+      | inl before ↦ follows y (first y before)
+      | inr here ↦ elim here [ inl same ↦ subst Q same own | inr none ↦ absurd none ]
+    ]
+  where
+    taken : take (i + 1) xs ≡ take i xs ++ x ∷ []
+    taken =
+        take_more xs i x (slice_get_within xs i x at)
+        ∙ (λ j. take i xs ++ get_or_from_slice_get xs i x x at j ∷ [])
+
+pub In-slice_get : {X : Type 0} (xs : List X) (i : ℕ) (x : X) → slice_get xs i ≡ Some x → In x xs
+In-slice_get [] i x e = cc
+In-slice_get (y ∷ xs) zero x e = inl cc
+In-slice_get (y ∷ xs) (suc i) x e = inr (In-slice_get xs i x e)

@@ -1,10 +1,11 @@
 -- The facts that premises set against each other.
-use Rattle.std.specs.Prelude.{ℕ, Bool, not, ◌&&◌, ◌||◌, List, Option, Some, None}
+use Rattle.std.specs.Prelude.{◌⊎◌, ℕ, Bool, not, ◌&&◌, ◌||◌, List, Option, Some, None}
 use Rattle.std.specs.List.{list_any, filter_map}
 use Rattle.tmm_model.specs.declared.premise.Premise.{Premise}
 use Rattle.tmm_model.specs.declared.premise.Premise.TheVariants.{Against}
 use Rattle.tmm_model.specs.Points.{same_name}
 use Rattle.tmm_model.specs.Standing.{Standing}
+use Rattle.list_theory.proofs.Elements.{In}
 
 -- the two facts that a premise sets against each other; none for another premise
 abbrev pub rivalry_of : Premise → Option (List ℕ × List ℕ)
@@ -26,6 +27,13 @@ sets_against f pair = (same_name pair.0 f || same_name pair.1 f) && not (same_na
 -- whether a premise sets the fact against another one
 abbrev pub has_rivals : Standing → List ℕ → Bool
 has_rivals s f = list_any (sets_against f) (rivalries s.premises)
+
+-- **Each pair that stands in one of two lists stands in the other one too, or is among these**, and
+-- these are pairs of the lists.
+pub record AreChanges (before now pairs : List (List ℕ × List ℕ)) : Type 0 where
+  pub gone : (pair : List ℕ × List ℕ) → In pair before → In pair now ⊎ In pair pairs
+  pub come : (pair : List ℕ × List ℕ) → In pair now → In pair before ⊎ In pair pairs
+  pub of_lists : (pair : List ℕ × List ℕ) → In pair pairs → In pair before ⊎ In pair now
 
 -- pairs of facts now and at the last commit, and how many there is room for in each of both lists
 pub record Pairs : Type 0 where

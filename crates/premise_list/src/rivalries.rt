@@ -1,7 +1,7 @@
 // The pairs of facts that premises set against each other, now and at the last commit.
-ghost use Rattle.std.specs.Prelude.{◌≡◌, ◌<◌, ◌≤◌, ◌+◌, [], ◌∷◌, ◌++◌, length, take, OnOk, OnErr, vec_capacity};
+ghost use Rattle.std.specs.Prelude.{◌≡◌, ◌<◌, ◌≤◌, ◌+◌, true, Some, [], ◌∷◌, ◌++◌, length, take, slice_get, IfOk, OnOk, OnErr, vec_capacity};
 ghost use Rattle.tmm_model.specs.Verdicts.{most_premises};
-ghost use Rattle.premise_list.specs.Rivalries.{rivalries};
+ghost use Rattle.premise_list.specs.Rivalries.{rivalries, AreChanges};
 
 use std::alloc::Global;
 use std::marker::Model;
@@ -121,6 +121,17 @@ impl Rivalries {
         }
     }
 
+    // The pairs that stand in one of both lists alone, and perhaps some of both.
+    pub(crate) fn changed(&self, alloc: Global) -> Result<Vec<(Name, Name)>, NoMemory>
+        ensures { IfOk result (λ pairs. AreChanges self.now.committed self.now.present pairs.items) }
+    {
+        if self.moved {
+            changed_pairs(alloc, self.committed.as_slice(), self.present.as_slice())
+        } else {
+            Ok(Vec::new(alloc))
+        }
+    }
+
     // Makes the present pairs those of the last commit. It takes no memory.
     pub(crate) fn commit(&mut self)
         ensures { self.new ≡ record self.old { committed = self.old.present } }
@@ -175,4 +186,56 @@ pub(crate) fn rivalry_count(premises: &[Premise]) -> usize
         count += pair_count(premise);
     }
     count
+}
+
+// The pairs that stand in one of two lists alone. Where both have the others in one order, as
+// before and after an edit, these are all.
+fn changed_pairs(
+    alloc: Global,
+    before: &[(Name, Name)],
+    now: &[(Name, Name)],
+) -> Result<Vec<(Name, Name)>, NoMemory>
+    ensures { IfOk result (λ pairs. AreChanges before.now now.now pairs.items) }
+{
+    let mut changed = Vec::new(alloc);
+    // how many of the pairs now were among those before
+    let mut next = 0;
+    for i in 0..before.len() {
+        if is_pair_at(now, next, &before[i]) {
+            next += 1;
+        } else {
+            add_pair(&mut changed, before[i])?;
+        }
+    }
+    for j in next..now.len() {
+        add_pair(&mut changed, now[j])?;
+    }
+    Ok(changed)
+}
+
+// Appends a pair.
+fn add_pair(pairs: &mut Vec<(Name, Name)>, pair: (Name, Name)) -> Result<(), NoMemory>
+    ensures { OnOk result (pairs.new.items ≡ pairs.old.items ++ pair ∷ []) }
+{
+    match pairs.push(pair) {
+        Ok(()) => Ok(()),
+        Err(_) => Err(NoMemory),
+    }
+}
+
+// Whether the pair stands at this place.
+fn is_pair_at(pairs: &[(Name, Name)], i: usize, pair: &(Name, Name)) -> bool
+    ensures { result ≡ true → slice_get pairs.now i ≡ Some pair.now }
+{
+    match pairs.get(i) {
+        Some(there) => is_same_pair(there, pair),
+        None => false,
+    }
+}
+
+// Whether both pairs are of the same facts in one order.
+fn is_same_pair(one: &(Name, Name), other: &(Name, Name)) -> bool
+    ensures { result ≡ true → one.now ≡ other.now }
+{
+    one.0 == other.0 && one.1 == other.1
 }

@@ -10,7 +10,7 @@ ghost use Rattle.list_theory.specs.WellNamed.{IsWellNamed};
 ghost use Rattle.tmm_model.specs.Edits.{list_with, list_without, list_until, upgraded};
 ghost use Rattle.tmm_model.specs.Beliefs.{are_rivals};
 ghost use Rattle.premise_list.specs.Judged.{Judges, NamesPlainly};
-ghost use Rattle.premise_list.specs.Rivalries.{rivalries, has_rivals, is_pair_of, sets_against};
+ghost use Rattle.premise_list.specs.Rivalries.{rivalries, has_rivals, is_pair_of, sets_against, AreChanges};
 ghost use Rattle.premise_list.specs.RivalLaws.{no_rival_of_itself, rivals_of_each_other};
 
 use crate::check::Wanted;
@@ -263,14 +263,6 @@ impl Standing {
         self.rivalries.committed().len()
     }
 
-    /// The two facts that the `i`-th of these premises sets against each other, the oldest at 0.
-    pub fn rivalry_before(&self, i: usize) -> (Name, Name)
-        requires { i < length (rivalries self.now.committed.premises) }
-        ensures { slice_get (rivalries self.now.committed.premises) i ≡ Some result }
-    {
-        self.rivalries.committed()[i]
-    }
-
     /// Whether a premise sets the fact against another one.
     pub fn has_rivals(&self, fact: Name) -> bool
         ensures { result ≡ has_rivals self.now.present fact }
@@ -279,6 +271,32 @@ impl Standing {
             .present()
             .iter()
             .any(|pair| sets_against(pair, fact))
+    }
+
+    /// Whether a premise of the list of the last commit did.
+    pub fn had_rivals(&self, fact: Name) -> bool
+        ensures { result ≡ has_rivals self.now.committed fact }
+    {
+        let pairs = self.rivalries.committed();
+        pairs.iter().any(|pair| sets_against(pair, fact))
+    }
+
+    /// The pairs of facts that premises set against each other in the present list or in that of the
+    /// last commit alone, and perhaps some of both. It asks for memory only where one list may have
+    /// such a pair alone.
+    pub fn changed_rivalries(&self, alloc: Global) -> Result<Vec<(Name, Name)>, NoMemory>
+        ensures { IfOk result (λ pairs. AreChanges (rivalries self.now.committed.premises) (rivalries self.now.present.premises) pairs.items) }
+    {
+        self.rivalries.changed(alloc)
+    }
+
+    /// Whether a premise of the list of the last commit sets the facts, which differ, against each
+    /// other.
+    #[tactic(auto, using(crate::proofs::PairsOfFacts::any_pair))]
+    pub fn were_against(&self, one: &Name, other: &Name) -> bool
+        ensures { result ≡ are_rivals self.now.committed one.now other.now }
+    {
+        *one != *other && self.were_paired(one, other)
     }
 
     /// Makes the present list the one of the last commit. It takes no memory.
@@ -314,6 +332,14 @@ impl Standing {
             .present()
             .iter()
             .any(|pair| is_pair_of(pair, one, other))
+    }
+
+    // Whether a premise of the list of the last commit did.
+    fn were_paired(&self, one: &Name, other: &Name) -> bool
+        ensures { result ≡ list_any (is_pair_of one.now other.now) (rivalries self.now.committed.premises) }
+    {
+        let pairs = self.rivalries.committed();
+        pairs.iter().any(|pair| is_pair_of(pair, one, other))
     }
 }
 

@@ -1,23 +1,22 @@
 -- Clips stay where what contradicts a token does, but for some that is gone.
-use Rattle.std.proofs.Common.{◌≡◌, ◌∙◌, ℕ, Bool, true, false, not, ◌&&◌, List, [], ◌∷◌, refl, sym, ap, subst, inl}
+use Rattle.std.proofs.Common.{◌≡◌, ◌∙◌, Bool, true, false, ◌&&◌, List, [], ◌∷◌, refl, sym, ap, subst, inl}
 use Rattle.std.specs.Prelude.{Option, Some, None, negsuc, filter}
 use Rattle.std.specs.List.{Contains}
 use Rattle.std.specs.Option.{option_map, option_and_then}
 use Rattle.std.specs.Ordering.{on, is_gt, int_cmp, nat_cmp, ordering_then}
-use Rattle.std.specs.Cmp.Lexicographic.{slice_cmp, bytes_decides}
+use Rattle.std.specs.Cmp.Lexicographic.{slice_cmp}
 use Rattle.std.specs.declared.cmp.Ordering.{Ordering}
 use Rattle.tmm_model.specs.declared.premise.Edit.{Edit}
 use Rattle.tmm_model.specs.declared.token.TokenRow.{TokenRow}
 use Rattle.tmm_model.specs.Answers.{clip, clip_of, first_believed}
-use Rattle.tmm_model.specs.Beliefs.{token_of, are_rivals, contradicts_in}
+use Rattle.tmm_model.specs.Beliefs.{token_of, contradicts_in}
 use Rattle.tmm_model.specs.Bounds.{bound_at_most}
 use Rattle.tmm_model.specs.Edits.{next_list}
 use Rattle.tmm_model.specs.Firsts.{earliest, first}
 use Rattle.tmm_model.specs.Maps.{TimeMap, built, gap, order, believed_tokens}
 use Rattle.tmm_model.specs.Moments.{Moment, printed}
-use Rattle.tmm_model.specs.Points.{same_name}
 use Rattle.tmm_model.specs.Standing.{Standing}
-use Rattle.tmm_model.specs.Tokens.{of_one_class, is_before, clips}
+use Rattle.tmm_model.specs.Tokens.{is_before, clips}
 use Rattle.list_theory.specs.WellNamed.{IsSound}
 use Rattle.list_theory.proofs.Elements.{In, both, In-filter, filter-In, In-filter_map, filter_map-In, In-from_Contains, Contains-from_In}
 use Rattle.belief_theory.proofs.Firsts.{least_is, one_spot}
@@ -25,9 +24,8 @@ use Rattle.belief_theory.proofs.NextLists.{all_spelt}
 use Rattle.belief_theory.proofs.OneRight.{spot-token_of}
 use Rattle.belief_theory.proofs.Order.{IsSpelt, ordered}
 use Rattle.belief_theory.proofs.Outcomes.{first_token_in}
-use Rattle.belief_theory.proofs.Rivals.{contradicts_plain}
 use Rattle.belief_theory.proofs.SoundBeliefs.{believed_occurs}
-use Rattle.revisions.specs.Clips.{FewerOfClass, FewerAround, ClipsStay, ClipsStayOn}
+use Rattle.revisions.specs.Clips.{FewerAround, ClipsStay, ClipsStayOn}
 use Rattle.revisions.proofs.Tokens.{tokens_stay}
 
 abbrev by_begin : TimeMap → TokenRow Moment → TokenRow Moment → Ordering
@@ -140,28 +138,3 @@ clips_stay_on old edit sound_old sound_new x k one two fewer stays =
 pub clips_stay : ClipsStay
 clips_stay old edit sound_old sound_new x k one two same =
     clip_stays (built old) (built (next_list old edit)) (all_spelt old sound_old) k same.fewer x one two (λ c at contradicts is. same.into c contradicts at)
-
--- ---- a token of whose fact no premise says that another contradicts it
-
--- in the list the token contradicts others by its class alone
-abbrev pub IsAlone : Standing → TokenRow Moment → Type 0
-IsAlone s k = (g : List ℕ) → are_rivals s k.fact g ≡ false
-
--- then what contradicts it is of its class
-pub alone_class : (s : Standing) (k c : TokenRow Moment) → IsAlone s k → contradicts_in s k c ≡ true → c.class ≡ k.class
-alone_class s k c alone h =
-    let one : of_one_class k c ≡ true = sym (contradicts_plain s k c (alone c.fact)) ∙ h in
-    sym ((bytes_decides k.class c.class).0 (both (same_name k.class c.class) (not (same_name k.fact c.fact)) one).0)
-
-module _ (m n : TimeMap) (k : TokenRow Moment) (alone_m : IsAlone m.list k) (alone_n : IsAlone n.list k) where
-  rivals_alone : (c : TokenRow Moment) → contradicts_in m.list k c ≡ contradicts_in n.list k c
-  rivals_alone c = contradicts_plain m.list k c (alone_m c.fact) ∙ sym (contradicts_plain n.list k c (alone_n c.fact))
-
-  -- **Where no token of its class entered, none of those that contradict it did.**
-  pub fewer_around : In k (believed_tokens n) → FewerOfClass m n k.class → FewerAround m n k
-  fewer_around there fewer = record {
-    rivals = λ c _ _. rivals_alone c;
-    back = λ c h at. fewer.back c (alone_class n.list k c alone_n h) at;
-    gaps = λ c h at. fewer.gaps c k (alone_class n.list k c alone_n h) refl at there;
-    dates = λ c h at. fewer.dates c (alone_class n.list k c alone_n h) at;
-  }

@@ -53,7 +53,7 @@ named s sound f c is none =
     cc
 
 -- so what is of the class is declared by it
-declared : (s : Standing) → IsSound s → (f c : List ℕ) → class_in s.premises f ≡ Some c → (g : List ℕ) → class_of s g ≡ c → class_in s.premises g ≡ Some c
+pub declared : (s : Standing) → IsSound s → (f c : List ℕ) → class_in s.premises f ≡ Some c → (g : List ℕ) → class_of s g ≡ c → class_in s.premises g ≡ Some c
 declared s sound f c is g same = by (class_in s.premises g) refl
   where
     by : (o : Option (List ℕ)) → class_in s.premises g ≡ o → class_in s.premises g ≡ Some c
@@ -90,7 +90,7 @@ module _ (s t : Standing) (sound_s : IsSound s) (sound_t : IsSound t) (within : 
           (bytes_decides (class_of s f) (class_of s g)).1 (ap or_none is ∙ sym (ap or_none (same_facts g there)))
 
 -- a fact that a rule reads has a class
-read_class : (s : Standing) → IsSound s → (t : Moment) (r f : List ℕ) → Contains (rules_at s t) r → In f (read_by (rule_of s r)) → (c : List ℕ) × (class_in s.premises f ≡ Some c)
+pub read_class : (s : Standing) → IsSound s → (t : Moment) (r f : List ℕ) → Contains (rules_at s t) r → In f (read_by (rule_of s r)) → (c : List ℕ) × (class_in s.premises f ≡ Some c)
 read_class s sound t r f stands at =
     by (class_in s.premises f) refl
     (All-contains (λ fact. IsSome (class_in s.premises fact)) (read_by (rule_of s r)) f (read_known s sound r (rule_there s sound t r stands)) (Contains-from_In (read_by (rule_of s r)) f at))

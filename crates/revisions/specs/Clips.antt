@@ -44,12 +44,3 @@ ClipsStay =
     → (x : Moment) (k : TokenRow Moment) → token_of old x ≡ Some k → token_of (next_list old edit) x ≡ Some k
     → SameAround (built old) (built (next_list old edit)) k
     → clip (built old) x ≡ clip (built (next_list old edit)) x
-
--- ---- tokens of one class
-
--- the second map believes no token of the class that the first does not, and those that it believes
--- are as far apart, with the same earliest dates
-pub record FewerOfClass (m n : TimeMap) (class : List ℕ) : Type 0 where
-  pub back : (k : TokenRow Moment) → k.class ≡ class → In k (believed_tokens n) → In k (believed_tokens m)
-  pub gaps : (k c : TokenRow Moment) → k.class ≡ class → c.class ≡ class → In k (believed_tokens n) → In c (believed_tokens n) → gap m k.spot c.spot ≡ gap n k.spot c.spot
-  pub dates : (k : TokenRow Moment) → k.class ≡ class → In k (believed_tokens n) → early m.list m.far k.spot ≡ early n.list n.far k.spot

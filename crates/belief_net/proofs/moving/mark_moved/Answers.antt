@@ -22,15 +22,15 @@ returns-then-is_empty-clause-ok c =
     let list = c.args.standing.now.present in
     let f = forest c.args.tree.now in
     let none : length c.args.net.now.moved ≡ 0 = ap length (sym c.moved.ensures.list) ∙ eqb-true (length c.moved.result.now) 0 (sym c.is_empty.ensures ∙ c.if-is_empty.true) in
-    wakes_none (present c.args.tree.now) (table_of d) (λ i row. IsRowMoved c.args.net.now c.args.added list f d row) (λ i row. IsRowAtRest c.args.net.now c.args.added list f d row) (dates_in d.waiting)
-    (λ i row at. inr (all_rest c.args.net.now c.args.added list f d row c.requires.there c.moved.ensures.moved none))
+    wakes_none (present c.args.tree.now) (table_of d) (λ i row. IsRowMoved c.args.net.now c.args.added list f d row) (λ i row. IsRowAtRest c.args.net.now c.args.added c.args.standing.now.committed list f d row) (dates_in d.waiting)
+    (λ i row at. inr (all_rest c.args.net.now c.args.added c.args.standing.now.committed list f d row c.requires.there c.moved.ensures.moved none))
 
 pub returns-then-len-eq0-clause-ok : goal.returns-then-len-eq0-clause-ok
 returns-then-len-eq0-clause-ok c =
     let d = c.args.decisions.now in
     let list = c.args.standing.now.present in
     let f = forest c.args.tree.now in
-    wakes_none (present c.args.tree.now) (table_of d) (λ i row. IsRowMoved c.args.net.now c.args.added list f d row) (λ i row. IsRowAtRest c.args.net.now c.args.added list f d row) (dates_in d.waiting)
+    wakes_none (present c.args.tree.now) (table_of d) (λ i row. IsRowMoved c.args.net.now c.args.added list f d row) (λ i row. IsRowAtRest c.args.net.now c.args.added c.args.standing.now.committed list f d row) (dates_in d.waiting)
     (λ i row at. (let h = c.requires.under.named i row at in absurd (omega (arith, h, c.len.ensures, c.if-len-eq0.true))))
 
 pub moves_of-requires-clause-start : goal.moves_of-requires-clause-start
@@ -99,9 +99,9 @@ returns-clause-ok c =
     let new = c.wake_rivalled.new.decisions in
     let below = numbers_below list nets.present (forest c.args.tree.now) c.requires.seen c.invariants.ensures.names in
     let classes = subst (λ (z : Decisions). WakesForAll s nets moves z (length z.classes) (dates_in mid.waiting) (dates_in next.waiting)) c.in_ok-wake_unread.ensures.others c.in_ok-wake_classes.ensures.ok in
-    let rules = subst (λ (z : Decisions). Wakes s (table_of z) (λ i row. MovesByRule moves list f (rule_in z row) row.value.trigger) (λ i row. StaysByRule moves list f (rule_in z row) row.value.trigger)
+    let rules = subst (λ (z : Decisions). Wakes s (table_of z) (λ i row. MovesByRule moves list f (rule_in z row) row.value.trigger) (λ i row. StaysByRule moves c.args.standing.now.committed list f (rule_in z row) row.value.trigger)
     (dates_in next.waiting) (dates_in new.waiting)) (same_classes (goal.at.returns-clause-ok c).In_ok-wake_classes) c.in_ok-wake_rivalled.ensures.ok in
-    all_woken nets c.args.added list s d moves c.requires.under c.first.ensures.listed below c.in_ok-moves.ensures.moved c.have_own.ensures c.in_ok-moves.ensures.fast
+    all_woken nets c.args.added c.args.standing.now.committed list s d moves c.requires.under c.first.ensures.listed below c.in_ok-moves.ensures.moved c.have_own.ensures c.in_ok-moves.ensures.fast
     (dates_in d.waiting) (dates_in mid.waiting) (dates_in next.waiting) (dates_in new.waiting) c.in_ok-wake_unread.ensures.ok classes rules
 
 pub returns-clause-others : goal.returns-clause-others

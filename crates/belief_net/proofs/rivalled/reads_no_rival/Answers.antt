@@ -1,24 +1,10 @@
-use Rattle.std.proofs.Common.{◌≡◌, ℕ, List, false, take, sym, subst, arith}
-use Rattle.std.proofs.lemmas.List.{take_all}
-use Rattle.tmm_model.specs.declared.premise.Premise.{Premise}
-use Rattle.tmm_model.specs.Beliefs.{says_against}
-use Rattle.list_theory.proofs.Elements.{In}
-use Rattle.belief_net.proofs.ByRule.{each_next, none_contradicted}
 use Rattle.belief_net.proofs.rivalled.reads_no_rival.Goals as goal
 
-pub loop-place-init : goal.loop-place-init
-loop-place-init c = λ p on. absurd on
+pub loop-i-init : goal.loop-i-init
+loop-i-init c = λ f at. absurd at
 
-pub loop-place-preserved : goal.loop-place-preserved
-loop-place-preserved c =
-    let facts = c.read_of-read.result.items in
-    each_next (λ p. (f g : List ℕ) → In f facts → says_against f g p ≡ false) c.args.standing.now.present.premises c.loop-place.place c.in-Some.premise.now (sym c.in-Some.ensures) c.loop-place.invariant
-    (subst (λ l. (f g : List ℕ) → In f l → says_against f g c.in-Some.premise.now ≡ false) c.as_slice.ensures.value (c.says_of_one.ensures c.if-says_of_one.false))
+pub loop-i-preserved : goal.loop-i-preserved
+loop-i-preserved c = ?
 
 pub returns : goal.returns
-returns c = λ yes.
-    let s = c.args.standing.now.present in
-    let facts = c.read_of-read.result.items in
-    let all : take c.loop-place.place s.premises ≡ s.premises = take_all c.loop-place.place s.premises (omega (arith, c.loop-place-test.false, c.len-place-end.ensures.value)) in
-    none_contradicted s c.args.rule facts c.read_of-read.ensures
-    (subst (λ l. (p : Premise) → In p l → (f g : List ℕ) → In f facts → says_against f g p ≡ false) all c.loop-place.invariant)
+returns c = ?

@@ -1,8 +1,7 @@
 use Rattle.std.proofs.Common.{◌≡◌, ℕ, List, false, take}
-use Rattle.tmm_model.specs.declared.premise.Premise.{Premise}
-use Rattle.tmm_model.specs.Beliefs.{says_against}
+use Rattle.tmm_model.specs.Beliefs.{are_rivals}
 use Rattle.list_theory.proofs.Elements.{In}
 use Rattle.belief_net.proofs.rivalled.reads_no_rival.Given as goal
 
-abbrev pub invariant-loop-place : goal.invariant-loop-place
-invariant-loop-place l = (p : Premise) → In p (take l.place l.standing.present.premises) → (f g : List ℕ) → In f l.read.items → says_against f g p ≡ false
+abbrev pub invariant-loop-i : goal.invariant-loop-i
+invariant-loop-i l = (f : List ℕ) → In f (take l.i l.facts) → (g : List ℕ) → (are_rivals l.standing.committed f g ≡ false) × (are_rivals l.standing.present f g ≡ false)

@@ -10,7 +10,7 @@ use Rattle.belief_net.proofs.rivalled.wake_rivalled.Given as goal
 abbrev pub invariant-loop-rule : goal.invariant-loop-rule
 invariant-loop-rule l = record {
   wakes : Wakes (present l.tree) (table_of l.fn.decisions) (λ i row. MovesByRule l.moves l.standing.present (forest l.tree) (rule_in l.fn.decisions row) row.value.trigger)
-      (λ i row. row.value.rule < l.rule → StaysByRule l.moves l.standing.present (forest l.tree) (rule_in l.fn.decisions row) row.value.trigger)
+      (λ i row. row.value.rule < l.rule → StaysByRule l.moves l.standing.committed l.standing.present (forest l.tree) (rule_in l.fn.decisions row) row.value.trigger)
       (dates_in l.fn.decisions.waiting) (dates_in l.decisions.waiting);
   others : l.decisions ≡ record l.fn.decisions { waiting = l.decisions.waiting };
 }

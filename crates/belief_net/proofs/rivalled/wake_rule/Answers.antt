@@ -12,7 +12,7 @@ use Rattle.belief_net.proofs.rivalled.wake_rule.Goals as goal
 
 pub returns-then-reads_no_rival : goal.returns-then-reads_no_rival
 returns-then-reads_no_rival c =
-    plain_stay (present c.args.tree.now) (table c.args.rows.now) c.args.moves.now c.args.standing.now.present c.args.name c.args.rule (c.reads_no_rival.ensures c.if-reads_no_rival.true) (dates_in c.args.waiting.now)
+    plain_stay (present c.args.tree.now) (table c.args.rows.now) c.args.moves.now c.args.standing.now.committed c.args.standing.now.present c.args.name c.args.rule (c.reads_no_rival.ensures c.if-reads_no_rival.true) (dates_in c.args.waiting.now)
 
 pub returns : goal.returns
 returns c =
@@ -21,7 +21,7 @@ returns c =
     let name = c.args.name in
     let moves = c.args.moves.now in
     ok_then c.mark_rule.result
-    (rule_woken s (table c.args.rows.now) moves list name c.args.rule c.in_ok-events.events (dates_in c.args.waiting.now) (dates_in c.mark_rule.new.waiting)
+    (rule_woken s (table c.args.rows.now) moves c.args.standing.now.committed list name c.args.rule c.in_ok-events.events (dates_in c.args.waiting.now) (dates_in c.mark_rule.new.waiting)
     (λ x. touched_moves s (IsReadSpot list (forest c.args.tree.now) name) moves.pairs.items c.in_ok-reach.reach c.requires.moves.itself c.in_ok-reach.ensures.all c.in_ok-reach.ensures.bounded c.requires.below x
     c.in_ok-events.events (subst (λ (l : List Bool). IsTouchedAt l c.in_ok-reach.reach c.in_ok-events.events) c.deref.ensures.value c.in_ok-events.ensures)))
     c.mark_rule.ensures

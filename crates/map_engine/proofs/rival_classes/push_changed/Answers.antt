@@ -1,70 +1,43 @@
-use Rattle.std.proofs.Common.{◌+◌, ℕ, List, take, sym, subst, arith, inl, inr}
+use Rattle.std.proofs.Common.{◌≡◌, ◌∙◌, ◌⊎◌, ℕ, List, Some, take, sym, ap, subst, arith, inl, inr}
+use Rattle.std.specs.Prelude.{slice_get}
 use Rattle.std.proofs.lemmas.List.{take_all}
+use Rattle.std.proofs.lemmas.Option.{slice_get-get_or}
 use Rattle.list_theory.proofs.Elements.{In}
 use Rattle.premise_list.specs.Rivalries.{rivalries}
-use Rattle.map_engine.specs.RivalClasses.{IsThereOr}
-use Rattle.map_engine.proofs.RivalClasses.{AreKept, is_there_more, each_taken, In-slice_get}
-use Rattle.map_engine.proofs.rival_classes.push_changed.Goals.{then-is_at, else-is_at+in_ok-push_both}
+use Rattle.premise_list.proofs.PairsOfFacts.{each_taken}
+use Rattle.map_engine.specs.RivalClasses.{HasClassesOf, IsThereOr}
+use Rattle.map_engine.proofs.RivalClasses.{has_classes_more}
+use Rattle.map_engine.proofs.rival_classes.push_changed.Goals.{After-loop-i}
 use Rattle.map_engine.proofs.rival_classes.push_changed.Goals as goal
 
 pub loop-i-init : goal.loop-i-init
-loop-i-init c = record { kept = λ class at. at; gone = λ pair at. absurd at; come = λ pair at. absurd at }
+loop-i-init c = record { kept = λ class at. at; pushed = λ pair at. absurd at }
 
 pub loop-i-preserved : goal.loop-i-preserved
 loop-i-preserved c =
     let s = c.args.standing.now.present in
-    let now = rivalries s.premises in
-    let then = rivalries c.args.standing.now.committed.premises in
-    let i = c.loop-i.i in
+    let pairs = c.in_ok-changed.changed.items in
     let old = c.loop-i.found.items in
-    let pair = c.rivalry_before-pair.result in
-    let at = c.rivalry_before-pair.ensures in
-    elim c.if-is_at.branch [
-      | then-is_at w ↦
-          let is = c.is_at.ensures.is w.if-is_at.true in
-          record {
-            kept = subst (λ v. AreKept c.args.found.now.items v.items) (sym w.found-is) c.loop-i.invariant.kept;
-            gone = subst (λ v. (p : List ℕ × List ℕ) → In p (take (i + 1) then) → IsThereOr s v.items now p) (sym w.found-is)
-                (each_taken (IsThereOr s old now) (IsThereOr s old now) then i pair at (λ y there. there) (inl (In-slice_get now c.loop-i.next pair is)) c.loop-i.invariant.gone);
-            come = subst (λ n. (p : List ℕ × List ℕ) → In p (take n now) → In p then) (sym w.next-is)
-                (each_taken (λ p. In p then) (λ p. In p then) now c.loop-i.next pair is (λ y there. there) (In-slice_get then i pair at) c.loop-i.invariant.come);
-          }
-      | else-is_at+in_ok-push_both w ↦
-          let e = w.in_ok-push_both.ensures in
-          let new = w.push_both.new.found.items in
-          record {
-            kept = subst (λ v. AreKept c.args.found.now.items v.items) (sym w.found-is) (λ class there. e.kept class (c.loop-i.invariant.kept class there));
-            gone = subst (λ v. (p : List ℕ × List ℕ) → In p (take (i + 1) then) → IsThereOr s v.items now p) (sym w.found-is)
-                (each_taken (IsThereOr s old now) (IsThereOr s new now) then i pair at (is_there_more s old new e.kept now) (inr e.pushed) c.loop-i.invariant.gone);
-            come = subst (λ n. (p : List ℕ × List ℕ) → In p (take n now) → In p then) (sym w.next-is) c.loop-i.invariant.come;
-          }
-    ]
-
-pub loop-j-init : goal.loop-j-init
-loop-j-init c =
-    let then = rivalries c.args.standing.now.committed.premises in
+    let new = c.push_both.new.found.items in
+    let e = c.in_ok-push_both.ensures in
+    let pair = c.index-changed-i.result in
+    let at : slice_get pairs c.loop-i.i ≡ Some pair = slice_get-get_or pairs c.loop-i.i pair c.loop-i-test.true ∙ ap Some (sym c.index-changed-i.is) in
     record {
-      kept = c.loop-i.invariant.kept;
-      gone = λ pair at. c.loop-i.invariant.gone pair (subst (In pair) (sym (take_all c.loop-i.i then (omega (arith, c.loop-i-test.false)))) at);
-      come = λ pair at. inl (c.loop-i.invariant.come pair at);
+      kept = λ class there. e.kept class (c.loop-i.invariant.kept class there);
+      pushed = each_taken (λ p. HasClassesOf s p old) (λ p. HasClassesOf s p new) pairs c.loop-i.i pair at (λ p. has_classes_more s old new e.kept p) e.pushed c.loop-i.invariant.pushed;
     }
 
-pub loop-j-preserved : goal.loop-j-preserved
-loop-j-preserved c =
-    let s = c.args.standing.now.present in
-    let now = rivalries s.premises in
-    let then = rivalries c.args.standing.now.committed.premises in
-    let old = c.loop-j.found.items in
-    let new = c.push_both-in-loop-j.new.found.items in
-    let e = c.in_ok-push_both-2.ensures in
-    record {
-      kept = λ class at. e.kept class (c.loop-j.invariant.kept class at);
-      gone = λ pair at. is_there_more s old new e.kept now pair (c.loop-j.invariant.gone pair at);
-      come = each_taken (IsThereOr s old then) (IsThereOr s new then) now c.loop-j.j c.rivalry.result c.rivalry.ensures
-          (is_there_more s old new e.kept then) (inr e.pushed) c.loop-j.invariant.come;
-    }
+-- all pairs have been looked at
+all_pushed : (c : After-loop-i) → (pair : List ℕ × List ℕ) → In pair c.in_ok-changed.changed.items → HasClassesOf c.args.standing.now.present pair c.loop-i.found.items
+all_pushed c pair on = c.loop-i.invariant.pushed pair (subst (In pair) (sym (take_all c.loop-i.i c.in_ok-changed.changed.items (omega (arith, c.loop-i-test.false)))) on)
+
+-- a pair that is in the other list too, or among these
+there_or : (c : After-loop-i) → (pairs : List (List ℕ × List ℕ)) (pair : List ℕ × List ℕ) → In pair pairs ⊎ In pair c.in_ok-changed.changed.items → IsThereOr c.args.standing.now.present c.loop-i.found.items pairs pair
+there_or c pairs pair (inl there) = inl there
+there_or c pairs pair (inr alone) = inr (all_pushed c pair alone)
+
+pub returns-clause-gone : goal.returns-clause-gone
+returns-clause-gone c = λ pair on. there_or c (rivalries c.args.standing.now.present.premises) pair (c.in_ok-changed.ensures.gone pair on)
 
 pub returns-clause-come : goal.returns-clause-come
-returns-clause-come c = λ pair at.
-    let now = rivalries c.args.standing.now.present.premises in
-    c.loop-j.invariant.come pair (subst (In pair) (sym (take_all c.loop-j.j now (omega (arith, c.loop-j-test.false)))) at)
+returns-clause-come c = λ pair on. there_or c (rivalries c.args.standing.now.committed.premises) pair (c.in_ok-changed.ensures.come pair on)

@@ -2,8 +2,9 @@ use Rattle.std.proofs.Common.{ℕ, List, take, sym, subst, arith}
 use Rattle.std.proofs.lemmas.List.{take_all}
 use Rattle.list_theory.proofs.Elements.{In}
 use Rattle.premise_list.specs.Rivalries.{rivalries}
+use Rattle.premise_list.proofs.PairsOfFacts.{each_taken}
 use Rattle.map_engine.specs.RivalClasses.{FollowsBoth}
-use Rattle.map_engine.proofs.RivalClasses.{AreKept, follows_more, follows_both_more, each_taken}
+use Rattle.map_engine.proofs.RivalClasses.{AreKept, follows_more, follows_both_more}
 use Rattle.map_engine.proofs.rival_classes.push_near.Goals as goal
 
 pub loop-i-init : goal.loop-i-init
