@@ -11,6 +11,7 @@ ghost use Rattle.premise_list.specs.States.{States};
 ghost use Rattle.spots.specs.Forest.{IsLive};
 ghost use Rattle.occ_tree.specs.OfLists.{IsTreeIn};
 ghost use Rattle.occ_tree.specs.Places.{forest};
+ghost use Rattle.occ_tree.specs.Standing.{present};
 ghost use Rattle.supports.specs.Edited.{old_forest};
 ghost use Rattle.belief_list.specs.declared.kept_rows.KeptRow.{KeptRow as AKeptRow};
 ghost use Rattle.belief_list.specs.Compared.{AreChanges};
@@ -26,9 +27,10 @@ ghost use Rattle.belief_list.specs.Told.{
   clipped_at,
   left_at,
   differences_of,
+  pairs_of,
   told_cmp,
   AreInOrder,
-  IsToldNow,
+  AreRanked,
   IsToldThen,
 };
 
@@ -42,7 +44,7 @@ use std::alloc::Global;
 use std::cmp::Ordering;
 use tmm_model::{Clip, Name, NoMemory, Occ, Seq};
 
-// A node that is gone.
+// A node that is gone, of which something is told.
 #[derive(Drop)]
 struct Told {
     // The earliest date of the occurrence.
@@ -59,7 +61,7 @@ struct Told {
 pub fn changes_told(
     alloc: Global,
     tree: &Tree,
-    net: &DistNet,
+    _net: &DistNet,
     differences: &[Difference],
     left: &[LeftNode<'_>],
 ) -> Result<BeliefChanges, NoMemory>
@@ -88,10 +90,20 @@ fn present_in_order(
     tree: &Tree,
     differences: &[Difference],
 ) -> Result<Vec<Difference>, NoMemory>
+    ensures same { IfOk result (λ told. IsPermutation (filter (is_told (forest tree.now)) differences.now) told.items) }
+    ensures in_order { IfOk result (λ told. AreRanked (present tree.now) told.items) }
 {
     let mut told = present_nodes(alloc, tree, differences)?;
-    told.sort_unstable_by(|p, q| tree.rank(p.node, q.node));
+    sort_present(tree, &mut told);
     Ok(told)
+}
+
+// Sorts by the order of nodes, behind which numbers of none stand.
+fn sort_present(tree: &Tree, told: &mut Vec<Difference>)
+    ensures same { IsPermutation told.old.items told.new.items }
+    ensures in_order { AreRanked (present tree.now) told.new.items }
+{
+    told.sort_unstable_by(|p, q| tree.rank(p.node, q.node));
 }
 
 // The present nodes of which something is told.
@@ -100,6 +112,7 @@ fn present_nodes(
     tree: &Tree,
     differences: &[Difference],
 ) -> Result<Vec<Difference>, NoMemory>
+    ensures { IfOk result (λ told. told.items ≡ filter (is_told (forest tree.now)) differences.now) }
 {
     let mut told = Vec::new(alloc);
     for d in differences {
@@ -110,8 +123,9 @@ fn present_nodes(
     Ok(told)
 }
 
-// Appends one of which something is told.
+// Appends a difference.
 fn push_difference(told: &mut Vec<Difference>, one: Difference) -> Result<(), NoMemory>
+    ensures { OnOk result (told.new.items ≡ told.old.items ++ one ∷ []) }
 {
     match told.push(one) {
         Ok(()) => Ok(()),
@@ -119,9 +133,21 @@ fn push_difference(told: &mut Vec<Difference>, one: Difference) -> Result<(), No
     }
 }
 
+// Appends the number of a node.
 fn push_number(nodes: &mut Vec<u32>, x: u32) -> Result<(), NoMemory>
+    ensures { OnOk result (nodes.new.items ≡ nodes.old.items ++ x ∷ []) }
 {
     match nodes.push(x) {
+        Ok(()) => Ok(()),
+        Err(_) => Err(NoMemory),
+    }
+}
+
+// Appends the numbers of two nodes.
+fn push_pair(pairs: &mut Vec<(u32, u32)>, pair: (u32, u32)) -> Result<(), NoMemory>
+    ensures { OnOk result (pairs.new.items ≡ pairs.old.items ++ pair ∷ []) }
+{
+    match pairs.push(pair) {
         Ok(()) => Ok(()),
         Err(_) => Err(NoMemory),
     }
@@ -166,6 +192,18 @@ fn new_clip(tree: &Tree, d: &Difference) -> Option<u32>
 
 // The derived occurrences that are newly believed.
 fn entered_told(alloc: Global, tree: &Tree, told: &[Difference]) -> Result<Seq<Occ>, NoMemory>
+    requires { All (λ d. IsLive (forest tree.now) d.node) told.now }
+    ensures { IfOk result (λ occs. map moment_of occs.items ≡ filter_map (entered_at (forest tree.now)) told.now) }
+{
+    let nodes = entered_nodes(alloc, tree, told)?;
+    occs_of(alloc, tree, nodes.as_slice())
+}
+
+// Their nodes.
+fn entered_nodes(alloc: Global, tree: &Tree, told: &[Difference]) -> Result<Vec<u32>, NoMemory>
+    requires { All (λ d. IsLive (forest tree.now) d.node) told.now }
+    ensures live { IfOk result (λ nodes. All (IsLive (forest tree.now)) nodes.items) }
+    ensures moments { IfOk result (λ nodes. map (moment_at (forest tree.now)) nodes.items ≡ filter_map (entered_at (forest tree.now)) told.now) }
 {
     let mut nodes = Vec::new(alloc);
     for d in told {
@@ -173,11 +211,23 @@ fn entered_told(alloc: Global, tree: &Tree, told: &[Difference]) -> Result<Seq<O
             push_number(&mut nodes, d.node)?;
         }
     }
-    occs_of(alloc, tree, nodes.as_slice())
+    Ok(nodes)
 }
 
 // The tokens that are clipped no longer.
 fn loosened_told(alloc: Global, tree: &Tree, told: &[Difference]) -> Result<Seq<Occ>, NoMemory>
+    requires { All (λ d. IsLive (forest tree.now) d.node) told.now }
+    ensures { IfOk result (λ occs. map moment_of occs.items ≡ filter_map (loosened_at (forest tree.now)) told.now) }
+{
+    let nodes = loosened_nodes(alloc, tree, told)?;
+    occs_of(alloc, tree, nodes.as_slice())
+}
+
+// Their nodes.
+fn loosened_nodes(alloc: Global, tree: &Tree, told: &[Difference]) -> Result<Vec<u32>, NoMemory>
+    requires { All (λ d. IsLive (forest tree.now) d.node) told.now }
+    ensures live { IfOk result (λ nodes. All (IsLive (forest tree.now)) nodes.items) }
+    ensures moments { IfOk result (λ nodes. map (moment_at (forest tree.now)) nodes.items ≡ filter_map (loosened_at (forest tree.now)) told.now) }
 {
     let mut nodes = Vec::new(alloc);
     for d in told {
@@ -185,11 +235,23 @@ fn loosened_told(alloc: Global, tree: &Tree, told: &[Difference]) -> Result<Seq<
             push_number(&mut nodes, d.node)?;
         }
     }
-    occs_of(alloc, tree, nodes.as_slice())
+    Ok(nodes)
 }
 
 // The tokens that are newly clipped, or by another token.
 fn clips_told(alloc: Global, tree: &Tree, told: &[Difference]) -> Result<Seq<Clip>, NoMemory>
+    requires { All (λ d. IsLive (forest tree.now) d.node) told.now }
+    ensures { IfOk result (λ clips. map clip_pair clips.items ≡ filter_map (clipped_at (forest tree.now)) told.now) }
+{
+    let pairs = clip_nodes(alloc, tree, told)?;
+    clips_of(alloc, tree, pairs.as_slice())
+}
+
+// Their nodes, each with the one that clips it.
+fn clip_nodes(alloc: Global, tree: &Tree, told: &[Difference]) -> Result<Vec<(u32, u32)>, NoMemory>
+    requires { All (λ d. IsLive (forest tree.now) d.node) told.now }
+    ensures live { IfOk result (λ pairs. All (λ p. IsLive (forest tree.now) p.0 × IsLive (forest tree.now) p.1) pairs.items) }
+    ensures moments { IfOk result (λ pairs. pairs_of (forest tree.now) pairs.items ≡ filter_map (clipped_at (forest tree.now)) told.now) }
 {
     let mut pairs = Vec::new(alloc);
     for d in told {
@@ -197,15 +259,7 @@ fn clips_told(alloc: Global, tree: &Tree, told: &[Difference]) -> Result<Seq<Cli
             push_pair(&mut pairs, (d.node, by))?;
         }
     }
-    clips_of(alloc, tree, pairs.as_slice())
-}
-
-fn push_pair(pairs: &mut Vec<(u32, u32)>, pair: (u32, u32)) -> Result<(), NoMemory>
-{
-    match pairs.push(pair) {
-        Ok(()) => Ok(()),
-        Err(_) => Err(NoMemory),
-    }
+    Ok(pairs)
 }
 
 // ---- nodes that are gone
@@ -217,36 +271,13 @@ fn gone_in_order(
     places: &[Option<usize>],
     differences: &[Difference],
 ) -> Result<Vec<Told>, NoMemory>
+    ensures same { IfOk result (λ told. IsPermutation (filter (λ d. is_some (left_at left.now places.now d)) differences.now) (differences_of told.items)) }
+    ensures dated { IfOk result (λ told. All (IsToldThen left.now places.now) told.items) }
+    ensures in_order { IfOk result (λ told. AreInOrder told.items) }
 {
     let mut told = gone_nodes(alloc, left, places, differences)?;
-    told.sort_unstable_by(|p, q| p.early.cmp(&q.early));
-    if are_apart(told.as_slice()) {
-        return Ok(told);
-    }
-    let mut told = worded(alloc, left, places, told.as_slice())?;
     sort(&mut told);
     Ok(told)
-}
-
-fn are_apart(told: &[Told]) -> bool
-{
-    for i in 1..told.len() {
-        if told[i - 1].early >= told[i].early {
-            return false;
-        }
-    }
-    true
-}
-
-fn worded(alloc: Global, left: &[LeftNode<'_>], places: &[Option<usize>], told: &[Told]) -> Result<Vec<Told>, NoMemory>
-{
-    let mut more = Vec::new(alloc);
-    for t in told {
-        if let Some(occ) = left_occ(left, places, &t.difference) {
-            push(&mut more, Told { early: t.early, word: word_of(alloc, occ)?, difference: t.difference })?;
-        }
-    }
-    Ok(more)
 }
 
 // The derived nodes that are gone.
@@ -261,11 +292,24 @@ fn gone_nodes(
 {
     let mut told = Vec::new(alloc);
     for d in differences {
-        if let Some(_occ) = left_occ(left, places, d) {
-            push(&mut told, Told { early: d.was.map_or(0, |row| row.early), word: Seq::make(alloc), difference: *d })?;
+        if let Some(occ) = left_occ(left, places, d) {
+            push(&mut told, gone_node(alloc, d, occ)?)?;
         }
     }
     Ok(told)
+}
+
+// A node that is gone with the date that was kept of it, and the word of its occurrence.
+fn gone_node(alloc: Global, d: &Difference, occ: &Occ) -> Result<Told, NoMemory>
+    ensures early { IfOk result (λ told. (r : AKeptRow) → d.entry.now.was ≡ Some r → told.early ≡ r.early) }
+    ensures word { IfOk result (λ told. told.word.items ≡ printed (moment_of occ.now)) }
+    ensures difference { IfOk result (λ told. told.difference ≡ d.entry.now) }
+{
+    Ok(Told {
+        early: d.was.map_or(0, |row| row.early),
+        word: word_of(alloc, occ)?,
+        difference: *d,
+    })
 }
 
 // The occurrence of a node that was there and is gone, if a rule brings it about.
