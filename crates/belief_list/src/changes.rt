@@ -1,5 +1,5 @@
 // What of belief changed between two lists.
-ghost use Rattle.std.specs.Prelude.{◌≡◌, ◌++◌, ◌∷◌, [], map, ◌&&◌, IfOk, OnOk, IfSome, Some};
+ghost use Rattle.std.specs.Prelude.{◌≡◌, ◌<◌, ◌++◌, ◌∷◌, [], map, take, length, slice_index_or, ◌&&◌, IfOk, OnOk, IfSome, Some};
 ghost use Rattle.std.specs.List.{All, filter_map};
 ghost use Rattle.std.specs.Option.{option_map, is_some, is_none};
 ghost use Rattle.tmm_model.specs.Answers.{rows};
@@ -11,6 +11,7 @@ ghost use Rattle.occ_tree.specs.Places.{forest};
 ghost use Rattle.belief_list.specs.Rows.{row_at, IsLiveRow, IsListing};
 ghost use Rattle.belief_list.specs.Compared.{row_in, clip_in, gone_row, loose_row, clip_row, AreChanges};
 ghost use Rattle.belief_list.specs.Matches.{AreMatched};
+ghost use Rattle.belief_list.specs.Told.{pairs_of};
 
 use crate::list::BeliefRow;
 use crate::matched::{Matched, places_by_name};
@@ -178,6 +179,93 @@ pub(crate) fn push_clip(
     let token = tree.occ_of(alloc, token)?;
     let by = tree.occ_of(alloc, by)?;
     match clips.push(Clip { token, by }) {
+        Ok(()) => Ok(()),
+        Err(_) => Err(NoMemory),
+    }
+}
+
+/// The occurrences of these nodes.
+pub(crate) fn occs_of(alloc: Global, tree: &Tree, nodes: &[u32]) -> Result<Seq<Occ>, NoMemory>
+    requires { All (IsLive (forest tree.now)) nodes.now }
+    ensures { IfOk result (λ occs. map moment_of occs.items ≡ map (moment_at (forest tree.now)) nodes.now) }
+{
+    let mut occs = Seq::make(alloc);
+    for i in 0..nodes.len() {
+        let occ = occ_at(alloc, tree, nodes, i, occs.items())?;
+        push_one(&mut occs, occ)?;
+    }
+    Ok(occs)
+}
+
+// The occurrence of the node at a place, where those before it are given.
+fn occ_at(
+    alloc: Global,
+    tree: &Tree,
+    nodes: &[u32],
+    i: usize,
+    before: &[Occ],
+) -> Result<Occ, NoMemory>
+    requires live { All (IsLive (forest tree.now)) nodes.now }
+    requires within { i < length nodes.now }
+    requires before { map moment_of before.now ≡ map (moment_at (forest tree.now)) (take i nodes.now) }
+    ensures { IfOk result (λ occ. moment_of occ ≡ moment_at (forest tree.now) (slice_index_or nodes.now i 0)) }
+{
+    if i == 0 {
+        return tree.occ_of(alloc, nodes[0]);
+    }
+    tree.occ_beside(alloc, nodes[i], nodes[i - 1], &before[i - 1])
+}
+
+fn push_one(occs: &mut Seq<Occ>, occ: Occ) -> Result<(), NoMemory>
+    ensures { OnOk result (occs.new.items ≡ occs.old.items ++ occ ∷ []) }
+{
+    match occs.push(occ) {
+        Ok(()) => Ok(()),
+        Err(_) => Err(NoMemory),
+    }
+}
+
+/// The occurrences of these tokens, each with that of what clips it.
+pub(crate) fn clips_of(
+    alloc: Global,
+    tree: &Tree,
+    pairs: &[(u32, u32)],
+) -> Result<Seq<Clip>, NoMemory>
+    requires { All (λ p. IsLive (forest tree.now) p.0 × IsLive (forest tree.now) p.1) pairs.now }
+    ensures { IfOk result (λ clips. map clip_pair clips.items ≡ pairs_of (forest tree.now) pairs.now) }
+{
+    let mut clips = Seq::make(alloc);
+    for i in 0..pairs.len() {
+        let token = token_at(alloc, tree, pairs, i, clips.items())?;
+        let by = tree.occ_beside(alloc, pairs[i].1, pairs[i].0, &token)?;
+        push_clip_of(&mut clips, Clip { token, by })?;
+    }
+    Ok(clips)
+}
+
+// The occurrence of the token at a place, where those before it are given, each with its clip.
+fn token_at(
+    alloc: Global,
+    tree: &Tree,
+    pairs: &[(u32, u32)],
+    i: usize,
+    before: &[Clip],
+) -> Result<Occ, NoMemory>
+    requires live { All (λ p. IsLive (forest tree.now) p.0 × IsLive (forest tree.now) p.1) pairs.now }
+    requires within { i < length pairs.now }
+    requires before { map clip_pair before.now ≡ pairs_of (forest tree.now) (take i pairs.now) }
+    ensures { IfOk result (λ occ. moment_of occ ≡ moment_at (forest tree.now) (slice_index_or pairs.now i (0, 0)).0) }
+{
+    if i == 0 {
+        return tree.occ_of(alloc, pairs[0].0);
+    }
+    tree.occ_beside(alloc, pairs[i].0, pairs[i - 1].1, &before[i - 1].by)
+}
+
+fn push_clip_of(clips: &mut Seq<Clip>, clip: Clip) -> Result<(), NoMemory>
+    ensures { OnOk result (clips.new.items ≡ clips.old.items ++ clip ∷ []) }
+{
+    match clips.push(clip) {
         Ok(()) => Ok(()),
         Err(_) => Err(NoMemory),
     }

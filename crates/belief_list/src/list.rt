@@ -1,5 +1,6 @@
 // The believed occurrences in order.
-ghost use Rattle.std.specs.Prelude.{◌≡◌, map, length, IfOk};
+ghost use Rattle.std.specs.Prelude.{◌≡◌, ◌<◌, ◌++◌, ◌∷◌, [], map, take, length, slice_index_or, IfOk, OnOk};
+ghost use Rattle.belief_list.specs.declared.list.BeliefRow.{BeliefRow as ABeliefRow};
 ghost use Rattle.std.specs.List.{All, zip};
 ghost use Rattle.std.specs.Option.{option_map};
 ghost use Rattle.tmm_model.specs.Answers.{row_of, rows};
@@ -87,33 +88,77 @@ pub fn list_rows(alloc: Global, tree: &Tree, rows: &[BeliefRow]) -> Result<Seq<L
     ensures { IfOk result (λ told. map row_of told.items ≡ map (row_at (forest tree.now)) rows.now) }
 {
     let mut told = Seq::make(alloc);
-    for row in rows {
-        match told.push(list_row(alloc, tree, row)?) {
-            Ok(()) => {}
-            Err(_) => return Err(NoMemory),
-        }
+    for i in 0..rows.len() {
+        let row = list_row(alloc, tree, rows, i, told.items())?;
+        push_row(&mut told, row)?;
     }
     Ok(told)
 }
 
-fn list_row(alloc: Global, tree: &Tree, row: &BeliefRow) -> Result<ListRow, NoMemory>
-    requires { IsLiveRow (forest tree.now) row.now }
-    ensures { IfOk result (λ told. row_of told ≡ row_at (forest tree.now) row.now) }
+// The row at a place, where those before it are given.
+fn list_row(
+    alloc: Global,
+    tree: &Tree,
+    rows: &[BeliefRow],
+    i: usize,
+    before: &[ListRow],
+) -> Result<ListRow, NoMemory>
+    requires live { All (IsLiveRow (forest tree.now)) rows.now }
+    requires within { i < length rows.now }
+    requires before { map row_of before.now ≡ map (row_at (forest tree.now)) (take i rows.now) }
+    ensures { (d : ABeliefRow) → IfOk result (λ told. row_of told ≡ row_at (forest tree.now) (slice_index_or rows.now i d)) }
 {
+    let row = &rows[i];
+    let occ = occ_at(alloc, tree, rows, i, before)?;
+    let clip = clip_of(alloc, tree, row, &occ)?;
     Ok(ListRow {
         early: row.early,
-        occ: tree.occ_of(alloc, row.node)?,
+        occ,
         what: tree.row(row.node).what,
-        clip: clip_of(alloc, tree, row)?,
+        clip,
     })
 }
 
-fn clip_of(alloc: Global, tree: &Tree, row: &BeliefRow) -> Result<Option<Occ>, NoMemory>
-    requires { IsLiveRow (forest tree.now) row.now }
+// The occurrence of the row at a place.
+fn occ_at(
+    alloc: Global,
+    tree: &Tree,
+    rows: &[BeliefRow],
+    i: usize,
+    before: &[ListRow],
+) -> Result<Occ, NoMemory>
+    requires live { All (IsLiveRow (forest tree.now)) rows.now }
+    requires within { i < length rows.now }
+    requires before { map row_of before.now ≡ map (row_at (forest tree.now)) (take i rows.now) }
+    ensures { (d : ABeliefRow) → IfOk result (λ occ. moment_of occ ≡ moment_at (forest tree.now) (slice_index_or rows.now i d).node) }
+{
+    if i == 0 {
+        return tree.occ_of(alloc, rows[0].node);
+    }
+    tree.occ_beside(alloc, rows[i].node, rows[i - 1].node, &before[i - 1].occ)
+}
+
+fn push_row(rows: &mut Seq<ListRow>, row: ListRow) -> Result<(), NoMemory>
+    ensures { OnOk result (rows.new.items ≡ rows.old.items ++ row ∷ []) }
+{
+    match rows.push(row) {
+        Ok(()) => Ok(()),
+        Err(_) => Err(NoMemory),
+    }
+}
+
+fn clip_of(
+    alloc: Global,
+    tree: &Tree,
+    row: &BeliefRow,
+    occ: &Occ,
+) -> Result<Option<Occ>, NoMemory>
+    requires live { IsLiveRow (forest tree.now) row.now }
+    requires own { moment_of occ.now ≡ moment_at (forest tree.now) row.now.node }
     ensures { IfOk result (λ occ. option_map moment_of occ ≡ option_map (moment_at (forest tree.now)) row.now.clip) }
 {
     match row.clip {
         None => Ok(None),
-        Some(by) => Ok(Some(tree.occ_of(alloc, by)?)),
+        Some(by) => Ok(Some(tree.occ_beside(alloc, by, row.node, occ)?)),
     }
 }

@@ -25,12 +25,12 @@ returns c = λ lists edit kept made.
           ∙ ap (λ l. filter_map (left_at left places) (differences_of l)) c.as_slice.ensures.value
           ∙ gone_told lists nets edit tree kept ds made left c.requires.left places table gone was.same was.dated was.in_order;
       entered = c.in_ok-entered_told.ensures
-          ∙ ap (λ l. filter_map (entered_at f) (differences_of l)) c.as_slice-present.ensures.value
-          ∙ entered_is lists nets edit tree kept ds made told is.same is.dated is.in_order;
+          ∙ ap (λ l. filter_map (entered_at f) l) c.as_slice-present.ensures.value
+          ∙ entered_is lists nets edit tree kept ds made told is.same c.requires.dates.dated is.in_order;
       loose = c.in_ok-loosened_told.ensures
-          ∙ ap (λ l. filter_map (loosened_at f) (differences_of l)) c.as_slice-present.ensures.value
-          ∙ loosened_is lists nets edit tree kept ds made told is.same is.dated is.in_order;
+          ∙ ap (λ l. filter_map (loosened_at f) l) c.as_slice-present.ensures.value
+          ∙ loosened_is lists nets edit tree kept ds made told is.same c.requires.dates.dated is.in_order;
       clips = c.in_ok-clips_told.ensures
-          ∙ ap (λ l. filter_map (clipped_at f) (differences_of l)) c.as_slice-present.ensures.value
-          ∙ clipped_is lists nets edit tree kept ds made told is.same is.dated is.in_order;
+          ∙ ap (λ l. filter_map (clipped_at f) l) c.as_slice-present.ensures.value
+          ∙ clipped_is lists nets edit tree kept ds made told is.same c.requires.dates.dated is.in_order;
     }
