@@ -182,32 +182,3 @@ pub(crate) fn push_clip(
         Err(_) => Err(NoMemory),
     }
 }
-
-// The occurrences of these nodes.
-pub(crate) fn occs_of(alloc: Global, tree: &Tree, nodes: &[u32]) -> Result<Seq<Occ>, NoMemory>
-{
-    let mut occs = Seq::make(alloc);
-    for i in 0..nodes.len() {
-        let occ = if i == 0 { tree.occ_of(alloc, nodes[i])? } else { tree.occ_beside(alloc, nodes[i], nodes[i - 1], &occs.items()[i - 1])? };
-        match occs.push(occ) {
-            Ok(()) => {}
-            Err(_) => return Err(NoMemory),
-        }
-    }
-    Ok(occs)
-}
-
-// These tokens with what clips them.
-pub(crate) fn clips_of(alloc: Global, tree: &Tree, pairs: &[(u32, u32)]) -> Result<Seq<Clip>, NoMemory>
-{
-    let mut clips: Seq<Clip> = Seq::make(alloc);
-    for i in 0..pairs.len() {
-        let token = if i == 0 { tree.occ_of(alloc, pairs[i].0)? } else { tree.occ_beside(alloc, pairs[i].0, pairs[i - 1].1, &clips.items()[i - 1].by)? };
-        let by = tree.occ_beside(alloc, pairs[i].1, pairs[i].0, &token)?;
-        match clips.push(Clip { token, by }) {
-            Ok(()) => {}
-            Err(_) => return Err(NoMemory),
-        }
-    }
-    Ok(clips)
-}

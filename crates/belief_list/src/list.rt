@@ -86,12 +86,9 @@ pub fn list_rows(alloc: Global, tree: &Tree, rows: &[BeliefRow]) -> Result<Seq<L
     requires { All (IsLiveRow (forest tree.now)) rows.now }
     ensures { IfOk result (λ told. map row_of told.items ≡ map (row_at (forest tree.now)) rows.now) }
 {
-    let mut told: Seq<ListRow> = Seq::make(alloc);
-    for i in 0..rows.len() {
-        let row = &rows[i];
-        let occ = if i == 0 { tree.occ_of(alloc, row.node)? } else { tree.occ_beside(alloc, row.node, rows[i - 1].node, &told.items()[i - 1].occ)? };
-        let clip = clip_of(alloc, tree, row, &occ)?;
-        match told.push(ListRow { early: row.early, occ, what: tree.row(row.node).what, clip }) {
+    let mut told = Seq::make(alloc);
+    for row in rows {
+        match told.push(list_row(alloc, tree, row)?) {
             Ok(()) => {}
             Err(_) => return Err(NoMemory),
         }
@@ -99,12 +96,24 @@ pub fn list_rows(alloc: Global, tree: &Tree, rows: &[BeliefRow]) -> Result<Seq<L
     Ok(told)
 }
 
-fn clip_of(alloc: Global, tree: &Tree, row: &BeliefRow, occ: &Occ) -> Result<Option<Occ>, NoMemory>
+fn list_row(alloc: Global, tree: &Tree, row: &BeliefRow) -> Result<ListRow, NoMemory>
+    requires { IsLiveRow (forest tree.now) row.now }
+    ensures { IfOk result (λ told. row_of told ≡ row_at (forest tree.now) row.now) }
+{
+    Ok(ListRow {
+        early: row.early,
+        occ: tree.occ_of(alloc, row.node)?,
+        what: tree.row(row.node).what,
+        clip: clip_of(alloc, tree, row)?,
+    })
+}
+
+fn clip_of(alloc: Global, tree: &Tree, row: &BeliefRow) -> Result<Option<Occ>, NoMemory>
     requires { IsLiveRow (forest tree.now) row.now }
     ensures { IfOk result (λ occ. option_map moment_of occ ≡ option_map (moment_at (forest tree.now)) row.now.clip) }
 {
     match row.clip {
         None => Ok(None),
-        Some(by) => Ok(Some(tree.occ_beside(alloc, by, row.node, occ)?)),
+        Some(by) => Ok(Some(tree.occ_of(alloc, by)?)),
     }
 }

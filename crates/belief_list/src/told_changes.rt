@@ -33,16 +33,16 @@ ghost use Rattle.belief_list.specs.Told.{
 };
 
 use crate::by_number::clip_of;
-use crate::changes::{BeliefChanges, clips_of, occs_of};
+use crate::changes::{BeliefChanges, push_clip, push_occ};
 use crate::kept_rows::Difference;
 use crate::left_nodes::{LeftNode, if_derived, places_by_left, push_copy, told_of};
 use dist_net::DistNet;
-use occ_tree::Tree;
+use occ_tree::{Order, Tree};
 use std::alloc::Global;
 use std::cmp::Ordering;
 use tmm_model::{Clip, Name, NoMemory, Occ, Seq};
 
-// A node that is gone.
+// A difference of which something is told.
 #[derive(Drop)]
 struct Told {
     // The earliest date of the occurrence.
@@ -70,7 +70,7 @@ pub fn changes_told(
     let places = places_by_left(alloc, left)?;
     let places = places.as_slice();
     let gone = gone_in_order(alloc, left, places, differences)?;
-    let present = present_in_order(alloc, tree, differences)?;
+    let present = present_in_order(alloc, &Order { tree, net }, differences)?;
     let present = present.as_slice();
     Ok(BeliefChanges {
         left: left_told(alloc, left, places, gone.as_slice())?,
@@ -85,46 +85,52 @@ pub fn changes_told(
 // The present nodes of which something is told, in their order.
 fn present_in_order(
     alloc: Global,
-    tree: &Tree,
+    order: &Order<'_>,
     differences: &[Difference],
-) -> Result<Vec<Difference>, NoMemory>
+) -> Result<Vec<Told>, NoMemory>
+    requires { IsTreeIn order.now.net.now.present order.now.tree.now }
+    ensures same { IfOk result (λ told. IsPermutation (filter (is_told (forest order.now.tree.now)) differences.now) (differences_of told.items)) }
+    ensures dated { IfOk result (λ told. All (IsToldNow order.now.net.now.present (forest order.now.tree.now)) told.items) }
+    ensures in_order { IfOk result (λ told. AreInOrder told.items) }
 {
-    let mut told = present_nodes(alloc, tree, differences)?;
-    told.sort_unstable_by(|p, q| tree.rank(p.node, q.node));
+    let mut told = present_nodes(alloc, order, differences)?;
+    sort(&mut told);
     Ok(told)
 }
 
 // The present nodes of which something is told.
 fn present_nodes(
     alloc: Global,
-    tree: &Tree,
+    order: &Order<'_>,
     differences: &[Difference],
-) -> Result<Vec<Difference>, NoMemory>
+) -> Result<Vec<Told>, NoMemory>
+    requires { IsTreeIn order.now.net.now.present order.now.tree.now }
+    ensures same { IfOk result (λ told. differences_of told.items ≡ filter (is_told (forest order.now.tree.now)) differences.now) }
+    ensures dated { IfOk result (λ told. All (IsToldNow order.now.net.now.present (forest order.now.tree.now)) told.items) }
 {
     let mut told = Vec::new(alloc);
     for d in differences {
-        if is_told(tree, d) {
-            push_difference(&mut told, *d)?;
+        if is_told(order.tree, d) {
+            push(&mut told, present_node(alloc, order, d)?)?;
         }
     }
     Ok(told)
 }
 
-// Appends one of which something is told.
-fn push_difference(told: &mut Vec<Difference>, one: Difference) -> Result<(), NoMemory>
+// A present node with its date and its word.
+fn present_node(alloc: Global, order: &Order<'_>, d: &Difference) -> Result<Told, NoMemory>
+    requires dates { IsTreeIn order.now.net.now.present order.now.tree.now }
+    requires live { IsLive (forest order.now.tree.now) d.now.node }
+    ensures dated { IfOk result (IsToldNow order.now.net.now.present (forest order.now.tree.now)) }
+    ensures difference { IfOk result (λ told. told.difference ≡ d.entry.now) }
 {
-    match told.push(one) {
-        Ok(()) => Ok(()),
-        Err(_) => Err(NoMemory),
-    }
-}
-
-fn push_number(nodes: &mut Vec<u32>, x: u32) -> Result<(), NoMemory>
-{
-    match nodes.push(x) {
-        Ok(()) => Ok(()),
-        Err(_) => Err(NoMemory),
-    }
+    let mut word = Seq::make(alloc);
+    order.tree.name_into(alloc, d.node, &mut word)?;
+    Ok(Told {
+        early: order.early(d.node),
+        word,
+        difference: *d,
+    })
 }
 
 // Whether something is told of the node.
@@ -165,47 +171,45 @@ fn new_clip(tree: &Tree, d: &Difference) -> Option<u32>
 }
 
 // The derived occurrences that are newly believed.
-fn entered_told(alloc: Global, tree: &Tree, told: &[Difference]) -> Result<Seq<Occ>, NoMemory>
+fn entered_told(alloc: Global, tree: &Tree, told: &[Told]) -> Result<Seq<Occ>, NoMemory>
+    requires { All (λ t. IsLive (forest tree.now) t.difference.node) told.now }
+    ensures { IfOk result (λ occs. map moment_of occs.items ≡ filter_map (entered_at (forest tree.now)) (differences_of told.now)) }
 {
-    let mut nodes = Vec::new(alloc);
-    for d in told {
-        if is_entered(tree, d) {
-            push_number(&mut nodes, d.node)?;
+    let mut occs = Seq::make(alloc);
+    for t in told {
+        if is_entered(tree, &t.difference) {
+            push_occ(alloc, tree, t.difference.node, &mut occs)?;
         }
     }
-    occs_of(alloc, tree, nodes.as_slice())
+    Ok(occs)
 }
 
 // The tokens that are clipped no longer.
-fn loosened_told(alloc: Global, tree: &Tree, told: &[Difference]) -> Result<Seq<Occ>, NoMemory>
+fn loosened_told(alloc: Global, tree: &Tree, told: &[Told]) -> Result<Seq<Occ>, NoMemory>
+    requires { All (λ t. IsLive (forest tree.now) t.difference.node) told.now }
+    ensures { IfOk result (λ occs. map moment_of occs.items ≡ filter_map (loosened_at (forest tree.now)) (differences_of told.now)) }
 {
-    let mut nodes = Vec::new(alloc);
-    for d in told {
-        if is_loosened(d) {
-            push_number(&mut nodes, d.node)?;
+    let mut occs = Seq::make(alloc);
+    for t in told {
+        if is_loosened(&t.difference) {
+            push_occ(alloc, tree, t.difference.node, &mut occs)?;
         }
     }
-    occs_of(alloc, tree, nodes.as_slice())
+    Ok(occs)
 }
 
 // The tokens that are newly clipped, or by another token.
-fn clips_told(alloc: Global, tree: &Tree, told: &[Difference]) -> Result<Seq<Clip>, NoMemory>
+fn clips_told(alloc: Global, tree: &Tree, told: &[Told]) -> Result<Seq<Clip>, NoMemory>
+    requires { All (λ t. IsLive (forest tree.now) t.difference.node) told.now }
+    ensures { IfOk result (λ clips. map clip_pair clips.items ≡ filter_map (clipped_at (forest tree.now)) (differences_of told.now)) }
 {
-    let mut pairs = Vec::new(alloc);
-    for d in told {
-        if let Some(by) = new_clip(tree, d) {
-            push_pair(&mut pairs, (d.node, by))?;
+    let mut clips = Seq::make(alloc);
+    for t in told {
+        if let Some(by) = new_clip(tree, &t.difference) {
+            push_clip(alloc, tree, t.difference.node, by, &mut clips)?;
         }
     }
-    clips_of(alloc, tree, pairs.as_slice())
-}
-
-fn push_pair(pairs: &mut Vec<(u32, u32)>, pair: (u32, u32)) -> Result<(), NoMemory>
-{
-    match pairs.push(pair) {
-        Ok(()) => Ok(()),
-        Err(_) => Err(NoMemory),
-    }
+    Ok(clips)
 }
 
 // ---- nodes that are gone
@@ -217,36 +221,13 @@ fn gone_in_order(
     places: &[Option<usize>],
     differences: &[Difference],
 ) -> Result<Vec<Told>, NoMemory>
+    ensures same { IfOk result (λ told. IsPermutation (filter (λ d. is_some (left_at left.now places.now d)) differences.now) (differences_of told.items)) }
+    ensures dated { IfOk result (λ told. All (IsToldThen left.now places.now) told.items) }
+    ensures in_order { IfOk result (λ told. AreInOrder told.items) }
 {
     let mut told = gone_nodes(alloc, left, places, differences)?;
-    told.sort_unstable_by(|p, q| p.early.cmp(&q.early));
-    if are_apart(told.as_slice()) {
-        return Ok(told);
-    }
-    let mut told = worded(alloc, left, places, told.as_slice())?;
     sort(&mut told);
     Ok(told)
-}
-
-fn are_apart(told: &[Told]) -> bool
-{
-    for i in 1..told.len() {
-        if told[i - 1].early >= told[i].early {
-            return false;
-        }
-    }
-    true
-}
-
-fn worded(alloc: Global, left: &[LeftNode<'_>], places: &[Option<usize>], told: &[Told]) -> Result<Vec<Told>, NoMemory>
-{
-    let mut more = Vec::new(alloc);
-    for t in told {
-        if let Some(occ) = left_occ(left, places, &t.difference) {
-            push(&mut more, Told { early: t.early, word: word_of(alloc, occ)?, difference: t.difference })?;
-        }
-    }
-    Ok(more)
 }
 
 // The derived nodes that are gone.
@@ -261,11 +242,24 @@ fn gone_nodes(
 {
     let mut told = Vec::new(alloc);
     for d in differences {
-        if let Some(_occ) = left_occ(left, places, d) {
-            push(&mut told, Told { early: d.was.map_or(0, |row| row.early), word: Seq::make(alloc), difference: *d })?;
+        if let Some(occ) = left_occ(left, places, d) {
+            push(&mut told, gone_node(alloc, d, occ)?)?;
         }
     }
     Ok(told)
+}
+
+// A node that is gone with the date that was kept of it, and the word of its occurrence.
+fn gone_node(alloc: Global, d: &Difference, occ: &Occ) -> Result<Told, NoMemory>
+    ensures early { IfOk result (λ told. (r : AKeptRow) → d.entry.now.was ≡ Some r → told.early ≡ r.early) }
+    ensures word { IfOk result (λ told. told.word.items ≡ printed (moment_of occ.now)) }
+    ensures difference { IfOk result (λ told. told.difference ≡ d.entry.now) }
+{
+    Ok(Told {
+        early: d.was.map_or(0, |row| row.early),
+        word: word_of(alloc, occ)?,
+        difference: *d,
+    })
 }
 
 // The occurrence of a node that was there and is gone, if a rule brings it about.
