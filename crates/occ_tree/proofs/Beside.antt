@@ -24,7 +24,7 @@ rules_at node x = map (λ (l : Link). l.rule) (way_to node x).links
 -- behind the first, as many are taken of a list as one less of all
 take_behind : (k : ℕ) (u : List ℕ) → take k (drop 1 u) ≡ drop 1 (take (k + 1) u)
 take_behind zero [] = refl
-take_behind (suc k) [] = refl
+take_behind (suc k) [] = ap (λ n. drop 1 (take {A = ℕ} n [])) (let e : suc (suc k) ≡ suc k + 1 = omega arith in e)
 take_behind zero (x ∷ u) = refl
 take_behind (suc k) (x ∷ u) = ap (λ n. drop 1 (take n (x ∷ u))) (let e : suc (suc k) ≡ suc k + 1 = omega arith in e)
 
@@ -33,7 +33,7 @@ first_taken node k [] = by k
   where
     by : (k : ℕ) → first_name node [] ≡ first_name node (take (k + 1) [])
     by zero = refl
-    by (suc k) = refl
+    by (suc k) = ap (λ n. first_name node (take n [])) (let e : suc (suc k) ≡ suc k + 1 = omega arith in e)
 first_taken node k (x ∷ u) = ap (λ n. first_name node (take n (x ∷ u))) (let e : suc k ≡ k + 1 = omega arith in e)
 
 module _ (node : Nodes) (placed : ArePlaced node) (x y : ℕ) (m n : Node) (at_x : node x ≡ Some m) (at_y : node y ≡ Some n) (k : ℕ) (shared : k + 1 ≤ length (shared_front (way_to node x).numbers (way_to node y).numbers))
@@ -71,7 +71,7 @@ module _ (node : Nodes) (placed : ArePlaced node) (x y : ℕ) (m n : Node) (at_x
       let long_y = length-way node y n at_y in
       let links_x = length-links node x m at_x in
       let links_y = length-links node y n at_y in
-      let all = ap length names_are ∙ length-map (λ (l : Link). l.rule) (way_to node y).links in (
+      let all = ap length names_are ∙ length-map (way_to node y).links (λ (l : Link). l.rule) in (
         omega (arith, shared, short_y, long_y, links_y, all),
         omega (arith, shared, short_x, long_x, links_x),
       )
@@ -134,5 +134,5 @@ module _ (node : Nodes) (placed : ArePlaced node) (x : ℕ) (n : Node) (at : nod
 pub all_taken : (node : Nodes) (x : ℕ) (n : Node) → node x ≡ Some n → (k : ℕ) → n.depth ≤ k → take k (rules_at node x) ≡ rules_at node x
 all_taken node x n at k past =
     let links = length-links node x n at in
-    let all = length-map (λ (l : Link). l.rule) (way_to node x).links in
+    let all = length-map (way_to node x).links (λ (l : Link). l.rule) in
     take_all k (rules_at node x) (omega (arith, links, all, past))

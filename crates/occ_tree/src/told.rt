@@ -57,6 +57,9 @@ impl Tree {
         ensures { IfOk result (λ told. moment_of told ≡ moment_at (forest (present self.now)) x) }
     {
         let nodes = self.nodes();
+        // each node stands where it says
+        let _ = nodes.get(x);
+        let _ = nodes.get(y);
         let Some(shared) = nearby(nodes, x, y) else {
             return self.occ_of(alloc, x);
         };
