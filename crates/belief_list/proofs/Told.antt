@@ -1,6 +1,6 @@
 -- What is told of differences is what changed.
 use Rattle.std.proofs.Common.{◌≡◌, ◌∙◌, ℕ, ◌+◌, ◌<◌, Bool, true, false, List, [], ◌∷◌, ◌++◌, map, length, take, drop, refl, sym, ap, subst, inl, inr}
-use Rattle.std.specs.Prelude.{◌↔◌, ◌⊎◌, ◌==◌, not, ◌&&◌, ◌||◌, filter, cond, Option, Some, None, IfSome, IsSome, nat_eq, slice_index_or}
+use Rattle.std.specs.Prelude.{◌↔◌, ◌⊎◌, ◌==◌, not, ◌&&◌, ◌||◌, filter, cond, Option, Some, None, IfSome, nat_eq, slice_index_or}
 use Rattle.std.specs.List.{All, AllByRecursion, Contains, IsDistinct, filter_map}
 use Rattle.std.specs.List.Sorted.{IsPermutation}
 use Rattle.std.specs.Option.{is_some, is_none, option_map, option_and_then, option_eq}
@@ -39,7 +39,6 @@ use Rattle.spots.proofs.Seen.{occurs_at, believed_once, order_is}
 use Rattle.occ_tree.specs.Dated.{IsDatedBy}
 use Rattle.occ_tree.specs.Ranks.{rank_cmp}
 use Rattle.occ_tree.specs.Standing.{Kept, State, forest, nodes_in, present}
-use Rattle.occ_tree.specs.Standing.{forest as forest_of}
 use Rattle.occ_tree.proofs.Ordered.{rank_is}
 use Rattle.occ_tree.proofs.Ranking.{rank_total}
 use Rattle.supports.specs.Edited.{old_forest}
@@ -75,6 +74,22 @@ passed false k y e = absurd (cc (e))
 or_true : (b : Bool) → (b || true) ≡ true
 or_true true = refl
 or_true false = refl
+
+-- what clips a node anew is a node
+pub new_live : (f : Forest) (was now : Option ℕ) (by : ℕ) → if_new f was now ≡ Some by → IsLive f by
+new_live f was None by e = absurd (cc (e))
+new_live f was (Some c) by e = go (is_some (member f c)) (not (option_eq nat_eq was (Some c))) refl e
+  where
+    go : (a b : Bool) → is_some (member f c) ≡ a → elim (a && b) as (λ _. Option ℕ) [ true ↦ Some c | false ↦ None ] ≡ Some by → IsLive f by
+    go true true there is = let same : c ≡ by = cc in subst (IsLive f) same there
+    go true false there is = absurd (cc (is))
+    go false b there is = absurd (cc (is))
+
+pub clipped_by : (f : Forest) (d : Difference) (by : ℕ) → new_clip f d ≡ Some by → clipped_at f d ≡ Some (moment_at f d.node, moment_at f by)
+clipped_by f d by e = ap (λ o. elim o as (λ _. Option (Moment × Moment)) [ Some z ↦ Some (moment_at f d.node, moment_at f z) | None ↦ None ]) e
+
+pub clipped_by_none : (f : Forest) (d : Difference) → new_clip f d ≡ None → clipped_at f d ≡ None
+clipped_by_none f d e = ap (λ o. elim o as (λ _. Option (Moment × Moment)) [ Some z ↦ Some (moment_at f d.node, moment_at f z) | None ↦ None ]) e
 
 -- ---- rows that are kept of nodes
 
@@ -287,15 +302,15 @@ rising_as : {X : Type 0} (cmp order : X → X → Ordering) (xs : List X) → ((
 rising_as cmp order [] keeps up = tt
 rising_as cmp order (x ∷ xs) keeps up = ((λ y at. keeps x y (inl refl) (inr at) (up.0 y at)), rising_as cmp order xs (λ p q at_p at_q. keeps p q (inr at_p) (inr at_q)) up.1)
 
-ranked_rise : (s : Standing) (net : Net) (k : State) → IsForestOf s net (forest_of k) → IsDatedBy net k → (told : List Difference) → ((d : Difference) → In d told → IsLive (forest_of k) d.node) → IsDistinct nat_eq (numbers_of told)
-    → AreRanked k told → Rising (λ d e. order (built s) (moment_at (forest_of k) d.node) (moment_at (forest_of k) e.node)) told
+ranked_rise : (s : Standing) (net : Net) (k : State) → IsForestOf s net (forest k) → IsDatedBy net k → (told : List Difference) → ((d : Difference) → In d told → IsLive (forest k) d.node) → IsDistinct nat_eq (numbers_of told)
+    → AreRanked k told → Rising (λ d e. order (built s) (moment_at (forest k) d.node) (moment_at (forest k) e.node)) told
 ranked_rise s net k seen dated told live once up =
     rising_as by_rank (λ d e. order (built s) (moment_at f d.node) (moment_at f e.node)) told
     (λ p q at_p at_q less. sym (as_moments p q at_p at_q) ∙ less)
     (rising_sorted by_rank (on_total (λ (d : Difference). d.node) (rank_total (nodes_in k.rows))) (λ (d : Difference). d.node) told up once ties)
   where
     f : Forest
-    f = forest_of k
+    f = forest k
 
     by_rank : Difference → Difference → Ordering
     by_rank p q = rank_cmp k p.node q.node
@@ -425,11 +440,7 @@ module _ (lists : States) (nets : Nets) (edit : Edit) (tree : Kept) (kept : List
 
   module _ (told : List Difference) (same : IsPermutation (filter (is_told new) ds) told) (dated : IsDatedBy nets.present (present tree)) (up : AreRanked (present tree) told) where
     there_now : (d : Difference) → In d told → IsLive new d.node
-    there_now d at = some_live (member new d.node) (both (is_some (member new d.node)) _ (told_in (is_told new) ds told same d at).1).0
-      where
-        some_live : (o : Option Member) → is_some o ≡ true → IsSome o
-        some_live (Some m) e = tt
-        some_live None e = absurd (cc (e))
+    there_now d at = (both (is_some (member new d.node)) _ (told_in (is_told new) ds told same d at).1).0
 
     rise_now : Rising (λ d e. order (built after) (moment_at new d.node) (moment_at new e.node)) told
     rise_now = ranked_rise after nets.present (present tree) made.edited.seen_now dated told there_now (once_told (is_told new) ds told same made.once) up

@@ -1,5 +1,5 @@
 // What of belief changed between two lists.
-ghost use Rattle.std.specs.Prelude.{◌≡◌, ◌<◌, ◌++◌, ◌∷◌, [], map, take, length, slice_index_or, ◌&&◌, IfOk, OnOk, IfSome, Some};
+ghost use Rattle.std.specs.Prelude.{◌≡◌, ◌≤◌, ◌++◌, ◌∷◌, [], map, take, length, ◌&&◌, IfOk, OnOk, IfSome, Some};
 ghost use Rattle.std.specs.List.{All, filter_map};
 ghost use Rattle.std.specs.Option.{option_map, is_some, is_none};
 ghost use Rattle.tmm_model.specs.Answers.{rows};
@@ -191,29 +191,32 @@ pub(crate) fn occs_of(alloc: Global, tree: &Tree, nodes: &[u32]) -> Result<Seq<O
 {
     let mut occs = Seq::make(alloc);
     for i in 0..nodes.len() {
-        let occ = occ_at(alloc, tree, nodes, i, occs.items())?;
+        let occ = occ_after(alloc, tree, nodes[i], nodes, i, occs.items())?;
         push_one(&mut occs, occ)?;
     }
     Ok(occs)
 }
 
-// The occurrence of the node at a place, where those before it are given.
-fn occ_at(
+// The occurrence of a node, where those of so many nodes are given.
+fn occ_after(
     alloc: Global,
     tree: &Tree,
+    x: u32,
     nodes: &[u32],
-    i: usize,
+    many: usize,
     before: &[Occ],
 ) -> Result<Occ, NoMemory>
+    requires x_live { IsLive (forest tree.now) x }
     requires live { All (IsLive (forest tree.now)) nodes.now }
-    requires within { i < length nodes.now }
-    requires before { map moment_of before.now ≡ map (moment_at (forest tree.now)) (take i nodes.now) }
-    ensures { IfOk result (λ occ. moment_of occ ≡ moment_at (forest tree.now) (slice_index_or nodes.now i 0)) }
+    requires within { many ≤ length nodes.now }
+    requires before { map moment_of before.now ≡ map (moment_at (forest tree.now)) (take many nodes.now) }
+    ensures { IfOk result (λ occ. moment_of occ ≡ moment_at (forest tree.now) x) }
 {
-    if i == 0 {
-        return tree.occ_of(alloc, nodes[0]);
+    if many == 0 {
+        return tree.occ_of(alloc, x);
     }
-    tree.occ_beside(alloc, nodes[i], nodes[i - 1], &before[i - 1])
+    let last = many - 1;
+    tree.occ_beside(alloc, x, nodes[last], &before[last])
 }
 
 fn push_one(occs: &mut Seq<Occ>, occ: Occ) -> Result<(), NoMemory>
@@ -236,30 +239,34 @@ pub(crate) fn clips_of(
 {
     let mut clips = Seq::make(alloc);
     for i in 0..pairs.len() {
-        let token = token_at(alloc, tree, pairs, i, clips.items())?;
-        let by = tree.occ_beside(alloc, pairs[i].1, pairs[i].0, &token)?;
+        let (x, y) = pairs[i];
+        let token = token_after(alloc, tree, x, pairs, i, clips.items())?;
+        let by = tree.occ_beside(alloc, y, x, &token)?;
         push_clip_of(&mut clips, Clip { token, by })?;
     }
     Ok(clips)
 }
 
-// The occurrence of the token at a place, where those before it are given, each with its clip.
-fn token_at(
+// The occurrence of a token, where those of so many tokens are given, each with its clip.
+fn token_after(
     alloc: Global,
     tree: &Tree,
+    x: u32,
     pairs: &[(u32, u32)],
-    i: usize,
+    many: usize,
     before: &[Clip],
 ) -> Result<Occ, NoMemory>
+    requires x_live { IsLive (forest tree.now) x }
     requires live { All (λ p. IsLive (forest tree.now) p.0 × IsLive (forest tree.now) p.1) pairs.now }
-    requires within { i < length pairs.now }
-    requires before { map clip_pair before.now ≡ pairs_of (forest tree.now) (take i pairs.now) }
-    ensures { IfOk result (λ occ. moment_of occ ≡ moment_at (forest tree.now) (slice_index_or pairs.now i (0, 0)).0) }
+    requires within { many ≤ length pairs.now }
+    requires before { map clip_pair before.now ≡ pairs_of (forest tree.now) (take many pairs.now) }
+    ensures { IfOk result (λ occ. moment_of occ ≡ moment_at (forest tree.now) x) }
 {
-    if i == 0 {
-        return tree.occ_of(alloc, pairs[0].0);
+    if many == 0 {
+        return tree.occ_of(alloc, x);
     }
-    tree.occ_beside(alloc, pairs[i].0, pairs[i - 1].1, &before[i - 1].by)
+    let last = many - 1;
+    tree.occ_beside(alloc, x, pairs[last].1, &before[last].by)
 }
 
 fn push_clip_of(clips: &mut Seq<Clip>, clip: Clip) -> Result<(), NoMemory>

@@ -1,12 +1,11 @@
 // The believed occurrences in order.
-ghost use Rattle.std.specs.Prelude.{◌≡◌, ◌<◌, ◌++◌, ◌∷◌, [], map, take, length, slice_index_or, IfOk, OnOk};
-ghost use Rattle.belief_list.specs.declared.list.BeliefRow.{BeliefRow as ABeliefRow};
+ghost use Rattle.std.specs.Prelude.{◌≡◌, ◌≤◌, ◌++◌, ◌∷◌, [], map, take, length, IfOk, OnOk};
 ghost use Rattle.std.specs.List.{All, zip};
 ghost use Rattle.std.specs.Option.{option_map};
 ghost use Rattle.tmm_model.specs.Answers.{row_of, rows};
 ghost use Rattle.tmm_model.specs.Maps.{built};
 ghost use Rattle.tmm_model.specs.Moments.{moment_of};
-ghost use Rattle.spots.specs.Forest.{moment_at};
+ghost use Rattle.spots.specs.Forest.{IsLive, moment_at};
 ghost use Rattle.spots.specs.OfLists.{HasOccurrences};
 ghost use Rattle.occ_tree.specs.OfLists.{IsTreeIn, IsTreeOf};
 ghost use Rattle.occ_tree.specs.Places.{forest};
@@ -89,27 +88,41 @@ pub fn list_rows(alloc: Global, tree: &Tree, rows: &[BeliefRow]) -> Result<Seq<L
 {
     let mut told = Seq::make(alloc);
     for i in 0..rows.len() {
-        let row = list_row(alloc, tree, rows, i, told.items())?;
+        let occ = occ_after(alloc, tree, rows[i].node, rows, i, told.items())?;
+        let row = list_row(alloc, tree, &rows[i], occ)?;
         push_row(&mut told, row)?;
     }
     Ok(told)
 }
 
-// The row at a place, where those before it are given.
-fn list_row(
+// The occurrence of a node, where so many rows are given.
+fn occ_after(
     alloc: Global,
     tree: &Tree,
+    x: u32,
     rows: &[BeliefRow],
-    i: usize,
+    many: usize,
     before: &[ListRow],
-) -> Result<ListRow, NoMemory>
+) -> Result<Occ, NoMemory>
+    requires x_live { IsLive (forest tree.now) x }
     requires live { All (IsLiveRow (forest tree.now)) rows.now }
-    requires within { i < length rows.now }
-    requires before { map row_of before.now ≡ map (row_at (forest tree.now)) (take i rows.now) }
-    ensures { (d : ABeliefRow) → IfOk result (λ told. row_of told ≡ row_at (forest tree.now) (slice_index_or rows.now i d)) }
+    requires within { many ≤ length rows.now }
+    requires before { map row_of before.now ≡ map (row_at (forest tree.now)) (take many rows.now) }
+    ensures { IfOk result (λ occ. moment_of occ ≡ moment_at (forest tree.now) x) }
 {
-    let row = &rows[i];
-    let occ = occ_at(alloc, tree, rows, i, before)?;
+    if many == 0 {
+        return tree.occ_of(alloc, x);
+    }
+    let last = many - 1;
+    tree.occ_beside(alloc, x, rows[last].node, &before[last].occ)
+}
+
+// The row of this occurrence.
+fn list_row(alloc: Global, tree: &Tree, row: &BeliefRow, occ: Occ) -> Result<ListRow, NoMemory>
+    requires live { IsLiveRow (forest tree.now) row.now }
+    requires own { moment_of occ ≡ moment_at (forest tree.now) row.now.node }
+    ensures { IfOk result (λ told. row_of told ≡ row_at (forest tree.now) row.now) }
+{
     let clip = clip_of(alloc, tree, row, &occ)?;
     Ok(ListRow {
         early: row.early,
@@ -117,25 +130,6 @@ fn list_row(
         what: tree.row(row.node).what,
         clip,
     })
-}
-
-// The occurrence of the row at a place.
-fn occ_at(
-    alloc: Global,
-    tree: &Tree,
-    rows: &[BeliefRow],
-    i: usize,
-    before: &[ListRow],
-) -> Result<Occ, NoMemory>
-    requires live { All (IsLiveRow (forest tree.now)) rows.now }
-    requires within { i < length rows.now }
-    requires before { map row_of before.now ≡ map (row_at (forest tree.now)) (take i rows.now) }
-    ensures { (d : ABeliefRow) → IfOk result (λ occ. moment_of occ ≡ moment_at (forest tree.now) (slice_index_or rows.now i d).node) }
-{
-    if i == 0 {
-        return tree.occ_of(alloc, rows[0].node);
-    }
-    tree.occ_beside(alloc, rows[i].node, rows[i - 1].node, &before[i - 1].occ)
 }
 
 fn push_row(rows: &mut Seq<ListRow>, row: ListRow) -> Result<(), NoMemory>

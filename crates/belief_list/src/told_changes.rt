@@ -8,7 +8,7 @@ ghost use Rattle.tmm_model.specs.Changes.{clip_pair};
 ghost use Rattle.tmm_model.specs.Maps.{built};
 ghost use Rattle.tmm_model.specs.Moments.{moment_of, printed};
 ghost use Rattle.premise_list.specs.States.{States};
-ghost use Rattle.spots.specs.Forest.{IsLive};
+ghost use Rattle.spots.specs.Forest.{IsLive, moment_at};
 ghost use Rattle.occ_tree.specs.OfLists.{IsTreeIn};
 ghost use Rattle.occ_tree.specs.Places.{forest};
 ghost use Rattle.occ_tree.specs.Standing.{present};
@@ -61,7 +61,7 @@ struct Told {
 pub fn changes_told(
     alloc: Global,
     tree: &Tree,
-    _net: &DistNet,
+    net: &DistNet,
     differences: &[Difference],
     left: &[LeftNode<'_>],
 ) -> Result<BeliefChanges, NoMemory>
@@ -69,6 +69,8 @@ pub fn changes_told(
     requires left { AreWords (old_forest tree.now) (forest tree.now) left.now }
     ensures { IfOk result (λ changes. (lists : States) (edit : AnEdit) (kept : List (Option AKeptRow)) → AreDifferences lists net.now edit tree.now kept differences.now → AreChanges (built lists.committed) (built lists.present) changes) }
 {
+    // the nodes have their dates in this network
+    let _ = net;
     let places = places_by_left(alloc, left)?;
     let places = places.as_slice();
     let gone = gone_in_order(alloc, left, places, differences)?;
