@@ -4,7 +4,7 @@ use Rattle.std.proofs.lemmas.List.{map_push, take-map, take_all, length-map, len
 use Rattle.ancestors.specs.Ways.{shared_front}
 use Rattle.ancestors.proofs.Fronts.{shared_front-alike, shared_front-short}
 use Rattle.tmm_model.specs.declared.point.PointName.TheVariants.{Begin}
-use Rattle.tmm_model.specs.Moments.{Moment, At, along, rules, base}
+use Rattle.tmm_model.specs.Moments.{At, along, rules, base}
 use Rattle.belief_theory.proofs.Moments.{rules-along, base-along}
 use Rattle.spots.specs.declared.link.Link.{Link}
 use Rattle.spots.specs.Forest.{moment_at}
