@@ -12,7 +12,7 @@ use Rattle.std.specs.Cmp.Lexicographic.{slice_cmp, nat_list_cmp_total}
 use Rattle.std.proofs.lemmas.Bool.Decides.{Decides-eqb}
 use Rattle.std.proofs.lemmas.Cmp.{then_total, on_total, int_cmp_total, nat_eq_equiv}
 use Rattle.std.proofs.lemmas.List.{append_assoc, map_push, take_more, drop_more}
-use Rattle.std.proofs.lemmas.List.Elements.{All-contains}
+use Rattle.std.proofs.lemmas.List.Elements.{All-contains, Contains-get_or}
 use Rattle.std.proofs.lemmas.List.Sorted.{Contains-permutation, IsPermutation-map, IsPermutation-sym}
 use Rattle.std.proofs.lemmas.Option.{same_Some}
 use Rattle.std.proofs.lemmas.Map.Keys.{IsDistinct-head, IsDistinct-tail, IsDistinct-cons, IsDistinct-IsPermutation}
@@ -207,6 +207,12 @@ module _ (test : Difference → Bool) (ds : List Difference) (told : List Differ
   once_told once =
       IsDistinct-IsPermutation nat_eq nat_eq_equiv.symm (numbers_of (filter test ds)) (numbers_of told)
       (IsPermutation-map (λ (d : Difference). d.node) (filter test ds) told same) (once_filtered test ds once)
+
+-- a node of which something is told is there
+pub told_live : (f : Forest) (ds told : List Difference) → IsPermutation (filter (is_told f) ds) told → All (λ (d : Difference). IsLive f d.node) told
+told_live f ds told same = λ k d below.
+    let e = slice_index_or told k d in
+    (both (is_some (member f e.node)) _ (told_in (is_told f) ds told same e (In-from_Contains told e (Contains-get_or told k d below))).1).0
 
 -- ---- one more
 
