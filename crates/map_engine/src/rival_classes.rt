@@ -31,11 +31,7 @@ pub(crate) fn with_rivals(
 }
 
 // Appends the classes of facts that contradict each other in one list alone.
-fn push_changed(
-    alloc: Global,
-    standing: &Standing,
-    found: &mut Vec<Name>,
-) -> Result<(), NoMemory>
+fn push_changed(alloc: Global, standing: &Standing, found: &mut Vec<Name>) -> Result<(), NoMemory>
     ensures kept { OnOk result ((class : List ℕ) → Contains found.old.items class → Contains found.new.items class) }
     ensures gone { OnOk result ((pair : List ℕ × List ℕ) → In pair (rivalries standing.now.committed.premises) → IsThereOr standing.now.present found.new.items (rivalries standing.now.present.premises) pair) }
     ensures come { OnOk result ((pair : List ℕ × List ℕ) → In pair (rivalries standing.now.present.premises) → IsThereOr standing.now.present found.new.items (rivalries standing.now.committed.premises) pair) }

@@ -37,4 +37,3 @@ returns-clause-ok c =
     (subst (λ (z : Decisions). Wakes st (table_of z) (λ i row. IsRowMoved nets added s f z row) (λ i row. IsRowAtRest nets added old s f z row) (dates_in mid.waiting) (dates_in new.waiting))
     c.in_ok-mark_contradicted.ensures.others moved))
     c.mark_moved.ensures.ok
-
