@@ -150,12 +150,7 @@ fn new_clip(row: &BeliefRow, before: &Matched<'_>) -> Option<u32>
 }
 
 // Appends the occurrence of a node.
-pub(crate) fn push_occ(
-    alloc: Global,
-    tree: &Tree,
-    node: u32,
-    occs: &mut Seq<Occ>,
-) -> Result<(), NoMemory>
+fn push_occ(alloc: Global, tree: &Tree, node: u32, occs: &mut Seq<Occ>) -> Result<(), NoMemory>
     requires { IsLive (forest tree.now) node }
     ensures { OnOk result (map moment_of occs.new.items ≡ map moment_of occs.old.items ++ moment_at (forest tree.now) node ∷ []) }
 {
@@ -165,7 +160,7 @@ pub(crate) fn push_occ(
     }
 }
 
-pub(crate) fn push_clip(
+fn push_clip(
     alloc: Global,
     tree: &Tree,
     token: u32,

@@ -141,12 +141,7 @@ fn push_row(rows: &mut Seq<ListRow>, row: ListRow) -> Result<(), NoMemory>
     }
 }
 
-fn clip_of(
-    alloc: Global,
-    tree: &Tree,
-    row: &BeliefRow,
-    occ: &Occ,
-) -> Result<Option<Occ>, NoMemory>
+fn clip_of(alloc: Global, tree: &Tree, row: &BeliefRow, occ: &Occ) -> Result<Option<Occ>, NoMemory>
     requires live { IsLiveRow (forest tree.now) row.now }
     requires own { moment_of occ.now ≡ moment_at (forest tree.now) row.now.node }
     ensures { IfOk result (λ occ. option_map moment_of occ ≡ option_map (moment_at (forest tree.now)) row.now.clip) }
