@@ -6,7 +6,7 @@ use Rattle.std.specs.declared.cmp.Ordering.{Ordering}
 use Rattle.std.specs.Ordering.{int_cmp, nat_cmp, is_lt, on, then_cmp}
 use Rattle.std.specs.Cmp.Lexicographic.{slice_cmp}
 use Rattle.tmm_model.specs.Moments.{Moment, is_derived, moment_of, printed}
-use Rattle.spots.specs.Forest.{Forest, member, IsLive, moment_at}
+use Rattle.spots.specs.Forest.{Forest, member, moment_at}
 use Rattle.occ_tree.specs.Ranks.{rank_cmp}
 use Rattle.occ_tree.specs.Standing.{State}
 use Rattle.belief_list.specs.declared.left_nodes.LeftNode.{LeftNode}
