@@ -96,7 +96,6 @@ pub fn class_clips(
         let asked = &behind[..later];
         let clip = class_clip(
             alloc,
-            standing,
             tree,
             net,
             rows,
@@ -105,7 +104,11 @@ pub fn class_clips(
             asked,
             &mut branches,
         )?;
-        clips[i] = clip;
+        clips[i] = if wanted[i] {
+            rivals::clip(standing, tree, net, &row, clip)
+        } else {
+            None
+        };
         let first = stretch_behind(&behind, &row.fact);
         behind.push_reserved(Stretched { row, first });
     }
@@ -129,7 +132,6 @@ fn first_wanted(wanted: &[bool]) -> usize
 // or among all of its class, or where its fact has rivals, among those of their classes too.
 fn class_clip(
     alloc: Global,
-    standing: &Standing,
     tree: &Tree,
     net: &DistNet,
     rows: &[TokenRow<Spot>],
@@ -154,9 +156,6 @@ fn class_clip(
         return Ok(None);
     }
     let row = &rows[i];
-    if standing.has_rivals(row.fact) {
-        return Ok(rivals::clip(standing, tree, net, node_of(row)));
-    }
     match near_clip(tree, net, behind, row) {
         Near::Found(clip) => Ok(clip),
         Near::Open => far_clip(alloc, tree, net, rows, i, branches),
@@ -268,11 +267,8 @@ fn token_clip(
     ensures live { IfSome result (IsLive (forest tree.now)) }
     ensures clip { ((has_rivals standing.now.present k.now.fact ≡ false) × MatchOption k.now.end (IsLastNode (clips of_one_class (spot_distance net.now.present (forest tree.now)) k.now) (rows_of behind.now) result) (λ _. IsNone result)) ⊎ IsClip standing.now.present net.now.present (forest tree.now) x result }
 {
-    if standing.has_rivals(k.fact) {
-        rivals::clip(standing, tree, net, x)
-    } else {
-        next_clip(tree, net, behind, k)
-    }
+    let own = next_clip(tree, net, behind, k);
+    rivals::clip(standing, tree, net, k, own)
 }
 
 // The token that a node is, none for an event.

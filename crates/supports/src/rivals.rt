@@ -17,14 +17,13 @@ ghost use Rattle.occ_tree.specs.OfLists.{IsTreeIn};
 ghost use Rattle.supports.specs.Behind.{IsClip};
 
 use crate::class_tokens::ClassTokens;
-use crate::{node_at, place_of};
-use clipping::Tokens;
-use clipping::across::{self, Place};
+use crate::node_at;
+use clipping::{Tokens, across, by_date};
 use dist_net::DistNet;
 use occ_tree::{Order, Tree};
 use premise_list::Standing;
 use spots::Spot;
-use tmm_model::Name;
+use tmm_model::{Name, TokenRow};
 
 // The node of the first token that supports the fact throughout `p` to `q`.
 pub(crate) fn supporter(
@@ -86,25 +85,58 @@ pub(crate) fn is_supported(
     across::is_held(&Order { tree, net }, &tokens, standing, 0, &[], fact, p, q)
 }
 
-// The node of the first token that clips the one at `x`. A span and an event have none.
-pub(crate) fn clip(standing: &Standing, tree: &Tree, net: &DistNet, x: u32) -> Option<u32>
-    requires dates { IsTreeIn net.now.present tree.now }
-    requires live { IsLive (forest tree.now) x }
-    ensures live { IfSome result (IsLive (forest tree.now)) }
-    ensures clip { IsClip standing.now.present net.now.present (forest tree.now) x result }
-{
-    let row = tree.row(x);
-    let class = row.class?;
-    let tokens = ClassTokens {
-        standing,
-        tree,
-        fact: row.what,
-        class,
+// The node of the first token that clips `k`, given that of its own class that does. A span has
+// none. Of each other fact that a premise sets against its own those tokens alone are asked that
+// come before the clip that is known.
+pub(crate) fn clip(
+    standing: &Standing,
+    tree: &Tree,
+    net: &DistNet,
+    k: &TokenRow<Spot>,
+    own: Option<u32>,
+) -> Option<u32> {
+    if k.end.is_some() {
+        return own;
+    }
+    let mut clip = own;
+    for i in 0..standing.rivalries() {
+        clip = clip_with(standing, tree, net, k, standing.rivalry(i), clip);
+    }
+    clip
+}
+
+// The sooner of a clip and of the first token of the other fact of a pair that clips `k`, where the
+// pair has the fact of `k`.
+fn clip_with(
+    standing: &Standing,
+    tree: &Tree,
+    net: &DistNet,
+    k: &TokenRow<Spot>,
+    pair: (Name, Name),
+    clip: Option<u32>,
+) -> Option<u32> {
+    let Some(fact) = rival_in(&k.fact, &pair) else {
+        return clip;
     };
-    tokens.are_in_order();
-    tree.have_tokens();
-    let order = Order { tree, net };
-    let at = place_of(&order, tokens.list(0), x);
-    let clipper = across::first_clipper(&order, &tokens, standing, Place { list: 0, at })?;
-    Some(node_at(tokens.list(clipper.list), clipper.at))
+    let Some(class) = standing.class_of(fact) else {
+        return clip;
+    };
+    let rows = tree.tokens(&class);
+    let before = clip.map(Spot::Node);
+    match by_date::first_of_fact(&Order { tree, net }, rows, &fact, k.spot, before) {
+        Some(place) => Some(node_at(rows, place)),
+        None => clip,
+    }
+}
+
+// The fact that a pair sets against this one.
+fn rival_in(fact: &Name, pair: &(Name, Name)) -> Option<Name> {
+    let other = if pair.0 == *fact {
+        pair.1
+    } else if pair.1 == *fact {
+        pair.0
+    } else {
+        return None;
+    };
+    if other == *fact { None } else { Some(other) }
 }
