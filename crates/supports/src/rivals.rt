@@ -1,11 +1,14 @@
 // What supports and clips where premises set the fact against others: the tokens of its class and
 // those of the classes of these facts are asked.
-ghost use Rattle.std.specs.Prelude.{◌≡◌, ◌<◌, ℕ, List, Some, IsSome, IfSome};
+ghost use Rattle.std.specs.Prelude.{◌≡◌, ◌<◌, ℕ, List, [], ◌∷◌, ◌++◌, None, Some, IsSome, IfSome};
 ghost use Rattle.std.specs.Option.{option_map};
 ghost use Rattle.tmm_model.specs.Beliefs.{has_support, holder};
 ghost use Rattle.tmm_model.specs.Moments.{Moment};
 ghost use Rattle.tmm_model.specs.Sorts.{class_in};
 ghost use Rattle.tmm_model.specs.Standing.{far_in};
+ghost use Rattle.tmm_model.specs.Tokens.{of_one_class};
+ghost use Rattle.list_theory.proofs.Elements.{In};
+ghost use Rattle.premise_list.specs.Rivalries.{rivalries};
 ghost use Rattle.spots.specs.Forest.{IsLive, moment_at};
 ghost use Rattle.spots.specs.OfLists.{HasOccurrences};
 ghost use Rattle.spots.specs.declared.spot.Spot.{Spot};
@@ -14,9 +17,11 @@ ghost use Rattle.occ_tree.specs.OfLists.{IsTreeOf};
 ghost use Rattle.occ_tree.specs.Places.{forest};
 ghost use Rattle.occ_tree.specs.Standing.{present};
 ghost use Rattle.occ_tree.specs.OfLists.{IsTreeIn};
-ghost use Rattle.supports.specs.Behind.{IsClip};
+ghost use Rattle.occ_tree.specs.Tokens.{number_of};
+ghost use Rattle.supports.specs.Behind.{token_at, IsClip};
+ghost use Rattle.supports.specs.Clips.{rival_in, of_pairs, IsClipBy};
 
-use crate::class_tokens::ClassTokens;
+use crate::class_tokens::{ClassTokens, other_in};
 use crate::node_at;
 use clipping::{Tokens, across, by_date};
 use dist_net::DistNet;
@@ -94,7 +99,14 @@ pub(crate) fn clip(
     net: &DistNet,
     k: &TokenRow<Spot>,
     own: Option<u32>,
-) -> Option<u32> {
+) -> Option<u32>
+    requires dates { IsTreeIn net.now.present tree.now }
+    requires token { token_at (forest tree.now) (number_of k.now.spot) ≡ Some k.now }
+    requires live { IfSome own (IsLive (forest tree.now)) }
+    requires own { IsClipBy of_one_class standing.now.present net.now.present (forest tree.now) (number_of k.now.spot) own }
+    ensures live { IfSome result (IsLive (forest tree.now)) }
+    ensures clip { IsClip standing.now.present net.now.present (forest tree.now) (number_of k.now.spot) result }
+{
     if k.end.is_some() {
         return own;
     }
@@ -106,7 +118,7 @@ pub(crate) fn clip(
 }
 
 // The sooner of a clip and of the first token of the other fact of a pair that clips `k`, where the
-// pair has the fact of `k`.
+// pair has the fact of `k`, which is no span.
 fn clip_with(
     standing: &Standing,
     tree: &Tree,
@@ -114,7 +126,16 @@ fn clip_with(
     k: &TokenRow<Spot>,
     pair: (Name, Name),
     clip: Option<u32>,
-) -> Option<u32> {
+) -> Option<u32>
+    requires dates { IsTreeIn net.now.present tree.now }
+    requires token { token_at (forest tree.now) (number_of k.now.spot) ≡ Some k.now }
+    requires no_span { k.now.end ≡ None }
+    requires pair { In pair (rivalries standing.now.present.premises) }
+    requires live { IfSome clip (IsLive (forest tree.now)) }
+    ensures live { IfSome result (IsLive (forest tree.now)) }
+    ensures clip { (pairs : List (List ℕ × List ℕ)) → IsClipBy (of_pairs pairs) standing.now.present net.now.present (forest tree.now) (number_of k.now.spot) clip
+        → IsClipBy (of_pairs (pairs ++ pair ∷ [])) standing.now.present net.now.present (forest tree.now) (number_of k.now.spot) result }
+{
     let Some(fact) = rival_in(&k.fact, &pair) else {
         return clip;
     };
@@ -122,21 +143,27 @@ fn clip_with(
         return clip;
     };
     let rows = tree.tokens(&class);
-    let before = clip.map(Spot::Node);
+    let before = spot_of(clip);
     match by_date::first_of_fact(&Order { tree, net }, rows, &fact, k.spot, before) {
         Some(place) => Some(node_at(rows, place)),
         None => clip,
     }
 }
 
+// The spot of a node, where there is one.
+fn spot_of(node: Option<u32>) -> Option<Spot>
+    ensures { result ≡ option_map Spot.Node node }
+{
+    match node {
+        Some(x) => Some(Spot::Node(x)),
+        None => None,
+    }
+}
+
 // The fact that a pair sets against this one.
-fn rival_in(fact: &Name, pair: &(Name, Name)) -> Option<Name> {
-    let other = if pair.0 == *fact {
-        pair.1
-    } else if pair.1 == *fact {
-        pair.0
-    } else {
-        return None;
-    };
+fn rival_in(fact: &Name, pair: &(Name, Name)) -> Option<Name>
+    ensures { result ≡ rival_in fact.now pair.now }
+{
+    let other = other_in(*fact, *pair)?;
     if other == *fact { None } else { Some(other) }
 }
