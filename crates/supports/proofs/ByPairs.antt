@@ -68,13 +68,13 @@ and_true false = refl
 
 module _ (fact one other f : List ℕ) where
   -- what the two sides are by whether one or the other is the fact
-  left : Bool → Bool → Bool
+  abbrev left : Bool → Bool → Bool
   left a c = not (same_name fact f) && ((a && same_name other f) || (same_name one f && c))
 
-  unlike : List ℕ → Option (List ℕ)
+  abbrev unlike : List ℕ → Option (List ℕ)
   unlike z = elim (same_name z fact) as (λ _. Option (List ℕ)) [ true ↦ None | false ↦ Some z ]
 
-  right : Bool → Bool → Bool
+  abbrev right : Bool → Bool → Bool
   right a c = names (option_and_then unlike (elim a as (λ _. Option (List ℕ)) [ true ↦ Some other | false ↦ elim c as (λ _. Option (List ℕ)) [ true ↦ Some one | false ↦ None ] ])) f
 
   itself : (z : List ℕ) → same_name z fact ≡ true → names (unlike z) f ≡ false
@@ -132,7 +132,7 @@ added pairs pair far k t =
     ∙ ap (λ v. clips (of_pairs pairs) far k t || (v && is_before far k.spot t.spot)) (of_pair k.fact pair t.fact)
 
 -- by no pairs, the facts of one class contradict each other
-pub none_yet : {P : Type 0} → of_pairs {P} [] ≡ of_one_class
+pub none_yet : {P : Type 0} → of_pairs {P = P} [] ≡ of_one_class
 none_yet = λ i k t. (ap (λ v. of_one_class k t || v) (and_right (not (same_name k.fact t.fact)) false refl) ∙ or_false (of_one_class k t)) i
 
 -- by all pairs, those that premises set against each other too
@@ -206,19 +206,19 @@ module _ {s : Standing} {net : Net} {f : Forest} (seen : IsForestOf s net f) {b 
   to_first test found is = subst (IsFirstSpot test) is (by (filter test (tokens s b)) refl)
     where
       by : (ys : List (TokenRow Moment)) → filter test (tokens s b) ≡ ys → IsFirstSpot test (option_map (λ k. k.spot) (first by_spot ys))
-      by [] e = λ t at. false_from_ne_true (test t) (λ yes. subst (In t) e (filter-In test (tokens s b) t at yes))
+      by [] e = λ t at. false_from_ne_true (test t) (λ passed. subst (In t) e (filter-In test (tokens s b) t at passed))
       by (y ∷ ys) e =
           let l = least_is law y ys (λ k at. live k (In-filter test (tokens s b) k (subst (In k) (sym e) at)).0) in
           let m : TokenRow Moment = earliest by_spot y ys in
-          let (there, passed) = In-filter test (tokens s b) m (subst (In m) (sym e) l.member) in
-          record { token = m; member = there; spot = refl; passes = passed; least = λ u at yes. l.below u (subst (In u) e (filter-In test (tokens s b) u at yes)) }
+          let (there, pass) = In-filter test (tokens s b) m (subst (In m) (sym e) l.member) in
+          record { token = m; member = there; spot = refl; passes = pass; least = λ u at passed. l.below u (subst (In u) e (filter-In test (tokens s b) u at passed)) }
 
   from_first : (test : TokenRow Moment → Bool) (found : Option Moment) → IsFirstSpot test found → first_token s (far_in s.premises) b test ≡ found
   from_first test None none = by (filter test (tokens s b)) refl
     where
       by : (ys : List (TokenRow Moment)) → filter test (tokens s b) ≡ ys → option_map (λ k. k.spot) (first by_spot ys) ≡ None
       by [] e = refl
-      by (y ∷ ys) e = let (at, yes) = In-filter test (tokens s b) y (subst (In y) (sym e) (inl refl)) in absurd (both_ways (test y) (none y at) yes)
+      by (y ∷ ys) e = let (at, passed) = In-filter test (tokens s b) y (subst (In y) (sym e) (inl refl)) in absurd (both_ways (test y) (none y at) passed)
   from_first test (Some m) h = by (filter test (tokens s b)) refl
     where
       kept : In h.token (filter test (tokens s b))
@@ -246,14 +246,14 @@ module _ {s : Standing} {net : Net} {f : Forest} (seen : IsForestOf s net f) {b 
     member = g.member;
     spot = g.spot;
     passes = or_right (one g.token) (other g.token) g.passes;
-    least = λ u at yes. elim (or_cases (one u) (other u) yes) [ inl a ↦ absurd (both_ways (one u) (h u at) a) | inr c ↦ g.least u at c ];
+    least = λ u at either_way. elim (or_cases (one u) (other u) either_way) [ inl a ↦ absurd (both_ways (one u) (h u at) a) | inr c ↦ g.least u at c ];
   }
   either one other (Some z) None h g = record {
     token = h.token;
     member = h.member;
     spot = h.spot;
     passes = or_left (one h.token) (other h.token) h.passes;
-    least = λ u at yes. elim (or_cases (one u) (other u) yes) [
+    least = λ u at either_way. elim (or_cases (one u) (other u) either_way) [
       | inl a ↦ h.least u at a
       | inr c ↦ not_less u.spot z (live u at) (subst IsSpelt h.spot (live h.token h.member)) (sym (ap (λ v. v && is_lt (moment_order u.spot z)) c) ∙ g u at)
     ];
@@ -268,7 +268,7 @@ module _ {s : Standing} {net : Net} {f : Forest} (seen : IsForestOf s net f) {b 
         member = g.member;
         spot = g.spot;
         passes = or_right (one g.token) (other g.token) passed;
-        least = λ u at yes. elim (or_cases (one u) (other u) yes) [ inl a ↦ upto law m z u.spot lm lz (live u at) up (h.least u at a) | inr c ↦ by u at c lm lz up (is_lt (moment_order u.spot z)) refl ];
+        least = λ u at either_way. elim (or_cases (one u) (other u) either_way) [ inl a ↦ upto law m z u.spot lm lz (live u at) up (h.least u at a) | inr c ↦ by u at c lm lz up (is_lt (moment_order u.spot z)) refl ];
       }
     where
       by : (u : TokenRow Moment) → In u (tokens s b) → other u ≡ true → IsSpelt m → IsSpelt z → is_gt (moment_order m z) ≡ false → (v : Bool) → is_lt (moment_order u.spot z) ≡ v → is_gt (moment_order m u.spot) ≡ false
@@ -299,15 +299,15 @@ module _ {s : Standing} {net : Net} {f : Forest} (seen : IsForestOf s net f) {b 
     abbrev rival : Option (List ℕ) → TokenRow Moment → Bool
     rival o t = names o t.fact && is_before gap (mom k.spot) t.spot
 
-    module _ (pairs : List (List ℕ × List ℕ)) (pair : List ℕ × List ℕ) (open : k.end ≡ None) (clip : Option ℕ) (known : option_map (moment_at f) clip ≡ clip_so (of_pairs pairs)) where
+    module _ (pairs : List (List ℕ × List ℕ)) (pair : List ℕ × List ℕ) (no_end : k.end ≡ None) (clip : Option ℕ) (known : option_map (moment_at f) clip ≡ clip_so (of_pairs pairs)) where
       -- what was found of the other fact of the pair is the clip, and else that of before
       by_found : (found : Option Moment) → IsFirstSpot (ahead (rival (rival_in k.fact pair)) (option_map (moment_at f) clip)) found → sooner found (option_map (moment_at f) clip) ≡ clip_so (of_pairs (pairs ++ pair ∷ []))
       by_found found g =
           let test : TokenRow Moment → Bool = clips (of_pairs pairs) gap (go k) in
-          let first = to_first test (option_map (moment_at f) clip) (sym (known ∙ ended (of_pairs pairs) None open)) in
+          let first = to_first test (option_map (moment_at f) clip) (sym (known ∙ ended (of_pairs pairs) None no_end)) in
           sym (from_first (λ t. test t || rival (rival_in k.fact pair) t) (sooner found (option_map (moment_at f) clip)) (either test (rival (rival_in k.fact pair)) (option_map (moment_at f) clip) found first g))
           ∙ ap (first_token s (far_in s.premises) b) (λ i t. sym (added pairs pair gap (go k) t) i)
-          ∙ sym (ended (of_pairs (pairs ++ pair ∷ [])) None open)
+          ∙ sym (ended (of_pairs (pairs ++ pair ∷ [])) None no_end)
 
       -- where the pair sets no fact against that of the token, the clip stays
       pub no_rival_more : rival_in k.fact pair ≡ None → option_map (moment_at f) clip ≡ clip_so (of_pairs (pairs ++ pair ∷ []))
@@ -350,10 +350,13 @@ module _ {s : Standing} {net : Net} {f : Forest} (seen : IsForestOf s net f) {b 
                   (λ i. order (spot i) (Node c)) ∙ order_is s net f seen y c (live_at f y m one.here) (l c refl) ∙ sym (λ i. moment_order (mom (spot i)) (moment_at f c)) in
                   λ i. (same_name a.fact g && before a at i) && is_lt (ranked i)
 
-              own : (o : Option Moment) → (t : TokenRow Moment) → In t (tokens s b) → ahead (rival (Some g)) o t ≡ true → t.class ≡ class
-              own None t at passed =
+              of_class : (t : TokenRow Moment) → In t (tokens s b) → rival (Some g) t ≡ true → t.class ≡ class
+              of_class t at passed =
                   let (same, _) = both (same_name t.fact g) (is_before gap (mom k.spot) t.spot) passed in
                   let one : class_of s g ≡ class = rw (in_class, class_of) refl in
                   let (y, _, token) = In-filter_map (token_of s) b t at in
                   class-token_of s y t token ∙ ap (class_of s) (same_name-is t.fact g same) ∙ one
-              own (Some z) t at passed = own None t at (both (rival (Some g) t) (is_lt (moment_order t.spot z)) passed).0
+
+              own : (o : Option Moment) → (t : TokenRow Moment) → In t (tokens s b) → ahead (rival (Some g)) o t ≡ true → t.class ≡ class
+              own None t at passed = of_class t at passed
+              own (Some z) t at passed = of_class t at (both (rival (Some g) t) (is_lt (moment_order t.spot z)) passed).0

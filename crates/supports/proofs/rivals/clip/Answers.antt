@@ -25,8 +25,8 @@ loop-i-init c = record {
   clip = subst (λ contradicts. IsClipBy contradicts c.args.standing.now.present c.args.net.now.present (forest c.args.tree.now) (number_of c.args.k.now.spot) c.args.own) (sym none_yet) c.requires.own;
 }
 
-pub clip_with-requires-clause-pair : goal.clip_with-requires-clause-pair
-clip_with-requires-clause-pair c = In-slice_get (rivalries c.args.standing.now.present.premises) c.loop-i.i c.rivalry.result c.rivalry.ensures
+pub clip_with-clip-requires-clause-pair : goal.clip_with-clip-requires-clause-pair
+clip_with-clip-requires-clause-pair c = In-slice_get (rivalries c.args.standing.now.present.premises) c.loop-i.i c.rivalry.result c.rivalry.ensures
 
 pub loop-i-preserved : goal.loop-i-preserved
 loop-i-preserved c =
@@ -37,9 +37,9 @@ loop-i-preserved c =
     take_more pairs c.loop-i.i pair within ∙ ap (λ y. take c.loop-i.i pairs ++ y ∷ []) (get_or_from_slice_get pairs c.loop-i.i pair pair c.rivalry.ensures) in
     record {
       few = omega (arith, within);
-      live = c.clip_with.ensures.live;
-      clip = subst (λ some. IsClipBy (of_pairs some) c.args.standing.now.present c.args.net.now.present (forest c.args.tree.now) (number_of c.args.k.now.spot) c.clip_with.result) (sym taken)
-          (c.clip_with.ensures.clip (take c.loop-i.i pairs) c.loop-i.invariant.clip);
+      live = c.clip_with-clip.ensures.live;
+      clip = subst (λ some. IsClipBy (of_pairs some) c.args.standing.now.present c.args.net.now.present (forest c.args.tree.now) (number_of c.args.k.now.spot) c.clip_with-clip.result) (sym taken)
+          (c.clip_with-clip.ensures.clip (take c.loop-i.i pairs) c.loop-i.invariant.clip);
     }
 
 pub returns-clause-clip : goal.returns-clause-clip
@@ -47,4 +47,4 @@ returns-clause-clip c =
     let s = c.args.standing.now.present in
     let pairs = rivalries s.premises in
     subst (λ contradicts. IsClipBy contradicts s c.args.net.now.present (forest c.args.tree.now) (number_of c.args.k.now.spot) c.loop-i.clip) (all_pairs s)
-    (subst (λ some. IsClipBy (of_pairs some) s c.args.net.now.present (forest c.args.tree.now) (number_of c.args.k.now.spot) c.loop-i.clip) (take_all c.loop-i.i pairs (omega (arith, c.loop-i-test.false, c.rivalries.ensures))) c.loop-i.invariant.clip)
+    (subst (λ some. IsClipBy (of_pairs some) s c.args.net.now.present (forest c.args.tree.now) (number_of c.args.k.now.spot) c.loop-i.clip) (take_all c.loop-i.i pairs (omega (arith, c.loop-i-test.false, c.rivalries-i-end.ensures))) c.loop-i.invariant.clip)
