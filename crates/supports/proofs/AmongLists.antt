@@ -348,7 +348,7 @@ module _ {s : Standing} {net : Net} {f : Forest} (seen : IsForestOf s net f) {b 
           let somewhere : list_any passes (tokens s b) ≡ true = In-list_any passes (tokens s b) (go row) (row_there seen (are class) holds row at) e in
           cc
 
-  -- ---- clips and faults
+  -- ---- faults
 
   module _ (row : TokenRow Spot) (at : In row own) (of_fact : row.fact ≡ fact) where
     -- what is first in the lists is first of the tokens
@@ -360,24 +360,6 @@ module _ {s : Standing} {net : Net} {f : Forest} (seen : IsForestOf s net f) {b 
         let (found, first, same) = first_of_all (lists s rows_in fact class) (on (λ k. k.spot) order) test d place h in
         mapped (λ p. at_place (lists s rows_in fact class) p d) (λ a. mom a.spot) place ∙ ap (option_map (λ a. mom a.spot)) same
         ∙ sym (mapped (λ i. slice_index_or every i d) (λ a. mom a.spot) found) ∙ first_believed_is row at of_fact test passes tested contradict found first d
-
-    -- **The first row that clips a row** is its clip.
-    pub clip_among : (x : ℕ) → row.spot ≡ Node x → (place : Option Place) → IsClipPlace spot_contradicts far order (lists s rows_in fact class) row place
-        → (d : TokenRow Spot) → option_map (λ p. mom (at_place (lists s rows_in fact class) p d).spot) place ≡ clip (map_of s b) (moment_at f x)
-    clip_among x spot place h d = by row.end h ∙ sym (ap (option_and_then (clip_of (map_of s b))) (row_token seen (are class) x row at spot))
-      where
-        no_place : (place : Option Place) → IsNone place → option_map (λ p. mom (at_place (lists s rows_in fact class) p d).spot) place ≡ None
-        no_place None h = refl
-        no_place (Some i) h = cc
-
-        by : (o : Option Spot)
-            → MatchOption o (MatchOption place ((i j : ℕ) (d : TokenRow Spot) → i < length (lists s rows_in fact class) → j < length (list_at (lists s rows_in fact class) i) → clips spot_contradicts far row (slice_index_or (list_at (lists s rows_in fact class) i) j d) ≡ false)
-            (IsFirstInLists (on (λ k. k.spot) order) (clips spot_contradicts far row) (lists s rows_in fact class) (length (lists s rows_in fact class)))) (λ _. IsNone place)
-            → option_map (λ p. mom (at_place (lists s rows_in fact class) p d).spot) place ≡ elim (option_map mom o) [ Some e ↦ None | None ↦ first_believed (map_of s b) (clips (contradicts_in s) gap (go row)) ]
-        by (Some e) h = no_place place h
-        by None h =
-            first_place (clips spot_contradicts far row) (clips (contradicts_in s) gap (go row)) (λ a there. clips_same row a (k_there row at of_fact) (begin_there a there))
-            (λ t passed. (both (contradicts_in s (go row) t) (is_before gap (go row).spot t.spot) passed).0) place h d
 
     module _ (p q : Spot) (at_p : IsThere p) (at_q : IsThere q) where
       begins : is_by far row.spot p ≡ is_by gap (go row).spot (mom p)

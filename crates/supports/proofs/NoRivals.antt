@@ -54,9 +54,6 @@ module _ (s : Standing) (gap : Moment → Moment → Bound) where
     contradict : (c : TokenRow Moment) → contradicts_in s k c ≡ of_one_class k c
     contradict c = ap (λ b. of_one_class k c || b) (no_rival s k.fact alone c.fact) ∙ or_false (of_one_class k c)
 
-    pub clips_alone : clips (contradicts_in s) gap k ≡ clips of_one_class gap k
-    clips_alone = λ i c. contradict c i && is_before gap k.spot c.spot
-
     pub cuts_alone : (q : Moment) → cuts (contradicts_in s) gap k q ≡ cuts of_one_class gap k q
     cuts_alone q = λ i c. (contradict c i && is_before gap k.spot c.spot) && is_by gap c.spot q
 
