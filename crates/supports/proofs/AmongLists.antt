@@ -12,7 +12,7 @@ use Rattle.tmm_model.specs.declared.bound.Bound.{Bound}
 use Rattle.tmm_model.specs.declared.premise.Premise.{Premise}
 use Rattle.tmm_model.specs.declared.premise.Premise.TheVariants.{Class, Kind, Point, Event, Token, Span, Dist, Rule, Protect, Against}
 use Rattle.tmm_model.specs.declared.token.TokenRow.{TokenRow}
-use Rattle.tmm_model.specs.Answers.{clip, clip_of, fault, first_believed, late, clipped, ends}
+use Rattle.tmm_model.specs.Answers.{fault, first_believed, late, clipped, ends}
 use Rattle.tmm_model.specs.Beliefs.{tokens, token_of, class_of, says_against, are_rivals, contradicts_in, first_token, has_support, holder}
 use Rattle.tmm_model.specs.Moments.{Moment, distance, occ_cmp}
 use Rattle.tmm_model.specs.Points.{same_name}
@@ -28,14 +28,13 @@ use Rattle.list_theory.proofs.Elements.{In, both, list_any-In, In-list_any, In-f
 use Rattle.walk_theory.proofs.Points.{same_name-is, same_name-self}
 use Rattle.premise_list.specs.Rivalries.{rivalry_of, rivalries}
 use Rattle.clipping.specs.declared.across.Place.{Place}
-use Rattle.clipping.specs.Across.{list_at, all_of, at_place, IsClassList, IsFirstInLists, IsClipPlace}
+use Rattle.clipping.specs.Across.{list_at, all_of, at_place, IsClassList, IsFirstInLists}
 use Rattle.clipping.specs.Rivals.{of_rivals}
 use Rattle.dist_net.specs.Net.{Net}
 use Rattle.spots.proofs.Nodes.{live_at}
 use Rattle.spots.proofs.Seen.{distance_is, order_is}
 use Rattle.spots.specs.declared.spot.Spot.{Spot}
-use Rattle.spots.specs.declared.spot.Spot.TheVariants.{Node}
-use Rattle.spots.specs.Forest.{Forest, moment_at}
+use Rattle.spots.specs.Forest.{Forest}
 use Rattle.spots.specs.OfLists.{IsForestOf, HasOccurrences, map_of}
 use Rattle.spots.specs.Spots.{IsSpot, spot_moment, spot_distance, spot_cmp, AreTokens, row_moment}
 use Rattle.supports.specs.ClassTokens.{other_in, class_against, of_other, class_lists}
@@ -45,7 +44,7 @@ use Rattle.supports.proofs.FirstRows.{IsSame, first_of_rows, some_of_rows}
 use Rattle.supports.proofs.Moved.{by_alike, before_alike}
 use Rattle.supports.proofs.NoRivals.{differ_back}
 use Rattle.supports.proofs.SeveralLists.{first_of_all}
-use Rattle.supports.proofs.TokenRows.{node_of, spots_there, row_there, row_of, row_token, tokens_spelt}
+use Rattle.supports.proofs.TokenRows.{node_of, spots_there, row_there, row_of, tokens_spelt}
 
 -- a value that is read of what was found is that which was read of the place
 mapped : {A B C : Type 0} (h : A → B) (g : B → C) (o : Option A) → option_map (λ x. g (h x)) o ≡ option_map g (option_map h o)

@@ -1,20 +1,19 @@
 -- The faults of a token at a place of the first list of its fact.
 use Rattle.std.proofs.Common.{◌≡◌, ◌∙◌, ℕ, ◌<◌, false, List, length, sym, ap, subst}
-use Rattle.std.specs.Prelude.{Option, Some, None, IsNone, IfSome, MatchOption, slice_get, slice_index_or}
-use Rattle.std.specs.Option.{option_map, ForSome}
-use Rattle.std.specs.Ordering.{on}
+use Rattle.std.specs.Prelude.{Some, None, IfSome, slice_get, slice_index_or}
+use Rattle.std.specs.Option.{ForSome}
 use Rattle.std.proofs.lemmas.Option.{slice_get-get_or}
 use Rattle.tmm_model.specs.declared.token.TokenRow.{TokenRow}
-use Rattle.tmm_model.specs.Answers.{Fault, clip, fault, late, clipped, ends}
+use Rattle.tmm_model.specs.Answers.{Fault, fault, late, clipped, ends}
 use Rattle.tmm_model.specs.Beliefs.{are_rivals, token_of, holder}
 use Rattle.tmm_model.specs.Moments.{Moment}
 use Rattle.tmm_model.specs.Standing.{Standing, far_in}
-use Rattle.tmm_model.specs.Tokens.{supports, clips}
+use Rattle.tmm_model.specs.Tokens.{supports}
 use Rattle.list_theory.proofs.Elements.{In}
 use Rattle.clipping.specs.declared.across.Place.{Place}
 use Rattle.clipping.specs.declared.across.Fault.{Fault as PlaceFault}
 use Rattle.clipping.specs.declared.across.Fault.TheVariants.{Late, Clipped, Ends}
-use Rattle.clipping.specs.Across.{all_of, at_place, IsPlace, IsFirstInLists, IsClipPlace, IsFault}
+use Rattle.clipping.specs.Across.{all_of, at_place, IsPlace, IsFault}
 use Rattle.clipping.specs.Rivals.{of_rivals}
 use Rattle.dist_net.specs.Net.{Net}
 use Rattle.spots.specs.declared.spot.Spot.{Spot}

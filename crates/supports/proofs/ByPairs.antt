@@ -1,8 +1,8 @@
 -- What clips a token, pair by pair of the facts that premises set against its own.
-use Rattle.std.proofs.Common.{◌≡◌, ◌∙◌, ℕ, ◌<◌, Bool, true, false, not, ◌&&◌, ◌||◌, List, [], ◌∷◌, ◌++◌, refl, sym, ap, subst, inl, inr}
-use Rattle.std.proofs.lemmas.Bool.{or_cases, or_left, or_right, or_from, and_right, not-true, false_from_ne_true, both_ways}
+use Rattle.std.proofs.Common.{◌≡◌, ◌∙◌, ℕ, Bool, true, false, not, ◌&&◌, ◌||◌, List, [], ◌∷◌, ◌++◌, refl, sym, ap, subst, inl, inr}
+use Rattle.std.proofs.lemmas.Bool.{or_cases, or_left, or_right, or_from, and_right, false_from_ne_true, both_ways}
 use Rattle.std.proofs.lemmas.List.Folds.{list_any-append}
-use Rattle.std.specs.Prelude.{Option, Some, None, IsNone, IsSome, MatchOption, filter, is_some, length, slice_index_or}
+use Rattle.std.specs.Prelude.{Option, Some, None, IsSome, MatchOption, filter, is_some, slice_index_or}
 use Rattle.std.specs.List.{list_any}
 use Rattle.std.specs.Option.{option_map, option_map_or, option_and_then}
 use Rattle.std.specs.Ordering.{is_lt, is_gt, on, ordering_reverse}
@@ -11,7 +11,7 @@ use Rattle.std.specs.declared.cmp.Ordering.TheVariants.{Less, Equal, Greater}
 use Rattle.tmm_model.specs.declared.bound.Bound.{Bound}
 use Rattle.tmm_model.specs.declared.token.TokenRow.{TokenRow}
 use Rattle.tmm_model.specs.Answers.{first_believed}
-use Rattle.tmm_model.specs.Beliefs.{tokens, token_of, class_of, are_rivals, contradicts_in, first_token}
+use Rattle.tmm_model.specs.Beliefs.{tokens, token_of, class_of, contradicts_in, first_token}
 use Rattle.tmm_model.specs.Firsts.{earliest, first}
 use Rattle.tmm_model.specs.Moments.{Moment, distance, occ_cmp}
 use Rattle.tmm_model.specs.Points.{same_name}
@@ -26,7 +26,7 @@ use Rattle.belief_theory.proofs.Rivals.{or_false}
 use Rattle.belief_theory.proofs.Watched.{class-token_of}
 use Rattle.list_theory.proofs.Elements.{In, both, In-filter, filter-In, In-filter_map, In-list_any}
 use Rattle.walk_theory.proofs.Points.{same_name-is, same_name-self}
-use Rattle.clipping.specs.Cutters.{is_after, is_between}
+use Rattle.clipping.specs.Cutters.{is_between}
 use Rattle.premise_list.specs.Rivalries.{rivalries, is_pair_of}
 use Rattle.premise_list.proofs.PairsOfFacts.{any_pair}
 use Rattle.dist_net.specs.Net.{Net}
@@ -37,15 +37,14 @@ use Rattle.spots.specs.declared.spot.Spot.TheVariants.{Node}
 use Rattle.spots.specs.Forest.{Forest, IsLive, moment_at}
 use Rattle.spots.specs.OfLists.{IsForestOf, HasOccurrences, map_of}
 use Rattle.spots.specs.Spots.{IsSpot, AreTokens, spot_moment, spot_distance, spot_cmp, row_moment}
-use Rattle.supports.specs.Behind.{token_at, IsClip}
-use Rattle.supports.specs.ClassTokens.{other_in}
-use Rattle.supports.specs.Clips.{rival_in, of_pairs, clip_by, IsClipBy}
+use Rattle.supports.specs.Behind.{token_at}
+use Rattle.supports.specs.Clips.{rival_in, of_pairs, clip_by}
 use Rattle.supports.proofs.Answered.{first_is}
 use Rattle.supports.proofs.Facts.{rival_known}
 use Rattle.supports.proofs.Moved.{before_alike}
 use Rattle.supports.proofs.Nearest.{token_there, there_token}
 use Rattle.supports.proofs.NoRivals.{differ_back}
-use Rattle.supports.proofs.TokenRows.{no_row, node_of, spots_there, tokens_spelt}
+use Rattle.supports.proofs.TokenRows.{node_of, spots_there, tokens_spelt}
 
 -- ---- the facts of a pair
 

@@ -1,4 +1,4 @@
-use Rattle.std.proofs.Common.{◌≡◌, ◌∙◌, sym, ap, subst, Some, None}
+use Rattle.std.proofs.Common.{◌∙◌, sym, ap, subst, Some, None}
 use Rattle.std.specs.Prelude.{IfSome, IsSome}
 use Rattle.std.specs.Ordering.{on}
 use Rattle.belief_theory.specs.FirstPlaces.{IsFirstPlace}
