@@ -41,7 +41,7 @@ module _ {P : Type 0} (against : List ℕ → List ℕ → Bool) (far : P → P 
       let contradicts : of_rivals against x c ≡ true = or_right (of_one_class x c) (are_rivals against x c) also in
       let passes : cuts (of_rivals against) far x q c ≡ true = λ t. contradicts t && before t && parts.1 t in
       any_of_all (cuts (of_rivals against) far x q) lists n lt (one_passes (cuts (of_rivals against) far x q) (list_at lists n) 0 (length (list_at lists n)) at (omega arith)
-        record { from = omega arith; before = within; passes = λ d. subst (λ (y : TokenRow P). cuts (of_rivals against) far x q y ≡ true) (get_or_read (list_at lists n) at c within read d) passes })
+      record { from = omega arith; before = within; passes = λ d. subst (λ (y : TokenRow P). cuts (of_rivals against) far x q y ≡ true) (get_or_read (list_at lists n) at c within read d) passes })
 
   pub cut_spot : (live : P → Type 0) → live c.spot → IsCutSpot (of_rivals against) far live (all_of lists) k.fact q c.spot
   cut_spot live alive = record { there = alive; cut = cuts_too }

@@ -606,11 +606,7 @@ fn first_after<S: Dated>(
 }
 
 // How many tokens are before a spot where one is given: all where none is.
-fn count_ahead<S: Dated>(
-    order: &S,
-    tokens: &[TokenRow<S::Spot>],
-    before: Option<S::Spot>,
-) -> usize
+fn count_ahead<S: Dated>(order: &S, tokens: &[TokenRow<S::Spot>], before: Option<S::Spot>) -> usize
     requires all_live { All (IsLive (S.live order.now)) tokens.now }
     requires by_date { IsByDate (S.date order.now) (S.order order.now) tokens.now }
     requires before_live { ForSome before (λ q. S.live order.now q) }

@@ -94,16 +94,7 @@ pub fn class_clips(
         later = count_later(behind.len(), later, last, date);
         last = date;
         let asked = &behind[..later];
-        let own = class_clip(
-            alloc,
-            tree,
-            net,
-            rows,
-            i,
-            wanted[i],
-            asked,
-            &mut branches,
-        )?;
+        let own = class_clip(alloc, tree, net, rows, i, wanted[i], asked, &mut branches)?;
         let clip = clip_among_all(standing, tree, net, &row, wanted[i], own);
         clips[i] = clip;
         let first = stretch_behind(&behind, &row.fact);

@@ -27,8 +27,8 @@ returns-in-Found-clause-clip c =
     let f = forest c.args.tree.now in
     let behind = rows_of c.args.behind.now in
     λ _. inl (
-      subst (λ row. IsNear net f behind row (Found c.in-Found.clip)) (get_or_read c.args.rows.now c.args.i c.index-rows-i.result c.requires.within c.index-rows-i.is no_row)
-          (subst (IsNear net f behind c.index-rows-i.result) c.in-Found.is c.near_clip.ensures))
+    subst (λ row. IsNear net f behind row (Found c.in-Found.clip)) (get_or_read c.args.rows.now c.args.i c.index-rows-i.result c.requires.within c.index-rows-i.is no_row)
+    (subst (IsNear net f behind c.index-rows-i.result) c.in-Found.is c.near_clip.ensures))
 
 pub returns-in-Open-clause-clip : goal.returns-in-Open-clause-clip
 returns-in-Open-clause-clip c = mapped c.far_clip.result c.far_clip.ensures.clip (λ clip own. λ _. inr own)
