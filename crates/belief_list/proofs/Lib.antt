@@ -12,5 +12,6 @@ pub mod KnownFacts
 pub mod Untouched
 pub mod Rising
 pub mod Told
+pub mod Neighbours
 pub mod ByNumber
 pub mod Wanted

@@ -4,14 +4,15 @@ use Rattle.std.specs.Prelude.{◌↔◌, ◌⊎◌, ◌==◌, not, ◌&&◌, ◌
 use Rattle.std.specs.List.{All, AllByRecursion, Contains, IsDistinct, filter_map}
 use Rattle.std.specs.List.Sorted.{IsPermutation}
 use Rattle.std.specs.Option.{is_some, is_none, option_map, option_and_then, option_eq}
-use Rattle.std.specs.declared.cmp.Ordering.TheVariants.{Equal}
+use Rattle.std.specs.declared.cmp.Ordering.{Ordering}
+use Rattle.std.specs.declared.cmp.Ordering.TheVariants.{Less, Equal}
 use Rattle.std.specs.Ordering.{int_cmp, nat_cmp, ordering_then}
 use Rattle.std.specs.Cmp.{IsTotalOrder}
 use Rattle.std.specs.Cmp.Lexicographic.{slice_cmp, nat_list_cmp_total}
 use Rattle.std.proofs.lemmas.Bool.Decides.{Decides-eqb}
 use Rattle.std.proofs.lemmas.Cmp.{then_total, on_total, int_cmp_total, nat_eq_equiv}
 use Rattle.std.proofs.lemmas.List.{append_assoc, map_push, take_more, drop_more}
-use Rattle.std.proofs.lemmas.List.Elements.{All-contains}
+use Rattle.std.proofs.lemmas.List.Elements.{All-contains, Contains-get_or}
 use Rattle.std.proofs.lemmas.List.Sorted.{Contains-permutation, IsPermutation-map, IsPermutation-sym}
 use Rattle.std.proofs.lemmas.Option.{same_Some}
 use Rattle.std.proofs.lemmas.Map.Keys.{IsDistinct-head, IsDistinct-tail, IsDistinct-cons, IsDistinct-IsPermutation}
@@ -23,7 +24,7 @@ use Rattle.tmm_model.specs.Maps.{built, order, is_believed}
 use Rattle.tmm_model.specs.Moments.{Moment, along, same_moment, early, printed, is_derived, moment_of}
 use Rattle.tmm_model.specs.Standing.{Standing, far_in}
 use Rattle.list_theory.proofs.Distinct.{Rising}
-use Rattle.list_theory.proofs.Elements.{In, In-map, map-In, In-filter, filter-In, filter_map-In, In-from_Contains, Contains-from_In, each_in}
+use Rattle.list_theory.proofs.Elements.{both, In, In-map, map-In, In-filter, filter-In, filter_map-In, In-from_Contains, Contains-from_In, each_in}
 use Rattle.belief_theory.proofs.Moments.{Decides-same_moment, along-push}
 use Rattle.belief_theory.proofs.Order.{IsSpelt, ordered, total}
 use Rattle.belief_theory.proofs.Sorts.{sorted_in, sorted_rising}
@@ -34,8 +35,12 @@ use Rattle.dist_net.specs.Net.{Net, Nets}
 use Rattle.spots.specs.Forest.{Forest, Member, member, IsLive, moment, moment_at}
 use Rattle.spots.specs.OfLists.{IsForestOf, HasOccurrences}
 use Rattle.spots.proofs.Nodes.{node_at, live_at, moment_at-is}
-use Rattle.spots.proofs.Seen.{early_is, occurs_at, believed_once}
-use Rattle.occ_tree.specs.Standing.{Kept, forest, present}
+use Rattle.spots.proofs.Seen.{occurs_at, believed_once, order_is}
+use Rattle.occ_tree.specs.Dated.{IsDatedBy}
+use Rattle.occ_tree.specs.Ranks.{rank_cmp}
+use Rattle.occ_tree.specs.Standing.{Kept, State, forest, nodes_in, present}
+use Rattle.occ_tree.proofs.Ordered.{rank_is}
+use Rattle.occ_tree.proofs.Ranking.{rank_total}
 use Rattle.supports.specs.Edited.{old_forest}
 use Rattle.belief_list.specs.declared.left_nodes.LeftNode.{LeftNode}
 use Rattle.belief_list.specs.declared.kept_rows.KeptRow.{KeptRow}
@@ -44,7 +49,7 @@ use Rattle.belief_list.specs.declared.told_changes.Told.{Told}
 use Rattle.belief_list.specs.LeftNodes.{AreWords, if_derived}
 use Rattle.belief_list.specs.KeptRows.{row_under, rows_after, numbers_of, IsRowOf, AreRowsOf, AreDifferences}
 use Rattle.belief_list.specs.Tables.{place_in, item_under, IsTable}
-use Rattle.belief_list.specs.Told.{clip_of, is_entered, is_loosened, if_new, new_clip, is_told, entered_at, loosened_at, clipped_at, left_at, differences_of, told_cmp, AreInOrder, IsToldNow, IsToldThen}
+use Rattle.belief_list.specs.Told.{clip_of, is_entered, is_loosened, if_new, new_clip, is_told, entered_at, loosened_at, clipped_at, left_at, differences_of, told_cmp, AreInOrder, AreRanked, IsToldThen}
 use Rattle.belief_list.proofs.LeftNodes.{gone_at, told_at, untold_at}
 use Rattle.belief_list.proofs.Tables.{at-In, under_own, under_all}
 use Rattle.belief_list.proofs.Rising.{rising_sorted, rising_map, filter_some, same_told}
@@ -69,6 +74,22 @@ passed false k y e = absurd (cc (e))
 or_true : (b : Bool) → (b || true) ≡ true
 or_true true = refl
 or_true false = refl
+
+-- what clips a node anew is a node
+pub new_live : (f : Forest) (was now : Option ℕ) (by : ℕ) → if_new f was now ≡ Some by → IsLive f by
+new_live f was None by e = absurd (cc (e))
+new_live f was (Some c) by e = go (is_some (member f c)) (not (option_eq nat_eq was (Some c))) refl e
+  where
+    go : (a b : Bool) → is_some (member f c) ≡ a → elim (a && b) as (λ _. Option ℕ) [ true ↦ Some c | false ↦ None ] ≡ Some by → IsLive f by
+    go true true there is = let same : c ≡ by = cc in subst (IsLive f) same there
+    go true false there is = absurd (cc (is))
+    go false b there is = absurd (cc (is))
+
+pub clipped_by : (f : Forest) (d : Difference) (by : ℕ) → new_clip f d ≡ Some by → clipped_at f d ≡ Some (moment_at f d.node, moment_at f by)
+clipped_by f d by e = ap (λ o. elim o as (λ _. Option (Moment × Moment)) [ Some z ↦ Some (moment_at f d.node, moment_at f z) | None ↦ None ]) e
+
+pub clipped_by_none : (f : Forest) (d : Difference) → new_clip f d ≡ None → clipped_at f d ≡ None
+clipped_by_none f d e = ap (λ o. elim o as (λ _. Option (Moment × Moment)) [ Some z ↦ Some (moment_at f d.node, moment_at f z) | None ↦ None ]) e
 
 -- ---- rows that are kept of nodes
 
@@ -170,23 +191,28 @@ numbers_told [] = refl
 numbers_told (t ∷ told) = ap (λ l. t.difference.node ∷ l) (numbers_told told)
 
 -- those of which something is told are those that pass, each once
-module _ (test : Difference → Bool) (ds : List Difference) (told : List Told) (same : IsPermutation (filter test ds) (differences_of told)) where
-  pub told_in : (d : Difference) → In d (differences_of told) → In d ds × (test d ≡ true)
+module _ (test : Difference → Bool) (ds : List Difference) (told : List Difference) (same : IsPermutation (filter test ds) told) where
+  pub told_in : (d : Difference) → In d told → In d ds × (test d ≡ true)
   told_in d at =
       In-filter test ds d
       (In-from_Contains (filter test ds) d
-      (Contains-permutation (differences_of told) (filter test ds) d (IsPermutation-sym (filter test ds) (differences_of told) same) (Contains-from_In (differences_of told) d at)))
+      (Contains-permutation told (filter test ds) d (IsPermutation-sym (filter test ds) told same) (Contains-from_In told d at)))
 
-  in_told : (d : Difference) → In d ds → test d ≡ true → In d (differences_of told)
+  in_told : (d : Difference) → In d ds → test d ≡ true → In d told
   in_told d at passes =
-      In-from_Contains (differences_of told) d
-      (Contains-permutation (filter test ds) (differences_of told) d same (Contains-from_In (filter test ds) d (filter-In test ds d at passes)))
+      In-from_Contains told d
+      (Contains-permutation (filter test ds) told d same (Contains-from_In (filter test ds) d (filter-In test ds d at passes)))
 
-  once_told : IsDistinct nat_eq (numbers_of ds) → IsDistinct nat_eq (map (λ t. t.difference.node) told)
+  pub once_told : IsDistinct nat_eq (numbers_of ds) → IsDistinct nat_eq (numbers_of told)
   once_told once =
-      subst (IsDistinct nat_eq) (numbers_told told)
-      (IsDistinct-IsPermutation nat_eq nat_eq_equiv.symm (numbers_of (filter test ds)) (numbers_of (differences_of told))
-      (IsPermutation-map (λ (d : Difference). d.node) (filter test ds) (differences_of told) same) (once_filtered test ds once))
+      IsDistinct-IsPermutation nat_eq nat_eq_equiv.symm (numbers_of (filter test ds)) (numbers_of told)
+      (IsPermutation-map (λ (d : Difference). d.node) (filter test ds) told same) (once_filtered test ds once)
+
+-- a node of which something is told is there
+pub told_live : (f : Forest) (ds told : List Difference) → IsPermutation (filter (is_told f) ds) told → All (λ (d : Difference). IsLive f d.node) told
+told_live f ds told same = λ k d below.
+    let e = slice_index_or told k d in
+    (both (is_some (member f e.node)) _ (told_in (is_told f) ds told same e (In-from_Contains told e (Contains-get_or told k d below))).1).0
 
 -- ---- one more
 
@@ -277,6 +303,39 @@ module _ (s : Standing) (net : Net) (f : Forest) (seen : IsForestOf s net f) (ho
           let (n, there) = node_at f q.difference.node live_q in
           seen.once p.difference.node q.difference.node m n here there (sym (moment_at-is f p.difference.node m here) ∙ same ∙ moment_at-is f q.difference.node n there)
 
+-- nodes that are sorted by what is kept of them rise
+rising_as : {X : Type 0} (cmp order : X → X → Ordering) (xs : List X) → ((p q : X) → In p xs → In q xs → cmp p q ≡ Less → order p q ≡ Less) → Rising cmp xs → Rising order xs
+rising_as cmp order [] keeps up = tt
+rising_as cmp order (x ∷ xs) keeps up = ((λ y at. keeps x y (inl refl) (inr at) (up.0 y at)), rising_as cmp order xs (λ p q at_p at_q. keeps p q (inr at_p) (inr at_q)) up.1)
+
+ranked_rise : (s : Standing) (net : Net) (k : State) → IsForestOf s net (forest k) → IsDatedBy net k → (told : List Difference) → ((d : Difference) → In d told → IsLive (forest k) d.node) → IsDistinct nat_eq (numbers_of told)
+    → AreRanked k told → Rising (λ d e. order (built s) (moment_at (forest k) d.node) (moment_at (forest k) e.node)) told
+ranked_rise s net k seen dated told live once up =
+    rising_as by_rank (λ d e. order (built s) (moment_at f d.node) (moment_at f e.node)) told
+    (λ p q at_p at_q less. sym (as_moments p q at_p at_q) ∙ less)
+    (rising_sorted by_rank (on_total (λ (d : Difference). d.node) (rank_total (nodes_in k.rows))) (λ (d : Difference). d.node) told up once ties)
+  where
+    f : Forest
+    f = forest k
+
+    by_rank : Difference → Difference → Ordering
+    by_rank p q = rank_cmp k p.node q.node
+
+    as_moments : (p q : Difference) → In p told → In q told → by_rank p q ≡ order (built s) (moment_at f p.node) (moment_at f q.node)
+    as_moments p q at_p at_q = rank_is net k dated p.node q.node (live p at_p) (live q at_q) ∙ order_is s net f seen p.node q.node (live p at_p) (live q at_q)
+
+    spelt_at : (x : ℕ) → IsLive f x → IsSpelt (moment_at f x)
+    spelt_at x there = spelt s seen.network.sound.well_formed (moment_at f x) (occurs_at s net f seen x there)
+
+    ties : (p q : Difference) → In p told → In q told → by_rank p q ≡ Equal → p.node ≡ q.node
+    ties p q at_p at_q e =
+        let live_p = live p at_p in
+        let live_q = live q at_q in
+        let same = (ordered s (far_in s.premises)).strict (moment_at f p.node) (moment_at f q.node) (spelt_at p.node live_p) (spelt_at q.node live_q) (sym (as_moments p q at_p at_q) ∙ e) in
+        let (m, here) = node_at f p.node live_p in
+        let (n, there) = node_at f q.node live_q in
+        seen.once p.node q.node m n here there (sym (moment_at-is f p.node m here) ∙ same ∙ moment_at-is f q.node n there)
+
 -- ---- what an edit changes
 
 module _ (lists : States) (nets : Nets) (edit : Edit) (tree : Kept) (kept : List (Option KeptRow)) (ds : List Difference) (made : AreDifferences lists nets edit tree kept ds) where
@@ -338,34 +397,31 @@ module _ (lists : States) (nets : Nets) (edit : Edit) (tree : Kept) (kept : List
   -- is told of what becomes of its number, and nothing where nothing becomes of it.
   module _ {Y : Type 0} (s : Standing) (net : Net) (f : Forest) (seen : IsForestOf s net f) (holds : HasOccurrences (built s).believed f) (rows : ℕ → Option KeptRow) (are : AreRowsOf s f rows)
       (stays : (x : ℕ) → now x ≡ was x → rows x ≡ was x)
-      (test : Difference → Bool) (told : List Told) (same : IsPermutation (filter test ds) (differences_of told)) (each : (t : Told) → In t told → IsToldAs s f t) (up : AreInOrder told)
+      (test : Difference → Bool) (told : List Difference) (same : IsPermutation (filter test ds) told) (live_in : (d : Difference) → In d told → IsLive f d.node) (up : Rising (λ d e. order (built s) (moment_at f d.node) (moment_at f e.node)) told)
       (h : Difference → Option Y) (g : Moment → Option Y) (key : Y → Moment)
-      (own_h : (d : Difference) (y : Y) → In d (differences_of told) → h d ≡ Some y → key y ≡ moment_at f d.node)
+      (own_h : (d : Difference) (y : Y) → In d told → h d ≡ Some y → key y ≡ moment_at f d.node)
       (own_g : (k : Moment) (y : Y) → g k ≡ Some y → key y ≡ k)
       (tells : (x : ℕ) → IsLive f x → g (moment_at f x) ≡ h (of_number x))
       (quiet : (x : ℕ) (r : KeptRow) → h (record { node = x; was = Some r; now = Some r }) ≡ None)
       (passes : (d : Difference) (y : Y) → IsLive f d.node → h d ≡ Some y → test d ≡ true) where
-    live_in : (d : Difference) → In d (differences_of told) → IsLive f d.node
-    live_in d at = let (t, there, is) = In-map (λ (t : Told). t.difference) told d at in subst (λ (z : Difference). IsLive f z.node) is (each t there).live
-
     believed_in : (x : ℕ) → IsLive f x → In (moment_at f x) (in_order (built s))
     believed_in x live =
         (sorted_in (ordered s (far_in s.premises)) (built s).believed (moment_at f x)).1
         (In-from_Contains (built s).believed (moment_at f x) (believed_node s f rows are holds x live))
 
-    told_is : filter_map h (differences_of told) ≡ filter_map g (in_order (built s))
+    told_is : filter_map h told ≡ filter_map g (in_order (built s))
     told_is =
-        same_told (order (built s)) (total s (far_in s.premises)) (λ (d : Difference). moment_at f d.node) key (differences_of told) (in_order (built s))
-        (told_rise s net f seen holds told each (once_told test ds told same made.once) up)
+        same_told (order (built s)) (total s (far_in s.premises)) (λ (d : Difference). moment_at f d.node) key told (in_order (built s))
+        up
         (believed_rise s net f seen holds) h g own_h own_g into back
       where
-        into : (d : Difference) (y : Y) → In d (differences_of told) → h d ≡ Some y → In y (filter_map g (in_order (built s)))
+        into : (d : Difference) (y : Y) → In d told → h d ≡ Some y → In y (filter_map g (in_order (built s)))
         into d y at e =
             let live = live_in d at in
             filter_map-In g (in_order (built s)) (moment_at f d.node) y (believed_in d.node live)
             (tells d.node live ∙ ap h (sym (is_of_number d (told_in test ds told same d at).0)) ∙ e)
 
-        back : (k : Moment) (y : Y) → In k (in_order (built s)) → g k ≡ Some y → In y (filter_map h (differences_of told))
+        back : (k : Moment) (y : Y) → In k (in_order (built s)) → g k ≡ Some y → In y (filter_map h told)
         back k y at e =
             let (x, live, is) = node_of s f rows are holds k (Contains-from_In (built s).believed k ((sorted_in (ordered s (far_in s.premises)) (built s).believed k).0 at)) in
             let found : h (of_number x) ≡ Some y = sym (tells x live) ∙ ap g is ∙ e in
@@ -374,10 +430,10 @@ module _ (lists : States) (nets : Nets) (edit : Edit) (tree : Kept) (kept : List
               | inr stayed ↦ absurd (not_both (h (of_number x)) y (of_none x live stayed) found)
             ]
           where
-            of_difference : (x : ℕ) → IsLive f x → h (of_number x) ≡ Some y → (d : Difference) → In d ds → d.node ≡ x → In y (filter_map h (differences_of told))
+            of_difference : (x : ℕ) → IsLive f x → h (of_number x) ≡ Some y → (d : Difference) → In d ds → d.node ≡ x → In y (filter_map h told)
             of_difference x live found d there number =
                 let e : h d ≡ Some y = ap h (is_of_number d there ∙ ap of_number number) ∙ found in
-                filter_map-In h (differences_of told) d y (in_told test ds told same d there (passes d y (subst (IsLive f) (sym number) live) e)) e
+                filter_map-In h told d y (in_told test ds told same d there (passes d y (subst (IsLive f) (sym number) live) e)) e
 
             of_none : (x : ℕ) → IsLive f x → now x ≡ was x → h (of_number x) ≡ None
             of_none x live stayed =
@@ -388,19 +444,17 @@ module _ (lists : States) (nets : Nets) (edit : Edit) (tree : Kept) (kept : List
 
   -- ---- present nodes
 
-  module _ (told : List Told) (same : IsPermutation (filter (is_told new) ds) (differences_of told)) (all : All (IsToldNow nets.present new) told) (up : AreInOrder told) where
-    as_now : (t : Told) → In t told → IsToldAs after new t
-    as_now t at =
-        let is = All-contains (IsToldNow nets.present new) told t all (Contains-from_In told t at) in record {
-          live = is.live;
-          date = is.early ∙ early_is after nets.present new made.edited.seen_now t.difference.node is.live;
-          word = is.word;
-        }
+  module _ (told : List Difference) (same : IsPermutation (filter (is_told new) ds) told) (dated : IsDatedBy nets.present (present tree)) (up : AreRanked (present tree) told) where
+    there_now : (d : Difference) → In d told → IsLive new d.node
+    there_now d at = (both (is_some (member new d.node)) _ (told_in (is_told new) ds told same d at).1).0
+
+    rise_now : Rising (λ d e. order (built after) (moment_at new d.node) (moment_at new e.node)) told
+    rise_now = ranked_rise after nets.present (present tree) made.edited.seen_now dated told there_now (once_told (is_told new) ds told same made.once) up
 
     -- **What entered.**
-    pub entered_is : filter_map (entered_at new) (differences_of told) ≡ (delta (built before) (built after)).entered
+    pub entered_is : filter_map (entered_at new) told ≡ (delta (built before) (built after)).entered
     entered_is =
-        told_is after nets.present new made.edited.seen_now made.edited.holds_now now made.after (λ x e. e) (is_told new) told same as_now up
+        told_is after nets.present new made.edited.seen_now made.edited.holds_now now made.after (λ x e. e) (is_told new) told same there_now rise_now
         (entered_at new) (λ k. elim (is_derived k && not (is_believed (built before) k)) [ true ↦ Some k | false ↦ None ]) (λ k. k)
         (λ d y at e. some_if (is_entered new d) (moment_at new d.node) y e)
         (λ k y e. some_if (is_derived k && not (is_believed (built before) k)) k y e)
@@ -420,9 +474,9 @@ module _ (lists : States) (nets : Nets) (edit : Edit) (tree : Kept) (kept : List
             by false None = refl
 
     -- **What is clipped no longer.**
-    pub loosened_is : filter_map (loosened_at new) (differences_of told) ≡ (delta (built before) (built after)).loose
+    pub loosened_is : filter_map (loosened_at new) told ≡ (delta (built before) (built after)).loose
     loosened_is =
-        told_is after nets.present new made.edited.seen_now made.edited.holds_now now made.after (λ x e. e) (is_told new) told same as_now up
+        told_is after nets.present new made.edited.seen_now made.edited.holds_now now made.after (λ x e. e) (is_told new) told same there_now rise_now
         (loosened_at new) (λ k. elim (is_believed (built before) k && is_some (clip (built before) k) && is_none (clip (built after) k)) [ true ↦ Some k | false ↦ None ]) (λ k. k)
         (λ d y at e. some_if (is_loosened d) (moment_at new d.node) y e)
         (λ k y e. some_if (is_believed (built before) k && is_some (clip (built before) k) && is_none (clip (built after) k)) k y e)
@@ -459,9 +513,9 @@ module _ (lists : States) (nets : Nets) (edit : Edit) (tree : Kept) (kept : List
                 ∙ (λ i. elim (is_some (clip_of (sym some i)) && is_none (clip_of (sym at i))) as (λ _. Option Moment) [ true ↦ Some (moment_at new x) | false ↦ None ])
 
     -- **What is newly clipped.**
-    pub clipped_is : filter_map (clipped_at new) (differences_of told) ≡ (delta (built before) (built after)).clips
+    pub clipped_is : filter_map (clipped_at new) told ≡ (delta (built before) (built after)).clips
     clipped_is =
-        told_is after nets.present new made.edited.seen_now made.edited.holds_now now made.after (λ x e. e) (is_told new) told same as_now up
+        told_is after nets.present new made.edited.seen_now made.edited.holds_now now made.after (λ x e. e) (is_told new) told same there_now rise_now
         (clipped_at new) (λ k. changes.new_clip (built before) (built after) k (clip (built after) k)) (λ (y : Moment × Moment). y.0)
         (λ d y at e. own_pair (moment_at new d.node) (new_clip new d) y e)
         (λ k y e. own_clip k (clip (built after) k) y e)
@@ -612,7 +666,7 @@ module _ (lists : States) (nets : Nets) (edit : Edit) (tree : Kept) (kept : List
       as_then : (t : Told) → In t told → IsToldAs before old t
       as_then t at =
           let is = All-contains (IsToldThen left places) told t all (Contains-from_In told t at) in
-          let (there, passes) = told_in (λ d. is_some (left_at left places d)) ds told same t.difference (map-In (λ (z : Told). z.difference) told t at) in
+          let (there, passes) = told_in (λ d. is_some (left_at left places d)) ds (differences_of told) same t.difference (map-In (λ (z : Told). z.difference) told t at) in
           elim (is_it (left_at left places t.difference)) [
             | inl none ↦ absurd (let t : false ≡ true = sym (ap is_some none) ∙ passes in cc (t))
             | inr some ↦ of_some is.early is.word there some
@@ -627,12 +681,20 @@ module _ (lists : States) (nets : Nets) (edit : Edit) (tree : Kept) (kept : List
                 word = word k e ∙ ap printed is;
               }
 
+      there_then : (d : Difference) → In d (differences_of told) → IsLive old d.node
+      there_then d at = let (t, there, is) = In-map (λ (t : Told). t.difference) told d at in subst (λ (z : Difference). IsLive old z.node) is (as_then t there).live
+
+      rise_then : Rising (λ d e. order (built before) (moment_at old d.node) (moment_at old e.node)) (differences_of told)
+      rise_then =
+          told_rise before nets.committed old made.edited.seen_then made.edited.holds_then told as_then
+          (subst (IsDistinct nat_eq) (numbers_told told) (once_told (λ d. is_some (left_at left places d)) ds (differences_of told) same made.once)) up
+
       -- **What is gone.**
       pub gone_told : filter_map (left_at left places) (differences_of told) ≡ (delta (built before) (built after)).left
       gone_told =
-          told_is before nets.committed old made.edited.seen_then made.edited.holds_then was made.before (λ x e. refl) (λ d. is_some (left_at left places d)) told same as_then up
+          told_is before nets.committed old made.edited.seen_then made.edited.holds_then was made.before (λ x e. refl) (λ d. is_some (left_at left places d)) (differences_of told) same there_then rise_then
           (left_at left places) (λ k. elim (is_derived k && not (is_believed (built after) k)) [ true ↦ Some k | false ↦ None ]) (λ k. k)
-          (λ d y at e. let (live, some, is) = left_is d (told_in (λ z. is_some (left_at left places z)) ds told same d at).0 y e in is)
+          (λ d y at e. let (live, some, is) = left_is d (told_in (λ z. is_some (left_at left places z)) ds (differences_of told) same d at).0 y e in is)
           (λ k y e. some_if (is_derived k && not (is_believed (built after) k)) k y e)
           tells_left (λ x r. refl) (λ d y live e. ap is_some e)
           ∙ filter_some (λ k. is_derived k && not (is_believed (built after) k)) (in_order (built before))

@@ -6,9 +6,9 @@ use Rattle.std.specs.declared.cmp.Ordering.{Ordering}
 use Rattle.std.specs.Ordering.{int_cmp, nat_cmp, is_lt, on, then_cmp}
 use Rattle.std.specs.Cmp.Lexicographic.{slice_cmp}
 use Rattle.tmm_model.specs.Moments.{Moment, is_derived, moment_of, printed}
-use Rattle.dist_net.specs.Net.{Net}
-use Rattle.spots.specs.Forest.{Forest, member, IsLive, moment_at}
-use Rattle.spots.specs.Spots.{node_early}
+use Rattle.spots.specs.Forest.{Forest, member, moment_at}
+use Rattle.occ_tree.specs.Ranks.{rank_cmp}
+use Rattle.occ_tree.specs.Standing.{State}
 use Rattle.belief_list.specs.declared.left_nodes.LeftNode.{LeftNode}
 use Rattle.belief_list.specs.declared.kept_rows.KeptRow.{KeptRow}
 use Rattle.belief_list.specs.declared.kept_rows.Difference.{Difference}
@@ -75,15 +75,17 @@ differences_of told = map (λ t. t.difference) told
 abbrev pub told_cmp : Told → Told → Ordering
 told_cmp = then_cmp (on (λ t. t.early) int_cmp) (on (λ t. t.word.items) (slice_cmp nat_cmp))
 
+-- the occurrences of tokens, each with that of what clips it, by their numbers
+abbrev pub pairs_of : Forest → List (ℕ × ℕ) → List (Moment × Moment)
+pairs_of f pairs = map (λ p. (moment_at f p.0, moment_at f p.1)) pairs
+
+-- present nodes are in their order
+abbrev pub AreRanked : State → List Difference → Type 0
+AreRanked s told = IsSortedBy (λ p q. is_lt (rank_cmp s p.node q.node)) told
+
 -- none stands before one that it comes after
 abbrev pub AreInOrder : List Told → Type 0
 AreInOrder told = IsSortedBy (λ p q. is_lt (told_cmp p q)) told
-
--- a node is there, and these are its earliest date and its word
-pub record IsToldNow (net : Net) (f : Forest) (t : Told) : Type 0 where
-  pub live : IsLive f t.difference.node
-  pub early : t.early ≡ node_early net f t.difference.node
-  pub word : t.word.items ≡ printed (moment_at f t.difference.node)
 
 -- these are the date that was kept of a node, and the word of what is told of it
 pub record IsToldThen (left : List LeftNode) (places : List (Option ℕ)) (t : Told) : Type 0 where

@@ -1,5 +1,5 @@
 // What of belief changed between two lists.
-ghost use Rattle.std.specs.Prelude.{◌≡◌, ◌++◌, ◌∷◌, [], map, ◌&&◌, IfOk, OnOk, IfSome, Some};
+ghost use Rattle.std.specs.Prelude.{◌≡◌, ◌≤◌, ◌++◌, ◌∷◌, [], map, take, length, ◌&&◌, IfOk, OnOk, IfSome, Some};
 ghost use Rattle.std.specs.List.{All, filter_map};
 ghost use Rattle.std.specs.Option.{option_map, is_some, is_none};
 ghost use Rattle.tmm_model.specs.Answers.{rows};
@@ -11,6 +11,7 @@ ghost use Rattle.occ_tree.specs.Places.{forest};
 ghost use Rattle.belief_list.specs.Rows.{row_at, IsLiveRow, IsListing};
 ghost use Rattle.belief_list.specs.Compared.{row_in, clip_in, gone_row, loose_row, clip_row, AreChanges};
 ghost use Rattle.belief_list.specs.Matches.{AreMatched};
+ghost use Rattle.belief_list.specs.Told.{pairs_of};
 
 use crate::list::BeliefRow;
 use crate::matched::{Matched, places_by_name};
@@ -149,12 +150,7 @@ fn new_clip(row: &BeliefRow, before: &Matched<'_>) -> Option<u32>
 }
 
 // Appends the occurrence of a node.
-pub(crate) fn push_occ(
-    alloc: Global,
-    tree: &Tree,
-    node: u32,
-    occs: &mut Seq<Occ>,
-) -> Result<(), NoMemory>
+fn push_occ(alloc: Global, tree: &Tree, node: u32, occs: &mut Seq<Occ>) -> Result<(), NoMemory>
     requires { IsLive (forest tree.now) node }
     ensures { OnOk result (map moment_of occs.new.items ≡ map moment_of occs.old.items ++ moment_at (forest tree.now) node ∷ []) }
 {
@@ -164,7 +160,7 @@ pub(crate) fn push_occ(
     }
 }
 
-pub(crate) fn push_clip(
+fn push_clip(
     alloc: Global,
     tree: &Tree,
     token: u32,
@@ -178,6 +174,100 @@ pub(crate) fn push_clip(
     let token = tree.occ_of(alloc, token)?;
     let by = tree.occ_of(alloc, by)?;
     match clips.push(Clip { token, by }) {
+        Ok(()) => Ok(()),
+        Err(_) => Err(NoMemory),
+    }
+}
+
+/// The occurrences of these nodes.
+pub(crate) fn occs_of(alloc: Global, tree: &Tree, nodes: &[u32]) -> Result<Seq<Occ>, NoMemory>
+    requires { All (IsLive (forest tree.now)) nodes.now }
+    ensures { IfOk result (λ occs. map moment_of occs.items ≡ map (moment_at (forest tree.now)) nodes.now) }
+{
+    let mut occs = Seq::make(alloc);
+    for i in 0..nodes.len() {
+        let occ = occ_after(alloc, tree, nodes[i], nodes, i, occs.items())?;
+        push_one(&mut occs, occ)?;
+    }
+    Ok(occs)
+}
+
+// The occurrence of a node, where those of so many nodes are given.
+fn occ_after(
+    alloc: Global,
+    tree: &Tree,
+    x: u32,
+    nodes: &[u32],
+    many: usize,
+    before: &[Occ],
+) -> Result<Occ, NoMemory>
+    requires x_live { IsLive (forest tree.now) x }
+    requires live { All (IsLive (forest tree.now)) nodes.now }
+    requires within { many ≤ length nodes.now }
+    requires before { map moment_of before.now ≡ map (moment_at (forest tree.now)) (take many nodes.now) }
+    ensures { IfOk result (λ occ. moment_of occ ≡ moment_at (forest tree.now) x) }
+{
+    if many == 0 {
+        return tree.occ_of(alloc, x);
+    }
+    let last = many - 1;
+    tree.occ_beside(alloc, x, nodes[last], &before[last])
+}
+
+fn push_one(occs: &mut Seq<Occ>, occ: Occ) -> Result<(), NoMemory>
+    ensures { OnOk result (occs.new.items ≡ occs.old.items ++ occ ∷ []) }
+{
+    match occs.push(occ) {
+        Ok(()) => Ok(()),
+        Err(_) => Err(NoMemory),
+    }
+}
+
+/// The occurrences of these tokens, each with that of what clips it.
+pub(crate) fn clips_of(
+    alloc: Global,
+    tree: &Tree,
+    pairs: &[(u32, u32)],
+) -> Result<Seq<Clip>, NoMemory>
+    requires { All (λ p. IsLive (forest tree.now) p.0 × IsLive (forest tree.now) p.1) pairs.now }
+    ensures { IfOk result (λ clips. map clip_pair clips.items ≡ pairs_of (forest tree.now) pairs.now) }
+{
+    let mut clips = Seq::make(alloc);
+    for i in 0..pairs.len() {
+        let (x, y) = pairs[i];
+        let token = token_after(alloc, tree, x, pairs, i, clips.items())?;
+        let by = tree.occ_beside(alloc, y, x, &token)?;
+        push_clip_of(&mut clips, Clip { token, by })?;
+    }
+    Ok(clips)
+}
+
+// The occurrence of a token, where those of so many tokens are given, each with its clip.
+fn token_after(
+    alloc: Global,
+    tree: &Tree,
+    x: u32,
+    pairs: &[(u32, u32)],
+    many: usize,
+    before: &[Clip],
+) -> Result<Occ, NoMemory>
+    requires x_live { IsLive (forest tree.now) x }
+    requires live { All (λ p. IsLive (forest tree.now) p.0 × IsLive (forest tree.now) p.1) pairs.now }
+    requires within { many ≤ length pairs.now }
+    requires before { map clip_pair before.now ≡ pairs_of (forest tree.now) (take many pairs.now) }
+    ensures { IfOk result (λ occ. moment_of occ ≡ moment_at (forest tree.now) x) }
+{
+    if many == 0 {
+        return tree.occ_of(alloc, x);
+    }
+    let last = many - 1;
+    tree.occ_beside(alloc, x, pairs[last].1, &before[last].by)
+}
+
+fn push_clip_of(clips: &mut Seq<Clip>, clip: Clip) -> Result<(), NoMemory>
+    ensures { OnOk result (clips.new.items ≡ clips.old.items ++ clip ∷ []) }
+{
+    match clips.push(clip) {
         Ok(()) => Ok(()),
         Err(_) => Err(NoMemory),
     }

@@ -1,11 +1,11 @@
 // The believed occurrences in order.
-ghost use Rattle.std.specs.Prelude.{◌≡◌, map, length, IfOk};
+ghost use Rattle.std.specs.Prelude.{◌≡◌, ◌≤◌, ◌++◌, ◌∷◌, [], map, take, length, IfOk, OnOk};
 ghost use Rattle.std.specs.List.{All, zip};
 ghost use Rattle.std.specs.Option.{option_map};
 ghost use Rattle.tmm_model.specs.Answers.{row_of, rows};
 ghost use Rattle.tmm_model.specs.Maps.{built};
 ghost use Rattle.tmm_model.specs.Moments.{moment_of};
-ghost use Rattle.spots.specs.Forest.{moment_at};
+ghost use Rattle.spots.specs.Forest.{IsLive, moment_at};
 ghost use Rattle.spots.specs.OfLists.{HasOccurrences};
 ghost use Rattle.occ_tree.specs.OfLists.{IsTreeIn, IsTreeOf};
 ghost use Rattle.occ_tree.specs.Places.{forest};
@@ -87,33 +87,67 @@ pub fn list_rows(alloc: Global, tree: &Tree, rows: &[BeliefRow]) -> Result<Seq<L
     ensures { IfOk result (λ told. map row_of told.items ≡ map (row_at (forest tree.now)) rows.now) }
 {
     let mut told = Seq::make(alloc);
-    for row in rows {
-        match told.push(list_row(alloc, tree, row)?) {
-            Ok(()) => {}
-            Err(_) => return Err(NoMemory),
-        }
+    for i in 0..rows.len() {
+        let occ = occ_after(alloc, tree, rows[i].node, rows, i, told.items())?;
+        let row = list_row(alloc, tree, &rows[i], occ)?;
+        push_row(&mut told, row)?;
     }
     Ok(told)
 }
 
-fn list_row(alloc: Global, tree: &Tree, row: &BeliefRow) -> Result<ListRow, NoMemory>
-    requires { IsLiveRow (forest tree.now) row.now }
+// The occurrence of a node, where so many rows are given.
+fn occ_after(
+    alloc: Global,
+    tree: &Tree,
+    x: u32,
+    rows: &[BeliefRow],
+    many: usize,
+    before: &[ListRow],
+) -> Result<Occ, NoMemory>
+    requires x_live { IsLive (forest tree.now) x }
+    requires live { All (IsLiveRow (forest tree.now)) rows.now }
+    requires within { many ≤ length rows.now }
+    requires before { map row_of before.now ≡ map (row_at (forest tree.now)) (take many rows.now) }
+    ensures { IfOk result (λ occ. moment_of occ ≡ moment_at (forest tree.now) x) }
+{
+    if many == 0 {
+        return tree.occ_of(alloc, x);
+    }
+    let last = many - 1;
+    tree.occ_beside(alloc, x, rows[last].node, &before[last].occ)
+}
+
+// The row of this occurrence.
+fn list_row(alloc: Global, tree: &Tree, row: &BeliefRow, occ: Occ) -> Result<ListRow, NoMemory>
+    requires live { IsLiveRow (forest tree.now) row.now }
+    requires own { moment_of occ ≡ moment_at (forest tree.now) row.now.node }
     ensures { IfOk result (λ told. row_of told ≡ row_at (forest tree.now) row.now) }
 {
+    let clip = clip_of(alloc, tree, row, &occ)?;
     Ok(ListRow {
         early: row.early,
-        occ: tree.occ_of(alloc, row.node)?,
+        occ,
         what: tree.row(row.node).what,
-        clip: clip_of(alloc, tree, row)?,
+        clip,
     })
 }
 
-fn clip_of(alloc: Global, tree: &Tree, row: &BeliefRow) -> Result<Option<Occ>, NoMemory>
-    requires { IsLiveRow (forest tree.now) row.now }
+fn push_row(rows: &mut Seq<ListRow>, row: ListRow) -> Result<(), NoMemory>
+    ensures { OnOk result (rows.new.items ≡ rows.old.items ++ row ∷ []) }
+{
+    match rows.push(row) {
+        Ok(()) => Ok(()),
+        Err(_) => Err(NoMemory),
+    }
+}
+
+fn clip_of(alloc: Global, tree: &Tree, row: &BeliefRow, occ: &Occ) -> Result<Option<Occ>, NoMemory>
+    requires live { IsLiveRow (forest tree.now) row.now }
+    requires own { moment_of occ.now ≡ moment_at (forest tree.now) row.now.node }
     ensures { IfOk result (λ occ. option_map moment_of occ ≡ option_map (moment_at (forest tree.now)) row.now.clip) }
 {
     match row.clip {
         None => Ok(None),
-        Some(by) => Ok(Some(tree.occ_of(alloc, by)?)),
+        Some(by) => Ok(Some(tree.occ_beside(alloc, by, row.node, occ)?)),
     }
 }

@@ -8,9 +8,10 @@ ghost use Rattle.tmm_model.specs.Changes.{clip_pair};
 ghost use Rattle.tmm_model.specs.Maps.{built};
 ghost use Rattle.tmm_model.specs.Moments.{moment_of, printed};
 ghost use Rattle.premise_list.specs.States.{States};
-ghost use Rattle.spots.specs.Forest.{IsLive};
+ghost use Rattle.spots.specs.Forest.{IsLive, moment_at};
 ghost use Rattle.occ_tree.specs.OfLists.{IsTreeIn};
 ghost use Rattle.occ_tree.specs.Places.{forest};
+ghost use Rattle.occ_tree.specs.Standing.{present};
 ghost use Rattle.supports.specs.Edited.{old_forest};
 ghost use Rattle.belief_list.specs.declared.kept_rows.KeptRow.{KeptRow as AKeptRow};
 ghost use Rattle.belief_list.specs.Compared.{AreChanges};
@@ -26,23 +27,24 @@ ghost use Rattle.belief_list.specs.Told.{
   clipped_at,
   left_at,
   differences_of,
+  pairs_of,
   told_cmp,
   AreInOrder,
-  IsToldNow,
+  AreRanked,
   IsToldThen,
 };
 
 use crate::by_number::clip_of;
-use crate::changes::{BeliefChanges, push_clip, push_occ};
+use crate::changes::{BeliefChanges, clips_of, occs_of};
 use crate::kept_rows::Difference;
 use crate::left_nodes::{LeftNode, if_derived, places_by_left, push_copy, told_of};
 use dist_net::DistNet;
-use occ_tree::{Order, Tree};
+use occ_tree::Tree;
 use std::alloc::Global;
 use std::cmp::Ordering;
 use tmm_model::{Clip, Name, NoMemory, Occ, Seq};
 
-// A difference of which something is told.
+// A node that is gone, of which something is told.
 #[derive(Drop)]
 struct Told {
     // The earliest date of the occurrence.
@@ -67,10 +69,12 @@ pub fn changes_told(
     requires left { AreWords (old_forest tree.now) (forest tree.now) left.now }
     ensures { IfOk result (λ changes. (lists : States) (edit : AnEdit) (kept : List (Option AKeptRow)) → AreDifferences lists net.now edit tree.now kept differences.now → AreChanges (built lists.committed) (built lists.present) changes) }
 {
+    // the nodes have their dates in this network
+    let _ = net;
     let places = places_by_left(alloc, left)?;
     let places = places.as_slice();
     let gone = gone_in_order(alloc, left, places, differences)?;
-    let present = present_in_order(alloc, &Order { tree, net }, differences)?;
+    let present = present_in_order(alloc, tree, differences)?;
     let present = present.as_slice();
     Ok(BeliefChanges {
         left: left_told(alloc, left, places, gone.as_slice())?,
@@ -85,52 +89,70 @@ pub fn changes_told(
 // The present nodes of which something is told, in their order.
 fn present_in_order(
     alloc: Global,
-    order: &Order<'_>,
+    tree: &Tree,
     differences: &[Difference],
-) -> Result<Vec<Told>, NoMemory>
-    requires { IsTreeIn order.now.net.now.present order.now.tree.now }
-    ensures same { IfOk result (λ told. IsPermutation (filter (is_told (forest order.now.tree.now)) differences.now) (differences_of told.items)) }
-    ensures dated { IfOk result (λ told. All (IsToldNow order.now.net.now.present (forest order.now.tree.now)) told.items) }
-    ensures in_order { IfOk result (λ told. AreInOrder told.items) }
+) -> Result<Vec<Difference>, NoMemory>
+    ensures same { IfOk result (λ told. IsPermutation (filter (is_told (forest tree.now)) differences.now) told.items) }
+    ensures in_order { IfOk result (λ told. AreRanked (present tree.now) told.items) }
 {
-    let mut told = present_nodes(alloc, order, differences)?;
-    sort(&mut told);
+    let mut told = present_nodes(alloc, tree, differences)?;
+    sort_present(tree, &mut told);
     Ok(told)
+}
+
+// Sorts by the order of nodes, behind which numbers of none stand.
+fn sort_present(tree: &Tree, told: &mut Vec<Difference>)
+    ensures same { IsPermutation told.old.items told.new.items }
+    ensures in_order { AreRanked (present tree.now) told.new.items }
+{
+    told.sort_unstable_by(|p, q| tree.rank(p.node, q.node));
 }
 
 // The present nodes of which something is told.
 fn present_nodes(
     alloc: Global,
-    order: &Order<'_>,
+    tree: &Tree,
     differences: &[Difference],
-) -> Result<Vec<Told>, NoMemory>
-    requires { IsTreeIn order.now.net.now.present order.now.tree.now }
-    ensures same { IfOk result (λ told. differences_of told.items ≡ filter (is_told (forest order.now.tree.now)) differences.now) }
-    ensures dated { IfOk result (λ told. All (IsToldNow order.now.net.now.present (forest order.now.tree.now)) told.items) }
+) -> Result<Vec<Difference>, NoMemory>
+    ensures { IfOk result (λ told. told.items ≡ filter (is_told (forest tree.now)) differences.now) }
 {
     let mut told = Vec::new(alloc);
     for d in differences {
-        if is_told(order.tree, d) {
-            push(&mut told, present_node(alloc, order, d)?)?;
+        if is_told(tree, d) {
+            push_difference(&mut told, *d)?;
         }
     }
     Ok(told)
 }
 
-// A present node with its date and its word.
-fn present_node(alloc: Global, order: &Order<'_>, d: &Difference) -> Result<Told, NoMemory>
-    requires dates { IsTreeIn order.now.net.now.present order.now.tree.now }
-    requires live { IsLive (forest order.now.tree.now) d.now.node }
-    ensures dated { IfOk result (IsToldNow order.now.net.now.present (forest order.now.tree.now)) }
-    ensures difference { IfOk result (λ told. told.difference ≡ d.entry.now) }
+// Appends a difference.
+fn push_difference(told: &mut Vec<Difference>, one: Difference) -> Result<(), NoMemory>
+    ensures { OnOk result (told.new.items ≡ told.old.items ++ one ∷ []) }
 {
-    let mut word = Seq::make(alloc);
-    order.tree.name_into(alloc, d.node, &mut word)?;
-    Ok(Told {
-        early: order.early(d.node),
-        word,
-        difference: *d,
-    })
+    match told.push(one) {
+        Ok(()) => Ok(()),
+        Err(_) => Err(NoMemory),
+    }
+}
+
+// Appends the number of a node.
+fn push_number(nodes: &mut Vec<u32>, x: u32) -> Result<(), NoMemory>
+    ensures { OnOk result (nodes.new.items ≡ nodes.old.items ++ x ∷ []) }
+{
+    match nodes.push(x) {
+        Ok(()) => Ok(()),
+        Err(_) => Err(NoMemory),
+    }
+}
+
+// Appends the numbers of two nodes.
+fn push_pair(pairs: &mut Vec<(u32, u32)>, pair: (u32, u32)) -> Result<(), NoMemory>
+    ensures { OnOk result (pairs.new.items ≡ pairs.old.items ++ pair ∷ []) }
+{
+    match pairs.push(pair) {
+        Ok(()) => Ok(()),
+        Err(_) => Err(NoMemory),
+    }
 }
 
 // Whether something is told of the node.
@@ -171,45 +193,75 @@ fn new_clip(tree: &Tree, d: &Difference) -> Option<u32>
 }
 
 // The derived occurrences that are newly believed.
-fn entered_told(alloc: Global, tree: &Tree, told: &[Told]) -> Result<Seq<Occ>, NoMemory>
-    requires { All (λ t. IsLive (forest tree.now) t.difference.node) told.now }
-    ensures { IfOk result (λ occs. map moment_of occs.items ≡ filter_map (entered_at (forest tree.now)) (differences_of told.now)) }
+fn entered_told(alloc: Global, tree: &Tree, told: &[Difference]) -> Result<Seq<Occ>, NoMemory>
+    requires { All (λ d. IsLive (forest tree.now) d.node) told.now }
+    ensures { IfOk result (λ occs. map moment_of occs.items ≡ filter_map (entered_at (forest tree.now)) told.now) }
 {
-    let mut occs = Seq::make(alloc);
-    for t in told {
-        if is_entered(tree, &t.difference) {
-            push_occ(alloc, tree, t.difference.node, &mut occs)?;
+    let nodes = entered_nodes(alloc, tree, told)?;
+    occs_of(alloc, tree, nodes.as_slice())
+}
+
+// Their nodes.
+fn entered_nodes(alloc: Global, tree: &Tree, told: &[Difference]) -> Result<Vec<u32>, NoMemory>
+    requires { All (λ d. IsLive (forest tree.now) d.node) told.now }
+    ensures live { IfOk result (λ nodes. All (IsLive (forest tree.now)) nodes.items) }
+    ensures moments { IfOk result (λ nodes. map (moment_at (forest tree.now)) nodes.items ≡ filter_map (entered_at (forest tree.now)) told.now) }
+{
+    let mut nodes = Vec::new(alloc);
+    for d in told {
+        if is_entered(tree, d) {
+            push_number(&mut nodes, d.node)?;
         }
     }
-    Ok(occs)
+    Ok(nodes)
 }
 
 // The tokens that are clipped no longer.
-fn loosened_told(alloc: Global, tree: &Tree, told: &[Told]) -> Result<Seq<Occ>, NoMemory>
-    requires { All (λ t. IsLive (forest tree.now) t.difference.node) told.now }
-    ensures { IfOk result (λ occs. map moment_of occs.items ≡ filter_map (loosened_at (forest tree.now)) (differences_of told.now)) }
+fn loosened_told(alloc: Global, tree: &Tree, told: &[Difference]) -> Result<Seq<Occ>, NoMemory>
+    requires { All (λ d. IsLive (forest tree.now) d.node) told.now }
+    ensures { IfOk result (λ occs. map moment_of occs.items ≡ filter_map (loosened_at (forest tree.now)) told.now) }
 {
-    let mut occs = Seq::make(alloc);
-    for t in told {
-        if is_loosened(&t.difference) {
-            push_occ(alloc, tree, t.difference.node, &mut occs)?;
+    let nodes = loosened_nodes(alloc, tree, told)?;
+    occs_of(alloc, tree, nodes.as_slice())
+}
+
+// Their nodes.
+fn loosened_nodes(alloc: Global, tree: &Tree, told: &[Difference]) -> Result<Vec<u32>, NoMemory>
+    requires { All (λ d. IsLive (forest tree.now) d.node) told.now }
+    ensures live { IfOk result (λ nodes. All (IsLive (forest tree.now)) nodes.items) }
+    ensures moments { IfOk result (λ nodes. map (moment_at (forest tree.now)) nodes.items ≡ filter_map (loosened_at (forest tree.now)) told.now) }
+{
+    let mut nodes = Vec::new(alloc);
+    for d in told {
+        if is_loosened(d) {
+            push_number(&mut nodes, d.node)?;
         }
     }
-    Ok(occs)
+    Ok(nodes)
 }
 
 // The tokens that are newly clipped, or by another token.
-fn clips_told(alloc: Global, tree: &Tree, told: &[Told]) -> Result<Seq<Clip>, NoMemory>
-    requires { All (λ t. IsLive (forest tree.now) t.difference.node) told.now }
-    ensures { IfOk result (λ clips. map clip_pair clips.items ≡ filter_map (clipped_at (forest tree.now)) (differences_of told.now)) }
+fn clips_told(alloc: Global, tree: &Tree, told: &[Difference]) -> Result<Seq<Clip>, NoMemory>
+    requires { All (λ d. IsLive (forest tree.now) d.node) told.now }
+    ensures { IfOk result (λ clips. map clip_pair clips.items ≡ filter_map (clipped_at (forest tree.now)) told.now) }
 {
-    let mut clips = Seq::make(alloc);
-    for t in told {
-        if let Some(by) = new_clip(tree, &t.difference) {
-            push_clip(alloc, tree, t.difference.node, by, &mut clips)?;
+    let pairs = clip_nodes(alloc, tree, told)?;
+    clips_of(alloc, tree, pairs.as_slice())
+}
+
+// Their nodes, each with the one that clips it.
+fn clip_nodes(alloc: Global, tree: &Tree, told: &[Difference]) -> Result<Vec<(u32, u32)>, NoMemory>
+    requires { All (λ d. IsLive (forest tree.now) d.node) told.now }
+    ensures live { IfOk result (λ pairs. All (λ p. IsLive (forest tree.now) p.0 × IsLive (forest tree.now) p.1) pairs.items) }
+    ensures moments { IfOk result (λ pairs. pairs_of (forest tree.now) pairs.items ≡ filter_map (clipped_at (forest tree.now)) told.now) }
+{
+    let mut pairs = Vec::new(alloc);
+    for d in told {
+        if let Some(by) = new_clip(tree, d) {
+            push_pair(&mut pairs, (d.node, by))?;
         }
     }
-    Ok(clips)
+    Ok(pairs)
 }
 
 // ---- nodes that are gone

@@ -72,6 +72,11 @@ module _ {P : Type 0} (against : List ℕ → List ℕ → Bool) (irreflexive : 
   cut_alike q = any_agrees (cuts of_one_class far k q) (cuts (of_rivals against) far k q) (list_at lists own)
       (λ c at. clips_alike (of_rivals against) of_one_class far k c (one_class against k c irreflexive (is.same k c here at)) (Some q))
 
+  -- in another list it is cut by those whose facts are against its own
+  pub cut_elsewhere : (q : P) (i : ℕ) → i < length lists → i ≢ own → list_any (cuts (of_rivals against) far k q) (list_at lists i) ≡ list_any (cuts (are_rivals against) far k q) (list_at lists i)
+  cut_elsewhere q i lt other = any_agrees (cuts (are_rivals against) far k q) (cuts (of_rivals against) far k q) (list_at lists i)
+      (λ c at. clips_alike (of_rivals against) (are_rivals against) far k c (two_classes against k c (is.apart i k c lt other here at)) (Some q))
+
   -- what does not last in its own list does not last
   pub no_lasting : (q : P) (o : Option P) → lasts_to of_one_class far (list_at lists own) k q o ≡ false → lasts_to (of_rivals against) far (all_of lists) k q o ≡ false
   no_lasting q (Some e) h = h

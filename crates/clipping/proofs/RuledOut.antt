@@ -36,7 +36,7 @@ module _ {P : Type 0} {live : P → Type 0} {far : P → P → Bound} {date : P 
   not_by x y lx ly late = false_from_ne_true (is_by far x y) (λ e. let up = at_most (far y x) (pos 0) (date y) (date x) e (dated.met y x ly lx) in absurd (omega (arith, ints)))
 
   -- what begins before another has a lower date
-  not_before : (x y : P) → live x → live y → date y ≤ℤ date x → is_before far x y ≡ false
+  pub not_before : (x y : P) → live x → live y → date y ≤ℤ date x → is_before far x y ≡ false
   not_before x y lx ly late = false_from_ne_true (is_before far x y) (λ e. let up = at_most (far y x) (negsuc 0) (date y) (date x) e (dated.met y x ly lx) in absurd (omega (arith, ints)))
 
   module _ (contradicts : TokenRow P → TokenRow P → Bool) (k : TokenRow P) (at : live k.spot) where

@@ -1,11 +1,11 @@
 -- Tokens in several lists, a list for each class.
-use Rattle.std.specs.Prelude.{◌≡◌, ◌≢◌, ℕ, ◌<◌, Bool, false, List, [], length, Option, IsSome, IsNone, IsTrue, IsFalse, MatchOption, slice_index_or}
-use Rattle.std.specs.List.{flat_map, Contains}
+use Rattle.std.specs.Prelude.{◌≡◌, ◌≢◌, ℕ, ◌<◌, Bool, true, false, List, [], length, Option, IsSome, IsNone, IsTrue, IsFalse, MatchOption, slice_index_or}
+use Rattle.std.specs.List.{flat_map, list_any, Contains}
 use Rattle.std.specs.declared.cmp.Ordering.{Ordering}
 use Rattle.std.specs.Ordering.{is_gt, on}
 use Rattle.tmm_model.specs.declared.bound.Bound.{Bound}
 use Rattle.tmm_model.specs.declared.token.TokenRow.{TokenRow}
-use Rattle.tmm_model.specs.Tokens.{clips, cuts, is_by}
+use Rattle.tmm_model.specs.Tokens.{clips, cuts, is_by, is_before}
 use Rattle.clipping.specs.declared.across.Place.{Place}
 use Rattle.clipping.specs.declared.across.Fault.{Fault}
 use Rattle.clipping.specs.declared.across.Fault.TheVariants.{Late, Clipped, Ends}
@@ -22,6 +22,13 @@ all_of lists = flat_map (λ l. l) lists
 pub record IsClassList {P : Type 0} (lists : List (List (TokenRow P))) (own : ℕ) : Type 0 where
   pub same : (k c : TokenRow P) → Contains (list_at lists own) k → Contains (list_at lists own) c → k.class ≡ c.class
   pub apart : (other : ℕ) (k c : TokenRow P) → other < length lists → other ≢ own → Contains (list_at lists own) k → Contains (list_at lists other) c → k.class ≢ c.class
+
+-- ---- what cuts tokens of one fact
+
+-- each token of the fact that surely begins before the spot is cut before q among the tokens
+pub record IsCutSpot {P : Type 0} (contradicts : TokenRow P → TokenRow P → Bool) (far : P → P → Bound) (live : P → Type 0) (tokens : List (TokenRow P)) (fact : List ℕ) (q spot : P) : Type 0 where
+  pub there : live spot
+  pub cut : (k : TokenRow P) → k.fact ≡ fact → IsTrue (is_before far k.spot spot) → list_any (cuts contradicts far k q) tokens ≡ true
 
 -- ---- the first of all that passes a test
 

@@ -6,16 +6,16 @@
 //! ask. Of each other list it asks those tokens alone that begin later than it, up to the last
 //! point: whether their facts are against its own, and then where they begin. So where there is no
 //! other list, an answer costs what it costs for one class. No call takes memory.
-ghost use Rattle.std.specs.Prelude.{◌≡◌, ◌≢◌, ◌↔◌, ◌<◌, ◌≤◌, ◌+◌, ℕ, Bool, length, IsTrue, IsFalse, None, true, false, IfSome, slice_get, slice_index_or};
+ghost use Rattle.std.specs.Prelude.{◌≡◌, ◌≢◌, ◌↔◌, ◌<◌, ◌≤◌, ◌+◌, ℕ, Bool, length, IsTrue, IsFalse, IsSome, None, true, false, IfSome, MatchOption, slice_get, slice_index_or};
 ghost use Rattle.std.specs.List.{All, Contains, list_any};
 ghost use Rattle.std.specs.Option.{ForSome};
 ghost use Rattle.std.specs.Ordering.{on};
 ghost use Rattle.tmm_model.specs.declared.token.TokenRow.{TokenRow as Row};
 ghost use Rattle.tmm_model.specs.Points.{same_name};
-ghost use Rattle.tmm_model.specs.Tokens.{supports, cuts, clips};
+ghost use Rattle.tmm_model.specs.Tokens.{is_before, supports, cuts, clips};
 ghost use Rattle.belief_theory.specs.FirstPlaces.{IsFirstPlace};
-ghost use Rattle.clipping.specs.Across.{list_at, all_of, IsClassList, IsPlace, at_place, IsFirstPlaceInLists, IsFirstPlaceOfAll, IsClipPlace, IsFault};
-ghost use Rattle.clipping.specs.ByDate.{IsByDate, AreUntil, IsFirstPlaceIn};
+ghost use Rattle.clipping.specs.Across.{list_at, all_of, IsCutSpot, IsClassList, IsPlace, at_place, IsFirstPlaceInLists, IsFirstPlaceOfAll, IsClipPlace, IsFault};
+ghost use Rattle.clipping.specs.ByDate.{IsByDate, AreUntil, IsAnyPlaceIn, IsFirstPlaceIn};
 ghost use Rattle.clipping.specs.Cutters.{BeginsBy, clips_until};
 ghost use Rattle.clipping.specs.Live.{IsLive};
 ghost use Rattle.clipping.specs.Rivals.{are_rivals, of_rivals};
@@ -186,7 +186,94 @@ fn first_in<S: Dated, T: Tokens<Spot = S::Spot>, R: Rivals>(
     }
 }
 
-// Whether a token of another list than `own` cuts `k`, a token of that one, before `q`.
+// A place, from `low` on and before `high`, of a token whose fact is against that of `k` and that
+// cuts it before `q`. It is looked for from the last one back: what begins late cuts most.
+fn last_rival_between<S: Dated, R: Rivals>(
+    order: &S,
+    rivals: &R,
+    tokens: &[TokenRow<S::Spot>],
+    k: &TokenRow<S::Spot>,
+    q: S::Spot,
+    low: usize,
+    high: usize,
+) -> Option<usize>
+    requires all_live { All (IsLive (S.live order.now)) tokens.now }
+    requires k_live { S.live order.now k.now.spot }
+    requires q_live { S.live order.now q }
+    requires within { high ≤ length tokens.now }
+    ensures { IsAnyPlaceIn (cuts (are_rivals (R.against rivals.now)) (S.distance order.now) k.now q) tokens.now low high result }
+{
+    for i in (low..high).rev() {
+        if is_rival_clip(order, rivals, k, &tokens[i], Some(q)) {
+            return Some(i);
+        }
+    }
+    None
+}
+
+// Where a token of the list `i` begins that cuts `k`, a token of another list, before `q`.
+fn cut_in<S: Dated, T: Tokens<Spot = S::Spot>, R: Rivals>(
+    order: &S,
+    tokens: &T,
+    rivals: &R,
+    own: usize,
+    k: &TokenRow<S::Spot>,
+    q: S::Spot,
+    i: usize,
+) -> Option<S::Spot>
+    requires all_live { All (All (IsLive (S.live order.now))) (T.lists tokens.now) }
+    requires by_date { All (IsByDate (S.date order.now) (S.order order.now)) (T.lists tokens.now) }
+    requires own { own < length (T.lists tokens.now) }
+    requires by_class { IsClassList (T.lists tokens.now) own }
+    requires k { Contains (list_at (T.lists tokens.now) own) k.now }
+    requires k_live { S.live order.now k.now.spot }
+    requires q_live { S.live order.now q }
+    requires within { i < length (T.lists tokens.now) }
+    requires other { i ≢ own }
+    ensures cut { ForSome result (IsCutSpot (of_rivals (R.against rivals.now)) (S.distance order.now) (S.live order.now) (all_of (T.lists tokens.now)) k.now.fact q) }
+    ensures uncut { result ≡ None → list_any (cuts (of_rivals (R.against rivals.now)) (S.distance order.now) k.now q) (list_at (T.lists tokens.now) i) ≡ false }
+    ensures found { IsSome result → list_any (cuts (of_rivals (R.against rivals.now)) (S.distance order.now) k.now q) (all_of (T.lists tokens.now)) ≡ true }
+{
+    let list = tokens.list(i);
+    // what cuts `k` has a later date
+    let low = count_until(order, list, k.spot);
+    let high = count_until(order, list, q);
+    let place = last_rival_between(order, rivals, list, k, q, low, high)?;
+    Some(list[place].spot)
+}
+
+// Where a token of another list than `own` begins that cuts `k`, a token of that one, before `q`.
+fn cut_elsewhere<S: Dated, T: Tokens<Spot = S::Spot>, R: Rivals>(
+    order: &S,
+    tokens: &T,
+    rivals: &R,
+    own: usize,
+    k: &TokenRow<S::Spot>,
+    q: S::Spot,
+) -> Option<S::Spot>
+    requires all_live { All (All (IsLive (S.live order.now))) (T.lists tokens.now) }
+    requires by_date { All (IsByDate (S.date order.now) (S.order order.now)) (T.lists tokens.now) }
+    requires own { own < length (T.lists tokens.now) }
+    requires by_class { IsClassList (T.lists tokens.now) own }
+    requires k { Contains (list_at (T.lists tokens.now) own) k.now }
+    requires k_live { S.live order.now k.now.spot }
+    requires q_live { S.live order.now q }
+    ensures cut { ForSome result (IsCutSpot (of_rivals (R.against rivals.now)) (S.distance order.now) (S.live order.now) (all_of (T.lists tokens.now)) k.now.fact q) }
+    ensures uncut { result ≡ None → (i : ℕ) → i < length (T.lists tokens.now) → i ≢ own → list_any (cuts (of_rivals (R.against rivals.now)) (S.distance order.now) k.now q) (list_at (T.lists tokens.now) i) ≡ false }
+    ensures found { IsSome result → list_any (cuts (of_rivals (R.against rivals.now)) (S.distance order.now) k.now q) (all_of (T.lists tokens.now)) ≡ true }
+{
+    for i in 0..tokens.count() {
+        if i != own {
+            if let Some(spot) = cut_in(order, tokens, rivals, own, k, q, i) {
+                return Some(spot);
+            }
+        }
+    }
+    None
+}
+
+// Whether a token of another list than `own` cuts `k`, a token of that one, before `q`. Where one
+// that does so begins is kept.
 fn is_cut_elsewhere<S: Dated, T: Tokens<Spot = S::Spot>, R: Rivals>(
     order: &S,
     tokens: &T,
@@ -194,6 +281,7 @@ fn is_cut_elsewhere<S: Dated, T: Tokens<Spot = S::Spot>, R: Rivals>(
     own: usize,
     k: &TokenRow<S::Spot>,
     q: S::Spot,
+    elsewhere: &mut Option<S::Spot>,
 ) -> bool
     requires all_live { All (All (IsLive (S.live order.now))) (T.lists tokens.now) }
     requires by_date { All (IsByDate (S.date order.now) (S.order order.now)) (T.lists tokens.now) }
@@ -204,17 +292,33 @@ fn is_cut_elsewhere<S: Dated, T: Tokens<Spot = S::Spot>, R: Rivals>(
     requires q_live { S.live order.now q }
     ensures cut { IsTrue result → list_any (cuts (of_rivals (R.against rivals.now)) (S.distance order.now) k.now q) (all_of (T.lists tokens.now)) ≡ true }
     ensures uncut { IsFalse result → (i : ℕ) → i < length (T.lists tokens.now) → i ≢ own → list_any (cuts (of_rivals (R.against rivals.now)) (S.distance order.now) k.now q) (list_at (T.lists tokens.now) i) ≡ false }
+    ensures spot { ForSome elsewhere.old (IsCutSpot (of_rivals (R.against rivals.now)) (S.distance order.now) (S.live order.now) (all_of (T.lists tokens.now)) k.now.fact q) → ForSome elsewhere.new (IsCutSpot (of_rivals (R.against rivals.now)) (S.distance order.now) (S.live order.now) (all_of (T.lists tokens.now)) k.now.fact q) }
 {
-    for i in 0..tokens.count() {
-        if i != own && first_in(order, tokens, rivals, own, k, Some(q), i).is_some() {
-            return true;
+    match cut_elsewhere(order, tokens, rivals, own, k, q) {
+        Some(spot) => {
+            *elsewhere = Some(spot);
+            true
         }
+        None => false,
     }
-    false
+}
+
+// Whether `k` is a persistence that surely begins before the spot, if there is one.
+fn is_cut_at<S: Dated>(order: &S, k: &TokenRow<S::Spot>, spot: Option<S::Spot>) -> bool
+    requires k_live { S.live order.now k.now.spot }
+    requires spot_live { ForSome spot (λ r. S.live order.now r) }
+    ensures { MatchOption spot (IsFalse result) (λ r. IsTrue result → (k.now.end ≡ None) × IsTrue (is_before (S.distance order.now) k.now.spot r)) }
+{
+    match spot {
+        Some(r) => k.end.is_none() && order.at_most(r, k.spot, -1),
+        None => false,
+    }
 }
 
 // Whether the token at `i` of its list supports the fact throughout `p` to `q` among the tokens of
-// all lists, where the tokens of its list that begin by the date of `q` are the first `reach`.
+// all lists, where the tokens of its list that begin by the date of `q` are the first `reach`. What
+// cut a token before from another list mostly cuts this one as well: that is asked first, by the
+// spot where it begins.
 fn is_supporter<S: Dated, T: Tokens<Spot = S::Spot>, R: Rivals>(
     order: &S,
     tokens: &T,
@@ -227,6 +331,7 @@ fn is_supporter<S: Dated, T: Tokens<Spot = S::Spot>, R: Rivals>(
     q: S::Spot,
     reach: usize,
     search: &mut Search,
+    elsewhere: &mut Option<S::Spot>,
 ) -> bool
     requires all_live { All (All (IsLive (S.live order.now))) (T.lists tokens.now) }
     requires by_date { All (IsByDate (S.date order.now) (S.order order.now)) (T.lists tokens.now) }
@@ -237,17 +342,25 @@ fn is_supporter<S: Dated, T: Tokens<Spot = S::Spot>, R: Rivals>(
     requires q_live { S.live order.now q }
     requires reach { AreUntil (S.date order.now) (list_at (T.lists tokens.now) own) (S.date order.now q) reach }
     requires begins { BeginsBy (S.distance order.now) (list_at (T.lists tokens.now) own) q search.old.cutter }
+    requires cut { ForSome elsewhere.old (IsCutSpot (of_rivals (R.against rivals.now)) (S.distance order.now) (S.live order.now) (all_of (T.lists tokens.now)) fact.now q) }
     ensures supports { (d : Row S.Spot) → result ≡ supports (of_rivals (R.against rivals.now)) (S.distance order.now) (all_of (T.lists tokens.now)) fact.now p q (slice_index_or (list_at (T.lists tokens.now) own) i d) }
     ensures begins { BeginsBy (S.distance order.now) (list_at (T.lists tokens.now) own) q search.new.cutter }
+    ensures cut { ForSome elsewhere.new (IsCutSpot (of_rivals (R.against rivals.now)) (S.distance order.now) (S.live order.now) (all_of (T.lists tokens.now)) fact.now q) }
 {
     let list = tokens.list(own);
+    let k = &list[i];
+    if k.fact != *fact {
+        return false;
+    }
+    if is_cut_at(order, k, *elsewhere) {
+        return false;
+    }
     if !by_date::is_supporter(order, list, guesses, i, fact, p, q, reach, search) {
         return false;
     }
-    let k = &list[i];
     match k.end {
         Some(_) => true,
-        None => !is_cut_elsewhere(order, tokens, rivals, own, k, q),
+        None => !is_cut_elsewhere(order, tokens, rivals, own, k, q, elsewhere),
     }
 }
 
@@ -280,6 +393,7 @@ pub fn holder<S: Dated, T: Tokens<Spot = S::Spot>, R: Rivals>(
     let until = count_until(order, list, p);
     let reach = count_until(order, list, q);
     let mut search = Search::new(reach, true);
+    let mut elsewhere = None;
     for i in 0..until {
         if is_supporter(
             order,
@@ -293,6 +407,7 @@ pub fn holder<S: Dated, T: Tokens<Spot = S::Spot>, R: Rivals>(
             q,
             reach,
             &mut search,
+            &mut elsewhere,
         ) {
             return Some(i);
         }
@@ -325,6 +440,7 @@ pub fn is_held<S: Dated, T: Tokens<Spot = S::Spot>, R: Rivals>(
     let until = count_until(order, list, p);
     let reach = count_until(order, list, q);
     let mut search = Search::new(reach, false);
+    let mut elsewhere = None;
     for i in (0..until).rev() {
         if is_supporter(
             order,
@@ -338,6 +454,7 @@ pub fn is_held<S: Dated, T: Tokens<Spot = S::Spot>, R: Rivals>(
             q,
             reach,
             &mut search,
+            &mut elsewhere,
         ) {
             return true;
         }

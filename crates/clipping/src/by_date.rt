@@ -27,7 +27,7 @@ ghost use Rattle.tmm_model.specs.declared.token.TokenRow.{TokenRow};
 ghost use Rattle.tmm_model.specs.Tokens.{of_one_class, supports, cuts};
 ghost use Rattle.belief_theory.specs.FirstPlaces.{IsFirstPlace};
 ghost use Rattle.clipping.specs.ByDate.{IsByDate, AreUntil, AreBefore, IsAnyPlaceIn, IsFirstPlaceIn, IsPlaceOf};
-ghost use Rattle.clipping.specs.Cutters.{BeginsBy, clips_until};
+ghost use Rattle.clipping.specs.Cutters.{BeginsBy, clips_until, is_after, is_between};
 ghost use Rattle.clipping.specs.Faults.{IsClipPlace, IsFault};
 ghost use Rattle.clipping.specs.Live.{IsLive};
 
@@ -571,6 +571,73 @@ pub(crate) fn first_clip<S: Dated>(
     let low = count_until(order, tokens, k.spot);
     let high = count_reached(order, tokens, until);
     first_between(order, tokens, k, until, low, high)
+}
+
+// Whether a token is of the fact, and surely begins after a spot.
+fn is_after<S: Dated>(order: &S, c: &TokenRow<S::Spot>, fact: &Name, spot: S::Spot) -> bool
+    requires c_live { S.live order.now c.now.spot }
+    requires spot_live { S.live order.now spot }
+    ensures { result ≡ is_after fact.now (S.distance order.now) spot c.now }
+{
+    c.fact == *fact && order.at_most(c.spot, spot, -1)
+}
+
+// The first place, from `low` on and before `high`, of a token of the fact that surely begins after
+// a spot.
+fn first_after<S: Dated>(
+    order: &S,
+    tokens: &[TokenRow<S::Spot>],
+    fact: &Name,
+    spot: S::Spot,
+    low: usize,
+    high: usize,
+) -> Option<usize>
+    requires all_live { All (IsLive (S.live order.now)) tokens.now }
+    requires spot_live { S.live order.now spot }
+    requires within { high ≤ length tokens.now }
+    ensures { IsFirstPlaceIn (is_after fact.now (S.distance order.now) spot) tokens.now low high result }
+{
+    for i in low..high {
+        if is_after(order, &tokens[i], fact, spot) {
+            return Some(i);
+        }
+    }
+    None
+}
+
+// How many tokens are before a spot where one is given: all where none is.
+fn count_ahead<S: Dated>(order: &S, tokens: &[TokenRow<S::Spot>], before: Option<S::Spot>) -> usize
+    requires all_live { All (IsLive (S.live order.now)) tokens.now }
+    requires by_date { IsByDate (S.date order.now) (S.order order.now) tokens.now }
+    requires before_live { ForSome before (λ q. S.live order.now q) }
+    ensures { MatchOption before (result ≡ length tokens.now) (λ q. AreBefore (S.order order.now) tokens.now q result) }
+{
+    match before {
+        None => tokens.len(),
+        Some(q) => count_before(order, tokens, q),
+    }
+}
+
+/// The place of the first token of a fact that surely begins after a spot, and comes before another
+/// spot where one is given, none exactly where no token does. Those with a later date are asked,
+/// to the first that does.
+pub fn first_of_fact<S: Dated>(
+    order: &S,
+    tokens: &[TokenRow<S::Spot>],
+    fact: &Name,
+    spot: S::Spot,
+    before: Option<S::Spot>,
+) -> Option<usize>
+    requires all_live { All (IsLive (S.live order.now)) tokens.now }
+    requires by_date { IsByDate (S.date order.now) (S.order order.now) tokens.now }
+    requires spot_live { S.live order.now spot }
+    requires before_live { ForSome before (λ q. S.live order.now q) }
+    ensures { IsFirstPlace (on (λ k. k.spot) (S.order order.now)) (is_between fact.now (S.distance order.now) (S.order order.now) spot before) tokens.now result }
+{
+    // what surely begins after a spot has a later date
+    let low = count_until(order, tokens, spot);
+    let high = count_ahead(order, tokens, before);
+    first_after(order, tokens, fact, spot, low, high)
 }
 
 /// The place of the first token that clips the one at `k`, none exactly where no token does. A span

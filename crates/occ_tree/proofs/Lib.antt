@@ -36,6 +36,7 @@ pub mod Marking
 pub mod AtPoints
 pub mod Touching
 pub mod Upward
+pub mod Beside
 pub mod SortedBelow
 pub mod RoomLeft
 pub mod InTurn

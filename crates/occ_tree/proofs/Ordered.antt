@@ -59,6 +59,13 @@ sorted_nodes cmp (p ∷ ps) h = (each ps h.0, sorted_nodes cmp ps h.1)
     each [] g = tt
     each (q ∷ qs) g = (g.0, each qs g.1)
 
+-- **Nodes are ranked as they are ordered in a network of which the dates are kept.**
+pub rank_is : (net : Net) (s : State) → IsDatedBy net s → (x y : ℕ) → IsLive (forest s) x → IsLive (forest s) y → rank_cmp s x y ≡ node_cmp net (forest s) x y
+rank_is net s dated x y live_x live_y = rank_of_nodes (nodes_in s.rows) x y (there x live_x) (there y live_y) ∙ dated_cmp net s dated x y live_x live_y
+  where
+    there : (z : ℕ) → IsLive (forest s) z → IsSome (nodes_in s.rows z)
+    there z live = let (n, at) = node_if_live (nodes_in s.rows) z live in some_is (nodes_in s.rows z) n at
+
 module _ (net : Net) (s : State) (list : HasList net (forest s)) (dated : IsDatedBy net s) where
   -- what is not before, and is another node, is after
   after : (x y : ℕ) → IsLive (forest s) x → IsLive (forest s) y → (node_cmp net (forest s) y x ≡ Less → ⊥) → (x ≡ y → ⊥) → node_cmp net (forest s) x y ≡ Less
@@ -74,10 +81,7 @@ module _ (net : Net) (s : State) (list : HasList net (forest s)) (dated : IsDate
 
   -- a node that is before another is sorted before it
   rank_before : (x y : ℕ) → IsLive (forest s) x → IsLive (forest s) y → node_cmp net (forest s) x y ≡ Less → rank_cmp s x y ≡ Less
-  rank_before x y live_x live_y e = rank_of_nodes (nodes_in s.rows) x y (there x live_x) (there y live_y) ∙ dated_cmp net s dated x y live_x live_y ∙ e
-    where
-      there : (z : ℕ) → IsLive (forest s) z → IsSome (nodes_in s.rows z)
-      there z live = let (n, at) = node_if_live (nodes_in s.rows) z live in some_is (nodes_in s.rows z) n at
+  rank_before x y live_x live_y e = rank_is net s dated x y live_x live_y ∙ e
 
   -- **Sorted nodes are in order.**
   pub in_order : (ps : List Ranked) → All (IsRanked net (forest s)) ps → IsDistinct nat_eq (nodes_of ps) → IsSortedBy (λ p q. is_lt (rank_by s p q)) ps → IsStrictlySortedBy (node_cmp net (forest s)) (nodes_of ps)

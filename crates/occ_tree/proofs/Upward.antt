@@ -1,8 +1,7 @@
 -- Names on a way that are written from its end up.
-use Rattle.std.proofs.Common.{◌≡◌, ℕ, ◌++◌, ◌∷◌, [], List, map, length, refl, sym, ap, subst, ◌∙◌, arith, append_assoc}
+use Rattle.std.proofs.Common.{◌≡◌, ℕ, ◌++◌, ◌∷◌, [], List, map, length, refl, sym, ap, ◌∙◌, arith, append_assoc}
 use Rattle.std.specs.Prelude.{reverse}
-use Rattle.std.proofs.lemmas.List.{append-nil, map-append, reverse-append}
-use Rattle.tmm_model.specs.Points.{slashed}
+use Rattle.std.proofs.lemmas.List.{map-append, reverse-append}
 use Rattle.occ_tree.specs.Ends.{way_ends}
 use Rattle.occ_tree.specs.Nodes.{Nodes, name_at, way_to}
 use Rattle.occ_tree.specs.Words.{joined}

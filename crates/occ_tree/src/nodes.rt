@@ -239,7 +239,7 @@ impl Nodes {
     }
 
     // How many nodes the ways to two nodes both begin with.
-    fn shared(&self, x: u32, y: u32) -> u32
+    pub(crate) fn shared(&self, x: u32, y: u32) -> u32
         requires x_live { IsSome (nodes_in (present_rows self.now) x) }
         requires y_live { IsSome (nodes_in (present_rows self.now) y) }
         ensures { result ≡ length (shared_front (way_to (nodes_in (present_rows self.now)) x).numbers (way_to (nodes_in (present_rows self.now)) y).numbers) }

@@ -26,8 +26,8 @@ impl Tree {
         self.nodes().cmp_order(x, y)
     }
 
-    // The order of two numbers: those of nodes in the order of nodes, behind all others.
-    pub(crate) fn rank(&self, x: u32, y: u32) -> Ordering
+    /// The order of two numbers: those of nodes in the order of nodes, behind all others.
+    pub fn rank(&self, x: u32, y: u32) -> Ordering
         ensures { result ≡ rank_cmp (present self.now) x y }
     {
         self.nodes().rank(x, y)

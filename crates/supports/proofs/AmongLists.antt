@@ -12,7 +12,7 @@ use Rattle.tmm_model.specs.declared.bound.Bound.{Bound}
 use Rattle.tmm_model.specs.declared.premise.Premise.{Premise}
 use Rattle.tmm_model.specs.declared.premise.Premise.TheVariants.{Class, Kind, Point, Event, Token, Span, Dist, Rule, Protect, Against}
 use Rattle.tmm_model.specs.declared.token.TokenRow.{TokenRow}
-use Rattle.tmm_model.specs.Answers.{clip, clip_of, fault, first_believed, late, clipped, ends}
+use Rattle.tmm_model.specs.Answers.{fault, first_believed, late, clipped, ends}
 use Rattle.tmm_model.specs.Beliefs.{tokens, token_of, class_of, says_against, are_rivals, contradicts_in, first_token, has_support, holder}
 use Rattle.tmm_model.specs.Moments.{Moment, distance, occ_cmp}
 use Rattle.tmm_model.specs.Points.{same_name}
@@ -28,14 +28,13 @@ use Rattle.list_theory.proofs.Elements.{In, both, list_any-In, In-list_any, In-f
 use Rattle.walk_theory.proofs.Points.{same_name-is, same_name-self}
 use Rattle.premise_list.specs.Rivalries.{rivalry_of, rivalries}
 use Rattle.clipping.specs.declared.across.Place.{Place}
-use Rattle.clipping.specs.Across.{list_at, all_of, at_place, IsClassList, IsFirstInLists, IsClipPlace}
+use Rattle.clipping.specs.Across.{list_at, all_of, at_place, IsClassList, IsFirstInLists}
 use Rattle.clipping.specs.Rivals.{of_rivals}
 use Rattle.dist_net.specs.Net.{Net}
 use Rattle.spots.proofs.Nodes.{live_at}
 use Rattle.spots.proofs.Seen.{distance_is, order_is}
 use Rattle.spots.specs.declared.spot.Spot.{Spot}
-use Rattle.spots.specs.declared.spot.Spot.TheVariants.{Node}
-use Rattle.spots.specs.Forest.{Forest, moment_at}
+use Rattle.spots.specs.Forest.{Forest}
 use Rattle.spots.specs.OfLists.{IsForestOf, HasOccurrences, map_of}
 use Rattle.spots.specs.Spots.{IsSpot, spot_moment, spot_distance, spot_cmp, AreTokens, row_moment}
 use Rattle.supports.specs.ClassTokens.{other_in, class_against, of_other, class_lists}
@@ -45,7 +44,7 @@ use Rattle.supports.proofs.FirstRows.{IsSame, first_of_rows, some_of_rows}
 use Rattle.supports.proofs.Moved.{by_alike, before_alike}
 use Rattle.supports.proofs.NoRivals.{differ_back}
 use Rattle.supports.proofs.SeveralLists.{first_of_all}
-use Rattle.supports.proofs.TokenRows.{node_of, spots_there, row_there, row_of, row_token, tokens_spelt}
+use Rattle.supports.proofs.TokenRows.{node_of, spots_there, row_there, row_of, tokens_spelt}
 
 -- a value that is read of what was found is that which was read of the place
 mapped : {A B C : Type 0} (h : A → B) (g : B → C) (o : Option A) → option_map (λ x. g (h x)) o ≡ option_map g (option_map h o)
@@ -348,7 +347,7 @@ module _ {s : Standing} {net : Net} {f : Forest} (seen : IsForestOf s net f) {b 
           let somewhere : list_any passes (tokens s b) ≡ true = In-list_any passes (tokens s b) (go row) (row_there seen (are class) holds row at) e in
           cc
 
-  -- ---- clips and faults
+  -- ---- faults
 
   module _ (row : TokenRow Spot) (at : In row own) (of_fact : row.fact ≡ fact) where
     -- what is first in the lists is first of the tokens
@@ -360,24 +359,6 @@ module _ {s : Standing} {net : Net} {f : Forest} (seen : IsForestOf s net f) {b 
         let (found, first, same) = first_of_all (lists s rows_in fact class) (on (λ k. k.spot) order) test d place h in
         mapped (λ p. at_place (lists s rows_in fact class) p d) (λ a. mom a.spot) place ∙ ap (option_map (λ a. mom a.spot)) same
         ∙ sym (mapped (λ i. slice_index_or every i d) (λ a. mom a.spot) found) ∙ first_believed_is row at of_fact test passes tested contradict found first d
-
-    -- **The first row that clips a row** is its clip.
-    pub clip_among : (x : ℕ) → row.spot ≡ Node x → (place : Option Place) → IsClipPlace spot_contradicts far order (lists s rows_in fact class) row place
-        → (d : TokenRow Spot) → option_map (λ p. mom (at_place (lists s rows_in fact class) p d).spot) place ≡ clip (map_of s b) (moment_at f x)
-    clip_among x spot place h d = by row.end h ∙ sym (ap (option_and_then (clip_of (map_of s b))) (row_token seen (are class) x row at spot))
-      where
-        no_place : (place : Option Place) → IsNone place → option_map (λ p. mom (at_place (lists s rows_in fact class) p d).spot) place ≡ None
-        no_place None h = refl
-        no_place (Some i) h = cc
-
-        by : (o : Option Spot)
-            → MatchOption o (MatchOption place ((i j : ℕ) (d : TokenRow Spot) → i < length (lists s rows_in fact class) → j < length (list_at (lists s rows_in fact class) i) → clips spot_contradicts far row (slice_index_or (list_at (lists s rows_in fact class) i) j d) ≡ false)
-            (IsFirstInLists (on (λ k. k.spot) order) (clips spot_contradicts far row) (lists s rows_in fact class) (length (lists s rows_in fact class)))) (λ _. IsNone place)
-            → option_map (λ p. mom (at_place (lists s rows_in fact class) p d).spot) place ≡ elim (option_map mom o) [ Some e ↦ None | None ↦ first_believed (map_of s b) (clips (contradicts_in s) gap (go row)) ]
-        by (Some e) h = no_place place h
-        by None h =
-            first_place (clips spot_contradicts far row) (clips (contradicts_in s) gap (go row)) (λ a there. clips_same row a (k_there row at of_fact) (begin_there a there))
-            (λ t passed. (both (contradicts_in s (go row) t) (is_before gap (go row).spot t.spot) passed).0) place h d
 
     module _ (p q : Spot) (at_p : IsThere p) (at_q : IsThere q) where
       begins : is_by far row.spot p ≡ is_by gap (go row).spot (mom p)

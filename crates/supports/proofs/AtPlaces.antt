@@ -1,20 +1,19 @@
--- The clip and the faults of a token at a place of the first list of its fact.
+-- The faults of a token at a place of the first list of its fact.
 use Rattle.std.proofs.Common.{◌≡◌, ◌∙◌, ℕ, ◌<◌, false, List, length, sym, ap, subst}
-use Rattle.std.specs.Prelude.{Option, Some, None, IsNone, IfSome, MatchOption, slice_get, slice_index_or}
-use Rattle.std.specs.Option.{option_map, ForSome}
-use Rattle.std.specs.Ordering.{on}
+use Rattle.std.specs.Prelude.{Some, None, IfSome, slice_get, slice_index_or}
+use Rattle.std.specs.Option.{ForSome}
 use Rattle.std.proofs.lemmas.Option.{slice_get-get_or}
 use Rattle.tmm_model.specs.declared.token.TokenRow.{TokenRow}
-use Rattle.tmm_model.specs.Answers.{Fault, clip, fault, late, clipped, ends}
+use Rattle.tmm_model.specs.Answers.{Fault, fault, late, clipped, ends}
 use Rattle.tmm_model.specs.Beliefs.{are_rivals, token_of, holder}
 use Rattle.tmm_model.specs.Moments.{Moment}
 use Rattle.tmm_model.specs.Standing.{Standing, far_in}
-use Rattle.tmm_model.specs.Tokens.{supports, clips}
+use Rattle.tmm_model.specs.Tokens.{supports}
 use Rattle.list_theory.proofs.Elements.{In}
 use Rattle.clipping.specs.declared.across.Place.{Place}
 use Rattle.clipping.specs.declared.across.Fault.{Fault as PlaceFault}
 use Rattle.clipping.specs.declared.across.Fault.TheVariants.{Late, Clipped, Ends}
-use Rattle.clipping.specs.Across.{all_of, at_place, IsPlace, IsFirstInLists, IsClipPlace, IsFault}
+use Rattle.clipping.specs.Across.{all_of, at_place, IsPlace, IsFault}
 use Rattle.clipping.specs.Rivals.{of_rivals}
 use Rattle.dist_net.specs.Net.{Net}
 use Rattle.spots.specs.declared.spot.Spot.{Spot}
@@ -23,7 +22,7 @@ use Rattle.spots.specs.Forest.{Forest, Member, member, moment_at}
 use Rattle.spots.specs.OfLists.{IsForestOf, HasOccurrences, map_of}
 use Rattle.spots.specs.Spots.{IsSpot, AreTokens, spot_moment, spot_distance, spot_cmp, row_moment}
 use Rattle.supports.specs.ClassTokens.{class_lists}
-use Rattle.supports.proofs.AmongLists.{clip_among, no_support_among, late_among, ends_among, clipped_among}
+use Rattle.supports.proofs.AmongLists.{no_support_among, late_among, ends_among, clipped_among}
 use Rattle.supports.proofs.Answered.{row_at}
 use Rattle.supports.proofs.TokenRows.{no_row, at_place as row_in, fact_is, row_token}
 
@@ -34,21 +33,10 @@ module _ (s : Standing) (net : Net) (f : Forest) (rows_in : List ℕ → List (T
   abbrev rows : List (TokenRow Spot)
   rows = rows_in class
 
-  abbrev IsClipHere : ℕ → Option Place → Type 0
-  IsClipHere at found = IfSome (slice_get rows at) (λ row. IsClipPlace (of_rivals (are_rivals s)) (spot_distance net f) (spot_cmp net f) lists row found)
-
   abbrev IsFaultHere : ℕ → Spot → Spot → PlaceFault → Type 0
   IsFaultHere at p q cause = IfSome (slice_get rows at) (λ row. IsFault (of_rivals (are_rivals s)) (spot_distance net f) (spot_cmp net f) lists row p q cause)
 
-  -- what clips it stands at a place
-  pub clipper_placed : (at : ℕ) (c : Place) → at < length rows → IsClipHere at (Some c) → IsPlace lists c
-  clipper_placed at c lt h = by (slice_index_or rows at no_row).end (row_at rows at (λ row. IsClipPlace (of_rivals (are_rivals s)) (spot_distance net f) (spot_cmp net f) lists row (Some c)) lt h)
-    where
-      by : (o : Option Spot) → MatchOption o (IsFirstInLists (on (λ k. k.spot) (spot_cmp net f)) (clips (of_rivals (are_rivals s)) (spot_distance net f) (slice_index_or rows at no_row)) lists (length lists) c) (λ _. IsNone (Some c)) → IsPlace lists c
-      by None h = record { list = h.list; within = h.within }
-      by (Some e) h = cc
-
-  -- so does what cuts it
+  -- what cuts it stands at a place
   pub cutter_placed : (at : ℕ) (p q : Spot) (c : Place) → at < length rows → IsFaultHere at p q (Clipped c) → IsPlace lists c
   cutter_placed at p q c lt h = let first = (row_at rows at (λ row. IsFault (of_rivals (are_rivals s)) (spot_distance net f) (spot_cmp net f) lists row p q (Clipped c)) lt h).2 in record { list = first.list; within = first.within }
 
@@ -62,13 +50,6 @@ module _ (s : Standing) (net : Net) (f : Forest) (rows_in : List ℕ → List (T
 
     is_fact : (slice_index_or rows at no_row).fact ≡ fact
     is_fact = fact_is seen (are class) (slice_index_or rows at no_row) there x (spot no_row) m here ∙ of_fact m here
-
-    -- **Its clip** by the place of the first that clips it.
-    pub clip_here : (b : List Moment) → HasOccurrences b f → (found : Option Place) → IsClipHere at found
-        → option_map (λ p. spot_moment net.names f (at_place lists p no_row).spot) found ≡ clip (map_of s b) (moment_at f x)
-    clip_here b holds found h =
-        clip_among seen holds rows_in are fact class (slice_index_or rows at no_row) there is_fact x (spot no_row) found
-        (row_at rows at (λ row. IsClipPlace (of_rivals (are_rivals s)) (spot_distance net f) (spot_cmp net f) lists row found) lt h) no_row
 
     -- where no token supports the fact, it does not
     pub no_support_here : (p q : Spot) → IsSpot net.names f p → IsSpot net.names f q → (b : List Moment) → HasOccurrences b f → holder s (far_in s.premises) b fact (spot_moment net.names f p) (spot_moment net.names f q) ≡ None

@@ -12,7 +12,6 @@ use Rattle.tmm_model.specs.Points.{same_name}
 use Rattle.tmm_model.specs.Tokens.{of_one_class, clips}
 use Rattle.list_theory.proofs.Elements.{In, In-from_Contains, Contains-from_In, map-In}
 use Rattle.tmm_model.specs.Standing.{Standing}
-use Rattle.premise_list.specs.Rivalries.{has_rivals}
 use Rattle.dist_net.specs.Net.{Net}
 use Rattle.spots.specs.declared.spot.Spot.{Spot}
 use Rattle.spots.specs.declared.spot.Spot.TheVariants.{Node}
@@ -22,12 +21,17 @@ use Rattle.occ_tree.specs.OfLists.{IsTreeIn}
 use Rattle.occ_tree.specs.Places.{forest}
 use Rattle.occ_tree.specs.Standing.{Kept, present, order}
 use Rattle.occ_tree.specs.Tokens.{number_of, numbers_in, IsInOrder}
-use Rattle.supports.specs.Behind.{token_at, of_class, rows_behind, IsLastNode, IsClip}
+use Rattle.supports.specs.Behind.{token_at, of_class, rows_behind, IsLastNode}
+use Rattle.supports.specs.Clips.{IsClipBy}
 use Rattle.supports.proofs.Behind.{node_of_token, spot_of}
 use Rattle.supports.proofs.ByDate.{by_date}
 use Rattle.supports.proofs.Falling.{rising}
 use Rattle.supports.proofs.Nearest.{nearest_is}
 use Rattle.supports.proofs.TokenRows.{no_row, token_row_spots}
+
+-- the number of the node of the token at a place
+pub number_here : (rows : List (TokenRow Spot)) (i : ℕ) (row : TokenRow Spot) → i < length rows → row ≡ slice_index_or rows i row → slice_index_or (numbers_in rows) i 0 ≡ number_of row.spot
+number_here rows i row lt is = get_or-map (λ (r : TokenRow Spot). number_of r.spot) rows i row 0 lt ∙ ap (λ r. number_of r.spot) (sym is)
 
 module _ (f : Forest) (class : List ℕ) (rows : List (TokenRow Spot)) (are : AreTokens f class rows) where
   abbrev nodes : List ℕ
@@ -80,13 +84,13 @@ module _ {net : Net} {k : Kept} (tree : IsTreeIn net k) {class : List ℕ} {rows
       sym (λ t. spot_cmp net (forest k) (spot_here (forest k) class rows are i no_row d (omega arith) t) (spot_here (forest k) class rows are j no_row d less t))
       ∙ (by_date tree are up).before i j no_row lt less)
 
-  -- **The last token of those behind that clips it** is its clip, where its fact has no rivals.
+  -- **The last token of those behind that clips it** is its clip by its class.
   pub clip_here : (i : ℕ) (d row : TokenRow Spot) → i < length rows → row ≡ slice_index_or rows i d → (others : List (TokenRow Spot)) → others ≡ rows_behind (forest k) class (drop (i + 1) (numbers_in rows))
       → (found : Option ℕ) → MatchOption row.end (IsLastNode (clips of_one_class (spot_distance net (forest k)) row) others found) (λ _. IsNone found)
-      → (s : Standing) → has_rivals s row.fact ≡ false → IsClip s net (forest k) (slice_index_or (numbers_in rows) i 0) found
-  clip_here i d row lt is others behind found h s alone b seen holds =
+      → (s : Standing) → IsClipBy of_one_class s net (forest k) (slice_index_or (numbers_in rows) i 0) found
+  clip_here i d row lt is others behind found h s b seen holds =
       nearest_is seen holds (numbers_in rows) i (within_numbers (forest k) class rows are i lt) nodes_rise row (token_here (forest k) class rows are i d lt ∙ ap Some (sym is))
-      (λ y c is_c own. all_there (forest k) class rows are y c is_c (own ∙ own_class)) alone found
+      (λ y c is_c own. all_there (forest k) class rows are y c is_c (own ∙ own_class)) found
       (subst (λ l. MatchOption row.end (IsLastNode (clips of_one_class (spot_distance net (forest k)) row) l found) (λ _. IsNone found))
       (behind ∙ ap (λ z. rows_behind (forest k) z (drop (i + 1) (numbers_in rows))) (sym own_class)) h)
     where

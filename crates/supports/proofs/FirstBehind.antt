@@ -11,7 +11,6 @@ use Rattle.clip_search.specs.Entries.{no_row, row_at, node_at}
 use Rattle.clip_search.specs.Firsts.{IsFirstOf, IsClipper}
 use Rattle.clip_search.proofs.Entering.{spot_is, node_live}
 use Rattle.tmm_model.specs.Standing.{Standing}
-use Rattle.premise_list.specs.Rivalries.{has_rivals}
 use Rattle.dist_net.specs.Net.{Net}
 use Rattle.occ_tree.specs.OfLists.{IsTreeIn}
 use Rattle.occ_tree.specs.Places.{forest}
@@ -20,7 +19,8 @@ use Rattle.occ_tree.specs.Tokens.{number_of, numbers_in, IsInOrder}
 use Rattle.spots.specs.declared.spot.Spot.{Spot}
 use Rattle.spots.specs.Forest.{Forest}
 use Rattle.spots.specs.Spots.{AreTokens, IsSpot, spot_distance, spot_early}
-use Rattle.supports.specs.Behind.{rows_behind, IsLastNode, IsClip}
+use Rattle.supports.specs.Behind.{rows_behind, IsLastNode}
+use Rattle.supports.specs.Clips.{IsClipBy}
 use Rattle.supports.proofs.ByDate.{by_date}
 use Rattle.supports.proofs.ClassClips.{one_behind, clip_here}
 use Rattle.supports.proofs.OfLaterDates.{no_later_fails}
@@ -115,9 +115,9 @@ module _ {net : Net} {k : Kept} (tree : IsTreeIn net k) {class : List ℕ} {rows
           λ d. ap (λ (r : TokenRow Spot). r.spot) (read p j d sum less) ∙ spot_is (forest k) class rows are j within,
         )
 
-    -- **The first that clips it is its clip**, where it is no span and its fact has no rivals.
+    -- **The first that clips it is its clip** by its class, where it is no span.
     pub first_is_clip : (row_at rows i).end ≡ None → (found : Option ℕ) → IsFirstOf (IsClipper net (forest k) rows i) found
-        → (s : Standing) → has_rivals s (row_at rows i).fact ≡ false → IsClip s net (forest k) (slice_index_or (numbers_in rows) i 0) (option_map (node_at rows) found)
+        → (s : Standing) → IsClipBy of_one_class s net (forest k) (slice_index_or (numbers_in rows) i 0) (option_map (node_at rows) found)
     first_is_clip no_span found first =
         clip_here tree are up i no_row (row_at rows i) lt refl others refl (option_map (node_at rows) found)
         (subst (λ o. MatchOption o (IsLastNode test others (option_map (node_at rows) found)) (λ _. IsNone (option_map (node_at rows) found))) (sym no_span) (last_node found first))

@@ -23,3 +23,4 @@ pub mod OfLaterDates
 pub mod FirstBehind
 pub mod ListsThere
 pub mod AtPlaces
+pub mod ByPairs

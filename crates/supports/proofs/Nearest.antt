@@ -10,7 +10,7 @@ use Rattle.std.specs.declared.cmp.Ordering.TheVariants.{Less, Equal, Greater}
 use Rattle.std.proofs.lemmas.List.{drop_more, take-append-drop}
 use Rattle.tmm_model.specs.declared.bound.Bound.{Bound}
 use Rattle.tmm_model.specs.declared.token.TokenRow.{TokenRow}
-use Rattle.tmm_model.specs.Answers.{clip, clip_of, first_believed}
+use Rattle.tmm_model.specs.Answers.{clip, first_believed}
 use Rattle.tmm_model.specs.Beliefs.{tokens, token_of}
 use Rattle.tmm_model.specs.Moments.{Moment, base, distance, occ_cmp}
 use Rattle.tmm_model.specs.Points.{same_name}
@@ -28,8 +28,7 @@ use Rattle.spots.specs.Spots.{IsSpot, spot_moment, spot_distance, spot_cmp, node
 use Rattle.spots.proofs.Nodes.{node_at, live_at, moment_at-is, base-moment}
 use Rattle.spots.proofs.Seen.{token_is, distance_is, order_is, occurs_at}
 use Rattle.supports.specs.Behind.{token_at, rows_behind, IsLastNode}
-use Rattle.premise_list.specs.Rivalries.{has_rivals}
-use Rattle.supports.proofs.NoRivals.{clips_alone}
+use Rattle.supports.specs.Clips.{clip_by}
 use Rattle.supports.proofs.Answered.{event_unclipped}
 use Rattle.supports.proofs.Behind.{token_made, node_of_token, spot_of, In-behind, behind-In, rows_fall}
 use Rattle.supports.proofs.Falling.{stands_behind, sorted_back, last_is_first}
@@ -73,11 +72,11 @@ module _ {s : Standing} {net : Net} {f : Forest} (seen : IsForestOf s net f) {b 
   live_token : (x : ℕ) (row : TokenRow Spot) → token_at f x ≡ Some row → IsLive f x
   live_token x row is = let (m, here, _) = node_of_token f x row is in live_at f x m here
 
-  there_token : (x : ℕ) (row : TokenRow Spot) → token_at f x ≡ Some row → IsSpot net.names f row.spot
+  pub there_token : (x : ℕ) (row : TokenRow Spot) → token_at f x ≡ Some row → IsSpot net.names f row.spot
   there_token x row is = subst (IsSpot net.names f) (sym (spot_of f x row is)) (live_token x row is)
 
   -- at its moment a node is the token of the list
-  token_there : (x : ℕ) (row : TokenRow Spot) → token_at f x ≡ Some row → token_of s (moment_at f x) ≡ Some (go row)
+  pub token_there : (x : ℕ) (row : TokenRow Spot) → token_at f x ≡ Some row → token_of s (moment_at f x) ≡ Some (go row)
   token_there x row is =
       let (m, here, made) = node_of_token f x row is in
       ap (token_of s) (moment_at-is f x m here) ∙ token_is s net f seen x m here ∙ ap (option_map (row_moment net.names f)) made
@@ -164,12 +163,9 @@ module _ {s : Standing} {net : Net} {f : Forest} (seen : IsForestOf s net f) {b 
             let one = same_name-is row.class a.class (both (same_name row.class a.class) (not (same_name row.fact a.fact)) differ).0 in
             (a, behind-In f row.class back y a (clips_behind y a is_a (sym one) before) is_a (sym one), same)
 
-    nearest : has_rivals s row.fact ≡ false → (found : Option ℕ) → MatchOption row.end (IsLastNode (clips of_one_class far row) rows found) (λ _. IsNone found)
-        → option_map (moment_at f) found ≡ clip (map_of s b) (moment_at f x)
-    nearest alone found h =
-        by row.end h
-        ∙ sym (ap (λ test. elim (option_map mom row.end) as (λ _. Option Moment) [ Some e ↦ None | None ↦ first_believed (map_of s b) test ]) (clips_alone s gap (go row) alone))
-        ∙ sym (ap (option_and_then (clip_of (map_of s b))) (token_there x row is))
+    nearest : (found : Option ℕ) → MatchOption row.end (IsLastNode (clips of_one_class far row) rows found) (λ _. IsNone found)
+        → option_map (moment_at f) found ≡ option_and_then (clip_by of_one_class (map_of s b)) (token_of s (moment_at f x))
+    nearest found h = by row.end h ∙ sym (ap (option_and_then (clip_by of_one_class (map_of s b))) (token_there x row is))
       where
         no_node : (found : Option ℕ) → IsNone found → option_map (moment_at f) found ≡ None
         no_node None h = refl
@@ -184,17 +180,17 @@ module _ {s : Standing} {net : Net} {f : Forest} (seen : IsForestOf s net f) {b 
         by (Some e) h = no_node found h
         by None h = last found h
 
-  -- **The nearest token behind a node that clips it** is its clip, among nodes with all tokens of
-  -- its class, where its fact has no rivals.
+  -- **The nearest token behind a node that clips it** is its clip by its class, among nodes with
+  -- all tokens of this.
   pub nearest_is : (nodes : List ℕ) (i : ℕ) → i < length nodes → IsStrictlySortedBy (node_cmp net f) nodes
       → (row : TokenRow Spot) → token_at f (slice_index_or nodes i 0) ≡ Some row
       → ((y : ℕ) (c : TokenRow Spot) → token_at f y ≡ Some c → c.class ≡ row.class → Contains nodes y)
-      → has_rivals s row.fact ≡ false → (found : Option ℕ) → MatchOption row.end (IsLastNode (clips of_one_class far row) (rows_behind f row.class (drop (i + 1) nodes)) found) (λ _. IsNone found)
-      → option_map (moment_at f) found ≡ clip (map_of s b) (moment_at f (slice_index_or nodes i 0))
-  nearest_is nodes i lt up row is all alone =
+      → (found : Option ℕ) → MatchOption row.end (IsLastNode (clips of_one_class far row) (rows_behind f row.class (drop (i + 1) nodes)) found) (λ _. IsNone found)
+      → option_map (moment_at f) found ≡ option_and_then (clip_by of_one_class (map_of s b)) (token_of s (moment_at f (slice_index_or nodes i 0)))
+  nearest_is nodes i lt up row is all =
       let parted : nodes ≡ take i nodes ++ slice_index_or nodes i 0 ∷ drop (i + 1) nodes = sym (take-append-drop i nodes) ∙ ap (λ l. take i nodes ++ l) (drop_more nodes i 0 lt) in
       nearest (take i nodes) (slice_index_or nodes i 0) (drop (i + 1) nodes) (subst (IsStrictlySortedBy (node_cmp net f)) parted up) row is
-      (λ y c is_c own. subst (In y) parted (In-from_Contains nodes y (all y c is_c own))) alone
+      (λ y c is_c own. subst (In y) parted (In-from_Contains nodes y (all y c is_c own)))
 
 -- among all nodes is each token of a class
 pub tokens_among : (f : Forest) (nodes : List ℕ) → ((y : ℕ) → IsLive f y → Contains nodes y) → (class : List ℕ) (y : ℕ) (c : TokenRow Spot) → token_at f y ≡ Some c → c.class ≡ class → Contains nodes y

@@ -1,6 +1,6 @@
 -- Where no premise sets a fact against another one, its tokens contradict those of their class
 -- alone.
-use Rattle.std.proofs.Common.{◌≡◌, ◌⊎◌, ◌∙◌, ℕ, Bool, true, false, not, ◌&&◌, ◌||◌, List, refl, sym, ap, inl, inr}
+use Rattle.std.proofs.Common.{◌≡◌, ◌∙◌, ℕ, Bool, true, false, not, ◌&&◌, ◌||◌, List, refl, sym, ap, inl, inr}
 use Rattle.std.proofs.lemmas.Bool.{or_cases, or_right, not-true}
 use Rattle.std.specs.Prelude.{Option, Some, None}
 use Rattle.std.specs.List.{list_any}
@@ -10,7 +10,7 @@ use Rattle.tmm_model.specs.Beliefs.{says_against, are_rivals, contradicts_in}
 use Rattle.tmm_model.specs.Moments.{Moment}
 use Rattle.tmm_model.specs.Points.{same_name}
 use Rattle.tmm_model.specs.Standing.{Standing}
-use Rattle.tmm_model.specs.Tokens.{of_one_class, supports, clips, cuts, is_by, is_before, lasts_to}
+use Rattle.tmm_model.specs.Tokens.{of_one_class, supports, cuts, is_by, is_before, lasts_to}
 use Rattle.list_theory.proofs.Elements.{both, list_any-In, In-list_any}
 use Rattle.belief_theory.proofs.Rivals.{or_false}
 use Rattle.walk_theory.proofs.Points.{same_name-is, same_name-self}
@@ -53,9 +53,6 @@ module _ (s : Standing) (gap : Moment → Moment → Bound) where
   module _ (k : TokenRow Moment) (alone : has_rivals s k.fact ≡ false) where
     contradict : (c : TokenRow Moment) → contradicts_in s k c ≡ of_one_class k c
     contradict c = ap (λ b. of_one_class k c || b) (no_rival s k.fact alone c.fact) ∙ or_false (of_one_class k c)
-
-    pub clips_alone : clips (contradicts_in s) gap k ≡ clips of_one_class gap k
-    clips_alone = λ i c. contradict c i && is_before gap k.spot c.spot
 
     pub cuts_alone : (q : Moment) → cuts (contradicts_in s) gap k q ≡ cuts of_one_class gap k q
     cuts_alone q = λ i c. (contradict c i && is_before gap k.spot c.spot) && is_by gap c.spot q

@@ -8,3 +8,4 @@ pub mod Rules
 pub mod Growing
 pub mod Edited
 pub mod ClassTokens
+pub mod Clips

@@ -6,13 +6,12 @@ ghost use Rattle.std.specs.Option.{option_map, ForSome};
 ghost use Rattle.tmm_model.specs.Answers.{clip};
 ghost use Rattle.tmm_model.specs.Moments.{Moment};
 ghost use Rattle.tmm_model.specs.Standing.{Standing as StandingList};
-ghost use Rattle.premise_list.specs.Rivalries.{has_rivals};
 ghost use Rattle.tmm_model.specs.Tokens.{of_one_class, clips};
 ghost use Rattle.clipping.specs.Stretches.{rows_of, HaveStretches};
 ghost use Rattle.name_lists.specs.Lists.{list_of};
 ghost use Rattle.occ_tree.specs.Ranks.{nodes_of};
 ghost use Rattle.clip_search.specs.Entries.{AreBranches, row_at};
-ghost use Rattle.occ_tree.specs.Tokens.{IsInOrder, numbers_in};
+ghost use Rattle.occ_tree.specs.Tokens.{IsInOrder, number_of, numbers_in};
 ghost use Rattle.spots.specs.Forest.{IsLive, IsOnce, moment_at};
 ghost use Rattle.spots.specs.OfLists.{IsForestOf, HasOccurrences, map_of};
 ghost use Rattle.spots.specs.Spots.{IsSpot, AreTokens, spot_distance, node_cmp};
@@ -21,6 +20,7 @@ ghost use Rattle.occ_tree.specs.Places.{forest};
 ghost use Rattle.occ_tree.specs.Standing.{order, present};
 ghost use Rattle.supports.specs.Behind.{AreBehind, IsClip, IsLastNode, token_at};
 ghost use Rattle.supports.specs.ClassClips.{AreClips};
+ghost use Rattle.supports.specs.Clips.{IsClipBy};
 ghost use Rattle.supports.specs.Near.{IsNear};
 ghost use Rattle.supports.specs.Nodes.{IsOfNode};
 ghost use Rattle.supports.specs.declared.near.Near.{Near as ANear};
@@ -94,22 +94,36 @@ pub fn class_clips(
         later = count_later(behind.len(), later, last, date);
         last = date;
         let asked = &behind[..later];
-        let clip = class_clip(
-            alloc,
-            standing,
-            tree,
-            net,
-            rows,
-            i,
-            wanted[i],
-            asked,
-            &mut branches,
-        )?;
+        let own = class_clip(alloc, tree, net, rows, i, wanted[i], asked, &mut branches)?;
+        let clip = clip_among_all(standing, tree, net, &row, wanted[i], own);
         clips[i] = clip;
         let first = stretch_behind(&behind, &row.fact);
         behind.push_reserved(Stretched { row, first });
     }
     Ok(clips)
+}
+
+// What clips a token, where that is wanted, given that of its own class that does.
+fn clip_among_all(
+    standing: &Standing,
+    tree: &Tree,
+    net: &DistNet,
+    k: &TokenRow<Spot>,
+    wanted: bool,
+    own: Option<u32>,
+) -> Option<u32>
+    requires dates { IsTreeIn net.now.present tree.now }
+    requires token { token_at (forest tree.now) (number_of k.now.spot) ≡ Some k.now }
+    requires live { IfSome own (IsLive (forest tree.now)) }
+    requires own { wanted ≡ true → IsClipBy of_one_class standing.now.present net.now.present (forest tree.now) (number_of k.now.spot) own }
+    ensures live { IfSome result (IsLive (forest tree.now)) }
+    ensures clip { wanted ≡ true → IsClip standing.now.present net.now.present (forest tree.now) (number_of k.now.spot) result }
+{
+    if wanted {
+        rivals::clip(standing, tree, net, k, own)
+    } else {
+        own
+    }
 }
 
 // The place of the first that is wanted, that behind all where none is.
@@ -125,11 +139,10 @@ fn first_wanted(wanted: &[bool]) -> usize
     wanted.len()
 }
 
-// What clips the token at `i`, where that is wanted: among those behind it, the nearest one last,
-// or among all of its class, or where its fact has rivals, among those of their classes too.
+// What clips the token at `i` of those of its class, where that is wanted: among those behind it,
+// the nearest one last, or among all.
 fn class_clip(
     alloc: Global,
-    standing: &Standing,
     tree: &Tree,
     net: &DistNet,
     rows: &[TokenRow<Spot>],
@@ -147,24 +160,20 @@ fn class_clip(
     requires stretches { HaveStretches behind.now }
     requires branches { IfSome branches.old (AreBranches (forest tree.now) rows.now) }
     ensures live { IfOk result (λ clip. IfSome clip (IsLive (forest tree.now))) }
-    ensures clip { IfOk result (λ clip. wanted ≡ true → ((has_rivals standing.now.present (row_at rows.now i).fact ≡ false) × IsNear net.now.present (forest tree.now) (rows_of behind.now) (row_at rows.now i) (ANear.Found clip)) ⊎ IsClip standing.now.present net.now.present (forest tree.now) (slice_index_or (numbers_in rows.now) i 0) clip) }
+    ensures clip { IfOk result (λ clip. wanted ≡ true → IsNear net.now.present (forest tree.now) (rows_of behind.now) (row_at rows.now i) (ANear.Found clip) ⊎ ((s : StandingList) → IsClipBy of_one_class s net.now.present (forest tree.now) (slice_index_or (numbers_in rows.now) i 0) clip)) }
     ensures branches { OnOk result (IfSome branches.new (AreBranches (forest tree.now) rows.now)) }
 {
     if !wanted {
         return Ok(None);
     }
-    let row = &rows[i];
-    if standing.has_rivals(row.fact) {
-        return Ok(rivals::clip(standing, tree, net, node_of(row)));
-    }
-    match near_clip(tree, net, behind, row) {
+    match near_clip(tree, net, behind, &rows[i]) {
         Near::Found(clip) => Ok(clip),
         Near::Open => far_clip(alloc, tree, net, rows, i, branches),
     }
 }
 
-// What clips the token at `i`, which is no span and whose fact has no rivals, by the nodes under
-// which tokens are. These are gathered where they are first asked for.
+// What clips the token at `i`, which is no span, of those of its class, by the nodes under which
+// tokens are. These are gathered where they are first asked for.
 fn far_clip(
     alloc: Global,
     tree: &Tree,
@@ -180,7 +189,7 @@ fn far_clip(
     requires no_span { (row_at rows.now i).end ≡ None }
     requires branches { IfSome branches.old (AreBranches (forest tree.now) rows.now) }
     ensures live { IfOk result (λ clip. IfSome clip (IsLive (forest tree.now))) }
-    ensures clip { IfOk result (λ clip. (s : StandingList) → has_rivals s (row_at rows.now i).fact ≡ false → IsClip s net.now.present (forest tree.now) (slice_index_or (numbers_in rows.now) i 0) clip) }
+    ensures clip { IfOk result (λ clip. (s : StandingList) → IsClipBy of_one_class s net.now.present (forest tree.now) (slice_index_or (numbers_in rows.now) i 0) clip) }
     ensures branches { OnOk result (IfSome branches.new (AreBranches (forest tree.now) rows.now)) }
 {
     let table = gathered(alloc, tree, rows, branches.take())?;
@@ -219,7 +228,7 @@ fn count_later(count: usize, later: usize, last: i64, date: i64) -> usize
 }
 
 // What clips the node at a place, given the tokens behind it by their classes, to which its own is
-// added. What clips a token begins after it, so it is the nearest behind it that does.
+// added. What clips a token begins after it, so of its class it is the nearest behind it that does.
 fn clip_at(
     alloc: Global,
     standing: &Standing,
@@ -243,36 +252,11 @@ fn clip_at(
         return Ok(None);
     };
     let others = behind.of(&token.class);
-    let clip = token_clip(standing, tree, net, others, &token, ranked[i].node);
+    let own = next_clip(tree, net, others, &token);
+    let clip = rivals::clip(standing, tree, net, &token, own);
     let first = stretch_behind(others, &token.fact);
     behind.push(alloc, token.class, Stretched { row: token, first })?;
     Ok(clip)
-}
-
-// What clips the token of a node: the last that does of those behind it, or where its fact has
-// rivals, the first of the tokens of all these classes.
-fn token_clip(
-    standing: &Standing,
-    tree: &Tree,
-    net: &DistNet,
-    behind: &[Stretched<Spot>],
-    k: &TokenRow<Spot>,
-    x: u32,
-) -> Option<u32>
-    requires dates { IsTreeIn net.now.present tree.now }
-    requires nodes { All IsOfNode (rows_of behind.now) }
-    requires live { All (λ row. IsSpot net.now.present.names (forest tree.now) row.spot × ForSome row.end (IsSpot net.now.present.names (forest tree.now))) (rows_of behind.now) }
-    requires stretches { HaveStretches behind.now }
-    requires k_live { IsSpot net.now.present.names (forest tree.now) k.now.spot }
-    requires x_live { IsLive (forest tree.now) x }
-    ensures live { IfSome result (IsLive (forest tree.now)) }
-    ensures clip { ((has_rivals standing.now.present k.now.fact ≡ false) × MatchOption k.now.end (IsLastNode (clips of_one_class (spot_distance net.now.present (forest tree.now)) k.now) (rows_of behind.now) result) (λ _. IsNone result)) ⊎ IsClip standing.now.present net.now.present (forest tree.now) x result }
-{
-    if standing.has_rivals(k.fact) {
-        rivals::clip(standing, tree, net, x)
-    } else {
-        next_clip(tree, net, behind, k)
-    }
 }
 
 // The token that a node is, none for an event.

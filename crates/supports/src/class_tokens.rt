@@ -96,7 +96,7 @@ impl ClassTokens<'_> {
 }
 
 // The other fact of a pair that has this one.
-fn other_in(fact: Name, pair: (Name, Name)) -> Option<Name>
+pub(crate) fn other_in(fact: Name, pair: (Name, Name)) -> Option<Name>
     ensures { result ≡ other_in fact pair }
 {
     if pair.0 == fact {

@@ -6,7 +6,8 @@
 //!
 //! Two facts of one class contradict each other, and two that a premise sets against each other. A
 //! fact of which no premise speaks asks the tokens of its class alone, any other one the tokens of
-//! the classes of its rivals too (`clipping::across`).
+//! the classes of its rivals too (`clipping::across`). What clips a token is looked for in its own
+//! class, and then among the tokens of each of its rivals that come before what was found.
 //!
 //! Each call answers the definition for the list, over the occurrences that the nodes are. `clips`,
 //! `class_clips` and `add_root` alone take memory, and `supporter` and `is_supported` for guesses:

@@ -1,11 +1,14 @@
 // What supports and clips where premises set the fact against others: the tokens of its class and
 // those of the classes of these facts are asked.
-ghost use Rattle.std.specs.Prelude.{◌≡◌, ◌<◌, ℕ, List, Some, IsSome, IfSome};
+ghost use Rattle.std.specs.Prelude.{◌≡◌, ◌<◌, ℕ, List, [], ◌∷◌, ◌++◌, None, Some, IsSome, IfSome};
 ghost use Rattle.std.specs.Option.{option_map};
 ghost use Rattle.tmm_model.specs.Beliefs.{has_support, holder};
 ghost use Rattle.tmm_model.specs.Moments.{Moment};
 ghost use Rattle.tmm_model.specs.Sorts.{class_in};
 ghost use Rattle.tmm_model.specs.Standing.{far_in};
+ghost use Rattle.tmm_model.specs.Tokens.{of_one_class};
+ghost use Rattle.list_theory.proofs.Elements.{In};
+ghost use Rattle.premise_list.specs.Rivalries.{rivalries};
 ghost use Rattle.spots.specs.Forest.{IsLive, moment_at};
 ghost use Rattle.spots.specs.OfLists.{HasOccurrences};
 ghost use Rattle.spots.specs.declared.spot.Spot.{Spot};
@@ -14,17 +17,18 @@ ghost use Rattle.occ_tree.specs.OfLists.{IsTreeOf};
 ghost use Rattle.occ_tree.specs.Places.{forest};
 ghost use Rattle.occ_tree.specs.Standing.{present};
 ghost use Rattle.occ_tree.specs.OfLists.{IsTreeIn};
-ghost use Rattle.supports.specs.Behind.{IsClip};
+ghost use Rattle.occ_tree.specs.Tokens.{number_of};
+ghost use Rattle.supports.specs.Behind.{token_at, IsClip};
+ghost use Rattle.supports.specs.Clips.{rival_in, of_pairs, IsClipBy};
 
-use crate::class_tokens::ClassTokens;
-use crate::{node_at, place_of};
-use clipping::Tokens;
-use clipping::across::{self, Place};
+use crate::class_tokens::{ClassTokens, other_in};
+use crate::node_at;
+use clipping::{Tokens, across, by_date};
 use dist_net::DistNet;
 use occ_tree::{Order, Tree};
 use premise_list::Standing;
 use spots::Spot;
-use tmm_model::Name;
+use tmm_model::{Name, TokenRow};
 
 // The node of the first token that supports the fact throughout `p` to `q`.
 pub(crate) fn supporter(
@@ -86,25 +90,80 @@ pub(crate) fn is_supported(
     across::is_held(&Order { tree, net }, &tokens, standing, 0, &[], fact, p, q)
 }
 
-// The node of the first token that clips the one at `x`. A span and an event have none.
-pub(crate) fn clip(standing: &Standing, tree: &Tree, net: &DistNet, x: u32) -> Option<u32>
+// The node of the first token that clips `k`, given that of its own class that does. A span has
+// none. Of each other fact that a premise sets against its own those tokens alone are asked that
+// come before the clip that is known.
+pub(crate) fn clip(
+    standing: &Standing,
+    tree: &Tree,
+    net: &DistNet,
+    k: &TokenRow<Spot>,
+    own: Option<u32>,
+) -> Option<u32>
     requires dates { IsTreeIn net.now.present tree.now }
-    requires live { IsLive (forest tree.now) x }
+    requires token { token_at (forest tree.now) (number_of k.now.spot) ≡ Some k.now }
+    requires live { IfSome own (IsLive (forest tree.now)) }
+    requires own { IsClipBy of_one_class standing.now.present net.now.present (forest tree.now) (number_of k.now.spot) own }
     ensures live { IfSome result (IsLive (forest tree.now)) }
-    ensures clip { IsClip standing.now.present net.now.present (forest tree.now) x result }
+    ensures clip { IsClip standing.now.present net.now.present (forest tree.now) (number_of k.now.spot) result }
 {
-    let row = tree.row(x);
-    let class = row.class?;
-    let tokens = ClassTokens {
-        standing,
-        tree,
-        fact: row.what,
-        class,
+    if k.end.is_some() {
+        return own;
+    }
+    let mut clip = own;
+    for i in 0..standing.rivalries() {
+        clip = clip_with(standing, tree, net, k, standing.rivalry(i), clip);
+    }
+    clip
+}
+
+// The sooner of a clip and of the first token of the other fact of a pair that clips `k`, where the
+// pair has the fact of `k`, which is no span.
+fn clip_with(
+    standing: &Standing,
+    tree: &Tree,
+    net: &DistNet,
+    k: &TokenRow<Spot>,
+    pair: (Name, Name),
+    clip: Option<u32>,
+) -> Option<u32>
+    requires dates { IsTreeIn net.now.present tree.now }
+    requires token { token_at (forest tree.now) (number_of k.now.spot) ≡ Some k.now }
+    requires no_span { k.now.end ≡ None }
+    requires pair { In pair (rivalries standing.now.present.premises) }
+    requires live { IfSome clip (IsLive (forest tree.now)) }
+    ensures live { IfSome result (IsLive (forest tree.now)) }
+    ensures clip { (pairs : List (List ℕ × List ℕ)) → IsClipBy (of_pairs pairs) standing.now.present net.now.present (forest tree.now) (number_of k.now.spot) clip
+        → IsClipBy (of_pairs (pairs ++ pair ∷ [])) standing.now.present net.now.present (forest tree.now) (number_of k.now.spot) result }
+{
+    let Some(fact) = rival_in(&k.fact, &pair) else {
+        return clip;
     };
-    tokens.are_in_order();
-    tree.have_tokens();
-    let order = Order { tree, net };
-    let at = place_of(&order, tokens.list(0), x);
-    let clipper = across::first_clipper(&order, &tokens, standing, Place { list: 0, at })?;
-    Some(node_at(tokens.list(clipper.list), clipper.at))
+    let Some(class) = standing.class_of(fact) else {
+        return clip;
+    };
+    let rows = tree.tokens(&class);
+    let before = spot_of(clip);
+    match by_date::first_of_fact(&Order { tree, net }, rows, &fact, k.spot, before) {
+        Some(place) => Some(node_at(rows, place)),
+        None => clip,
+    }
+}
+
+// The spot of a node, where there is one.
+fn spot_of(node: Option<u32>) -> Option<Spot>
+    ensures { result ≡ option_map Spot.Node node }
+{
+    match node {
+        Some(x) => Some(Spot::Node(x)),
+        None => None,
+    }
+}
+
+// The fact that a pair sets against this one.
+fn rival_in(fact: &Name, pair: &(Name, Name)) -> Option<Name>
+    ensures { result ≡ rival_in fact.now pair.now }
+{
+    let other = other_in(*fact, *pair)?;
+    if other == *fact { None } else { Some(other) }
 }

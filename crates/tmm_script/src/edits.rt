@@ -1,5 +1,6 @@
 // Lines that change the standing premises. Each function reads the words behind a line's first one.
-ghost use Rattle.std.specs.Prelude.{◌≡◌, option_map, codes};
+ghost use Rattle.std.specs.Prelude.{◌≡◌, ℕ, List, false, None, option_map, codes};
+ghost use Rattle.tmm_model.specs.declared.version.Version.{Version as AVersion};
 ghost use Rattle.tmm_model.specs.Lines.{words};
 ghost use Rattle.tmm_grammar.specs.Reading.{class_of, dist_of, rule_of, facts_of, conditions_of, protect_of, name_alone_of, two_names_of, rivals_of, against_of, premise_of, alone, two_of, upgrade_of, edit_of, is_range as is_range_of};
 ghost use Rattle.tmm_script.specs.Conditions.{Cut, given_cut};
@@ -11,6 +12,26 @@ use crate::fields::{
 use arrayvec::ArrayVec;
 use tmm_model::{Bound, Edit, MOST_ANTECEDENTS, MOST_EXCEPTIONS, Name, Premise, Version};
 use tmm_words::split_word;
+
+/// Whether a line with this first word may make a change.
+#[tactic(auto, unfolding(tmm_grammar::specs::Reading::edit_of, tmm_grammar::specs::Reading::premise_of))]
+pub fn begins_edit(word: &[u8]) -> bool
+    ensures { result ≡ false → (version : AVersion) (rest : List (List ℕ)) → edit_of version word.now rest ≡ None }
+{
+    match word {
+        [b'a', ..] => word == b"against".as_slice(),
+        [b'c', ..] => word == b"class".as_slice(),
+        [b'd', ..] => word == b"dist".as_slice(),
+        [b'e', ..] => word == b"event".as_slice() || word == b"erase".as_slice(),
+        [b'h', ..] => word == b"horizon".as_slice(),
+        [b'k', ..] => word == b"kind".as_slice(),
+        [b'p', ..] => word == b"point".as_slice() || word == b"protect".as_slice(),
+        [b'r', ..] => word == b"rule".as_slice(),
+        [b's', ..] => word == b"span".as_slice(),
+        [b't', ..] => word == b"token".as_slice() || word == b"tmm".as_slice(),
+        _ => false,
+    }
+}
 
 /// The change that in a version a line with this first word makes.
 #[tactic(auto, unfolding(tmm_grammar::specs::Reading::edit_of))]

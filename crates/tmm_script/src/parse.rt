@@ -9,7 +9,7 @@ ghost use Rattle.tmm_grammar.specs.Reading.{edit_of, query_of, line_of};
 ghost use Rattle.tmm_script.specs.Derived.{asked_of, asks_derived, some_derived};
 ghost use Rattle.tmm_script.specs.Given.{IsRead, IsReadingOf};
 
-use crate::edits::edit;
+use crate::edits::{begins_edit, edit};
 use crate::fields::Misread;
 use crate::queries::query;
 use std::alloc::Global;
@@ -41,8 +41,23 @@ pub fn parse_line(alloc: Global, version: Version, line: &[u8]) -> Result<Line, 
 }
 
 // What a line with this first word says, which begins no comment. A change is large, so it is read
-// apart from lines that say less, and questions apart from changes.
+// apart from lines that say less, and only where the word may begin one.
 fn said(alloc: Global, version: Version, word: &[u8], rest: &[u8]) -> Result<Line, Stop>
+    requires { is_comment word.now ≡ false }
+    ensures read { IsRead result (line_of version (word.now ∷ words rest.now)) }
+    ensures changes_none { result ≡ Err NoMemory → edit_of version word.now (words rest.now) ≡ None }
+    ensures memory { result ≡ Err NoMemory → IsTrue (some_derived (asked_of word.now (words rest.now))) }
+{
+    if begins_edit(word) {
+        changed(alloc, version, word, rest)
+    } else {
+        asked(alloc, word, rest)
+    }
+}
+
+// What a line says that may be a change, or may ask a question.
+#[inline(never)]
+fn changed(alloc: Global, version: Version, word: &[u8], rest: &[u8]) -> Result<Line, Stop>
     requires { is_comment word.now ≡ false }
     ensures read { IsRead result (line_of version (word.now ∷ words rest.now)) }
     ensures changes_none { result ≡ Err NoMemory → edit_of version word.now (words rest.now) ≡ None }
@@ -55,6 +70,7 @@ fn said(alloc: Global, version: Version, word: &[u8], rest: &[u8]) -> Result<Lin
 }
 
 // The question that a line with this first word asks.
+#[inline(never)]
 fn asked(alloc: Global, word: &[u8], rest: &[u8]) -> Result<Line, Stop>
     ensures read { IsRead result (option_map Question (query_of word.now (words rest.now))) }
     ensures memory { result ≡ Err NoMemory → IsTrue (some_derived (asked_of word.now (words rest.now))) }

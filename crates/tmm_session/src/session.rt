@@ -144,7 +144,9 @@ fn refuse(alloc: Global, line: u64, refusal: &Refusal) -> Told
     reply(reply_no(alloc, line, refusal), ReplyKind::Refused)
 }
 
-// Makes an edit, and keeps it once there is a reply.
+// Makes an edit, and keeps it once there is a reply. What an edit makes is large, so this is kept
+// apart from lines that are refused.
+#[inline(never)]
 fn change<M: MapCore>(
     alloc: Global,
     line: u64,

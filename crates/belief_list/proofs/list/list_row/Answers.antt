@@ -13,8 +13,8 @@ pub returns : goal.returns
 returns c =
     let f = forest c.args.tree.now in
     let x = c.args.row.now.node in
-    let (m, here) = node_at f x c.requires.node in
+    let (m, here) = node_at f x c.requires.live.node in
     let what : c.row.result.what ≡ what_at f x = (c.row.ensures m here).what ∙ sym (ap (λ (o : Option Member). option_map_or (λ n. n.what) o []) here) in
     let fits : FitsSigned w64 c.args.row.now.early = search rules in
     let date = to_z-of_z w64 c.args.row.now.early fits in
-    λ i. record { date = date i; occ = c.in_ok-occ_of.ensures i; what = what i; clip = c.in_ok-clip_of.ensures i }
+    λ i. record { date = date i; occ = c.requires.own i; what = what i; clip = c.in_ok-clip.ensures i }

@@ -1,8 +1,8 @@
 use Rattle.std.proofs.Common.{◌≡◌, map, take}
 use Rattle.tmm_model.specs.Answers.{row_of}
-use Rattle.belief_list.specs.Rows.{row_at}
 use Rattle.occ_tree.specs.Places.{forest}
+use Rattle.belief_list.specs.Rows.{row_at}
 use Rattle.belief_list.proofs.list.list_rows.Given as goal
 
-abbrev pub invariant-loop-row : goal.invariant-loop-row
-invariant-loop-row l = map row_of l.told.items ≡ map (row_at (forest l.tree)) (take l.row-index l.rows)
+abbrev pub invariant-loop-i : goal.invariant-loop-i
+invariant-loop-i l = map row_of l.told.items ≡ map (row_at (forest l.tree)) (take l.i l.rows)

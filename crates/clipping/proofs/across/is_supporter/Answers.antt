@@ -7,6 +7,9 @@ use Rattle.tmm_model.specs.declared.token.TokenRow.{TokenRow}
 use Rattle.tmm_model.specs.Tokens.{of_one_class, supports}
 use Rattle.clipping.specs.Across.{list_at, all_of}
 use Rattle.clipping.specs.Rivals.{of_rivals}
+use Rattle.std.specs.Cmp.Lexicographic.{bytes_decides}
+use Rattle.tmm_model.specs.Points.{same_name}
+use Rattle.clipping.proofs.CutSpots.{kept_spot, other_fact, cut_off, known_cut, told_at, not_true, not_false}
 use Rattle.clipping.proofs.Rivals.{no_support, persistence_supports}
 use Rattle.clipping.proofs.across.is_supporter.Goals as goal
 
@@ -36,3 +39,32 @@ returns-in-None-clause-supports g c d =
     subst (λ (x : TokenRow g.row.S-Spot.Denot). not c.is_cut_elsewhere.result ≡ supports (of_rivals against) far (all_of lists) c.args.fact.now c.args.p c.args.q x) (get_or_read own c.args.i k c.requires.within read d)
     (sym (persistence_supports against (g.met.R.Rivals.irreflexive c.args.rivals.now) far lists c.args.own c.requires.by_class c.requires.own k here c.args.fact.now c.args.p c.args.q
     c.is_cut_elsewhere.result c.in-None.is held c.is_cut_elsewhere.ensures.cut c.is_cut_elsewhere.ensures.uncut))
+
+pub returns-then-ne-clause-supports : goal.returns-then-ne-clause-supports
+returns-then-ne-clause-supports g c d =
+    let lists = g.T.Tokens.lists c.args.tokens.now in
+    let rivals = of_rivals (g.R.Rivals.against c.args.rivals.now) in
+    let far = g.S.Sure.distance c.args.order.now in
+    let own = list_at lists c.args.own in
+    let k = c.index-list-i.result in
+    let read : k ≡ slice_index_or own c.args.i k = subst (λ (xs : List (TokenRow g.row.S-Spot.Denot)). k ≡ slice_index_or xs c.args.i k) c.list-list.ensures c.index-list-i.is in
+    let apart : not (same_name k.fact c.args.fact.now) ≡ true = sym c.ne.ensures ∙ c.if-ne.true in
+    told_at (supports rivals far (all_of lists) c.args.fact.now c.args.p c.args.q) own c.args.i k c.requires.within read false (other_fact rivals far (all_of lists) c.args.fact.now c.args.p c.args.q k (not_true (same_name k.fact c.args.fact.now) apart)) d
+
+pub returns-then-is_cut_at-clause-supports : goal.returns-then-is_cut_at-clause-supports
+returns-then-is_cut_at-clause-supports g c d =
+    let lists = g.T.Tokens.lists c.args.tokens.now in
+    let rivals = of_rivals (g.R.Rivals.against c.args.rivals.now) in
+    let far = g.S.Sure.distance c.args.order.now in
+    let own = list_at lists c.args.own in
+    let k = c.index-list-i.result in
+    let read : k ≡ slice_index_or own c.args.i k = subst (λ (xs : List (TokenRow g.row.S-Spot.Denot)). k ≡ slice_index_or xs c.args.i k) c.list-list.ensures c.index-list-i.is in
+    let same : k.fact ≡ c.args.fact.now = (bytes_decides k.fact c.args.fact.now).0 (not_false (same_name k.fact c.args.fact.now) (sym c.ne.ensures ∙ c.if-ne.false)) in
+    let cut = known_cut rivals far (g.S.Sure.live c.args.order.now) (all_of lists) c.args.fact.now c.args.q c.args.elsewhere.now c.requires.cut k same c.is_cut_at.result c.is_cut_at.ensures c.if-is_cut_at.true in
+    told_at (supports rivals far (all_of lists) c.args.fact.now c.args.p c.args.q) own c.args.i k c.requires.within read false (cut_off rivals far (all_of lists) c.args.fact.now c.args.p c.args.q k cut.0 cut.1) d
+
+pub returns-in-None-clause-cut : goal.returns-in-None-clause-cut
+returns-in-None-clause-cut g c =
+    let k = c.index-list-i.result in
+    let same : k.fact ≡ c.args.fact.now = (bytes_decides k.fact c.args.fact.now).0 (not_false (same_name k.fact c.args.fact.now) (sym c.ne.ensures ∙ c.if-ne.false)) in
+    kept_spot (of_rivals (g.R.Rivals.against c.args.rivals.now)) (g.S.Sure.distance c.args.order.now) (g.S.Sure.live c.args.order.now) (all_of (g.T.Tokens.lists c.args.tokens.now)) c.args.q k.fact c.args.fact.now same c.args.elsewhere.now _ c.is_cut_elsewhere.ensures.spot c.requires.cut

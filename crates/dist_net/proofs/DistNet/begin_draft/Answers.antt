@@ -15,4 +15,4 @@ invariant_of-self c =
     let tied : AreTied inside.committed inside.present new c.clear_draft.new.self inside.kept =
     subst (λ (t : Listed). AreTied inside.committed inside.present new t inside.kept) (sym c.clear_draft.ensures)
     (AreTied-begun inside.committed inside.present inside.draft.items new inside.changes inside.kept c.self.invariant.1 c.copy_table.ensures.copied) in
-    (ap length filled ∙ c.copy_table.ensures.places, subst (λ (t : List Bound). AreTied inside.committed inside.present t c.clear_draft.new.self inside.kept) (sym filled) tied, c.self.invariant.2, c.self.invariant.3)
+    (ap length filled ∙ c.copy_table.ensures.places, subst (λ (t : List Bound). AreTied inside.committed inside.present t c.clear_draft.new.self inside.kept) (sym filled) tied, c.self.invariant.2, c.self.invariant.3, c.self.invariant.4)

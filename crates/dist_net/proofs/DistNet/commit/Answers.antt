@@ -1,5 +1,5 @@
 use Rattle.std.proofs.Common.{length, ap, sym, subst, arith}
-use Rattle.dist_net.specs.Table.{AreTied}
+use Rattle.dist_net.specs.Table.{Kept, AreTied}
 use Rattle.dist_net.specs.Changes.{Listed}
 use Rattle.dist_net.proofs.Tied.{AreTied-same}
 use Rattle.dist_net.proofs.DistNet.commit.Goals as goal
@@ -12,4 +12,5 @@ invariant_of-self c =
           (AreTied-same c.copy_from.new.self inside.present inside.draft.items inside.changes.drafted (length c.edges.result.now) c.copy_from.ensures c.self.invariant.1.drafted (omega (arith, ap length c.edges.ensures.list))),
       c.self.invariant.2,
       c.self.invariant.3,
+      λ _. sym (ap (λ (s : Kept). s.names) c.copy_from.ensures),
     )

@@ -16,4 +16,5 @@ invariant_of-self c =
           (AreTied-same inside.committed c.copy_from.new.self inside.draft.items next (length c.edges.result.now) (sym c.copy_from.ensures) back (omega (arith, ap length c.edges.ensures.list))),
       c.self.invariant.2,
       c.self.invariant.3,
+      λ _. ap (λ (s : Kept). s.names) c.copy_from.ensures,
     )

@@ -13,4 +13,5 @@ invariant_of-self c =
           (AreTied-drafted inside.committed inside.present inside.draft.items inside.changes inside.kept place c.args.far c.note_draft.new.self.drafted c.self.invariant.1 c.note_draft.ensures.drafted),
       c.self.invariant.2,
       c.self.invariant.3,
+      c.self.invariant.4,
     )

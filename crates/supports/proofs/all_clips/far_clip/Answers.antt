@@ -1,12 +1,13 @@
 use Rattle.std.proofs.Common.{sym, subst}
 use Rattle.std.specs.Prelude.{Some, None, IfSome, slice_index_or}
+use Rattle.tmm_model.specs.Tokens.{of_one_class}
 use Rattle.clip_search.specs.Entries.{AreBranches, node_at}
 use Rattle.clip_search.specs.Firsts.{IsFirstOf, IsClipper}
 use Rattle.clip_search.proofs.Entering.{node_live, node_read, spot_read}
 use Rattle.occ_tree.specs.Places.{forest}
 use Rattle.occ_tree.specs.Tokens.{numbers_in}
 use Rattle.spots.specs.Forest.{IsLive}
-use Rattle.supports.specs.Behind.{IsClip}
+use Rattle.supports.specs.Clips.{IsClipBy}
 use Rattle.supports.proofs.ByDate.{by_date}
 use Rattle.supports.proofs.FirstBehind.{first_is_clip}
 use Rattle.supports.proofs.all_clips.far_clip.Goals as goal
@@ -42,8 +43,8 @@ returns-in-Some-clause-clip c =
     let rows = c.args.rows.now in
     let place = c.in-Some.place in
     let first = subst (IsFirstOf (IsClipper net f rows c.args.i)) c.in-Some.is c.in_ok-place.ensures in
-    λ s alone. subst (λ y. IsClip s net f (slice_index_or (numbers_in rows) c.args.i 0) (Some y)) (sym (node_read f class rows are place first.0.0 c.index-rows-place.result c.index-rows-place.is c.node_of.result c.node_of.ensures))
-    (first_is_clip c.requires.dates are c.requires.in_order c.args.i c.requires.within c.requires.no_span (Some place) first s alone)
+    λ s. subst (λ y. IsClipBy of_one_class s net f (slice_index_or (numbers_in rows) c.args.i 0) (Some y)) (sym (node_read f class rows are place first.0.0 c.index-rows-place.result c.index-rows-place.is c.node_of.result c.node_of.ensures))
+    (first_is_clip c.requires.dates are c.requires.in_order c.args.i c.requires.within c.requires.no_span (Some place) first s)
 
 pub returns-in-None-clause-clip : goal.returns-in-None-clause-clip
 returns-in-None-clause-clip c =
