@@ -19,6 +19,7 @@ mod leaving;
 mod lists;
 mod mark_laws;
 mod marking;
+mod moved_events;
 mod moved_pairs;
 mod moving;
 mod numbers;
