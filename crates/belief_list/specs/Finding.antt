@@ -1,5 +1,5 @@
 -- Differences of what is kept of nodes, as they are found.
-use Rattle.std.specs.Prelude.{◌≡◌, ◌⊎◌, ℕ, ◌<◌, ℤ, ◌<ℤ◌, Bool, true, false, List, length, Option, Some, None, IfSome, MatchOption, nat_eq, slice_index_or}
+use Rattle.std.specs.Prelude.{◌≡◌, ◌⊎◌, ℕ, ◌<◌, ℤ, ◌<ℤ◌, ◌≤ℤ◌, Bool, true, false, List, length, Option, Some, None, IfSome, IsSome, MatchOption, nat_eq, slice_index_or}
 use Rattle.std.specs.List.{All, Contains, IsDistinct}
 use Rattle.std.specs.Option.{option_and_then}
 use Rattle.tmm_model.specs.Beliefs.{are_rivals}
@@ -62,14 +62,22 @@ pub record IsAhead (kept : List (Option KeptRow)) (touched : List Bool) (clip : 
 abbrev pub IsUnrivalled : States → List ℕ → Type 0
 IsUnrivalled lists f = (g : List ℕ) → (are_rivals lists.committed f g ≡ false) × (are_rivals lists.present f g ≡ false)
 
--- **A token of the class keeps what clipped it**: neither it nor that was touched, and each touched
--- token of the class that has a later date than it has a later date than what clipped it, too. No
--- token of another class contradicts it.
+-- the same facts contradict this one in both lists, by what premises say
+abbrev pub AreRivalsKept : States → List ℕ → Type 0
+AreRivalsKept lists f = (g : List ℕ) → are_rivals lists.committed f g ≡ are_rivals lists.present f g
+
+-- the token is of the class, or premises set its fact against this one
+abbrev pub MayClip : Standing → List ℕ → List ℕ → Member → Type 0
+MayClip s class fact m = (m.class ≡ Some class) ⊎ (IsSome m.class × (are_rivals s fact m.what ≡ true))
+
+-- **A token of the class keeps what clipped it**: neither it nor that was touched, the same facts
+-- contradict its own as before, and each touched token that contradicts it and has a later date
+-- than it has a later date than what clipped it, too.
 pub record KeepsClip (lists : States) (tree : Kept) (nodes : List ℕ) (kept : List (Option KeptRow)) (class : List ℕ) (x : ℕ) : Type 0 where
   pub own : Contains nodes x → ⊥
-  pub plain : (m : Member) → member (forest (present tree)) x ≡ Some m → IsUnrivalled lists m.what
+  pub rivals : (m : Member) → member (forest (present tree)) x ≡ Some m → AreRivalsKept lists m.what
   pub free : (c : ℕ) → clip_of (row_under kept x) ≡ Some c → Contains nodes c → ⊥
-  pub ahead : (y : ℕ) (m : Member) → member (forest (present tree)) y ≡ Some m → m.class ≡ Some class → Contains nodes y → early (present tree) x <ℤ early (present tree) y
+  pub ahead : (m : Member) → member (forest (present tree)) x ≡ Some m → (y : ℕ) (n : Member) → member (forest (present tree)) y ≡ Some n → MayClip lists.present class m.what n → Contains nodes y → early (present tree) x <ℤ early (present tree) y
       → (c : ℕ) × (q : KeptRow) × (clip_of (row_under kept x) ≡ Some c) × (row_under kept c ≡ Some q) × (q.early <ℤ early (present tree) y)
 
 -- the tokens of the class that are not wanted keep what clipped them

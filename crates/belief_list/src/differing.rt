@@ -54,7 +54,11 @@ pub fn differences(
     // they tell the proof what holds of points that moved, and of the tokens of all classes
     let _ = net.moved();
     tree.have_tokens();
-    let touched = marked(alloc, nodes, kept.len())?;
+    let touched = Touched {
+        marks: marked(alloc, nodes, kept.len())?,
+        dates: dates_of(alloc, tree, nodes)?,
+        pairs: standing.changed_rivalries(alloc)?,
+    };
     let mut found = Found::make(alloc, kept.len())?;
     for class in classes {
         tell_class(
@@ -66,6 +70,49 @@ pub fn differences(
         tell_node(standing, tree, *x, kept, &mut found, &mut last)?;
     }
     Ok(found.differences)
+}
+
+// What an edit touched.
+#[derive(Drop)]
+struct Touched {
+    // a mark for each number that it touched
+    marks: Vec<bool>,
+    // the dates of the tokens that it touched, rising
+    dates: Vec<i64>,
+    // the pairs of facts that contradict each other by one of both lists alone
+    pairs: Vec<(Name, Name)>,
+}
+
+// The dates of the tokens among these nodes, rising.
+fn dates_of(alloc: Global, tree: &Tree, nodes: &[u32]) -> Result<Vec<i64>, NoMemory> {
+    let mut dates = Vec::with_capacity(alloc, nodes.len())?;
+    for x in nodes {
+        if tree.is_live(*x) && tree.row(*x).class.is_some() {
+            dates.push_reserved(tree.early(*x));
+        }
+    }
+    dates.sort_unstable();
+    Ok(dates)
+}
+
+// The first of some rising dates that is later than this one.
+fn date_after(dates: &[i64], date: i64) -> Option<i64> {
+    let mut low = 0;
+    let mut high = dates.len();
+    while low < high {
+        let middle = low + (high - low) / 2;
+        if dates[middle] <= date {
+            low = middle + 1;
+        } else {
+            high = middle;
+        }
+    }
+    dates.get(low).copied()
+}
+
+// Whether one of the pairs has the fact.
+fn have(pairs: &[(Name, Name)], fact: &Name) -> bool {
+    pairs.iter().any(|pair| pair.0 == *fact || pair.1 == *fact)
 }
 
 // Differences as they are found, with a mark for each number that was looked at.
@@ -168,7 +215,7 @@ fn tell_class(
     net: &DistNet,
     class: &Name,
     kept: &[Option<KeptRow>],
-    touched: &[bool],
+    touched: &Touched,
     found: &mut Found,
 ) -> Result<(), NoMemory>
     requires seen { IsTreeOf standing.now.present net.now.present tree.now }
@@ -226,7 +273,7 @@ fn wanted_of(
     tree: &Tree,
     class: &Name,
     kept: &[Option<KeptRow>],
-    touched: &[bool],
+    touched: &Touched,
 ) -> Result<Vec<bool>, NoMemory>
     requires dates { (net : Net) × IsTreeIn net tree.now }
     ensures long { IfOk result (λ wanted. length wanted.items ≡ length ((present tree.now).tokens class.now)) }
@@ -248,7 +295,7 @@ fn is_wanted(
     standing: &Standing,
     tree: &Tree,
     kept: &[Option<KeptRow>],
-    touched: &[bool],
+    touched: &Touched,
     row: &TokenRow<Spot>,
     next: &mut Option<i64>,
 ) -> bool
@@ -259,14 +306,22 @@ fn is_wanted(
     ensures plain { result ≡ false → IsUnrivalled standing.now row.now.fact }
 {
     let x = node_of(row);
-    if is_marked(touched, x) {
+    if is_marked(&touched.marks, x) {
         *next = Some(tree.early(x));
         return true;
     }
-    if has_or_had_rivals(standing, row.fact) {
+    let clip = clip_of(kept_row(kept, x));
+    if !keeps_clip(kept, &touched.marks, clip, *next) {
         return true;
     }
-    !keeps_clip(kept, touched, clip_of(kept_row(kept, x)), *next)
+    has_or_had_rivals(standing, row.fact)
+        && (have(&touched.pairs, &row.fact)
+            || !keeps_clip(
+                kept,
+                &touched.marks,
+                clip,
+                date_after(&touched.dates, tree.early(x)),
+            ))
 }
 
 // Whether what clips a token was not touched, and has an earlier date than the first one behind the
