@@ -3,9 +3,9 @@
 use Rattle.std.proofs.Common.{◌≡◌, ℕ, Bool, true, false, not, ◌||◌, List, refl, sym, ◌∙◌, ap, subst, inl, inr, arith}
 use Rattle.std.proofs.lemmas.Bool.{or_cases}
 use Rattle.std.proofs.lemmas.Int.{ints}
-use Rattle.std.specs.Prelude.{◌⊎◌, ◌<ℤ◌, ◌≤ℤ◌, Option, Some, None, IfSome, IsSome}
+use Rattle.std.specs.Prelude.{◌⊎◌, ◌<ℤ◌, ◌≤ℤ◌, Option, Some, None, IfSome}
 use Rattle.std.specs.List.{Contains, list_any}
-use Rattle.std.specs.Option.{option_map, option_and_then}
+use Rattle.std.specs.Option.{is_some, option_map, option_and_then}
 use Rattle.std.specs.Cmp.Lexicographic.{bytes_decides}
 use Rattle.tmm_model.specs.declared.premise.Edit.{Edit}
 use Rattle.tmm_model.specs.declared.token.TokenRow.{TokenRow}
@@ -365,7 +365,7 @@ module _ (lists : States) (nets : Nets) (edit : Edit) (tree : Kept) (kept : List
     may_clip : (n : Member) (y : ℕ) (c : List ℕ) → n.class ≡ Some c → contradicts_in (next_list s edit) (token_now x m class) (token_now y n c) ≡ true → MayClip lists.present class m.what n
     may_clip n y c of_y contradicts = elim (or_cases (of_one_class (token_now x m class) (token_now y n c)) (are_rivals (next_list s edit) m.what n.what) contradicts) [
       | inl one ↦ inl (of_y ∙ ap Some (sym ((bytes_decides class c).0 (both (same_name class c) (not (same_name m.what n.what)) one).0)))
-      | inr rival ↦ inr (subst IsSome (sym of_y) refl, ap (λ (z : Standing). are_rivals z m.what n.what) edited.list ∙ rival)
+      | inr rival ↦ inr (ap is_some of_y, ap (λ (z : Standing). are_rivals z m.what n.what) edited.list ∙ rival)
     ]
 
     near : (y : ℕ) (n : Member) → member g y ≡ Some n → MayClip lists.present class m.what n → node_early nets.present g x <ℤ node_early nets.present g y
@@ -376,7 +376,7 @@ module _ (lists : States) (nets : Nets) (edit : Edit) (tree : Kept) (kept : List
         touched among =
             let date_x = dated x (live_at g x m here) in
             let date_y = dated y (live_at g y n at_y) in
-            let (c, q, clip, row, less) = keeps.ahead m here y n at_y may among (omega (arith, ints, later, date_x, date_y)) in
+            let (c, q, clip, row, less) = keeps.ahead m n y here at_y may among (omega (arith, ints, later, date_x, date_y)) in
             let own = sym own_clip ∙ clip in
             let date_c = untouched_date c (clipper_live c own) (keeps.free c clip) q row in
             let beyond = ahead c own in
