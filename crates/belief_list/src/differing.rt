@@ -33,9 +33,8 @@ use tmm_model::{Name, NoMemory, TokenRow};
 
 /// The differences that an edit makes, given nodes and classes that are all it may have touched,
 /// and what is kept of the nodes of the last commit, with a place for each present one. Only those
-/// nodes are looked at, and tokens of those classes that one of them may clip, or clipped, or of
-/// whose fact a premise says that one of another class contradicts it. Without memory it answers
-/// that.
+/// nodes are looked at, and tokens of those classes that one of them may clip, or clipped, or
+/// whose fact premises of one list alone set against another one. Without memory it answers that.
 pub fn differences(
     alloc: Global,
     standing: &Standing,
@@ -126,9 +125,7 @@ fn date_after(dates: &[i64], date: i64) -> Option<i64>
     requires { AreRising dates.now }
     ensures { IsFirstAfter dates.now date result }
 {
-    dates
-        .get(dates.partition_point(|d| *d <= date))
-        .copied()
+    dates.get(dates.partition_point(|d| *d <= date)).copied()
 }
 
 // Whether one of the pairs has the fact.
