@@ -1,4 +1,4 @@
-use Rattle.std.proofs.Common.{w64, rules, ◌≡◌, ◌∙◌, ℕ, ◌+◌, ◌<◌, false, true, List, [], ◌∷◌, ◌++◌, Vec, Global, vec_len, vec_capacity, to_z, of_z, ap, sym, subst, arith}
+use Rattle.std.proofs.Common.{w64, rules, ◌≡◌, ◌∙◌, ℕ, ◌+◌, ◌<◌, false, true, [], ◌∷◌, ◌++◌, Vec, Global, vec_len, vec_capacity, to_z, of_z, ap, sym, subst, arith}
 use Rattle.std.specs.Int.RustNames.{FitsSigned}
 use Rattle.std.proofs.lemmas.Int.{to_z-of_z}
 use Rattle.std.proofs.lemmas.List.Elements.{All-contains, Contains-append_left, Contains-push}
