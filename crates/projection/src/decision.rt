@@ -100,7 +100,7 @@ pub fn decide(
         tree,
         net,
     };
-    match text_in_time(tree, net, standing, trigger, rule) {
+    match text_in_time(&map, trigger, rule) {
         Some(text) => try_facts(&map, trigger, text.given, text.exceptions, guesses),
         None => Decision::Beyond,
     }

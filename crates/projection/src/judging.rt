@@ -63,7 +63,7 @@ pub fn judge(
         tree,
         net,
     };
-    match text_in_time(tree, net, standing, trigger, rule) {
+    match text_in_time(&map, trigger, rule) {
         Some(text) => judge_facts(&map, trigger, text.given, text.exceptions, guesses),
         None => Verdict::Beyond,
     }
@@ -99,45 +99,26 @@ fn judge_facts(
 // Whether the rule at this place of the list fires on the event at the node `trigger`, where its
 // effect is due: each of its antecedents has a supporter there, whichever that is, and no exception
 // has one.
-pub(crate) fn is_free(
-    alloc: Global,
-    tree: &Tree,
-    net: &DistNet,
-    standing: &Standing,
-    trigger: u32,
-    place: u32,
-) -> bool
-    requires seen { IsTreeOf standing.now.present net.now.present tree.now }
-    requires trigger { IsLive (forest tree.now) trigger }
-    requires place { IsRuleAt standing.now.present place }
-    requires rule { Contains (rules_at standing.now.present (moment_at (forest tree.now) trigger)) (name_at standing.now.present place) }
-    ensures { (b : List Moment) → HasOccurrences b (forest tree.now) → result ≡ is_free standing.now.present (far_in standing.now.present.premises) b (moment_at (forest tree.now) trigger) (name_at standing.now.present place) }
+pub(crate) fn is_free(alloc: Global, map: &TimeMap<'_>, trigger: u32, place: u32) -> bool
+    requires seen { IsTimeMap map.now }
+    requires trigger { IsLive (forest map.now.tree.now) trigger }
+    requires place { IsRuleAt map.now.standing.now.present place }
+    requires rule { Contains (rules_at map.now.standing.now.present (moment_at (forest map.now.tree.now) trigger)) (name_at map.now.standing.now.present place) }
+    ensures { (b : List Moment) → HasOccurrences b (forest map.now.tree.now) → result ≡ is_free map.now.standing.now.present (far_in map.now.standing.now.present.premises) b (moment_at (forest map.now.tree.now) trigger) (name_at map.now.standing.now.present place) }
 {
     let mut guesses = Guesses::make(alloc);
-    is_free_with(tree, net, standing, trigger, place, &mut guesses)
+    is_free_with(map, trigger, place, &mut guesses)
 }
 
 // The same with room for guesses.
-fn is_free_with(
-    tree: &Tree,
-    net: &DistNet,
-    standing: &Standing,
-    trigger: u32,
-    place: u32,
-    guesses: &mut Guesses,
-) -> bool
-    requires seen { IsTreeOf standing.now.present net.now.present tree.now }
-    requires trigger { IsLive (forest tree.now) trigger }
-    requires place { IsRuleAt standing.now.present place }
-    requires rule { Contains (rules_at standing.now.present (moment_at (forest tree.now) trigger)) (name_at standing.now.present place) }
-    ensures { (b : List Moment) → HasOccurrences b (forest tree.now) → result ≡ is_free standing.now.present (far_in standing.now.present.premises) b (moment_at (forest tree.now) trigger) (name_at standing.now.present place) }
+fn is_free_with(map: &TimeMap<'_>, trigger: u32, place: u32, guesses: &mut Guesses) -> bool
+    requires seen { IsTimeMap map.now }
+    requires trigger { IsLive (forest map.now.tree.now) trigger }
+    requires place { IsRuleAt map.now.standing.now.present place }
+    requires rule { Contains (rules_at map.now.standing.now.present (moment_at (forest map.now.tree.now) trigger)) (name_at map.now.standing.now.present place) }
+    ensures { (b : List Moment) → HasOccurrences b (forest map.now.tree.now) → result ≡ is_free map.now.standing.now.present (far_in map.now.standing.now.present.premises) b (moment_at (forest map.now.tree.now) trigger) (name_at map.now.standing.now.present place) }
 {
-    let text = text_at(standing, place);
-    let map = TimeMap {
-        standing,
-        tree,
-        net,
-    };
-    let verdict = judge_facts(&map, trigger, text.given, text.exceptions, guesses);
+    let text = text_at(map.standing, place);
+    let verdict = judge_facts(map, trigger, text.given, text.exceptions, guesses);
     matches!(verdict, Verdict::Fires)
 }
