@@ -5,10 +5,10 @@
 mod alike_laws;
 mod beginning_laws;
 mod by_event;
-mod class_marks;
 mod contradicted;
 mod dates;
 mod deciding;
+mod edit_marks;
 mod entering;
 mod erasing;
 mod fast;
