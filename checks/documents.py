@@ -41,8 +41,9 @@ def table_below(text: str, heading: str) -> List[Tuple[str, str]]:
 
 
 def as_manual(text: str) -> str:
-    """The text of a cell, in bold where it is between backquotes."""
-    escaped = text.replace("\\", "\\e").replace("-", "\\-").replace("^", "\\(ha")
+    """The text of a cell, in bold where it is between backquotes, and without the targets of its links."""
+    plain = re.sub(r"\[([^\]]*)\]\([^)]*\)", r"\1", text)
+    escaped = plain.replace("\\", "\\e").replace("-", "\\-").replace("^", "\\(ha")
     return re.sub(r"`([^`]*)`", r"\\fB\1\\fP", escaped)
 
 

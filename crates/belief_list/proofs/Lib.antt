@@ -14,4 +14,6 @@ pub mod Rising
 pub mod Told
 pub mod Neighbours
 pub mod ByNumber
+pub mod Dates
+pub mod SameRivals
 pub mod Wanted

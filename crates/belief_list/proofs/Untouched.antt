@@ -5,7 +5,7 @@ use Rattle.std.proofs.lemmas.Bool.{or_cases}
 use Rattle.std.proofs.lemmas.Int.{ints}
 use Rattle.std.specs.Prelude.{◌⊎◌, ◌<ℤ◌, ◌≤ℤ◌, Option, Some, None, IfSome}
 use Rattle.std.specs.List.{Contains, list_any}
-use Rattle.std.specs.Option.{option_map, option_and_then}
+use Rattle.std.specs.Option.{is_some, option_map, option_and_then}
 use Rattle.std.specs.Cmp.Lexicographic.{bytes_decides}
 use Rattle.tmm_model.specs.declared.premise.Edit.{Edit}
 use Rattle.tmm_model.specs.declared.token.TokenRow.{TokenRow}
@@ -50,7 +50,7 @@ use Rattle.belief_list.specs.declared.kept_rows.KeptRow.{KeptRow}
 use Rattle.belief_list.specs.declared.kept_rows.Difference.{Difference}
 use Rattle.belief_list.specs.KeptRows.{row_under, IsRowOf, AreRowsOf, rows_after, CoverTouched, AreDifferences}
 use Rattle.belief_list.specs.Told.{clip_of as clip_kept}
-use Rattle.belief_list.specs.Finding.{IsClipNow, IsNow, IsNowUnder, KeepsClip, mark_under, AreClassesSettled, AreFound}
+use Rattle.belief_list.specs.Finding.{IsClipNow, IsNow, IsNowUnder, KeepsClip, MayClip, mark_under, AreClassesSettled, AreFound}
 use Rattle.belief_list.proofs.Finding.{after_none, not_told}
 use Rattle.belief_list.proofs.Ordered.{row_is}
 
@@ -357,31 +357,26 @@ module _ (lists : States) (nets : Nets) (edit : Edit) (tree : Kept) (kept : List
     still_there None e = tt
     still_there (Some z) e = let (n, at_z, stands) = there z e in live_at g z n at_z
 
-    -- no premise speaks of its fact
-    alone_was : (c : List ℕ) → are_rivals s m.what c ≡ false
-    alone_was c = (keeps.plain m here c).0
-
-    alone_now : (c : List ℕ) → are_rivals (next_list s edit) m.what c ≡ false
-    alone_now c = ap (λ (z : Standing). are_rivals z m.what c) (sym edited.list) ∙ (keeps.plain m here c).1
-
+    -- the same facts contradict its own
     contradicts_alike : (c : TokenRow Moment) → contradicts_in s (token_now x m class) c ≡ contradicts_in (next_list s edit) (token_now x m class) c
-    contradicts_alike c = λ i. of_one_class (token_now x m class) c || (alone_was c.fact ∙ sym (alone_now c.fact)) i
+    contradicts_alike c = λ i. of_one_class (token_now x m class) c || (keeps.rivals m here c.fact ∙ ap (λ (z : Standing). are_rivals z m.what c.fact) edited.list) i
 
-    of_class : (n : Member) (y : ℕ) (c : List ℕ) → contradicts_in (next_list s edit) (token_now x m class) (token_now y n c) ≡ true → class ≡ c
-    of_class n y c contradicts = elim (or_cases (of_one_class (token_now x m class) (token_now y n c)) (are_rivals (next_list s edit) m.what n.what) contradicts) [
-      | inl one ↦ (bytes_decides class c).0 (both (same_name class c) (not (same_name m.what n.what)) one).0
-      | inr rival ↦ (let never : true ≡ false = sym rival ∙ alone_now n.what in absurd (cc never))
+    -- what contradicts it is of its class, or its fact is set against its own
+    may_clip : (n : Member) (y : ℕ) (c : List ℕ) → n.class ≡ Some c → contradicts_in (next_list s edit) (token_now x m class) (token_now y n c) ≡ true → MayClip lists.present class m.what n
+    may_clip n y c of_y contradicts = elim (or_cases (of_one_class (token_now x m class) (token_now y n c)) (are_rivals (next_list s edit) m.what n.what) contradicts) [
+      | inl one ↦ inl (of_y ∙ ap Some (sym ((bytes_decides class c).0 (both (same_name class c) (not (same_name m.what n.what)) one).0)))
+      | inr rival ↦ inr (ap is_some of_y, ap (λ (z : Standing). are_rivals z m.what n.what) edited.list ∙ rival)
     ]
 
-    near : (y : ℕ) (n : Member) → member g y ≡ Some n → n.class ≡ Some class → node_early nets.present g x <ℤ node_early nets.present g y
+    near : (y : ℕ) (n : Member) → member g y ≡ Some n → MayClip lists.present class m.what n → node_early nets.present g x <ℤ node_early nets.present g y
         → ((z : ℕ) → r.clip ≡ Some z → node_early nets.present g y ≤ℤ node_early nets.present g z) → StandsAsBefore nets.committed nets.present nets.moved f g y n
-    near y n at_y of_y later ahead = untouched_stands y n at_y touched
+    near y n at_y may later ahead = untouched_stands y n at_y touched
       where
         touched : Contains nodes y → ⊥
         touched among =
             let date_x = dated x (live_at g x m here) in
             let date_y = dated y (live_at g y n at_y) in
-            let (c, q, clip, row, less) = keeps.ahead y n at_y of_y among (omega (arith, ints, later, date_x, date_y)) in
+            let (c, q, clip, row, less) = keeps.ahead m n y here at_y may among (omega (arith, ints, later, date_x, date_y)) in
             let own = sym own_clip ∙ clip in
             let date_c = untouched_date c (clipper_live c own) (keeps.free c clip) q row in
             let beyond = ahead c own in
@@ -394,7 +389,7 @@ module _ (lists : States) (nets : Nets) (edit : Edit) (tree : Kept) (kept : List
           same_clipper s edit nets.committed nets.present nets.moved f g edited.seen_then edited.holds_then seen_g holds_g numbers points moved (moment_at f x) r.clip clipped stays
               ∙ sym (keeps_near s edit nets.committed nets.present nets.moved f g edited.seen_then edited.holds_then seen_g holds_g numbers points moved x m class here of (untouched_stands x m here keeps.own)
               r.clip clipped there (λ c before after. contradicts_alike c)
-              (λ y n c at_y of_y contradicts. near y n at_y (of_y ∙ ap Some (sym (of_class n y c contradicts)))))
+              (λ y n c at_y of_y contradicts. near y n at_y (may_clip n y c of_y contradicts)))
               ∙ ap (λ (z : Standing). clip (built z) (moment_at g x)) (sym edited.list),
           stays,
         )

@@ -1,6 +1,7 @@
 // What an edit makes of the nodes that it may have touched.
 ghost use Rattle.std.specs.Prelude.{◌≡◌, ◌<◌, ◌<ℤ◌, ℕ, List, [], false, true, length, Some, IfOk, IfSome, OnOk, replicate};
-ghost use Rattle.std.specs.List.{All, Contains};
+ghost use Rattle.std.specs.List.{All, Contains, list_any};
+ghost use Rattle.std.specs.Option.{is_some};
 ghost use Rattle.tmm_model.specs.declared.premise.Edit.{Edit as AnEdit};
 ghost use Rattle.tmm_model.specs.Standing.{Standing as AStanding};
 ghost use Rattle.dist_net.specs.Net.{Net};
@@ -16,7 +17,7 @@ ghost use Rattle.supports.specs.Edited.{IsEdited, old_forest};
 ghost use Rattle.belief_list.specs.declared.kept_rows.KeptRow.{KeptRow as AKeptRow};
 ghost use Rattle.belief_list.specs.KeptRows.{row_under, AreRowsOf, CoverTouched, AreDifferences};
 ghost use Rattle.belief_list.specs.Told.{clip_of};
-ghost use Rattle.belief_list.specs.Finding.{IsClipNow, IsNowUnder, mark_under, AreMarked, MarksStay, IsAhead, IsUnrivalled, AreOthersKept, IsClassSettled, AreClassesSettled, AreFound};
+ghost use Rattle.belief_list.specs.Finding.{IsClipNow, IsNowUnder, mark_under, AreMarked, MarksStay, HaveDates, AreRising, IsFirstAfter, has_fact, AreTouched, IsAhead, IsPastRivals, AreOthersKept, IsClassSettled, AreClassesSettled, AreFound};
 
 use crate::by_number::{clip_of, kept_row};
 use crate::kept_rows::{Difference, KeptRow};
@@ -32,9 +33,8 @@ use tmm_model::{Name, NoMemory, TokenRow};
 
 /// The differences that an edit makes, given nodes and classes that are all it may have touched,
 /// and what is kept of the nodes of the last commit, with a place for each present one. Only those
-/// nodes are looked at, and tokens of those classes that one of them may clip, or clipped, or of
-/// whose fact a premise says that one of another class contradicts it. Without memory it answers
-/// that.
+/// nodes are looked at, and tokens of those classes that one of them may clip, or clipped, or
+/// whose fact premises of one list alone set against another one. Without memory it answers that.
 pub fn differences(
     alloc: Global,
     standing: &Standing,
@@ -54,7 +54,7 @@ pub fn differences(
     // they tell the proof what holds of points that moved, and of the tokens of all classes
     let _ = net.moved();
     tree.have_tokens();
-    let touched = marked(alloc, nodes, kept.len())?;
+    let touched = touched_by(alloc, standing, tree, nodes, kept.len())?;
     let mut found = Found::make(alloc, kept.len())?;
     for class in classes {
         tell_class(
@@ -66,6 +66,73 @@ pub fn differences(
         tell_node(standing, tree, *x, kept, &mut found, &mut last)?;
     }
     Ok(found.differences)
+}
+
+// What an edit touched.
+#[derive(Drop)]
+struct Touched {
+    // a mark for each number that it touched
+    marks: Vec<bool>,
+    // the dates of the tokens that it touched, rising
+    dates: Vec<i64>,
+    // the pairs of facts that contradict each other by one of both lists alone
+    pairs: Vec<(Name, Name)>,
+}
+
+// What an edit touched, given the numbers that it did, among so many that have a place.
+fn touched_by(
+    alloc: Global,
+    standing: &Standing,
+    tree: &Tree,
+    nodes: &[u32],
+    places: usize,
+) -> Result<Touched, NoMemory>
+    ensures touched { IfOk result (AreTouched standing.now tree.now nodes.now) }
+    ensures rising { IfOk result (λ touched. AreRising touched.dates.items) }
+{
+    Ok(Touched {
+        marks: marked(alloc, nodes, places)?,
+        dates: dates_of(alloc, tree, nodes)?,
+        pairs: standing.changed_rivalries(alloc)?,
+    })
+}
+
+// The dates of the tokens among these nodes, rising.
+fn dates_of(alloc: Global, tree: &Tree, nodes: &[u32]) -> Result<Vec<i64>, NoMemory>
+    ensures all { IfOk result (λ dates. HaveDates tree.now nodes.now dates.items) }
+    ensures rising { IfOk result (λ dates. AreRising dates.items) }
+{
+    let mut dates = Vec::with_capacity(alloc, nodes.len())?;
+    for x in nodes {
+        if is_token(tree, *x) {
+            dates.push_reserved(tree.early(*x));
+        }
+    }
+    dates.sort_unstable();
+    Ok(dates)
+}
+
+// Whether the number is of a node that is a token.
+fn is_token(tree: &Tree, x: u32) -> bool
+    ensures live { result ≡ true → IsLive (forest tree.now) x }
+    ensures token { (m : Member) → member (forest tree.now) x ≡ Some m → result ≡ is_some m.class }
+{
+    tree.is_live(x) && tree.row(x).class.is_some()
+}
+
+// The first of some rising dates that is later than this one.
+fn date_after(dates: &[i64], date: i64) -> Option<i64>
+    requires { AreRising dates.now }
+    ensures { IsFirstAfter dates.now date result }
+{
+    dates.get(dates.partition_point(|d| *d <= date)).copied()
+}
+
+// Whether one of the pairs has the fact.
+fn is_paired(pairs: &[(Name, Name)], fact: Name) -> bool
+    ensures { result ≡ list_any (has_fact fact) pairs.now }
+{
+    pairs.iter().any(|pair| pair.0 == fact || pair.1 == fact)
 }
 
 // Differences as they are found, with a mark for each number that was looked at.
@@ -168,15 +235,16 @@ fn tell_class(
     net: &DistNet,
     class: &Name,
     kept: &[Option<KeptRow>],
-    touched: &[bool],
+    touched: &Touched,
     found: &mut Found,
 ) -> Result<(), NoMemory>
     requires seen { IsTreeOf standing.now.present net.now.present tree.now }
+    requires rising { AreRising touched.now.dates.items }
     requires long { length found.old.marks.items ≡ length kept.now }
     ensures long { OnOk result (length found.new.marks.items ≡ length kept.now) }
     ensures found { OnOk result ((classes : List (List ℕ)) → AreFound standing.now.present net.now.present tree.now classes kept.now found.old.marks.items found.old.differences.items
         → AreFound standing.now.present net.now.present tree.now classes kept.now found.new.marks.items found.new.differences.items) }
-    ensures settled { OnOk result ((nodes : List ℕ) → AreMarked touched.now nodes → IsClassSettled standing.now tree.now nodes kept.now found.new.marks.items class.now) }
+    ensures settled { OnOk result ((nodes : List ℕ) → AreTouched standing.now tree.now nodes touched.now → IsClassSettled standing.now tree.now nodes kept.now found.new.marks.items class.now) }
     ensures stay { OnOk result (MarksStay found.old.marks.items found.new.marks.items) }
 {
     let wanted = wanted_of(alloc, standing, tree, class, kept, touched)?;
@@ -219,18 +287,19 @@ fn tell_token(
 
 // Which tokens of a class are to be looked at, at their places: those that were touched, and those
 // of which the clip was touched, or is not known to come before all touched ones behind the token,
-// or may be of another class.
+// be they of the class or, where others contradict the fact, of any.
 fn wanted_of(
     alloc: Global,
     standing: &Standing,
     tree: &Tree,
     class: &Name,
     kept: &[Option<KeptRow>],
-    touched: &[bool],
+    touched: &Touched,
 ) -> Result<Vec<bool>, NoMemory>
     requires dates { (net : Net) × IsTreeIn net tree.now }
+    requires rising { AreRising touched.now.dates.items }
     ensures long { IfOk result (λ wanted. length wanted.items ≡ length ((present tree.now).tokens class.now)) }
-    ensures others { IfOk result (λ wanted. (nodes : List ℕ) → AreMarked touched.now nodes → AreOthersKept standing.now tree.now nodes kept.now class.now wanted.items) }
+    ensures others { IfOk result (λ wanted. (nodes : List ℕ) → AreTouched standing.now tree.now nodes touched.now → AreOthersKept standing.now tree.now nodes kept.now class.now wanted.items) }
 {
     let rows = tree.tokens(class);
     let mut wanted = Vec::from_elem(alloc, true, rows.len())?;
@@ -248,25 +317,49 @@ fn is_wanted(
     standing: &Standing,
     tree: &Tree,
     kept: &[Option<KeptRow>],
-    touched: &[bool],
+    touched: &Touched,
     row: &TokenRow<Spot>,
     next: &mut Option<i64>,
 ) -> bool
     requires live { IsLive (forest tree.now) (number_of row.now.spot) }
-    ensures touched { mark_under touched.now (number_of row.now.spot) ≡ true → next.new ≡ Some (early (present tree.now) (number_of row.now.spot)) }
-    ensures untouched { mark_under touched.now (number_of row.now.spot) ≡ false → next.new ≡ next.old }
-    ensures kept { result ≡ false → (mark_under touched.now (number_of row.now.spot) ≡ false) × IsAhead kept.now touched.now (clip_of (row_under kept.now (number_of row.now.spot))) next.old }
-    ensures plain { result ≡ false → IsUnrivalled standing.now row.now.fact }
+    requires rising { AreRising touched.now.dates.items }
+    ensures touched { mark_under touched.now.marks.items (number_of row.now.spot) ≡ true → next.new ≡ Some (early (present tree.now) (number_of row.now.spot)) }
+    ensures untouched { mark_under touched.now.marks.items (number_of row.now.spot) ≡ false → next.new ≡ next.old }
+    ensures kept { result ≡ false → (mark_under touched.now.marks.items (number_of row.now.spot) ≡ false) × IsAhead kept.now touched.now.marks.items (clip_of (row_under kept.now (number_of row.now.spot))) next.old }
+    ensures rivals { result ≡ false → IsPastRivals standing.now kept.now touched.now row.now.fact (clip_of (row_under kept.now (number_of row.now.spot))) (early (present tree.now) (number_of row.now.spot)) }
 {
     let x = node_of(row);
-    if is_marked(touched, x) {
+    if is_marked(&touched.marks, x) {
         *next = Some(tree.early(x));
         return true;
     }
-    if has_or_had_rivals(standing, row.fact) {
+    let clip = clip_of(kept_row(kept, x));
+    !keeps_clip(kept, &touched.marks, clip, *next)
+        || !is_past_rivals(standing, kept, touched, row.fact, clip, tree.early(x))
+}
+
+// Whether a token of the fact that has this date keeps what clips it, as far as premises say what
+// contradicts the fact: they say of none that it does, and did not, or they say so of the same ones
+// as before, and no touched token, whatever its fact, comes between the two.
+fn is_past_rivals(
+    standing: &Standing,
+    kept: &[Option<KeptRow>],
+    touched: &Touched,
+    fact: Name,
+    clip: Option<u32>,
+    date: i64,
+) -> bool
+    requires rising { AreRising touched.now.dates.items }
+    ensures { result ≡ true → IsPastRivals standing.now kept.now touched.now fact clip date }
+{
+    if !has_or_had_rivals(standing, fact) {
         return true;
     }
-    !keeps_clip(kept, touched, clip_of(kept_row(kept, x)), *next)
+    if is_paired(&touched.pairs, fact) {
+        return false;
+    }
+    let next = date_after(&touched.dates, date);
+    keeps_clip(kept, &touched.marks, clip, next)
 }
 
 // Whether what clips a token was not touched, and has an earlier date than the first one behind the

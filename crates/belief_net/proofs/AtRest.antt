@@ -1,8 +1,7 @@
 -- Rows that may rest though points moved, and rows at events for which points moved.
-use Rattle.std.proofs.Common.{◌≡◌, ◌∙◌, ℕ, Bool, true, false, ◌<◌, List, [], ◌∷◌, length, Option, Some, None, refl, sym, ap, subst, inl, inr, ◌⊎◌, arith}
+use Rattle.std.proofs.Common.{◌≡◌, ◌∙◌, ℕ, Bool, true, false, ◌<◌, List, [], ◌∷◌, length, Option, Some, refl, sym, ap, subst, inl, inr, ◌⊎◌, arith}
 use Rattle.std.proofs.lemmas.List.Quantifiers.{position-Some}
 use Rattle.std.specs.Prelude.{pos}
-use Rattle.std.specs.Option.{option_map_or}
 use Rattle.std.specs.Cmp.Lexicographic.{bytes_decides}
 use Rattle.tmm_model.specs.Beliefs.{class_of}
 use Rattle.tmm_model.specs.Moments.{read_by, rule_of}
@@ -12,14 +11,14 @@ use Rattle.list_theory.proofs.Elements.{In, In-map, map-In, list_any-In, In-list
 use Rattle.dist_net.specs.Net.{Nets, IsMovedAt}
 use Rattle.spots.specs.declared.spot.Spot.{Spot}
 use Rattle.spots.specs.declared.spot.Spot.TheVariants.{Declared, Node}
-use Rattle.spots.specs.Forest.{Forest, Member, member}
+use Rattle.spots.specs.Forest.{Forest}
 use Rattle.spots.specs.Spots.{base_of}
 use Rattle.undo_rows.specs.declared.row.Row.{Row as TableRow}
 use Rattle.undo_rows.specs.Tables.{AreListed}
 use Rattle.decision_rows.specs.declared.row.Pair.{Pair}
 use Rattle.occ_tree.specs.Classes.{place_in}
 use Rattle.occ_tree.specs.Standing.{State, forest}
-use Rattle.joined.specs.Gaps.{reads_class, begin, an_end, start, read, rival, IsReadSpot, MovesAt}
+use Rattle.joined.specs.Gaps.{reads_class, start, read, rival, IsReadSpot, MovesAt}
 use Rattle.joined.specs.Listed.{IsListedUnder}
 use Rattle.joined.specs.Shifting.{IsSpotOf, MovesAmong}
 use Rattle.joined.proofs.Listed.{class_listed}
@@ -35,6 +34,7 @@ use Rattle.belief_net.specs.Reach.{AreBelow256}
 use Rattle.belief_net.specs.Touching.{IsRowMoved}
 use Rattle.belief_net.specs.Waiting.{Dates}
 use Rattle.belief_net.specs.Woken.{RestsFor, MovesFrom, KeepsDate, RestsForFirst, MovesForSome, WakesForAll, IsPlainRule, MovesByRule, StaysByRule, IsSparedThere, IsRowAtRest}
+use Rattle.belief_net.proofs.Bases.{Small, node_small, class_small, small_or}
 use Rattle.belief_net.proofs.ByRule.{reads_none}
 use Rattle.belief_net.proofs.Named.{are_numbered, placed_name}
 use Rattle.belief_net.proofs.Pairs.{none_listed}
@@ -72,37 +72,18 @@ module _ (nets : Nets) (added : Option (List ℕ)) (before s : Standing) (st : S
 
   -- ---- pairs, and what moved
 
-  abbrev Small : Spot → Type 0
-  Small p = base_of f p < 256
-
-  node_small : (x : ℕ) → Small (Node x)
-  node_small x = by (member f x) refl
-    where
-      by : (o : Option Member) → member f x ≡ o → option_map_or (λ m. m.begin) (member f x) 0 < 256
-      by None is = subst (λ o. option_map_or (λ (m : Member). m.begin) o 0 < 256) (sym is) (omega arith)
-      by (Some m) is = subst (λ o. option_map_or (λ (m : Member). m.begin) o 0 < 256) (sym is) (below.begin x m is)
-
-  class_small : (class : List ℕ) (p : Spot) → IsSpotOf f class p → Small p
-  class_small class p (inl is) = subst Small (sym is) (omega arith)
-  class_small class p (inr (begin y m here of is)) = subst Small (sym is) (node_small y)
-  class_small class p (inr (an_end y m e here of ends is)) = subst Small (sym is) (below.end y m e here ends)
-
-  read_small : (r : List ℕ) (p : Spot) → IsReadSpot s f r p → Small p
-  read_small r p (start is) = subst Small (sym is) (omega arith)
-  read_small r p (read class reads spot) = class_small class p (inr spot)
+  read_small : (r : List ℕ) (p : Spot) → IsReadSpot s f r p → Small f p
+  read_small r p (start is) = subst (Small f) (sym is) (omega arith)
+  read_small r p (read class reads spot) = class_small f below class p (inr spot)
   read_small r p (rival fact reads spot) = elim spot.is [
-    | inl is ↦ subst Small (sym is) (node_small spot.number)
-    | inr (e, ends, is) ↦ subst Small (sym is) (below.end spot.number spot.node e spot.here ends)
+    | inl is ↦ subst (Small f) (sym is) (node_small f below spot.number)
+    | inr (e, ends, is) ↦ subst (Small f) (sym is) (below.end spot.number spot.node e spot.here ends)
   ]
 
-  small_or : (are : Spot → Type 0) → ((p : Spot) → are p → Small p) → (x : ℕ) (p : Spot) → are p ⊎ (p ≡ Node x) → Small p
-  small_or are small x p (inl is) = small p is
-  small_or are small x p (inr is) = subst Small (sym is) (node_small x)
-
-  pair_is : (p q : Spot) → Small p → Small q → has_pair moves.pairs.items (base_of f p) (base_of f q) ≡ is_moved nets added (base_of f p) (base_of f q)
+  pair_is : (p q : Spot) → Small f p → Small f q → has_pair moves.pairs.items (base_of f p) (base_of f q) ≡ is_moved nets added (base_of f p) (base_of f q)
   pair_is p q small_p small_q = moved.each (base_of f p) (base_of f q) small_p small_q
 
-  to_moved : (are : Spot → Type 0) → ((p : Spot) → are p → Small p) → (x : ℕ) → MovesAmong (has_pair moves.pairs.items) f are x → MovesAmong (is_moved nets added) f are x
+  to_moved : (are : Spot → Type 0) → ((p : Spot) → are p → Small f p) → (x : ℕ) → MovesAmong (has_pair moves.pairs.items) f are x → MovesAmong (is_moved nets added) f are x
   to_moved are small x m = record {
     from = m.from;
     to = m.to;
@@ -110,10 +91,10 @@ module _ (nets : Nets) (added : Option (List ℕ)) (before s : Standing) (st : S
     to_is = m.to_is;
     most = m.most;
     bounded = m.bounded;
-    moved = sym (pair_is m.from m.to (small_or are small x m.from m.from_is) (small_or are small x m.to m.to_is)) ∙ m.moved;
+    moved = sym (pair_is m.from m.to (small_or f below are small x m.from m.from_is) (small_or f below are small x m.to m.to_is)) ∙ m.moved;
   }
 
-  from_moved : (are : Spot → Type 0) → ((p : Spot) → are p → Small p) → (x : ℕ) → MovesAmong (is_moved nets added) f are x → MovesAmong (has_pair moves.pairs.items) f are x
+  from_moved : (are : Spot → Type 0) → ((p : Spot) → are p → Small f p) → (x : ℕ) → MovesAmong (is_moved nets added) f are x → MovesAmong (has_pair moves.pairs.items) f are x
   from_moved are small x m = record {
     from = m.from;
     to = m.to;
@@ -121,7 +102,7 @@ module _ (nets : Nets) (added : Option (List ℕ)) (before s : Standing) (st : S
     to_is = m.to_is;
     most = m.most;
     bounded = m.bounded;
-    moved = pair_is m.from m.to (small_or are small x m.from m.from_is) (small_or are small x m.to m.to_is) ∙ m.moved;
+    moved = pair_is m.from m.to (small_or f below are small x m.from m.from_is) (small_or f below are small x m.to m.to_is) ∙ m.moved;
   }
 
   -- ---- classes by their numbers
@@ -147,7 +128,7 @@ module _ (nets : Nets) (added : Option (List ℕ)) (before s : Standing) (st : S
   from_start : (row : TableRow Pair 8) → MovesFrom moves (forest st) row.value.trigger → IsRowMoved nets added s (forest st) d row
   from_start row m =
       among_at (is_moved nets added) s f (rule_in d row) (λ p. p ≡ Declared 0) row.value.trigger (λ p is. start is)
-      (to_moved (λ p. p ≡ Declared 0) (λ p is. subst Small (sym is) (omega arith)) row.value.trigger m)
+      (to_moved (λ p. p ≡ Declared 0) (λ p is. subst (Small f) (sym is) (omega arith)) row.value.trigger m)
 
   -- what a rule watches, and what contradicts what it reads
   by_rule : (row : TableRow Pair 8) → MovesByRule moves s (forest st) (rule_in d row) row.value.trigger → IsRowMoved nets added s (forest st) d row
@@ -167,7 +148,7 @@ module _ (nets : Nets) (added : Option (List ℕ)) (before s : Standing) (st : S
         let class = name_in d.classes k in
         let reads = off_lists i k row class at (own k less) on in
         among_at (is_moved nets added) s f (rule_in d row) (IsSpotOf f class) row.value.trigger (λ p is. elim is [ inl first ↦ start first | inr spot ↦ read class reads spot ])
-        (to_moved (IsSpotOf f class) (class_small class) row.value.trigger m)
+        (to_moved (IsSpotOf f class) (class_small f below class) row.value.trigger m)
 
     -- ---- rows that may rest
 
@@ -195,7 +176,7 @@ module _ (nets : Nets) (added : Option (List ℕ)) (before s : Standing) (st : S
       ]
         where
           by : RestsFor nets moves f class x → is_moved nets added (base_of f (Node x)) 0 ≡ true → ⊥
-          by (inl still) is = still (from_moved (IsSpotOf f class) (class_small class) x
+          by (inl still) is = still (from_moved (IsSpotOf f class) (class_small f below class) x
               (record { from = Node x; to = Declared 0; from_is = inr refl; to_is = inl (inl refl); most = pos 0; bounded = refl; moved = is }))
           by (inr spares) is = elim (fast.loose.each (base_of f (Node x)) 0 is) [
             | inl out ↦ (let no : true ≡ false = sym out ∙ spares.event in cc)
@@ -206,7 +187,7 @@ module _ (nets : Nets) (added : Option (List ℕ)) (before s : Standing) (st : S
       same_date = by (read_by (rule_of s r)) refl
         where
           by : (facts : List (List ℕ)) → read_by (rule_of s r) ≡ facts → is_moved nets added (base_of f (Node x)) 0 ≡ false
-          by [] none = sym (pair_is (Node x) (Declared 0) (node_small x) (omega arith)) ∙ dated none
+          by [] none = sym (pair_is (Node x) (Declared 0) (node_small f below x) (omega arith)) ∙ dated none
           by (fact ∷ facts) some =
               let class = class_of s fact in
               let reads : reads_class s r class ≡ true =
@@ -222,7 +203,7 @@ module _ (nets : Nets) (added : Option (List ℕ)) (before s : Standing) (st : S
           plain = reads_none s r (λ f at g. (plain f at g).1);
           date = same_date;
           each = λ class reads. elim (by_class class reads) [
-            | inl still ↦ inl (λ m. still (from_moved (IsSpotOf f class) (class_small class) x m))
+            | inl still ↦ inl (λ m. still (from_moved (IsSpotOf f class) (class_small f below class) x m))
             | inr spares ↦ inr spares
           ];
         },

@@ -50,6 +50,14 @@ none_reads s fact none r = by (read_by (rule_of s r))
     by [] = refl
     by (f ∷ fs) = ap (λ v. v || list_any (λ f. are_rivals s f fact) fs) (none f) ∙ by fs
 
+-- then nothing is to be marked
+pub no_rivals : (s : Standing) (st : State) (d : Decisions) (fact : List ℕ) (from : ℤ) → ((f : List ℕ) → are_rivals s f fact ≡ false) → MarksRivals s st fact from d d
+no_rivals s st d fact from none = record {
+  same = refl;
+  marks = marks_none st (table_of d) (λ i row. (reads_rival s (rule_in d row) fact ≡ true) × IsAsLate st from row) (dates_in d.waiting)
+      (λ i row meant. (let no : true ≡ _ = sym meant.0 ∙ none_reads s fact none (rule_in d row) in cc));
+}
+
 -- ---- one premise after the other
 
 -- of the first premises and one more none passes, if none of the first does and this does not

@@ -1,14 +1,16 @@
--- Classes of which all rows wait stay so, and a token of such a class has nothing to mark.
-use Rattle.std.proofs.Common.{◌≡◌, ◌≢◌, ◌∙◌, ℕ, ◌+◌, ◌<◌, Bool, true, false, cond, Option, Some, None, refl, sym, ap, subst, inl, inr, arith, ◌⊎◌}
+-- Rows that read what is marked wait on, and a token of what is marked has nothing to mark.
+use Rattle.std.proofs.Common.{◌≡◌, ◌≢◌, ◌∙◌, ℕ, ◌+◌, ◌<◌, Bool, true, false, cond, List, Option, Some, None, refl, sym, ap, subst, inl, inr, arith, ◌⊎◌}
 use Rattle.std.proofs.lemmas.Bool.{cases_eq}
 use Rattle.std.proofs.lemmas.Int.{ints}
 use Rattle.std.specs.Prelude.{ℤ, ◌≤ℤ◌, ◌<ℤ◌, int_lt}
+use Rattle.tmm_model.specs.Points.{same_name}
+use Rattle.walk_theory.proofs.Points.{names_differ, same_name-self}
 use Rattle.row_links.specs.Lists.{IsOn}
 use Rattle.undo_rows.specs.declared.row.Row.{Row as TableRow}
 use Rattle.undo_rows.specs.Tables.{Table, AreListed, head_of, live}
 use Rattle.decision_rows.specs.declared.row.Pair.{Pair}
-use Rattle.belief_net.specs.ClassMarks.{MarkedClasses, no_marks, later_of, IsLater, CoversFrom, MarksFrom, ReadsClass, AllWait}
-use Rattle.belief_net.specs.Waiting.{Dates, dates_in, Takes}
+use Rattle.belief_net.specs.EditMarks.{Marked, date_of, later_of, IsLater, IsFrom, MarksFact, ReadsClass, AllWait}
+use Rattle.belief_net.specs.Waiting.{Dates, Takes}
 
 -- ---- rows on lists
 
@@ -46,60 +48,78 @@ module _ (t : Table Pair 8) (listed : AreListed t) (lives : AreLive t) (class i 
 
 -- ---- none
 
-pub none_covered : (early_of : ℕ → ℤ) (row_at : ℕ → Option (TableRow Pair 8)) (waits : Dates) → AllWait early_of row_at waits no_marks
-none_covered early_of row_at waits class from i r marked here reads late later = let no : None ≡ Some from = marked in cc
+pub none_covered : {K : Type 0} (Reads : TableRow Pair 8 → K → Type 0) (early_of : ℕ → ℤ) (row_at : ℕ → Option (TableRow Pair 8)) (waits : Dates) (marks : K → Option ℤ)
+    → ((key : K) → marks key ≡ None) → AllWait Reads early_of row_at waits marks None
+none_covered Reads early_of row_at waits marks none key from i r marked here reads late later = let no : None ≡ Some from = sym (none key) ∙ marked in cc
 
 -- ---- on from one moment to the next
 
--- the row was there, with its classes and the date of its event, and waits as before
+-- the row was there, of the same rule under the same classes, with the date of its event, and waits
+-- as before
 pub record IsAsBefore (early_of now_early : ℕ → ℤ) (row_at : ℕ → Option (TableRow Pair 8)) (waits now_waits : Dates) (i : ℕ) (r : TableRow Pair 8) : Type 0 where
   pub row : TableRow Pair 8
   pub was : row_at i ≡ Some row
   pub heads : r.heads ≡ row.heads
+  pub rule : r.value.rule ≡ row.value.rule
   pub date : now_early r.value.trigger ≡ early_of row.value.trigger
   pub same : now_waits i ≡ waits i
 
 module _ (early_of now_early : ℕ → ℤ) (row_at now_row : ℕ → Option (TableRow Pair 8)) (waits now_waits : Dates) where
-  pub covered_on : (m : MarkedClasses)
+  pub covered_on : {K : Type 0} (Reads NowReads : TableRow Pair 8 → K → Type 0) (marks : K → Option ℤ) (decided : Option ℤ)
+      → ((i : ℕ) (r row : TableRow Pair 8) → row_at i ≡ Some row → r.heads ≡ row.heads → r.value.rule ≡ row.value.rule → (key : K) → NowReads r key → Reads row key)
       → ((i : ℕ) (r : TableRow Pair 8) → now_row i ≡ Some r → IsAsBefore early_of now_early row_at waits now_waits i r ⊎ (now_waits i ≡ Some (now_early r.value.trigger)))
-      → AllWait early_of row_at waits m → AllWait now_early now_row now_waits m
-  covered_on m each all class from i r marked here reads late later = by (each i r here)
+      → AllWait Reads early_of row_at waits marks decided → AllWait NowReads now_early now_row now_waits marks decided
+  covered_on Reads NowReads marks decided read each all key from i r marked here reads late later = by (each i r here)
     where
       by : IsAsBefore early_of now_early row_at waits now_waits i r ⊎ (now_waits i ≡ Some (now_early r.value.trigger)) → now_waits i ≡ Some (now_early r.value.trigger)
       by (inr now) = now
       by (inl b) =
-          let (place, less, head) = reads in
           b.same
-          ∙ all class from i b.row marked b.was (place, less, subst (λ heads. head_of (record r { heads = heads }) (place + 2) ≡ Some class) b.heads head)
-          (subst (λ z. from ≤ℤ z) b.date late) (subst (IsLater m.decided) b.date later)
+          ∙ all key from i b.row marked b.was (read i r b.row b.was b.heads b.rule key reads)
+          (subst (λ z. from ≤ℤ z) b.date late) (subst (IsLater decided) b.date later)
           ∙ ap Some (sym b.date)
 
--- ---- rows of a class that all wait
+-- rows under the same classes read the same ones
+pub same_classes : (r row : TableRow Pair 8) → r.heads ≡ row.heads → (class : ℕ) → ReadsClass r class → ReadsClass row class
+same_classes r row same class (place, less, head) = (place, less, subst (λ heads. head_of (record r { heads = heads }) (place + 2) ≡ Some class) same head)
 
--- all rows of the class wait that are late enough
-abbrev pub WaitFrom : (ℕ → ℤ) → (ℕ → Option (TableRow Pair 8)) → Dates → ℕ → ℤ → Type 0
-WaitFrom early_of row_at waits class from =
-    (i : ℕ) (r : TableRow Pair 8) → row_at i ≡ Some r → ReadsClass r class → from ≤ℤ early_of r.value.trigger → waits i ≡ Some (early_of r.value.trigger)
+-- ---- rows that read a key all wait
 
-module _ (early_of : ℕ → ℤ) (row_at : ℕ → Option (TableRow Pair 8)) (waits : Dates) where
+-- all rows that read it wait, if they are late enough
+abbrev pub WaitFrom : {K : Type 0} → (TableRow Pair 8 → K → Type 0) → (ℕ → ℤ) → (ℕ → Option (TableRow Pair 8)) → Dates → K → ℤ → Type 0
+WaitFrom Reads early_of row_at waits key from =
+    (i : ℕ) (r : TableRow Pair 8) → row_at i ≡ Some r → Reads r key → from ≤ℤ early_of r.value.trigger → waits i ≡ Some (early_of r.value.trigger)
+
+module _ {K : Type 0} (Reads : TableRow Pair 8 → K → Type 0) (early_of : ℕ → ℤ) (row_at : ℕ → Option (TableRow Pair 8)) (waits : Dates) where
   -- where the marks cover the date, nothing is left to mark
-  pub covered_from : (m : MarkedClasses) (class : ℕ) (from : ℤ) → AllWait early_of row_at waits m → CoversFrom m class from → WaitFrom early_of row_at waits class from
-  covered_from m class from all ((date, marked, before), later) i r here reads late = all class date i r marked here reads (omega (arith, ints, before, late)) (after m.decided later)
+  pub covered_from : (marks : K → Option ℤ) (decided : Option ℤ) (key : K) (from : ℤ) → AllWait Reads early_of row_at waits marks decided → IsFrom (marks key) decided from
+      → WaitFrom Reads early_of row_at waits key from
+  covered_from marks decided key from all ((date, marked, before), later) i r here reads late = all key date i r marked here reads (omega (arith, ints, before, late)) (after decided later)
     where
       after : (latest : Option ℤ) → IsLater latest from → IsLater latest (early_of r.value.trigger)
       after None none = none
       after (Some last) less = omega (arith, ints, less, late)
 
-  -- a class of which all rows wait may be marked
-  pub covered_marked : (old new : MarkedClasses) (class : ℕ) (from : ℤ) → MarksFrom old new class from → WaitFrom early_of row_at waits class from → AllWait early_of row_at waits old → AllWait early_of row_at waits new
-  covered_marked old new class from marks wait all other date i r marked here reads late later = by (cases_eq other class)
+  -- what all rows wait for that read it may be marked
+  pub covered_marked : (old new : K → Option ℤ) (decided : Option ℤ) (key : K) (from : ℤ) → new key ≡ Some from → ((other : K) → (other ≡ key) ⊎ (new other ≡ old other))
+      → WaitFrom Reads early_of row_at waits key from → AllWait Reads early_of row_at waits old decided → AllWait Reads early_of row_at waits new decided
+  covered_marked old new decided key from at others wait all other date i r marked here reads late later = by (others other)
     where
-      by : (other ≡ class) ⊎ (other ≢ class) → waits i ≡ Some (early_of r.value.trigger)
+      by : (other ≡ key) ⊎ (new other ≡ old other) → waits i ≡ Some (early_of r.value.trigger)
       by (inl same) =
-          let both : Some from ≡ Some date = sym marks.puts.at ∙ ap (dates_in new.dates) (sym same) ∙ marked in
+          let both : Some from ≡ Some date = sym at ∙ ap new (sym same) ∙ marked in
           let one : from ≡ date = cc in
-          wait i r here (subst (ReadsClass r) same reads) (subst (λ z. z ≤ℤ early_of r.value.trigger) (sym one) late)
-      by (inr apart) = all other date i r (sym (marks.puts.others other apart) ∙ marked) here reads late (subst (λ o. IsLater o (early_of r.value.trigger)) marks.latest later)
+          wait i r here (subst (Reads r) same reads) (subst (λ z. z ≤ℤ early_of r.value.trigger) (sym one) late)
+      by (inr stays) = all other date i r (sym stays ∙ marked) here reads late later
+
+-- a fact put among those that are marked
+pub fact_marked : (m : Marked) (facts : List (List ℕ × ℤ)) (fact : List ℕ) (from : ℤ) → ((other : List ℕ) → date_of facts other ≡ cond (same_name fact other) (Some from) (date_of m.facts other))
+    → MarksFact m (record m { facts = facts }) fact from
+fact_marked m facts fact from put = record {
+  at = put fact ∙ ap (λ b. cond b (Some from) (date_of m.facts fact)) (same_name-self fact);
+  others = λ other apart. put other ∙ ap (λ b. cond b (Some from) (date_of m.facts other)) (names_differ fact other (λ same. apart (sym same)));
+  stay = refl;
+}
 
 -- ---- the row that is due first
 
@@ -124,16 +144,16 @@ later_both (Some last) date z less = by (int_lt last date) refl
         let first = is_no_less last date after in
         (now, omega (arith, ints, first, now))
 
-module _ (early_of : ℕ → ℤ) (row_at : ℕ → Option (TableRow Pair 8)) (waits now_waits : Dates) where
+module _ {K : Type 0} (Reads : TableRow Pair 8 → K → Type 0) (early_of : ℕ → ℤ) (row_at : ℕ → Option (TableRow Pair 8)) (waits now_waits : Dates) where
   -- the row that was due first waits no more, and is noted as decided
-  pub covered_taken : (m : MarkedClasses) (first : ℕ) (date : ℤ) → Takes waits now_waits first date
+  pub covered_taken : (marks : K → Option ℤ) (decided : Option ℤ) (first : ℕ) (date : ℤ) → Takes waits now_waits first date
       → ((r : TableRow Pair 8) → row_at first ≡ Some r → date ≡ early_of r.value.trigger)
-      → AllWait early_of row_at waits m → AllWait early_of row_at now_waits (record m { decided = later_of m.decided date })
-  covered_taken m first date takes dated all class from i r marked here reads late later = by (cases_eq i first)
+      → AllWait Reads early_of row_at waits marks decided → AllWait Reads early_of row_at now_waits marks (later_of decided date)
+  covered_taken marks decided first date takes dated all key from i r marked here reads late later = by (cases_eq i first)
     where
       by : (i ≡ first) ⊎ (i ≢ first) → now_waits i ≡ Some (early_of r.value.trigger)
       by (inl same) =
           let is : date ≡ early_of r.value.trigger = dated r (ap row_at (sym same) ∙ here) in
-          let less : date <ℤ early_of r.value.trigger = (later_both m.decided date (early_of r.value.trigger) later).1 in
+          let less : date <ℤ early_of r.value.trigger = (later_both decided date (early_of r.value.trigger) later).1 in
           absurd (omega (arith, ints, is, less))
-      by (inr apart) = takes.puts.others i apart ∙ all class from i r marked here reads late (later_both m.decided date (early_of r.value.trigger) later).0
+      by (inr apart) = takes.puts.others i apart ∙ all key from i r marked here reads late (later_both decided date (early_of r.value.trigger) later).0

@@ -20,6 +20,8 @@ pub mod Settled
 pub mod After
 pub mod Redated
 pub mod OfRules
+pub mod Bases
+pub mod Awake
 pub mod Contradicting
 pub mod Sets
 pub mod Pairs

@@ -21,7 +21,7 @@ use Rattle.belief_net.specs.Woken.{MovesFor, RestsFor, WakesFor, MovesForSome, R
 
 module _ (s : State) (t : Table Pair 8) where
   -- what waited waits on
-  wait_still : (P R : ℕ → TableRow Pair 8 → Type 0) (old new : Dates) → Wakes s t P R old new → (i : ℕ) → is_some (old i) ≡ true → is_some (new i) ≡ true
+  pub wait_still : (P R : ℕ → TableRow Pair 8 → Type 0) (old new : Dates) → Wakes s t P R old new → (i : ℕ) → is_some (old i) ≡ true → is_some (new i) ≡ true
   wait_still P R old new wakes i waits = elim (wakes.only i) [ inl same ↦ ap is_some same ∙ waits | inr marked ↦ ap is_some marked.3 ]
 
   pub wakes_none : (P R : ℕ → TableRow Pair 8 → Type 0) (dates : Dates) → ((i : ℕ) (row : TableRow Pair 8) → t.row i ≡ Some row → (is_some (dates i) ≡ true) ⊎ R i row) → Wakes s t P R dates dates

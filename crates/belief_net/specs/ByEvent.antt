@@ -1,4 +1,4 @@
--- Rows of one rule that are let wait, by their events.
+-- Rows of a list that are let wait, by their events.
 use Rattle.std.specs.Prelude.{◌≡◌, ℕ, ℤ, pos, ◌+ℤ◌, int_le, Bool, true, false, not, ◌&&◌, ◌||◌}
 use Rattle.row_links.specs.Lists.{IsOn}
 use Rattle.tmm_model.specs.declared.bound.Bound.{Bound}
@@ -33,6 +33,10 @@ is_event_of (DueBetween delay before after) s x = is_between (early s x +ℤ del
 is_event_of (BeginAt all bounded) s x =
     is_in all.items (base_of (forest s) (OfNode x)) || (is_number (links_high (links_of (forest s) (OfNode x))) && is_in bounded.items (base_of (forest s) (OfNode x)))
 
+-- the row is on the list of a head in a family, at one of these events
+abbrev pub IsOnAt : Table Pair 8 → ℕ → ℕ → Events → State → ℕ → TableRow Pair 8 → Type 0
+IsOnAt t family head events s i row = IsOn (t.list family head) i × (is_event_of events s row.value.trigger ≡ true)
+
 -- the row is of the rule of this number, at one of these events
 abbrev pub IsOfRuleAt : Table Pair 8 → ℕ → Events → State → ℕ → TableRow Pair 8 → Type 0
-IsOfRuleAt t rule events s i row = IsOn (t.list 1 rule) i × (is_event_of events s row.value.trigger ≡ true)
+IsOfRuleAt t = IsOnAt t 1

@@ -1,5 +1,6 @@
 -- Rows that are let wait, for the dates of their events.
-use Rattle.std.specs.Prelude.{◌≡◌, ◌⊎◌, ℕ, ℤ, ◌≤ℤ◌, true, Some, is_some}
+use Rattle.std.specs.Prelude.{◌≡◌, ◌⊎◌, ◌↔◌, ℕ, ℤ, ◌≤ℤ◌, true, Some, is_some}
+use Rattle.row_links.specs.Lists.{IsOn}
 use Rattle.spots.specs.Forest.{IsLive}
 use Rattle.undo_rows.specs.declared.row.Row.{Row as TableRow}
 use Rattle.undo_rows.specs.Tables.{Table}
@@ -11,6 +12,10 @@ use Rattle.belief_net.specs.Waiting.{Dates}
 -- the event of each row is a node
 abbrev pub HaveEvents : Kept → Table Pair 8 → Type 0
 HaveEvents k t = (i : ℕ) (row : TableRow Pair 8) → t.row i ≡ Some row → IsLive (forest k) row.value.trigger
+
+-- a row is on the list of its event, and on that of no other
+abbrev pub AreByEvent : Table Pair 8 → Type 0
+AreByEvent t = (i x : ℕ) (row : TableRow Pair 8) → t.row i ≡ Some row → IsOn (t.list 0 x) i ↔ (row.value.trigger ≡ x)
 
 -- the event of the row is no earlier than the date
 abbrev pub IsAsLate : State → ℤ → TableRow Pair 8 → Type 0

@@ -1,5 +1,6 @@
 -- Rows that wait since points moved, by the classes that they read.
-use Rattle.std.specs.Prelude.{◌≡◌, ◌⊎◌, ◌↔◌, ℕ, ◌<◌, Bool, true, false, [], List, length, Option, MatchOption}
+use Rattle.std.specs.Prelude.{◌≡◌, ◌⊎◌, ◌↔◌, ℕ, ◌<◌, Bool, true, false, [], List, length, Option, Some, is_some, MatchOption}
+use Rattle.std.specs.List.{Contains}
 use Rattle.tmm_model.specs.Beliefs.{are_rivals}
 use Rattle.tmm_model.specs.Moments.{read_by, rule_of}
 use Rattle.tmm_model.specs.Standing.{Standing}
@@ -78,6 +79,11 @@ MovesForSome s moves d i row = (k : ℕ) × (k < length d.classes) × IsListedUn
 -- all rows have been looked at that read one of the first n classes
 abbrev pub WakesForAll : State → Nets → Moves → Decisions → ℕ → Dates → Dates → Type 0
 WakesForAll s nets moves d n = Wakes s (table_of d) (MovesForSome s moves d) (RestsForFirst s nets moves d n)
+
+-- `start` did not move, and all rows wait whose events begin at a point that moved
+pub record AreAwake (nets : Nets) (f : Forest) (t : Table Pair 8) (dates : Dates) : Type 0 where
+  pub start : Contains nets.moved 0 → ⊥
+  pub rows : (i : ℕ) (row : TableRow Pair 8) → t.row i ≡ Some row → Contains nets.moved (base_of f (Node row.value.trigger)) → is_some (dates i) ≡ true
 
 -- the event of the row is as far from `start` as it was, if its rule reads nothing
 abbrev pub KeepsDate : Moves → Standing → Forest → Decisions → TableRow Pair 8 → Type 0

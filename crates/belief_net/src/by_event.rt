@@ -1,11 +1,11 @@
-// Rows of one rule that are let wait, by their events.
+// Rows of a list that are let wait, by their events.
 ghost use Rattle.std.specs.Prelude.{◌≡◌, ◌+ℤ◌, true, IsSome, OnOk};
 ghost use Rattle.spots.specs.Forest.{IsLive};
 ghost use Rattle.row_links.specs.Lists.{IsOn};
 ghost use Rattle.occ_tree.specs.Places.{forest};
 ghost use Rattle.occ_tree.specs.Standing.{present};
 ghost use Rattle.undo_rows.specs.Changes.{present as table};
-ghost use Rattle.belief_net.specs.ByEvent.{is_between, is_number, is_event_of, IsOfRuleAt};
+ghost use Rattle.belief_net.specs.ByEvent.{is_between, is_number, is_event_of, IsOnAt};
 ghost use Rattle.belief_net.specs.Marks.{HaveEvents, Marks};
 ghost use Rattle.belief_net.specs.Waiting.{dates_in};
 
@@ -66,21 +66,22 @@ pub(crate) fn is_number(bound: Bound) -> bool
     }
 }
 
-// Lets those rows of a rule wait, by its number, that are at one of these events.
-pub(crate) fn mark_rule(
+// Lets those rows of a list wait that are at one of these events.
+pub(crate) fn mark_events(
     tree: &Tree,
     rows: &Rows,
     waiting: &mut Waiting,
-    rule: u32,
+    family: usize,
+    head: u32,
     events: &Events,
 ) -> Result<(), NoMemory>
     requires { HaveEvents tree.now (table rows.now) }
-    ensures { OnOk result (Marks (present tree.now) (table rows.now) (IsOfRuleAt (table rows.now) rule events.now (present tree.now)) (dates_in waiting.old) (dates_in waiting.new)) }
+    ensures { OnOk result (Marks (present tree.now) (table rows.now) (IsOnAt (table rows.now) family head events.now (present tree.now)) (dates_in waiting.old) (dates_in waiting.new)) }
 {
-    let mut next = rows.first(1, rule);
+    let mut next = rows.first(family, head);
     while let Some(i) = next {
         mark_event(tree, rows, waiting, i, events)?;
-        next = rows.next(1, i);
+        next = rows.next(family, i);
     }
     Ok(())
 }

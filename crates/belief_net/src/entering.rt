@@ -1,6 +1,7 @@
 // Effects that enter.
 ghost use Rattle.std.specs.Prelude.{◌≡◌, Some, None, IfOk, OnOk};
 ghost use Rattle.tmm_model.specs.Moments.{After};
+ghost use Rattle.tmm_model.specs.Standing.{Standing as List};
 ghost use Rattle.dist_net.specs.Net.{Net};
 ghost use Rattle.spots.specs.Forest.{Member, member, IsLive, moment_at};
 ghost use Rattle.spots.specs.OfLists.{IsForestOf};
@@ -11,14 +12,14 @@ ghost use Rattle.projection.specs.Kinds.{AreKnown};
 ghost use Rattle.supports.specs.Growing.{Adds, effect_shape, MayEnter};
 ghost use Rattle.supports.specs.Rules.{IsRuleOf};
 ghost use Rattle.undo_rows.specs.Changes.{present as table};
-ghost use Rattle.belief_net.specs.Covered.{Covers};
+ghost use Rattle.belief_net.specs.Covered.{CoverClasses, Covers};
 ghost use Rattle.belief_net.specs.Decided.{AreUnder, AreOfSome, KeepsLast};
 ghost use Rattle.belief_net.specs.Entering.{MarksClass, MarksOwn, MarksReaders, Brings, KeepLast, EntersIn};
 ghost use Rattle.belief_net.specs.Marks.{HaveEvents};
 
-use crate::class_marks::ClassMarks;
+use crate::edit_marks::EditMarks;
 use crate::marking::mark_class;
-use crate::rivals::mark_rivals;
+use crate::rivals::mark_rivals_once;
 use crate::rows::add_rows_after;
 use crate::state::{BeliefNet, Decisions};
 use crate::windows::window_of;
@@ -37,7 +38,7 @@ pub(crate) fn bring_about(
     standing: &Standing,
     net: &DistNet,
     beliefs: &mut BeliefNet,
-    marks: &mut ClassMarks,
+    marks: &mut EditMarks,
     trigger: u32,
     rule: Name,
     known: &mut KnownKinds,
@@ -47,12 +48,12 @@ pub(crate) fn bring_about(
     requires enters { MayEnter standing.now.present (forest beliefs.old.tree) trigger rule }
     requires events { HaveEvents beliefs.old.tree (table beliefs.old.decisions.rows) }
     requires under { AreUnder standing.now.present beliefs.old.decisions }
-    requires covered { Covers (present beliefs.old.tree) beliefs.old.decisions marks.old }
+    requires covered { Covers standing.now.present (present beliefs.old.tree) beliefs.old.decisions marks.old }
     requires known { AreKnown standing.now.present known.old }
     ensures ok { OnOk result (Brings standing.now.present net.now.present trigger rule beliefs.old beliefs.new) }
     ensures number { IfOk result (λ x. (b : Brings standing.now.present net.now.present trigger rule beliefs.old beliefs.new) × (b.number ≡ x)) }
     ensures was_free { IfOk result (λ x. forest_of (committed beliefs.old.tree) x ≡ None) }
-    ensures covered { OnOk result (Covers (present beliefs.new.tree) beliefs.new.decisions marks.new) }
+    ensures covered { OnOk result (Covers standing.now.present (present beliefs.new.tree) beliefs.new.decisions marks.new) }
     ensures last { KeepLast beliefs.old beliefs.new }
     ensures known { AreKnown standing.now.present known.new }
 {
@@ -157,7 +158,7 @@ pub(crate) fn mark_readers(
     tree: &Tree,
     net: &DistNet,
     decisions: &mut Decisions,
-    marks: &mut ClassMarks,
+    marks: &mut EditMarks,
     class: Name,
     x: u32,
     moving: &[u32],
@@ -166,15 +167,15 @@ pub(crate) fn mark_readers(
     requires token { (m : Member) × (member (forest tree.now) x ≡ Some m) × (m.class ≡ Some class) }
     requires events { HaveEvents tree.now (table decisions.old.rows) }
     requires under { AreOfSome decisions.old }
-    requires covered { Covers (present tree.now) decisions.old marks.old }
+    requires covered { Covers standing.now.present (present tree.now) decisions.old marks.old }
     ensures ok { OnOk result (MarksReaders standing.now.present net.now.present tree.now moving.now x class decisions.old decisions.new) }
-    ensures covered { OnOk result (Covers (present tree.now) decisions.new marks.new) }
+    ensures covered { OnOk result (Covers standing.now.present (present tree.now) decisions.new marks.new) }
     ensures last { KeepsLast decisions.old decisions.new }
 {
     mark_own(alloc, tree, net, decisions, marks, class, x, moving)?;
     let fact = tree.row(x).what;
     let from = tree.early(x);
-    mark_rivals(standing, tree, decisions, fact, from)
+    mark_rivals_once(standing, tree, decisions, marks, fact, from)
 }
 
 // Lets those rows wait that read the class of the token at a node, which enters or leaves with
@@ -186,7 +187,7 @@ fn mark_own(
     tree: &Tree,
     net: &DistNet,
     decisions: &mut Decisions,
-    marks: &mut ClassMarks,
+    marks: &mut EditMarks,
     class: Name,
     x: u32,
     moving: &[u32],
@@ -194,9 +195,9 @@ fn mark_own(
     requires tree { IsTreeIn net.now.present tree.now }
     requires token { (m : Member) × (member (forest tree.now) x ≡ Some m) × (m.class ≡ Some class) }
     requires events { HaveEvents tree.now (table decisions.old.rows) }
-    requires covered { Covers (present tree.now) decisions.old marks.old }
+    requires covered { CoverClasses (present tree.now) decisions.old marks.old }
     ensures ok { OnOk result (MarksOwn net.now.present tree.now moving.now x class decisions.old decisions.new) }
-    ensures covered { OnOk result (Covers (present tree.now) decisions.new marks.new) }
+    ensures covered { OnOk result ((list : List) → Covers list (present tree.now) decisions.old marks.old → Covers list (present tree.now) decisions.new marks.new) }
     ensures last { KeepsLast decisions.old decisions.new }
 {
     // it tells the proof that rows are on their lists

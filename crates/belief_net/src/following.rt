@@ -17,8 +17,8 @@ ghost use Rattle.belief_net.specs.Marks.{HaveEvents};
 ghost use Rattle.belief_net.specs.Numbered.{StayNumbered};
 ghost use Rattle.belief_net.specs.Turns.{IsAfterSome, IsTurned, IsStopped, HasEffect, Withdraws};
 
-use crate::class_marks::ClassMarks;
 use crate::deciding::Due;
+use crate::edit_marks::EditMarks;
 use crate::entering::bring_about;
 use crate::leaving::take_away;
 use crate::state::BeliefNet;
@@ -38,7 +38,7 @@ pub(crate) fn follow(
     standing: &Standing,
     net: &DistNet,
     beliefs: &mut BeliefNet,
-    marks: &mut ClassMarks,
+    marks: &mut EditMarks,
     told: &mut Told,
     due: &Due,
     known: &mut KnownKinds,
@@ -46,12 +46,12 @@ pub(crate) fn follow(
     requires after { IsAfterSome standing.now.present net.now.present beliefs.old due.now }
     requires horizon { standing.now.present.horizon ≤ last_horizon }
     requires small { told.old.weight ≤ most_size }
-    requires covered { Covers (present beliefs.old.tree) beliefs.old.decisions marks.old }
+    requires covered { Covers standing.now.present (present beliefs.old.tree) beliefs.old.decisions marks.old }
     requires known { AreKnown standing.now.present known.old }
     ensures ok { OnOk result (IsTurned standing.now.present net.now.present beliefs.old beliefs.new due.now told.old told.new) }
     ensures stops { IfErr result (IsStopped standing.now.present net.now.present beliefs.old due.now told.old) }
     ensures numbered { OnOk result (StayNumbered standing.now.present beliefs.old beliefs.new told.old told.new) }
-    ensures covered { OnOk result (Covers (present beliefs.new.tree) beliefs.new.decisions marks.new) }
+    ensures covered { OnOk result (Covers standing.now.present (present beliefs.new.tree) beliefs.new.decisions marks.new) }
     ensures last { KeepLast beliefs.old beliefs.new }
     ensures known { AreKnown standing.now.present known.new }
 {
@@ -88,7 +88,7 @@ fn bring_effect(
     standing: &Standing,
     net: &DistNet,
     beliefs: &mut BeliefNet,
-    marks: &mut ClassMarks,
+    marks: &mut EditMarks,
     told: &mut Told,
     due: &Due,
     known: &mut KnownKinds,
@@ -98,12 +98,12 @@ fn bring_effect(
     requires fired { fires_by due.now.before ≡ false }
     requires horizon { standing.now.present.horizon ≤ last_horizon }
     requires small { told.old.weight ≤ most_size }
-    requires covered { Covers (present beliefs.old.tree) beliefs.old.decisions marks.old }
+    requires covered { Covers standing.now.present (present beliefs.old.tree) beliefs.old.decisions marks.old }
     requires known { AreKnown standing.now.present known.old }
     ensures ok { OnOk result (IsTurned standing.now.present net.now.present beliefs.old beliefs.new due.now told.old told.new) }
     ensures stops { IfErr result (IsStopped standing.now.present net.now.present beliefs.old due.now told.old) }
     ensures numbered { OnOk result (StayNumbered standing.now.present beliefs.old beliefs.new told.old told.new) }
-    ensures covered { OnOk result (Covers (present beliefs.new.tree) beliefs.new.decisions marks.new) }
+    ensures covered { OnOk result (Covers standing.now.present (present beliefs.new.tree) beliefs.new.decisions marks.new) }
     ensures last { KeepLast beliefs.old beliefs.new }
     ensures known { AreKnown standing.now.present known.new }
 {
@@ -129,7 +129,7 @@ fn withdraw_effect(
     standing: &Standing,
     net: &DistNet,
     beliefs: &mut BeliefNet,
-    marks: &mut ClassMarks,
+    marks: &mut EditMarks,
     told: &mut Told,
     trigger: u32,
     rule: &Name,
@@ -139,10 +139,10 @@ fn withdraw_effect(
     requires there { HasEffect beliefs.old.tree trigger rule.now }
     requires events { HaveEvents beliefs.old.tree (table beliefs.old.decisions.rows) }
     requires under { AreOfSome beliefs.old.decisions }
-    requires covered { Covers (present beliefs.old.tree) beliefs.old.decisions marks.old }
+    requires covered { Covers standing.now.present (present beliefs.old.tree) beliefs.old.decisions marks.old }
     ensures ok { OnOk result (Withdraws standing.now.present net.now.present trigger rule.now beliefs.old beliefs.new told.old told.new) }
     ensures numbered { OnOk result ((s : List) → StayNumbered s beliefs.old beliefs.new told.old told.new) }
-    ensures covered { OnOk result (Covers (present beliefs.new.tree) beliefs.new.decisions marks.new) }
+    ensures covered { OnOk result (Covers standing.now.present (present beliefs.new.tree) beliefs.new.decisions marks.new) }
     ensures last { KeepLast beliefs.old beliefs.new }
 {
     let Some(effect) = beliefs.tree.find_effect(trigger, rule) else {

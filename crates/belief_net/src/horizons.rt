@@ -7,7 +7,7 @@ ghost use Rattle.belief_net.specs.Horizons.{IsDueBetween};
 ghost use Rattle.belief_net.specs.Marks.{HaveEvents, Marks};
 ghost use Rattle.belief_net.specs.Waiting.{dates_in};
 
-use crate::by_event::{Events, mark_rule};
+use crate::by_event::{Events, mark_events};
 use crate::state::Decisions;
 use occ_tree::Tree;
 use premise_list::Standing;
@@ -39,7 +39,14 @@ pub(crate) fn mark_horizon(
             before,
             after,
         };
-        mark_rule(tree, &decisions.rows, &mut decisions.waiting, rule, &events)?;
+        mark_events(
+            tree,
+            &decisions.rows,
+            &mut decisions.waiting,
+            1,
+            rule,
+            &events,
+        )?;
     }
     Ok(())
 }

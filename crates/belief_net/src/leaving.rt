@@ -13,7 +13,7 @@ ghost use Rattle.belief_net.specs.Entering.{KeepLast};
 ghost use Rattle.belief_net.specs.Leaving.{LosesNode, LosesRows, AreBelow, TakesAway};
 ghost use Rattle.belief_net.specs.Marks.{HaveEvents};
 
-use crate::class_marks::ClassMarks;
+use crate::edit_marks::EditMarks;
 use crate::entering::mark_readers;
 use crate::rows::drop_rows;
 use crate::state::{BeliefNet, Decisions};
@@ -30,7 +30,7 @@ pub(crate) fn take_away(
     standing: &Standing,
     net: &DistNet,
     beliefs: &mut BeliefNet,
-    marks: &mut ClassMarks,
+    marks: &mut EditMarks,
     x: u32,
     numbers: &[u32],
 ) -> Result<(), NoMemory>
@@ -39,9 +39,9 @@ pub(crate) fn take_away(
     requires numbers { AreBelow beliefs.old.tree x numbers.now }
     requires events { HaveEvents beliefs.old.tree (table beliefs.old.decisions.rows) }
     requires under { AreOfSome beliefs.old.decisions }
-    requires covered { Covers (present beliefs.old.tree) beliefs.old.decisions marks.old }
+    requires covered { Covers standing.now.present (present beliefs.old.tree) beliefs.old.decisions marks.old }
     ensures ok { OnOk result (TakesAway standing.now.present net.now.present x numbers.now beliefs.old beliefs.new) }
-    ensures covered { OnOk result (Covers (present beliefs.new.tree) beliefs.new.decisions marks.new) }
+    ensures covered { OnOk result (Covers standing.now.present (present beliefs.new.tree) beliefs.new.decisions marks.new) }
     ensures last { KeepLast beliefs.old beliefs.new }
 {
     lose_rows(
@@ -65,16 +65,16 @@ fn lose_rows(
     net: &DistNet,
     tree: &Tree,
     decisions: &mut Decisions,
-    marks: &mut ClassMarks,
+    marks: &mut EditMarks,
     numbers: &[u32],
 ) -> Result<(), NoMemory>
     requires tree { IsTreeIn net.now.present tree.now }
     requires live { (y : ℕ) → IsOn numbers.now y → IsLive (forest tree.now) y }
     requires events { HaveEvents tree.now (table decisions.old.rows) }
     requires under { AreOfSome decisions.old }
-    requires covered { Covers (present tree.now) decisions.old marks.old }
+    requires covered { Covers standing.now.present (present tree.now) decisions.old marks.old }
     ensures ok { OnOk result (LosesRows standing.now.present net.now.present tree.now numbers.now numbers.now decisions.old decisions.new) }
-    ensures covered { OnOk result (Covers (present tree.now) decisions.new marks.new) }
+    ensures covered { OnOk result (Covers standing.now.present (present tree.now) decisions.new marks.new) }
     ensures last { KeepsLast decisions.old decisions.new }
 {
     // it tells the proof that rows are on their lists
@@ -93,7 +93,7 @@ fn lose_node(
     net: &DistNet,
     tree: &Tree,
     decisions: &mut Decisions,
-    marks: &mut ClassMarks,
+    marks: &mut EditMarks,
     y: u32,
     going: &[u32],
 ) -> Result<(), NoMemory>
@@ -101,9 +101,9 @@ fn lose_node(
     requires live { IsLive (forest tree.now) y }
     requires events { HaveEvents tree.now (table decisions.old.rows) }
     requires under { AreOfSome decisions.old }
-    requires covered { Covers (present tree.now) decisions.old marks.old }
+    requires covered { Covers standing.now.present (present tree.now) decisions.old marks.old }
     ensures ok { OnOk result (LosesNode standing.now.present net.now.present tree.now going.now y decisions.old decisions.new) }
-    ensures covered { OnOk result (Covers (present tree.now) decisions.new marks.new) }
+    ensures covered { OnOk result (Covers standing.now.present (present tree.now) decisions.new marks.new) }
     ensures last { KeepsLast decisions.old decisions.new }
 {
     drop_rows(alloc, decisions, y)?;

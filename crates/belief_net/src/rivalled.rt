@@ -14,7 +14,7 @@ ghost use Rattle.belief_net.specs.Waiting.{dates_in};
 ghost use Rattle.belief_net.specs.Watched.{AreClassed};
 ghost use Rattle.belief_net.specs.Woken.{TellMoves, IsPlainRule, MovesByRule, StaysByRule};
 
-use crate::by_event::mark_rule;
+use crate::by_event::mark_events;
 use crate::fast::Moves;
 use crate::state::Decisions;
 use crate::touching::touched_by;
@@ -93,7 +93,7 @@ fn wake_rule(
     }
     let reach = reach_of_rule(alloc, standing, tree, name)?;
     let events = touched_by(alloc, &moves.pairs, net.moved(), &reach)?;
-    mark_rule(tree, rows, waiting, rule, &events)
+    mark_events(tree, rows, waiting, 1, rule, &events)
 }
 
 // Whether no premise of either list says that facts contradict each other.

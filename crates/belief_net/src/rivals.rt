@@ -6,11 +6,13 @@ ghost use Rattle.row_links.specs.Lists.{IsOn};
 ghost use Rattle.occ_tree.specs.Standing.{present};
 ghost use Rattle.undo_rows.specs.Changes.{present as table};
 ghost use Rattle.joined.specs.Gaps.{reads_rival};
+ghost use Rattle.belief_net.specs.Covered.{Covers};
 ghost use Rattle.belief_net.specs.Decided.{AreOfSome};
 ghost use Rattle.belief_net.specs.Entering.{MarksRivals};
 ghost use Rattle.belief_net.specs.Marks.{HaveEvents, Marks, IsAsLate};
 ghost use Rattle.belief_net.specs.Waiting.{dates_in};
 
+use crate::edit_marks::EditMarks;
 use crate::marking::mark_list;
 use crate::rows::facts_read;
 use crate::state::Decisions;
@@ -19,6 +21,34 @@ use decision_rows::Rows;
 use occ_tree::Tree;
 use premise_list::Standing;
 use tmm_model::{Name, NoMemory, Premise, Rivals};
+
+// Lets those rows wait whose rules read what contradicts the fact of a token that enters or leaves,
+// at events no earlier than the date. That is noted: a token of the fact that comes later, at that
+// date or after it, has nothing to mark.
+pub(crate) fn mark_rivals_once(
+    standing: &Standing,
+    tree: &Tree,
+    decisions: &mut Decisions,
+    marks: &mut EditMarks,
+    fact: Name,
+    from: i64,
+) -> Result<(), NoMemory>
+    requires events { HaveEvents tree.now (table decisions.old.rows) }
+    requires under { AreOfSome decisions.old }
+    requires covered { Covers standing.now.present (present tree.now) decisions.old marks.old }
+    ensures ok { OnOk result (MarksRivals standing.now.present (present tree.now) fact from decisions.old decisions.new) }
+    ensures others { decisions.new ≡ record decisions.old { waiting = decisions.new.waiting } }
+    ensures covered { OnOk result (Covers standing.now.present (present tree.now) decisions.new marks.new) }
+{
+    if says_none(standing) {
+        return Ok(());
+    }
+    if marks.covers_fact(&fact, from) {
+        return Ok(());
+    }
+    mark_rivals(standing, tree, decisions, fact, from)?;
+    marks.mark_fact(fact, from)
+}
 
 // Lets those rows wait whose rules read what contradicts a fact, at events no earlier than the
 // date: rules are looked at one after the other, and only where some premise says that something
@@ -110,6 +140,13 @@ fn are_rivals(standing: &Standing, one: Name, other: Name) -> bool
     ensures { result ≡ are_rivals standing.now.present one other }
 {
     standing.are_against(&one, &other)
+}
+
+// Whether no premise says that facts contradict each other.
+fn says_none(standing: &Standing) -> bool
+    ensures { result ≡ true → (f g : List ℕ) → are_rivals standing.now.present f g ≡ false }
+{
+    standing.rivalries() == 0
 }
 
 // Whether some premise speaks of what contradicts a fact: if not, nothing contradicts it but its

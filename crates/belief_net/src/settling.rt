@@ -7,7 +7,7 @@ ghost use Rattle.belief_net.specs.Settling.{IfBegun, IsCountedIn, IsSettled, IsA
 ghost use Rattle.belief_net.specs.Telling.{IsWeighed};
 ghost use Rattle.belief_net.specs.Turning.{IsFit, IsRevising};
 
-use crate::class_marks::ClassMarks;
+use crate::edit_marks::EditMarks;
 use crate::state::BeliefNet;
 use crate::told::Told;
 use crate::turn::turn;
@@ -44,7 +44,7 @@ pub(crate) fn settle(
 {
     // it tells the proof that no count is above the greatest
     let _ = count.value();
-    let mut marks = ClassMarks::make(alloc);
+    let mut marks = EditMarks::make(alloc);
     let mut known = KnownKinds::make();
     for _ in 0..u64::MAX {
         if !turn(

@@ -11,8 +11,8 @@ ghost use Rattle.belief_net.specs.Turning.{IsFit, IsRevising, IsDecided};
 ghost use Rattle.belief_net.specs.Turns.{CountsOne, Rests, TurnsOrRests, StopsTurn};
 ghost use Rattle.belief_net.specs.Waiting.{dates_in};
 
-use crate::class_marks::ClassMarks;
 use crate::deciding::{Due, decide};
+use crate::edit_marks::EditMarks;
 use crate::following::follow;
 use crate::state::BeliefNet;
 use crate::told::Told;
@@ -30,7 +30,7 @@ pub(crate) fn turn(
     standing: &Standing,
     net: &DistNet,
     beliefs: &mut BeliefNet,
-    marks: &mut ClassMarks,
+    marks: &mut EditMarks,
     told: &mut Told,
     counter: &mut Counter,
     known: &mut KnownKinds,
@@ -39,13 +39,13 @@ pub(crate) fn turn(
     requires revising { IsRevising standing.now.present net.now.present beliefs.old }
     requires horizon { standing.now.present.horizon ≤ last_horizon }
     requires small { told.old.weight ≤ most_size }
-    requires covered { Covers (present beliefs.old.tree) beliefs.old.decisions marks.old }
+    requires covered { Covers standing.now.present (present beliefs.old.tree) beliefs.old.decisions marks.old }
     requires known { AreKnown standing.now.present known.old }
     ensures ok { IfOk result (TurnsOrRests standing.now.present net.now.present beliefs.old beliefs.new told.old told.new counter.old counter.new) }
     ensures stops { IfErr result (StopsTurn standing.now.present net.now.present beliefs.old told.old) }
     ensures counted { CountsOne beliefs.old counter.old counter.new }
     ensures numbered { OnOk result (StayNumbered standing.now.present beliefs.old beliefs.new told.old told.new) }
-    ensures covered { OnOk result (Covers (present beliefs.new.tree) beliefs.new.decisions marks.new) }
+    ensures covered { OnOk result (Covers standing.now.present (present beliefs.new.tree) beliefs.new.decisions marks.new) }
     ensures last { KeepLast beliefs.old beliefs.new }
     ensures known { AreKnown standing.now.present known.new }
 {
@@ -66,18 +66,18 @@ fn decide_first(
     standing: &Standing,
     net: &DistNet,
     beliefs: &mut BeliefNet,
-    marks: &mut ClassMarks,
+    marks: &mut EditMarks,
     counter: &mut Counter,
 ) -> Result<Option<Due>, NoMemory>
     requires fit { IsFit standing.now.present net.now.present beliefs.old }
     requires revising { IsRevising standing.now.present net.now.present beliefs.old }
-    requires covered { Covers (present beliefs.old.tree) beliefs.old.decisions marks.old }
+    requires covered { Covers standing.now.present (present beliefs.old.tree) beliefs.old.decisions marks.old }
     ensures decided { IfOk result (λ due. MatchOption due ((i : ℕ) → dates_in beliefs.old.decisions.waiting i ≡ None) (IsDecided standing.now.present beliefs.old beliefs.new)) }
     ensures none { IfOk result (λ due. due ≡ None → counter.new ≡ counter.old) }
     ensures counted { IfOk result (λ due. IsSome due → counter.new ≡ min (counter.old + 1) 18446744073709551615) }
     ensures one { CountsOne beliefs.old counter.old counter.new }
     ensures rests { IfOk result (λ due. due ≡ None → Rests beliefs.old beliefs.new) }
-    ensures covered { OnOk result (Covers (present beliefs.new.tree) beliefs.new.decisions marks.new) }
+    ensures covered { OnOk result (Covers standing.now.present (present beliefs.new.tree) beliefs.new.decisions marks.new) }
     ensures last { KeepLast beliefs.old beliefs.new }
 {
     let Some(entry) = beliefs.decisions.waiting.pop() else {

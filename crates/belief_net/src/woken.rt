@@ -1,9 +1,11 @@
 // Rows that wait since points moved, by the classes that they read.
-ghost use Rattle.std.specs.Prelude.{◌≡◌, true, false, IsSome, IfOk, OnOk};
+ghost use Rattle.std.specs.Prelude.{◌≡◌, ℕ, List, true, false, IsSome, IfOk, OnOk};
+ghost use Rattle.std.specs.List.{Contains};
 ghost use Rattle.row_links.specs.Lists.{IsOn};
 ghost use Rattle.spots.specs.Forest.{IsLive};
 ghost use Rattle.occ_tree.specs.Places.{forest};
 ghost use Rattle.occ_tree.specs.Standing.{present};
+ghost use Rattle.occ_tree.specs.Touched.{IsUntouched};
 ghost use Rattle.undo_rows.specs.Changes.{present as table};
 ghost use Rattle.joined.specs.Listed.{IsListedUnder};
 ghost use Rattle.joined.specs.Shifting.{SparesClass};
@@ -11,7 +13,7 @@ ghost use Rattle.belief_net.specs.Fast.{is_out};
 ghost use Rattle.belief_net.specs.Marks.{HaveEvents};
 ghost use Rattle.belief_net.specs.Reach.{AreBelow256};
 ghost use Rattle.belief_net.specs.Waiting.{dates_in};
-ghost use Rattle.belief_net.specs.Woken.{TellMoves, MovesFor, RestsFor, AreMovesOf, WakesFor};
+ghost use Rattle.belief_net.specs.Woken.{TellMoves, MovesFor, RestsFor, AreMovesOf, AreAwake, WakesFor};
 
 use crate::by_event::Events;
 use crate::fast::Moves;
@@ -36,8 +38,35 @@ pub(crate) struct ClassMoves {
     pub shifts: Option<Vec<Shift>>,
 }
 
+// Lets those rows wait that read a class, by its number, and may not rest. None has to be looked at
+// where the rows of events that moved wait, and no token of the class moved.
+pub(crate) fn wake_touched(
+    alloc: Global,
+    net: &DistNet,
+    tree: &Tree,
+    rows: &Rows,
+    waiting: &mut Waiting,
+    moves: &Moves,
+    number: u32,
+    class: Name,
+    touched: &[Name],
+    awake: bool,
+) -> Result<(), NoMemory>
+    requires events { HaveEvents tree.now (table rows.now) }
+    requires below { AreBelow256 (forest tree.now) }
+    requires moves { TellMoves net.now moves.now }
+    requires untouched { (other : List ℕ) → (Contains touched.now other → ⊥) → IsUntouched net.now tree.now other }
+    requires awake { awake ≡ true → AreAwake net.now (forest tree.now) (table rows.now) (dates_in waiting.old) }
+    ensures { OnOk result (WakesFor (present tree.now) (table rows.now) net.now moves.now class (IsListedUnder (table rows.now) number) (dates_in waiting.old) (dates_in waiting.new)) }
+{
+    if awake && !touched.contains(&class) {
+        return Ok(());
+    }
+    wake_class(alloc, net, tree, rows, waiting, moves, number, class)
+}
+
 // Lets those rows wait that read a class, by its number, and may not rest.
-pub(crate) fn wake_class(
+fn wake_class(
     alloc: Global,
     net: &DistNet,
     tree: &Tree,
@@ -151,10 +180,8 @@ fn may_rest(net: &DistNet, tree: &Tree, moves: &Moves, of_class: &ClassMoves, x:
     ensures rests { result ≡ true → RestsFor net.now moves.now (forest tree.now) of_class.now.class x }
     ensures waits { result ≡ false → MovesFor moves.now (forest tree.now) of_class.now.class x }
 {
-    if is_spared(net, tree, moves, of_class, x) {
-        return true;
-    }
-    !of_class.events.has(tree, x)
+    // most events are none of these, and that is found sooner
+    !of_class.events.has(tree, x) || is_spared(net, tree, moves, of_class, x)
 }
 
 // Whether all loose tokens of the class bear on no decision at the event of a node, before and

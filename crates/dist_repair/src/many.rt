@@ -1,7 +1,8 @@
 // The way to take many edges out.
 ghost use Rattle.std.specs.Prelude.{◌≡◌, ◌<◌, ◌≤◌, length, take};
 
-use crate::{ends_of, erase_edge, hold, is_tight, keeps_row};
+use crate::ends::Ends;
+use crate::{erase_edge, hold, is_tight, keeps_row, list_ends};
 use dist_net::DistNet;
 
 // Up to so many edges are taken out one by one: those of a premise, or of a point with a few
@@ -51,7 +52,8 @@ fn is_needless(net: &DistNet, place: usize) -> bool
     if !is_tight(net, place, from) {
         return true;
     }
-    let ends = ends_of(net);
+    let mut ends = Ends::none();
+    list_ends(net, &mut ends);
     let held = hold(net, place, from, &ends);
     keeps_row(net, place, from, &held)
 }

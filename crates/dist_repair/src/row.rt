@@ -38,8 +38,7 @@ impl Row {
         requires { length bounds.now ≡ POINTS }
         ensures { self.new ≡ bounds.now }
     {
-        self.cells.clear();
-        let _fits = self.cells.try_extend_from_slice(bounds);
+        self.cells.as_mut_slice().copy_from_slice(bounds);
     }
 
     // The bound on the way to a point.

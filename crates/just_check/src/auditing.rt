@@ -9,8 +9,9 @@ ghost use Rattle.list_theory.proofs.Elements.{In};
 ghost use Rattle.list_net.specs.Fits.{IsNetOf};
 ghost use Rattle.spots.specs.Forest.{IsLive, moment_at};
 ghost use Rattle.spots.specs.OfLists.{HasOccurrences};
-ghost use Rattle.occ_tree.specs.OfLists.{IsTreeIn, IsTreeOf};
+ghost use Rattle.occ_tree.specs.OfLists.{IsTreeIn};
 ghost use Rattle.occ_tree.specs.Places.{forest};
+ghost use Rattle.supports.specs.TimeMaps.{IsTimeMap};
 ghost use Rattle.just_check.specs.Audited.{IsTaken, IsChecked, IsReady, rows_of, DecidesThrough, EntersBehind, Takes, ComesAfter, IsDecided};
 ghost use Rattle.just_check.specs.Believed.{believed_in_order};
 ghost use Rattle.just_check.specs.Checking.{AwaitsRoots, AwaitsRoot, AwaitsMore};
@@ -24,6 +25,7 @@ use dist_net::DistNet;
 use occ_tree::{Order, Tree};
 use premise_list::Standing;
 use std::alloc::Global;
+use supports::TimeMap;
 use tmm_model::{Name, NoMemory, Occ, Premise};
 
 /// Whether the rows are the believed occurrences of the list, in their order, each once. Any rows
@@ -288,15 +290,12 @@ fn decide_next(
     ensures next { OnOk result (checked.new.decided ≡ checked.old.decided + 1) }
 {
     let x = checked.nodes[checked.decided];
-    expect_effects(
-        alloc,
+    let map = TimeMap {
         standing,
+        tree: &checked.tree,
         net,
-        rules,
-        &checked.tree,
-        x,
-        &mut checked.expected,
-    )?;
+    };
+    expect_effects(alloc, &map, rules, x, &mut checked.expected)?;
     checked.decided += 1;
     Ok(())
 }
@@ -304,20 +303,18 @@ fn decide_next(
 // Has stand among the rows what the rules bring about that fire at a node.
 fn expect_effects(
     alloc: Global,
-    standing: &Standing,
-    net: &DistNet,
+    map: &TimeMap<'_>,
     rules: &RulesByKind,
-    tree: &Tree,
     x: u32,
     expected: &mut Expected,
 ) -> Result<(), NoMemory>
-    requires rules { AreRules standing.now.present rules.now }
-    requires seen { IsTreeOf standing.now.present net.now.present tree.now }
-    requires live { IsLive (forest tree.now) x }
-    ensures { OnOk result ((b : List Moment) → HasOccurrences b (forest tree.now) → AwaitsMore standing.now.present (forest tree.now) b x (rules_at standing.now.present (moment_at (forest tree.now) x)) expected.old expected.new) }
+    requires rules { AreRules map.now.standing.now.present rules.now }
+    requires seen { IsTimeMap map.now }
+    requires live { IsLive (forest map.now.tree.now) x }
+    ensures { OnOk result ((b : List Moment) → HasOccurrences b (forest map.now.tree.now) → AwaitsMore map.now.standing.now.present (forest map.now.tree.now) b x (rules_at map.now.standing.now.present (moment_at (forest map.now.tree.now) x)) expected.old expected.new) }
 {
-    for rule in rules.at(standing, tree, x) {
-        expect_effect(alloc, standing, net, tree, x, *rule, expected)?;
+    for rule in rules.at(map.standing, map.tree, x) {
+        expect_effect(alloc, map, x, *rule, expected)?;
     }
     Ok(())
 }
@@ -325,19 +322,17 @@ fn expect_effects(
 // Has stand among the rows what the rule brings about at a node, if it fires.
 fn expect_effect(
     alloc: Global,
-    standing: &Standing,
-    net: &DistNet,
-    tree: &Tree,
+    map: &TimeMap<'_>,
     x: u32,
     rule: Name,
     expected: &mut Expected,
 ) -> Result<(), NoMemory>
-    requires seen { IsTreeOf standing.now.present net.now.present tree.now }
-    requires live { IsLive (forest tree.now) x }
-    requires rule { Contains (rules_at standing.now.present (moment_at (forest tree.now) x)) rule }
-    ensures { OnOk result ((b : List Moment) → HasOccurrences b (forest tree.now) → AwaitsMore standing.now.present (forest tree.now) b x (rule ∷ []) expected.old expected.new) }
+    requires seen { IsTimeMap map.now }
+    requires live { IsLive (forest map.now.tree.now) x }
+    requires rule { Contains (rules_at map.now.standing.now.present (moment_at (forest map.now.tree.now) x)) rule }
+    ensures { OnOk result ((b : List Moment) → HasOccurrences b (forest map.now.tree.now) → AwaitsMore map.now.standing.now.present (forest map.now.tree.now) b x (rule ∷ []) expected.old expected.new) }
 {
-    if !does_fire(alloc, standing, net, tree, x, rule) {
+    if !does_fire(alloc, map, x, rule) {
         return Ok(());
     }
     expected.add(Origin {

@@ -7,17 +7,16 @@ ghost use Rattle.tmm_model.specs.Standing.{far_in};
 ghost use Rattle.dist_net.specs.Net.{Net};
 ghost use Rattle.spots.specs.Forest.{IsLive, moment_at};
 ghost use Rattle.spots.specs.OfLists.{IsForestOf, HasOccurrences};
-ghost use Rattle.occ_tree.specs.OfLists.{IsTreeOf};
 ghost use Rattle.occ_tree.specs.Places.{forest};
+ghost use Rattle.supports.specs.TimeMaps.{IsTimeMap};
 ghost use Rattle.just_check.specs.Kinds.{AreRules, AddsPremise};
 
-use dist_net::DistNet;
 use name_lists::NameLists;
 use occ_tree::{Order, Tree};
 use premise_list::Standing;
 use spots::Spot;
 use std::alloc::Global;
-use supports::{Guesses, first_supported, is_supported, rule_text};
+use supports::{Guesses, TimeMap, first_supported, is_supported, rule_text};
 use tmm_model::{Name, NoMemory, Premise, Shape};
 
 /// The names of the standing rules on each kind, in the order of the list.
@@ -70,31 +69,19 @@ impl RulesByKind {
 
 // Whether the rule fires at the event of a node: its effect begins by the horizon, each antecedent
 // has a supporter there, and no exception has one.
-pub(crate) fn does_fire(
-    alloc: Global,
-    standing: &Standing,
-    net: &DistNet,
-    tree: &Tree,
-    x: u32,
-    rule: Name,
-) -> bool
-    requires seen { IsTreeOf standing.now.present net.now.present tree.now }
-    requires live { IsLive (forest tree.now) x }
-    requires rule { Contains (rules_at standing.now.present (moment_at (forest tree.now) x)) rule }
-    ensures { (b : List Moment) → HasOccurrences b (forest tree.now) → IsTrue result ↔ ((due standing.now.present (far_in standing.now.present.premises) (moment_at (forest tree.now) x) rule ≤ℤ pos standing.now.present.horizon) × IsTrue (is_free standing.now.present (far_in standing.now.present.premises) b (moment_at (forest tree.now) x) rule)) }
+pub(crate) fn does_fire(alloc: Global, map: &TimeMap<'_>, x: u32, rule: Name) -> bool
+    requires seen { IsTimeMap map.now }
+    requires live { IsLive (forest map.now.tree.now) x }
+    requires rule { Contains (rules_at map.now.standing.now.present (moment_at (forest map.now.tree.now) x)) rule }
+    ensures { (b : List Moment) → HasOccurrences b (forest map.now.tree.now) → IsTrue result ↔ ((due map.now.standing.now.present (far_in map.now.standing.now.present.premises) (moment_at (forest map.now.tree.now) x) rule ≤ℤ pos map.now.standing.now.present.horizon) × IsTrue (is_free map.now.standing.now.present (far_in map.now.standing.now.present.premises) b (moment_at (forest map.now.tree.now) x) rule)) }
 {
-    let text = rule_text(standing, rule);
-    is_in_time(standing.horizon(), Order { tree, net }.early(x), text.lo)
-        && is_free(
-            alloc,
-            standing,
-            net,
-            tree,
-            x,
-            rule,
-            text.given,
-            text.exceptions,
-        )
+    let text = rule_text(map.standing, rule);
+    let order = Order {
+        tree: map.tree,
+        net: map.net,
+    };
+    is_in_time(map.standing.horizon(), order.early(x), text.lo)
+        && is_free(alloc, map, x, rule, text.given, text.exceptions)
 }
 
 // Whether what begins so long after this date begins by the horizon.
@@ -110,57 +97,44 @@ fn is_in_time(horizon: u32, early: i64, delay: i64) -> bool
 // one; these are the facts.
 fn is_free(
     alloc: Global,
-    standing: &Standing,
-    net: &DistNet,
-    tree: &Tree,
+    map: &TimeMap<'_>,
     x: u32,
     rule: Name,
     given: &[Name],
     exceptions: &[Name],
 ) -> bool
-    requires seen { IsTreeOf standing.now.present net.now.present tree.now }
-    requires live { IsLive (forest tree.now) x }
-    requires rule { Contains (rules_at standing.now.present (moment_at (forest tree.now) x)) rule }
-    requires given { given.now ≡ (rule_of standing.now.present rule).given }
-    requires exceptions { exceptions.now ≡ (rule_of standing.now.present rule).exceptions }
-    ensures { (b : List Moment) → HasOccurrences b (forest tree.now) → result ≡ is_free standing.now.present (far_in standing.now.present.premises) b (moment_at (forest tree.now) x) rule }
+    requires seen { IsTimeMap map.now }
+    requires live { IsLive (forest map.now.tree.now) x }
+    requires rule { Contains (rules_at map.now.standing.now.present (moment_at (forest map.now.tree.now) x)) rule }
+    requires given { given.now ≡ (rule_of map.now.standing.now.present rule).given }
+    requires exceptions { exceptions.now ≡ (rule_of map.now.standing.now.present rule).exceptions }
+    ensures { (b : List Moment) → HasOccurrences b (forest map.now.tree.now) → result ≡ is_free map.now.standing.now.present (far_in map.now.standing.now.present.premises) b (moment_at (forest map.now.tree.now) x) rule }
 {
     let mut guesses = Guesses::make(alloc);
-    is_free_with(
-        standing,
-        net,
-        tree,
-        x,
-        rule,
-        given,
-        exceptions,
-        &mut guesses,
-    )
+    is_free_with(map, x, rule, given, exceptions, &mut guesses)
 }
 
 // The same with room for guesses.
 fn is_free_with(
-    standing: &Standing,
-    net: &DistNet,
-    tree: &Tree,
+    map: &TimeMap<'_>,
     x: u32,
     rule: Name,
     given: &[Name],
     exceptions: &[Name],
     guesses: &mut Guesses,
 ) -> bool
-    requires seen { IsTreeOf standing.now.present net.now.present tree.now }
-    requires live { IsLive (forest tree.now) x }
-    requires rule { Contains (rules_at standing.now.present (moment_at (forest tree.now) x)) rule }
-    requires given { given.now ≡ (rule_of standing.now.present rule).given }
-    requires exceptions { exceptions.now ≡ (rule_of standing.now.present rule).exceptions }
-    ensures { (b : List Moment) → HasOccurrences b (forest tree.now) → result ≡ is_free standing.now.present (far_in standing.now.present.premises) b (moment_at (forest tree.now) x) rule }
+    requires seen { IsTimeMap map.now }
+    requires live { IsLive (forest map.now.tree.now) x }
+    requires rule { Contains (rules_at map.now.standing.now.present (moment_at (forest map.now.tree.now) x)) rule }
+    requires given { given.now ≡ (rule_of map.now.standing.now.present rule).given }
+    requires exceptions { exceptions.now ≡ (rule_of map.now.standing.now.present rule).exceptions }
+    ensures { (b : List Moment) → HasOccurrences b (forest map.now.tree.now) → result ≡ is_free map.now.standing.now.present (far_in map.now.standing.now.present.premises) b (moment_at (forest map.now.tree.now) x) rule }
 {
     let at = Spot::Node(x);
     for fact in given {
-        if !is_supported(standing, tree, net, *fact, at, at, guesses) {
+        if !is_supported(map, *fact, at, at, guesses) {
             return false;
         }
     }
-    first_supported(standing, tree, net, exceptions, at, guesses).is_none()
+    first_supported(map, exceptions, at, guesses).is_none()
 }

@@ -1,5 +1,5 @@
 // What brings a node about, and what it rests on directly.
-ghost use Rattle.std.specs.Prelude.{◌≡◌, ◌≤◌, map, length, IsSome};
+ghost use Rattle.std.specs.Prelude.{◌≡◌, ◌≤◌, map as mapped, length, IsSome};
 ghost use Rattle.std.specs.List.{All, Contains, filter_map};
 ghost use Rattle.tmm_model.specs.Beliefs.{rules_at};
 ghost use Rattle.tmm_model.specs.Maps.{built};
@@ -8,18 +8,17 @@ ghost use Rattle.tmm_model.specs.Reasons.{supports_at};
 ghost use Rattle.tmm_model.specs.Sorts.{class_in};
 ghost use Rattle.spots.specs.Forest.{IsLive, moment_at};
 ghost use Rattle.spots.specs.OfLists.{HasOccurrences};
-ghost use Rattle.occ_tree.specs.OfLists.{IsTreeOf};
 ghost use Rattle.occ_tree.specs.Places.{forest};
 ghost use Rattle.supports.specs.Rules.{IsRuleOf};
+ghost use Rattle.supports.specs.TimeMaps.{IsTimeMap};
 ghost use Rattle.justify.specs.Grounds.{IsOrigin, supporters_for};
 
 use arrayvec::ArrayVec;
-use dist_net::DistNet;
 use occ_tree::Tree;
 use premise_list::Standing;
 use spots::Spot;
 use std::alloc::Global;
-use supports::{Guesses, rule_text, supporter};
+use supports::{Guesses, TimeMap, rule_text, supporter};
 use tmm_model::{MOST_EXCEPTIONS, Name};
 
 /// What brings a node about.
@@ -49,22 +48,20 @@ pub(crate) fn origin_of(tree: &Tree, x: u32) -> Origin
 // The first supporters of a rule's antecedents at an event.
 pub(crate) fn supports_at(
     alloc: Global,
-    standing: &Standing,
-    tree: &Tree,
-    net: &DistNet,
+    map: &TimeMap<'_>,
     event: u32,
     rule: Name,
 ) -> ArrayVec<u32, 4>
-    requires seen { IsTreeOf standing.now.present net.now.present tree.now }
-    requires holds { HasOccurrences (built standing.now.present).believed (forest tree.now) }
-    requires event { IsLive (forest tree.now) event }
-    requires rule { Contains (rules_at standing.now.present (moment_at (forest tree.now) event)) rule }
-    ensures live { All (IsLive (forest tree.now)) result.items }
-    ensures first { map (moment_at (forest tree.now)) result.items ≡ supports_at (built standing.now.present) (moment_at (forest tree.now) event) rule }
+    requires seen { IsTimeMap map.now }
+    requires holds { HasOccurrences (built map.now.standing.now.present).believed (forest map.now.tree.now) }
+    requires event { IsLive (forest map.now.tree.now) event }
+    requires rule { Contains (rules_at map.now.standing.now.present (moment_at (forest map.now.tree.now) event)) rule }
+    ensures live { All (IsLive (forest map.now.tree.now)) result.items }
+    ensures first { mapped (moment_at (forest map.now.tree.now)) result.items ≡ supports_at (built map.now.standing.now.present) (moment_at (forest map.now.tree.now) event) rule }
 {
-    let text = rule_text(standing, rule);
+    let text = rule_text(map.standing, rule);
     let mut guesses = Guesses::make(alloc);
-    supporters(standing, tree, net, event, text.given, &mut guesses)
+    supporters(map, event, text.given, &mut guesses)
 }
 
 // The exceptions of a standing rule.
@@ -79,25 +76,23 @@ pub(crate) fn exceptions_of(standing: &Standing, rule: Name) -> ArrayVec<Name, M
 
 // The first supporters of the facts at an event.
 fn supporters(
-    standing: &Standing,
-    tree: &Tree,
-    net: &DistNet,
+    map: &TimeMap<'_>,
     event: u32,
     facts: &[Name],
     guesses: &mut Guesses,
 ) -> ArrayVec<u32, 4>
-    requires seen { IsTreeOf standing.now.present net.now.present tree.now }
-    requires holds { HasOccurrences (built standing.now.present).believed (forest tree.now) }
-    requires event { IsLive (forest tree.now) event }
-    requires facts { All (λ fact. IsSome (class_in standing.now.present.premises fact)) facts.now }
+    requires seen { IsTimeMap map.now }
+    requires holds { HasOccurrences (built map.now.standing.now.present).believed (forest map.now.tree.now) }
+    requires event { IsLive (forest map.now.tree.now) event }
+    requires facts { All (λ fact. IsSome (class_in map.now.standing.now.present.premises fact)) facts.now }
     requires few { length facts.now ≤ 4 }
-    ensures live { All (IsLive (forest tree.now)) result.items }
-    ensures first { map (moment_at (forest tree.now)) result.items ≡ filter_map (λ k. k) (supporters_for (built standing.now.present) (moment_at (forest tree.now) event) facts.now) }
+    ensures live { All (IsLive (forest map.now.tree.now)) result.items }
+    ensures first { mapped (moment_at (forest map.now.tree.now)) result.items ≡ filter_map (λ k. k) (supporters_for (built map.now.standing.now.present) (moment_at (forest map.now.tree.now) event) facts.now) }
 {
     let at = Spot::Node(event);
     let mut found = ArrayVec::new();
     for fact in facts {
-        match supporter(standing, tree, net, *fact, at, at, guesses) {
+        match supporter(map, *fact, at, at, guesses) {
             Some(x) => found.push(x),
             None => {}
         }

@@ -1,5 +1,5 @@
 // The lines of occurrences, each handed on as soon as it is made.
-ghost use Rattle.std.specs.Prelude.{◌≡◌, ◌∷◌, [], map, IsTrue, IfOk, OnOk};
+ghost use Rattle.std.specs.Prelude.{◌≡◌, ◌∷◌, [], map as mapped, IsTrue, IfOk, OnOk};
 ghost use Rattle.std.specs.List.{All, flat_map};
 ghost use Rattle.tmm_model.specs.Maps.{built};
 ghost use Rattle.tmm_model.specs.Moments.{is_derived, moment_of, moment_of_point};
@@ -10,8 +10,8 @@ ghost use Rattle.spots.specs.Spots.{IsSpot, spot_moment};
 ghost use Rattle.justify.specs.Lines.{IsInOrder, AreOrders, AreLinesOf, AreLinesOfAll, Hears};
 ghost use Rattle.justify.specs.Shapes.{IsShapedLine, IsShapedPoint};
 ghost use Rattle.occ_tree.specs.Ranks.{nodes_of};
-ghost use Rattle.occ_tree.specs.OfLists.{IsTreeOf};
 ghost use Rattle.occ_tree.specs.Places.{forest};
+ghost use Rattle.supports.specs.TimeMaps.{IsTimeMap};
 
 use crate::grounds::{Origin, exceptions_of, origin_of, supports_at};
 use crate::listener::Listener;
@@ -19,28 +19,26 @@ use crate::walks::steps_between;
 use arrayvec::ArrayVec;
 use dist_net::DistNet;
 use occ_tree::{Ranked, Tree};
-use premise_list::Standing;
 use spots::Spot;
 use std::alloc::Global;
+use supports::TimeMap;
 use tmm_model::{Bound, MOST_EXCEPTIONS, Name, NoMemory, Occ, PointName, QueryPoint, Seq, WhyLine};
 
 // Tells the lines of the nodes, one after the other: the orders that each needs, and then its own
 // line.
 pub(crate) fn tell_all<R: Listener>(
     alloc: Global,
-    standing: &Standing,
-    tree: &Tree,
-    net: &DistNet,
+    map: &TimeMap<'_>,
     ranked: &[Ranked],
     listener: &mut R,
 ) -> Result<(), NoMemory>
-    requires seen { IsTreeOf standing.now.present net.now.present tree.now }
-    requires holds { HasOccurrences (built standing.now.present).believed (forest tree.now) }
-    requires live { All (IsLive (forest tree.now)) (nodes_of ranked.now) }
-    ensures { OnOk result (Hears R.parts_of (AreLinesOfAll (built standing.now.present) (map (moment_at (forest tree.now)) (nodes_of ranked.now))) (R.heard listener.old) (R.heard listener.new)) }
+    requires seen { IsTimeMap map.now }
+    requires holds { HasOccurrences (built map.now.standing.now.present).believed (forest map.now.tree.now) }
+    requires live { All (IsLive (forest map.now.tree.now)) (nodes_of ranked.now) }
+    ensures { OnOk result (Hears R.parts_of (AreLinesOfAll (built map.now.standing.now.present) (mapped (moment_at (forest map.now.tree.now)) (nodes_of ranked.now))) (R.heard listener.old) (R.heard listener.new)) }
 {
     for rank in ranked {
-        tell_node(alloc, standing, tree, net, rank.node, listener)?;
+        tell_node(alloc, map, rank.node, listener)?;
     }
     Ok(())
 }
@@ -48,25 +46,23 @@ pub(crate) fn tell_all<R: Listener>(
 // Tells the lines of a node.
 fn tell_node<R: Listener>(
     alloc: Global,
-    standing: &Standing,
-    tree: &Tree,
-    net: &DistNet,
+    map: &TimeMap<'_>,
     x: u32,
     listener: &mut R,
 ) -> Result<(), NoMemory>
-    requires seen { IsTreeOf standing.now.present net.now.present tree.now }
-    requires holds { HasOccurrences (built standing.now.present).believed (forest tree.now) }
-    requires live { IsLive (forest tree.now) x }
-    ensures { OnOk result (Hears R.parts_of (AreLinesOf (built standing.now.present) (moment_at (forest tree.now) x)) (R.heard listener.old) (R.heard listener.new)) }
+    requires seen { IsTimeMap map.now }
+    requires holds { HasOccurrences (built map.now.standing.now.present).believed (forest map.now.tree.now) }
+    requires live { IsLive (forest map.now.tree.now) x }
+    ensures { OnOk result (Hears R.parts_of (AreLinesOf (built map.now.standing.now.present) (moment_at (forest map.now.tree.now) x)) (R.heard listener.old) (R.heard listener.new)) }
 {
-    match origin_of(tree, x) {
+    match origin_of(map.tree, x) {
         Origin::Declared(name) => listener.hear(WhyLine::Premise(name)),
         Origin::Effect { event, rule } => {
-            let supports = supports_at(alloc, standing, tree, net, event, rule);
+            let supports = supports_at(alloc, map, event, rule);
             let nodes = supports.as_slice();
-            tell_orders(alloc, standing, tree, net, event, nodes, listener)?;
-            let exceptions = exceptions_of(standing, rule);
-            listener.hear(derived_line(alloc, tree, x, rule, event, nodes, exceptions)?)
+            tell_orders(alloc, map, event, nodes, listener)?;
+            let exceptions = exceptions_of(map.standing, rule);
+            listener.hear(derived_line(alloc, map.tree, x, rule, event, nodes, exceptions)?)
         }
     }
 }
@@ -85,7 +81,7 @@ fn derived_line(
     requires live { IsLive (forest tree.now) x }
     requires event { IsLive (forest tree.now) event }
     requires supports { All (IsLive (forest tree.now)) supports.now }
-    ensures reason { IfOk result (λ line. reason_of line ≡ by_rule (moment_at (forest tree.now) x) rule (moment_at (forest tree.now) event) (map (moment_at (forest tree.now)) supports.now) unless_facts.items) }
+    ensures reason { IfOk result (λ line. reason_of line ≡ by_rule (moment_at (forest tree.now) x) rule (moment_at (forest tree.now) event) (mapped (moment_at (forest tree.now)) supports.now) unless_facts.items) }
     ensures shaped { IfOk result (λ line. IsTrue (is_derived (moment_at (forest tree.now) x)) → IsShapedLine line) }
 {
     Ok(WhyLine::Derived {
@@ -100,7 +96,7 @@ fn derived_line(
 // The occurrences of nodes.
 fn occs_of(alloc: Global, tree: &Tree, nodes: &[u32]) -> Result<Seq<Occ>, NoMemory>
     requires { All (IsLive (forest tree.now)) nodes.now }
-    ensures { IfOk result (λ occs. map moment_of occs.items ≡ map (moment_at (forest tree.now)) nodes.now) }
+    ensures { IfOk result (λ occs. mapped moment_of occs.items ≡ mapped (moment_at (forest tree.now)) nodes.now) }
 {
     let mut occs = Seq::make(alloc);
     for x in nodes {
@@ -115,21 +111,19 @@ fn occs_of(alloc: Global, tree: &Tree, nodes: &[u32]) -> Result<Seq<Occ>, NoMemo
 // Tells the orders that the supporters at an event need.
 fn tell_orders<R: Listener>(
     alloc: Global,
-    standing: &Standing,
-    tree: &Tree,
-    net: &DistNet,
+    map: &TimeMap<'_>,
     event: u32,
     supports: &[u32],
     listener: &mut R,
 ) -> Result<(), NoMemory>
-    requires seen { IsTreeOf standing.now.present net.now.present tree.now }
-    requires event { IsLive (forest tree.now) event }
-    requires supports { All (IsLive (forest tree.now)) supports.now }
-    requires in_order { All (λ x. All (IsInOrder (built standing.now.present)) (pairs_of (built standing.now.present) (moment_at (forest tree.now) event) (moment_at (forest tree.now) x))) supports.now }
-    ensures { OnOk result (Hears R.parts_of (AreOrders (built standing.now.present) (flat_map (pairs_of (built standing.now.present) (moment_at (forest tree.now) event)) (map (moment_at (forest tree.now)) supports.now))) (R.heard listener.old) (R.heard listener.new)) }
+    requires seen { IsTimeMap map.now }
+    requires event { IsLive (forest map.now.tree.now) event }
+    requires supports { All (IsLive (forest map.now.tree.now)) supports.now }
+    requires in_order { All (λ x. All (IsInOrder (built map.now.standing.now.present)) (pairs_of (built map.now.standing.now.present) (moment_at (forest map.now.tree.now) event) (moment_at (forest map.now.tree.now) x))) supports.now }
+    ensures { OnOk result (Hears R.parts_of (AreOrders (built map.now.standing.now.present) (flat_map (pairs_of (built map.now.standing.now.present) (moment_at (forest map.now.tree.now) event)) (mapped (moment_at (forest map.now.tree.now)) supports.now))) (R.heard listener.old) (R.heard listener.new)) }
 {
     for x in supports {
-        tell_orders_of(alloc, standing, tree, net, event, *x, listener)?;
+        tell_orders_of(alloc, map, event, *x, listener)?;
     }
     Ok(())
 }
@@ -138,31 +132,21 @@ fn tell_orders<R: Listener>(
 // where it is a span the event is surely at or before its end.
 fn tell_orders_of<R: Listener>(
     alloc: Global,
-    standing: &Standing,
-    tree: &Tree,
-    net: &DistNet,
+    map: &TimeMap<'_>,
     event: u32,
     x: u32,
     listener: &mut R,
 ) -> Result<(), NoMemory>
-    requires seen { IsTreeOf standing.now.present net.now.present tree.now }
-    requires event { IsLive (forest tree.now) event }
-    requires live { IsLive (forest tree.now) x }
-    requires in_order { All (IsInOrder (built standing.now.present)) (pairs_of (built standing.now.present) (moment_at (forest tree.now) event) (moment_at (forest tree.now) x)) }
-    ensures { OnOk result (Hears R.parts_of (AreOrders (built standing.now.present) (pairs_of (built standing.now.present) (moment_at (forest tree.now) event) (moment_at (forest tree.now) x))) (R.heard listener.old) (R.heard listener.new)) }
+    requires seen { IsTimeMap map.now }
+    requires event { IsLive (forest map.now.tree.now) event }
+    requires live { IsLive (forest map.now.tree.now) x }
+    requires in_order { All (IsInOrder (built map.now.standing.now.present)) (pairs_of (built map.now.standing.now.present) (moment_at (forest map.now.tree.now) event) (moment_at (forest map.now.tree.now) x)) }
+    ensures { OnOk result (Hears R.parts_of (AreOrders (built map.now.standing.now.present) (pairs_of (built map.now.standing.now.present) (moment_at (forest map.now.tree.now) event) (moment_at (forest map.now.tree.now) x))) (R.heard listener.old) (R.heard listener.new)) }
 {
     let at = Spot::Node(event);
-    tell_order(alloc, standing, tree, net, Spot::Node(x), at, listener)?;
-    match tree.row(x).end {
-        Some(end) => tell_order(
-            alloc,
-            standing,
-            tree,
-            net,
-            at,
-            Spot::Declared(end),
-            listener,
-        ),
+    tell_order(alloc, map, Spot::Node(x), at, listener)?;
+    match map.tree.row(x).end {
+        Some(end) => tell_order(alloc, map, at, Spot::Declared(end), listener),
         None => Ok(()),
     }
 }
@@ -170,45 +154,41 @@ fn tell_orders_of<R: Listener>(
 // Tells that one spot is surely at or before another.
 fn tell_order<R: Listener>(
     alloc: Global,
-    standing: &Standing,
-    tree: &Tree,
-    net: &DistNet,
+    map: &TimeMap<'_>,
     first: Spot,
     second: Spot,
     listener: &mut R,
 ) -> Result<(), NoMemory>
-    requires seen { IsTreeOf standing.now.present net.now.present tree.now }
-    requires first { IsSpot net.now.present.names (forest tree.now) first }
-    requires second { IsSpot net.now.present.names (forest tree.now) second }
-    requires in_order { IsInOrder (built standing.now.present) (spot_moment net.now.present.names (forest tree.now) first, spot_moment net.now.present.names (forest tree.now) second) }
-    ensures { OnOk result (Hears R.parts_of (AreOrders (built standing.now.present) ((spot_moment net.now.present.names (forest tree.now) first, spot_moment net.now.present.names (forest tree.now) second) ∷ [])) (R.heard listener.old) (R.heard listener.new)) }
+    requires seen { IsTimeMap map.now }
+    requires first { IsSpot map.now.net.now.present.names (forest map.now.tree.now) first }
+    requires second { IsSpot map.now.net.now.present.names (forest map.now.tree.now) second }
+    requires in_order { IsInOrder (built map.now.standing.now.present) (spot_moment map.now.net.now.present.names (forest map.now.tree.now) first, spot_moment map.now.net.now.present.names (forest map.now.tree.now) second) }
+    ensures { OnOk result (Hears R.parts_of (AreOrders (built map.now.standing.now.present) ((spot_moment map.now.net.now.present.names (forest map.now.tree.now) first, spot_moment map.now.net.now.present.names (forest map.now.tree.now) second) ∷ [])) (R.heard listener.old) (R.heard listener.new)) }
 {
-    listener.hear(order_line(alloc, standing, tree, net, first, second)?)
+    listener.hear(order_line(alloc, map, first, second)?)
 }
 
 // The line that one spot is surely at or before another: the distance back, and constraints that
 // give it.
 fn order_line(
     alloc: Global,
-    standing: &Standing,
-    tree: &Tree,
-    net: &DistNet,
+    map: &TimeMap<'_>,
     first: Spot,
     second: Spot,
 ) -> Result<WhyLine, NoMemory>
-    requires seen { IsTreeOf standing.now.present net.now.present tree.now }
-    requires first { IsSpot net.now.present.names (forest tree.now) first }
-    requires second { IsSpot net.now.present.names (forest tree.now) second }
-    requires in_order { IsInOrder (built standing.now.present) (spot_moment net.now.present.names (forest tree.now) first, spot_moment net.now.present.names (forest tree.now) second) }
-    ensures order { IfOk result (λ line. IsOrderLine (built standing.now.present) (spot_moment net.now.present.names (forest tree.now) first, spot_moment net.now.present.names (forest tree.now) second) (reason_of line)) }
+    requires seen { IsTimeMap map.now }
+    requires first { IsSpot map.now.net.now.present.names (forest map.now.tree.now) first }
+    requires second { IsSpot map.now.net.now.present.names (forest map.now.tree.now) second }
+    requires in_order { IsInOrder (built map.now.standing.now.present) (spot_moment map.now.net.now.present.names (forest map.now.tree.now) first, spot_moment map.now.net.now.present.names (forest map.now.tree.now) second) }
+    ensures order { IfOk result (λ line. IsOrderLine (built map.now.standing.now.present) (spot_moment map.now.net.now.present.names (forest map.now.tree.now) first, spot_moment map.now.net.now.present.names (forest map.now.tree.now) second) (reason_of line)) }
     ensures shaped { IfOk result IsShapedLine }
 {
-    let bound = tree.far(net, second, first);
-    let steps = steps_between(alloc, standing, tree, net, second, first, bound)?;
+    let bound = map.tree.far(map.net, second, first);
+    let steps = steps_between(alloc, map.standing, map.tree, map.net, second, first, bound)?;
     match bound {
         Bound::Finite(far) => Ok(WhyLine::Order {
-            first: point_at(alloc, tree, net, first)?,
-            second: point_at(alloc, tree, net, second)?,
+            first: point_at(alloc, map.tree, map.net, first)?,
+            second: point_at(alloc, map.tree, map.net, second)?,
             far,
             steps,
         }),

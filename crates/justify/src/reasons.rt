@@ -8,6 +8,7 @@ ghost use Rattle.spots.specs.Forest.{IsLive, moment_at};
 ghost use Rattle.spots.specs.OfLists.{HasOccurrences};
 ghost use Rattle.occ_tree.specs.OfLists.{IsTreeOf};
 ghost use Rattle.occ_tree.specs.Places.{forest};
+ghost use Rattle.supports.specs.TimeMaps.{IsTimeMap};
 ghost use Rattle.tt_query.specs.Stops.{NamesPoint, point_of};
 ghost use Rattle.justify.specs.Lines.{AreWhy, Hears, HearsNothing};
 ghost use Rattle.justify.specs.Stops.{StopsReasons};
@@ -19,6 +20,7 @@ use dist_net::DistNet;
 use occ_tree::{Order, Tree, in_order};
 use premise_list::Standing;
 use std::alloc::Global;
+use supports::TimeMap;
 use tmm_model::{NoMemory, Occ, Stop};
 use tt_query::resolve_why;
 
@@ -43,7 +45,12 @@ pub fn why<R: Listener>(
     ensures unheard { IfErr result (HearsNothing (R.heard listener.old) (R.heard listener.new)) }
 {
     let x = resolve_why(alloc, standing, tree, occ)?;
-    match tell_reasons(alloc, standing, tree, net, x, listener) {
+    let map = TimeMap {
+        standing,
+        tree,
+        net,
+    };
+    match tell_reasons(alloc, &map, x, listener) {
         Ok(()) => Ok(()),
         Err(NoMemory) => Err(Stop::NoMemory),
     }
@@ -52,18 +59,20 @@ pub fn why<R: Listener>(
 // Tells the reasons of a node.
 fn tell_reasons<R: Listener>(
     alloc: Global,
-    standing: &Standing,
-    tree: &Tree,
-    net: &DistNet,
+    map: &TimeMap<'_>,
     x: u32,
     listener: &mut R,
 ) -> Result<(), NoMemory>
-    requires seen { IsTreeOf standing.now.present net.now.present tree.now }
-    requires holds { HasOccurrences (built standing.now.present).believed (forest tree.now) }
-    requires live { IsLive (forest tree.now) x }
-    ensures { OnOk result (Hears R.parts_of (AreWhy (built standing.now.present) (moment_at (forest tree.now) x)) (R.heard listener.old) (R.heard listener.new)) }
+    requires seen { IsTimeMap map.now }
+    requires holds { HasOccurrences (built map.now.standing.now.present).believed (forest map.now.tree.now) }
+    requires live { IsLive (forest map.now.tree.now) x }
+    ensures { OnOk result (Hears R.parts_of (AreWhy (built map.now.standing.now.present) (moment_at (forest map.now.tree.now) x)) (R.heard listener.old) (R.heard listener.new)) }
 {
-    let found = upholders(alloc, standing, tree, net, x)?;
-    let ranked = in_order(alloc, &Order { tree, net }, found.as_slice())?;
-    tell_all(alloc, standing, tree, net, ranked.as_slice(), listener)
+    let found = upholders(alloc, map, x)?;
+    let order = Order {
+        tree: map.tree,
+        net: map.net,
+    };
+    let ranked = in_order(alloc, &order, found.as_slice())?;
+    tell_all(alloc, map, ranked.as_slice(), listener)
 }

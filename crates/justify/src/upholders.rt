@@ -4,39 +4,31 @@ ghost use Rattle.tmm_model.specs.Maps.{built};
 ghost use Rattle.indexmap.specs.IndexSet.{insert_key, insert_all};
 ghost use Rattle.spots.specs.Forest.{IsLive};
 ghost use Rattle.spots.specs.OfLists.{HasOccurrences};
-ghost use Rattle.occ_tree.specs.OfLists.{IsTreeOf};
 ghost use Rattle.occ_tree.specs.Places.{forest};
+ghost use Rattle.supports.specs.TimeMaps.{IsTimeMap};
 ghost use Rattle.justify.specs.Grounds.{AddsGrounds, AreUpholders};
 
 use crate::grounds::{Origin, origin_of, supports_at};
-use dist_net::DistNet;
 use indexmap::IndexSet;
-use occ_tree::Tree;
-use premise_list::Standing;
 use std::alloc::Global;
+use supports::TimeMap;
 use tmm_model::NoMemory;
 
 // The node and all that it rests on, directly or through others.
-pub(crate) fn upholders(
-    alloc: Global,
-    standing: &Standing,
-    tree: &Tree,
-    net: &DistNet,
-    x: u32,
-) -> Result<IndexSet<u32>, NoMemory>
-    requires seen { IsTreeOf standing.now.present net.now.present tree.now }
-    requires holds { HasOccurrences (built standing.now.present).believed (forest tree.now) }
-    requires live { IsLive (forest tree.now) x }
-    ensures { IfOk result (λ found. AreUpholders (built standing.now.present) (forest tree.now) x found.keys) }
+pub(crate) fn upholders(alloc: Global, map: &TimeMap<'_>, x: u32) -> Result<IndexSet<u32>, NoMemory>
+    requires seen { IsTimeMap map.now }
+    requires holds { HasOccurrences (built map.now.standing.now.present).believed (forest map.now.tree.now) }
+    requires live { IsLive (forest map.now.tree.now) x }
+    ensures { IfOk result (λ found. AreUpholders (built map.now.standing.now.present) (forest map.now.tree.now) x found.keys) }
 {
     // no node's number reaches it, so the search ends
-    let _limit = tree.limit();
+    let _limit = map.tree.limit();
     let mut found = IndexSet::new(alloc);
     add(&mut found, x)?;
     let mut next = 0;
     while next < found.len() {
         let y = found[next];
-        add_grounds(alloc, standing, tree, net, y, &mut found)?;
+        add_grounds(alloc, map, y, &mut found)?;
         next += 1;
     }
     Ok(found)
@@ -45,21 +37,19 @@ pub(crate) fn upholders(
 // Adds what a node rests on directly.
 fn add_grounds(
     alloc: Global,
-    standing: &Standing,
-    tree: &Tree,
-    net: &DistNet,
+    map: &TimeMap<'_>,
     x: u32,
     found: &mut IndexSet<u32>,
 ) -> Result<(), NoMemory>
-    requires seen { IsTreeOf standing.now.present net.now.present tree.now }
-    requires holds { HasOccurrences (built standing.now.present).believed (forest tree.now) }
-    requires live { IsLive (forest tree.now) x }
-    ensures { OnOk result (AddsGrounds (built standing.now.present) (forest tree.now) x found.old.keys found.new.keys) }
+    requires seen { IsTimeMap map.now }
+    requires holds { HasOccurrences (built map.now.standing.now.present).believed (forest map.now.tree.now) }
+    requires live { IsLive (forest map.now.tree.now) x }
+    ensures { OnOk result (AddsGrounds (built map.now.standing.now.present) (forest map.now.tree.now) x found.old.keys found.new.keys) }
 {
-    match origin_of(tree, x) {
+    match origin_of(map.tree, x) {
         Origin::Declared(_) => Ok(()),
         Origin::Effect { event, rule } => {
-            let supports = supports_at(alloc, standing, tree, net, event, rule);
+            let supports = supports_at(alloc, map, event, rule);
             add(found, event)?;
             add_all(found, supports.as_slice())
         }

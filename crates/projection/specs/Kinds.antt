@@ -1,5 +1,5 @@
 -- The standing rules by the kind that triggers them.
-use Rattle.std.specs.Prelude.{◌≡◌, ◌≤◌, ℕ, List, [], ◌∷◌, ◌++◌, map, length, IfSome}
+use Rattle.std.specs.Prelude.{◌≡◌, ◌≤◌, ℕ, List, [], ◌∷◌, ◌++◌, map, length, None, IfSome}
 use Rattle.std.specs.List.{All, filter_map}
 use Rattle.std.specs.Option.{option_map_or}
 use Rattle.tmm_model.specs.declared.premise.Premise.{Premise}
@@ -34,6 +34,10 @@ pub record AreRulesOn (s : Standing) (kind : List ℕ) (places : List ℕ) : Typ
 pub record AreKnown (s : Standing) (k : KnownKinds) : Type 0 where
   pub last : IfSome k.last (IsCountIn s)
   pub rules : IfSome k.rules (AreRules s)
+
+-- nothing was asked yet
+abbrev pub IsUnasked : KnownKinds → Type 0
+IsUnasked k = (k.last ≡ None) × (k.rules ≡ None)
 
 -- the places of the rules on the kind, none where they are not known
 abbrev pub places_in : KnownKinds → List ℕ → List ℕ

@@ -10,6 +10,7 @@ ghost use Rattle.spots.specs.Forest.{IsLive, moment_at};
 ghost use Rattle.spots.specs.OfLists.{HasOccurrences};
 ghost use Rattle.occ_tree.specs.OfLists.{IsTreeOf};
 ghost use Rattle.occ_tree.specs.Places.{forest};
+ghost use Rattle.supports.specs.TimeMaps.{IsTimeMap};
 ghost use Rattle.projection.specs.Decisions.{outcome_at, AreLive, tried_at};
 
 use crate::rule::text_in_time;
@@ -19,7 +20,7 @@ use occ_tree::Tree;
 use premise_list::Standing;
 use spots::Spot;
 use std::marker::Model;
-use supports::{Guesses, first_supported, supporter};
+use supports::{Guesses, TimeMap, first_supported, supporter};
 use tmm_model::Name;
 
 /// What becomes of a rule at an event.
@@ -94,16 +95,13 @@ pub fn decide(
     ensures kept { counter.old ≤ counter.new }
 {
     counter.raise();
-    match text_in_time(tree, net, standing, trigger, rule) {
-        Some(text) => try_facts(
-            tree,
-            net,
-            standing,
-            trigger,
-            text.given,
-            text.exceptions,
-            guesses,
-        ),
+    let map = TimeMap {
+        standing,
+        tree,
+        net,
+    };
+    match text_in_time(&map, trigger, rule) {
+        Some(text) => try_facts(&map, trigger, text.given, text.exceptions, guesses),
         None => Decision::Beyond,
     }
 }
@@ -111,31 +109,29 @@ pub fn decide(
 // The first supporters of the antecedents at the event, or the first of these without one, or else
 // the first exception with one.
 fn try_facts(
-    tree: &Tree,
-    net: &DistNet,
-    standing: &Standing,
+    map: &TimeMap<'_>,
     trigger: u32,
     given: &[Name],
     exceptions: &[Name],
     guesses: &mut Guesses,
 ) -> Decision
-    requires seen { IsTreeOf standing.now.present net.now.present tree.now }
-    requires trigger { IsLive (forest tree.now) trigger }
-    requires facts { All (λ fact. IsSome (class_in standing.now.present.premises fact)) given.now }
-    requires exceptions { All (λ fact. IsSome (class_in standing.now.present.premises fact)) exceptions.now }
+    requires seen { IsTimeMap map.now }
+    requires trigger { IsLive (forest map.now.tree.now) trigger }
+    requires facts { All (λ fact. IsSome (class_in map.now.standing.now.present.premises fact)) given.now }
+    requires exceptions { All (λ fact. IsSome (class_in map.now.standing.now.present.premises fact)) exceptions.now }
     requires few { length given.now ≤ 4 }
-    ensures outcome { (b : List Moment) → HasOccurrences b (forest tree.now) → outcome_at (forest tree.now) result ≡ tried_at standing.now.present b (moment_at (forest tree.now) trigger) given.now exceptions.now }
-    ensures live { AreLive (forest tree.now) result }
+    ensures outcome { (b : List Moment) → HasOccurrences b (forest map.now.tree.now) → outcome_at (forest map.now.tree.now) result ≡ tried_at map.now.standing.now.present b (moment_at (forest map.now.tree.now) trigger) given.now exceptions.now }
+    ensures live { AreLive (forest map.now.tree.now) result }
 {
     let at = Spot::Node(trigger);
     let mut supports = ArrayVec::new();
     for antecedent in 0..given.len() {
-        match supporter(standing, tree, net, given[antecedent], at, at, guesses) {
+        match supporter(map, given[antecedent], at, at, guesses) {
             Some(x) => supports.push(x),
             None => return Decision::Blocked { antecedent },
         }
     }
-    match first_supported(standing, tree, net, exceptions, at, guesses) {
+    match first_supported(map, exceptions, at, guesses) {
         Some(exception) => Decision::Barred { exception },
         None => Decision::Fires { supports },
     }

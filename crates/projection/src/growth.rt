@@ -1,5 +1,5 @@
 // What is believed, decision by decision in the order of their dates.
-ghost use Rattle.std.specs.Prelude.{◌≡◌, ℕ, ◌+◌, ◌<◌, ◌≤◌, min, length, take, map, IfOk, IfErr, OnOk};
+ghost use Rattle.std.specs.Prelude.{◌≡◌, ℕ, ◌+◌, ◌<◌, ◌≤◌, min, length, take, map as mapped, IfOk, IfErr, OnOk};
 ghost use Rattle.std.specs.List.{All};
 ghost use Rattle.tmm_model.specs.Answers.{size, most_size};
 ghost use Rattle.tmm_model.specs.Beliefs.{rules_at};
@@ -14,6 +14,7 @@ ghost use Rattle.occ_tree.specs.OfLists.{IsTreeOf};
 ghost use Rattle.occ_tree.specs.Places.{forest};
 ghost use Rattle.occ_tree.specs.Standing.{present};
 ghost use Rattle.projection.specs.Counted.{decisions_due};
+ghost use Rattle.supports.specs.TimeMaps.{IsTimeMap};
 ghost use Rattle.supports.specs.Growing.{Adds, effect_shape, MayEnter};
 ghost use Rattle.projection.specs.Kinds.{AreRules};
 ghost use Rattle.projection.specs.Places.{name_at, IsRuleAt};
@@ -30,7 +31,7 @@ use occ_tree::{Order, Tree};
 use premise_list::Standing;
 use std::alloc::Global;
 use std::cmp::Reverse;
-use supports::add_root;
+use supports::{TimeMap, add_root};
 use tmm_model::{MOST_SIZE, Name, NoMemory, Premise, Refusal, Shape, Stop};
 
 /// What is believed of a standing list.
@@ -88,24 +89,21 @@ fn add_effect(
 }
 
 // Lets the rules at a node wait for their dates; these are their places in the list.
-fn wait_for(
-    tree: &Tree,
-    net: &DistNet,
-    standing: &Standing,
-    places: &[u32],
-    queue: &mut Queue,
-    x: u32,
-) -> Result<(), NoMemory>
-    requires seen { IsTreeOf standing.now.present net.now.present tree.now }
-    requires live { IsLive (forest tree.now) x }
-    requires rules { map (name_at standing.now.present) places.now ≡ rules_at standing.now.present (moment_at (forest tree.now) x) }
-    requires places { All (IsRuleAt standing.now.present) places.now }
-    ensures { OnOk result (Queues standing.now.present (forest tree.now) x (rules_at standing.now.present (moment_at (forest tree.now) x)) queue.old queue.new) }
+fn wait_for(map: &TimeMap<'_>, places: &[u32], queue: &mut Queue, x: u32) -> Result<(), NoMemory>
+    requires seen { IsTimeMap map.now }
+    requires live { IsLive (forest map.now.tree.now) x }
+    requires rules { mapped (name_at map.now.standing.now.present) places.now ≡ rules_at map.now.standing.now.present (moment_at (forest map.now.tree.now) x) }
+    requires places { All (IsRuleAt map.now.standing.now.present) places.now }
+    ensures { OnOk result (Queues map.now.standing.now.present (forest map.now.tree.now) x (rules_at map.now.standing.now.present (moment_at (forest map.now.tree.now) x)) queue.old queue.new) }
 {
-    let horizon = standing.horizon();
-    let early = Order { tree, net }.early(x);
+    let horizon = map.standing.horizon();
+    let order = Order {
+        tree: map.tree,
+        net: map.net,
+    };
+    let early = order.early(x);
     for place in places {
-        let text = text_at(standing, *place);
+        let text = text_at(map.standing, *place);
         if let Some(due) = due_by(horizon, early, text.lo) {
             queue.push(Pending {
                 due: Reverse(due),
@@ -150,7 +148,12 @@ fn count_in(
         return Err(Stop::Refused(Refusal::LimitSize));
     }
     growing.size = size;
-    match wait_for(&growing.tree, net, standing, places, &mut growing.queue, x) {
+    let map = TimeMap {
+        standing,
+        tree: &growing.tree,
+        net,
+    };
+    match wait_for(&map, places, &mut growing.queue, x) {
         Ok(()) => Ok(()),
         Err(_) => Err(Stop::NoMemory),
     }
@@ -206,7 +209,12 @@ fn settle(
 {
     counter.raise();
     let (trigger, rule) = (pending.trigger, pending.rule);
-    if is_free(alloc, &growing.tree, net, standing, trigger, rule) {
+    let map = TimeMap {
+        standing,
+        tree: &growing.tree,
+        net,
+    };
+    if is_free(alloc, &map, trigger, rule) {
         bring_about(alloc, standing, net, rules, growing, pending)
     } else {
         Ok(())

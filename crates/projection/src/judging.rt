@@ -10,6 +10,7 @@ ghost use Rattle.spots.specs.Forest.{IsLive, moment_at};
 ghost use Rattle.spots.specs.OfLists.{HasOccurrences};
 ghost use Rattle.occ_tree.specs.OfLists.{IsTreeOf};
 ghost use Rattle.occ_tree.specs.Places.{forest};
+ghost use Rattle.supports.specs.TimeMaps.{IsTimeMap};
 ghost use Rattle.projection.specs.Decisions.{tried_at};
 ghost use Rattle.projection.specs.Places.{name_at, IsRuleAt};
 ghost use Rattle.projection.specs.Verdicts.{verdict_of};
@@ -21,7 +22,7 @@ use occ_tree::Tree;
 use premise_list::Standing;
 use spots::Spot;
 use std::alloc::Global;
-use supports::{Guesses, first_supported, is_supported};
+use supports::{Guesses, TimeMap, first_supported, is_supported};
 use tmm_model::Name;
 
 /// What becomes of a rule at an event, whichever tokens support its antecedents.
@@ -57,16 +58,13 @@ pub fn judge(
     ensures kept { counter.old ≤ counter.new }
 {
     counter.raise();
-    match text_in_time(tree, net, standing, trigger, rule) {
-        Some(text) => judge_facts(
-            tree,
-            net,
-            standing,
-            trigger,
-            text.given,
-            text.exceptions,
-            guesses,
-        ),
+    let map = TimeMap {
+        standing,
+        tree,
+        net,
+    };
+    match text_in_time(&map, trigger, rule) {
+        Some(text) => judge_facts(&map, trigger, text.given, text.exceptions, guesses),
         None => Verdict::Beyond,
     }
 }
@@ -74,27 +72,25 @@ pub fn judge(
 // The verdict on a rule in time: the first of the antecedents at the event without a supporter, or
 // else the first exception with one.
 fn judge_facts(
-    tree: &Tree,
-    net: &DistNet,
-    standing: &Standing,
+    map: &TimeMap<'_>,
     trigger: u32,
     given: &[Name],
     exceptions: &[Name],
     guesses: &mut Guesses,
 ) -> Verdict
-    requires seen { IsTreeOf standing.now.present net.now.present tree.now }
-    requires trigger { IsLive (forest tree.now) trigger }
-    requires facts { All (λ fact. IsSome (class_in standing.now.present.premises fact)) given.now }
-    requires exceptions { All (λ fact. IsSome (class_in standing.now.present.premises fact)) exceptions.now }
-    ensures { (b : List Moment) → HasOccurrences b (forest tree.now) → result ≡ verdict_of (tried_at standing.now.present b (moment_at (forest tree.now) trigger) given.now exceptions.now) }
+    requires seen { IsTimeMap map.now }
+    requires trigger { IsLive (forest map.now.tree.now) trigger }
+    requires facts { All (λ fact. IsSome (class_in map.now.standing.now.present.premises fact)) given.now }
+    requires exceptions { All (λ fact. IsSome (class_in map.now.standing.now.present.premises fact)) exceptions.now }
+    ensures { (b : List Moment) → HasOccurrences b (forest map.now.tree.now) → result ≡ verdict_of (tried_at map.now.standing.now.present b (moment_at (forest map.now.tree.now) trigger) given.now exceptions.now) }
 {
     let at = Spot::Node(trigger);
     for antecedent in 0..given.len() {
-        if !is_supported(standing, tree, net, given[antecedent], at, at, guesses) {
+        if !is_supported(map, given[antecedent], at, at, guesses) {
             return Verdict::Blocked { antecedent };
         }
     }
-    match first_supported(standing, tree, net, exceptions, at, guesses) {
+    match first_supported(map, exceptions, at, guesses) {
         Some(exception) => Verdict::Barred { exception },
         None => Verdict::Fires,
     }
@@ -103,48 +99,26 @@ fn judge_facts(
 // Whether the rule at this place of the list fires on the event at the node `trigger`, where its
 // effect is due: each of its antecedents has a supporter there, whichever that is, and no exception
 // has one.
-pub(crate) fn is_free(
-    alloc: Global,
-    tree: &Tree,
-    net: &DistNet,
-    standing: &Standing,
-    trigger: u32,
-    place: u32,
-) -> bool
-    requires seen { IsTreeOf standing.now.present net.now.present tree.now }
-    requires trigger { IsLive (forest tree.now) trigger }
-    requires place { IsRuleAt standing.now.present place }
-    requires rule { Contains (rules_at standing.now.present (moment_at (forest tree.now) trigger)) (name_at standing.now.present place) }
-    ensures { (b : List Moment) → HasOccurrences b (forest tree.now) → result ≡ is_free standing.now.present (far_in standing.now.present.premises) b (moment_at (forest tree.now) trigger) (name_at standing.now.present place) }
+pub(crate) fn is_free(alloc: Global, map: &TimeMap<'_>, trigger: u32, place: u32) -> bool
+    requires seen { IsTimeMap map.now }
+    requires trigger { IsLive (forest map.now.tree.now) trigger }
+    requires place { IsRuleAt map.now.standing.now.present place }
+    requires rule { Contains (rules_at map.now.standing.now.present (moment_at (forest map.now.tree.now) trigger)) (name_at map.now.standing.now.present place) }
+    ensures { (b : List Moment) → HasOccurrences b (forest map.now.tree.now) → result ≡ is_free map.now.standing.now.present (far_in map.now.standing.now.present.premises) b (moment_at (forest map.now.tree.now) trigger) (name_at map.now.standing.now.present place) }
 {
     let mut guesses = Guesses::make(alloc);
-    is_free_with(tree, net, standing, trigger, place, &mut guesses)
+    is_free_with(map, trigger, place, &mut guesses)
 }
 
 // The same with room for guesses.
-fn is_free_with(
-    tree: &Tree,
-    net: &DistNet,
-    standing: &Standing,
-    trigger: u32,
-    place: u32,
-    guesses: &mut Guesses,
-) -> bool
-    requires seen { IsTreeOf standing.now.present net.now.present tree.now }
-    requires trigger { IsLive (forest tree.now) trigger }
-    requires place { IsRuleAt standing.now.present place }
-    requires rule { Contains (rules_at standing.now.present (moment_at (forest tree.now) trigger)) (name_at standing.now.present place) }
-    ensures { (b : List Moment) → HasOccurrences b (forest tree.now) → result ≡ is_free standing.now.present (far_in standing.now.present.premises) b (moment_at (forest tree.now) trigger) (name_at standing.now.present place) }
+fn is_free_with(map: &TimeMap<'_>, trigger: u32, place: u32, guesses: &mut Guesses) -> bool
+    requires seen { IsTimeMap map.now }
+    requires trigger { IsLive (forest map.now.tree.now) trigger }
+    requires place { IsRuleAt map.now.standing.now.present place }
+    requires rule { Contains (rules_at map.now.standing.now.present (moment_at (forest map.now.tree.now) trigger)) (name_at map.now.standing.now.present place) }
+    ensures { (b : List Moment) → HasOccurrences b (forest map.now.tree.now) → result ≡ is_free map.now.standing.now.present (far_in map.now.standing.now.present.premises) b (moment_at (forest map.now.tree.now) trigger) (name_at map.now.standing.now.present place) }
 {
-    let text = text_at(standing, place);
-    let verdict = judge_facts(
-        tree,
-        net,
-        standing,
-        trigger,
-        text.given,
-        text.exceptions,
-        guesses,
-    );
+    let text = text_at(map.standing, place);
+    let verdict = judge_facts(map, trigger, text.given, text.exceptions, guesses);
     matches!(verdict, Verdict::Fires)
 }

@@ -1,11 +1,12 @@
 // What is known of the rules on kinds, while events enter one after the other.
-ghost use Rattle.std.specs.Prelude.{◌≡◌, ◌≤◌, true, IfOk};
+ghost use Rattle.std.specs.Prelude.{◌≡◌, ◌≢◌, ◌≤◌, true, false, [], IfOk};
 ghost use Rattle.dist_net.specs.Net.{Net};
 ghost use Rattle.occ_tree.specs.Places.{forest};
-ghost use Rattle.projection.specs.Kinds.{AreKnown, AreRulesOn, places_in};
+ghost use Rattle.projection.specs.Kinds.{AreKnown, AreRulesOn, IsUnasked, places_in};
 ghost use Rattle.projection.specs.Queues.{weight_at};
 ghost use Rattle.spots.specs.Forest.{IsLive};
 ghost use Rattle.spots.specs.OfLists.{IsForestOf};
+ghost use Rattle.tmm_model.specs.Beliefs.{rules_on};
 ghost use Rattle.tmm_model.specs.Standing.{Standing as List};
 
 use crate::kinds::RulesByKind;
@@ -40,6 +41,8 @@ impl KnownKinds {
     pub fn ask(&mut self, alloc: Global, standing: &Standing, kind: Name) -> Result<bool, NoMemory>
         requires known { AreKnown standing.now.present self.old }
         ensures told { IfOk result (λ told. told ≡ true → AreRulesOn standing.now.present kind (places_in self.new kind)) }
+        ensures first { IfOk result (λ told. told ≡ false → IsUnasked self.old × (rules_on standing.now.present kind ≢ [])) }
+        ensures asked { IfOk result (λ told. IsUnasked self.new → ⊥) }
         ensures known { AreKnown standing.now.present self.new }
     {
         if self.rules.is_some() {

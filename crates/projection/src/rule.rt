@@ -5,15 +5,14 @@ ghost use Rattle.tmm_model.specs.Beliefs.{due, rules_at};
 ghost use Rattle.tmm_model.specs.Moments.{rule_of};
 ghost use Rattle.tmm_model.specs.Standing.{far_in};
 ghost use Rattle.spots.specs.Forest.{IsLive, moment_at};
-ghost use Rattle.occ_tree.specs.OfLists.{IsTreeOf};
 ghost use Rattle.occ_tree.specs.Places.{forest};
+ghost use Rattle.supports.specs.TimeMaps.{IsTimeMap};
 ghost use Rattle.projection.specs.Decisions.{IsDueBy, IsInTime};
 ghost use Rattle.projection.specs.Places.{name_at, IsRuleAt};
 
-use dist_net::DistNet;
-use occ_tree::{Order, Tree};
+use occ_tree::Order;
 use premise_list::Standing;
-use supports::{RuleText, rule_text};
+use supports::{RuleText, TimeMap, rule_text};
 use tmm_model::{Name, Premise};
 
 // What the rule at this place of the standing list says. Its name is not looked up.
@@ -59,21 +58,19 @@ pub(crate) fn due_by(horizon: u32, early: i64, delay: i64) -> Option<u32>
 
 // What a standing rule on the kind of the event at the node `trigger` says; none where its effect
 // would begin after the horizon.
-pub(crate) fn text_in_time<'a>(
-    tree: &Tree,
-    net: &DistNet,
-    standing: &'a Standing,
-    trigger: u32,
-    rule: Name,
-) -> Option<RuleText<'a>>
-    requires seen { IsTreeOf standing.now.present net.now.present tree.now }
-    requires trigger { IsLive (forest tree.now) trigger }
-    requires rule { Contains (rules_at standing.now.present (moment_at (forest tree.now) trigger)) rule }
-    ensures { MatchOption result (pos standing.now.present.horizon <ℤ due standing.now.present (far_in standing.now.present.premises) (moment_at (forest tree.now) trigger) rule) (IsInTime standing.now.present (moment_at (forest tree.now) trigger) rule) }
+pub(crate) fn text_in_time<'a>(map: &TimeMap<'a>, trigger: u32, rule: Name) -> Option<RuleText<'a>>
+    requires seen { IsTimeMap map.now }
+    requires trigger { IsLive (forest map.now.tree.now) trigger }
+    requires rule { Contains (rules_at map.now.standing.now.present (moment_at (forest map.now.tree.now) trigger)) rule }
+    ensures { MatchOption result (pos map.now.standing.now.present.horizon <ℤ due map.now.standing.now.present (far_in map.now.standing.now.present.premises) (moment_at (forest map.now.tree.now) trigger) rule) (IsInTime map.now.standing.now.present (moment_at (forest map.now.tree.now) trigger) rule) }
 {
-    let early = Order { tree, net }.early(trigger);
-    let text = rule_text(standing, rule);
-    match due_by(standing.horizon(), early, text.lo) {
+    let order = Order {
+        tree: map.tree,
+        net: map.net,
+    };
+    let early = order.early(trigger);
+    let text = rule_text(map.standing, rule);
+    match due_by(map.standing.horizon(), early, text.lo) {
         Some(_) => Some(text),
         None => None,
     }

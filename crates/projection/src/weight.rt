@@ -1,5 +1,5 @@
 // What an occurrence counts of the size of a map.
-ghost use Rattle.std.specs.Prelude.{◌≡◌, ◌≤◌, [], ◌∷◌, length, IfSome};
+ghost use Rattle.std.specs.Prelude.{◌≡◌, ◌≤◌, [], ◌∷◌, length, Some, IfSome};
 ghost use Rattle.std.specs.List.{filter_map};
 ghost use Rattle.tmm_model.specs.Beliefs.{on_kind, rules_at, rules_on};
 ghost use Rattle.dist_net.specs.Net.{Net};
@@ -68,6 +68,7 @@ pub(crate) fn rules_on_kind(standing: &Standing, kind: Name, last: &mut Option<K
     requires { IfSome last.old (IsCountIn standing.now.present) }
     ensures value { result ≡ length (rules_on standing.now.present kind) }
     ensures few { result ≤ 2000 }
+    ensures kept { last.new ≡ Some (record { kind = kind; count = result }) }
     ensures last { IfSome last.new (IsCountIn standing.now.present) }
 {
     if let Some(known) = *last {

@@ -14,6 +14,7 @@ ghost use Rattle.occ_tree.specs.Places.{forest};
 ghost use Rattle.revisions.specs.Standing.{IsLeftOut};
 ghost use Rattle.supports.specs.Apart.{AreOthersApart};
 ghost use Rattle.supports.specs.Edited.{IsEdited};
+ghost use Rattle.supports.specs.TimeMaps.{IsTimeMap};
 ghost use Rattle.protections.specs.Found.{AreFound, found_in};
 ghost use Rattle.protections.specs.Kept.{IsStill, IsOfApart};
 ghost use Rattle.protections.specs.Reviews.{Reviews, AreReviewed, IsReviewOf};
@@ -27,6 +28,7 @@ use list_net::number_of;
 use occ_tree::Tree;
 use premise_list::Standing;
 use std::alloc::Global;
+use supports::TimeMap;
 use tmm_model::{Edit, Name, NoMemory, PointName, Premise};
 
 /// What an edit makes of the broken protections, given classes from which all others are apart. A
@@ -50,11 +52,16 @@ pub fn review_edit(
     requires old { AreFound (reports (built standing.now.committed)) (found_in old.now) }
     ensures { IfOk result (IsReviewOf (built standing.now.committed) (built standing.now.present) (found_in old.now)) }
 {
+    let map = TimeMap {
+        standing,
+        tree,
+        net,
+    };
     let erased = broken_among(alloc, old, erased)?;
     let reviewed = if net.moved().is_empty() && classes.is_empty() {
-        review_added(alloc, standing, tree, net, edit, old)?
+        review_added(alloc, &map, edit, old)?
     } else {
-        review_standing(alloc, standing, tree, net, edit, classes, old)?
+        review_standing(alloc, &map, edit, classes, old)?
     };
     Ok(Review { erased, reviewed })
 }
@@ -80,30 +87,25 @@ fn broken_among(
 // alone.
 fn review_added(
     alloc: Global,
-    standing: &Standing,
-    tree: &Tree,
-    net: &DistNet,
+    map: &TimeMap<'_>,
     edit: &Edit,
     old: &BrokenProtections,
 ) -> Result<Vec<Reviewed>, NoMemory>
-    requires seen { IsTreeOf standing.now.present net.now.present tree.now }
-    requires holds { HasOccurrences (built standing.now.present).believed (forest tree.now) }
-    requires edited { IsEdited standing.now net.now edit.now tree.now }
-    requires others { AreOthersApart standing.now net.now tree.now [] }
-    requires unmoved { net.now.moved ≡ [] }
-    requires old { AreFound (reports (built standing.now.committed)) (found_in old.now) }
-    ensures { IfOk result (λ found. AreReviewed (built standing.now.present) (found_in old.now) standing.now.present.premises found.items) }
+    requires seen { IsTimeMap map.now }
+    requires holds { HasOccurrences (built map.now.standing.now.present).believed (forest map.now.tree.now) }
+    requires edited { IsEdited map.now.standing.now map.now.net.now edit.now map.now.tree.now }
+    requires others { AreOthersApart map.now.standing.now map.now.net.now map.now.tree.now [] }
+    requires unmoved { map.now.net.now.moved ≡ [] }
+    requires old { AreFound (reports (built map.now.standing.now.committed)) (found_in old.now) }
+    ensures { IfOk result (λ found. AreReviewed (built map.now.standing.now.present) (found_in old.now) map.now.standing.now.present.premises found.items) }
 {
     // it tells the proof that the tokens of each class are those of the nodes
-    tree.have_tokens();
+    map.tree.have_tokens();
     // and that nothing moved but what is listed
-    let _ = net.moved();
+    let _ = map.net.moved();
     let mut found = Vec::new(alloc);
     if let Edit::Add(premise) = edit {
-        push_some_to(
-            &mut found,
-            look(alloc, standing, tree, net, edit, old, premise)?,
-        )?;
+        push_some_to(&mut found, look(alloc, map, edit, old, premise)?)?;
     }
     Ok(found)
 }
@@ -111,26 +113,24 @@ fn review_added(
 // The protections that an edit did not leave alone.
 fn review_standing(
     alloc: Global,
-    standing: &Standing,
-    tree: &Tree,
-    net: &DistNet,
+    map: &TimeMap<'_>,
     edit: &Edit,
     classes: &[Name],
     old: &BrokenProtections,
 ) -> Result<Vec<Reviewed>, NoMemory>
-    requires seen { IsTreeOf standing.now.present net.now.present tree.now }
-    requires holds { HasOccurrences (built standing.now.present).believed (forest tree.now) }
-    requires edited { IsEdited standing.now net.now edit.now tree.now }
-    requires others { AreOthersApart standing.now net.now tree.now classes.now }
-    requires old { AreFound (reports (built standing.now.committed)) (found_in old.now) }
-    ensures { IfOk result (λ found. AreReviewed (built standing.now.present) (found_in old.now) standing.now.present.premises found.items) }
+    requires seen { IsTimeMap map.now }
+    requires holds { HasOccurrences (built map.now.standing.now.present).believed (forest map.now.tree.now) }
+    requires edited { IsEdited map.now.standing.now map.now.net.now edit.now map.now.tree.now }
+    requires others { AreOthersApart map.now.standing.now map.now.net.now map.now.tree.now classes.now }
+    requires old { AreFound (reports (built map.now.standing.now.committed)) (found_in old.now) }
+    ensures { IfOk result (λ found. AreReviewed (built map.now.standing.now.present) (found_in old.now) map.now.standing.now.present.premises found.items) }
 {
     let mut found = Vec::new(alloc);
-    for i in 0..standing.len() {
-        match standing.at(i) {
+    for i in 0..map.standing.len() {
+        match map.standing.at(i) {
             Some(premise) => push_some_to(
                 &mut found,
-                review_premise(alloc, standing, tree, net, edit, classes, old, premise)?,
+                review_premise(alloc, map, edit, classes, old, premise)?,
             )?,
             None => unreachable!(),
         }
@@ -141,48 +141,44 @@ fn review_standing(
 // A protection that the edit did not leave alone.
 fn review_premise(
     alloc: Global,
-    standing: &Standing,
-    tree: &Tree,
-    net: &DistNet,
+    map: &TimeMap<'_>,
     edit: &Edit,
     classes: &[Name],
     old: &BrokenProtections,
     premise: &Premise,
 ) -> Result<Option<Reviewed>, NoMemory>
-    requires seen { IsTreeOf standing.now.present net.now.present tree.now }
-    requires holds { HasOccurrences (built standing.now.present).believed (forest tree.now) }
-    requires edited { IsEdited standing.now net.now edit.now tree.now }
-    requires others { AreOthersApart standing.now net.now tree.now classes.now }
-    requires old { AreFound (reports (built standing.now.committed)) (found_in old.now) }
-    requires stands { Contains standing.now.present.premises premise.now }
-    ensures { IfOk result (Reviews (built standing.now.present) (found_in old.now) premise.now) }
+    requires seen { IsTimeMap map.now }
+    requires holds { HasOccurrences (built map.now.standing.now.present).believed (forest map.now.tree.now) }
+    requires edited { IsEdited map.now.standing.now map.now.net.now edit.now map.now.tree.now }
+    requires others { AreOthersApart map.now.standing.now map.now.net.now map.now.tree.now classes.now }
+    requires old { AreFound (reports (built map.now.standing.now.committed)) (found_in old.now) }
+    requires stands { Contains map.now.standing.now.present.premises premise.now }
+    ensures { IfOk result (Reviews (built map.now.standing.now.present) (found_in old.now) premise.now) }
 {
-    if is_left_alone(standing, tree, net, edit, classes, premise) {
+    if is_left_alone(map, edit, classes, premise) {
         return Ok(None);
     }
-    look(alloc, standing, tree, net, edit, old, premise)
+    look(alloc, map, edit, old, premise)
 }
 
 // A protection, looked at.
 fn look(
     alloc: Global,
-    standing: &Standing,
-    tree: &Tree,
-    net: &DistNet,
+    map: &TimeMap<'_>,
     edit: &Edit,
     old: &BrokenProtections,
     premise: &Premise,
 ) -> Result<Option<Reviewed>, NoMemory>
-    requires seen { IsTreeOf standing.now.present net.now.present tree.now }
-    requires holds { HasOccurrences (built standing.now.present).believed (forest tree.now) }
-    requires edited { IsEdited standing.now net.now edit.now tree.now }
-    requires old { AreFound (reports (built standing.now.committed)) (found_in old.now) }
-    requires stands { Contains standing.now.present.premises premise.now }
-    ensures { IfOk result (Reviews (built standing.now.present) (found_in old.now) premise.now) }
+    requires seen { IsTimeMap map.now }
+    requires holds { HasOccurrences (built map.now.standing.now.present).believed (forest map.now.tree.now) }
+    requires edited { IsEdited map.now.standing.now map.now.net.now edit.now map.now.tree.now }
+    requires old { AreFound (reports (built map.now.standing.now.committed)) (found_in old.now) }
+    requires stands { Contains map.now.standing.now.present.premises premise.now }
+    ensures { IfOk result (Reviews (built map.now.standing.now.present) (found_in old.now) premise.now) }
 {
     match premise {
         Premise::Protect { name, .. } => {
-            let report = broken(alloc, standing, tree, net, premise)?;
+            let report = broken(alloc, map, premise)?;
             Ok(Some(Reviewed {
                 name: *name,
                 was_broken: old.has(*name),
@@ -195,19 +191,12 @@ fn look(
 
 // Whether the edit left a protection alone: it stood before, neither of its points moved, and the
 // class of its fact is not among these.
-fn is_left_alone(
-    standing: &Standing,
-    tree: &Tree,
-    net: &DistNet,
-    edit: &Edit,
-    classes: &[Name],
-    premise: &Premise,
-) -> bool
-    requires edited { IsEdited standing.now net.now edit.now tree.now }
-    requires others { AreOthersApart standing.now net.now tree.now classes.now }
-    requires stands { Contains standing.now.present.premises premise.now }
-    ensures stood { result ≡ true → Contains standing.now.committed.premises premise.now }
-    ensures same { result ≡ true → broken (built standing.now.present) premise.now ≡ broken (built standing.now.committed) premise.now }
+fn is_left_alone(map: &TimeMap<'_>, edit: &Edit, classes: &[Name], premise: &Premise) -> bool
+    requires edited { IsEdited map.now.standing.now map.now.net.now edit.now map.now.tree.now }
+    requires others { AreOthersApart map.now.standing.now map.now.net.now map.now.tree.now classes.now }
+    requires stands { Contains map.now.standing.now.present.premises premise.now }
+    ensures stood { result ≡ true → Contains map.now.standing.now.committed.premises premise.now }
+    ensures same { result ≡ true → broken (built map.now.standing.now.present) premise.now ≡ broken (built map.now.standing.now.committed) premise.now }
 {
     let Premise::Protect { fact, from, to, .. } = premise else {
         return false;
@@ -215,13 +204,13 @@ fn is_left_alone(
     if is_added(edit, premise) {
         return false;
     }
-    if has_moved(net, *from) {
+    if has_moved(map.net, *from) {
         return false;
     }
-    if has_moved(net, *to) {
+    if has_moved(map.net, *to) {
         return false;
     }
-    is_untouched(standing, tree, classes, *fact)
+    is_untouched(map.standing, map.tree, classes, *fact)
 }
 
 // Whether the edit adds a premise of this name.

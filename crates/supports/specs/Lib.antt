@@ -9,3 +9,4 @@ pub mod Growing
 pub mod Edited
 pub mod ClassTokens
 pub mod Clips
+pub mod TimeMaps

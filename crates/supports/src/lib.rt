@@ -16,7 +16,7 @@
 //! class, in whatever order those that cut stand. Without memory they answer the same.
 #![tactic(auto)]
 
-ghost use Rattle.std.specs.Prelude.{◌≡◌, ◌<◌, ℕ, List, map, length, None, Some, IsSome, IfSome, slice_index_or};
+ghost use Rattle.std.specs.Prelude.{◌≡◌, ◌<◌, ℕ, List, map as mapped, length, None, Some, IsSome, IfSome, slice_index_or};
 ghost use Rattle.std.specs.List.{All};
 ghost use Rattle.std.specs.Option.{option_map};
 ghost use Rattle.tmm_model.specs.declared.token.TokenRow.{TokenRow};
@@ -33,11 +33,11 @@ ghost use Rattle.spots.specs.Spots.{IsSpot, spot_moment, spot_early, spot_cmp};
 ghost use Rattle.clipping.specs.ByDate.{IsByDate};
 ghost use Rattle.clipping.specs.Live.{IsLive as HasLiveSpots};
 ghost use Rattle.occ_tree.specs.Dated.{IsKnown};
-ghost use Rattle.occ_tree.specs.OfLists.{IsTreeOf};
 ghost use Rattle.occ_tree.specs.Places.{forest};
 ghost use Rattle.occ_tree.specs.Standing.{present};
 ghost use Rattle.supports.specs.Faults.{fault_at};
 ghost use Rattle.supports.specs.Nodes.{IsOfNode, HasNode};
+ghost use Rattle.supports.specs.TimeMaps.{IsTimeMap};
 
 mod all_clips;
 mod alone;
@@ -47,18 +47,18 @@ mod near;
 mod rivals;
 mod root;
 mod rule;
+mod time_map;
 
 pub use all_clips::{class_clips, clips};
 use class_tokens::ClassTokens;
 use clipping::across::{self, Fault, Place};
 use clipping::{Tokens, by_date};
-use dist_net::DistNet;
 pub use guesses::Guesses;
-use occ_tree::{Order, Tree};
-use premise_list::Standing;
+use occ_tree::Order;
 pub use root::add_root;
 pub use rule::{RuleText, rule_text};
 use spots::Spot;
+pub use time_map::TimeMap;
 use tmm_model::{Name, TokenRow};
 
 // The node of a token.
@@ -99,69 +99,57 @@ fn place_of(order: &Order<'_>, rows: &[TokenRow<Spot>], x: u32) -> usize
 /// The node of the first token that supports the fact throughout `p` to `q`, none exactly where no
 /// token does.
 pub fn supporter(
-    standing: &Standing,
-    tree: &Tree,
-    net: &DistNet,
+    map: &TimeMap<'_>,
     fact: Name,
     p: Spot,
     q: Spot,
     guesses: &mut Guesses,
 ) -> Option<u32>
-    requires seen { IsTreeOf standing.now.present net.now.present tree.now }
-    requires fact { IsSome (class_in standing.now.present.premises fact) }
-    requires p { IsSpot net.now.present.names (forest tree.now) p }
-    requires q { IsSpot net.now.present.names (forest tree.now) q }
-    ensures live { IfSome result (IsLive (forest tree.now)) }
-    ensures first { (b : List Moment) → HasOccurrences b (forest tree.now) → option_map (moment_at (forest tree.now)) result ≡ holder standing.now.present (far_in standing.now.present.premises) b fact (spot_moment net.now.present.names (forest tree.now) p) (spot_moment net.now.present.names (forest tree.now) q) }
+    requires seen { IsTimeMap map.now }
+    requires fact { IsSome (class_in map.now.standing.now.present.premises fact) }
+    requires p { IsSpot map.now.net.now.present.names (forest map.now.tree.now) p }
+    requires q { IsSpot map.now.net.now.present.names (forest map.now.tree.now) q }
+    ensures live { IfSome result (IsLive (forest map.now.tree.now)) }
+    ensures first { (b : List Moment) → HasOccurrences b (forest map.now.tree.now) → option_map (moment_at (forest map.now.tree.now)) result ≡ holder map.now.standing.now.present (far_in map.now.standing.now.present.premises) b fact (spot_moment map.now.net.now.present.names (forest map.now.tree.now) p) (spot_moment map.now.net.now.present.names (forest map.now.tree.now) q) }
 {
-    if standing.has_rivals(fact) {
-        rivals::supporter(standing, tree, net, fact, p, q)
+    if map.standing.has_rivals(fact) {
+        rivals::supporter(map, fact, p, q)
     } else {
-        alone::supporter(standing, tree, net, fact, p, q, guesses)
+        alone::supporter(map, fact, p, q, guesses)
     }
 }
 
 /// Whether a token supports the fact throughout `p` to `q`. That is found sooner than which is the
 /// first.
-pub fn is_supported(
-    standing: &Standing,
-    tree: &Tree,
-    net: &DistNet,
-    fact: Name,
-    p: Spot,
-    q: Spot,
-    guesses: &mut Guesses,
-) -> bool
-    requires seen { IsTreeOf standing.now.present net.now.present tree.now }
-    requires fact { IsSome (class_in standing.now.present.premises fact) }
-    requires p { IsSpot net.now.present.names (forest tree.now) p }
-    requires q { IsSpot net.now.present.names (forest tree.now) q }
-    ensures { (b : List Moment) → HasOccurrences b (forest tree.now) → result ≡ has_support standing.now.present (far_in standing.now.present.premises) b fact (spot_moment net.now.present.names (forest tree.now) p) (spot_moment net.now.present.names (forest tree.now) q) }
+pub fn is_supported(map: &TimeMap<'_>, fact: Name, p: Spot, q: Spot, guesses: &mut Guesses) -> bool
+    requires seen { IsTimeMap map.now }
+    requires fact { IsSome (class_in map.now.standing.now.present.premises fact) }
+    requires p { IsSpot map.now.net.now.present.names (forest map.now.tree.now) p }
+    requires q { IsSpot map.now.net.now.present.names (forest map.now.tree.now) q }
+    ensures { (b : List Moment) → HasOccurrences b (forest map.now.tree.now) → result ≡ has_support map.now.standing.now.present (far_in map.now.standing.now.present.premises) b fact (spot_moment map.now.net.now.present.names (forest map.now.tree.now) p) (spot_moment map.now.net.now.present.names (forest map.now.tree.now) q) }
 {
-    if standing.has_rivals(fact) {
-        rivals::is_supported(standing, tree, net, fact, p, q)
+    if map.standing.has_rivals(fact) {
+        rivals::is_supported(map, fact, p, q)
     } else {
-        alone::is_supported(standing, tree, net, fact, p, q, guesses)
+        alone::is_supported(map, fact, p, q, guesses)
     }
 }
 
 /// The place of the first of these facts that a token supports at a point, none exactly where no
 /// token supports any.
 pub fn first_supported(
-    standing: &Standing,
-    tree: &Tree,
-    net: &DistNet,
+    map: &TimeMap<'_>,
     facts: &[Name],
     at: Spot,
     guesses: &mut Guesses,
 ) -> Option<usize>
-    requires seen { IsTreeOf standing.now.present net.now.present tree.now }
-    requires facts { All (λ fact. IsSome (class_in standing.now.present.premises fact)) facts.now }
-    requires at { IsSpot net.now.present.names (forest tree.now) at }
-    ensures { (b : List Moment) → HasOccurrences b (forest tree.now) → result ≡ first_with (map (λ fact. holder standing.now.present (far_in standing.now.present.premises) b fact (spot_moment net.now.present.names (forest tree.now) at) (spot_moment net.now.present.names (forest tree.now) at)) facts.now) }
+    requires seen { IsTimeMap map.now }
+    requires facts { All (λ fact. IsSome (class_in map.now.standing.now.present.premises fact)) facts.now }
+    requires at { IsSpot map.now.net.now.present.names (forest map.now.tree.now) at }
+    ensures { (b : List Moment) → HasOccurrences b (forest map.now.tree.now) → result ≡ first_with (mapped (λ fact. holder map.now.standing.now.present (far_in map.now.standing.now.present.premises) b fact (spot_moment map.now.net.now.present.names (forest map.now.tree.now) at) (spot_moment map.now.net.now.present.names (forest map.now.tree.now) at)) facts.now) }
 {
     for place in 0..facts.len() {
-        if is_supported(standing, tree, net, facts[place], at, at, guesses) {
+        if is_supported(map, facts[place], at, at, guesses) {
             return Some(place);
         }
     }
@@ -180,31 +168,34 @@ pub enum NodeFault {
 }
 
 /// Why the token at `x` does not support its fact throughout `p` to `q`, where no token does.
-pub fn blame(standing: &Standing, tree: &Tree, net: &DistNet, x: u32, p: Spot, q: Spot) -> NodeFault
-    requires seen { IsTreeOf standing.now.present net.now.present tree.now }
-    requires p { IsSpot net.now.present.names (forest tree.now) p }
-    requires q { IsSpot net.now.present.names (forest tree.now) q }
-    requires no_supporter { (b : List Moment) × (m : Member) × HasOccurrences b (forest tree.now) × (member (forest tree.now) x ≡ Some m) × IsSome m.class
-        × (holder standing.now.present (far_in standing.now.present.premises) b m.what (spot_moment net.now.present.names (forest tree.now) p) (spot_moment net.now.present.names (forest tree.now) q) ≡ None) }
-    ensures live { (c : ℕ) → result ≡ NodeFault.Clipped c → IsLive (forest tree.now) c }
-    ensures fault { (b : List Moment) (k : TokenRow Moment) → HasOccurrences b (forest tree.now) → token_of standing.now.present (moment_at (forest tree.now) x) ≡ Some k
-        → fault (map_of standing.now.present b) (spot_moment net.now.present.names (forest tree.now) p) (spot_moment net.now.present.names (forest tree.now) q) k ≡ fault_at (forest tree.now) result }
+pub fn blame(map: &TimeMap<'_>, x: u32, p: Spot, q: Spot) -> NodeFault
+    requires seen { IsTimeMap map.now }
+    requires p { IsSpot map.now.net.now.present.names (forest map.now.tree.now) p }
+    requires q { IsSpot map.now.net.now.present.names (forest map.now.tree.now) q }
+    requires no_supporter { (b : List Moment) × (m : Member) × HasOccurrences b (forest map.now.tree.now) × (member (forest map.now.tree.now) x ≡ Some m) × IsSome m.class
+        × (holder map.now.standing.now.present (far_in map.now.standing.now.present.premises) b m.what (spot_moment map.now.net.now.present.names (forest map.now.tree.now) p) (spot_moment map.now.net.now.present.names (forest map.now.tree.now) q) ≡ None) }
+    ensures live { (c : ℕ) → result ≡ NodeFault.Clipped c → IsLive (forest map.now.tree.now) c }
+    ensures fault { (b : List Moment) (k : TokenRow Moment) → HasOccurrences b (forest map.now.tree.now) → token_of map.now.standing.now.present (moment_at (forest map.now.tree.now) x) ≡ Some k
+        → fault (map_of map.now.standing.now.present b) (spot_moment map.now.net.now.present.names (forest map.now.tree.now) p) (spot_moment map.now.net.now.present.names (forest map.now.tree.now) q) k ≡ fault_at (forest map.now.tree.now) result }
 {
-    let row = tree.row(x);
+    let row = map.tree.row(x);
     let Some(class) = row.class else {
         unreachable!()
     };
     let tokens = ClassTokens {
-        standing,
-        tree,
+        standing: map.standing,
+        tree: map.tree,
         fact: row.what,
         class,
     };
     tokens.are_in_order();
-    tree.have_tokens();
-    let order = Order { tree, net };
+    map.tree.have_tokens();
+    let order = Order {
+        tree: map.tree,
+        net: map.net,
+    };
     let at = place_of(&order, tokens.list(0), x);
-    match across::blame(&order, &tokens, standing, Place { list: 0, at }, p, q) {
+    match across::blame(&order, &tokens, map.standing, Place { list: 0, at }, p, q) {
         Fault::Late => NodeFault::Late,
         Fault::Clipped(c) => NodeFault::Clipped(node_at(tokens.list(c.list), c.at)),
         Fault::Ends => NodeFault::Ends,

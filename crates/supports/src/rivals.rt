@@ -13,16 +13,16 @@ ghost use Rattle.spots.specs.Forest.{IsLive, moment_at};
 ghost use Rattle.spots.specs.OfLists.{HasOccurrences};
 ghost use Rattle.spots.specs.declared.spot.Spot.{Spot};
 ghost use Rattle.spots.specs.Spots.{IsSpot, spot_moment};
-ghost use Rattle.occ_tree.specs.OfLists.{IsTreeOf};
 ghost use Rattle.occ_tree.specs.Places.{forest};
 ghost use Rattle.occ_tree.specs.Standing.{present};
 ghost use Rattle.occ_tree.specs.OfLists.{IsTreeIn};
 ghost use Rattle.occ_tree.specs.Tokens.{number_of};
 ghost use Rattle.supports.specs.Behind.{token_at, IsClip};
 ghost use Rattle.supports.specs.Clips.{rival_in, of_pairs, IsClipBy};
+ghost use Rattle.supports.specs.TimeMaps.{IsTimeMap};
 
 use crate::class_tokens::{ClassTokens, other_in};
-use crate::node_at;
+use crate::{TimeMap, node_at};
 use clipping::{Tokens, across, by_date};
 use dist_net::DistNet;
 use occ_tree::{Order, Tree};
@@ -31,63 +31,57 @@ use spots::Spot;
 use tmm_model::{Name, TokenRow};
 
 // The node of the first token that supports the fact throughout `p` to `q`.
-pub(crate) fn supporter(
-    standing: &Standing,
-    tree: &Tree,
-    net: &DistNet,
-    fact: Name,
-    p: Spot,
-    q: Spot,
-) -> Option<u32>
-    requires seen { IsTreeOf standing.now.present net.now.present tree.now }
-    requires fact { IsSome (class_in standing.now.present.premises fact) }
-    requires p { IsSpot net.now.present.names (forest tree.now) p }
-    requires q { IsSpot net.now.present.names (forest tree.now) q }
-    ensures live { IfSome result (IsLive (forest tree.now)) }
-    ensures first { (b : List Moment) → HasOccurrences b (forest tree.now) → option_map (moment_at (forest tree.now)) result ≡ holder standing.now.present (far_in standing.now.present.premises) b fact (spot_moment net.now.present.names (forest tree.now) p) (spot_moment net.now.present.names (forest tree.now) q) }
+pub(crate) fn supporter(map: &TimeMap<'_>, fact: Name, p: Spot, q: Spot) -> Option<u32>
+    requires seen { IsTimeMap map.now }
+    requires fact { IsSome (class_in map.now.standing.now.present.premises fact) }
+    requires p { IsSpot map.now.net.now.present.names (forest map.now.tree.now) p }
+    requires q { IsSpot map.now.net.now.present.names (forest map.now.tree.now) q }
+    ensures live { IfSome result (IsLive (forest map.now.tree.now)) }
+    ensures first { (b : List Moment) → HasOccurrences b (forest map.now.tree.now) → option_map (moment_at (forest map.now.tree.now)) result ≡ holder map.now.standing.now.present (far_in map.now.standing.now.present.premises) b fact (spot_moment map.now.net.now.present.names (forest map.now.tree.now) p) (spot_moment map.now.net.now.present.names (forest map.now.tree.now) q) }
 {
-    let Some(class) = standing.class_of(fact) else {
+    let Some(class) = map.standing.class_of(fact) else {
         unreachable!()
     };
     let tokens = ClassTokens {
-        standing,
-        tree,
+        standing: map.standing,
+        tree: map.tree,
         fact,
         class,
     };
     tokens.are_in_order();
-    tree.have_tokens();
-    let place = across::holder(&Order { tree, net }, &tokens, standing, 0, &[], fact, p, q)?;
+    map.tree.have_tokens();
+    let order = Order {
+        tree: map.tree,
+        net: map.net,
+    };
+    let place = across::holder(&order, &tokens, map.standing, 0, &[], fact, p, q)?;
     Some(node_at(tokens.list(0), place))
 }
 
 // Whether a token supports the fact throughout `p` to `q`.
-pub(crate) fn is_supported(
-    standing: &Standing,
-    tree: &Tree,
-    net: &DistNet,
-    fact: Name,
-    p: Spot,
-    q: Spot,
-) -> bool
-    requires seen { IsTreeOf standing.now.present net.now.present tree.now }
-    requires fact { IsSome (class_in standing.now.present.premises fact) }
-    requires p { IsSpot net.now.present.names (forest tree.now) p }
-    requires q { IsSpot net.now.present.names (forest tree.now) q }
-    ensures { (b : List Moment) → HasOccurrences b (forest tree.now) → result ≡ has_support standing.now.present (far_in standing.now.present.premises) b fact (spot_moment net.now.present.names (forest tree.now) p) (spot_moment net.now.present.names (forest tree.now) q) }
+pub(crate) fn is_supported(map: &TimeMap<'_>, fact: Name, p: Spot, q: Spot) -> bool
+    requires seen { IsTimeMap map.now }
+    requires fact { IsSome (class_in map.now.standing.now.present.premises fact) }
+    requires p { IsSpot map.now.net.now.present.names (forest map.now.tree.now) p }
+    requires q { IsSpot map.now.net.now.present.names (forest map.now.tree.now) q }
+    ensures { (b : List Moment) → HasOccurrences b (forest map.now.tree.now) → result ≡ has_support map.now.standing.now.present (far_in map.now.standing.now.present.premises) b fact (spot_moment map.now.net.now.present.names (forest map.now.tree.now) p) (spot_moment map.now.net.now.present.names (forest map.now.tree.now) q) }
 {
-    let Some(class) = standing.class_of(fact) else {
+    let Some(class) = map.standing.class_of(fact) else {
         unreachable!()
     };
     let tokens = ClassTokens {
-        standing,
-        tree,
+        standing: map.standing,
+        tree: map.tree,
         fact,
         class,
     };
     tokens.are_in_order();
-    tree.have_tokens();
-    across::is_held(&Order { tree, net }, &tokens, standing, 0, &[], fact, p, q)
+    map.tree.have_tokens();
+    let order = Order {
+        tree: map.tree,
+        net: map.net,
+    };
+    across::is_held(&order, &tokens, map.standing, 0, &[], fact, p, q)
 }
 
 // The node of the first token that clips `k`, given that of its own class that does. A span has

@@ -1,5 +1,5 @@
 // Whether a fact holds.
-ghost use Rattle.std.specs.Prelude.{◌≡◌, ℕ, pos, ◌++◌, ◌∷◌, [], None, List, map, IfOk, IfSome, OnOk, IsSome};
+ghost use Rattle.std.specs.Prelude.{◌≡◌, ℕ, pos, ◌++◌, ◌∷◌, [], None, List, map as mapped, IfOk, IfSome, OnOk, IsSome};
 ghost use Rattle.std.specs.List.{All};
 ghost use Rattle.std.specs.Option.{option_map};
 ghost use Rattle.tmm_model.specs.Answers.{ask, finding_of, blame_of, fault_of};
@@ -15,6 +15,7 @@ ghost use Rattle.spots.specs.Spots.{IsSpot, spot_moment, spot_distance};
 ghost use Rattle.occ_tree.specs.OfLists.{IsTreeIn, IsTreeOf};
 ghost use Rattle.occ_tree.specs.Places.{forest};
 ghost use Rattle.supports.specs.Faults.{fault_at};
+ghost use Rattle.supports.specs.TimeMaps.{IsTimeMap};
 ghost use Rattle.tt_query.specs.Firsts.{blame_at, failing_of, HasNoSupporter};
 
 use crate::firsts::{BLAMES, first_tokens};
@@ -23,7 +24,7 @@ use occ_tree::Tree;
 use premise_list::Standing;
 use spots::Spot;
 use std::alloc::Global;
-use supports::{Guesses, NodeFault, blame};
+use supports::{Guesses, NodeFault, TimeMap, blame};
 use tmm_model::{Answer, Blame, Bound, Cause, Name, NoMemory, Seq};
 
 /// Whether a fact holds throughout two spots: it does by its first supporter, and where none is
@@ -48,34 +49,31 @@ pub fn ask(
     if !is_by(tree, net, p, q) {
         return Ok(Answer::Unordered);
     }
-    match supporter(alloc, standing, tree, net, fact, p, q) {
+    let map = TimeMap {
+        standing,
+        tree,
+        net,
+    };
+    match supporter(alloc, &map, fact, p, q) {
         Some(x) => match tree.occ_of(alloc, x) {
             Ok(token) => Ok(Answer::Yes(token)),
             Err(_) => Err(NoMemory),
         },
-        None => blamed(alloc, standing, tree, net, fact, p, q),
+        None => blamed(alloc, &map, fact, p, q),
     }
 }
 
 // The first supporter of a fact throughout two spots.
-fn supporter(
-    alloc: Global,
-    standing: &Standing,
-    tree: &Tree,
-    net: &DistNet,
-    fact: Name,
-    p: Spot,
-    q: Spot,
-) -> Option<u32>
-    requires seen { IsTreeOf standing.now.present net.now.present tree.now }
-    requires fact { IsSome (class_in standing.now.present.premises fact) }
-    requires p { IsSpot net.now.present.names (forest tree.now) p }
-    requires q { IsSpot net.now.present.names (forest tree.now) q }
-    ensures live { IfSome result (IsLive (forest tree.now)) }
-    ensures first { (b : List Moment) → HasOccurrences b (forest tree.now) → option_map (moment_at (forest tree.now)) result ≡ holder standing.now.present (far_in standing.now.present.premises) b fact (spot_moment net.now.present.names (forest tree.now) p) (spot_moment net.now.present.names (forest tree.now) q) }
+fn supporter(alloc: Global, map: &TimeMap<'_>, fact: Name, p: Spot, q: Spot) -> Option<u32>
+    requires seen { IsTimeMap map.now }
+    requires fact { IsSome (class_in map.now.standing.now.present.premises fact) }
+    requires p { IsSpot map.now.net.now.present.names (forest map.now.tree.now) p }
+    requires q { IsSpot map.now.net.now.present.names (forest map.now.tree.now) q }
+    ensures live { IfSome result (IsLive (forest map.now.tree.now)) }
+    ensures first { (b : List Moment) → HasOccurrences b (forest map.now.tree.now) → option_map (moment_at (forest map.now.tree.now)) result ≡ holder map.now.standing.now.present (far_in map.now.standing.now.present.premises) b fact (spot_moment map.now.net.now.present.names (forest map.now.tree.now) p) (spot_moment map.now.net.now.present.names (forest map.now.tree.now) q) }
 {
     let mut guesses = Guesses::make(alloc);
-    supports::supporter(standing, tree, net, fact, p, q, &mut guesses)
+    supports::supporter(map, fact, p, q, &mut guesses)
 }
 
 // Whether the first spot is surely at or before the second.
@@ -94,28 +92,26 @@ fn is_by(tree: &Tree, net: &DistNet, p: Spot, q: Spot) -> bool
 // The answer where the fact has no supporter.
 fn blamed(
     alloc: Global,
-    standing: &Standing,
-    tree: &Tree,
-    net: &DistNet,
+    map: &TimeMap<'_>,
     fact: Name,
     p: Spot,
     q: Spot,
 ) -> Result<Answer, NoMemory>
-    requires seen { IsTreeOf standing.now.present net.now.present tree.now }
-    requires holds { HasOccurrences (built standing.now.present).believed (forest tree.now) }
-    requires fact { IsSome (class_in standing.now.present.premises fact) }
-    requires p { IsSpot net.now.present.names (forest tree.now) p }
-    requires q { IsSpot net.now.present.names (forest tree.now) q }
-    requires none { holder standing.now.present (far_in standing.now.present.premises) (built standing.now.present).believed fact (spot_moment net.now.present.names (forest tree.now) p) (spot_moment net.now.present.names (forest tree.now) q) ≡ None }
-    ensures { IfOk result (λ answer. finding_of answer ≡ failing_of (built standing.now.present) fact (spot_moment net.now.present.names (forest tree.now) p) (spot_moment net.now.present.names (forest tree.now) q)) }
+    requires seen { IsTimeMap map.now }
+    requires holds { HasOccurrences (built map.now.standing.now.present).believed (forest map.now.tree.now) }
+    requires fact { IsSome (class_in map.now.standing.now.present.premises fact) }
+    requires p { IsSpot map.now.net.now.present.names (forest map.now.tree.now) p }
+    requires q { IsSpot map.now.net.now.present.names (forest map.now.tree.now) q }
+    requires none { holder map.now.standing.now.present (far_in map.now.standing.now.present.premises) (built map.now.standing.now.present).believed fact (spot_moment map.now.net.now.present.names (forest map.now.tree.now) p) (spot_moment map.now.net.now.present.names (forest map.now.tree.now) q) ≡ None }
+    ensures { IfOk result (λ answer. finding_of answer ≡ failing_of (built map.now.standing.now.present) fact (spot_moment map.now.net.now.present.names (forest map.now.tree.now) p) (spot_moment map.now.net.now.present.names (forest map.now.tree.now) q)) }
 {
-    let class = match standing.class_of(fact) {
+    let class = match map.standing.class_of(fact) {
         Some(class) => class,
         None => unreachable!(),
     };
-    let rows = tree.tokens(&class);
-    let first = first_tokens(tree, net, class, rows, fact);
-    let blames = blames(alloc, standing, tree, net, first.nodes.as_slice(), p, q)?;
+    let rows = map.tree.tokens(&class);
+    let first = first_tokens(map.tree, map.net, class, rows, fact);
+    let blames = blames(alloc, map, first.nodes.as_slice(), p, q)?;
     Ok(Answer::No {
         blames,
         more: first.count.saturating_sub(BLAMES) as u64,
@@ -125,26 +121,21 @@ fn blamed(
 // Tokens of a fact that has no supporter, each with its fault.
 fn blames(
     alloc: Global,
-    standing: &Standing,
-    tree: &Tree,
-    net: &DistNet,
+    map: &TimeMap<'_>,
     nodes: &[u32],
     p: Spot,
     q: Spot,
 ) -> Result<Seq<Blame>, NoMemory>
-    requires seen { IsTreeOf standing.now.present net.now.present tree.now }
-    requires holds { HasOccurrences (built standing.now.present).believed (forest tree.now) }
-    requires p { IsSpot net.now.present.names (forest tree.now) p }
-    requires q { IsSpot net.now.present.names (forest tree.now) q }
-    requires none { All (HasNoSupporter standing.now.present (forest tree.now) (spot_moment net.now.present.names (forest tree.now) p) (spot_moment net.now.present.names (forest tree.now) q)) nodes.now }
-    ensures { IfOk result (λ blames. map blame_of blames.items ≡ map (blame_at (built standing.now.present) (forest tree.now) (spot_moment net.now.present.names (forest tree.now) p) (spot_moment net.now.present.names (forest tree.now) q)) nodes.now) }
+    requires seen { IsTimeMap map.now }
+    requires holds { HasOccurrences (built map.now.standing.now.present).believed (forest map.now.tree.now) }
+    requires p { IsSpot map.now.net.now.present.names (forest map.now.tree.now) p }
+    requires q { IsSpot map.now.net.now.present.names (forest map.now.tree.now) q }
+    requires none { All (HasNoSupporter map.now.standing.now.present (forest map.now.tree.now) (spot_moment map.now.net.now.present.names (forest map.now.tree.now) p) (spot_moment map.now.net.now.present.names (forest map.now.tree.now) q)) nodes.now }
+    ensures { IfOk result (λ blames. mapped blame_of blames.items ≡ mapped (blame_at (built map.now.standing.now.present) (forest map.now.tree.now) (spot_moment map.now.net.now.present.names (forest map.now.tree.now) p) (spot_moment map.now.net.now.present.names (forest map.now.tree.now) q)) nodes.now) }
 {
     let mut blames = Seq::make(alloc);
     for x in nodes {
-        push(
-            &mut blames,
-            blame_node(alloc, standing, tree, net, *x, p, q)?,
-        )?;
+        push(&mut blames, blame_node(alloc, map, *x, p, q)?)?;
     }
     Ok(blames)
 }
@@ -159,25 +150,17 @@ fn push(blames: &mut Seq<Blame>, blame: Blame) -> Result<(), NoMemory>
 }
 
 // A token of a fact that has no supporter, with its fault.
-fn blame_node(
-    alloc: Global,
-    standing: &Standing,
-    tree: &Tree,
-    net: &DistNet,
-    x: u32,
-    p: Spot,
-    q: Spot,
-) -> Result<Blame, NoMemory>
-    requires seen { IsTreeOf standing.now.present net.now.present tree.now }
-    requires holds { HasOccurrences (built standing.now.present).believed (forest tree.now) }
-    requires p { IsSpot net.now.present.names (forest tree.now) p }
-    requires q { IsSpot net.now.present.names (forest tree.now) q }
-    requires none { HasNoSupporter standing.now.present (forest tree.now) (spot_moment net.now.present.names (forest tree.now) p) (spot_moment net.now.present.names (forest tree.now) q) x }
-    ensures { IfOk result (λ blame. blame_of blame ≡ blame_at (built standing.now.present) (forest tree.now) (spot_moment net.now.present.names (forest tree.now) p) (spot_moment net.now.present.names (forest tree.now) q) x) }
+fn blame_node(alloc: Global, map: &TimeMap<'_>, x: u32, p: Spot, q: Spot) -> Result<Blame, NoMemory>
+    requires seen { IsTimeMap map.now }
+    requires holds { HasOccurrences (built map.now.standing.now.present).believed (forest map.now.tree.now) }
+    requires p { IsSpot map.now.net.now.present.names (forest map.now.tree.now) p }
+    requires q { IsSpot map.now.net.now.present.names (forest map.now.tree.now) q }
+    requires none { HasNoSupporter map.now.standing.now.present (forest map.now.tree.now) (spot_moment map.now.net.now.present.names (forest map.now.tree.now) p) (spot_moment map.now.net.now.present.names (forest map.now.tree.now) q) x }
+    ensures { IfOk result (λ blame. blame_of blame ≡ blame_at (built map.now.standing.now.present) (forest map.now.tree.now) (spot_moment map.now.net.now.present.names (forest map.now.tree.now) p) (spot_moment map.now.net.now.present.names (forest map.now.tree.now) q) x) }
 {
-    let cause = cause_of(alloc, tree, blame(standing, tree, net, x, p, q))?;
+    let cause = cause_of(alloc, map.tree, blame(map, x, p, q))?;
     Ok(Blame {
-        token: tree.occ_of(alloc, x)?,
+        token: map.tree.occ_of(alloc, x)?,
         cause,
     })
 }

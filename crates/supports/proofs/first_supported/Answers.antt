@@ -11,8 +11,8 @@ use Rattle.supports.proofs.first_supported.Goals as goal
 
 pub returns-then-is_supported : goal.returns-then-is_supported
 returns-then-is_supported c b holds =
-    let s = c.args.standing.now.present in
-    let p = spot_moment c.args.net.now.present.names (forest c.args.tree.now) c.args.at in
+    let s = c.args.map.now.standing.now.present in
+    let p = spot_moment c.args.map.now.net.now.present.names (forest c.args.map.now.tree.now) c.args.at in
     let fact = c.index-facts-place.result in
     let held : c.is_supported.result ≡ true = search rules in
     let has : has_support s (far_in s.premises) b fact p p ≡ true = sym (c.is_supported.ensures b holds) ∙ held in
@@ -21,8 +21,8 @@ returns-then-is_supported c b holds =
 
 pub loop-place-preserved : goal.loop-place-preserved
 loop-place-preserved c b holds =
-    let s = c.args.standing.now.present in
-    let p = spot_moment c.args.net.now.present.names (forest c.args.tree.now) c.args.at in
+    let s = c.args.map.now.standing.now.present in
+    let p = spot_moment c.args.map.now.net.now.present.names (forest c.args.map.now.tree.now) c.args.at in
     let fact = c.index-facts-place.result in
     let refused : c.is_supported.result ≡ false = search rules in
     let none = (no_holder s (far_in s.premises) b p fact).1 (sym (c.is_supported.ensures b holds) ∙ refused) in
@@ -30,6 +30,6 @@ loop-place-preserved c b holds =
 
 pub returns : goal.returns
 returns c b holds =
-    let s = c.args.standing.now.present in
-    let p = spot_moment c.args.net.now.present.names (forest c.args.tree.now) c.args.at in
+    let s = c.args.map.now.standing.now.present in
+    let p = spot_moment c.args.map.now.net.now.present.names (forest c.args.map.now.tree.now) c.args.at in
     sym (c.loop-place.invariant b holds) ∙ ap (λ l. first_with (map (λ fact. holder s (far_in s.premises) b fact p p) l)) (take_all c.loop-place.place c.args.facts.now (omega arith))

@@ -10,5 +10,5 @@ use Rattle.occ_tree.specs.Places.{forest}
 use Rattle.supports.proofs.first_supported.Given as goal
 
 abbrev pub invariant-loop-place : goal.invariant-loop-place
-invariant-loop-place l = (b : List Moment) → HasOccurrences b (forest l.tree)
-    → first_with (map (λ fact. holder l.standing.present (far_in l.standing.present.premises) b fact (spot_moment l.net.present.names (forest l.tree) l.at) (spot_moment l.net.present.names (forest l.tree) l.at)) (take l.place l.facts)) ≡ None
+invariant-loop-place l = (b : List Moment) → HasOccurrences b (forest l.map.tree.now)
+    → first_with (map (λ fact. holder l.map.standing.now.present (far_in l.map.standing.now.present.premises) b fact (spot_moment l.map.net.now.present.names (forest l.map.tree.now) l.at) (spot_moment l.map.net.now.present.names (forest l.map.tree.now) l.at)) (take l.place l.facts)) ≡ None

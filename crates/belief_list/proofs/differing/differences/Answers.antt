@@ -1,7 +1,7 @@
-use Rattle.std.proofs.Common.{◌≡◌, true, false, length, refl, sym, ◌∙◌, ap, subst, arith}
+use Rattle.std.proofs.Common.{◌≡◌, true, false, length, refl, ◌∙◌, ap, subst, arith}
 use Rattle.std.proofs.lemmas.List.{length-replicate}
 use Rattle.std.proofs.lemmas.List.Elements.{Contains-get_or}
-use Rattle.belief_list.specs.Finding.{mark_under, AreMarked, IsClassSettled}
+use Rattle.belief_list.specs.Finding.{mark_under, IsClassSettled}
 use Rattle.belief_list.proofs.Finding.{found_first, each_more, settled_more, classes_settled, places_marked}
 use Rattle.belief_list.proofs.Untouched.{differences_are}
 use Rattle.belief_list.proofs.differing.differences.Goals as goal
@@ -23,13 +23,12 @@ loop-class-preserved c =
     let kept = c.args.kept.now in
     let marks = c.loop-class.found.marks.items in
     let new = c.tell_class.new.found.marks.items in
-    let touched = subst (λ l. AreMarked l nodes) (sym c.deref.ensures.value) c.in_ok-touched.ensures in
     record {
       long = c.in_ok-tell_class.ensures.long;
       found = c.in_ok-tell_class.ensures.found c.args.classes.now c.loop-class.invariant.found;
       done = each_more (IsClassSettled lists tree nodes kept marks) (IsClassSettled lists tree nodes kept new) c.args.classes.now c.loop-class.class-index c.class-item.result c.loop-class-test.true
           (settled_more lists tree nodes kept marks new c.in_ok-tell_class.ensures.stay)
-          (subst (IsClassSettled lists tree nodes kept new) c.class-item.is (c.in_ok-tell_class.ensures.settled nodes touched)) c.loop-class.invariant.done;
+          (subst (IsClassSettled lists tree nodes kept new) c.class-item.is (c.in_ok-tell_class.ensures.settled nodes c.in_ok-touched.ensures.touched)) c.loop-class.invariant.done;
     }
 
 pub loop-x-init : goal.loop-x-init

@@ -16,7 +16,7 @@ use Rattle.belief_list.proofs.differing.tell_class.Goals.{then-index+in_ok-tell_
 use Rattle.belief_list.proofs.differing.tell_class.Goals as goal
 
 pub wanted_of-requires : goal.wanted_of-requires
-wanted_of-requires c = record { dates = (c.args.net.now.present, tree_in c.requires.seen) }
+wanted_of-requires c = record { dates = (c.args.net.now.present, tree_in c.requires.seen); rising = c.requires.rising }
 
 pub class_clips-requires-clause-long : goal.class_clips-requires-clause-long
 class_clips-requires-clause-long c = ap length c.deref.ensures.value ∙ c.in_ok-wanted.ensures.long

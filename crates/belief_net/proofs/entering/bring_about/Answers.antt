@@ -41,7 +41,7 @@ mark_readers-requires-clause-under c = (c.args.standing.now.present, c.requires.
 pub mark_readers-requires-clause-covered : goal.mark_readers-requires-clause-covered
 mark_readers-requires-clause-covered c =
     let en = c.in_ok-effect.ensures.ok c.args.net.now.present c.requires.tree in
-    entered_covered c.args.beliefs.now.tree c.enter_effect.new.tree c.args.beliefs.now.decisions c.args.marks.now c.requires.events en.dates c.requires.covered
+    entered_covered c.args.standing.now.present c.args.beliefs.now.tree c.enter_effect.new.tree c.args.beliefs.now.decisions c.args.marks.now c.requires.events en.dates c.requires.covered
 
 pub returns-in_ok-add_rows_after-in-None-clause-covered : goal.returns-in_ok-add_rows_after-in-None-clause-covered
 returns-in_ok-add_rows_after-in-None-clause-covered c =
@@ -49,9 +49,9 @@ returns-in_ok-add_rows_after-in-None-clause-covered c =
     let t = c.enter_effect.new.tree in
     let en = c.in_ok-effect.ensures.ok c.args.net.now.present c.requires.tree in
     let fits : FitsSigned w64 c.early-early.result = search rules in
-    added_covered (present t) old c.add_rows_after.new.decisions c.args.marks.now (rules_on c.args.standing.now.present c.row-row.result.what) c.in_ok-effect.effect (to_z w64 (of_z w64 c.early-early.result))
-    (to_z-of_z w64 c.early-early.result fits ∙ c.early-early.ensures.date) c.in_ok-add_rows_after-in-None.ensures.adds
-    (entered_covered c.args.beliefs.now.tree t old c.args.marks.now c.requires.events en.dates c.requires.covered)
+    added_covered c.args.standing.now.present (present t) old c.add_rows_after.new.decisions c.args.marks.now (rules_on c.args.standing.now.present c.row-row.result.what) c.in_ok-effect.effect (to_z w64 (of_z w64 c.early-early.result))
+    (to_z-of_z w64 c.early-early.result fits ∙ c.early-early.ensures.date) c.requires.under c.in_ok-add_rows_after-in-None.ensures.last.rules c.in_ok-add_rows_after-in-None.ensures.adds
+    (entered_covered c.args.standing.now.present c.args.beliefs.now.tree t old c.args.marks.now c.requires.events en.dates c.requires.covered)
 
 pub returns-in_ok-mark_readers-in-Some-clause-ok : goal.returns-in_ok-mark_readers-in-Some-clause-ok
 returns-in_ok-mark_readers-in-Some-clause-ok c =

@@ -2,13 +2,14 @@ use Rattle.std.proofs.Common.{◌≡◌, ◌∙◌, ℕ, Bool, true, false, refl
 use Rattle.std.proofs.lemmas.Int.{to_z-of_z}
 use Rattle.std.proofs.lemmas.Result.{on_ok_weaker}
 use Rattle.std.specs.Prelude.{FitsSigned}
+use Rattle.tmm_model.specs.Standing.{Standing as List}
 use Rattle.spots.specs.Spots.{spot_distance}
 use Rattle.undo_rows.specs.Changes.{present as table}
 use Rattle.occ_tree.specs.Places.{forest}
 use Rattle.occ_tree.specs.Standing.{present, early}
 use Rattle.occ_tree.proofs.Numbered.{no_more}
 use Rattle.joined.specs.Listed.{IsListedUnder}
-use Rattle.belief_net.specs.ClassMarks.{CoversFrom, MarksFrom}
+use Rattle.belief_net.specs.EditMarks.{CoversFrom, MarksFrom}
 use Rattle.belief_net.specs.Covered.{Covers}
 use Rattle.belief_net.specs.Entering.{MarksOwn}
 use Rattle.belief_net.specs.Marks.{Marks, IsAsLate}
@@ -94,8 +95,8 @@ returns-then-many-clause-covered c =
     let m = c.count.new.self in
     let number = c.in_ok-number.number in
     let from = to_z w64 (of_z w64 c.early-from.result) in
-    on_ok_weaker {P = MarksFrom m c.mark.new.self number from} {Q = Covers s new c.mark.new.self} c.mark.result
-    (λ marked. class_covered s old new m c.mark.new.self number from c.first.ensures.listed refl c.in_ok-mark_class.ensures marked (subst (Covers s old) (sym c.count.ensures) c.requires.covered))
+    on_ok_weaker {P = MarksFrom m c.mark.new.self number from} {Q = (list : List) → Covers list s old c.args.marks.now → Covers list s new c.mark.new.self} c.mark.result
+    (λ marked list covered. class_covered list s old new m c.mark.new.self number from c.first.ensures.listed refl refl c.in_ok-mark_class.ensures marked (subst (Covers list s old) (sym c.count.ensures) covered))
     c.mark.ensures
 
 -- ---- where there were few
@@ -131,5 +132,5 @@ returns-clause-covered c =
     let rows = table old.rows in
     let w = c.in_ok-window.window in
     let spares : ℕ → Bool = λ t. is_spared (spot_distance (net_in w) (forest (tree_in w))) w.token w.walls.items t in
-    marks_covered s old (record old { classes = c.enter.new.self; waiting = c.mark_class-2.new.waiting }) c.count.new.self
-    (λ i row. IsListedUnder rows c.in_ok-number.number i × IsAsLate s (to_z w64 (of_z w64 c.early-from.result)) row × (spares row.value.trigger ≡ false)) refl c.in_ok-mark_class-2.ensures (subst (Covers s old) (sym c.count.ensures) c.requires.covered)
+    λ list covered. marks_covered list s old (record old { classes = c.enter.new.self; waiting = c.mark_class-2.new.waiting }) c.count.new.self
+    (λ i row. IsListedUnder rows c.in_ok-number.number i × IsAsLate s (to_z w64 (of_z w64 c.early-from.result)) row × (spares row.value.trigger ≡ false)) refl refl c.in_ok-mark_class-2.ensures (subst (Covers list s old) (sym c.count.ensures) covered)

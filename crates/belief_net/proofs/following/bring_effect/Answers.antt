@@ -50,7 +50,7 @@ returns-in-Ok-clause-ok c =
 pub returns-in-Ok-clause-covered : goal.returns-in-Ok-clause-covered
 returns-in-Ok-clause-covered c =
     let e = c.bring_about.new.beliefs in
-    on_ok_weaker {P = TellsEntry c.args.standing.now.present e.tree c.in-Ok.effect c.args.told.now c.enter.new.self} {Q = Covers (present e.tree) e.decisions c.bring_about.new.marks} c.enter.result
+    on_ok_weaker {P = TellsEntry c.args.standing.now.present e.tree c.in-Ok.effect c.args.told.now c.enter.new.self} {Q = Covers c.args.standing.now.present (present e.tree) e.decisions c.bring_about.new.marks} c.enter.result
     (λ tells. c.in-Ok.ensures.covered) c.enter.ensures.ok
 
 pub returns-in-Ok-clause-stops : goal.returns-in-Ok-clause-stops

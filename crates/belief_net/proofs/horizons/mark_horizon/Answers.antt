@@ -31,12 +31,12 @@ loop-rule-preserved c =
     let named : (row : TableRow Pair 8) → row.value.rule ≡ n → delay ≡ (rule_of list (rule_in d row)).lo =
     λ row is. to_z-of_z w64 c.least_delay-delay.result fits ∙ c.least_delay-delay.ensures ∙ ap (λ name. (rule_of list name).lo) (c.name.ensures ∙ ap (λ (z : Decisions). name_in z.rules n) c.loop-rule.invariant.others ∙ ap (name_in d.rules) (sym is)) in
     record {
-      marks = rules_next list d c.requires.under c.first.ensures.listed s (IsDueBetween list s d before after) n (DueBetween delay before after) (dates_in d.waiting) (dates_in c.loop-rule.decisions.waiting) (dates_in c.mark_rule.new.waiting)
+      marks = rules_next list d c.requires.under c.first.ensures.listed s (IsDueBetween list s d before after) n (DueBetween delay before after) (dates_in d.waiting) (dates_in c.loop-rule.decisions.waiting) (dates_in c.mark_events.new.waiting)
           (λ i row at is. (
             (λ h. subst (λ z. is_between (early s row.value.trigger +ℤ z) before after ≡ true) (named row is) h),
             λ h. subst (λ z. is_between (early s row.value.trigger +ℤ z) before after ≡ true) (sym (named row is)) h,
           ))
           c.loop-rule.invariant.marks
-          (subst (λ r. Marks s (table r) (IsOfRuleAt (table r) n (DueBetween delay before after) s) (dates_in c.loop-rule.decisions.waiting) (dates_in c.mark_rule.new.waiting)) rows_same c.in_ok-mark_rule.ensures);
-      others = ap (λ (z : Decisions). record z { waiting = c.mark_rule.new.waiting }) c.loop-rule.invariant.others;
+          (subst (λ r. Marks s (table r) (IsOfRuleAt (table r) n (DueBetween delay before after) s) (dates_in c.loop-rule.decisions.waiting) (dates_in c.mark_events.new.waiting)) rows_same c.in_ok-mark_events.ensures);
+      others = ap (λ (z : Decisions). record z { waiting = c.mark_events.new.waiting }) c.loop-rule.invariant.others;
     }

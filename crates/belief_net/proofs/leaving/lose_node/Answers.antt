@@ -22,11 +22,11 @@ mark_readers-requires-clause-under c =
 
 pub mark_readers-requires-clause-covered : goal.mark_readers-requires-clause-covered
 mark_readers-requires-clause-covered c =
-    dropped_covered (present c.args.tree.now) c.args.decisions.now c.drop_rows.new.decisions c.args.marks.now c.args.y c.in_ok-drop_rows.ensures.drops c.requires.covered
+    dropped_covered c.args.standing.now.present (present c.args.tree.now) c.args.decisions.now c.drop_rows.new.decisions c.args.marks.now c.args.y c.in_ok-drop_rows.ensures.drops c.requires.covered
 
 pub returns-in-None-clause-covered : goal.returns-in-None-clause-covered
 returns-in-None-clause-covered c =
-    dropped_covered (present c.args.tree.now) c.args.decisions.now c.drop_rows.new.decisions c.args.marks.now c.args.y c.in_ok-drop_rows.ensures.drops c.requires.covered
+    dropped_covered c.args.standing.now.present (present c.args.tree.now) c.args.decisions.now c.drop_rows.new.decisions c.args.marks.now c.args.y c.in_ok-drop_rows.ensures.drops c.requires.covered
 
 pub returns-in-Some-clause-ok : goal.returns-in-Some-clause-ok
 returns-in-Some-clause-ok c =

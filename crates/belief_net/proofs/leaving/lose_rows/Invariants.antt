@@ -11,6 +11,6 @@ invariant-loop-y l = record {
   lost : LosesRows l.standing.present l.net.present l.tree l.numbers (take l.y-index l.numbers) l.fn.decisions l.decisions;
   events : HaveEvents l.tree (table_of l.decisions);
   under : AreOfSome l.decisions;
-  covered : Covers (present l.tree) l.decisions l.marks;
+  covered : Covers l.standing.present (present l.tree) l.decisions l.marks;
   last : KeepsLast l.fn.decisions l.decisions;
 }

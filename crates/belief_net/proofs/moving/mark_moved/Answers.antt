@@ -1,4 +1,5 @@
 use Rattle.std.proofs.Common.{◌≡◌, ◌∙◌, length, sym, ap, subst, inr, arith, eqb-true}
+use Rattle.std.specs.List.{Contains}
 use Rattle.undo_rows.specs.Changes.{present as table}
 use Rattle.occ_tree.specs.Places.{forest}
 use Rattle.occ_tree.specs.Standing.{present}
@@ -7,11 +8,14 @@ use Rattle.belief_net.specs.Decided.{table_of, rule_in, AreUnder}
 use Rattle.belief_net.specs.Marks.{HaveEvents, Wakes}
 use Rattle.belief_net.specs.Touching.{IsRowMoved}
 use Rattle.belief_net.specs.Waiting.{dates_in}
-use Rattle.belief_net.specs.Woken.{TellMoves, MovesByRule, StaysByRule, IsRowAtRest, WakesForAll}
+use Rattle.belief_net.specs.Woken.{TellMoves, MovesFrom, KeepsDate, MovesByRule, StaysByRule, IsRowAtRest}
+use Rattle.decision_rows.specs.Decisions.{classes_in}
+use Rattle.joined.proofs.Listed.{pairs_listed}
 use Rattle.belief_net.proofs.AtRest.{all_rest, all_woken}
 use Rattle.belief_net.proofs.Reached.{numbers_below}
 use Rattle.belief_net.proofs.Stood.{start_kept, no_pair_of_one}
-use Rattle.belief_net.proofs.Waking.{wakes_none}
+use Rattle.belief_net.proofs.Unread.{keeps_date}
+use Rattle.belief_net.proofs.Waking.{wakes_none, wakes_alike}
 use Rattle.belief_net.proofs.WatchedPoints.{classed}
 use Rattle.belief_net.proofs.moving.mark_moved.Goals as goal
 use Rattle.belief_net.proofs.moving.mark_moved.Goals.{In_ok-moves, In_ok-wake_classes}
@@ -46,11 +50,20 @@ told c = record {
   fast = c.in_ok-moves.ensures.fast.both;
 }
 
-pub wake_unread-requires-clause-below : goal.wake_unread-requires-clause-below
-wake_unread-requires-clause-below c = numbers_below c.args.standing.now.present c.args.net.now.present (forest c.args.tree.now) c.requires.seen c.invariants.ensures.names
+pub touched-requires : goal.touched-requires
+touched-requires c = record { list = (c.args.standing.now.present, c.requires.seen) }
 
-pub wake_unread-requires-clause-moves : goal.wake_unread-requires-clause-moves
-wake_unread-requires-clause-moves c = told (goal.at.wake_unread-requires-clause-moves c).In_ok-moves
+pub wake_moved_events-requires-clause-by_event : goal.wake_moved_events-requires-clause-by_event
+wake_moved_events-requires-clause-by_event c = λ i x row at. (let u = c.requires.under.classes i row at in (pairs_listed c.args.decisions.now.rows i x row (classes_in u.classes) c.first.ensures.listed at u.heads).0)
+
+pub wake_moved_events-requires-clause-below : goal.wake_moved_events-requires-clause-below
+wake_moved_events-requires-clause-below c = numbers_below c.args.standing.now.present c.args.net.now.present (forest c.args.tree.now) c.requires.seen c.invariants.ensures.names
+
+pub wake_moved_events-requires-clause-moves : goal.wake_moved_events-requires-clause-moves
+wake_moved_events-requires-clause-moves c = told (goal.at.wake_moved_events-requires-clause-moves c).In_ok-moves
+
+pub wake_moved_events-requires-clause-nodes : goal.wake_moved_events-requires-clause-nodes
+wake_moved_events-requires-clause-nodes c = λ x m at is. subst (λ l. Contains l x) (sym c.as_slice.ensures.value) (c.in_ok-touched.ensures.nodes x m at is)
 
 pub wake_classes-requires-clause-below : goal.wake_classes-requires-clause-below
 wake_classes-requires-clause-below c = numbers_below c.args.standing.now.present c.args.net.now.present (forest c.args.tree.now) c.requires.seen c.invariants.ensures.names
@@ -58,12 +71,12 @@ wake_classes-requires-clause-below c = numbers_below c.args.standing.now.present
 pub wake_classes-requires-clause-moves : goal.wake_classes-requires-clause-moves
 wake_classes-requires-clause-moves c = told (goal.at.wake_classes-requires-clause-moves c).In_ok-moves
 
-pub wake_classes-requires-clause-events : goal.wake_classes-requires-clause-events
-wake_classes-requires-clause-events c = subst (λ (d : Decisions). HaveEvents c.args.tree.now (table d.rows)) (sym c.in_ok-wake_unread.ensures.others) c.requires.events
+pub wake_classes-requires-clause-untouched : goal.wake_classes-requires-clause-untouched
+wake_classes-requires-clause-untouched c = λ class off. c.in_ok-touched.ensures.classes class (λ on. off (subst (λ l. Contains l class) (sym c.as_slice-classes.ensures.value) on))
 
 -- all but what waits is as before the rows on the lists of classes are looked at, and after
 same_classes : (c : In_ok-wake_classes) → c.wake_classes.new.decisions ≡ record c.args.decisions.now { waiting = c.wake_classes.new.decisions.waiting }
-same_classes c = c.in_ok-wake_classes.ensures.others ∙ ap (λ (z : Decisions). record z { waiting = c.wake_classes.new.decisions.waiting }) c.in_ok-wake_unread.ensures.others
+same_classes c = c.in_ok-wake_classes.ensures.others
 
 pub wake_rivalled-requires-clause-sound : goal.wake_rivalled-requires-clause-sound
 wake_rivalled-requires-clause-sound c = c.requires.seen.network.sound
@@ -94,15 +107,17 @@ returns-clause-ok c =
     let f = forest c.args.tree.now in
     let d = c.args.decisions.now in
     let moves = c.in_ok-moves.moves in
-    let mid = c.wake_unread.new.decisions in
+    let mid = dates_in c.wake_moved_events.new.waiting in
+    let first = wakes_alike s (table_of d) (λ i row. MovesFrom moves f row.value.trigger) (λ i row. MovesFrom moves f row.value.trigger → ⊥) (λ i row. MovesFrom moves f row.value.trigger) (λ i row. KeepsDate moves list f d row)
+    (dates_in d.waiting) mid (λ i row at m. m) (λ i row at still. keeps_date moves list f d row still) c.in_ok-awake.ensures.ok in
     let next = c.wake_classes.new.decisions in
     let new = c.wake_rivalled.new.decisions in
     let below = numbers_below list nets.present (forest c.args.tree.now) c.requires.seen c.invariants.ensures.names in
-    let classes = subst (λ (z : Decisions). WakesForAll s nets moves z (length z.classes) (dates_in mid.waiting) (dates_in next.waiting)) c.in_ok-wake_unread.ensures.others c.in_ok-wake_classes.ensures.ok in
+    let classes = c.in_ok-wake_classes.ensures.ok in
     let rules = subst (λ (z : Decisions). Wakes s (table_of z) (λ i row. MovesByRule moves list f (rule_in z row) row.value.trigger) (λ i row. StaysByRule moves c.args.standing.now.committed list f (rule_in z row) row.value.trigger)
     (dates_in next.waiting) (dates_in new.waiting)) (same_classes (goal.at.returns-clause-ok c).In_ok-wake_classes) c.in_ok-wake_rivalled.ensures.ok in
     all_woken nets c.args.added c.args.standing.now.committed list s d moves c.requires.under c.first.ensures.listed below c.in_ok-moves.ensures.moved c.have_own.ensures c.in_ok-moves.ensures.fast
-    (dates_in d.waiting) (dates_in mid.waiting) (dates_in next.waiting) (dates_in new.waiting) c.in_ok-wake_unread.ensures.ok classes rules
+    (dates_in d.waiting) mid (dates_in next.waiting) (dates_in new.waiting) first classes rules
 
 pub returns-clause-others : goal.returns-clause-others
 returns-clause-others c =

@@ -20,8 +20,8 @@ returns c =
     let list = c.args.standing.now.present in
     let name = c.args.name in
     let moves = c.args.moves.now in
-    ok_then c.mark_rule.result
-    (rule_woken s (table c.args.rows.now) moves c.args.standing.now.committed list name c.args.rule c.in_ok-events.events (dates_in c.args.waiting.now) (dates_in c.mark_rule.new.waiting)
+    ok_then c.mark_events.result
+    (rule_woken s (table c.args.rows.now) moves c.args.standing.now.committed list name c.args.rule c.in_ok-events.events (dates_in c.args.waiting.now) (dates_in c.mark_events.new.waiting)
     (λ x. touched_moves s (IsReadSpot list (forest c.args.tree.now) name) moves.pairs.items c.in_ok-reach.reach c.requires.moves.itself c.in_ok-reach.ensures.all c.in_ok-reach.ensures.bounded c.requires.below x
     c.in_ok-events.events (subst (λ (l : List Bool). IsTouchedAt l c.in_ok-reach.reach c.in_ok-events.events) c.deref.ensures.value c.in_ok-events.ensures)))
-    c.mark_rule.ensures
+    c.mark_events.ensures

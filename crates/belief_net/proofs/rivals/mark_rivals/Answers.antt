@@ -1,4 +1,4 @@
-use Rattle.std.proofs.Common.{◌≡◌, ◌∙◌, true, refl, sym, ap, subst, rules, w64, to_z, of_z, arith}
+use Rattle.std.proofs.Common.{◌≡◌, ◌∙◌, true, refl, ap, subst, rules, w64, to_z, of_z, arith}
 use Rattle.std.specs.Prelude.{FitsSigned}
 use Rattle.std.proofs.lemmas.Int.{to_z-of_z}
 use Rattle.occ_tree.specs.Standing.{present}
@@ -8,8 +8,7 @@ use Rattle.belief_net.specs.Decided.{table_of, rule_in}
 use Rattle.belief_net.specs.Marks.{Marks, IsAsLate}
 use Rattle.belief_net.specs.Numbers.{name_in}
 use Rattle.belief_net.specs.Waiting.{dates_in}
-use Rattle.belief_net.proofs.Marked.{marks_none}
-use Rattle.belief_net.proofs.Contradicting.{none_reads, rivals_none, rivals_next, rivals_all}
+use Rattle.belief_net.proofs.Contradicting.{no_rivals, rivals_none, rivals_next, rivals_all}
 use Rattle.belief_net.proofs.rivals.mark_rivals.Goals as goal
 
 pub loop-rule-init : goal.loop-rule-init
@@ -52,12 +51,4 @@ pub returns-clause-others : goal.returns-clause-others
 returns-clause-others c = c.loop-rule.invariant.others
 
 pub returns-then-not-has_rivals-clause-ok : goal.returns-then-not-has_rivals-clause-ok
-returns-then-not-has_rivals-clause-ok c =
-    let d = c.args.decisions.now in
-    let s = present c.args.tree.now in
-    let list = c.args.standing.now.present in
-    record {
-      same = refl;
-      marks = marks_none s (table_of d) (λ i row. (reads_rival list (rule_in d row) c.args.fact ≡ true) × IsAsLate s c.args.from row) (dates_in d.waiting)
-          (λ i row meant. (let no : true ≡ _ = sym meant.0 ∙ none_reads list c.args.fact (c.has_rivals.ensures c.if-not-has_rivals.true) (rule_in d row) in cc));
-    }
+returns-then-not-has_rivals-clause-ok c = no_rivals c.args.standing.now.present (present c.args.tree.now) c.args.decisions.now c.args.fact c.args.from (c.has_rivals.ensures c.if-not-has_rivals.true)

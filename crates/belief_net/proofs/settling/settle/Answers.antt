@@ -1,12 +1,10 @@
 use Rattle.std.proofs.Common.{◌∙◌, ◌≤◌, refl, sym, subst, rules, arith, Fits, w64}
 use Rattle.std.proofs.lemmas.Result.{err_from_is_err_and}
-use Rattle.occ_tree.specs.Standing.{present, early}
+use Rattle.occ_tree.specs.Standing.{present}
 use Rattle.belief_net.specs.Covered.{Covers}
-use Rattle.belief_net.specs.Decided.{table_of}
 use Rattle.belief_net.specs.Settling.{IfBegun, IsSettled}
 use Rattle.belief_net.specs.Turns.{TurnsOrRests}
-use Rattle.belief_net.specs.Waiting.{dates_in}
-use Rattle.belief_net.proofs.Covered.{none_covered}
+use Rattle.belief_net.proofs.Covering.{nothing_covered}
 use Rattle.belief_net.proofs.Named.{last_stays, last_on}
 use Rattle.belief_net.proofs.Numbering.{same_numbered, numbered_on}
 use Rattle.belief_net.proofs.Rises.{counts_on}
@@ -23,7 +21,7 @@ loop-init c =
       fit = c.requires.fit;
       revising = c.requires.revising;
       weighed = c.requires.weighed;
-      covered = subst (Covers (present b.tree) b.decisions) (sym c.make-marks.ensures) (none_covered (early (present b.tree)) (table_of b.decisions).row (dates_in b.decisions.waiting));
+      covered = subst (Covers c.args.standing.now.present (present b.tree) b.decisions) (sym c.make-marks.ensures) (nothing_covered c.args.standing.now.present (present b.tree) b.decisions);
       known = c.make-known.ensures c.args.standing.now.present;
       so_far = so_far_first c.args.standing.now.present c.args.net.now.present c.args.beliefs.now c.args.told.now c.args.count.now few;
       numbered = same_numbered c.args.standing.now.present c.args.beliefs.now c.args.beliefs.now c.args.told.now refl;
@@ -87,6 +85,12 @@ returns-clause-counted c =
 pub returns-then-not-branch-clause-numbered : goal.returns-then-not-branch-clause-numbered
 returns-then-not-branch-clause-numbered c =
     numbered_on c.args.standing.now.present c.args.beliefs.now c.loop.beliefs c.turn.new.beliefs c.args.told.now c.loop.told c.turn.new.told c.loop.invariant.numbered c.in_ok-turn.ensures.numbered
+
+pub returns-in_err-turn-clause-last : goal.returns-in_err-turn-clause-last
+returns-in_err-turn-clause-last c =
+    let last = c.loop.invariant.last in
+    let one = c.in_err-turn.ensures.last in
+    record { tree = one.tree ∙ last.tree; decisions = last_on c.args.beliefs.now.decisions c.loop.beliefs.decisions c.turn.new.beliefs.decisions last.decisions one.decisions }
 
 pub returns-in_err-turn-clause-rises : goal.returns-in_err-turn-clause-rises
 returns-in_err-turn-clause-rises c = (counts_on c.loop.beliefs c.args.count.now c.loop.count c.turn.new.counter c.loop.invariant.rises c.in_err-turn.ensures.counted).0

@@ -14,7 +14,7 @@ invariant-loop l = record {
   fit : IsFit l.standing.present l.net.present l.beliefs;
   revising : IsRevising l.standing.present l.net.present l.beliefs;
   weighed : IsWeighed l.standing.present l.told;
-  covered : Covers (present l.beliefs.tree) l.beliefs.decisions l.marks;
+  covered : Covers l.standing.present (present l.beliefs.tree) l.beliefs.decisions l.marks;
   known : AreKnown l.standing.present l.known;
   so_far : IfBegun l.standing.present l.net.present l.fn.beliefs l.fn.told (IsSoFar l.net.present l.beliefs l.told l.fn.count l.count);
   numbered : StayNumbered l.standing.present l.fn.beliefs l.beliefs l.fn.told l.told;

@@ -8,7 +8,7 @@ use Rattle.undo_rows.specs.declared.row.Row.{Row as TableRow}
 use Rattle.decision_rows.specs.declared.row.Pair.{Pair}
 use Rattle.occ_tree.specs.Places.{forest}
 use Rattle.occ_tree.specs.Standing.{present, early}
-use Rattle.belief_net.specs.ClassMarks.{later_of}
+use Rattle.belief_net.specs.EditMarks.{later_of}
 use Rattle.belief_net.specs.Covered.{Covers}
 use Rattle.belief_net.specs.Decided.{table_of}
 use Rattle.belief_net.specs.Numbers.{name_in}
@@ -30,10 +30,11 @@ decide-found-requires-clause-rule c =
 pub returns-in_default-clause-covered : goal.returns-in_default-clause-covered
 returns-in_default-clause-covered c =
     let b = c.args.beliefs.now in
-    rest_covered (present b.tree) b.decisions (record b.decisions { waiting = c.pop.new.self }) c.args.marks.now refl c.in_default.ensures.first (c.in_default.ensures.rests refl) c.requires.covered
+    rest_covered c.args.standing.now.present (present b.tree) b.decisions (record b.decisions { waiting = c.pop.new.self }) c.args.marks.now refl refl c.in_default.ensures.first (c.in_default.ensures.rests refl) c.requires.covered
 
 pub returns-clause-covered : goal.returns-clause-covered
 returns-clause-covered c =
+    let list = c.args.standing.now.present in
     let b = c.args.beliefs.now in
     let s = present b.tree in
     let d = b.decisions in
@@ -45,6 +46,6 @@ returns-clause-covered c =
     let takes = c.in-Some.ensures.first in
     let (row, at, is) = c.requires.fit.dated i z takes.waited in
     let dated = λ (r : TableRow Pair 8) (here : (table_of d).row i ≡ Some r). is ∙ ap (λ (q : TableRow Pair 8). early s q.value.trigger) (one_row (table_of d) i row r at here) in
-    let all = decided_covered s d new m i z c.decide-found.result takes c.in_ok-set.ensures.ok dated c.requires.covered in
-    subst (Covers s new) (sym c.decide.ensures)
-    (subst (λ y. Covers s new (record m { decided = later_of m.decided y })) (sym (to_z-of_z w64 z fits)) all)
+    let all = decided_covered list s d new m i z c.decide-found.result takes c.in_ok-set.ensures.ok refl dated c.requires.covered in
+    subst (Covers list s new) (sym c.decide.ensures)
+    (subst (λ y. Covers list s new (record m { decided = later_of m.decided y })) (sym (to_z-of_z w64 z fits)) all)

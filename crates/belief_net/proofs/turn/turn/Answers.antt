@@ -1,6 +1,6 @@
-use Rattle.std.proofs.Common.{◌≡◌, ℕ, None, subst}
+use Rattle.std.proofs.Common.{◌≡◌, ℕ, None, refl, sym, subst}
 use Rattle.std.proofs.lemmas.Result.{err_from_is_err_and}
-use Rattle.std.specs.Prelude.{MatchOption}
+use Rattle.std.specs.Prelude.{IsSome, MatchOption}
 use Rattle.belief_net.specs.Turning.{IsDecided}
 use Rattle.belief_net.specs.Waiting.{dates_in}
 use Rattle.belief_net.proofs.Numbering.{same_numbered, numbered_on}
@@ -14,6 +14,14 @@ returns-in_err-follow-in-Ok-Some-clause-stops c =
     subst (λ due. MatchOption due ((i : ℕ) → dates_in b.decisions.waiting i ≡ None) (IsDecided s b c.decide_first.new.beliefs)) c.in-Ok-Some.field-0-is c.in-Ok-Some.ensures.decided in
     let p = err_from_is_err_and c.from_residual.result c.from_residual.ensures.1 in
     rw (p.1, p.2) (c.in_err-follow-in-Ok-Some.ensures.stops b (record { fit = c.requires.fit; revising = c.requires.revising; decided = decided }))
+
+pub returns-in_ok-follow-in-Ok-Some-clause-ok : goal.returns-in_ok-follow-in-Ok-Some-clause-ok
+returns-in_ok-follow-in-Ok-Some-clause-ok c =
+    let b = c.args.beliefs.now in
+    let decided = subst (λ due. MatchOption due ((i : ℕ) → dates_in b.decisions.waiting i ≡ None) (IsDecided c.args.standing.now.present b c.decide_first.new.beliefs)) c.in-Ok-Some.field-0-is c.in-Ok-Some.ensures.decided in (
+      c.in_ok-follow-in-Ok-Some.ensures.ok b (record { fit = c.requires.fit; revising = c.requires.revising; decided = decided }),
+      c.in-Ok-Some.ensures.counted (subst IsSome (sym c.in-Ok-Some.field-0-is) refl),
+    )
 
 pub returns-in_ok-follow-in-Ok-Some-clause-numbered : goal.returns-in_ok-follow-in-Ok-Some-clause-numbered
 returns-in_ok-follow-in-Ok-Some-clause-numbered c =

@@ -14,8 +14,8 @@ use Rattle.just_check.proofs.auditing.expect_effect.Goals as goal
 
 pub returns : goal.returns
 returns c =
-    let s = c.args.standing.now.present in
-    let f = forest c.args.tree.now in
+    let s = c.args.map.now.standing.now.present in
+    let f = forest c.args.map.now.tree.now in
     let r = c.args.rule in
     let old = c.args.expected.now in
     let new = c.add.new.self in
@@ -28,5 +28,5 @@ returns c =
 
 pub returns-then-not-does_fire : goal.returns-then-not-does_fire
 returns-then-not-does_fire c b holds =
-    more_none c.args.standing.now.present (forest c.args.tree.now) b c.args.x c.args.rule c.args.expected.now
+    more_none c.args.map.now.standing.now.present (forest c.args.map.now.tree.now) b c.args.x c.args.rule c.args.expected.now
     (λ fires. let never : true ≡ false = sym ((c.does_fire.ensures b holds).1 (fires.in_time, fires.free)) ∙ c.if-not-does_fire.true in cc)

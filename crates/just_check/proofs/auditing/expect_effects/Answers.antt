@@ -8,8 +8,8 @@ use Rattle.just_check.proofs.auditing.expect_effects.Goals as goal
 
 pub loop-rule-preserved : goal.loop-rule-preserved
 loop-rule-preserved c b holds =
-    let s = c.args.standing.now.present in
-    let f = forest c.args.tree.now in
+    let s = c.args.map.now.standing.now.present in
+    let f = forest c.args.map.now.tree.now in
     let x = c.args.x in
     let rs = c.at-rule-items.result.now in
     let i = c.loop-rule.rule-index in
@@ -21,5 +21,5 @@ pub returns : goal.returns
 returns c b holds =
     let rs = c.at-rule-items.result.now in
     let i = c.loop-rule.rule-index in
-    subst (λ l. AwaitsMore c.args.standing.now.present (forest c.args.tree.now) b c.args.x l c.args.expected.now c.loop-rule.expected)
+    subst (λ l. AwaitsMore c.args.map.now.standing.now.present (forest c.args.map.now.tree.now) b c.args.x l c.args.expected.now c.loop-rule.expected)
     (take_all i rs (omega (arith, c.loop-rule-test.false)) ∙ c.at-rule-items.ensures) (c.loop-rule.invariant b holds)

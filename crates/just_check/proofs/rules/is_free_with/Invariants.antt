@@ -9,5 +9,5 @@ use Rattle.occ_tree.specs.Places.{forest}
 use Rattle.just_check.proofs.rules.is_free_with.Given as goal
 
 abbrev pub invariant-loop-fact : goal.invariant-loop-fact
-invariant-loop-fact l = (b : List Moment) → HasOccurrences b (forest l.tree)
-    → list_all (supported l.standing.present (far_in l.standing.present.premises) b (moment_at (forest l.tree) l.x)) (take l.fact-index l.given) ≡ true
+invariant-loop-fact l = (b : List Moment) → HasOccurrences b (forest l.map.tree.now)
+    → list_all (supported l.map.standing.now.present (far_in l.map.standing.now.present.premises) b (moment_at (forest l.map.tree.now) l.x)) (take l.fact-index l.given) ≡ true

@@ -14,8 +14,8 @@ use Rattle.justify.proofs.grounds.supporters.Goals.{in-Some, in-None}
 
 pub loop-fact-preserved : goal.loop-fact-preserved
 loop-fact-preserved c =
-    let s = c.args.standing.now.present in
-    let f = forest c.args.tree.now in
+    let s = c.args.map.now.standing.now.present in
+    let f = forest c.args.map.now.tree.now in
     let t = moment_at f c.args.event in
     let old = c.loop-fact.found.items in
     let i = c.loop-fact.fact-index in

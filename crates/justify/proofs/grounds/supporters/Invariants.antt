@@ -9,6 +9,6 @@ use Rattle.justify.proofs.grounds.supporters.Given as goal
 abbrev pub invariant-loop-fact : goal.invariant-loop-fact
 invariant-loop-fact l = record {
   count : length l.found.items ≤ l.fact-index;
-  live : All (IsLive (forest l.tree)) l.found.items;
-  first : map (moment_at (forest l.tree)) l.found.items ≡ filter_map (λ k. k) (supporters_for (built l.standing.present) (moment_at (forest l.tree) l.event) (take l.fact-index l.facts));
+  live : All (IsLive (forest l.map.tree.now)) l.found.items;
+  first : map (moment_at (forest l.map.tree.now)) l.found.items ≡ filter_map (λ k. k) (supporters_for (built l.map.standing.now.present) (moment_at (forest l.map.tree.now) l.event) (take l.fact-index l.facts));
 }

@@ -11,14 +11,14 @@ use Rattle.justify.proofs.grounds.supports_at.Goals as goal
 
 pub rule_text-text-requires : goal.rule_text-text-requires
 rule_text-text-requires c =
-    rule_there c.args.standing.now.present c.requires.seen.seen.network.sound (moment_at (forest c.args.tree.now) c.args.event) c.args.rule c.requires.rule
+    rule_there c.args.map.now.standing.now.present c.requires.seen.seen.network.sound (moment_at (forest c.args.map.now.tree.now) c.args.event) c.args.rule c.requires.rule
 
 pub supporters-requires-clause-facts : goal.supporters-requires-clause-facts
 supporters-requires-clause-facts c =
-    let s = c.args.standing.now.present in
+    let s = c.args.map.now.standing.now.present in
     subst (All (λ fact. IsSome (class_in s.premises fact))) (sym c.rule_text-text.ensures.given)
-    (facts_known s c.requires.seen.seen.network.sound c.args.rule (rule_there s c.requires.seen.seen.network.sound (moment_at (forest c.args.tree.now) c.args.event) c.args.rule c.requires.rule))
+    (facts_known s c.requires.seen.seen.network.sound c.args.rule (rule_there s c.requires.seen.seen.network.sound (moment_at (forest c.args.map.now.tree.now) c.args.event) c.args.rule c.requires.rule))
 
 pub returns-clause-first : goal.returns-clause-first
 returns-clause-first c =
-    c.supporters.ensures.first ∙ ap (λ l. filter_map (λ k. k) (supporters_for (built c.args.standing.now.present) (moment_at (forest c.args.tree.now) c.args.event) l)) c.rule_text-text.ensures.given
+    c.supporters.ensures.first ∙ ap (λ l. filter_map (λ k. k) (supporters_for (built c.args.map.now.standing.now.present) (moment_at (forest c.args.map.now.tree.now) c.args.event) l)) c.rule_text-text.ensures.given

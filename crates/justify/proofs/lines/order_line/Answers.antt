@@ -14,21 +14,21 @@ use Rattle.justify.proofs.lines.order_line.Goals as goal
 pub steps_between-requires-clause-far : goal.steps_between-requires-clause-far
 steps_between-requires-clause-far c =
     c.far-bound.ensures.exact
-    ∙ distance_is c.args.standing.now.present c.args.net.now.present (forest c.args.tree.now) c.requires.seen.seen c.args.second c.args.first c.requires.second c.requires.first
+    ∙ distance_is c.args.map.now.standing.now.present c.args.map.now.net.now.present (forest c.args.map.now.tree.now) c.requires.seen.seen c.args.second c.args.first c.requires.second c.requires.first
 
 pub unreachable-requires : goal.unreachable-requires
 unreachable-requires c =
     let exact =
     c.far-bound.ensures.exact
-    ∙ distance_is c.args.standing.now.present c.args.net.now.present (forest c.args.tree.now) c.requires.seen.seen c.args.second c.args.first c.requires.second c.requires.first in
+    ∙ distance_is c.args.map.now.standing.now.present c.args.map.now.net.now.present (forest c.args.map.now.tree.now) c.requires.seen.seen c.args.second c.args.first c.requires.second c.requires.first in
     let never : true ≡ false = sym c.requires.in_order ∙ ap (λ d. bound_at_most d (pos 0)) (sym exact ∙ c.in-Free.is) in
     cc
 
 pub returns-clause-order : goal.returns-clause-order
 returns-clause-order c =
-    let s = c.args.standing.now.present in
-    let net = c.args.net.now.present in
-    let f = forest c.args.tree.now in
+    let s = c.args.map.now.standing.now.present in
+    let net = c.args.map.now.net.now.present in
+    let f = forest c.args.map.now.tree.now in
     let exact = c.far-bound.ensures.exact ∙ distance_is s net f c.requires.seen.seen c.args.second c.args.first c.requires.second c.requires.first in
     let fits : FitsSigned w64 c.in-Finite.far = search rules in
     let far = to_z-of_z w64 c.in-Finite.far fits in

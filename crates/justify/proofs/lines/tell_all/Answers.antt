@@ -9,15 +9,15 @@ use Rattle.justify.proofs.lines.tell_all.Goals as goal
 
 pub tell_node-requires-clause-live : goal.tell_node-requires-clause-live
 tell_node-requires-clause-live g c =
-    live_rank (built c.args.standing.now.present) (forest c.args.tree.now) c.args.ranked.now c.loop-rank.rank-index _ c.loop-rank-test.true c.requires.live
+    live_rank (built c.args.map.now.standing.now.present) (forest c.args.map.now.tree.now) c.args.ranked.now c.loop-rank.rank-index _ c.loop-rank-test.true c.requires.live
 
 pub loop-rank-init : goal.loop-rank-init
-loop-rank-init g c = hears_none g.R.Listener.parts_of (AreLinesOfAll (built c.args.standing.now.present) []) refl (g.R.Listener.heard c.args.listener.now)
+loop-rank-init g c = hears_none g.R.Listener.parts_of (AreLinesOfAll (built c.args.map.now.standing.now.present) []) refl (g.R.Listener.heard c.args.listener.now)
 
 pub loop-rank-preserved : goal.loop-rank-preserved
 loop-rank-preserved g c =
-    let m = built c.args.standing.now.present in
-    let f = forest c.args.tree.now in
+    let m = built c.args.map.now.standing.now.present in
+    let f = forest c.args.map.now.tree.now in
     let ps = c.args.ranked.now in
     let i = c.loop-rank.rank-index in
     hears_more g.R.Listener.parts_of _ _ (AreLinesOfAll m (map (moment_at f) (nodes_of (take (i + 1) ps))))

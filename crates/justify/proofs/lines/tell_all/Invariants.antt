@@ -8,5 +8,5 @@ use Rattle.justify.proofs.lines.tell_all.Given as goal
 
 abbrev pub invariant-loop-rank : goal.invariant-loop-rank
 invariant-loop-rank g l =
-    Hears g.R.Listener.parts_of (AreLinesOfAll (built l.standing.present) (map (moment_at (forest l.tree)) (nodes_of (take l.rank-index l.ranked))))
+    Hears g.R.Listener.parts_of (AreLinesOfAll (built l.map.standing.now.present) (map (moment_at (forest l.map.tree.now)) (nodes_of (take l.rank-index l.ranked))))
     (g.R.Listener.heard l.initial.listener) (g.R.Listener.heard l.listener)

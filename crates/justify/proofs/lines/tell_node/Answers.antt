@@ -18,20 +18,20 @@ use Rattle.justify.proofs.lines.tell_node.Goals as goal
 
 pub supports_at-supports-requires-clause-rule : goal.supports_at-supports-requires-clause-rule
 supports_at-supports-requires-clause-rule g c =
-    rule_at c.args.standing.now.present c.args.net.now.present (forest c.args.tree.now) c.requires.seen.seen c.args.x c.in-Effect.event c.in-Effect.rule c.requires.live c.in-Effect.ensures.1
+    rule_at c.args.map.now.standing.now.present c.args.map.now.net.now.present (forest c.args.map.now.tree.now) c.requires.seen.seen c.args.x c.in-Effect.event c.in-Effect.rule c.requires.live c.in-Effect.ensures.1
 
 pub exceptions_of-exceptions-requires : goal.exceptions_of-exceptions-requires
 exceptions_of-exceptions-requires g c =
-    let s = c.args.standing.now.present in
-    let f = forest c.args.tree.now in
+    let s = c.args.map.now.standing.now.present in
+    let f = forest c.args.map.now.tree.now in
     let sound = c.requires.seen.seen.network.sound in
     rule_there s sound (moment_at f c.in-Effect.event) c.in-Effect.rule
-    (rule_at s c.args.net.now.present f c.requires.seen.seen c.args.x c.in-Effect.event c.in-Effect.rule c.requires.live c.in-Effect.ensures.1)
+    (rule_at s c.args.map.now.net.now.present f c.requires.seen.seen c.args.x c.in-Effect.event c.in-Effect.rule c.requires.live c.in-Effect.ensures.1)
 
 pub tell_orders-requires-clause-in_order : goal.tell_orders-requires-clause-in_order
 tell_orders-requires-clause-in_order g c =
-    let s = c.args.standing.now.present in
-    let f = forest c.args.tree.now in
+    let s = c.args.map.now.standing.now.present in
+    let f = forest c.args.map.now.tree.now in
     let t = moment_at f c.in-Effect.event in
     let nodes = c.as_slice-nodes.result.now in
     All-from_contains (λ x. All (IsInOrder (built s)) (pairs_of (built s) t (moment_at f x))) nodes
@@ -41,16 +41,16 @@ tell_orders-requires-clause-in_order g c =
 
 pub returns-in-Declared : goal.returns-in-Declared
 returns-in-Declared g c =
-    let m = built c.args.standing.now.present in
-    let x = moment_at (forest c.args.tree.now) c.args.x in
+    let m = built c.args.map.now.standing.now.present in
+    let x = moment_at (forest c.args.map.now.tree.now) c.args.x in
     let line = PremiseLine c.in-Declared.name in
     let its : AreLinesOf m x (line ∷ []) = subst (λ k. AreLinesOf m k (line ∷ [])) (sym c.in-Declared.ensures) ([], refl, tt) in
     on_ok_weaker c.hear.result (hears_one g.R.Listener.parts_of (AreLinesOf m x) line its tt _ _) c.hear.ensures
 
 pub returns-in_ok-derived_line-in-Effect : goal.returns-in_ok-derived_line-in-Effect
 returns-in_ok-derived_line-in-Effect g c =
-    let m = built c.args.standing.now.present in
-    let f = forest c.args.tree.now in
+    let m = built c.args.map.now.standing.now.present in
+    let f = forest c.args.map.now.tree.now in
     let x = moment_at f c.args.x in
     let t = moment_at f c.in-Effect.event in
     let ks = map (moment_at f) c.as_slice-nodes.result.now in

@@ -12,19 +12,19 @@ use Rattle.justify.proofs.lines.tell_orders.Goals as goal
 
 pub tell_orders_of-requires-clause-in_order : goal.tell_orders_of-requires-clause-in_order
 tell_orders_of-requires-clause-in_order g c =
-    let m = built c.args.standing.now.present in
-    let f = forest c.args.tree.now in
+    let m = built c.args.map.now.standing.now.present in
+    let f = forest c.args.map.now.tree.now in
     let xs = c.args.supports.now in
     let i = c.loop-x.x-index in
     All-contains (λ x. All (IsInOrder m) (pairs_of m (moment_at f c.args.event) (moment_at f x))) xs (get_or xs i 0) c.requires.in_order (Contains-get_or xs i 0 c.loop-x-test.true)
 
 pub loop-x-init : goal.loop-x-init
-loop-x-init g c = hears_none g.R.Listener.parts_of (AreOrders (built c.args.standing.now.present) []) tt (g.R.Listener.heard c.args.listener.now)
+loop-x-init g c = hears_none g.R.Listener.parts_of (AreOrders (built c.args.map.now.standing.now.present) []) tt (g.R.Listener.heard c.args.listener.now)
 
 pub loop-x-preserved : goal.loop-x-preserved
 loop-x-preserved g c =
-    let m = built c.args.standing.now.present in
-    let f = forest c.args.tree.now in
+    let m = built c.args.map.now.standing.now.present in
+    let f = forest c.args.map.now.tree.now in
     let t = moment_at f c.args.event in
     let i = c.loop-x.x-index in
     let xs = c.args.supports.now in

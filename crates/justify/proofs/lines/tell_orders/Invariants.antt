@@ -9,5 +9,5 @@ use Rattle.justify.proofs.lines.tell_orders.Given as goal
 
 abbrev pub invariant-loop-x : goal.invariant-loop-x
 invariant-loop-x g l =
-    Hears g.R.Listener.parts_of (AreOrders (built l.standing.present) (flat_map (pairs_of (built l.standing.present) (moment_at (forest l.tree) l.event)) (map (moment_at (forest l.tree)) (take l.x-index l.supports))))
+    Hears g.R.Listener.parts_of (AreOrders (built l.map.standing.now.present) (flat_map (pairs_of (built l.map.standing.now.present) (moment_at (forest l.map.tree.now) l.event)) (map (moment_at (forest l.map.tree.now)) (take l.x-index l.supports))))
     (g.R.Listener.heard l.initial.listener) (g.R.Listener.heard l.listener)

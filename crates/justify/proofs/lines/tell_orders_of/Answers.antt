@@ -19,22 +19,22 @@ use Rattle.justify.proofs.lines.tell_orders_of.Goals as goal
 
 pub tell_order-requires-clause-in_order : goal.tell_order-requires-clause-in_order
 tell_order-requires-clause-in_order g c =
-    let s = c.args.standing.now.present in
-    let t = moment_at (forest c.args.tree.now) c.args.event in
-    let k = moment_at (forest c.args.tree.now) c.args.x in
+    let s = c.args.map.now.standing.now.present in
+    let t = moment_at (forest c.args.map.now.tree.now) c.args.event in
+    let k = moment_at (forest c.args.map.now.tree.now) c.args.x in
     All-head (IsInOrder (built s)) (k, t) (end_pair (built s) t (option_and_then (λ row. row.end) (token_of s k))) c.requires.in_order
 
 pub tell_order-requires-in-Some-clause-second : goal.tell_order-requires-in-Some-clause-second
 tell_order-requires-in-Some-clause-second g c =
-    let f = forest c.args.tree.now in
+    let f = forest c.args.map.now.tree.now in
     let (m, here) = node_at f c.args.x c.requires.live in
-    end_in_use c.args.standing.now.present c.args.net.now.present f c.requires.seen.seen c.args.x m here c.in-Some.end (sym (c.row.ensures m here).end ∙ c.in-Some.is)
+    end_in_use c.args.map.now.standing.now.present c.args.map.now.net.now.present f c.requires.seen.seen c.args.x m here c.in-Some.end (sym (c.row.ensures m here).end ∙ c.in-Some.is)
 
 pub tell_order-requires-in-Some-clause-in_order : goal.tell_order-requires-in-Some-clause-in_order
 tell_order-requires-in-Some-clause-in_order g c =
-    let s = c.args.standing.now.present in
-    let net = c.args.net.now.present in
-    let f = forest c.args.tree.now in
+    let s = c.args.map.now.standing.now.present in
+    let net = c.args.map.now.net.now.present in
+    let f = forest c.args.map.now.tree.now in
     let t = moment_at f c.args.event in
     let k = moment_at f c.args.x in
     let (m, here) = node_at f c.args.x c.requires.live in
@@ -45,9 +45,9 @@ tell_order-requires-in-Some-clause-in_order g c =
 
 pub returns-in-Some : goal.returns-in-Some
 returns-in-Some g c =
-    let s = c.args.standing.now.present in
-    let net = c.args.net.now.present in
-    let f = forest c.args.tree.now in
+    let s = c.args.map.now.standing.now.present in
+    let net = c.args.map.now.net.now.present in
+    let f = forest c.args.map.now.tree.now in
     let t = moment_at f c.args.event in
     let k = moment_at f c.args.x in
     let (m, here) = node_at f c.args.x c.requires.live in
@@ -64,9 +64,9 @@ returns-in-Some g c =
 
 pub returns-in-None : goal.returns-in-None
 returns-in-None g c =
-    let s = c.args.standing.now.present in
-    let net = c.args.net.now.present in
-    let f = forest c.args.tree.now in
+    let s = c.args.map.now.standing.now.present in
+    let net = c.args.map.now.net.now.present in
+    let f = forest c.args.map.now.tree.now in
     let (m, here) = node_at f c.args.x c.requires.live in
     let ends = sym (c.row.ensures m here).end ∙ c.in-None.is in
     let old = g.R.Listener.heard c.args.listener.now in

@@ -16,7 +16,7 @@ use Rattle.justify.proofs.reasons.tell_reasons.Goals as goal
 
 pub tell_all-requires-clause-live : goal.tell_all-requires-clause-live
 tell_all-requires-clause-live g c =
-    let f = forest c.args.tree.now in
+    let f = forest c.args.map.now.tree.now in
     let keys = c.in_ok-found.found.keys in
     let ranked = c.in_ok-ranked.ranked.items in
     subst (λ (ps : List Ranked). All (IsLive f) (nodes_of ps)) (sym c.as_slice-2.ensures.value)
@@ -24,14 +24,14 @@ tell_all-requires-clause-live g c =
 
 pub returns : goal.returns
 returns g c =
-    let s = c.args.standing.now.present in
-    let f = forest c.args.tree.now in
+    let s = c.args.map.now.standing.now.present in
+    let f = forest c.args.map.now.tree.now in
     let keys = c.in_ok-found.found.keys in
     let ranked = c.in_ok-ranked.ranked.items in
     on_ok_weaker c.tell_all.result
     (hears_so g.R.Listener.parts_of (AreLinesOfAll (built s) (map (moment_at f) (nodes_of c.as_slice-2.result.now))) (AreWhy (built s) (moment_at f c.args.x))
     (λ lines told.
-    reasons_are s c.args.net.now.present f c.requires.seen.seen c.args.x keys (nodes_of ranked) c.in_ok-found.ensures
+    reasons_are s c.args.map.now.net.now.present f c.requires.seen.seen c.args.x keys (nodes_of ranked) c.in_ok-found.ensures
     (subst (λ (l : List ℕ). IsPermutation l (nodes_of ranked)) c.as_slice.ensures.keys c.in_ok-ranked.ensures.same) c.in_ok-ranked.ensures.in_order
     (map reason_of lines)
     (subst (λ (ps : List Ranked). AreReasons (built s) (map (moment_at f) (nodes_of ps)) (map reason_of lines)) c.as_slice-2.ensures.value told))

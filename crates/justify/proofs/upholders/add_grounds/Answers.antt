@@ -14,12 +14,12 @@ use Rattle.justify.proofs.upholders.add_grounds.Goals as goal
 
 pub supports_at-supports-requires-clause-rule : goal.supports_at-supports-requires-clause-rule
 supports_at-supports-requires-clause-rule c =
-    rule_at c.args.standing.now.present c.args.net.now.present (forest c.args.tree.now) c.requires.seen.seen c.args.x c.in-Effect.event c.in-Effect.rule c.requires.live c.in-Effect.ensures.1
+    rule_at c.args.map.now.standing.now.present c.args.map.now.net.now.present (forest c.args.map.now.tree.now) c.requires.seen.seen c.args.x c.in-Effect.event c.in-Effect.rule c.requires.live c.in-Effect.ensures.1
 
 pub returns-in_ok-add-in-Effect : goal.returns-in_ok-add-in-Effect
 returns-in_ok-add-in-Effect c =
-    let m = built c.args.standing.now.present in
-    let f = forest c.args.tree.now in
+    let m = built c.args.map.now.standing.now.present in
+    let f = forest c.args.map.now.tree.now in
     let event = c.in-Effect.event in
     let (live, is) = c.in-Effect.ensures in
     let supports = c.supports_at-supports.ensures in

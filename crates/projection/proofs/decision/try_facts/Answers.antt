@@ -13,8 +13,8 @@ use Rattle.projection.proofs.decision.try_facts.Goals as goal
 
 pub returns-in-None-clause-outcome : goal.returns-in-None-clause-outcome
 returns-in-None-clause-outcome c b holds =
-    let s = c.args.standing.now.present in
-    let f = forest c.args.tree.now in
+    let s = c.args.map.now.standing.now.present in
+    let f = forest c.args.map.now.tree.now in
     let t = moment_at f c.args.trigger in
     let h : List ℕ → Option Moment = λ fact. holder s (far_in s.premises) b fact t t in
     tried_blocked h c.args.given.now c.loop-antecedent.antecedent c.index-given-antecedent.result (omega arith) c.index-given-antecedent.is
@@ -23,8 +23,8 @@ returns-in-None-clause-outcome c b holds =
 
 pub loop-antecedent-preserved : goal.loop-antecedent-preserved
 loop-antecedent-preserved c =
-    let s = c.args.standing.now.present in
-    let f = forest c.args.tree.now in
+    let s = c.args.map.now.standing.now.present in
+    let f = forest c.args.map.now.tree.now in
     let t = moment_at f c.args.trigger in
     let old = c.loop-antecedent.supports.items in
     let pushed = c.push.ensures.items in
@@ -39,8 +39,8 @@ loop-antecedent-preserved c =
 
 pub returns-in-Some-first_supported-clause-outcome : goal.returns-in-Some-first_supported-clause-outcome
 returns-in-Some-first_supported-clause-outcome c b holds =
-    let s = c.args.standing.now.present in
-    let f = forest c.args.tree.now in
+    let s = c.args.map.now.standing.now.present in
+    let f = forest c.args.map.now.tree.now in
     let t = moment_at f c.args.trigger in
     let against = map (λ fact. holder s (far_in s.premises) b fact t t) c.args.exceptions.now in
     is_barred (map (moment_at f) c.loop-antecedent.supports.items) against c.in-Some-first_supported.exception (c.in-Some-first_supported.ensures b holds)
@@ -49,8 +49,8 @@ returns-in-Some-first_supported-clause-outcome c b holds =
 
 pub returns-in-None-first_supported-clause-outcome : goal.returns-in-None-first_supported-clause-outcome
 returns-in-None-first_supported-clause-outcome c b holds =
-    let s = c.args.standing.now.present in
-    let f = forest c.args.tree.now in
+    let s = c.args.map.now.standing.now.present in
+    let f = forest c.args.map.now.tree.now in
     let t = moment_at f c.args.trigger in
     let against = map (λ fact. holder s (far_in s.premises) b fact t t) c.args.exceptions.now in
     is_fired (map (moment_at f) c.loop-antecedent.supports.items) against (c.in-None-first_supported.ensures b holds)

@@ -11,8 +11,8 @@ use Rattle.projection.proofs.decision.try_facts.Given as goal
 abbrev pub invariant-loop-antecedent : goal.invariant-loop-antecedent
 invariant-loop-antecedent l = record {
   count : length l.supports.items ≡ l.antecedent;
-  live : All (IsLive (forest l.tree)) l.supports.items;
-  found : (b : List Moment) → HasOccurrences b (forest l.tree)
-      → map (λ x. Some (moment_at (forest l.tree) x)) l.supports.items
-      ≡ map (λ fact. holder l.standing.present (far_in l.standing.present.premises) b fact (moment_at (forest l.tree) l.trigger) (moment_at (forest l.tree) l.trigger)) (take l.antecedent l.given);
+  live : All (IsLive (forest l.map.tree.now)) l.supports.items;
+  found : (b : List Moment) → HasOccurrences b (forest l.map.tree.now)
+      → map (λ x. Some (moment_at (forest l.map.tree.now) x)) l.supports.items
+      ≡ map (λ fact. holder l.map.standing.now.present (far_in l.map.standing.now.present.premises) b fact (moment_at (forest l.map.tree.now) l.trigger) (moment_at (forest l.map.tree.now) l.trigger)) (take l.antecedent l.given);
 }

@@ -22,23 +22,23 @@ text_at-text-requires c = c.requires.places c.loop-place.place-index 0 c.loop-pl
 pub due_by-requires-clause-early : goal.due_by-requires-clause-early
 due_by-requires-clause-early c =
     let fits : FitsSigned w64 c.early-early.result = search rules in
-    early_seen c.args.standing.now.present c.args.net.now.present (forest c.args.tree.now) c.requires.seen.seen c.args.x c.requires.live c.early-early.result fits c.early-early.ensures
+    early_seen c.args.map.now.standing.now.present c.args.map.now.net.now.present (forest c.args.map.now.tree.now) c.requires.seen.seen c.args.x c.requires.live c.early-early.result fits c.early-early.ensures
 
 pub due_by-requires-clause-delay : goal.due_by-requires-clause-delay
 due_by-requires-clause-delay c =
-    let s = c.args.standing.now.present in
-    let names = rules_at s (moment_at (forest c.args.tree.now) c.args.x) in
+    let s = c.args.map.now.standing.now.present in
+    let names = rules_at s (moment_at (forest c.args.map.now.tree.now) c.args.x) in
     let place = get_or c.args.places.now c.loop-place.place-index 0 in
     let fits : FitsSigned w64 c.early-early.result = search rules in
     let fits_lo : FitsSigned w64 c.text_at-text.result.lo = search rules in
     let stands : Contains names (name_at s place) = named_there s c.args.places.now names c.requires.rules c.loop-place.place-index c.loop-place-test.true in
-    delay_seen s c.args.net.now.present (forest c.args.tree.now) c.requires.seen.seen c.args.x c.requires.live c.early-early.result fits c.early-early.ensures
+    delay_seen s c.args.map.now.net.now.present (forest c.args.map.now.tree.now) c.requires.seen.seen c.args.x c.requires.live c.early-early.result fits c.early-early.ensures
     (name_at s place) c.text_at-text.result.lo fits_lo c.text_at-text.ensures.lo stands
 
 pub loop-place-preserved : goal.loop-place-preserved
 loop-place-preserved c =
-    let s = c.args.standing.now.present in
-    let f = forest c.args.tree.now in
+    let s = c.args.map.now.standing.now.present in
+    let f = forest c.args.map.now.tree.now in
     let x = c.args.x in
     let places = c.args.places.now in
     let i = c.loop-place.place-index in
@@ -49,7 +49,7 @@ loop-place-preserved c =
     let fits : FitsSigned w64 c.early-early.result = search rules in
     let fits_lo : FitsSigned w64 c.text_at-text.result.lo = search rules in
     let told : IsDueBy s.horizon (due s (far_in s.premises) (moment_at f x) rule) c.due_by.result =
-    due_is s c.args.net.now.present f c.requires.seen.seen x c.requires.live c.early-early.result fits c.early-early.ensures
+    due_is s c.args.map.now.net.now.present f c.requires.seen.seen x c.requires.live c.early-early.result fits c.early-early.ensures
     rule c.text_at-text.result.lo fits_lo c.text_at-text.ensures.lo c.horizon-horizon.result c.horizon-horizon.ensures c.due_by.result c.due_by.ensures in
     elim c.match-due_by.branch [
       | in-Some+in_ok-push w ↦
@@ -67,6 +67,6 @@ loop-place-preserved c =
 
 pub returns : goal.returns
 returns c =
-    let s = c.args.standing.now.present in
-    subst (λ names. Queues s (forest c.args.tree.now) c.args.x names c.args.queue.now c.loop-place.queue)
+    let s = c.args.map.now.standing.now.present in
+    subst (λ names. Queues s (forest c.args.map.now.tree.now) c.args.x names c.args.queue.now c.loop-place.queue)
     (ap (map (name_at s)) (take_all c.loop-place.place-index c.args.places.now (omega arith)) ∙ c.requires.rules) c.loop-place.invariant

@@ -5,4 +5,4 @@ use Rattle.occ_tree.specs.Places.{forest}
 use Rattle.projection.proofs.growth.wait_for.Given as goal
 
 abbrev pub invariant-loop-place : goal.invariant-loop-place
-invariant-loop-place l = Queues l.standing.present (forest l.tree) l.x (map (name_at l.standing.present) (take l.place-index l.places)) l.initial.queue l.queue
+invariant-loop-place l = Queues l.map.standing.now.present (forest l.map.tree.now) l.x (map (name_at l.map.standing.now.present) (take l.place-index l.places)) l.initial.queue l.queue

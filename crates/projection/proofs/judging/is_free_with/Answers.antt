@@ -16,24 +16,24 @@ use Rattle.projection.proofs.judging.is_free_with.Goals as goal
 
 pub judge_facts-verdict-requires-clause-facts : goal.judge_facts-verdict-requires-clause-facts
 judge_facts-verdict-requires-clause-facts c =
-    let s = c.args.standing.now.present in
+    let s = c.args.map.now.standing.now.present in
     let rule = name_at s c.args.place in
     let sound = c.requires.seen.seen.network.sound in
     subst (All (λ fact. IsSome (class_in s.premises fact))) (sym c.text_at-text.ensures.given)
-    (facts_known s sound rule (rule_there s sound (moment_at (forest c.args.tree.now) c.args.trigger) rule c.requires.rule))
+    (facts_known s sound rule (rule_there s sound (moment_at (forest c.args.map.now.tree.now) c.args.trigger) rule c.requires.rule))
 
 pub judge_facts-verdict-requires-clause-exceptions : goal.judge_facts-verdict-requires-clause-exceptions
 judge_facts-verdict-requires-clause-exceptions c =
-    let s = c.args.standing.now.present in
+    let s = c.args.map.now.standing.now.present in
     let rule = name_at s c.args.place in
     let sound = c.requires.seen.seen.network.sound in
     subst (All (λ fact. IsSome (class_in s.premises fact))) (sym c.text_at-text.ensures.exceptions)
-    (exceptions_known s sound rule (rule_there s sound (moment_at (forest c.args.tree.now) c.args.trigger) rule c.requires.rule))
+    (exceptions_known s sound rule (rule_there s sound (moment_at (forest c.args.map.now.tree.now) c.args.trigger) rule c.requires.rule))
 
 pub returns-in-Fires : goal.returns-in-Fires
 returns-in-Fires c b holds =
-    let s = c.args.standing.now.present in
-    let t = moment_at (forest c.args.tree.now) c.args.trigger in
+    let s = c.args.map.now.standing.now.present in
+    let t = moment_at (forest c.args.map.now.tree.now) c.args.trigger in
     let rule = name_at s c.args.place in
     let is = c.in-Fires.ensures b holds ∙ (λ i. verdict_of (tried_at s b t (c.text_at-text.ensures.given i) (c.text_at-text.ensures.exceptions i))) in
     ap fires_by is
@@ -41,8 +41,8 @@ returns-in-Fires c b holds =
 
 pub returns-in_default : goal.returns-in_default
 returns-in_default c b holds =
-    let s = c.args.standing.now.present in
-    let t = moment_at (forest c.args.tree.now) c.args.trigger in
+    let s = c.args.map.now.standing.now.present in
+    let t = moment_at (forest c.args.map.now.tree.now) c.args.trigger in
     let rule = name_at s c.args.place in
     let is = c.judge_facts-verdict.ensures b holds ∙ (λ i. verdict_of (tried_at s b t (c.text_at-text.ensures.given i) (c.text_at-text.ensures.exceptions i))) in
     sym (unfired c.judge_facts-verdict.result c.in_default.not-Fires)

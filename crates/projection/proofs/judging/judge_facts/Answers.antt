@@ -15,8 +15,8 @@ use Rattle.projection.proofs.judging.judge_facts.Goals as goal
 
 pub returns-then-not-is_supported : goal.returns-then-not-is_supported
 returns-then-not-is_supported c b holds =
-    let s = c.args.standing.now.present in
-    let t = moment_at (forest c.args.tree.now) c.args.trigger in
+    let s = c.args.map.now.standing.now.present in
+    let t = moment_at (forest c.args.map.now.tree.now) c.args.trigger in
     let h : List ℕ → Option Moment = λ fact. holder s (far_in s.premises) b fact t t in
     let fact = c.index-given-antecedent.result in
     let refused : c.is_supported.result ≡ false = search rules in
@@ -25,8 +25,8 @@ returns-then-not-is_supported c b holds =
 
 pub loop-antecedent-preserved : goal.loop-antecedent-preserved
 loop-antecedent-preserved c b holds =
-    let s = c.args.standing.now.present in
-    let t = moment_at (forest c.args.tree.now) c.args.trigger in
+    let s = c.args.map.now.standing.now.present in
+    let t = moment_at (forest c.args.map.now.tree.now) c.args.trigger in
     let fact = c.index-given-antecedent.result in
     let held : c.is_supported.result ≡ true = search rules in
     let has : supported s (far_in s.premises) b t fact ≡ true = sym (c.is_supported.ensures b holds) ∙ held in
@@ -35,8 +35,8 @@ loop-antecedent-preserved c b holds =
 
 pub returns-in-Some : goal.returns-in-Some
 returns-in-Some c b holds =
-    let s = c.args.standing.now.present in
-    let t = moment_at (forest c.args.tree.now) c.args.trigger in
+    let s = c.args.map.now.standing.now.present in
+    let t = moment_at (forest c.args.map.now.tree.now) c.args.trigger in
     let h : List ℕ → Option Moment = λ fact. holder s (far_in s.premises) b fact t t in
     let found = map h c.args.given.now in
     let against = map h c.args.exceptions.now in
@@ -45,8 +45,8 @@ returns-in-Some c b holds =
 
 pub returns-in-None : goal.returns-in-None
 returns-in-None c b holds =
-    let s = c.args.standing.now.present in
-    let t = moment_at (forest c.args.tree.now) c.args.trigger in
+    let s = c.args.map.now.standing.now.present in
+    let t = moment_at (forest c.args.map.now.tree.now) c.args.trigger in
     let h : List ℕ → Option Moment = λ fact. holder s (far_in s.premises) b fact t t in
     let found = map h c.args.given.now in
     let against = map h c.args.exceptions.now in

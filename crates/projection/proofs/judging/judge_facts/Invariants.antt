@@ -9,5 +9,5 @@ use Rattle.occ_tree.specs.Places.{forest}
 use Rattle.projection.proofs.judging.judge_facts.Given as goal
 
 abbrev pub invariant-loop-antecedent : goal.invariant-loop-antecedent
-invariant-loop-antecedent l = (b : List Moment) → HasOccurrences b (forest l.tree)
-    → first_without (map (λ fact. holder l.standing.present (far_in l.standing.present.premises) b fact (moment_at (forest l.tree) l.trigger) (moment_at (forest l.tree) l.trigger)) (take l.antecedent l.given)) ≡ None
+invariant-loop-antecedent l = (b : List Moment) → HasOccurrences b (forest l.map.tree.now)
+    → first_without (map (λ fact. holder l.map.standing.now.present (far_in l.map.standing.now.present.premises) b fact (moment_at (forest l.map.tree.now) l.trigger) (moment_at (forest l.map.tree.now) l.trigger)) (take l.antecedent l.given)) ≡ None

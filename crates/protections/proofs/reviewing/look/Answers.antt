@@ -13,7 +13,7 @@ use Rattle.protections.proofs.reviewing.look.Goals as goal
 
 pub returns-in_default : goal.returns-in_default
 returns-in_default c =
-    let lists = c.args.standing.now in
+    let lists = c.args.map.now.standing.now in
     let p = c.args.premise.now in
     let none : protection_name p ≡ None = no_protection p c.in_default.not-Protect in
     let list = c.requires.edited.list in

@@ -17,7 +17,7 @@ use Rattle.protections.proofs.reviewing.review_added.Goals as goal
 
 pub look-requires-clause-stands : goal.look-requires-clause-stands
 look-requires-clause-stands c =
-    let lists = c.args.standing.now in
+    let lists = c.args.map.now.standing.now in
     let p = c.in-Add.premise in
     let premises : lists.present.premises ≡ lists.committed.premises ++ p ∷ [] =
     ap (λ (s : Standing). s.premises) (c.requires.edited.list ∙ ap (next_list lists.committed) c.in-Add.is) in
@@ -26,12 +26,12 @@ look-requires-clause-stands c =
 
 pub returns : goal.returns
 returns c =
-    let lists = c.args.standing.now in
+    let lists = c.args.map.now.standing.now in
     let found = found_in c.args.old.now in
     let named = c.requires.edited.seen_then.network.sound.well_named in
     let same : (p : Premise) → In p lists.committed.premises → In p lists.present.premises → broken (built lists.present) p ≡ broken (built lists.committed) p =
     λ p before now.
-    all_left_alone lists c.args.net.now c.args.edit.now c.args.tree.now c.requires.edited c.moved.ensures.moved c.requires.unmoved c.requires.others c.have_tokens.ensures
+    all_left_alone lists c.args.map.now.net.now c.args.edit.now c.args.map.now.tree.now c.requires.edited c.moved.ensures.moved c.requires.unmoved c.requires.others c.have_tokens.ensures
     p (Contains-from_In lists.committed.premises p before) (Contains-from_In lists.present.premises p now) in
     elim c.match-edit.branch [
       | in-Add+in_ok-look+in_ok-push_some_to w ↦ (

@@ -7,7 +7,7 @@ use Rattle.protections.proofs.reviewing.review_premise.Goals as goal
 
 pub returns-then-is_left_alone : goal.returns-then-is_left_alone
 returns-then-is_left_alone c =
-    let lists = c.args.standing.now in
+    let lists = c.args.map.now.standing.now in
     let p = c.args.premise.now in
     let stood = c.is_left_alone.ensures.stood c.if-is_left_alone.true in
     found_before lists.committed c.args.edit.now c.requires.edited.seen_then.network.sound.well_named

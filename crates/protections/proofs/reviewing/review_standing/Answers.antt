@@ -13,9 +13,9 @@ use Rattle.protections.proofs.reviewing.review_standing.Goals as goal
 
 pub loop-i-preserved : goal.loop-i-preserved
 loop-i-preserved c =
-    let m = built c.args.standing.now.present in
+    let m = built c.args.map.now.standing.now.present in
     let found = found_in c.args.old.now in
-    let ps = c.args.standing.now.present.premises in
+    let ps = c.args.map.now.standing.now.present.premises in
     let i = c.loop-i.i in
     let p = c.in-Some.premise.now in
     let o = c.in_ok-review_premise-in-Some.field-0 in

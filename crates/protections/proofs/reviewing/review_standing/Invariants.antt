@@ -5,4 +5,4 @@ use Rattle.protections.specs.Reviews.{AreReviewed}
 use Rattle.protections.proofs.reviewing.review_standing.Given as goal
 
 abbrev pub invariant-loop-i : goal.invariant-loop-i
-invariant-loop-i l = AreReviewed (built l.standing.present) (found_in l.old) (take l.i l.standing.present.premises) l.found.items
+invariant-loop-i l = AreReviewed (built l.map.standing.now.present) (found_in l.old) (take l.i l.map.standing.now.present.premises) l.found.items

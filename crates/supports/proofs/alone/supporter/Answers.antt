@@ -13,7 +13,7 @@ first_holder-requires-clause-live c = rows_live c.requires.seen c.tokens-rows.en
 
 pub returns-in_err-place-clause-first : goal.returns-in_err-place-clause-first
 returns-in_err-place-clause-first c b holds =
-    ap (option_map (moment_at (forest c.args.tree.now))) c.from_residual.ensures
+    ap (option_map (moment_at (forest c.args.map.now.tree.now))) c.from_residual.ensures
     ∙ holder_is c.requires.seen.seen c.tokens-rows.ensures.rows holds
     c.args.fact (sym c.class_of.ensures ∙ c.in-Some.is) c.requires.alone c.args.p c.args.q c.requires.p c.requires.q None c.in_err-place.ensures no_row
 
@@ -25,7 +25,7 @@ returns-clause-live c = live_at_place c.requires.seen.seen c.tokens-rows.ensures
 
 pub returns-clause-first : goal.returns-clause-first
 returns-clause-first c b holds =
-    ap (λ z. Some (spot_moment c.args.net.now.present.names (forest c.args.tree.now) z)) (sym (c.node_at.ensures no_row))
+    ap (λ z. Some (spot_moment c.args.map.now.net.now.present.names (forest c.args.map.now.tree.now) z)) (sym (c.node_at.ensures no_row))
     ∙ holder_is c.requires.seen.seen c.tokens-rows.ensures.rows holds
     c.args.fact (sym c.class_of.ensures ∙ c.in-Some.is) c.requires.alone c.args.p c.args.q c.requires.p c.requires.q (Some c.in_ok-place.place) c.in_ok-place.ensures no_row
 

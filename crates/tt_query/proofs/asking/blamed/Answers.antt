@@ -9,16 +9,16 @@ use Rattle.tt_query.proofs.asking.blamed.Goals as goal
 
 pub blames-requires-clause-none : goal.blames-requires-clause-none
 blames-requires-clause-none c =
-    let n = c.args.net.now.present in
-    let f = forest c.args.tree.now in
-    no_supporters c.args.standing.now.present n f c.requires.seen.seen c.requires.holds c.args.fact c.in-Some.class (sym c.class_of.ensures ∙ c.in-Some.is) c.tokens-rows.result.now c.tokens-rows.ensures.rows
+    let n = c.args.map.now.net.now.present in
+    let f = forest c.args.map.now.tree.now in
+    no_supporters c.args.map.now.standing.now.present n f c.requires.seen.seen c.requires.holds c.args.fact c.in-Some.class (sym c.class_of.ensures ∙ c.in-Some.is) c.tokens-rows.result.now c.tokens-rows.ensures.rows
     (spot_moment n.names f c.args.p) (spot_moment n.names f c.args.q) c.requires.none c.as_slice.result.now (c.as_slice.ensures.value ∙ c.first_tokens-first.ensures.nodes)
 
 pub returns : goal.returns
 returns c =
-    let s = c.args.standing.now.present in
-    let n = c.args.net.now.present in
-    let f = forest c.args.tree.now in
+    let s = c.args.map.now.standing.now.present in
+    let n = c.args.map.now.net.now.present in
+    let f = forest c.args.map.now.tree.now in
     let p = spot_moment n.names f c.args.p in
     let q = spot_moment n.names f c.args.q in
     (λ i. fails ((c.in_ok-blames.ensures ∙ ap (map (blame_at (built s) f p q)) (c.as_slice.ensures.value ∙ c.first_tokens-first.ensures.nodes)) i)

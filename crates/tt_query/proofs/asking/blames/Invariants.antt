@@ -8,4 +8,4 @@ use Rattle.tt_query.proofs.asking.blames.Given as goal
 
 abbrev pub invariant-loop-x : goal.invariant-loop-x
 invariant-loop-x l =
-    map blame_of l.blames.items ≡ map (blame_at (built l.standing.present) (forest l.tree) (spot_moment l.net.present.names (forest l.tree) l.p) (spot_moment l.net.present.names (forest l.tree) l.q)) (take l.x-index l.nodes)
+    map blame_of l.blames.items ≡ map (blame_at (built l.map.standing.now.present) (forest l.map.tree.now) (spot_moment l.map.net.now.present.names (forest l.map.tree.now) l.p) (spot_moment l.map.net.now.present.names (forest l.map.tree.now) l.q)) (take l.x-index l.nodes)

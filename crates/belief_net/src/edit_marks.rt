@@ -1,45 +1,50 @@
-// Classes of which all rows wait from some date on.
+// What an edit has let wait from some date on: all rows of classes, and all rows whose rules read
+// what contradicts facts.
 ghost use Rattle.std.specs.Prelude.{◌≡◌, ◌↔◌, ℕ, ◌<◌, length, IsTrue, OnOk};
-ghost use Rattle.belief_net.specs.ClassMarks.{no_marks, later_of, IsLater, CoversFrom, MarksFrom};
+ghost use Rattle.belief_net.specs.EditMarks.{no_marks, later_of, IsLater, IsFrom, CoversFrom, CoversFact, MarksFrom, MarksFact};
 ghost use Rattle.belief_net.specs.Waiting.{dates_in};
 
 use crate::waiting::date_at;
+use indexmap::IndexMap;
 use std::alloc::Global;
 use std::marker::Model;
-use tmm_model::NoMemory;
+use tmm_model::{Name, NoMemory};
 
 /// So many tokens of a class are looked at each on its own; one walk over the rows of the class
 /// serves all others.
 const FEW_TOKENS: u32 = 16;
 
-/// The classes of which all rows wait from some date on, as far as these are later than what was
-/// decided since.
+/// The classes of which all rows wait from some date on, and the facts of which all rows do whose
+/// rules read what contradicts them, as far as these are later than what was decided since.
 #[derive(Drop)]
-pub(crate) struct ClassMarks {
+pub(crate) struct EditMarks {
     // how many tokens of each class were looked at, by the number of the class
     counts: Vec<u32>,
     // the date from which on all rows of a class wait, by its number
-    dates: Vec<Option<i64>>,
+    classes: Vec<Option<i64>>,
+    // the date from which on all rows wait whose rules read what contradicts a fact
+    facts: IndexMap<Name, i64>,
     // the latest date of a row that was decided
     decided: Option<i64>,
 }
 
-impl Model for ClassMarks {
-    ghost use Rattle.belief_net.specs.ClassMarks.{MarkedClasses};
+impl Model for EditMarks {
+    ghost use Rattle.belief_net.specs.EditMarks.{Marked};
 
-    ghost Value = { MarkedClasses };
+    ghost Value = { Marked };
 
-    ghost view = { λ m. record { dates = m.dates.items; decided = m.decided } };
+    ghost view = { λ m. record { classes = m.classes.items; facts = m.facts.entries; decided = m.decided } };
 }
 
-impl ClassMarks {
-    // No class is marked. It takes no memory.
-    pub(crate) fn make(alloc: Global) -> ClassMarks
+impl EditMarks {
+    // Nothing is marked. It takes no memory.
+    pub(crate) fn make(alloc: Global) -> EditMarks
         ensures { result ≡ no_marks }
     {
-        ClassMarks {
+        EditMarks {
             counts: Vec::new(alloc),
-            dates: Vec::new(alloc),
+            classes: Vec::new(alloc),
+            facts: IndexMap::new(alloc),
             decided: None,
         }
     }
@@ -48,10 +53,7 @@ impl ClassMarks {
     pub(crate) fn covers(&self, class: u32, from: i64) -> bool
         ensures { IsTrue result ↔ CoversFrom self.now class from }
     {
-        match date_at(&self.dates, class) {
-            Some(date) => date <= from && is_later(self.decided, from),
-            None => false,
-        }
+        is_from(date_at(&self.classes, class), self.decided, from)
     }
 
     // Counts one token more of a class; whether so many were counted before that all its rows are
@@ -66,9 +68,28 @@ impl ClassMarks {
     pub(crate) fn mark(&mut self, class: u32, from: i64) -> Result<(), NoMemory>
         ensures { OnOk result (MarksFrom self.old self.new class from) }
     {
-        reach(&mut self.dates, class)?;
-        self.dates[class as usize] = Some(from);
+        reach(&mut self.classes, class)?;
+        self.classes[class as usize] = Some(from);
         Ok(())
+    }
+
+    // Whether all rows wait whose rules read what contradicts a fact, at events no earlier than this
+    // date.
+    pub(crate) fn covers_fact(&self, fact: &Name, from: i64) -> bool
+        ensures { IsTrue result ↔ CoversFact self.now fact.now from }
+    {
+        is_from(self.facts.get(fact).copied(), self.decided, from)
+    }
+
+    // Notes that all rows wait whose rules read what contradicts a fact, at events no earlier than
+    // this date.
+    pub(crate) fn mark_fact(&mut self, fact: Name, from: i64) -> Result<(), NoMemory>
+        ensures { OnOk result (MarksFact self.old self.new fact from) }
+    {
+        match self.facts.insert(fact, from) {
+            Ok(_) => Ok(()),
+            Err(_) => Err(NoMemory),
+        }
     }
 
     // Notes that a row is decided that waited for this date.
@@ -76,6 +97,17 @@ impl ClassMarks {
         ensures { self.new ≡ record self.old { decided = later_of self.old.decided date } }
     {
         self.decided = later(self.decided, date);
+    }
+}
+
+// Whether a mark is from this date on, or from an earlier one, and nothing was decided that is as
+// late.
+fn is_from(mark: Option<i64>, decided: Option<i64>, from: i64) -> bool
+    ensures { IsTrue result ↔ IsFrom mark decided from }
+{
+    match mark {
+        Some(date) => date <= from && is_later(decided, from),
+        None => false,
     }
 }
 

@@ -6,13 +6,13 @@ use Rattle.occ_tree.proofs.Walked.{from_on}
 use Rattle.belief_net.specs.Marks.{Marks}
 use Rattle.belief_net.specs.Waiting.{dates_in}
 use Rattle.belief_net.proofs.OfRules.{AtFront}
-use Rattle.belief_net.proofs.by_event.mark_rule.Given as goal
+use Rattle.belief_net.proofs.by_event.mark_events.Given as goal
 
 abbrev pub invariant-loop-next : goal.invariant-loop-next
 invariant-loop-next l =
-    (front : List ℕ) × ((table l.rows).list 1 l.rule ≡ front ++ from_on l.next ((table l.rows).list 1 l.rule))
-    × ((i : ℕ) → l.next ≡ Some i → IsOn ((table l.rows).list 1 l.rule) i)
+    (front : List ℕ) × ((table l.rows).list l.family l.head ≡ front ++ from_on l.next ((table l.rows).list l.family l.head))
+    × ((i : ℕ) → l.next ≡ Some i → IsOn ((table l.rows).list l.family l.head) i)
     × Marks (present l.tree) (table l.rows) (AtFront (present l.tree) (table l.rows) l.events front) (dates_in l.fn.waiting) (dates_in l.waiting)
 
 abbrev pub decreases-loop-next : goal.decreases-loop-next
-decreases-loop-next l = length (from_on l.next ((table l.rows).list 1 l.rule))
+decreases-loop-next l = length (from_on l.next ((table l.rows).list l.family l.head))

@@ -8,11 +8,11 @@ use Rattle.belief_net.specs.Marks.{Marks}
 use Rattle.belief_net.specs.Waiting.{dates_in}
 use Rattle.belief_net.proofs.Marked.{listed_row}
 use Rattle.belief_net.proofs.OfRules.{AtFront, front_start, front_next}
-use Rattle.belief_net.proofs.by_event.mark_rule.Goals as goal
+use Rattle.belief_net.proofs.by_event.mark_events.Goals as goal
 
 pub loop-next-init : goal.loop-next-init
 loop-next-init c =
-    let list = (table c.args.rows.now).list 1 c.args.rule in (
+    let list = (table c.args.rows.now).list c.args.family c.args.head in (
       [],
       sym (ap (λ o. from_on o list) c.first-next.ensures.first ∙ from_first list),
       λ i is. first_is_on list i (sym c.first-next.ensures.first ∙ is),
@@ -21,38 +21,38 @@ loop-next-init c =
 
 pub mark_event-requires-clause-row : goal.mark_event-requires-clause-row
 mark_event-requires-clause-row c =
-    let (r, at) = listed_row (table c.args.rows.now) c.first-next.ensures.listed 1 c.args.rule c.in-Some.i (c.loop-next.invariant.2 c.in-Some.i c.in-Some.is) in
+    let (r, at) = listed_row (table c.args.rows.now) c.first-next.ensures.listed c.args.family c.args.head c.in-Some.i (c.loop-next.invariant.2 c.in-Some.i c.in-Some.is) in
     ap is_some at
 
 pub next-next-requires : goal.next-next-requires
-next-next-requires c = (c.args.rule, c.loop-next.invariant.2 c.in-Some.i c.in-Some.is)
+next-next-requires c = (c.args.head, c.loop-next.invariant.2 c.in-Some.i c.in-Some.is)
 
 pub loop-next-smaller : goal.loop-next-smaller
 loop-next-smaller c =
-    let list = (table c.args.rows.now).list 1 c.args.rule in
+    let list = (table c.args.rows.now).list c.args.family c.args.head in
     let i = c.in-Some.i in
     let on = c.loop-next.invariant.2 i c.in-Some.is in
     let here : from_on c.loop-next.next list ≡ i ∷ from_on c.next-next.result list =
-    ap (λ o. from_on o list) c.in-Some.is ∙ from_next list i (c.first-next.ensures.listed.once 1 c.args.rule) on ∙ ap (λ o. i ∷ from_on o list) (sym (c.next-next.ensures c.args.rule on)) in
+    ap (λ o. from_on o list) c.in-Some.is ∙ from_next list i (c.first-next.ensures.listed.once c.args.family c.args.head) on ∙ ap (λ o. i ∷ from_on o list) (sym (c.next-next.ensures c.args.head on)) in
     omega (arith, ap length here)
 
 pub loop-next-preserved : goal.loop-next-preserved
 loop-next-preserved c =
-    let list = (table c.args.rows.now).list 1 c.args.rule in
+    let list = (table c.args.rows.now).list c.args.family c.args.head in
     let i = c.in-Some.i in
     let on = c.loop-next.invariant.2 i c.in-Some.is in
     let (front, is, there, marks) = c.loop-next.invariant in
     let here : from_on c.loop-next.next list ≡ i ∷ from_on c.next-next.result list =
-    ap (λ o. from_on o list) c.in-Some.is ∙ from_next list i (c.first-next.ensures.listed.once 1 c.args.rule) on ∙ ap (λ o. i ∷ from_on o list) (sym (c.next-next.ensures c.args.rule on)) in (
+    ap (λ o. from_on o list) c.in-Some.is ∙ from_next list i (c.first-next.ensures.listed.once c.args.family c.args.head) on ∙ ap (λ o. i ∷ from_on o list) (sym (c.next-next.ensures c.args.head on)) in (
       front ++ i ∷ [],
       is ∙ ap (λ l. front ++ l) here ∙ sym (append_assoc front (i ∷ []) (from_on c.next-next.result list)),
-      λ j next. next_is_on list i j (sym (c.next-next.ensures c.args.rule on) ∙ next),
+      λ j next. next_is_on list i j (sym (c.next-next.ensures c.args.head on) ∙ next),
       front_next (present c.args.tree.now) (table c.args.rows.now) c.args.events.now front i (dates_in c.args.waiting.now) (dates_in c.loop-next.waiting) (dates_in c.mark_event.new.waiting) marks c.in_ok-mark_event.ensures,
     )
 
 pub returns : goal.returns
 returns c =
-    let list = (table c.args.rows.now).list 1 c.args.rule in
+    let list = (table c.args.rows.now).list c.args.family c.args.head in
     let (front, is, there, marks) = c.loop-next.invariant in
     let whole : front ≡ list = sym (is ∙ ap (λ o. front ++ from_on o list) c.in_default.is ∙ append-nil front) in
     subst (λ l. Marks (present c.args.tree.now) (table c.args.rows.now) (AtFront (present c.args.tree.now) (table c.args.rows.now) c.args.events.now l) (dates_in c.args.waiting.now) (dates_in c.loop-next.waiting)) whole marks
