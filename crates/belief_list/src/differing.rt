@@ -20,7 +20,6 @@ ghost use Rattle.belief_list.specs.Finding.{IsClipNow, IsNowUnder, mark_under, A
 
 use crate::by_number::{clip_of, kept_row};
 use crate::kept_rows::{Difference, KeptRow};
-use crate::rivals::has_or_had_rivals;
 use dist_net::DistNet;
 use occ_tree::Tree;
 use premise_list::Standing;
@@ -263,7 +262,7 @@ fn is_wanted(
         *next = Some(tree.early(x));
         return true;
     }
-    if has_or_had_rivals(standing, row.fact) {
+    if standing.has_or_had_rivals(row.fact) {
         return true;
     }
     !keeps_clip(kept, touched, clip_of(kept_row(kept, x)), *next)

@@ -1,6 +1,6 @@
 -- Rows of rules that read nothing, one rule after the other.
-use Rattle.std.proofs.Common.{◌≡◌, ◌∙◌, ℕ, Bool, true, false, ◌+◌, ◌<◌, List, [], ◌∷◌, Some, refl, sym, ap, subst, inl, inr, arith, ◌⊎◌}
-use Rattle.std.proofs.lemmas.Bool.{cases_order}
+use Rattle.std.proofs.Common.{◌≡◌, ◌∙◌, ℕ, true, false, ◌+◌, ◌<◌, List, [], ◌∷◌, Some, refl, sym, ap, subst, inl, inr, arith, ◌⊎◌}
+use Rattle.std.proofs.lemmas.Bool.{cases_order, cases_Bool}
 use Rattle.std.proofs.lemmas.Bool.Decides.{eqb_tells}
 use Rattle.std.specs.Prelude.{◌↔◌, pos}
 use Rattle.tmm_model.specs.Moments.{read_by, rule_of}
@@ -24,10 +24,6 @@ use Rattle.belief_net.specs.Waiting.{Dates}
 use Rattle.belief_net.specs.Woken.{MovesFrom, KeepsDate}
 use Rattle.belief_net.proofs.OfRules.{on_rule}
 use Rattle.belief_net.proofs.Waking.{wakes_none, wakes_alike, wakes_both, marks_wake}
-
-true_or : (v : Bool) → (v ≡ true) ⊎ (v ≡ false)
-true_or true = inl refl
-true_or false = inr refl
 
 module _ (list : Standing) (d : Decisions) (under : AreUnder list d) (listed : AreListed (table_of d)) (s : State) (moves : Moves) where
   -- the row is of one of the first n rules, and keeps its date if that reads nothing
@@ -60,7 +56,7 @@ module _ (list : Standing) (d : Decisions) (under : AreUnder list d) (listed : A
       where
         -- what makes no pair with `start` keeps its date
         dated : (x : ℕ) → is_event_of events s x ≡ false → has_pair moves.pairs.items (base_of (forest s) (Node x)) 0 ≡ false
-        dated x off = elim (true_or (has_pair moves.pairs.items (base_of (forest s) (Node x)) 0)) [
+        dated x off = elim (cases_Bool (has_pair moves.pairs.items (base_of (forest s) (Node x)) 0)) [
           | inr none ↦ none
           | inl pair ↦ absurd (
               let on : is_event_of events s x ≡ true =
@@ -73,7 +69,7 @@ module _ (list : Standing) (d : Decisions) (under : AreUnder list d) (listed : A
             → IsOfRuleAt (table_of d) n events s i row ⊎ (row.value.rule ≡ n → KeepsDate moves list (forest s) d row)
         or_rests i row at = elim (eqb_tells row.value.rule n) [
           | inr other ↦ inr (λ is. absurd (other.1 is))
-          | inl is ↦ elim (true_or (is_event_of events s row.value.trigger)) [
+          | inl is ↦ elim (cases_Bool (is_event_of events s row.value.trigger)) [
             | inl on ↦ inl ((on_rule list d under listed i n row at).1 is.1, on)
             | inr off ↦ inr (λ _ none. dated row.value.trigger off)
           ]
