@@ -8,12 +8,13 @@ ghost use Rattle.dist_net.specs.Net.{Net};
 ghost use Rattle.projection.specs.Kinds.{IsCountIn};
 ghost use Rattle.spots.specs.Forest.{Member, member, IsLive};
 ghost use Rattle.spots.specs.OfLists.{IsForestOf};
-ghost use Rattle.occ_tree.specs.OfLists.{IsTreeIn, IsTreeOf};
+ghost use Rattle.occ_tree.specs.OfLists.{IsTreeIn};
 ghost use Rattle.occ_tree.specs.Places.{forest};
 ghost use Rattle.occ_tree.specs.Standing.{Kept, present, early};
 ghost use Rattle.occ_tree.specs.Tokens.{number_of};
 ghost use Rattle.supports.specs.Behind.{IsClip};
 ghost use Rattle.supports.specs.Edited.{IsEdited, old_forest};
+ghost use Rattle.supports.specs.TimeMaps.{IsTimeMap};
 ghost use Rattle.belief_list.specs.declared.kept_rows.KeptRow.{KeptRow as AKeptRow};
 ghost use Rattle.belief_list.specs.KeptRows.{row_under, AreRowsOf, CoverTouched, AreDifferences};
 ghost use Rattle.belief_list.specs.Told.{clip_of};
@@ -21,13 +22,12 @@ ghost use Rattle.belief_list.specs.Finding.{IsClipNow, IsNowUnder, mark_under, A
 
 use crate::by_number::{clip_of, kept_row};
 use crate::kept_rows::{Difference, KeptRow};
-use dist_net::DistNet;
 use occ_tree::Tree;
 use premise_list::Standing;
 use projection::{KindCount, weight_after, weight_of};
 use spots::Spot;
 use std::alloc::Global;
-use supports::class_clips;
+use supports::{TimeMap, class_clips};
 use tmm_model::{Name, NoMemory, TokenRow};
 
 /// The differences that an edit makes, given nodes and classes that are all it may have touched,
@@ -36,33 +36,29 @@ use tmm_model::{Name, NoMemory, TokenRow};
 /// whose fact premises of one list alone set against another one. Without memory it answers that.
 pub fn differences(
     alloc: Global,
-    standing: &Standing,
-    tree: &Tree,
-    net: &DistNet,
+    map: &TimeMap<'_>,
     nodes: &[u32],
     classes: &[Name],
     kept: &[Option<KeptRow>],
 ) -> Result<Vec<Difference>, NoMemory>
-    requires seen { IsTreeOf standing.now.present net.now.present tree.now }
-    requires room { (x : ℕ) → IsLive (forest tree.now) x → x < length kept.now }
-    requires kept { AreRowsOf standing.now.committed (old_forest tree.now) (row_under kept.now) }
-    requires covered { CoverTouched standing.now net.now tree.now nodes.now classes.now }
-    ensures made { IfOk result (λ made. (edit : AnEdit) → IsEdited standing.now net.now edit tree.now → AreDifferences standing.now net.now edit tree.now kept.now made.items) }
+    requires seen { IsTimeMap map.now }
+    requires room { (x : ℕ) → IsLive (forest map.now.tree.now) x → x < length kept.now }
+    requires kept { AreRowsOf map.now.standing.now.committed (old_forest map.now.tree.now) (row_under kept.now) }
+    requires covered { CoverTouched map.now.standing.now map.now.net.now map.now.tree.now nodes.now classes.now }
+    ensures made { IfOk result (λ made. (edit : AnEdit) → IsEdited map.now.standing.now map.now.net.now edit map.now.tree.now → AreDifferences map.now.standing.now map.now.net.now edit map.now.tree.now kept.now made.items) }
     ensures places { IfOk result (λ made. All (λ d. d.node < length kept.now) made.items) }
 {
     // they tell the proof what holds of points that moved, and of the tokens of all classes
-    let _ = net.moved();
-    tree.have_tokens();
-    let touched = touched_by(alloc, standing, tree, nodes, kept.len())?;
+    let _ = map.net.moved();
+    map.tree.have_tokens();
+    let touched = touched_by(alloc, map.standing, map.tree, nodes, kept.len())?;
     let mut found = Found::make(alloc, kept.len())?;
     for class in classes {
-        tell_class(
-            alloc, standing, tree, net, class, kept, &touched, &mut found,
-        )?;
+        tell_class(alloc, map, class, kept, &touched, &mut found)?;
     }
     let mut last = None;
     for x in nodes {
-        tell_node(standing, tree, *x, kept, &mut found, &mut last)?;
+        tell_node(map.standing, map.tree, *x, kept, &mut found, &mut last)?;
     }
     Ok(found.differences)
 }
@@ -229,29 +225,34 @@ fn marked(alloc: Global, nodes: &[u32], places: usize) -> Result<Vec<bool>, NoMe
 // touched, each with its clip found anew.
 fn tell_class(
     alloc: Global,
-    standing: &Standing,
-    tree: &Tree,
-    net: &DistNet,
+    map: &TimeMap<'_>,
     class: &Name,
     kept: &[Option<KeptRow>],
     touched: &Touched,
     found: &mut Found,
 ) -> Result<(), NoMemory>
-    requires seen { IsTreeOf standing.now.present net.now.present tree.now }
+    requires seen { IsTimeMap map.now }
     requires rising { AreRising touched.now.dates.items }
     requires long { length found.old.marks.items ≡ length kept.now }
     ensures long { OnOk result (length found.new.marks.items ≡ length kept.now) }
-    ensures found { OnOk result ((classes : List (List ℕ)) → AreFound standing.now.present net.now.present tree.now classes kept.now found.old.marks.items found.old.differences.items
-        → AreFound standing.now.present net.now.present tree.now classes kept.now found.new.marks.items found.new.differences.items) }
-    ensures settled { OnOk result ((nodes : List ℕ) → AreTouched standing.now tree.now nodes touched.now → IsClassSettled standing.now tree.now nodes kept.now found.new.marks.items class.now) }
+    ensures found { OnOk result ((classes : List (List ℕ)) → AreFound map.now.standing.now.present map.now.net.now.present map.now.tree.now classes kept.now found.old.marks.items found.old.differences.items
+        → AreFound map.now.standing.now.present map.now.net.now.present map.now.tree.now classes kept.now found.new.marks.items found.new.differences.items) }
+    ensures settled { OnOk result ((nodes : List ℕ) → AreTouched map.now.standing.now map.now.tree.now nodes touched.now → IsClassSettled map.now.standing.now map.now.tree.now nodes kept.now found.new.marks.items class.now) }
     ensures stay { OnOk result (MarksStay found.old.marks.items found.new.marks.items) }
 {
-    let wanted = wanted_of(alloc, standing, tree, class, kept, touched)?;
-    let clips = class_clips(alloc, standing, tree, net, class, &wanted)?;
-    let rows = tree.tokens(class);
+    let wanted = wanted_of(alloc, map.standing, map.tree, class, kept, touched)?;
+    let clips = class_clips(alloc, map.standing, map.tree, map.net, class, &wanted)?;
+    let rows = map.tree.tokens(class);
     for i in 0..rows.len() {
         if wanted[i] {
-            tell_token(standing, tree, node_of(&rows[i]), clips[i], kept, found)?;
+            tell_token(
+                map.standing,
+                map.tree,
+                node_of(&rows[i]),
+                clips[i],
+                kept,
+                found,
+            )?;
         }
     }
     Ok(())

@@ -1,5 +1,5 @@
 // The believed occurrences in order.
-ghost use Rattle.std.specs.Prelude.{◌≡◌, ◌≤◌, ◌++◌, ◌∷◌, [], map, take, length, IfOk, OnOk};
+ghost use Rattle.std.specs.Prelude.{◌≡◌, ◌≤◌, ◌++◌, ◌∷◌, [], map as mapped, take, length, IfOk, OnOk};
 ghost use Rattle.std.specs.List.{All, zip};
 ghost use Rattle.std.specs.Option.{option_map};
 ghost use Rattle.tmm_model.specs.Answers.{row_of, rows};
@@ -7,15 +7,15 @@ ghost use Rattle.tmm_model.specs.Maps.{built};
 ghost use Rattle.tmm_model.specs.Moments.{moment_of};
 ghost use Rattle.spots.specs.Forest.{IsLive, moment_at};
 ghost use Rattle.spots.specs.OfLists.{HasOccurrences};
-ghost use Rattle.occ_tree.specs.OfLists.{IsTreeIn, IsTreeOf};
+ghost use Rattle.occ_tree.specs.OfLists.{IsTreeIn};
 ghost use Rattle.occ_tree.specs.Places.{forest};
+ghost use Rattle.supports.specs.TimeMaps.{IsTimeMap};
 ghost use Rattle.belief_list.specs.Rows.{belief_row, row_at, IsLiveRow, AreAllRanked, IsListing};
 
 use dist_net::DistNet;
 use occ_tree::{Order, Ranked, Tree, in_order};
-use premise_list::Standing;
 use std::alloc::Global;
-use supports::clips;
+use supports::{TimeMap, clips};
 use tmm_model::{ListRow, NoMemory, Occ, Seq};
 
 /// A believed occurrence.
@@ -30,20 +30,15 @@ pub struct BeliefRow {
 }
 
 /// The believed occurrences, in order, each with its earliest date and its clip.
-pub fn listed(
-    alloc: Global,
-    standing: &Standing,
-    tree: &Tree,
-    net: &DistNet,
-) -> Result<Seq<BeliefRow>, NoMemory>
-    requires seen { IsTreeOf standing.now.present net.now.present tree.now }
-    requires holds { HasOccurrences (built standing.now.present).believed (forest tree.now) }
-    ensures rows { IfOk result (λ list. map (row_at (forest tree.now)) list.items ≡ rows (built standing.now.present)) }
-    ensures listing { IfOk result (λ list. IsListing (forest tree.now) list.items) }
+pub fn listed(alloc: Global, map: &TimeMap<'_>) -> Result<Seq<BeliefRow>, NoMemory>
+    requires seen { IsTimeMap map.now }
+    requires holds { HasOccurrences (built map.now.standing.now.present).believed (forest map.now.tree.now) }
+    ensures rows { IfOk result (λ list. mapped (row_at (forest map.now.tree.now)) list.items ≡ rows (built map.now.standing.now.present)) }
+    ensures listing { IfOk result (λ list. IsListing (forest map.now.tree.now) list.items) }
 {
-    let nodes = all_ranked(alloc, tree, net)?;
+    let nodes = all_ranked(alloc, map.tree, map.net)?;
     let ranked = nodes.as_slice();
-    let clips = clips(alloc, standing, tree, net, ranked)?;
+    let clips = clips(alloc, map.standing, map.tree, map.net, ranked)?;
     rows_of(alloc, ranked, clips.as_slice())
 }
 
@@ -64,7 +59,7 @@ pub(crate) fn rows_of(
     clips: &[Option<u32>],
 ) -> Result<Seq<BeliefRow>, NoMemory>
     requires { length clips.now ≡ length ranked.now }
-    ensures { IfOk result (λ list. list.items ≡ map belief_row (zip ranked.now clips.now)) }
+    ensures { IfOk result (λ list. list.items ≡ mapped belief_row (zip ranked.now clips.now)) }
 {
     let mut list = Seq::make(alloc);
     for i in 0..ranked.len() {
@@ -84,7 +79,7 @@ pub(crate) fn rows_of(
 /// The rows as a reply has them.
 pub fn list_rows(alloc: Global, tree: &Tree, rows: &[BeliefRow]) -> Result<Seq<ListRow>, NoMemory>
     requires { All (IsLiveRow (forest tree.now)) rows.now }
-    ensures { IfOk result (λ told. map row_of told.items ≡ map (row_at (forest tree.now)) rows.now) }
+    ensures { IfOk result (λ told. mapped row_of told.items ≡ mapped (row_at (forest tree.now)) rows.now) }
 {
     let mut told = Seq::make(alloc);
     for i in 0..rows.len() {
@@ -107,7 +102,7 @@ fn occ_after(
     requires x_live { IsLive (forest tree.now) x }
     requires live { All (IsLiveRow (forest tree.now)) rows.now }
     requires within { many ≤ length rows.now }
-    requires before { map row_of before.now ≡ map (row_at (forest tree.now)) (take many rows.now) }
+    requires before { mapped row_of before.now ≡ mapped (row_at (forest tree.now)) (take many rows.now) }
     ensures { IfOk result (λ occ. moment_of occ ≡ moment_at (forest tree.now) x) }
 {
     if many == 0 {

@@ -16,23 +16,23 @@ use Rattle.belief_list.proofs.differing.tell_class.Goals.{then-index+in_ok-tell_
 use Rattle.belief_list.proofs.differing.tell_class.Goals as goal
 
 pub wanted_of-requires : goal.wanted_of-requires
-wanted_of-requires c = record { dates = (c.args.net.now.present, tree_in c.requires.seen); rising = c.requires.rising }
+wanted_of-requires c = record { dates = (c.args.map.now.net.now.present, tree_in c.requires.seen); rising = c.requires.rising }
 
 pub class_clips-requires-clause-long : goal.class_clips-requires-clause-long
 class_clips-requires-clause-long c = ap length c.deref.ensures.value ∙ c.in_ok-wanted.ensures.long
 
 pub tell_token-requires-clause-token : goal.tell_token-requires-clause-token
 tell_token-requires-clause-token c =
-    let f = forest c.args.tree.now in
+    let f = forest c.args.map.now.tree.now in
     let rows = c.tokens-rows.result.now in
     let (m, at, of) = token_at f c.args.class.now rows c.tokens-rows.ensures.rows c.loop-i.i c.index-rows-i.result c.loop-i-test.true in
     (m, ap (member f) (c.node_of.ensures ∙ ap (λ (r : TokenRow Spot). number_of r.spot) c.index-rows-i.is) ∙ at, c.args.class.now, of)
 
 pub loop-i-preserved : goal.loop-i-preserved
 loop-i-preserved c =
-    let s = c.args.standing.now.present in
-    let net = c.args.net.now.present in
-    let tree = c.args.tree.now in
+    let s = c.args.map.now.standing.now.present in
+    let net = c.args.map.now.net.now.present in
+    let tree = c.args.map.now.tree.now in
     let g = forest tree in
     let kept = c.args.kept.now in
     let rows = c.tokens-rows.result.now in
@@ -78,8 +78,8 @@ loop-i-preserved c =
 
 pub returns-clause-settled : goal.returns-clause-settled
 returns-clause-settled c = λ nodes marked.
-    let lists = c.args.standing.now in
-    let k = c.args.tree.now in
+    let lists = c.args.map.now.standing.now in
+    let k = c.args.map.now.tree.now in
     let kept = c.args.kept.now in
     let class = c.args.class.now in
     let rows = c.tokens-rows.result.now in
