@@ -16,7 +16,7 @@ use premise_list::Standing;
 use projection::{Counter, Decision, RulesByKind, Verdict, decide, judge, rebuild};
 use std::alloc::Global;
 use std::test::Fail;
-use supports::Guesses;
+use supports::{Guesses, TimeMap};
 use tmm_model::{Name, Stop};
 
 /// An event lights the lamp and rings. At the ring the rule that wants the lamp on fires, and the
@@ -80,7 +80,12 @@ fn are_listed(alloc: Global, premises: &Premises, tree: &Tree, want: &[Row]) -> 
     requires seen { IsTreeOf premises.now.list.present premises.now.net.present tree.now }
     requires holds { HasOccurrences (built premises.now.list.present).believed (forest tree.now) }
 {
-    match listed(alloc, &premises.list, tree, &premises.net) {
+    let map = TimeMap {
+        standing: &premises.list,
+        tree,
+        net: &premises.net,
+    };
+    match listed(alloc, &map) {
         Ok(rows) => are_rows(rows.items(), want),
         Err(_) => false,
     }

@@ -1,5 +1,5 @@
 -- Classes of facts that contradict others, as they are found.
-use Rattle.std.proofs.Common.{◌≡◌, ℕ, List, [], ◌∷◌, inl, inr}
+use Rattle.std.proofs.Common.{ℕ, List, inl, inr}
 use Rattle.std.specs.List.{Contains}
 use Rattle.tmm_model.specs.Standing.{Standing}
 use Rattle.map_engine.specs.RivalClasses.{HasClassOf, HasClassesOf, Follows, FollowsBoth, IsThereOr}

@@ -19,6 +19,7 @@ use occ_tree::Tree;
 use premise_list::Standing;
 use projection::{Counter, Projected, rebuild};
 use std::alloc::Global;
+use supports::TimeMap;
 use tmm_model::{Changes, Name, NoMemory, Seq, Stop};
 
 // What is believed of a list, as it is kept.
@@ -43,7 +44,12 @@ pub(crate) fn project(
     ensures counted { counter.old ≤ counter.new }
 {
     let Projected { tree, size } = rebuild(alloc, standing, net, counter)?;
-    match view_of(alloc, standing, net, &tree, size) {
+    let map = TimeMap {
+        standing,
+        tree: &tree,
+        net,
+    };
+    match view_of(alloc, &map, size) {
         Ok(view) => Ok(Beliefs { tree, view }),
         Err(NoMemory) => Err(Stop::NoMemory),
     }

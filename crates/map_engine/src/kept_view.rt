@@ -1,25 +1,25 @@
 // What is kept of the believed occurrences, to be read and to be compared with.
-ghost use Rattle.std.specs.Prelude.{◌≡◌, ◌≤◌, ℕ, None, map, IsTrue, IfOk};
+ghost use Rattle.std.specs.Prelude.{◌≡◌, ◌≤◌, ℕ, None, map as mapped, IsTrue, IfOk};
 ghost use Rattle.tmm_model.specs.Answers.{rows, row_of, size, most_size};
 ghost use Rattle.tmm_model.specs.Maps.{built};
 ghost use Rattle.dist_net.specs.Net.{Net};
-ghost use Rattle.list_net.specs.Fits.{IsNetOf};
 ghost use Rattle.occ_tree.specs.OfLists.{IsTreeOf};
 ghost use Rattle.occ_tree.specs.Places.{forest};
 ghost use Rattle.spots.specs.Forest.{member};
 ghost use Rattle.spots.specs.OfLists.{HasOccurrences};
+ghost use Rattle.supports.specs.TimeMaps.{IsTimeMap};
 ghost use Rattle.map_engine.specs.Nexts.{IsUnguarded};
 ghost use Rattle.map_engine.specs.Reads.{IsReadOf, read_of};
 
 use crate::view::occurrences;
 use belief_list::{Difference, KeptRow, list_rows, listed_by_number};
 use belief_net::size_of;
-use dist_net::DistNet;
 use just_check::audit;
 use occ_tree::Tree;
 use premise_list::Standing;
 use protections::{BrokenProtections, Review};
 use std::alloc::Global;
+use supports::TimeMap;
 use tmm_model::{ListRow, NoMemory, Seq};
 
 // What is kept of the believed occurrences of the last commit.
@@ -71,36 +71,31 @@ pub(crate) fn first_view(
 // The believed occurrences of the last commit, in their order.
 pub(crate) fn kept_rows(
     alloc: Global,
-    standing: &Standing,
-    net: &DistNet,
-    tree: &Tree,
+    map: &TimeMap<'_>,
     view: &KeptView,
 ) -> Result<Seq<ListRow>, NoMemory>
-    requires seen { IsTreeOf standing.now.present net.now.present tree.now }
-    requires holds { HasOccurrences (built standing.now.present).believed (forest tree.now) }
-    requires view { IsReadOf standing.now.present (forest tree.now) (read_of view.now) }
-    ensures { IfOk result (λ found. map row_of found.items ≡ rows (built standing.now.present)) }
+    requires seen { IsTimeMap map.now }
+    requires holds { HasOccurrences (built map.now.standing.now.present).believed (forest map.now.tree.now) }
+    requires view { IsReadOf map.now.standing.now.present (forest map.now.tree.now) (read_of view.now) }
+    ensures { IfOk result (λ found. mapped row_of found.items ≡ rows (built map.now.standing.now.present)) }
 {
-    let rows = listed_by_number(alloc, standing, tree, net, &view.rows)?;
-    list_rows(alloc, tree, rows.items())
+    let rows = listed_by_number(alloc, map, &view.rows)?;
+    list_rows(alloc, map.tree, rows.items())
 }
 
 // Whether these are the believed occurrences of the list, in their order. They are, and it is found
 // anew from the list.
 pub(crate) fn audited_view(
     alloc: Global,
-    standing: &Standing,
-    net: &DistNet,
-    tree: &Tree,
+    map: &TimeMap<'_>,
     view: &KeptView,
 ) -> Result<bool, NoMemory>
-    requires network { IsNetOf standing.now.present net.now.present }
-    requires seen { IsTreeOf standing.now.present net.now.present tree.now }
-    requires holds { HasOccurrences (built standing.now.present).believed (forest tree.now) }
-    requires view { IsReadOf standing.now.present (forest tree.now) (read_of view.now) }
+    requires seen { IsTimeMap map.now }
+    requires holds { HasOccurrences (built map.now.standing.now.present).believed (forest map.now.tree.now) }
+    requires view { IsReadOf map.now.standing.now.present (forest map.now.tree.now) (read_of view.now) }
     ensures { IfOk result (λ good. IsTrue good) }
 {
-    let rows = listed_by_number(alloc, standing, tree, net, &view.rows)?;
-    let occs = occurrences(alloc, tree, rows.items())?;
-    audit(alloc, standing, net, occs.items())
+    let rows = listed_by_number(alloc, map, &view.rows)?;
+    let occs = occurrences(alloc, map.tree, rows.items())?;
+    audit(alloc, map.standing, map.net, occs.items())
 }

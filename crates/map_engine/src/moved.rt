@@ -13,7 +13,6 @@ ghost use Rattle.belief_net.specs.Settling.{counted};
 ghost use Rattle.belief_net.specs.Updating.{IsKept, IsPending, IsCountedWithin};
 ghost use Rattle.protections.specs.Found.{AreFound, found_in};
 ghost use Rattle.protections.specs.Reviews.{IsReviewOf};
-ghost use Rattle.occ_tree.specs.OfLists.{IsTreeOf};
 ghost use Rattle.occ_tree.specs.Places.{forest};
 ghost use Rattle.projection.specs.Queues.{IsTooLarge};
 ghost use Rattle.revisions.specs.Counted.{changed};
@@ -21,6 +20,7 @@ ghost use Rattle.revisions.specs.Ruling.{is_ruling};
 ghost use Rattle.spots.specs.OfLists.{HasOccurrences};
 ghost use Rattle.supports.specs.Apart.{AreOthersApart};
 ghost use Rattle.supports.specs.Edited.{IsEdited, old_forest};
+ghost use Rattle.supports.specs.TimeMaps.{IsTimeMap};
 ghost use Rattle.map_engine.specs.Beliefs.{IsLeftOut};
 ghost use Rattle.map_engine.specs.Gone.{seen_left};
 ghost use Rattle.map_engine.specs.NetMaps.{AreNodesOf};
@@ -36,11 +36,12 @@ use crate::touching::{push_ruled, roots_named, touched};
 use belief_list::{Difference, KeptRow, LeftNode, changes_told, differences, reach, size_after};
 use belief_net::{BeliefNet, DatedOcc, Told};
 use dist_net::DistNet;
-use occ_tree::{Touched, Tree};
+use occ_tree::Touched;
 use premise_list::Standing;
 use projection::Counter;
 use protections::{BrokenProtections, Review, review_edit};
 use std::alloc::Global;
+use supports::TimeMap;
 use tmm_model::{Changes, Edit, Name, NoMemory, Seq, Stop};
 
 // Makes nodes and decisions those of the list that the edit leaves, which list and network have
@@ -93,12 +94,15 @@ pub(crate) fn moved(
     let Ok(()) = push_ruled(alloc, edit, nodes, known.ruling, &mut others) else {
         return Err(Stop::NoMemory);
     };
+    let map = TimeMap {
+        standing,
+        tree: nodes.tree(),
+        net,
+    };
     read(
         alloc,
         edit,
-        standing,
-        net,
-        nodes.tree(),
+        &map,
         &told,
         others.as_slice(),
         view,
@@ -113,42 +117,38 @@ pub(crate) fn moved(
 fn read(
     alloc: Global,
     edit: &Edit,
-    standing: &Standing,
-    net: &DistNet,
-    tree: &Tree,
+    map: &TimeMap<'_>,
     told: &Told,
     others: &[u32],
     view: &mut KeptView,
     erased: Seq<Name>,
     known: Known,
 ) -> Result<(NextView, Changes), Stop>
-    requires seen { IsTreeOf standing.now.present net.now.present tree.now }
-    requires holds { HasOccurrences (built standing.now.present).believed (forest tree.now) }
-    requires told { IsToldOf standing.now net.now edit.now tree.now told.now others.now }
-    requires ruled { HasRuled (forest tree.now) standing.now.committed.premises edit.now others.now }
-    requires view { IsReadOf standing.now.committed (old_forest tree.now) (read_of view.old) }
-    requires left_out { IsLeftOut standing.now.committed standing.now.present erased.items }
-    requires unguarded_before { known.guarded ≡ false → IsUnguarded standing.now.committed }
-    requires unguarded_now { known.guarded ≡ false → IsUnguarded standing.now.present }
-    ensures view { IfOk result (λ made. IsReadOf standing.now.present (forest tree.now) (read_next view.new made.0)) }
+    requires seen { IsTimeMap map.now }
+    requires holds { HasOccurrences (built map.now.standing.now.present).believed (forest map.now.tree.now) }
+    requires told { IsToldOf map.now.standing.now map.now.net.now edit.now map.now.tree.now told.now others.now }
+    requires ruled { HasRuled (forest map.now.tree.now) map.now.standing.now.committed.premises edit.now others.now }
+    requires view { IsReadOf map.now.standing.now.committed (old_forest map.now.tree.now) (read_of view.old) }
+    requires left_out { IsLeftOut map.now.standing.now.committed map.now.standing.now.present erased.items }
+    requires unguarded_before { known.guarded ≡ false → IsUnguarded map.now.standing.now.committed }
+    requires unguarded_now { known.guarded ≡ false → IsUnguarded map.now.standing.now.present }
+    ensures view { IfOk result (λ made. IsReadOf map.now.standing.now.present (forest map.now.tree.now) (read_next view.new made.0)) }
     ensures places { IfOk result (λ made. HasPlacesFor view.new made.0) }
     ensures same { read_of view.new ≡ read_of view.old }
-    ensures changes { IfOk result (λ made. delta_of made.1 ≡ changes standing.now.committed standing.now.present) }
-    ensures stops { IfErr result (IsTooLarge (size (built standing.now.present))) }
+    ensures changes { IfOk result (λ made. delta_of made.1 ≡ changes map.now.standing.now.committed map.now.standing.now.present) }
+    ensures stops { IfErr result (IsTooLarge (size (built map.now.standing.now.present))) }
 {
-    let Ok(found) = touched(alloc, edit, standing, net, tree, told, others) else {
+    let Ok(found) = touched(alloc, edit, map, told, others) else {
         return Err(Stop::NoMemory);
     };
-    let Ok(made) = differing(alloc, standing, net, tree, &found, &mut view.rows) else {
+    let Ok(made) = differing(alloc, map, &found, &mut view.rows) else {
         return Err(Stop::NoMemory);
     };
     let size = size_after(view.size, made.as_slice())?;
     let Ok((review, changes)) = tell(
         alloc,
         edit,
-        standing,
-        net,
-        tree,
+        map,
         told.left.items(),
         found.classes.as_slice(),
         made.as_slice(),
@@ -172,25 +172,21 @@ fn read(
 // What the edit makes of nodes, each of which has a place then in what is kept.
 fn differing(
     alloc: Global,
-    standing: &Standing,
-    net: &DistNet,
-    tree: &Tree,
+    map: &TimeMap<'_>,
     found: &Touched,
     rows: &mut Vec<Option<KeptRow>>,
 ) -> Result<Vec<Difference>, NoMemory>
-    requires seen { IsTreeOf standing.now.present net.now.present tree.now }
-    requires kept { AreRowsOf standing.now.committed (old_forest tree.now) (row_under rows.old.items) }
-    requires covered { CoverTouched standing.now net.now tree.now found.now.nodes.items found.now.classes.items }
-    ensures made { IfOk result (λ made. (edit : AnEdit) → IsEdited standing.now net.now edit tree.now → AreDifferences standing.now net.now edit tree.now rows.new.items made.items) }
+    requires seen { IsTimeMap map.now }
+    requires kept { AreRowsOf map.now.standing.now.committed (old_forest map.now.tree.now) (row_under rows.old.items) }
+    requires covered { CoverTouched map.now.standing.now map.now.net.now map.now.tree.now found.now.nodes.items found.now.classes.items }
+    ensures made { IfOk result (λ made. (edit : AnEdit) → IsEdited map.now.standing.now map.now.net.now edit map.now.tree.now → AreDifferences map.now.standing.now map.now.net.now edit map.now.tree.now rows.new.items made.items) }
     ensures places { IfOk result (λ made. All (λ d. d.node < length rows.new.items) made.items) }
     ensures same { (x : ℕ) → row_under rows.new.items x ≡ row_under rows.old.items x }
 {
-    reach(alloc, rows, tree.limit())?;
+    reach(alloc, rows, map.tree.limit())?;
     differences(
         alloc,
-        standing,
-        tree,
-        net,
+        map,
         found.nodes.as_slice(),
         found.classes.as_slice(),
         rows.as_slice(),
@@ -201,9 +197,7 @@ fn differing(
 fn tell(
     alloc: Global,
     edit: &Edit,
-    standing: &Standing,
-    net: &DistNet,
-    tree: &Tree,
+    map: &TimeMap<'_>,
     left: &[DatedOcc],
     classes: &[Name],
     made: &[Difference],
@@ -211,32 +205,22 @@ fn tell(
     erased: Seq<Name>,
     guarded: bool,
 ) -> Result<(Review, Changes), NoMemory>
-    requires seen { IsTreeOf standing.now.present net.now.present tree.now }
-    requires holds { HasOccurrences (built standing.now.present).believed (forest tree.now) }
-    requires edited { IsEdited standing.now net.now edit.now tree.now }
-    requires others { AreOthersApart standing.now net.now tree.now classes.now }
-    requires numbers { KeepsNumbers tree.now (left_under left.now) }
-    requires made { (kept : List (Option AKeptRow)) × AreDifferences standing.now net.now edit.now tree.now kept made.now }
-    requires before { AreFound (reports (built standing.now.committed)) (found_in before.now) }
-    requires left_out { IsLeftOut standing.now.committed standing.now.present erased.items }
-    requires unguarded_before { guarded ≡ false → IsUnguarded standing.now.committed }
-    requires unguarded_now { guarded ≡ false → IsUnguarded standing.now.present }
-    ensures review { IfOk result (λ told. IsReviewOf (built standing.now.committed) (built standing.now.present) (found_in before.now) told.0) }
-    ensures changes { IfOk result (λ told. delta_of told.1 ≡ changes standing.now.committed standing.now.present) }
+    requires seen { IsTimeMap map.now }
+    requires holds { HasOccurrences (built map.now.standing.now.present).believed (forest map.now.tree.now) }
+    requires edited { IsEdited map.now.standing.now map.now.net.now edit.now map.now.tree.now }
+    requires others { AreOthersApart map.now.standing.now map.now.net.now map.now.tree.now classes.now }
+    requires numbers { KeepsNumbers map.now.tree.now (left_under left.now) }
+    requires made { (kept : List (Option AKeptRow)) × AreDifferences map.now.standing.now map.now.net.now edit.now map.now.tree.now kept made.now }
+    requires before { AreFound (reports (built map.now.standing.now.committed)) (found_in before.now) }
+    requires left_out { IsLeftOut map.now.standing.now.committed map.now.standing.now.present erased.items }
+    requires unguarded_before { guarded ≡ false → IsUnguarded map.now.standing.now.committed }
+    requires unguarded_now { guarded ≡ false → IsUnguarded map.now.standing.now.present }
+    ensures review { IfOk result (λ told. IsReviewOf (built map.now.standing.now.committed) (built map.now.standing.now.present) (found_in before.now) told.0) }
+    ensures changes { IfOk result (λ told. delta_of told.1 ≡ changes map.now.standing.now.committed map.now.standing.now.present) }
 {
-    let review = reviewed(
-        alloc,
-        edit,
-        standing,
-        net,
-        tree,
-        classes,
-        before,
-        erased.items(),
-        guarded,
-    )?;
+    let review = reviewed(alloc, edit, map, classes, before, erased.items(), guarded)?;
     let nodes = left_nodes(alloc, left)?;
-    let believed = changes_told(alloc, tree, net, made, nodes.as_slice())?;
+    let believed = changes_told(alloc, map.tree, map.net, made, nodes.as_slice())?;
     let (broken, mended) = review.told(alloc)?;
     let changes = with_protections(erased, believed, broken, mended);
     Ok((review, changes))
@@ -246,28 +230,35 @@ fn tell(
 fn reviewed(
     alloc: Global,
     edit: &Edit,
-    standing: &Standing,
-    net: &DistNet,
-    tree: &Tree,
+    map: &TimeMap<'_>,
     classes: &[Name],
     before: &BrokenProtections,
     erased: &[Name],
     guarded: bool,
 ) -> Result<Review, NoMemory>
-    requires seen { IsTreeOf standing.now.present net.now.present tree.now }
-    requires holds { HasOccurrences (built standing.now.present).believed (forest tree.now) }
-    requires edited { IsEdited standing.now net.now edit.now tree.now }
-    requires others { AreOthersApart standing.now net.now tree.now classes.now }
-    requires before { AreFound (reports (built standing.now.committed)) (found_in before.now) }
-    requires left_out { IsLeftOut standing.now.committed standing.now.present erased.now }
-    requires unguarded_before { guarded ≡ false → IsUnguarded standing.now.committed }
-    requires unguarded_now { guarded ≡ false → IsUnguarded standing.now.present }
-    ensures { IfOk result (IsReviewOf (built standing.now.committed) (built standing.now.present) (found_in before.now)) }
+    requires seen { IsTimeMap map.now }
+    requires holds { HasOccurrences (built map.now.standing.now.present).believed (forest map.now.tree.now) }
+    requires edited { IsEdited map.now.standing.now map.now.net.now edit.now map.now.tree.now }
+    requires others { AreOthersApart map.now.standing.now map.now.net.now map.now.tree.now classes.now }
+    requires before { AreFound (reports (built map.now.standing.now.committed)) (found_in before.now) }
+    requires left_out { IsLeftOut map.now.standing.now.committed map.now.standing.now.present erased.now }
+    requires unguarded_before { guarded ≡ false → IsUnguarded map.now.standing.now.committed }
+    requires unguarded_now { guarded ≡ false → IsUnguarded map.now.standing.now.present }
+    ensures { IfOk result (IsReviewOf (built map.now.standing.now.committed) (built map.now.standing.now.present) (found_in before.now)) }
 {
     if !guarded {
         return Ok(Review::none(alloc));
     }
-    review_edit(alloc, standing, tree, net, edit, classes, erased, before)
+    review_edit(
+        alloc,
+        map.standing,
+        map.tree,
+        map.net,
+        edit,
+        classes,
+        erased,
+        before,
+    )
 }
 
 // The nodes of these occurrences.

@@ -28,6 +28,7 @@ use projection::Counter;
 use std::alloc::Global;
 use std::marker::Model;
 use std::mem;
+use supports::TimeMap;
 use tmm_model::{
     Answer, Bound, Edit, ListRow, Name, NoMemory, Occ, QueryPoint, Report, Seq, Stop, WalkStep,
 };
@@ -179,7 +180,12 @@ impl MapCore for NetMap {
         p: &QueryPoint,
         q: &QueryPoint,
     ) -> Result<(Bound, Bound), Stop> {
-        bounds_between(alloc, &self.standing, self.nodes.tree(), &self.net, p, q)
+        let map = TimeMap {
+            standing: &self.standing,
+            tree: self.nodes.tree(),
+            net: &self.net,
+        };
+        bounds_between(alloc, &map, p, q)
     }
 
     fn path(
@@ -188,7 +194,12 @@ impl MapCore for NetMap {
         p: &QueryPoint,
         q: &QueryPoint,
     ) -> Result<(Bound, Seq<WalkStep>), Stop> {
-        path_between(alloc, &self.standing, self.nodes.tree(), &self.net, p, q)
+        let map = TimeMap {
+            standing: &self.standing,
+            tree: self.nodes.tree(),
+            net: &self.net,
+        };
+        path_between(alloc, &map, p, q)
     }
 
     fn ask(
@@ -198,26 +209,21 @@ impl MapCore for NetMap {
         p: &QueryPoint,
         q: &QueryPoint,
     ) -> Result<Answer, Stop> {
-        ask_between(
-            alloc,
-            &self.standing,
-            self.nodes.tree(),
-            &self.net,
-            fact,
-            p,
-            q,
-        )
+        let map = TimeMap {
+            standing: &self.standing,
+            tree: self.nodes.tree(),
+            net: &self.net,
+        };
+        ask_between(alloc, &map, fact, p, q)
     }
 
     fn why<R: Listener>(&self, alloc: Global, occ: &Occ, listener: &mut R) -> Result<(), Stop> {
-        tell_why(
-            alloc,
-            &self.standing,
-            self.nodes.tree(),
-            &self.net,
-            occ,
-            listener,
-        )
+        let map = TimeMap {
+            standing: &self.standing,
+            tree: self.nodes.tree(),
+            net: &self.net,
+        };
+        tell_why(alloc, &map, occ, listener)
     }
 
     fn check(&self, alloc: Global) -> Result<Seq<Report>, NoMemory> {
@@ -225,23 +231,21 @@ impl MapCore for NetMap {
     }
 
     fn list(&self, alloc: Global) -> Result<Seq<ListRow>, NoMemory> {
-        kept_rows(
-            alloc,
-            &self.standing,
-            &self.net,
-            self.nodes.tree(),
-            &self.view,
-        )
+        let map = TimeMap {
+            standing: &self.standing,
+            tree: self.nodes.tree(),
+            net: &self.net,
+        };
+        kept_rows(alloc, &map, &self.view)
     }
 
     fn audit(&self, alloc: Global) -> Result<bool, NoMemory> {
-        audited_view(
-            alloc,
-            &self.standing,
-            &self.net,
-            self.nodes.tree(),
-            &self.view,
-        )
+        let map = TimeMap {
+            standing: &self.standing,
+            tree: self.nodes.tree(),
+            net: &self.net,
+        };
+        audited_view(alloc, &map, &self.view)
     }
 
     fn standing(&self) -> &Standing {

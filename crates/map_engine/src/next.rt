@@ -13,7 +13,7 @@ ghost use Rattle.revisions.specs.Counted.{changed};
 ghost use Rattle.revisions.specs.Ruling.{is_ruling};
 ghost use Rattle.spots.specs.OfLists.{HasOccurrences};
 ghost use Rattle.supports.specs.Edited.{IsEdited, AreOthersUntouched};
-ghost use Rattle.occ_tree.specs.OfLists.{IsTreeOf};
+ghost use Rattle.supports.specs.TimeMaps.{IsTimeMap};
 ghost use Rattle.map_engine.specs.Beliefs.{IsLeftOut};
 ghost use Rattle.map_engine.specs.NetMaps.{AreNodesOf, IsResting};
 ghost use Rattle.map_engine.specs.Nexts.{after, read_next, HasPlacesFor, HasPlacesIn, pending_list, IsUnguarded, adds_protection};
@@ -25,11 +25,11 @@ use crate::still::is_still;
 use belief_list::take_over;
 use belief_net::BeliefNet;
 use dist_net::DistNet;
-use occ_tree::Tree;
 use premise_list::Standing;
 use projection::Counter;
 use protections::{Review, review_edit};
 use std::alloc::Global;
+use supports::TimeMap;
 use tmm_model::{Changes, Edit, Name, NoMemory, Premise, Report, Seq, Stop};
 
 // What is read of the believed occurrences of the list that a pending edit leaves, beside what was
@@ -97,18 +97,14 @@ pub(crate) fn draw_next(
     // it tells the proof that no count is above the greatest
     let _ = counter.value();
     if is_still(standing, net, known.unread) {
-        // it tells the proof that the tokens of each class are those of the nodes
-        nodes.tree().have_tokens();
-        match unmoved(
-            alloc,
-            edit,
+        let map = TimeMap {
             standing,
+            tree: nodes.tree(),
             net,
-            nodes.tree(),
-            view,
-            erased,
-            known.guarded,
-        ) {
+        };
+        // it tells the proof that the tokens of each class are those of the nodes
+        map.tree.have_tokens();
+        match unmoved(alloc, edit, &map, view, erased, known.guarded) {
             Ok(made) => Ok(made),
             Err(NoMemory) => Err(Stop::NoMemory),
         }
@@ -125,27 +121,25 @@ pub(crate) fn draw_next(
 fn unmoved(
     alloc: Global,
     edit: &Edit,
-    standing: &Standing,
-    net: &DistNet,
-    tree: &Tree,
+    map: &TimeMap<'_>,
     view: &mut KeptView,
     erased: Seq<Name>,
     guarded: bool,
 ) -> Result<(Next, Changes), NoMemory>
-    requires view { IsReadOf standing.now.committed (forest tree.now) (read_of view.old) }
-    requires seen { IsTreeOf standing.now.present net.now.present tree.now }
-    requires holds { HasOccurrences (built standing.now.present).believed (forest tree.now) }
-    requires alike { AreAlike standing.now.committed standing.now.present }
-    requires edited { IsEdited standing.now net.now edit.now tree.now }
-    requires others { AreOthersUntouched net.now tree.now [] }
-    requires unguarded_before { guarded ≡ false → IsUnguarded standing.now.committed }
-    requires unguarded_now { guarded ≡ false → IsUnguarded standing.now.present }
-    requires left_out { IsLeftOut standing.now.committed standing.now.present erased.items }
-    ensures view { IfOk result (λ made. IsReadOf standing.now.present (forest tree.now) (after view.new made.0)) }
+    requires view { IsReadOf map.now.standing.now.committed (forest map.now.tree.now) (read_of view.old) }
+    requires seen { IsTimeMap map.now }
+    requires holds { HasOccurrences (built map.now.standing.now.present).believed (forest map.now.tree.now) }
+    requires alike { AreAlike map.now.standing.now.committed map.now.standing.now.present }
+    requires edited { IsEdited map.now.standing.now map.now.net.now edit.now map.now.tree.now }
+    requires others { AreOthersUntouched map.now.net.now map.now.tree.now [] }
+    requires unguarded_before { guarded ≡ false → IsUnguarded map.now.standing.now.committed }
+    requires unguarded_now { guarded ≡ false → IsUnguarded map.now.standing.now.present }
+    requires left_out { IsLeftOut map.now.standing.now.committed map.now.standing.now.present erased.items }
+    ensures view { IfOk result (λ made. IsReadOf map.now.standing.now.present (forest map.now.tree.now) (after view.new made.0)) }
     ensures places { IfOk result (λ made. HasPlacesIn view.new made.0) }
     ensures same { read_of view.new ≡ read_of view.old }
-    ensures pending { IfOk result (λ made. pending_list standing.now.present made.0 ≡ Some standing.now.present) }
-    ensures changes { IfOk result (λ made. delta_of made.1 ≡ changes standing.now.committed standing.now.present) }
+    ensures pending { IfOk result (λ made. pending_list map.now.standing.now.present made.0 ≡ Some map.now.standing.now.present) }
+    ensures changes { IfOk result (λ made. delta_of made.1 ≡ changes map.now.standing.now.committed map.now.standing.now.present) }
 {
     if !guarded {
         let changes = changes_of(alloc, erased, Seq::make(alloc), Seq::make(alloc));
@@ -153,9 +147,9 @@ fn unmoved(
     }
     let review = review_edit(
         alloc,
-        standing,
-        tree,
-        net,
+        map.standing,
+        map.tree,
+        map.net,
         edit,
         &[],
         erased.items(),

@@ -14,6 +14,7 @@ use projection::Counter;
 use protections::copied;
 use std::alloc::Global;
 use std::marker::Model;
+use supports::TimeMap;
 use tmm_model::{
     Answer, Bound, Edit, ListRow, Name, NoMemory, Occ, QueryPoint, Report, Seq, Stop, WalkStep,
 };
@@ -117,7 +118,12 @@ impl MapCore for PlainMap {
         p: &QueryPoint,
         q: &QueryPoint,
     ) -> Result<(Bound, Bound), Stop> {
-        bounds_between(alloc, &self.standing, &self.beliefs.tree, &self.net, p, q)
+        let map = TimeMap {
+            standing: &self.standing,
+            tree: &self.beliefs.tree,
+            net: &self.net,
+        };
+        bounds_between(alloc, &map, p, q)
     }
 
     fn path(
@@ -126,7 +132,12 @@ impl MapCore for PlainMap {
         p: &QueryPoint,
         q: &QueryPoint,
     ) -> Result<(Bound, Seq<WalkStep>), Stop> {
-        path_between(alloc, &self.standing, &self.beliefs.tree, &self.net, p, q)
+        let map = TimeMap {
+            standing: &self.standing,
+            tree: &self.beliefs.tree,
+            net: &self.net,
+        };
+        path_between(alloc, &map, p, q)
     }
 
     fn ask(
@@ -136,26 +147,21 @@ impl MapCore for PlainMap {
         p: &QueryPoint,
         q: &QueryPoint,
     ) -> Result<Answer, Stop> {
-        ask_between(
-            alloc,
-            &self.standing,
-            &self.beliefs.tree,
-            &self.net,
-            fact,
-            p,
-            q,
-        )
+        let map = TimeMap {
+            standing: &self.standing,
+            tree: &self.beliefs.tree,
+            net: &self.net,
+        };
+        ask_between(alloc, &map, fact, p, q)
     }
 
     fn why<R: Listener>(&self, alloc: Global, occ: &Occ, listener: &mut R) -> Result<(), Stop> {
-        tell_why(
-            alloc,
-            &self.standing,
-            &self.beliefs.tree,
-            &self.net,
-            occ,
-            listener,
-        )
+        let map = TimeMap {
+            standing: &self.standing,
+            tree: &self.beliefs.tree,
+            net: &self.net,
+        };
+        tell_why(alloc, &map, occ, listener)
     }
 
     fn check(&self, alloc: Global) -> Result<Seq<Report>, NoMemory> {
@@ -167,13 +173,12 @@ impl MapCore for PlainMap {
     }
 
     fn audit(&self, alloc: Global) -> Result<bool, NoMemory> {
-        audited(
-            alloc,
-            &self.standing,
-            &self.net,
-            &self.beliefs.tree,
-            &self.beliefs.view,
-        )
+        let map = TimeMap {
+            standing: &self.standing,
+            tree: &self.beliefs.tree,
+            net: &self.net,
+        };
+        audited(alloc, &map, &self.beliefs.view)
     }
 
     fn standing(&self) -> &Standing {

@@ -10,92 +10,84 @@ ghost use Rattle.tmm_model.specs.Paths.{GivesPath};
 ghost use Rattle.tmm_model.specs.Questions.{query_cause};
 ghost use Rattle.spots.specs.OfLists.{IsForestOf, HasOccurrences};
 ghost use Rattle.spots.specs.Spots.{IsSpot, spot_moment};
-ghost use Rattle.occ_tree.specs.OfLists.{IsTreeOf};
 ghost use Rattle.occ_tree.specs.Places.{forest};
+ghost use Rattle.supports.specs.TimeMaps.{IsTimeMap};
 ghost use Rattle.justify.specs.Lines.{AreWhy, Hears, HearsNothing};
 ghost use Rattle.map_engine.specs.Questions.{points_cause, StopsPoints, NamesPoints};
 ghost use Rattle.map_engine.specs.Stops.{StopsQuery, NamesRefused};
 
-use dist_net::DistNet;
 use justify::{Listener, steps_between, why};
-use occ_tree::Tree;
-use premise_list::Standing;
 use spots::Spot;
 use std::alloc::Global;
+use supports::TimeMap;
 use tmm_model::{Answer, Bound, Name, NoMemory, Occ, PointName, QueryPoint, Seq, Stop, WalkStep};
 use tt_query::{ask, bounds, name_refused, resolve};
 
 // The spots of two points, the first cause from the left.
 fn resolve_both(
     alloc: Global,
-    standing: &Standing,
-    tree: &Tree,
-    net: &DistNet,
+    map: &TimeMap<'_>,
     p: &QueryPoint,
     q: &QueryPoint,
 ) -> Result<(Spot, Spot), Stop>
-    requires seen { IsTreeOf standing.now.present net.now.present tree.now }
-    requires holds { HasOccurrences (built standing.now.present).believed (forest tree.now) }
+    requires seen { IsTimeMap map.now }
+    requires holds { HasOccurrences (built map.now.standing.now.present).believed (forest map.now.tree.now) }
     requires p_well_formed { IsWellFormedQueryPoint p.now }
     requires q_well_formed { IsWellFormedQueryPoint q.now }
-    ensures known { IfOk result (λ spots. points_cause (built standing.now.present) p.now q.now ≡ None) }
-    ensures from { IfOk result (λ spots. IsSpot net.now.present.names (forest tree.now) spots.0 × (spot_moment net.now.present.names (forest tree.now) spots.0 ≡ moment_of_point p.now)) }
-    ensures to { IfOk result (λ spots. IsSpot net.now.present.names (forest tree.now) spots.1 × (spot_moment net.now.present.names (forest tree.now) spots.1 ≡ moment_of_point q.now)) }
-    ensures stops { IfErr result (StopsPoints (built standing.now.present) p.now q.now) }
-    ensures named { IfErr result (NamesPoints (built standing.now.present) p.now q.now) }
+    ensures known { IfOk result (λ spots. points_cause (built map.now.standing.now.present) p.now q.now ≡ None) }
+    ensures from { IfOk result (λ spots. IsSpot map.now.net.now.present.names (forest map.now.tree.now) spots.0 × (spot_moment map.now.net.now.present.names (forest map.now.tree.now) spots.0 ≡ moment_of_point p.now)) }
+    ensures to { IfOk result (λ spots. IsSpot map.now.net.now.present.names (forest map.now.tree.now) spots.1 × (spot_moment map.now.net.now.present.names (forest map.now.tree.now) spots.1 ≡ moment_of_point q.now)) }
+    ensures stops { IfErr result (StopsPoints (built map.now.standing.now.present) p.now q.now) }
+    ensures named { IfErr result (NamesPoints (built map.now.standing.now.present) p.now q.now) }
 {
-    let from = resolve(alloc, standing, tree, net, p)?;
-    let to = resolve(alloc, standing, tree, net, q)?;
+    let from = resolve(alloc, map.standing, map.tree, map.net, p)?;
+    let to = resolve(alloc, map.standing, map.tree, map.net, q)?;
     Ok((from, to))
 }
 
 // The lower and the upper bound on the date of the second point less that of the first.
 pub(crate) fn bounds_between(
     alloc: Global,
-    standing: &Standing,
-    tree: &Tree,
-    net: &DistNet,
+    map: &TimeMap<'_>,
     p: &QueryPoint,
     q: &QueryPoint,
 ) -> Result<(Bound, Bound), Stop>
-    requires seen { IsTreeOf standing.now.present net.now.present tree.now }
-    requires holds { HasOccurrences (built standing.now.present).believed (forest tree.now) }
+    requires seen { IsTimeMap map.now }
+    requires holds { HasOccurrences (built map.now.standing.now.present).believed (forest map.now.tree.now) }
     requires p_well_formed { IsWellFormedQueryPoint p.now }
     requires q_well_formed { IsWellFormedQueryPoint q.now }
-    ensures known { IfOk result (λ found. query_cause (built standing.now.present) (BoundsLine p.now q.now) ≡ None) }
-    ensures low { IfOk result (λ found. found.0 ≡ bound_negated (gap (built standing.now.present) (moment_of_point q.now) (moment_of_point p.now))) }
-    ensures high { IfOk result (λ found. found.1 ≡ gap (built standing.now.present) (moment_of_point p.now) (moment_of_point q.now)) }
-    ensures stops { IfErr result (StopsQuery standing.now.present (BoundsLine p.now q.now)) }
-    ensures named { IfErr result (NamesRefused standing.now.present (BoundsLine p.now q.now)) }
+    ensures known { IfOk result (λ found. query_cause (built map.now.standing.now.present) (BoundsLine p.now q.now) ≡ None) }
+    ensures low { IfOk result (λ found. found.0 ≡ bound_negated (gap (built map.now.standing.now.present) (moment_of_point q.now) (moment_of_point p.now))) }
+    ensures high { IfOk result (λ found. found.1 ≡ gap (built map.now.standing.now.present) (moment_of_point p.now) (moment_of_point q.now)) }
+    ensures stops { IfErr result (StopsQuery map.now.standing.now.present (BoundsLine p.now q.now)) }
+    ensures named { IfErr result (NamesRefused map.now.standing.now.present (BoundsLine p.now q.now)) }
 {
-    let (from, to) = resolve_both(alloc, standing, tree, net, p, q)?;
-    Ok(bounds(tree, net, from, to))
+    let (from, to) = resolve_both(alloc, map, p, q)?;
+    Ok(bounds(map.tree, map.net, from, to))
 }
 
 // Whether a fact holds from one point to another.
 pub(crate) fn ask_between(
     alloc: Global,
-    standing: &Standing,
-    tree: &Tree,
-    net: &DistNet,
+    map: &TimeMap<'_>,
     fact: Name,
     p: &QueryPoint,
     q: &QueryPoint,
 ) -> Result<Answer, Stop>
-    requires seen { IsTreeOf standing.now.present net.now.present tree.now }
-    requires holds { HasOccurrences (built standing.now.present).believed (forest tree.now) }
+    requires seen { IsTimeMap map.now }
+    requires holds { HasOccurrences (built map.now.standing.now.present).believed (forest map.now.tree.now) }
     requires p_well_formed { IsWellFormedQueryPoint p.now }
     requires q_well_formed { IsWellFormedQueryPoint q.now }
-    ensures known { IfOk result (λ answer. query_cause (built standing.now.present) (AskLine fact p.now q.now) ≡ None) }
-    ensures answer { IfOk result (λ answer. finding_of answer ≡ ask (built standing.now.present) fact (moment_of_point p.now) (moment_of_point q.now)) }
-    ensures stops { IfErr result (StopsQuery standing.now.present (AskLine fact p.now q.now)) }
-    ensures named { IfErr result (NamesRefused standing.now.present (AskLine fact p.now q.now)) }
+    ensures known { IfOk result (λ answer. query_cause (built map.now.standing.now.present) (AskLine fact p.now q.now) ≡ None) }
+    ensures answer { IfOk result (λ answer. finding_of answer ≡ ask (built map.now.standing.now.present) fact (moment_of_point p.now) (moment_of_point q.now)) }
+    ensures stops { IfErr result (StopsQuery map.now.standing.now.present (AskLine fact p.now q.now)) }
+    ensures named { IfErr result (NamesRefused map.now.standing.now.present (AskLine fact p.now q.now)) }
 {
-    if let Err(refusal) = standing.check_fact(fact) {
+    if let Err(refusal) = map.standing.check_fact(fact) {
         return Err(Stop::Refused(name_refused(refusal, PointName::Begin(fact))));
     }
-    let (from, to) = resolve_both(alloc, standing, tree, net, p, q)?;
-    match ask(alloc, standing, tree, net, fact, from, to) {
+    let (from, to) = resolve_both(alloc, map, p, q)?;
+    match ask(alloc, map.standing, map.tree, map.net, fact, from, to) {
         Ok(answer) => Ok(answer),
         Err(NoMemory) => Err(Stop::NoMemory),
     }
@@ -105,24 +97,22 @@ pub(crate) fn ask_between(
 // the constraints of a walk between their declared points.
 pub(crate) fn path_between(
     alloc: Global,
-    standing: &Standing,
-    tree: &Tree,
-    net: &DistNet,
+    map: &TimeMap<'_>,
     p: &QueryPoint,
     q: &QueryPoint,
 ) -> Result<(Bound, Seq<WalkStep>), Stop>
-    requires seen { IsTreeOf standing.now.present net.now.present tree.now }
-    requires holds { HasOccurrences (built standing.now.present).believed (forest tree.now) }
+    requires seen { IsTimeMap map.now }
+    requires holds { HasOccurrences (built map.now.standing.now.present).believed (forest map.now.tree.now) }
     requires p_well_formed { IsWellFormedQueryPoint p.now }
     requires q_well_formed { IsWellFormedQueryPoint q.now }
-    ensures known { IfOk result (λ found. query_cause (built standing.now.present) (PathLine p.now q.now) ≡ None) }
-    ensures gives { IfOk result (λ found. GivesPath (built standing.now.present) (moment_of_point p.now) (moment_of_point q.now) found.0 found.1.items) }
-    ensures stops { IfErr result (StopsQuery standing.now.present (PathLine p.now q.now)) }
-    ensures named { IfErr result (NamesRefused standing.now.present (PathLine p.now q.now)) }
+    ensures known { IfOk result (λ found. query_cause (built map.now.standing.now.present) (PathLine p.now q.now) ≡ None) }
+    ensures gives { IfOk result (λ found. GivesPath (built map.now.standing.now.present) (moment_of_point p.now) (moment_of_point q.now) found.0 found.1.items) }
+    ensures stops { IfErr result (StopsQuery map.now.standing.now.present (PathLine p.now q.now)) }
+    ensures named { IfErr result (NamesRefused map.now.standing.now.present (PathLine p.now q.now)) }
 {
-    let (from, to) = resolve_both(alloc, standing, tree, net, p, q)?;
-    let (_, far) = bounds(tree, net, from, to);
-    match steps_between(alloc, standing, tree, net, from, to, far) {
+    let (from, to) = resolve_both(alloc, map, p, q)?;
+    let (_, far) = bounds(map.tree, map.net, from, to);
+    match steps_between(alloc, map.standing, map.tree, map.net, from, to, far) {
         Ok(steps) => Ok((far, steps)),
         Err(NoMemory) => Err(Stop::NoMemory),
     }
@@ -131,20 +121,18 @@ pub(crate) fn path_between(
 // Tells the reasons of an occurrence.
 pub(crate) fn tell_why<R: Listener>(
     alloc: Global,
-    standing: &Standing,
-    tree: &Tree,
-    net: &DistNet,
+    map: &TimeMap<'_>,
     occ: &Occ,
     listener: &mut R,
 ) -> Result<(), Stop>
-    requires seen { IsTreeOf standing.now.present net.now.present tree.now }
-    requires holds { HasOccurrences (built standing.now.present).believed (forest tree.now) }
+    requires seen { IsTimeMap map.now }
+    requires holds { HasOccurrences (built map.now.standing.now.present).believed (forest map.now.tree.now) }
     requires well_formed { IsWellFormedOcc occ.now }
-    ensures known { OnOk result (query_cause (built standing.now.present) (WhyQuery occ.now) ≡ None) }
-    ensures reasons { OnOk result (Hears R.parts_of (AreWhy (built standing.now.present) (moment_of occ.now)) (R.heard listener.old) (R.heard listener.new)) }
-    ensures stops { IfErr result (StopsQuery standing.now.present (WhyQuery occ.now)) }
-    ensures named { IfErr result (NamesRefused standing.now.present (WhyQuery occ.now)) }
+    ensures known { OnOk result (query_cause (built map.now.standing.now.present) (WhyQuery occ.now) ≡ None) }
+    ensures reasons { OnOk result (Hears R.parts_of (AreWhy (built map.now.standing.now.present) (moment_of occ.now)) (R.heard listener.old) (R.heard listener.new)) }
+    ensures stops { IfErr result (StopsQuery map.now.standing.now.present (WhyQuery occ.now)) }
+    ensures named { IfErr result (NamesRefused map.now.standing.now.present (WhyQuery occ.now)) }
     ensures unheard { IfErr result (HearsNothing (R.heard listener.old) (R.heard listener.new)) }
 {
-    why(alloc, standing, net, tree, occ, listener)
+    why(alloc, map.standing, map.net, map.tree, occ, listener)
 }

@@ -8,13 +8,13 @@ ghost use Rattle.tmm_model.specs.Standing.{Standing as AStanding};
 ghost use Rattle.list_theory.proofs.Elements.{In};
 ghost use Rattle.dist_net.specs.Net.{Net};
 ghost use Rattle.spots.specs.Forest.{Member, member, IsOnce};
-ghost use Rattle.spots.specs.OfLists.{HasList};
 ghost use Rattle.spots.specs.Spots.{AreTokens};
 ghost use Rattle.occ_tree.specs.Places.{forest};
 ghost use Rattle.occ_tree.specs.Standing.{committed};
 ghost use Rattle.occ_tree.specs.Touched.{IsAtMoved};
 ghost use Rattle.supports.specs.Apart.{AreOthersApart};
 ghost use Rattle.supports.specs.Edited.{old_forest};
+ghost use Rattle.supports.specs.TimeMaps.{IsTimeMap};
 ghost use Rattle.revisions.specs.Ruling.{is_ruling};
 ghost use Rattle.joined.specs.Netted.{IsCurrent};
 ghost use Rattle.belief_net.specs.MarkLaws.{added_by as name_added};
@@ -27,10 +27,9 @@ ghost use Rattle.map_engine.specs.Touching.{HasNodeOf, entered_of, TakesIn};
 use crate::at_node::is_at;
 use crate::rival_classes::with_rivals;
 use belief_net::{BeliefNet, DatedOcc, Told};
-use dist_net::DistNet;
 use occ_tree::{Touched, Tree};
-use premise_list::Standing;
 use std::alloc::Global;
+use supports::TimeMap;
 use tmm_model::{Edit, Name, NoMemory, Occ, Seq};
 
 // The roots of these names.
@@ -51,23 +50,20 @@ pub(crate) fn roots_named(alloc: Global, tree: &Tree, names: &[Name]) -> Result<
 pub(crate) fn touched(
     alloc: Global,
     edit: &Edit,
-    standing: &Standing,
-    net: &DistNet,
-    tree: &Tree,
+    map: &TimeMap<'_>,
     told: &Told,
     others: &[u32],
 ) -> Result<Touched, NoMemory>
-    requires list { HasList net.now.present (forest tree.now) }
-    requires once { IsOnce (forest tree.now) }
-    ensures takes { IfOk result (λ found. TakesIn (forest tree.now) told.now (name_added edit.now) others.now found.nodes.items) }
-    ensures moved { IfOk result (λ found. (x : ℕ) (m : Member) → member (forest tree.now) x ≡ Some m → IsAtMoved net.now.moved m → Contains found.nodes.items x) }
-    ensures classes { IfOk result (λ found. AreOthersApart standing.now net.now tree.now found.classes.items) }
-    ensures before { IfOk result (λ found. (class : List ℕ) → AreTokens (old_forest tree.now) class ((committed tree.now).tokens class)) }
+    requires seen { IsTimeMap map.now }
+    ensures takes { IfOk result (λ found. TakesIn (forest map.now.tree.now) told.now (name_added edit.now) others.now found.nodes.items) }
+    ensures moved { IfOk result (λ found. (x : ℕ) (m : Member) → member (forest map.now.tree.now) x ≡ Some m → IsAtMoved map.now.net.now.moved m → Contains found.nodes.items x) }
+    ensures classes { IfOk result (λ found. AreOthersApart map.now.standing.now map.now.net.now map.now.tree.now found.classes.items) }
+    ensures before { IfOk result (λ found. (class : List ℕ) → AreTokens (old_forest map.now.tree.now) class ((committed map.now.tree.now).tokens class)) }
 {
-    let moved = tree.touched(alloc, net)?;
-    let mut nodes = touched_nodes(alloc, tree, edit, told, others)?;
+    let moved = map.tree.touched(alloc, map.net)?;
+    let mut nodes = touched_nodes(alloc, map.tree, edit, told, others)?;
     push_numbers(moved.nodes.as_slice(), &mut nodes)?;
-    let classes = with_rivals(alloc, standing, moved.classes)?;
+    let classes = with_rivals(alloc, map.standing, moved.classes)?;
     Ok(Touched { nodes, classes })
 }
 

@@ -6,20 +6,18 @@ ghost use Rattle.tmm_model.specs.Maps.{built};
 ghost use Rattle.tmm_model.specs.Moments.{moment_of};
 ghost use Rattle.tmm_model.specs.Standing.{Standing as List};
 ghost use Rattle.belief_list.specs.Rows.{IsLiveRow, IsListing};
-ghost use Rattle.list_net.specs.Fits.{IsNetOf};
-ghost use Rattle.occ_tree.specs.OfLists.{IsTreeOf};
 ghost use Rattle.occ_tree.specs.Places.{forest};
 ghost use Rattle.spots.specs.Forest.{moment_at};
 ghost use Rattle.spots.specs.OfLists.{HasOccurrences};
+ghost use Rattle.supports.specs.TimeMaps.{IsTimeMap};
 ghost use Rattle.map_engine.specs.Views.{IsViewOf};
 
 use belief_list::{BeliefRow, list_rows, listed};
-use dist_net::DistNet;
 use just_check::audit;
 use occ_tree::Tree;
-use premise_list::Standing;
 use protections::report;
 use std::alloc::Global;
+use supports::TimeMap;
 use tmm_model::{ListRow, NoMemory, Occ, Report, Seq};
 
 // What is read of a tree of the believed occurrences.
@@ -34,21 +32,15 @@ pub(crate) struct View {
 }
 
 // What is read of the believed occurrences, where the size of their map is known.
-pub(crate) fn view_of(
-    alloc: Global,
-    standing: &Standing,
-    net: &DistNet,
-    tree: &Tree,
-    counted: u64,
-) -> Result<View, NoMemory>
-    requires seen { IsTreeOf standing.now.present net.now.present tree.now }
-    requires holds { HasOccurrences (built standing.now.present).believed (forest tree.now) }
-    requires counted { counted ≡ size (built standing.now.present) }
+pub(crate) fn view_of(alloc: Global, map: &TimeMap<'_>, counted: u64) -> Result<View, NoMemory>
+    requires seen { IsTimeMap map.now }
+    requires holds { HasOccurrences (built map.now.standing.now.present).believed (forest map.now.tree.now) }
+    requires counted { counted ≡ size (built map.now.standing.now.present) }
     requires small { counted ≤ most_size }
-    ensures { IfOk result (IsViewOf standing.now.present (forest tree.now)) }
+    ensures { IfOk result (IsViewOf map.now.standing.now.present (forest map.now.tree.now)) }
 {
-    let rows = listed(alloc, standing, tree, net)?;
-    let reports = report(alloc, standing, tree, net)?;
+    let rows = listed(alloc, map)?;
+    let reports = report(alloc, map.standing, map.tree, map.net)?;
     Ok(View {
         size: counted,
         rows,
@@ -66,19 +58,13 @@ pub(crate) fn told_rows(alloc: Global, tree: &Tree, view: &View) -> Result<Seq<L
 
 // Whether the rows are the believed occurrences of the list, in their order. They are, and it is
 // found anew from the list.
-pub(crate) fn audited(
-    alloc: Global,
-    standing: &Standing,
-    net: &DistNet,
-    tree: &Tree,
-    view: &View,
-) -> Result<bool, NoMemory>
-    requires network { IsNetOf standing.now.present net.now.present }
-    requires view { IsViewOf standing.now.present (forest tree.now) view.now }
+pub(crate) fn audited(alloc: Global, map: &TimeMap<'_>, view: &View) -> Result<bool, NoMemory>
+    requires seen { IsTimeMap map.now }
+    requires view { IsViewOf map.now.standing.now.present (forest map.now.tree.now) view.now }
     ensures { IfOk result (λ good. IsTrue good) }
 {
-    let rows = occurrences(alloc, tree, view.rows.items())?;
-    audit(alloc, standing, net, rows.items())
+    let rows = occurrences(alloc, map.tree, view.rows.items())?;
+    audit(alloc, map.standing, map.net, rows.items())
 }
 
 // The occurrences of the rows.

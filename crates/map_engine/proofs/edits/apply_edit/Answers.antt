@@ -1,7 +1,6 @@
 use Rattle.std.proofs.Common.{◌≡◌, ◌∙◌, ap, sym, subst}
 use Rattle.std.specs.Prelude.{None}
 use Rattle.tmm_model.specs.declared.premise.Edit.{Edit}
-use Rattle.tmm_model.specs.declared.premise.Edit.TheVariants.{Upgrade}
 use Rattle.tmm_model.specs.Edits.{next_list, list_until, upgraded}
 use Rattle.tmm_model.specs.Verdicts.{list_cause}
 use Rattle.tmm_model.specs.Standing.{Standing, IsConsistent}

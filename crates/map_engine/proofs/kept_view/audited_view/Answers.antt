@@ -13,12 +13,12 @@ use Rattle.map_engine.proofs.Told.{if_ok}
 use Rattle.map_engine.proofs.kept_view.audited_view.Goals as goal
 
 pub occurrences-requires : goal.occurrences-requires
-occurrences-requires c = subst (λ (l : List BeliefRow). All (IsLiveRow (forest c.args.tree.now)) l) (sym c.items.ensures) c.in_ok-rows.ensures.listing.live
+occurrences-requires c = subst (λ (l : List BeliefRow). All (IsLiveRow (forest c.args.map.now.tree.now)) l) (sym c.items.ensures) c.in_ok-rows.ensures.listing.live
 
 pub returns : goal.returns
 returns c =
-    let list = c.args.standing.now.present in
-    let tree = forest c.args.tree.now in
+    let list = c.args.map.now.standing.now.present in
+    let tree = forest c.args.map.now.tree.now in
     let is : map moment_of c.items-2.result.now ≡ believed_in_order list =
     ap (λ (l : List Occ). map moment_of l) c.items-2.ensures
     ∙ c.in_ok-occs.ensures

@@ -5,7 +5,7 @@ use Rattle.map_engine.proofs.moved.reviewed.Goals as goal
 
 pub returns-then-not-guarded : goal.returns-then-not-guarded
 returns-then-not-guarded c =
-    let lists = c.args.standing.now in
+    let lists = c.args.map.now.standing.now in
     c.none.ensures (built lists.committed) (built lists.present) (found_in c.args.before.now) c.requires.before
     (none_reported lists.committed (c.requires.unguarded_before c.if-not-guarded.true))
     (none_reported lists.present (c.requires.unguarded_now c.if-not-guarded.true))

@@ -11,18 +11,18 @@ use Rattle.map_engine.proofs.moved.tell.Goals as goal
 
 pub changes_told-requires-clause-left : goal.changes_told-requires-clause-left
 changes_told-requires-clause-left c =
-    let tree = c.args.tree.now in
+    let tree = c.args.map.now.tree.now in
     subst (λ (nodes : List LeftNode). AreWords (old_forest tree) (forest tree) nodes) (sym c.as_slice.ensures.value)
     (words_are tree c.args.left.now c.in_ok-nodes.nodes.items c.in_ok-nodes.ensures c.requires.numbers)
 
 pub reviewed-requires-clause-left_out : goal.reviewed-requires-clause-left_out
 reviewed-requires-clause-left_out c =
-    let lists = c.args.standing.now in
+    let lists = c.args.map.now.standing.now in
     subst (λ (names : List (List ℕ)). IsLeftOut lists.committed lists.present names) (sym c.items.ensures) c.requires.left_out
 
 pub returns-clause-changes : goal.returns-clause-changes
 returns-clause-changes c =
-    let lists = c.args.standing.now in
+    let lists = c.args.map.now.standing.now in
     let (kept, made) = c.requires.made in
     let between = c.in_ok-believed.ensures lists c.args.edit.now kept made in
     let believed = c.in_ok-believed.believed in

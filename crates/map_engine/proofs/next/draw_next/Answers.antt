@@ -26,28 +26,28 @@ abbrev HasTokens : Kept → Type 0
 HasTokens k = (class : List ℕ) → AreTokens (forest_of (present k)) class ((present k).tokens class)
 
 pub unmoved-requires-clause-view : goal.unmoved-requires-clause-view
-unmoved-requires-clause-view c = subst (λ (k : Kept). IsReadOf c.args.standing.now.committed (forest k) (read_of c.args.view.now)) (sym c.tree-then-is_still.ensures) c.requires.rests.view
+unmoved-requires-clause-view c = subst (λ (k : Kept). IsReadOf c.args.standing.now.committed (forest k) (read_of c.args.view.now)) (sym c.tree.ensures) c.requires.rests.view
 
 pub unmoved-requires-clause-seen : goal.unmoved-requires-clause-seen
 unmoved-requires-clause-seen c =
     let lists = c.args.standing.now in
     let nets = c.args.net.now in
     let kept = alike_kept lists.committed lists.present nets.committed nets.present c.args.nodes.now (c.is_still.ensures.alike c.if-is_still.true) c.requires.pending.network c.requires.pending.numbers c.requires.rests.kept in
-    subst (IsTreeOf lists.present nets.present) (sym c.tree-then-is_still.ensures) kept.fit.tree
+    subst (IsTreeOf lists.present nets.present) (sym c.tree.ensures) kept.fit.tree
 
 pub unmoved-requires-clause-holds : goal.unmoved-requires-clause-holds
 unmoved-requires-clause-holds c =
     let lists = c.args.standing.now in
     let nets = c.args.net.now in
     let kept = alike_kept lists.committed lists.present nets.committed nets.present c.args.nodes.now (c.is_still.ensures.alike c.if-is_still.true) c.requires.pending.network c.requires.pending.numbers c.requires.rests.kept in
-    subst (λ (k : Kept). HasOccurrences (built lists.present).believed (forest k)) (sym c.tree-then-is_still.ensures) kept.current.holds
+    subst (λ (k : Kept). HasOccurrences (built lists.present).believed (forest k)) (sym c.tree.ensures) kept.current.holds
 
 pub unmoved-requires-clause-edited : goal.unmoved-requires-clause-edited
 unmoved-requires-clause-edited c =
     let lists = c.args.standing.now in
     let nets = c.args.net.now in
     let kept = alike_kept lists.committed lists.present nets.committed nets.present c.args.nodes.now (c.is_still.ensures.alike c.if-is_still.true) c.requires.pending.network c.requires.pending.numbers c.requires.rests.kept in
-    subst (IsEdited lists nets c.args.edit.now) (sym c.tree-then-is_still.ensures)
+    subst (IsEdited lists nets c.args.edit.now) (sym c.tree.ensures)
     (still_edited lists nets c.args.edit.now c.args.erased.items c.args.nodes.now c.requires.rests.kept c.requires.pending kept.fit.tree.seen kept.current.holds
     (subst HasTokens c.tree.ensures c.have_tokens.ensures))
 
@@ -57,7 +57,7 @@ unmoved-requires-clause-others c =
     let nets = c.args.net.now in
     let kept = alike_kept lists.committed lists.present nets.committed nets.present c.args.nodes.now (c.is_still.ensures.alike c.if-is_still.true) c.requires.pending.network c.requires.pending.numbers c.requires.rests.kept in
     let (unread, none) = both c.args.known.unread (are_elsewhere lists.present.premises nets.present.names nets.moved) (sym c.is_still.ensures.exact ∙ c.if-is_still.true) in
-    subst (λ (k : Kept). AreOthersUntouched nets k []) (sym c.tree-then-is_still.ensures)
+    subst (λ (k : Kept). AreOthersUntouched nets k []) (sym c.tree.ensures)
     (none_touched nets c.args.nodes.now.tree lists.present kept.fit.tree.seen
     (elsewhere lists.present c.requires.pending.network.sound.well_named nets.present.names nets.moved none) c.requires.rests.kept.tree)
 
@@ -70,7 +70,7 @@ returns-in-Ok-clause-nodes c =
 
 pub returns-in-Ok-clause-view : goal.returns-in-Ok-clause-view
 returns-in-Ok-clause-view c =
-    subst (λ (k : Kept). IsReadOf c.args.standing.now.present (forest k) (after c.unmoved.new.view c.in-Ok.made.0)) c.tree-then-is_still.ensures c.in-Ok.ensures.view
+    subst (λ (k : Kept). IsReadOf c.args.standing.now.present (forest k) (after c.unmoved.new.view c.in-Ok.made.0)) c.tree.ensures c.in-Ok.ensures.view
 
 pub returns-in-Ok-clause-least : goal.returns-in-Ok-clause-least
 returns-in-Ok-clause-least c =

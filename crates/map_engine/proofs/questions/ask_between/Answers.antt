@@ -6,5 +6,5 @@ use Rattle.map_engine.proofs.questions.ask_between.Goals as goal
 
 pub ask-requires-clause-fact : goal.ask-requires-clause-fact
 ask-requires-clause-fact c =
-    let ps = c.args.standing.now.present.premises in
+    let ps = c.args.map.now.standing.now.present.premises in
     subst (λ (l : List Premise). IsSome (class_in l c.args.fact)) (append-nil ps) (fact_known ps [] c.args.fact (c.in_default.ensures.ok.0 refl))

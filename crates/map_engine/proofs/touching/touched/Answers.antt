@@ -8,7 +8,7 @@ use Rattle.map_engine.proofs.touching.touched.Goals as goal
 
 pub returns-clause-takes : goal.returns-clause-takes
 returns-clause-takes c =
-    takes_more (forest c.args.tree.now) c.args.told.now (name_added c.args.edit.now) c.args.others.now c.in_ok-nodes.nodes.items c.push_numbers.new.found.items
+    takes_more (forest c.args.map.now.tree.now) c.args.told.now (name_added c.args.edit.now) c.args.others.now c.in_ok-nodes.nodes.items c.push_numbers.new.found.items
     c.in_ok-push_numbers.ensures.kept c.in_ok-nodes.ensures
 
 pub returns-clause-moved : goal.returns-clause-moved
@@ -17,4 +17,4 @@ returns-clause-moved c = λ x m here at.
 
 pub returns-clause-classes : goal.returns-clause-classes
 returns-clause-classes c =
-    others_apart c.args.standing.now c.args.net.now c.args.tree.now c.in_ok-moved.moved.classes.items c.in_ok-classes.classes.items c.in_ok-classes.ensures c.in_ok-moved.ensures.classes
+    others_apart c.args.map.now.standing.now c.args.map.now.net.now c.args.map.now.tree.now c.in_ok-moved.moved.classes.items c.in_ok-classes.classes.items c.in_ok-classes.ensures c.in_ok-moved.ensures.classes

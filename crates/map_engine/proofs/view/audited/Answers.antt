@@ -12,8 +12,8 @@ use Rattle.map_engine.proofs.view.audited.Goals as goal
 
 pub returns : goal.returns
 returns c =
-    let list = c.args.standing.now.present in
-    let tree = forest c.args.tree.now in
+    let list = c.args.map.now.standing.now.present in
+    let tree = forest c.args.map.now.tree.now in
     let is : map moment_of c.items-2.result.now ≡ believed_in_order list =
     ap (λ (l : List Occ). map moment_of l) c.items-2.ensures
     ∙ c.in_ok-rows.ensures
