@@ -22,7 +22,6 @@ ghost use Rattle.belief_list.specs.Finding.{IsClipNow, IsNowUnder, mark_under, A
 
 use crate::by_number::{clip_of, kept_row};
 use crate::kept_rows::{Difference, KeptRow};
-use crate::rivals::has_or_had_rivals;
 use occ_tree::Tree;
 use premise_list::Standing;
 use projection::{KindCount, weight_after, weight_of};
@@ -353,7 +352,7 @@ fn is_past_rivals(
     requires rising { AreRising touched.now.dates.items }
     ensures { result ≡ true → IsPastRivals standing.now kept.now touched.now fact clip date }
 {
-    if !has_or_had_rivals(standing, fact) {
+    if !standing.has_or_had_rivals(fact) {
         return true;
     }
     if is_paired(&touched.pairs, fact) {

@@ -21,7 +21,6 @@ mod left_nodes;
 mod list;
 mod matched;
 mod places;
-mod rivals;
 mod size;
 mod told_changes;
 

@@ -1,5 +1,6 @@
 -- Rows that may rest though points moved, and rows at events for which points moved.
 use Rattle.std.proofs.Common.{◌≡◌, ◌∙◌, ℕ, Bool, true, false, ◌<◌, List, [], ◌∷◌, length, Option, Some, refl, sym, ap, subst, inl, inr, ◌⊎◌, arith}
+use Rattle.std.proofs.lemmas.Bool.{cases_Bool}
 use Rattle.std.proofs.lemmas.List.Quantifiers.{position-Some}
 use Rattle.std.specs.Prelude.{pos}
 use Rattle.std.specs.Cmp.Lexicographic.{bytes_decides}
@@ -18,6 +19,7 @@ use Rattle.undo_rows.specs.Tables.{AreListed}
 use Rattle.decision_rows.specs.declared.row.Pair.{Pair}
 use Rattle.occ_tree.specs.Classes.{place_in}
 use Rattle.occ_tree.specs.Standing.{State, forest}
+use Rattle.occ_tree.proofs.Numbered.{placed_name}
 use Rattle.joined.specs.Gaps.{reads_class, start, read, rival, IsReadSpot, MovesAt}
 use Rattle.joined.specs.Listed.{IsListedUnder}
 use Rattle.joined.specs.Shifting.{IsSpotOf, MovesAmong}
@@ -36,13 +38,9 @@ use Rattle.belief_net.specs.Waiting.{Dates}
 use Rattle.belief_net.specs.Woken.{RestsFor, MovesFrom, KeepsDate, RestsForFirst, MovesForSome, WakesForAll, IsPlainRule, MovesByRule, StaysByRule, IsSparedThere, IsRowAtRest}
 use Rattle.belief_net.proofs.Bases.{Small, node_small, class_small, small_or}
 use Rattle.belief_net.proofs.ByRule.{reads_none}
-use Rattle.belief_net.proofs.Named.{are_numbered, placed_name}
+use Rattle.belief_net.proofs.Named.{are_numbered}
 use Rattle.belief_net.proofs.Pairs.{none_listed}
 use Rattle.belief_net.proofs.Waking.{wakes_both}
-
-true_or : (v : Bool) → (v ≡ true) ⊎ (v ≡ false)
-true_or true = inl refl
-true_or false = inr refl
 
 -- ---- where nothing moved
 
@@ -170,7 +168,7 @@ module _ (nets : Nets) (added : Option (List ℕ)) (before s : Standing) (st : S
           small_number class k is = (position-Some (same_name class) d.classes k [] is).0
 
       unmoved_date : (class : List ℕ) → RestsFor nets moves f class x → is_moved nets added (base_of f (Node x)) 0 ≡ false
-      unmoved_date class rest = elim (true_or (is_moved nets added (base_of f (Node x)) 0)) [
+      unmoved_date class rest = elim (cases_Bool (is_moved nets added (base_of f (Node x)) 0)) [
         | inr off ↦ off
         | inl is ↦ absurd (by rest is)
       ]

@@ -1,7 +1,7 @@
 -- Rows that are let wait, one rule after the other; and rules that read nothing of which a premise
 -- says that another fact contradicts it.
 use Rattle.std.proofs.Common.{◌≡◌, ◌∙◌, ℕ, length, Bool, true, false, not, ◌&&◌, ◌||◌, ◌+◌, ◌<◌, List, [], ◌∷◌, Some, refl, sym, ap, subst, inl, inr, arith, ◌⊎◌, eqb}
-use Rattle.std.proofs.lemmas.Bool.{cases_order}
+use Rattle.std.proofs.lemmas.Bool.{cases_order, cases_Bool}
 use Rattle.std.specs.Prelude.{◌↔◌}
 use Rattle.std.specs.List.{list_any}
 use Rattle.tmm_model.specs.Beliefs.{are_rivals}
@@ -18,6 +18,7 @@ use Rattle.undo_rows.specs.Tables.{Table, AreListed}
 use Rattle.decision_rows.specs.declared.row.Pair.{Pair}
 use Rattle.occ_tree.specs.Standing.{State, forest}
 use Rattle.joined.specs.Gaps.{ReadsNoRival}
+use Rattle.joined.proofs.Deciding.{true_false}
 use Rattle.belief_net.specs.declared.by_event.Events.{Events}
 use Rattle.belief_net.specs.declared.fast.Moves.{Moves}
 use Rattle.belief_net.specs.declared.state.Decisions.{Decisions}
@@ -29,13 +30,6 @@ use Rattle.belief_net.specs.Waiting.{Dates}
 use Rattle.belief_net.specs.Woken.{IsPlainRule, MovesByRule, StaysByRule}
 use Rattle.belief_net.proofs.OfRules.{on_rule}
 use Rattle.belief_net.proofs.Waking.{wakes_none, wakes_alike, wakes_both, marks_wake}
-
-true_or : (v : Bool) → (v ≡ true) ⊎ (v ≡ false)
-true_or true = inl refl
-true_or false = inr refl
-
-true_false : {P : Type 0} → true ≡ false → P
-true_false e = cc
 
 -- ---- what premises say
 
@@ -79,9 +73,9 @@ module _ (s : State) (t : Table Pair 8) (moves : Moves) (before list : Standing)
       (marks_wake s t (IsOfRuleAt t n events s) StaysHere old new or_stays marks)
     where
       or_stays : (i : ℕ) (row : TableRow Pair 8) → t.row i ≡ Some row → IsOfRuleAt t n events s i row ⊎ (IsOn (t.list 1 n) i → StaysByRule moves before list (forest s) name row.value.trigger)
-      or_stays i row at = elim (true_or (is_event_of events s row.value.trigger)) [
+      or_stays i row at = elim (cases_Bool (is_event_of events s row.value.trigger)) [
         | inr off ↦ inr (λ on. inr (λ m. true_false (sym ((touched row.value.trigger).1 m) ∙ off)))
-        | inl on ↦ elim (true_or (list_any (eqb i) (t.list 1 n))) [ inl is ↦ inl (is, on) | inr out ↦ inr (λ is. true_false (sym is ∙ out)) ]
+        | inl on ↦ elim (cases_Bool (list_any (eqb i) (t.list 1 n))) [ inl is ↦ inl (is, on) | inr out ↦ inr (λ is. true_false (sym is ∙ out)) ]
       ]
 
 -- ---- one rule after the other

@@ -1,16 +1,13 @@
 -- Rows that wait since their rules read what contradicts a fact.
-use Rattle.std.proofs.Common.{◌≡◌, ◌∙◌, ℕ, ◌+◌, ◌<◌, Bool, true, false, ◌||◌, List, [], ◌∷◌, ◌++◌, take, suc, refl, sym, ap, subst, inl, inr, ◌⊎◌, arith}
+use Rattle.std.proofs.Common.{◌≡◌, ◌∙◌, ℕ, ◌+◌, ◌<◌, Bool, true, false, ◌||◌, List, [], ◌∷◌, ◌++◌, refl, sym, ap, subst, inl, inr, ◌⊎◌, arith}
 use Rattle.std.proofs.lemmas.Bool.{cases_order}
-use Rattle.std.proofs.lemmas.List.Folds.{list_any-append}
-use Rattle.std.specs.Prelude.{ℤ, pos, Some, slice_get}
+use Rattle.std.specs.Prelude.{ℤ, pos, Some}
 use Rattle.std.specs.List.{list_any}
-use Rattle.tmm_model.specs.declared.premise.Premise.{Premise}
 use Rattle.tmm_model.specs.Beliefs.{are_rivals}
 use Rattle.tmm_model.specs.Moments.{read_by, rule_of}
 use Rattle.tmm_model.specs.Standing.{Standing}
 use Rattle.list_theory.proofs.Elements.{In-left, In-right, In-cases}
 use Rattle.dist_net.specs.Net.{Net}
-use Rattle.supports.proofs.Grown.{taken}
 use Rattle.row_links.specs.Lists.{IsOn}
 use Rattle.undo_rows.specs.declared.row.Row.{Row as TableRow}
 use Rattle.undo_rows.specs.Changes.{Logged, present as table, committed}
@@ -21,6 +18,7 @@ use Rattle.occ_tree.specs.Standing.{Kept, State, present, early}
 use Rattle.occ_tree.proofs.Numbered.{no_more}
 use Rattle.joined.specs.Gaps.{reads_rival}
 use Rattle.joined.specs.Listed.{IsListedUnder}
+use Rattle.joined.proofs.Deciding.{true_false}
 use Rattle.belief_net.specs.declared.state.Decisions.{Decisions}
 use Rattle.belief_net.specs.Adding.{ReadsOneOf, MarksClasses, ReadsRivalOf, MarksFacts, MarksLeft, MarksToken}
 use Rattle.belief_net.specs.Decided.{table_of, rule_in, AreUnder, KeepsLast}
@@ -30,9 +28,6 @@ use Rattle.belief_net.specs.Numbers.{name_in}
 use Rattle.belief_net.specs.Waiting.{Dates, dates_in}
 use Rattle.belief_net.proofs.Marked.{marks_none, marks_both}
 use Rattle.belief_net.proofs.OfRules.{marks_alike, OfFirst, on_rule}
-
-true_false : {P : Type 0} → true ≡ false → P
-true_false e = cc
 
 -- where only those that wait are others, what a rollback leads back to stays
 pub waiting_last : (old new : Decisions) → new ≡ record old { waiting = new.waiting } → KeepsLast old new
@@ -57,14 +52,6 @@ no_rivals s st d fact from none = record {
   marks = marks_none st (table_of d) (λ i row. (reads_rival s (rule_in d row) fact ≡ true) × IsAsLate st from row) (dates_in d.waiting)
       (λ i row meant. (let no : true ≡ _ = sym meant.0 ∙ none_reads s fact none (rule_in d row) in cc));
 }
-
--- ---- one premise after the other
-
--- of the first premises and one more none passes, if none of the first does and this does not
-pub none_next : (P : Premise → Bool) (ps : List Premise) (i : ℕ) (p : Premise) → slice_get ps i ≡ Some p → list_any P (take i ps) ≡ false → P p ≡ false → list_any P (take (i + 1) ps) ≡ false
-none_next P ps i p at before fails =
-    let e : i + 1 ≡ suc i = omega arith in
-    ap (λ n. list_any P (take n ps)) e ∙ ap (list_any P) (taken ps i p at) ∙ list_any-append P (take i ps) (p ∷ []) ∙ (λ j. before j || (fails j || false))
 
 -- ---- one rule after the other
 
@@ -230,6 +217,3 @@ module _ (s : Standing) (net : Net) (tree : Kept) (moving : List ℕ) (x : ℕ) 
         (λ i row (rival, late). (late, inr rival))
         own.marks rivals_old;
   }
-
-  pub readers_last : KeepsLast old mid → KeepsLast mid new
-  readers_last last = waiting_last mid new rivals.same

@@ -13,13 +13,13 @@ use Rattle.undo_rows.specs.Tables.{Table}
 use Rattle.decision_rows.specs.Decisions.{classes_in, new_row}
 use Rattle.decision_rows.specs.declared.row.Pair.{Pair}
 use Rattle.occ_tree.specs.Classes.{place_in}
-use Rattle.occ_tree.proofs.Numbered.{place_within}
+use Rattle.occ_tree.proofs.Numbered.{place_within, placed_name}
 use Rattle.joined.specs.Listed.{IsUnderClasses}
 use Rattle.belief_net.specs.declared.state.Decisions.{Decisions}
 use Rattle.belief_net.specs.Decided.{table_of, rule_in, AreUnder, IsNewRow, IsSameRow, AddsRows, KeepsLast}
 use Rattle.belief_net.specs.Numbers.{name_in}
 use Rattle.belief_net.specs.Waiting.{dates_in, Puts}
-use Rattle.belief_net.proofs.Named.{name_stays, placed_name, under_more}
+use Rattle.belief_net.proofs.Named.{name_stays, under_more}
 
 -- a number is of one row
 pub one_row : (t : Table Pair 8) (i : ℕ) (row other : TableRow Pair 8) → t.row i ≡ Some row → t.row i ≡ Some other → row ≡ other

@@ -33,6 +33,7 @@ use Rattle.decision_rows.specs.declared.row.Pair.{Pair}
 use Rattle.occ_tree.specs.Classes.{place_in}
 use Rattle.occ_tree.specs.Places.{forest}
 use Rattle.occ_tree.specs.Standing.{Kept}
+use Rattle.occ_tree.proofs.Numbered.{placed_name}
 use Rattle.joined.specs.Netted.{IsCurrent}
 use Rattle.joined.specs.Rows.{Row, HasRow}
 use Rattle.belief_net.specs.declared.state.BeliefNet.{BeliefNet}
@@ -46,7 +47,6 @@ use Rattle.belief_net.specs.Numbers.{name_in, HaveOwnNumbers}
 use Rattle.belief_net.specs.Turning.{rows_of}
 use Rattle.belief_net.proofs.Declared.{rule_cases}
 use Rattle.belief_net.proofs.Marked.{listed_row}
-use Rattle.belief_net.proofs.Named.{placed_name}
 use Rattle.belief_net.proofs.OfRules.{on_rule}
 use Rattle.belief_net.proofs.Parted.{in_on, on_in}
 use Rattle.belief_net.proofs.Turned.{seen_row, row_there, row_of}

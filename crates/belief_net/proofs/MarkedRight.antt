@@ -1,5 +1,6 @@
 -- Rows that wait are those that the edit touches.
 use Rattle.std.proofs.Common.{◌≡◌, ◌≢◌, ◌∙◌, ℕ, Bool, true, false, not, List, [], ◌∷◌, ◌++◌, Option, Some, None, refl, sym, ap, subst, inl, inr}
+use Rattle.std.proofs.lemmas.Bool.{not-false}
 use Rattle.std.specs.Prelude.{◌+ℤ◌, ℤ, pos, int_le, slice_index_or, is_some}
 use Rattle.std.specs.Option.{option_map_or}
 use Rattle.std.specs.Cmp.Lexicographic.{bytes_decides}
@@ -116,16 +117,12 @@ module _ (old : Standing) (edit : Edit) (nets : Nets) (net_old : IsNetOf old net
       let known = In-from_Contains (points_in old.premises) p (net_old.fits.stands.named a p was) in
       ap (λ o. option_map_or (λ point. not (is_of_premise (added_by edit) point)) o false) is ∙ ap not (stood_before old edit sound p known)
 
-  not_false : (v : Bool) → not v ≡ false → v ≡ true
-  not_false true e = refl
-  not_false false e = cc
-
   tells_moves : TellsMoves nets (is_moved nets (added_by edit))
   tells_moves = record {
     itself = λ a. not_of_one nets (added_by edit) a a refl;
     apart = λ a b p q was_a is_a was_b is_b moved. bounds_differ (net_far nets.committed a b) (net_far nets.present a b) (moved_parts nets (added_by edit) a b moved).far;
     same = λ a b p q was_a is_a was_b is_b other unmoved. same_bound_is (net_far nets.committed a b) (net_far nets.present a b)
-        (not_false _ (sym (moved_by_far nets (added_by edit) a b other (was_kept a p was_a is_a) (was_kept b q was_b is_b)) ∙ unmoved));
+        (not-false _ (sym (moved_by_far nets (added_by edit) a b other (was_kept a p was_a is_a) (was_kept b q was_b is_b)) ∙ unmoved));
   }
 
 pub moved_rows_are_touched : MovedRowsAreTouched

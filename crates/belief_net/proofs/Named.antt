@@ -29,22 +29,6 @@ more_more a b c (xs, is) (ys, then_) = (xs ++ ys, then_ ∙ ap (λ l. l ++ ys) i
 pub name_stays : (old new : List (List ℕ)) (k : ℕ) → HaveMore old new → k < length old → name_in new k ≡ name_in old k
 name_stays old new k (more, is) within = ap (λ l. slice_index_or l k []) is ∙ get_or_append_left old more [] k within
 
--- the name under a number that was given is the one to which it was given
-named_from : (i : ℕ) (names : List (List ℕ)) (n : List ℕ) (k : ℕ) → position_from (same_name n) i names ≡ Some k → (j : ℕ) × (k ≡ i + j) × (slice_index_or names j [] ≡ n)
-named_from i [] n k at = absurd (cc)
-named_from i (m ∷ names) n k at = by (same_name n m) refl (named_from (i + 1) names n k) at
-  where
-    by : (t : Bool) → same_name n m ≡ t → (position_from (same_name n) (i + 1) names ≡ Some k → (j : ℕ) × (k ≡ i + 1 + j) × (slice_index_or names j [] ≡ n))
-        → cond t (Some i) (position_from (same_name n) (i + 1) names) ≡ Some k → (j : ℕ) × (k ≡ i + j) × (slice_index_or (m ∷ names) j [] ≡ n)
-    by true is again at = let same : i ≡ k = cc in (0, omega (arith, same), sym ((bytes_decides n m).0 is))
-    by false is again at = let (j, here, name) = again at in (suc j, omega (arith, here), name)
-
-pub placed_name : (names : List (List ℕ)) (n : List ℕ) (k : ℕ) → place_in names n ≡ Some k → name_in names k ≡ n
-placed_name names n k at =
-    let (j, is, name) = named_from 0 names n k (sym (position_from-zero (same_name n) names) ∙ at) in
-    let same : k ≡ j = omega (arith, is) in
-    ap (λ z. slice_index_or names z []) same ∙ name
-
 pub are_numbered : (names : List (List ℕ)) → AreNumbered (place_in names)
 are_numbered names = one_class names
 

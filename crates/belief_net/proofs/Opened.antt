@@ -46,6 +46,7 @@ use Rattle.joined.specs.Touching.{RivalsStay}
 use Rattle.joined.specs.Telling.{IsToldOf, LeaveFirst}
 use Rattle.joined.proofs.Preparing.{prepared_netted}
 use Rattle.joined.proofs.Telling.{prepared_told}
+use Rattle.joined.proofs.Deciding.{true_false}
 use Rattle.belief_net.specs.declared.erasing.Departed.{Departed}
 use Rattle.belief_net.specs.declared.state.BeliefNet.{BeliefNet}
 use Rattle.belief_net.specs.declared.state.Decisions.{Decisions}
@@ -85,9 +86,6 @@ use Rattle.belief_net.proofs.Unlike.{plain_before, alike_stay, unlike_changes}
 
 none_some : {X : Type 0} (x : X) → None ≡ Some x → ⊥
 none_some x e = cc
-
-true_false : {P : Type 0} → true ≡ false → P
-true_false e = cc
 
 -- ---- what is erased
 

@@ -1,6 +1,6 @@
 -- Pairs of points that moved, put into a set.
 use Rattle.std.proofs.Common.{◌≡◌, ◌≢◌, ◌∙◌, ℕ, Bool, true, false, not, ◌&&◌, ◌==◌, ◌+◌, ◌*◌, ◌<◌, List, length, get_or, set, Option, Some, None, refl, sym, ap, subst, inl, inr, ◌⊎◌, arith}
-use Rattle.std.proofs.lemmas.Bool.{cases_order}
+use Rattle.std.proofs.lemmas.Bool.{cases_order, not-true}
 use Rattle.std.proofs.lemmas.Bool.Decides.{eqb_tells, Decides-int_eq}
 use Rattle.std.proofs.lemmas.List.{get_or-set_same, get_or-set_other, get_or_default, length-set}
 use Rattle.std.specs.Prelude.{IsSome, slice_index_or}
@@ -62,16 +62,12 @@ module _ (nets : Nets) (added : Option (List ℕ)) where
     pub to : is_kept nets.present.names added b ≡ true
     pub far : same_bound (net_far nets.committed a b) (net_far nets.present a b) ≡ false
 
-  not_true : (v : Bool) → not v ≡ true → v ≡ false
-  not_true false e = refl
-  not_true true e = cc
-
   pub moved_parts : (a b : ℕ) → is_moved nets added a b ≡ true → Moved a b
   moved_parts a b is =
       let first = both (not (a == b)) (is_kept nets.present.names added a && (is_kept nets.present.names added b && not (same_bound (net_far nets.committed a b) (net_far nets.present a b)))) is in
       let second = both (is_kept nets.present.names added a) (is_kept nets.present.names added b && not (same_bound (net_far nets.committed a b) (net_far nets.present a b))) first.1 in
       let third = both (is_kept nets.present.names added b) (not (same_bound (net_far nets.committed a b) (net_far nets.present a b))) second.1 in
-      record { apart = not_true (a == b) first.0; from = second.0; to = third.0; far = not_true (same_bound (net_far nets.committed a b) (net_far nets.present a b)) third.1 }
+      record { apart = not-true (a == b) first.0; from = second.0; to = third.0; far = not-true (same_bound (net_far nets.committed a b) (net_far nets.present a b)) third.1 }
 
   -- ---- what is found for a pair
 

@@ -23,7 +23,7 @@ use Rattle.occ_tree.specs.Classes.{place_in, HaveMore}
 use Rattle.occ_tree.specs.Edits.{Withdraws}
 use Rattle.occ_tree.specs.Places.{forest}
 use Rattle.occ_tree.specs.Standing.{Kept, present, early}
-use Rattle.occ_tree.proofs.Numbered.{place_within}
+use Rattle.occ_tree.proofs.Numbered.{place_within, placed_name}
 use Rattle.revisions.specs.Standing.{Stands}
 use Rattle.revisions.specs.Steps.{IsUnder}
 use Rattle.joined.specs.Listed.{IsUnderClasses}
@@ -39,7 +39,7 @@ use Rattle.belief_net.specs.Marks.{HaveEvents}
 use Rattle.belief_net.specs.Numbers.{name_in}
 use Rattle.belief_net.proofs.Brought.{class_is_at}
 use Rattle.belief_net.proofs.Entered.{one_row}
-use Rattle.belief_net.proofs.Named.{placed_name, in_at}
+use Rattle.belief_net.proofs.Named.{in_at}
 use Rattle.belief_net.proofs.Thinned.{one_node}
 
 none_some : {X : Type 0} (x : X) → None ≡ Some x → ⊥

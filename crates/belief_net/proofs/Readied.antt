@@ -24,7 +24,7 @@ use Rattle.joined.specs.Netted.{IsCurrent}
 use Rattle.joined.specs.Rows.{Row, Rows, HasNoRow, AreRowsOf}
 use Rattle.joined.specs.Starting.{BeginsFrom, was, is_new, RowsBegin, IsPrepared, AreMarked}
 use Rattle.joined.specs.Touching.{RivalsStay, IsUntouched}
-use Rattle.joined.proofs.Deciding.{some_row}
+use Rattle.joined.proofs.Deciding.{some_row, true_false}
 use Rattle.joined.proofs.Preparing.{stays_same, begun_rows}
 use Rattle.joined.proofs.Touching.{resting_marked, believed_among, among_believed, horizons_marked}
 use Rattle.belief_net.specs.Beginning.{IsLeftFrom, IsReady}
@@ -115,9 +115,6 @@ module _ (old : Standing) (edit : Edit) (before net : Net) (f g : Forest) (rows 
       (b : List Moment) (holds : HasOccurrences b g) where
     -- a row that does not wait keeps its outcome
     module _ (i : ℕ) (q : Row) (at : after i ≡ Some q) (still : q.waits ≡ false) where
-      true_false : {P : Type 0} → true ≡ false → P
-      true_false e = cc
-
       abbrev o : Row
       o = (on.was i q at).0
 

@@ -1,6 +1,6 @@
 -- Loose tokens and the fast ones behind them.
 use Rattle.std.proofs.Common.{◌≡◌, ◌∙◌, ℕ, Bool, true, false, not, ◌+◌, ◌<◌, List, [], ◌∷◌, ◌++◌, length, get_or, Option, Some, None, refl, sym, ap, subst, inl, inr, ◌⊎◌, arith}
-use Rattle.std.proofs.lemmas.Bool.{cases_order}
+use Rattle.std.proofs.lemmas.Bool.{cases_order, not-false}
 use Rattle.std.proofs.lemmas.List.{get_or_default}
 use Rattle.std.proofs.lemmas.List.Elements.{All-nil, All-push, All-contains, Contains-append_left, Contains-append_right}
 use Rattle.std.specs.Prelude.{IfSome, is_some}
@@ -27,10 +27,6 @@ use Rattle.belief_net.specs.PointSets.{is_in, AreThose}
 use Rattle.belief_net.specs.Reach.{IsBaseOf}
 use Rattle.belief_net.specs.Shifts.{stands_fast, IsFastToken, HasBegunBy, AreWallsBy, IsSparedBy, AreBehind, TokensHaveBoth, ShiftHasBoth, IsShift, IsBehindNode, IsNoted, AreShifts, NotesRow}
 
-not_true : (v : Bool) → not v ≡ false → v ≡ true
-not_true true e = refl
-not_true false e = cc
-
 node_base : (f : Forest) (x : ℕ) (m : Member) → member f x ≡ Some m → base_of f (Node x) ≡ m.begin
 node_base f x m here = ap (λ (o : Option Member). option_map_or (λ (k : Member). k.begin) o 0) here
 
@@ -52,7 +48,7 @@ module _ (f : Forest) (fast : List Bool) where
 
   -- the place of a fast token is one of the set
   pub fast_place : (class : List ℕ) (t : FastToken) → IsFastToken f (is_out fast) class t → is_in fast t.place.base ≡ true
-  fast_place class t is = subst (λ z. is_in fast z ≡ true) (sym (node_base f is.node is.token is.here) ∙ is.place.base) (not_true (is_in fast is.token.begin) is.fast.begin)
+  fast_place class t is = subst (λ z. is_in fast z ≡ true) (sym (node_base f is.node is.token is.here) ∙ is.place.base) (not-false (is_in fast is.token.begin) is.fast.begin)
 
   pub tokens_both : (nets : Nets) (class : List ℕ) (tokens : List FastToken) → AreInBoth nets fast → All (IsFastToken f (is_out fast) class) tokens → TokensHaveBoth nets tokens
   tokens_both nets class tokens are all k d less = are (get_or tokens k d).place.base (fast_place class (get_or tokens k d) (all k d less))

@@ -1,5 +1,6 @@
 -- What a window tells: two tokens behind a token, of two facts, that have surely begun are walls.
 use Rattle.std.proofs.Common.{◌≡◌, ◌≢◌, ◌∙◌, ℕ, Bool, true, false, not, ◌&&◌, ◌||◌, List, [], ◌∷◌, ◌++◌, ◌<◌, length, take, drop, Option, Some, None, refl, sym, ap, subst, inl, inr, arith, ◌⊎◌}
+use Rattle.std.proofs.lemmas.Bool.{not-true}
 use Rattle.std.proofs.lemmas.Int.{ints}
 use Rattle.std.proofs.lemmas.List.{take-append-drop}
 use Rattle.std.proofs.lemmas.List.Elements.{All-contains, Contains-get_or}
@@ -24,14 +25,6 @@ use Rattle.revisions.proofs.Walls.{other_fact}
 use Rattle.belief_net.specs.declared.windows.Window.{Window}
 use Rattle.belief_net.specs.Windows.{IsWalledOff, IsSparedBy, are_two, is_spared, IsWall, IsWindowOf, net_in, tree_in}
 
-pub not_true : (v : Bool) → not v ≡ true → v ≡ false
-not_true false e = refl
-not_true true e = cc
-
-pub not_false : (v : Bool) → not v ≡ false → v ≡ true
-not_false true e = refl
-not_false false e = cc
-
 -- ---- two tokens of two facts
 
 module _ (far : Spot → Spot → Bound) (t : ℕ) where
@@ -51,7 +44,7 @@ module _ (far : Spot → Spot → Bound) (t : ℕ) where
       let first = both (begins_by far (Node t) one) (list_any (λ w. begins_by far (Node t) w && not (same_name one.fact w.fact)) walls) h in
       let (other, other_in, g) = list_any-In (λ w. begins_by far (Node t) w && not (same_name one.fact w.fact)) walls first.1 in
       let second = both (begins_by far (Node t) other) (not (same_name one.fact other.fact)) g in
-      record { one = one; other = other; one_in = one_in; other_in = other_in; one_begun = first.0; other_begun = second.0; differ = not_true (same_name one.fact other.fact) second.1 }
+      record { one = one; other = other; one_in = one_in; other_in = other_in; one_begun = first.0; other_begun = second.0; differ = not-true (same_name one.fact other.fact) second.1 }
 
   pub two_tells : (walls : List (TokenRow Spot)) → Two walls → are_two far t walls ≡ true
   two_tells walls two =

@@ -5,13 +5,11 @@ use Rattle.std.specs.Option.{option_map_or}
 use Rattle.tmm_model.specs.declared.point.PointName.TheVariants.{Start}
 use Rattle.dist_net.specs.Net.{Nets}
 use Rattle.list_net.specs.Represents.{Names, IsNumberOf}
+use Rattle.joined.proofs.Deciding.{not_both}
 use Rattle.belief_net.specs.Fast.{AreInBoth, is_out, StandFast, IsFastBy}
 use Rattle.belief_net.specs.MovedPairs.{is_of_premise, is_kept, WereThere, is_moved, AreMoved}
 use Rattle.belief_net.specs.PointSets.{is_in, has_pair, AreThose, HaveOneOf}
 use Rattle.belief_net.proofs.Pairs.{not_of_one, kept_in_use}
-
-not_both : {P : Type 0} (v : Bool) → v ≡ true → v ≡ false → P
-not_both v is other = let h : true ≡ false = sym is ∙ other in cc
 
 pub kept_both : (nets : Nets) (added : Option (List ℕ)) (kept : List Bool) → WereThere nets added
     → AreThose (λ p. (p < 256) × (is_kept nets.present.names added p ≡ true)) kept → AreInBoth nets kept

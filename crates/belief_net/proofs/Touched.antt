@@ -1,6 +1,6 @@
 -- Events at which a rule depends on points that moved.
 use Rattle.std.proofs.Common.{◌≡◌, ◌∙◌, ℕ, Bool, true, false, ◌&&◌, ◌||◌, ◌<◌, ◌≤◌, List, length, Option, Some, None, refl, sym, ap, subst, inl, inr, ◌⊎◌, arith}
-use Rattle.std.proofs.lemmas.Bool.{cases_order}
+use Rattle.std.proofs.lemmas.Bool.{cases_order, or_cases, or_left, or_right}
 use Rattle.std.proofs.lemmas.List.{get_or_past}
 use Rattle.std.specs.Prelude.{◌↔◌, ℤ}
 use Rattle.std.specs.Option.{option_map_or}
@@ -31,17 +31,6 @@ below_length s p is places = elim (cases_order p 256) [
   where
     beyond : length s ≤ p → ⊥
     beyond past = let both : true ≡ false = sym is ∙ get_or_past s p false past in cc
-
-or_cases : (v w : Bool) → (v || w) ≡ true → (v ≡ true) ⊎ (w ≡ true)
-or_cases true w is = inl refl
-or_cases false w is = inr is
-
-or_left : (v w : Bool) → v ≡ true → (v || w) ≡ true
-or_left v w is = ap (λ z. z || w) is
-
-or_right : (v w : Bool) → w ≡ true → (v || w) ≡ true
-or_right true w is = refl
-or_right false w is = is
 
 number_of : (b : Bound) → is_number b ≡ true → (most : ℤ) × (b ≡ Finite most)
 number_of (Finite x) is = (x, refl)

@@ -1,5 +1,6 @@
 -- Facts that another one contradicts by one of two lists alone, and rules that read them.
 use Rattle.std.proofs.Common.{◌≡◌, ◌∙◌, ℕ, length, Bool, true, false, not, ◌&&◌, ◌||◌, List, [], ◌∷◌, Option, Some, refl, sym, ap, subst, inl, inr, ◌⊎◌}
+use Rattle.std.proofs.lemmas.Bool.{cases_Bool}
 use Rattle.std.specs.Prelude.{pos, ◌≤ℤ◌, is_some, None}
 use Rattle.std.specs.List.{Contains, list_any}
 use Rattle.std.specs.Cmp.Lexicographic.{bytes_decides}
@@ -29,6 +30,7 @@ use Rattle.revisions.proofs.Contradictions.{read_class, declared, class_stays, c
 use Rattle.revisions.proofs.Lawful.{text}
 use Rattle.joined.specs.Gaps.{ReadsNoRival}
 use Rattle.joined.specs.Touching.{RivalsStay}
+use Rattle.joined.proofs.Deciding.{true_false}
 use Rattle.belief_net.specs.declared.state.BeliefNet.{BeliefNet}
 use Rattle.belief_net.specs.Contradicted.{AreAlike, ReadsUnlike, ReadsAlike, IsAlikeRow}
 use Rattle.belief_net.specs.Decided.{table_of}
@@ -40,16 +42,9 @@ use Rattle.belief_net.proofs.ByRule.{reads_none}
 use Rattle.belief_net.proofs.Turned.{date_is}
 use Rattle.belief_net.proofs.Waking.{wakes_none}
 
-true_false : {P : Type 0} → true ≡ false → P
-true_false e = cc
-
 -- the name of the class, none where no class declares the fact
 abbrev or_no_name : Option (List ℕ) → List ℕ
 or_no_name o = elim o as (λ _. List ℕ) [ Some class ↦ class | None ↦ [] ]
-
-true_or : (v : Bool) → (v ≡ true) ⊎ (v ≡ false)
-true_or true = inl refl
-true_or false = inr refl
 
 -- ---- pairs of which that may hold
 
@@ -117,7 +112,7 @@ module _ (st : State) (t : Table Pair 8) (before s : Standing) (name : List ℕ)
       → Wakes st t (λ i row. IsOn (t.list 1 n) i × ReadsUnlike before s name) (λ i row. IsOn (t.list 1 n) i → IsAlikeRow before s st name row) old new
   unlike_wake unlike old new marks = record {
     only = λ i. elim (marks.only i) [ inl same ↦ inl same | inr (row, at, (on, late), waits) ↦ inr (row, at, (on, unlike), waits) ];
-    rests = λ i row at. elim (true_or (is_some (new i))) [
+    rests = λ i row at. elim (cases_Bool (is_some (new i))) [
       | inl waits ↦ inl waits
       | inr none ↦ inr (λ on late. true_false (sym (ap is_some (marks.all i row at (on, late))) ∙ none))
     ];

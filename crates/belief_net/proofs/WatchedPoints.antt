@@ -1,6 +1,6 @@
 -- Points of the tokens that a rule watches, put in some after the others.
 use Rattle.std.proofs.Common.{◌≡◌, ◌∙◌, ℕ, Bool, true, false, not, ◌&&◌, ◌||◌, ◌+◌, ◌<◌, List, [], ◌∷◌, ◌++◌, length, take, get_or, suc, Option, Some, None, refl, sym, ap, subst, inl, inr, ◌⊎◌, arith}
-use Rattle.std.proofs.lemmas.Bool.{cases_order, or_cases}
+use Rattle.std.proofs.lemmas.Bool.{cases_order, or_cases, or_right, not-true}
 use Rattle.std.proofs.lemmas.List.{get_or_default}
 use Rattle.std.specs.Prelude.{IsSome, slice_get}
 use Rattle.std.specs.Option.{option_map}
@@ -145,22 +145,10 @@ module _ (f : Forest) (fact : List ℕ) where
 same_true : (a b : List ℕ) → a ≡ b → same_name a b ≡ true
 same_true a b e = (bytes_decides a b).1 e
 
-not_true : (v : Bool) → not v ≡ true → v ≡ false
-not_true false e = refl
-not_true true e = cc
-
-or_right : (v w : Bool) → w ≡ true → (v || w) ≡ true
-or_right true w is = refl
-or_right false w is = is
-
 module _ (f : Forest) (facts : List (List ℕ)) where
   -- the tokens of a fact, if another one is among the facts
   abbrev pub IsIfRead : List ℕ → List ℕ → Spot → Type 0
   IsIfRead of fact p = ((not (same_name of fact) && list_any (same_name of) facts) ≡ true) × IsFactSpot f fact p
-
-  -- a premise that says nothing of the kind
-  pub said_none : (premise : Premise) → ((g fact : List ℕ) → says_against g fact premise ≡ false) → (r : Reach) → Notes f (IsSpotSaid f facts premise) r r
-  said_none premise none r = notes_none f (IsSpotSaid f facts premise) r (λ p (fact, (g, at, differ, says), spot). (let no : true ≡ false = sym says ∙ none g fact in cc))
 
   pub said_both : (name one other : List ℕ) (old mid new : Reach) → Notes f (IsIfRead one other) old mid → Notes f (IsIfRead other one) mid new → Notes f (IsSpotSaid f facts (Against name one other)) old new
   said_both name one other old mid new =
@@ -183,7 +171,7 @@ module _ (f : Forest) (facts : List (List ℕ)) where
       one_of of fact test says =
           let (differ, among) = both (not (same_name of fact)) (list_any (same_name of) facts) test in
           let (g, at, same) = list_any-In (same_name of) facts among in
-          (g, at, sym (ap (λ z. same_name z fact) ((bytes_decides of g).0 same)) ∙ not_true (same_name of fact) differ, says g same)
+          (g, at, sym (ap (λ z. same_name z fact) ((bytes_decides of g).0 same)) ∙ not-true (same_name of fact) differ, says g same)
 
       apart : (p : Spot) → IsSpotSaid f facts (Against name one other) p → IsIfRead one other p ⊎ IsIfRead other one p
       apart p (fact, (g, at, differ, says), spot) = elim (or_cases (same_name one g && same_name other fact) (same_name one fact && same_name other g) says) [
@@ -245,7 +233,7 @@ rule_noted s f r facts old first mid new are at_start by_class by_fact =
         let (g, at, rivals) = list_any-In (λ z. are_rivals s z fact) (read_by (rule_of s r)) reads in
         let (differ, said) = both (not (same_name g fact)) (list_any (says_against g fact) s.premises) rivals in
         let (premise, on, says) = list_any-In (says_against g fact) s.premises said in
-        inr (premise, on, (fact, (g, subst (In g) (sym are) at, not_true (same_name g fact) differ, says), spot))
+        inr (premise, on, (fact, (g, subst (In g) (sym are) at, not-true (same_name g fact) differ, says), spot))
 
 -- ---- as the code finds it
 

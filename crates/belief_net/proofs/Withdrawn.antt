@@ -33,6 +33,7 @@ use Rattle.joined.specs.Rows.{Row, fires_by}
 use Rattle.joined.specs.Sparing.{StaysIn, IsSparedAt}
 use Rattle.joined.specs.Turning.{TreeTurns, withdraws, Moved, came, went, effect_of}
 use Rattle.joined.proofs.Leaving.{below_under, under_below}
+use Rattle.joined.proofs.Deciding.{true_false}
 use Rattle.belief_net.specs.declared.deciding.Due.{Due}
 use Rattle.belief_net.specs.declared.state.BeliefNet.{BeliefNet}
 use Rattle.belief_net.specs.Decided.{table_of, rule_in, KeepsLast}
@@ -51,9 +52,6 @@ use Rattle.belief_net.proofs.Turned.{date_is, fit_decided}
 
 none_some : {X : Type 0} (o : Option X) (x : X) → o ≡ None → o ≡ Some x → ⊥
 none_some o x none some = let both : None ≡ Some x = sym none ∙ some in cc
-
-true_false : {P : Type 0} → true ≡ false → P
-true_false e = cc
 
 -- ---- what is below is no earlier
 

@@ -111,16 +111,9 @@ fn reads_no_rival(standing: &Standing, rule: Name) -> bool
     let read = read_of(standing, rule);
     let facts = read.as_slice();
     for i in 0..facts.len() {
-        if has_or_had_rivals(standing, facts[i]) {
+        if standing.has_or_had_rivals(facts[i]) {
             return false;
         }
     }
     true
-}
-
-// Whether a premise of one of both lists says of a fact that another one contradicts it.
-fn has_or_had_rivals(standing: &Standing, fact: Name) -> bool
-    ensures { result ≡ false → (g : List ℕ) → (are_rivals standing.now.committed fact g ≡ false) × (are_rivals standing.now.present fact g ≡ false) }
-{
-    standing.has_rivals(fact) || standing.had_rivals(fact)
 }

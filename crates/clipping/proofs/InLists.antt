@@ -1,10 +1,10 @@
 -- Elements of several lists that pass a test.
 use Rattle.std.proofs.Common.{◌≡◌, ◌∙◌, ℕ, zero, suc, ◌<◌, Bool, true, false, List, [], ◌∷◌, length, refl, sym, subst, ◌≤◌, arith}
-use Rattle.std.specs.Prelude.{Option, Some, None, is_some}
+use Rattle.std.specs.Prelude.{Option, Some, None}
 use Rattle.std.specs.List.{list_any}
 use Rattle.std.specs.Option.{ForSome}
 use Rattle.std.proofs.lemmas.Bool.{or_left, or_right, or_from}
-use Rattle.std.proofs.lemmas.List.Folds.{list_any-append, list_any_none, list_any_at}
+use Rattle.std.proofs.lemmas.List.Folds.{list_any-append}
 use Rattle.std.specs.declared.cmp.Ordering.{Ordering}
 use Rattle.belief_theory.specs.FirstPlaces.{IsFirstPlace}
 use Rattle.clipping.specs.declared.across.Place.{Place}
@@ -21,13 +21,7 @@ pub none_of_all : {A : Type 0} (test : A → Bool) (lists : List (List A)) → (
 none_of_all test [] h = refl
 none_of_all test (l ∷ lists) h = list_any-append test l (all_of lists) ∙ or_from (list_any test l) (list_any test (all_of lists)) (h 0 (omega arith)) (none_of_all test lists (λ i lt. h (suc i) (omega arith)))
 
--- a place that was found tells whether one passes
-pub found_any : {A : Type 0} (cmp : A → A → Ordering) (test : A → Bool) (xs : List A) (place : Option ℕ) → IsFirstPlace cmp test xs place → list_any test xs ≡ is_some place
-found_any cmp test xs None none = list_any_none test xs none
-found_any cmp test [] (Some i) first = absurd (let lt : i < 0 = first.within in omega arith)
-found_any cmp test (x ∷ xs) (Some i) first = list_any_at test (x ∷ xs) i x first.within (first.passes x)
-
--- it is within the list
+-- a place that was found is within the list
 pub found_within : {A : Type 0} (cmp : A → A → Ordering) (test : A → Bool) (xs : List A) (place : Option ℕ) → IsFirstPlace cmp test xs place → ForSome place (λ i. i < length xs)
 found_within cmp test xs None none i same = absurd (let no = sym same in cc)
 found_within cmp test xs (Some j) first i same = let is : j ≡ i = cc in subst (λ m. m < length xs) is first.within

@@ -1,5 +1,5 @@
 -- What is listed of changes.
-use Rattle.std.proofs.Common.{◌≡◌, ◌∙◌, ◌⊎◌, inl, inr, ℕ, ◌+◌, ◌*◌, ◌/◌, ◌%◌, ◌<◌, ◌≤◌, ◌++◌, Bool, true, false, List, [], length, get_or, set, drop, append_assoc, ap, sym, subst, arith, refl}
+use Rattle.std.proofs.Common.{◌≡◌, ◌∙◌, ◌⊎◌, inl, inr, ℕ, ◌+◌, ◌*◌, ◌/◌, ◌%◌, ◌<◌, ◌≤◌, ◌++◌, true, false, List, [], length, get_or, set, drop, append_assoc, ap, sym, subst, arith, refl}
 use Rattle.std.specs.List.{Contains}
 use Rattle.std.proofs.lemmas.Bool.{cases_eq, false≢true}
 use Rattle.std.proofs.Math.Seq.{drop-append_seam}
@@ -244,6 +244,3 @@ fewer_listed places from to moved is fewer k lt (inl e) = absurd (false≢true e
 fewer_listed places from to moved is fewer k lt (inr m) =
     let both : Contains from (k / 256) × Contains to (k % 256) = is m.0 k m.1 m.1 m.2 in
     elim fewer [ inl first ↦ inl (first (k / 256) both.0) | inr second ↦ inr (second (k % 256) both.1) ]
-
-pub all_listed : (places moved : List ℕ) (full : Bool) → ((p : ℕ) → p < 256 → Contains moved p) → AreNumbersListed places full moved
-all_listed places moved full all k lt speaks = inl (all (k / 256) (omega (arith, lt)))

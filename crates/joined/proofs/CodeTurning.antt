@@ -1,5 +1,6 @@
 -- A turn keeps what nodes and rows say of a revision, whatever it does to the nodes.
 use Rattle.std.proofs.Common.{◌≡◌, ◌∙◌, ℕ, Bool, true, false, ◌&&◌, List, ◌∷◌, refl, sym, ap, subst, inl, inr, arith}
+use Rattle.std.proofs.lemmas.Bool.{cases_Bool}
 use Rattle.std.proofs.lemmas.Int.{ints}
 use Rattle.std.specs.Prelude.{◌⊎◌, ◌≢◌, Some, None, ℤ, ◌≤ℤ◌, ◌<ℤ◌}
 use Rattle.std.specs.List.{Contains}
@@ -31,7 +32,7 @@ use Rattle.revisions.proofs.Turning.{turned}
 use Rattle.joined.specs.Netted.{IsNetted}
 use Rattle.joined.specs.Rows.{Row, Rows, fires_by, decision_of, HasRow, IsWaiting, AreApart}
 use Rattle.joined.specs.Turning.{IsCodeTurn, Moved, ComesFrom, decided, kept, new}
-use Rattle.joined.proofs.Deciding.{fires_told, true_or, not_both, some_row, live_or}
+use Rattle.joined.proofs.Deciding.{fires_told, not_both, some_row, live_or}
 
 -- the outcome kept after a turn: the one made, none yet, or that kept before
 abbrev pick : Bool → Bool → Outcome → Outcome → Outcome
@@ -344,7 +345,7 @@ module _ (old : Standing) (edit : Edit) (net : Net) (f g : Forest) (rows after :
       test : (u : Moment) (q : List ℕ) → Contains c u → Contains (R.rules u) q → IsWaiting g after u q ⊎ (IsWaiting g after u q → ⊥)
       test u q there stands =
           let (j, row, here, of_u, of_q) = row_of u q there stands in
-          elim (true_or row.waits) [
+          elim (cases_Bool row.waits) [
             | inl waits ↦ inl (j, row, here, waits, of_u, of_q)
             | inr not_waits ↦ inr (λ h. not_both row.waits (subst (λ (z : Row). z.waits ≡ true) (one_row h.0 j h.1 row h.2 here (h.4 ∙ sym of_u) (h.5 ∙ sym of_q)) h.3) not_waits)
           ]

@@ -17,12 +17,11 @@ fires_is beyond = refl
 pub fires_told : (d : Decision) (o : Outcome) → d ≡ decision_of o → fires_by d ≡ is_firing o
 fires_told d o is = ap fires_by is ∙ fires_is o
 
-pub true_or : (v : Bool) → (v ≡ true) ⊎ (v ≡ false)
-true_or true = inl refl
-true_or false = inr refl
+pub true_false : {P : Type 0} → true ≡ false → P
+true_false e = cc
 
-pub not_both : (v : Bool) → v ≡ true → v ≡ false → ⊥
-not_both v h e = let f : true ≡ false = sym h ∙ e in cc
+pub not_both : {P : Type 0} (v : Bool) → v ≡ true → v ≡ false → P
+not_both v h e = true_false (sym h ∙ e)
 
 pub some_row : (o : Option Row) → IsSome o → (q : Row) × (o ≡ Some q)
 some_row (Some q) h = (q, refl)

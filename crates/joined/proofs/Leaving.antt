@@ -1,5 +1,6 @@
 -- What a withdrawal leaves.
 use Rattle.std.proofs.Common.{◌≡◌, ◌∙◌, ℕ, Bool, true, false, not, ◌||◌, List, [], ◌∷◌, ◌++◌, Option, Some, None, filter, refl, sym, ap, subst, inl, inr}
+use Rattle.std.proofs.lemmas.Bool.{or_left, or_right}
 use Rattle.std.specs.Prelude.{◌⊎◌}
 use Rattle.std.specs.List.{Contains}
 use Rattle.tmm_model.specs.declared.point.PointName.TheVariants.{Begin}
@@ -52,22 +53,14 @@ either : (a b : Bool) → (a || b) ≡ true → (a ≡ true) ⊎ (b ≡ true)
 either true b h = inl refl
 either false b h = inr h
 
-or_first : (a b : Bool) → a ≡ true → (a || b) ≡ true
-or_first true b h = refl
-or_first false b h = cc
-
-or_second : (a b : Bool) → b ≡ true → (a || b) ≡ true
-or_second true b h = refl
-or_second false b h = h
-
 tells_under : (x y : Moment) → is_under x y ≡ true → IsUnder x y
 tells_under x (At p) h = (Decides-same_moment (At p) x).0 h
 tells_under x (After t r) h = elim (either (same_moment (After t r) x) (is_under x t) h) [ inl same ↦ inl ((Decides-same_moment (After t r) x).0 same) | inr rest ↦ inr (tells_under x t rest) ]
 
 under_told : (x y : Moment) → IsUnder x y → is_under x y ≡ true
 under_told x (At p) h = (Decides-same_moment (At p) x).1 h
-under_told x (After t r) (inl same) = or_first (same_moment (After t r) x) (is_under x t) ((Decides-same_moment (After t r) x).1 same)
-under_told x (After t r) (inr h) = or_second (same_moment (After t r) x) (is_under x t) (under_told x t h)
+under_told x (After t r) (inl same) = or_left (same_moment (After t r) x) (is_under x t) ((Decides-same_moment (After t r) x).1 same)
+under_told x (After t r) (inr h) = or_right (same_moment (After t r) x) (is_under x t) (under_told x t h)
 
 abbrev is_apart : Moment → Moment → Bool
 is_apart x y = not (is_under x y)

@@ -11,9 +11,7 @@ use Rattle.tmm_model.specs.Points.{same_name}
 use Rattle.tmm_model.specs.Standing.{Standing}
 use Rattle.list_theory.proofs.Elements.{In, In-map, map-In, list_any-In, In-list_any}
 use Rattle.belief_theory.proofs.Rivals.{or_cases, or_left, or_right}
-use Rattle.list_net.specs.Represents.{Names}
-use Rattle.spots.specs.Forest.{Member, moment}
-use Rattle.spots.specs.OfLists.{IsMemberOf}
+use Rattle.spots.specs.Forest.{moment}
 use Rattle.supports.proofs.Grown.{stands}
 use Rattle.revisions.specs.Maps.{watches}
 use Rattle.row_links.specs.Lists.{IsOn}
@@ -148,15 +146,3 @@ readers_listed s names m rows name number class k i r own is_class is_number num
     back : IsListedUnder (present rows) k i ⊎ (reads_rival s (name r.value.rule) m.what ≡ true) → watches s (name r.value.rule) (moment m) ≡ true
     back (inl on) = reads ∙ or_left (reads_class s (name r.value.rule) class) (reads_rival s (name r.value.rule) m.what) (by_list.1 on)
     back (inr rival) = reads ∙ or_right (reads_class s (name r.value.rule) class) (reads_rival s (name r.value.rule) m.what) rival
-
--- where the rule reads no rival of its fact, by the list alone
-pub class_readers : (s : Standing) (names : Names) (m : Member) (rows : Logged Pair 8) (name : ℕ → List ℕ) (number : List ℕ → Option ℕ)
-    (class : List ℕ) (k i : ℕ) (r : TableRow Pair 8)
-    → IsMemberOf s names m → m.class ≡ Some class → number class ≡ Some k → AreNumbered number
-    → AreListed (present rows) → (present rows).row i ≡ Some r → IsUnderClasses s name number r → reads_rival s (name r.value.rule) m.what ≡ false
-    → (watches s (name r.value.rule) (moment m) ≡ true) ↔ IsListedUnder (present rows) k i
-class_readers s names m rows name number class k i r own is_class is_number numbered listed here under none =
-    let both = readers_listed s names m rows name number class k i r own is_class is_number numbered listed here under in (
-      λ h. elim (both.0 h) [ inl on ↦ on | inr rival ↦ (let no : true ≡ false = sym rival ∙ none in cc) ],
-      λ on. both.1 (inl on),
-    )

@@ -1,5 +1,6 @@
 -- Decisions keep their outcomes where what moved of the tokens that they read is spared.
 use Rattle.std.proofs.Common.{◌≡◌, ◌≢◌, ◌∙◌, ℕ, Bool, true, false, not, ◌&&◌, ◌||◌, List, [], ◌∷◌, refl, sym, ap, subst, inl, inr, arith}
+use Rattle.std.proofs.lemmas.Bool.{cases_Bool, not-true}
 use Rattle.std.proofs.lemmas.Int.{ints}
 use Rattle.std.specs.Prelude.{◌⊎◌, ℤ, pos, negsuc, Option, Some, None}
 use Rattle.std.specs.List.{Contains}
@@ -41,6 +42,7 @@ use Rattle.revisions.proofs.Shifts.{shifts_keep}
 use Rattle.revisions.proofs.Tokens.{tokens_stay}
 use Rattle.joined.specs.Gaps.{reads_class, ReadsNoRival, begin, an_end, start, read, IsSpotAt, TellsMoves}
 use Rattle.joined.specs.Shifting.{IsSpotOf, MovesAmong, AreLoose, IsFast, IsWallAt, IsSparedAt, SparesClass, MayRest, RestingKeep}
+use Rattle.joined.proofs.Deciding.{not_both}
 use Rattle.joined.proofs.Gaps.{WasThere, distance_was, token, is_read, IsTokenAt, token_at, spot_was, unmoved_same}
 use Rattle.joined.proofs.Reading.{class_watched, watched_plain, none_rival, plain_have}
 use Rattle.joined.proofs.Touching.{watched_on}
@@ -69,27 +71,16 @@ parted {X} P Q (y ∷ ys) h = by (h y (inl refl)) (parted P Q ys (λ x at. h x (
       all = λ x at. elim at [ inl is ↦ inr (subst Q is first) | inr there ↦ rest.all x there ];
     }
 
-true_or : (v : Bool) → (v ≡ true) ⊎ (v ≡ false)
-true_or true = inl refl
-true_or false = inr refl
-
-not_both : {P : Type 0} (v : Bool) → v ≡ true → v ≡ false → P
-not_both v is other = let h : true ≡ false = sym is ∙ other in cc
-
 -- ---- fast tokens
 
 is_fast : (ℕ → Bool) → Member → Bool
 is_fast loose m = not (loose m.begin) && option_map_or (λ e. not (loose e)) m.end true
 
-not_true : (v : Bool) → not v ≡ true → v ≡ false
-not_true false e = refl
-not_true true e = cc
-
 fast_is : (loose : ℕ → Bool) (m : Member) → is_fast loose m ≡ true → IsFast loose m
 unfolding is_fast
 fast_is loose m e =
     let h = both (not (loose m.begin)) (option_map_or (λ e. not (loose e)) m.end true) e in
-    record { begin = not_true (loose m.begin) h.0; «end» = λ n ends. not_true (loose n) (sym (ap (λ o. option_map_or (λ e. not (loose e)) o true) ends) ∙ h.1) }
+    record { begin = not-true (loose m.begin) h.0; «end» = λ n ends. not-true (loose n) (sym (ap (λ o. option_map_or (λ e. not (loose e)) o true) ends) ∙ h.1) }
 
 is_fast_of : (loose : ℕ → Bool) (m : Member) → IsFast loose m → is_fast loose m ≡ true
 unfolding is_fast
@@ -107,9 +98,9 @@ before_is_by Free e = cc
 
 -- of two that differ one has another name
 one_differs : (k v w : List ℕ) → v ≢ w → (same_name k v ≡ false) ⊎ (same_name k w ≡ false)
-one_differs k v w differ = elim (true_or (same_name k v)) [
+one_differs k v w differ = elim (cases_Bool (same_name k v)) [
   | inr other ↦ inl other
-  | inl same ↦ elim (true_or (same_name k w)) [
+  | inl same ↦ elim (cases_Bool (same_name k w)) [
     | inr other ↦ inr other
     | inl too ↦ absurd (differ (sym ((bytes_decides k v).0 same) ∙ (bytes_decides k w).0 too))
   ]
@@ -229,7 +220,7 @@ module _ (old : Standing) (edit : Edit) (nets : Nets) (moves : ℕ → ℕ → B
   Choice class = (reads_class new r class ≡ false) ⊎ ((MovesAmong moves f (IsSpotOf f class) x → ⊥) ⊎ SparesClass nets f loose class x)
 
   choice : (class : List ℕ) → Choice class
-  choice class = elim (true_or (reads_class new r class)) [ inl reads ↦ inr (rest.each class reads) | inr none ↦ inl none ]
+  choice class = elim (cases_Bool (reads_class new r class)) [ inl reads ↦ inr (rest.each class reads) | inr none ↦ inl none ]
 
   -- the tokens that stay
   stays_by : (class : List ℕ) → Choice class → Member → Bool
@@ -247,11 +238,11 @@ module _ (old : Standing) (edit : Edit) (nets : Nets) (moves : ℕ → ℕ → B
       → (most : ℤ) → links_high (links_of f q) ≡ Finite most → moves (base_of f p) (base_of f q) ≡ false
   unfolding Good
   good_unmoved class (inl none) p q good_p good_q most bounded = absurd good_p
-  good_unmoved class (inr (inl still)) p q good_p good_q most bounded = elim (true_or (moves (base_of f p) (base_of f q))) [
+  good_unmoved class (inr (inl still)) p q good_p good_q most bounded = elim (cases_Bool (moves (base_of f p) (base_of f q))) [
     | inl moved ↦ absurd (still (record { from = p; to = q; from_is = good_p; to_is = good_q; most = most; bounded = bounded; moved = moved }))
     | inr unmoved ↦ unmoved
   ]
-  good_unmoved class (inr (inr spares)) p q good_p good_q most bounded = elim (true_or (moves (base_of f p) (base_of f q))) [
+  good_unmoved class (inr (inr spares)) p q good_p good_q most bounded = elim (cases_Bool (moves (base_of f p) (base_of f q))) [
     | inl moved ↦ elim (cover.each (base_of f p) (base_of f q) moved) [
       | inl lost ↦ not_both (loose (base_of f p)) lost good_p
       | inr lost ↦ not_both (loose (base_of f q)) lost good_q
@@ -295,7 +286,7 @@ module _ (old : Standing) (edit : Edit) (nets : Nets) (moves : ℕ → ℕ → B
   one_of : (k : TokenRow Moment) → In k read_here → IsOne true k ⊎ IsOne false k
   one_of k on =
       let a = token_at old edit nets f net_old seen keep b r x holds live was_event were k on in
-      elim (true_or (stays_by a.class (choice a.class) a.node)) [
+      elim (cases_Bool (stays_by a.class (choice a.class) a.node)) [
         | inl stays ↦ inl (record { token = a; is = stays })
         | inr goes ↦ inr (record { token = a; is = goes })
       ]

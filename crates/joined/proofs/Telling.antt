@@ -1,5 +1,5 @@
 -- What is told of the occurrences that enter and leave.
-use Rattle.std.proofs.Common.{◌≡◌, ◌∙◌, ℕ, ◌≤◌, true, false, List, [], ◌∷◌, ◌++◌, sym, subst, inl, inr}
+use Rattle.std.proofs.Common.{◌≡◌, ◌∙◌, ℕ, ◌≤◌, List, [], ◌∷◌, ◌++◌, sym, subst, inl, inr}
 use Rattle.std.specs.Prelude.{sum_by}
 use Rattle.std.specs.List.{Contains}
 use Rattle.tmm_model.specs.declared.premise.Edit.{Edit}
@@ -28,6 +28,7 @@ use Rattle.joined.specs.Rows.{Row, Rows, fires_by, IsWaiting, NoneWaits}
 use Rattle.joined.specs.Starting.{IsPrepared}
 use Rattle.joined.specs.Telling.{IsToldOf, LeaveFirst, TellsMore, nothing, an_entry, leaving, TellsAll}
 use Rattle.joined.specs.Turning.{effect_of, IsCodeTurn}
+use Rattle.joined.proofs.Deciding.{true_false}
 use Rattle.joined.proofs.CodeTurning.{first}
 use Rattle.joined.proofs.CodeTurns.{code_turns, fires, fired}
 use Rattle.joined.proofs.Preparing.{seeds, are_seeds, holds}
@@ -90,9 +91,6 @@ module _ (old : Standing) (edit : Edit) (net : Net) (f g : Forest) (rows after :
 
   is_told : IsTold R n.nodes ins outs
   is_told = told n.nodes n.holds
-
-  true_false : {P : Type 0} → true ≡ false → P
-  true_false e = cc
 
   over : (c : List Moment) (a b : List Moment) → IsTold R c a b → ins_after ≡ a → outs_after ≡ b → IsTold R c ins_after outs_after
   over c a b h is_in is_out = subst (λ z. IsTold R c z outs_after) (sym is_in) (subst (IsTold R c a) (sym is_out) h)

@@ -1,68 +1,75 @@
 -- A least walk followed from rank to rank.
-use Rattle.std.proofs.Common.{◌≡◌, ◌∙◌, ◌⊎◌, inl, inr, ℕ, ◌+◌, ◌<◌, ◌≤◌, ◌-◌, List, [], ◌∷◌, ◌++◌, length, get_or, replicate, Option, ap, sym, subst, arith, refl, ℤ, pos, ◌+ℤ◌, ◌≤ℤ◌, true, false, eqb}
+use Rattle.std.proofs.Common.{◌≡◌, ◌∙◌, ◌⊎◌, inl, inr, ℕ, ◌+◌, ◌<◌, ◌≤◌, List, [], ◌∷◌, ◌++◌, length, get_or, ap, sym, subst, arith, refl, ℤ, pos, ◌+ℤ◌, ◌≤ℤ◌, true, false, eqb}
 use Rattle.std.specs.List.{All, Contains, IsDistinct, list_any}
-use Rattle.std.specs.Option.{is_some}
-use Rattle.std.specs.Cmp.{IsEquivalence}
-use Rattle.std.proofs.lemmas.Bool.{eqb-true, eq-eqb, ne_eqb, cases_lt, or_cases, or_left, or_right, false_from_ne_true, false≢true}
-use Rattle.std.proofs.lemmas.Bool.Decides.{eqb_tells, Decides-eqb}
+use Rattle.std.proofs.lemmas.Bool.{cases_eq, eqb-true, or_cases, or_left, or_right, false_from_ne_true, false≢true}
 use Rattle.std.proofs.lemmas.Map.Keys.{IsDistinct-cons, IsDistinct-push}
 use Rattle.std.proofs.lemmas.Int.{ints}
-use Rattle.std.proofs.lemmas.List.{map-append, get_or-map, length-map, get_or-replicate, get_or_past, length-replicate}
+use Rattle.std.proofs.lemmas.List.{map-append, get_or_default}
 use Rattle.std.proofs.lemmas.List.Elements.{All-push}
-use Rattle.std.proofs.lemmas.List.Sums.{count_by-le-length}
 use Rattle.tmm_model.specs.declared.bound.Bound.TheVariants.{Finite}
-use Rattle.tmm_model.specs.declared.point.PointName.{PointName}
 use Rattle.tmm_model.specs.Walks.{Arc, HasDates, total}
-use Rattle.walk_theory.specs.LeastWalks.{IsWalk, IsFar, HasWalk, AreAmong, points}
-use Rattle.walk_theory.proofs.Members.{All-from_contains, Contains-map}
-use Rattle.walk_theory.proofs.Paths.{Path, shorten, closed_walks, length_lt_from_distinct, IsFar-same}
+use Rattle.walk_theory.specs.LeastWalks.{IsWalk, IsFar, HasWalk, points}
+use Rattle.walk_theory.proofs.Members.{Contains-map, Contains-map_from}
+use Rattle.walk_theory.proofs.Paths.{IsFar-same}
 use Rattle.walk_theory.proofs.Sizes.{Fits-round}
 use Rattle.walk_theory.proofs.Walks.{IsWalk-append, total-append}
 use Rattle.dist_net.specs.declared.Edge.{Edge}
-use Rattle.dist_net.specs.Net.{arc_of, arcs_of, same_number, IsInUse, AreInUse}
-use Rattle.dist_net.proofs.Ends.{edge_at}
-use Rattle.dist_net.proofs.Names.{ends_of, numbers_from, length-numbers_from, Contains-in_use}
-use Rattle.neg_cycle.specs.Ranks.{HasFar, IsNext, AreRankedWithin, IsLeastPath}
-use Rattle.neg_cycle.proofs.Ranked.{IsTightArc, IsSpreading, tight_first, least_tail}
+use Rattle.dist_net.specs.Net.{arc_of, arcs_of, same_number}
+use Rattle.neg_cycle.specs.declared.ranks.Ways.{Ways}
+use Rattle.neg_cycle.specs.Ends.{IsAt}
+use Rattle.neg_cycle.specs.Ranks.{HasFar, IsTight, IsNext, AreWays, IsFurther, IsVisited, IsLeastPath}
+use Rattle.neg_cycle.proofs.Ranked.{IsDistinct-none, eqb_laws, IsVisited-kept}
 
--- a round ranks the points one edge further away
-pub AreRankedWithin-suc : (edges : List Edge) (b k j : ℕ) (start now : List ℕ) → IsSpreading edges b k (length edges) start now → AreRankedWithin edges b j start → AreRankedWithin edges b (j + 1) now
-AreRankedWithin-suc edges b k j start now is before p [] h far few = subst (λ (q : ℕ). 0 < get_or now q 0) (sym h) is.ranked.at_end
-AreRankedWithin-suc edges b k j start now is before p (x ∷ walk) h far few =
+-- each edge with which a least walk to b begins is from a ranked point, where it leads to one
+abbrev pub IsClosed : List Edge → ℕ → List ℕ → Type 0
+IsClosed edges b rank = (place : ℕ) (e : Edge) → IsAt edges place e → IsTight edges b e → 0 < get_or rank e.to 0 → 0 < get_or rank e.from 0
+
+-- what is left of a least walk is a least walk
+least_tail : (arcs : List (Arc ℕ)) (p b : ℕ) (e : Arc ℕ) (walk : List (Arc ℕ)) → IsWalk arcs p b (e ∷ walk) → IsFar arcs p b (Finite (e.weight +ℤ total walk)) → IsFar arcs e.to b (Finite (total walk))
+least_tail arcs p b e walk h far = record {
+  reached = (walk, h.2, refl);
+  least = λ v k. (let le : (e.weight +ℤ total walk) ≤ℤ (e.weight +ℤ total v) = far.least (e ∷ v) (h.0, h.1, k) in omega (arith, ints));
+}
+
+-- then each point of a least walk to b is ranked
+ranked_from : (edges : List Edge) (b : ℕ) (rank : List ℕ) → 0 < get_or rank b 0 → IsClosed edges b rank → (p : ℕ) (walk : List (Arc ℕ)) → IsWalk (arcs_of edges) p b walk → IsFar (arcs_of edges) p b (Finite (total walk)) → 0 < get_or rank p 0
+ranked_from edges b rank at_end closed p [] h far = subst (λ (q : ℕ). 0 < get_or rank q 0) (sym h) at_end
+ranked_from edges b rank at_end closed p (x ∷ walk) h far =
     let arcs : List (Arc ℕ) = arcs_of edges in
-    let i : ℕ = h.0.0 in
-    let lt : i < length edges = omega (arith, h.0.1, length-map edges arc_of) in
-    let e : (e : Edge) × ((d : Edge) → get_or edges i d ≡ e) = edge_at edges i lt in
-    let is_x : arc_of (get_or edges i e.0) ≡ x = sym (get_or-map arc_of edges i e.0 x lt) ∙ h.0.2 in
-    let some : 0 < get_or start x.to 0 = before x.to walk h.2 (least_tail arcs p b x walk h far) (omega (arith, few)) in
-    let P : Arc ℕ → Type 0 = λ y. IsTightArc arcs b y → 0 < get_or start y.to 0 → 0 < get_or now y.from 0 in
-    subst (λ (q : ℕ). 0 < get_or now q 0) h.1 (subst P is_x (is.spread i e.0 lt) (tight_first arcs p b x walk h far) some)
+    let rest : IsFar arcs x.to b (Finite (total walk)) = least_tail arcs p b x walk h far in
+    let some : 0 < get_or rank x.to 0 = ranked_from edges b rank at_end closed x.to walk h.2 rest in
+    let r : (e : Edge) × Contains edges e × (arc_of e ≡ x) = Contains-map_from arc_of edges x h.0 in
+    let P : Arc ℕ → Type 0 = λ y. ((t : ℤ) × IsFar arcs y.to b (Finite t) × IsFar arcs y.from b (Finite (y.weight +ℤ t))) → 0 < get_or rank y.to 0 → 0 < get_or rank y.from 0 in
+    let leads : P (arc_of r.0) = λ tight to. closed r.1.0 r.0 (r.1.1, r.1.2) tight to in
+    subst (λ (q : ℕ). 0 < get_or rank q 0) h.1 (subst P r.2 leads (total walk, rest, subst (λ (q : ℕ). IsFar arcs q b (Finite (x.weight +ℤ total walk))) (sym h.1) far) some)
 
--- after so many rounds every point with a walk to b is ranked
-pub ranked_at_last : (names : List (Option PointName)) (edges : List Edge) (a b k : ℕ) (rank : List ℕ) → length names ≡ 256 → AreInUse names edges → HasDates 0 (arcs_of edges) → IsInUse names b → 255 ≤ k →
-    AreRankedWithin edges b k rank → HasFar edges a b → 0 < get_or rank a 0
-ranked_at_last names edges a b k rank places used dates used_b enough ranked (s, far) =
-    let arcs : List (Arc ℕ) = arcs_of edges in
-    let known : List ℕ = numbers_from 0 names in
-    let among : AreAmong known arcs =
-    All-from_contains (λ e. Contains known e.from × Contains known e.to) arcs
-    (λ e m. (Contains-in_use names e.from (ends_of names edges used e m).0, Contains-in_use names e.to (ends_of names edges used e m).1)) in
-    let r : HasWalk arcs a b s = far.reached in
-    let v : Path same_number arcs a b (total r.0) = shorten same_number Decides-eqb arcs (closed_walks 0 arcs dates) a b r.0 r.1 in
-    let le : s ≤ℤ total v.walk = far.least v.walk v.leads in
-    let same : s ≡ total v.walk = omega (arith, ints, le, v.no_longer, r.2) in
-    let short : length v.walk < length known = length_lt_from_distinct same_number Decides-eqb known arcs among a b (Contains-in_use names b used_b) v.walk v.leads v.distinct in
-    ranked a v.walk v.leads (subst (λ (z : ℤ). IsFar arcs a b (Finite z)) same far)
-    (omega (arith, enough, places, short, length-numbers_from 0 names, count_by-le-length is_some names))
+-- ---- going through the ranked points
 
--- while a point with a walk to b is not ranked, there were few rounds
-pub rounds_left : (names : List (Option PointName)) (edges : List Edge) (a b k : ℕ) (rank : List ℕ) → length names ≡ 256 → AreInUse names edges → HasDates 0 (arcs_of edges) → IsInUse names b → 1 ≤ k →
-    AreRankedWithin edges b (k - 1) rank → HasFar edges a b → get_or rank a 0 ≡ 0 → k < 256
-rounds_left names edges a b k rank places used dates used_b positive ranked reached none =
-    elim (cases_lt k 256) [
-      | inl lt ↦ lt
-      | inr out ↦ absurd (omega (arith, none, ranked_at_last names edges a b (k - 1) rank places used dates used_b (omega arith) ranked reached))
-    ]
+-- the first `done` of the ranked points are gone through
+abbrev pub IsThrough : List Edge → ℕ → ℕ → List ℕ → List ℕ → Type 0
+IsThrough edges b done rank ranked = (k : ℕ) → k < done → IsVisited edges b rank (get_or ranked k 0)
+
+pub IsThrough-more : (edges : List Edge) (b done : ℕ) (old new : Ways) → done < length old.ranked.items → IsThrough edges b done old.rank.items old.ranked.items → IsFurther old new →
+    IsVisited edges b new.rank.items (get_or old.ranked.items done 0) → IsThrough edges b (done + 1) new.rank.items new.ranked.items
+IsThrough-more edges b done old new lt is further here k below =
+    let begins : get_or new.ranked.items k 0 ≡ get_or old.ranked.items k 0 = further.begins k (omega (arith, lt, below)) in
+    subst (IsVisited edges b new.rank.items) (sym begins)
+    (elim (cases_eq k done) [
+      | inl same ↦ subst (λ (j : ℕ). IsVisited edges b new.rank.items (get_or old.ranked.items j 0)) (sym same) here
+      | inr other ↦ IsVisited-kept edges b (get_or old.ranked.items k 0) old.rank.items new.rank.items further.kept (is k (omega (arith, below, other)))
+    ])
+
+-- when all are gone through, every point with a walk to b is ranked
+pub all_ranked : (edges : List Edge) (a b done : ℕ) (ways : Ways) → AreWays edges b ways → IsThrough edges b done ways.rank.items ways.ranked.items → length ways.ranked.items ≤ done → HasFar edges a b → 0 < get_or ways.rank.items a 0
+all_ranked edges a b done ways are through all (s, far) =
+    let r : HasWalk (arcs_of edges) a b s = far.reached in
+    ranked_from edges b ways.rank.items are.leading.at_end closed a r.0 r.1 (subst (λ (z : ℤ). IsFar (arcs_of edges) a b (Finite z)) (sym r.2) far)
+  where
+    closed : IsClosed edges b ways.rank.items
+    closed place e at tight some =
+        let m : Contains ways.ranked.items e.to = are.listed.all e.to some in
+        let is : get_or ways.ranked.items m.0 0 ≡ e.to = get_or_default ways.ranked.items m.0 0 e.to m.1 ∙ m.2 in
+        through m.0 (omega (arith, m.1, all)) place e at (sym is) tight
 
 -- ---- following
 
@@ -80,17 +87,6 @@ pub record IsFollowing (edges : List Edge) (a b : ℕ) (rank : List ℕ) (at : �
 points-push : (walk : List (Arc ℕ)) (e : Arc ℕ) (b : ℕ) → points (walk ++ e ∷ []) b ≡ points walk e.from ++ b ∷ []
 points-push [] e b = refl
 points-push (x ∷ walk) e b = ap (λ (t : List ℕ). x.from ∷ t) (points-push walk e b)
-
-IsDistinct-none : IsDistinct same_number []
-unfolding IsDistinct
-IsDistinct-none = tt
-
-eqb_laws : IsEquivalence eqb
-eqb_laws = record {
-  refl = λ x. eq-eqb x x refl;
-  symm = λ x y. elim (eqb_tells x y) [ inl h ↦ h.0 ∙ sym (eq-eqb y x (sym h.1)) | inr h ↦ h.0 ∙ sym (ne_eqb y x (λ e. h.1 (sym e))) ];
-  congr = λ x y z t. ap (λ (p : ℕ). eqb p z) (eqb-true x y t);
-}
 
 -- the point behind the last is not visited before: its rank is lower
 fresh : (edges : List Edge) (a b : ℕ) (rank : List ℕ) (at next : ℕ) (steps : List Edge) → IsFollowing edges a b rank at steps → get_or rank next 0 < get_or rank at 0 → list_any (eqb next) (points (arcs_of steps) at) ≡ false
@@ -158,12 +154,3 @@ IsLeastPath-end edges a b rank at steps dates same is =
       least = subst (λ (z : ℤ). IsFar arcs a b (Finite z)) sum is.far;
       distinct = subst (λ (p : ℕ). IsDistinct same_number (points (arcs_of steps) p)) same is.distinct;
     }
-
--- ---- for the answers of `ranks`
-
-pub zeros : (n p : ℕ) (ranks : List ℕ) → ranks ≡ replicate n 0 → get_or ranks p 0 ≤ 0
-zeros n p ranks is =
-    elim (cases_lt p n) [
-      | inl lt ↦ omega (arith, ap (λ (t : List ℕ). get_or t p 0) is, get_or-replicate {A = ℕ} n p 0 0 lt)
-      | inr past ↦ omega (arith, ap (λ (t : List ℕ). get_or t p 0) is, get_or_past (replicate {A = ℕ} n 0) p 0 (omega (arith, past, length-replicate {A = ℕ} n 0)))
-    ]

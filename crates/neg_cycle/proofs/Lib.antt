@@ -1,4 +1,5 @@
 pub mod Checked
 pub mod Followed
+pub mod Linked
 pub mod Named
 pub mod Ranked

@@ -1,13 +1,15 @@
 -- Ranks of points: from each ranked point a least walk goes on along an edge to a point of a lower
 -- rank.
-use Rattle.std.specs.Prelude.{◌≡◌, ◌⊎◌, ◌++◌, ℕ, ◌<◌, ◌≤◌, List, map, length, ℤ, ◌+ℤ◌, slice_index}
+use Rattle.std.specs.Prelude.{◌≡◌, ◌⊎◌, ◌++◌, ℕ, ◌<◌, ◌≤◌, List, map, length, ℤ, ◌+ℤ◌, slice_index, vec_capacity}
 use Rattle.std.specs.List.{All, Contains, IsDistinct}
 use Rattle.tmm_model.specs.declared.bound.Bound.TheVariants.{Finite}
 use Rattle.tmm_model.specs.declared.walk.WalkStep.{WalkStep}
-use Rattle.tmm_model.specs.Walks.{Arc, total}
+use Rattle.tmm_model.specs.Walks.{total}
 use Rattle.walk_theory.specs.LeastWalks.{IsWalk, IsFar, points}
 use Rattle.dist_net.specs.declared.Edge.{Edge}
 use Rattle.dist_net.specs.Net.{Net, arcs_of, same_number}
+use Rattle.neg_cycle.specs.declared.ranks.Ways.{Ways}
+use Rattle.neg_cycle.specs.Ends.{IsAt}
 use Rattle.neg_cycle.specs.Steps.{step_of}
 
 -- there is a walk from a to b
@@ -26,23 +28,39 @@ pub record IsNext (edges : List Edge) (b : ℕ) (rank : List ℕ) (p : ℕ) (e :
   pub ranked : 0 < slice_index rank e.to
   pub lower : slice_index rank e.to < slice_index rank p
 
--- b is ranked, and from each other ranked point an edge leads on
-pub record IsRanked (edges : List Edge) (b : ℕ) (rank : List ℕ) : Type 0 where
-  pub places : length rank ≡ 256
+-- b is ranked, and from each other ranked point its edge leads on
+pub record IsRanked (edges : List Edge) (b : ℕ) (rank first : List ℕ) : Type 0 where
+  pub ranks : length rank ≡ 256
+  pub firsts : length first ≡ 256
   pub at_end : 0 < slice_index rank b
-  pub leads : (p : ℕ) → 0 < slice_index rank p → (p ≡ b) ⊎ ((e : Edge) × IsNext edges b rank p e)
+  pub leads : (p : ℕ) → 0 < slice_index rank p → (p ≡ b) ⊎ ((e : Edge) × IsAt edges (slice_index first p) e × IsNext edges b rank p e)
 
--- each point with a least walk of at most k edges is ranked
-abbrev pub AreRankedWithin : List Edge → ℕ → ℕ → List ℕ → Type 0
-AreRankedWithin edges b k rank = (p : ℕ) (walk : List (Arc ℕ)) → IsWalk (arcs_of edges) p b walk → IsFar (arcs_of edges) p b (Finite (total walk)) → length walk ≤ k → 0 < slice_index rank p
+-- the ranked points, each once, and no rank above their number
+pub record AreListed (rank ranked : List ℕ) : Type 0 where
+  pub distinct : IsDistinct same_number ranked
+  pub some : (k : ℕ) → k < length ranked → 0 < slice_index rank (slice_index ranked k)
+  pub all : (p : ℕ) → 0 < slice_index rank p → Contains ranked p
+  pub low : (p : ℕ) → slice_index rank p ≤ length ranked
 
--- no rank is above m
-abbrev pub AreAtMost : ℕ → List ℕ → Type 0
-AreAtMost m rank = (p : ℕ) → slice_index rank p ≤ m
+-- ranks, the edges that lead on to b, and the list of the ranked points, with room for all
+pub record AreWays (edges : List Edge) (b : ℕ) (ways : Ways) : Type 0 where
+  pub leading : IsRanked edges b ways.rank.items ways.first.items
+  pub listed : AreListed ways.rank.items ways.ranked.items
+  pub room : vec_capacity ways.ranked ≡ 256
 
 -- ranks stay
 abbrev pub AreKept : List ℕ → List ℕ → Type 0
 AreKept old new = (p : ℕ) → 0 < slice_index old p → slice_index new p ≡ slice_index old p
+
+-- ranks stay, and the list of the ranked points begins as before
+pub record IsFurther (old new : Ways) : Type 0 where
+  pub kept : AreKept old.rank.items new.rank.items
+  pub longer : length old.ranked.items ≤ length new.ranked.items
+  pub begins : (k : ℕ) → k < length old.ranked.items → slice_index new.ranked.items k ≡ slice_index old.ranked.items k
+
+-- every edge to p with which a least walk to b begins is from a ranked point
+abbrev pub IsVisited : List Edge → ℕ → List ℕ → ℕ → Type 0
+IsVisited edges b rank p = (place : ℕ) (e : Edge) → IsAt edges place e → e.to ≡ p → IsTight edges b e → 0 < slice_index rank e.from
 
 -- the edges lead from a to b, visit no point twice and have the least sum
 pub record IsLeastPath (edges : List Edge) (a b : ℕ) (path : List Edge) : Type 0 where

@@ -8,6 +8,7 @@
 #![tactic(auto)]
 
 mod check;
+mod ends;
 mod ranks;
 mod trail;
 

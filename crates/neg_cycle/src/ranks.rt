@@ -1,12 +1,40 @@
-// Ranks of points by the number of edges of the shortest least walk to an end.
-ghost use Rattle.std.specs.Prelude.{◌≡◌, ◌⊎◌, ℕ, ◌+◌, ◌<◌, ◌≤◌, length, slice_index, slice_index_or, IsTrue, IsFalse, ◌≢◌, IfOk};
+// Least walks to an end, found from the end backwards.
+ghost use Rattle.std.specs.Prelude.{◌≡◌, List, ◌<◌, length, slice_index, slice_index_or, IsTrue, IsFalse, IfOk};
 ghost use Rattle.dist_net.specs.declared.Edge.{Edge};
 ghost use Rattle.dist_net.specs.Net.{IsInUse};
-ghost use Rattle.neg_cycle.specs.Ranks.{HasFar, IsTight, IsRanked, AreRankedWithin, AreAtMost, AreKept, IsNext};
+ghost use Rattle.neg_cycle.specs.Ends.{IsAt, HasTo, AreByEnd};
+ghost use Rattle.neg_cycle.specs.Ranks.{HasFar, IsTight, AreWays, IsFurther, IsVisited};
 
+use crate::ends::Ends;
 use dist_net::{DistNet, POINTS};
 use std::alloc::Global;
 use tmm_model::{Bound, NoMemory};
+
+/// Least walks to an end. The rank of a point is one more than the number of edges of its shortest
+/// least walk, and such a walk goes on from rank to lower rank.
+#[derive(Drop)]
+pub struct Ways {
+    // by the number of the point, 0 where it has no rank yet
+    rank: Vec<u16>,
+    // for a point with a rank the place of the edge on which its walk goes on
+    first: Vec<u16>,
+    // the points with a rank, in the order of their ranks
+    ranked: Vec<u16>,
+}
+
+/// The least walks to `b` from `a` and from all points that have shorter ones, counted in edges.
+pub fn find_ways(alloc: Global, net: &DistNet, a: u16, b: u16) -> Result<Ways, NoMemory>
+    requires from { IsInUse net.now.present.names a }
+    requires to { IsInUse net.now.present.names b }
+    requires reached { HasFar net.now.present.edges a b }
+    ensures ways { IfOk result (AreWays net.now.present.edges b) }
+    ensures reached { IfOk result (λ ways. 0 < slice_index ways.rank.items a) }
+{
+    let ends = Ends::make(alloc, net.edges())?;
+    let mut ways = Ways::make(alloc, b)?;
+    ways.go_back(net, &ends, a, b);
+    Ok(ways)
+}
 
 // Whether a least walk to `b` begins with the edge.
 fn is_tight(net: &DistNet, place: usize, b: u16) -> bool
@@ -22,93 +50,104 @@ fn is_tight(net: &DistNet, place: usize, b: u16) -> bool
     }
 }
 
-// Ranks the beginning of an edge, where a least walk goes on from it to a point ranked before.
-fn visit(net: &DistNet, rank: &mut [u16], b: u16, k: u16, i: usize)
-    requires i { i < length net.now.present.edges }
-    requires to { IsInUse net.now.present.names b }
-    requires k { k < 256 }
-    requires ranked { IsRanked net.now.present.edges b rank.old }
-    ensures ranked { IsRanked net.now.present.edges b rank.new }
-    ensures kept { AreKept rank.old rank.new }
-    ensures low { AreAtMost (k + 1) rank.old → AreAtMost (k + 1) rank.new }
-    ensures visited { (d : Edge) → IsTight net.now.present.edges b (slice_index_or net.now.present.edges i d) → 0 < slice_index rank.old (slice_index_or net.now.present.edges i d).to → slice_index rank.old (slice_index_or net.now.present.edges i d).to ≤ k → 0 < slice_index rank.new (slice_index_or net.now.present.edges i d).from }
-{
-    let edge = &net.edges()[i];
-    let from = edge.from as usize;
-    let next = rank[edge.to as usize];
-    if rank[from] != 0 || next == 0 || next > k {
-        return;
+impl Ways {
+    // The end alone is ranked.
+    fn make(alloc: Global, b: u16) -> Result<Ways, NoMemory>
+        requires { b < POINTS }
+        ensures { IfOk result (λ ways. (edges : List Edge) → AreWays edges b ways) }
+    {
+        let mut ways = Ways {
+            rank: vec![in alloc; 0u16; POINTS]?,
+            first: vec![in alloc; 0u16; POINTS]?,
+            ranked: Vec::with_capacity(alloc, POINTS)?,
+        };
+        ways.rank[b as usize] = 1;
+        ways.ranked.push_reserved(b);
+        Ok(ways)
     }
-    if is_tight(net, i, b) {
-        rank[from] = k + 1;
+
+    /// The rank of a point.
+    pub fn rank(&self, p: u16) -> u16
+        requires { p < length self.now.rank.items }
+        ensures { result ≡ slice_index self.now.rank.items p }
+    {
+        self.rank[p as usize]
     }
-}
 
-// Goes through all edges once.
-fn spread(net: &DistNet, rank: &mut [u16], b: u16, k: u16)
-    requires to { IsInUse net.now.present.names b }
-    requires k { k < 256 }
-    requires ranked { IsRanked net.now.present.edges b rank.old }
-    requires low { AreAtMost k rank.old }
-    ensures ranked { IsRanked net.now.present.edges b rank.new }
-    ensures low { AreAtMost (k + 1) rank.new }
-    ensures further { (j : ℕ) → AreRankedWithin net.now.present.edges b j rank.old → AreRankedWithin net.now.present.edges b (j + 1) rank.new }
-{
-    let count = net.edges().len();
-    for i in 0..count {
-        visit(net, rank, b, k, i);
+    /// The place of the edge on which a least walk goes on from a ranked point.
+    pub fn next_edge(&self, p: u16) -> usize
+        requires { p < length self.now.first.items }
+        ensures { result ≡ slice_index self.now.first.items p }
+    {
+        self.first[p as usize] as usize
     }
-}
 
-// Ranks points from `b` on, round by round, until `a` is ranked.
-fn rank_points(net: &DistNet, rank: &mut [u16], a: u16, b: u16)
-    requires from { IsInUse net.now.present.names a }
-    requires to { IsInUse net.now.present.names b }
-    requires reached { HasFar net.now.present.edges a b }
-    requires places { length rank.old ≡ 256 }
-    requires none { AreAtMost 0 rank.old }
-    ensures ranked { IsRanked net.now.present.edges b rank.new }
-    ensures reached { 0 < slice_index rank.new a }
-{
-    net.invariants();
-    rank[b as usize] = 1;
-    let mut k = 1;
-    while rank[a as usize] == 0 {
-        spread(net, rank, b, k);
-        k += 1;
-    }
-}
-
-/// The ranks of points on the way from `a` to `b`: the rank of `a` is one more than the number of
-/// edges of the shortest least walk.
-pub fn ranks(alloc: Global, net: &DistNet, a: u16, b: u16) -> Result<Vec<u16>, NoMemory>
-    requires from { IsInUse net.now.present.names a }
-    requires to { IsInUse net.now.present.names b }
-    requires reached { HasFar net.now.present.edges a b }
-    ensures ranked { IfOk result (λ rank. IsRanked net.now.present.edges b rank.items) }
-    ensures reached { IfOk result (λ rank. 0 < slice_index rank.items a) }
-{
-    let mut rank = vec![in alloc; 0u16; POINTS]?;
-    rank_points(net, &mut rank, a, b);
-    Ok(rank)
-}
-
-/// The place of a first edge of a least walk from `p` to `b`, to a point of a lower rank.
-pub fn next_edge(net: &DistNet, rank: &[u16], p: u16, b: u16) -> usize
-    requires to { IsInUse net.now.present.names b }
-    requires ranked { IsRanked net.now.present.edges b rank.now }
-    requires some { 0 < slice_index rank.now p }
-    requires other { p ≢ b }
-    ensures place { result < length net.now.present.edges }
-    ensures next { (d : Edge) → IsNext net.now.present.edges b rank.now p (slice_index_or net.now.present.edges result d) }
-{
-    let edges = net.edges();
-    for i in 0..edges.len() {
-        let edge = &edges[i];
-        let next = rank[edge.to as usize];
-        if edge.from == p && next != 0 && next < rank[p as usize] && is_tight(net, i, b) {
-            return i;
+    // Goes through the points from `b` on, by their ranks, while these are below that of `a`.
+    fn go_back(&mut self, net: &DistNet, ends: &Ends, a: u16, b: u16)
+        requires from { IsInUse net.now.present.names a }
+        requires to { IsInUse net.now.present.names b }
+        requires reached { HasFar net.now.present.edges a b }
+        requires ends { AreByEnd net.now.present.edges ends.now.last.items ends.now.before.items }
+        requires ways { AreWays net.now.present.edges b self.old }
+        ensures ways { AreWays net.now.present.edges b self.new }
+        ensures reached { 0 < slice_index self.new.rank.items a }
+    {
+        net.invariants();
+        let mut done = 0;
+        while done < self.ranked.len() {
+            let p = self.ranked[done];
+            let rank = self.rank[a as usize];
+            if rank != 0 && rank <= self.rank[p as usize] {
+                return;
+            }
+            self.visit_all(net, ends, b, p);
+            done += 1;
         }
     }
-    unreachable!()
+
+    // Goes through all edges to a ranked point.
+    fn visit_all(&mut self, net: &DistNet, ends: &Ends, b: u16, p: u16)
+        requires to { IsInUse net.now.present.names b }
+        requires ends { AreByEnd net.now.present.edges ends.now.last.items ends.now.before.items }
+        requires ways { AreWays net.now.present.edges b self.old }
+        requires ranked { 0 < slice_index self.old.rank.items p }
+        ensures ways { AreWays net.now.present.edges b self.new }
+        ensures further { IsFurther self.old self.new }
+        ensures visited { IsVisited net.now.present.edges b self.new.rank.items p }
+    {
+        let mut next = ends.last(p);
+        while next != 0 {
+            let place = next as usize - 1;
+            self.visit(net, b, p, place);
+            next = ends.before(place);
+        }
+    }
+
+    // Ranks the beginning of an edge to a ranked point, if a least walk begins with the edge and
+    // it has no rank. Of several edges to lower ranks the first by its place is kept.
+    fn visit(&mut self, net: &DistNet, b: u16, p: u16, place: usize)
+        requires to { IsInUse net.now.present.names b }
+        requires edge { HasTo net.now.present.edges place p }
+        requires ways { AreWays net.now.present.edges b self.old }
+        requires ranked { 0 < slice_index self.old.rank.items p }
+        ensures ways { AreWays net.now.present.edges b self.new }
+        ensures further { IsFurther self.old self.new }
+        ensures visited { (e : Edge) → IsAt net.now.present.edges place e → IsTight net.now.present.edges b e → 0 < slice_index self.new.rank.items e.from }
+    {
+        let edge = &net.edges()[place];
+        let from = edge.from;
+        let next = self.rank[p as usize];
+        let rank = self.rank[from as usize];
+        if rank != 0 && (rank <= next || self.first[from as usize] as usize <= place) {
+            return;
+        }
+        if !is_tight(net, place, b) {
+            return;
+        }
+        self.first[from as usize] = place as u16;
+        if rank == 0 {
+            self.rank[from as usize] = next + 1;
+            self.ranked.push_reserved(from);
+        }
+    }
 }

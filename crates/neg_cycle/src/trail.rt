@@ -4,10 +4,10 @@ ghost use Rattle.dist_net.specs.declared.Edge.{Edge};
 ghost use Rattle.dist_net.specs.Net.{IsInUse, AreInUse, IsConflict, arcs_of};
 ghost use Rattle.tmm_model.specs.Cycles.{sum_of, IsPath, IsCycleBy};
 ghost use Rattle.walk_theory.specs.LeastWalks.{IsFar};
-ghost use Rattle.neg_cycle.specs.Ranks.{HasFar, IsRanked, AppendsPath};
+ghost use Rattle.neg_cycle.specs.Ranks.{HasFar, AreWays, AppendsPath};
 ghost use Rattle.neg_cycle.specs.Steps.{point_at, step_of, steps_in_net, far_in_net};
 
-use crate::ranks::{next_edge, ranks};
+use crate::ranks::{Ways, find_ways};
 use dist_net::{Conflict, DistNet, Edge};
 use std::alloc::Global;
 use tmm_model::{Bound, NoMemory, PointName, Seq, WalkStep};
@@ -35,21 +35,21 @@ fn step_of(net: &DistNet, edge: &Edge) -> WalkStep
 // Appends a least walk from `a` to `b` that goes from rank to lower rank.
 fn follow(
     net: &DistNet,
-    rank: &[u16],
+    ways: &Ways,
     a: u16,
     b: u16,
     steps: &mut Seq<WalkStep>,
 ) -> Result<(), NoMemory>
     requires to { IsInUse net.now.present.names b }
-    requires ranked { IsRanked net.now.present.edges b rank.now }
-    requires some { 0 < slice_index rank.now a }
+    requires ways { AreWays net.now.present.edges b ways.now }
+    requires ranked { 0 < slice_index ways.now.rank.items a }
     requires reached { HasFar net.now.present.edges a b }
     ensures { OnOk result (AppendsPath net.now.present a b steps.old.items steps.new.items) }
 {
     let edges = net.edges();
     let mut at = a;
     while at != b {
-        let edge = &edges[next_edge(net, rank, at, b)];
+        let edge = &edges[ways.next_edge(at)];
         steps.extend(&[step_of(net, edge)])?;
         at = edge.to;
     }
@@ -71,10 +71,10 @@ pub fn walk(alloc: Global, net: &DistNet, a: u16, b: u16) -> Result<Option<Seq<W
     if net.far(a, b).is(Bound::Free) {
         return Ok(None);
     }
-    let rank = ranks(alloc, net, a, b)?;
+    let ways = find_ways(alloc, net, a, b)?;
     let mut steps = Seq::make(alloc);
-    steps.reserve(rank[a as usize] as usize)?;
-    follow(net, &rank, a, b, &mut steps)?;
+    steps.reserve(ways.rank(a) as usize)?;
+    follow(net, &ways, a, b, &mut steps)?;
     Ok(Some(steps))
 }
 
@@ -93,11 +93,11 @@ pub fn cycle(
 {
     net.invariants();
     let edge = &edges[found.edge];
-    let rank = ranks(alloc, net, edge.to, edge.from)?;
+    let ways = find_ways(alloc, net, edge.to, edge.from)?;
     let mut steps = Seq::make(alloc);
-    steps.reserve(rank[edge.to as usize] as usize)?;
+    steps.reserve(ways.rank(edge.to) as usize)?;
     let first = step_of(net, edge);
     steps.extend(&[first])?;
-    follow(net, &rank, edge.to, edge.from, &mut steps)?;
+    follow(net, &ways, edge.to, edge.from, &mut steps)?;
     Ok(steps)
 }

@@ -1,9 +1,8 @@
 -- Marks of numbers, and names under marked numbers.
-use Rattle.std.proofs.Common.{◌≡◌, ℕ, suc, ◌+◌, ◌<◌, ◌≤◌, Bool, true, false, cond, List, [], ◌∷◌, ◌++◌, length, Some, refl, sym, ap, ◌∙◌, subst, inl, inr, arith, slice_index_or}
-use Rattle.std.specs.List.{Contains, IsDistinct, list_any, position_from}
+use Rattle.std.proofs.Common.{◌≡◌, ℕ, ◌+◌, ◌<◌, ◌≤◌, Bool, true, false, List, [], ◌∷◌, ◌++◌, length, Some, refl, sym, ap, ◌∙◌, subst, inl, inr, arith, slice_index_or}
+use Rattle.std.specs.List.{Contains, IsDistinct, list_any}
 use Rattle.std.specs.Cmp.Lexicographic.{nat_list_eq_equiv, bytes_decides}
 use Rattle.std.proofs.lemmas.Bool.{cases_eq}
-use Rattle.std.proofs.lemmas.Iterator.Adapters.{position_from-zero}
 use Rattle.std.proofs.lemmas.List.Elements.{Contains-push, Contains-push_cases, Contains-append_left}
 use Rattle.std.proofs.lemmas.Map.Keys.{IsDistinct-push}
 use Rattle.std.proofs.lemmas.Map.Made.{AllPairs-from_IsDistinct}
@@ -13,7 +12,7 @@ use Rattle.occ_tree.specs.Classes.{place_in}
 use Rattle.occ_tree.specs.Marks.{IsMarked, KeepsMarks, AreMarked, AreListsMarked}
 use Rattle.occ_tree.specs.Nodes.{Nodes}
 use Rattle.occ_tree.specs.Tokens.{HasList}
-use Rattle.occ_tree.proofs.Numbered.{place_within}
+use Rattle.occ_tree.proofs.Numbered.{place_within, placed_name}
 
 -- ---- marks
 
@@ -101,20 +100,8 @@ told_more names marks told more n name distinct within named grown so_far = subs
         let (k, low, is) = so_far.own other (Contains-from_In told other there) in
         absurd (AllPairs-from_IsDistinct bytes_decides names distinct k n [] low within (is ∙ sym one ∙ sym named))
 
--- the name under a number that was given is the one to which it was given
-named_from : (i : ℕ) (names : List (List ℕ)) (n : List ℕ) (k : ℕ) → position_from (same_name n) i names ≡ Some k → (j : ℕ) × (k ≡ i + j) × (slice_index_or names j [] ≡ n)
-named_from i [] n k at = absurd (cc)
-named_from i (m ∷ names) n k at = by (same_name n m) refl (named_from (i + 1) names n k) at
-  where
-    by : (t : Bool) → same_name n m ≡ t → (position_from (same_name n) (i + 1) names ≡ Some k → (j : ℕ) × (k ≡ i + 1 + j) × (slice_index_or names j [] ≡ n))
-        → cond t (Some i) (position_from (same_name n) (i + 1) names) ≡ Some k → (j : ℕ) × (k ≡ i + j) × (slice_index_or (m ∷ names) j [] ≡ n)
-    by true is again at = let same : i ≡ k = cc in (0, omega (arith, same), sym ((bytes_decides n m).0 is))
-    by false is again at = let (j, here, name) = again at in (suc j, omega (arith, here), name)
-
 -- where all numbers were looked at, each name of a marked number is told
 pub placed_told : (names : List (List ℕ)) (marks : List Bool) (told : List (List ℕ)) (n : ℕ) → length names ≤ n → AreTold names marks told n → (name : List ℕ) (k : ℕ) → place_in names name ≡ Some k → IsMarked marks k → Contains told name
 placed_told names marks told n long all name k at marked =
     let within = place_within names name k at in
-    let (j, is, named) = named_from 0 names name k (sym (position_from-zero (same_name name) names) ∙ at) in
-    let same : k ≡ j = omega (arith, is) in
-    subst (Contains told) (ap (λ z. slice_index_or names z []) same ∙ named) (all.all k (omega (arith, within, long)) marked)
+    subst (Contains told) (placed_name names name k at) (all.all k (omega (arith, within, long)) marked)

@@ -1,5 +1,5 @@
 -- Classes under their places, and a class more.
-use Rattle.std.proofs.Common.{◌≡◌, ℕ, suc, Bool, true, false, cond, ◌+◌, ◌<◌, ◌≤◌, List, [], ◌∷◌, ◌++◌, length, Option, Some, None, refl, sym, ap, ◌∙◌, arith}
+use Rattle.std.proofs.Common.{◌≡◌, ℕ, suc, Bool, true, false, cond, ◌+◌, ◌<◌, ◌≤◌, List, [], ◌∷◌, ◌++◌, length, Option, Some, None, refl, sym, ap, ◌∙◌, arith, slice_index_or}
 use Rattle.std.specs.List.{list_any, position_from}
 use Rattle.std.specs.Prelude.{if◌then◌else◌, ◌||◌}
 use Rattle.std.specs.Cmp.Lexicographic.{nat_list_eq_equiv, bytes_decides}
@@ -109,3 +109,19 @@ placed_last names new class none is = by (list_any (same_name class) names) refl
         ap (λ l. place_in l class) same ∙ position_from-zero (same_name class) (names ++ class ∷ [])
         ∙ from_push (same_name class) 0 names class from (nat_list_eq_equiv.refl class)
         ∙ (let e : 0 + length names ≡ length names = omega arith in ap (λ n. Some n) e)
+
+-- the name under a number that was given is the one to which it was given
+named_from : (i : ℕ) (names : List (List ℕ)) (n : List ℕ) (k : ℕ) → position_from (same_name n) i names ≡ Some k → (j : ℕ) × (k ≡ i + j) × (slice_index_or names j [] ≡ n)
+named_from i [] n k at = absurd (cc)
+named_from i (m ∷ names) n k at = by (same_name n m) refl (named_from (i + 1) names n k) at
+  where
+    by : (t : Bool) → same_name n m ≡ t → (position_from (same_name n) (i + 1) names ≡ Some k → (j : ℕ) × (k ≡ i + 1 + j) × (slice_index_or names j [] ≡ n))
+        → cond t (Some i) (position_from (same_name n) (i + 1) names) ≡ Some k → (j : ℕ) × (k ≡ i + j) × (slice_index_or (m ∷ names) j [] ≡ n)
+    by true is again at = let same : i ≡ k = cc in (0, omega (arith, same), sym ((bytes_decides n m).0 is))
+    by false is again at = let (j, here, name) = again at in (suc j, omega (arith, here), name)
+
+pub placed_name : (names : List (List ℕ)) (n : List ℕ) (k : ℕ) → place_in names n ≡ Some k → slice_index_or names k [] ≡ n
+placed_name names n k at =
+    let (j, is, name) = named_from 0 names n k (sym (position_from-zero (same_name n) names) ∙ at) in
+    let same : k ≡ j = omega (arith, is) in
+    ap (λ z. slice_index_or names z []) same ∙ name

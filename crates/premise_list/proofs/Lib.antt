@@ -2,3 +2,4 @@ pub mod Lookups
 pub mod TableFacts
 pub mod Parts
 pub mod PairsOfFacts
+pub mod Unrivalled

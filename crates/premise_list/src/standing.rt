@@ -1,5 +1,5 @@
 // The standing list, present and committed.
-ghost use Rattle.std.specs.Prelude.{◌≡◌, ◌<◌, ◌≤◌, Some, ◌↔◌, ◌++◌, None, length, map, slice_get, IsOk, IfOk, IfErr, OnOk, OnErr, vec_len, vec_capacity, ◌+◌};
+ghost use Rattle.std.specs.Prelude.{◌≡◌, ◌<◌, ◌≤◌, Some, ◌↔◌, ◌++◌, ◌||◌, ℕ, List, false, None, length, map, slice_get, IsOk, IfOk, IfErr, OnOk, OnErr, vec_len, vec_capacity, ◌+◌};
 ghost use Rattle.std.specs.List.{list_any};
 ghost use Rattle.std.specs.Option.{option_copied};
 ghost use Rattle.tmm_model.specs.Standing.{empty_list, is_empty, name_of, premise_in};
@@ -279,6 +279,15 @@ impl Standing {
     {
         let pairs = self.rivalries.committed();
         pairs.iter().any(|pair| sets_against(pair, fact))
+    }
+
+    /// Whether a premise of the present list, or of that of the last commit, sets the fact against
+    /// another one.
+    pub fn has_or_had_rivals(&self, fact: Name) -> bool
+        ensures value { result ≡ (has_rivals self.now.present fact || has_rivals self.now.committed fact) }
+        ensures none { result ≡ false → (g : List ℕ) → (are_rivals self.now.committed fact g ≡ false) × (are_rivals self.now.present fact g ≡ false) }
+    {
+        self.has_rivals(fact) || self.had_rivals(fact)
     }
 
     /// The pairs of facts that premises set against each other in the present list or in that of the

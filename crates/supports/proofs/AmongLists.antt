@@ -42,7 +42,7 @@ use Rattle.supports.proofs.Answered.{first_is, same_rows}
 use Rattle.supports.proofs.Facts.{fact_known}
 use Rattle.supports.proofs.FirstRows.{IsSame, first_of_rows, some_of_rows}
 use Rattle.supports.proofs.Moved.{by_alike, before_alike}
-use Rattle.supports.proofs.NoRivals.{differ_back}
+use Rattle.premise_list.proofs.Unrivalled.{differ_back}
 use Rattle.supports.proofs.SeveralLists.{first_of_all}
 use Rattle.supports.proofs.TokenRows.{node_of, spots_there, row_there, row_of, tokens_spelt}
 

@@ -43,7 +43,7 @@ use Rattle.supports.proofs.Answered.{first_is}
 use Rattle.supports.proofs.Facts.{rival_known}
 use Rattle.supports.proofs.Moved.{before_alike}
 use Rattle.supports.proofs.Nearest.{token_there, there_token}
-use Rattle.supports.proofs.NoRivals.{differ_back}
+use Rattle.premise_list.proofs.Unrivalled.{differ_back}
 use Rattle.supports.proofs.TokenRows.{node_of, spots_there, tokens_spelt}
 
 -- ---- the facts of a pair

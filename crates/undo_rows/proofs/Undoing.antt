@@ -4,6 +4,7 @@ use Rattle.std.proofs.lemmas.Bool.{cases_eq, cases_lt, cond-true, cond-false, eq
 use Rattle.std.proofs.lemmas.List.{get_or_past}
 use Rattle.row_links.specs.Lists.{Lists, no_lists, IsOn, IsOnNone, last_or, list_of, without, put_after}
 use Rattle.row_links.proofs.Lists.{last_or-append}
+use Rattle.row_links.proofs.Sets.{is_family}
 use Rattle.row_links.specs.declared.place.Gap.{Gap}
 use Rattle.row_links.specs.Families.{family_of, list_in, with_list_in, GrowEach}
 use Rattle.undo_rows.specs.declared.row.Row.{Row}
@@ -18,16 +19,6 @@ pub AreAsMany-from_growth : (old new : List Lists) → GrowEach old new → AreA
 AreAsMany-from_growth old new grow = record { rows = λ f. (grow.each f).rows; heads = λ f. (grow.each f).heads }
 
 -- ---- one list set
-
--- a family in which a head is
-pub is_family : (families : List Lists) (f h : ℕ) → h < length (family_of families f).lists → f < length families
-is_family families f h within =
-    elim (cases_lt f (length families)) [
-      | inl known ↦ known
-      | inr past ↦
-          let none : family_of families f ≡ no_lists = get_or_past families f no_lists past in
-          absurd (let few : h < length no_lists.lists = subst (λ (l : Lists). h < length l.lists) none within in omega arith)
-    ]
 
 module _ (families : List Lists) (f h : ℕ) (rows : List ℕ) (within : h < length (family_of families f).lists) where
   own_list : (k : ℕ) → get_or (set (family_of families f).lists h rows) k [] ≡ cond (eqb k h) rows (list_in families f k)

@@ -1,11 +1,11 @@
 use Rattle.std.proofs.Common.{◌≡◌, ◌∙◌, Some, sym, ap, subst, arith}
 use Rattle.occ_tree.specs.Classes.{place_in}
 use Rattle.occ_tree.proofs.Walked.{first_is_on}
+use Rattle.occ_tree.proofs.Numbered.{placed_name}
 use Rattle.belief_net.specs.Decided.{table_of}
 use Rattle.belief_net.specs.Numbers.{name_in, HaveOwnNumbers}
 use Rattle.belief_net.proofs.Erased.{listed_rule, no_row_left}
 use Rattle.belief_net.proofs.Marked.{listed_row}
-use Rattle.belief_net.proofs.Named.{placed_name}
 use Rattle.belief_net.proofs.Thinned.{once_less, under_less, sheds_none, spares_none, keep_stays, sheds_on, spares_on, keep_on}
 use Rattle.belief_net.proofs.erasing.erase_rows.Goals as goal
 

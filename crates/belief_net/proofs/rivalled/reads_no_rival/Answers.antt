@@ -18,7 +18,7 @@ loop-i-preserved c =
     let fact = c.index-facts-i.result in
     let at : slice_get facts c.loop-i.i ≡ Some fact = slice_get-get_or facts c.loop-i.i fact c.loop-i-test.true ∙ ap Some (sym c.index-facts-i.is) in
     let plain = λ (f : List ℕ). (g : List ℕ) → (are_rivals old f g ≡ false) × (are_rivals s f g ≡ false) in
-    each_taken plain plain facts c.loop-i.i fact at (λ f is. is) (c.has_or_had_rivals.ensures c.if-has_or_had_rivals.false) c.loop-i.invariant
+    each_taken plain plain facts c.loop-i.i fact at (λ f is. is) (c.has_or_had_rivals.ensures.none c.if-has_or_had_rivals.false) c.loop-i.invariant
 
 pub returns : goal.returns
 returns c = λ _ f at g.

@@ -1,6 +1,6 @@
 use Rattle.std.proofs.Common.{sym, ◌∙◌}
 use Rattle.premise_list.specs.RivalLaws.{rivals_of_each_other}
-use Rattle.supports.proofs.NoRivals.{no_rival}
+use Rattle.premise_list.proofs.Unrivalled.{no_rival}
 use Rattle.belief_net.proofs.rivals.has_rivals.Goals as goal
 
 pub returns : goal.returns

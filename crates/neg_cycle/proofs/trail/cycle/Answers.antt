@@ -3,8 +3,8 @@ use Rattle.tmm_model.specs.declared.walk.WalkStep.{WalkStep}
 use Rattle.neg_cycle.proofs.Named.{HasFar-conflict, IsCycleBy-appended}
 use Rattle.neg_cycle.proofs.trail.cycle.Goals as goal
 
-pub ranks-requires-clause-reached : goal.ranks-requires-clause-reached
-ranks-requires-clause-reached c = HasFar-conflict c.args.net.now.present.edges c.args.edges.now c.args.found c.index-edges-found.result c.invariants.ensures.dates c.index-edges-found.is c.requires.conflict
+pub find_ways-requires-clause-reached : goal.find_ways-requires-clause-reached
+find_ways-requires-clause-reached c = HasFar-conflict c.args.net.now.present.edges c.args.edges.now c.args.found c.index-edges-found.result c.invariants.ensures.dates c.index-edges-found.is c.requires.conflict
 
 pub follow-requires-clause-reached : goal.follow-requires-clause-reached
 follow-requires-clause-reached c = HasFar-conflict c.args.net.now.present.edges c.args.edges.now c.args.found c.index-edges-found.result c.invariants.ensures.dates c.index-edges-found.is c.requires.conflict

@@ -1,4 +1,5 @@
 use Rattle.std.proofs.Common.{◌≡◌, ◌<◌, ◌≤◌, ◌∙◌, ◌+◌, ◌++◌, [], ◌∷◌, Some, length, take, sym, ap, subst, arith}
+use Rattle.std.proofs.lemmas.Bool.{not-true, not-false}
 use Rattle.std.specs.Prelude.{slice_index_or}
 use Rattle.std.proofs.lemmas.List.{take_all, take_more}
 use Rattle.tmm_model.specs.Points.{same_name}
@@ -7,7 +8,7 @@ use Rattle.spots.specs.Spots.{spot_distance}
 use Rattle.occ_tree.specs.Places.{forest}
 use Rattle.revisions.specs.Walls.{begins_by}
 use Rattle.belief_net.specs.Windows.{net_in, tree_in}
-use Rattle.belief_net.proofs.Spared.{Seen, seen_all, seen_not, seen_first, seen_same, seen_other, not_true, not_false}
+use Rattle.belief_net.proofs.Spared.{Seen, seen_all, seen_not, seen_first, seen_same, seen_other}
 use Rattle.belief_net.proofs.windows.Window.is_walled.Goals as goal
 use Rattle.belief_net.proofs.windows.Window.is_walled.Goals.{then-has_begun+in-Some+else-ne, then-has_begun+in-None, else-has_begun}
 
@@ -23,7 +24,7 @@ returns-then-ne c =
     let seen = subst (λ o. Seen far c.args.event o (take i walls)) c.in-Some.is c.loop-wall.invariant in
     let begun = sym c.has_begun.ensures ∙ c.if-has_begun.true in
     sym (seen_other far c.args.event c.in-Some.fact walls i w within seen (ap (begins_by far (Node c.args.event)) (sym is) ∙ begun)
-    (ap (λ z. same_name c.in-Some.fact z.fact) (sym is) ∙ not_true (same_name c.in-Some.fact w.fact) (sym c.if-ne.ensures)))
+    (ap (λ z. same_name c.in-Some.fact z.fact) (sym is) ∙ not-true (same_name c.in-Some.fact w.fact) (sym c.if-ne.ensures)))
 
 pub loop-wall-preserved : goal.loop-wall-preserved
 loop-wall-preserved c =
@@ -39,7 +40,7 @@ loop-wall-preserved c =
       | then-has_begun+in-Some+else-ne b ↦
           let seen = subst (λ o. Seen far c.args.event o (take i walls)) b.in-Some.is c.loop-wall.invariant in
           subst (λ o. Seen far c.args.event o (take (i + 1) walls)) (sym b.first-is)
-          (subst (Seen far c.args.event (Some b.in-Some.fact)) more (seen_same far c.args.event b.in-Some.fact (take i walls) w seen (not_false (same_name b.in-Some.fact w.fact) (sym b.if-ne.ensures))))
+          (subst (Seen far c.args.event (Some b.in-Some.fact)) more (seen_same far c.args.event b.in-Some.fact (take i walls) w seen (not-false (same_name b.in-Some.fact w.fact) (sym b.if-ne.ensures))))
       | then-has_begun+in-None b ↦
           let seen = subst (λ o. Seen far c.args.event o (take i walls)) b.in-None.is c.loop-wall.invariant in
           subst (λ o. Seen far c.args.event o (take (i + 1) walls)) (sym b.first-is)
