@@ -36,3 +36,7 @@ pub record AreThosePairs (is : ℕ → ℕ → Bool) (pairs : List Bool) : Type 
 pub record HaveOneOf (points : List ℕ) (pairs : List Bool) : Type 0 where
   pub below : All (λ p. p < 256) points
   pub each : (a b : ℕ) → a < 256 → b < 256 → has_pair pairs a b ≡ true → Contains points a ⊎ Contains points b
+
+-- both points of each pair are in the set
+abbrev pub HaveBothIn : List Bool → List Bool → Type 0
+HaveBothIn pairs points = (a b : ℕ) → a < 256 → b < 256 → has_pair pairs a b ≡ true → (is_in points a ≡ true) × (is_in points b ≡ true)
