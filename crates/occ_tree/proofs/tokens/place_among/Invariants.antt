@@ -4,7 +4,7 @@ use Rattle.row_links.specs.Lists.{IsOn}
 use Rattle.occ_tree.specs.Standing.{nodes_in, present_rows}
 use Rattle.occ_tree.specs.Tokens.{numbers_in}
 use Rattle.occ_tree.specs.Words.{node_cmp}
-use Rattle.occ_tree.proofs.tokens.place_for.Given as goal
+use Rattle.occ_tree.proofs.tokens.place_among.Given as goal
 
 abbrev pub invariant-loop-low : goal.invariant-loop-low
 invariant-loop-low l = record {

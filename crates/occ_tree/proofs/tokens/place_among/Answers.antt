@@ -7,7 +7,7 @@ use Rattle.occ_tree.specs.Words.{node_cmp}
 use Rattle.occ_tree.proofs.Ranking.{nodes_total}
 use Rattle.occ_tree.proofs.InOrder.{before_more, after_more}
 use Rattle.occ_tree.proofs.TokenLists.{is_less, no_less, length-numbers, row_at, on_at}
-use Rattle.occ_tree.proofs.tokens.place_for.Goals as goal
+use Rattle.occ_tree.proofs.tokens.place_among.Goals as goal
 
 pub is_before-requires-clause-spot : goal.is_before-requires-clause-spot
 is_before-requires-clause-spot c =
