@@ -1,4 +1,4 @@
-use Rattle.std.proofs.Common.{◌≡◌, ◌∙◌, List, length, get_or, ap, sym, arith, refl}
+use Rattle.std.proofs.Common.{◌∙◌, List, length, get_or, ap, sym, arith, refl}
 use Rattle.dist_net.specs.declared.Edge.{Edge}
 use Rattle.dist_net.proofs.Ends.{below_places}
 use Rattle.neg_cycle.specs.Ends.{IsAt}
