@@ -17,3 +17,4 @@ pub mod ByNumber
 pub mod Dates
 pub mod SameRivals
 pub mod Wanted
+pub mod Heads

@@ -1,9 +1,10 @@
 -- Premises set the same facts against one in both lists where no pair that changed has it.
-use Rattle.std.proofs.Common.{◌≡◌, ◌∙◌, ℕ, Bool, true, false, not, ◌&&◌, ◌||◌, List, refl, sym, inl, inr}
+use Rattle.std.proofs.Common.{◌≡◌, ◌∙◌, ℕ, Bool, true, false, not, ◌&&◌, ◌||◌, List, [], ◌∷◌, length, refl, sym, ap, inl, inr}
 use Rattle.std.proofs.lemmas.Bool.{or_cases, or_right}
 use Rattle.std.specs.List.{list_any}
-use Rattle.tmm_model.specs.Beliefs.{says_against}
+use Rattle.tmm_model.specs.Beliefs.{says_against, are_rivals}
 use Rattle.tmm_model.specs.Points.{same_name}
+use Rattle.tmm_model.specs.Standing.{Standing}
 use Rattle.list_theory.proofs.Elements.{In, both, list_any-In, In-list_any}
 use Rattle.premise_list.specs.Rivalries.{rivalries, is_pair_of, AreChanges}
 use Rattle.premise_list.specs.States.{States}
@@ -37,6 +38,18 @@ has_own f g pair is = elim (or_cases (same_name pair.0 f && same_name pair.1 g) 
   | inl forth ↦ (let (one, other) = both (same_name pair.0 f) (same_name pair.1 g) forth in λ i. one i || same_name pair.1 f)
   | inr back ↦ (let (one, other) = both (same_name pair.0 g) (same_name pair.1 f) back in or_right (same_name pair.0 f) (same_name pair.1 f) other)
 ]
+
+-- where no premise sets facts against each other, none contradicts another one but by its class
+pub none_said : (s : Standing) → length (rivalries s.premises) ≡ 0 → (f g : List ℕ) → are_rivals s f g ≡ false
+none_said s none f g = ap (λ v. not (same_name f g) && v) (any_pair f g s.premises ∙ by (rivalries s.premises) none) ∙ and_false (not (same_name f g))
+  where
+    by : (pairs : List (List ℕ × List ℕ)) → length pairs ≡ 0 → list_any (is_pair_of f g) pairs ≡ false
+    by [] e = refl
+    by (pair ∷ pairs) e = cc
+
+    and_false : (v : Bool) → (v && false) ≡ false
+    and_false true = refl
+    and_false false = refl
 
 pub rivals_kept : (lists : States) (pairs : List (List ℕ × List ℕ)) → AreChanges (rivalries lists.committed.premises) (rivalries lists.present.premises) pairs
     → (f : List ℕ) → list_any (has_fact f) pairs ≡ false → AreRivalsKept lists f

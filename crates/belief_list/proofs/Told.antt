@@ -214,6 +214,13 @@ told_live f ds told same = λ k d below.
     let e = slice_index_or told k d in
     (both (is_some (member f e.node)) _ (told_in (is_told f) ds told same e (In-from_Contains told e (Contains-get_or told k d below))).1).0
 
+-- where those alone are picked
+pub filtered_live : (f : Forest) (ds told : List Difference) → told ≡ filter (is_told f) ds → All (λ (d : Difference). IsLive f d.node) told
+filtered_live f ds told same = λ k d below.
+    let e = slice_index_or told k d in
+    let at : In e (filter (is_told f) ds) = subst (In e) same (In-from_Contains told e (Contains-get_or told k d below)) in
+    (both (is_some (member f e.node)) _ (In-filter (is_told f) ds e at).1).0
+
 -- ---- one more
 
 -- one that passes is told too

@@ -8,3 +8,4 @@ pub mod Sizes
 pub mod Finding
 pub mod Told
 pub mod AsBefore
+pub mod Heads

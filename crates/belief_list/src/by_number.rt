@@ -46,16 +46,19 @@ fn clips_kept(
 {
     let mut clips = Vec::with_capacity(alloc, ranked.len())?;
     for r in ranked {
-        clips.push_reserved(clip_of(kept_row(kept, r.node)));
+        clips.push_reserved(kept_clip(kept, r.node));
     }
     Ok(clips)
 }
 
-// What is kept of a node.
-pub(crate) fn kept_row(kept: &[Option<KeptRow>], x: u32) -> Option<KeptRow>
-    ensures { result ≡ row_under kept.now x }
+// What clips a node, by what is kept under its number.
+pub(crate) fn kept_clip(kept: &[Option<KeptRow>], x: u32) -> Option<u32>
+    ensures { result ≡ clip_of (row_under kept.now x) }
 {
-    kept.get(x as usize).copied().flatten()
+    match kept.get(x as usize) {
+        Some(Some(row)) => row.clip,
+        _ => None,
+    }
 }
 
 // What clips a node, by what is kept of it.

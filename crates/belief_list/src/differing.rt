@@ -18,9 +18,9 @@ ghost use Rattle.supports.specs.TimeMaps.{IsTimeMap};
 ghost use Rattle.belief_list.specs.declared.kept_rows.KeptRow.{KeptRow as AKeptRow};
 ghost use Rattle.belief_list.specs.KeptRows.{row_under, AreRowsOf, CoverTouched, AreDifferences};
 ghost use Rattle.belief_list.specs.Told.{clip_of};
-ghost use Rattle.belief_list.specs.Finding.{IsClipNow, IsNowUnder, mark_under, AreMarked, MarksStay, HaveDates, AreRising, IsFirstAfter, has_fact, AreTouched, IsAhead, IsPastRivals, AreOthersKept, IsClassSettled, AreClassesSettled, AreFound};
+ghost use Rattle.belief_list.specs.Finding.{IsClipNow, IsNowUnder, mark_under, AreMarked, MarksStay, HaveDates, AreRising, IsFirstAfter, has_fact, AreTouched, IsAhead, IsUnrivalled, IsPastRivals, AreOthersKept, IsClassSettled, AreClassesSettled, AreFound};
 
-use crate::by_number::{clip_of, kept_row};
+use crate::by_number::kept_clip;
 use crate::kept_rows::{Difference, KeptRow};
 use occ_tree::Tree;
 use premise_list::Standing;
@@ -303,24 +303,35 @@ fn wanted_of(
 {
     let rows = tree.tokens(class);
     let mut wanted = Vec::from_elem(alloc, true, rows.len())?;
+    let plain = says_none(standing);
     // the date of the first token behind that was touched
     let mut next = None;
     for i in (0..rows.len()).rev() {
-        wanted[i] = is_wanted(standing, tree, kept, touched, &rows[i], &mut next);
+        wanted[i] = is_wanted(standing, plain, tree, kept, touched, &rows[i], &mut next);
     }
     Ok(wanted)
 }
 
+// Whether no premise of either list says that facts contradict each other.
+fn says_none(standing: &Standing) -> bool
+    ensures { result ≡ true → (f : List ℕ) → IsUnrivalled standing.now f }
+{
+    standing.rivalries() == 0 && standing.rivalries_before() == 0
+}
+
 // Whether a token is to be looked at, given the date of the first one behind it that was touched,
-// which is its own from then on, if it was.
+// which is its own from then on, if it was. Where no premise of either list says that facts
+// contradict each other, it is not looked up what does.
 fn is_wanted(
     standing: &Standing,
+    plain: bool,
     tree: &Tree,
     kept: &[Option<KeptRow>],
     touched: &Touched,
     row: &TokenRow<Spot>,
     next: &mut Option<i64>,
 ) -> bool
+    requires plain { plain ≡ true → (f : List ℕ) → IsUnrivalled standing.now f }
     requires live { IsLive (forest tree.now) (number_of row.now.spot) }
     requires rising { AreRising touched.now.dates.items }
     ensures touched { mark_under touched.now.marks.items (number_of row.now.spot) ≡ true → next.new ≡ Some (early (present tree.now) (number_of row.now.spot)) }
@@ -333,9 +344,11 @@ fn is_wanted(
         *next = Some(tree.early(x));
         return true;
     }
-    let clip = clip_of(kept_row(kept, x));
-    !keeps_clip(kept, &touched.marks, clip, *next)
-        || !is_past_rivals(standing, kept, touched, row.fact, clip, tree.early(x))
+    let clip = kept_clip(kept, x);
+    if !keeps_clip(kept, &touched.marks, clip, *next) {
+        return true;
+    }
+    !plain && !is_past_rivals(standing, kept, touched, row.fact, clip, tree.early(x))
 }
 
 // Whether a token of the fact that has this date keeps what clips it, as far as premises say what
@@ -379,18 +392,18 @@ fn keeps_clip(
         return false;
     }
     match next {
-        Some(date) => is_earlier(kept_row(kept, c), date),
+        Some(date) => is_earlier(kept, c, date),
         None => true,
     }
 }
 
-// Whether a row is kept with a date before this one.
-fn is_earlier(row: Option<KeptRow>, date: i64) -> bool
-    ensures { result ≡ true → (q : AKeptRow) × (row ≡ Some q) × (q.early <ℤ date) }
+// Whether a row is kept under a number with a date before this one.
+fn is_earlier(kept: &[Option<KeptRow>], x: u32, date: i64) -> bool
+    ensures { result ≡ true → (q : AKeptRow) × (row_under kept.now x ≡ Some q) × (q.early <ℤ date) }
 {
-    match row {
-        Some(row) => row.early < date,
-        None => false,
+    match kept.get(x as usize) {
+        Some(Some(row)) => row.early < date,
+        _ => false,
     }
 }
 

@@ -1,5 +1,5 @@
 // What of belief changed, as differences tell it.
-ghost use Rattle.std.specs.Prelude.{◌≡◌, ◌++◌, ◌∷◌, [], List, map, filter, Option, Some, IfOk, OnOk};
+ghost use Rattle.std.specs.Prelude.{◌≡◌, ◌++◌, ◌∷◌, [], List, map, filter, Option, Some, IfOk, OnOk, slice_index_or};
 ghost use Rattle.std.specs.List.{All, filter_map};
 ghost use Rattle.std.specs.List.Sorted.{IsPermutation};
 ghost use Rattle.std.specs.Option.{option_map, option_copied, is_some};
@@ -7,15 +7,21 @@ ghost use Rattle.tmm_model.specs.declared.premise.Edit.{Edit as AnEdit};
 ghost use Rattle.tmm_model.specs.Changes.{clip_pair};
 ghost use Rattle.tmm_model.specs.Maps.{built};
 ghost use Rattle.tmm_model.specs.Moments.{moment_of, printed};
+ghost use Rattle.tmm_model.specs.Standing.{Standing as AStanding};
+ghost use Rattle.dist_net.specs.Net.{Net};
 ghost use Rattle.premise_list.specs.States.{States};
-ghost use Rattle.spots.specs.Forest.{IsLive, moment_at};
+ghost use Rattle.spots.specs.Forest.{Member, member, IsLive, moment_at};
+ghost use Rattle.spots.specs.OfLists.{IsForestOf};
+ghost use Rattle.occ_tree.specs.Dated.{IsDatedBy};
 ghost use Rattle.occ_tree.specs.OfLists.{IsTreeIn};
 ghost use Rattle.occ_tree.specs.Places.{forest};
-ghost use Rattle.occ_tree.specs.Standing.{present};
+ghost use Rattle.occ_tree.specs.Standing.{present, early};
+ghost use Rattle.occ_tree.specs.Words.{slash_if};
 ghost use Rattle.supports.specs.Edited.{old_forest};
 ghost use Rattle.belief_list.specs.declared.kept_rows.KeptRow.{KeptRow as AKeptRow};
 ghost use Rattle.belief_list.specs.Compared.{AreChanges};
 ghost use Rattle.belief_list.specs.LeftNodes.{AreWords};
+ghost use Rattle.belief_list.specs.Heads.{told_in, front, AreBytes, head_text, IsHeaded, head_cmp, headed_cmp, AreHeadsInOrder};
 ghost use Rattle.belief_list.specs.KeptRows.{AreDifferences};
 ghost use Rattle.belief_list.specs.Told.{
   is_entered,
@@ -51,6 +57,17 @@ struct Told {
     early: i64,
     // The bytes of its word.
     word: Seq<u8>,
+    // What an edit makes of its node.
+    difference: Difference,
+}
+
+// A present node of which something is told, with what it is compared by first.
+#[derive(Drop)]
+struct Headed {
+    // The earliest date of the occurrence.
+    early: i64,
+    // The first bytes of its word as a number, by which most words are told apart.
+    head: u64,
     // What an edit makes of its node.
     difference: Difference,
 }
@@ -93,19 +110,13 @@ fn present_in_order(
     differences: &[Difference],
 ) -> Result<Vec<Difference>, NoMemory>
     ensures same { IfOk result (λ told. IsPermutation (filter (is_told (forest tree.now)) differences.now) told.items) }
-    ensures in_order { IfOk result (λ told. AreRanked (present tree.now) told.items) }
+    ensures in_order { IfOk result (λ told. (s : AStanding) (net : Net) → IsForestOf s net (forest tree.now) → IsDatedBy net (present tree.now) → AreRanked (present tree.now) told.items) }
 {
-    let mut told = present_nodes(alloc, tree, differences)?;
-    sort_present(tree, &mut told);
+    let found = present_nodes(alloc, tree, differences)?;
+    let mut headed = heads_of(alloc, tree, &found)?;
+    sort_headed(tree, &mut headed);
+    let told = told_of_heads(alloc, &headed)?;
     Ok(told)
-}
-
-// Sorts by the order of nodes, behind which numbers of none stand.
-fn sort_present(tree: &Tree, told: &mut Vec<Difference>)
-    ensures same { IsPermutation told.old.items told.new.items }
-    ensures in_order { AreRanked (present tree.now) told.new.items }
-{
-    told.sort_unstable_by(|p, q| tree.rank(p.node, q.node));
 }
 
 // The present nodes of which something is told.
@@ -133,6 +144,102 @@ fn push_difference(told: &mut Vec<Difference>, one: Difference) -> Result<(), No
         Ok(()) => Ok(()),
         Err(_) => Err(NoMemory),
     }
+}
+
+// The nodes with what they are compared by before their words, which are far to seek.
+fn heads_of(alloc: Global, tree: &Tree, told: &[Difference]) -> Result<Vec<Headed>, NoMemory>
+    requires live { All (λ d. IsLive (forest tree.now) d.node) told.now }
+    ensures same { IfOk result (λ headed. told_in headed.items ≡ told.now) }
+    ensures headed { IfOk result (λ headed. All (IsHeaded (present tree.now)) headed.items) }
+{
+    let mut headed = Vec::with_capacity(alloc, told.len())?;
+    for d in told {
+        headed.push_reserved(headed_of(tree, *d));
+    }
+    Ok(headed)
+}
+
+// A node with its date, and with the first bytes of its word.
+fn headed_of(tree: &Tree, difference: Difference) -> Headed
+    requires live { IsLive (forest tree.now) difference.node }
+    ensures difference { result.difference ≡ difference }
+    ensures date { result.early ≡ early (present tree.now) difference.node }
+    ensures head { (m : Member) → member (forest tree.now) difference.node ≡ Some m → result.head ≡ front 8 (head_text m) }
+    ensures bytes { (m : Member) → member (forest tree.now) difference.node ≡ Some m → AreBytes 8 (head_text m) }
+{
+    let row = tree.row(difference.node);
+    let root = tree.row(row.root).name;
+    Headed {
+        early: tree.early(difference.node),
+        head: head_of(&root, row.rules > 0),
+        difference,
+    }
+}
+
+// The first eight bytes of a name, and of `/` behind it where one follows, as a number: zeros stand
+// behind fewer.
+fn head_of(name: &Name, slash: bool) -> u64
+    ensures value { result ≡ front 8 (name.now ++ slash_if slash) }
+    ensures bytes { AreBytes 8 (name.now ++ slash_if slash) }
+{
+    let mut head = 0;
+    for i in 0..8 {
+        head = head * 256 + u64::from(byte_at(name, slash, i));
+    }
+    head
+}
+
+// The byte at a place of a name, and of `/` behind it where one follows; zero where none stands.
+fn byte_at(name: &Name, slash: bool, i: usize) -> u8
+    ensures { result ≡ slice_index_or (name.now ++ slash_if slash) i 0 }
+{
+    let bytes = name.bytes();
+    if i < bytes.len() {
+        bytes[i]
+    } else if slash && i == bytes.len() {
+        b'/'
+    } else {
+        0
+    }
+}
+
+// Sorts by dates, then by heads, and then by the order of nodes.
+fn sort_headed(tree: &Tree, headed: &mut Vec<Headed>)
+    ensures same { IsPermutation headed.old.items headed.new.items }
+    ensures in_order { AreHeadsInOrder (present tree.now) headed.new.items }
+{
+    headed.sort_unstable_by(|p, q| cmp_headed(tree, p, q));
+}
+
+// The order of two: by their dates, then by their heads, and then that of their nodes.
+fn cmp_headed(tree: &Tree, p: &Headed, q: &Headed) -> Ordering
+    ensures { result ≡ headed_cmp (present tree.now) p.now q.now }
+{
+    match p.early.cmp(&q.early) {
+        Ordering::Equal => cmp_heads(tree, p, q),
+        other => other,
+    }
+}
+
+// The order of two of one date.
+fn cmp_heads(tree: &Tree, p: &Headed, q: &Headed) -> Ordering
+    ensures { result ≡ head_cmp (present tree.now) p.now q.now }
+{
+    match p.head.cmp(&q.head) {
+        Ordering::Equal => tree.rank(p.difference.node, q.difference.node),
+        other => other,
+    }
+}
+
+// The differences alone.
+fn told_of_heads(alloc: Global, headed: &[Headed]) -> Result<Vec<Difference>, NoMemory>
+    ensures { IfOk result (λ told. told.items ≡ told_in headed.now) }
+{
+    let mut told = Vec::with_capacity(alloc, headed.len())?;
+    for h in headed {
+        told.push_reserved(h.difference);
+    }
+    Ok(told)
 }
 
 // Appends the number of a node.

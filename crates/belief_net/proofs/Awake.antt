@@ -24,11 +24,11 @@ use Rattle.belief_net.specs.declared.by_event.Events.{Events}
 use Rattle.belief_net.specs.declared.fast.Moves.{Moves}
 use Rattle.belief_net.specs.ByEvent.{is_event_of, IsOnAt}
 use Rattle.belief_net.specs.Marks.{HaveEvents, AreByEvent, Marks, Wakes}
-use Rattle.belief_net.specs.PointSets.{has_pair}
-use Rattle.belief_net.specs.Reach.{AreBelow256}
+use Rattle.belief_net.specs.PointSets.{is_in, has_pair, HaveBothIn}
+use Rattle.belief_net.specs.Reach.{AreBelow256, IsOff}
 use Rattle.belief_net.specs.Waiting.{Dates}
 use Rattle.belief_net.specs.Woken.{TellMoves, MovesFrom, MovesFor, RestsFor, WakesFor, AreAwake}
-use Rattle.belief_net.proofs.Bases.{Small, class_small, small_or}
+use Rattle.belief_net.proofs.Bases.{Small, node_small, class_small, small_or}
 use Rattle.belief_net.proofs.Marked.{marks_none, marks_both}
 use Rattle.belief_net.proofs.OfRules.{marks_alike}
 use Rattle.belief_net.proofs.Waking.{wakes_none, wait_still}
@@ -173,3 +173,28 @@ module _ (k : Kept) (t : Table Pair 8) (nets : Nets) (moves : Moves) (tells : Te
     none_wakes are dates awake =
         wakes_none (present k) t (λ i row. are i × MovesFor moves f class row.value.trigger) (λ i row. are i → RestsFor nets moves f class row.value.trigger) dates
         (λ i row at. elim (cases_Bool (is_some (dates i))) [ inl waits ↦ inl waits | inr not ↦ inr (λ on. inl (none_more i row dates at awake not)) ])
+
+  -- so does one none of whose points is a point of a pair
+  module _ (class : List ℕ) (points : List Bool) (all : HaveBothIn moves.pairs.items points) (off : (p : Spot) → IsSpotOf f class p → IsOff f points p) where
+    none_moves : (x : ℕ) → MovesFor moves f class x → ⊥
+    none_moves x m = by m.from_is m.to_is
+      where
+        small : (p : Spot) → IsSpotOf f class p ⊎ (p ≡ Node x) → Small f p
+        small = small_or f below (IsSpotOf f class) (class_small f below class) x
+
+        ends : (is_in points (base_of f m.from) ≡ true) × (is_in points (base_of f m.to) ≡ true)
+        ends = all (base_of f m.from) (base_of f m.to) (small m.from m.from_is) (small m.to m.to_is) m.moved
+
+        by : IsSpotOf f class m.from ⊎ (m.from ≡ Node x) → IsSpotOf f class m.to ⊎ (m.to ≡ Node x) → ⊥
+        by (inl is) to = let no : true ≡ false = sym ends.0 ∙ off m.from is in cc
+        by (inr from) (inl is) = let no : true ≡ false = sym ends.1 ∙ off m.to is in cc
+        by (inr from) (inr to) =
+            let from_is : base_of f m.from ≡ base_of f (Node x) = ap (base_of f) from in
+            let to_is : base_of f m.to ≡ base_of f (Node x) = ap (base_of f) to in
+            let no : true ≡ false = sym m.moved ∙ (λ i. has_pair moves.pairs.items (from_is i) (to_is i)) ∙ tells.itself (base_of f (Node x)) (node_small f below x) in
+            cc
+
+    pub none_concerned : (are : ℕ → Type 0) (dates : Dates) → WakesFor (present k) t nets moves class are dates dates
+    none_concerned are dates =
+        wakes_none (present k) t (λ i row. are i × MovesFor moves f class row.value.trigger) (λ i row. are i → RestsFor nets moves f class row.value.trigger) dates
+        (λ i row at. inr (λ on. inl (none_moves row.value.trigger)))

@@ -119,10 +119,10 @@ module _ (old : Standing) (edit : Edit) (nets : Nets) (net_old : IsNetOf old net
 
   tells_moves : TellsMoves nets (is_moved nets (added_by edit))
   tells_moves = record {
-    itself = λ a. not_of_one nets (added_by edit) a a refl;
-    apart = λ a b p q was_a is_a was_b is_b moved. bounds_differ (net_far nets.committed a b) (net_far nets.present a b) (moved_parts nets (added_by edit) a b moved).far;
+    itself = λ a. not_of_one nets (is_kept nets.present.names (added_by edit)) a a refl;
+    apart = λ a b p q was_a is_a was_b is_b moved. bounds_differ (net_far nets.committed a b) (net_far nets.present a b) (moved_parts nets (is_kept nets.present.names (added_by edit)) a b moved).far;
     same = λ a b p q was_a is_a was_b is_b other unmoved. same_bound_is (net_far nets.committed a b) (net_far nets.present a b)
-        (not-false _ (sym (moved_by_far nets (added_by edit) a b other (was_kept a p was_a is_a) (was_kept b q was_b is_b)) ∙ unmoved));
+        (not-false _ (sym (moved_by_far nets (is_kept nets.present.names (added_by edit)) a b other (was_kept a p was_a is_a) (was_kept b q was_b is_b)) ∙ unmoved));
   }
 
 pub moved_rows_are_touched : MovedRowsAreTouched

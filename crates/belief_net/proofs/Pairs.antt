@@ -15,15 +15,17 @@ use Rattle.dist_net.specs.Net.{Nets, IsInUse, IsMovedAt}
 use Rattle.list_net.specs.Represents.{Names}
 use Rattle.spots.specs.Spots.{net_far}
 use Rattle.list_theory.proofs.Elements.{both}
-use Rattle.belief_net.specs.MovedPairs.{is_of_premise, is_kept, WereThere, is_moved, PutsPairs, AreMoved}
-use Rattle.belief_net.specs.PointSets.{is_in, has_pair, HaveOneOf}
+use Rattle.joined.proofs.Deciding.{not_both}
+use Rattle.belief_net.specs.Fast.{IsInBoth}
+use Rattle.belief_net.specs.MovedPairs.{is_of_premise, is_kept, WereThere, is_moved_among, PutsPairs}
+use Rattle.belief_net.specs.PointSets.{is_in, has_pair, AreThosePairs, HaveOneOf}
 
-module _ (nets : Nets) (added : Option (List ℕ)) where
-  pub pairs_none : (P : ℕ → ℕ → Type 0) (s : List Bool) → ((a b : ℕ) → a < 256 → b < 256 → P a b → is_moved nets added a b ≡ true → ⊥) → PutsPairs nets added P s s
+module _ (moves : ℕ → ℕ → Bool) where
+  pub pairs_none : (P : ℕ → ℕ → Type 0) (s : List Bool) → ((a b : ℕ) → a < 256 → b < 256 → P a b → moves a b ≡ true → ⊥) → PutsPairs moves P s s
   pairs_none P s none = record { own = λ a b la lb is. inl is; kept = λ a b la lb is. is; all = λ a b la lb p is. absurd (none a b la lb p is); places = refl }
 
   pub pairs_both : (P Q R : ℕ → ℕ → Type 0) (old mid new : List Bool) → ((a b : ℕ) → a < 256 → b < 256 → R a b → P a b ⊎ Q a b)
-      → PutsPairs nets added P old mid → PutsPairs nets added Q mid new → PutsPairs nets added R old new
+      → PutsPairs moves P old mid → PutsPairs moves Q mid new → PutsPairs moves R old new
   pairs_both P Q R old mid new apart first then_ = record {
     own = λ a b la lb is. elim (then_.own a b la lb is) [ inl was ↦ first.own a b la lb was | inr moved ↦ inr moved ];
     kept = λ a b la lb is. then_.kept a b la lb (first.kept a b la lb is);
@@ -31,7 +33,7 @@ module _ (nets : Nets) (added : Option (List ℕ)) where
     places = then_.places ∙ first.places;
   }
 
-  pub pairs_one : (s : List Bool) (a b : ℕ) → a < 256 → b < 256 → length s ≡ 65536 → is_moved nets added a b ≡ true → PutsPairs nets added (λ c d. (c ≡ a) × (d ≡ b)) s (set s (a * 256 + b) true)
+  pub pairs_one : (s : List Bool) (a b : ℕ) → a < 256 → b < 256 → length s ≡ 65536 → moves a b ≡ true → PutsPairs moves (λ c d. (c ≡ a) × (d ≡ b)) s (set s (a * 256 + b) true)
   pairs_one s a b la lb places moved = record { own = own; kept = kept; all = λ c d lc ld same _. here c d same; places = length-set s (a * 256 + b) true }
     where
       apart : (c d : ℕ) → d < 256 → (c * 256 + d) ≡ (a * 256 + b) → (c ≡ a) × (d ≡ b)
@@ -42,9 +44,9 @@ module _ (nets : Nets) (added : Option (List ℕ)) where
           let one : (c * 256 + d) ≡ (a * 256 + b) = λ i. same.0 i * 256 + same.1 i in
           subst (λ k. is_in (set s (a * 256 + b) true) k ≡ true) (sym one) (get_or-set_same s (a * 256 + b) true false (let less : (a * 256 + b) < length s = omega (arith, la, lb, places) in less))
 
-      own : (c d : ℕ) → c < 256 → d < 256 → has_pair (set s (a * 256 + b) true) c d ≡ true → (has_pair s c d ≡ true) ⊎ (is_moved nets added c d ≡ true)
+      own : (c d : ℕ) → c < 256 → d < 256 → has_pair (set s (a * 256 + b) true) c d ≡ true → (has_pair s c d ≡ true) ⊎ (moves c d ≡ true)
       own c d lc ld is = elim (eqb_tells (c * 256 + d) (a * 256 + b)) [
-        | inl same ↦ inr (let e = apart c d ld same.1 in subst (λ k. is_moved nets added k d ≡ true) (sym e.0) (subst (λ k. is_moved nets added a k ≡ true) (sym e.1) moved))
+        | inl same ↦ inr (let e = apart c d ld same.1 in subst (λ k. moves k d ≡ true) (sym e.0) (subst (λ k. moves a k ≡ true) (sym e.1) moved))
         | inr other ↦ inl (sym (get_or-set_other s (a * 256 + b) (c * 256 + d) true false other.1) ∙ is)
       ]
 
@@ -54,31 +56,39 @@ module _ (nets : Nets) (added : Option (List ℕ)) where
         | inr other ↦ get_or-set_other s (a * 256 + b) (c * 256 + d) true false other.1 ∙ is
       ]
 
-  -- ---- what it says that a pair moved
+-- ---- what it says that a pair moved
 
+module _ (nets : Nets) (among : ℕ → Bool) where
   pub record Moved (a b : ℕ) : Type 0 where
     pub apart : (a == b) ≡ false
-    pub from : is_kept nets.present.names added a ≡ true
-    pub to : is_kept nets.present.names added b ≡ true
+    pub from : among a ≡ true
+    pub to : among b ≡ true
     pub far : same_bound (net_far nets.committed a b) (net_far nets.present a b) ≡ false
 
-  pub moved_parts : (a b : ℕ) → is_moved nets added a b ≡ true → Moved a b
+  pub moved_parts : (a b : ℕ) → is_moved_among nets among a b ≡ true → Moved a b
   moved_parts a b is =
-      let first = both (not (a == b)) (is_kept nets.present.names added a && (is_kept nets.present.names added b && not (same_bound (net_far nets.committed a b) (net_far nets.present a b)))) is in
-      let second = both (is_kept nets.present.names added a) (is_kept nets.present.names added b && not (same_bound (net_far nets.committed a b) (net_far nets.present a b))) first.1 in
-      let third = both (is_kept nets.present.names added b) (not (same_bound (net_far nets.committed a b) (net_far nets.present a b))) second.1 in
+      let first = both (not (a == b)) (among a && (among b && not (same_bound (net_far nets.committed a b) (net_far nets.present a b)))) is in
+      let second = both (among a) (among b && not (same_bound (net_far nets.committed a b) (net_far nets.present a b))) first.1 in
+      let third = both (among b) (not (same_bound (net_far nets.committed a b) (net_far nets.present a b))) second.1 in
       record { apart = not-true (a == b) first.0; from = second.0; to = third.0; far = not-true (same_bound (net_far nets.committed a b) (net_far nets.present a b)) third.1 }
+
+  -- none did of a point that is not among these
+  pub none_of_other : (P : ℕ → ℕ → Type 0) (p : ℕ) (s : List Bool) → among p ≡ false → ((a b : ℕ) → P a b → (a ≡ p) ⊎ (b ≡ p)) → PutsPairs (is_moved_among nets among) P s s
+  none_of_other P p s out of = pairs_none (is_moved_among nets among) P s (λ a b la lb is moved. elim (of a b is) [
+    | inl same ↦ not_both (among p) (subst (λ k. among k ≡ true) same (moved_parts a b moved).from) out
+    | inr same ↦ not_both (among p) (subst (λ k. among k ≡ true) same (moved_parts a b moved).to) out
+  ])
 
   -- ---- what is found for a pair
 
-  pub not_of_one : (a b : ℕ) → a ≡ b → is_moved nets added a b ≡ false
+  pub not_of_one : (a b : ℕ) → a ≡ b → is_moved_among nets among a b ≡ false
   not_of_one a b same = elim (eqb_tells a b) [
-    | inl one ↦ ap (λ v. not v && (is_kept nets.present.names added a && (is_kept nets.present.names added b && not (same_bound (net_far nets.committed a b) (net_far nets.present a b))))) one.0
+    | inl one ↦ ap (λ v. not v && (among a && (among b && not (same_bound (net_far nets.committed a b) (net_far nets.present a b))))) one.0
     | inr other ↦ absurd (other.1 same)
   ]
 
-  pub moved_by_far : (a b : ℕ) → a ≢ b → is_kept nets.present.names added a ≡ true → is_kept nets.present.names added b ≡ true
-      → is_moved nets added a b ≡ not (same_bound (net_far nets.committed a b) (net_far nets.present a b))
+  pub moved_by_far : (a b : ℕ) → a ≢ b → among a ≡ true → among b ≡ true
+      → is_moved_among nets among a b ≡ not (same_bound (net_far nets.committed a b) (net_far nets.present a b))
   moved_by_far a b other from to = elim (eqb_tells a b) [
     | inl one ↦ absurd (other one.1)
     | inr two ↦ (λ i. not (two.0 i) && (from i && (to i && not (same_bound (net_far nets.committed a b) (net_far nets.present a b)))))
@@ -91,6 +101,10 @@ kept_point added None is = cc
 
 pub kept_in_use : (names : Names) (added : Option (List ℕ)) (n : ℕ) → is_kept names added n ≡ true → IsInUse names n
 kept_in_use names added n is = kept_point added (slice_index_or names n None) is
+
+-- each point that was there, now and at the last commit
+pub kept_in_both : (nets : Nets) (added : Option (List ℕ)) → WereThere nets added → (p : ℕ) → is_kept nets.present.names added p ≡ true → IsInBoth nets p
+kept_in_both nets added were p stays = (were p stays, kept_in_use nets.present.names added p stays)
 
 -- ---- bounds
 
@@ -113,11 +127,28 @@ bounds_differ x y differ same = let both : true ≡ false = sym (bound_itself x)
 abbrev pub OfPoint : ℕ → ℕ → ℕ → ℕ → Type 0
 OfPoint p n a b = ((a ≡ p) × (b < n)) ⊎ ((b ≡ p) × (a < n))
 
-module _ (nets : Nets) (added : Option (List ℕ)) (p : ℕ) where
-  pub point_none : (s : List Bool) → PutsPairs nets added (OfPoint p 0) s s
-  point_none s = pairs_none nets added (OfPoint p 0) s (λ a b la lb of moved. elim of [ inl first ↦ (let no = first.1 in omega (arith, no)) | inr second ↦ (let no = second.1 in omega (arith, no)) ])
+-- the pairs of two points
+abbrev pub OfBoth : ℕ → ℕ → ℕ → ℕ → Type 0
+OfBoth p q a b = ((a ≡ p) × (b ≡ q)) ⊎ ((a ≡ q) × (b ≡ p))
 
-  pub point_all : (n : ℕ) (old new : List Bool) → n ≡ 256 → PutsPairs nets added (OfPoint p n) old new → PutsPairs nets added (λ a b. (a ≡ p) ⊎ (b ≡ p)) old new
+module _ (moves : ℕ → ℕ → Bool) (p : ℕ) where
+  pub point_none : (s : List Bool) → PutsPairs moves (OfPoint p 0) s s
+  point_none s = pairs_none moves (OfPoint p 0) s (λ a b la lb of moved. elim of [ inl first ↦ (let no = first.1 in omega (arith, no)) | inr second ↦ (let no = second.1 in omega (arith, no)) ])
+
+  pub point_next : (n : ℕ) (old mid new : List Bool) → PutsPairs moves (OfPoint p n) old mid → PutsPairs moves (OfBoth p n) mid new → PutsPairs moves (OfPoint p (n + 1)) old new
+  point_next n old mid new = pairs_both moves (OfPoint p n) (OfBoth p n) (OfPoint p (n + 1)) old mid new
+      (λ a b la lb of. elim of [
+        | inl from ↦ elim (last b n from.1) [ inl same ↦ inr (inl (from.0, same)) | inr below ↦ inl (inl (from.0, below)) ]
+        | inr to ↦ elim (last a n to.1) [ inl same ↦ inr (inr (same, to.0)) | inr below ↦ inl (inr (to.0, below)) ]
+      ])
+    where
+      last : (k n : ℕ) → k < n + 1 → (k ≡ n) ⊎ (k < n)
+      last k n less = elim (cases_order k n) [
+        | inl same ↦ inl same
+        | inr other ↦ elim other [ inl below ↦ inr below | inr above ↦ absurd (omega (arith, less, above)) ]
+      ]
+
+  pub point_all : (n : ℕ) (old new : List Bool) → n ≡ 256 → PutsPairs moves (OfPoint p n) old new → PutsPairs moves (λ a b. (a ≡ p) ⊎ (b ≡ p)) old new
   point_all n old new whole puts = record {
     own = puts.own;
     kept = puts.kept;
@@ -131,13 +162,13 @@ module _ (nets : Nets) (added : Option (List ℕ)) (p : ℕ) where
 abbrev pub HasFirst : List ℕ → ℕ → ℕ → ℕ → Type 0
 HasFirst listed n a b = (k : ℕ) × (k < n) × ((get_or listed k 0 ≡ a) ⊎ (get_or listed k 0 ≡ b))
 
-module _ (nets : Nets) (added : Option (List ℕ)) (listed : List ℕ) where
-  pub listed_none : (s : List Bool) → PutsPairs nets added (HasFirst listed 0) s s
-  listed_none s = pairs_none nets added (HasFirst listed 0) s (λ a b la lb of moved. (let no = of.1 in omega (arith, no)))
+module _ (moves : ℕ → ℕ → Bool) (listed : List ℕ) where
+  pub listed_none : (s : List Bool) → PutsPairs moves (HasFirst listed 0) s s
+  listed_none s = pairs_none moves (HasFirst listed 0) s (λ a b la lb of moved. (let no = of.1 in omega (arith, no)))
 
-  pub listed_next : (n p : ℕ) (old mid new : List Bool) → p ≡ get_or listed n 0 → PutsPairs nets added (HasFirst listed n) old mid
-      → PutsPairs nets added (λ a b. (a ≡ p) ⊎ (b ≡ p)) mid new → PutsPairs nets added (HasFirst listed (n + 1)) old new
-  listed_next n p old mid new is = pairs_both nets added (HasFirst listed n) (λ a b. (a ≡ p) ⊎ (b ≡ p)) (HasFirst listed (n + 1)) old mid new
+  pub listed_next : (n p : ℕ) (old mid new : List Bool) → p ≡ get_or listed n 0 → PutsPairs moves (HasFirst listed n) old mid
+      → PutsPairs moves (λ a b. (a ≡ p) ⊎ (b ≡ p)) mid new → PutsPairs moves (HasFirst listed (n + 1)) old new
+  listed_next n p old mid new is = pairs_both moves (HasFirst listed n) (λ a b. (a ≡ p) ⊎ (b ≡ p)) (HasFirst listed (n + 1)) old mid new
       (λ a b la lb (k, less, at). elim (cases_order k n) [
         | inl same ↦ inr (
             let here : get_or listed k 0 ≡ p = ap (λ j. get_or listed j 0) same ∙ sym is in
@@ -147,36 +178,37 @@ module _ (nets : Nets) (added : Option (List ℕ)) (listed : List ℕ) where
 
 -- ---- at the end
 
-module _ (nets : Nets) (added : Option (List ℕ)) (were : WereThere nets added) (moved_at : IsMovedAt nets.moved nets.committed nets.present) where
+module _ (nets : Nets) (among : ℕ → Bool) (have : (p : ℕ) → among p ≡ true → IsInBoth nets p) (moved_at : IsMovedAt nets.moved nets.committed nets.present) where
   -- each pair that moved has one of the points that are listed
-  pub one_listed : (a b : ℕ) → is_moved nets added a b ≡ true → Contains nets.moved a ⊎ Contains nets.moved b
+  pub one_listed : (a b : ℕ) → is_moved_among nets among a b ≡ true → Contains nets.moved a ⊎ Contains nets.moved b
   one_listed a b is =
-      let m = moved_parts nets added a b is in
-      elim (moved_at a b (were a m.from) (were b m.to) (kept_in_use nets.present.names added a m.from) (kept_in_use nets.present.names added b m.to)) [
+      let m = moved_parts nets among a b is in
+      elim (moved_at a b (have a m.from).0 (have b m.to).0 (have a m.from).1 (have b m.to).1) [
         | inl same ↦ absurd (bounds_differ (net_far nets.committed a b) (net_far nets.present a b) m.far same)
         | inr listed ↦ listed
       ]
 
   -- none did where none is listed
-  pub none_listed : length nets.moved ≡ 0 → (a b : ℕ) → is_moved nets added a b ≡ true → ⊥
+  pub none_listed : length nets.moved ≡ 0 → (a b : ℕ) → is_moved_among nets among a b ≡ true → ⊥
   none_listed none a b is = elim (one_listed a b is) [ inl (k, less, at) ↦ omega (arith, less, none) | inr (k, less, at) ↦ omega (arith, less, none) ]
 
   at_place : (a k : ℕ) → k < length nets.moved → get_or nets.moved k a ≡ a → get_or nets.moved k 0 ≡ a
   at_place a k less is = get_or_default nets.moved k 0 a less ∙ is
 
-  pub all_listed : (a b : ℕ) → is_moved nets added a b ≡ true → HasFirst nets.moved (length nets.moved) a b
+  pub all_listed : (a b : ℕ) → is_moved_among nets among a b ≡ true → HasFirst nets.moved (length nets.moved) a b
   all_listed a b is = elim (one_listed a b is) [
     | inl (k, less, at) ↦ (k, less, inl (at_place a k less at))
     | inr (k, less, at) ↦ (k, less, inr (at_place b k less at))
   ]
 
-  pub are_moved : (pairs start : List Bool) → ((p : ℕ) → is_in start p ≡ false) → length start ≡ 65536 → PutsPairs nets added (HasFirst nets.moved (length nets.moved)) start pairs → AreMoved nets added pairs
+  pub are_moved : (pairs start : List Bool) → ((p : ℕ) → is_in start p ≡ false) → length start ≡ 65536 → PutsPairs (is_moved_among nets among) (HasFirst nets.moved (length nets.moved)) start pairs
+      → AreThosePairs (is_moved_among nets among) pairs
   are_moved pairs start none places puts = record {
-    each = λ a b la lb. both_ways (has_pair pairs a b) (is_moved nets added a b)
+    each = λ a b la lb. both_ways (has_pair pairs a b) (is_moved_among nets among a b)
         (λ is. elim (puts.own a b la lb is) [ inl was ↦ absurd (let both : true ≡ false = sym was ∙ none (a * 256 + b) in cc) | inr moved ↦ moved ])
         (λ is. puts.all a b la lb (all_listed a b is) is);
     places = puts.places ∙ places;
   }
 
-  pub have_listed : (pairs : List Bool) → All (λ p. p < 256) nets.moved → AreMoved nets added pairs → HaveOneOf nets.moved pairs
+  pub have_listed : (pairs : List Bool) → All (λ p. p < 256) nets.moved → AreThosePairs (is_moved_among nets among) pairs → HaveOneOf nets.moved pairs
   have_listed pairs below are = record { below = below; each = λ a b la lb is. one_listed a b (sym (are.each a b la lb) ∙ is) }

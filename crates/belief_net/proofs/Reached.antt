@@ -1,5 +1,5 @@
 -- Points of spots that are put in, some after the others.
-use Rattle.std.proofs.Common.{◌≡◌, ◌≢◌, ◌∙◌, ℕ, ℤ, false, ◌+◌, ◌<◌, ◌≤◌, List, length, get_or, Option, Some, None, refl, sym, ap, subst, inl, inr, ◌⊎◌, arith}
+use Rattle.std.proofs.Common.{◌≡◌, ◌≢◌, ◌∙◌, ℕ, ℤ, Bool, false, ◌+◌, ◌<◌, ◌≤◌, List, length, get_or, Option, Some, None, refl, sym, ap, subst, inl, inr, ◌⊎◌, arith}
 use Rattle.std.proofs.lemmas.Bool.{cases_order}
 use Rattle.std.proofs.lemmas.List.{get_or_default, get_or_past}
 use Rattle.std.specs.Prelude.{MatchOption}
@@ -25,7 +25,7 @@ use Rattle.joined.specs.Gaps.{IsClassSpot, begin, an_end}
 use Rattle.joined.specs.Shifting.{IsSpotOf}
 use Rattle.belief_net.specs.declared.reach.Reach.{Reach}
 use Rattle.belief_net.specs.PointSets.{is_in, PutsIn, AreThose}
-use Rattle.belief_net.specs.Reach.{IsBaseOf, IsBoundedBaseOf, Notes, HasPlaces, AreBelow256}
+use Rattle.belief_net.specs.Reach.{IsBaseOf, IsBoundedBaseOf, Notes, HasPlaces, AreBelow256, IsOff}
 use Rattle.belief_net.proofs.Sets.{puts_none, puts_both, puts_alike, puts_into_none}
 
 -- numbers of points are below 256 where so many have a place
@@ -124,20 +124,32 @@ module _ (f : Forest) where
   pub rows_none : (rows : List (TokenRow Spot)) (r : Reach) → Notes f (OfFirstRows rows 0) r r
   rows_none rows r = notes_none (OfFirstRows rows 0) r (λ s (k, row, less, is, at). (let no = less in omega (arith, no)))
 
+  rows_apart : (rows : List (TokenRow Spot)) (n : ℕ) (row : TokenRow Spot) → row ≡ get_or rows n row → n < length rows → (p : Spot) → OfFirstRows rows (n + 1) p
+      → OfFirstRows rows n p ⊎ ((p ≡ row.spot) ⊎ (row.end ≡ Some p))
+  rows_apart rows n row is short p (k, other, less, at, spot) = elim (cases_order k n) [
+    | inl same ↦ inr (
+        let one : other ≡ row = at ∙ ap (λ j. get_or rows j other) same ∙ get_or_default rows n other row short ∙ sym is in
+        subst (λ z. (p ≡ z.spot) ⊎ (z.end ≡ Some p)) one spot)
+    | inr more ↦ elim more [ inl below ↦ inl (k, other, below, at, spot) | inr above ↦ absurd (omega (arith, less, above)) ]
+  ]
+
   pub rows_next : (rows : List (TokenRow Spot)) (n : ℕ) (row : TokenRow Spot) (old mid new : Reach) → row ≡ get_or rows n row → n < length rows → Notes f (OfFirstRows rows n) old mid
       → Notes f (λ p. (p ≡ row.spot) ⊎ (row.end ≡ Some p)) mid new → Notes f (OfFirstRows rows (n + 1)) old new
   rows_next rows n row old mid new is short = notes_both (OfFirstRows rows n) (λ p. (p ≡ row.spot) ⊎ (row.end ≡ Some p)) (OfFirstRows rows (n + 1)) old mid new
-      apart
+      (rows_apart rows n row is short)
       (λ p (k, other, less, at, spot). (k, other, omega (arith, less), at, spot))
       (λ p spot. (n, row, omega arith, is, spot))
-    where
-      apart : (p : Spot) → OfFirstRows rows (n + 1) p → OfFirstRows rows n p ⊎ ((p ≡ row.spot) ⊎ (row.end ≡ Some p))
-      apart p (k, other, less, at, spot) = elim (cases_order k n) [
-        | inl same ↦ inr (
-            let one : other ≡ row = at ∙ ap (λ j. get_or rows j other) same ∙ get_or_default rows n other row short ∙ sym is in
-            subst (λ z. (p ≡ z.spot) ⊎ (z.end ≡ Some p)) one spot)
-        | inr more ↦ elim more [ inl below ↦ inl (k, other, below, at, spot) | inr above ↦ absurd (omega (arith, less, above)) ]
-      ]
+
+  -- ---- points at which no token is
+
+  module _ (points : List Bool) where
+    pub off_next : (rows : List (TokenRow Spot)) (n : ℕ) (row : TokenRow Spot) → row ≡ get_or rows n row → n < length rows → ((p : Spot) → OfFirstRows rows n p → IsOff f points p)
+        → ((p : Spot) → (p ≡ row.spot) ⊎ (row.end ≡ Some p) → IsOff f points p) → (p : Spot) → OfFirstRows rows (n + 1) p → IsOff f points p
+    off_next rows n row is short before here p at = elim (rows_apart rows n row is short p at) [ inl first ↦ before p first | inr own ↦ here p own ]
+
+  pub class_off : (class : List ℕ) (rows : List (TokenRow Spot)) → AreTokens f class rows → (points : List Bool) (n : ℕ) → n ≡ length rows → ((p : Spot) → OfFirstRows rows n p → IsOff f points p)
+      → (p : Spot) → IsClassSpot f class p → IsOff f points p
+  class_off class rows are points n whole off p spot = off p (subst (λ k. OfFirstRows rows k p) (sym whole) (in_class class rows are p spot))
 
   -- ---- `start` and a class
 

@@ -3,7 +3,7 @@ use Rattle.std.proofs.Common.{◌≡◌, ◌∙◌, ℕ, Bool, true, false, not,
 use Rattle.std.proofs.lemmas.Bool.{cases_order, not-false}
 use Rattle.std.proofs.lemmas.List.{get_or_default}
 use Rattle.std.proofs.lemmas.List.Elements.{All-nil, All-push, All-contains, Contains-append_left, Contains-append_right}
-use Rattle.std.specs.Prelude.{IfSome, is_some}
+use Rattle.std.specs.Prelude.{is_some}
 use Rattle.std.specs.Cmp.Lexicographic.{bytes_decides}
 use Rattle.std.specs.Option.{option_map, option_map_or}
 use Rattle.std.specs.List.{All, Contains}
@@ -88,18 +88,17 @@ module _ (net : Net) (f : Forest) (loose : ℕ → Bool) (class : List ℕ) (x y
         },
       )
 
--- two that have begun, one beside the other, are walls
-pub two_begun : (net : Net) (tokens : List FastToken) (event : Place) (one : FastToken) → Contains tokens one → HasBegunBy net event one
-    → (o : Option FastToken) → IfSome o (Contains tokens) → IfSome o (HasBegunBy net event) → IfSome o (λ t. same_name one.fact t.fact ≡ false) → is_some o ≡ true → AreWallsBy net tokens event
-two_begun net tokens event one one_is one_begun None listed begun beside is = cc
-two_begun net tokens event one one_is one_begun (Some other) listed begun beside is = record {
+-- two that have begun, of different facts, are walls
+pub two_begun : (net : Net) (tokens : List FastToken) (event : Place) (one other : FastToken) → Contains tokens one → HasBegunBy net event one
+    → Contains tokens other → HasBegunBy net event other → same_name other.fact one.fact ≡ false → AreWallsBy net tokens event
+two_begun net tokens event one other one_is one_begun other_is other_begun beside = record {
   one = one;
   other = other;
   one_is = one_is;
-  other_is = listed;
+  other_is = other_is;
   one_begun = one_begun;
-  other_begun = begun;
-  differ = λ same. (let both_are : true ≡ false = sym ((bytes_decides one.fact other.fact).1 same) ∙ beside in cc);
+  other_begun = other_begun;
+  differ = λ same. (let both_are : true ≡ false = sym ((bytes_decides other.fact one.fact).1 (sym same)) ∙ beside in cc);
 }
 
 -- ---- one loose token

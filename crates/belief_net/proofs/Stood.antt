@@ -1,21 +1,33 @@
 -- Points that stand fast.
-use Rattle.std.proofs.Common.{◌≡◌, ◌∙◌, ℕ, Bool, true, false, not, ◌<◌, List, Option, Some, None, refl, sym, ap, inl, inr, ◌⊎◌, arith}
+use Rattle.std.proofs.Common.{◌≡◌, ◌∙◌, ℕ, Bool, true, false, not, ◌&&◌, ◌==◌, ◌<◌, List, Option, Some, None, refl, sym, ap, inl, inr, ◌⊎◌, arith}
+use Rattle.std.specs.Cmp.{both_ways}
 use Rattle.std.specs.List.{Contains}
 use Rattle.std.specs.Option.{option_map_or}
 use Rattle.tmm_model.specs.declared.point.PointName.TheVariants.{Start}
+use Rattle.belief_theory.specs.Touched.{same_bound}
 use Rattle.dist_net.specs.Net.{Nets}
 use Rattle.list_net.specs.Represents.{Names, IsNumberOf}
+use Rattle.spots.specs.Spots.{net_far}
 use Rattle.joined.proofs.Deciding.{not_both}
 use Rattle.belief_net.specs.Fast.{AreInBoth, is_out, StandFast, IsFastBy}
-use Rattle.belief_net.specs.MovedPairs.{is_of_premise, is_kept, WereThere, is_moved, AreMoved}
-use Rattle.belief_net.specs.PointSets.{is_in, has_pair, AreThose, HaveOneOf}
-use Rattle.belief_net.proofs.Pairs.{not_of_one, kept_in_use}
+use Rattle.belief_net.specs.MovedPairs.{is_of_premise, is_kept, WereThere, is_moved_among, is_moved, AreMoved}
+use Rattle.belief_net.specs.PointSets.{is_in, has_pair, AreThose, AreThosePairs, HaveOneOf}
+use Rattle.belief_net.proofs.Pairs.{not_of_one, kept_in_both}
 
 pub kept_both : (nets : Nets) (added : Option (List ℕ)) (kept : List Bool) → WereThere nets added
     → AreThose (λ p. (p < 256) × (is_kept nets.present.names added p ≡ true)) kept → AreInBoth nets kept
-kept_both nets added kept were are p is =
-    let stays = (are.own p is).1 in
-    (were p stays, kept_in_use nets.present.names added p stays)
+kept_both nets added kept were are p is = kept_in_both nets added were p (are.own p is).1
+
+-- what moved among the points that were there
+pub moved_of_kept : (nets : Nets) (added : Option (List ℕ)) (kept pairs : List Bool) → AreThose (λ p. (p < 256) × (is_kept nets.present.names added p ≡ true)) kept
+    → AreThosePairs (is_moved_among nets (is_in kept)) pairs → AreMoved nets added pairs
+moved_of_kept nets added kept pairs those are = record {
+  each = λ a b la lb. are.each a b la lb ∙ (λ i. not (a == b) && (same a la i && (same b lb i && not (same_bound (net_far nets.committed a b) (net_far nets.present a b)))));
+  places = are.places;
+}
+  where
+    same : (p : ℕ) → p < 256 → is_in kept p ≡ is_kept nets.present.names added p
+    same p less = both_ways (is_in kept p) (is_kept nets.present.names added p) (λ is. (those.own p is).1) (λ is. those.all p (less, is))
 
 pub fast_stand : (nets : Nets) (added : Option (List ℕ)) (listed : List ℕ) (pairs kept fast : List Bool) → AreMoved nets added pairs → HaveOneOf listed pairs
     → AreInBoth nets kept → is_in kept 0 ≡ true → AreThose (λ p. (p < 256) × IsFastBy listed pairs kept p) fast → StandFast nets added fast
@@ -39,7 +51,7 @@ fast_stand nets added listed pairs kept fast moved one_of both_kept start are = 
             → ((a ≡ 0) ⊎ ((has_pair pairs a 0 ≡ false) × (has_pair pairs 0 a ≡ false) × (Contains listed a → ⊥)))
             → ((b ≡ 0) ⊎ ((has_pair pairs b 0 ≡ false) × (has_pair pairs 0 b ≡ false) × (Contains listed b → ⊥)))
             → Contains listed a ⊎ Contains listed b → ⊥
-        by_starts pair (inl a_is) (inl b_is) on = not_both (is_moved nets added a b) is (not_of_one nets added a b (a_is ∙ sym b_is))
+        by_starts pair (inl a_is) (inl b_is) on = not_both (is_moved nets added a b) is (not_of_one nets (is_kept nets.present.names added) a b (a_is ∙ sym b_is))
         by_starts pair (inl a_is) (inr b_out) on = not_both (has_pair pairs a b) pair (ap (λ z. has_pair pairs z b) a_is ∙ b_out.1)
         by_starts pair (inr a_out) (inl b_is) on = not_both (has_pair pairs a b) pair (ap (λ z. has_pair pairs a z) b_is ∙ a_out.0)
         by_starts pair (inr a_out) (inr b_out) (inl on) = a_out.2 on
@@ -62,4 +74,4 @@ start_kept names added is = ap (λ o. option_map_or (λ point. not (is_of_premis
 
 -- no point makes a pair with itself
 pub no_pair_of_one : (nets : Nets) (added : Option (List ℕ)) (pairs : List Bool) → AreMoved nets added pairs → (a : ℕ) → a < 256 → has_pair pairs a a ≡ false
-no_pair_of_one nets added pairs moved a less = moved.each a a less less ∙ not_of_one nets added a a refl
+no_pair_of_one nets added pairs moved a less = moved.each a a less less ∙ not_of_one nets (is_kept nets.present.names added) a a refl

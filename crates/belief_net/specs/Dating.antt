@@ -1,8 +1,8 @@
 -- Roots that get the dates of their points.
-use Rattle.std.specs.Prelude.{◌≡◌, ◌⊎◌, ℕ, List, [], ◌∷◌, None, Some}
-use Rattle.dist_net.specs.Net.{Net, Nets, IsInUse}
+use Rattle.std.specs.Prelude.{◌≡◌, ◌⊎◌, ℕ, [], None, Some}
+use Rattle.dist_net.specs.Net.{Nets, IsInUse}
 use Rattle.spots.specs.Forest.{Member, member}
-use Rattle.occ_tree.specs.Dated.{point_early, IsDatedBut}
+use Rattle.occ_tree.specs.Dated.{point_early}
 use Rattle.occ_tree.specs.Places.{forest}
 use Rattle.occ_tree.specs.Standing.{Kept, present, committed, early, below}
 
@@ -11,11 +11,6 @@ pub record KeepsNodes (old new : Kept) : Type 0 where
   pub nodes : forest new ≡ forest old
   pub roots : below (present new) None ≡ below (present old) None
   pub committed_is : committed new ≡ committed old
-
--- where these roots and the first one may have other dates than the network gives them, the first
--- one has that of its point now
-abbrev pub DatesFirst : Net → ℕ → Kept → Kept → Type 0
-DatesFirst net root old new = (roots : List ℕ) → IsDatedBut net (root ∷ roots) (present old) → IsDatedBut net roots (present new)
 
 -- each root has the date of its point, as it is or as it was at the last commit
 abbrev pub AreDatedBefore : Nets → Kept → Type 0

@@ -26,16 +26,19 @@ abbrev pub WereThere : Nets → Option (List ℕ) → Type 0
 WereThere nets added = (n : ℕ) → is_kept nets.present.names added n ≡ true → IsInUse nets.committed.names n
 
 -- **Whether the distance from one point to another is another one now than at the last commit**,
--- where both were there
+-- where both are among these
+abbrev pub is_moved_among : Nets → (ℕ → Bool) → ℕ → ℕ → Bool
+is_moved_among nets among a b = not (a == b) && (among a && (among b && not (same_bound (net_far nets.committed a b) (net_far nets.present a b))))
+
+-- whether it is where both were there
 abbrev pub is_moved : Nets → Option (List ℕ) → ℕ → ℕ → Bool
-is_moved nets added a b =
-    not (a == b) && (is_kept nets.present.names added a && (is_kept nets.present.names added b && not (same_bound (net_far nets.committed a b) (net_far nets.present a b))))
+is_moved nets added a b = is_moved_among nets (is_kept nets.present.names added) a b
 
 -- of these pairs those that moved are put into the set, and no others
-pub record PutsPairs (nets : Nets) (added : Option (List ℕ)) (P : ℕ → ℕ → Type 0) (old new : List Bool) : Type 0 where
-  pub own : (a b : ℕ) → a < 256 → b < 256 → has_pair new a b ≡ true → (has_pair old a b ≡ true) ⊎ (is_moved nets added a b ≡ true)
+pub record PutsPairs (moved : ℕ → ℕ → Bool) (P : ℕ → ℕ → Type 0) (old new : List Bool) : Type 0 where
+  pub own : (a b : ℕ) → a < 256 → b < 256 → has_pair new a b ≡ true → (has_pair old a b ≡ true) ⊎ (moved a b ≡ true)
   pub kept : (a b : ℕ) → a < 256 → b < 256 → has_pair old a b ≡ true → has_pair new a b ≡ true
-  pub all : (a b : ℕ) → a < 256 → b < 256 → P a b → is_moved nets added a b ≡ true → has_pair new a b ≡ true
+  pub all : (a b : ℕ) → a < 256 → b < 256 → P a b → moved a b ≡ true → has_pair new a b ≡ true
   pub places : length new ≡ length old
 
 -- the pairs are those that moved

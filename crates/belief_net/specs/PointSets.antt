@@ -27,7 +27,16 @@ Meet a b = (p : ℕ) × (p < 256) × (is_in a p ≡ true) × (is_in b p ≡ true
 abbrev pub has_pair : List Bool → ℕ → ℕ → Bool
 has_pair pairs a b = is_in pairs (a * 256 + b)
 
+-- the set has exactly the pairs of which this is so
+pub record AreThosePairs (is : ℕ → ℕ → Bool) (pairs : List Bool) : Type 0 where
+  pub each : (a b : ℕ) → a < 256 → b < 256 → has_pair pairs a b ≡ is a b
+  pub places : length pairs ≡ 65536
+
 -- each pair has one of these points, all of which have a number below 256
 pub record HaveOneOf (points : List ℕ) (pairs : List Bool) : Type 0 where
   pub below : All (λ p. p < 256) points
   pub each : (a b : ℕ) → a < 256 → b < 256 → has_pair pairs a b ≡ true → Contains points a ⊎ Contains points b
+
+-- both points of each pair are in the set
+abbrev pub HaveBothIn : List Bool → List Bool → Type 0
+HaveBothIn pairs points = (a b : ℕ) → a < 256 → b < 256 → has_pair pairs a b ≡ true → (is_in points a ≡ true) × (is_in points b ≡ true)

@@ -1,12 +1,12 @@
 -- The declared points of spots.
-use Rattle.std.specs.Prelude.{◌≡◌, ℕ, ℤ, ◌<◌, length, Some}
+use Rattle.std.specs.Prelude.{◌≡◌, ℕ, ℤ, ◌<◌, Bool, false, List, length, Some}
 use Rattle.tmm_model.specs.declared.bound.Bound.TheVariants.{Finite}
 use Rattle.spots.specs.declared.spot.Spot.{Spot}
 use Rattle.spots.specs.declared.spot.Spot.TheVariants.{Declared, Node}
 use Rattle.spots.specs.Forest.{Forest, Member, member, IsLive}
 use Rattle.spots.specs.Spots.{base_of, links_of, links_high}
 use Rattle.belief_net.specs.declared.reach.Reach.{Reach}
-use Rattle.belief_net.specs.PointSets.{PutsIn}
+use Rattle.belief_net.specs.PointSets.{is_in, PutsIn}
 
 -- the number is that of the declared point of one of these spots
 abbrev pub IsBaseOf : Forest → (Spot → Type 0) → ℕ → Type 0
@@ -35,3 +35,12 @@ pub record AreBelow256 (f : Forest) : Type 0 where
 abbrev pub IsSpotBelow256 : Forest → Spot → Type 0
 IsSpotBelow256 f (Declared p) = p < 256
 IsSpotBelow256 f (Node x) = IsLive f x
+
+-- the spot is a node, or a declared point
+abbrev pub IsDeclaredOrLive : Forest → Spot → Type 0
+IsDeclaredOrLive f (Declared p) = Unit {0}
+IsDeclaredOrLive f (Node x) = IsLive f x
+
+-- the declared point of the spot is none of the set
+abbrev pub IsOff : Forest → List Bool → Spot → Type 0
+IsOff f points p = is_in points (base_of f p) ≡ false

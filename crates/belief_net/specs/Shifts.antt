@@ -2,7 +2,6 @@
 use Rattle.std.specs.Prelude.{◌≡◌, ◌≢◌, ◌⊎◌, ℕ, pos, negsuc, Bool, true, false, ◌&&◌, List, [], Option, Some, None}
 use Rattle.std.specs.List.{All, Contains}
 use Rattle.tmm_model.specs.declared.token.TokenRow.{TokenRow}
-use Rattle.tmm_model.specs.Points.{same_name}
 use Rattle.tmm_model.specs.Tokens.{is_before}
 use Rattle.dist_net.specs.Net.{Net, Nets}
 use Rattle.spots.specs.declared.spot.Spot.{Spot}
@@ -35,11 +34,6 @@ pub record IsFastToken (f : Forest) (loose : ℕ → Bool) (class : List ℕ) (t
   pub fast : IsFast loose token
   pub place : IsPlaceOf f node t.place
   pub fact : t.fact ≡ token.what
-
--- whether a fact, if there is one, is this one
-abbrev pub is_of : Option (List ℕ) → List ℕ → Bool
-is_of None fact = false
-is_of (Some other) fact = same_name other fact
 
 -- the token has surely begun by the event at a place
 abbrev pub HasBegunBy : Net → Place → FastToken → Type 0

@@ -10,14 +10,20 @@ use std::alloc::Global;
 use std::marker::Model;
 use tmm_model::{Name, NoMemory};
 
-/// So many tokens of a class are looked at each on its own; one walk over the rows of the class
-/// serves all others.
+/// So many tokens of a class at most are looked at each on its own; one walk over the rows of the
+/// class serves all others.
 const FEW_TOKENS: u32 = 16;
+
+/// Among so many nodes one token of a class is looked at on its own, and more among fewer: each takes
+/// a walk over the rows of the class, which a map of many nodes has many of.
+const MANY_NODES: u32 = 65_536;
 
 /// The classes of which all rows wait from some date on, and the facts of which all rows do whose
 /// rules read what contradicts them, as far as these are later than what was decided since.
 #[derive(Drop)]
 pub(crate) struct EditMarks {
+    // how many tokens of a class are looked at
+    few: u32,
     // how many tokens of each class were looked at, by the number of the class
     counts: Vec<u32>,
     // the date from which on all rows of a class wait, by its number
@@ -37,11 +43,12 @@ impl Model for EditMarks {
 }
 
 impl EditMarks {
-    // Nothing is marked. It takes no memory.
-    pub(crate) fn make(alloc: Global) -> EditMarks
+    // Nothing is marked of so many nodes. It takes no memory.
+    pub(crate) fn make(alloc: Global, nodes: u32) -> EditMarks
         ensures { result ≡ no_marks }
     {
         EditMarks {
+            few: (MANY_NODES / nodes.max(1)).clamp(1, FEW_TOKENS),
             counts: Vec::new(alloc),
             classes: Vec::new(alloc),
             facts: IndexMap::new(alloc),
@@ -61,7 +68,7 @@ impl EditMarks {
     pub(crate) fn count(&mut self, class: u32) -> Result<bool, NoMemory>
         ensures { self.new ≡ self.old }
     {
-        count_at(&mut self.counts, class)
+        count_at(&mut self.counts, class, self.few)
     }
 
     // Notes that all rows of a class wait whose events are no earlier than this date.
@@ -131,13 +138,13 @@ fn later(decided: Option<i64>, date: i64) -> Option<i64>
     }
 }
 
-// Counts one more at a place; whether there were a few already.
-fn count_at(counts: &mut Vec<u32>, class: u32) -> Result<bool, NoMemory> {
+// Counts one more at a place; whether there were so few already.
+fn count_at(counts: &mut Vec<u32>, class: u32, few: u32) -> Result<bool, NoMemory> {
     let place = class as usize;
     if counts.len() <= place {
         counts.resize(place + 1, 0)?;
     }
-    if counts[place] >= FEW_TOKENS {
+    if counts[place] >= few {
         return Ok(true);
     }
     counts[place] += 1;

@@ -31,8 +31,8 @@ pub(crate) fn moves_of(alloc: Global, net: &DistNet, added: Option<Name>) -> Res
     ensures kept { IfOk result (λ moves. AreInBoth net.now moves.kept.items) }
     ensures fast { IfOk result (λ moves. StandFast net.now added moves.fast.items) }
 {
-    let pairs = moved_pairs(alloc, net, added)?;
     let kept = kept_points(alloc, net, &added)?;
+    let pairs = moved_pairs(alloc, net, &kept)?;
     let fast = fast_points(alloc, net.moved(), &pairs, &kept)?;
     Ok(Moves { pairs, kept, fast })
 }

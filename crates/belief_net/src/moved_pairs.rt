@@ -1,64 +1,82 @@
 // Which distances are others now than at the last commit.
 ghost use Rattle.std.specs.Prelude.{◌≡◌, ◌⊎◌, ◌<◌, length, IfOk};
-ghost use Rattle.belief_net.specs.MovedPairs.{is_of_premise, is_kept, WereThere, is_moved, PutsPairs, AreMoved};
-ghost use Rattle.belief_net.specs.PointSets.{HaveOneOf};
+ghost use Rattle.belief_net.specs.Fast.{AreInBoth};
+ghost use Rattle.belief_net.specs.MovedPairs.{is_of_premise, is_kept, is_moved_among, PutsPairs};
+ghost use Rattle.belief_net.specs.PointSets.{is_in, AreThosePairs, HaveOneOf};
 
+use crate::point_sets::is_in;
 use dist_net::{DistNet, POINTS};
 use std::alloc::Global;
 use tmm_model::{Name, NoMemory, PointName};
 
-// The pairs of points, by their numbers, of which the distance is another one now. Points of the
-// premise that is added were not there. Each of them has one of the points that the net lists as
-// moved.
+// The pairs of points that were there, by their numbers, of which the distance is another one now.
+// Each of them has one of the points that the net lists as moved.
 pub(crate) fn moved_pairs(
     alloc: Global,
     net: &DistNet,
-    added: Option<Name>,
+    kept: &[bool],
 ) -> Result<Vec<bool>, NoMemory>
-    requires { WereThere net.now added }
-    ensures moved { IfOk result (λ pairs. AreMoved net.now added pairs.items) }
+    requires { AreInBoth net.now kept.now }
+    ensures moved { IfOk result (λ pairs. AreThosePairs (is_moved_among net.now (is_in kept.now)) pairs.items) }
     ensures listed { IfOk result (λ pairs. HaveOneOf net.now.moved pairs.items) }
 {
     let mut pairs = vec![in alloc; false; POINTS * POINTS]?;
     let moved = net.moved();
     for p in moved {
-        note_point(net, &added, *p, &mut pairs);
+        note_point(net, kept, *p, &mut pairs);
     }
     Ok(pairs)
 }
 
 // Puts those pairs of a point in that moved.
-fn note_point(net: &DistNet, added: &Option<Name>, p: u16, pairs: &mut Vec<bool>)
-    requires there { WereThere net.now added.now }
+fn note_point(net: &DistNet, kept: &[bool], p: u16, pairs: &mut Vec<bool>)
+    requires kept { AreInBoth net.now kept.now }
     requires point { p < 256 }
     requires places { length pairs.old.items ≡ 65536 }
-    ensures { PutsPairs net.now added.now (λ a b. (a ≡ p) ⊎ (b ≡ p)) pairs.old.items pairs.new.items }
+    ensures { PutsPairs (is_moved_among net.now (is_in kept.now)) (λ a b. (a ≡ p) ⊎ (b ≡ p)) pairs.old.items pairs.new.items }
 {
+    if !is_in(kept, p) {
+        return;
+    }
     for q in 0..POINTS as u16 {
-        note_pair(net, added, p, q, pairs);
-        note_pair(net, added, q, p, pairs);
+        note_both(net, kept, p, q, pairs);
     }
 }
 
+// Puts the pairs of two points in, one for each direction, if they moved.
+fn note_both(net: &DistNet, kept: &[bool], p: u16, q: u16, pairs: &mut Vec<bool>)
+    requires kept { AreInBoth net.now kept.now }
+    requires point { p < 256 }
+    requires other { q < 256 }
+    requires places { length pairs.old.items ≡ 65536 }
+    ensures { PutsPairs (is_moved_among net.now (is_in kept.now)) (λ a b. ((a ≡ p) × (b ≡ q)) ⊎ ((a ≡ q) × (b ≡ p))) pairs.old.items pairs.new.items }
+{
+    if !is_in(kept, q) {
+        return;
+    }
+    note_pair(net, kept, p, q, pairs);
+    note_pair(net, kept, q, p, pairs);
+}
+
 // Puts a pair in if it moved.
-fn note_pair(net: &DistNet, added: &Option<Name>, a: u16, b: u16, pairs: &mut Vec<bool>)
-    requires there { WereThere net.now added.now }
+fn note_pair(net: &DistNet, kept: &[bool], a: u16, b: u16, pairs: &mut Vec<bool>)
+    requires kept { AreInBoth net.now kept.now }
     requires from { a < 256 }
     requires to { b < 256 }
     requires places { length pairs.old.items ≡ 65536 }
-    ensures { PutsPairs net.now added.now (λ c d. (c ≡ a) × (d ≡ b)) pairs.old.items pairs.new.items }
+    ensures { PutsPairs (is_moved_among net.now (is_in kept.now)) (λ c d. (c ≡ a) × (d ≡ b)) pairs.old.items pairs.new.items }
 {
-    if is_moved(net, added, a, b) {
+    if is_moved(net, kept, a, b) {
         pairs[a as usize * POINTS + b as usize] = true;
     }
 }
 
 // Whether the distance from one point to another is another one now, where both were there.
-fn is_moved(net: &DistNet, added: &Option<Name>, a: u16, b: u16) -> bool
-    requires { WereThere net.now added.now }
-    ensures { result ≡ is_moved net.now added.now a b }
+fn is_moved(net: &DistNet, kept: &[bool], a: u16, b: u16) -> bool
+    requires { AreInBoth net.now kept.now }
+    ensures { result ≡ is_moved_among net.now (is_in kept.now) a b }
 {
-    if a == b || !is_kept(net, added, a) || !is_kept(net, added, b) {
+    if a == b || !is_in(kept, a) || !is_in(kept, b) {
         return false;
     }
     !net.was(a, b).is(net.far(a, b))

@@ -17,6 +17,7 @@ use crate::fast::{Moves, moves_of};
 use crate::moved_events::wake_moved_events;
 use crate::rivalled::wake_rivalled;
 use crate::state::Decisions;
+use crate::touching::points_of_pairs;
 use crate::woken::wake_touched;
 use dist_net::DistNet;
 use occ_tree::Tree;
@@ -89,6 +90,7 @@ fn wake_classes(
     ensures ok { OnOk result (WakesForAll (present tree.now) net.now moves.now decisions.old (length decisions.old.classes) (dates_in decisions.old.waiting) (dates_in decisions.new.waiting)) }
     ensures others { decisions.new ≡ record decisions.old { waiting = decisions.new.waiting } }
 {
+    let points = points_of_pairs(alloc, &moves.pairs, net.moved())?;
     for class in 0..decisions.classes.len() {
         let name = decisions.classes.name(class);
         wake_touched(
@@ -102,6 +104,7 @@ fn wake_classes(
             name,
             touched,
             awake,
+            &points,
         )?;
     }
     Ok(())

@@ -1,17 +1,19 @@
 // The declared points of `start` and of the tokens of a class.
 ghost use Rattle.std.specs.Prelude.{◌≡◌, ◌⊎◌, ℕ, ℤ, ◌<◌, false, Some, IfOk};
 ghost use Rattle.tmm_model.specs.declared.bound.Bound.TheVariants.{Finite};
+ghost use Rattle.spots.specs.declared.spot.Spot.{Spot};
 ghost use Rattle.spots.specs.declared.spot.Spot.TheVariants.{Declared};
 ghost use Rattle.spots.specs.Forest.{Member};
+ghost use Rattle.spots.specs.Spots.{base_of};
 ghost use Rattle.spots.proofs.Rows.{IsRowOf};
 ghost use Rattle.occ_tree.specs.Places.{forest};
 ghost use Rattle.joined.specs.Gaps.{IsClassSpot};
 ghost use Rattle.joined.specs.Shifting.{IsSpotOf};
 ghost use Rattle.belief_net.specs.PointSets.{is_in, PutsIn, AreThose};
-ghost use Rattle.belief_net.specs.Reach.{IsBaseOf, IsBoundedBaseOf, Notes, HasPlaces, AreBelow256, IsSpotBelow256};
+ghost use Rattle.belief_net.specs.Reach.{IsBaseOf, IsBoundedBaseOf, Notes, HasPlaces, AreBelow256, IsSpotBelow256, IsDeclaredOrLive, IsOff};
 
 use crate::by_event::is_number;
-use crate::point_sets::put_if;
+use crate::point_sets::{is_in, put_if};
 use dist_net::POINTS;
 use occ_tree::Tree;
 use spots::Spot;
@@ -112,4 +114,49 @@ fn note(point: u16, most: Bound, reach: &mut Reach)
 {
     put_if(&mut reach.all, point as usize, true);
     put_if(&mut reach.bounded, point as usize, is_number(most));
+}
+
+// Whether `start` or a token of a class is at one of these points.
+pub(crate) fn is_class_at(tree: &Tree, class: &Name, points: &[bool]) -> bool
+    ensures { result ≡ false → (p : Spot) → IsSpotOf (forest tree.now) class.now p → IsOff (forest tree.now) points.now p }
+{
+    is_in(points, 0) || has_token_at(tree, class, points)
+}
+
+// Whether a token of a class begins or ends at one of these points.
+fn has_token_at(tree: &Tree, class: &Name, points: &[bool]) -> bool
+    ensures { result ≡ false → (p : Spot) → IsClassSpot (forest tree.now) class.now p → IsOff (forest tree.now) points.now p }
+{
+    let rows = tree.tokens(class);
+    for i in 0..rows.len() {
+        if is_token_at(tree, &rows[i], points) {
+            return true;
+        }
+    }
+    false
+}
+
+// Whether a token begins or ends at one of these points.
+fn is_token_at(tree: &Tree, row: &TokenRow<Spot>, points: &[bool]) -> bool
+    requires { (x : ℕ) × (m : Member) × IsRowOf (forest tree.now) row.now x m }
+    ensures { result ≡ false → (p : Spot) → (p ≡ row.now.spot) ⊎ (row.now.end ≡ Some p) → IsOff (forest tree.now) points.now p }
+{
+    if is_spot_at(tree, row.spot, points) {
+        return true;
+    }
+    match row.end {
+        Some(end) => is_spot_at(tree, end, points),
+        None => false,
+    }
+}
+
+// Whether a spot is at one of these points.
+fn is_spot_at(tree: &Tree, spot: Spot, points: &[bool]) -> bool
+    requires { IsDeclaredOrLive (forest tree.now) spot }
+    ensures { result ≡ is_in points.now (base_of (forest tree.now) spot) }
+{
+    match spot {
+        Spot::Declared(point) => is_in(points, point),
+        Spot::Node(x) => is_in(points, tree.row(x).begin),
+    }
 }

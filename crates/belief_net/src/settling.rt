@@ -44,7 +44,7 @@ pub(crate) fn settle(
 {
     // it tells the proof that no count is above the greatest
     let _ = count.value();
-    let mut marks = EditMarks::make(alloc);
+    let mut marks = EditMarks::make(alloc, beliefs.tree.limit());
     let mut known = KnownKinds::make();
     for _ in 0..u64::MAX {
         if !turn(

@@ -1,6 +1,6 @@
 // Events at which what reads some points depends on distances that are others now.
 ghost use Rattle.std.specs.Prelude.{◌≡◌, ◌<◌, ◌↔◌, true, length, IsTrue, IfOk};
-ghost use Rattle.belief_net.specs.PointSets.{PutsIn, HaveOneOf};
+ghost use Rattle.belief_net.specs.PointSets.{PutsIn, HaveOneOf, HaveBothIn};
 ghost use Rattle.belief_net.specs.Reach.{HasPlaces};
 ghost use Rattle.belief_net.specs.Touching.{LeadsTo, LeadsFrom, LeadsInto, IsLedToFrom, LeadsIntoBy, IsLedToFromBy, IsTouchedAt};
 
@@ -31,6 +31,23 @@ pub(crate) fn touched_by(
     let mut bounded = vec![in alloc; false; POINTS]?;
     put_behind(pairs, moved, &reach.all, &mut bounded);
     Ok(Events::BeginAt { all, bounded })
+}
+
+// The points of the pairs. Each pair has one of the points that moved.
+pub(crate) fn points_of_pairs(
+    alloc: Global,
+    pairs: &[bool],
+    moved: &[u16],
+) -> Result<Vec<bool>, NoMemory>
+    requires pairs { length pairs.now ≡ 65536 }
+    requires moved { HaveOneOf moved.now pairs.now }
+    ensures { IfOk result (λ points. HaveBothIn pairs.now points.items) }
+{
+    let every = vec![in alloc; true; POINTS]?;
+    let mut points = vec![in alloc; false; POINTS]?;
+    put_before(pairs, moved, &every, &mut points);
+    put_behind(pairs, moved, &every, &mut points);
+    Ok(points)
 }
 
 // Puts all points in, if `is` holds.

@@ -1,10 +1,11 @@
 // Tokens that stand fast, and which of them are walls between another one and an event.
-ghost use Rattle.std.specs.Prelude.{◌≡◌, true, false, List, IfOk, OnOk, IfSome};
+ghost use Rattle.std.specs.Prelude.{◌≡◌, true, false, List, IfOk, OnOk};
 ghost use Rattle.std.specs.List.{Contains};
+ghost use Rattle.tmm_model.specs.Points.{same_name};
 ghost use Rattle.belief_net.specs.declared.walls.FastToken.{FastToken};
 ghost use Rattle.belief_net.specs.Fast.{IsInBoth};
 ghost use Rattle.belief_net.specs.Places.{net_at};
-ghost use Rattle.belief_net.specs.Shifts.{HasBegunBy, AreWallsBy, AreBehind, TokensHaveBoth, is_of};
+ghost use Rattle.belief_net.specs.Shifts.{HasBegunBy, AreWallsBy, AreBehind, TokensHaveBoth};
 
 use crate::lists::push;
 use crate::places::{Place, is_surely_within};
@@ -72,33 +73,38 @@ pub(crate) fn are_walls(net: &DistNet, before: bool, tokens: &[FastToken], event
     requires event { IsInBoth net.now event.now.base }
     ensures { result ≡ true → AreWallsBy (net_at net.now before) tokens.now event.now }
 {
-    let Some(one) = begun_beside(net, before, tokens, event, &None) else {
-        return false;
-    };
-    begun_beside(net, before, tokens, event, &Some(one.fact)).is_some()
+    for i in 0..tokens.len() {
+        let token = &tokens[i];
+        if is_surely_within(net, before, event, &token.place, false) {
+            // of those before it none has begun
+            return are_walls_beside(net, before, tokens, event, token, i + 1);
+        }
+    }
+    false
 }
 
-// The first of the tokens that has surely begun by the event at a place, and is not of this fact.
-fn begun_beside(
+// Whether one of the tokens from a place on, of another fact than this one, has surely begun by the
+// event at a place, as this one has.
+fn are_walls_beside(
     net: &DistNet,
     before: bool,
     tokens: &[FastToken],
     event: &Place,
-    fact: &Option<Name>,
-) -> Option<FastToken>
+    first: &FastToken,
+    from: usize,
+) -> bool
     requires tokens { TokensHaveBoth net.now tokens.now }
     requires event { IsInBoth net.now event.now.base }
-    ensures listed { IfSome result (Contains tokens.now) }
-    ensures begun { IfSome result (HasBegunBy (net_at net.now before) event.now) }
-    ensures beside { IfSome result (λ t. is_of fact.now t.fact ≡ false) }
+    requires first { Contains tokens.now first.now }
+    requires begun { HasBegunBy (net_at net.now before) event.now first.now }
+    ensures { result ≡ true → AreWallsBy (net_at net.now before) tokens.now event.now }
 {
-    for i in 0..tokens.len() {
-        let token = tokens[i];
-        if has_begun_beside(net, before, &token, event, fact) {
-            return Some(token);
+    for i in from..tokens.len() {
+        if has_begun_beside(net, before, &tokens[i], event, &first.fact) {
+            return true;
         }
     }
-    None
+    false
 }
 
 // Whether a token has surely begun by the event at a place, and is not of this fact.
@@ -107,25 +113,15 @@ fn has_begun_beside(
     before: bool,
     token: &FastToken,
     event: &Place,
-    fact: &Option<Name>,
+    fact: &Name,
 ) -> bool
     requires token { IsInBoth net.now token.now.place.base }
     requires event { IsInBoth net.now event.now.base }
     ensures begun { result ≡ true → HasBegunBy (net_at net.now before) event.now token.now }
-    ensures beside { result ≡ true → is_of fact.now token.now.fact ≡ false }
+    ensures beside { result ≡ true → same_name token.now.fact fact.now ≡ false }
 {
-    if is_of(fact, &token.fact) {
+    if token.fact == *fact {
         return false;
     }
     is_surely_within(net, before, event, &token.place, false)
-}
-
-// Whether a fact is this one.
-fn is_of(fact: &Option<Name>, name: &Name) -> bool
-    ensures { result ≡ is_of fact.now name.now }
-{
-    match fact {
-        Some(fact) => fact == name,
-        None => false,
-    }
 }

@@ -11,13 +11,14 @@ ghost use Rattle.joined.specs.Listed.{IsListedUnder};
 ghost use Rattle.joined.specs.Shifting.{SparesClass};
 ghost use Rattle.belief_net.specs.Fast.{is_out};
 ghost use Rattle.belief_net.specs.Marks.{HaveEvents};
+ghost use Rattle.belief_net.specs.PointSets.{HaveBothIn};
 ghost use Rattle.belief_net.specs.Reach.{AreBelow256};
 ghost use Rattle.belief_net.specs.Waiting.{dates_in};
 ghost use Rattle.belief_net.specs.Woken.{TellMoves, MovesFor, RestsFor, AreMovesOf, AreAwake, WakesFor};
 
 use crate::by_event::Events;
 use crate::fast::Moves;
-use crate::reach::reach_of;
+use crate::reach::{is_class_at, reach_of};
 use crate::shifts::{Shift, shifts_of, spares};
 use crate::touching::touched_by;
 use crate::waiting::Waiting;
@@ -39,7 +40,9 @@ pub(crate) struct ClassMoves {
 }
 
 // Lets those rows wait that read a class, by its number, and may not rest. None has to be looked at
-// where the rows of events that moved wait, and no token of the class moved.
+// where the rows of events that moved wait, and no token of the class moved; nor where no distance
+// of `start` or of a token of the class is another one now, so that none of these is at one of the
+// points.
 pub(crate) fn wake_touched(
     alloc: Global,
     net: &DistNet,
@@ -51,15 +54,20 @@ pub(crate) fn wake_touched(
     class: Name,
     touched: &[Name],
     awake: bool,
+    points: &[bool],
 ) -> Result<(), NoMemory>
     requires events { HaveEvents tree.now (table rows.now) }
     requires below { AreBelow256 (forest tree.now) }
     requires moves { TellMoves net.now moves.now }
     requires untouched { (other : List ℕ) → (Contains touched.now other → ⊥) → IsUntouched net.now tree.now other }
     requires awake { awake ≡ true → AreAwake net.now (forest tree.now) (table rows.now) (dates_in waiting.old) }
+    requires points { HaveBothIn moves.now.pairs.items points.now }
     ensures { OnOk result (WakesFor (present tree.now) (table rows.now) net.now moves.now class (IsListedUnder (table rows.now) number) (dates_in waiting.old) (dates_in waiting.new)) }
 {
     if awake && !touched.contains(&class) {
+        return Ok(());
+    }
+    if !is_class_at(tree, &class, points) {
         return Ok(());
     }
     wake_class(alloc, net, tree, rows, waiting, moves, number, class)

@@ -3,3 +3,4 @@ pub mod Followed
 pub mod Linked
 pub mod Named
 pub mod Ranked
+pub mod Sums

@@ -10,6 +10,9 @@ use dist_net::{DistNet, POINTS};
 use std::alloc::Global;
 use tmm_model::{Bound, NoMemory};
 
+// The number of the point `start`.
+const START: u16 = 0;
+
 /// Least walks to an end. The rank of a point is one more than the number of edges of its shortest
 /// least walk, and such a walk goes on from rank to lower rank.
 #[derive(Drop)]
@@ -30,10 +33,31 @@ pub fn find_ways(alloc: Global, net: &DistNet, a: u16, b: u16) -> Result<Ways, N
     ensures ways { IfOk result (AreWays net.now.present.edges b) }
     ensures reached { IfOk result (λ ways. 0 < slice_index ways.rank.items a) }
 {
-    let ends = Ends::make(alloc, net.edges())?;
+    net.invariants();
     let mut ways = Ways::make(alloc, b)?;
+    ways.visit_near(net, a, b);
+    if ways.rank(a) != 0 {
+        return Ok(ways);
+    }
+    let ends = Ends::make(alloc, net.edges())?;
     ways.go_back(net, &ends, a, b);
     Ok(ways)
+}
+
+// Whether a least walk from `a` to `b` goes over `start`. Since most dates are told from there,
+// one with few edges is then likely.
+fn is_over_start(net: &DistNet, a: u16, b: u16) -> bool
+    requires from { IsInUse net.now.present.names a }
+    requires to { IsInUse net.now.present.names b }
+{
+    net.invariants();
+    let Bound::Finite(first) = net.far(a, START) else {
+        return false;
+    };
+    let Bound::Finite(rest) = net.far(START, b) else {
+        return false;
+    };
+    net.far(a, b).is(Bound::Finite(first + rest))
 }
 
 // Whether a least walk to `b` begins with the edge.
@@ -80,6 +104,60 @@ impl Ways {
         ensures { result ≡ slice_index self.now.first.items p }
     {
         self.first[p as usize] as usize
+    }
+
+    // Ranks `a` if a least walk of at most three edges leads from there to `b`, where that is likely.
+    // To look at all edges a few times takes less than to link them and to go back from `b`. It stays
+    // apart, for the loops that go back need the registers.
+    #[inline(never)]
+    fn visit_near(&mut self, net: &DistNet, a: u16, b: u16)
+        requires from { IsInUse net.now.present.names a }
+        requires to { IsInUse net.now.present.names b }
+        requires ways { AreWays net.now.present.edges b self.old }
+        ensures ways { AreWays net.now.present.edges b self.new }
+    {
+        net.invariants();
+        if !is_over_start(net, a, b) {
+            return;
+        }
+        self.visit_to(net, b, 1);
+        self.visit_from(net, a, b);
+        if self.rank(a) != 0 {
+            return;
+        }
+        self.visit_to(net, b, 2);
+        self.visit_from(net, a, b);
+    }
+
+    // Visits all edges from `a` to ranked points.
+    fn visit_from(&mut self, net: &DistNet, a: u16, b: u16)
+        requires to { IsInUse net.now.present.names b }
+        requires ways { AreWays net.now.present.edges b self.old }
+        ensures ways { AreWays net.now.present.edges b self.new }
+    {
+        let edges = net.edges();
+        for (place, edge) in edges.iter().enumerate() {
+            let to = edge.to;
+            if edge.from == a && self.rank(to) != 0 {
+                self.visit(net, b, to, place);
+            }
+        }
+    }
+
+    // Visits all edges to points of this rank.
+    fn visit_to(&mut self, net: &DistNet, b: u16, rank: u16)
+        requires to { IsInUse net.now.present.names b }
+        requires rank { 0 < rank }
+        requires ways { AreWays net.now.present.edges b self.old }
+        ensures ways { AreWays net.now.present.edges b self.new }
+    {
+        let edges = net.edges();
+        for (place, edge) in edges.iter().enumerate() {
+            let to = edge.to;
+            if self.rank(to) == rank {
+                self.visit(net, b, to, place);
+            }
+        }
     }
 
     // Goes through the points from `b` on, by their ranks, while these are below that of `a`.

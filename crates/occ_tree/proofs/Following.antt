@@ -11,8 +11,8 @@ use Rattle.occ_tree.specs.declared.node.Node.{Node}
 use Rattle.occ_tree.specs.declared.node.Above.{Above}
 use Rattle.occ_tree.specs.Below.{IsBelow}
 use Rattle.occ_tree.specs.Dated.{DatesFollow, HaveRoots}
-use Rattle.occ_tree.specs.Nodes.{Way, parent_of, root_of, way_to, member_of, forest_in, date_in, ArePlaced}
-use Rattle.occ_tree.specs.Standing.{nodes_in, siblings_in, AreKept}
+use Rattle.occ_tree.specs.Nodes.{Way, parent_of, root_of, way_to, member_of, forest_in, date_in, FollowRoots, ArePlaced}
+use Rattle.occ_tree.specs.Standing.{nodes_in, siblings_in}
 use Rattle.occ_tree.proofs.Beneath.{way_from_below}
 use Rattle.occ_tree.proofs.Effects.{member_at, no_above, way_root}
 use Rattle.occ_tree.proofs.Keeping.{date_at, node_of_member, node_if_live}
@@ -22,14 +22,14 @@ use Rattle.occ_tree.proofs.Telling.{root_told}
 
 module _ (t : Table Node 1) (tokens : List ℕ → List (TokenRow Spot)) (placed : ArePlaced (nodes_in t)) where
   -- **The date of each node is that of its root and the least delays on the way.**
-  pub follow : (names : List (List ℕ)) (rows : ℕ → List (TokenRow Spot)) → AreKept names (nodes_in t) rows → DatesFollow (record { rows = t; tokens = tokens })
-  follow names rows kept x y b none =
+  pub follow : FollowRoots (nodes_in t) → DatesFollow (record { rows = t; tokens = tokens })
+  follow dates x y b none =
       let node = nodes_in t in
       let (m, m_at, root) = root_above node placed x b.above b.above_at none in
       let (n, n_at, is) = node_of_member node y b.below b.below_at in
       let up : root_of y n ≡ x = root_is node placed x m m_at root y n n_at (way_from_below node placed x y b) in
       let low : n.sums.low ≡ links_low b.below.links = (placed.each y n n_at).sums.low ∙ ap (λ (k : Member). links_low k.links) (sym is) in
-      date_at node y n n_at ∙ kept.dates y n n_at ∙ (λ i. date_in node (up i) +ℤ low i)
+      date_at node y n n_at ∙ dates y n n_at ∙ (λ i. date_in node (up i) +ℤ low i)
 
   module _ (siblings : (parent : Option ℕ) (y : ℕ) → IsOn (siblings_in t parent) y ↔ ((n : Node) × (nodes_in t y ≡ Some n) × (parent_of n ≡ parent))) where
     -- **The roots are listed, and each node is one of them or below it.**

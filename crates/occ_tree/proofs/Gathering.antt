@@ -1,14 +1,15 @@
 -- Lists of what is below a node, as they grow.
-use Rattle.std.proofs.Common.{◌≡◌, ℕ, zero, suc, eqb, false, ◌<◌, ◌≤◌, List, [], ◌∷◌, ◌++◌, length, Some, None, refl, sym, ap, ◌∙◌, subst, inl, inr, arith, slice_index_or, ◌⊎◌, ◌↔◌, eqb-true, eq-eqb, ne_eqb}
+use Rattle.std.proofs.Common.{◌≡◌, ℕ, zero, suc, eqb, false, ◌<◌, ◌≤◌, List, [], ◌∷◌, ◌++◌, length, Some, None, IsSome, refl, sym, ap, ◌∙◌, subst, inl, inr, arith, slice_index_or, ◌⊎◌, ◌↔◌, eqb-true, eq-eqb, ne_eqb}
 use Rattle.std.specs.List.{AllByRecursion, IsDistinct, list_any}
 use Rattle.std.proofs.lemmas.Bool.{or_cases, or_parts, false≢true, both_ways, cond-true, cond-false}
 use Rattle.std.proofs.lemmas.List.{append_assoc, append-nil, length-append}
 use Rattle.std.proofs.lemmas.Map.Steps.{length-le_from_distinct_below}
 use Rattle.row_links.specs.Lists.{IsOn, AreOnce, first_or, row_after}
 use Rattle.row_links.proofs.Lists.{IsOn-first, IsOn-rest, IsOn-append_left, IsOn-append_right, IsOn-append_cases, AreApart-from_once, once_from_AreApart}
-use Rattle.occ_tree.specs.Below.{IsRightBelow, IsOnWay, LeadOn, ListsBelow}
+use Rattle.occ_tree.specs.Below.{IsRightBelow, IsOnWay, LeadOn, AreTops, ListAllBelow, ListsBelow}
 use Rattle.occ_tree.specs.declared.node.Node.{Node}
 use Rattle.occ_tree.specs.Nodes.{Nodes, parent_of}
+use Rattle.occ_tree.proofs.Grown.{some_node}
 use Rattle.occ_tree.proofs.InOrder.{on_one}
 use Rattle.occ_tree.proofs.Ways.{HaveParents}
 use Rattle.occ_tree.proofs.OnWays.{on_own, on_further, on_way_cases, parent_there, not_above_itself, way_leads}
@@ -51,24 +52,33 @@ lead_at node (q ∷ first) others (here, lead) p y on below = elim (or_cases (eq
   | inr rest ↦ IsOn-rest y q (first ++ others) (lead_at node first others lead p y rest below)
 ]
 
--- the numbers are of x and of nodes below it, all that is right below the first ones among them
-pub record Gathers (node : Nodes) (x : ℕ) (first others : List ℕ) : Type 0 where
-  pub start : IsOn (first ++ others) x
-  pub each : (y : ℕ) → IsOn (first ++ others) y → IsOnWay node x y
+-- the numbers are of the tops and of nodes below them, all that is right below the first ones among
+-- them
+pub record Gathers (node : Nodes) (tops first others : List ℕ) : Type 0 where
+  pub start : (x : ℕ) → IsOn tops x → IsOn (first ++ others) x
+  pub each : (y : ℕ) → IsOn (first ++ others) y → (x : ℕ) × IsOn tops x × IsOnWay node x y
   pub once : AreOnce (first ++ others)
   pub lead_on : LeadOn node first others
-  pub above : (y : ℕ) → IsOn (first ++ others) y → (y ≡ x) ⊎ ((p : ℕ) × IsOn first p × IsRightBelow node p y)
+  pub above : (y : ℕ) → IsOn (first ++ others) y → IsOn tops y ⊎ ((p : ℕ) × IsOn first p × IsRightBelow node p y)
 
-pub gathers_start : (node : Nodes) (x : ℕ) (n : Node) → node x ≡ Some n → Gathers node x [] (x ∷ [])
-gathers_start node x n at = record {
-  start = IsOn-first x [];
-  each = λ y on. subst (IsOnWay node x) (sym (on_one y x on)) (on_own node x n at);
-  once = (refl, tt);
+pub gathers_start : (node : Nodes) (tops : List ℕ) → AreTops node tops → Gathers node tops [] tops
+gathers_start node tops are = record {
+  start = λ x on. on;
+  each = λ y on. let (n, at) = some_node node y (are.live y on) in (y, on, on_own node y n at);
+  once = are.once;
   lead_on = tt;
-  above = λ y on. inl (on_one y x on);
+  above = λ y on. inl on;
 }
 
-module _ (node : Nodes) (parents : HaveParents node) (x : ℕ) where
+-- a node alone
+pub one_top : (node : Nodes) → HaveParents node → (x : ℕ) → IsSome (node x) → AreTops node (x ∷ [])
+one_top node parents x live = record {
+  live = λ y on. subst (λ z. IsSome (node z)) (sym (on_one y x on)) live;
+  once = (refl, tt);
+  apart = λ w y z w_on z_on way right. not_above_itself node parents y x (subst (IsRightBelow node y) (on_one z x z_on) right) (subst (λ v. IsOnWay node v y) (on_one w x w_on) way);
+}
+
+module _ (node : Nodes) (parents : HaveParents node) (tops : List ℕ) (are : AreTops node tops) where
   one_parent : (p q y : ℕ) → IsRightBelow node p y → IsRightBelow node q y → p ≡ q
   one_parent p q y (m, m_at, m_below) (n, n_at, n_below) =
       let both : Some m ≡ Some n = sym m_at ∙ n_at in
@@ -76,18 +86,18 @@ module _ (node : Nodes) (parents : HaveParents node) (x : ℕ) where
       let parents_same : Some p ≡ Some q = sym m_below ∙ ap parent_of same ∙ n_below in
       cc
 
-  pub gathers_more : (first : List ℕ) (h : ℕ) (rest children : List ℕ) → AreOnce children → ((z : ℕ) → IsOn children z ↔ IsRightBelow node h z) → Gathers node x first (h ∷ rest) → Gathers node x (first ++ h ∷ []) (rest ++ children)
+  pub gathers_more : (first : List ℕ) (h : ℕ) (rest children : List ℕ) → AreOnce children → ((z : ℕ) → IsOn children z ↔ IsRightBelow node h z) → Gathers node tops first (h ∷ rest) → Gathers node tops (first ++ h ∷ []) (rest ++ children)
   gathers_more first h rest children once children_are g = record {
-    start = subst (λ l. IsOn l x) all (IsOn-append_left (first ++ h ∷ rest) children x g.start);
+    start = λ x on. subst (λ l. IsOn l x) all (IsOn-append_left (first ++ h ∷ rest) children x (g.start x on));
     each = λ y on. elim (parts y on) [
       | inl old ↦ g.each y old
-      | inr new ↦ on_further node parents x h y ((children_are y).0 new) (g.each h h_on)
+      | inr new ↦ let (x, x_on, way) = g.each h h_on in (x, x_on, on_further node parents x h y ((children_are y).0 new) way)
     ];
     once = subst AreOnce all (once_from_AreApart (first ++ h ∷ rest) children (record { first = g.once; second = once; apart = λ z old new. apart z old ((children_are z).0 new) }));
     lead_on = lead_more node first h rest children g.lead_on (λ z below. IsOn-append_right rest children z ((children_are z).1 below));
     above = λ y on. elim (parts y on) [
       | inl old ↦ elim (g.above y old) [
-        | inl same ↦ inl same
+        | inl top ↦ inl top
         | inr (p, p_on, below) ↦ inr (p, IsOn-append_left first (h ∷ []) p p_on, below)
       ]
       | inr new ↦ inr (h, IsOn-append_right first (h ∷ []) h (IsOn-first h []), (children_are y).0 new)
@@ -106,39 +116,51 @@ module _ (node : Nodes) (parents : HaveParents node) (x : ℕ) where
       -- what is right below h was not there
       apart : (z : ℕ) → IsOn (first ++ h ∷ rest) z → IsRightBelow node h z → ⊥
       apart z old below = elim (g.above z old) [
-        | inl same ↦ not_above_itself node parents h x (subst (IsRightBelow node h) same below) (g.each h h_on)
+        | inl top ↦ let (x, x_on, way) = g.each h h_on in are.apart x h z x_on top way below
         | inr (p, p_on, p_below) ↦ (AreApart-from_once first (h ∷ rest) g.once).apart h (subst (IsOn first) (one_parent p h z p_below below) p_on) (IsOn-first h rest)
       ]
 
-  -- all below x is there at the end
-  module _ (numbers : List ℕ) (g : Gathers node x numbers []) where
+  -- all below the tops is there at the end
+  module _ (numbers : List ℕ) (g : Gathers node tops numbers []) where
     whole : numbers ++ [] ≡ numbers
     whole = append-nil numbers
 
-    all_below : (d y : ℕ) (n : Node) → node y ≡ Some n → n.depth ≡ d → IsOnWay node x y → IsOn numbers y
-    all_below zero y n at deep on = by (on_way_cases node parents x y n at on)
+    all_below : (x : ℕ) → IsOn tops x → (d y : ℕ) (n : Node) → node y ≡ Some n → n.depth ≡ d → IsOnWay node x y → IsOn numbers y
+    all_below x top zero y n at deep on = by (on_way_cases node parents x y n at on)
       where
         by : (x ≡ y) ⊎ ((p : ℕ) × (parent_of n ≡ Some p) × IsOnWay node x p) → IsOn numbers y
-        by (inl same) = subst (IsOn numbers) same (subst (λ l. IsOn l x) whole g.start)
+        by (inl same) = subst (IsOn numbers) same (subst (λ l. IsOn l x) whole (g.start x top))
         by (inr (p, below, up)) = let (q, q_at, more) = parent_there node parents p y n at below in absurd (omega (arith, deep, more))
-    all_below (suc d) y n at deep on = by (all_below d) (on_way_cases node parents x y n at on)
+    all_below x top (suc d) y n at deep on = by (all_below x top d) (on_way_cases node parents x y n at on)
       where
         by : ((z : ℕ) (q : Node) → node z ≡ Some q → q.depth ≡ d → IsOnWay node x z → IsOn numbers z) → (x ≡ y) ⊎ ((p : ℕ) × (parent_of n ≡ Some p) × IsOnWay node x p) → IsOn numbers y
-        by again (inl same) = subst (IsOn numbers) same (subst (λ l. IsOn l x) whole g.start)
+        by again (inl same) = subst (IsOn numbers) same (subst (λ l. IsOn l x) whole (g.start x top))
         by again (inr (p, below, up)) =
             let (q, q_at, more) = parent_there node parents p y n at below in
             subst (λ l. IsOn l y) whole (lead_at node numbers [] g.lead_on p y (again p q q_at (omega (arith, deep, more)) up) (n, at, below))
 
-    pub lists_below : length numbers ≤ 4294967295 → ListsBelow node x numbers
-    lists_below few = record {
+    pub list_all : length numbers ≤ 4294967295 → ListAllBelow node tops numbers
+    list_all few = record {
       each = λ y. (
         λ on. g.each y (subst (λ l. IsOn l y) (sym whole) on),
-        λ on. let (n, at) = way_leads node x y on in all_below n.depth y n at refl on,
+        λ (x, top, on). let (n, at) = way_leads node x y on in all_below x top n.depth y n at refl on,
       );
       once = subst AreOnce whole g.once;
       lead_on = g.lead_on;
       few = few;
     }
+
+-- all below a node alone
+pub lists_one : (node : Nodes) (x : ℕ) (numbers : List ℕ) → ListAllBelow node (x ∷ []) numbers → ListsBelow node x numbers
+lists_one node x numbers all = record {
+  each = λ y. (
+    λ on. let (z, top, way) = (all.each y).0 on in subst (λ w. IsOnWay node w y) (on_one z x top) way,
+    λ way. (all.each y).1 (x, IsOn-first x [], way),
+  );
+  once = all.once;
+  lead_on = all.lead_on;
+  few = all.few;
+}
 
 -- ---- places on a list
 

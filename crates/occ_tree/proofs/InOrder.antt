@@ -10,6 +10,8 @@ use Rattle.std.proofs.lemmas.List.{take-append-drop, take_more}
 use Rattle.row_links.specs.Lists.{IsOn, AreOnce, without}
 use Rattle.row_links.proofs.Lists.{IsOn-first, IsOn-rest, IsOn-append_left, IsOn-append_right, IsOn-append_cases}
 use Rattle.undo_rows.proofs.Listing.{IsOn-without}
+use Rattle.std.proofs.Math.Seq.{drop-length}
+use Rattle.occ_tree.proofs.InTurn.{drop_at}
 use Rattle.occ_tree.specs.Tokens.{IsInOrder, IsPlaceFor}
 
 -- ---- items of a list
@@ -101,6 +103,25 @@ module _ (cmp : ℕ → ℕ → Ordering) (total : IsTotalOrder cmp) where
       drop_next (w ∷ ys) (suc k) within =
           drop_next ys k (let few : suc k < suc (length ys) = within in omega arith)
           ∙ (let e : suc (k + 1) ≡ suc k + 1 = omega arith in ap (λ n. slice_index_or ys k 0 ∷ drop n (w ∷ ys)) e)
+
+  -- all are before what the last one is before
+  pub all_before : (xs : List ℕ) (x i : ℕ) → IsInOrder cmp xs → i + 1 ≡ length xs → cmp (slice_index_or xs i 0) x ≡ Less → IsPlaceFor cmp xs x (length xs)
+  all_before xs x i sorted last less = record {
+    within = omega arith;
+    before = λ y on. before_more xs x i sorted (omega (arith, last)) less y (subst (λ n. IsOn (take n xs) y) (sym last) on);
+    after = λ y on. absurd (false≢true (subst (λ l. IsOn l y) (drop-length xs) on));
+  }
+
+  -- the place of the last one
+  pub last_place : (xs : List ℕ) (x i : ℕ) → IsInOrder cmp xs → i + 1 ≡ length xs → slice_index_or xs i 0 ≡ x → IsPlaceFor cmp xs x i
+  last_place xs x i sorted last is = record {
+    within = omega (arith, last);
+    before = λ y on. subst (λ z. cmp y z ≡ Less) is (front_less xs i y sorted (omega (arith, last)) on);
+    after = λ y on less. elim (or_cases (eqb y (slice_index_or xs i 0)) (list_any (eqb y) (drop (i + 1) xs)) (subst (λ l. IsOn l y) (drop_at xs i 0 (omega (arith, last))) on)) [
+      | inl same ↦ itself x (subst (λ z. cmp z x ≡ Less) (eqb-true y (slice_index_or xs i 0) same ∙ is) less)
+      | inr none ↦ false≢true (subst (λ l. IsOn l y) (ap (λ n. drop n xs) last ∙ drop-length xs) none)
+    ];
+  }
 
   -- ---- one item more
 

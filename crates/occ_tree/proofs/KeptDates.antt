@@ -39,11 +39,11 @@ root_stands s (At p) occurs = occurs
 root_stands s (After t r) occurs = root_stands s t occurs.0
 
 -- the date of a node tells of no other node
-early_same : (net : Net) (f g : Forest) (x : ℕ) → g x ≡ f x → node_early net g x ≡ node_early net f x
+pub early_same : (net : Net) (f g : Forest) (x : ℕ) → g x ≡ f x → node_early net g x ≡ node_early net f x
 early_same net f g x same = ap (λ (o : Option Member). node_early net (λ _. o) x) same
 
 -- a sum with no delays
-no_delays : (d : ℤ) (links : List Link) → links ≡ [] → d +ℤ links_low links ≡ d
+pub no_delays : (d : ℤ) (links : List Link) → links ≡ [] → d +ℤ links_low links ≡ d
 no_delays d links none = ap (λ (l : List Link). d +ℤ links_low l) none ∙ (let e : d +ℤ pos 0 ≡ d = omega (arith, ints) in e)
 
 module _ (net : Net) (f : Forest) (list : HasList net f) where
@@ -73,7 +73,7 @@ module _ (net : Net) (f : Forest) (list : HasList net f) where
       seen.network.distinct m.begin n.begin (Begin m.root) (seen.members x m m_at).begin second
 
   -- what is below a root has the date that follows from that of the root's point
-  below_point : (x y : ℕ) (b : IsBelow f x y) → node_early net f y ≡ point_early net b.above.begin +ℤ links_low b.below.links
+  pub below_point : (x y : ℕ) (b : IsBelow f x y) → node_early net f y ≡ point_early net b.above.begin +ℤ links_low b.below.links
   below_point x y b =
       early_from_point y b.below b.below_at
       ∙ ap (λ p. point_early net p +ℤ links_low b.below.links) (sym (one_point x y b.above b.below b.above_at b.below_at b.is_below.0))

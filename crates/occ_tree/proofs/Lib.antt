@@ -10,6 +10,7 @@ pub mod InOrder
 pub mod TokenLists
 pub mod Numbered
 pub mod Keeping
+pub mod Late
 pub mod Entered
 pub mod OnWays
 pub mod Gathering

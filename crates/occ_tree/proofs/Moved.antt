@@ -170,38 +170,38 @@ module _ (t u : Table Node 1) (x : ℕ) (date : ℤ) (n : Node) (at : nodes_in t
 
 -- ---- one date after another
 
-pub dated_more : (t u v : Table Node 1) (numbers : List ℕ) (x : ℕ) (date : ℤ) (n : Node) → nodes_in u x ≡ Some n → v ≡ with_value u x (dated date n) → AreDated t u numbers date → AreDated t v (numbers ++ x ∷ []) date
+pub dated_more : (t u v : Table Node 1) (numbers : List ℕ) (x : ℕ) (date : ℕ → ℤ) (n : Node) → nodes_in u x ≡ Some n → v ≡ with_value u x (dated (date x) n) → AreDated t u numbers date → AreDated t v (numbers ++ x ∷ []) date
 dated_more t u v numbers x date n at is d = record {
   on = λ y on. elim (cases_eq y x) [
-    | inl same ↦ subst (λ z. nodes_in v z ≡ option_map (dated date) (nodes_in t z)) (sym same) (dated_at u v x date n at is ∙ sym (own (cases_Bool (list_any (eqb x) numbers))))
-    | inr other ↦ dated_other u v x date n at is y other ∙ d.on y (elim (IsOn-append_cases numbers (x ∷ []) y on) [ inl there ↦ there | inr last ↦ absurd (other (on_one y x last)) ])
+    | inl same ↦ subst (λ z. nodes_in v z ≡ option_map (dated (date z)) (nodes_in t z)) (sym same) (dated_at u v x (date x) n at is ∙ sym (own (cases_Bool (list_any (eqb x) numbers))))
+    | inr other ↦ dated_other u v x (date x) n at is y other ∙ d.on y (elim (IsOn-append_cases numbers (x ∷ []) y on) [ inl there ↦ there | inr last ↦ absurd (other (on_one y x last)) ])
   ];
   others = λ y free.
-      dated_other u v x date n at is y (λ same. free (subst (IsOn (numbers ++ x ∷ [])) (sym same) (IsOn-append_right numbers (x ∷ []) x (IsOn-first x []))))
+      dated_other u v x (date x) n at is y (λ same. free (subst (IsOn (numbers ++ x ∷ [])) (sym same) (IsOn-append_right numbers (x ∷ []) x (IsOn-first x []))))
       ∙ d.others y (λ on. free (IsOn-append_left numbers (x ∷ []) y on));
   lists = λ h. ap (λ (w : Table Node 1). w.list 0 h) is ∙ d.lists h;
 }
   where
-    again : (o : Option Node) → Some n ≡ option_map (dated date) o → option_map (dated date) o ≡ Some (dated date n)
+    again : (o : Option Node) → Some n ≡ option_map (dated (date x)) o → option_map (dated (date x)) o ≡ Some (dated (date x) n)
     again None same = cc
-    again (Some m) same = let one : n ≡ dated date m = cc in ap (λ (q : Node). Some (dated date q)) (sym one)
+    again (Some m) same = let one : n ≡ dated (date x) m = cc in ap (λ (q : Node). Some (dated (date x) q)) (sym one)
 
-    own : (list_any (eqb x) numbers ≡ true) ⊎ (list_any (eqb x) numbers ≡ false) → option_map (dated date) (nodes_in t x) ≡ Some (dated date n)
+    own : (list_any (eqb x) numbers ≡ true) ⊎ (list_any (eqb x) numbers ≡ false) → option_map (dated (date x)) (nodes_in t x) ≡ Some (dated (date x) n)
     own (inl there) = again (nodes_in t x) (sym at ∙ d.on x there)
-    own (inr free) = ap (option_map (dated date)) (sym (d.others x (both_ways (list_any (eqb x) numbers) free)) ∙ at)
+    own (inr free) = ap (option_map (dated (date x))) (sym (d.others x (both_ways (list_any (eqb x) numbers) free)) ∙ at)
 
 -- ---- all of them
 
-module _ (t u : Table Node 1) (date : ℤ) (numbers : List ℕ) (d : AreDated t u numbers date) where
+module _ (t u : Table Node 1) (date : ℕ → ℤ) (numbers : List ℕ) (d : AreDated t u numbers date) where
   pub extends_all : Extends (nodes_in t) (nodes_in u)
   extends_all y n at = elim (cases_Bool (list_any (eqb y) numbers)) [
-    | inl on ↦ (dated date n, d.on y on ∙ ap (option_map (dated date)) at, refl)
+    | inl on ↦ (dated (date y) n, d.on y on ∙ ap (option_map (dated (date y))) at, refl)
     | inr off ↦ (n, d.others y (both_ways (list_any (eqb y) numbers) off) ∙ at, refl)
   ]
 
   pub none_all : (y : ℕ) → nodes_in t y ≡ None → nodes_in u y ≡ None
   none_all y at = elim (cases_Bool (list_any (eqb y) numbers)) [
-    | inl on ↦ d.on y on ∙ ap (option_map (dated date)) at
+    | inl on ↦ d.on y on ∙ ap (option_map (dated (date y))) at
     | inr off ↦ d.others y (both_ways (list_any (eqb y) numbers) off) ∙ at
   ]
 
@@ -218,7 +218,7 @@ module _ (t u : Table Node 1) (date : ℤ) (numbers : List ℕ) (d : AreDated t 
       of_list : Option Node → Bool
       of_list o = option_map_or (λ (n : Node). option_map_or (eqb k) n.list false) o false
 
-      by : (o : Option Node) → of_list (option_map (dated date) o) ≡ of_list o
+      by : (o : Option Node) → of_list (option_map (dated (date y)) o) ≡ of_list o
       by None = refl
       by (Some n) = refl
 
@@ -226,6 +226,23 @@ module _ (t u : Table Node 1) (date : ℤ) (numbers : List ℕ) (d : AreDated t 
   pub tokens_all : ArePlaced (nodes_in t) → (lists : ℕ → List (TokenRow Spot)) → AreTokensBut (nodes_in t) lists numbers → AreTokensBut (nodes_in u) lists numbers
   tokens_all placed lists tokens =
       tokens_same (nodes_in t) (nodes_in u) lists numbers d.others (λ y free. members_same (nodes_in t) (nodes_in u) (have_parents (nodes_in t) placed) extends_all none_all y) tokens
+
+  -- the node as it was
+  pub before_all : (y : ℕ) (k : Node) → nodes_in u y ≡ Some k → (n : Node) × (nodes_in t y ≡ Some n) × (fixed k ≡ fixed n)
+  before_all y k at = by (nodes_in t y) refl
+    where
+      by : (o : Option Node) → nodes_in t y ≡ o → (n : Node) × (nodes_in t y ≡ Some n) × (fixed k ≡ fixed n)
+      by None is = absurd (let both : None ≡ Some k = sym (none_all y is) ∙ at in cc)
+      by (Some n) is =
+          let (q, q_at, same) = extends_all y n is in
+          let both : Some q ≡ Some k = sym q_at ∙ at in
+          let one : q ≡ k = cc in
+          (n, is, ap fixed (sym one) ∙ same)
+
+  pub number_all : (names : List (List ℕ)) → ((y : ℕ) (n : Node) → nodes_in t y ≡ Some n → IsNumberOf names n.class n.list) → (y : ℕ) (k : Node) → nodes_in u y ≡ Some k → IsNumberOf names k.class k.list
+  number_all names numbers_are y k at =
+      let (n, n_at, same) = before_all y k at in
+      subst (λ (w : Node). IsNumberOf names w.class w.list) (sym same) (numbers_are y n n_at)
 
 -- ---- all below a root
 
@@ -274,7 +291,7 @@ root_above node placed x k k_at none =
     by n None above level has = above
     by n (Some a) above level (p, p_at, more, begin) = absurd (omega (arith, level, more))
 
-module _ (t u : Table Node 1) (x : ℕ) (date : ℤ) (numbers : List ℕ) (below : ListsBelow (nodes_in t) x numbers) (d : AreDated t u numbers date) (placed : ArePlaced (nodes_in t)) where
+module _ (t u : Table Node 1) (x : ℕ) (date : ℤ) (numbers : List ℕ) (below : ListsBelow (nodes_in t) x numbers) (d : AreDated t u numbers (λ _. date)) (placed : ArePlaced (nodes_in t)) where
   -- a node, with its date
   here : (y : ℕ) (n : Node) → nodes_in t y ≡ Some n → IsOn numbers y → nodes_in u y ≡ Some (dated date n)
   here y n at on = d.on y on ∙ ap (option_map (dated date)) at
@@ -283,18 +300,10 @@ module _ (t u : Table Node 1) (x : ℕ) (date : ℤ) (numbers : List ℕ) (below
   elsewhere y free = d.others y (λ on. free ((below.each y).0 on))
 
   extends : Extends (nodes_in t) (nodes_in u)
-  extends = extends_all t u date numbers d
+  extends = extends_all t u (λ _. date) numbers d
 
   none : (y : ℕ) → nodes_in t y ≡ None → nodes_in u y ≡ None
-  none = none_all t u date numbers d
-
-  -- the node as it was
-  before : (y : ℕ) (k : Node) → nodes_in u y ≡ Some k → (n : Node) × (nodes_in t y ≡ Some n)
-  before y k at = by (nodes_in t y) refl
-    where
-      by : (o : Option Node) → nodes_in t y ≡ o → (n : Node) × (nodes_in t y ≡ Some n)
-      by (Some n) is = (n, is)
-      by None is = absurd (let both : None ≡ Some k = sym (none y is) ∙ at in cc)
+  none = none_all t u (λ _. date) numbers d
 
   module _ (m : Node) (m_at : nodes_in t x ≡ Some m) (root : m.above ≡ None) (names : List (List ℕ)) (rows left : ℕ → List (TokenRow Spot)) (kept : AreKept names (nodes_in t) rows) where
     x_on : IsOn numbers x
@@ -303,17 +312,9 @@ module _ (t u : Table Node 1) (x : ℕ) (date : ℤ) (numbers : List ℕ) (below
     root_date : date_in (nodes_in u) x ≡ date
     root_date = let low = low_none (nodes_in t) placed x m m_at root in date_at (nodes_in u) x (dated date m) (here x m m_at x_on) ∙ (let e : date +ℤ m.sums.low ≡ date = omega (arith, ints, low) in e)
 
-    number_kept : (y : ℕ) (k : Node) → nodes_in u y ≡ Some k → IsNumberOf names k.class k.list
-    number_kept y k at =
-        let (n, n_at) = before y k at in
-        let (q, q_at, same) = extends y n n_at in
-        let both : Some q ≡ Some k = sym q_at ∙ at in
-        let one : q ≡ k = cc in
-        subst (λ (w : Node). IsNumberOf names w.class w.list) one (subst (λ (w : Node). IsNumberOf names w.class w.list) (sym same) (kept.numbers y n n_at))
-
     date_kept : (y : ℕ) (k : Node) → nodes_in u y ≡ Some k → k.early ≡ date_in (nodes_in u) (root_of y k) +ℤ k.sums.low
     date_kept y k at =
-        let (n, n_at) = before y k at in
+        let (n, n_at, _) = before_all t u (λ _. date) numbers d y k at in
         elim (cases_Bool (list_any (eqb y) numbers)) [
           | inl on ↦
               let both : Some (dated date n) ≡ Some k = sym (here y n n_at on) ∙ at in
@@ -329,7 +330,7 @@ module _ (t u : Table Node 1) (x : ℕ) (date : ℤ) (numbers : List ℕ) (below
         ]
 
     pub kept_moved : AreTokensBut (nodes_in u) left [] → AreKept names (nodes_in u) left
-    kept_moved tokens = record { tokens = tokens; numbers = number_kept; dates = date_kept }
+    kept_moved tokens = record { tokens = tokens; numbers = number_all t u (λ _. date) numbers d names kept.numbers; dates = date_kept }
 
     date_moves : (y : ℕ) → IsBelow (forest_in (nodes_in t)) x y → date_in (nodes_in u) y ≡ date_in (nodes_in t) y +ℤ (date -ℤ date_in (nodes_in t) x)
     date_moves y b =

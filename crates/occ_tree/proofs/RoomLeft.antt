@@ -1,8 +1,12 @@
 -- Lists with room for the tokens that are out.
-use Rattle.std.proofs.Common.{◌≡◌, ◌≢◌, ℕ, zero, suc, Bool, false, cond, eqb, ◌+◌, ◌<◌, ◌≤◌, List, [], ◌∷◌, length, Option, Some, refl, sym, ap, ◌∙◌, subst, inl, inr, arith, eq-eqb, ne_eqb, remove, insert}
+use Rattle.std.proofs.Common.{◌≡◌, ◌≢◌, ℕ, zero, suc, Bool, true, false, cond, eqb, ◌+◌, ◌<◌, ◌≤◌, List, [], ◌∷◌, length, Option, Some, refl, sym, ap, ◌∙◌, subst, inl, inr, arith, eq-eqb, ne_eqb, remove, insert}
 use Rattle.std.specs.Option.{option_map_or}
 use Rattle.std.proofs.lemmas.Bool.{cases_eq, cond-true, cond-false}
 use Rattle.std.proofs.lemmas.List.Edits.{length-remove, length-insert}
+use Rattle.std.specs.List.{sum_by}
+use Rattle.std.specs.List.Sorted.{IsPermutation}
+use Rattle.std.proofs.lemmas.List.Recursion.{is_sum_by}
+use Rattle.std.proofs.lemmas.List.Sorted.{sum_by-IsPermutation}
 use Rattle.undo_lists.specs.Changes.{Logged, present, rooms}
 use Rattle.undo_lists.specs.Rooms.{with_item, without_item}
 use Rattle.tmm_model.specs.declared.token.TokenRow.{TokenRow}
@@ -89,3 +93,18 @@ room_kept a b tokens out same room = λ k some. let count = counts k out in let 
     counts : (k : ℕ) (xs : List ℕ) → count_of b k xs ≡ count_of a k xs
     counts k [] = refl
     counts k (x ∷ xs) = λ i. cond (same k x i) (counts k xs i + 1) (counts k xs i)
+
+-- ---- the same nodes in another order
+
+pub room_sorted : (node : Nodes) (tokens : Logged (TokenRow Spot)) (xs ys : List ℕ) → IsPermutation xs ys → HaveRoomFor node tokens xs → HaveRoomFor node tokens ys
+room_sorted node tokens xs ys same room = λ k some. let count = counts k in let r = room k (omega (arith, some, count)) in omega (arith, r, count)
+  where
+    more : (b : Bool) (c : ℕ) → cond b (c + 1) c ≡ cond b 1 0 + c
+    more true c = omega arith
+    more false c = omega arith
+
+    sums : (k : ℕ) (zs : List ℕ) → count_of node k zs ≡ sum_by (λ x. cond (is_of node k x) 1 0) zs
+    sums k zs = is_sum_by (count_of node k) (λ x. cond (is_of node k x) 1 0) refl (λ x l. more (is_of node k x) (count_of node k l)) zs
+
+    counts : (k : ℕ) → count_of node k ys ≡ count_of node k xs
+    counts k = sums k ys ∙ sum_by-IsPermutation (λ x. cond (is_of node k x) 1 0) xs ys same ∙ sym (sums k xs)

@@ -187,12 +187,15 @@ unfolding IsDistinct
 once_from_distinct [] apart = tt
 once_from_distinct (x ∷ xs) (first, rest) = (none_from x xs first, once_from_distinct xs rest)
 
-on_same : (xs ys : List ℕ) → IsPermutation xs ys → (y : ℕ) → list_any (eqb y) ys ≡ list_any (eqb y) xs
+pub on_same : (xs ys : List ℕ) → IsPermutation xs ys → (y : ℕ) → list_any (eqb y) ys ≡ list_any (eqb y) xs
 on_same xs ys same y = sym (list_any-IsPermutation (eqb y) xs ys same)
+
+pub once_same : (xs ys : List ℕ) → IsPermutation xs ys → AreOnce xs → AreOnce ys
+once_same xs ys same once = once_from_distinct ys (IsDistinct-IsPermutation eqb nat_eq_equiv.symm xs ys same (distinct_from_once xs once))
 
 module _ (node : Nodes) (placed : ArePlaced node) (x : ℕ) (xs ys : List ℕ) (below : ListsBelow node x xs) (same : IsPermutation xs ys) where
   once_sorted : AreOnce ys
-  once_sorted = once_from_distinct ys (IsDistinct-IsPermutation eqb nat_eq_equiv.symm xs ys same (distinct_from_once xs below.once))
+  once_sorted = once_same xs ys same below.once
 
   pub in_order : IsSortedBy (λ y z. is_lt (rank_in node y z)) ys → IsInOrder (node_cmp node) ys
   in_order = sorted_nodes node placed ys (λ y on. let (n, at) = way_leads node x y ((below.each y).0 (sym (on_same xs ys same y) ∙ on)) in some_is (node y) n at) once_sorted

@@ -52,6 +52,15 @@ on_at [] k within = absurd (let few : k < 0 = within in omega arith)
 on_at (w ∷ ys) zero within = IsOn-first w ys
 on_at (w ∷ ys) (suc k) within = IsOn-rest (slice_index_or ys k 0) w ys (on_at ys k (let few : suc k < suc (length ys) = within in omega arith))
 
+-- a list with a number has a row
+pub some_row : (rows : List (TokenRow Spot)) (y : ℕ) → IsOn (numbers_in rows) y → 0 < length rows
+some_row [] y on = absurd (false≢true on)
+some_row (row ∷ rows) y on = omega arith
+
+pub not_none : (n : ℕ) → eqb n 0 ≡ false → 0 < n
+not_none zero is = absurd (false≢true (sym is))
+not_none (suc n) is = omega arith
+
 -- ---- lists as they are kept
 
 pub some_is : (o : Option Node) → (n : Node) → o ≡ Some n → IsSome o
@@ -195,6 +204,17 @@ tokens_but node lists out x none t = record {
       ],
     ),
     λ (has, free). (t.each y k).1 (has, λ gone. free (IsOn-rest y x out gone)),
+  );
+  in_order = t.in_order;
+}
+
+-- the same nodes are out, in another order
+pub tokens_sorted : (node : Nodes) (lists : ℕ → List (TokenRow Spot)) (out sorted : List ℕ) → ((y : ℕ) → list_any (eqb y) sorted ≡ list_any (eqb y) out) → AreTokensBut node lists out → AreTokensBut node lists sorted
+tokens_sorted node lists out sorted same t = record {
+  rows = t.rows;
+  each = λ y k. (
+    λ on. let (has, free) = (t.each y k).0 on in (has, λ gone. free (sym (same y) ∙ gone)),
+    λ (has, free). (t.each y k).1 (has, λ gone. free (same y ∙ gone)),
   );
   in_order = t.in_order;
 }

@@ -1,5 +1,5 @@
 -- What is below a node.
-use Rattle.std.specs.Prelude.{◌≡◌, ℕ, ◌≤◌, ◌↔◌, List, [], ◌∷◌, ◌++◌, length, Some}
+use Rattle.std.specs.Prelude.{◌≡◌, ℕ, ◌≤◌, ◌↔◌, List, [], ◌∷◌, ◌++◌, length, Some, IsSome}
 use Rattle.row_links.specs.Lists.{IsOn, AreOnce}
 use Rattle.undo_rows.specs.Tables.{Table, without_row}
 use Rattle.spots.specs.Forest.{Forest, Member, IsBelow as IsMemberBelow}
@@ -30,6 +30,19 @@ LeadOn node (y ∷ first) others = ((z : ℕ) → IsRightBelow node y z → IsOn
 -- the numbers are those of x and of all below it, each once, and each before those below it
 pub record ListsBelow (node : Nodes) (x : ℕ) (numbers : List ℕ) : Type 0 where
   pub each : (y : ℕ) → IsOn numbers y ↔ IsOnWay node x y
+  pub once : AreOnce numbers
+  pub lead_on : LeadOn node numbers []
+  pub few : length numbers ≤ 4294967295
+
+-- these are nodes, each once, and none is below another
+pub record AreTops (node : Nodes) (tops : List ℕ) : Type 0 where
+  pub live : (x : ℕ) → IsOn tops x → IsSome (node x)
+  pub once : AreOnce tops
+  pub apart : (x y z : ℕ) → IsOn tops x → IsOn tops z → IsOnWay node x y → IsRightBelow node y z → ⊥
+
+-- the numbers are those of the tops and of all below them, each once, and each before those below it
+pub record ListAllBelow (node : Nodes) (tops numbers : List ℕ) : Type 0 where
+  pub each : (y : ℕ) → IsOn numbers y ↔ ((x : ℕ) × IsOn tops x × IsOnWay node x y)
   pub once : AreOnce numbers
   pub lead_on : LeadOn node numbers []
   pub few : length numbers ≤ 4294967295

@@ -43,9 +43,10 @@ pub record Dates (old new : Grove) (x : ℕ) (date : ℤ) : Type 0 where
   pub committed_is : committed_rows new ≡ committed_rows old
   pub places_are : new.rows.places ≡ old.rows.places
 
--- these nodes have the dates that follow from this one of their root, and all else stays
-pub record AreDated (old new : Table Node 1) (numbers : List ℕ) (date : ℤ) : Type 0 where
-  pub on : (y : ℕ) → IsOn numbers y → nodes_in new y ≡ option_map (dated date) (nodes_in old y)
+-- these nodes have the dates that follow from those of their roots, given for each of them, and all
+-- else stays
+pub record AreDated (old new : Table Node 1) (numbers : List ℕ) (date : ℕ → ℤ) : Type 0 where
+  pub on : (y : ℕ) → IsOn numbers y → nodes_in new y ≡ option_map (dated (date y)) (nodes_in old y)
   pub others : (y : ℕ) → (IsOn numbers y → ⊥) → nodes_in new y ≡ nodes_in old y
   pub lists : (h : ℕ) → new.list 0 h ≡ old.list 0 h
 

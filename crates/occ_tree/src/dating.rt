@@ -19,7 +19,7 @@ pub(crate) fn date_all(nodes: &mut Nodes, tokens: &mut Tokens, numbers: &[u32], 
     requires date { IsWithin 1000000000000 root_date }
     requires tokens { AreTokensBut (nodes_in (present_rows nodes.old)) (present tokens.old) [] }
     requires room { (length numbers.now ≤ nodes.old.rows.spare) × (2 * length numbers.now ≤ tokens.old.spare) }
-    ensures dated { AreDated (present_rows nodes.old) (present_rows nodes.new) numbers.now root_date }
+    ensures dated { AreDated (present_rows nodes.old) (present_rows nodes.new) numbers.now (λ _. root_date) }
     ensures committed_rows { committed_rows nodes.new ≡ committed_rows nodes.old }
     ensures places { nodes.new.rows.places ≡ nodes.old.rows.places }
     ensures tokens { AreTokensBut (nodes_in (present_rows nodes.new)) (present tokens.new) [] }
@@ -34,7 +34,7 @@ pub(crate) fn date_all(nodes: &mut Nodes, tokens: &mut Tokens, numbers: &[u32], 
 
 // Takes nodes out of the tokens of their classes, the last one first. It takes no memory, and
 // leaves room for them.
-fn take_all_out(nodes: &Nodes, tokens: &mut Tokens, numbers: &[u32])
+pub(crate) fn take_all_out(nodes: &Nodes, tokens: &mut Tokens, numbers: &[u32])
     requires live { (y : ℕ) → IsOn numbers.now y → IsSome (nodes_in (present_rows nodes.now) y) }
     requires once { AreOnce numbers.now }
     requires tokens { AreTokensBut (nodes_in (present_rows nodes.now)) (present tokens.old) [] }
@@ -54,7 +54,7 @@ fn date_nodes(nodes: &mut Nodes, numbers: &[u32], root_date: i64)
     requires live { (y : ℕ) → IsOn numbers.now y → IsSome (nodes_in (present_rows nodes.old) y) }
     requires date { IsWithin 1000000000000 root_date }
     requires room { length numbers.now ≤ nodes.old.rows.spare }
-    ensures dated { AreDated (present_rows nodes.old) (present_rows nodes.new) numbers.now root_date }
+    ensures dated { AreDated (present_rows nodes.old) (present_rows nodes.new) numbers.now (λ _. root_date) }
     ensures committed_rows { committed_rows nodes.new ≡ committed_rows nodes.old }
     ensures places { nodes.new.rows.places ≡ nodes.old.rows.places }
 {
@@ -65,7 +65,7 @@ fn date_nodes(nodes: &mut Nodes, numbers: &[u32], root_date: i64)
 
 // Puts nodes that are out among the tokens of their classes, the first one first. It takes no
 // memory.
-fn put_all_in(nodes: &Nodes, tokens: &mut Tokens, numbers: &[u32])
+pub(crate) fn put_all_in(nodes: &Nodes, tokens: &mut Tokens, numbers: &[u32])
     requires live { (y : ℕ) → IsOn numbers.now y → IsSome (nodes_in (present_rows nodes.now) y) }
     requires once { AreOnce numbers.now }
     requires tokens { AreTokensBut (nodes_in (present_rows nodes.now)) (present tokens.old) numbers.now }

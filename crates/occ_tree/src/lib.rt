@@ -27,6 +27,7 @@ mod nodes;
 mod numbers;
 mod order;
 mod ranks;
+mod re_dating;
 mod sorting;
 mod tokens;
 mod told;

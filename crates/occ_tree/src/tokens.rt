@@ -1,5 +1,5 @@
 // Tokens that enter and leave the order of their class.
-ghost use Rattle.std.specs.Prelude.{◌≡◌, ◌≢◌, ℕ, ◌+◌, ◌<◌, ◌≤◌, List, [], Option, ◌∷◌, length, Some, IsSome, IfSome, IfOk, OnOk, OnErr};
+ghost use Rattle.std.specs.Prelude.{◌≡◌, ◌≢◌, ℕ, ◌+◌, ◌<◌, ◌≤◌, List, [], Option, ◌∷◌, length, Some, IsSome, IsTrue, IfSome, IfOk, OnOk, OnErr};
 ghost use Rattle.std.specs.Ordering.{is_lt};
 ghost use Rattle.row_links.specs.Lists.{IsOn};
 ghost use Rattle.undo_lists.specs.Changes.{present, committed, rooms};
@@ -35,8 +35,59 @@ fn is_before(nodes: &Nodes, spot: Spot, x: u32) -> bool
     }
 }
 
-// The place of the first token that is not before a node.
+// Whether a spot is this node.
+fn is_node(spot: Spot, x: u32) -> bool
+    ensures { IsTrue result → number_of spot ≡ x }
+{
+    match spot {
+        Spot::Node(y) => y == x,
+        Spot::Declared(_) => false,
+    }
+}
+
+// The place of a node that is among the tokens. Nodes that go one after another, the last one first,
+// are found without a search.
+fn place_of(nodes: &Nodes, rows: &[TokenRow<Spot>], x: u32) -> usize
+    requires live { IsSome (nodes_in (present_rows nodes.now) x) }
+    requires rows { AreRowsOf (nodes_in (present_rows nodes.now)) rows.now }
+    requires some { 0 < length rows.now }
+    ensures { IsPlaceFor (node_cmp (nodes_in (present_rows nodes.now))) (numbers_in rows.now) x result }
+{
+    let last = rows.len() - 1;
+    if is_node(rows[last].spot, x) {
+        return last;
+    }
+    place_for(nodes, rows, x)
+}
+
+// The place of the first token that is not before a node. Nodes that come in their order find theirs
+// without a search.
 fn place_for(nodes: &Nodes, rows: &[TokenRow<Spot>], x: u32) -> usize
+    requires live { IsSome (nodes_in (present_rows nodes.now) x) }
+    requires rows { AreRowsOf (nodes_in (present_rows nodes.now)) rows.now }
+    ensures { IsPlaceFor (node_cmp (nodes_in (present_rows nodes.now))) (numbers_in rows.now) x result }
+{
+    if are_before(nodes, rows, x) {
+        return rows.len();
+    }
+    place_among(nodes, rows, x)
+}
+
+// Whether all tokens are before a node.
+fn are_before(nodes: &Nodes, rows: &[TokenRow<Spot>], x: u32) -> bool
+    requires live { IsSome (nodes_in (present_rows nodes.now) x) }
+    requires rows { AreRowsOf (nodes_in (present_rows nodes.now)) rows.now }
+    ensures { IsTrue result → IsPlaceFor (node_cmp (nodes_in (present_rows nodes.now))) (numbers_in rows.now) x (length rows.now) }
+{
+    if rows.is_empty() {
+        return false;
+    }
+    let last = rows.len() - 1;
+    is_before(nodes, rows[last].spot, x)
+}
+
+// The place of the first token that is not before a node, by halving.
+fn place_among(nodes: &Nodes, rows: &[TokenRow<Spot>], x: u32) -> usize
     requires live { IsSome (nodes_in (present_rows nodes.now) x) }
     requires rows { AreRowsOf (nodes_in (present_rows nodes.now)) rows.now }
     ensures { IsPlaceFor (node_cmp (nodes_in (present_rows nodes.now))) (numbers_in rows.now) x result }
@@ -84,7 +135,7 @@ pub(crate) fn take_out(nodes: &Nodes, tokens: &mut Tokens, x: u32)
 {
     let node = nodes.get(x);
     if let Some(list) = node.list {
-        let place = place_for(nodes, tokens.list(list), x);
+        let place = place_of(nodes, tokens.list(list), x);
         let _ = tokens.remove(list, place);
     }
 }

@@ -9,9 +9,10 @@ ghost use Rattle.spots.specs.Forest.{Member, IsLive, root_member, child_member, 
 ghost use Rattle.std.specs.List.{Contains};
 ghost use Rattle.undo_lists.specs.Changes.{present as tokens_now, committed as tokens_then};
 ghost use Rattle.occ_tree.specs.Standing.{present, committed, forest, early, below, IsChildOf, order, IsTree};
+ghost use Rattle.spots.specs.OfLists.{HasList};
 ghost use Rattle.spots.specs.Spots.{AreTokens};
 ghost use Rattle.occ_tree.specs.Tokens.{IsInOrder, numbers_in};
-ghost use Rattle.occ_tree.specs.Dated.{DatesFollow, HaveRoots};
+ghost use Rattle.occ_tree.specs.Dated.{DatesAll, DatesFollow, HaveRoots};
 ghost use Rattle.occ_tree.specs.Edits.{Enters, Withdraws, ReDates, Stays};
 ghost use Rattle.occ_tree.specs.Places.{places, PlacesGrow};
 
@@ -19,7 +20,9 @@ use crate::classes::Classes;
 use crate::dating::date_all;
 use crate::leaving::{leave_all, room_below};
 use crate::nodes::Nodes;
+use crate::re_dating::{date_late, room_for_late};
 use crate::tokens::{Tokens, enter, number_for};
+use dist_net::DistNet;
 use spots::{Link, Spot};
 use std::alloc::Global;
 use std::marker::Model;
@@ -151,6 +154,19 @@ impl Tree {
     {
         let numbers = room_below(alloc, &mut self.nodes, &mut self.tokens, root)?;
         date_all(&mut self.nodes, &mut self.tokens, numbers.as_slice(), date);
+        Ok(())
+    }
+
+    /// Gives each node its earliest date in a network. The tokens of each class are in the order of
+    /// nodes again, and all else stays. Without memory nothing has changed.
+    pub fn re_date_all(&mut self, alloc: Global, net: &DistNet) -> Result<(), NoMemory>
+        requires { HasList net.now.present (forest (present self.old)) }
+        ensures ok { OnOk result (DatesAll net.now.present self.old self.new) }
+        ensures err { OnErr result (Stays self.old self.new) }
+        ensures places { places self.new ≡ places self.old }
+    {
+        let late = room_for_late(alloc, net, &mut self.nodes, &mut self.tokens)?;
+        date_late(net, &mut self.nodes, &mut self.tokens, late);
         Ok(())
     }
 

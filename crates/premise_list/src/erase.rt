@@ -13,6 +13,9 @@ use indexmap::IndexSet;
 use std::alloc::Global;
 use tmm_model::{MOST_ANTECEDENTS, MOST_EXCEPTIONS, Name, NoMemory, PointName, Premise, Seq};
 
+// How many names are compared one after the other.
+const FEW_NAMES: usize = 4;
+
 /// Premises parted into those that fall and those that stay.
 #[derive(Drop)]
 pub(crate) struct Fall {
@@ -64,8 +67,8 @@ fn mentions(gone: &IndexSet<Name>, premise: &Premise) -> bool
 {
     match premise {
         Premise::Class { .. } | Premise::Kind { .. } | Premise::Point { .. } => false,
-        Premise::Event { kind, .. } => gone.contains(kind),
-        Premise::Token { fact, .. } | Premise::Span { fact, .. } => gone.contains(fact),
+        Premise::Event { kind, .. } => is_gone(gone, kind),
+        Premise::Token { fact, .. } | Premise::Span { fact, .. } => is_gone(gone, fact),
         Premise::Dist { from, to, .. } => mentions_point(gone, *from) || mentions_point(gone, *to),
         Premise::Rule {
             trigger,
@@ -74,14 +77,14 @@ fn mentions(gone: &IndexSet<Name>, premise: &Premise) -> bool
             unless_facts,
             ..
         } => {
-            gone.contains(trigger)
-                || gone.contains(effect)
+            is_gone(gone, trigger)
+                || is_gone(gone, effect)
                 || mentions_conditions(gone, given, unless_facts)
         }
         Premise::Protect { fact, from, to, .. } => {
-            gone.contains(fact) || mentions_point(gone, *from) || mentions_point(gone, *to)
+            is_gone(gone, fact) || mentions_point(gone, *from) || mentions_point(gone, *to)
         }
-        Premise::Against { one, other, .. } => gone.contains(one) || gone.contains(other),
+        Premise::Against { one, other, .. } => is_gone(gone, one) || is_gone(gone, other),
     }
 }
 
@@ -90,7 +93,7 @@ fn mentions_point(gone: &IndexSet<Name>, point: PointName) -> bool
 {
     match point {
         PointName::Start => false,
-        PointName::Begin(name) | PointName::End(name) => gone.contains(&name),
+        PointName::Begin(name) | PointName::End(name) => is_gone(gone, &name),
     }
 }
 
@@ -109,7 +112,19 @@ fn mentions_conditions(
 fn mentions_any(gone: &IndexSet<Name>, names: &[Name]) -> bool
     ensures { result ≡ list_any (is_among gone.now.keys) names.now }
 {
-    names.iter().any(|name| gone.contains(name))
+    names.iter().any(|name| is_gone(gone, name))
+}
+
+// Whether the name is gone. Among few names it is found sooner without a hash.
+fn is_gone(gone: &IndexSet<Name>, name: &Name) -> bool
+    ensures { result ≡ is_among gone.now.keys name.now }
+{
+    let names = gone.as_slice();
+    if names.len() <= FEW_NAMES {
+        names.iter().any(|lost| name == lost)
+    } else {
+        gone.contains(name)
+    }
 }
 
 // Adds the names that the premise declares to those that are gone.

@@ -1,7 +1,7 @@
 // What an edit makes of the broken protections, with what it left alone not looked at again.
 ghost use Rattle.std.specs.Prelude.{◌≡◌, [], true, false, filter, is_some, IfOk, IsSome};
 ghost use Rattle.std.specs.List.{Contains};
-ghost use Rattle.tmm_model.specs.Answers.{broken, reports};
+ghost use Rattle.tmm_model.specs.Answers.{reports};
 ghost use Rattle.tmm_model.specs.Edits.{next_list};
 ghost use Rattle.tmm_model.specs.Maps.{built};
 ghost use Rattle.tmm_model.specs.Sorts.{class_in};
@@ -15,7 +15,7 @@ ghost use Rattle.revisions.specs.Standing.{IsLeftOut};
 ghost use Rattle.supports.specs.Apart.{AreOthersApart};
 ghost use Rattle.supports.specs.Edited.{IsEdited};
 ghost use Rattle.supports.specs.TimeMaps.{IsTimeMap};
-ghost use Rattle.protections.specs.Found.{AreFound, found_in};
+ghost use Rattle.protections.specs.Found.{Found, AreFound, found_in};
 ghost use Rattle.protections.specs.Kept.{IsStill, IsOfApart};
 ghost use Rattle.protections.specs.Reviews.{Reviews, AreReviewed, IsReviewOf};
 
@@ -128,37 +128,15 @@ fn review_standing(
     let mut found = Vec::new(alloc);
     for i in 0..map.standing.len() {
         match map.standing.at(i) {
-            Some(premise) => push_some_to(
-                &mut found,
-                review_premise(alloc, map, edit, classes, old, premise)?,
-            )?,
+            Some(premise) => {
+                if !is_left_alone(map, edit, classes, premise) {
+                    push_some_to(&mut found, look(alloc, map, edit, old, premise)?)?;
+                }
+            }
             None => unreachable!(),
         }
     }
     Ok(found)
-}
-
-// A protection that the edit did not leave alone.
-fn review_premise(
-    alloc: Global,
-    map: &TimeMap<'_>,
-    edit: &Edit,
-    classes: &[Name],
-    old: &BrokenProtections,
-    premise: &Premise,
-) -> Result<Option<Reviewed>, NoMemory>
-    requires seen { IsTimeMap map.now }
-    requires holds { HasOccurrences (built map.now.standing.now.present).believed (forest map.now.tree.now) }
-    requires edited { IsEdited map.now.standing.now map.now.net.now edit.now map.now.tree.now }
-    requires others { AreOthersApart map.now.standing.now map.now.net.now map.now.tree.now classes.now }
-    requires old { AreFound (reports (built map.now.standing.now.committed)) (found_in old.now) }
-    requires stands { Contains map.now.standing.now.present.premises premise.now }
-    ensures { IfOk result (Reviews (built map.now.standing.now.present) (found_in old.now) premise.now) }
-{
-    if is_left_alone(map, edit, classes, premise) {
-        return Ok(None);
-    }
-    look(alloc, map, edit, old, premise)
 }
 
 // A protection, looked at.
@@ -189,17 +167,17 @@ fn look(
     }
 }
 
-// Whether the edit left a protection alone: it stood before, neither of its points moved, and the
-// class of its fact is not among these.
+// Whether the edit left a premise alone, of which then the same is reported as before: it is no
+// protection; or it stood before, neither of its points moved, and the class of its fact is not
+// among these.
 fn is_left_alone(map: &TimeMap<'_>, edit: &Edit, classes: &[Name], premise: &Premise) -> bool
     requires edited { IsEdited map.now.standing.now map.now.net.now edit.now map.now.tree.now }
     requires others { AreOthersApart map.now.standing.now map.now.net.now map.now.tree.now classes.now }
     requires stands { Contains map.now.standing.now.present.premises premise.now }
-    ensures stood { result ≡ true → Contains map.now.standing.now.committed.premises premise.now }
-    ensures same { result ≡ true → broken (built map.now.standing.now.present) premise.now ≡ broken (built map.now.standing.now.committed) premise.now }
+    ensures { result ≡ true → (found : Found) → AreFound (reports (built map.now.standing.now.committed)) found → Reviews (built map.now.standing.now.present) found premise.now None }
 {
     let Premise::Protect { fact, from, to, .. } = premise else {
-        return false;
+        return true;
     };
     if is_added(edit, premise) {
         return false;

@@ -26,6 +26,7 @@ pub is_wanted-requires : goal.is_wanted-requires
 is_wanted-requires c =
     let within : c.loop-i.i - 1 < length c.tokens-rows.result.now = omega arith in
     record {
+      plain = c.says_none-plain.ensures;
       live = token_live (forest c.args.tree.now) c.args.class.now c.tokens-rows.result.now c.tokens-rows.ensures.rows (c.loop-i.i - 1) c.index-rows-i.result within (number_of c.index-rows-i.result.spot)
           (ap (λ (r : TokenRow Spot). number_of r.spot) c.index-rows-i.is);
       rising = c.requires.rising;

@@ -43,11 +43,11 @@ returns c = λ lists edit kept made.
           ∙ gone_told lists nets edit tree kept ds made left c.requires.left places table gone was.same was.dated was.in_order;
       entered = c.in_ok-entered_told.ensures
           ∙ ap (λ l. filter_map (entered_at f) l) c.as_slice-present.ensures.value
-          ∙ entered_is lists nets edit tree kept ds made told is.same c.requires.dates.dated is.in_order;
+          ∙ entered_is lists nets edit tree kept ds made told is.same c.requires.dates.dated (is.in_order lists.present nets.present made.edited.seen_now c.requires.dates.dated);
       loose = c.in_ok-loosened_told.ensures
           ∙ ap (λ l. filter_map (loosened_at f) l) c.as_slice-present.ensures.value
-          ∙ loosened_is lists nets edit tree kept ds made told is.same c.requires.dates.dated is.in_order;
+          ∙ loosened_is lists nets edit tree kept ds made told is.same c.requires.dates.dated (is.in_order lists.present nets.present made.edited.seen_now c.requires.dates.dated);
       clips = c.in_ok-clips_told.ensures
           ∙ ap (λ l. filter_map (clipped_at f) l) c.as_slice-present.ensures.value
-          ∙ clipped_is lists nets edit tree kept ds made told is.same c.requires.dates.dated is.in_order;
+          ∙ clipped_is lists nets edit tree kept ds made told is.same c.requires.dates.dated (is.in_order lists.present nets.present made.edited.seen_now c.requires.dates.dated);
     }

@@ -1,10 +1,11 @@
-use Rattle.std.proofs.Common.{◌≡◌, ◌∙◌, ◌<◌, length, refl, ap, sym, subst, arith}
+use Rattle.std.proofs.Common.{◌≡◌, ◌∙◌, ◌<◌, List, Bool, length, refl, ap, sym, subst, arith}
 use Rattle.undo_rows.specs.Changes.{present as table}
 use Rattle.occ_tree.specs.Standing.{present, forest}
 use Rattle.joined.specs.Listed.{IsListedUnder}
 use Rattle.belief_net.specs.declared.state.Decisions.{Decisions}
 use Rattle.belief_net.specs.Decided.{table_of}
 use Rattle.belief_net.specs.Numbers.{name_in}
+use Rattle.belief_net.specs.PointSets.{HaveBothIn}
 use Rattle.belief_net.specs.Waiting.{dates_in}
 use Rattle.belief_net.specs.Woken.{MovesFor, RestsFor, WakesFor, WakesForAll, AreAwake}
 use Rattle.belief_net.proofs.Awake.{awake_still}
@@ -37,6 +38,11 @@ loop-class-preserved c =
 pub wake_touched-requires-clause-awake : goal.wake_touched-requires-clause-awake
 wake_touched-requires-clause-awake c is =
     subst (λ r. AreAwake c.args.net.now (forest (present c.args.tree.now)) (table r) (dates_in c.loop-class.decisions.waiting)) (sym (ap (λ (z : Decisions). z.rows) c.loop-class.invariant.others)) (c.loop-class.invariant.awake is)
+
+pub wake_touched-requires-clause-points : goal.wake_touched-requires-clause-points
+wake_touched-requires-clause-points c =
+    subst (λ (l : List Bool). HaveBothIn c.args.moves.now.pairs.items l) (sym c.deref-in-loop-class.ensures.value)
+    (subst (λ (l : List Bool). HaveBothIn l c.in_ok-points.points.items) c.deref.ensures.value c.in_ok-points.ensures)
 
 pub returns-clause-ok : goal.returns-clause-ok
 returns-clause-ok c =

@@ -1,9 +1,10 @@
-use Rattle.std.proofs.Common.{◌∙◌, sym}
-use Rattle.belief_net.specs.Places.{net_at}
-use Rattle.belief_net.proofs.Shifted.{two_begun}
+use Rattle.std.proofs.Common.{sym, subst}
+use Rattle.belief_net.specs.declared.walls.FastToken.{FastToken}
+use Rattle.belief_net.specs.Fast.{IsInBoth}
 use Rattle.belief_net.proofs.walls.are_walls.Goals as goal
 
-pub returns : goal.returns
-returns c is =
-    two_begun (net_at c.args.net.now c.args.before) c.args.tokens.now c.args.event.now c.in-Some.one c.in-Some.ensures.listed c.in-Some.ensures.begun
-    c.begun_beside-2.result c.begun_beside-2.ensures.listed c.begun_beside-2.ensures.begun c.begun_beside-2.ensures.beside (sym c.is_some.ensures ∙ is)
+pub is_surely_within-requires-clause-to : goal.is_surely_within-requires-clause-to
+is_surely_within-requires-clause-to c = subst (λ (t : FastToken). IsInBoth c.args.net.now t.place.base) (sym c.index-tokens-i.is) (c.requires.tokens c.loop-i.i c.index-tokens-i.result c.loop-i-test.true)
+
+pub are_walls_beside-requires-clause-first : goal.are_walls_beside-requires-clause-first
+are_walls_beside-requires-clause-first c = (c.loop-i.i, c.loop-i-test.true, sym c.index-tokens-i.is)

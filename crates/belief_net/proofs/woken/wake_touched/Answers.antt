@@ -6,7 +6,7 @@ use Rattle.list_theory.proofs.Elements.{In-list_any, In-from_Contains}
 use Rattle.undo_rows.specs.Changes.{present as table}
 use Rattle.joined.specs.Listed.{IsListedUnder}
 use Rattle.belief_net.specs.Waiting.{dates_in}
-use Rattle.belief_net.proofs.Awake.{none_wakes}
+use Rattle.belief_net.proofs.Awake.{none_wakes, none_concerned}
 use Rattle.belief_net.proofs.woken.wake_touched.Goals as goal
 
 pub returns-then-not-contains : goal.returns-then-not-contains
@@ -20,3 +20,9 @@ returns-then-not-contains c =
     let no : true ≡ false = sym on ∙ off in
     cc)) in
     none_wakes c.args.tree.now t c.args.net.now c.args.moves.now c.requires.moves c.requires.below class untouched (IsListedUnder t c.args.number) (dates_in c.args.waiting.now) (c.requires.awake c.if-awake.true)
+
+pub returns-then-not-is_class_at : goal.returns-then-not-is_class_at
+returns-then-not-is_class_at c =
+    let t = table c.args.rows.now in
+    none_concerned c.args.tree.now t c.args.net.now c.args.moves.now c.requires.moves c.requires.below c.args.class c.args.points.now c.requires.points (c.is_class_at.ensures c.if-not-is_class_at.true)
+    (IsListedUnder t c.args.number) (dates_in c.args.waiting.now)

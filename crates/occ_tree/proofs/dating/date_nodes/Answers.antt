@@ -1,4 +1,4 @@
-use Rattle.std.proofs.Common.{◌∙◌, ◌<◌, length, take, sym, subst, arith, w64, of_z, to_z}
+use Rattle.std.proofs.Common.{ℕ, ◌∙◌, ◌<◌, length, take, sym, subst, arith, w64, of_z, to_z}
 use Rattle.std.proofs.lemmas.List.{take_more}
 use Rattle.occ_tree.specs.Edits.{AreDated}
 use Rattle.occ_tree.specs.Standing.{present_rows}
@@ -10,7 +10,7 @@ pub date-requires-clause-live : goal.date-requires-clause-live
 date-requires-clause-live c =
     let numbers = c.args.numbers.now in
     let i = c.loop-x.x-index in
-    let date = to_z w64 (of_z w64 c.args.root_date) in
+    let date = λ (y : ℕ). to_z w64 (of_z w64 c.args.root_date) in
     let within : i < length numbers = omega (arith, c.loop-x-test.true) in
     live_all (present_rows c.args.nodes.now) (present_rows c.loop-x.nodes) date (take i numbers) c.loop-x.invariant.dated _ (c.requires.live _ (item_on numbers i _ within))
 
@@ -24,7 +24,7 @@ loop-x-preserved c =
     let inv = c.loop-x.invariant in
     let e = c.date.ensures in
     let d = e.dated in
-    let date = to_z w64 (of_z w64 c.args.root_date) in
+    let date = λ (y : ℕ). to_z w64 (of_z w64 c.args.root_date) in
     let within : i < length numbers = omega (arith, c.loop-x-test.true) in
     record {
       dated = subst (λ l. AreDated t v l date) (sym (take_more numbers i _ within)) (dated_more t u v (take i numbers) _ date d.node d.at d.present_is inv.dated);

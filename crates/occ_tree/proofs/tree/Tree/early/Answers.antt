@@ -10,4 +10,4 @@ returns-clause-follow c =
     let names = c.self.inside.classes in
     let rows = lists.present c.self.inside.tokens in
     subst (λ (k : Kept). DatesFollow (present k)) c.self.view_is
-    (follow (present_rows c.self.inside.nodes) (tokens_under names rows) c.get.ensures.stands.placed names rows c.self.invariant.now)
+    (follow (present_rows c.self.inside.nodes) (tokens_under names rows) c.get.ensures.stands.placed c.self.invariant.now.dates)

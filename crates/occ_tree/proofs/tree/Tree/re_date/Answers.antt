@@ -34,7 +34,7 @@ invariant_of-self-2 c =
     let then = committed_rows c.self.inside.nodes in
     let numbers = c.in_ok-numbers.numbers.items in
     let date = to_z w64 (of_z w64 c.args.date) in
-    let dated = subst (λ l. AreDated t u l date) c.as_slice.ensures.value (subst (λ v. AreDated v u c.as_slice.result.now date) r.keeps.present_is a.dated) in
+    let dated = subst (λ l. AreDated t u l (λ _. date)) c.as_slice.ensures.value (subst (λ v. AreDated v u c.as_slice.result.now (λ _. date)) r.keeps.present_is a.dated) in
     let (k, k_at, none) = subst (λ (s : Kept). (m : Member) × (forest (present s) c.args.root ≡ Some m) × (m.links ≡ [])) (sym c.self.view_is) c.requires.root in
     let (m, m_at, above) = root_above (nodes_in t) r.stands.placed c.args.root k k_at none in
     record {
@@ -53,8 +53,8 @@ returns-clause-ok c =
     let date = to_z w64 (of_z w64 c.args.date) in
     let old : Kept = record { nodes = c.self.inside.nodes; classes = names; tokens = c.self.inside.tokens } in
     let new : Kept = record { nodes = c.date_all.new.nodes; classes = names; tokens = c.date_all.new.tokens } in
-    let seen = subst (λ l. AreDated t u l date) c.as_slice.ensures.value (subst (λ v. AreDated v u c.as_slice.result.now date) r.keeps.present_is a.dated) in
-    let dated : AreDated t u numbers c.args.date = subst (AreDated t u numbers) (to_z-of_z w64 c.args.date c.ranges.date) seen in
+    let seen = subst (λ l. AreDated t u l (λ _. date)) c.as_slice.ensures.value (subst (λ v. AreDated v u c.as_slice.result.now (λ _. date)) r.keeps.present_is a.dated) in
+    let dated : AreDated t u numbers (λ _. c.args.date) = subst (λ d. AreDated t u numbers (λ _. d)) (to_z-of_z w64 c.args.date c.ranges.date) seen in
     let (k, k_at, none) = subst (λ (s : Kept). (m : Member) × (forest (present s) c.args.root ≡ Some m) × (m.links ≡ [])) (sym c.self.view_is) c.requires.root in
     let (m, m_at, above) = root_above (nodes_in t) r.stands.placed c.args.root k k_at none in
     subst (λ (s : Kept). ReDates s new c.args.root c.args.date) c.self.view_is (record {
