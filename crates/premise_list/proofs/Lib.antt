@@ -3,3 +3,4 @@ pub mod TableFacts
 pub mod Parts
 pub mod PairsOfFacts
 pub mod Unrivalled
+pub mod Moves

@@ -1,5 +1,5 @@
 // A list of premises with the index of its names.
-ghost use Rattle.std.specs.Prelude.{◌≡◌, ◌<◌, ◌≤◌, ◌+◌, ◌*◌, List, [], ◌∷◌, ◌++◌, false, None, IfOk, OnOk, OnErr, length, map, take, drop, slice_get};
+ghost use Rattle.std.specs.Prelude.{◌≡◌, ◌<◌, ◌≤◌, ◌+◌, ◌*◌, List, [], ◌∷◌, ◌++◌, false, None, OnOk, length, map, take, drop, slice_get, vec_len, vec_capacity};
 ghost use Rattle.std.specs.List.{flat_map, list_any};
 ghost use Rattle.std.specs.Map.{lookup};
 ghost use Rattle.std.specs.Option.{option_map, option_copied};
@@ -12,9 +12,11 @@ ghost use Rattle.list_theory.specs.WellNamed.{AllFollow, Follows, IsWellNamed};
 ghost use Rattle.indexmap.specs.IndexMap.{keys, spare};
 ghost use Rattle.premise_list.specs.Words.{sort_seen};
 ghost use Rattle.premise_list.specs.Found.{IsFoundAt};
-ghost use Rattle.premise_list.specs.Table.{at_place, placed, word_seen, entry_seen, fact_entry};
+ghost use Rattle.premise_list.specs.Past.{AreIn, Fits, IsMoreBy, Stands, committed_from, restored, taken_premise, without};
+ghost use Rattle.premise_list.specs.Table.{at_place, moved_down, placed, word_seen, entry_seen, fact_entry};
 
-use crate::premise::{Sort, copy_of, facts_of, name_of, point_count, sort_of};
+use crate::past::{Past, Taken};
+use crate::premise::{Sort, facts_of, name_of, point_count, sort_of};
 use indexmap::IndexMap;
 use std::alloc::Global;
 use std::marker::Model;
@@ -175,24 +177,6 @@ impl Table {
         self.premises.push_reserved(premise);
     }
 
-    // Moves these premises, each of which follows those before it, to the end. It takes no memory.
-    pub(crate) fn append(&mut self, premises: &mut Vec<Premise>)
-        requires follow { AllFollow self.old.premises premises.old.items }
-        requires few { length self.old.premises + length premises.old.items ≤ most_premises }
-        requires places { length premises.old.items ≤ self.old.places }
-        requires words { length (words_known premises.old.items) ≤ self.old.words }
-        ensures premises { self.new.premises ≡ self.old.premises ++ premises.old.items }
-        ensures emptied { premises.new.items ≡ [] }
-        ensures places { self.old.places ≤ self.new.places + length premises.old.items }
-        ensures words { self.old.words ≤ self.new.words + length (words_known premises.old.items) }
-    {
-        let added = premises.as_slice();
-        let place = self.premises().len();
-        declare_all(&mut self.words, added, place);
-        self.points += points_count(added);
-        let _room = self.premises.append(premises);
-    }
-
     // Takes off all but the first `n` premises. It takes no memory.
     pub(crate) fn truncate(&mut self, n: usize)
         requires { n ≤ length self.old.premises }
@@ -209,21 +193,119 @@ impl Table {
         self.premises.truncate(n);
     }
 
-    // Takes off all but the first `n` premises, and answers those that it takes off. Without memory
-    // nothing has changed.
-    pub(crate) fn cut(&mut self, n: usize) -> Result<Vec<Premise>, NoMemory>
-        requires { n ≤ length self.old.premises }
-        ensures cut { IfOk result (λ cut. cut.items ≡ drop n self.old.premises) }
-        ensures premises { OnOk result (self.new.premises ≡ take n self.old.premises) }
-        ensures places { OnOk result (self.old.places + length self.old.premises ≡ self.new.places + n) }
+    // Takes out the premises at these places, and keeps those that the list of the last commit has.
+    // It takes no memory.
+    pub(crate) fn take_out(&mut self, places: Vec<usize>, past: &mut Past)
+        requires places { AreIn places.items self.old.premises }
+        requires well_named { IsWellNamed (without places.items self.old.premises) }
+        requires room { vec_len past.old.taken + length places.items ≤ vec_capacity past.old.taken }
+        requires stands { Stands past.old self.old.premises }
+        ensures premises { self.new.premises ≡ without places.items self.old.premises }
+        ensures places { self.old.places + length places.items ≡ self.new.places }
         ensures words { self.old.words ≤ self.new.words }
-        ensures err { OnErr result (self.new ≡ self.old) }
+        ensures stands { Stands past.new self.new.premises }
+        ensures committed { committed_from past.new self.new.premises ≡ committed_from past.old self.old.premises }
+        ensures taken { IsMoreBy (length places.items) past.old.taken.items past.new.taken.items }
     {
-        let cut = self.premises.split_off(n)?;
-        let kept_words = self.words.len() - word_count(cut.as_slice());
-        self.words.truncate(kept_words);
-        self.points -= points_count(cut.as_slice());
-        Ok(cut)
+        let points = take_each(&mut self.premises, &mut self.words, places, past);
+        self.points -= points;
+    }
+
+    // Puts the premises back that were taken out, the latest first. It takes no memory.
+    pub(crate) fn put_back(&mut self, taken: &mut Vec<Taken>)
+        requires well_named { IsWellNamed (restored taken.old.items self.old.premises) }
+        requires few { length (restored taken.old.items self.old.premises) ≤ most_premises }
+        requires fits { Fits taken.old.items (length self.old.premises) }
+        requires places { length taken.old.items ≤ self.old.places }
+        requires words { length (words_known (map taken_premise taken.old.items)) ≤ self.old.words }
+        ensures premises { self.new.premises ≡ restored taken.old.items self.old.premises }
+        ensures emptied { taken.new.items ≡ [] }
+    {
+        if taken.is_empty() {
+            return;
+        }
+        put_each(&mut self.premises, taken);
+        self.words.clear();
+        declare_all(&mut self.words, self.premises.as_slice(), 0);
+        self.points = 1 + points_count(self.premises.as_slice());
+    }
+}
+
+// Takes out the premises at these places with their names, and tells how many points they declare.
+fn take_each(
+    premises: &mut Vec<Premise>,
+    words: &mut IndexMap<Name, Word>,
+    mut places: Vec<usize>,
+    past: &mut Past,
+) -> usize
+    requires indexed { map entry_seen words.old.entries ≡ placed 0 premises.old.items }
+    requires few { length premises.old.items ≤ most_premises }
+    requires places { AreIn places.items premises.old.items }
+    requires room { vec_len past.old.taken + length places.items ≤ vec_capacity past.old.taken }
+    requires stands { Stands past.old premises.old.items }
+    ensures premises { premises.new.items ≡ without places.items premises.old.items }
+    ensures places { vec_len premises.new + length places.items ≡ vec_len premises.old }
+    ensures capacity { vec_capacity premises.new ≡ vec_capacity premises.old }
+    ensures indexed { map entry_seen words.new.entries ≡ placed 0 premises.new.items }
+    ensures words { spare words.old ≤ spare words.new }
+    ensures points { length (flat_map points_of premises.new.items) + result ≡ length (flat_map points_of premises.old.items) }
+    ensures stands { Stands past.new premises.new.items }
+    ensures committed { committed_from past.new premises.new.items ≡ committed_from past.old premises.old.items }
+    ensures taken { IsMoreBy (length places.items) past.old.taken.items past.new.taken.items }
+{
+    let mut points = 0;
+    while let Some(place) = places.pop() {
+        let behind = word_count(&premises[place..]);
+        let premise = premises.remove(place);
+        let first = words.len() - behind;
+        undeclare(words, first, 1 + facts_of(&premise).len());
+        points += point_count(&premise);
+        past.keep(place, premise);
+    }
+    points
+}
+
+// Takes the names of a premise out of the index, which stand from here on. The premises behind it
+// move down by one place.
+fn undeclare(words: &mut IndexMap<Name, Word>, first: usize, count: usize)
+    requires within { first + count ≤ length words.old.entries }
+    ensures entries { map entry_seen words.new.entries ≡ take first (map entry_seen words.old.entries) ++ map moved_down (drop (first + count) (map entry_seen words.old.entries)) }
+    ensures room { spare words.old ≤ spare words.new }
+{
+    remove_names(words, first, count);
+    move_down(words, first);
+}
+
+fn remove_names(words: &mut IndexMap<Name, Word>, first: usize, count: usize)
+    requires within { first + count ≤ length words.old.entries }
+    ensures entries { words.new.entries ≡ take first words.old.entries ++ drop (first + count) words.old.entries }
+    ensures room { spare words.old ≤ spare words.new }
+{
+    for _ in 0..count {
+        let _gone = words.shift_remove_index(first);
+    }
+}
+
+fn move_down(words: &mut IndexMap<Name, Word>, first: usize)
+    ensures entries { map entry_seen words.new.entries ≡ take first (map entry_seen words.old.entries) ++ map moved_down (drop first (map entry_seen words.old.entries)) }
+    ensures room { spare words.old ≤ spare words.new }
+{
+    for i in first..words.len() {
+        if let Some(word) = words.get_index_mut(i) {
+            word.place = word.place.saturating_sub(1);
+        }
+    }
+}
+
+// Puts the premises back that were taken out, the latest first.
+fn put_each(premises: &mut Vec<Premise>, taken: &mut Vec<Taken>)
+    requires fits { Fits taken.old.items (length premises.old.items) }
+    requires room { vec_len premises.old + length taken.old.items ≤ vec_capacity premises.old }
+    ensures premises { premises.new.items ≡ restored taken.old.items premises.old.items }
+    ensures emptied { taken.new.items ≡ [] }
+{
+    while let Some(Taken { place, premise }) = taken.pop() {
+        let _room = premises.insert(place, premise);
     }
 }
 
