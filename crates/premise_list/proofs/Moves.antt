@@ -1,19 +1,26 @@
 -- Premises that are taken out of a list, and put back.
-use Rattle.std.proofs.Common.{◌≡◌, ℕ, zero, suc, ◌+◌, ◌-◌, ◌*◌, ◌<◌, ◌≤◌, List, [], ◌∷◌, ◌++◌, map, length, take, drop, refl, ap, subst, sym, ◌∙◌, arith, append_assoc}
+use Rattle.std.proofs.Common.{◌≡◌, ℕ, zero, suc, ◌+◌, ◌-◌, ◌*◌, ◌<◌, ◌≤◌, List, [], ◌∷◌, ◌++◌, map, length, take, drop, slice_index_or, refl, ap, subst, sym, inl, inr, ◌∙◌, arith, append_assoc}
+use Rattle.std.specs.Prelude.{Some, None, slice_get}
 use Rattle.std.specs.List.{drop-map, flat_map, insert, remove}
-use Rattle.std.proofs.Math.Seq.{take-append_seam, drop-append_seam, take-length}
-use Rattle.std.proofs.lemmas.List.{take-append-drop, take-append-le, drop-append-le, length-append, length-map, length-take-le, map-append, take-map}
+use Rattle.std.specs.Map.{values_of}
+use Rattle.std.proofs.lemmas.Bool.Decides.{leb_tells}
+use Rattle.std.proofs.Math.Seq.{take-append_seam, drop-append_seam, drop-cons, take-length}
+use Rattle.std.proofs.lemmas.List.{take-append-drop, take-append-le, drop-append-le, length-append, length-drop, length-map, length-take-le, map-append, take-map}
 use Rattle.std.proofs.lemmas.Grind.{flat_map-append}
+use Rattle.indexmap.specs.IndexMap.{set_value_at}
+use Rattle.tmm_model.specs.declared.name.Name.{Name}
 use Rattle.tmm_model.specs.declared.premise.Premise.{Premise}
 use Rattle.tmm_model.specs.Standing.{points_of}
 use Rattle.tmm_model.specs.Sorts.{Sort, declarations_of, declared_by}
 use Rattle.tmm_model.specs.Verdicts.{words_known}
 use Rattle.list_theory.proofs.WellNamed.{words_known-append}
+use Rattle.premise_list.specs.declared.table.Word.{Word}
 use Rattle.premise_list.specs.declared.past.Taken.{Taken}
 use Rattle.premise_list.specs.declared.past.Past.{Past}
-use Rattle.premise_list.specs.Past.{without, AreIn, taken_premise, restored, Fits, committed_from, Stands, IsMoreBy}
-use Rattle.premise_list.specs.Table.{at_place, placed, moved_down}
-use Rattle.premise_list.proofs.TableFacts.{placed-append, length-placed, points_parted, words_parted}
+use Rattle.premise_list.specs.Past.{without, first_or, RiseBelow, taken_premise, restored, Fits, committed_from, Stands, IsMoreBy}
+use Rattle.premise_list.specs.Words.{facts_of, sort_seen}
+use Rattle.premise_list.specs.Table.{at_place, placed, entry_seen, moved_down}
+use Rattle.premise_list.proofs.TableFacts.{declared_by_parted, placed-append, length-placed, points_parted, words_parted}
 
 -- entries of an index, those from the first place on moved down
 abbrev pub lowered : ℕ → List (List ℕ × (Sort × ℕ)) → List (List ℕ × (Sort × ℕ))
@@ -83,44 +90,53 @@ pub without-last : (is : List ℕ) (i : ℕ) (ps : List Premise) → without (is
 without-last [] i ps = refl
 without-last (j ∷ is) i ps = ap (λ l. remove l j) (without-last is i ps)
 
-pub AreIn-last : (is : List ℕ) (i : ℕ) (ps : List Premise) → AreIn (is ++ i ∷ []) ps → (i < length ps) × AreIn is (remove ps i)
-AreIn-last [] i ps h = (h.0, tt)
-AreIn-last (j ∷ is) i ps h =
-    let (first, rest) = AreIn-last is i ps h.1 in
-    (first, (subst (λ l. j < length l) (without-last is i ps) h.0, rest))
+-- places below a number are below a greater one
+pub rise_more : (n m : ℕ) (is : List ℕ) → n ≤ m → RiseBelow n is → RiseBelow m is
+rise_more n m [] low h = tt
+rise_more n m (i ∷ []) low h = let first : i < n = h.0 in (omega arith, tt)
+rise_more n m (i ∷ j ∷ is) low h = (h.0, rise_more n m (j ∷ is) low h.1)
 
-last-AreIn : (is : List ℕ) (i : ℕ) (ps : List Premise) → i < length ps → AreIn is (remove ps i) → AreIn (is ++ i ∷ []) ps
-last-AreIn [] i ps first h = (first, tt)
-last-AreIn (j ∷ is) i ps first h = (subst (λ l. j < length l) (sym (without-last is i ps)) h.0, last-AreIn is i ps first h.1)
+pub rise-last : (is : List ℕ) (i n : ℕ) → RiseBelow n (is ++ i ∷ []) → (i < n) × RiseBelow i is
+rise-last [] i n h = (h.0, tt)
+rise-last (j ∷ []) i n h = (h.1.0, (h.0, tt))
+rise-last (j ∷ k ∷ is) i n h = let (low, rest) = rise-last (k ∷ is) i n h.1 in (low, (h.0, rest))
 
-without-append : (is : List ℕ) (ps qs : List Premise) → AreIn is ps → without is (ps ++ qs) ≡ without is ps ++ qs
+pub last-rise : (is : List ℕ) (i n : ℕ) → i < n → RiseBelow i is → RiseBelow n (is ++ i ∷ [])
+last-rise [] i n low h = (low, tt)
+last-rise (j ∷ []) i n low h = (h.0, (low, tt))
+last-rise (j ∷ k ∷ is) i n low h = (h.0, last-rise (k ∷ is) i n low h.1)
+
+-- the last of places that rise
+pub last_place : (places is : List ℕ) (i n : ℕ) → places ≡ is ++ i ∷ [] → RiseBelow n places → (i < n) × RiseBelow i is
+last_place places is i n whole h = rise-last is i n (subst (RiseBelow n) whole h)
+
+-- those before the first place stay
+rise_long : (is : List ℕ) (ps : List Premise) → RiseBelow (length ps) is → first_or is (length ps) ≤ length (without is ps)
+rise_long [] ps h = omega arith
+rise_long (i ∷ is) ps h =
+    let xs = without is ps in
+    let rest = rise_long is ps h.1 in
+    let low : i < first_or is (length ps) = h.0 in
+    let before : length (take i xs) ≡ i = length-take-le i xs (omega arith) in
+    omega (arith, length-append (take i xs) (drop (suc i) xs))
+
+without-append : (is : List ℕ) (ps qs : List Premise) → RiseBelow (length ps) is → without is (ps ++ qs) ≡ without is ps ++ qs
 without-append [] ps qs h = refl
-without-append (i ∷ is) ps qs h = ap (λ l. remove l i) (without-append is ps qs h.1) ∙ remove-append (without is ps) qs i h.0
-
-AreIn-append : (is : List ℕ) (ps qs : List Premise) → AreIn is ps → AreIn is (ps ++ qs)
-AreIn-append [] ps qs h = tt
-AreIn-append (i ∷ is) ps qs h =
-    let long = ap length (without-append is ps qs h.1) ∙ length-append (without is ps) qs in
-    let within : i < length (without is ps) = h.0 in
-    (omega arith, AreIn-append is ps qs h.1)
+without-append (i ∷ is) ps qs h =
+    let long = rise_long is ps h.1 in
+    let low : i < first_or is (length ps) = h.0 in
+    ap (λ l. remove l i) (without-append is ps qs h.1) ∙ remove-append (without is ps) qs i (omega arith)
 
 -- the next premise falls
-pub next_falls : (is : List ℕ) (i : ℕ) (ps : List Premise) → i < length ps → AreIn is (take i ps)
-    → AreIn (is ++ i ∷ []) (take (suc i) ps) × (without (is ++ i ∷ []) (take (suc i) ps) ≡ without is (take i ps))
-next_falls is i ps below h =
-    let long = length-take-le (suc i) ps (omega arith) in
-    let within : i < length (take (suc i) ps) = omega arith in (
-      last-AreIn is i (take (suc i) ps) within (subst (AreIn is) (sym (remove_end i ps)) h),
-      without-last is i (take (suc i) ps) ∙ ap (without is) (remove_end i ps),
-    )
+pub next_falls : (is : List ℕ) (i : ℕ) (ps : List Premise) → without (is ++ i ∷ []) (take (suc i) ps) ≡ without is (take i ps)
+next_falls is i ps = without-last is i (take (suc i) ps) ∙ ap (without is) (remove_end i ps)
 
 -- the next premise stays
-pub next_stays : (is : List ℕ) (i : ℕ) (ps : List Premise) (p : Premise) → take (suc i) ps ≡ take i ps ++ p ∷ [] → AreIn is (take i ps)
-    → AreIn is (take (suc i) ps) × (without is (take (suc i) ps) ≡ without is (take i ps) ++ p ∷ [])
-next_stays is i ps p next h = (
-  subst (AreIn is) (sym next) (AreIn-append is (take i ps) (p ∷ []) h),
-  ap (without is) next ∙ without-append is (take i ps) (p ∷ []) h,
-)
+pub next_stays : (is : List ℕ) (i : ℕ) (ps : List Premise) (p : Premise) → i ≤ length ps → take (suc i) ps ≡ take i ps ++ p ∷ [] → RiseBelow i is
+    → without is (take (suc i) ps) ≡ without is (take i ps) ++ p ∷ []
+next_stays is i ps p within next h =
+    let long : i ≡ length (take i ps) = sym (length-take-le i ps within) in
+    ap (without is) next ∙ without-append is (take i ps) (p ∷ []) (subst (λ n. RiseBelow n is) long h)
 
 -- the latest that was taken out is put back first
 pub restored-last : (ts : List Taken) (t : Taken) (ps : List Premise) → restored (ts ++ t ∷ []) ps ≡ restored ts (insert ps t.place t.premise)
@@ -186,6 +202,16 @@ words-taken (u ∷ ts) t =
     let own = words_of u.premise (map taken_premise ts) in
     omega arith
 
+-- the names of the premises from a place on
+pub words_behind : (i : ℕ) (ps : List Premise) (p : Premise) → drop i ps ≡ p ∷ drop (suc i) ps
+    → length (words_known (drop i ps)) ≡ suc (length (facts_of p)) + length (words_known (drop (suc i) ps))
+words_behind i ps p at =
+    ap (λ l. length (words_known l)) at ∙ words_of p (drop (suc i) ps) ∙ ap (λ l. length l + length (words_known (drop (suc i) ps))) (declared_by_parted p)
+
+-- the premise at a place, and those behind it
+pub here_and_behind : (i : ℕ) (ps : List Premise) (p : Premise) → i < length ps → p ≡ slice_index_or ps i p → drop i ps ≡ p ∷ drop (suc i) ps
+here_and_behind i ps p low is = drop-cons ps i p low ∙ ap (λ q. q ∷ drop (suc i) ps) (sym is)
+
 -- the points of what stays
 pub points_out : (i : ℕ) (ps : List Premise) (p : Premise) → drop i ps ≡ p ∷ drop (suc i) ps
     → length (flat_map points_of (remove ps i)) + length (points_of p) ≡ length (flat_map points_of ps)
@@ -237,6 +263,81 @@ pub added_committed : (i s : ℕ) (ps : List Premise) (ts : List Taken) → s �
 added_committed i s ps ts low =
     let all : plus s (i - s) ≡ i = plus_is s (i - s) ∙ omega arith in
     ap (restored ts) (subst (λ k. take s (remove ps k) ≡ take s ps) all (take_same s (i - s) ps))
+
+-- what is kept of a premise that was taken out leads back to the same list
+module _ (i : ℕ) (ps : List Premise) (p : Premise) (at : drop i ps ≡ p ∷ drop (suc i) ps) (old new : Past)
+    (added : old.shared ≤ i → (new.shared ≡ old.shared) × (new.taken.items ≡ old.taken.items))
+    (kept : i < old.shared → (new.shared + 1 ≡ old.shared) × (new.taken.items ≡ old.taken.items ++ record { place = i; premise = p } ∷ [])) where
+  pub stands_out : Stands old ps → Stands new (remove ps i)
+  stands_out h =
+      let count = length-remove i ps p at in
+      let within : old.shared ≤ length ps = h.within in
+      let last : length (drop i ps) ≡ suc (length (drop (suc i) ps)) = ap length at in
+      let behind = length-drop i ps in
+      elim (leb_tells old.shared i) [
+        | inl since ↦
+            let (shared, taken) = added since.1 in
+            record {
+              within = omega arith;
+              fits = subst (λ n. Fits new.taken.items n) (sym shared) (subst (λ ts. Fits ts old.shared) (sym taken) h.fits);
+            }
+        | inr before ↦
+            let (shared, taken) = kept before.1 in
+            let low : i < old.shared = before.1 in
+            record {
+              within = omega arith;
+              fits = subst (λ ts. Fits ts new.shared) (sym taken) (last-Fits old.taken.items (record { place = i; premise = p }) new.shared (omega arith) (subst (λ n. Fits old.taken.items n) (sym shared) h.fits));
+            }
+      ]
+
+  pub committed_out : committed_from new (remove ps i) ≡ committed_from old ps
+  committed_out =
+      elim (leb_tells old.shared i) [
+        | inl since ↦
+            let (shared, taken) = added since.1 in
+            (λ j. restored (taken j) (take (shared j) (remove ps i))) ∙ added_committed i old.shared ps old.taken.items since.1
+        | inr before ↦
+            let (shared, taken) = kept before.1 in
+            let low : i < old.shared = before.1 in
+            let more : suc new.shared ≡ old.shared = omega arith in
+            ap (λ ts. restored ts (take new.shared (remove ps i))) taken ∙ kept_committed i ps p at new.shared old.taken.items (omega arith) ∙ ap (λ n. restored old.taken.items (take n ps)) more
+      ]
+
+-- an entry of an index moved down
+abbrev pub one_lowered : ℕ → List (List ℕ × (Sort × ℕ)) → List (List ℕ × (Sort × ℕ))
+one_lowered i [] = []
+one_lowered zero (e ∷ es) = moved_down e ∷ es
+one_lowered (suc i) (e ∷ es) = e ∷ one_lowered i es
+
+pub value_lowered : (i : ℕ) (es : List (Name × Word)) (word : Word) (place : ℕ) → slice_get (values_of es) i ≡ Some word → place ≡ word.place - 1
+    → map entry_seen (set_value_at es i (record { sort = word.sort; place = place })) ≡ one_lowered i (map entry_seen es)
+value_lowered i [] word place at low = refl
+value_lowered zero (e ∷ es) word place at low = let same : e.1 ≡ word = cc in λ j. (e.0, (sort_seen (sym same j).sort, (low ∙ ap (λ w. w.place - 1) (sym same)) j)) ∷ map entry_seen es
+value_lowered (suc i) (e ∷ es) word place at low = ap (λ l. entry_seen e ∷ l) (value_lowered i es word place at low)
+
+pub none_lowered : (i : ℕ) (es : List (Name × Word)) → slice_get (values_of es) i ≡ None → one_lowered i (map entry_seen es) ≡ map entry_seen es
+none_lowered i [] at = refl
+none_lowered zero (e ∷ es) at = cc
+none_lowered (suc i) (e ∷ es) at = ap (λ l. entry_seen e ∷ l) (none_lowered i es at)
+
+next_of_all : (i : ℕ) (es : List (List ℕ × (Sort × ℕ))) → one_lowered i (take i (map moved_down es) ++ drop i es) ≡ take (suc i) (map moved_down es) ++ drop (suc i) es
+next_of_all zero [] = refl
+next_of_all zero (e ∷ es) = refl
+next_of_all (suc i) [] = refl
+next_of_all (suc i) (e ∷ es) = ap (λ l. moved_down e ∷ l) (next_of_all i es)
+
+next_from : (first j : ℕ) (es : List (List ℕ × (Sort × ℕ))) → one_lowered (plus first j) (take (plus first j) (lowered first es) ++ drop (plus first j) es) ≡ take (suc (plus first j)) (lowered first es) ++ drop (suc (plus first j)) es
+next_from zero j es = next_of_all j es
+next_from (suc first) j [] = refl
+next_from (suc first) j (e ∷ es) = ap (λ l. e ∷ l) (next_from first j es)
+
+-- one more entry is moved down
+pub next_lowered : (first i : ℕ) (es : List (List ℕ × (Sort × ℕ))) → first ≤ i → one_lowered i (take i (lowered first es) ++ drop i es) ≡ take (i + 1) (lowered first es) ++ drop (i + 1) es
+next_lowered first i es low =
+    let all : plus first (i - first) ≡ i = plus_is first (i - first) ∙ omega arith in
+    let next : suc i ≡ i + 1 = omega arith in
+    subst (λ k. one_lowered k (take k (lowered first es) ++ drop k es) ≡ take (suc k) (lowered first es) ++ drop (suc k) es) all (next_from first (i - first) es)
+    ∙ ap (λ k. take k (lowered first es) ++ drop k es) next
 
 -- what stands behind what was taken out is moved down
 pub lowered_seam : {X : Type 0} (f : X → List ℕ × (Sort × ℕ)) (first behind : ℕ) (xs : List X) → first ≤ length xs

@@ -11,10 +11,15 @@ abbrev pub without : List ℕ → List Premise → List Premise
 without [] ps = ps
 without (i ∷ is) ps = remove (without is ps) i
 
--- each place is one of the list when its turn comes
-abbrev pub AreIn : List ℕ → List Premise → Type 0
-AreIn [] ps = Unit
-AreIn (i ∷ is) ps = (i < length (without is ps)) × AreIn is ps
+-- the first of these numbers, and the other one where there are none
+abbrev pub first_or : List ℕ → ℕ → ℕ
+first_or [] n = n
+first_or (i ∷ is) n = i
+
+-- the numbers rise, and all are below this one
+abbrev pub RiseBelow : ℕ → List ℕ → Type 0
+RiseBelow n [] = Unit {0}
+RiseBelow n (i ∷ is) = (i < first_or is n) × RiseBelow n is
 
 -- the premise that was taken out
 abbrev pub taken_premise : Taken → Premise
@@ -27,7 +32,7 @@ restored (t ∷ taken) ps = insert (restored taken ps) t.place t.premise
 
 -- each stood at a place that there is when its turn comes, where so many stand at first
 abbrev pub Fits : List Taken → ℕ → Type 0
-Fits [] n = Unit
+Fits [] n = Unit {0}
 Fits (t ∷ taken) n = (t.place ≤ n + length taken) × Fits taken n
 
 -- the list of the last commit, from these premises

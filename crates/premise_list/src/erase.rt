@@ -6,7 +6,7 @@ ghost use Rattle.tmm_model.specs.Sorts.{declared_by};
 ghost use Rattle.tmm_model.specs.Erasure.{names_at, mentioned_by, is_among, falls, kept_after};
 ghost use Rattle.list_theory.specs.Fallen.{fallen_after};
 ghost use Rattle.premise_list.specs.Gone.{SameNames};
-ghost use Rattle.premise_list.specs.Past.{AreIn, without};
+ghost use Rattle.premise_list.specs.Past.{RiseBelow, without};
 
 use crate::premise::{facts_of, name_of};
 use arrayvec::ArrayVec;
@@ -35,7 +35,7 @@ pub(crate) fn fall_with(
 ) -> Result<Fall, NoMemory>
     requires { first ≤ length premises.now }
     ensures names { IfOk result (λ fall. fall.names.items ≡ map name_of (fallen_after erased [] (drop first premises.now))) }
-    ensures places { IfOk result (λ fall. AreIn fall.places.items premises.now) }
+    ensures places { IfOk result (λ fall. RiseBelow (length premises.now) fall.places.items) }
     ensures kept { IfOk result (λ fall. without fall.places.items premises.now ≡ take first premises.now ++ kept_after erased [] (drop first premises.now)) }
 {
     let mut names = Seq::make(alloc);

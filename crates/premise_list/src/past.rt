@@ -1,7 +1,7 @@
 // What the list of the last commit has that the present one has no more.
 ghost use Rattle.std.specs.Prelude.{◌≡◌, ◌<◌, ◌≤◌, ◌+◌, ◌*◌, [], ◌∷◌, ◌++◌, length, map, vec_len, vec_capacity};
 ghost use Rattle.tmm_model.specs.Verdicts.{most_premises, words_known};
-ghost use Rattle.premise_list.specs.Past.{taken_premise};
+ghost use Rattle.premise_list.specs.Past.{IsMoreBy, taken_premise};
 
 use crate::premise::facts_of;
 use tmm_model::Premise;
@@ -30,8 +30,10 @@ impl Past {
         requires { vec_len self.old.taken < vec_capacity self.old.taken }
         ensures added { self.old.shared ≤ place → (self.new.shared ≡ self.old.shared) × (self.new.taken.items ≡ self.old.taken.items) }
         ensures kept { place < self.old.shared → (self.new.shared + 1 ≡ self.old.shared) × (self.new.taken.items ≡ self.old.taken.items ++ record { place = place; premise = premise } ∷ []) }
+        ensures more { IsMoreBy 1 self.old.taken.items self.new.taken.items }
         ensures room { vec_capacity self.new.taken ≡ vec_capacity self.old.taken }
     {
+        let _few = facts_of(&premise);
         if place < self.shared {
             self.shared -= 1;
             self.taken.push_reserved(Taken { place, premise });

@@ -12,7 +12,7 @@ ghost use Rattle.list_theory.specs.WellNamed.{AllFollow, Follows, IsWellNamed};
 ghost use Rattle.indexmap.specs.IndexMap.{keys, spare};
 ghost use Rattle.premise_list.specs.Words.{sort_seen};
 ghost use Rattle.premise_list.specs.Found.{IsFoundAt};
-ghost use Rattle.premise_list.specs.Past.{AreIn, Fits, IsMoreBy, Stands, committed_from, restored, taken_premise, without};
+ghost use Rattle.premise_list.specs.Past.{Fits, IsMoreBy, RiseBelow, Stands, committed_from, restored, taken_premise, without};
 ghost use Rattle.premise_list.specs.Table.{at_place, moved_down, placed, word_seen, entry_seen, fact_entry};
 
 use crate::past::{Past, Taken};
@@ -196,7 +196,7 @@ impl Table {
     // Takes out the premises at these places, and keeps those that the list of the last commit has.
     // It takes no memory.
     pub(crate) fn take_out(&mut self, places: Vec<usize>, past: &mut Past)
-        requires places { AreIn places.items self.old.premises }
+        requires places { RiseBelow (length self.old.premises) places.items }
         requires well_named { IsWellNamed (without places.items self.old.premises) }
         requires room { vec_len past.old.taken + length places.items ≤ vec_capacity past.old.taken }
         requires stands { Stands past.old self.old.premises }
@@ -240,7 +240,7 @@ fn take_each(
 ) -> usize
     requires indexed { map entry_seen words.old.entries ≡ placed 0 premises.old.items }
     requires few { length premises.old.items ≤ most_premises }
-    requires places { AreIn places.items premises.old.items }
+    requires places { RiseBelow (length premises.old.items) places.items }
     requires room { vec_len past.old.taken + length places.items ≤ vec_capacity past.old.taken }
     requires stands { Stands past.old premises.old.items }
     ensures premises { premises.new.items ≡ without places.items premises.old.items }

@@ -3,14 +3,14 @@ use Rattle.std.specs.List.{flat_map}
 use Rattle.indexmap.specs.IndexMap.{spare}
 use Rattle.tmm_model.specs.Standing.{points_of}
 use Rattle.tmm_model.specs.Verdicts.{most_premises, words_known}
-use Rattle.premise_list.specs.Past.{AreIn, Stands, committed_from, taken_premise, without}
+use Rattle.premise_list.specs.Past.{RiseBelow, Stands, committed_from, taken_premise, without}
 use Rattle.premise_list.specs.Table.{placed, entry_seen}
 use Rattle.premise_list.proofs.table.take_each.Given as goal
 
 abbrev pub invariant-loop-place : goal.invariant-loop-place
 invariant-loop-place l = record {
   same : without l.places.items l.premises.items ≡ without l.fn.places.items l.fn.premises.items;
-  are_in : AreIn l.places.items l.premises.items;
+  rise : RiseBelow (length l.premises.items) l.places.items;
   few : length l.premises.items ≤ most_premises;
   count : vec_len l.premises + length l.fn.places.items ≡ vec_len l.fn.premises + length l.places.items;
   capacity : vec_capacity l.premises ≡ vec_capacity l.fn.premises;
