@@ -1,11 +1,11 @@
 -- Premises that are taken out of a list, and put back.
-use Rattle.std.proofs.Common.{◌≡◌, ℕ, zero, suc, ◌+◌, ◌-◌, ◌*◌, ◌<◌, ◌≤◌, List, [], ◌∷◌, ◌++◌, map, length, take, drop, slice_index_or, refl, ap, subst, sym, inl, inr, ◌∙◌, arith, append_assoc}
+use Rattle.std.proofs.Common.{◌≡◌, ℕ, zero, suc, ◌+◌, ◌-◌, ◌*◌, ◌<◌, ◌≤◌, List, [], ◌∷◌, ◌++◌, map, length, take, drop, reverse, slice_index_or, refl, ap, subst, sym, inl, inr, ◌∙◌, arith, append_assoc}
 use Rattle.std.specs.Prelude.{Some, None, slice_get}
 use Rattle.std.specs.List.{drop-map, flat_map, insert, remove}
 use Rattle.std.specs.Map.{values_of}
 use Rattle.std.proofs.lemmas.Bool.Decides.{leb_tells}
 use Rattle.std.proofs.Math.Seq.{take-append_seam, drop-append_seam, drop-cons, take-length}
-use Rattle.std.proofs.lemmas.List.{take-append-drop, take-append-le, drop-append-le, length-append, length-drop, length-map, length-take-le, map-append, take-map}
+use Rattle.std.proofs.lemmas.List.{take-append-drop, take-append-le, drop-append-le, length-append, length-drop, length-map, length-take-le, map-append, reverse-append, reverse-reverse, take-map}
 use Rattle.std.proofs.lemmas.Grind.{flat_map-append}
 use Rattle.indexmap.specs.IndexMap.{set_value_at}
 use Rattle.tmm_model.specs.declared.name.Name.{Name}
@@ -349,3 +349,37 @@ lowered_seam f first behind xs low =
     (λ j. take-map f first (take first xs ++ drop behind xs) j ++ map moved_down (drop-map f first (take first xs ++ drop behind xs) j))
     ∙ (λ j. map f (start j) ++ map moved_down (map f (rest j)))
     ∙ (λ j. sym (take-map f first xs) j ++ map moved_down (sym (drop-map f behind xs) j))
+
+-- ---- in one pass
+
+-- The premise at a place is taken out, where those behind it were moved aside.
+pub one_aside : (i : ℕ) (ps behind first moved : List Premise) (p : Premise) → i < length ps → first ≡ take (i + 1) ps → p ≡ slice_index_or first i p → moved ≡ behind ++ reverse (drop (i + 1) ps)
+    → (drop i (ps ++ reverse behind) ≡ p ∷ drop (suc i) (ps ++ reverse behind)) × (remove first i ++ reverse moved ≡ remove (ps ++ reverse behind) i)
+one_aside i ps behind first moved p low first_is is moved_is =
+    let next : i + 1 ≡ suc i = omega arith in
+    let whole : first ≡ take (suc i) ps = first_is ∙ ap (λ n. take n ps) next in
+    let long : length (take (suc i) ps) ≡ suc i = length-take-le (suc i) ps (omega arith) in
+    let here : drop i first ≡ p ∷ drop (suc i) first = here_and_behind i first p (let long_first : length first ≡ suc i = ap length whole ∙ long in omega arith) is in
+    let turned : reverse moved ≡ drop (suc i) ps ++ reverse behind =
+    ap reverse (moved_is ∙ ap (λ n. behind ++ reverse (drop n ps)) next) ∙ reverse-append behind (reverse (drop (suc i) ps)) ∙ ap (λ l. l ++ reverse behind) (reverse-reverse (drop (suc i) ps)) in
+    let joined : first ++ (drop (suc i) ps ++ reverse behind) ≡ ps ++ reverse behind =
+    ap (λ l. l ++ (drop (suc i) ps ++ reverse behind)) whole ∙ sym (append_assoc (take (suc i) ps) (drop (suc i) ps) (reverse behind)) ∙ ap (λ l. l ++ reverse behind) (take-append-drop (suc i) ps) in
+    let long_first : length first ≡ suc i = ap length whole ∙ long in
+    let rest = drop (suc i) ps ++ reverse behind in
+    let at : drop i (first ++ rest) ≡ p ∷ drop (suc i) (first ++ rest) =
+    drop-append-le i first rest (omega arith) ∙ ap (λ l. l ++ rest) here ∙ ap (λ l. p ∷ l) (sym (drop-append-le (suc i) first rest (omega arith))) in (
+      subst (λ l. drop i l ≡ p ∷ drop (suc i) l) joined at,
+      ap (λ l. remove l i ++ reverse moved) whole ∙ (λ j. remove_end i ps j ++ turned j) ∙ sym (append_assoc (take i ps) (drop (suc i) ps) (reverse behind)) ∙ sym (remove-append ps (reverse behind) i low),
+    )
+
+-- no more names than before
+pub words_without : (is : List ℕ) (ps : List Premise) → length (words_known (without is ps)) ≤ length (words_known ps)
+words_without [] ps = omega arith
+words_without (i ∷ is) ps =
+    let xs = without is ps in
+    let rest = words_without is ps in
+    let parted = words_parted i xs in
+    let behind = words_parted 1 (drop i xs) in
+    let last = ap (λ l. length (words_known l)) (drop_again i xs) in
+    let here = ap length (words_known-append (take i xs) (drop (suc i) xs)) ∙ length-append (words_known (take i xs)) (words_known (drop (suc i) xs)) in
+    omega arith

@@ -1,5 +1,5 @@
 // A list of premises with the index of its names.
-ghost use Rattle.std.specs.Prelude.{◌≡◌, ◌<◌, ◌≤◌, ◌+◌, ◌*◌, List, [], ◌∷◌, ◌++◌, false, None, OnOk, length, map, take, drop, slice_get, vec_len, vec_capacity};
+ghost use Rattle.std.specs.Prelude.{◌≡◌, ◌<◌, ◌≤◌, ◌+◌, ◌*◌, List, [], ◌∷◌, ◌++◌, false, None, OnErr, OnOk, length, map, take, drop, reverse, slice_get, vec_len, vec_capacity};
 ghost use Rattle.std.specs.List.{flat_map, list_any};
 ghost use Rattle.std.specs.Map.{lookup};
 ghost use Rattle.std.specs.Option.{option_map, option_copied};
@@ -21,6 +21,9 @@ use indexmap::IndexMap;
 use std::alloc::Global;
 use std::marker::Model;
 use tmm_model::{Name, NoMemory, Premise};
+
+// Up to how many premises are taken out one by one.
+const FEW_PLACES: usize = 16;
 
 /// What a name is declared as, and the place of the premise that declares it.
 #[derive(Clone, Copy)]
@@ -194,8 +197,35 @@ impl Table {
     }
 
     // Takes out the premises at these places, and keeps those that the list of the last commit has.
-    // It takes no memory.
-    pub(crate) fn take_out(&mut self, places: Vec<usize>, past: &mut Past)
+    // Without memory nothing has changed.
+    pub(crate) fn take_out(
+        &mut self,
+        alloc: Global,
+        places: Vec<usize>,
+        past: &mut Past,
+    ) -> Result<(), NoMemory>
+        requires places { RiseBelow (length self.old.premises) places.items }
+        requires well_named { IsWellNamed (without places.items self.old.premises) }
+        requires room { vec_len past.old.taken + length places.items ≤ vec_capacity past.old.taken }
+        requires stands { Stands past.old self.old.premises }
+        ensures premises { OnOk result (self.new.premises ≡ without places.items self.old.premises) }
+        ensures places { OnOk result (self.old.places + length places.items ≡ self.new.places) }
+        ensures words { OnOk result (self.old.words ≤ self.new.words) }
+        ensures stands { OnOk result (Stands past.new self.new.premises) }
+        ensures committed { OnOk result (committed_from past.new self.new.premises ≡ committed_from past.old self.old.premises) }
+        ensures taken { OnOk result (IsMoreBy (length places.items) past.old.taken.items past.new.taken.items) }
+        ensures err { OnErr result ((self.new ≡ self.old) × (past.new ≡ past.old)) }
+    {
+        if places.len() <= FEW_PLACES {
+            self.take_few(places, past);
+            Ok(())
+        } else {
+            self.take_many(alloc, places, past)
+        }
+    }
+
+    // The same one by one: those behind each move down. It takes no memory.
+    fn take_few(&mut self, places: Vec<usize>, past: &mut Past)
         requires places { RiseBelow (length self.old.premises) places.items }
         requires well_named { IsWellNamed (without places.items self.old.premises) }
         requires room { vec_len past.old.taken + length places.items ≤ vec_capacity past.old.taken }
@@ -209,6 +239,32 @@ impl Table {
     {
         let points = take_each(&mut self.premises, &mut self.words, places, past);
         self.points -= points;
+    }
+
+    // The same in one pass: the names of all that stay are declared anew. Without memory nothing
+    // has changed.
+    fn take_many(
+        &mut self,
+        alloc: Global,
+        places: Vec<usize>,
+        past: &mut Past,
+    ) -> Result<(), NoMemory>
+        requires places { RiseBelow (length self.old.premises) places.items }
+        requires well_named { IsWellNamed (without places.items self.old.premises) }
+        requires room { vec_len past.old.taken + length places.items ≤ vec_capacity past.old.taken }
+        requires stands { Stands past.old self.old.premises }
+        ensures premises { OnOk result (self.new.premises ≡ without places.items self.old.premises) }
+        ensures places { OnOk result (self.old.places + length places.items ≡ self.new.places) }
+        ensures words { OnOk result (self.old.words ≤ self.new.words) }
+        ensures stands { OnOk result (Stands past.new self.new.premises) }
+        ensures committed { OnOk result (committed_from past.new self.new.premises ≡ committed_from past.old self.old.premises) }
+        ensures taken { OnOk result (IsMoreBy (length places.items) past.old.taken.items past.new.taken.items) }
+        ensures err { OnErr result ((self.new ≡ self.old) × (past.new ≡ past.old)) }
+    {
+        let mut behind = Vec::with_capacity(alloc, self.premises.len())?;
+        take_in_one_pass(&mut self.premises, &mut behind, places, past);
+        self.points = declare_anew(&mut self.words, self.premises.as_slice());
+        Ok(())
     }
 
     // Puts the premises back that were taken out, the latest first. It takes no memory.
@@ -225,9 +281,7 @@ impl Table {
             return;
         }
         put_each(&mut self.premises, taken);
-        self.words.clear();
-        declare_all(&mut self.words, self.premises.as_slice(), 0);
-        self.points = 1 + points_count(self.premises.as_slice());
+        self.points = declare_anew(&mut self.words, self.premises.as_slice());
     }
 }
 
@@ -263,6 +317,48 @@ fn take_each(
         past.keep(place, premise);
     }
     points
+}
+
+// Takes out the premises at these places in one pass. Those behind one stand aside meanwhile, where
+// there is room for all of them.
+fn take_in_one_pass(
+    premises: &mut Vec<Premise>,
+    behind: &mut Vec<Premise>,
+    mut places: Vec<usize>,
+    past: &mut Past,
+)
+    requires nothing_behind { behind.old.items ≡ [] }
+    requires room_behind { vec_len premises.old ≤ vec_capacity behind.old }
+    requires places { RiseBelow (length premises.old.items) places.items }
+    requires room { vec_len past.old.taken + length places.items ≤ vec_capacity past.old.taken }
+    requires stands { Stands past.old premises.old.items }
+    ensures premises { premises.new.items ≡ without places.items premises.old.items }
+    ensures places { vec_len premises.new + length places.items ≡ vec_len premises.old }
+    ensures capacity { vec_capacity premises.new ≡ vec_capacity premises.old }
+    ensures stands { Stands past.new premises.new.items }
+    ensures committed { committed_from past.new premises.new.items ≡ committed_from past.old premises.old.items }
+    ensures taken { IsMoreBy (length places.items) past.old.taken.items past.new.taken.items }
+{
+    while let Some(place) = places.pop() {
+        move_from(premises, place + 1, behind);
+        let premise = premises.remove(place);
+        past.keep(place, premise);
+    }
+    move_from(behind, 0, premises);
+}
+
+// Moves the premises from this place on, the last of them first.
+fn move_from(from: &mut Vec<Premise>, place: usize, to: &mut Vec<Premise>)
+    requires within { place ≤ vec_len from.old }
+    requires room { vec_len to.old + vec_len from.old ≤ vec_capacity to.old + place }
+    ensures stay { from.new.items ≡ take place from.old.items }
+    ensures moved { to.new.items ≡ to.old.items ++ reverse (drop place from.old.items) }
+    ensures capacity { (vec_capacity from.new ≡ vec_capacity from.old) × (vec_capacity to.new ≡ vec_capacity to.old) }
+{
+    while from.len() > place {
+        let last = from.len() - 1;
+        to.push_reserved(from.remove(last));
+    }
 }
 
 // Takes the names of a premise out of the index, which stand from here on. The premises behind it
@@ -317,6 +413,20 @@ fn declare(words: &mut IndexMap<Name, Word>, name: Name, word: Word)
     ensures room { spare words.old ≤ spare words.new + 1 }
 {
     let _new = words.insert(name, word);
+}
+
+// Makes the index of these premises anew, and tells how many points there are, `start` among them.
+fn declare_anew(words: &mut IndexMap<Name, Word>, premises: &[Premise]) -> usize
+    requires few { length premises.now ≤ most_premises }
+    requires well_named { IsWellNamed premises.now }
+    requires room { length (words_known premises.now) ≤ length words.old.entries + spare words.old }
+    ensures indexed { map entry_seen words.new.entries ≡ placed 0 premises.now }
+    ensures room { length words.old.entries + spare words.old ≤ spare words.new + length (words_known premises.now) }
+    ensures points { result ≡ length (points_in premises.now) }
+{
+    words.clear();
+    declare_all(words, premises, 0);
+    1 + points_count(premises)
 }
 
 // Adds the names of premises that follow those whose names are there. The first of them has this
