@@ -4,3 +4,4 @@ pub mod Parts
 pub mod PairsOfFacts
 pub mod Unrivalled
 pub mod Moves
+pub mod Erased

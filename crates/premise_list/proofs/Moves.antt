@@ -26,7 +26,7 @@ use Rattle.premise_list.proofs.TableFacts.{declared_by_parted, placed-append, le
 abbrev pub lowered : ℕ → List (List ℕ × (Sort × ℕ)) → List (List ℕ × (Sort × ℕ))
 lowered first es = take first es ++ map moved_down (drop first es)
 
-drop_again : {X : Type 0} (k : ℕ) (xs : List X) → drop 1 (drop k xs) ≡ drop (suc k) xs
+pub drop_again : {X : Type 0} (k : ℕ) (xs : List X) → drop 1 (drop k xs) ≡ drop (suc k) xs
 drop_again zero xs = refl
 drop_again (suc k) [] = refl
 drop_again (suc k) (x ∷ xs) = drop_again k xs
@@ -95,6 +95,14 @@ pub rise_more : (n m : ℕ) (is : List ℕ) → n ≤ m → RiseBelow n is → R
 rise_more n m [] low h = tt
 rise_more n m (i ∷ []) low h = let first : i < n = h.0 in (omega arith, tt)
 rise_more n m (i ∷ j ∷ is) low h = (h.0, rise_more n m (j ∷ is) low h.1)
+
+-- there are no more of them than numbers below that one
+pub rise_few : (n : ℕ) (is : List ℕ) → RiseBelow n is → length is ≤ n
+rise_few n is h = let few = room is h in omega arith
+  where
+    room : (is : List ℕ) → RiseBelow n is → length is + first_or is n ≤ n
+    room [] h = omega arith
+    room (i ∷ is) h = let rest = room is h.1 in let low : i < first_or is n = h.0 in omega arith
 
 pub rise-last : (is : List ℕ) (i n : ℕ) → RiseBelow n (is ++ i ∷ []) → (i < n) × RiseBelow i is
 rise-last [] i n h = (h.0, tt)
