@@ -1,6 +1,5 @@
 -- What stays of a list where premises fall.
 use Rattle.std.proofs.Common.{◌≡◌, ℕ, suc, ◌+◌, ◌<◌, ◌≤◌, List, [], ◌∷◌, ◌++◌, length, take, drop, ap, subst, sym, ◌∙◌, arith}
-use Rattle.std.specs.List.{remove}
 use Rattle.std.proofs.lemmas.List.{take-append-le, take-take, length-append, length-take-le}
 use Rattle.tmm_model.specs.declared.premise.Premise.{Premise}
 use Rattle.tmm_model.specs.Erasure.{kept_after, kept_without}
@@ -31,12 +30,6 @@ module _ (n : List ℕ) (ps : List Premise) (first : ℕ) (found : IsFoundAt n p
   before_stays =
       let long = first_long in
       ap (take first) kept_behind ∙ take-append-le first (take first ps) (kept_without n (drop first ps)) (omega arith) ∙ take-take first first ps (omega arith)
-
-  pub first_within : first ≤ length (without places ps)
-  first_within =
-      let long = first_long in
-      let all = ap length kept_behind ∙ length-append (take first ps) (kept_without n (drop first ps)) in
-      omega arith
 
   -- the pairs of the first premises, and of those that stay behind them
   pub pairs_still : rivalries (take first ps) ++ rivalries (drop first (without places ps)) ≡ rivalries (without places ps)

@@ -1,10 +1,10 @@
 -- Premises that are taken out of a list, and put back.
-use Rattle.std.proofs.Common.{◌≡◌, ℕ, zero, suc, ◌+◌, ◌-◌, ◌*◌, ◌<◌, ◌≤◌, List, [], ◌∷◌, ◌++◌, map, length, take, drop, reverse, slice_index_or, refl, ap, subst, sym, inl, inr, ◌∙◌, arith, append_assoc}
+use Rattle.std.proofs.Common.{◌≡◌, ℕ, zero, suc, ◌+◌, ◌-◌, ◌<◌, ◌≤◌, List, [], ◌∷◌, ◌++◌, map, length, take, drop, reverse, slice_index_or, refl, ap, subst, sym, inl, inr, ◌∙◌, arith, append_assoc}
 use Rattle.std.specs.Prelude.{Some, None, slice_get}
 use Rattle.std.specs.List.{drop-map, flat_map, insert, remove}
 use Rattle.std.specs.Map.{values_of}
 use Rattle.std.proofs.lemmas.Bool.Decides.{leb_tells}
-use Rattle.std.proofs.Math.Seq.{take-append_seam, drop-append_seam, drop-cons, take-length}
+use Rattle.std.proofs.Math.Seq.{take-append_seam, drop-append_seam, drop-cons}
 use Rattle.std.proofs.lemmas.List.{take-append-drop, take-append-le, drop-append-le, length-append, length-drop, length-map, length-take-le, map-append, reverse-append, reverse-reverse, take-map}
 use Rattle.std.proofs.lemmas.Grind.{flat_map-append}
 use Rattle.indexmap.specs.IndexMap.{set_value_at}
@@ -17,7 +17,7 @@ use Rattle.list_theory.proofs.WellNamed.{words_known-append}
 use Rattle.premise_list.specs.declared.table.Word.{Word}
 use Rattle.premise_list.specs.declared.past.Taken.{Taken}
 use Rattle.premise_list.specs.declared.past.Past.{Past}
-use Rattle.premise_list.specs.Past.{without, first_or, RiseBelow, taken_premise, restored, Fits, committed_from, Stands, IsMoreBy}
+use Rattle.premise_list.specs.Past.{without, first_or, RiseBelow, taken_premise, restored, Fits, committed_from, Stands}
 use Rattle.premise_list.specs.Words.{facts_of, sort_seen}
 use Rattle.premise_list.specs.Table.{at_place, placed, entry_seen, moved_down}
 use Rattle.premise_list.proofs.TableFacts.{declared_by_parted, placed-append, length-placed, points_parted, words_parted}
@@ -95,14 +95,6 @@ pub rise_more : (n m : ℕ) (is : List ℕ) → n ≤ m → RiseBelow n is → R
 rise_more n m [] low h = tt
 rise_more n m (i ∷ []) low h = let first : i < n = h.0 in (omega arith, tt)
 rise_more n m (i ∷ j ∷ is) low h = (h.0, rise_more n m (j ∷ is) low h.1)
-
--- there are no more of them than numbers below that one
-pub rise_few : (n : ℕ) (is : List ℕ) → RiseBelow n is → length is ≤ n
-rise_few n is h = let few = room is h in omega arith
-  where
-    room : (is : List ℕ) → RiseBelow n is → length is + first_or is n ≤ n
-    room [] h = omega arith
-    room (i ∷ is) h = let rest = room is h.1 in let low : i < first_or is n = h.0 in omega arith
 
 pub rise-last : (is : List ℕ) (i n : ℕ) → RiseBelow n (is ++ i ∷ []) → (i < n) × RiseBelow i is
 rise-last [] i n h = (h.0, tt)
@@ -200,14 +192,6 @@ words-restored (t ∷ ts) ps =
     let here = ap length (words_known-append (take t.place xs) (t.premise ∷ drop t.place xs)) ∙ length-append (words_known (take t.place xs)) (words_known (t.premise ∷ drop t.place xs)) in
     let own = words_of t.premise (drop t.place xs) in
     let owed = words_of t.premise (map taken_premise ts) in
-    omega arith
-
-pub words-taken : (ts : List Taken) (t : Taken) → length (words_known (map taken_premise (ts ++ t ∷ []))) ≡ length (words_known (map taken_premise ts)) + length (declared_by t.premise)
-words-taken [] t = let own = words_of t.premise [] in let none : length (words_known []) ≡ 0 = refl in omega arith
-words-taken (u ∷ ts) t =
-    let rest = words-taken ts t in
-    let all = words_of u.premise (map taken_premise (ts ++ t ∷ [])) in
-    let own = words_of u.premise (map taken_premise ts) in
     omega arith
 
 -- the names of the premises from a place on

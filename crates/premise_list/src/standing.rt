@@ -162,8 +162,7 @@ impl Standing {
         self.table.reserve(0, 9 * fall.places.len() + owed)?;
         self.past.taken.reserve(fall.places.len())?;
         self.rivalries.reserve(pairs)?;
-        self.table
-            .take_out(alloc, fall.places, &mut self.past)?;
+        self.table.take_out(alloc, fall.places, &mut self.past)?;
         self.rivalries
             .truncate(self.rivalries.present().len() - pairs);
         self.rivalries.add_all(&self.table.premises()[first..]);

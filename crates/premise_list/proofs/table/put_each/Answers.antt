@@ -1,4 +1,4 @@
-use Rattle.std.proofs.Common.{◌≡◌, ◌<◌, ◌≤◌, ◌+◌, true, [], ◌∷◌, ◌++◌, length, ap, subst, sym, ◌∙◌, arith, vec_len, vec_capacity}
+use Rattle.std.proofs.Common.{◌≡◌, ◌<◌, ◌+◌, true, [], ◌∷◌, ◌++◌, length, ap, subst, sym, ◌∙◌, arith, vec_len, vec_capacity}
 use Rattle.std.specs.Result.{is_ok}
 use Rattle.std.specs.List.{insert}
 use Rattle.std.proofs.lemmas.List.{length_push}

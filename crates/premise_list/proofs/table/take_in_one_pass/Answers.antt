@@ -1,8 +1,8 @@
-use Rattle.std.proofs.Common.{◌≡◌, ◌<◌, ◌≤◌, ◌+◌, suc, [], ◌∷◌, ◌++◌, length, take, drop, reverse, ap, subst, sym, ◌∙◌, arith, vec_len}
+use Rattle.std.proofs.Common.{◌≡◌, ◌+◌, [], ◌∷◌, ◌++◌, length, drop, reverse, ap, subst, sym, ◌∙◌, arith}
 use Rattle.std.specs.List.{remove}
 use Rattle.std.proofs.lemmas.List.{length-append, length-drop, length-take-le, length_push, length-reverse}
 use Rattle.premise_list.specs.Past.{RiseBelow, Stands, committed_from, without}
-use Rattle.premise_list.proofs.Moves.{last_place, without-last, length-remove, one_aside, stands_out, committed_out}
+use Rattle.premise_list.proofs.Moves.{last_place, without-last, one_aside, stands_out, committed_out}
 use Rattle.premise_list.proofs.table.take_in_one_pass.Goals as goal
 
 pub overflow_add-place : goal.overflow_add-place

@@ -1,7 +1,5 @@
-use Rattle.std.proofs.Common.{◌≡◌, ◌+◌, ◌≤◌, ◌++◌, map, length, take, drop, ap, sym, ◌∙◌, arith}
-use Rattle.std.proofs.lemmas.List.{map-append, length-take-le, length-map}
-use Rattle.std.proofs.Math.Seq.{take-append_seam, drop-append_seam}
-use Rattle.premise_list.specs.Table.{entry_seen, moved_down}
+use Rattle.std.proofs.Common.{◌+◌, ◌≤◌, map, length, ap, ◌∙◌, arith}
+use Rattle.premise_list.specs.Table.{entry_seen}
 use Rattle.premise_list.proofs.Moves.{lowered, lowered_seam}
 use Rattle.premise_list.proofs.table.undeclare.Goals as goal
 
