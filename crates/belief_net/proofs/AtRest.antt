@@ -1,5 +1,5 @@
 -- Rows that may rest though points moved, and rows at events for which points moved.
-use Rattle.std.proofs.Common.{◌≡◌, ◌∙◌, ℕ, Bool, true, false, ◌<◌, List, [], ◌∷◌, length, Option, Some, refl, sym, ap, subst, inl, inr, ◌⊎◌, arith}
+use Rattle.std.proofs.Common.{◌≡◌, ◌∙◌, ℕ, Bool, true, false, ◌<◌, List, [], ◌∷◌, length, Option, Some, refl, sym, ap, subst, inl, inr, arith}
 use Rattle.std.proofs.lemmas.Bool.{cases_Bool}
 use Rattle.std.proofs.lemmas.List.Quantifiers.{position-Some}
 use Rattle.std.specs.Prelude.{pos}
@@ -51,7 +51,7 @@ all_rest nets added before s f d row were moved_at none = inl (λ m. none_listed
 -- ---- where points moved
 
 -- what moved among some spots of a rule moved for it
-among_at : (moves : ℕ → ℕ → Bool) (s : Standing) (f : Forest) (r : List ℕ) (are : Spot → Type 0) (x : ℕ) → ((p : Spot) → are p → IsReadSpot s f r p)
+pub among_at : (moves : ℕ → ℕ → Bool) (s : Standing) (f : Forest) (r : List ℕ) (are : Spot → Type 0) (x : ℕ) → ((p : Spot) → are p → IsReadSpot s f r p)
     → MovesAmong moves f are x → MovesAt moves s f r x
 among_at moves s f r are x read_of m = record {
   from = m.from;

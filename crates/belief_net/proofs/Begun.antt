@@ -46,23 +46,23 @@ module _ (old : Standing) (edit : Edit) (before net : Net) (b e c m r n : Belief
   same : SameMembers (forest e.tree) (forest m.tree)
   same x = ap (λ (t : Kept). member (forest t) x) h.same_tree ∙ h.same_nodes x
 
-  marks : MarksLeft (next_list old edit) (present m.tree) all.classes all.facts e.decisions m.decisions
-  marks = subst (λ (d : Decisions). MarksLeft (next_list old edit) (present m.tree) all.classes all.facts d m.decisions) h.same_rows
-      (subst (λ (t : Kept). MarksLeft (next_list old edit) (present t) all.classes all.facts c.decisions m.decisions) (sym h.same_tree) h.marks)
+  marks : MarksLeft old (next_list old edit) before (present m.tree) all e.decisions m.decisions
+  marks = subst (λ (d : Decisions). MarksLeft old (next_list old edit) before (present m.tree) all d m.decisions) h.same_rows
+      (subst (λ (t : Kept). MarksLeft old (next_list old edit) before (present t) all c.decisions m.decisions) (sym h.same_tree) h.marks)
 
   stood : (x : ℕ) → IsLive (forest m.tree) x → Occurs old (moment_at (forest m.tree) x)
   stood x live =
       let (k, at) = node_at (forest m.tree) x live in
       subst (Occurs old) (sym (moment_at-is (forest m.tree) x k at)) (h.fit_before.tree.seen.members x k (h.sheds.thins.nodes x k (sym (same x) ∙ at))).occurs
 
-  ready : (z : BeliefNet) → IsFit (next_list old edit) net z → Gains old (next_list old edit) edit m z → IsReady old (next_list old edit) net (forest b.tree) (forest z.tree) (rows_of b) (rows_of z)
+  ready : (z : BeliefNet) → IsFit (next_list old edit) net z → Gains old (next_list old edit) edit m z → IsReady old (next_list old edit) before net (forest b.tree) (forest z.tree) (rows_of b) (rows_of z)
   ready z fit gains = gained_ready old edit before net b e m z all sound_old sound_new h.fit_before h.current h.sheds h.cleared same marks h.fit fit gains
 
   -- where the edit adds neither a root nor a rule
   pub still : StayAll m r → StayAll r n → ((p : Premise) (k : Moment) → edit ≡ Add p → root_of p ≡ Some k → ⊥) → ((p : Premise) (kind rule : List ℕ) → edit ≡ Add p → on_kind kind p ≡ Some rule → ⊥)
-      → IsReady old (next_list old edit) net (forest b.tree) (forest n.tree) (rows_of b) (rows_of n)
+      → IsReady old (next_list old edit) before net (forest b.tree) (forest n.tree) (rows_of b) (rows_of n)
   still first then_ no_root no_rule =
-      subst (λ (z : BeliefNet). IsReady old new net (forest b.tree) (forest z.tree) (rows_of b) (rows_of z)) (sym (all_same r n then_ ∙ all_same m r first)) (ready m h.fit (gains_none old edit m
+      subst (λ (z : BeliefNet). IsReady old new before net (forest b.tree) (forest z.tree) (rows_of b) (rows_of z)) (sym (all_same r n then_ ∙ all_same m r first)) (ready m h.fit (gains_none old edit m
       (λ k at. elim (root_cases old edit k at) [ inl was ↦ was | inr added ↦ absurd (no_root added.0 k added.1 added.2) ])
       (λ x rule live stands. elim (rule_cases old edit sound_old sound_new (moment_at (forest m.tree) x) rule (stood x live) (occurs_at new net (forest m.tree) h.fit.tree.seen x live) stands) [
         | inl was ↦ was
@@ -71,15 +71,15 @@ module _ (old : Standing) (edit : Edit) (before net : Net) (b e c m r n : Belief
 
 module _ (old : Standing) (p : Premise) (before net : Net) (b e c m r n : BeliefNet) (all : Departed) (h : IsBegun old (Add p) before net b e c m r n all) where
   pub with_root : (k : Moment) → root_of p ≡ Some k → EntersAs (next_list old (Add p)) net k m r → StayAll r n
-      → IsReady old (next_list old (Add p)) net (forest b.tree) (forest n.tree) (rows_of b) (rows_of n)
+      → IsReady old (next_list old (Add p)) before net (forest b.tree) (forest n.tree) (rows_of b) (rows_of n)
   with_root k root enters then_ =
-      subst (λ (z : BeliefNet). IsReady old (next_list old (Add p)) net (forest b.tree) (forest z.tree) (rows_of b) (rows_of z)) (sym (all_same r n then_))
+      subst (λ (z : BeliefNet). IsReady old (next_list old (Add p)) before net (forest b.tree) (forest z.tree) (rows_of b) (rows_of z)) (sym (all_same r n then_))
       (ready old (Add p) before net b e c m r n all h r h.fit_root
       (root_gains old p net m r (sound_old old (Add p) before net b e c m r n all h) (sound_new old (Add p) before net b e c m r n all h) (stood old (Add p) before net b e c m r n all h) h.fit h.fit_root h.names_root k root enters))
 
   pub with_rule : (name kind : List ℕ) → on_kind kind p ≡ Some name → name_of p ≡ name → ((other rule : List ℕ) → on_kind other p ≡ Some rule → (kind ≡ other) × (name ≡ rule))
       → StayAll m r → n.tree ≡ r.tree → AddsRule r.tree name kind r.decisions n.decisions
-      → IsReady old (next_list old (Add p)) net (forest b.tree) (forest n.tree) (rows_of b) (rows_of n)
+      → IsReady old (next_list old (Add p)) before net (forest b.tree) (forest n.tree) (rows_of b) (rows_of n)
   with_rule name kind is_rule named only_on first tree adds =
       let r_is = all_same m r first in
       let tree_is : n.tree ≡ m.tree = tree ∙ first.tree in
@@ -87,7 +87,7 @@ module _ (old : Standing) (p : Premise) (before net : Net) (b e c m r n : Belief
       let fit_n = subst (IsFit (next_list old (Add p)) net) n_is h.fit_after in
       let adds_m = subst (λ (z : BeliefNet). AddsRule z.tree name kind z.decisions n.decisions) r_is adds in
       let last = subst (λ (d : Decisions). KeepsLast d n.decisions) first.decisions h.names_after in
-      subst (λ (z : BeliefNet). IsReady old (next_list old (Add p)) net (forest b.tree) (forest z.tree) (rows_of b) (rows_of z)) (sym n_is)
+      subst (λ (z : BeliefNet). IsReady old (next_list old (Add p)) before net (forest b.tree) (forest z.tree) (rows_of b) (rows_of z)) (sym n_is)
       (ready old (Add p) before net b e c m r n all h (record m { decisions = n.decisions }) fit_n
       (rule_gains old p net m n.decisions (sound_old old (Add p) before net b e c m r n all h) (sound_new old (Add p) before net b e c m r n all h) (stood old (Add p) before net b e c m r n all h) h.fit last
       name kind is_rule named only_on adds_m))
@@ -107,13 +107,13 @@ one_added : (p q : Premise) → Add p ≡ Add q → p ≡ q
 one_added p q e = cc
 
 module _ (old : Standing) (p : Premise) (before net : Net) (b e c m r n : BeliefNet) (all : Departed) (h : IsBegun old (Add p) before net b e c m r n all) where
-  neither : StayAll m r → StayAll r n → root_of p ≡ None → ((kind : List ℕ) → on_kind kind p ≡ None) → IsReady old (next_list old (Add p)) net (forest b.tree) (forest n.tree) (rows_of b) (rows_of n)
+  neither : StayAll m r → StayAll r n → root_of p ≡ None → ((kind : List ℕ) → on_kind kind p ≡ None) → IsReady old (next_list old (Add p)) before net (forest b.tree) (forest n.tree) (rows_of b) (rows_of n)
   neither first then_ no_root no_rule = still old (Add p) before net b e c m r n all h first then_
       (λ q k is root. (let both : None ≡ Some k = sym no_root ∙ ap root_of (one_added p q is) ∙ root in cc))
       (λ q kind rule is on. (let both : None ≡ Some rule = sym (no_rule kind) ∙ ap (on_kind kind) (one_added p q is) ∙ on in cc))
 
 pub begun_ready : (old : Standing) (edit : Edit) (before net : Net) (b e c m r n : BeliefNet) (all : Departed) → IsBegun old edit before net b e c m r n all
-    → IsReady old (next_list old edit) net (forest b.tree) (forest n.tree) (rows_of b) (rows_of n)
+    → IsReady old (next_list old edit) before net (forest b.tree) (forest n.tree) (rows_of b) (rows_of n)
 begun_ready old (Add (Event name kind)) before net b e c m r n all h = with_root old (Event name kind) before net b e c m r n all h (At (Begin name)) refl h.enters.0 h.enters.1
 begun_ready old (Add (Token name fact)) before net b e c m r n all h = with_root old (Token name fact) before net b e c m r n all h (At (Begin name)) refl h.enters.0 h.enters.1
 begun_ready old (Add (Span name fact)) before net b e c m r n all h = with_root old (Span name fact) before net b e c m r n all h (At (Begin name)) refl h.enters.0 h.enters.1

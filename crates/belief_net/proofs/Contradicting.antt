@@ -19,8 +19,9 @@ use Rattle.occ_tree.proofs.Numbered.{no_more}
 use Rattle.joined.specs.Gaps.{reads_rival}
 use Rattle.joined.specs.Listed.{IsListedUnder}
 use Rattle.joined.proofs.Deciding.{true_false}
+use Rattle.belief_net.specs.declared.erasing.Departed.{Departed}
 use Rattle.belief_net.specs.declared.state.Decisions.{Decisions}
-use Rattle.belief_net.specs.Adding.{ReadsOneOf, MarksClasses, ReadsRivalOf, MarksFacts, MarksLeft, MarksToken}
+use Rattle.belief_net.specs.Adding.{ReadsOneOf, RestsFromAll, MarksRead, ReadsRivalOf, MarksFacts, MarksLeft, MarksToken}
 use Rattle.belief_net.specs.Decided.{table_of, rule_in, AreUnder, KeepsLast}
 use Rattle.belief_net.specs.Entering.{MarksClass, MarksOwn, MarksRivals, MarksReaders, what_at, mark_at, Calls}
 use Rattle.belief_net.specs.Marks.{Marks, IsAsLate}
@@ -28,6 +29,7 @@ use Rattle.belief_net.specs.Numbers.{name_in}
 use Rattle.belief_net.specs.Waiting.{Dates, dates_in}
 use Rattle.belief_net.proofs.Marked.{marks_none, marks_both}
 use Rattle.belief_net.proofs.OfRules.{marks_alike, OfFirst, on_rule}
+use Rattle.belief_net.proofs.Waking.{wakes_both, marks_rest}
 
 -- where only those that wait are others, what a rollback leads back to stays
 pub waiting_last : (old new : Decisions) → new ≡ record old { waiting = new.waiting } → KeepsLast old new
@@ -130,27 +132,28 @@ module _ (to : Standing) (s : State) where
         p.same q.marks);
   }
 
-  -- classes, and then facts
-  pub left_marked : (classes facts : List (List ℕ)) (old mid new : Decisions) → MarksClasses s classes old mid → MarksFacts to s facts mid new → MarksLeft to s classes facts old new
-  left_marked classes facts old mid new p q = record {
+  -- what read classes, and then facts
+  pub left_marked : (was : Standing) (net : Net) (left : Departed) (old mid new : Decisions) → MarksRead was to net s left.classes left.tokens.items old mid → MarksFacts to s left.facts mid new
+      → MarksLeft was to net s left old new
+  left_marked was net left old mid new p q = record {
     rows = ap (λ (d : Decisions). d.rows) q.same ∙ p.rows;
     rules = ap (λ (d : Decisions). d.rules) q.same ∙ p.rules;
     listed = p.listed;
     more = subst (HaveMore old.classes) (sym classes_stay) p.more;
-    numbered = λ c at. (let (k, is) = p.numbered c at in (k, ap (λ l. place_in l c) classes_stay ∙ is));
-    marks = marks_both s (table_of old) (λ i row. ReadsOneOf (table_of old) mid.classes classes i × IsAsLate s (pos 0) row)
-        (λ i row. ReadsRivalOf to (rule_in old row) facts × IsAsLate s (pos 0) row)
-        (λ i row. (ReadsOneOf (table_of old) new.classes classes i ⊎ ReadsRivalOf to (rule_in old row) facts) × IsAsLate s (pos 0) row)
+    numbered = λ gone at. (let (k, is) = p.numbered gone at in (k, ap (λ l. place_in l gone.class) classes_stay ∙ is));
+    wakes = wakes_both s (table_of old) (λ i row. ReadsOneOf (table_of old) mid.classes left.classes i) (RestsFromAll was to net s (table_of old) mid.classes left.tokens.items)
+        (λ i row. ReadsRivalOf to (rule_in old row) left.facts × IsAsLate s (pos 0) row)
+        (λ i row. ReadsRivalOf to (rule_in old row) left.facts → IsAsLate s (pos 0) row → ⊥)
+        (λ i row. ReadsOneOf (table_of old) new.classes left.classes i ⊎ ReadsRivalOf to (rule_in old row) left.facts)
+        (λ i row. RestsFromAll was to net s (table_of old) new.classes left.tokens.items i row × (ReadsRivalOf to (rule_in old row) left.facts → IsAsLate s (pos 0) row → ⊥))
         (dates_in old.waiting) (dates_in mid.waiting) (dates_in new.waiting)
-        (λ i row (asks, late). elim asks [
-          | inl on ↦ inl (subst (λ l. ReadsOneOf (table_of old) l classes i) classes_stay on, late)
-          | inr rival ↦ inr (rival, late)
-        ])
-        (λ i row (on, late). (inl (subst (λ l. ReadsOneOf (table_of old) l classes i) (sym classes_stay) on), late))
-        (λ i row (rival, late). (inr rival, late))
-        p.marks
-        (subst (λ rs. Marks s (table rs) (λ i row. ReadsRivalOf to (name_in old.rules row.value.rule) facts × IsAsLate s (pos 0) row) (dates_in mid.waiting) (dates_in new.waiting)) p.rows
-        (subst (λ l. Marks s (table_of mid) (λ i row. ReadsRivalOf to (name_in l row.value.rule) facts × IsAsLate s (pos 0) row) (dates_in mid.waiting) (dates_in new.waiting)) p.rules q.marks));
+        (λ i row at on. inl (subst (λ l. ReadsOneOf (table_of old) l left.classes i) (sym classes_stay) on))
+        (λ i row at (rival, late). inr rival)
+        (λ i row at rests apart. (subst (λ l. RestsFromAll was to net s (table_of old) l left.tokens.items i row) (sym classes_stay) rests, apart))
+        p.wakes
+        (marks_rest s (table_of old) (λ i row. ReadsRivalOf to (rule_in old row) left.facts) (λ i row. IsAsLate s (pos 0) row) (dates_in mid.waiting) (dates_in new.waiting)
+        (subst (λ rs. Marks s (table rs) (λ i row. ReadsRivalOf to (name_in old.rules row.value.rule) left.facts × IsAsLate s (pos 0) row) (dates_in mid.waiting) (dates_in new.waiting)) p.rows
+        (subst (λ l. Marks s (table_of mid) (λ i row. ReadsRivalOf to (name_in l row.value.rule) left.facts × IsAsLate s (pos 0) row) (dates_in mid.waiting) (dates_in new.waiting)) p.rules q.marks)));
   }
     where
       classes_stay : new.classes ≡ mid.classes

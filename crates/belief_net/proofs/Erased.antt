@@ -25,6 +25,7 @@ use Rattle.belief_net.specs.declared.state.BeliefNet.{BeliefNet}
 use Rattle.belief_net.specs.declared.state.Decisions.{Decisions}
 use Rattle.belief_net.specs.Decided.{table_of, rule_in, AreUnder}
 use Rattle.belief_net.specs.Erasing.{fact_of, HasNoRowOf, Sheds, Spares, TakesNode}
+use Rattle.belief_net.specs.Gone.{gone_of}
 use Rattle.belief_net.specs.Marks.{HaveEvents}
 use Rattle.belief_net.specs.Numbers.{HaveOwnNumbers}
 use Rattle.belief_net.proofs.Entered.{one_row}
@@ -108,6 +109,7 @@ module _ (b : BeliefNet) (after : Logged Pair 8) (x : ℕ) (removes : Removes b.
     tells = tells_none b.tree d.left.items;
     notes = notes_none (λ m. m.class) b.tree d.classes;
     facts = notes_none fact_of b.tree d.facts;
+    tokens = notes_none gone_of b.tree d.tokens.items;
   }
 
   pub removed_spares : (s : Standing) (r : TableRow Pair 8) → (table_of b.decisions).row x ≡ Some r → premise_in s.premises (rule_in b.decisions r) ≡ None

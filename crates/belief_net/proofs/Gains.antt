@@ -37,8 +37,8 @@ use Rattle.joined.proofs.Listed.{class_listed, readers_listed}
 use Rattle.joined.proofs.Starting.{reads_by_class}
 use Rattle.belief_net.specs.declared.erasing.Departed.{Departed}
 use Rattle.belief_net.specs.declared.state.BeliefNet.{BeliefNet}
-use Rattle.belief_net.specs.Adding.{ReadsOneOf, ReadsRivalOf, MarksLeft}
-use Rattle.belief_net.specs.Beginning.{IsLeftFrom, WaitForMoved, IsReady}
+use Rattle.belief_net.specs.Adding.{ReadsRivalOf, MarksLeft}
+use Rattle.belief_net.specs.Beginning.{IsLeftFrom, BoreOnNone, WaitForMoved, IsReady}
 use Rattle.belief_net.specs.Clearing.{IsCleared}
 use Rattle.belief_net.specs.Decided.{table_of, rule_in}
 use Rattle.belief_net.specs.Erasing.{fact_of, HasLeft, ShedsAll}
@@ -48,6 +48,7 @@ use Rattle.belief_net.specs.Waiting.{dates_in, waits_in}
 use Rattle.belief_net.proofs.Declared.{occurs_still}
 use Rattle.belief_net.proofs.Departing.{read_now}
 use Rattle.belief_net.proofs.Entered.{one_row}
+use Rattle.belief_net.proofs.Idle.{the_gone, gone_noted, left_spared}
 use Rattle.belief_net.proofs.Named.{are_numbered, under_more}
 use Rattle.belief_net.proofs.Thinned.{under_less}
 use Rattle.belief_net.proofs.Turned.{date_is, seen_row, row_there, row_of}
@@ -109,7 +110,7 @@ pub record Gains (old new : Standing) (edit : Edit) (m n : BeliefNet) : Type 0 w
 
 module _ (old : Standing) (edit : Edit) (before net : Net) (b e m n : BeliefNet) (all : Departed) (sound_old : IsSound old) (sound_new : IsSound (next_list old edit))
     (fit_b : IsFit old before b) (current : IsCurrent old before (forest b.tree) (rows_of b)) (sheds : ShedsAll b e all) (cleared : IsCleared old (next_list old edit) b e)
-    (same : SameMembers (forest e.tree) (forest m.tree)) (marks : MarksLeft (next_list old edit) (present m.tree) all.classes all.facts e.decisions m.decisions)
+    (same : SameMembers (forest e.tree) (forest m.tree)) (marks : MarksLeft old (next_list old edit) before (present m.tree) all e.decisions m.decisions)
     (fit_m : IsFit (next_list old edit) net m) (fit_n : IsFit (next_list old edit) net n) (gains : Gains old (next_list old edit) edit m n) where
   abbrev new : Standing
   new = next_list old edit
@@ -357,9 +358,9 @@ module _ (old : Standing) (edit : Edit) (before net : Net) (b e m n : BeliefNet)
   -- what begins to wait in m watched what left, or reads what contradicts it
   waits_left : (i : ℕ) (row : TableRow Pair 8) → (table_of m.decisions).row i ≡ Some row → waits_in m.decisions.waiting i ≡ true
       → (x : ℕ) × (z : Member) × (member f x ≡ Some z) × (member g x ≡ None) × IsLeftFrom old (next_list old edit) (rule_in m.decisions row) z
-  waits_left i row at waits = elim (marks.marks.only i) [
+  waits_left i row at waits = elim (marks.wakes.only i) [
     | inl same_date ↦ absurd (let never : false ≡ true = sym (ap is_some (same_date ∙ rests_e i)) ∙ waits in cc)
-    | inr (other, there, (asks, _), _) ↦ elim asks [
+    | inr (other, there, asks, _) ↦ elim asks [
       | inl (class, k, noted, number, listed) ↦ elim (sheds.notes.own class noted) [
         | inl none ↦ absurd none
         | inr (x, z, left, is) ↦ (x, z, left.was, gone_n x z left, inl ((listed_m x i k z class row left.was is number (row_left i row at)).1 (inl listed)))
@@ -386,11 +387,14 @@ module _ (old : Standing) (edit : Edit) (before net : Net) (b e m n : BeliefNet)
                 absurd (current.none_waits j (seen_row b j o) (row_there b j o o_at) (ap is_some is)))
           ]
 
-  waits : WaitForMoved old (next_list old edit) (forest b.tree) (forest n.tree) (rows_of b) (rows_of n)
+  waits : WaitForMoved old (next_list old edit) before (forest b.tree) (forest n.tree) (rows_of b) (rows_of n)
   waits = record {
     left = λ i x q z at was_at none stay_so reads.
         let (row, there, is) = row_of n i q at in
-        ap (λ (w : Row). w.waits) is ∙ by_left i x row z there was_at none (subst (λ (w : Row). RivalsStay old (next_list old edit) w.rule) is stay_so) (subst (λ (w : Row). watches old w.rule (moment z) ≡ true) is reads);
+        elim (by_left i x row z there was_at none (subst (λ (w : Row). RivalsStay old (next_list old edit) w.rule) is stay_so) (subst (λ (w : Row). watches old w.rule (moment z) ≡ true) is reads)) [
+          | inl waiting ↦ inl (ap (λ (w : Row). w.waits) is ∙ waiting)
+          | inr idle ↦ inr (subst (λ (w : Row). BoreOnNone old (next_list old edit) before (forest b.tree) (forest n.tree) z w.trigger) (sym is) idle)
+        ];
     entered = λ i x q z at none now reads.
         let (row, there, is) = row_of n i q at in
         ap (λ (w : Row). w.waits) is ∙ gains.waits_new i x row z there (not_m x none) now (subst (λ (w : Row). watches new w.rule (moment z) ≡ true) is reads);
@@ -415,28 +419,36 @@ module _ (old : Standing) (edit : Edit) (before net : Net) (b e m n : BeliefNet)
   }
     where
       by_left : (i x : ℕ) (row : TableRow Pair 8) (z : Member) → (table_of n.decisions).row i ≡ Some row → member f x ≡ Some z → member g x ≡ None
-          → RivalsStay old (next_list old edit) (rule_in n.decisions row) → watches old (rule_in n.decisions row) (moment z) ≡ true → waits_in n.decisions.waiting i ≡ true
+          → RivalsStay old (next_list old edit) (rule_in n.decisions row) → watches old (rule_in n.decisions row) (moment z) ≡ true
+          → (waits_in n.decisions.waiting i ≡ true) ⊎ BoreOnNone old (next_list old edit) before (forest b.tree) (forest n.tree) z row.value.trigger
       by_left i x row z there was_at none stay_so reads = elim (gains.own_rows i row there) [
-        | inr fresh ↦ fresh.waits
+        | inr fresh ↦ inl fresh.waits
         | inl at_m ↦ (
             let (class, is) = class_there x z (rule_in n.decisions row) was_at reads in
             let left = gone_e x z was_at none in
             let at_e = row_left i row at_m in
-            gains.waits_on i row at_m (ap is_some (marks.marks.all i row at_e (asked i x row z there at_m was_at left class is stay_so reads, late i row at_e))))
+            elim (marks.wakes.rests i row at_e) [
+              | inl waiting ↦ inl (gains.waits_on i row at_m waiting)
+              | inr (rests, apart) ↦ elim (asked i x row z there at_m was_at left class is stay_so reads) [
+                | inl (k, number, listed) ↦ inr (
+                    let (plain, bore) = rests (late i row at_e) (the_gone z class) k (sheds.tokens.all x z (the_gone z class) left (gone_noted z class is)) number listed in
+                    (plain, left_spared before f g (forest m.tree) node_was gains.nodes x z class was_at is row.value.trigger (fit_m.events i row at_m) bore))
+                | inr rival ↦ absurd (apart rival (late i row at_e))
+              ]
+            ])
       ]
         where
           -- it is on a list of a class that is noted, or its rule reads what contradicts a fact
           -- that is
           asked : (i x : ℕ) (row : TableRow Pair 8) (z : Member) → (table_of n.decisions).row i ≡ Some row → (table_of m.decisions).row i ≡ Some row → member f x ≡ Some z → HasLeft b.tree e.tree x z
               → (class : List ℕ) → z.class ≡ Some class → RivalsStay old (next_list old edit) (rule_in n.decisions row) → watches old (rule_in n.decisions row) (moment z) ≡ true
-              → ReadsOneOf (table_of e.decisions) m.decisions.classes all.classes i ⊎ ReadsRivalOf (next_list old edit) (rule_in e.decisions row) all.facts
+              → ((k : ℕ) × (place_in m.decisions.classes class ≡ Some k) × IsListedUnder (table_of e.decisions) k i) ⊎ ReadsRivalOf (next_list old edit) (rule_in e.decisions row) all.facts
           asked i x row z there at_m was_at left class is stay_so reads =
-              let noted = sheds.notes.all x z class left is in
-              let (k, number) = marks.numbered class noted in
+              let (k, number) = marks.numbered (the_gone z class) (sheds.tokens.all x z (the_gone z class) left (gone_noted z class is)) in
               let at_e = row_left i row at_m in
               let named = gains.names i row at_m in
               elim ((listed_m x i k z class row was_at is number at_e).0 (subst (λ r. watches old r (moment z) ≡ true) named reads)) [
-                | inl listed ↦ inl (class, k, noted, number, listed)
+                | inl listed ↦ inl (k, number, listed)
                 | inr rival ↦ (
                     let t = row.value.trigger in
                     let live = fit_m.events i row at_m in
@@ -445,7 +457,7 @@ module _ (old : Standing) (edit : Edit) (before net : Net) (b e m n : BeliefNet)
                     subst (λ u. Contains (rules_at old u) (rule_in n.decisions row)) (sym (moment_n t live)) (subst (Contains (rules_at old (moment_at f t))) (sym (name_n i row at_m)) stood) in
                     elim (read_now old edit sound_old sound_new (moment_at g t) (rule_in n.decisions row) before_n (own_at i row there) stay_so before.names z class (fit_b.tree.seen.members x z was_at) is
                     (subst (λ r. reads_rival old r z.what ≡ true) (sym named) rival)) [
-                      | inl of_class ↦ inl (class, k, noted, number, class_listed_m i k class row number at_e (subst (λ r. reads_class old r class ≡ true) named of_class))
+                      | inl of_class ↦ inl (k, number, class_listed_m i k class row number at_e (subst (λ r. reads_class old r class ≡ true) named of_class))
                       | inr now ↦ inr (
                         z.what,
                         sheds.facts.all x z z.what left (ap (option_map (λ _. z.what)) is),
@@ -466,5 +478,5 @@ module _ (old : Standing) (edit : Edit) (before net : Net) (b e m n : BeliefNet)
         | inr (add, _, _) ↦ none_before add x none
       ]
 
-  pub gained_ready : IsReady old (next_list old edit) net (forest b.tree) (forest n.tree) (rows_of b) (rows_of n)
+  pub gained_ready : IsReady old (next_list old edit) before net (forest b.tree) (forest n.tree) (rows_of b) (rows_of n)
   gained_ready = record { seen = fit_n.tree.seen; nodes_begin = nodes_begin; rows_begin = rows_begin; waits = waits }

@@ -22,6 +22,7 @@ pub mod Redated
 pub mod OfRules
 pub mod Bases
 pub mod Awake
+pub mod LeftMarked
 pub mod Contradicting
 pub mod Sets
 pub mod Pairs
@@ -30,6 +31,7 @@ pub mod Touched
 pub mod MarkedRight
 pub mod Without
 pub mod Thinned
+pub mod LeftTokens
 pub mod Parted
 pub mod Erased
 pub mod Cleared
@@ -38,11 +40,13 @@ pub mod Noted
 pub mod Ruled
 pub mod Declared
 pub mod Departing
+pub mod Idle
 pub mod Gains
 pub mod Gained
 pub mod Begun
 pub mod KindEvents
 pub mod Rooted
+pub mod Staying
 pub mod Readied
 pub mod Numbered
 pub mod Opened

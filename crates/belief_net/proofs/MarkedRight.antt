@@ -1,7 +1,8 @@
 -- Rows that wait are those that the edit touches.
-use Rattle.std.proofs.Common.{◌≡◌, ◌≢◌, ◌∙◌, ℕ, Bool, true, false, not, List, [], ◌∷◌, ◌++◌, Option, Some, None, refl, sym, ap, subst, inl, inr}
+use Rattle.std.proofs.Common.{◌≡◌, ◌≢◌, ◌∙◌, ℕ, Bool, true, false, not, List, [], ◌∷◌, ◌++◌, Option, Some, None, zero, suc, ◌⊎◌, refl, sym, ap, subst, inl, inr}
 use Rattle.std.proofs.lemmas.Bool.{not-false}
 use Rattle.std.specs.Prelude.{◌+ℤ◌, ℤ, pos, int_le, slice_index_or, is_some}
+use Rattle.std.specs.List.{Contains}
 use Rattle.std.specs.Option.{option_map_or}
 use Rattle.std.specs.Cmp.Lexicographic.{bytes_decides}
 use Rattle.tmm_model.specs.declared.point.PointName.{PointName}
@@ -9,10 +10,10 @@ use Rattle.tmm_model.specs.declared.premise.Edit.{Edit}
 use Rattle.tmm_model.specs.declared.premise.Edit.TheVariants.{Add, Erase, Horizon, Upgrade}
 use Rattle.tmm_model.specs.declared.premise.Premise.{Premise}
 use Rattle.tmm_model.specs.declared.premise.Premise.TheVariants.{Class, Kind, Point, Event, Token, Span, Dist, Rule, Protect, Against}
-use Rattle.tmm_model.specs.Beliefs.{due}
+use Rattle.tmm_model.specs.Beliefs.{due, rules_at}
 use Rattle.tmm_model.specs.Edits.{next_list}
 use Rattle.tmm_model.specs.Maps.{built}
-use Rattle.tmm_model.specs.Moments.{rule_of}
+use Rattle.tmm_model.specs.Moments.{Moment, rule_of}
 use Rattle.tmm_model.specs.Points.{same_name}
 use Rattle.tmm_model.specs.Standing.{Standing, points_in, points_of, name_of, far_in}
 use Rattle.list_theory.specs.WellNamed.{IsSound, IsWellNamed}
@@ -20,22 +21,30 @@ use Rattle.list_theory.proofs.Elements.{In, In-from_Contains, Contains-from_In, 
 use Rattle.list_theory.proofs.Erasure.{kept_before}
 use Rattle.list_theory.proofs.KnownNames.{fresh}
 use Rattle.list_theory.proofs.WellNamed.{points_in-push, AllFollow-append}
+use Rattle.belief_theory.specs.Outcomes.{outcome}
 use Rattle.belief_theory.proofs.SoundBeliefs.{believed_occurs}
 use Rattle.dist_net.specs.Net.{Net, Nets, IsInUse}
 use Rattle.list_net.specs.Fits.{IsNetOf}
+use Rattle.list_net.specs.Network.{PointsKeepNumbers}
 use Rattle.list_net.specs.Represents.{Names, IsNumberOf}
-use Rattle.spots.specs.Forest.{IsLive, moment_at}
-use Rattle.spots.specs.Spots.{net_far}
+use Rattle.spots.specs.declared.spot.Spot.TheVariants.{Declared, Node}
+use Rattle.spots.specs.Forest.{Forest, IsLive, moment_at}
+use Rattle.spots.specs.OfLists.{IsForestOf, HasOccurrences}
+use Rattle.spots.specs.Spots.{base_of, net_far}
 use Rattle.spots.proofs.Seen.{early_is}
 use Rattle.occ_tree.specs.Places.{forest}
 use Rattle.occ_tree.specs.OfLists.{IsTreeOf}
 use Rattle.occ_tree.specs.Standing.{Kept, present, early}
-use Rattle.joined.specs.Gaps.{TellsMoves}
+use Rattle.revisions.specs.Maps.{watches}
+use Rattle.revisions.specs.Walls.{AllOccur}
+use Rattle.joined.specs.Gaps.{start, read, ReadsNoRival, MovesAt, TellsMoves}
+use Rattle.joined.specs.Shifting.{IsSpotOf, AreLoose, MayRest}
 use Rattle.joined.proofs.Gaps.{moved_points_touch}
 use Rattle.joined.proofs.Shifting.{resting_keep}
 use Rattle.belief_net.specs.ByEvent.{differ, is_between}
 use Rattle.belief_net.specs.MarkLaws.{added_by, PointsWereThere, MovedRowsAreTouched, RestingRowsKeep, DueRowsChange}
 use Rattle.belief_net.specs.MovedPairs.{is_of_premise, is_kept, is_moved}
+use Rattle.belief_net.proofs.AtRest.{among_at}
 use Rattle.belief_net.proofs.Pairs.{not_of_one, moved_parts, moved_by_far, bounds_differ, same_bound_is}
 
 -- ---- points of the premise that is added
@@ -133,6 +142,47 @@ pub resting_rows_keep : RestingRowsKeep
 resting_rows_keep old edit nets loose f b r x net_old seen keep cover holds live was stood stands same plain left entered rest =
     resting_keep old edit nets (is_moved nets (added_by edit)) loose f (built old).believed b r x net_old seen keep (tells_moves old edit nets net_old seen.network.sound) cover
     (believed_occurs old net_old.sound) holds live was stood stands same plain left entered rest
+
+-- so do rows among any occurrences of the list before
+pub resting_among : (old : Standing) (edit : Edit) (nets : Nets) (loose : ℕ → Bool) (f : Forest) (c b : List Moment) (r : List ℕ) (x : ℕ) → IsNetOf old nets.committed → IsForestOf (next_list old edit) nets.present f
+    → PointsKeepNumbers (points_in (next_list old edit).premises) nets.committed.names nets.present.names
+    → AreLoose (is_moved nets (added_by edit)) loose → AllOccur old c → HasOccurrences b f → IsLive f x
+    → Contains c (moment_at f x) → Contains (rules_at old (moment_at f x)) r → Contains (rules_at (next_list old edit) (moment_at f x)) r
+    → old.horizon ≡ (next_list old edit).horizon → ReadsNoRival old r
+    → ((y : Moment) → Contains c y → watches old r y ≡ true → Contains b y)
+    → ((y : Moment) → Contains b y → watches (next_list old edit) r y ≡ true → Contains c y)
+    → MayRest (is_moved nets (added_by edit)) loose (next_list old edit) nets f r x
+    → outcome old (far_in old.premises) c (moment_at f x) r ≡ outcome (next_list old edit) (far_in (next_list old edit).premises) b (moment_at f x) r
+resting_among old edit nets loose f c b r x net_old seen keep cover occur holds live was stood stands same plain left entered rest =
+    resting_keep old edit nets (is_moved nets (added_by edit)) loose f c b r x net_old seen keep (tells_moves old edit nets net_old seen.network.sound) cover
+    occur holds live was stood stands same plain left entered rest
+
+-- whether the point is another one than `start`
+abbrev pub is_no_start : ℕ → Bool
+is_no_start zero = false
+is_no_start (suc p) = true
+
+-- where no points moved on which a decision depends, it may rest
+pub unmoved_rests : (old : Standing) (edit : Edit) (nets : Nets) (f : Forest) (r : List ℕ) (x : ℕ) → ReadsNoRival (next_list old edit) r
+    → (MovesAt (is_moved nets (added_by edit)) (next_list old edit) f r x → ⊥) → MayRest (is_moved nets (added_by edit)) is_no_start (next_list old edit) nets f r x
+unmoved_rests old edit nets f r x plain unmoved = record {
+  plain = plain;
+  date = by (is_moved nets (added_by edit) (base_of f (Node x)) 0) refl;
+  each = λ class reads. inl (λ m. unmoved (among_at (is_moved nets (added_by edit)) (next_list old edit) f r (IsSpotOf f class) x (λ p is. elim is [ inl first ↦ start first | inr spot ↦ read class reads spot ]) m));
+}
+  where
+    by : (v : Bool) → is_moved nets (added_by edit) (base_of f (Node x)) 0 ≡ v → is_moved nets (added_by edit) (base_of f (Node x)) 0 ≡ false
+    by false is = is
+    by true is = absurd (unmoved (record { from = Node x; to = Declared 0; from_is = inr refl; to_is = inl (start refl); most = pos 0; bounded = refl; moved = is }))
+
+-- all points but `start` may be loose
+pub all_loose : (nets : Nets) (added : Option (List ℕ)) → AreLoose (is_moved nets added) is_no_start
+all_loose nets added = record { each = by; start = refl }
+  where
+    by : (a b : ℕ) → is_moved nets added a b ≡ true → (is_no_start a ≡ true) ⊎ (is_no_start b ≡ true)
+    by zero zero is = absurd (let no : true ≡ false = sym is ∙ not_of_one nets (is_kept nets.present.names added) 0 0 refl in cc)
+    by (suc a) b is = inl refl
+    by zero (suc b) is = inr refl
 
 -- ---- another horizon
 

@@ -1,10 +1,10 @@
 -- How an update begins: from nodes and rows of the list before to those that stand for the
 -- revision.
-use Rattle.std.proofs.Common.{◌≡◌, ◌≢◌, ◌∙◌, ℕ, Bool, true, false, List, [], ◌∷◌, map, Option, Some, None, refl, sym, ap, subst, inl, inr, ◌⊎◌, arith}
+use Rattle.std.proofs.Common.{◌≡◌, ◌≢◌, ◌∙◌, ℕ, Bool, true, false, List, [], ◌∷◌, map, get_or, Option, Some, None, refl, sym, ap, subst, inl, inr, ◌⊎◌, arith}
 use Rattle.std.proofs.lemmas.Int.{ints}
 use Rattle.std.specs.Prelude.{ℤ, ◌+ℤ◌, pos, int_le, is_some}
 use Rattle.std.specs.Option.{is_none}
-use Rattle.std.specs.List.{Contains}
+use Rattle.std.specs.List.{All, Contains}
 use Rattle.std.specs.Cmp.Lexicographic.{bytes_decides}
 use Rattle.tmm_model.specs.declared.point.PointName.TheVariants.{Begin}
 use Rattle.tmm_model.specs.declared.premise.Edit.{Edit}
@@ -21,7 +21,7 @@ use Rattle.list_theory.proofs.Elements.{In, In-right, In-from_Contains, In-filte
 use Rattle.list_theory.proofs.KnownNames.{fresh}
 use Rattle.list_theory.proofs.WellNamed.{AllFollow-append}
 use Rattle.premise_list.specs.States.{States}
-use Rattle.dist_net.specs.Net.{Nets}
+use Rattle.dist_net.specs.Net.{Nets, IsInUse}
 use Rattle.list_net.specs.Fits.{IsNetOf}
 use Rattle.list_net.specs.Network.{PointsKeepNumbers}
 use Rattle.spots.specs.Forest.{Forest, member, moment, moment_at, IsLive, IsNoRoot}
@@ -37,6 +37,7 @@ use Rattle.occ_tree.specs.Standing.{Kept, present, committed, early}
 use Rattle.occ_tree.proofs.KeptDates.{points_date_nodes}
 use Rattle.revisions.specs.Maps.{watches}
 use Rattle.revisions.specs.Standing.{IsLeftOut}
+use Rattle.revisions.specs.Walls.{AllOccur}
 use Rattle.revisions.proofs.StillEdits.{base_root}
 use Rattle.revisions.proofs.Tokens.{root_named}
 use Rattle.joined.specs.Gaps.{SameGaps, MovesAt}
@@ -48,10 +49,11 @@ use Rattle.joined.proofs.Preparing.{prepared_netted}
 use Rattle.joined.proofs.Telling.{prepared_told}
 use Rattle.joined.proofs.Deciding.{true_false}
 use Rattle.belief_net.specs.declared.erasing.Departed.{Departed}
+use Rattle.belief_net.specs.declared.gone.Gone.{Gone}
 use Rattle.belief_net.specs.declared.state.BeliefNet.{BeliefNet}
 use Rattle.belief_net.specs.declared.state.Decisions.{Decisions}
 use Rattle.belief_net.specs.declared.told.Told.{Told}
-use Rattle.belief_net.specs.Adding.{ReadsOneOf, ReadsRivalOf, MarksLeft}
+use Rattle.belief_net.specs.Adding.{ReadsOneOf, ReadsRivalOf, SayNone, MarksLeft}
 use Rattle.belief_net.specs.Beginning.{IsReady, added_by}
 use Rattle.belief_net.specs.ByEvent.{is_between}
 use Rattle.belief_net.specs.Clearing.{IsCleared}
@@ -60,8 +62,9 @@ use Rattle.belief_net.specs.Dating.{KeepsNodes, AreDatedBefore}
 use Rattle.belief_net.specs.Decided.{table_of, rule_in, AreUnder, AreOfSome, KeepsLast}
 use Rattle.belief_net.specs.Entering.{KeepLast}
 use Rattle.belief_net.specs.Erasing.{moments_of, ShedsAll, Spares, IsFreeOf}
+use Rattle.belief_net.specs.Gone.{BeginIn}
 use Rattle.belief_net.specs.MarkLaws.{added_by as name_added}
-use Rattle.belief_net.specs.Marks.{IsAsLate, HaveEvents, Wakes}
+use Rattle.belief_net.specs.Marks.{HaveEvents, Wakes}
 use Rattle.belief_net.specs.MovedPairs.{WereThere, is_moved}
 use Rattle.belief_net.specs.Numbered.{AreNumbered, left_under}
 use Rattle.belief_net.specs.Settling.{Begins}
@@ -71,12 +74,14 @@ use Rattle.belief_net.specs.Updating.{IsKept, IsPending, MayAdd, Entered, IsChan
 use Rattle.belief_net.specs.Waiting.{dates_in, waits_in}
 use Rattle.belief_net.specs.Woken.{RestsAt}
 use Rattle.belief_net.proofs.Begun.{begun_ready}
+use Rattle.belief_net.proofs.ByRule.{reads_none}
 use Rattle.belief_net.proofs.Cleared.{cleared, seen_after, told_first}
 use Rattle.belief_net.proofs.Entered.{one_row}
-use Rattle.belief_net.proofs.Fitting.{fit_only, fit_marked}
+use Rattle.belief_net.proofs.Fitting.{fit_only}
 use Rattle.belief_net.proofs.KeptAgain.{named_more}
 use Rattle.belief_net.proofs.KindEvents.{finds_left}
-use Rattle.belief_net.proofs.MarkedRight.{points_were_there, moved_rows_are_touched, resting_rows_keep, due_rows_change}
+use Rattle.belief_net.proofs.LeftTokens.{gone_base, gone_class, in_at}
+use Rattle.belief_net.proofs.MarkedRight.{points_were_there, moved_rows_are_touched, resting_rows_keep, resting_among, is_no_start, unmoved_rests, all_loose, due_rows_change}
 use Rattle.belief_net.proofs.Named.{under_more, last_on}
 use Rattle.belief_net.proofs.Numbered.{numbered_on, numbered_added, numbered_erased}
 use Rattle.belief_net.proofs.Readied.{WaitOn, moved_marked, due_marked, prepared_on}
@@ -177,12 +182,12 @@ module _ (old : Standing) (edit : Edit) (nets : Nets) (names : List (List ℕ)) 
 
 -- c is e with the dates of the new network; in m besides rows wait on which what left may have
 -- borne
-pub record IsMarked (s : Standing) (nets : Nets) (e c m : BeliefNet) (all : Departed) : Type 0 where
+pub record IsMarked (old s : Standing) (nets : Nets) (e c m : BeliefNet) (all : Departed) : Type 0 where
   pub keeps : KeepsNodes e.tree c.tree
   pub dated : IsDatedBy nets.present (present c.tree)
   pub same_rows : c.decisions ≡ e.decisions
   pub same_tree : m.tree ≡ c.tree
-  pub marks : MarksLeft s (present c.tree) all.classes all.facts c.decisions m.decisions
+  pub marks : MarksLeft old s nets.committed (present c.tree) all c.decisions m.decisions
   pub names : KeepsLast c.decisions m.decisions
 
 pub marked_under : (s : Standing) (c m : Decisions) → m.rows ≡ c.rows → KeepsLast c m → AreUnder s c → AreUnder s m
@@ -195,13 +200,14 @@ marked_under s c m rows last under = record {
     was i row at = ap (λ rs. (table_of (record c { rows = rs })).row i) (sym rows) ∙ at
 
 module _ (old : Standing) (edit : Edit) (nets : Nets) (names : List (List ℕ)) (b e c m : BeliefNet) (all : Departed) (h : IsErased old (next_list old edit) nets names b e all)
-    (k : IsMarked (next_list old edit) nets e c m all) where
+    (k : IsMarked old (next_list old edit) nets e c m all) where
   pub fit_begun : IsFit (next_list old edit) nets.present m
   fit_begun =
       let first = re_dated old edit nets names b e all h c.tree k.keeps k.dated in
       let c_is : record e { tree = c.tree } ≡ c = λ j. record { tree = c.tree; decisions = sym k.same_rows j } in
       let fit_c = subst (IsFit (next_list old edit) nets.present) c_is first in
-      let marked = fit_marked (next_list old edit) nets.present c fit_c m.decisions (λ i row. (ReadsOneOf (table_of c.decisions) m.decisions.classes all.classes i ⊎ ReadsRivalOf (next_list old edit) (rule_in c.decisions row) all.facts) × IsAsLate (present c.tree) (pos 0) row) k.marks.rows (marked_under (next_list old edit) c.decisions m.decisions k.marks.rows k.names fit_c.under) k.marks.marks in
+      let marked = fit_only (next_list old edit) nets.present c fit_c m.decisions (λ i row. ReadsOneOf (table_of c.decisions) m.decisions.classes all.classes i ⊎ ReadsRivalOf (next_list old edit) (rule_in c.decisions row) all.facts) k.marks.rows
+      (marked_under (next_list old edit) c.decisions m.decisions k.marks.rows k.names fit_c.under) k.marks.wakes.only in
       let m_is : record c { decisions = m.decisions } ≡ m = λ j. record { tree = sym k.same_tree j; decisions = m.decisions } in
       subst (IsFit (next_list old edit) nets.present) m_is marked
 
@@ -265,7 +271,7 @@ module _ (n : BeliefNet) (dates : List (Option ℤ)) (P R : ℕ → TableRow Pai
       (row, here, is, elim (touched.rests i row here) [ inl waits ↦ inl (ap (λ (r : Row). r.waits) is ∙ waits) | inr rests ↦ inr rests ])
 
 module _ (old : Standing) (edit : Edit) (nets : Nets) (names : List (List ℕ)) (before : ℕ) (b e c m n z : BeliefNet) (all : Departed) (is_before : before ≡ old.horizon)
-    (h : IsErased old (next_list old edit) nets names b e all) (k : IsMarked (next_list old edit) nets e c m all) (o : IsOpened old (next_list old edit) nets edit before m n z) where
+    (h : IsErased old (next_list old edit) nets names b e all) (k : IsMarked old (next_list old edit) nets e c m all) (o : IsOpened old (next_list old edit) nets edit before m n z) where
   abbrev new : Standing
   new = next_list old edit
 
@@ -284,7 +290,7 @@ module _ (old : Standing) (edit : Edit) (nets : Nets) (names : List (List ℕ)) 
   sound_after : IsSound (next_list old edit)
   sound_after = h.network.sound
 
-  ready : IsReady old (next_list old edit) nets.present (forest b.tree) (forest n.tree) (rows_of b) (rows_of n)
+  ready : IsReady old (next_list old edit) nets.committed nets.present (forest b.tree) (forest n.tree) (rows_of b) (rows_of n)
   ready = begun_ready old edit nets.committed nets.present b e c m o.entered.mid n all (record {
     fit_before = h.kept.fit;
     current = h.kept.current;
@@ -319,7 +325,7 @@ module _ (old : Standing) (edit : Edit) (nets : Nets) (names : List (List ℕ)) 
       (λ l holds seeds. moved_marked old edit nets.committed nets.present f g (rows_of b) (rows_of n) (rows_of y) sound_before sound_after h.kept.current ready on
       (is_moved nets (name_added edit)) MayRestAt same
       (λ r x was is rest. alike_stay old edit sound_before sound_after (moment_at g x) r was is rest.0)
-      apart keeps all_wait only_wait l holds seeds)
+      apart keeps keeps_among all_wait only_wait l holds seeds)
     where
       apart : (l : List Moment) (r : List ℕ) (x : ℕ) → HasOccurrences l g → IsLive g x → Contains (built old).believed (moment_at g x)
           → ((u : Moment) → Contains l u → watches (next_list old edit) r u ≡ true → Contains (built old).believed u)
@@ -338,6 +344,19 @@ module _ (old : Standing) (edit : Edit) (nets : Nets) (names : List (List ℕ)) 
       keeps l r x holds live was stood stands left entered (_, inr (plain, loose, cover, rest)) =
           inr (resting_rows_keep old edit nets loose g l r x h.kept.fit.tree.seen.network ready.seen h.numbers cover holds live was stood stands same
           (plain_before old edit sound_before sound_after (moment_at g x) r stood stands plain) left entered rest)
+
+      keeps_among : (c l : List Moment) (r : List ℕ) (x : ℕ) → AllOccur old c → HasOccurrences l g → IsLive g x → Contains c (moment_at g x)
+          → Contains (rules_at old (moment_at g x)) r → Contains (rules_at (next_list old edit) (moment_at g x)) r
+          → ((u : Moment) → Contains c u → watches old r u ≡ true → Contains l u)
+          → ((u : Moment) → Contains l u → watches (next_list old edit) r u ≡ true → Contains c u)
+          → SayNone old (next_list old edit) → MayRestAt r x
+          → outcome old (far_in old.premises) c (moment_at g x) r ≡ outcome (next_list old edit) (far_in (next_list old edit).premises) l (moment_at g x) r
+      keeps_among c l r x occur holds live was stood stands left entered none (_, inl unmoved) =
+          resting_among old edit nets is_no_start g c l r x h.kept.fit.tree.seen.network ready.seen h.numbers (all_loose nets (name_added edit)) occur holds live was stood stands same
+          (reads_none old r (λ f1 on f2. (none f1 f2).0)) left entered (unmoved_rests old edit nets g r x (reads_none (next_list old edit) r (λ f1 on f2. (none f1 f2).1)) unmoved)
+      keeps_among c l r x occur holds live was stood stands left entered none (_, inr (plain, loose, cover, rest)) =
+          resting_among old edit nets loose g c l r x h.kept.fit.tree.seen.network ready.seen h.numbers cover occur holds live was stood stands same
+          (reads_none old r (λ f1 on f2. (none f1 f2).0)) left entered rest
 
       all_wait : (i : ℕ) (q : Row) → rows_of y i ≡ Some q → (q.waits ≡ true) ⊎ MayRestAt q.rule q.trigger
       all_wait i q at =
@@ -363,7 +382,7 @@ module _ (old : Standing) (edit : Edit) (nets : Nets) (names : List (List ℕ)) 
               unlike_changes old edit sound_before sound_after (moment_at g q.trigger) q.rule was stands (subst (λ (r : Row). ReadsUnlike old (next_list old edit) r.rule) (sym is) unlike))
 
 module _ (old : Standing) (k : ℕ) (nets : Nets) (names : List (List ℕ)) (before : ℕ) (b e c m n z : BeliefNet) (all : Departed) (is_before : before ≡ old.horizon)
-    (h : IsErased old (next_list old (Horizon k)) nets names b e all) (mk : IsMarked (next_list old (Horizon k)) nets e c m all)
+    (h : IsErased old (next_list old (Horizon k)) nets names b e all) (mk : IsMarked old (next_list old (Horizon k)) nets e c m all)
     (o : IsOpened old (next_list old (Horizon k)) nets (Horizon k) before m n z) where
   abbrev until : Standing
   until = next_list old (Horizon k)
@@ -371,7 +390,7 @@ module _ (old : Standing) (k : ℕ) (nets : Nets) (names : List (List ℕ)) (bef
   abbrev v : BeliefNet
   v = waiting_with n z.decisions.waiting
 
-  ready_until : IsReady old (next_list old (Horizon k)) nets.present (forest b.tree) (forest n.tree) (rows_of b) (rows_of n)
+  ready_until : IsReady old (next_list old (Horizon k)) nets.committed nets.present (forest b.tree) (forest n.tree) (rows_of b) (rows_of n)
   ready_until = ready old (Horizon k) nets names before b e c m n z all is_before h mk o
 
   on_until : WaitOn (rows_of n) (rows_of (waiting_with n z.decisions.waiting))
@@ -415,7 +434,7 @@ module _ (old : Standing) (k : ℕ) (nets : Nets) (names : List (List ℕ)) (bef
 -- ---- so opened, nodes and rows stand for the revision
 
 opened_prepared : (old : Standing) (edit : Edit) (nets : Nets) (names : List (List ℕ)) (before : ℕ) (b e c m n z : BeliefNet) (all : Departed) → before ≡ old.horizon
-    → IsErased old (next_list old edit) nets names b e all → IsMarked (next_list old edit) nets e c m all → IsOpened old (next_list old edit) nets edit before m n z
+    → IsErased old (next_list old edit) nets names b e all → IsMarked old (next_list old edit) nets e c m all → IsOpened old (next_list old edit) nets edit before m n z
     → IsPrepared old (next_list old edit) nets.present (forest b.tree) (forest n.tree) (rows_of b) (rows_of (waiting_with n z.decisions.waiting))
 opened_prepared old (Add p) nets names before b e c m n z all is_before h k o = prepared_moved old (Add p) nets names before b e c m n z all is_before h k o (λ row. refl) (λ row. refl) refl
 opened_prepared old (Erase x) nets names before b e c m n z all is_before h k o = prepared_moved old (Erase x) nets names before b e c m n z all is_before h k o (λ row. refl) (λ row. refl) refl
@@ -423,7 +442,7 @@ opened_prepared old Upgrade nets names before b e c m n z all is_before h k o = 
 opened_prepared old (Horizon d) nets names before b e c m n z all is_before h k o = prepared_until old d nets names before b e c m n z all is_before h k o
 
 module _ (old : Standing) (edit : Edit) (nets : Nets) (names : List (List ℕ)) (before : ℕ) (b e c m n z : BeliefNet) (all : Departed) (is_before : before ≡ old.horizon)
-    (h : IsErased old (next_list old edit) nets names b e all) (k : IsMarked (next_list old edit) nets e c m all) (o : IsOpened old (next_list old edit) nets edit before m n z) where
+    (h : IsErased old (next_list old edit) nets names b e all) (k : IsMarked old (next_list old edit) nets e c m all) (o : IsOpened old (next_list old edit) nets edit before m n z) where
   abbrev w : BeliefNet
   w = waiting_with n z.decisions.waiting
 
@@ -486,12 +505,32 @@ module _ (lists : States) (nets : Nets) (edit : Edit) (names : List (List ℕ)) 
   pub under_after : AreOfSome e.decisions
   under_after = (next_list before_edit edit, (is_cleared before_edit edit nets names b e all erased_next).under)
 
+  -- the nodes that are left begin at points that were there
+  pub begin_before : (t : Kept) → KeepsNodes e.tree t → BeginIn nets.committed (forest t)
+  begin_before t keeps x m at =
+      let there = sheds.thins.nodes x m (subst (λ (f : Forest). member f x ≡ Some m) keeps.nodes at) in
+      begin_in_use nets.committed (forest b.tree) (lists.committed, kept.fit.tree.seen) x m there
+
+  -- so do the tokens that left
+  pub tokens_before : All (λ (gone : Gone). IsInUse nets.committed.names gone.place.base) all.tokens.items
+  tokens_before k d less = elim (sheds.tokens.own (get_or all.tokens.items k d) (in_at all.tokens.items k d less)) [
+    | inl none ↦ absurd none
+    | inr (x, m, left, is) ↦ subst (IsInUse nets.committed.names) (gone_base m (get_or all.tokens.items k d) is) (begin_in_use nets.committed (forest b.tree) (lists.committed, kept.fit.tree.seen) x m left.was)
+  ]
+
+  -- and their classes are noted
+  pub classes_noted : All (λ (gone : Gone). In gone.class all.classes) all.tokens.items
+  classes_noted k d less = elim (sheds.tokens.own (get_or all.tokens.items k d) (in_at all.tokens.items k d less)) [
+    | inl none ↦ absurd none
+    | inr (x, m, left, is) ↦ sheds.notes.all x m (get_or all.tokens.items k d).class left (gone_class m (get_or all.tokens.items k d) is)
+  ]
+
   pub points_there : WereThere nets (name_added edit)
   points_there = were_there before_edit edit nets names b e all erased_next
 
-  module _ (c m : BeliefNet) (marked : IsMarked lists.present nets e c m all) where
-    k : IsMarked (next_list lists.committed edit) nets e c m all
-    k = subst (λ l. IsMarked l nets e c m all) pending.list marked
+  module _ (c m : BeliefNet) (marked : IsMarked lists.committed lists.present nets e c m all) where
+    k : IsMarked lists.committed (next_list lists.committed edit) nets e c m all
+    k = subst (λ l. IsMarked lists.committed l nets e c m all) pending.list marked
 
     pub marked_fit : IsFit lists.present nets.present m
     marked_fit = subst (λ l. IsFit l nets.present m) (sym pending.list) (fit_begun before_edit edit nets names b e c m all erased_next k)

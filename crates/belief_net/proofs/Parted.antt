@@ -10,7 +10,7 @@ use Rattle.tmm_model.specs.declared.point.PointName.TheVariants.{Begin}
 use Rattle.tmm_model.specs.Moments.{Moment, At, After, along, moment_of, is_derived}
 use Rattle.tmm_model.specs.Standing.{Standing}
 use Rattle.list_theory.proofs.Distinct.{Distinct, Distinct-filter}
-use Rattle.list_theory.proofs.Elements.{In, In-left, In-cases, In-map, map-In, In-filter, filter-In, list_any-In}
+use Rattle.list_theory.proofs.Elements.{In, In-left, In-right, In-cases, In-map, map-In, In-filter, filter-In, list_any-In}
 use Rattle.row_links.specs.Lists.{IsOn, AreOnce}
 use Rattle.row_links.proofs.Lists.{IsOn-first, IsOn-append_left, IsOn-append_right, IsOn-append_cases}
 use Rattle.spots.specs.declared.link.Link.{Link}
@@ -35,6 +35,7 @@ use Rattle.belief_net.specs.declared.told.DatedOcc.{DatedOcc}
 use Rattle.belief_net.specs.Decided.{table_of, AreUnder, DropsRows}
 use Rattle.belief_net.specs.Entering.{class_at}
 use Rattle.belief_net.specs.Erasing.{DropsRowsAt, TellsOf, fact_of, fact_at, NotesOf, HasLeft, Tells, Notes, Thins, Sheds, Spares, KeepRows}
+use Rattle.belief_net.specs.Gone.{gone_of, gone_at}
 use Rattle.belief_net.specs.Marks.{HaveEvents}
 use Rattle.belief_net.specs.Numbers.{name_in}
 use Rattle.belief_net.proofs.Brought.{class_is_at}
@@ -85,10 +86,10 @@ module _ (tree : Kept) where
     ];
   }
 
-  pub notes_start : (of : ℕ → Option (List ℕ)) (l : List (List ℕ)) → NotesOf of [] l l
+  pub notes_start : {X : Type 0} (of : ℕ → Option X) (l : List X) → NotesOf of [] l l
   notes_start of l = record { stay = λ c at. at; own = λ c at. inl at; all = λ y c on has. (let never : false ≡ true = on in cc) }
 
-  pub notes_next : (of : ℕ → Option (List ℕ)) (xs ys : List ℕ) (a b c : List (List ℕ)) → NotesOf of xs a b → NotesOf of ys b c → NotesOf of (xs ++ ys) a c
+  pub notes_next : {X : Type 0} (of : ℕ → Option X) (xs ys : List ℕ) (a b c : List X) → NotesOf of xs a b → NotesOf of ys b c → NotesOf of (xs ++ ys) a c
   notes_next of xs ys a b c p q = record {
     stay = λ k at. q.stay k (p.stay k at);
     own = λ k at. elim (q.own k at) [
@@ -144,7 +145,7 @@ module _ (tree : Kept) where
     ];
   }
 
-  pub notes_no_token : (at_node : ℕ → Option (List ℕ)) (y : ℕ) (l : List (List ℕ)) → at_node y ≡ None → NotesOf at_node (y ∷ []) l l
+  pub notes_no_token : {X : Type 0} (at_node : ℕ → Option X) (y : ℕ) (l : List X) → at_node y ≡ None → NotesOf at_node (y ∷ []) l l
   notes_no_token at_node y l none = record {
     stay = λ c at. at;
     own = λ c at. inl at;
@@ -164,6 +165,20 @@ module _ (tree : Kept) where
         let one : class ≡ c = cc in
         subst (λ z. In z new) (placed_name new class k placed ∙ one) (in_at new k (place_within new class k placed));
   }
+
+-- a token that is noted
+pub notes_push : {X : Type 0} (at_node : ℕ → Option X) (y : ℕ) (noted : X) (old : List X) → at_node y ≡ Some noted → NotesOf at_node (y ∷ []) old (old ++ noted ∷ [])
+notes_push at_node y noted old of = record {
+  stay = λ c at. In-left old (noted ∷ []) c at;
+  own = λ c at. elim (In-cases old (noted ∷ []) c at) [
+    | inl was ↦ inl was
+    | inr here ↦ elim here [ inl same ↦ inr (y, IsOn-first y [], of ∙ ap Some same) | inr none ↦ absurd none ]
+  ];
+  all = λ x c on of_x.
+      let both : Some noted ≡ Some c = sym of ∙ ap at_node (sym (alone y x on)) ∙ of_x in
+      let one : noted ≡ c = cc in
+      In-right old (noted ∷ []) c (inl one);
+}
 
 -- ---- rows, event by event
 
@@ -238,6 +253,7 @@ distinct_moments f once (y ∷ ys) live apart = (
 module _ (old new : BeliefNet) (before after : Departed) (x : ℕ) (numbers : List ℕ) (once : IsOnce (forest old.tree)) (events : HaveEvents old.tree (table_of old.decisions))
     (each : (y : ℕ) → IsOn numbers y ↔ IsBelow (forest old.tree) x y) (apart : AreOnce numbers)
     (tells : TellsOf old.tree numbers before.left.items after.left.items) (notes : NotesOf (class_at old.tree) numbers before.classes after.classes) (facts : NotesOf (fact_at old.tree) numbers before.facts after.facts)
+    (tokens : NotesOf (gone_at old.tree) numbers before.tokens.items after.tokens.items)
     (drops : DropsRowsAt (IsOn numbers) old.decisions new.decisions) (w : Withdraws old.tree new.tree x) where
   abbrev f : Forest
   f = forest old.tree
@@ -312,8 +328,8 @@ module _ (old new : BeliefNet) (before after : Departed) (x : ℕ) (numbers : Li
     once = subst Distinct (sym tells.moments) (Distinct-filter is_derived (map (moment_at f) numbers) (distinct_moments f once numbers live_on apart));
   }
 
-  all_noted : (at_node : ℕ → Option (List ℕ)) (of : Member → Option (List ℕ)) → ((y : ℕ) (m : Member) → member f y ≡ Some m → at_node y ≡ of m)
-      → (a b : List (List ℕ)) → NotesOf at_node numbers a b → Notes of old.tree new.tree a b
+  all_noted : {X : Type 0} (at_node : ℕ → Option X) (of : Member → Option X) → ((y : ℕ) (m : Member) → member f y ≡ Some m → at_node y ≡ of m)
+      → (a b : List X) → NotesOf at_node numbers a b → Notes of old.tree new.tree a b
   all_noted at_node of same a b noted = record {
     stay = noted.stay;
     own = λ c at. elim (noted.own c at) [
@@ -328,12 +344,16 @@ module _ (old new : BeliefNet) (before after : Departed) (x : ℕ) (numbers : Li
   fact_is_at : (y : ℕ) (m : Member) → member f y ≡ Some m → fact_at old.tree y ≡ fact_of m
   fact_is_at y m at = ap (λ (o : Option Member). option_map_or fact_of o None) at
 
+  gone_is_at : (y : ℕ) (m : Member) → member f y ≡ Some m → gone_at old.tree y ≡ gone_of m
+  gone_is_at y m at = ap (λ (o : Option Member). option_map_or gone_of o None) at
+
   pub withdrawn_sheds : Sheds old new before after
   withdrawn_sheds = record {
     thins = thins;
     tells = all_told;
     notes = all_noted (class_at old.tree) (λ m. m.class) (class_is_at old.tree) before.classes after.classes notes;
     facts = all_noted (fact_at old.tree) fact_of fact_is_at before.facts after.facts facts;
+    tokens = all_noted (gone_at old.tree) gone_of gone_is_at before.tokens.items after.tokens.items tokens;
   }
 
   pub withdrawn_rows : KeepRows old new

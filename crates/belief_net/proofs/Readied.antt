@@ -11,6 +11,7 @@ use Rattle.tmm_model.specs.Maps.{built}
 use Rattle.tmm_model.specs.Moments.{Moment}
 use Rattle.tmm_model.specs.Standing.{Standing, far_in}
 use Rattle.list_theory.specs.WellNamed.{IsSound}
+use Rattle.list_theory.proofs.Elements.{In-from_Contains, Contains-from_In}
 use Rattle.belief_theory.specs.Outcomes.{outcome}
 use Rattle.belief_theory.specs.Right.{Occurs}
 use Rattle.dist_net.specs.Net.{Net}
@@ -19,6 +20,7 @@ use Rattle.spots.specs.OfLists.{HasOccurrences}
 use Rattle.spots.proofs.Nodes.{node_at, live_at, moment_at-is}
 use Rattle.revisions.specs.Counted.{AreSeeds}
 use Rattle.revisions.specs.Maps.{watches}
+use Rattle.revisions.specs.Walls.{AllOccur}
 use Rattle.joined.specs.Gaps.{SameGaps, MovesAt}
 use Rattle.joined.specs.Netted.{IsCurrent}
 use Rattle.joined.specs.Rows.{Row, Rows, HasNoRow, AreRowsOf}
@@ -27,8 +29,11 @@ use Rattle.joined.specs.Touching.{RivalsStay, IsUntouched}
 use Rattle.joined.proofs.Deciding.{some_row, true_false}
 use Rattle.joined.proofs.Preparing.{stays_same, begun_rows}
 use Rattle.joined.proofs.Touching.{resting_marked, believed_among, among_believed, horizons_marked}
-use Rattle.belief_net.specs.Beginning.{IsLeftFrom, IsReady}
+use Rattle.belief_net.specs.Adding.{SayNone}
+use Rattle.belief_net.specs.Beginning.{IsLeftFrom, those_in, BoreOnNone, IsReady}
+use Rattle.belief_net.proofs.ByRule.{reads_none}
 use Rattle.belief_net.proofs.Departing.{read_then}
+use Rattle.belief_net.proofs.Staying.{all_or_one, of_both, into_both, stays_or_left, staying, holds_staying, occur_staying, without_left}
 
 none_some : {X : Type 0} (x : X) → None ≡ Some x → ⊥
 none_some x e = cc
@@ -68,7 +73,7 @@ module _ (new : Standing) (g : Forest) (rows mid after : Rows) (begin : RowsBegi
 -- ---- nodes before and after
 
 module _ (old : Standing) (edit : Edit) (before net : Net) (f g : Forest) (rows mid after : Rows) (sound_old : IsSound old) (sound_new : IsSound (next_list old edit))
-    (current : IsCurrent old before f rows) (ready : IsReady old (next_list old edit) net f g rows mid) (on : WaitOn mid after) where
+    (current : IsCurrent old before f rows) (ready : IsReady old (next_list old edit) before net f g rows mid) (on : WaitOn mid after) where
   abbrev new : Standing
   new = next_list old edit
 
@@ -109,6 +114,12 @@ module _ (old : Standing) (edit : Edit) (before net : Net) (f g : Forest) (rows 
       → rests r x
       → SameGaps old (next_list old edit) b (moment_at g x) r
       ⊎ (outcome old (far_in old.premises) (built old).believed (moment_at g x) r ≡ outcome (next_list old edit) (far_in (next_list old edit).premises) b (moment_at g x) r))
+      (keeps_among : (c b : List Moment) (r : List ℕ) (x : ℕ) → AllOccur old c → HasOccurrences b g → IsLive g x → Contains c (moment_at g x)
+      → Contains (rules_at old (moment_at g x)) r → Contains (rules_at (next_list old edit) (moment_at g x)) r
+      → ((y : Moment) → Contains c y → watches old r y ≡ true → Contains b y)
+      → ((y : Moment) → Contains b y → watches (next_list old edit) r y ≡ true → Contains c y)
+      → SayNone old (next_list old edit) → rests r x
+      → outcome old (far_in old.premises) c (moment_at g x) r ≡ outcome (next_list old edit) (far_in (next_list old edit).premises) b (moment_at g x) r)
       (all : (i : ℕ) (q : Row) → after i ≡ Some q → (q.waits ≡ true) ⊎ rests q.rule q.trigger)
       (only : (i : ℕ) (o q : Row) → mid i ≡ Some o → after i ≡ Some q → q.waits ≡ true → (o.waits ≡ true) ⊎ (MovesAt moves (next_list old edit) g q.rule q.trigger
       ⊎ (Contains (rules_at old (moment_at g q.trigger)) q.rule → Contains (rules_at (next_list old edit) (moment_at g q.trigger)) q.rule → RivalsStay old (next_list old edit) q.rule → ⊥)))
@@ -147,20 +158,42 @@ module _ (old : Standing) (edit : Edit) (before net : Net) (f g : Forest) (rows 
       same_rivals : RivalsStay old (next_list old edit) q.rule
       same_rivals = stay q.rule q.trigger (stood (begun.from i q at)).1 (begun.own i q at).1 rest
 
-      watched_stays : (x : Moment) → Contains (built old).believed x → watches old q.rule x ≡ true → Contains b x
-      watched_stays x believed reads =
-          let (y, m, m_at, same) = current.holds.all x believed in
-          by y m m_at same (member g y) refl
+      -- a token that left, and that the rule watched, bore on no decision there
+      left_bore : (y : ℕ) (m : Member) → member f y ≡ Some m → member g y ≡ None → watches old q.rule (moment m) ≡ true → BoreOnNone old (next_list old edit) before f g m q.trigger
+      left_bore y m m_at gone reads =
+          elim (ready.waits.left i y o m there m_at gone (subst (RivalsStay old (next_list old edit)) (ap (λ (z : Row). z.rule) is) same_rivals)
+          (subst (λ z. watches old z (moment m) ≡ true) (ap (λ (z : Row). z.rule) is) reads)) [
+            | inl waits ↦ absurd (rested waits)
+            | inr bore ↦ subst (λ (z : Row). BoreOnNone old (next_list old edit) before f g m z.trigger) (sym is) bore
+          ]
+
+      -- what is believed still is there, if the rule watches it
+      abbrev StaysIfWatched : Moment → Type 0
+      StaysIfWatched x = watches old q.rule x ≡ true → Contains b x
+
+      -- or it is of a node that left, and watched
+      abbrev LeftWatched : Moment → Type 0
+      LeftWatched x = (y : ℕ) × (m : Member) × (member f y ≡ Some m) × (member g y ≡ None) × (watches old q.rule (moment m) ≡ true)
+
+      stays_there : (y : ℕ) (m k : Member) → member f y ≡ Some m → member g y ≡ Some k → Contains b (moment m)
+      stays_there y m k m_at here = elim (ready.nodes_begin.own y k here) [
+        | inl was_there ↦ (
+            let both : Some k ≡ Some m = sym was_there ∙ m_at in
+            let one : k ≡ m = cc in
+            subst (Contains b) (ap moment one) (holds.own y k here))
+        | inr added ↦ absurd (none_some m (sym added.0 ∙ m_at))
+      ]
+
+      stays_or_watched : (x : Moment) → Contains (built old).believed x → StaysIfWatched x ⊎ LeftWatched x
+      stays_or_watched x believed = by (watches old q.rule x) refl
         where
-          by : (y : ℕ) (m : Member) → member f y ≡ Some m → moment m ≡ x → (v : Option Member) → member g y ≡ v → Contains b x
-          by y m m_at same None gone = absurd (rested (ready.waits.left i y o m there m_at gone (subst (RivalsStay old (next_list old edit)) (ap (λ (z : Row). z.rule) is) same_rivals)
-              (subst (λ z. watches old z (moment m) ≡ true) (ap (λ (z : Row). z.rule) is) (subst (λ z. watches old q.rule z ≡ true) (sym same) reads))))
-          by y m m_at same (Some k) here = elim (ready.nodes_begin.own y k here) [
-            | inl before ↦ (
-                let both : Some k ≡ Some m = sym before ∙ m_at in
-                let one : k ≡ m = cc in
-                subst (Contains b) (ap moment one ∙ same) (holds.own y k here))
-            | inr added ↦ absurd (none_some m (sym added.0 ∙ m_at))
+          by : (v : Bool) → watches old q.rule x ≡ v → StaysIfWatched x ⊎ LeftWatched x
+          by false off = inl (λ reads. true_false (sym reads ∙ off))
+          by true reads = elim (stays_or_left old before f g current.seen current.holds x believed) [
+            | inl (y, m, both, same) ↦ (
+                let (m_at, (k, here)) = of_both f g y m both in
+                inl (λ watched. subst (Contains b) same (stays_there y m k m_at here)))
+            | inr (y, m, m_at, gone, same) ↦ inr (y, m, m_at, gone, subst (λ z. watches old q.rule z ≡ true) (sym same) reads)
           ]
 
       watched_was : (x : Moment) → Contains b x → watches (next_list old edit) q.rule x ≡ true → Contains (built old).believed x
@@ -176,16 +209,48 @@ module _ (old : Standing) (edit : Edit) (before net : Net) (f g : Forest) (rows 
             | inr added ↦ absurd (none_some k (sym added.0 ∙ before))
           ]
 
+      -- where some that left were watched, it keeps its outcome: first as these leave, and then as
+      -- points moved
+      kept_without : LeftWatched (moment_at g q.trigger) → outcome old (far_in old.premises) (built old).believed (moment_at g q.trigger) q.rule
+          ≡ outcome (next_list old edit) (far_in (next_list old edit).premises) b (moment_at g q.trigger) q.rule
+      kept_without (u, z, z_at, z_gone, z_reads) =
+          let none = (left_bore u z z_at z_gone z_reads).0 in
+          let (k, here) = node_at g q.trigger live in
+          let stands = stood (begun.from i q at) in
+          let there_both = into_both f g q.trigger k k (node_was q.trigger k here (subst (Contains (built old).believed) (moment_at-is g q.trigger k here) stands.0)) here in
+          let c = staying old before f g current.seen current.holds in
+          let holds_c = holds_staying old before f g current.seen current.holds in
+          let same : moment_at (those_in f g) q.trigger ≡ moment_at g q.trigger = moment_at-is (those_in f g) q.trigger k there_both ∙ sym (moment_at-is g q.trigger k here) in
+          subst (λ t. outcome old (far_in old.premises) (built old).believed t q.rule ≡ outcome old (far_in old.premises) (staying old before f g current.seen current.holds) t q.rule) same
+          (without_left old before f g current.seen current.holds q.trigger k (of_both f g q.trigger k there_both).0 k here q.rule (reads_none old q.rule (λ f1 on f2. (none f1 f2).0))
+          (λ y n n_at gone reads. (left_bore y n n_at gone reads).1))
+          ∙ keeps_among c b q.rule q.trigger (occur_staying old before f g current.seen current.holds) holds live (subst (Contains c) (sym (moment_at-is g q.trigger k here)) (holds_c.own q.trigger k there_both))
+          stands.1 (begun.own i q at).1
+          (λ x on reads. (
+          let (y, n, both, is_x) = holds_c.all x on in
+          let (n_at, (n_here, n_there)) = of_both f g y n both in
+          subst (Contains b) is_x (stays_there y n n_here n_at n_there)))
+          (λ x on reads. (
+          let (y, n, n_here, is_x) = holds.all x on in
+          let believed = watched_was x on reads in
+          let n_at = node_was y n n_here (subst (Contains (built old).believed) (sym is_x) believed) in
+          subst (Contains c) is_x (holds_c.own y n (into_both f g y n n n_at n_here))))
+          none rest
+
       -- the edit does not touch it, or it keeps its outcome
       row_keeps : IsUntouched old (next_list old edit) b (moment_at g q.trigger) q.rule
           ⊎ (outcome old (far_in old.premises) (built old).believed (moment_at g q.trigger) q.rule
           ≡ outcome (next_list old edit) (far_in (next_list old edit).premises) b (moment_at g q.trigger) q.rule)
-      row_keeps =
-          let stands = stood (begun.from i q at) in
-          elim (keeps b q.rule q.trigger holds live stands.0 stands.1 (begun.own i q at).1 watched_stays watched_was rest) [
-            | inr same ↦ inr same
-            | inl gaps ↦ inl (record { was = stands; horizon = same_horizon; rivals = same_rivals; left = watched_stays; entered = watched_was; gaps = gaps })
-          ]
+      row_keeps = elim (all_or_one StaysIfWatched LeftWatched (built old).believed (λ x on. stays_or_watched x (Contains-from_In (built old).believed x on))) [
+        | inr (x, on, left) ↦ inr (kept_without left)
+        | inl stay_all ↦ (
+            let stands = stood (begun.from i q at) in
+            let watched_stays : (x : Moment) → Contains (built old).believed x → watches old q.rule x ≡ true → Contains b x = λ x believed reads. stay_all x (In-from_Contains (built old).believed x believed) reads in
+            elim (keeps b q.rule q.trigger holds live stands.0 stands.1 (begun.own i q at).1 watched_stays watched_was rest) [
+              | inr same ↦ inr same
+              | inl gaps ↦ inl (record { was = stands; horizon = same_horizon; rivals = same_rivals; left = watched_stays; entered = watched_was; gaps = gaps })
+            ])
+      ]
 
     -- a row that waits is touched
     module _ (i : ℕ) (q : Row) (at : after i ≡ Some q) (waits : q.waits ≡ true) (u : IsUntouched old (next_list old edit) b (moment_at g q.trigger) q.rule) where
@@ -253,7 +318,7 @@ module _ (old : Standing) (edit : Edit) (before net : Net) (f g : Forest) (rows 
 -- ---- another horizon
 
 module _ (old : Standing) (n : ℕ) (before net : Net) (f g : Forest) (rows mid after : Rows) (sound_old : IsSound old) (sound_new : IsSound (list_until old n))
-    (current : IsCurrent old before f rows) (ready : IsReady old (list_until old n) net f g rows mid) (on : WaitOn mid after)
+    (current : IsCurrent old before f rows) (ready : IsReady old (list_until old n) before net f g rows mid) (on : WaitOn mid after)
     (all : (i : ℕ) (q : Row) → after i ≡ Some q → q.waits ≡ false
     → int_le (due old (far_in old.premises) (moment_at g q.trigger) q.rule) (pos old.horizon) ≡ int_le (due old (far_in old.premises) (moment_at g q.trigger) q.rule) (pos n))
     (only : (i : ℕ) (o q : Row) → mid i ≡ Some o → after i ≡ Some q → q.waits ≡ true → (o.waits ≡ true) ⊎ (old.horizon ≢ n))

@@ -134,7 +134,7 @@ module _ (net : Net) (f : Forest) (moving : List ℕ) (k : TokenRow Spot) (t : �
   abbrev far : Spot → Spot → Bound
   far = spot_distance net f
 
-  between : (w : TokenRow Spot) → IsWall net f moving k w → begins_by (spot_distance net f) (Node t) w ≡ true → IsBetween (spot_distance net f) (Node t) k w
+  pub between : (w : TokenRow Spot) → IsWall net f moving k w → begins_by (spot_distance net f) (Node t) w ≡ true → IsBetween (spot_distance net f) (Node t) k w
   between w wall has = record { class = wall.class; after = looser (spot_distance net f w.spot k.spot) wall.after; begun = has }
 
   -- a wall of another fact cuts the token
@@ -143,7 +143,7 @@ module _ (net : Net) (f : Forest) (moving : List ℕ) (k : TokenRow Spot) (t : �
       let class : same_name k.class w.class ≡ true = (bytes_decides k.class w.class).1 (sym wall.class) in
       λ i. ((class i && not (differ i)) && wall.after i) && has i
 
-  over : (v w : TokenRow Spot) → IsWall net f moving k v → IsWall net f moving k w → begins_by (spot_distance net f) (Node t) v ≡ true → begins_by (spot_distance net f) (Node t) w ≡ true → v.fact ≢ w.fact
+  pub over : (v w : TokenRow Spot) → IsWall net f moving k v → IsWall net f moving k w → begins_by (spot_distance net f) (Node t) v ≡ true → begins_by (spot_distance net f) (Node t) w ≡ true → v.fact ≢ w.fact
       → lasts_to of_one_class (spot_distance net f) (v ∷ w ∷ []) k (Node t) k.end ≡ false
   over v w wall_v wall_w has_v has_w differ = subst (λ o. lasts_to of_one_class (spot_distance net f) (v ∷ w ∷ []) k (Node t) o ≡ false) (sym wall_v.endless)
       (elim (other_fact k.fact v.fact w.fact differ) [

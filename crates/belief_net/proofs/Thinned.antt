@@ -17,6 +17,7 @@ use Rattle.belief_net.specs.declared.told.DatedOcc.{DatedOcc}
 use Rattle.belief_net.specs.Decided.{table_of, rule_in, AreUnder}
 use Rattle.belief_net.specs.Entering.{KeepLast}
 use Rattle.belief_net.specs.Erasing.{moments_of, fact_of, HasLeft, Tells, Notes, Thins, Sheds, Spares, IsFreeOf}
+use Rattle.belief_net.specs.Gone.{gone_of}
 use Rattle.belief_net.specs.Marks.{HaveEvents}
 use Rattle.belief_net.specs.Numbers.{name_in}
 use Rattle.belief_net.proofs.Named.{last_stays, last_on}
@@ -83,14 +84,14 @@ tells_none t l = record {
   once = tt;
 }
 
-pub notes_none : (of : Member → Option (List ℕ)) (t : Kept) (l : List (List ℕ)) → Notes of t t l l
+pub notes_none : {X : Type 0} (of : Member → Option X) (t : Kept) (l : List X) → Notes of t t l l
 notes_none of t l = record { stay = λ c at. at; own = λ c at. inl at; all = λ x m c left has. absurd (no_left t x m left) }
 
 pub spares_none : (s : Standing) (b : BeliefNet) → Spares s b b
 spares_none s b = record { nodes = λ x m at stands. at; rows = λ i row at live. inl at }
 
 pub sheds_none : (b : BeliefNet) (d : Departed) → HaveEvents b.tree (table_of b.decisions) → Sheds b b d d
-sheds_none b d events = record { thins = thins_none b events; tells = tells_none b.tree d.left.items; notes = notes_none (λ m. m.class) b.tree d.classes; facts = notes_none fact_of b.tree d.facts }
+sheds_none b d events = record { thins = thins_none b events; tells = tells_none b.tree d.left.items; notes = notes_none (λ m. m.class) b.tree d.classes; facts = notes_none fact_of b.tree d.facts; tokens = notes_none gone_of b.tree d.tokens.items }
 
 -- ---- one after the other
 
@@ -155,7 +156,7 @@ module _ (old mid new : BeliefNet) (first : Thins old mid) (then_ : Thins mid ne
           let same = once x y m n left.was (first.nodes y n gone.was) (is ∙ is_o ∙ sym (was ∙ is_u)) in
           none_some n (sym left.gone ∙ ap (member (forest mid.tree)) same ∙ gone.was)
 
-  pub notes_on : (of : Member → Option (List ℕ)) (a b c : List (List ℕ)) → Notes of old.tree mid.tree a b → Notes of mid.tree new.tree b c → Notes of old.tree new.tree a c
+  pub notes_on : {X : Type 0} (of : Member → Option X) (a b c : List X) → Notes of old.tree mid.tree a b → Notes of mid.tree new.tree b c → Notes of old.tree new.tree a c
   notes_on of a b c p q = record {
     stay = λ k at. q.stay k (p.stay k at);
     own = λ k at. elim (q.own k at) [
@@ -195,6 +196,7 @@ sheds_on old mid new a b c once p q = record {
   tells = tells_on old mid new p.thins q.thins a.left.items b.left.items c.left.items once p.tells q.tells;
   notes = notes_on old mid new p.thins q.thins (λ m. m.class) a.classes b.classes c.classes p.notes q.notes;
   facts = notes_on old mid new p.thins q.thins fact_of a.facts b.facts c.facts p.facts q.facts;
+  tokens = notes_on old mid new p.thins q.thins gone_of a.tokens.items b.tokens.items c.tokens.items p.tokens q.tokens;
 }
 
 -- ---- what a rollback leads back to

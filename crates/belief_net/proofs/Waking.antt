@@ -14,7 +14,7 @@ use Rattle.joined.specs.Listed.{IsListedUnder}
 use Rattle.belief_net.specs.declared.fast.Moves.{Moves}
 use Rattle.belief_net.specs.declared.state.Decisions.{Decisions}
 use Rattle.belief_net.specs.Decided.{table_of}
-use Rattle.belief_net.specs.Marks.{Marks, Wakes}
+use Rattle.belief_net.specs.Marks.{Marks, Wakes, WakesOf}
 use Rattle.belief_net.specs.Numbers.{name_in}
 use Rattle.belief_net.specs.Waiting.{Dates, Puts}
 use Rattle.belief_net.specs.Woken.{MovesFor, RestsFor, WakesFor, MovesForSome, RestsForFirst, WakesForAll}
@@ -54,44 +54,44 @@ module _ (s : State) (t : Table Pair 8) where
     ];
   }
 
-  -- ---- for a class
+  -- ---- at events of two kinds
 
-  module _ (nets : Nets) (moves : Moves) (class : List ℕ) where
-    pub for_none : (are : ℕ → Type 0) (dates : Dates) → ((i : ℕ) → are i → ⊥) → WakesFor s t nets moves class are dates dates
+  module _ (M R : ℕ → Type 0) where
+    pub for_none : (are : ℕ → Type 0) (dates : Dates) → ((i : ℕ) → are i → ⊥) → WakesOf s t M R are dates dates
     for_none are dates none =
-        wakes_none (λ i row. are i × MovesFor moves (forest s) class row.value.trigger) (λ i row. are i → RestsFor nets moves (forest s) class row.value.trigger) dates
+        wakes_none (λ i row. are i × M row.value.trigger) (λ i row. are i → R row.value.trigger) dates
         (λ i row at. inr (λ on. absurd (none i on)))
 
     pub for_both : (p q r : ℕ → Type 0) (old mid new : Dates) → ((i : ℕ) → r i → p i ⊎ q i) → ((i : ℕ) → p i → r i) → ((i : ℕ) → q i → r i)
-        → WakesFor s t nets moves class p old mid → WakesFor s t nets moves class q mid new → WakesFor s t nets moves class r old new
+        → WakesOf s t M R p old mid → WakesOf s t M R q mid new → WakesOf s t M R r old new
     for_both p q r old mid new apart from_p from_q =
-        wakes_both (λ i row. p i × MovesFor moves (forest s) class row.value.trigger) (λ i row. p i → RestsFor nets moves (forest s) class row.value.trigger)
-        (λ i row. q i × MovesFor moves (forest s) class row.value.trigger) (λ i row. q i → RestsFor nets moves (forest s) class row.value.trigger)
-        (λ i row. r i × MovesFor moves (forest s) class row.value.trigger) (λ i row. r i → RestsFor nets moves (forest s) class row.value.trigger) old mid new
+        wakes_both (λ i row. p i × M row.value.trigger) (λ i row. p i → R row.value.trigger)
+        (λ i row. q i × M row.value.trigger) (λ i row. q i → R row.value.trigger)
+        (λ i row. r i × M row.value.trigger) (λ i row. r i → R row.value.trigger) old mid new
         (λ i row at h. (from_p i h.0, h.1)) (λ i row at h. (from_q i h.0, h.1))
         (λ i row at first then_ on. elim (apart i on) [ inl here ↦ first here | inr here ↦ then_ here ])
 
     -- a row that waited
-    pub waited_on : (i : ℕ) (dates : Dates) → is_some (dates i) ≡ true → WakesFor s t nets moves class (λ j. j ≡ i) dates dates
+    pub waited_on : (i : ℕ) (dates : Dates) → is_some (dates i) ≡ true → WakesOf s t M R (λ j. j ≡ i) dates dates
     waited_on i dates waits =
-        wakes_none (λ j row. (j ≡ i) × MovesFor moves (forest s) class row.value.trigger) (λ j row. j ≡ i → RestsFor nets moves (forest s) class row.value.trigger) dates
+        wakes_none (λ j row. (j ≡ i) × M row.value.trigger) (λ j row. j ≡ i → R row.value.trigger) dates
         (λ j row at. elim (eqb_tells j i) [
           | inl same ↦ inl (ap (λ k. is_some (dates k)) same.1 ∙ waits)
           | inr other ↦ inr (λ same. absurd (other.1 same))
         ])
 
     -- a row that may rest
-    pub rested : (i : ℕ) (row : TableRow Pair 8) (dates : Dates) → t.row i ≡ Some row → RestsFor nets moves (forest s) class row.value.trigger → WakesFor s t nets moves class (λ j. j ≡ i) dates dates
+    pub rested : (i : ℕ) (row : TableRow Pair 8) (dates : Dates) → t.row i ≡ Some row → R row.value.trigger → WakesOf s t M R (λ j. j ≡ i) dates dates
     rested i row dates here rests =
-        wakes_none (λ j row. (j ≡ i) × MovesFor moves (forest s) class row.value.trigger) (λ j row. j ≡ i → RestsFor nets moves (forest s) class row.value.trigger) dates
+        wakes_none (λ j row. (j ≡ i) × M row.value.trigger) (λ j row. j ≡ i → R row.value.trigger) dates
         (λ j other at. inr (λ same.
         (let both : Some row ≡ Some other = sym here ∙ ap t.row (sym same) ∙ at in
         let one : row ≡ other = cc in
-        subst (λ (z : TableRow Pair 8). RestsFor nets moves (forest s) class z.value.trigger) one rests)))
+        subst (λ (z : TableRow Pair 8). R z.value.trigger) one rests)))
 
     -- a row that may not
-    pub woken : (i : ℕ) (row : TableRow Pair 8) (old new : Dates) → t.row i ≡ Some row → MovesFor moves (forest s) class row.value.trigger
-        → Puts old new i (Some (early s row.value.trigger)) → WakesFor s t nets moves class (λ j. j ≡ i) old new
+    pub woken : (i : ℕ) (row : TableRow Pair 8) (old new : Dates) → t.row i ≡ Some row → M row.value.trigger
+        → Puts old new i (Some (early s row.value.trigger)) → WakesOf s t M R (λ j. j ≡ i) old new
     woken i row old new here moved puts = record {
       only = λ j. elim (eqb_tells j i) [
         | inl same ↦ inr (row, ap t.row same.1 ∙ here, (same.1, moved), ap new same.1 ∙ puts.at)
@@ -105,11 +105,11 @@ module _ (s : State) (t : Table Pair 8) where
 
     -- ---- along a list
 
-    pub front_start : (dates : Dates) → WakesFor s t nets moves class (IsOn []) dates dates
+    pub front_start : (dates : Dates) → WakesOf s t M R (IsOn []) dates dates
     front_start dates = for_none (IsOn []) dates (λ i on. (let no : false ≡ true = on in cc))
 
-    pub front_next : (front : List ℕ) (i : ℕ) (old mid new : Dates) → WakesFor s t nets moves class (IsOn front) old mid → WakesFor s t nets moves class (λ j. j ≡ i) mid new
-        → WakesFor s t nets moves class (IsOn (front ++ i ∷ [])) old new
+    pub front_next : (front : List ℕ) (i : ℕ) (old mid new : Dates) → WakesOf s t M R (IsOn front) old mid → WakesOf s t M R (λ j. j ≡ i) mid new
+        → WakesOf s t M R (IsOn (front ++ i ∷ [])) old new
     front_next front i old mid new = for_both (IsOn front) (λ j. j ≡ i) (IsOn (front ++ i ∷ [])) old mid new
         (λ j on. elim (IsOn-append_cases front (i ∷ []) j on) [ inl there ↦ inl there | inr here ↦ inr (alone i j here) ])
         (λ j on. IsOn-append_left front (i ∷ []) j on)
@@ -124,11 +124,11 @@ module _ (s : State) (t : Table Pair 8) where
     abbrev pub UnderFirst : ℕ → ℕ → ℕ → Type 0
     UnderFirst n k i = (place : ℕ) × (place < n) × IsOn (t.list (place + 2) k) i
 
-    pub under_none : (k : ℕ) (dates : Dates) → WakesFor s t nets moves class (UnderFirst 0 k) dates dates
+    pub under_none : (k : ℕ) (dates : Dates) → WakesOf s t M R (UnderFirst 0 k) dates dates
     under_none k dates = for_none (UnderFirst 0 k) dates (λ i (a, less, on). omega (arith, less))
 
-    pub under_next : (n k : ℕ) (old mid new : Dates) → WakesFor s t nets moves class (UnderFirst n k) old mid → WakesFor s t nets moves class (IsOn (t.list (n + 2) k)) mid new
-        → WakesFor s t nets moves class (UnderFirst (n + 1) k) old new
+    pub under_next : (n k : ℕ) (old mid new : Dates) → WakesOf s t M R (UnderFirst n k) old mid → WakesOf s t M R (IsOn (t.list (n + 2) k)) mid new
+        → WakesOf s t M R (UnderFirst (n + 1) k) old new
     under_next n k old mid new = for_both (UnderFirst n k) (IsOn (t.list (n + 2) k)) (UnderFirst (n + 1) k) old mid new
         (λ i (a, less, on). elim (cases_order a n) [
           | inl same ↦ inr (subst (λ z. IsOn (t.list (z + 2) k) i) same on)
@@ -138,10 +138,10 @@ module _ (s : State) (t : Table Pair 8) where
         (λ i on. (n, omega arith, on))
 
     -- the lists of all six families have been looked at
-    pub under_all : (n k : ℕ) (old new : Dates) → n ≡ 6 → WakesFor s t nets moves class (UnderFirst n k) old new → WakesFor s t nets moves class (IsListedUnder t k) old new
+    pub under_all : (n k : ℕ) (old new : Dates) → n ≡ 6 → WakesOf s t M R (UnderFirst n k) old new → WakesOf s t M R (IsListedUnder t k) old new
     under_all n k old new whole =
-        wakes_alike (λ i row. UnderFirst n k i × MovesFor moves (forest s) class row.value.trigger) (λ i row. UnderFirst n k i → RestsFor nets moves (forest s) class row.value.trigger)
-        (λ i row. IsListedUnder t k i × MovesFor moves (forest s) class row.value.trigger) (λ i row. IsListedUnder t k i → RestsFor nets moves (forest s) class row.value.trigger) old new
+        wakes_alike (λ i row. UnderFirst n k i × M row.value.trigger) (λ i row. UnderFirst n k i → R row.value.trigger)
+        (λ i row. IsListedUnder t k i × M row.value.trigger) (λ i row. IsListedUnder t k i → R row.value.trigger) old new
         (λ i row at h. (let less = h.0.1 in ((h.0.0, omega (arith, less, whole), h.0.2), h.1)))
         (λ i row at rests (a, less, on). rests (a, omega (arith, less, whole), on))
 
@@ -173,6 +173,20 @@ pub marks_wake : (s : State) (t : Table Pair 8) (P R : ℕ → TableRow Pair 8 �
 marks_wake s t P R old new or_rests marks = record {
   only = marks.only;
   rests = λ i row at. elim (or_rests i row at) [ inl marked ↦ inl (ap is_some (marks.all i row at marked)) | inr rests ↦ inr rests ];
+}
+
+-- of those that are marked exactly none rests
+pub marks_rest : (s : State) (t : Table Pair 8) (P Q : ℕ → TableRow Pair 8 → Type 0) (old new : Dates) → Marks s t (λ i row. P i row × Q i row) old new
+    → Wakes s t (λ i row. P i row × Q i row) (λ i row. P i row → Q i row → ⊥) old new
+marks_rest s t P Q old new marks = record {
+  only = marks.only;
+  rests = λ i row at. elim (cases_Bool (is_some (new i))) [
+    | inl waits ↦ inl waits
+    | inr off ↦ inr (λ p q.
+        let waits = ap is_some (marks.all i row at (p, q)) in
+        let no : true ≡ false = sym waits ∙ off in
+        cc)
+  ];
 }
 
 -- what follows on success from what holds on success

@@ -1,5 +1,6 @@
 -- How the loop begins: nodes and rows of the list before are made those of the list after an edit.
 use Rattle.std.specs.Prelude.{◌≡◌, ◌⊎◌, ℕ, true, List, Option, Some, None}
+use Rattle.std.specs.Option.{option_map_or}
 use Rattle.tmm_model.specs.declared.premise.Edit.{Edit}
 use Rattle.tmm_model.specs.declared.premise.Edit.TheVariants.{Add, Erase, Horizon, Upgrade}
 use Rattle.tmm_model.specs.declared.premise.Premise.{Premise}
@@ -14,11 +15,12 @@ use Rattle.revisions.specs.Maps.{watches}
 use Rattle.joined.specs.Gaps.{reads_rival}
 use Rattle.joined.specs.Netted.{IsCurrent}
 use Rattle.joined.specs.Rows.{Row, Rows}
+use Rattle.joined.specs.Sparing.{IsSparedAt}
 use Rattle.joined.specs.Starting.{NodesBegin, RowsBegin}
 use Rattle.joined.specs.Touching.{RivalsStay}
 use Rattle.belief_net.specs.declared.erasing.Departed.{Departed}
 use Rattle.belief_net.specs.declared.state.BeliefNet.{BeliefNet}
-use Rattle.belief_net.specs.Adding.{MarksLeft, StayAll, EntersRoot, EntersRule}
+use Rattle.belief_net.specs.Adding.{MarksLeft, SayNone, StayAll, EntersRoot, EntersRule}
 use Rattle.belief_net.specs.Clearing.{IsCleared}
 use Rattle.belief_net.specs.Decided.{KeepsLast}
 use Rattle.belief_net.specs.Erasing.{ShedsAll}
@@ -47,7 +49,7 @@ pub record IsBegun (old : Standing) (edit : Edit) (before net : Net) (b e c m r 
   pub same_nodes : SameMembers (forest e.tree) (forest c.tree)
   pub same_rows : c.decisions ≡ e.decisions
   pub same_tree : m.tree ≡ c.tree
-  pub marks : MarksLeft (next_list old edit) (present c.tree) all.classes all.facts c.decisions m.decisions
+  pub marks : MarksLeft old (next_list old edit) before (present c.tree) all c.decisions m.decisions
   pub fit : IsFit (next_list old edit) net m
   pub enters : EntersAdded (next_list old edit) net (added_by edit) m r n
   pub fit_root : IsFit (next_list old edit) net r
@@ -60,26 +62,37 @@ pub record IsBegun (old : Standing) (edit : Edit) (before net : Net) (b e c m r 
 abbrev pub IsLeftFrom : Standing → Standing → List ℕ → Member → Type 0
 IsLeftFrom old new rule m = (watches old rule (moment m) ≡ true) ⊎ ((class : List ℕ) × (m.class ≡ Some class) × (reads_rival new rule m.what ≡ true))
 
+-- the nodes of f that are nodes of g
+abbrev pub those_in : Forest → Forest → Forest
+those_in f g x = option_map_or (λ (m : Member). member f x) (member g x) None
+
+-- **The token of a node that left bore on no decision at node t**, by the tokens that stay: no
+-- premise of either list says that facts contradict each other, and by the distances before it is
+-- spared there.
+abbrev pub BoreOnNone : Standing → Standing → Net → Forest → Forest → Member → ℕ → Type 0
+BoreOnNone old new before f g m t = SayNone old new × IsSparedAt before f (those_in f g) (moment m) t
+
 -- Every row waits that watches a token that left or entered, where the same facts contradict what
--- its rule reads; and no row that was there begins to wait but where it watched one that left, or
--- would, or watches one that entered.
-pub record WaitForMoved (old new : Standing) (f g : Forest) (rows after : Rows) : Type 0 where
-  pub left : (i x : ℕ) (q : Row) (m : Member) → after i ≡ Some q → member f x ≡ Some m → member g x ≡ None → RivalsStay old new q.rule → watches old q.rule (moment m) ≡ true → q.waits ≡ true
+-- its rule reads, but where that left bore on no decision; and no row that was there begins to wait
+-- but where it watched one that left, or would, or watches one that entered.
+pub record WaitForMoved (old new : Standing) (before : Net) (f g : Forest) (rows after : Rows) : Type 0 where
+  pub left : (i x : ℕ) (q : Row) (m : Member) → after i ≡ Some q → member f x ≡ Some m → member g x ≡ None → RivalsStay old new q.rule → watches old q.rule (moment m) ≡ true
+      → (q.waits ≡ true) ⊎ BoreOnNone old new before f g m q.trigger
   pub entered : (i x : ℕ) (q : Row) (m : Member) → after i ≡ Some q → member f x ≡ None → member g x ≡ Some m → watches new q.rule (moment m) ≡ true → q.waits ≡ true
   pub only : (i : ℕ) (q : Row) → after i ≡ Some q → q.waits ≡ true → (rows i ≡ None)
       ⊎ (((x : ℕ) × (m : Member) × (member f x ≡ Some m) × (member g x ≡ None) × IsLeftFrom old new q.rule m)
       ⊎ ((x : ℕ) × (m : Member) × (member f x ≡ None) × (member g x ≡ Some m) × (watches new q.rule (moment m) ≡ true)))
 
 -- nodes and rows are made ready for the list after, but for marks of what moved
-pub record IsReady (old new : Standing) (net : Net) (f g : Forest) (rows after : Rows) : Type 0 where
+pub record IsReady (old new : Standing) (before net : Net) (f g : Forest) (rows after : Rows) : Type 0 where
   pub seen : IsForestOf new net g
   pub nodes_begin : NodesBegin new f g
   pub rows_begin : RowsBegin new g rows after
-  pub waits : WaitForMoved old new f g rows after
+  pub waits : WaitForMoved old new before f g rows after
 
 -- **So begun, nodes and rows are ready for the list after.**
 abbrev pub BegunAreReady : Type 0
 BegunAreReady =
     (old : Standing) (edit : Edit) (before net : Net) (b e c m r n : BeliefNet) (all : Departed)
     → IsBegun old edit before net b e c m r n all
-    → IsReady old (next_list old edit) net (forest b.tree) (forest n.tree) (rows_of b) (rows_of n)
+    → IsReady old (next_list old edit) before net (forest b.tree) (forest n.tree) (rows_of b) (rows_of n)

@@ -17,6 +17,7 @@ use Rattle.belief_net.specs.declared.state.BeliefNet.{BeliefNet}
 use Rattle.belief_net.specs.declared.state.Decisions.{Decisions}
 use Rattle.belief_net.specs.declared.told.DatedOcc.{DatedOcc}
 use Rattle.belief_net.specs.Decided.{table_of, rule_in}
+use Rattle.belief_net.specs.Gone.{gone_of}
 use Rattle.belief_net.specs.Marks.{HaveEvents}
 use Rattle.belief_net.specs.Waiting.{dates_in}
 
@@ -55,11 +56,11 @@ fact_of m = option_map (λ _. m.what) m.class
 abbrev pub fact_at : Kept → ℕ → Option (List ℕ)
 fact_at tree y = option_map_or fact_of (member (forest tree) y) None
 
--- what these nodes have there, each, is among the names, besides those before
-pub record NotesOf (at : ℕ → Option (List ℕ)) (numbers : List ℕ) (before after : List (List ℕ)) : Type 0 where
-  pub stay : (class : List ℕ) → In class before → In class after
-  pub own : (class : List ℕ) → In class after → In class before ⊎ ((y : ℕ) × IsOn numbers y × (at y ≡ Some class))
-  pub all : (y : ℕ) (class : List ℕ) → IsOn numbers y → at y ≡ Some class → In class after
+-- what these nodes have there, each, is noted, besides what was before
+pub record NotesOf {X : Type 0} (at : ℕ → Option X) (numbers : List ℕ) (before after : List X) : Type 0 where
+  pub stay : (noted : X) → In noted before → In noted after
+  pub own : (noted : X) → In noted after → In noted before ⊎ ((y : ℕ) × IsOn numbers y × (at y ≡ Some noted))
+  pub all : (y : ℕ) (noted : X) → IsOn numbers y → at y ≡ Some noted → In noted after
 
 -- the node was there, and is gone
 pub record HasLeft (old new : Kept) (x : ℕ) (m : Member) : Type 0 where
@@ -75,11 +76,11 @@ pub record Tells (old new : Kept) (before after : List DatedOcc) : Type 0 where
   pub all : (x : ℕ) (m : Member) → HasLeft old new x m → is_derived (moment m) ≡ true → In (moment m) (moments_of more)
   pub once : Distinct (moments_of more)
 
--- what the nodes that left had of this, each, is among the names, besides those before
-pub record Notes (of : Member → Option (List ℕ)) (old new : Kept) (before after : List (List ℕ)) : Type 0 where
-  pub stay : (class : List ℕ) → In class before → In class after
-  pub own : (class : List ℕ) → In class after → In class before ⊎ ((x : ℕ) × (m : Member) × HasLeft old new x m × (of m ≡ Some class))
-  pub all : (x : ℕ) (m : Member) (class : List ℕ) → HasLeft old new x m → of m ≡ Some class → In class after
+-- what the nodes that left had of this, each, is noted, besides what was before
+pub record Notes {X : Type 0} (of : Member → Option X) (old new : Kept) (before after : List X) : Type 0 where
+  pub stay : (noted : X) → In noted before → In noted after
+  pub own : (noted : X) → In noted after → In noted before ⊎ ((x : ℕ) × (m : Member) × HasLeft old new x m × (of m ≡ Some noted))
+  pub all : (x : ℕ) (m : Member) (noted : X) → HasLeft old new x m → of m ≡ Some noted → In noted after
 
 -- ---- nodes and rows
 
@@ -96,19 +97,21 @@ pub record Thins (old new : BeliefNet) : Type 0 where
   pub rules : new.decisions.rules ≡ old.decisions.rules
   pub classes : new.decisions.classes ≡ old.decisions.classes
 
--- what left is told, and its classes and facts noted
+-- what left is told, and its classes, facts and tokens noted
 pub record Sheds (old new : BeliefNet) (before after : Departed) : Type 0 where
   pub thins : Thins old new
   pub tells : Tells old.tree new.tree before.left.items after.left.items
   pub notes : Notes (λ m. m.class) old.tree new.tree before.classes after.classes
   pub facts : Notes fact_of old.tree new.tree before.facts after.facts
+  pub tokens : Notes gone_of old.tree new.tree before.tokens.items after.tokens.items
 
--- what left is told, its classes and facts are noted, and nothing else
+-- what left is told, its classes, facts and tokens are noted, and nothing else
 pub record ShedsAll (old new : BeliefNet) (all : Departed) : Type 0 where
   pub thins : Thins old new
   pub tells : Tells old.tree new.tree [] all.left.items
   pub notes : Notes (λ m. m.class) old.tree new.tree [] all.classes
   pub facts : Notes fact_of old.tree new.tree [] all.facts
+  pub tokens : Notes gone_of old.tree new.tree [] all.tokens.items
 
 -- the rows at events that stay stay
 abbrev pub KeepRows : BeliefNet → BeliefNet → Type 0

@@ -26,6 +26,7 @@ pub mod Woken
 pub mod Watched
 pub mod Touching
 pub mod MarkLaws
+pub mod Gone
 pub mod Erasing
 pub mod Clearing
 pub mod Adding

@@ -35,3 +35,8 @@ pub record Marks (s : State) (t : Table Pair 8) (P : ℕ → TableRow Pair 8 →
 pub record Wakes (s : State) (t : Table Pair 8) (P R : ℕ → TableRow Pair 8 → Type 0) (old new : Dates) : Type 0 where
   pub only : (i : ℕ) → (new i ≡ old i) ⊎ ((row : TableRow Pair 8) × (t.row i ≡ Some row) × P i row × WaitsAt s new i row)
   pub rests : (i : ℕ) (row : TableRow Pair 8) → t.row i ≡ Some row → (is_some (new i) ≡ true) ⊎ R i row
+
+-- Some rows have been looked at: those that wait newly are at events of the first kind, and others of
+-- them are at events of the second.
+abbrev pub WakesOf : State → Table Pair 8 → (ℕ → Type 0) → (ℕ → Type 0) → (ℕ → Type 0) → Dates → Dates → Type 0
+WakesOf s t M R are = Wakes s t (λ i row. are i × M row.value.trigger) (λ i row. are i → R row.value.trigger)

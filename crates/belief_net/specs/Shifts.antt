@@ -3,7 +3,7 @@ use Rattle.std.specs.Prelude.{◌≡◌, ◌≢◌, ◌⊎◌, ℕ, pos, negsuc,
 use Rattle.std.specs.List.{All, Contains}
 use Rattle.tmm_model.specs.declared.token.TokenRow.{TokenRow}
 use Rattle.tmm_model.specs.Tokens.{is_before}
-use Rattle.dist_net.specs.Net.{Net, Nets}
+use Rattle.dist_net.specs.Net.{Net, Nets, IsInUse}
 use Rattle.spots.specs.declared.spot.Spot.{Spot}
 use Rattle.spots.specs.declared.spot.Spot.TheVariants.{Declared, Node}
 use Rattle.spots.specs.Forest.{Forest, Member, member}
@@ -59,6 +59,10 @@ IsSparedBy net place behind event = TellsWithin net event place (pos 0) false �
 -- tokens that surely begin after the node at a place
 abbrev pub AreBehind : Net → Place → List FastToken → List FastToken → Type 0
 AreBehind net place tokens behind = All (λ t. Contains tokens t × TellsWithin net t.place place (negsuc 0) true) behind
+
+-- the places of tokens are in the network
+abbrev pub TokensHave : Net → List FastToken → Type 0
+TokensHave net tokens = All (λ t. IsInUse net.names t.place.base) tokens
 
 -- the places of tokens are there now and were at the last commit
 abbrev pub TokensHaveBoth : Nets → List FastToken → Type 0

@@ -22,7 +22,7 @@ use Rattle.belief_net.specs.declared.woken.ClassMoves.{ClassMoves}
 use Rattle.belief_net.specs.ByEvent.{is_event_of}
 use Rattle.belief_net.specs.Decided.{table_of, rule_in}
 use Rattle.belief_net.specs.Fast.{AreInBoth, is_out}
-use Rattle.belief_net.specs.Marks.{Wakes}
+use Rattle.belief_net.specs.Marks.{Wakes, WakesOf}
 use Rattle.belief_net.specs.MovedPairs.{is_moved}
 use Rattle.belief_net.specs.Numbers.{name_in}
 use Rattle.belief_net.specs.PointSets.{has_pair, HaveOneOf}
@@ -59,8 +59,7 @@ pub record AreMovesOf (nets : Nets) (moves : Moves) (s : State) (m : ClassMoves)
 -- some rows have been looked at: of these those that wait newly are at events for which points
 -- moved, and others may rest
 abbrev pub WakesFor : State → Table Pair 8 → Nets → Moves → List ℕ → (ℕ → Type 0) → Dates → Dates → Type 0
-WakesFor s t nets moves class are old new =
-    Wakes s t (λ i row. are i × MovesFor moves (forest s) class row.value.trigger) (λ i row. are i → RestsFor nets moves (forest s) class row.value.trigger) old new
+WakesFor s t nets moves class = WakesOf s t (MovesFor moves (forest s) class) (RestsFor nets moves (forest s) class)
 
 -- ---- all rows
 

@@ -17,10 +17,14 @@ ghost use Rattle.revisions.specs.Standing.{Stands};
 ghost use Rattle.belief_net.specs.Decided.{table_of, AreOfSome, KeepsLast, AreNoLonger};
 ghost use Rattle.belief_net.specs.Entering.{KeepLast, class_at};
 ghost use Rattle.belief_net.specs.Erasing.{TellsOf, NotesOf, fact_at, DropsRowsAt, KeepRows, TakesNode, HasNoRowOf, Sheds, ShedsAll, Spares, IsFreeOf};
+ghost use Rattle.belief_net.specs.Gone.{gone_at};
 ghost use Rattle.belief_net.specs.Marks.{HaveEvents};
 ghost use Rattle.belief_net.specs.Numbers.{name_in, HaveOwnNumbers};
 
+use crate::gone::Gone;
+use crate::lists::push;
 use crate::numbers::Numbers;
+use crate::places::place_of;
 use crate::rows::drop_rows;
 use crate::state::{BeliefNet, Decisions};
 use crate::told::DatedOcc;
@@ -37,6 +41,8 @@ pub(crate) struct Departed {
     pub classes: Numbers,
     /// Their facts, under numbers that mean nothing.
     pub facts: Numbers,
+    /// The tokens.
+    pub tokens: Vec<Gone>,
 }
 
 // Withdraws what the premises of these names declared or brought about, with all below it, and
@@ -67,11 +73,13 @@ fn nothing_yet(alloc: Global) -> Departed
     ensures left { result.left.items ≡ [] }
     ensures classes { result.classes ≡ [] }
     ensures facts { result.facts ≡ [] }
+    ensures tokens { result.tokens.items ≡ [] }
 {
     Departed {
         left: Seq::make(alloc),
         classes: Numbers::make(alloc),
         facts: Numbers::make(alloc),
+        tokens: Vec::new(alloc),
     }
 }
 
@@ -267,7 +275,7 @@ fn withdraw(
     Ok(())
 }
 
-// Tells of nodes that go, notes the classes and the facts of the tokens among them, and takes out
+// Tells of nodes that go, notes the tokens among them with their classes and facts, and takes out
 // the rows at the events.
 fn part_with(
     alloc: Global,
@@ -281,6 +289,7 @@ fn part_with(
     ensures tells { OnOk result (TellsOf tree.now numbers.now departed.old.left.items departed.new.left.items) }
     ensures notes { OnOk result (NotesOf (class_at tree.now) numbers.now departed.old.classes departed.new.classes) }
     ensures facts { OnOk result (NotesOf (fact_at tree.now) numbers.now departed.old.facts departed.new.facts) }
+    ensures tokens { OnOk result (NotesOf (gone_at tree.now) numbers.now departed.old.tokens.items departed.new.tokens.items) }
     ensures rows { OnOk result (DropsRowsAt (IsOn numbers.now) decisions.old decisions.new) }
     ensures fewer { OnOk result (AreNoLonger decisions.old decisions.new) }
     ensures last { KeepsLast decisions.old decisions.new }
@@ -289,6 +298,7 @@ fn part_with(
         tell(alloc, tree, &mut departed.left, *y)?;
         note(tree, &mut departed.classes, *y)?;
         note_fact(tree, &mut departed.facts, *y)?;
+        note_token(tree, &mut departed.tokens, *y)?;
         drop_rows(alloc, decisions, *y)?;
     }
     Ok(())
@@ -336,6 +346,26 @@ fn note_fact(tree: &Tree, facts: &mut Numbers, y: u32) -> Result<(), NoMemory>
     match row.class {
         Some(_) => {
             facts.enter(row.what)?;
+            Ok(())
+        }
+        None => Ok(()),
+    }
+}
+
+// Notes a node that goes, if it is a token.
+fn note_token(tree: &Tree, tokens: &mut Vec<Gone>, y: u32) -> Result<(), NoMemory>
+    requires { IsLive (forest tree.now) y }
+    ensures { OnOk result (NotesOf (gone_at tree.now) (y ∷ []) tokens.old.items tokens.new.items) }
+{
+    let row = tree.row(y);
+    match row.class {
+        Some(class) => {
+            let gone = Gone {
+                class,
+                place: place_of(tree, y),
+                is_span: row.end.is_some(),
+            };
+            push(tokens, gone)?;
             Ok(())
         }
         None => Ok(()),

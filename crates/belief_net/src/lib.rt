@@ -13,6 +13,7 @@ mod entering;
 mod erasing;
 mod fast;
 mod following;
+mod gone;
 mod horizons;
 mod kind_events;
 mod leaving;

@@ -51,7 +51,14 @@ pub(crate) fn open(
 {
     let departed = erase(alloc, beliefs, erased)?;
     re_date_moved(alloc, net, &mut beliefs.tree)?;
-    mark_departed(standing, &beliefs.tree, &mut beliefs.decisions, &departed)?;
+    mark_departed(
+        alloc,
+        standing,
+        net,
+        &beliefs.tree,
+        &mut beliefs.decisions,
+        &departed,
+    )?;
     enter_added(alloc, standing, net, beliefs, edit)?;
     mark_touched(alloc, standing, net, beliefs, edit, before)?;
     Ok(Told::of_left(alloc, departed.left))

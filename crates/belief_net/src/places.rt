@@ -1,10 +1,10 @@
 // Where nodes are, and how far apart they were and are.
 ghost use Rattle.std.specs.Prelude.{◌≡◌, ◌+ℤ◌, ◌-ℤ◌, int_le, true, false, IfSome};
 ghost use Rattle.tmm_model.specs.Bounds.{bound_plus, bound_less, bound_at_most};
+ghost use Rattle.dist_net.specs.Net.{IsInUse};
 ghost use Rattle.spots.specs.Forest.{IsLive};
 ghost use Rattle.spots.specs.Spots.{net_far};
 ghost use Rattle.occ_tree.specs.Places.{forest};
-ghost use Rattle.belief_net.specs.Fast.{IsInBoth};
 ghost use Rattle.belief_net.specs.Places.{IsPlaceOf, net_at, limit, TellsWithin};
 
 use dist_net::DistNet;
@@ -44,8 +44,8 @@ pub(crate) fn is_surely_within(
     to: &Place,
     strictly: bool,
 ) -> bool
-    requires from { IsInBoth net.now from.now.base }
-    requires to { IsInBoth net.now to.now.base }
+    requires from { IsInUse (net_at net.now before).names from.now.base }
+    requires to { IsInUse (net_at net.now before).names to.now.base }
     ensures { result ≡ true → TellsWithin (net_at net.now before) from.now to.now (limit strictly) true }
 {
     match is_within(net, before, from, to, strictly) {
@@ -62,8 +62,8 @@ pub(crate) fn is_not_within(
     to: &Place,
     strictly: bool,
 ) -> bool
-    requires from { IsInBoth net.now from.now.base }
-    requires to { IsInBoth net.now to.now.base }
+    requires from { IsInUse (net_at net.now before).names from.now.base }
+    requires to { IsInUse (net_at net.now before).names to.now.base }
     ensures { result ≡ true → TellsWithin (net_at net.now before) from.now to.now (limit strictly) false }
 {
     match is_within(net, before, from, to, strictly) {
@@ -74,8 +74,8 @@ pub(crate) fn is_not_within(
 
 // Whether that is sure, at the last commit or now; none where rules lead to both from one point.
 fn is_within(net: &DistNet, before: bool, from: &Place, to: &Place, strictly: bool) -> Option<bool>
-    requires from { IsInBoth net.now from.now.base }
-    requires to { IsInBoth net.now to.now.base }
+    requires from { IsInUse (net_at net.now before).names from.now.base }
+    requires to { IsInUse (net_at net.now before).names to.now.base }
     ensures { IfSome result (TellsWithin (net_at net.now before) from.now to.now (limit strictly)) }
 {
     if from.base == to.base {
@@ -87,8 +87,8 @@ fn is_within(net: &DistNet, before: bool, from: &Place, to: &Place, strictly: bo
 
 // The distance from one point to another, at the last commit or now.
 fn far_at(net: &DistNet, before: bool, from: u16, to: u16) -> Bound
-    requires from { IsInBoth net.now from }
-    requires to { IsInBoth net.now to }
+    requires from { IsInUse (net_at net.now before).names from }
+    requires to { IsInUse (net_at net.now before).names to }
     ensures { result ≡ net_far (net_at net.now before) from to }
 {
     if before {

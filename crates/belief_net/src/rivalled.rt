@@ -97,7 +97,7 @@ fn wake_rule(
 }
 
 // Whether no premise of either list says that facts contradict each other.
-fn says_none(standing: &Standing) -> bool
+pub(crate) fn says_none(standing: &Standing) -> bool
     ensures { result ≡ true → (f g : List ℕ) → (are_rivals standing.now.committed f g ≡ false) × (are_rivals standing.now.present f g ≡ false) }
 {
     standing.rivalries() == 0 && standing.rivalries_before() == 0

@@ -1,6 +1,7 @@
 // Tokens that are loose, with fast tokens behind them, and where they bear on no decision.
 ghost use Rattle.std.specs.Prelude.{◌≡◌, ◌<◌, ℕ, List, true, IfOk, OnOk, IfSome, length};
 ghost use Rattle.std.specs.List.{All};
+ghost use Rattle.dist_net.specs.Net.{IsInUse};
 ghost use Rattle.spots.specs.Forest.{Member, IsLive};
 ghost use Rattle.spots.proofs.Rows.{IsRowOf};
 ghost use Rattle.occ_tree.specs.Places.{forest};
@@ -9,7 +10,7 @@ ghost use Rattle.belief_net.specs.Fast.{IsInBoth, AreInBoth, is_out};
 ghost use Rattle.belief_net.specs.Places.{IsPlaceOf, net_at};
 ghost use Rattle.belief_net.specs.PointSets.{is_in, AreThose};
 ghost use Rattle.belief_net.specs.Reach.{IsBaseOf};
-ghost use Rattle.belief_net.specs.Shifts.{stands_fast, IsFastToken, IsSparedBy, TokensHaveBoth, ShiftHasBoth, IsShift, AreShifts, NotesRow};
+ghost use Rattle.belief_net.specs.Shifts.{stands_fast, IsFastToken, IsSparedBy, TokensHave, TokensHaveBoth, ShiftHasBoth, IsShift, AreShifts, NotesRow};
 
 use crate::fast::Moves;
 use crate::lists::push;
@@ -115,7 +116,7 @@ fn note_fast(
 }
 
 // The place of a token's node.
-fn place_at(tree: &Tree, spot: Spot) -> Place
+pub(crate) fn place_at(tree: &Tree, spot: Spot) -> Place
     requires { (x : ℕ) × (IsLive (forest tree.now) x) × (spot ≡ Spot.Node x) }
     ensures { (x : ℕ) → spot ≡ Spot.Node x → IsPlaceOf (forest tree.now) x result }
 {
@@ -228,16 +229,16 @@ fn is_spared(net: &DistNet, shift: &Shift, event: &Place) -> bool
 }
 
 // Whether a token was or is not sure to have begun by the event, or walls stand between them.
-fn is_spared_at(
+pub(crate) fn is_spared_at(
     net: &DistNet,
     before: bool,
     place: &Place,
     behind: &[FastToken],
     event: &Place,
 ) -> bool
-    requires place { IsInBoth net.now place.now.base }
-    requires behind { TokensHaveBoth net.now behind.now }
-    requires event { IsInBoth net.now event.now.base }
+    requires place { IsInUse (net_at net.now before).names place.now.base }
+    requires behind { TokensHave (net_at net.now before) behind.now }
+    requires event { IsInUse (net_at net.now before).names event.now.base }
     ensures { result ≡ true → IsSparedBy (net_at net.now before) place.now behind.now event.now }
 {
     if is_not_within(net, before, event, place, false) {

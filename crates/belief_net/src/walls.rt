@@ -2,10 +2,10 @@
 ghost use Rattle.std.specs.Prelude.{◌≡◌, true, false, List, IfOk, OnOk};
 ghost use Rattle.std.specs.List.{Contains};
 ghost use Rattle.tmm_model.specs.Points.{same_name};
+ghost use Rattle.dist_net.specs.Net.{IsInUse};
 ghost use Rattle.belief_net.specs.declared.walls.FastToken.{FastToken};
-ghost use Rattle.belief_net.specs.Fast.{IsInBoth};
 ghost use Rattle.belief_net.specs.Places.{net_at};
-ghost use Rattle.belief_net.specs.Shifts.{HasBegunBy, AreWallsBy, AreBehind, TokensHaveBoth};
+ghost use Rattle.belief_net.specs.Shifts.{HasBegunBy, AreWallsBy, AreBehind, TokensHave};
 
 use crate::lists::push;
 use crate::places::{Place, is_surely_within};
@@ -34,8 +34,8 @@ pub(crate) fn tokens_behind(
     tokens: &[FastToken],
     place: &Place,
 ) -> Result<Vec<FastToken>, NoMemory>
-    requires tokens { TokensHaveBoth net.now tokens.now }
-    requires place { IsInBoth net.now place.now.base }
+    requires tokens { TokensHave (net_at net.now before) tokens.now }
+    requires place { IsInUse (net_at net.now before).names place.now.base }
     ensures { IfOk result (λ behind. AreBehind (net_at net.now before) place.now tokens.now behind.items) }
 {
     let mut behind = Vec::new(alloc);
@@ -53,8 +53,8 @@ fn note_behind(
     place: &Place,
     behind: &mut Vec<FastToken>,
 ) -> Result<(), NoMemory>
-    requires token { IsInBoth net.now token.now.place.base }
-    requires place { IsInBoth net.now place.now.base }
+    requires token { IsInUse (net_at net.now before).names token.now.place.base }
+    requires place { IsInUse (net_at net.now before).names place.now.base }
     ensures { OnOk result ((tokens : List FastToken) → Contains tokens token.now → AreBehind (net_at net.now before) place.now tokens behind.old.items → AreBehind (net_at net.now before) place.now tokens behind.new.items) }
 {
     if behind.len() >= LIMIT {
@@ -69,8 +69,8 @@ fn note_behind(
 
 // Whether two of the tokens, of different facts, have surely begun by the event at a place.
 pub(crate) fn are_walls(net: &DistNet, before: bool, tokens: &[FastToken], event: &Place) -> bool
-    requires tokens { TokensHaveBoth net.now tokens.now }
-    requires event { IsInBoth net.now event.now.base }
+    requires tokens { TokensHave (net_at net.now before) tokens.now }
+    requires event { IsInUse (net_at net.now before).names event.now.base }
     ensures { result ≡ true → AreWallsBy (net_at net.now before) tokens.now event.now }
 {
     for i in 0..tokens.len() {
@@ -93,8 +93,8 @@ fn are_walls_beside(
     first: &FastToken,
     from: usize,
 ) -> bool
-    requires tokens { TokensHaveBoth net.now tokens.now }
-    requires event { IsInBoth net.now event.now.base }
+    requires tokens { TokensHave (net_at net.now before) tokens.now }
+    requires event { IsInUse (net_at net.now before).names event.now.base }
     requires first { Contains tokens.now first.now }
     requires begun { HasBegunBy (net_at net.now before) event.now first.now }
     ensures { result ≡ true → AreWallsBy (net_at net.now before) tokens.now event.now }
@@ -115,8 +115,8 @@ fn has_begun_beside(
     event: &Place,
     fact: &Name,
 ) -> bool
-    requires token { IsInBoth net.now token.now.place.base }
-    requires event { IsInBoth net.now event.now.base }
+    requires token { IsInUse (net_at net.now before).names token.now.place.base }
+    requires event { IsInUse (net_at net.now before).names event.now.base }
     ensures begun { result ≡ true → HasBegunBy (net_at net.now before) event.now token.now }
     ensures beside { result ≡ true → same_name token.now.fact fact.now ≡ false }
 {

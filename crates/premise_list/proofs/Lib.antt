@@ -3,3 +3,5 @@ pub mod TableFacts
 pub mod Parts
 pub mod PairsOfFacts
 pub mod Unrivalled
+pub mod Moves
+pub mod Erased

@@ -1,21 +1,18 @@
 -- The part of a list that an erasure walks.
-use Rattle.std.proofs.Common.{◌≡◌, ℕ, zero, suc, ◌+◌, ◌-◌, min, ◌<◌, ◌≤◌, Bool, true, false, ◌||◌, List, [], ◌∷◌, ◌++◌, map, length, take, drop, refl, sym, ◌∙◌, ap, subst, arith, cond, append_assoc}
+use Rattle.std.proofs.Common.{◌≡◌, ℕ, suc, ◌+◌, ◌<◌, Bool, true, false, ◌||◌, List, [], ◌∷◌, ◌++◌, map, length, refl, sym, ◌∙◌, ap, arith, cond, append_assoc}
 use Rattle.std.specs.Prelude.{Option, Some, None, unwrap_or}
 use Rattle.std.specs.List.{flat_map, list_any}
 use Rattle.std.specs.Map.{lookup}
 use Rattle.std.specs.Option.{option_or}
-use Rattle.std.proofs.lemmas.List.{take-append-le, take-append-drop, take-take, drop-take, length-take-le}
 use Rattle.std.proofs.lemmas.List.Folds.{list_any-append}
 use Rattle.tmm_model.specs.declared.premise.Premise.{Premise}
 use Rattle.tmm_model.specs.Points.{same_name}
 use Rattle.tmm_model.specs.Standing.{name_of}
 use Rattle.tmm_model.specs.Sorts.{Sort, a_fact, fact_use, declared_by}
 use Rattle.tmm_model.specs.Verdicts.{Cause, use_cause, uses_cause}
-use Rattle.list_theory.specs.WellNamed.{AllFollow, IsWellNamed}
-use Rattle.tmm_model.specs.Erasure.{names_used, is_among, falls, kept_after, kept_without}
+use Rattle.tmm_model.specs.Erasure.{names_used, is_among, falls, kept_after}
 use Rattle.list_theory.specs.Fallen.{fallen_after}
-use Rattle.list_theory.proofs.WellNamed.{AllFollow-append}
-use Rattle.list_theory.proofs.Erasure.{stays_before, kept_after-stays, kept_after-falls, kept_after-same, fallen_after-stays, fallen_after-falls, fallen_after-same, kept_without-IsWellNamed}
+use Rattle.list_theory.proofs.Erasure.{stays_before, kept_after-stays, kept_after-falls, kept_after-same, fallen_after-stays, fallen_after-falls, fallen_after-same}
 use Rattle.premise_list.specs.Words.{facts_of, own_sort}
 use Rattle.premise_list.specs.Table.{placed}
 use Rattle.premise_list.specs.Gone.{SameNames}
@@ -48,33 +45,6 @@ found_at n i (p ∷ ps) s k h =
             fallen = fallen_after-stays n [] p ps stays ∙ found.fallen;
           },
         )
-
--- those that stay follow the premises before the erased one
-pub follow_before : (n : List ℕ) (ps : List Premise) (j : ℕ) → IsFoundAt n ps j → IsWellNamed ps → AllFollow (take j ps) (kept_without n (drop j ps))
-follow_before n ps j found h = (AllFollow-append [] (take j ps) (kept_without n (drop j ps)) (subst IsWellNamed found.kept (kept_without-IsWellNamed n ps h))).1
-
--- a part of the list and the next one
-parts_joined : {X : Type 0} (m k : ℕ) (xs : List X) → take m xs ++ take k (drop m xs) ≡ take (m + k) xs
-parts_joined m k xs = (λ i. sym (take-take m (m + k) xs (omega arith)) i ++ sym (drop-take m k xs) i) ∙ take-append-drop m (take (m + k) xs)
-
--- where the first s are shared and those from `first` on are cut off, m stay shared
-module _ (s first m : ℕ) (ps : List Premise) (least : m ≡ min s first) where
-  -- what is shared no more
-  pub no_more_shared : take (s - m) (drop first ps) ≡ take (s - m) (drop m ps)
-  no_more_shared = by (s - m) refl
-    where
-      by : (k : ℕ) → s - m ≡ k → take k (drop first ps) ≡ take k (drop m ps)
-      by zero e = refl
-      by (suc k) e = let here : first ≡ m = omega arith in ap (λ n. take (suc k) (drop n ps)) here
-
-  -- the list of the last commit stays, whatever comes in the place of what is cut off
-  pub committed_same : (kept rest : List Premise) → first ≤ length ps → take m (take first ps ++ kept) ++ (take (s - m) (drop m ps) ++ rest) ≡ take s ps ++ rest
-  committed_same kept rest within =
-      let long : m ≤ length (take first ps) = omega (arith, length-take-le first ps within) in
-      let start : take m (take first ps ++ kept) ≡ take m ps = take-append-le m (take first ps) kept long ∙ take-take m first ps (omega arith) in
-      let all : m + (s - m) ≡ s = omega arith in
-      ap (λ l. l ++ (take (s - m) (drop m ps) ++ rest)) start ∙ sym (append_assoc (take m ps) (take (s - m) (drop m ps)) rest)
-      ∙ ap (λ l. l ++ rest) (parts_joined m (s - m) ps ∙ ap (λ n. take n ps) all)
 
 -- the names in a list of facts that are used
 pub facts_used : (fs : List (List ℕ)) → flat_map names_used (map fact_use fs) ≡ fs

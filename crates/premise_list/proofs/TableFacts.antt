@@ -43,7 +43,7 @@ keys-placed i (p ∷ ps) =
     ∙ (λ j. keys-at_place i (declarations_of p) j ++ keys-placed (suc i) ps j)
     ∙ sym (map-append (λ d. d.0) (declarations_of p) (flat_map declarations_of ps))
 
-length-placed : (i : ℕ) (ps : List Premise) → length (placed i ps) ≡ length (words_known ps)
+pub length-placed : (i : ℕ) (ps : List Premise) → length (placed i ps) ≡ length (words_known ps)
 length-placed i ps = sym (length-map (placed i ps) (λ e. e.0)) ∙ ap length (keys-placed i ps)
 
 pub placed-append : (i : ℕ) (ps qs : List Premise) → placed i (ps ++ qs) ≡ placed i ps ++ placed (i + length ps) qs

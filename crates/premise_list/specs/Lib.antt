@@ -5,6 +5,7 @@ pub mod Judged
 pub mod States
 pub mod StandingInside
 pub mod Gone
+pub mod Past
 pub mod Found
 pub mod Rivalries
 pub mod RivalriesInside

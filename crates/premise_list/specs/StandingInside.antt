@@ -1,15 +1,16 @@
 -- What holds of the fields of a `Standing`.
-use Rattle.std.specs.Prelude.{◌≡◌, ◌+◌, ◌++◌, ◌≤◌, List, length, take}
+use Rattle.std.specs.Prelude.{◌≡◌, ◌≤◌, List, length, map}
 use Rattle.tmm_model.specs.declared.premise.Premise.{Premise}
 use Rattle.tmm_model.specs.Verdicts.{most_premises, words_known}
 use Rattle.list_theory.specs.WellNamed.{IsWellNamed}
 use Rattle.premise_list.specs.declared.standing.Standing.TheInside.{Inside}
+use Rattle.premise_list.specs.Past.{committed_from, taken_premise, Stands}
 use Rattle.premise_list.specs.Rivalries.{rivalries}
 use Rattle.premise_list.specs.States.{States}
 
--- the premises of the last commit: those that are shared, and the rest
+-- the premises of the last commit
 abbrev pub committed_premises : Inside → List Premise
-committed_premises s = take s.shared s.table.premises ++ s.rest.items
+committed_premises s = committed_from s.past s.table.premises
 
 -- the present list, and that of the last commit
 abbrev pub states_of : Inside → States
@@ -20,9 +21,9 @@ states_of s = record {
 
 -- The present list has room to become the one of the last commit.
 pub record IsStanding (s : Inside) : Type 0 where
-  pub within : s.shared ≤ length s.table.premises
-  pub places : s.shared + length s.rest.items ≤ length s.table.premises + s.table.places
-  pub words : length (words_known s.rest.items) ≤ s.table.words
+  pub stands : Stands s.past s.table.premises
+  pub places : length s.past.taken.items ≤ s.table.places
+  pub words : length (words_known (map taken_premise s.past.taken.items)) ≤ s.table.words
   -- what the list of the last commit was when it was the present one
   pub few : length (committed_premises s) ≤ most_premises
   pub well_named : IsWellNamed (committed_premises s)

@@ -1,5 +1,5 @@
 -- A list of premises with the index of its names, as contracts in this crate see it.
-use Rattle.std.specs.Prelude.{ℕ, suc, List, [], ◌∷◌, ◌++◌, map}
+use Rattle.std.specs.Prelude.{ℕ, suc, ◌-◌, List, [], ◌∷◌, ◌++◌, map}
 use Rattle.tmm_model.specs.declared.premise.Premise.{Premise}
 use Rattle.tmm_model.specs.Sorts.{Sort, declarations_of}
 use Rattle.premise_list.specs.declared.table.Word.{Word}
@@ -28,6 +28,10 @@ word_seen word = (sort_seen word.sort, word.place)
 -- an entry of the index: a word, and what it stands for
 abbrev pub entry_seen : List ℕ × Word → List ℕ × (Sort × ℕ)
 entry_seen e = (e.0, word_seen e.1)
+
+-- the same declaration, where the premise that makes it stands one place lower
+abbrev pub moved_down : List ℕ × (Sort × ℕ) → List ℕ × (Sort × ℕ)
+moved_down e = (e.0, (e.1.0, e.1.1 - 1))
 
 -- the entry of a fact of the class at this place
 abbrev pub fact_entry : ℕ → List ℕ → List ℕ × Word

@@ -1,13 +1,14 @@
 // Which premises fall with one that is retracted.
-ghost use Rattle.std.specs.Prelude.{◌≡◌, [], ◌∷◌, ◌++◌, ◌≤◌, length, map, vec_len, IfOk, OnOk};
+ghost use Rattle.std.specs.Prelude.{◌≡◌, [], ◌∷◌, ◌++◌, ◌≤◌, length, map, take, drop, IfOk, OnOk};
 ghost use Rattle.std.specs.List.{list_any};
 ghost use Rattle.tmm_model.specs.Standing.{name_of};
 ghost use Rattle.tmm_model.specs.Sorts.{declared_by};
 ghost use Rattle.tmm_model.specs.Erasure.{names_at, mentioned_by, is_among, falls, kept_after};
 ghost use Rattle.list_theory.specs.Fallen.{fallen_after};
 ghost use Rattle.premise_list.specs.Gone.{SameNames};
+ghost use Rattle.premise_list.specs.Past.{RiseBelow, without};
 
-use crate::premise::{copy_of, facts_of, name_of};
+use crate::premise::{facts_of, name_of};
 use arrayvec::ArrayVec;
 use indexmap::IndexSet;
 use std::alloc::Global;
@@ -16,33 +17,40 @@ use tmm_model::{MOST_ANTECEDENTS, MOST_EXCEPTIONS, Name, NoMemory, PointName, Pr
 // How many names are compared one after the other.
 const FEW_NAMES: usize = 4;
 
-/// Premises parted into those that fall and those that stay.
+/// The premises that fall.
 #[derive(Drop)]
 pub(crate) struct Fall {
-    /// The names of those that fall.
+    /// Their names.
     pub names: Seq<Name>,
-    /// Those that stay, in their order.
-    pub kept: Vec<Premise>,
+    /// Their places, the first of them first.
+    pub places: Vec<usize>,
 }
 
-// The premises, parted by whether they fall with the one of this name.
-pub(crate) fn fall_with(alloc: Global, erased: Name, premises: &[Premise]) -> Result<Fall, NoMemory>
-    ensures names { IfOk result (λ fall. fall.names.items ≡ map name_of (fallen_after erased [] premises.now)) }
-    ensures kept { IfOk result (λ fall. fall.kept.items ≡ kept_after erased [] premises.now) }
-    ensures fewer { IfOk result (λ fall. vec_len fall.kept ≤ length premises.now) }
+// The premises from a place on that fall with the one of this name.
+pub(crate) fn fall_with(
+    alloc: Global,
+    erased: Name,
+    premises: &[Premise],
+    first: usize,
+) -> Result<Fall, NoMemory>
+    requires { first ≤ length premises.now }
+    ensures names { IfOk result (λ fall. fall.names.items ≡ map name_of (fallen_after erased [] (drop first premises.now))) }
+    ensures places { IfOk result (λ fall. RiseBelow (length premises.now) fall.places.items) }
+    ensures kept { IfOk result (λ fall. without fall.places.items premises.now ≡ take first premises.now ++ kept_after erased [] (drop first premises.now)) }
 {
     let mut names = Seq::make(alloc);
-    let mut kept = Vec::with_capacity(alloc, premises.len())?;
+    let mut places = Vec::new(alloc);
     let mut gone = IndexSet::new(alloc);
-    for premise in premises {
+    for place in first..premises.len() {
+        let premise = &premises[place];
         if falls(erased, &gone, premise) {
             take(&mut names, name_of(premise))?;
+            places.reserve(1)?;
+            places.push_reserved(place);
             lose(&mut gone, premise)?;
-        } else {
-            kept.push_reserved(copy_of(premise));
         }
     }
-    Ok(Fall { names, kept })
+    Ok(Fall { names, places })
 }
 
 fn take(names: &mut Seq<Name>, name: Name) -> Result<(), NoMemory>

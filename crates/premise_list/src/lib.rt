@@ -9,6 +9,7 @@
 
 mod check;
 mod erase;
+mod past;
 mod premise;
 mod rivalries;
 mod standing;

@@ -15,9 +15,10 @@ ghost use Rattle.premise_list.specs.RivalLaws.{no_rival_of_itself, rivals_of_eac
 
 use crate::check::Wanted;
 use crate::erase::fall_with;
+use crate::past::{Past, words_owed};
 use crate::premise::{copy_of, facts_of};
 use crate::rivalries::{Rivalries, rivalry_count};
-use crate::table::{Table, word_count};
+use crate::table::Table;
 use std::alloc::Global;
 use std::marker::Model;
 use tmm_model::{
@@ -30,10 +31,8 @@ pub struct Standing {
     table: Table,
     version: Version,
     horizon: u32,
-    // how many first premises of both lists are known to be the same
-    shared: usize,
-    // what the list of the last commit has behind those
-    rest: Vec<Premise>,
+    // what leads back to the list of the last commit
+    past: Past,
     // the facts that premises of both lists set against each other
     rivalries: Rivalries,
     committed_version: Version,
@@ -62,8 +61,10 @@ impl Standing {
             table: Table::make(alloc),
             version: Version::One,
             horizon: FIRST_HORIZON,
-            shared: 0,
-            rest: Vec::new(alloc),
+            past: Past {
+                shared: 0,
+                taken: Vec::new(alloc),
+            },
             rivalries: Rivalries::make(alloc),
             committed_version: Version::One,
             committed_horizon: FIRST_HORIZON,
@@ -135,8 +136,10 @@ impl Standing {
         ensures ok { OnOk result (self.new ≡ record self.old { present = list_with self.old.present premise.now }) }
         ensures err { OnErr result (self.new ≡ self.old) }
     {
-        let owed = word_count(self.rest.as_slice());
-        self.table.reserve(1, 1 + facts_of(premise).len() + owed)?;
+        let owed = words_owed(self.past.taken.as_slice());
+        let places = 1 + self.past.taken.len();
+        self.table
+            .reserve(places, 1 + facts_of(premise).len() + owed)?;
         self.rivalries.add(premise)?;
         self.table.push(copy_of(premise));
         Ok(())
@@ -153,23 +156,16 @@ impl Standing {
     {
         let first = self.table.place_of(name);
         let premises = self.table.premises();
-        let mut fall = fall_with(alloc, name, &premises[first..])?;
-        let shared = self.shared.min(first);
-        let owed = word_count(&premises[shared..self.shared]) + word_count(self.rest.as_slice());
-        let gone = rivalry_count(&premises[first..]);
-        self.table
-            .reserve(0, word_count(fall.kept.as_slice()) + owed)?;
-        self.rest.reserve(self.shared - shared)?;
-        let back = rivalry_count(fall.kept.as_slice());
-        self.rivalries.reserve(back)?;
-        let mut cut = self.table.cut(first)?;
-        cut.truncate(self.shared - shared);
-        put_before(&mut self.rest, cut);
+        let fall = fall_with(alloc, name, premises, first)?;
+        let pairs = rivalry_count(&premises[first..]);
+        let owed = words_owed(self.past.taken.as_slice());
+        self.table.reserve(0, 9 * fall.places.len() + owed)?;
+        self.past.taken.reserve(fall.places.len())?;
+        self.rivalries.reserve(pairs)?;
+        self.table.take_out(alloc, fall.places, &mut self.past)?;
         self.rivalries
-            .truncate(self.rivalries.present().len() - gone);
-        self.rivalries.add_all(fall.kept.as_slice());
-        self.table.append(&mut fall.kept);
-        self.shared = shared;
+            .truncate(self.rivalries.present().len() - pairs);
+        self.rivalries.add_all(&self.table.premises()[first..]);
         Ok(fall.names)
     }
 
@@ -312,8 +308,8 @@ impl Standing {
     pub fn commit(&mut self)
         ensures { self.new ≡ record self.old { committed = self.old.present } }
     {
-        self.shared = self.table.premises().len();
-        self.rest.clear();
+        self.past.shared = self.table.premises().len();
+        self.past.taken.clear();
         self.rivalries.commit();
         self.committed_version = self.version;
         self.committed_horizon = self.horizon;
@@ -323,10 +319,10 @@ impl Standing {
     pub fn rollback(&mut self)
         ensures { self.new ≡ record self.old { present = self.old.committed } }
     {
-        self.table.truncate(self.shared);
-        self.table.append(&mut self.rest);
+        self.table.truncate(self.past.shared);
+        self.table.put_back(&mut self.past.taken);
         self.rivalries.rollback();
-        self.shared = self.table.premises().len();
+        self.past.shared = self.table.premises().len();
         self.version = self.committed_version;
         self.horizon = self.committed_horizon;
     }
@@ -377,14 +373,4 @@ fn sets_against(pair: &(Name, Name), fact: Name) -> bool
     ensures { result ≡ sets_against fact pair.now }
 {
     (pair.0 == fact || pair.1 == fact) && pair.0 != pair.1
-}
-
-// Moves the premises to the front of a list that has room for them.
-fn put_before(list: &mut Vec<Premise>, mut first: Vec<Premise>)
-    requires { vec_len list.old + vec_len first ≤ vec_capacity list.old }
-    ensures { list.new.items ≡ first.items ++ list.old.items }
-{
-    let behind = list.len();
-    let _room = list.append(&mut first);
-    list.rotate_left(behind);
 }

@@ -1,5 +1,5 @@
 // A list of premises with the index of its names.
-ghost use Rattle.std.specs.Prelude.{◌≡◌, ◌<◌, ◌≤◌, ◌+◌, ◌*◌, List, [], ◌∷◌, ◌++◌, false, None, IfOk, OnOk, OnErr, length, map, take, drop, slice_get};
+ghost use Rattle.std.specs.Prelude.{◌≡◌, ◌<◌, ◌≤◌, ◌+◌, ◌*◌, List, [], ◌∷◌, ◌++◌, false, None, OnErr, OnOk, length, map, take, drop, reverse, slice_get, vec_len, vec_capacity};
 ghost use Rattle.std.specs.List.{flat_map, list_any};
 ghost use Rattle.std.specs.Map.{lookup};
 ghost use Rattle.std.specs.Option.{option_map, option_copied};
@@ -12,13 +12,18 @@ ghost use Rattle.list_theory.specs.WellNamed.{AllFollow, Follows, IsWellNamed};
 ghost use Rattle.indexmap.specs.IndexMap.{keys, spare};
 ghost use Rattle.premise_list.specs.Words.{sort_seen};
 ghost use Rattle.premise_list.specs.Found.{IsFoundAt};
-ghost use Rattle.premise_list.specs.Table.{at_place, placed, word_seen, entry_seen, fact_entry};
+ghost use Rattle.premise_list.specs.Past.{Fits, IsMoreBy, RiseBelow, Stands, committed_from, restored, taken_premise, without};
+ghost use Rattle.premise_list.specs.Table.{at_place, moved_down, placed, word_seen, entry_seen, fact_entry};
 
-use crate::premise::{Sort, copy_of, facts_of, name_of, point_count, sort_of};
+use crate::past::{Past, Taken};
+use crate::premise::{Sort, facts_of, name_of, point_count, sort_of};
 use indexmap::IndexMap;
 use std::alloc::Global;
 use std::marker::Model;
 use tmm_model::{Name, NoMemory, Premise};
+
+// Up to how many premises are taken out one by one.
+const FEW_PLACES: usize = 16;
 
 /// What a name is declared as, and the place of the premise that declares it.
 #[derive(Clone, Copy)]
@@ -175,24 +180,6 @@ impl Table {
         self.premises.push_reserved(premise);
     }
 
-    // Moves these premises, each of which follows those before it, to the end. It takes no memory.
-    pub(crate) fn append(&mut self, premises: &mut Vec<Premise>)
-        requires follow { AllFollow self.old.premises premises.old.items }
-        requires few { length self.old.premises + length premises.old.items ≤ most_premises }
-        requires places { length premises.old.items ≤ self.old.places }
-        requires words { length (words_known premises.old.items) ≤ self.old.words }
-        ensures premises { self.new.premises ≡ self.old.premises ++ premises.old.items }
-        ensures emptied { premises.new.items ≡ [] }
-        ensures places { self.old.places ≤ self.new.places + length premises.old.items }
-        ensures words { self.old.words ≤ self.new.words + length (words_known premises.old.items) }
-    {
-        let added = premises.as_slice();
-        let place = self.premises().len();
-        declare_all(&mut self.words, added, place);
-        self.points += points_count(added);
-        let _room = self.premises.append(premises);
-    }
-
     // Takes off all but the first `n` premises. It takes no memory.
     pub(crate) fn truncate(&mut self, n: usize)
         requires { n ≤ length self.old.premises }
@@ -209,21 +196,212 @@ impl Table {
         self.premises.truncate(n);
     }
 
-    // Takes off all but the first `n` premises, and answers those that it takes off. Without memory
-    // nothing has changed.
-    pub(crate) fn cut(&mut self, n: usize) -> Result<Vec<Premise>, NoMemory>
-        requires { n ≤ length self.old.premises }
-        ensures cut { IfOk result (λ cut. cut.items ≡ drop n self.old.premises) }
-        ensures premises { OnOk result (self.new.premises ≡ take n self.old.premises) }
-        ensures places { OnOk result (self.old.places + length self.old.premises ≡ self.new.places + n) }
-        ensures words { self.old.words ≤ self.new.words }
-        ensures err { OnErr result (self.new ≡ self.old) }
+    // Takes out the premises at these places, and keeps those that the list of the last commit has.
+    // Without memory nothing has changed.
+    pub(crate) fn take_out(
+        &mut self,
+        alloc: Global,
+        places: Vec<usize>,
+        past: &mut Past,
+    ) -> Result<(), NoMemory>
+        requires places { RiseBelow (length self.old.premises) places.items }
+        requires well_named { IsWellNamed (without places.items self.old.premises) }
+        requires room { vec_len past.old.taken + length places.items ≤ vec_capacity past.old.taken }
+        requires stands { Stands past.old self.old.premises }
+        ensures premises { OnOk result (self.new.premises ≡ without places.items self.old.premises) }
+        ensures places { OnOk result (self.old.places + length places.items ≡ self.new.places) }
+        ensures words { OnOk result (self.old.words ≤ self.new.words) }
+        ensures stands { OnOk result (Stands past.new self.new.premises) }
+        ensures committed { OnOk result (committed_from past.new self.new.premises ≡ committed_from past.old self.old.premises) }
+        ensures taken { OnOk result (IsMoreBy (length places.items) past.old.taken.items past.new.taken.items) }
+        ensures err { OnErr result ((self.new ≡ self.old) × (past.new ≡ past.old)) }
     {
-        let cut = self.premises.split_off(n)?;
-        let kept_words = self.words.len() - word_count(cut.as_slice());
-        self.words.truncate(kept_words);
-        self.points -= points_count(cut.as_slice());
-        Ok(cut)
+        if places.len() <= FEW_PLACES {
+            self.take_few(places, past);
+            Ok(())
+        } else {
+            self.take_many(alloc, places, past)
+        }
+    }
+
+    // The same one by one: those behind each move down. It takes no memory.
+    fn take_few(&mut self, places: Vec<usize>, past: &mut Past)
+        requires places { RiseBelow (length self.old.premises) places.items }
+        requires well_named { IsWellNamed (without places.items self.old.premises) }
+        requires room { vec_len past.old.taken + length places.items ≤ vec_capacity past.old.taken }
+        requires stands { Stands past.old self.old.premises }
+        ensures premises { self.new.premises ≡ without places.items self.old.premises }
+        ensures places { self.old.places + length places.items ≡ self.new.places }
+        ensures words { self.old.words ≤ self.new.words }
+        ensures stands { Stands past.new self.new.premises }
+        ensures committed { committed_from past.new self.new.premises ≡ committed_from past.old self.old.premises }
+        ensures taken { IsMoreBy (length places.items) past.old.taken.items past.new.taken.items }
+    {
+        let points = take_each(&mut self.premises, &mut self.words, places, past);
+        self.points -= points;
+    }
+
+    // The same in one pass: the names of all that stay are declared anew. Without memory nothing
+    // has changed.
+    fn take_many(
+        &mut self,
+        alloc: Global,
+        places: Vec<usize>,
+        past: &mut Past,
+    ) -> Result<(), NoMemory>
+        requires places { RiseBelow (length self.old.premises) places.items }
+        requires well_named { IsWellNamed (without places.items self.old.premises) }
+        requires room { vec_len past.old.taken + length places.items ≤ vec_capacity past.old.taken }
+        requires stands { Stands past.old self.old.premises }
+        ensures premises { OnOk result (self.new.premises ≡ without places.items self.old.premises) }
+        ensures places { OnOk result (self.old.places + length places.items ≡ self.new.places) }
+        ensures words { OnOk result (self.old.words ≤ self.new.words) }
+        ensures stands { OnOk result (Stands past.new self.new.premises) }
+        ensures committed { OnOk result (committed_from past.new self.new.premises ≡ committed_from past.old self.old.premises) }
+        ensures taken { OnOk result (IsMoreBy (length places.items) past.old.taken.items past.new.taken.items) }
+        ensures err { OnErr result ((self.new ≡ self.old) × (past.new ≡ past.old)) }
+    {
+        let mut behind = Vec::with_capacity(alloc, self.premises.len())?;
+        take_in_one_pass(&mut self.premises, &mut behind, places, past);
+        self.points = declare_anew(&mut self.words, self.premises.as_slice());
+        Ok(())
+    }
+
+    // Puts the premises back that were taken out, the latest first. It takes no memory.
+    pub(crate) fn put_back(&mut self, taken: &mut Vec<Taken>)
+        requires well_named { IsWellNamed (restored taken.old.items self.old.premises) }
+        requires few { length (restored taken.old.items self.old.premises) ≤ most_premises }
+        requires fits { Fits taken.old.items (length self.old.premises) }
+        requires places { length taken.old.items ≤ self.old.places }
+        requires words { length (words_known (map taken_premise taken.old.items)) ≤ self.old.words }
+        ensures premises { self.new.premises ≡ restored taken.old.items self.old.premises }
+        ensures emptied { taken.new.items ≡ [] }
+    {
+        if taken.is_empty() {
+            return;
+        }
+        put_each(&mut self.premises, taken);
+        self.points = declare_anew(&mut self.words, self.premises.as_slice());
+    }
+}
+
+// Takes out the premises at these places with their names, and tells how many points they declare.
+fn take_each(
+    premises: &mut Vec<Premise>,
+    words: &mut IndexMap<Name, Word>,
+    mut places: Vec<usize>,
+    past: &mut Past,
+) -> usize
+    requires indexed { map entry_seen words.old.entries ≡ placed 0 premises.old.items }
+    requires few { length premises.old.items ≤ most_premises }
+    requires places { RiseBelow (length premises.old.items) places.items }
+    requires room { vec_len past.old.taken + length places.items ≤ vec_capacity past.old.taken }
+    requires stands { Stands past.old premises.old.items }
+    ensures premises { premises.new.items ≡ without places.items premises.old.items }
+    ensures places { vec_len premises.new + length places.items ≡ vec_len premises.old }
+    ensures capacity { vec_capacity premises.new ≡ vec_capacity premises.old }
+    ensures indexed { map entry_seen words.new.entries ≡ placed 0 premises.new.items }
+    ensures words { spare words.old ≤ spare words.new }
+    ensures points { length (flat_map points_of premises.new.items) + result ≡ length (flat_map points_of premises.old.items) }
+    ensures stands { Stands past.new premises.new.items }
+    ensures committed { committed_from past.new premises.new.items ≡ committed_from past.old premises.old.items }
+    ensures taken { IsMoreBy (length places.items) past.old.taken.items past.new.taken.items }
+{
+    let mut points = 0;
+    while let Some(place) = places.pop() {
+        let behind = word_count(&premises[place..]);
+        let premise = premises.remove(place);
+        let first = words.len() - behind;
+        undeclare(words, first, 1 + facts_of(&premise).len());
+        points += point_count(&premise);
+        past.keep(place, premise);
+    }
+    points
+}
+
+// Takes out the premises at these places in one pass. Those behind one stand aside meanwhile, where
+// there is room for all of them.
+fn take_in_one_pass(
+    premises: &mut Vec<Premise>,
+    behind: &mut Vec<Premise>,
+    mut places: Vec<usize>,
+    past: &mut Past,
+)
+    requires nothing_behind { behind.old.items ≡ [] }
+    requires room_behind { vec_len premises.old ≤ vec_capacity behind.old }
+    requires places { RiseBelow (length premises.old.items) places.items }
+    requires room { vec_len past.old.taken + length places.items ≤ vec_capacity past.old.taken }
+    requires stands { Stands past.old premises.old.items }
+    ensures premises { premises.new.items ≡ without places.items premises.old.items }
+    ensures places { vec_len premises.new + length places.items ≡ vec_len premises.old }
+    ensures capacity { vec_capacity premises.new ≡ vec_capacity premises.old }
+    ensures stands { Stands past.new premises.new.items }
+    ensures committed { committed_from past.new premises.new.items ≡ committed_from past.old premises.old.items }
+    ensures taken { IsMoreBy (length places.items) past.old.taken.items past.new.taken.items }
+{
+    while let Some(place) = places.pop() {
+        move_from(premises, place + 1, behind);
+        let premise = premises.remove(place);
+        past.keep(place, premise);
+    }
+    move_from(behind, 0, premises);
+}
+
+// Moves the premises from this place on, the last of them first.
+fn move_from(from: &mut Vec<Premise>, place: usize, to: &mut Vec<Premise>)
+    requires within { place ≤ vec_len from.old }
+    requires room { vec_len to.old + vec_len from.old ≤ vec_capacity to.old + place }
+    ensures stay { from.new.items ≡ take place from.old.items }
+    ensures moved { to.new.items ≡ to.old.items ++ reverse (drop place from.old.items) }
+    ensures capacity { (vec_capacity from.new ≡ vec_capacity from.old) × (vec_capacity to.new ≡ vec_capacity to.old) }
+{
+    while from.len() > place {
+        let last = from.len() - 1;
+        to.push_reserved(from.remove(last));
+    }
+}
+
+// Takes the names of a premise out of the index, which stand from here on. The premises behind it
+// move down by one place.
+fn undeclare(words: &mut IndexMap<Name, Word>, first: usize, count: usize)
+    requires within { first + count ≤ length words.old.entries }
+    ensures entries { map entry_seen words.new.entries ≡ take first (map entry_seen words.old.entries) ++ map moved_down (drop (first + count) (map entry_seen words.old.entries)) }
+    ensures room { spare words.old ≤ spare words.new }
+{
+    remove_names(words, first, count);
+    move_down(words, first);
+}
+
+fn remove_names(words: &mut IndexMap<Name, Word>, first: usize, count: usize)
+    requires within { first + count ≤ length words.old.entries }
+    ensures entries { words.new.entries ≡ take first words.old.entries ++ drop (first + count) words.old.entries }
+    ensures room { spare words.old ≤ spare words.new }
+{
+    for _ in 0..count {
+        let _gone = words.shift_remove_index(first);
+    }
+}
+
+fn move_down(words: &mut IndexMap<Name, Word>, first: usize)
+    ensures entries { map entry_seen words.new.entries ≡ take first (map entry_seen words.old.entries) ++ map moved_down (drop first (map entry_seen words.old.entries)) }
+    ensures room { spare words.old ≤ spare words.new }
+{
+    for i in first..words.len() {
+        if let Some(word) = words.get_index_mut(i) {
+            word.place = word.place.saturating_sub(1);
+        }
+    }
+}
+
+// Puts the premises back that were taken out, the latest first.
+fn put_each(premises: &mut Vec<Premise>, taken: &mut Vec<Taken>)
+    requires fits { Fits taken.old.items (length premises.old.items) }
+    requires room { vec_len premises.old + length taken.old.items ≤ vec_capacity premises.old }
+    ensures premises { premises.new.items ≡ restored taken.old.items premises.old.items }
+    ensures emptied { taken.new.items ≡ [] }
+{
+    while let Some(Taken { place, premise }) = taken.pop() {
+        let _room = premises.insert(place, premise);
     }
 }
 
@@ -235,6 +413,20 @@ fn declare(words: &mut IndexMap<Name, Word>, name: Name, word: Word)
     ensures room { spare words.old ≤ spare words.new + 1 }
 {
     let _new = words.insert(name, word);
+}
+
+// Makes the index of these premises anew, and tells how many points there are, `start` among them.
+fn declare_anew(words: &mut IndexMap<Name, Word>, premises: &[Premise]) -> usize
+    requires few { length premises.now ≤ most_premises }
+    requires well_named { IsWellNamed premises.now }
+    requires room { length (words_known premises.now) ≤ length words.old.entries + spare words.old }
+    ensures indexed { map entry_seen words.new.entries ≡ placed 0 premises.now }
+    ensures room { length words.old.entries + spare words.old ≤ spare words.new + length (words_known premises.now) }
+    ensures points { result ≡ length (points_in premises.now) }
+{
+    words.clear();
+    declare_all(words, premises, 0);
+    1 + points_count(premises)
 }
 
 // Adds the names of premises that follow those whose names are there. The first of them has this

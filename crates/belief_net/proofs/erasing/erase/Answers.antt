@@ -5,6 +5,7 @@ use Rattle.tmm_model.specs.Standing.{Standing, premise_in}
 use Rattle.list_theory.proofs.Elements.{In, In-left, In-right, In-cases}
 use Rattle.belief_net.specs.declared.state.BeliefNet.{BeliefNet}
 use Rattle.belief_net.specs.Erasing.{Tells, fact_of, Notes, IsFreeOf}
+use Rattle.belief_net.specs.Gone.{gone_of}
 use Rattle.belief_net.proofs.Thinned.{once_less, under_less, free_less, thins_none, tells_none, notes_none, spares_none, keep_stays, thins_on, tells_on, notes_on, spares_on, keep_on}
 use Rattle.belief_net.proofs.erasing.erase.Goals as goal
 
@@ -17,6 +18,7 @@ loop-name-init c =
         tells = subst (Tells b.tree b.tree []) (sym c.nothing_yet-departed.ensures.left) (tells_none b.tree []);
         notes = subst (Notes (λ m. m.class) b.tree b.tree []) (sym c.nothing_yet-departed.ensures.classes) (notes_none (λ m. m.class) b.tree []);
         facts = subst (Notes fact_of b.tree b.tree []) (sym c.nothing_yet-departed.ensures.facts) (notes_none fact_of b.tree []);
+        tokens = subst (Notes gone_of b.tree b.tree []) (sym c.nothing_yet-departed.ensures.tokens) (notes_none gone_of b.tree []);
       };
       spares = λ s out. spares_none s b;
       free = λ name at. absurd at;
@@ -63,6 +65,7 @@ loop-name-preserved c =
         tells = tells_on old mid new inv.sheds.thins e.sheds.thins [] c.loop-name.departed.left.items c.erase_premise.new.departed.left.items c.requires.once inv.sheds.tells e.sheds.tells;
         notes = notes_on old mid new inv.sheds.thins e.sheds.thins (λ m. m.class) [] c.loop-name.departed.classes c.erase_premise.new.departed.classes inv.sheds.notes e.sheds.notes;
         facts = notes_on old mid new inv.sheds.thins e.sheds.thins fact_of [] c.loop-name.departed.facts c.erase_premise.new.departed.facts inv.sheds.facts e.sheds.facts;
+        tokens = notes_on old mid new inv.sheds.thins e.sheds.thins gone_of [] c.loop-name.departed.tokens.items c.erase_premise.new.departed.tokens.items inv.sheds.tokens e.sheds.tokens;
       };
       spares = λ s out.
           let (first, this) = more_out s (take i names) (take (i + 1) names) c.name-item.result (next_taken names i c.name-item.result within c.name-item.is) out in

@@ -3,6 +3,7 @@ use Rattle.row_links.specs.Lists.{IsOn}
 use Rattle.belief_net.specs.Decided.{KeepsLast, AreNoLonger}
 use Rattle.belief_net.specs.Entering.{class_at}
 use Rattle.belief_net.specs.Erasing.{TellsOf, fact_at, NotesOf, DropsRowsAt}
+use Rattle.belief_net.specs.Gone.{gone_at}
 use Rattle.belief_net.proofs.erasing.part_with.Given as goal
 
 abbrev pub invariant-loop-y : goal.invariant-loop-y
@@ -10,6 +11,7 @@ invariant-loop-y l = record {
   tells : TellsOf l.tree (take l.y-index l.numbers) l.fn.departed.left.items l.departed.left.items;
   notes : NotesOf (class_at l.tree) (take l.y-index l.numbers) l.fn.departed.classes l.departed.classes;
   facts : NotesOf (fact_at l.tree) (take l.y-index l.numbers) l.fn.departed.facts l.departed.facts;
+  tokens : NotesOf (gone_at l.tree) (take l.y-index l.numbers) l.fn.departed.tokens.items l.departed.tokens.items;
   rows : DropsRowsAt (IsOn (take l.y-index l.numbers)) l.fn.decisions l.decisions;
   fewer : AreNoLonger l.fn.decisions l.decisions;
   last : KeepsLast l.fn.decisions l.decisions;

@@ -7,6 +7,7 @@ use Rattle.occ_tree.proofs.Members.{shrinking_withdraws}
 use Rattle.belief_net.specs.declared.state.BeliefNet.{BeliefNet}
 use Rattle.belief_net.specs.Entering.{class_at}
 use Rattle.belief_net.specs.Erasing.{TellsOf, fact_at, NotesOf, DropsRowsAt}
+use Rattle.belief_net.specs.Gone.{gone_at}
 use Rattle.belief_net.proofs.Parted.{withdrawn_sheds, withdrawn_rows, withdrawn_spares}
 use Rattle.belief_net.proofs.erasing.withdraw.Goals as goal
 
@@ -25,6 +26,7 @@ returns-clause-sheds c =
     (subst (λ l. TellsOf old.tree l before.left.items after.left.items) c.as_slice.ensures.value c.in_ok-part_with.ensures.tells)
     (subst (λ l. NotesOf (class_at old.tree) l before.classes after.classes) c.as_slice.ensures.value c.in_ok-part_with.ensures.notes)
     (subst (λ l. NotesOf (fact_at old.tree) l before.facts after.facts) c.as_slice.ensures.value c.in_ok-part_with.ensures.facts)
+    (subst (λ l. NotesOf (gone_at old.tree) l before.tokens.items after.tokens.items) c.as_slice.ensures.value c.in_ok-part_with.ensures.tokens)
     (subst (λ l. DropsRowsAt (IsOn l) old.decisions new.decisions) c.as_slice.ensures.value c.in_ok-part_with.ensures.rows)
     c.in_ok-withdraw.ensures.ok
 
@@ -38,6 +40,7 @@ returns-clause-spares c =
     (subst (λ l. TellsOf old.tree l before.left.items after.left.items) c.as_slice.ensures.value c.in_ok-part_with.ensures.tells)
     (subst (λ l. NotesOf (class_at old.tree) l before.classes after.classes) c.as_slice.ensures.value c.in_ok-part_with.ensures.notes)
     (subst (λ l. NotesOf (fact_at old.tree) l before.facts after.facts) c.as_slice.ensures.value c.in_ok-part_with.ensures.facts)
+    (subst (λ l. NotesOf (gone_at old.tree) l before.tokens.items after.tokens.items) c.as_slice.ensures.value c.in_ok-part_with.ensures.tokens)
     (subst (λ l. DropsRowsAt (IsOn l) old.decisions new.decisions) c.as_slice.ensures.value c.in_ok-part_with.ensures.rows)
     c.in_ok-withdraw.ensures.ok
 
@@ -54,5 +57,6 @@ returns-clause-rows c =
     (subst (λ l. TellsOf old.tree l before.left.items after.left.items) c.as_slice.ensures.value c.in_ok-part_with.ensures.tells)
     (subst (λ l. NotesOf (class_at old.tree) l before.classes after.classes) c.as_slice.ensures.value c.in_ok-part_with.ensures.notes)
     (subst (λ l. NotesOf (fact_at old.tree) l before.facts after.facts) c.as_slice.ensures.value c.in_ok-part_with.ensures.facts)
+    (subst (λ l. NotesOf (gone_at old.tree) l before.tokens.items after.tokens.items) c.as_slice.ensures.value c.in_ok-part_with.ensures.tokens)
     (subst (λ l. DropsRowsAt (IsOn l) old.decisions new.decisions) c.as_slice.ensures.value c.in_ok-part_with.ensures.rows)
     c.in_ok-withdraw.ensures.ok

@@ -1,6 +1,6 @@
 use Rattle.std.proofs.Common.{refl}
 use Rattle.belief_net.specs.declared.state.BeliefNet.{BeliefNet}
-use Rattle.belief_net.proofs.Opened.{list_after, dates_before, events_after, under_after, points_there, marked_fit, marked_may_add, opened_fit, opened_stands, opened_numbered, opened_last}
+use Rattle.belief_net.proofs.Opened.{list_after, dates_before, events_after, under_after, begin_before, tokens_before, classes_noted, points_there, marked_fit, marked_may_add, opened_fit, opened_stands, opened_numbered, opened_last}
 use Rattle.belief_net.proofs.opening.open.Goals as goal
 
 pub re_date_moved-requires-clause-list : goal.re_date_moved-requires-clause-list
@@ -22,6 +22,22 @@ mark_departed-requires-clause-events c =
 pub mark_departed-requires-clause-under : goal.mark_departed-requires-clause-under
 mark_departed-requires-clause-under c =
     under_after c.args.standing.now c.args.net.now c.args.edit.now c.args.erased.now c.args.beliefs.now c.erase.new.beliefs c.in_ok-departed.departed c.requires.kept c.requires.pending
+    c.in_ok-departed.ensures.sheds c.in_ok-departed.ensures.spares c.in_ok-departed.ensures.free
+
+pub mark_departed-requires-clause-nodes : goal.mark_departed-requires-clause-nodes
+mark_departed-requires-clause-nodes c =
+    begin_before c.args.standing.now c.args.net.now c.args.edit.now c.args.erased.now c.args.beliefs.now c.erase.new.beliefs c.in_ok-departed.departed c.requires.kept c.requires.pending
+    c.in_ok-departed.ensures.sheds c.in_ok-departed.ensures.spares c.in_ok-departed.ensures.free
+    c.re_date_moved.new.tree c.in_ok-re_date_moved.ensures.keeps
+
+pub mark_departed-requires-clause-tokens : goal.mark_departed-requires-clause-tokens
+mark_departed-requires-clause-tokens c =
+    tokens_before c.args.standing.now c.args.net.now c.args.edit.now c.args.erased.now c.args.beliefs.now c.erase.new.beliefs c.in_ok-departed.departed c.requires.kept c.requires.pending
+    c.in_ok-departed.ensures.sheds c.in_ok-departed.ensures.spares c.in_ok-departed.ensures.free
+
+pub mark_departed-requires-clause-classes : goal.mark_departed-requires-clause-classes
+mark_departed-requires-clause-classes c =
+    classes_noted c.args.standing.now c.args.net.now c.args.edit.now c.args.erased.now c.args.beliefs.now c.erase.new.beliefs c.in_ok-departed.departed c.requires.kept c.requires.pending
     c.in_ok-departed.ensures.sheds c.in_ok-departed.ensures.spares c.in_ok-departed.ensures.free
 
 pub enter_added-requires-clause-fit : goal.enter_added-requires-clause-fit

@@ -1,13 +1,13 @@
 use Rattle.std.proofs.Common.{List, sym, subst}
 use Rattle.belief_net.specs.declared.walls.FastToken.{FastToken}
-use Rattle.belief_net.specs.Shifts.{IsSparedBy, TokensHaveBoth}
+use Rattle.belief_net.specs.Shifts.{IsSparedBy, TokensHave}
 use Rattle.belief_net.proofs.shifts.is_spared.Goals as goal
 
 pub is_spared_at-requires-clause-behind : goal.is_spared_at-requires-clause-behind
-is_spared_at-requires-clause-behind c = subst (TokensHaveBoth c.args.net.now) (sym c.deref.ensures.value) c.requires.shift.before
+is_spared_at-requires-clause-behind c = subst (TokensHave c.args.net.now.committed) (sym c.deref.ensures.value) (λ k d less. (c.requires.shift.before k d less).0)
 
 pub is_spared_at-requires-2-clause-behind : goal.is_spared_at-requires-2-clause-behind
-is_spared_at-requires-2-clause-behind c = subst (TokensHaveBoth c.args.net.now) (sym c.deref-2.ensures.value) c.requires.shift.after
+is_spared_at-requires-2-clause-behind c = subst (TokensHave c.args.net.now.present) (sym c.deref-2.ensures.value) (λ k d less. (c.requires.shift.after k d less).1)
 
 pub returns-clause-before : goal.returns-clause-before
 returns-clause-before c is =

@@ -1,12 +1,12 @@
 use Rattle.std.proofs.Common.{sym, subst}
+use Rattle.dist_net.specs.Net.{IsInUse}
 use Rattle.belief_net.specs.declared.walls.FastToken.{FastToken}
-use Rattle.belief_net.specs.Fast.{IsInBoth}
 use Rattle.belief_net.specs.Places.{net_at}
 use Rattle.belief_net.proofs.Shifted.{two_begun}
 use Rattle.belief_net.proofs.walls.are_walls_beside.Goals as goal
 
 pub has_begun_beside-requires-clause-token : goal.has_begun_beside-requires-clause-token
-has_begun_beside-requires-clause-token c = subst (λ (t : FastToken). IsInBoth c.args.net.now t.place.base) (sym c.index-tokens-i.is) (c.requires.tokens c.loop-i.i c.index-tokens-i.result c.loop-i-test.true)
+has_begun_beside-requires-clause-token c = subst (λ (t : FastToken). IsInUse (net_at c.args.net.now c.args.before).names t.place.base) (sym c.index-tokens-i.is) (c.requires.tokens c.loop-i.i c.index-tokens-i.result c.loop-i-test.true)
 
 pub returns-then-has_begun_beside : goal.returns-then-has_begun_beside
 returns-then-has_begun_beside c is =

@@ -2,8 +2,8 @@ use Rattle.std.proofs.Common.{true, sym, subst}
 use Rattle.std.proofs.lemmas.List.Elements.{All-nil}
 use Rattle.std.specs.List.{Contains}
 use Rattle.std.specs.Prelude.{negsuc}
+use Rattle.dist_net.specs.Net.{IsInUse}
 use Rattle.belief_net.specs.declared.walls.FastToken.{FastToken}
-use Rattle.belief_net.specs.Fast.{IsInBoth}
 use Rattle.belief_net.specs.Places.{net_at, TellsWithin}
 use Rattle.belief_net.specs.Shifts.{AreBehind}
 use Rattle.belief_net.proofs.walls.tokens_behind.Goals as goal
@@ -14,7 +14,7 @@ loop-i-init c =
     (All-nil (λ (t : FastToken). Contains c.args.tokens.now t × TellsWithin (net_at c.args.net.now c.args.before) t.place c.args.place.now (negsuc 0) true))
 
 pub note_behind-requires-clause-token : goal.note_behind-requires-clause-token
-note_behind-requires-clause-token c = subst (λ (t : FastToken). IsInBoth c.args.net.now t.place.base) (sym c.index-tokens-i.is) (c.requires.tokens c.loop-i.i c.index-tokens-i.result c.loop-i-test.true)
+note_behind-requires-clause-token c = subst (λ (t : FastToken). IsInUse (net_at c.args.net.now c.args.before).names t.place.base) (sym c.index-tokens-i.is) (c.requires.tokens c.loop-i.i c.index-tokens-i.result c.loop-i-test.true)
 
 pub loop-i-preserved : goal.loop-i-preserved
 loop-i-preserved c = c.in_ok-note_behind.ensures c.args.tokens.now (c.loop-i.i, c.loop-i-test.true, sym c.index-tokens-i.is) c.loop-i.invariant

@@ -3,10 +3,11 @@ use Rattle.std.proofs.lemmas.List.{append_assoc, append-nil}
 use Rattle.std.specs.Prelude.{is_some}
 use Rattle.row_links.specs.Lists.{IsOn}
 use Rattle.undo_rows.specs.Changes.{present as table}
+use Rattle.occ_tree.specs.Places.{forest}
 use Rattle.occ_tree.specs.Standing.{present}
 use Rattle.occ_tree.proofs.Walked.{from_on, from_first, from_next, first_is_on, next_is_on}
 use Rattle.belief_net.specs.Waiting.{dates_in}
-use Rattle.belief_net.specs.Woken.{WakesFor}
+use Rattle.belief_net.specs.Woken.{MovesFor, RestsFor, WakesFor}
 use Rattle.belief_net.proofs.Marked.{listed_row}
 use Rattle.belief_net.proofs.Waking.{front_start, front_next}
 use Rattle.belief_net.proofs.woken.wake_list.Goals as goal
@@ -17,7 +18,7 @@ loop-next-init c =
       [],
       sym (ap (λ o. from_on o list) c.first-next.ensures.first ∙ from_first list),
       λ i is. first_is_on list i (sym c.first-next.ensures.first ∙ is),
-      front_start (present c.args.tree.now) (table c.args.rows.now) c.args.net.now c.args.moves.now c.args.of_class.now.class (dates_in c.args.waiting.now),
+      front_start (present c.args.tree.now) (table c.args.rows.now) (MovesFor c.args.moves.now (forest c.args.tree.now) c.args.of_class.now.class) (RestsFor c.args.net.now c.args.moves.now (forest c.args.tree.now) c.args.of_class.now.class) (dates_in c.args.waiting.now),
     )
 
 pub wake_row-requires-clause-row : goal.wake_row-requires-clause-row
@@ -48,7 +49,7 @@ loop-next-preserved c =
       front ++ i ∷ [],
       is ∙ ap (λ l. front ++ l) here ∙ sym (append_assoc front (i ∷ []) (from_on c.next-next.result list)),
       λ j next. next_is_on list i j (sym (c.next-next.ensures c.args.head on) ∙ next),
-      front_next (present c.args.tree.now) (table c.args.rows.now) c.args.net.now c.args.moves.now c.args.of_class.now.class front i (dates_in c.args.waiting.now) (dates_in c.loop-next.waiting)
+      front_next (present c.args.tree.now) (table c.args.rows.now) (MovesFor c.args.moves.now (forest c.args.tree.now) c.args.of_class.now.class) (RestsFor c.args.net.now c.args.moves.now (forest c.args.tree.now) c.args.of_class.now.class) front i (dates_in c.args.waiting.now) (dates_in c.loop-next.waiting)
           (dates_in c.wake_row.new.waiting) wakes c.in_ok-wake_row.ensures,
     )
 
