@@ -5,8 +5,7 @@ ghost use Rattle.dist_repair.specs.Rows.{IsFrom, IsPresentRow};
 ghost use Rattle.dist_repair.specs.Ways.{IsWayIn, KeepsEnd};
 
 use crate::is_suspect;
-use dist_net::DistNet;
-use tmm_model::Bound;
+use dist_net::{Cell, DistNet};
 
 /// Whether the edge alone leads to its end, and each edge from there leads to a point to which the
 /// distance of the edge's beginning surely stays without it. Then no way but those to its end needs
@@ -69,7 +68,7 @@ pub(crate) fn draft_in(net: &mut DistNet, place: usize, from: u16)
     let limit = net.limit();
     for a in 0..limit {
         if a != to {
-            net.set_draft(a, to, Bound::Free);
+            net.set_draft(a, to, Cell::FREE);
         }
     }
 }

@@ -8,7 +8,7 @@ ghost use Rattle.dist_repair.specs.Rows.{rest_of, IsFrom, IsPresentRow, IsFarRow
 ghost use Rattle.dist_repair.specs.Ways.{AreWaysOut};
 
 use arrayvec::ArrayVec;
-use dist_net::DistNet;
+use dist_net::{Cell, DistNet};
 use tmm_model::Bound;
 
 // Where more edges begin at a point, its row is found as any other.
@@ -54,7 +54,7 @@ pub(crate) fn draft_out(net: &mut DistNet, place: usize, from: u16, list: &[u16]
         if net.name_of(b).is_some() {
             if b != from {
                 let bound = least_out(net, place, from, list, b);
-                net.set_draft(from, b, bound);
+                net.set_draft(from, b, Cell::of(bound));
             }
         }
     }

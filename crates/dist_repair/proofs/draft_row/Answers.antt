@@ -12,7 +12,7 @@ pub loop-k-preserved : goal.loop-k-preserved
 loop-k-preserved c =
     let b : ℕ = get_or c.args.points.now c.loop-k.k 0 in
     IsDrafting-more c.args.net.now c.args.a c.args.points.now (row_of c.args.row.now) c.loop-k.net c.set_draft.new.self c.loop-k.k b c.loop-k.invariant c.requires.row c.requires.points c.loop-k-test.true
-    (get_or_default c.args.points.now c.loop-k.k 0 b c.loop-k-test.true) (c.set_draft.ensures.written ∙ (c.bound.ensures ∙ c.at.ensures)) c.set_draft.ensures.others
+    (get_or_default c.args.points.now c.loop-k.k 0 b c.loop-k-test.true) (c.set_draft.ensures.written ∙ c.at.ensures) c.set_draft.ensures.others
     (ap (λ (n : Nets). n.present) c.set_draft.ensures.kept) (ap (λ (n : Nets). n.committed) c.set_draft.ensures.kept)
 
 pub returns-clause-written : goal.returns-clause-written

@@ -11,7 +11,7 @@ returns-then-is_none-2-clause-marking c = IsMarking-start c.args.changes.now c.a
 
 pub returns-clause-taken : goal.returns-clause-taken
 returns-clause-taken c =
-    IsPlaceTaken-set c.args.names.now c.args.draft.now c.args.table.now c.copy_bound.new.table c.args.place c.requires.place
+    IsPlaceTaken-set c.args.names.now c.args.draft.now c.args.table.now c.copy_cell.new.table c.args.place c.requires.place
     (use_read c.args.names.now (c.args.place / 256) c.index-names-a.result true (omega (arith, c.requires.place, c.requires.names)) c.index-names-a.is c.if-is_none.ensures)
     (use_read c.args.names.now (c.args.place % 256) c.index-names-b.result true (omega (arith, c.requires.names)) c.index-names-b.is c.if-is_none-2.ensures)
-    c.copy_bound.ensures.set
+    c.copy_cell.ensures.set
