@@ -1,7 +1,7 @@
 //! Trials of the crates that make, list and check beliefs, by their public calls: `clips` and
-//! `rivals` of `clipping`, `trees` of `occ_tree`, `decisions` of `projection`, `told` of
-//! `belief_list`, `audits` of `just_check` and `guards` of `protections`. It has no functions but
-//! its tests, and no crate stands on it.
+//! `rivals` of `clipping`, `trees` and `orders` of `occ_tree`, `decisions` of `projection`, `told`
+//! of `belief_list`, `audits` of `just_check` and `guards` of `protections`. It has no functions
+//! but its tests, and no crate stands on it.
 #![tactic(auto)]
 
 #[cfg(test)]
@@ -14,6 +14,8 @@ mod decisions;
 mod guards;
 #[cfg(test)]
 mod names;
+#[cfg(test)]
+mod orders;
 #[cfg(test)]
 mod premises;
 #[cfg(test)]

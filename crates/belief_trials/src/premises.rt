@@ -1,8 +1,10 @@
 //! Premises with the network of their points, as lines of a script declare them.
-ghost use Rattle.std.specs.Prelude.{◌≡◌, IfOk, OnOk};
+ghost use Rattle.std.specs.Prelude.{◌≡◌, true, IfOk, OnOk};
 ghost use Rattle.tmm_model.specs.Lines.{IsWellFormedEdit};
 ghost use Rattle.tmm_model.specs.Standing.{empty_list};
 ghost use Rattle.list_net.specs.Fits.{IsNetOf, NothingPending};
+ghost use Rattle.revisions.specs.Alike.{is_unread};
+ghost use Rattle.belief_trials.specs.Lists.{SeeTheSame};
 
 use dist_net::DistNet;
 use list_net::add_premise;
@@ -10,7 +12,7 @@ use premise_list::Standing;
 use std::alloc::Global;
 use std::process::Abort;
 use std::test::Fail;
-use tmm_model::{Edit, Line, NoMemory, Refusal, Stop, Version};
+use tmm_model::{Edit, Line, NoMemory, Premise, Refusal, Stop, Version};
 use tmm_script::parse_line;
 
 /// A list of premises, and its network.
@@ -25,7 +27,8 @@ pub struct Premises {
 impl Premises {
     /// The premises of these lines.
     pub fn of(alloc: Global, lines: &[&[u8]]) -> Result<Premises, Stop>
-        ensures { IfOk result (λ made. IsNetOf made.list.present made.net.present) }
+        ensures network { IfOk result (λ made. IsNetOf made.list.present made.net.present) }
+        ensures settled { IfOk result (λ made. NothingPending made.list made.net) }
     {
         let mut list = Standing::make(alloc);
         let Ok(mut net) = bare_net(alloc) else {
@@ -33,6 +36,30 @@ impl Premises {
         };
         add_all(alloc, &mut list, &mut net, lines)?;
         Ok(Premises { list, net })
+    }
+
+    /// Adds the premise of a line.
+    pub fn add(&mut self, alloc: Global, line: &[u8]) -> Result<(), Stop>
+        requires network { IsNetOf self.old.list.present self.old.net.present }
+        requires settled { NothingPending self.old.list self.old.net }
+        ensures network { OnOk result (IsNetOf self.new.list.present self.new.net.present) }
+        ensures settled { OnOk result (NothingPending self.new.list self.new.net) }
+    {
+        let edit = edit_of(alloc, line)?;
+        add(alloc, &mut self.list, &mut self.net, &edit)
+    }
+
+    /// Adds the constraint of a line, and sees the same occurrences.
+    pub fn constrain(&mut self, alloc: Global, line: &[u8]) -> Result<(), Stop>
+        requires network { IsNetOf self.old.list.present self.old.net.present }
+        requires settled { NothingPending self.old.list self.old.net }
+        ensures { OnOk result (SeeTheSame self.old.list.present self.old.net.present self.new.list.present self.new.net.present) }
+    {
+        let edit = edit_of(alloc, line)?;
+        let Edit::Add(Premise::Dist { .. }) = &edit else {
+            return Err(Stop::Refused(Refusal::Form));
+        };
+        add(alloc, &mut self.list, &mut self.net, &edit)
     }
 }
 
@@ -55,25 +82,24 @@ fn add_all(
 ) -> Result<(), Stop>
     requires network { IsNetOf list.old.present net.old.present }
     requires settled { NothingPending list.old net.old }
-    ensures { OnOk result (IsNetOf list.new.present net.new.present) }
+    ensures network { OnOk result (IsNetOf list.new.present net.new.present) }
+    ensures settled { OnOk result (NothingPending list.new net.new) }
 {
     for line in lines {
-        add_line(alloc, list, net, line)?;
+        let edit = edit_of(alloc, line)?;
+        add(alloc, list, net, &edit)?;
     }
     Ok(())
 }
 
-// Adds the premise of a line.
-fn add_line(alloc: Global, list: &mut Standing, net: &mut DistNet, line: &[u8]) -> Result<(), Stop>
-    requires network { IsNetOf list.old.present net.old.present }
-    requires settled { NothingPending list.old net.old }
-    ensures network { OnOk result (IsNetOf list.new.present net.new.present) }
-    ensures settled { OnOk result (NothingPending list.new net.new) }
+// The edit of a line that adds or erases.
+fn edit_of(alloc: Global, line: &[u8]) -> Result<Edit, Stop>
+    ensures { IfOk result IsWellFormedEdit }
 {
-    let Line::Change(edit) = parse_line(alloc, Version::One, line)? else {
-        return Err(Stop::Refused(Refusal::Form));
-    };
-    add(alloc, list, net, &edit)
+    match parse_line(alloc, Version::One, line)? {
+        Line::Change(edit) => Ok(edit),
+        _ => Err(Stop::Refused(Refusal::Form)),
+    }
 }
 
 // Adds a premise, where it is let through.
@@ -83,6 +109,7 @@ fn add(alloc: Global, list: &mut Standing, net: &mut DistNet, edit: &Edit) -> Re
     requires settled { NothingPending list.old net.old }
     ensures network { OnOk result (IsNetOf list.new.present net.new.present) }
     ensures settled { OnOk result (NothingPending list.new net.new) }
+    ensures sees { OnOk result (is_unread list.old.present.premises edit.now ≡ true → SeeTheSame list.old.present net.old.present list.new.present net.new.present) }
 {
     let Edit::Add(premise) = edit else {
         return Err(Stop::Refused(Refusal::Form));

@@ -1,9 +1,9 @@
-//! A root that comes and goes with its tokens, and what two trees have in common.
+//! A root that comes and goes, and what two trees have in common.
 ghost use Rattle.std.specs.Prelude.{◌≡◌, ◌≢◌, ℕ, [], None, Some, IsTrue, IfOk};
 ghost use Rattle.tmm_model.specs.Names.{is_name};
 ghost use Rattle.tmm_model.specs.Standing.{empty_list};
 ghost use Rattle.list_net.specs.Fits.{IsNetOf};
-ghost use Rattle.spots.specs.Forest.{Member, IsLive, IsTrigger, HasClass};
+ghost use Rattle.spots.specs.Forest.{Member, IsLive, IsTrigger};
 ghost use Rattle.spots.specs.OfLists.{HasList};
 ghost use Rattle.occ_tree.specs.Standing.{present, forest};
 
@@ -11,7 +11,6 @@ use crate::names::name;
 use crate::premises::bare_net;
 use dist_net::DistNet;
 use occ_tree::{ByName, Tree};
-use spots::Spot;
 use std::alloc::Global;
 use std::process::Abort;
 use std::test::Fail;
@@ -49,22 +48,27 @@ fn is_trigger(tree: &Tree, x: u32, rule: &Name) -> bool
     }
 }
 
-// Adds what a rule leads to from such an event, a token where a class is given.
+// Adds an event that a rule leads to from such an event.
 fn add_effect(
     rt: &impl Abort,
     alloc: Global,
     tree: &mut Tree,
     event: u32,
     rule: Name,
-    class: Option<Name>,
-    shape: Shape,
 ) -> Result<u32, NoMemory>
     requires word { IsTrue (is_name rule) }
-    requires class { HasClass class shape }
-    requires no_span { shape ≢ Shape.Span }
 {
     assert!(rt; is_trigger(tree, event, &rule));
-    tree.insert_child(alloc, event, rule, 1, Bound::Finite(2), rule, class, shape)
+    tree.insert_child(
+        alloc,
+        event,
+        rule,
+        1,
+        Bound::Finite(2),
+        rule,
+        None,
+        Shape::Event,
+    )
 }
 
 // A root is there, is the first and is found by its occurrence, until a rollback.
@@ -113,7 +117,7 @@ fn add_sample(
 {
     let event = tree.insert_root(alloc, first, 1, None, first, None, Shape::Event, 5)?;
     let other = tree.insert_root(alloc, second, 2, None, first, None, Shape::Event, 5)?;
-    let effect = add_effect(rt, alloc, tree, event, second, None, Shape::Event)?;
+    let effect = add_effect(rt, alloc, tree, event, second)?;
     Ok(Sample {
         first: event,
         second: other,
@@ -206,93 +210,5 @@ fn touched_at_first(alloc: Global, net: &DistNet) -> Result<(usize, usize), NoMe
 fn nothing_is_touched_at_first(rt: HostRuntime) -> Result<(), Fail> {
     let net = bare_net(rt.alloc())?;
     assert_eq!(rt; touched_at_first(rt.alloc(), &net)?, (0, 0));
-    Ok(())
-}
-
-// A name of its own for each number below 1000.
-fn numbered(number: u32) -> Name
-    ensures { IsTrue (is_name result) }
-{
-    let digits = [number / 100 % 10, number / 10 % 10, number % 10];
-    let word = [b't', digit(digits[0]), digit(digits[1]), digit(digits[2])];
-    match Name::of(word.as_slice()) {
-        Some(name) => name,
-        None => Name::default(),
-    }
-}
-
-fn digit(value: u32) -> u8 {
-    b'0' + (value % 10) as u8
-}
-
-// Adds 300 tokens of a class below an event, in another order than that of their names.
-fn add_tokens(
-    rt: &impl Abort,
-    alloc: Global,
-    tree: &mut Tree,
-    event: u32,
-    class: Name,
-) -> Result<(), NoMemory> {
-    for i in 0..300 {
-        let rule = numbered(i * 7 % 300);
-        add_effect(
-            rt,
-            alloc,
-            tree,
-            event,
-            rule,
-            Some(class),
-            Shape::Persistence,
-        )?;
-    }
-    Ok(())
-}
-
-// How many tokens of a class there are, none where one is not before the one behind it.
-fn count_in_order(tree: &Tree, class: &Name) -> Option<usize> {
-    let rows = tree.tokens(class);
-    for i in 1..rows.len() {
-        if !is_before(tree, rows[i - 1].spot, rows[i].spot) {
-            return None;
-        }
-    }
-    Some(rows.len())
-}
-
-fn is_before(tree: &Tree, first: Spot, second: Spot) -> bool {
-    match (first, second) {
-        (Spot::Node(x), Spot::Node(y)) => {
-            tree.is_live(x) && tree.is_live(y) && tree.cmp_order(x, y).is_lt()
-        }
-        _ => false,
-    }
-}
-
-// The tokens of an event follow it to another date and out of the tree, and are back after a
-// rollback.
-fn tokens_stay_in_order(rt: &impl Abort, alloc: Global, tree: &mut Tree) -> Result<(), NoMemory>
-    requires { (x : ℕ) → forest (present tree.old) x ≡ None }
-{
-    let class = name("light");
-    let event = add_event(alloc, tree, name("press"))?;
-    add_tokens(rt, alloc, tree, event, class)?;
-    tree.commit();
-    assert!(rt; is_root(tree, event));
-    tree.re_date(alloc, event, 50)?;
-    assert_eq!(rt; count_in_order(tree, &class), Some(300));
-    tree.rollback();
-    assert_eq!(rt; count_in_order(tree, &class), Some(300));
-    assert!(rt; tree.is_live(event));
-    tree.withdraw(alloc, event)?;
-    assert_eq!(rt; count_in_order(tree, &class), Some(0));
-    tree.rollback();
-    assert_eq!(rt; count_in_order(tree, &class), Some(300));
-    Ok(())
-}
-
-#[test]
-fn the_tokens_of_a_root_stay_in_order(rt: HostRuntime) -> Result<(), Fail> {
-    let mut tree = Tree::make(rt.alloc());
-    tokens_stay_in_order(&rt, rt.alloc(), &mut tree)?;
     Ok(())
 }

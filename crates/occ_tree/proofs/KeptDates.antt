@@ -1,8 +1,8 @@
 -- The dates that are kept stay those of a network.
-use Rattle.std.proofs.Common.{◌≡◌, ◌≢◌, ◌∙◌, ℕ, true, false, eqb, List, [], ◌∷◌, ◌++◌, Option, Some, None, IsSome, refl, sym, ap, subst, inl, inr, arith, eqb-true, ◌⊎◌}
-use Rattle.std.specs.List.{Contains, list_any}
-use Rattle.std.specs.Prelude.{ℤ, pos, neg_ℤ, ◌+ℤ◌, ◌-ℤ◌, is_some}
-use Rattle.std.proofs.lemmas.Bool.{cases_eq, or_cases, false≢true}
+use Rattle.std.proofs.Common.{◌≡◌, ◌≢◌, ◌∙◌, ℕ, true, false, List, [], ◌∷◌, ◌++◌, Option, Some, None, IsSome, sym, ap, subst, inl, inr, arith}
+use Rattle.std.specs.List.{Contains}
+use Rattle.std.specs.Prelude.{ℤ, pos, neg_ℤ, ◌+ℤ◌, is_some}
+use Rattle.std.proofs.lemmas.Bool.{cases_eq}
 use Rattle.std.proofs.lemmas.Int.{ints}
 use Rattle.tmm_model.specs.declared.bound.Bound.{Bound}
 use Rattle.tmm_model.specs.declared.bound.Bound.TheVariants.{Finite}
@@ -18,18 +18,18 @@ use Rattle.dist_net.specs.Net.{Net}
 use Rattle.list_net.specs.Represents.{IsNumberOf}
 use Rattle.list_net.proofs.Numbers.{number_far}
 use Rattle.spots.specs.declared.link.Link.{Link}
-use Rattle.spots.specs.Forest.{Forest, Member, SameMembers, IsLive, moment, child_member}
+use Rattle.spots.specs.Forest.{Forest, Member, moment, child_member}
 use Rattle.spots.specs.OfLists.{HasList}
 use Rattle.spots.specs.Spots.{net_far, links_low, node_early}
 use Rattle.spots.proofs.Delays.{low_push}
 use Rattle.spots.proofs.Distances.{early_is}
-use Rattle.spots.proofs.Nodes.{node_at, live_at, base-moment}
+use Rattle.spots.proofs.Nodes.{live_at, base-moment}
 use Rattle.occ_tree.specs.Below.{IsBelow}
-use Rattle.occ_tree.specs.Dated.{IsDatedBy, point_early, DatesFollow, IsBelowNone}
-use Rattle.occ_tree.specs.DatedLaws.{PointsDateNodes, RootsKeepDates, EffectsKeepDates, WithdrawalsKeepDates, OthersKeepDates, AllMayDiffer, MovesKeepDates, RightRootsStay, NoneIsLeft, RootsDateAll}
-use Rattle.occ_tree.specs.Edits.{Grows, Moves}
+use Rattle.occ_tree.specs.Dated.{IsDatedBy, point_early}
+use Rattle.occ_tree.specs.DatedLaws.{PointsDateNodes, RootsKeepDates, EffectsKeepDates, WithdrawalsKeepDates, RootsDateAll}
+use Rattle.occ_tree.specs.Edits.{Grows}
 use Rattle.occ_tree.specs.Standing.{State, forest, early}
-use Rattle.occ_tree.proofs.Members.{one_member, below_same, members_below, below_root, of_root_or_off}
+use Rattle.occ_tree.proofs.Members.{one_member}
 
 -- ---- the date of a node in a network
 
@@ -126,107 +126,6 @@ withdrawals_keep_dates = λ net old new x shrinks dated y live.
     let left : IsBelow (forest old) x y → ⊥ = λ b. not_live (forest new y) (shrinks.gone y b) live in
     let stays = shrinks.others y left in
     shrinks.dates y left ∙ dated y (subst (λ (o : Option Member). IsSome o) stays live) ∙ sym (early_same net (forest old) (forest new) y stays)
-
--- ---- roots that get other dates
-
--- dates of a network follow those of the roots
-pub network_follows : (net : Net) (s : State) → HasList net (forest s) → IsDatedBy net s → DatesFollow s
-network_follows net s list dated x y b none =
-    let f = forest s in
-    let root = dated x (live_at f x b.above b.above_at) ∙ early_from_point net f list x b.above b.above_at ∙ no_delays (point_early net b.above.begin) b.above.links none in
-    dated y (live_at f y b.below b.below_at) ∙ below_point net f list x y b ∙ ap (λ d. d +ℤ links_low b.below.links) (sym root)
-
-pub others_keep_dates : OthersKeepDates
-others_keep_dates = λ before net s roots list dated same. record {
-  follow = network_follows before s list dated;
-  dated = λ x live off. dated x live ∙ sym (same x live off);
-}
-
-pub all_may_differ : AllMayDiffer
-all_may_differ = λ net s follow rooted. record {
-  follow = follow;
-  dated = λ y live off. (let (x, on, b) = rooted.above y live in absurd (off x on b));
-}
-
-pub none_is_left : NoneIsLeft
-none_is_left = λ net s d x live. d.dated x live (λ r on b. false≢true on)
-
--- what is below none of some roots, nor below one more
-off_one_more : (f : Forest) (x y : ℕ) (roots : List ℕ) → (IsBelow f x y → ⊥) → IsBelowNone f roots y → IsBelowNone f (x ∷ roots) y
-off_one_more f x y roots free off r on b = elim (or_cases (eqb r x) (list_any (eqb r) roots) on) [
-  | inl same ↦ free (subst (λ z. IsBelow f z y) (eqb-true r x same) b)
-  | inr rest ↦ off r rest b
-]
-
-moved_sum : (new old root low date : ℤ) → new ≡ old +ℤ (date -ℤ root) → old ≡ root +ℤ low → new ≡ date +ℤ low
-moved_sum new old root low date e f = omega (arith, ints)
-
-moved_both : (new old up was low step : ℤ) → new ≡ old +ℤ step → up ≡ was +ℤ step → old ≡ was +ℤ low → new ≡ up +ℤ low
-moved_both new old up was low step e f g = omega (arith, ints)
-
-module _ (old new : State) (x : ℕ) (m : Member) (date : ℤ) (m_at : forest old x ≡ Some m) (none : m.links ≡ []) (moves : Moves old new x date) (follow : DatesFollow old) where
-  back : SameMembers (forest new) (forest old)
-  back y = sym (moves.nodes y)
-
-  -- what is below the root has the date that follows from its new one
-  date_below : (y : ℕ) (n : Member) → forest old y ≡ Some n → m.root ≡ n.root → early new y ≡ date +ℤ links_low n.links
-  date_below y n n_at root =
-      let b = below_root (forest old) x y m n m_at n_at none root in
-      moved_sum (early new y) (early old y) (early old x) (links_low n.links) date (moves.dates y b) (follow x y b none)
-
-  follow_moved : DatesFollow new
-  follow_moved r y b level =
-      let above_at : forest old r ≡ Some b.above = back r ∙ b.above_at in
-      let below_at : forest old y ≡ Some b.below = back y ∙ b.below_at in
-      let was : early old y ≡ early old r +ℤ links_low b.below.links = follow r y (below_same (forest new) (forest old) back r y b) level in
-      elim (of_root_or_off (forest old) x r m b.above m_at above_at none) [
-        | inl root ↦
-            let under_r = below_root (forest old) x r m b.above m_at above_at none root in
-            let under_y = below_root (forest old) x y m b.below m_at below_at none (root ∙ b.is_below.0) in
-            moved_both (early new y) (early old y) (early new r) (early old r) (links_low b.below.links) (date -ℤ early old x) (moves.dates y under_y) (moves.dates r under_r) was
-        | inr free ↦
-            let off : IsBelow (forest old) x y → ⊥ =
-            λ under. free (below_root (forest old) x r m b.above m_at above_at none ((members_below (forest old) x y m b.below m_at below_at under).0 ∙ sym b.is_below.0)) in
-            moves.others y off ∙ was ∙ ap (λ d. d +ℤ links_low b.below.links) (sym (moves.others r free))
-      ]
-
-  dated_moved : (net : Net) → HasList net (forest old) → date ≡ point_early net m.begin
-      → (roots : List ℕ) → ((y : ℕ) → IsLive (forest old) y → IsBelowNone (forest old) (x ∷ roots) y → early old y ≡ node_early net (forest old) y)
-      → (y : ℕ) → IsLive (forest new) y → IsBelowNone (forest new) roots y → early new y ≡ node_early net (forest new) y
-  dated_moved net list is roots dated y live off =
-      let stays = moves.nodes y in
-      let there : IsLive (forest old) y = subst (λ (o : Option Member). IsSome o) stays live in
-      let (n, n_at) = node_at (forest old) y there in
-      date_of n n_at there (of_root_or_off (forest old) x y m n m_at n_at none) ∙ sym (early_same net (forest old) (forest new) y stays)
-    where
-      date_of : (n : Member) → forest old y ≡ Some n → IsLive (forest old) y → (m.root ≡ n.root) ⊎ (IsBelow (forest old) x y → ⊥) → early new y ≡ node_early net (forest old) y
-      date_of n n_at there (inl root) =
-          date_below y n n_at root ∙ ap (λ d. d +ℤ links_low n.links) is ∙ sym (below_point net (forest old) list x y (below_root (forest old) x y m n m_at n_at none root))
-      date_of n n_at there (inr free) =
-          let off_roots : IsBelowNone (forest old) roots y = λ r on b. off r on (below_same (forest old) (forest new) moves.nodes r y b) in
-          moves.others y free ∙ dated y there (off_one_more (forest old) x y roots free off_roots)
-
--- **A root that is moved to the date of its point is right with all below it.**
-pub moves_keep_dates : MovesKeepDates
-moves_keep_dates = λ net old new x m roots date m_at none is moves list d. record {
-  follow = follow_moved old new x m date m_at none moves d.follow;
-  dated = dated_moved old new x m date m_at none moves d.follow net list is roots d.dated;
-}
-
--- a root that stays where it is
-stays_there : (s : State) (x : ℕ) → Moves s s x (early s x)
-stays_there s x = record {
-  nodes = λ y. refl;
-  lists = λ parent. refl;
-  dates = λ y b. same (early s y) (early s x);
-  others = λ y free. refl;
-}
-  where
-    same : (d r : ℤ) → d ≡ d +ℤ (r -ℤ r)
-    same d r = omega (arith, ints)
-
-pub right_roots_stay : RightRootsStay
-right_roots_stay = λ net s x m roots m_at none is list d. moves_keep_dates net s s x m roots (early s x) m_at none is (stays_there s x) list d
 
 -- **Where roots have the dates of their points, all nodes have theirs.**
 pub roots_date_all : RootsDateAll

@@ -1,12 +1,9 @@
 -- Edits of nodes by their numbers are edits of the occurrences.
-use Rattle.std.proofs.Common.{◌≡◌, ◌∙◌, ℕ, List, [], ◌++◌, map, Some, None, sym, ap, subst, inl, inr, ◌⊎◌}
-use Rattle.std.specs.Cmp.Lexicographic.{bytes_decides}
-use Rattle.std.proofs.lemmas.Bool.{cases_Bool, both_ways}
-use Rattle.tmm_model.specs.Points.{same_name}
+use Rattle.std.proofs.Common.{◌≡◌, ◌∙◌, ℕ, List, [], ◌++◌, map, Some, None, sym, ap, subst}
 use Rattle.spots.specs.declared.link.Link.{Link}
-use Rattle.spots.specs.Forest.{Forest, Member, rules_of, SameMembers, IsBelow as IsMemberBelow}
+use Rattle.spots.specs.Forest.{Forest, Member, rules_of, IsBelow as IsMemberBelow}
 use Rattle.occ_tree.specs.Below.{IsBelow}
-use Rattle.occ_tree.specs.EditLaws.{GrowingEnters, ShrinkingWithdraws, MovingKeepsMembers}
+use Rattle.occ_tree.specs.EditLaws.{GrowingEnters, ShrinkingWithdraws}
 use Rattle.occ_tree.specs.Standing.{forest}
 
 -- ---- below a node
@@ -14,10 +11,6 @@ use Rattle.occ_tree.specs.Standing.{forest}
 -- a number is of one occurrence
 pub one_member : (f : Forest) (x : ℕ) (m n : Member) → f x ≡ Some m → f x ≡ Some n → m ≡ n
 one_member f x m n m_at n_at = let both : Some m ≡ Some n = sym m_at ∙ n_at in cc
-
--- what is below a node tells of the occurrences alone
-abbrev pub below_same : (f g : Forest) → SameMembers f g → (x y : ℕ) → IsBelow f x y → IsBelow g x y
-below_same f g same x y b = record { above = b.above; below = b.below; above_at = same x ∙ b.above_at; below_at = same y ∙ b.below_at; is_below = b.is_below }
 
 module _ (f : Forest) (x y : ℕ) (m n : Member) (m_at : f x ≡ Some m) (n_at : f y ≡ Some n) where
   pub members_below : IsBelow f x y → IsMemberBelow m n
@@ -33,13 +26,6 @@ module _ (f : Forest) (x y : ℕ) (m n : Member) (m_at : f x ≡ Some m) (n_at :
     abbrev pub below_root : m.root ≡ n.root → IsBelow f x y
     below_root root = below_by_members (root, rules_of n, ap (λ (ls : List Link). map (λ (l : Link). l.rule) ls ++ rules_of n) (sym none))
 
-    -- a node is of a root, or not below it
-    pub of_root_or_off : (m.root ≡ n.root) ⊎ (IsBelow f x y → ⊥)
-    of_root_or_off = elim (cases_Bool (same_name m.root n.root)) [
-      | inl same ↦ inl ((bytes_decides m.root n.root).0 same)
-      | inr other ↦ inr (λ b. both_ways (same_name m.root n.root) other ((bytes_decides m.root n.root).1 (members_below b).0))
-    ]
-
 -- ---- edits
 
 pub growing_enters : GrowingEnters
@@ -52,6 +38,3 @@ shrinking_withdraws = λ old new x m m_at shrinks. record {
   others = λ y n n_at apart. shrinks.others y (λ b. apart (members_below (forest old) x y m n m_at n_at b)) ∙ n_at;
   none = λ y none. shrinks.others y (λ b. (let both : None ≡ Some b.below = sym none ∙ b.below_at in cc)) ∙ none;
 }
-
-pub moving_keeps_members : MovingKeepsMembers
-moving_keeps_members = λ old new x date moves. moves.nodes

@@ -2,7 +2,7 @@
 use Rattle.std.proofs.Common.{◌≡◌, ◌≢◌, ℕ, ◌+◌, ◌*◌, ◌<◌, zero, suc, Bool, true, false, List, [], ◌∷◌, ◌++◌, length, take, Option, Some, None, IsSome, eqb, refl, sym, ap, ◌∙◌, subst, inl, inr, arith, option_map, ◌⊎◌, w64, of_z, to_z}
 use Rattle.std.specs.List.{list_any}
 use Rattle.std.specs.Int.RustNames.{FitsSigned}
-use Rattle.std.specs.Prelude.{ℤ, pos, ◌+ℤ◌, ◌-ℤ◌, ◌≤ℤ◌, MatchOption, IfSome}
+use Rattle.std.specs.Prelude.{ℤ, pos, ◌+ℤ◌, ◌≤ℤ◌, MatchOption, IfSome}
 use Rattle.std.specs.Option.{option_map_or}
 use Rattle.std.proofs.lemmas.Bool.{cases_eq, cases_Bool, both_ways}
 use Rattle.std.proofs.lemmas.Int.{ints}
@@ -14,24 +14,22 @@ use Rattle.tmm_model.specs.declared.token.TokenRow.{TokenRow}
 use Rattle.undo_rows.specs.declared.row.Row.{Row}
 use Rattle.undo_rows.specs.Tables.{Table, with_value}
 use Rattle.undo_rows.proofs.Written.{with_row-same, with_row-other}
-use Rattle.occ_tree.specs.Below.{IsBelow, IsOnWay, ListsBelow}
+use Rattle.occ_tree.specs.Below.{IsOnWay}
 use Rattle.occ_tree.specs.declared.node.Node.{Node}
 use Rattle.occ_tree.specs.declared.node.Above.{Above}
 use Rattle.spots.specs.declared.spot.Spot.{Spot}
-use Rattle.occ_tree.specs.Edits.{dated, AreDated, Moves}
+use Rattle.occ_tree.specs.Edits.{dated, AreDated}
 use Rattle.spots.specs.Forest.{Member}
-use Rattle.occ_tree.specs.Nodes.{Nodes, Way, parent_of, root_of, way_to, member_of, forest_in, date_in, HasParent, IsPlaced, ArePlaced}
-use Rattle.spots.specs.Spots.{links_low}
+use Rattle.occ_tree.specs.Nodes.{Nodes, Way, parent_of, root_of, way_to, member_of, forest_in, HasParent, IsPlaced, ArePlaced}
 use Rattle.occ_tree.specs.Classes.{IsNumberOf}
-use Rattle.occ_tree.specs.Standing.{nodes_in, head_for, IsStanding, AreKept}
+use Rattle.occ_tree.specs.Standing.{nodes_in, head_for, IsStanding}
 use Rattle.occ_tree.specs.Tokens.{is_of, AreTokensBut}
-use Rattle.occ_tree.proofs.Beneath.{below_from_way, way_from_below}
 use Rattle.spots.proofs.Delays.{low_within, low_small}
 use Rattle.occ_tree.proofs.Effects.{seen, member_at, way_root}
 use Rattle.occ_tree.proofs.Grown.{row_at, node_at, some_node}
-use Rattle.occ_tree.proofs.InOrder.{on_one, on_front}
-use Rattle.occ_tree.proofs.Keeping.{date_at, root_there, node_of_member}
-use Rattle.occ_tree.proofs.OnWays.{on_own, on_way_cases, parent_there, way_right_below, way_leads}
+use Rattle.occ_tree.proofs.InOrder.{on_one}
+use Rattle.occ_tree.proofs.Keeping.{root_there, node_of_member}
+use Rattle.occ_tree.proofs.OnWays.{on_own, on_way_cases, parent_there, way_right_below}
 use Rattle.occ_tree.proofs.Placing.{have_parents, placed_stays}
 use Rattle.occ_tree.proofs.TokenLists.{some_is, tokens_same}
 use Rattle.occ_tree.proofs.Ways.{fixed, Extends, HaveParents, way-same, length-way, length-links}
@@ -271,13 +269,6 @@ module _ (node : Nodes) (placed : ArePlaced node) (x : ℕ) (m : Node) (m_at : n
       let (r, r_at) = root_there node placed y n at in
       on_one (root_of y n) x (subst (λ l. IsOn l (root_of y n)) ((placed.each y n at).root ∙ root_first n.depth y n at refl on) (on_own node (root_of y n) r r_at))
 
-  pub low_none : m.sums.low ≡ pos 0
-  low_none = (placed.each x m m_at).sums.low ∙ ap (λ (w : Way). links_low w.links) (way_root node placed x m m_at root)
-
--- the root of what is not below a node is not below it
-pub root_off : (node : Nodes) → ArePlaced node → (x y : ℕ) (n : Node) → node y ≡ Some n → (IsOnWay node x y → ⊥) → IsOnWay node x (root_of y n) → ⊥
-root_off node placed x y n at free on = free (on_front 1 (way_to node y).numbers x (subst (λ l. IsOn l x) (placed.each y n at).root on))
-
 -- what no rule leads to has no parent
 pub root_above : (node : Nodes) → ArePlaced node → (x : ℕ) (k : Member) → forest_in node x ≡ Some k → k.links ≡ [] → (n : Node) × (node x ≡ Some n) × (n.above ≡ None)
 root_above node placed x k k_at none =
@@ -290,61 +281,3 @@ root_above node placed x k k_at none =
     by : (n : Node) (o : Option Above) → n.above ≡ o → n.depth ≡ 0 → MatchOption o (n.depth ≡ 0) (HasParent node n) → n.above ≡ None
     by n None above level has = above
     by n (Some a) above level (p, p_at, more, begin) = absurd (omega (arith, level, more))
-
-module _ (t u : Table Node 1) (x : ℕ) (date : ℤ) (numbers : List ℕ) (below : ListsBelow (nodes_in t) x numbers) (d : AreDated t u numbers (λ _. date)) (placed : ArePlaced (nodes_in t)) where
-  -- a node, with its date
-  here : (y : ℕ) (n : Node) → nodes_in t y ≡ Some n → IsOn numbers y → nodes_in u y ≡ Some (dated date n)
-  here y n at on = d.on y on ∙ ap (option_map (dated date)) at
-
-  elsewhere : (y : ℕ) → (IsOnWay (nodes_in t) x y → ⊥) → nodes_in u y ≡ nodes_in t y
-  elsewhere y free = d.others y (λ on. free ((below.each y).0 on))
-
-  extends : Extends (nodes_in t) (nodes_in u)
-  extends = extends_all t u (λ _. date) numbers d
-
-  none : (y : ℕ) → nodes_in t y ≡ None → nodes_in u y ≡ None
-  none = none_all t u (λ _. date) numbers d
-
-  module _ (m : Node) (m_at : nodes_in t x ≡ Some m) (root : m.above ≡ None) (names : List (List ℕ)) (rows left : ℕ → List (TokenRow Spot)) (kept : AreKept names (nodes_in t) rows) where
-    x_on : IsOn numbers x
-    x_on = (below.each x).1 (on_own (nodes_in t) x m m_at)
-
-    root_date : date_in (nodes_in u) x ≡ date
-    root_date = let low = low_none (nodes_in t) placed x m m_at root in date_at (nodes_in u) x (dated date m) (here x m m_at x_on) ∙ (let e : date +ℤ m.sums.low ≡ date = omega (arith, ints, low) in e)
-
-    date_kept : (y : ℕ) (k : Node) → nodes_in u y ≡ Some k → k.early ≡ date_in (nodes_in u) (root_of y k) +ℤ k.sums.low
-    date_kept y k at =
-        let (n, n_at, _) = before_all t u (λ _. date) numbers d y k at in
-        elim (cases_Bool (list_any (eqb y) numbers)) [
-          | inl on ↦
-              let both : Some (dated date n) ≡ Some k = sym (here y n n_at on) ∙ at in
-              let one : dated date n ≡ k = cc in
-              let up : root_of y n ≡ x = root_is (nodes_in t) placed x m m_at root y n n_at ((below.each y).0 on) in
-              subst (λ (w : Node). w.early ≡ date_in (nodes_in u) (root_of y w) +ℤ w.sums.low) one (ap (λ z. z +ℤ n.sums.low) (sym (ap (date_in (nodes_in u)) up ∙ root_date)))
-          | inr off ↦
-              let free : IsOnWay (nodes_in t) x y → ⊥ = λ on. both_ways (list_any (eqb y) numbers) off ((below.each y).1 on) in
-              let both : Some n ≡ Some k = sym n_at ∙ sym (elsewhere y free) ∙ at in
-              let one : n ≡ k = cc in
-              let same : date_in (nodes_in u) (root_of y n) ≡ date_in (nodes_in t) (root_of y n) = ap (λ o. option_map_or (λ (q : Node). q.early) o (pos 0)) (elsewhere (root_of y n) (root_off (nodes_in t) placed x y n n_at free)) in
-              subst (λ (w : Node). w.early ≡ date_in (nodes_in u) (root_of y w) +ℤ w.sums.low) one (kept.dates y n n_at ∙ ap (λ z. z +ℤ n.sums.low) (sym same))
-        ]
-
-    pub kept_moved : AreTokensBut (nodes_in u) left [] → AreKept names (nodes_in u) left
-    kept_moved tokens = record { tokens = tokens; numbers = number_all t u (λ _. date) numbers d names kept.numbers; dates = date_kept }
-
-    date_moves : (y : ℕ) → IsBelow (forest_in (nodes_in t)) x y → date_in (nodes_in u) y ≡ date_in (nodes_in t) y +ℤ (date -ℤ date_in (nodes_in t) x)
-    date_moves y b =
-        let on = way_from_below (nodes_in t) placed x y b in
-        let (n, n_at) = way_leads (nodes_in t) x y on in
-        let up : root_of y n ≡ x = root_is (nodes_in t) placed x m m_at root y n n_at on in
-        let new : date_in (nodes_in u) y ≡ date +ℤ n.sums.low = date_at (nodes_in u) y (dated date n) (here y n n_at ((below.each y).1 on)) in
-        let old : date_in (nodes_in t) y ≡ date_in (nodes_in t) x +ℤ n.sums.low = date_at (nodes_in t) y n n_at ∙ kept.dates y n n_at ∙ ap (λ z. date_in (nodes_in t) z +ℤ n.sums.low) up in
-        omega (arith, ints, new, old)
-
-    pub moves : (a b : List ℕ → List (TokenRow Spot)) → Moves (record { rows = t; tokens = a }) (record { rows = u; tokens = b }) x date
-    moves a b = record {
-      nodes = members_same (nodes_in t) (nodes_in u) (have_parents (nodes_in t) placed) extends none;
-      lists = λ parent. d.lists (head_for parent);
-      dates = date_moves;
-      others = λ y free. ap (λ o. option_map_or (λ (q : Node). q.early) o (pos 0)) (elsewhere y (λ on. free (below_from_way (nodes_in t) placed x y on)));
-    }

@@ -4,7 +4,7 @@ use Rattle.std.specs.Option.{option_map_or}
 use Rattle.row_links.specs.Lists.{IsOn, AreOnce}
 use Rattle.tmm_model.specs.Moments.{negated}
 use Rattle.dist_net.specs.Net.{Net}
-use Rattle.spots.specs.Forest.{Forest, Member, IsLive}
+use Rattle.spots.specs.Forest.{Member, IsLive}
 use Rattle.spots.specs.OfLists.{HasList}
 use Rattle.spots.specs.Spots.{IsSpot, net_far, links_low, node_early}
 use Rattle.spots.specs.declared.spot.Spot.{Spot}
@@ -68,13 +68,3 @@ pub record HaveRoots (s : State) : Type 0 where
   pub once : AreOnce (below s None)
   pub roots : (x : ℕ) → IsChildOf s None x → (m : Member) × (forest s x ≡ Some m) × (m.links ≡ [])
   pub above : (y : ℕ) → IsLive (forest s) y → (x : ℕ) × IsChildOf s None x × IsBelow (forest s) x y
-
--- node y is none of these and below none of them
-abbrev pub IsBelowNone : Forest → List ℕ → ℕ → Type 0
-IsBelowNone f roots y = (x : ℕ) → IsOn roots x → IsBelow f x y → ⊥
-
--- The date of each node is its earliest date in the network, but for these roots and what is below
--- them. All dates are those of the roots and the least delays on the way.
-pub record IsDatedBut (net : Net) (roots : List ℕ) (s : State) : Type 0 where
-  pub follow : DatesFollow s
-  pub dated : (x : ℕ) → IsLive (forest s) x → IsBelowNone (forest s) roots x → early s x ≡ node_early net (forest s) x

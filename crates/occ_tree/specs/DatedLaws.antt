@@ -1,14 +1,14 @@
 -- Laws of dates: what leaves the dates that are kept those of a network.
-use Rattle.std.specs.Prelude.{◌≡◌, ℕ, ℤ, ◌+ℤ◌, List, [], ◌∷◌, Option, Some, None}
+use Rattle.std.specs.Prelude.{◌≡◌, ℕ, ℤ, ◌+ℤ◌, List, [], Option, Some, None}
 use Rattle.tmm_model.specs.declared.token.Shape.{Shape}
 use Rattle.dist_net.specs.Net.{Net}
 use Rattle.spots.specs.declared.link.Link.{Link}
-use Rattle.spots.specs.Forest.{Forest, Member, IsLive, child_member}
+use Rattle.spots.specs.Forest.{Forest, Member, child_member}
 use Rattle.spots.specs.OfLists.{HasList}
 use Rattle.spots.specs.Spots.{links_low, node_early}
-use Rattle.occ_tree.specs.Dated.{IsDatedBy, point_early, DatesFollow, HaveRoots, IsBelowNone, IsDatedBut}
-use Rattle.occ_tree.specs.Edits.{Grows, Shrinks, Moves}
-use Rattle.occ_tree.specs.Standing.{State, forest, early, below}
+use Rattle.occ_tree.specs.Dated.{IsDatedBy, point_early, DatesFollow, HaveRoots}
+use Rattle.occ_tree.specs.Edits.{Grows, Shrinks}
+use Rattle.occ_tree.specs.Standing.{State, forest, early}
 
 -- the date of a node in a network is that of its point and the least delays on the way
 abbrev pub PointsDateNodes : Type 0
@@ -31,38 +31,6 @@ EffectsKeepDates =
 -- **Nodes that go leave them so.**
 abbrev pub WithdrawalsKeepDates : Type 0
 WithdrawalsKeepDates = (net : Net) (old new : State) (x : ℕ) → Shrinks old new x → IsDatedBy net old → IsDatedBy net new
-
--- ---- roots that get other dates one after the other, as the network has
-
--- Where the dates are those of another network, and both networks give the same to all but some
--- roots and what is below these, the dates are those of the network but for these roots.
-abbrev pub OthersKeepDates : Type 0
-OthersKeepDates =
-    (before net : Net) (s : State) (roots : List ℕ) → HasList before (forest s) → IsDatedBy before s
-    → ((x : ℕ) → IsLive (forest s) x → IsBelowNone (forest s) roots x → node_early net (forest s) x ≡ node_early before (forest s) x)
-    → IsDatedBut net roots s
-
--- whatever the network, all roots may have other dates
-abbrev pub AllMayDiffer : Type 0
-AllMayDiffer = (net : Net) (s : State) → DatesFollow s → HaveRoots s → IsDatedBut net (below s None) s
-
--- **A root that is moved to the date of its point is right with all below it.**
-abbrev pub MovesKeepDates : Type 0
-MovesKeepDates =
-    (net : Net) (old new : State) (x : ℕ) (m : Member) (roots : List ℕ) (date : ℤ)
-    → forest old x ≡ Some m → m.links ≡ [] → date ≡ point_early net m.begin
-    → Moves old new x date → HasList net (forest old) → IsDatedBut net (x ∷ roots) old → IsDatedBut net roots new
-
--- so is one that has the date of its point
-abbrev pub RightRootsStay : Type 0
-RightRootsStay =
-    (net : Net) (s : State) (x : ℕ) (m : Member) (roots : List ℕ)
-    → forest s x ≡ Some m → m.links ≡ [] → early s x ≡ point_early net m.begin
-    → HasList net (forest s) → IsDatedBut net (x ∷ roots) s → IsDatedBut net roots s
-
--- with no root left, all dates are those of the network
-abbrev pub NoneIsLeft : Type 0
-NoneIsLeft = (net : Net) (s : State) → IsDatedBut net [] s → IsDatedBy net s
 
 -- **Where roots have the dates of their points, all dates are those of the network.**
 abbrev pub RootsDateAll : Type 0

@@ -1,7 +1,7 @@
 -- Laws of edits: what they do to the occurrences.
 use Rattle.std.specs.Prelude.{◌≡◌, ℕ, ℤ, Option, Some}
-use Rattle.spots.specs.Forest.{Member, Enters, SameMembers, Withdraws}
-use Rattle.occ_tree.specs.Edits.{Grows, Shrinks, Moves}
+use Rattle.spots.specs.Forest.{Member, Enters, Withdraws}
+use Rattle.occ_tree.specs.Edits.{Grows, Shrinks}
 use Rattle.occ_tree.specs.Standing.{State, forest}
 
 -- a new node enters among the occurrences
@@ -12,7 +12,3 @@ GrowingEnters =
 -- **A node that goes is withdrawn from the occurrences with all that its rules lead to.**
 abbrev pub ShrinkingWithdraws : Type 0
 ShrinkingWithdraws = (old new : State) (x : ℕ) (m : Member) → forest old x ≡ Some m → Shrinks old new x → Withdraws (forest old) (forest new) m
-
--- a root that gets another date leaves the occurrences
-abbrev pub MovingKeepsMembers : Type 0
-MovingKeepsMembers = (old new : State) (x : ℕ) (date : ℤ) → Moves old new x date → SameMembers (forest old) (forest new)

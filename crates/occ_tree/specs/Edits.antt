@@ -1,5 +1,5 @@
 -- What edits do to nodes.
-use Rattle.std.specs.Prelude.{◌≡◌, ◌≢◌, ℕ, ℤ, ◌+ℤ◌, ◌-ℤ◌, List, [], ◌∷◌, ◌++◌, Option, None, Some, IfSome}
+use Rattle.std.specs.Prelude.{◌≡◌, ◌≢◌, ℕ, ℤ, ◌+ℤ◌, List, [], ◌∷◌, ◌++◌, Option, None, Some, IfSome}
 use Rattle.std.specs.Option.{option_map}
 use Rattle.row_links.specs.Lists.{IsOn, without}
 use Rattle.undo_rows.specs.Tables.{Table, with_new, without_row, with_value, new_row}
@@ -81,19 +81,6 @@ pub record Shrinks (old new : State) (x : ℕ) : Type 0 where
 -- node x is gone with all below it, and the last commit stays
 pub record Withdraws (old new : Kept) (x : ℕ) : Type 0 where
   pub shrinks : Shrinks (present old) (present new) x
-  pub committed_is : committed new ≡ committed old
-
--- Root x has this date, and all below it keep their distances from it. All else stays, with its
--- dates and in its order.
-pub record Moves (old new : State) (x : ℕ) (date : ℤ) : Type 0 where
-  pub nodes : (y : ℕ) → forest new y ≡ forest old y
-  pub lists : (parent : Option ℕ) → below new parent ≡ below old parent
-  pub dates : (y : ℕ) → IsBelow (forest old) x y → early new y ≡ early old y +ℤ (date -ℤ early old x)
-  pub others : (y : ℕ) → (IsBelow (forest old) x y → ⊥) → early new y ≡ early old y
-
--- root x has this date, with all below it, and the last commit stays
-pub record ReDates (old new : Kept) (x : ℕ) (date : ℤ) : Type 0 where
-  pub moves : Moves (present old) (present new) x date
   pub committed_is : committed new ≡ committed old
 
 -- the tree stays, and so does the last commit

@@ -1,5 +1,5 @@
 // Laws of dates: what leaves the dates that are kept those of a network.
-ghost use Rattle.occ_tree.specs.DatedLaws.{PointsDateNodes, RootsKeepDates, EffectsKeepDates, WithdrawalsKeepDates, OthersKeepDates, AllMayDiffer, MovesKeepDates, RightRootsStay, NoneIsLeft, RootsDateAll};
+ghost use Rattle.occ_tree.specs.DatedLaws.{PointsDateNodes, RootsKeepDates, EffectsKeepDates, WithdrawalsKeepDates, RootsDateAll};
 
 /// The earliest date of a node in a network is that of its point and the least delays on the way.
 pub fn points_date_nodes()
@@ -19,16 +19,6 @@ pub fn effects_keep_dates()
 /// So does a node that goes with all below it.
 pub fn withdrawals_keep_dates()
     ensures { WithdrawalsKeepDates }
-{}
-
-/// Roots get the dates of their points in another network, one after the other, and then all dates
-/// are those of that network.
-pub fn moves_keep_dates()
-    ensures others { OthersKeepDates }
-    ensures all { AllMayDiffer }
-    ensures moved { MovesKeepDates }
-    ensures right { RightRootsStay }
-    ensures none_left { NoneIsLeft }
 {}
 
 /// Where roots have the dates of their points, all dates are those of the network.

@@ -1,5 +1,5 @@
 // Laws of edits: what they do to the occurrences.
-ghost use Rattle.occ_tree.specs.EditLaws.{GrowingEnters, ShrinkingWithdraws, MovingKeepsMembers};
+ghost use Rattle.occ_tree.specs.EditLaws.{GrowingEnters, ShrinkingWithdraws};
 
 /// A new node enters among the occurrences, and all others stay.
 pub fn growing_enters()
@@ -9,9 +9,4 @@ pub fn growing_enters()
 /// A node that goes is withdrawn from the occurrences with all that its rules lead to.
 pub fn shrinking_withdraws()
     ensures { ShrinkingWithdraws }
-{}
-
-/// A root that gets another date leaves the occurrences.
-pub fn moving_keeps_members()
-    ensures { MovingKeepsMembers }
 {}

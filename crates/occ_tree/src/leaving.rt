@@ -17,8 +17,8 @@ use std::alloc::Global;
 use tmm_model::NoMemory;
 
 // The numbers of a node and of all below it in the order of nodes, so that each is before those
-// below it, with room for two changes of each node and of each token among them. All stays, also
-// where there is no memory.
+// below it, with room to take them out, and the tokens among them. All stays, also where there is
+// no memory.
 pub(crate) fn room_below(
     alloc: Global,
     nodes: &mut Nodes,
@@ -29,7 +29,7 @@ pub(crate) fn room_below(
     requires dates { FollowRoots (nodes_in (present_rows nodes.old)) }
     ensures below { IfOk result (λ numbers. ListsBelow (nodes_in (present_rows nodes.old)) x numbers.items) }
     ensures in_order { IfOk result (λ numbers. IsInOrder (node_cmp (nodes_in (present_rows nodes.old))) numbers.items) }
-    ensures room { IfOk result (λ numbers. (2 * length numbers.items ≤ nodes.new.rows.spare) × (2 * length numbers.items ≤ tokens.new.spare)) }
+    ensures room { IfOk result (λ numbers. (2 * length numbers.items ≤ nodes.new.rows.spare) × (length numbers.items ≤ tokens.new.spare)) }
     ensures stands { IsStanding nodes.old.rows.places (present_rows nodes.old) }
     ensures listed { AreListed (present_rows nodes.old) }
     ensures keeps { Keeps nodes.old nodes.new }
@@ -41,9 +41,8 @@ pub(crate) fn room_below(
     let _ = nodes.first(None);
     let mut numbers = list_below(alloc, nodes, x)?;
     sort_below(nodes, &mut numbers);
-    let changes = 2 * numbers.len();
-    nodes.reserve(alloc, changes)?;
-    tokens.reserve(alloc, 0, 0, changes)?;
+    nodes.reserve(alloc, 2 * numbers.len())?;
+    tokens.reserve(alloc, 0, 0, numbers.len())?;
     Ok(numbers)
 }
 

@@ -3,10 +3,9 @@
 //!
 //! With a network of distances a `Tree` answers the tightest distance of two spots. Where the dates
 //! that it keeps are those of the network, nodes compared by these are in the order of `spots`, and
-//! `Order` is that order for `clipping`, with the dates. Roots and effects that come, nodes that
-//! go, and roots that are moved to their dates in another network leave the dates those of the
-//! network (`roots_keep_dates`, `effects_keep_dates`, `withdrawals_keep_dates`,
-//! `moves_keep_dates`).
+//! `Order` is that order for `clipping`, with the dates. Roots and effects that come and nodes that
+//! go leave the dates those of the network (`roots_keep_dates`, `effects_keep_dates`,
+//! `withdrawals_keep_dates`), and `Tree::re_date_all` makes them those of another one.
 //!
 //! `ByName` finds the occurrences of one tree among those of another. `Tree::touched` tells which
 //! nodes and classes the edits since the last commit may have touched, where they moved points of
@@ -17,7 +16,6 @@ mod below;
 mod by_name;
 mod classes;
 mod dated_laws;
-mod dating;
 mod edit_laws;
 mod far;
 mod find;
@@ -37,10 +35,9 @@ mod words;
 
 pub use by_name::ByName;
 pub use dated_laws::{
-    effects_keep_dates, moves_keep_dates, points_date_nodes, roots_date_all, roots_keep_dates,
-    withdrawals_keep_dates,
+    effects_keep_dates, points_date_nodes, roots_date_all, roots_keep_dates, withdrawals_keep_dates,
 };
-pub use edit_laws::{growing_enters, moving_keeps_members, shrinking_withdraws};
+pub use edit_laws::{growing_enters, shrinking_withdraws};
 pub use order::Order;
 pub use ranks::{Ranked, in_order};
 pub use touched::Touched;

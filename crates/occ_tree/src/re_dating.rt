@@ -15,10 +15,9 @@ ghost use Rattle.occ_tree.specs.Standing.{nodes_in, siblings_in, present_rows, c
 ghost use Rattle.occ_tree.specs.Tokens.{AreTokensBut, HaveRoomFor};
 
 use crate::below::{push, push_below};
-use crate::dating::{put_all_in, take_all_out};
 use crate::nodes::Nodes;
 use crate::sorting::sort_nodes;
-use crate::tokens::Tokens;
+use crate::tokens::{Tokens, put_all_in, take_all_out};
 use dist_net::DistNet;
 use std::alloc::Global;
 use tmm_model::{Bound, NoMemory};

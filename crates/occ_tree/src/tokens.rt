@@ -1,7 +1,7 @@
 // Tokens that enter and leave the order of their class.
 ghost use Rattle.std.specs.Prelude.{◌≡◌, ◌≢◌, ℕ, ◌+◌, ◌<◌, ◌≤◌, List, [], Option, ◌∷◌, length, Some, IsSome, IsTrue, IfSome, IfOk, OnOk, OnErr};
 ghost use Rattle.std.specs.Ordering.{is_lt};
-ghost use Rattle.row_links.specs.Lists.{IsOn};
+ghost use Rattle.row_links.specs.Lists.{IsOn, AreOnce};
 ghost use Rattle.undo_lists.specs.Changes.{present, committed, rooms};
 ghost use Rattle.occ_tree.specs.Classes.{place_in, HaveMore, IsNumberOf};
 ghost use Rattle.occ_tree.specs.Edits.{Adds, Keeps};
@@ -137,6 +137,39 @@ pub(crate) fn take_out(nodes: &Nodes, tokens: &mut Tokens, x: u32)
     if let Some(list) = node.list {
         let place = place_of(nodes, tokens.list(list), x);
         let _ = tokens.remove(list, place);
+    }
+}
+
+// Puts nodes that are out among the tokens of their classes, the first one first. It takes no
+// memory.
+pub(crate) fn put_all_in(nodes: &Nodes, tokens: &mut Tokens, numbers: &[u32])
+    requires live { (y : ℕ) → IsOn numbers.now y → IsSome (nodes_in (present_rows nodes.now) y) }
+    requires once { AreOnce numbers.now }
+    requires tokens { AreTokensBut (nodes_in (present_rows nodes.now)) (present tokens.old) numbers.now }
+    requires room { HaveRoomFor (nodes_in (present_rows nodes.now)) tokens.old numbers.now }
+    requires spare { length numbers.now ≤ tokens.old.spare }
+    ensures tokens { AreTokensBut (nodes_in (present_rows nodes.now)) (present tokens.new) [] }
+    ensures committed { committed tokens.new ≡ committed tokens.old }
+{
+    for x in numbers {
+        put_in(nodes, tokens, *x);
+    }
+}
+
+// Takes nodes out of the tokens of their classes, the last one first. It takes no memory, and
+// leaves room for them.
+pub(crate) fn take_all_out(nodes: &Nodes, tokens: &mut Tokens, numbers: &[u32])
+    requires live { (y : ℕ) → IsOn numbers.now y → IsSome (nodes_in (present_rows nodes.now) y) }
+    requires once { AreOnce numbers.now }
+    requires tokens { AreTokensBut (nodes_in (present_rows nodes.now)) (present tokens.old) [] }
+    requires spare { length numbers.now ≤ tokens.old.spare }
+    ensures tokens { AreTokensBut (nodes_in (present_rows nodes.now)) (present tokens.new) numbers.now }
+    ensures room { HaveRoomFor (nodes_in (present_rows nodes.now)) tokens.new numbers.now }
+    ensures committed { committed tokens.new ≡ committed tokens.old }
+    ensures spare { tokens.old.spare ≤ tokens.new.spare + length numbers.now }
+{
+    for i in (0..numbers.len()).rev() {
+        take_out(nodes, tokens, numbers[i]);
     }
 }
 

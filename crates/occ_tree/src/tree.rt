@@ -13,11 +13,10 @@ ghost use Rattle.spots.specs.OfLists.{HasList};
 ghost use Rattle.spots.specs.Spots.{AreTokens};
 ghost use Rattle.occ_tree.specs.Tokens.{IsInOrder, numbers_in};
 ghost use Rattle.occ_tree.specs.Dated.{DatesAll, DatesFollow, HaveRoots};
-ghost use Rattle.occ_tree.specs.Edits.{Enters, Withdraws, ReDates, Stays};
+ghost use Rattle.occ_tree.specs.Edits.{Enters, Withdraws, Stays};
 ghost use Rattle.occ_tree.specs.Places.{places, PlacesGrow};
 
 use crate::classes::Classes;
-use crate::dating::date_all;
 use crate::leaving::{leave_all, room_below};
 use crate::nodes::Nodes;
 use crate::re_dating::{date_late, room_for_late};
@@ -139,21 +138,6 @@ impl Tree {
     {
         let numbers = room_below(alloc, &mut self.nodes, &mut self.tokens, x)?;
         leave_all(&mut self.nodes, &mut self.tokens, numbers);
-        Ok(())
-    }
-
-    /// Gives a root another earliest date, in whole time units. All below it keep their distances
-    /// from it, and the tokens of each class are in the order of nodes again. Without memory
-    /// nothing has changed.
-    pub fn re_date(&mut self, alloc: Global, root: u32, date: i64) -> Result<(), NoMemory>
-        requires root { (m : Member) × (forest (present self.old) root ≡ Some m) × (m.links ≡ []) }
-        requires date { IsWithin 1000000000000 date }
-        ensures ok { OnOk result (ReDates self.old self.new root date) }
-        ensures err { OnErr result (Stays self.old self.new) }
-        ensures places { places self.new ≡ places self.old }
-    {
-        let numbers = room_below(alloc, &mut self.nodes, &mut self.tokens, root)?;
-        date_all(&mut self.nodes, &mut self.tokens, numbers.as_slice(), date);
         Ok(())
     }
 

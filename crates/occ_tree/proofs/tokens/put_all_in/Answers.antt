@@ -7,7 +7,7 @@ use Rattle.occ_tree.proofs.Grown.{some_node}
 use Rattle.occ_tree.proofs.InTurn.{item_on, drop_at, new_at}
 use Rattle.occ_tree.proofs.RoomLeft.{room_first}
 use Rattle.occ_tree.proofs.TokenLists.{rows_of}
-use Rattle.occ_tree.proofs.dating.put_all_in.Goals as goal
+use Rattle.occ_tree.proofs.tokens.put_all_in.Goals as goal
 
 pub put_in-requires-clause-live : goal.put_in-requires-clause-live
 put_in-requires-clause-live c =

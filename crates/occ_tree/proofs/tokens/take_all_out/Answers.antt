@@ -4,7 +4,7 @@ use Rattle.undo_lists.specs.Changes.{present}
 use Rattle.occ_tree.specs.Standing.{nodes_in, present_rows}
 use Rattle.occ_tree.specs.Tokens.{AreTokensBut, HaveRoomFor}
 use Rattle.occ_tree.proofs.InTurn.{item_on, drop_at, new_at}
-use Rattle.occ_tree.proofs.dating.take_all_out.Goals as goal
+use Rattle.occ_tree.proofs.tokens.take_all_out.Goals as goal
 
 pub loop-i-init : goal.loop-i-init
 loop-i-init c =

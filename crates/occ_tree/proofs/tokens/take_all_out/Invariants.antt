@@ -2,7 +2,7 @@ use Rattle.std.proofs.Common.{◌≡◌, ◌+◌, ◌≤◌, drop, length}
 use Rattle.undo_lists.specs.Changes.{present, committed}
 use Rattle.occ_tree.specs.Standing.{nodes_in, present_rows}
 use Rattle.occ_tree.specs.Tokens.{AreTokensBut, HaveRoomFor}
-use Rattle.occ_tree.proofs.dating.take_all_out.Given as goal
+use Rattle.occ_tree.proofs.tokens.take_all_out.Given as goal
 
 abbrev pub invariant-loop-i : goal.invariant-loop-i
 invariant-loop-i l = record {

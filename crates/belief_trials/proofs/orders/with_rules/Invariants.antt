@@ -1,0 +1,5 @@
+use Rattle.list_net.specs.Fits.{IsNetOf, NothingPending}
+use Rattle.belief_trials.proofs.orders.with_rules.Given as goal
+
+abbrev pub invariant-loop-i : goal.invariant-loop-i
+invariant-loop-i l = IsNetOf l.premises.list.present l.premises.net.present × NothingPending l.premises.list l.premises.net
