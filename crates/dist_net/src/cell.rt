@@ -1,5 +1,5 @@
 // A bound in eight bytes.
-ghost use Rattle.std.specs.Prelude.{◌≡◌, IsTrue, IsFalse, ◌↔◌};
+ghost use Rattle.std.specs.Prelude.{◌≡◌, IsTrue, IsFalse, ◌↔◌, ◌≤ℤ◌};
 ghost use Rattle.tmm_model.specs.Types.{IsSmall};
 ghost use Rattle.tmm_model.specs.Bounds.{IfFinite, lesser};
 ghost use Rattle.walk_theory.specs.LeastWalks.{AtMost};
@@ -85,6 +85,13 @@ impl Cell {
         ensures other { IsFalse result → IfFinite (seen sum) (AtMost self) }
     {
         sum < self.number
+    }
+
+    /// Whether it is no bound, or no less than a sum.
+    pub fn reaches(self, sum: i64) -> bool
+        ensures { IsTrue result → IfFinite self (λ number. sum ≤ℤ number) }
+    {
+        sum <= self.number
     }
 
     /// The less of the bound and a sum, of which those from `NONE` on are no bound.
