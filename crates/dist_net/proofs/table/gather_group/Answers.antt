@@ -1,5 +1,4 @@
-use Rattle.std.proofs.Common.{◌<◌, ◌+◌, ℕ, List, get_or, sym, subst, arith, refl}
-use Rattle.std.specs.List.{All}
+use Rattle.std.proofs.Common.{◌<◌, ℕ, List, sym, subst, arith, refl}
 use Rattle.std.proofs.lemmas.List.Sorted.{All-permutation}
 use Rattle.dist_net.proofs.Groups.{IsGathering, IsGathering-start, IsGathering-more}
 use Rattle.dist_net.proofs.table.gather_group.Goals.{then-leads_over, else-leads_over}
