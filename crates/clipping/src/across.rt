@@ -20,7 +20,7 @@ ghost use Rattle.clipping.specs.Cutters.{BeginsBy, clips_until};
 ghost use Rattle.clipping.specs.Live.{IsLive};
 ghost use Rattle.clipping.specs.Rivals.{are_rivals, of_rivals};
 
-use crate::by_date::{self, Search, count_reached, count_until, is_by_date};
+use crate::by_date::{self, Search, count_on, count_reached, count_until, is_by_date};
 use crate::{Dated, Tokens};
 use tmm_model::{Name, Rivals, TokenRow};
 
@@ -355,7 +355,7 @@ fn is_supporter<S: Dated, T: Tokens<Spot = S::Spot>, R: Rivals>(
     if is_cut_at(order, k, *elsewhere) {
         return false;
     }
-    if !by_date::is_supporter(order, list, guesses, i, fact, p, q, reach, search) {
+    if !by_date::supports_its_fact(order, list, guesses, i, p, q, reach, search) {
         return false;
     }
     match k.end {
@@ -391,7 +391,7 @@ pub fn holder<S: Dated, T: Tokens<Spot = S::Spot>, R: Rivals>(
 {
     let list = tokens.list(own);
     let until = count_until(order, list, p);
-    let reach = count_until(order, list, q);
+    let reach = count_on(order, list, p, until, q);
     let mut search = Search::new(reach, true);
     let mut elsewhere = None;
     for i in 0..until {
@@ -438,7 +438,7 @@ pub fn is_held<S: Dated, T: Tokens<Spot = S::Spot>, R: Rivals>(
 {
     let list = tokens.list(own);
     let until = count_until(order, list, p);
-    let reach = count_until(order, list, q);
+    let reach = count_on(order, list, p, until, q);
     let mut search = Search::new(reach, false);
     let mut elsewhere = None;
     for i in (0..until).rev() {

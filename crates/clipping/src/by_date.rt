@@ -85,6 +85,30 @@ pub fn count_until<S: Dated>(order: &S, tokens: &[TokenRow<S::Spot>], q: S::Spot
     count_by_date(order, tokens, order.date(q))
 }
 
+// How many tokens have a date up to that of `q`, where `until` have one up to that of `p`. Both are
+// mostly one point.
+pub(crate) fn count_on<S: Dated>(
+    order: &S,
+    tokens: &[TokenRow<S::Spot>],
+    p: S::Spot,
+    until: usize,
+    q: S::Spot,
+) -> usize
+    requires all_live { All (IsLive (S.live order.now)) tokens.now }
+    requires by_date { IsByDate (S.date order.now) (S.order order.now) tokens.now }
+    requires p_live { S.live order.now p }
+    requires q_live { S.live order.now q }
+    requires until { AreUntil (S.date order.now) tokens.now (S.date order.now p) until }
+    ensures { AreUntil (S.date order.now) tokens.now (S.date order.now q) result }
+{
+    let date = order.date(q);
+    if date == order.date(p) {
+        until
+    } else {
+        count_by_date(order, tokens, date)
+    }
+}
+
 // How many tokens have a date up to that of a point where one is given: all where none is.
 pub(crate) fn count_reached<S: Dated>(
     order: &S,
@@ -363,9 +387,41 @@ fn is_cut<S: Dated>(
     }
 }
 
+// Whether the token at `i` supports its own fact throughout `p` to `q`, where the tokens that begin
+// by the date of `q` are the first `reach`.
+pub(crate) fn supports_its_fact<S: Dated>(
+    order: &S,
+    tokens: &[TokenRow<S::Spot>],
+    guesses: &[u32],
+    i: usize,
+    p: S::Spot,
+    q: S::Spot,
+    reach: usize,
+    search: &mut Search,
+) -> bool
+    requires all_live { All (IsLive (S.live order.now)) tokens.now }
+    requires by_date { IsByDate (S.date order.now) (S.order order.now) tokens.now }
+    requires within { i < length tokens.now }
+    requires p_live { S.live order.now p }
+    requires q_live { S.live order.now q }
+    requires reach { AreUntil (S.date order.now) tokens.now (S.date order.now q) reach }
+    requires begins { BeginsBy (S.distance order.now) tokens.now q search.old.cutter }
+    ensures supports { (d : TokenRow S.Spot) → result ≡ supports of_one_class (S.distance order.now) tokens.now (slice_index_or tokens.now i d).fact p q (slice_index_or tokens.now i d) }
+    ensures begins { BeginsBy (S.distance order.now) tokens.now q search.new.cutter }
+{
+    let k = &tokens[i];
+    if is_cut_by(order, tokens, k, q, search.cutter) || !order.at_most(p, k.spot, 0) {
+        return false;
+    }
+    match k.end {
+        Some(end) => order.at_most(end, q, -1),
+        None => !is_cut(order, tokens, guesses, i, q, reach, search),
+    }
+}
+
 // Whether the token at `i` supports the fact throughout `p` to `q`, where the tokens that begin by
-// the date of `q` are the first `reach`.
-pub(crate) fn is_supporter<S: Dated>(
+// the date of `q` are the first `reach`. Most are of another fact.
+fn is_supporter<S: Dated>(
     order: &S,
     tokens: &[TokenRow<S::Spot>],
     guesses: &[u32],
@@ -386,17 +442,7 @@ pub(crate) fn is_supporter<S: Dated>(
     ensures supports { (d : TokenRow S.Spot) → result ≡ supports of_one_class (S.distance order.now) tokens.now fact.now p q (slice_index_or tokens.now i d) }
     ensures begins { BeginsBy (S.distance order.now) tokens.now q search.new.cutter }
 {
-    let k = &tokens[i];
-    if k.fact != *fact
-        || is_cut_by(order, tokens, k, q, search.cutter)
-        || !order.at_most(p, k.spot, 0)
-    {
-        return false;
-    }
-    match k.end {
-        Some(end) => order.at_most(end, q, -1),
-        None => !is_cut(order, tokens, guesses, i, q, reach, search),
-    }
+    tokens[i].fact == *fact && supports_its_fact(order, tokens, guesses, i, p, q, reach, search)
 }
 
 // Whether a token supports the fact throughout `p` to `q`. Where a bound is given, none when the
@@ -418,7 +464,7 @@ fn is_held_within<S: Dated>(
     ensures found { most ≡ None → IsSome result }
 {
     let until = count_until(order, tokens, p);
-    let reach = count_until(order, tokens, q);
+    let reach = count_on(order, tokens, p, until, q);
     let mut search = Search::new(reach, false);
     for i in (0..until).rev() {
         if is_supporter(order, tokens, guesses, i, &fact, p, q, reach, &mut search) {
@@ -495,7 +541,7 @@ fn holder_within<S: Dated>(
     ensures found { most ≡ None → IsSome result }
 {
     let until = count_until(order, tokens, p);
-    let reach = count_until(order, tokens, q);
+    let reach = count_on(order, tokens, p, until, q);
     let mut search = Search::new(reach, true);
     for i in 0..until {
         if is_supporter(order, tokens, guesses, i, &fact, p, q, reach, &mut search) {

@@ -110,7 +110,7 @@ fn blamed(
         None => unreachable!(),
     };
     let rows = map.tree.tokens(&class);
-    let first = first_tokens(map.tree, map.net, class, rows, fact);
+    let first = first_tokens(rows, fact);
     let blames = blames(alloc, map, first.nodes.as_slice(), p, q)?;
     Ok(Answer::No {
         blames,

@@ -1,4 +1,4 @@
-use Rattle.std.proofs.Common.{◌≡◌, ◌∙◌, true, false, not, List, subst, sym}
+use Rattle.std.proofs.Common.{◌≡◌, ◌∙◌, true, false, not, List, ap, subst, sym}
 use Rattle.std.specs.List.{Contains}
 use Rattle.std.proofs.lemmas.List.{get_or_read}
 use Rattle.std.proofs.lemmas.List.Elements.{Contains-get_or}
@@ -13,14 +13,20 @@ use Rattle.clipping.proofs.CutSpots.{kept_spot, other_fact, cut_off, known_cut, 
 use Rattle.clipping.proofs.Rivals.{no_support, persistence_supports}
 use Rattle.clipping.proofs.across.is_supporter.Goals as goal
 
-pub returns-then-not-is_supporter-clause-supports : goal.returns-then-not-is_supporter-clause-supports
-returns-then-not-is_supporter-clause-supports g c d =
+pub returns-then-not-supports_its_fact-clause-supports : goal.returns-then-not-supports_its_fact-clause-supports
+returns-then-not-supports_its_fact-clause-supports g c d =
     let lists = g.T.Tokens.lists c.args.tokens.now in
     let far = g.S.Sure.distance c.args.order.now in
     let own = list_at lists c.args.own in
     let k = slice_index_or own c.args.i d in
+    let read : c.index-list-i.result ≡ k = get_or_read own c.args.i c.index-list-i.result c.requires.within (subst (λ (xs : List (TokenRow g.row.S-Spot.Denot)). c.index-list-i.result ≡ slice_index_or xs c.args.i c.index-list-i.result) c.list-list.ensures c.index-list-i.is) d in
+    let same : k.fact ≡ c.args.fact.now =
+    ap (λ (x : TokenRow g.row.S-Spot.Denot). x.fact) (sym read)
+    ∙ (bytes_decides c.index-list-i.result.fact c.args.fact.now).0 (not_false (same_name c.index-list-i.result.fact c.args.fact.now) (sym c.ne.ensures ∙ c.if-ne.false)) in
     let fails : supports of_one_class far own c.args.fact.now c.args.p c.args.q k ≡ false =
-    subst (λ (xs : List (TokenRow g.row.S-Spot.Denot)). supports of_one_class far xs c.args.fact.now c.args.p c.args.q (slice_index_or xs c.args.i d) ≡ false) c.list-list.ensures (sym (c.is_supporter.ensures.supports d) ∙ c.if-not-is_supporter.true) in
+    subst (λ f. supports of_one_class far own f c.args.p c.args.q k ≡ false) same
+    (subst (λ (xs : List (TokenRow g.row.S-Spot.Denot)). supports of_one_class far xs (slice_index_or xs c.args.i d).fact c.args.p c.args.q (slice_index_or xs c.args.i d) ≡ false) c.list-list.ensures
+    (sym (c.supports_its_fact.ensures.supports d) ∙ c.if-not-supports_its_fact.true)) in
     sym (no_support (g.R.Rivals.against c.args.rivals.now) (g.met.R.Rivals.irreflexive c.args.rivals.now) far lists c.args.own c.requires.by_class c.requires.own k (Contains-get_or own c.args.i d c.requires.within) c.args.fact.now c.args.p c.args.q fails)
 
 pub returns-in-None-clause-supports : goal.returns-in-None-clause-supports
@@ -32,9 +38,11 @@ returns-in-None-clause-supports g c d =
     let list = c.list-list.result.now in
     let k = c.index-list-i.result in
     let read : k ≡ slice_index_or own c.args.i k = subst (λ (xs : List (TokenRow g.row.S-Spot.Denot)). k ≡ slice_index_or xs c.args.i k) c.list-list.ensures c.index-list-i.is in
+    let same : k.fact ≡ c.args.fact.now = (bytes_decides k.fact c.args.fact.now).0 (not_false (same_name k.fact c.args.fact.now) (sym c.ne.ensures ∙ c.if-ne.false)) in
     let held : supports of_one_class far own c.args.fact.now c.args.p c.args.q k ≡ true =
     subst (λ (xs : List (TokenRow g.row.S-Spot.Denot)). supports of_one_class far xs c.args.fact.now c.args.p c.args.q k ≡ true) c.list-list.ensures
-    (subst (λ (x : TokenRow g.row.S-Spot.Denot). supports of_one_class far list c.args.fact.now c.args.p c.args.q x ≡ true) (sym c.index-list-i.is) (sym (c.is_supporter.ensures.supports k) ∙ c.if-not-is_supporter.false)) in
+    (subst (λ f. supports of_one_class far list f c.args.p c.args.q k ≡ true) same
+    (subst (λ (x : TokenRow g.row.S-Spot.Denot). supports of_one_class far list x.fact c.args.p c.args.q x ≡ true) (sym c.index-list-i.is) (sym (c.supports_its_fact.ensures.supports k) ∙ c.if-not-supports_its_fact.false))) in
     let here : Contains own k = (c.args.i, c.requires.within, sym read) in
     subst (λ (x : TokenRow g.row.S-Spot.Denot). not c.is_cut_elsewhere.result ≡ supports (of_rivals against) far (all_of lists) c.args.fact.now c.args.p c.args.q x) (get_or_read own c.args.i k c.requires.within read d)
     (sym (persistence_supports against (g.met.R.Rivals.irreflexive c.args.rivals.now) far lists c.args.own c.requires.by_class c.requires.own k here c.args.fact.now c.args.p c.args.q
