@@ -12,6 +12,14 @@ use Rattle.neg_cycle.specs.Ends.{IsAt, HasTo, IsLastTo}
 pub same_at : (edges : List Edge) (i : ℕ) (e f : Edge) → IsAt edges i e → IsAt edges i f → e ≡ f
 same_at edges i e f at_e at_f = sym at_e.1 ∙ (get_or_default edges i e f at_e.0 ∙ at_f.1)
 
+-- the edge that is read at a place stands there
+pub read_at : (edges list : List Edge) (place : ℕ) (e : Edge) → list ≡ edges → e ≡ get_or list place e → place < length list → IsAt edges place e
+read_at edges list place e same is within = (omega (arith, within, ap length same), sym (is ∙ ap (λ (t : List Edge). get_or t place e) same))
+
+-- its end is one of the places
+pub read_to : (names : List (Option PointName)) (edges list : List Edge) (place : ℕ) (e : Edge) → length names ≡ 256 → AreInUse names edges → list ≡ edges → e ≡ get_or list place e → place < length list → e.to < 256
+read_to names edges list place e places used same is within = let at = read_at edges list place e same is within in (below_places names edges e places used (place, at.0, at.1)).1
+
 -- the edge at a place of one to p
 pub record IsEdgeTo (edges : List Edge) (place p : ℕ) (e : Edge) : Type 0 where
   pub at : IsAt edges place e
@@ -20,7 +28,7 @@ pub record IsEdgeTo (edges : List Edge) (place p : ℕ) (e : Edge) : Type 0 wher
 
 pub edge_read : (names : List (Option PointName)) (edges list : List Edge) (place p : ℕ) (e : Edge) → length names ≡ 256 → AreInUse names edges → list ≡ edges → e ≡ get_or list place e → HasTo edges place p → IsEdgeTo edges place p e
 edge_read names edges list place p e places used same is (f, at_f, to) =
-    let at : IsAt edges place e = (at_f.0, sym (is ∙ ap (λ (t : List Edge). get_or t place e) same)) in
+    let at = read_at edges list place e same is (omega (arith, at_f.0, ap length same)) in
     record { at = at; to = ap (λ (g : Edge). g.to) (same_at edges place e f at at_f) ∙ to; from = (below_places names edges e places used (place, at.0, at.1)).0 }
 
 -- the first `done` edges are linked

@@ -33,8 +33,12 @@ module _ {T : Type 0} {F : ℕ} where
     pub present_is : live_table (table_in new_slots new_families) ≡ present
     pub committed_is : live_table (undone new_log (table_in new_slots new_families)) ≡ live_table (undone log (table_in slots families))
 
-  pub removes : (slots : List (Option (Row T F))) (links new_links : List Lists) (x : ℕ) (r : Row T F) (log reserved unlinked new_log : List (Change T)) → slice_index_or slots x None ≡ Some r → r.gone ≡ false → reserved ≡ log → ((f h : ℕ) → list_in new_links f h ≡ cond (is_head (head_of r f) h) (without x (list_in links f h)) (list_in links f h)) → LeadsBack F links new_links reserved unlinked → new_log ≡ unlinked ++ Removed x ∷ [] → IsRows slots links log → EditIs slots (slice_set slots x (Some (record r { gone = true }))) links new_links log new_log (without_row (live_table (table_in slots links)) x)
-  removes slots links new_links x r log reserved unlinked new_log there stays same lists back pushed rows =
+  -- a live row of which the heads are read first is taken off its lists
+  pub removes : (slots : List (Option (Row T F))) (links new_links : List Lists) (x : ℕ) (read r : Row T F) (log unlinked new_log : List (Change T)) → slice_index_or slots x None ≡ Some read → slice_index_or slots x None ≡ Some r → IsSome (live (slice_index_or slots x None)) → ((f h : ℕ) → list_in new_links f h ≡ cond (is_head (head_of read f) h) (without x (list_in links f h)) (list_in links f h)) → LeadsBack F links new_links log unlinked → new_log ≡ unlinked ++ Removed x ∷ [] → IsRows slots links log → EditIs slots (slice_set slots x (Some (record r { gone = true }))) links new_links log new_log (without_row (live_table (table_in slots links)) x)
+  removes slots links new_links x read r log unlinked new_log at there is_live lists back pushed rows =
+      let one : read ≡ r = (let both : Some read ≡ Some r = sym at ∙ there in cc) in
+      let stays = not_gone r (subst (λ (o : Option (Row T F)). IsSome (live o)) there is_live) in
+      let taken : (f h : ℕ) → list_in new_links f h ≡ cond (is_head (head_of r f) h) (without x (list_in links f h)) (list_in links f h) = subst (λ (q : Row T F). (f h : ℕ) → list_in new_links f h ≡ cond (is_head (head_of q f) h) (without x (list_in links f h)) (list_in links f h)) one lists in
       let removed : Row T F = record r { gone = true } in
       let new = slice_set slots x (Some removed) in
       let row : ℕ → Option (Row T F) = λ y. slice_index_or slots y None in
@@ -53,18 +57,18 @@ module _ {T : Type 0} {F : ℕ} where
       ∙ ap (λ (s : Row T F). with_row new_row x (Some s)) again
       ∙ ap (λ (f : ℕ → Option (Row T F)). with_row f x (Some r)) written
       ∙ with_row-back row x (Some removed) (Some r) there in
-      let undoes : CanUndoAll new_links unlinked middle = back.undoes slots (subst (λ l. CanUndoAll links l old_table) (sym same) rows.undoes) in
+      let undoes : CanUndoAll new_links unlinked middle = back.undoes slots rows.undoes in
       let s = steps new_links unlinked new_log (Removed x) middle new_table pushed undoes tt (λ i. record { row = rows_back i; list = middle.list }) in
-      let leads : undone new_log new_table ≡ undone log old_table = s.leads ∙ back.committed slots ∙ ap (λ l. undone l old_table) same in
+      let leads : undone new_log new_table ≡ undone log old_table = s.leads ∙ back.committed slots in
       record {
         rows = record {
-          now_listed = listed_removed old_table new_table x r rows.now_listed lives is_gone others lists;
+          now_listed = listed_removed old_table new_table x r rows.now_listed lives is_gone others taken;
           then_listed = subst AreListed (sym leads) rows.then_listed;
           undoes = s.undoes;
           few = rows.few;
-          gone = AreLogged-removed row new_row log new_log back.longer.0 x others (pushed ∙ ap (λ l. l ++ Removed x ∷ []) (back.longer.1 ∙ ap (λ l. l ++ back.longer.0) same)) rows.gone;
+          gone = AreLogged-removed row new_row log new_log back.longer.0 x others (pushed ∙ ap (λ l. l ++ Removed x ∷ []) back.longer.1) rows.gone;
         };
-        present_is = present_removed old_table new_table x r rows.now_listed lives is_gone others lists;
+        present_is = present_removed old_table new_table x r rows.now_listed lives is_gone others taken;
         committed_is = ap live_table leads;
       }
 
@@ -72,8 +76,18 @@ module _ {T : Type 0} {F : ℕ} where
   pub grown_table : (slots : List (Option (Row T F))) (links grown : List Lists) → GrowEach links grown → table_in slots grown ≡ table_in slots links
   grown_table slots links grown grow = λ i. record { row = λ x. slice_index_or slots x None; list = λ f h. (grow.each f).lists h i }
 
-  pub adds : (slots new : List (Option (Row T F))) (links grown new_links : List Lists) (x : ℕ) (r : Row T F) (log reserved entered new_log : List (Change T)) → slice_index_or slots x None ≡ None → slice_index_or new x None ≡ Some r → ((y : ℕ) → y ≢ x → slice_index_or new y None ≡ slice_index_or slots y None) → r.gone ≡ false → reserved ≡ log → GrowEach links grown → ((f h : ℕ) → list_in new_links f h ≡ cond (is_head (head_of r f) h) (list_in grown f h ++ x ∷ []) (list_in grown f h)) → entered ≡ reserved ++ Entered x ∷ [] → LeadsBack F grown new_links entered new_log → IsRows slots links log → EditIs slots new links new_links log new_log (with_new (live_table (table_in slots links)) x r)
-  adds slots new links grown new_links x r log reserved entered new_log free is others stays same grow lists pushed back rows =
+  -- the row stands at a place that held none, and all others stay
+  pub record IsPut (slots new : List (Option (Row T F))) (x : ℕ) (r : Row T F) : Type 0 where
+    pub free : slice_index_or slots x None ≡ None
+    pub is : slice_index_or new x None ≡ Some r
+    pub others : (y : ℕ) → y ≢ x → slice_index_or new y None ≡ slice_index_or slots y None
+
+  -- so does one that is put under a key in more room
+  pub put_under : (slots roomy new : List (Option (Row T F))) (x key : ℕ) (r : Row T F) → roomy ≡ slots → key ≡ x → slice_index_or roomy key None ≡ None → slice_index_or new key None ≡ Some r → ((y : ℕ) → y ≢ key → slice_index_or new y None ≡ slice_index_or roomy y None) → IsPut slots new x r
+  put_under slots roomy new x key r alike same vacant changed others = subst (λ l. IsPut l new x r) alike (subst (λ k. IsPut roomy new k r) same (record { free = vacant; is = changed; others = others }))
+
+  pub adds : (slots new : List (Option (Row T F))) (links grown new_links : List Lists) (x : ℕ) (r : Row T F) (log reserved entered new_log : List (Change T)) → IsPut slots new x r → r.gone ≡ false → reserved ≡ log → GrowEach links grown → ((f h : ℕ) → list_in new_links f h ≡ cond (is_head (head_of r f) h) (list_in grown f h ++ x ∷ []) (list_in grown f h)) → entered ≡ reserved ++ Entered x ∷ [] → LeadsBack F grown new_links entered new_log → IsRows slots links log → EditIs slots new links new_links log new_log (with_new (live_table (table_in slots links)) x r)
+  adds slots new links grown new_links x r log reserved entered new_log put stays same grow lists pushed back rows =
       let row : ℕ → Option (Row T F) = λ y. slice_index_or slots y None in
       let new_row : ℕ → Option (Row T F) = λ y. slice_index_or new y None in
       let old_table = table_in slots links in
@@ -81,8 +95,8 @@ module _ {T : Type 0} {F : ℕ} where
       let alike : roomy ≡ old_table = grown_table slots links grown grow in
       let middle = table_in new grown in
       let new_table = table_in new new_links in
-      let written : new_row ≡ with_row row x (Some r) = row_by new_row row x (Some r) is others in
-      let rows_back : with_row new_row x None ≡ row = ap (λ (f : ℕ → Option (Row T F)). with_row f x None) written ∙ with_row-back row x (Some r) None free in
+      let written : new_row ≡ with_row row x (Some r) = row_by new_row row x (Some r) put.is put.others in
+      let rows_back : with_row new_row x None ≡ row = ap (λ (f : ℕ → Option (Row T F)). with_row f x None) written ∙ with_row-back row x (Some r) None put.free in
       let all : CanUndoAll grown reserved roomy =
       CanUndoAll-more links grown (AreAsMany-from_growth links grown grow) reserved roomy
       (subst (CanUndoAll links reserved) (sym alike) (subst (λ l. CanUndoAll links l old_table) (sym same) rows.undoes)) in
@@ -92,7 +106,7 @@ module _ {T : Type 0} {F : ℕ} where
       let from_old : (f h : ℕ) → list_in new_links f h ≡ cond (is_head (head_of r f) h) (list_in links f h ++ x ∷ []) (list_in links f h) = λ f h. lists f h ∙ ap (λ l. cond (is_head (head_of r f) h) (l ++ x ∷ []) l) ((grow.each f).lists h) in
       record {
         rows = record {
-          now_listed = listed_added old_table new_table x r rows.now_listed free is stays others from_old;
+          now_listed = listed_added old_table new_table x r rows.now_listed put.free put.is stays put.others from_old;
           then_listed = subst AreListed (sym leads) rows.then_listed;
           undoes = undoes;
           few = rows.few;
@@ -101,7 +115,7 @@ module _ {T : Type 0} {F : ℕ} where
               (λ q is gone. let e : r ≡ q = cc in absurd (both_ways q.gone (ap (λ (z : Row T F). z.gone) (sym e) ∙ stays) gone))
               rows.gone;
         };
-        present_is = present_added old_table new_table x r rows.now_listed free is stays others from_old;
+        present_is = present_added old_table new_table x r rows.now_listed put.free put.is stays put.others from_old;
         committed_is = ap live_table leads;
       }
 

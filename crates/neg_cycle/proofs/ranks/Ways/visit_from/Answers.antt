@@ -1,19 +1,14 @@
-use Rattle.std.proofs.Common.{◌∙◌, List, length, get_or, ap, sym, arith, refl}
-use Rattle.dist_net.specs.declared.Edge.{Edge}
-use Rattle.dist_net.proofs.Ends.{below_places}
-use Rattle.neg_cycle.specs.Ends.{IsAt}
+use Rattle.std.proofs.Common.{arith, refl}
+use Rattle.neg_cycle.proofs.Linked.{read_at, read_to}
 use Rattle.neg_cycle.proofs.ranks.Ways.visit_from.Goals as goal
 
 pub rank-requires : goal.rank-requires
 rank-requires c =
-    let edges = c.args.net.now.present.edges in
-    let e = c.index-edges-place.result in
-    let at : IsAt edges c.loop-place.place e = (omega (arith, c.loop-place-test.true, ap length c.edges-edges.ensures.list), sym (c.index-edges-place.is ∙ ap (λ (t : List Edge). get_or t c.loop-place.place e) c.edges-edges.ensures.list)) in
-    omega (arith, (below_places c.args.net.now.present.names edges e c.edges-edges.ensures.names c.edges-edges.ensures.in_use (c.loop-place.place, at.0, at.1)).1, c.loop-place.invariant.leading.ranks)
+    let net = c.args.net.now.present in
+    let list = c.edges-edges.ensures in
+    let to = read_to net.names net.edges c.edges-edges.result.now c.loop-place.place c.index-edges-place.result list.names list.in_use list.list c.index-edges-place.is c.loop-place-test.true in
+    omega (arith, to, c.loop-place.invariant.leading.ranks)
 
 pub visit-requires-clause-edge : goal.visit-requires-clause-edge
 visit-requires-clause-edge c =
-    let edges = c.args.net.now.present.edges in
-    let e = c.index-edges-place.result in
-    let at : IsAt edges c.loop-place.place e = (omega (arith, c.loop-place-test.true, ap length c.edges-edges.ensures.list), sym (c.index-edges-place.is ∙ ap (λ (t : List Edge). get_or t c.loop-place.place e) c.edges-edges.ensures.list)) in
-    (e, at, refl)
+    (c.index-edges-place.result, read_at c.args.net.now.present.edges c.edges-edges.result.now c.loop-place.place c.index-edges-place.result c.edges-edges.ensures.list c.index-edges-place.is c.loop-place-test.true, refl)

@@ -1,13 +1,12 @@
-use Rattle.std.proofs.Common.{inl, inr, rules, ◌<◌, ◌≤◌, ◌≡◌, ℕ, List, refl, sym, ap, ◌∙◌, subst, arith, Some, None, Option}
+use Rattle.std.proofs.Common.{inl, inr, rules, ◌<◌, ◌≤◌, ◌≡◌, refl, sym, ap, ◌∙◌, subst, arith}
 use Rattle.undo_rows.specs.declared.row.Row.{Row}
 use Rattle.undo_rows.specs.Tables.{live}
-use Rattle.std.proofs.Common.{◌≢◌, slice_index_or, false}
 use Rattle.std.proofs.lemmas.Result.{err_from_is_err_and}
 use Rattle.slab.specs.Slab.{Slab}
 use Rattle.undo_rows.specs.Tables.{new_row}
 use Rattle.undo_rows.specs.Places.{AreBelow}
 use Rattle.undo_rows.proofs.Places.{HoldsBelow-more, all_held}
-use Rattle.undo_rows.proofs.Edits.{adds, grown_rows, grown_stays, was_free}
+use Rattle.undo_rows.proofs.Edits.{put_under, adds, grown_rows, grown_stays, was_free}
 use Rattle.undo_rows.proofs.rows.Rows.add.Goals as goal
 
 pub invariant_of-self-in_err-reserve_rows : goal.invariant_of-self-in_err-reserve_rows
@@ -49,43 +48,33 @@ invariant_of-self-2 g c =
     let slots = c.self.inside.stored.rows.slots in
     let links = c.self.inside.stored.links in
     let log = c.self.inside.log.items in
-    let alike : c.reserve.new.self.slots ≡ slots = ap (λ (s : Slab (Row g.row.T.Denot g.row.F)). s.slots) c.reserve.ensures.rest_kept in
     let x = c.in_ok-x.x in
-    let r = new_row c.args.heads c.args.value in
-    let kept : c.reserve-2.new.self.items ≡ log = c.reserve-2.ensures.items in
-    let key : c.insert_reserved.result ≡ x = c.insert_reserved.ensures.key ∙ ap (λ (s : Slab (Row g.row.T.Denot g.row.F)). s.vacant_key) c.reserve.ensures.rest_kept ∙ sym c.vacant_key.ensures.value ∙ sym c.in_ok-x.ensures.number in
-    let free : slice_index_or slots x None ≡ None = ap (λ (l : List (Option (Row g.row.T.Denot g.row.F))). slice_index_or l x None) (sym alike) ∙ ap (λ (k : ℕ). slice_index_or c.reserve.new.self.slots k None) (sym key) ∙ c.insert_reserved.ensures.was_vacant in
-    let changed : slice_index_or c.insert_reserved.new.self.slots x None ≡ Some r = ap (λ (k : ℕ). slice_index_or c.insert_reserved.new.self.slots k None) (sym key) ∙ c.insert_reserved.ensures.updates.changed in
-    let others : (y : ℕ) → y ≢ x → slice_index_or c.insert_reserved.new.self.slots y None ≡ slice_index_or slots y None =
-    λ y other. c.insert_reserved.ensures.updates.others y (λ same. other (same ∙ key)) ∙ ap (λ (l : List (Option (Row g.row.T.Denot g.row.F))). slice_index_or l y None) alike in
-    let stays : r.gone ≡ false = refl in
-    let s = adds slots c.insert_reserved.new.self.slots links c.reserve_rows.new.self c.link_all.new.links x r log c.reserve-2.new.self.items c.push.new.self.items c.link_all.new.log.items
-    free changed others stays kept c.reserve_rows.ensures.kept c.link_all.ensures.lists c.push.ensures.items c.link_all.ensures.back c.self.invariant.0 in
+    let insert = c.insert_reserved.ensures in
+    let alike : c.reserve.new.self.slots ≡ slots = ap (λ (s : Slab (Row g.row.T.Denot g.row.F)). s.slots) c.reserve.ensures.rest_kept in
+    let key : c.insert_reserved.result ≡ x = insert.key ∙ ap (λ (s : Slab (Row g.row.T.Denot g.row.F)). s.vacant_key) c.reserve.ensures.rest_kept ∙ sym c.vacant_key.ensures.value ∙ sym c.in_ok-x.ensures.number in
+    let put = put_under slots c.reserve.new.self.slots c.insert_reserved.new.self.slots x c.insert_reserved.result (new_row c.args.heads c.args.value) alike key insert.was_vacant insert.updates.changed insert.updates.others in
+    let s = adds slots c.insert_reserved.new.self.slots links c.reserve_rows.new.self c.link_all.new.links x (new_row c.args.heads c.args.value) log c.reserve-2.new.self.items c.push.new.self.items c.link_all.new.log.items
+    put refl c.reserve-2.ensures.items c.reserve_rows.ensures.kept c.link_all.ensures.lists c.push.ensures.items c.link_all.ensures.back c.self.invariant.0 in
     let most = c.max-self-inside.result in
     let more : c.self.inside.places ≤ most = search rules in
     let within : x < most = search rules in
-    (s.rows, HoldsBelow-more slots c.insert_reserved.new.self.slots c.self.inside.places most x more within others c.self.invariant.1)
+    (s.rows, HoldsBelow-more slots c.insert_reserved.new.self.slots c.self.inside.places most x more within put.others c.self.invariant.1)
 
 pub returns-clause-ok : goal.returns-clause-ok
 returns-clause-ok g c =
     let slots = c.self.inside.stored.rows.slots in
     let links = c.self.inside.stored.links in
     let log = c.self.inside.log.items in
-    let alike : c.reserve.new.self.slots ≡ slots = ap (λ (s : Slab (Row g.row.T.Denot g.row.F)). s.slots) c.reserve.ensures.rest_kept in
     let x = c.in_ok-x.x in
-    let r = new_row c.args.heads c.args.value in
-    let kept : c.reserve-2.new.self.items ≡ log = c.reserve-2.ensures.items in
-    let key : c.insert_reserved.result ≡ x = c.insert_reserved.ensures.key ∙ ap (λ (s : Slab (Row g.row.T.Denot g.row.F)). s.vacant_key) c.reserve.ensures.rest_kept ∙ sym c.vacant_key.ensures.value ∙ sym c.in_ok-x.ensures.number in
-    let free : slice_index_or slots x None ≡ None = ap (λ (l : List (Option (Row g.row.T.Denot g.row.F))). slice_index_or l x None) (sym alike) ∙ ap (λ (k : ℕ). slice_index_or c.reserve.new.self.slots k None) (sym key) ∙ c.insert_reserved.ensures.was_vacant in
-    let changed : slice_index_or c.insert_reserved.new.self.slots x None ≡ Some r = ap (λ (k : ℕ). slice_index_or c.insert_reserved.new.self.slots k None) (sym key) ∙ c.insert_reserved.ensures.updates.changed in
-    let others : (y : ℕ) → y ≢ x → slice_index_or c.insert_reserved.new.self.slots y None ≡ slice_index_or slots y None =
-    λ y other. c.insert_reserved.ensures.updates.others y (λ same. other (same ∙ key)) ∙ ap (λ (l : List (Option (Row g.row.T.Denot g.row.F))). slice_index_or l y None) alike in
-    let stays : r.gone ≡ false = refl in
-    let s = adds slots c.insert_reserved.new.self.slots links c.reserve_rows.new.self c.link_all.new.links x r log c.reserve-2.new.self.items c.push.new.self.items c.link_all.new.log.items
-    free changed others stays kept c.reserve_rows.ensures.kept c.link_all.ensures.lists c.push.ensures.items c.link_all.ensures.back c.self.invariant.0 in
+    let insert = c.insert_reserved.ensures in
+    let alike : c.reserve.new.self.slots ≡ slots = ap (λ (s : Slab (Row g.row.T.Denot g.row.F)). s.slots) c.reserve.ensures.rest_kept in
+    let key : c.insert_reserved.result ≡ x = insert.key ∙ ap (λ (s : Slab (Row g.row.T.Denot g.row.F)). s.vacant_key) c.reserve.ensures.rest_kept ∙ sym c.vacant_key.ensures.value ∙ sym c.in_ok-x.ensures.number in
+    let put = put_under slots c.reserve.new.self.slots c.insert_reserved.new.self.slots x c.insert_reserved.result (new_row c.args.heads c.args.value) alike key insert.was_vacant insert.updates.changed insert.updates.others in
+    let s = adds slots c.insert_reserved.new.self.slots links c.reserve_rows.new.self c.link_all.new.links x (new_row c.args.heads c.args.value) log c.reserve-2.new.self.items c.push.new.self.items c.link_all.new.log.items
+    put refl c.reserve-2.ensures.items c.reserve_rows.ensures.kept c.link_all.ensures.lists c.push.ensures.items c.link_all.ensures.back c.self.invariant.0 in
     rw (← c.self.view_is) (record {
-      free = ap live free;
-      was_free = was_free slots links log x free;
+      free = ap live put.free;
+      was_free = was_free slots links log x put.free;
       present_is = s.present_is;
       committed_is = s.committed_is;
     })
