@@ -1,5 +1,5 @@
 -- Nodes in the order of their dates and heads are in the order of nodes.
-use Rattle.std.proofs.Common.{◌≡◌, ◌∙◌, ℕ, zero, suc, ◌+◌, ◌*◌, ◌<◌, Bool, true, false, List, [], ◌∷◌, ◌++◌, map, length, take, Some, pos, refl, sym, ap, subst, arith, inl, inr, append_assoc}
+use Rattle.std.proofs.Common.{◌≡◌, ◌∙◌, ℕ, zero, suc, ◌+◌, ◌*◌, ◌<◌, Bool, true, false, List, [], ◌∷◌, ◌++◌, map, length, take, Some, refl, sym, ap, subst, arith, inl, inr, append_assoc}
 use Rattle.std.specs.Prelude.{slice_index_or, nat_lt}
 use Rattle.std.specs.List.{All}
 use Rattle.std.specs.declared.cmp.Ordering.{Ordering}
@@ -10,7 +10,7 @@ use Rattle.std.specs.Cmp.Lexicographic.{slice_cmp, nat_list_cmp_total}
 use Rattle.std.proofs.lemmas.Bool.{cases_order, cases_lt}
 use Rattle.std.proofs.lemmas.Bool.Decides.{Decides-ltb}
 use Rattle.std.proofs.lemmas.Cmp.{ranked, then_total, on_total, int_cmp_total, nat_cmp_total}
-use Rattle.std.proofs.lemmas.List.{append-nil, get_or-map, length-map, map_push, take_more}
+use Rattle.std.proofs.lemmas.List.{append-nil, get_or-map, length-map}
 use Rattle.tmm_model.specs.declared.point.PointName.TheVariants.{Begin}
 use Rattle.tmm_model.specs.Moments.{Moment, At, After, along, printed}
 use Rattle.tmm_model.specs.Points.{same_name, slashed}
@@ -43,7 +43,7 @@ use Rattle.belief_list.specs.Told.{AreRanked}
 pub headed_total : (s : State) → IsTotalOrder (headed_cmp s)
 headed_total s =
     then_total (on_total (λ (h : Headed). h.early) int_cmp_total)
-    (then_total (on_total (λ (h : Headed). h.head) nat_cmp_total) (on_total (λ (h : Headed). h.difference.node) (rank_total (nodes_in s.rows))))
+    (then_total (on_total (λ (h : Headed). h.head) nat_cmp_total) (on_total (λ (h : Headed). h.difference.now.node) (rank_total (nodes_in s.rows))))
 
 -- ---- the first byte in which two texts differ decides
 
@@ -130,7 +130,8 @@ follows : (rules : List (List ℕ)) → Follows (slashed rules)
 follows [] = tt
 follows (r ∷ rules) = refl
 
-printed_along : (t : Moment) (rs : List (List ℕ)) → printed (along t rs) ≡ printed t ++ slashed rs
+-- the word of what rules lead on to
+pub printed_along : (t : Moment) (rs : List (List ℕ)) → printed (along t rs) ≡ printed t ++ slashed rs
 printed_along t [] = sym (append-nil (printed t))
 printed_along t (r ∷ rs) = printed_along (After t r) rs ∙ append_assoc (printed t) (47 ∷ r) (slashed rs)
 
@@ -148,10 +149,10 @@ module _ (s : Standing) (net : Net) (k : State) (seen : IsForestOf s net (forest
       (subst IsSpelt (moment_at-is (forest k) x m here) (spelt s seen.network.sound.well_formed (moment_at (forest k) x) (occurs_at s net (forest k) seen x live)))
 
   -- a lower head is of an earlier word
-  words_less : (p q : Headed) → IsHeaded k p → IsHeaded k q → p.head < q.head → slice_cmp nat_cmp (printed (moment_at (forest k) p.difference.node)) (printed (moment_at (forest k) q.difference.node)) ≡ Less
+  words_less : (p q : Headed) → IsHeaded k p → IsHeaded k q → p.head < q.head → slice_cmp nat_cmp (printed (moment_at (forest k) p.difference.now.node)) (printed (moment_at (forest k) q.difference.now.node)) ≡ Less
   words_less p q is_p is_q less =
-      let x = p.difference.node in
-      let y = q.difference.node in
+      let x = p.difference.now.node in
+      let y = q.difference.now.node in
       let (m, here) = node_at (forest k) x is_p.live in
       let (n, there) = node_at (forest k) y is_q.live in
       let lower : front 8 (head_text m) < front 8 (head_text n) = subst (λ a. a < front 8 (head_text n)) (is_p.head m here) (subst (λ b. p.head < b) (is_q.head n there) less) in
@@ -159,17 +160,17 @@ module _ (s : Standing) (net : Net) (k : State) (seen : IsForestOf s net (forest
       ∙ heads_less m.root n.root (slashed (rules_of m)) (slashed (rules_of n)) (plain_root x m here is_p.live) (plain_root y n there is_q.live) (follows (rules_of m)) (follows (rules_of n))
       (is_p.bytes m here) (is_q.bytes n there) lower
 
-  headed_is : (p q : Headed) → IsHeaded k p → IsHeaded k q → headed_cmp k p q ≡ rank_cmp k p.difference.node q.difference.node
+  headed_is : (p q : Headed) → IsHeaded k p → IsHeaded k q → headed_cmp k p q ≡ rank_cmp k p.difference.now.node q.difference.now.node
   headed_is p q is_p is_q =
       (λ i. ordering_then (int_cmp ((is_p.date ∙ dated x is_p.live) i) ((is_q.date ∙ dated y is_q.live) i)) (ordering_then (nat_cmp p.head q.head) (rank_cmp k x y)))
       ∙ by (int_cmp (node_early net (forest k) x) (node_early net (forest k) y)) refl
       ∙ sym rank
     where
       x : ℕ
-      x = p.difference.node
+      x = p.difference.now.node
 
       y : ℕ
-      y = q.difference.node
+      y = q.difference.now.node
 
       words : Ordering
       words = slice_cmp nat_cmp (printed (moment_at (forest k) x)) (printed (moment_at (forest k) y))
@@ -196,12 +197,13 @@ module _ (s : Standing) (net : Net) (k : State) (seen : IsForestOf s net (forest
 
   -- **In the order of dates and heads they are in the order of nodes.**
   pub heads_ranked : (headed : List Headed) → All (IsHeaded k) headed → AreHeadsInOrder k headed → AreRanked k (told_in headed)
-  heads_ranked headed each up = λ i d from lt.
-      let e : Headed = record { early = pos 0; head = 0; difference = d } in
-      let within : i + 1 < length headed = omega (arith, lt, length-map headed (λ (h : Headed). h.difference)) in
+  heads_ranked [] each up = λ i d from lt. absurd (omega (arith, lt))
+  heads_ranked (e ∷ more) each up = λ i d from lt.
+      let headed : List Headed = e ∷ more in
+      let within : i + 1 < length headed = omega (arith, lt, length-map headed (λ (h : Headed). h.difference.now)) in
       let first = slice_index_or headed i e in
       let second = slice_index_or headed (i + 1) e in
-      (λ j. is_lt (rank_cmp k (get_or-map (λ (h : Headed). h.difference) headed (i + 1) e d within j).node (get_or-map (λ (h : Headed). h.difference) headed i e d (omega (arith, within)) j).node))
+      (λ j. is_lt (rank_cmp k (get_or-map (λ (h : Headed). h.difference.now) headed (i + 1) e d within j).node (get_or-map (λ (h : Headed). h.difference.now) headed i e d (omega (arith, within)) j).node))
       ∙ ap is_lt (sym (headed_is second first (each (i + 1) e within) (each i e (omega (arith, within)))))
       ∙ up i e from within
 
@@ -218,7 +220,7 @@ head_text_is f m row root is root_is =
     let name : root.name ≡ m.root = (root_is n there).name ∙ (λ i. last_name (same i) (none i)) in
     λ i. name i ++ slash_of m.links row.rules is.rules i
 
-pub headed_from : (k : State) (h : Headed) (d : Difference) → h.difference ≡ d → IsLive (forest k) d.node → h.early ≡ early k d.node
+pub headed_from : (k : State) (h : Headed) (d : Difference) → h.difference.now ≡ d → IsLive (forest k) d.node → h.early ≡ early k d.node
     → ((m : Member) → member (forest k) d.node ≡ Some m → h.head ≡ front 8 (head_text m)) → ((m : Member) → member (forest k) d.node ≡ Some m → AreBytes 8 (head_text m)) → IsHeaded k h
 headed_from k h d same live date head bytes = record {
   live = subst (λ (z : Difference). IsLive (forest k) z.node) (sym same) live;
@@ -226,12 +228,3 @@ headed_from k h d same live date head bytes = record {
   head = λ m here. head m (ap (λ (z : Difference). member (forest k) z.node) (sym same) ∙ here);
   bytes = λ m here. bytes m (ap (λ (z : Difference). member (forest k) z.node) (sym same) ∙ here);
 }
-
--- one more
-pub pushed_heads : (headed more : List Headed) (h : Headed) (told : List Difference) (i : ℕ) (d : Difference) → i < length told → more ≡ headed ++ h ∷ [] → h.difference ≡ slice_index_or told i d → told_in headed ≡ take i told
-    → told_in more ≡ take (i + 1) told
-pushed_heads headed more h told i d within grown is before =
-    ap told_in grown
-    ∙ map_push (λ (z : Headed). z.difference) headed h
-    ∙ (λ j. before j ++ is j ∷ [])
-    ∙ sym (take_more told i d within)

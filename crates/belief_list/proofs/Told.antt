@@ -1,5 +1,5 @@
 -- What is told of differences is what changed.
-use Rattle.std.proofs.Common.{◌≡◌, ◌∙◌, ℕ, ◌+◌, ◌<◌, Bool, true, false, List, [], ◌∷◌, ◌++◌, map, length, take, drop, refl, sym, ap, subst, inl, inr}
+use Rattle.std.proofs.Common.{◌≡◌, ◌∙◌, ℕ, ◌+◌, ◌<◌, Bool, true, false, List, [], ◌∷◌, ◌++◌, map, length, drop, refl, sym, ap, subst, inl, inr}
 use Rattle.std.specs.Prelude.{◌↔◌, ◌⊎◌, ◌==◌, not, ◌&&◌, ◌||◌, filter, cond, Option, Some, None, IfSome, nat_eq, slice_index_or}
 use Rattle.std.specs.List.{All, AllByRecursion, Contains, IsDistinct, filter_map}
 use Rattle.std.specs.List.Sorted.{IsPermutation}
@@ -11,7 +11,7 @@ use Rattle.std.specs.Cmp.{IsTotalOrder}
 use Rattle.std.specs.Cmp.Lexicographic.{slice_cmp, nat_list_cmp_total}
 use Rattle.std.proofs.lemmas.Bool.Decides.{Decides-eqb}
 use Rattle.std.proofs.lemmas.Cmp.{then_total, on_total, int_cmp_total, nat_eq_equiv}
-use Rattle.std.proofs.lemmas.List.{append_assoc, map_push, take_more, drop_more}
+use Rattle.std.proofs.lemmas.List.{append_assoc, map_push, drop_more}
 use Rattle.std.proofs.lemmas.List.Elements.{All-contains, Contains-get_or}
 use Rattle.std.proofs.lemmas.List.Sorted.{Contains-permutation, IsPermutation-map, IsPermutation-sym}
 use Rattle.std.proofs.lemmas.Option.{same_Some}
@@ -21,11 +21,11 @@ use Rattle.tmm_model.specs.Answers.{Row, clip}
 use Rattle.tmm_model.specs.Changes as changes
 use Rattle.tmm_model.specs.Changes.{delta, in_order}
 use Rattle.tmm_model.specs.Maps.{built, order, is_believed}
-use Rattle.tmm_model.specs.Moments.{Moment, along, same_moment, early, printed, is_derived, moment_of}
+use Rattle.tmm_model.specs.Moments.{Moment, same_moment, early, printed, is_derived, moment_of}
 use Rattle.tmm_model.specs.Standing.{Standing, far_in}
 use Rattle.list_theory.proofs.Distinct.{Rising}
 use Rattle.list_theory.proofs.Elements.{both, In, In-map, map-In, In-filter, filter-In, filter_map-In, In-from_Contains, Contains-from_In, each_in}
-use Rattle.belief_theory.proofs.Moments.{Decides-same_moment, along-push}
+use Rattle.belief_theory.proofs.Moments.{Decides-same_moment}
 use Rattle.belief_theory.proofs.Order.{IsSpelt, ordered, total}
 use Rattle.belief_theory.proofs.Sorts.{sorted_in, sorted_rising}
 use Rattle.belief_theory.proofs.Spelt.{spelt}
@@ -214,35 +214,28 @@ told_live f ds told same = λ k d below.
     let e = slice_index_or told k d in
     (both (is_some (member f e.node)) _ (told_in (is_told f) ds told same e (In-from_Contains told e (Contains-get_or told k d below))).1).0
 
--- where those alone are picked
-pub filtered_live : (f : Forest) (ds told : List Difference) → told ≡ filter (is_told f) ds → All (λ (d : Difference). IsLive f d.node) told
-filtered_live f ds told same = λ k d below.
-    let e = slice_index_or told k d in
-    let at : In e (filter (is_told f) ds) = subst (In e) same (In-from_Contains told e (Contains-get_or told k d below)) in
-    (both (is_some (member f e.node)) _ (In-filter (is_told f) ds e at).1).0
-
 -- ---- one more
 
--- one that passes is told too
-pub pushed_same : (test : Difference → Bool) (told more : List Told) (t : Told) (ds : List Difference) (i : ℕ) (d : Difference) → i < length ds → more ≡ told ++ t ∷ [] → t.difference ≡ slice_index_or ds i d → test (slice_index_or ds i d) ≡ true
-    → differences_of told ++ filter test (drop i ds) ≡ filter test ds → differences_of more ++ filter test (drop (i + 1) ds) ≡ filter test ds
-pushed_same test told more t ds i d within grown is passes before =
-    ap (λ l. differences_of l ++ filter test (drop (i + 1) ds)) grown
-    ∙ ap (λ l. l ++ filter test (drop (i + 1) ds)) (map_push (λ (t : Told). t.difference) told t)
-    ∙ append_assoc (differences_of told) (t.difference ∷ []) (filter test (drop (i + 1) ds))
-    ∙ (λ j. differences_of told ++ (is j ∷ filter test (drop (i + 1) ds)))
-    ∙ (λ j. differences_of told ++ cond (sym passes j) (slice_index_or ds i d ∷ filter test (drop (i + 1) ds)) (filter test (drop (i + 1) ds)))
-    ∙ ap (λ l. differences_of told ++ filter test l) (sym (drop_more ds i d within))
-    ∙ before
+module _ {X : Type 0} (told_of : X → Difference) (test : Difference → Bool) (told more : List X) (ds : List Difference) (i : ℕ) (d : Difference) (within : i < length ds)
+    (before : map told_of told ++ filter test (drop i ds) ≡ filter test ds) where
+  -- one that passes is told too
+  pub pushed_same : (t : X) → more ≡ told ++ t ∷ [] → told_of t ≡ slice_index_or ds i d → test (slice_index_or ds i d) ≡ true → map told_of more ++ filter test (drop (i + 1) ds) ≡ filter test ds
+  pushed_same t grown is passes =
+      ap (λ l. map told_of l ++ filter test (drop (i + 1) ds)) grown
+      ∙ ap (λ l. l ++ filter test (drop (i + 1) ds)) (map_push told_of told t)
+      ∙ append_assoc (map told_of told) (told_of t ∷ []) (filter test (drop (i + 1) ds))
+      ∙ (λ j. map told_of told ++ (is j ∷ filter test (drop (i + 1) ds)))
+      ∙ (λ j. map told_of told ++ cond (sym passes j) (slice_index_or ds i d ∷ filter test (drop (i + 1) ds)) (filter test (drop (i + 1) ds)))
+      ∙ ap (λ l. map told_of told ++ filter test l) (sym (drop_more ds i d within))
+      ∙ before
 
--- and one that does not is not
-pub passed_same : (test : Difference → Bool) (told more : List Told) (ds : List Difference) (i : ℕ) (d : Difference) → i < length ds → more ≡ told → test (slice_index_or ds i d) ≡ false
-    → differences_of told ++ filter test (drop i ds) ≡ filter test ds → differences_of more ++ filter test (drop (i + 1) ds) ≡ filter test ds
-passed_same test told more ds i d within stayed fails before =
-    ap (λ l. differences_of l ++ filter test (drop (i + 1) ds)) stayed
-    ∙ (λ j. differences_of told ++ cond (sym fails j) (slice_index_or ds i d ∷ filter test (drop (i + 1) ds)) (filter test (drop (i + 1) ds)))
-    ∙ ap (λ l. differences_of told ++ filter test l) (sym (drop_more ds i d within))
-    ∙ before
+  -- and one that does not is not
+  pub passed_same : more ≡ told → test (slice_index_or ds i d) ≡ false → map told_of more ++ filter test (drop (i + 1) ds) ≡ filter test ds
+  passed_same stayed fails =
+      ap (λ l. map told_of l ++ filter test (drop (i + 1) ds)) stayed
+      ∙ (λ j. map told_of told ++ cond (sym fails j) (slice_index_or ds i d ∷ filter test (drop (i + 1) ds)) (filter test (drop (i + 1) ds)))
+      ∙ ap (λ l. map told_of told ++ filter test l) (sym (drop_more ds i d within))
+      ∙ before
 
 -- what is told of a node that is gone has its date and its word
 pub told_then : (left : List LeftNode) (places : List (Option ℕ)) (t : Told) (d : Difference) (k : Moment) → t.difference ≡ d → left_at left places d ≡ Some k → ((r : KeptRow) → d.was ≡ Some r → t.early ≡ r.early) → t.word.items ≡ printed k
@@ -251,10 +244,6 @@ told_then left places t d k same found dated worded = record {
   early = λ r e. dated r (ap (λ (z : Difference). z.was) (sym same) ∙ e);
   word = λ l e. let one : k ≡ l = same_Some k l (sym found ∙ ap (left_at left places) (sym same) ∙ e) in worded ∙ ap printed one;
 }
-
--- the word with one rule more
-pub word_more : (t : Moment) (rs : List (List ℕ)) (i : ℕ) (d : List ℕ) → i < length rs → printed (along t (take (i + 1) rs)) ≡ printed (along t (take i rs)) ++ 47 ∷ slice_index_or rs i d
-word_more t rs i d within = ap (λ l. printed (along t l)) (take_more rs i d within) ∙ ap printed (along-push t (take i rs) (slice_index_or rs i d))
 
 -- what is absent is none
 pub absent_is : {X : Type 0} (found : Option X) (absent : Bool) → is_some found ≡ not absent → absent ≡ is_none found

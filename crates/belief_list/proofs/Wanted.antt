@@ -154,7 +154,10 @@ module _ {net : Net} {k : Kept} (tree : IsTreeIn net k) {class : List ℕ} {rows
     past_rival : (n : Member) (y : ℕ) → member (forest k) y ≡ Some n → is_some n.class ≡ true → are_rivals lists.present fact n.what ≡ true → Reached nodes kept (at i) y
     past_rival n y at_y is_token rival touched_there later = elim past [
       | inl plain ↦ (let never : true ≡ false = sym rival ∙ (plain n.what).1 in absurd (cc never))
-      | inr clear ↦ before_next kept touched.marks.items touched.dates.items _ _ clear.next clear.first clear.ahead (early (present k) y) (by_edit.dates y touched_there n at_y is_token) later
+      | inr clear ↦ (elim by_edit.dates [
+        | inl none ↦ (let never : true ≡ false = sym rival ∙ (none fact n.what).1 in absurd (cc never))
+        | inr all ↦ before_next kept touched.marks.items touched.dates.items _ _ clear.next clear.first clear.ahead (early (present k) y) (all y touched_there n at_y is_token) later
+      ])
     ]
 
     ahead_of : (n : Member) (y : ℕ) → member (forest k) y ≡ Some n → MayClip lists.present class fact n → Reached nodes kept (at i) y

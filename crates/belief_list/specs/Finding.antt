@@ -55,6 +55,10 @@ AreMarked marks nodes = (x : ℕ) → Contains nodes x → mark_under marks x �
 
 -- ---- what an edit touched
 
+-- no premise of either list says that another fact contradicts this one
+abbrev pub IsUnrivalled : States → List ℕ → Type 0
+IsUnrivalled lists f = (g : List ℕ) → (are_rivals lists.committed f g ≡ false) × (are_rivals lists.present f g ≡ false)
+
 -- the date of the node is there, if it is a token
 abbrev pub HasDate : Kept → List ℤ → ℕ → Type 0
 HasDate tree dates x = (m : Member) → member (forest (present tree)) x ≡ Some m → is_some m.class ≡ true → Contains dates (early (present tree) x)
@@ -62,6 +66,11 @@ HasDate tree dates x = (m : Member) → member (forest (present tree)) x ≡ Som
 -- the date of each token among the nodes is there
 abbrev pub HaveDates : Kept → List ℕ → List ℤ → Type 0
 HaveDates tree nodes dates = (x : ℕ) → Contains nodes x → HasDate tree dates x
+
+-- the date of each token among the nodes is there, or no premise of either list says of any facts
+-- that they contradict each other, and no date is asked for
+abbrev pub HaveDatesAsked : States → Kept → List ℕ → List ℤ → Type 0
+HaveDatesAsked lists tree nodes dates = ((f : List ℕ) → IsUnrivalled lists f) ⊎ HaveDates tree nodes dates
 
 -- the dates rise
 abbrev pub AreRising : List ℤ → Type 0
@@ -77,11 +86,11 @@ abbrev pub has_fact : List ℕ → List ℕ × List ℕ → Bool
 has_fact f pair = same_name pair.0 f || same_name pair.1 f
 
 -- **This is what an edit touched**: all these numbers are marked, the dates of the tokens among
--- them are there, and so are the pairs of facts that one of both lists alone sets against each
--- other.
+-- them are there where a premise sets facts against each other, and so are the pairs of facts that
+-- one of both lists alone sets so.
 pub record AreTouched (lists : States) (tree : Kept) (nodes : List ℕ) (touched : Touched) : Type 0 where
   pub marks : AreMarked touched.marks.items nodes
-  pub dates : HaveDates tree nodes touched.dates.items
+  pub dates : HaveDatesAsked lists tree nodes touched.dates.items
   pub pairs : AreChanges (rivalries lists.committed.premises) (rivalries lists.present.premises) touched.pairs.items
 
 -- ---- tokens of touched classes whose clips stay
@@ -95,10 +104,6 @@ IsClippedBefore kept clip d = (c : ℕ) × (q : KeptRow) × (clip ≡ Some c) ×
 pub record IsAhead (kept : List (Option KeptRow)) (touched : List Bool) (clip : Option ℕ) (next : Option ℤ) : Type 0 where
   pub free : (c : ℕ) → clip ≡ Some c → mark_under touched c ≡ false
   pub ahead : (d : ℤ) → next ≡ Some d → IsClippedBefore kept clip d
-
--- no premise of either list says that another fact contradicts this one
-abbrev pub IsUnrivalled : States → List ℕ → Type 0
-IsUnrivalled lists f = (g : List ℕ) → (are_rivals lists.committed f g ≡ false) × (are_rivals lists.present f g ≡ false)
 
 -- no pair that changed has the fact, and what clips a token of this date comes before all touched
 -- ones of later dates, whatever their facts

@@ -12,7 +12,7 @@ use Rattle.belief_list.specs.declared.told_changes.Headed.{Headed}
 
 -- the differences of nodes
 abbrev pub told_in : List Headed → List Difference
-told_in headed = map (λ h. h.difference) headed
+told_in headed = map (λ h. h.difference.now) headed
 
 -- the first bytes of a text as a number, so many of them; zeros stand behind a shorter text
 abbrev pub front : ℕ → List ℕ → ℕ
@@ -29,14 +29,14 @@ head_text m = m.root ++ take 1 (slashed (rules_of m))
 
 -- it has the date of its node, and the first bytes of the node's word
 pub record IsHeaded (s : State) (h : Headed) : Type 0 where
-  pub live : IsLive (forest s) h.difference.node
-  pub date : h.early ≡ early s h.difference.node
-  pub head : (m : Member) → member (forest s) h.difference.node ≡ Some m → h.head ≡ front 8 (head_text m)
-  pub bytes : (m : Member) → member (forest s) h.difference.node ≡ Some m → AreBytes 8 (head_text m)
+  pub live : IsLive (forest s) h.difference.now.node
+  pub date : h.early ≡ early s h.difference.now.node
+  pub head : (m : Member) → member (forest s) h.difference.now.node ≡ Some m → h.head ≡ front 8 (head_text m)
+  pub bytes : (m : Member) → member (forest s) h.difference.now.node ≡ Some m → AreBytes 8 (head_text m)
 
 -- by their heads, and then as their nodes
 abbrev pub head_cmp : State → Headed → Headed → Ordering
-head_cmp s = then_cmp (on (λ h. h.head) nat_cmp) (on (λ h. h.difference.node) (rank_cmp s))
+head_cmp s = then_cmp (on (λ h. h.head) nat_cmp) (on (λ h. h.difference.now.node) (rank_cmp s))
 
 -- by their dates, and then by their heads
 abbrev pub headed_cmp : State → Headed → Headed → Ordering

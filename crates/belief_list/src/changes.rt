@@ -185,6 +185,7 @@ pub(crate) fn occs_of(alloc: Global, tree: &Tree, nodes: &[u32]) -> Result<Seq<O
     ensures { IfOk result (λ occs. map moment_of occs.items ≡ map (moment_at (forest tree.now)) nodes.now) }
 {
     let mut occs = Seq::make(alloc);
+    occs.reserve(nodes.len())?;
     for i in 0..nodes.len() {
         let occ = occ_after(alloc, tree, nodes[i], nodes, i, occs.items())?;
         push_one(&mut occs, occ)?;

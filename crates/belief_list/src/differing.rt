@@ -18,7 +18,7 @@ ghost use Rattle.supports.specs.TimeMaps.{IsTimeMap};
 ghost use Rattle.belief_list.specs.declared.kept_rows.KeptRow.{KeptRow as AKeptRow};
 ghost use Rattle.belief_list.specs.KeptRows.{row_under, AreRowsOf, CoverTouched, AreDifferences};
 ghost use Rattle.belief_list.specs.Told.{clip_of};
-ghost use Rattle.belief_list.specs.Finding.{IsClipNow, IsNowUnder, mark_under, AreMarked, MarksStay, HaveDates, AreRising, IsFirstAfter, has_fact, AreTouched, IsAhead, IsUnrivalled, IsPastRivals, AreOthersKept, IsClassSettled, AreClassesSettled, AreFound};
+ghost use Rattle.belief_list.specs.Finding.{IsClipNow, IsNowUnder, mark_under, AreMarked, MarksStay, HaveDates, HaveDatesAsked, AreRising, IsFirstAfter, has_fact, AreTouched, IsAhead, IsUnrivalled, IsPastRivals, AreOthersKept, IsClassSettled, AreClassesSettled, AreFound};
 
 use crate::by_number::kept_clip;
 use crate::kept_rows::{Difference, KeptRow};
@@ -52,7 +52,7 @@ pub fn differences(
     let _ = map.net.moved();
     map.tree.have_tokens();
     let touched = touched_by(alloc, map.standing, map.tree, nodes, kept.len())?;
-    let mut found = Found::make(alloc, kept.len())?;
+    let mut found = Found::make(alloc, kept.len(), nodes.len())?;
     for class in classes {
         tell_class(alloc, map, class, kept, &touched, &mut found)?;
     }
@@ -87,7 +87,7 @@ fn touched_by(
 {
     Ok(Touched {
         marks: marked(alloc, nodes, places)?,
-        dates: dates_of(alloc, tree, nodes)?,
+        dates: dates_asked(alloc, standing, tree, nodes)?,
         pairs: standing.changed_rivalries(alloc)?,
     })
 }
@@ -105,6 +105,23 @@ fn dates_of(alloc: Global, tree: &Tree, nodes: &[u32]) -> Result<Vec<i64>, NoMem
     }
     dates.sort_unstable();
     Ok(dates)
+}
+
+// The same, but none where no premise of either list says that facts contradict each other: then no
+// date is asked for.
+fn dates_asked(
+    alloc: Global,
+    standing: &Standing,
+    tree: &Tree,
+    nodes: &[u32],
+) -> Result<Vec<i64>, NoMemory>
+    ensures all { IfOk result (λ dates. HaveDatesAsked standing.now tree.now nodes.now dates.items) }
+    ensures rising { IfOk result (λ dates. AreRising dates.items) }
+{
+    if says_none(standing) {
+        return Ok(Vec::new(alloc));
+    }
+    dates_of(alloc, tree, nodes)
 }
 
 // Whether the number is of a node that is a token.
@@ -138,14 +155,15 @@ struct Found {
 }
 
 impl Found {
-    // No number was looked at yet, of so many that have a place.
-    fn make(alloc: Global, places: usize) -> Result<Found, NoMemory>
+    // No number was looked at yet, of so many that have a place. There is room for so many
+    // differences.
+    fn make(alloc: Global, places: usize, room: usize) -> Result<Found, NoMemory>
         ensures marks { IfOk result (λ found. found.marks.items ≡ replicate places false) }
         ensures none { IfOk result (λ found. found.differences.items ≡ []) }
     {
         Ok(Found {
             marks: Vec::from_elem(alloc, false, places)?,
-            differences: Vec::new(alloc),
+            differences: Vec::with_capacity(alloc, room)?,
         })
     }
 

@@ -62,14 +62,14 @@ struct Told {
 }
 
 // A present node of which something is told, with what it is compared by first.
-#[derive(Drop)]
-struct Headed {
+#[derive(Clone, Copy)]
+struct Headed<'a> {
     // The earliest date of the occurrence.
     early: i64,
     // The first bytes of its word as a number, by which most words are told apart.
     head: u64,
     // What an edit makes of its node.
-    difference: Difference,
+    difference: &'a Difference,
 }
 
 /// What of belief changed, where these are the differences that an edit makes, and `left` tells the
@@ -112,60 +112,38 @@ fn present_in_order(
     ensures same { IfOk result (λ told. IsPermutation (filter (is_told (forest tree.now)) differences.now) told.items) }
     ensures in_order { IfOk result (λ told. (s : AStanding) (net : Net) → IsForestOf s net (forest tree.now) → IsDatedBy net (present tree.now) → AreRanked (present tree.now) told.items) }
 {
-    let found = present_nodes(alloc, tree, differences)?;
-    let mut headed = heads_of(alloc, tree, &found)?;
+    let mut headed = heads_of(alloc, tree, differences)?;
     sort_headed(tree, &mut headed);
     let told = told_of_heads(alloc, &headed)?;
     Ok(told)
 }
 
-// The present nodes of which something is told.
-fn present_nodes(
+// The present nodes of which something is told, with what they are compared by before their words,
+// which are far to seek.
+fn heads_of<'a>(
     alloc: Global,
     tree: &Tree,
-    differences: &[Difference],
-) -> Result<Vec<Difference>, NoMemory>
-    ensures { IfOk result (λ told. told.items ≡ filter (is_told (forest tree.now)) differences.now) }
-{
-    let mut told = Vec::new(alloc);
-    for d in differences {
-        if is_told(tree, d) {
-            push_difference(&mut told, *d)?;
-        }
-    }
-    Ok(told)
-}
-
-// Appends a difference.
-fn push_difference(told: &mut Vec<Difference>, one: Difference) -> Result<(), NoMemory>
-    ensures { OnOk result (told.new.items ≡ told.old.items ++ one ∷ []) }
-{
-    match told.push(one) {
-        Ok(()) => Ok(()),
-        Err(_) => Err(NoMemory),
-    }
-}
-
-// The nodes with what they are compared by before their words, which are far to seek.
-fn heads_of(alloc: Global, tree: &Tree, told: &[Difference]) -> Result<Vec<Headed>, NoMemory>
-    requires live { All (λ d. IsLive (forest tree.now) d.node) told.now }
-    ensures same { IfOk result (λ headed. told_in headed.items ≡ told.now) }
+    differences: &'a [Difference],
+) -> Result<Vec<Headed<'a>>, NoMemory>
+    ensures same { IfOk result (λ headed. told_in headed.items ≡ filter (is_told (forest tree.now)) differences.now) }
     ensures headed { IfOk result (λ headed. All (IsHeaded (present tree.now)) headed.items) }
 {
-    let mut headed = Vec::with_capacity(alloc, told.len())?;
-    for d in told {
-        headed.push_reserved(headed_of(tree, *d));
+    let mut headed = Vec::with_capacity(alloc, differences.len())?;
+    for d in differences {
+        if is_told(tree, d) {
+            headed.push_reserved(headed_of(tree, d));
+        }
     }
     Ok(headed)
 }
 
 // A node with its date, and with the first bytes of its word.
-fn headed_of(tree: &Tree, difference: Difference) -> Headed
-    requires live { IsLive (forest tree.now) difference.node }
-    ensures difference { result.difference ≡ difference }
-    ensures date { result.early ≡ early (present tree.now) difference.node }
-    ensures head { (m : Member) → member (forest tree.now) difference.node ≡ Some m → result.head ≡ front 8 (head_text m) }
-    ensures bytes { (m : Member) → member (forest tree.now) difference.node ≡ Some m → AreBytes 8 (head_text m) }
+fn headed_of<'a>(tree: &Tree, difference: &'a Difference) -> Headed<'a>
+    requires live { IsLive (forest tree.now) difference.now.node }
+    ensures difference { result.difference.now ≡ difference.entry.now }
+    ensures date { result.early ≡ early (present tree.now) difference.entry.now.node }
+    ensures head { (m : Member) → member (forest tree.now) difference.entry.now.node ≡ Some m → result.head ≡ front 8 (head_text m) }
+    ensures bytes { (m : Member) → member (forest tree.now) difference.entry.now.node ≡ Some m → AreBytes 8 (head_text m) }
 {
     let row = tree.row(difference.node);
     let root = tree.row(row.root).name;
@@ -204,7 +182,7 @@ fn byte_at(name: &Name, slash: bool, i: usize) -> u8
 }
 
 // Sorts by dates, then by heads, and then by the order of nodes.
-fn sort_headed(tree: &Tree, headed: &mut Vec<Headed>)
+fn sort_headed(tree: &Tree, headed: &mut Vec<Headed<'_>>)
     ensures same { IsPermutation headed.old.items headed.new.items }
     ensures in_order { AreHeadsInOrder (present tree.now) headed.new.items }
 {
@@ -212,7 +190,7 @@ fn sort_headed(tree: &Tree, headed: &mut Vec<Headed>)
 }
 
 // The order of two: by their dates, then by their heads, and then that of their nodes.
-fn cmp_headed(tree: &Tree, p: &Headed, q: &Headed) -> Ordering
+fn cmp_headed(tree: &Tree, p: &Headed<'_>, q: &Headed<'_>) -> Ordering
     ensures { result ≡ headed_cmp (present tree.now) p.now q.now }
 {
     match p.early.cmp(&q.early) {
@@ -222,7 +200,7 @@ fn cmp_headed(tree: &Tree, p: &Headed, q: &Headed) -> Ordering
 }
 
 // The order of two of one date.
-fn cmp_heads(tree: &Tree, p: &Headed, q: &Headed) -> Ordering
+fn cmp_heads(tree: &Tree, p: &Headed<'_>, q: &Headed<'_>) -> Ordering
     ensures { result ≡ head_cmp (present tree.now) p.now q.now }
 {
     match p.head.cmp(&q.head) {
@@ -232,12 +210,12 @@ fn cmp_heads(tree: &Tree, p: &Headed, q: &Headed) -> Ordering
 }
 
 // The differences alone.
-fn told_of_heads(alloc: Global, headed: &[Headed]) -> Result<Vec<Difference>, NoMemory>
+fn told_of_heads(alloc: Global, headed: &[Headed<'_>]) -> Result<Vec<Difference>, NoMemory>
     ensures { IfOk result (λ told. told.items ≡ told_in headed.now) }
 {
     let mut told = Vec::with_capacity(alloc, headed.len())?;
     for h in headed {
-        told.push_reserved(h.difference);
+        told.push_reserved(*h.difference);
     }
     Ok(told)
 }
@@ -314,7 +292,7 @@ fn entered_nodes(alloc: Global, tree: &Tree, told: &[Difference]) -> Result<Vec<
     ensures live { IfOk result (λ nodes. All (IsLive (forest tree.now)) nodes.items) }
     ensures moments { IfOk result (λ nodes. map (moment_at (forest tree.now)) nodes.items ≡ filter_map (entered_at (forest tree.now)) told.now) }
 {
-    let mut nodes = Vec::new(alloc);
+    let mut nodes = Vec::with_capacity(alloc, told.len())?;
     for d in told {
         if is_entered(tree, d) {
             push_number(&mut nodes, d.node)?;
@@ -455,18 +433,8 @@ fn word_of(alloc: Global, occ: &Occ) -> Result<Seq<u8>, NoMemory>
 {
     let mut word = Seq::make(alloc);
     word.extend(occ.root.bytes())?;
-    for rule in occ.rules.items() {
-        push_rule(&mut word, rule)?;
-    }
+    word.put_links(occ.rules.items())?;
     Ok(word)
-}
-
-// Appends a rule to the word of what it leads on from.
-fn push_rule(word: &mut Seq<u8>, rule: &Name) -> Result<(), NoMemory>
-    ensures { OnOk result (word.new.items ≡ word.old.items ++ 47 ∷ rule.now) }
-{
-    word.extend(b"/")?;
-    word.extend(rule.bytes())
 }
 
 // Appends one of which something is told.

@@ -3,6 +3,7 @@ use Rattle.std.specs.List.{All}
 use Rattle.std.specs.Option.{is_some, option_map, option_copied}
 use Rattle.std.proofs.lemmas.List.Elements.{All-push}
 use Rattle.tmm_model.specs.Moments.{moment_of}
+use Rattle.belief_list.specs.declared.told_changes.Told.{Told}
 use Rattle.belief_list.specs.Told.{left_at, IsToldThen}
 use Rattle.belief_list.proofs.Told.{pushed_same, passed_same, told_then}
 use Rattle.belief_list.proofs.told_changes.gone_nodes.Goals as goal
@@ -22,7 +23,7 @@ loop-d-preserved c =
           let grown : new ≡ old ++ t ∷ [] = ap (λ v. v.items) w.told-is ∙ w.in_ok-push.ensures in
           let found = sym c.left_occ.ensures ∙ ap (λ o. option_map moment_of (option_copied o)) w.in-Some.is in
           record {
-            same = pushed_same (λ d. is_some (left_at left places d)) old new t ds i _ c.loop-d-test.true grown w.in_ok-gone_node.ensures.difference (ap is_some found) c.loop-d.invariant.same;
+            same = pushed_same (λ (z : Told). z.difference) (λ d. is_some (left_at left places d)) old new ds i _ c.loop-d-test.true c.loop-d.invariant.same t grown w.in_ok-gone_node.ensures.difference (ap is_some found);
             dated = subst (All (IsToldThen left places)) (sym grown)
                 (All-push (IsToldThen left places) old t c.loop-d.invariant.dated
                 (told_then left places t _ _ w.in_ok-gone_node.ensures.difference found w.in_ok-gone_node.ensures.early w.in_ok-gone_node.ensures.word));
@@ -31,7 +32,7 @@ loop-d-preserved c =
           let stayed : new ≡ old = ap (λ v. v.items) w.told-is in
           let none = sym c.left_occ.ensures ∙ ap (λ o. option_map moment_of (option_copied o)) w.in_default.is in
           record {
-            same = passed_same (λ d. is_some (left_at left places d)) old new ds i _ c.loop-d-test.true stayed (ap is_some none) c.loop-d.invariant.same;
+            same = passed_same (λ (z : Told). z.difference) (λ d. is_some (left_at left places d)) old new ds i _ c.loop-d-test.true c.loop-d.invariant.same stayed (ap is_some none);
             dated = subst (All (IsToldThen left places)) (sym stayed) c.loop-d.invariant.dated;
           }
     ]

@@ -8,7 +8,7 @@ use Rattle.belief_list.proofs.told_changes.headed_of.Goals as goal
 pub row-root-requires : goal.row-root-requires
 row-root-requires c =
     let f = forest c.args.tree.now in
-    let (m, here) = node_at f c.args.difference.node c.requires.live in
+    let (m, here) = node_at f c.args.difference.now.node c.requires.live in
     let (n, there, same, none) = (c.row-row.ensures m here).root in
     live_at f c.row-row.result.root n there
 
