@@ -12,7 +12,7 @@ use Rattle.tmm_model.specs.declared.refusal.Refusal.{Refusal}
 use Rattle.tmm_model.specs.declared.refusal.Refusal.TheVariants.{LimitLine, Form}
 use Rattle.tmm_model.specs.declared.seq.Seq.{Seq}
 use Rattle.tmm_model.specs.declared.version.Version.{Version}
-use Rattle.tmm_model.specs.Lines.{words, is_comment, IsSilent, Reads, ReadsLine, IsWellFormedEdit, IsWellFormedQuery}
+use Rattle.tmm_model.specs.Lines.{is_comment, IsSilent, Reads, ReadsLine, IsWellFormedEdit, IsWellFormedQuery}
 use Rattle.tmm_grammar.specs.Bare.{bare_query}
 use Rattle.tmm_grammar.specs.Reading.{edit_of, query_of}
 use Rattle.tmm_grammar.proofs.LineForms.{line_of-none, line_of-sound}
