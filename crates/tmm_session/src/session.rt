@@ -1,6 +1,7 @@
 // One line to one reply.
 ghost use Rattle.std.specs.Prelude.{◌≡◌, ◌+◌, ◌-◌, ◌^◌, ◌<◌, ℕ, List, [], false, None, MatchResult};
 ghost use Rattle.tmm_grammar.specs.Reading.{edit_of, query_of};
+ghost use Rattle.tmm_model.specs.declared.line.Line.{Line};
 ghost use Rattle.tmm_model.specs.declared.refusal.Refusal.TheVariants.{LimitLine};
 ghost use Rattle.tmm_model.specs.declared.version.Version.{Version};
 ghost use Rattle.tmm_model.specs.Lines.{IsWellFormedEdit, IsWellFormedQuery, is_comment, words};

@@ -1,4 +1,4 @@
-use Rattle.std.proofs.Common.{◌≡◌, Some, refl, sym, subst, ap, ◌∙◌}
+use Rattle.std.proofs.Common.{◌≡◌, Some, None, sym, subst, ap, ◌∙◌}
 use Rattle.tmm_model.specs.declared.line.Line.TheVariants.{Change}
 use Rattle.tmm_model.specs.declared.version.Version.{Version}
 use Rattle.tmm_model.specs.Lines.{words}
@@ -7,8 +7,8 @@ use Rattle.tmm_grammar.specs.Reading.{edit_of}
 use Rattle.tmm_session.proofs.Turns.{TellsLine-meaning, TellsLine-formless, edit_is_well_formed, says_edit, says_something}
 use Rattle.tmm_session.proofs.session.answer_edit.Goals as goal
 
-pub change-requires-in-Some-clause-well_formed : goal.change-requires-in-Some-clause-well_formed
-change-requires-in-Some-clause-well_formed g c =
+pub change-requires-clause-well_formed : goal.change-requires-clause-well_formed
+change-requires-clause-well_formed g c =
     edit_is_well_formed c.version.result c.args.word.now (words c.args.rest.now) c.requires.speaks c.in-Some.edit c.in-Some.ensures
 
 pub returns-in-Some-clause-tells : goal.returns-in-Some-clause-tells
@@ -29,6 +29,6 @@ returns-in-None-clause-tells g c = λ bytes is.
     let word = c.args.word.now in
     let rest = words c.args.rest.now in
     let version : c.version.result ≡ list.version = c.version.ensures ∙ ap (λ (s : Standing). s.version) c.standing.ensures in
-    TellsLine-formless list _ bytes word rest _ c.requires.speaks is
-    (ap (λ (v : Version). edit_of v word rest) (sym version) ∙ sym c.in-None.ensures)
+    let none : None ≡ edit_of list.version word rest = subst (λ (v : Version). None ≡ edit_of v word rest) version c.in-None.ensures in
+    TellsLine-formless list _ bytes word rest _ c.requires.speaks is (sym none)
     c.requires.no_question c.refuse.ensures
