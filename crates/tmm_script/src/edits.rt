@@ -1,8 +1,8 @@
 // Lines that change the standing premises. Each function reads the words behind a line's first one.
-ghost use Rattle.std.specs.Prelude.{◌≡◌, ℕ, List, false, None, option_map, codes};
+ghost use Rattle.std.specs.Prelude.{◌≡◌, ℕ, List, true, false, None, option_map, codes};
 ghost use Rattle.tmm_model.specs.declared.version.Version.{Version as AVersion};
 ghost use Rattle.tmm_model.specs.Lines.{words};
-ghost use Rattle.tmm_grammar.specs.Reading.{class_of, dist_of, rule_of, facts_of, conditions_of, protect_of, name_alone_of, two_names_of, rivals_of, against_of, premise_of, alone, two_of, upgrade_of, edit_of, is_range as is_range_of};
+ghost use Rattle.tmm_grammar.specs.Reading.{class_of, dist_of, rule_of, facts_of, conditions_of, protect_of, name_alone_of, two_names_of, rivals_of, against_of, premise_of, alone, two_of, upgrade_of, edit_of, query_of, is_range as is_range_of};
 ghost use Rattle.tmm_script.specs.Conditions.{Cut, given_cut};
 
 use crate::fields::{
@@ -13,10 +13,11 @@ use arrayvec::ArrayVec;
 use tmm_model::{Bound, Edit, MOST_ANTECEDENTS, MOST_EXCEPTIONS, Name, Premise, Version};
 use tmm_words::split_word;
 
-/// Whether a line with this first word may make a change.
-#[tactic(auto, unfolding(tmm_grammar::specs::Reading::edit_of, tmm_grammar::specs::Reading::premise_of))]
+/// Whether a line with this first word may make a change. It asks no question then.
+#[tactic(auto, unfolding(tmm_grammar::specs::Reading::edit_of, tmm_grammar::specs::Reading::premise_of, tmm_grammar::specs::Reading::query_of))]
 pub fn begins_edit(word: &[u8]) -> bool
-    ensures { result ≡ false → (version : AVersion) (rest : List (List ℕ)) → edit_of version word.now rest ≡ None }
+    ensures edit { result ≡ true → (rest : List (List ℕ)) → query_of word.now rest ≡ None }
+    ensures other { result ≡ false → (version : AVersion) (rest : List (List ℕ)) → edit_of version word.now rest ≡ None }
 {
     match word {
         [b'a', ..] => word == b"against".as_slice(),

@@ -10,8 +10,11 @@ mod parse;
 mod print;
 mod queries;
 
-pub use parse::{is_silent, parse_line};
+pub use edits::{begins_edit, edit};
+pub use fields::Misread;
+pub use parse::{first_word, parse_line};
 pub use print::print_premise;
+pub use queries::query;
 
 #[cfg(test)]
 mod tests;

@@ -1,5 +1,5 @@
 // A line of a script.
-ghost use Rattle.std.specs.Prelude.{◌≡◌, ◌<◌, ◌≤◌, ◌∷◌, false, length, option_map, ◌↔◌, IsTrue, None, Ok, Err};
+ghost use Rattle.std.specs.Prelude.{◌≡◌, ◌≢◌, ◌<◌, ◌≤◌, ◌∷◌, false, length, option_map, ◌↔◌, IsTrue, MatchOption, None, Ok, Err};
 ghost use Rattle.tmm_model.specs.declared.line.Line.TheVariants.{Silent, Change, Question};
 ghost use Rattle.tmm_model.specs.declared.premise.Edit.{Edit as Edits};
 ghost use Rattle.tmm_model.specs.declared.refusal.Refusal.TheVariants.{LimitLine};
@@ -31,17 +31,13 @@ pub fn parse_line(alloc: Global, version: Version, line: &[u8]) -> Result<Line, 
     if line.len() > LONGEST_LINE {
         return Err(Stop::Refused(Refusal::LimitLine));
     }
-    let Some((word, rest)) = split_word(line) else {
+    let Some((word, rest)) = first_word(line) else {
         return Ok(Line::Silent);
     };
-    if comment(word) {
-        return Ok(Line::Silent);
-    }
     said(alloc, version, word, rest)
 }
 
-// What a line with this first word says, which begins no comment. A change is large, so it is read
-// apart from lines that say less, and only where the word may begin one.
+// What a line with this first word says, which begins no comment.
 fn said(alloc: Global, version: Version, word: &[u8], rest: &[u8]) -> Result<Line, Stop>
     requires { is_comment word.now ≡ false }
     ensures read { IsRead result (line_of version (word.now ∷ words rest.now)) }
@@ -49,28 +45,26 @@ fn said(alloc: Global, version: Version, word: &[u8], rest: &[u8]) -> Result<Lin
     ensures memory { result ≡ Err NoMemory → IsTrue (some_derived (asked_of word.now (words rest.now))) }
 {
     if begins_edit(word) {
-        changed(alloc, version, word, rest)
+        changed(version, word, rest)
     } else {
         asked(alloc, word, rest)
     }
 }
 
-// What a line says that may be a change, or may ask a question.
-#[inline(never)]
-fn changed(alloc: Global, version: Version, word: &[u8], rest: &[u8]) -> Result<Line, Stop>
-    requires { is_comment word.now ≡ false }
+// The change that a line with this first word makes, which begins one.
+fn changed(version: Version, word: &[u8], rest: &[u8]) -> Result<Line, Stop>
+    requires speaks { is_comment word.now ≡ false }
+    requires begins { query_of word.now (words rest.now) ≡ None }
     ensures read { IsRead result (line_of version (word.now ∷ words rest.now)) }
-    ensures changes_none { result ≡ Err NoMemory → edit_of version word.now (words rest.now) ≡ None }
-    ensures memory { result ≡ Err NoMemory → IsTrue (some_derived (asked_of word.now (words rest.now))) }
+    ensures memory { result ≢ Err NoMemory }
 {
     match edit(version, word, rest) {
         Some(edit) => Ok(Line::Change(edit)),
-        None => asked(alloc, word, rest),
+        None => Err(Stop::Refused(Refusal::Form)),
     }
 }
 
 // The question that a line with this first word asks.
-#[inline(never)]
 fn asked(alloc: Global, word: &[u8], rest: &[u8]) -> Result<Line, Stop>
     ensures read { IsRead result (option_map Question (query_of word.now (words rest.now))) }
     ensures memory { result ≡ Err NoMemory → IsTrue (some_derived (asked_of word.now (words rest.now))) }
@@ -82,14 +76,16 @@ fn asked(alloc: Global, word: &[u8], rest: &[u8]) -> Result<Line, Stop>
     }
 }
 
-/// Whether the line says nothing: it has no words, or is a comment. A line of any length is asked
-/// for its words alone.
-pub fn is_silent(line: &[u8]) -> bool
-    ensures { IsTrue result ↔ IsSilent (words line.now) }
+/// The first word of a line and what follows it, none exactly where the line says nothing: it has no
+/// words, or is a comment.
+pub fn first_word(line: &[u8]) -> Option<(&[u8], &[u8])>
+    ensures { MatchOption result (IsSilent (words line.now)) (λ x. (words line.now ≡ x.0.now ∷ words x.1.now) × (is_comment x.0.now ≡ false)) }
 {
-    match split_word(line) {
-        None => true,
-        Some((word, _)) => comment(word),
+    let (word, rest) = split_word(line)?;
+    if comment(word) {
+        None
+    } else {
+        Some((word, rest))
     }
 }
 

@@ -1,7 +1,6 @@
 -- What a session tells.
-use Rattle.std.proofs.lemmas.Bool.Decides.{leb_tells}
-use Rattle.std.proofs.Common.{◌≡◌, inl, inr, ℕ, List, [], ◌∷◌, ◌++◌, append-nil, ◌≤◌, ◌<◌, ◌↔◌, length, Result, Ok, Err, MatchResult, IfOk, refl, sym, ap, ◌∙◌, subst, arith}
-use Rattle.std.specs.Prelude.{codes}
+use Rattle.std.proofs.Common.{◌≡◌, ℕ, true, false, List, [], ◌∷◌, ◌++◌, append-nil, ◌<◌, length, Some, None, Result, Ok, Err, MatchResult, IfOk, refl, sym, ap, ◌∙◌, subst, arith}
+use Rattle.std.specs.Prelude.{codes, option_map}
 use Rattle.std.specs.List.{flat_map}
 use Rattle.tmm_model.specs.declared.changes.WhyLine.{WhyLine}
 use Rattle.tmm_model.specs.declared.line.Line.{Line}
@@ -10,14 +9,13 @@ use Rattle.tmm_model.specs.declared.line.Query.{Query}
 use Rattle.tmm_model.specs.declared.memory.NoMemory.{NoMemory}
 use Rattle.tmm_model.specs.declared.premise.Edit.{Edit}
 use Rattle.tmm_model.specs.declared.refusal.Refusal.{Refusal}
-use Rattle.tmm_model.specs.declared.refusal.Refusal.TheVariants.{LimitLine, Form, Taken, Unknown, Sort, LimitPremises, LimitPoints, Cycle, LimitSize}
-use Rattle.tmm_model.specs.declared.refusal.Stop.{Stop}
-use Rattle.tmm_model.specs.declared.refusal.Stop.TheVariants.{Refused as Stopped, NoMemory as OutOfMemory}
+use Rattle.tmm_model.specs.declared.refusal.Refusal.TheVariants.{LimitLine, Form}
 use Rattle.tmm_model.specs.declared.seq.Seq.{Seq}
 use Rattle.tmm_model.specs.declared.version.Version.{Version}
-use Rattle.tmm_model.specs.Lines.{words, ReadsLine}
-use Rattle.tmm_grammar.specs.Bare.{bare_line}
-use Rattle.tmm_grammar.specs.LineLaws.{ReadingIsOne}
+use Rattle.tmm_model.specs.Lines.{is_comment, IsSilent, Reads, ReadsLine, IsWellFormedEdit, IsWellFormedQuery}
+use Rattle.tmm_grammar.specs.Bare.{bare_query}
+use Rattle.tmm_grammar.specs.Reading.{edit_of, query_of}
+use Rattle.tmm_grammar.proofs.LineForms.{line_of-none, line_of-sound}
 use Rattle.tmm_model.specs.declared.answer.Answer.TheVariants.{Yes, No, Unordered}
 use Rattle.tmm_model.specs.Replies.{Reply, Accepted, Refused, BoundsAre, PathIs, Answered, Reasons, BrokenAre, Believed, DumpIs, AuditYes, SizeIs, head_line, text_of, why_lines, is_refusal}
 use Rattle.tmm_model.specs.Standing.{Standing}
@@ -25,11 +23,11 @@ use Rattle.tmm_model.specs.Maps.{built}
 use Rattle.tmm_model.specs.Questions.{query_cause}
 use Rattle.tmm_model.specs.Transcript.{RefusesEdit, AnswersLine, IsReadAs, LineAnswers, for_length, for_form, for_meaning}
 use Rattle.tmm_model.specs.Verdicts.{Tells as TellsCause}
-use Rattle.tmm_script.specs.Given.{IsReadingOf}
+use Rattle.tmm_script.proofs.Readings.{line_change, line_other}
 use Rattle.tmm_session.specs.declared.told.Told.{Told}
 use Rattle.tmm_session.specs.declared.told.Told.TheVariants.{Silent, Reply as ReplyOf, Memory}
 use Rattle.tmm_session.specs.Kinds.{reply_kind, is_refusing}
-use Rattle.tmm_session.specs.Sessions.{Tells, TellsMeaning, TellsLine}
+use Rattle.tmm_session.specs.Sessions.{Splits, Tells, TellsMeaning, TellsLine}
 
 -- bytes that are the text of a reply, or want of memory
 pub Tells-reply : (k : ℕ) (replied : Reply → Type 0) (kept : Type 0) (bytes : Result (Seq ℕ) NoMemory) (reply : Reply) (t : Told)
@@ -99,52 +97,51 @@ TellsLine-refused old k line refusal Memory answers other told = ((other, refl),
 TellsLine-refused old k line refusal (ReplyOf bytes kind) answers other told =
     ((told.0, answers told.0 told.1, told.2, ap is_refusing told.3 ∙ kind-refusal told.0), told.3)
 
--- ---- a line says one thing
+-- a line of more than 400 bytes is refused for its length
+pub TellsLine-long : (old : Standing) (k : ℕ) (line : List ℕ) (t : Told) → 400 < length line
+    → Tells k (λ reply. reply ≡ Refused LimitLine) (Unit {0}) t → TellsLine old k line t old
+TellsLine-long old k line t long told = TellsLine-refused old k line LimitLine t (λ reply e. for_length long e refl) (λ silent. omega (arith, silent.short)) told
 
-pub change_is_not_silent : ReadingIsOne → (version : Version) (line : List ℕ) (edit : Edit) → IsReadAs version line (Change edit) → IsReadAs version line Blank → ⊥
-change_is_not_silent one version line edit read silent =
-    let same : bare_line (Change edit) ≡ bare_line Blank = one version (words line) (Change edit) Blank read.reads silent.reads in cc same
+-- ---- a line by its first word, which begins no comment, and those behind it
 
-pub question_is_not_silent : ReadingIsOne → (version : Version) (line : List ℕ) (query : Query) → IsReadAs version line (Question query) → IsReadAs version line Blank → ⊥
-question_is_not_silent one version line query read silent =
-    let same : bare_line (Question query) ≡ bare_line Blank = one version (words line) (Question query) Blank read.reads silent.reads in cc same
+module _ (version : Version) (word : List ℕ) (rest : List (List ℕ)) (speaks : is_comment word ≡ false) where
+  -- as an edit
+  reads_edit : (edit : Edit) → Some edit ≡ edit_of version word rest → Reads version (word ∷ rest) (Change edit)
+  reads_edit edit e = line_of-sound version (word ∷ rest) (Change edit) (line_change version (word ∷ rest) word rest refl speaks edit (sym e))
 
--- ---- what reading a line gives
+  pub edit_is_well_formed : (edit : Edit) → Some edit ≡ edit_of version word rest → IsWellFormedEdit edit
+  edit_is_well_formed edit e = (reads_edit edit e).1
 
--- a line that was read is short, and reads so
-pub read_line : (version : Version) (line : List ℕ) (meaning : Line) (result : Result Line Stop) → result ≡ Ok meaning
-    → ((result ≡ Err (Stopped LimitLine)) ↔ (400 < length line)) → (length line ≤ 400 → IsReadingOf version line result) → IsReadAs version line meaning
-read_line version line meaning result is too_long read = elim (leb_tells (length line) 400) [
-  | inl short ↦ record { short = short.1; reads = subst (IsReadingOf version line) is (read short.1) }
-  | inr long ↦ absurd (let e : Ok meaning ≡ Err (Stopped LimitLine) = sym is ∙ too_long.1 long.1 in cc e)
-]
+  module _ (none : edit_of version word rest ≡ None) where
+    -- as a question
+    reads_query : (query : Query) → query_of word rest ≡ Some (bare_query query) → Reads version (word ∷ rest) (Question query)
+    reads_query query e = line_of-sound version (word ∷ rest) (Question query) (line_other version (word ∷ rest) word rest refl speaks none ∙ ap (option_map Question) e)
 
--- a line that is refused as it is read is too long, or in no form
-pub TellsLine-stopped : (old : Standing) (k : ℕ) (line : List ℕ) (refusal : Refusal) (t : Told) (result : Result Line Stop) → result ≡ Err (Stopped refusal)
-    → ((result ≡ Err (Stopped LimitLine)) ↔ (400 < length line)) → (length line ≤ 400 → IsReadingOf old.version line result)
-    → Tells k (λ reply. reply ≡ Refused refusal) (Unit {0}) t → TellsLine old k line t old
-TellsLine-stopped old k line refusal t result is too_long read told = elim (leb_tells (length line) 400) [
-  | inl short ↦ by_form refusal is (subst (IsReadingOf old.version line) is (read short.1)) short.1 told
-  | inr long ↦ (let e : Err (Stopped refusal) ≡ Err (Stopped LimitLine) = sym is ∙ too_long.1 long.1 in
-      let same : refusal ≡ LimitLine = cc in by_length long.1 (subst (λ (r : Refusal). Tells k (λ reply. reply ≡ Refused r) (Unit {0}) t) same told))
-]
-  where
-    by_length : 400 < length line → Tells k (λ reply. reply ≡ Refused LimitLine) (Unit {0}) t → TellsLine old k line t old
-    by_length long told = TellsLine-refused old k line LimitLine t (λ reply e. for_length long e refl) (λ silent. omega (arith, silent.short)) told
+    pub query_is_well_formed : (query : Query) → query_of word rest ≡ Some (bare_query query) → IsWellFormedQuery query
+    query_is_well_formed query e = (reads_query query e).1
 
-    by_form : (refusal : Refusal) → result ≡ Err (Stopped refusal) → IsReadingOf old.version line (Err (Stopped refusal)) → length line ≤ 400
-        → Tells k (λ reply. reply ≡ Refused refusal) (Unit {0}) t → TellsLine old k line t old
-    by_form LimitLine is given short told = by_length (too_long.0 is) told
-    by_form Form is given short told = TellsLine-refused old k line Form t (λ reply e. for_form short given e refl) (λ silent. given Blank silent.reads) told
-    by_form (Taken word) is given short told = absurd given
-    by_form (Unknown word) is given short told = absurd given
-    by_form (Sort word) is given short told = absurd given
-    by_form LimitPremises is given short told = absurd given
-    by_form LimitPoints is given short told = absurd given
-    by_form (Cycle sum steps) is given short told = absurd given
-    by_form LimitSize is given short told = absurd given
+    -- as neither
+    reads_nothing : query_of word rest ≡ None → (l : Line) → Reads version (word ∷ rest) l → ⊥
+    reads_nothing no_query l = line_of-none version (word ∷ rest) l (line_other version (word ∷ rest) word rest refl speaks none ∙ ap (option_map Question) no_query)
 
--- a line for which there was no memory is not silent
-pub no_memory_is_not_silent : (version : Version) (line : List ℕ) (result : Result Line Stop) → result ≡ Err OutOfMemory
-    → (length line ≤ 400 → ReadsLine version line Blank → result ≡ Ok Blank) → IsReadAs version line Blank → ⊥
-no_memory_is_not_silent version line result is silent read = let e : Err OutOfMemory ≡ Ok Blank = sym is ∙ silent read.short read.reads in cc e
+  module _ (line : List ℕ) (is : Splits line word rest) where
+    pub says_something : IsReadAs version line Blank → ⊥
+    says_something silent = (let comment : is_comment word ≡ true = subst IsSilent is.split silent.reads in let e : false ≡ true = sym speaks ∙ comment in cc e)
+
+    pub says_edit : (edit : Edit) → Some edit ≡ edit_of version word rest → IsReadAs version line (Change edit)
+    says_edit edit e = record { short = is.short; reads = subst (λ (ws : List (List ℕ)). Reads version ws (Change edit)) (sym is.split) (reads_edit edit e) }
+
+    pub says_query : edit_of version word rest ≡ None → (query : Query) → query_of word rest ≡ Some (bare_query query) → IsReadAs version line (Question query)
+    says_query none query e = record { short = is.short; reads = subst (λ (ws : List (List ℕ)). Reads version ws (Question query)) (sym is.split) (reads_query none query e) }
+
+    pub says_nothing : edit_of version word rest ≡ None → query_of word rest ≡ None → (l : Line) → ReadsLine version line l → ⊥
+    says_nothing none no_query l reads = reads_nothing none no_query l (subst (λ (ws : List (List ℕ)). Reads version ws l) is.split reads)
+
+-- a line in no form is refused for it
+pub TellsLine-formless : (old : Standing) (k : ℕ) (line word : List ℕ) (rest : List (List ℕ)) (t : Told) → is_comment word ≡ false → Splits line word rest
+    → edit_of old.version word rest ≡ None → query_of word rest ≡ None
+    → Tells k (λ reply. reply ≡ Refused Form) (Unit {0}) t → TellsLine old k line t old
+TellsLine-formless old k line word rest t speaks is none no_query told =
+    TellsLine-refused old k line Form t
+    (λ reply e. for_form is.short (says_nothing old.version word rest speaks line is none no_query) e refl)
+    (says_something old.version word rest speaks line is) told

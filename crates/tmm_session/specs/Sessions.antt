@@ -1,11 +1,12 @@
 -- What a session tells of a line, and of what the line says, for the line of a number.
-use Rattle.std.specs.Prelude.{◌≡◌, ℕ, List, Option, Some, None}
+use Rattle.std.specs.Prelude.{◌≡◌, ℕ, ◌≤◌, List, ◌∷◌, length, Option, Some, None}
 use Rattle.tmm_model.specs.declared.line.Line.{Line}
 use Rattle.tmm_model.specs.declared.turn.Turn.{Turn}
 use Rattle.tmm_model.specs.declared.turn.Turn.TheVariants.{Reply as ReplyTurn}
+use Rattle.tmm_model.specs.Lines.{words}
 use Rattle.tmm_model.specs.Replies.{Reply, text_of}
 use Rattle.tmm_model.specs.Standing.{Standing}
-use Rattle.tmm_model.specs.Transcript.{AnswersLine, Step}
+use Rattle.tmm_model.specs.Transcript.{AnswersLine, Step, most_bytes}
 use Rattle.tmm_session.specs.declared.told.Told.{Told}
 use Rattle.tmm_session.specs.declared.told.Told.TheVariants.{Silent, Reply as ReplyOf, Memory}
 use Rattle.tmm_session.specs.Kinds.{reply_kind, turn_of}
@@ -34,3 +35,8 @@ HasKind told reply = Unit {0}
 -- a line is answered: the step of the transcript, with the kind of its reply
 abbrev pub TellsLine : Standing → ℕ → List ℕ → Told → Standing → Type 0
 TellsLine old k line told new = (step : Step old k line (turn_of told) new) × HasKind told (reply_told old k line (turn_of told) new step)
+
+-- the line is short enough, and has this first word and these behind it
+pub record Splits (line word : List ℕ) (rest : List (List ℕ)) : Type 0 where
+  pub short : length line ≤ most_bytes
+  pub split : words line ≡ word ∷ rest

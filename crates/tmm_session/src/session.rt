@@ -1,15 +1,15 @@
 // One line to one reply.
-ghost use Rattle.std.specs.Prelude.{◌≡◌, ◌+◌, ◌-◌, ◌^◌, ◌<◌, ◌≤◌, ◌↔◌, length, [], None, Ok, Err, MatchResult};
-ghost use Rattle.tmm_model.specs.declared.line.Line.TheVariants.{Silent};
+ghost use Rattle.std.specs.Prelude.{◌≡◌, ◌+◌, ◌-◌, ◌^◌, ◌<◌, ℕ, List, [], false, None, MatchResult};
+ghost use Rattle.tmm_grammar.specs.Reading.{edit_of, query_of};
+ghost use Rattle.tmm_model.specs.declared.line.Line.{Line};
 ghost use Rattle.tmm_model.specs.declared.refusal.Refusal.TheVariants.{LimitLine};
-ghost use Rattle.tmm_model.specs.declared.refusal.Stop.TheVariants.{Refused as Stopped};
-ghost use Rattle.tmm_model.specs.Lines.{IsWellFormedEdit, IsWellFormedQuery, IsSilent, words};
+ghost use Rattle.tmm_model.specs.declared.version.Version.{Version};
+ghost use Rattle.tmm_model.specs.Lines.{IsWellFormedEdit, IsWellFormedQuery, is_comment, words};
 ghost use Rattle.tmm_model.specs.Replies.{Refused, Answered, Reasons, text_of};
 ghost use Rattle.tmm_model.specs.Standing.{Standing};
 ghost use Rattle.tmm_model.specs.Transcript.{Step};
-ghost use Rattle.tmm_script.specs.Given.{IsReadingOf};
 ghost use Rattle.tmm_session.specs.Kinds.{reply_kind};
-ghost use Rattle.tmm_session.specs.Sessions.{Tells, TellsLine, TellsMeaning};
+ghost use Rattle.tmm_session.specs.Sessions.{Splits, Tells, TellsLine, TellsMeaning};
 ghost use Rattle.tmm_session.specs.LongLines.{Step-long};
 
 use crate::told::{ReplyKind, Told};
@@ -23,10 +23,9 @@ use replies::{
 use std::alloc::Global;
 use tmm_drive::Lines;
 use tmm_model::{
-    Answer, Edit, LONGEST_LINE, Line, Name, NoMemory, Occ, Query, QueryPoint, Refusal, Seq, Stop,
-    Turn,
+    Answer, Edit, LONGEST_LINE, Name, NoMemory, Occ, Query, QueryPoint, Refusal, Seq, Stop, Turn,
 };
-use tmm_script::{is_silent, parse_line};
+use tmm_script::{Misread, begins_edit, edit, first_word, query};
 
 /// Answers the lines of a script over a map.
 #[derive(Drop)]
@@ -64,11 +63,20 @@ impl<M: MapCore + Drop> Session<M> {
         ensures idle { M.pending self.new.core ≡ None }
     {
         self.lines += 1;
-        // Most of a long script may be comments: they are passed over before a `Line` is made.
-        if bytes.len() <= LONGEST_LINE && is_silent(bytes) {
-            return Told::Silent;
+        if bytes.len() > LONGEST_LINE {
+            return refuse_long(alloc, self.lines);
         }
-        answer_line(alloc, self.lines, bytes, &mut self.core, &mut self.counter)
+        match first_word(bytes) {
+            None => Told::Silent,
+            Some((word, rest)) => answer_words(
+                alloc,
+                self.lines,
+                word,
+                rest,
+                &mut self.core,
+                &mut self.counter,
+            ),
+        }
     }
 }
 
@@ -90,41 +98,71 @@ impl<M: MapCore + Drop> Lines for Session<M> {
     }
 }
 
-// Answers a line by what it says. What it says may be large, so this is kept apart from the way
-// that silent lines take.
-#[inline(never)]
-fn answer_line<M: MapCore>(
+// Answers a line that begins with this word. What an edit says is large, so each of the two ways is
+// kept apart from the other, and from the way that silent lines take.
+fn answer_words<M: MapCore>(
     alloc: Global,
     line: u64,
-    bytes: &[u8],
+    word: &[u8],
+    rest: &[u8],
     core: &mut M,
     counter: &mut Counter,
 ) -> Told
     requires idle { M.pending core.old ≡ None }
-    ensures tells { TellsLine (M.list core.old) line bytes.now result (M.list core.new) }
+    requires speaks { is_comment word.now ≡ false }
+    ensures tells { (bytes : List ℕ) → Splits bytes word.now (words rest.now) → TellsLine (M.list core.old) line bytes result (M.list core.new) }
     ensures idle { M.pending core.new ≡ None }
 {
-    let meaning = match read(alloc, bytes, core) {
-        Ok(meaning) => meaning,
-        Err(Stop::Refused(refusal)) => return refuse(alloc, line, &refusal),
-        Err(Stop::NoMemory) => return Told::Memory,
-    };
-    // by reference: a change is large
-    match &meaning {
-        Line::Silent => Told::Silent,
-        Line::Change(edit) => change(alloc, line, edit, core, counter),
-        Line::Question(query) => answer(alloc, line, query, core),
+    if begins_edit(word) {
+        answer_edit(alloc, line, word, rest, core, counter)
+    } else {
+        answer_query(alloc, line, word, rest, core)
     }
 }
 
-// What a line says in the version of the map's list.
-fn read<M: MapCore>(alloc: Global, bytes: &[u8], core: &M) -> Result<Line, Stop>
-    requires idle { M.pending core.now ≡ None }
-    ensures too_long { (result ≡ Err (Stopped LimitLine)) ↔ (400 < length bytes.now) }
-    ensures read { length bytes.now ≤ 400 → IsReadingOf (M.list core.now).version bytes.now result }
-    ensures silent { length bytes.now ≤ 400 → IsSilent (words bytes.now) → result ≡ Ok Silent }
+// Makes the edit that such a line says, where its first word begins one.
+#[inline(never)]
+fn answer_edit<M: MapCore>(
+    alloc: Global,
+    line: u64,
+    word: &[u8],
+    rest: &[u8],
+    core: &mut M,
+    counter: &mut Counter,
+) -> Told
+    requires idle { M.pending core.old ≡ None }
+    requires speaks { is_comment word.now ≡ false }
+    requires no_question { query_of word.now (words rest.now) ≡ None }
+    ensures tells { (bytes : List ℕ) → Splits bytes word.now (words rest.now) → TellsLine (M.list core.old) line bytes result (M.list core.new) }
+    ensures idle { M.pending core.new ≡ None }
 {
-    parse_line(alloc, core.standing().version(), bytes)
+    match edit(core.standing().version(), word, rest) {
+        Some(edit) => change(alloc, line, &edit, core, counter),
+        None => refuse(alloc, line, &Refusal::Form),
+    }
+}
+
+// Answers the question that such a line asks, where its first word begins no edit.
+#[inline(never)]
+fn answer_query<M: MapCore>(alloc: Global, line: u64, word: &[u8], rest: &[u8], core: &M) -> Told
+    requires idle { M.pending core.now ≡ None }
+    requires speaks { is_comment word.now ≡ false }
+    requires no_edit { (version : Version) → edit_of version word.now (words rest.now) ≡ None }
+    ensures tells { (bytes : List ℕ) → Splits bytes word.now (words rest.now) → TellsLine (M.list core.now) line bytes result (M.list core.now) }
+{
+    match query(alloc, word, rest) {
+        Ok(query) => answer(alloc, line, &query, core),
+        Err(Misread::Form) => refuse(alloc, line, &Refusal::Form),
+        Err(Misread::Memory) => Told::Memory,
+    }
+}
+
+// Refuses a line for its length.
+#[inline(never)]
+fn refuse_long(alloc: Global, line: u64) -> Told
+    ensures { Tells line (λ reply. reply ≡ Refused LimitLine) (Unit {0}) result }
+{
+    refuse(alloc, line, &Refusal::LimitLine)
 }
 
 // The reply that these bytes are, where there was memory for them.

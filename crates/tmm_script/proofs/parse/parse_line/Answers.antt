@@ -7,4 +7,4 @@ use Rattle.tmm_script.proofs.parse.parse_line.Goals as goal
 pub returns-clause-read : goal.returns-clause-read
 returns-clause-read c = λ _.
     read-says c.args.version c.args.line.now c.said.result
-    (subst (λ (ws : List (List ℕ)). IsRead c.said.result (line_of c.args.version ws)) (sym c.in-Some.ensures) c.said.ensures.read)
+    (subst (λ (ws : List (List ℕ)). IsRead c.said.result (line_of c.args.version ws)) (sym c.in-Some.ensures.0) c.said.ensures.read)
