@@ -1,6 +1,7 @@
 pub mod Queued
 pub mod Marked
 pub mod Spared
+pub mod Latest
 pub mod Named
 pub mod Entered
 pub mod Dropped

@@ -15,6 +15,7 @@ ghost use Rattle.belief_net.specs.Woken.{TellMoves, AreAwake, WakesForAll, IsRow
 
 use crate::fast::{Moves, moves_of};
 use crate::moved_events::wake_moved_events;
+use crate::moved_pairs::none_moved;
 use crate::rivalled::wake_rivalled;
 use crate::state::Decisions;
 use crate::touching::points_of_pairs;
@@ -47,7 +48,7 @@ pub(crate) fn mark_moved(
     net.invariants();
     let _ = decisions.rows.first(1, 0);
     decisions.classes.have_own();
-    if net.moved().is_empty() {
+    if none_moved(net, &added) {
         return Ok(());
     }
     // where no rule ever had a row there is none
