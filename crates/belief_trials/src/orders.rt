@@ -2,17 +2,18 @@
 ghost use Rattle.std.specs.Prelude.{IfOk};
 ghost use Rattle.list_net.specs.Fits.{IsNetOf, NothingPending};
 ghost use Rattle.occ_tree.specs.Places.{forest};
-ghost use Rattle.spots.specs.OfLists.{IsForestOf};
+ghost use Rattle.spots.specs.OfLists.{HasList};
 
 use crate::names::name;
 use crate::premises::{Premises, let_through};
+use dist_net::DistNet;
 use occ_tree::Tree;
 use projection::{Counter, rebuild};
 use spots::Spot;
 use std::alloc::Global;
 use std::process::Abort;
 use std::test::Fail;
-use tmm_model::{Name, Occ, Seq, Stop};
+use tmm_model::{Name, NoMemory, Occ, Seq, Stop, TokenRow};
 
 /// Two presses, the second 15 time units after the first.
 const PRESSES: &[&[u8]] = &[
@@ -56,14 +57,16 @@ fn with_rules(alloc: Global) -> Result<Premises, Stop>
     Ok(premises)
 }
 
-// The tree of all that is believed.
-fn believed(alloc: Global, premises: &Premises) -> Result<Tree, Stop>
-    requires { IsNetOf premises.now.list.present premises.now.net.present }
-    ensures { IfOk result (λ tree. IsForestOf premises.now.list.present premises.now.net.present (forest tree)) }
+// The tree of all that is believed before the first press moves, with the network after it.
+fn before_move(alloc: Global, premises: &mut Premises) -> Result<Tree, Stop>
+    requires network { IsNetOf premises.old.list.present premises.old.net.present }
+    requires settled { NothingPending premises.old.list premises.old.net }
+    ensures { IfOk result (λ tree. HasList premises.new.net.present (forest tree)) }
 {
     let mut counter = Counter::zero();
     let mut tree = rebuild(alloc, &premises.list, &premises.net, &mut counter)?.tree;
     tree.commit();
+    premises.constrain(alloc, MOVE)?;
     Ok(tree)
 }
 
@@ -75,7 +78,7 @@ fn check_order(rt: &impl Abort, tree: &Tree, class: &Name, count: usize, root: u
     for i in 1..rows.len() {
         assert!(rt; is_before(tree, rows[i - 1].spot, rows[i].spot));
     }
-    assert_eq!(rt; root_of(tree, rows[0].spot), Some(root));
+    assert_eq!(rt; first_root(tree, rows), Some(root));
 }
 
 fn is_before(tree: &Tree, first: Spot, second: Spot) -> bool {
@@ -87,9 +90,9 @@ fn is_before(tree: &Tree, first: Spot, second: Spot) -> bool {
     }
 }
 
-// The number of the root of a node.
-fn root_of(tree: &Tree, spot: Spot) -> Option<u32> {
-    match spot {
+// The number of the root of the first token.
+fn first_root(tree: &Tree, rows: &[TokenRow<Spot>]) -> Option<u32> {
+    match rows.first()?.spot {
         Spot::Node(x) if tree.is_live(x) => Some(tree.row(x).root),
         _ => None,
     }
@@ -109,30 +112,41 @@ fn declared(rt: &impl Abort, alloc: Global, tree: &Tree, word: &str) -> u32 {
 
 // The tokens of the first press follow it to a date behind the second and out of the tree, and are
 // back after a rollback.
-fn tokens_follow(rt: &impl Abort, alloc: Global, premises: &mut Premises) -> Result<(), Fail>
-    requires network { IsNetOf premises.old.list.present premises.old.net.present }
-    requires settled { NothingPending premises.old.list premises.old.net }
+fn tokens_follow(
+    rt: &impl Abort,
+    alloc: Global,
+    tree: &mut Tree,
+    net: &DistNet,
+) -> Result<(), NoMemory>
+    requires { HasList net.now.present (forest tree.old) }
 {
     let lamp = name("lamp");
-    let mut tree = let_through(rt, believed(alloc, premises))?;
-    let first = declared(rt, alloc, &tree, "first");
-    let second = declared(rt, alloc, &tree, "second");
-    check_order(rt, &tree, &lamp, 2 * RULES, first);
-    let_through(rt, premises.constrain(alloc, MOVE))?;
-    tree.re_date_all(alloc, &premises.net)?;
-    check_order(rt, &tree, &lamp, 2 * RULES, second);
+    let first = declared(rt, alloc, tree, "first");
+    let second = declared(rt, alloc, tree, "second");
+    check_order(rt, tree, &lamp, 2 * RULES, first);
+    tree.re_date_all(alloc, net)?;
+    check_order(rt, tree, &lamp, 2 * RULES, second);
     tree.rollback();
-    check_order(rt, &tree, &lamp, 2 * RULES, first);
+    check_order(rt, tree, &lamp, 2 * RULES, first);
     assert!(rt; tree.is_live(first));
     tree.withdraw(alloc, first)?;
-    check_order(rt, &tree, &lamp, RULES, second);
+    check_order(rt, tree, &lamp, RULES, second);
     tree.rollback();
-    check_order(rt, &tree, &lamp, 2 * RULES, first);
+    check_order(rt, tree, &lamp, 2 * RULES, first);
     Ok(())
+}
+
+// The same from the premises on.
+fn presses_move(rt: &impl Abort, alloc: Global) -> Result<(), Stop> {
+    let mut premises = with_rules(alloc)?;
+    let mut tree = before_move(alloc, &mut premises)?;
+    match tokens_follow(rt, alloc, &mut tree, &premises.net) {
+        Ok(()) => Ok(()),
+        Err(_) => Err(Stop::NoMemory),
+    }
 }
 
 #[test]
 fn the_tokens_of_an_event_stay_in_order(rt: HostRuntime) -> Result<(), Fail> {
-    let mut premises = let_through(&rt, with_rules(rt.alloc()))?;
-    tokens_follow(&rt, rt.alloc(), &mut premises)
+    let_through(&rt, presses_move(&rt, rt.alloc()))
 }

@@ -96,10 +96,10 @@ fn add_all(
 fn edit_of(alloc: Global, line: &[u8]) -> Result<Edit, Stop>
     ensures { IfOk result IsWellFormedEdit }
 {
-    match parse_line(alloc, Version::One, line)? {
-        Line::Change(edit) => Ok(edit),
-        _ => Err(Stop::Refused(Refusal::Form)),
-    }
+    let Line::Change(edit) = parse_line(alloc, Version::One, line)? else {
+        return Err(Stop::Refused(Refusal::Form));
+    };
+    Ok(edit)
 }
 
 // Adds a premise, where it is let through.
