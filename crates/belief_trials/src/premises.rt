@@ -56,7 +56,10 @@ impl Premises {
         ensures { OnOk result (SeeTheSame self.old.list.present self.old.net.present self.new.list.present self.new.net.present) }
     {
         let edit = edit_of(alloc, line)?;
-        let Edit::Add(Premise::Dist { .. }) = &edit else {
+        let Edit::Add(premise) = &edit else {
+            return Err(Stop::Refused(Refusal::Form));
+        };
+        let Premise::Dist { .. } = premise else {
             return Err(Stop::Refused(Refusal::Form));
         };
         add(alloc, &mut self.list, &mut self.net, &edit)
