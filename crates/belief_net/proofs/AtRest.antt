@@ -9,7 +9,7 @@ use Rattle.tmm_model.specs.Moments.{read_by, rule_of}
 use Rattle.tmm_model.specs.Points.{same_name}
 use Rattle.tmm_model.specs.Standing.{Standing}
 use Rattle.list_theory.proofs.Elements.{In, In-map, map-In, list_any-In, In-list_any}
-use Rattle.dist_net.specs.Net.{Nets, IsMovedAt}
+use Rattle.dist_net.specs.Net.{Nets}
 use Rattle.spots.specs.declared.spot.Spot.{Spot}
 use Rattle.spots.specs.declared.spot.Spot.TheVariants.{Declared, Node}
 use Rattle.spots.specs.Forest.{Forest}
@@ -29,7 +29,7 @@ use Rattle.belief_net.specs.declared.state.Decisions.{Decisions}
 use Rattle.belief_net.specs.Decided.{table_of, rule_in, AreUnder}
 use Rattle.belief_net.specs.Fast.{is_out, StandFast}
 use Rattle.belief_net.specs.Marks.{Wakes}
-use Rattle.belief_net.specs.MovedPairs.{is_kept, WereThere, is_moved, AreMoved}
+use Rattle.belief_net.specs.MovedPairs.{is_moved, AreMoved}
 use Rattle.belief_net.specs.Numbers.{name_in, HaveOwnNumbers}
 use Rattle.belief_net.specs.PointSets.{has_pair}
 use Rattle.belief_net.specs.Reach.{AreBelow256}
@@ -39,14 +39,13 @@ use Rattle.belief_net.specs.Woken.{RestsFor, MovesFrom, KeepsDate, RestsForFirst
 use Rattle.belief_net.proofs.Bases.{Small, node_small, class_small, small_or}
 use Rattle.belief_net.proofs.ByRule.{reads_none}
 use Rattle.belief_net.proofs.Named.{are_numbered}
-use Rattle.belief_net.proofs.Pairs.{kept_in_both, none_listed}
 use Rattle.belief_net.proofs.Waking.{wakes_both}
 
 -- ---- where nothing moved
 
-pub all_rest : (nets : Nets) (added : Option (List ℕ)) (before s : Standing) (f : Forest) (d : Decisions) (row : TableRow Pair 8) → WereThere nets added
-    → IsMovedAt nets.moved nets.committed nets.present → length nets.moved ≡ 0 → IsRowAtRest nets added before s f d row
-all_rest nets added before s f d row were moved_at none = inl (λ m. none_listed nets (is_kept nets.present.names added) (kept_in_both nets added were) moved_at none (base_of f m.from) (base_of f m.to) m.moved)
+pub all_rest : (nets : Nets) (added : Option (List ℕ)) (before s : Standing) (f : Forest) (d : Decisions) (row : TableRow Pair 8)
+    → ((a b : ℕ) → is_moved nets added a b ≡ true → ⊥) → IsRowAtRest nets added before s f d row
+all_rest nets added before s f d row none = inl (λ m. none (base_of f m.from) (base_of f m.to) m.moved)
 
 -- ---- where points moved
 

@@ -1,6 +1,7 @@
 pub mod Queued
 pub mod Marked
 pub mod Spared
+pub mod Latest
 pub mod Named
 pub mod Entered
 pub mod Dropped
@@ -58,6 +59,7 @@ pub mod Numbering
 pub mod AlikeKept
 pub mod AlikeCounted
 pub mod Placed
+pub mod PlaceDates
 pub mod Stood
 pub mod Shifted
 pub mod Waking

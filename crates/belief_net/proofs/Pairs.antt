@@ -188,9 +188,11 @@ module _ (nets : Nets) (among : ℕ → Bool) (have : (p : ℕ) → among p ≡ 
         | inr listed ↦ listed
       ]
 
-  -- none did where none is listed
-  pub none_listed : length nets.moved ≡ 0 → (a b : ℕ) → is_moved_among nets among a b ≡ true → ⊥
-  none_listed none a b is = elim (one_listed a b is) [ inl (k, less, at) ↦ omega (arith, less, none) | inr (k, less, at) ↦ omega (arith, less, none) ]
+  -- none did where none of the listed points is among these
+  pub none_listed : ((p : ℕ) → Contains nets.moved p → among p ≡ false) → (a b : ℕ) → is_moved_among nets among a b ≡ true → ⊥
+  none_listed out a b is =
+      let m = moved_parts nets among a b is in
+      elim (one_listed a b is) [ inl on ↦ not_both (among a) m.from (out a on) | inr on ↦ not_both (among b) m.to (out b on) ]
 
   at_place : (a k : ℕ) → k < length nets.moved → get_or nets.moved k a ≡ a → get_or nets.moved k 0 ≡ a
   at_place a k less is = get_or_default nets.moved k 0 a less ∙ is

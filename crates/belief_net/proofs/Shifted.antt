@@ -25,7 +25,7 @@ use Rattle.belief_net.specs.Fast.{IsInBoth, AreInBoth, is_out}
 use Rattle.belief_net.specs.Places.{IsPlaceOf}
 use Rattle.belief_net.specs.PointSets.{is_in, AreThose}
 use Rattle.belief_net.specs.Reach.{IsBaseOf}
-use Rattle.belief_net.specs.Shifts.{stands_fast, IsFastToken, HasBegunBy, AreWallsBy, IsSparedBy, AreBehind, TokensHaveBoth, ShiftHasBoth, IsShift, IsBehindNode, IsNoted, AreShifts, NotesRow}
+use Rattle.belief_net.specs.Shifts.{stands_fast, IsFastToken, HasBegunBy, AreWallsBy, IsSparedBy, AreBehind, TellsDates, TokensHaveBoth, ShiftHasBoth, IsShift, IsBehindNode, IsNoted, AreShifts, NotesRow}
 
 node_base : (f : Forest) (x : ℕ) (m : Member) → member f x ≡ Some m → base_of f (Node x) ≡ m.begin
 node_base f x m here = ap (λ (o : Option Member). option_map_or (λ (k : Member). k.begin) o 0) here
@@ -135,8 +135,10 @@ module _ (f : Forest) (fast : List Bool) where
     noted_loose place tokens shift at in_both all have is = record {
       have = λ before. All-push (ShiftHasBoth nets) old shift before (record {
         place = subst (λ (p : Place). IsInBoth nets p.base) (sym is.at) in_both;
-        before = behind_both nets nets.committed place tokens shift.before.items have is.before;
-        after = behind_both nets nets.present place tokens shift.after.items have is.after;
+        before = behind_both nets nets.committed place tokens shift.before.tokens.items have is.before.tokens_are;
+        after = behind_both nets nets.present place tokens shift.after.tokens.items have is.after.tokens_are;
+        dates_before = subst (λ (p : Place). TellsDates nets.committed p shift.before) (sym is.at) is.before.dates;
+        dates_after = subst (λ (p : Place). TellsDates nets.present p shift.after) (sym is.at) is.after.dates;
       });
       more = λ other on. Contains-append_left old (shift ∷ []) other on;
       noted = λ y m of. inr (
@@ -144,8 +146,8 @@ module _ (f : Forest) (fast : List Bool) where
         Contains-append_right old (shift ∷ []) shift (0, omega arith, refl),
         record {
           place = subst (IsPlaceOf f y) (sym is.at) (at y of.spot);
-          before = by nets.committed shift.before.items is.before y m of (elim is.spans [ inl none ↦ inl none | inr empty ↦ inr empty.0 ]);
-          after = by nets.present shift.after.items is.after y m of (elim is.spans [ inl none ↦ inl none | inr empty ↦ inr empty.1 ]);
+          before = by nets.committed shift.before.tokens.items is.before.tokens_are y m of is.before.spans;
+          after = by nets.present shift.after.tokens.items is.after.tokens_are y m of is.after.spans;
         },
       );
     }
@@ -218,7 +220,7 @@ not_some (Some x) e = cc
 
 -- the events at which all loose tokens are spared
 pub all_spared : (nets : Nets) (f : Forest) (fast : List Bool) (shifts : List Shift) (x : ℕ) (event : Place) → IsPlaceOf f x event → is_in fast event.base ≡ true
-    → ((shift : Shift) → Contains shifts shift → IsSparedBy nets.committed shift.place shift.before.items event × IsSparedBy nets.present shift.place shift.after.items event)
+    → ((shift : Shift) → Contains shifts shift → IsSparedBy nets.committed shift.place shift.before.tokens.items event × IsSparedBy nets.present shift.place shift.after.tokens.items event)
     → (class : List ℕ) → AreShifts nets f (is_out fast) class shifts → SparesClass nets f (is_out fast) class x
 all_spared nets f fast shifts x event at in_fast spared class are = record {
   event = ap (is_out fast) at.base ∙ ap not in_fast;
@@ -226,8 +228,8 @@ all_spared nets f fast shifts x event at in_fast spared class are = record {
     | inl stands ↦ inl stands
     | inr (shift, on, is) ↦ inr (
         let h = spared shift on in (
-          spared_by nets.committed f (is_out fast) class x y m event shift.place at is.place shift.before.items is.before h.0,
-          spared_by nets.present f (is_out fast) class x y m event shift.place at is.place shift.after.items is.after h.1,
+          spared_by nets.committed f (is_out fast) class x y m event shift.place at is.place shift.before.tokens.items is.before h.0,
+          spared_by nets.present f (is_out fast) class x y m event shift.place at is.place shift.after.tokens.items is.after h.1,
         ))
   ];
 }

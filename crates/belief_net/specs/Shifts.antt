@@ -1,5 +1,5 @@
 -- Tokens that are loose, with fast tokens behind them.
-use Rattle.std.specs.Prelude.{◌≡◌, ◌≢◌, ◌⊎◌, ℕ, pos, negsuc, Bool, true, false, ◌&&◌, List, [], Option, Some, None}
+use Rattle.std.specs.Prelude.{◌≡◌, ◌≢◌, ◌⊎◌, ℕ, ℤ, pos, negsuc, ◌≤ℤ◌, Bool, true, false, ◌&&◌, List, [], Option, Some, None, IfSome}
 use Rattle.std.specs.List.{All, Contains}
 use Rattle.tmm_model.specs.declared.token.TokenRow.{TokenRow}
 use Rattle.tmm_model.specs.Tokens.{is_before}
@@ -11,10 +11,11 @@ use Rattle.spots.specs.Spots.{spot_distance}
 use Rattle.spots.proofs.Rows.{IsRowOf}
 use Rattle.joined.specs.Shifting.{IsFast}
 use Rattle.belief_net.specs.declared.places.Place.{Place}
+use Rattle.belief_net.specs.declared.shifts.Behind.{Behind}
 use Rattle.belief_net.specs.declared.shifts.Shift.{Shift}
 use Rattle.belief_net.specs.declared.walls.FastToken.{FastToken}
 use Rattle.belief_net.specs.Fast.{IsInBoth}
-use Rattle.belief_net.specs.Places.{IsPlaceOf, TellsWithin}
+use Rattle.belief_net.specs.Places.{IsPlaceOf, TellsWithin, IsDateAt, IsOpenUntil}
 use Rattle.belief_net.specs.PointSets.{is_in}
 
 -- ---- walls
@@ -54,6 +55,21 @@ pub record AreWallsBy (net : Net) (tokens : List FastToken) (event : Place) : Ty
 abbrev pub IsSparedBy : Net → Place → List FastToken → Place → Type 0
 IsSparedBy net place behind event = TellsWithin net event place (pos 0) false ⊎ AreWallsBy net behind event
 
+-- ---- by dates
+
+-- the event begins elsewhere than each of the tokens
+abbrev pub IsApart : List FastToken → Place → Type 0
+IsApart tokens event = (t : FastToken) → Contains tokens t → event.base ≢ t.place.base
+
+-- at events that begin elsewhere there are walls among the tokens from the date on
+abbrev pub AreWallsFrom : Net → List FastToken → ℤ → Type 0
+AreWallsFrom net tokens until = (event : Place) (date : ℤ) → IsDateAt net event date → until ≤ℤ date → IsApart tokens event → AreWallsBy net tokens event
+
+-- the dates tell at which events that begin elsewhere the token at the place is spared
+pub record TellsDates (net : Net) (place : Place) (behind : Behind) : Type 0 where
+  pub from : IfSome behind.from (IsOpenUntil net place)
+  pub until : IfSome behind.until (AreWallsFrom net behind.tokens.items)
+
 -- ---- what is loose of a class
 
 -- tokens that surely begin after the node at a place
@@ -71,16 +87,23 @@ TokensHaveBoth nets tokens = All (λ t. IsInBoth nets t.place.base) tokens
 -- so are those of a shift
 pub record ShiftHasBoth (nets : Nets) (shift : Shift) : Type 0 where
   pub place : IsInBoth nets shift.place.base
-  pub before : TokensHaveBoth nets shift.before.items
-  pub after : TokensHaveBoth nets shift.after.items
+  pub before : TokensHaveBoth nets shift.before.tokens.items
+  pub after : TokensHaveBoth nets shift.after.tokens.items
+  pub dates_before : TellsDates nets.committed shift.place shift.before
+  pub dates_after : TellsDates nets.present shift.place shift.after
 
--- A loose token at a place, with those of the tokens that were behind it at the last commit, and
--- that are; with none if it is a span.
+-- What is behind a token at a place: some of the tokens, none if it is a span, and what the dates
+-- tell.
+pub record IsBehindOf (net : Net) (place : Place) (end_is : Option Spot) (tokens : List FastToken) (behind : Behind) : Type 0 where
+  pub tokens_are : AreBehind net place tokens behind.tokens.items
+  pub spans : (end_is ≡ None) ⊎ (behind.tokens.items ≡ [])
+  pub dates : TellsDates net place behind
+
+-- a loose token at a place, with what was behind it at the last commit, and what is
 pub record IsShift (nets : Nets) (place : Place) (end_is : Option Spot) (tokens : List FastToken) (shift : Shift) : Type 0 where
   pub at : shift.place ≡ place
-  pub before : AreBehind nets.committed place tokens shift.before.items
-  pub after : AreBehind nets.present place tokens shift.after.items
-  pub spans : (end_is ≡ None) ⊎ ((shift.before.items ≡ []) × (shift.after.items ≡ []))
+  pub before : IsBehindOf nets.committed place end_is tokens shift.before
+  pub after : IsBehindOf nets.present place end_is tokens shift.after
 
 -- the fast token begins surely after node y, which is no span
 pub record IsBehindNode (net : Net) (f : Forest) (loose : ℕ → Bool) (class : List ℕ) (y : ℕ) (m : Member) (t : FastToken) : Type 0 where
@@ -91,8 +114,8 @@ pub record IsBehindNode (net : Net) (f : Forest) (loose : ℕ → Bool) (class :
 -- it is the token of node y, with fast tokens of the class behind it
 pub record IsShiftOf (nets : Nets) (f : Forest) (loose : ℕ → Bool) (class : List ℕ) (y : ℕ) (m : Member) (shift : Shift) : Type 0 where
   pub place : IsPlaceOf f y shift.place
-  pub before : All (IsBehindNode nets.committed f loose class y m) shift.before.items
-  pub after : All (IsBehindNode nets.present f loose class y m) shift.after.items
+  pub before : All (IsBehindNode nets.committed f loose class y m) shift.before.tokens.items
+  pub after : All (IsBehindNode nets.present f loose class y m) shift.after.tokens.items
 
 -- the token of node y is fast, or one of the shifts is that token
 abbrev pub IsNoted : Nets → Forest → (ℕ → Bool) → List ℕ → List Shift → ℕ → Member → Type 0

@@ -1,5 +1,5 @@
 -- A token that enters or leaves, and the events at which it bears on no decision.
-use Rattle.std.specs.Prelude.{◌≡◌, ◌⊎◌, ℕ, Bool, true, false, not, ◌&&◌, ◌||◌, List, Option, Some, None}
+use Rattle.std.specs.Prelude.{◌≡◌, ◌⊎◌, ℕ, ℤ, ◌≤ℤ◌, Bool, true, false, not, ◌&&◌, ◌||◌, List, Option, Some, None, IfSome}
 use Rattle.std.specs.Borrow.{Bor}
 use Rattle.std.specs.List.{All, list_any}
 use Rattle.tmm_model.specs.declared.bound.Bound.{Bound}
@@ -10,11 +10,11 @@ use Rattle.dist_net.specs.Net.{Net}
 use Rattle.row_links.specs.Lists.{IsOn}
 use Rattle.spots.specs.declared.spot.Spot.{Spot}
 use Rattle.spots.specs.declared.spot.Spot.TheVariants.{Node}
-use Rattle.spots.specs.Forest.{Forest, Member, member}
+use Rattle.spots.specs.Forest.{Forest, Member, member, IsLive}
 use Rattle.spots.specs.Spots.{spot_distance, token_row}
 use Rattle.occ_tree.specs.OfLists.{IsTreeIn}
 use Rattle.occ_tree.specs.Places.{forest}
-use Rattle.occ_tree.specs.Standing.{Kept}
+use Rattle.occ_tree.specs.Standing.{Kept, present, early}
 use Rattle.revisions.specs.Walls.{begins_by, AreWallsAt}
 use Rattle.belief_net.specs.declared.windows.Window.{Window}
 
@@ -54,7 +54,19 @@ are_two far t walls = list_any (λ v. begins_by far (Node t) v && list_any (λ w
 abbrev pub is_spared : (Spot → Spot → Bound) → TokenRow Spot → List (TokenRow Spot) → ℕ → Bool
 is_spared far k walls t = not (begins_by far (Node t) k) || are_two far t walls
 
+-- from the date on the token has surely begun at each event
+abbrev pub HasBegunFrom : Net → Kept → TokenRow Spot → ℤ → Type 0
+HasBegunFrom net tree k date = (t : ℕ) → IsLive (forest tree) t → date ≤ℤ early (present tree) t → begins_by (spot_distance net (forest tree)) (Node t) k ≡ true
+
+-- from the date on two of the tokens have, of two facts
+abbrev pub AreTwoFrom : Net → Kept → List (TokenRow Spot) → ℤ → Type 0
+AreTwoFrom net tree walls date = (t : ℕ) → IsLive (forest tree) t → date ≤ℤ early (present tree) t → are_two (spot_distance net (forest tree)) t walls ≡ true
+
 -- ---- a window
+
+-- the token is that of a node
+abbrev pub IsOfNode : Forest → TokenRow Spot → Type 0
+IsOfNode f k = (x : ℕ) × (m : Member) × (member f x ≡ Some m) × (token_row x m ≡ Some k)
 
 -- the token w, of the class of k and of another node, is surely after k, which has no end
 pub record IsWall (net : Net) (f : Forest) (moving : List ℕ) (k w : TokenRow Spot) : Type 0 where
@@ -72,13 +84,14 @@ abbrev pub net_in : Window → Net
 net_in w = w.order.net.now.present
 
 -- the window is that of the token of node x, which enters or leaves with these: all others in it
--- are walls behind it
+-- are walls behind it, and from the date that it tells two of them have surely begun
 pub record IsWindowOf (moving : List ℕ) (x : ℕ) (w : Window) : Type 0 where
   pub tree : IsTreeIn (net_in w) (tree_in w)
   pub node : Member
   pub here : member (forest (tree_in w)) x ≡ Some node
   pub is : token_row x node ≡ Some w.token
   pub walls : All (IsWall (net_in w) (forest (tree_in w)) moving w.token) w.walls.items
+  pub until : IfSome w.until (AreTwoFrom (net_in w) (tree_in w) w.walls.items)
 
 -- it is the window of some token
 abbrev pub IsWindow : Window → Type 0

@@ -25,14 +25,17 @@ use Rattle.belief_net.specs.Fast.{AreInBoth, is_out}
 use Rattle.belief_net.specs.Marks.{Wakes, WakesOf}
 use Rattle.belief_net.specs.MovedPairs.{is_moved}
 use Rattle.belief_net.specs.Numbers.{name_in}
+use Rattle.belief_net.specs.Places.{HasList}
 use Rattle.belief_net.specs.PointSets.{has_pair, HaveOneOf}
 use Rattle.belief_net.specs.Shifts.{AreShifts}
 use Rattle.belief_net.specs.Waiting.{Dates}
 
 -- what is known of what moved: each pair has one of the points that the net lists, no point makes
 -- one with itself, and the points that were there and those that stand fast are there now and were
--- at the last commit
+-- at the last commit; both networks are of lists
 pub record TellMoves (nets : Nets) (moves : Moves) : Type 0 where
+  pub was : HasList nets.committed
+  pub is : HasList nets.present
   pub places : length moves.pairs.items ≡ 65536
   pub listed : HaveOneOf nets.moved moves.pairs.items
   pub itself : (a : ℕ) → a < 256 → has_pair moves.pairs.items a a ≡ false

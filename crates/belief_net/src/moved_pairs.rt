@@ -1,7 +1,8 @@
 // Which distances are others now than at the last commit.
-ghost use Rattle.std.specs.Prelude.{◌≡◌, ◌⊎◌, ◌<◌, length, IfOk};
+ghost use Rattle.std.specs.Prelude.{◌≡◌, ◌⊎◌, ◌<◌, ℕ, true, false, length, IfOk};
+ghost use Rattle.std.specs.List.{Contains};
 ghost use Rattle.belief_net.specs.Fast.{AreInBoth};
-ghost use Rattle.belief_net.specs.MovedPairs.{is_of_premise, is_kept, is_moved_among, PutsPairs};
+ghost use Rattle.belief_net.specs.MovedPairs.{is_of_premise, is_kept, is_moved, is_moved_among, PutsPairs, WereThere};
 ghost use Rattle.belief_net.specs.PointSets.{is_in, AreThosePairs, HaveOneOf};
 
 use crate::point_sets::is_in;
@@ -80,6 +81,23 @@ fn is_moved(net: &DistNet, kept: &[bool], a: u16, b: u16) -> bool
         return false;
     }
     !net.was(a, b).is(net.far(a, b))
+}
+
+// Whether no point that the net lists as moved was there: then no two that were there are another
+// distance apart.
+pub(crate) fn none_moved(net: &DistNet, added: &Option<Name>) -> bool
+    requires { WereThere net.now added.now }
+    ensures { result ≡ true → (a b : ℕ) → is_moved net.now added.now a b ≡ true → ⊥ }
+{
+    let moved = net.moved();
+    !has_kept(net, added, moved)
+}
+
+// Whether one of these points was there.
+fn has_kept(net: &DistNet, added: &Option<Name>, points: &[u16]) -> bool
+    ensures { result ≡ false → (p : ℕ) → Contains points.now p → is_kept net.now.present.names added.now p ≡ false }
+{
+    points.iter().any(|p| is_kept(net, added, *p))
 }
 
 // Whether a number is that of a point, and of none of the premise that is added.

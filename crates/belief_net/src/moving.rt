@@ -8,6 +8,7 @@ ghost use Rattle.occ_tree.specs.Touched.{IsUntouched};
 ghost use Rattle.belief_net.specs.Decided.{table_of, AreUnder};
 ghost use Rattle.belief_net.specs.Marks.{HaveEvents, Wakes};
 ghost use Rattle.belief_net.specs.MovedPairs.{WereThere};
+ghost use Rattle.belief_net.specs.Places.{HasList};
 ghost use Rattle.belief_net.specs.Reach.{AreBelow256};
 ghost use Rattle.belief_net.specs.Touching.{IsRowMoved};
 ghost use Rattle.belief_net.specs.Waiting.{dates_in};
@@ -15,6 +16,7 @@ ghost use Rattle.belief_net.specs.Woken.{TellMoves, AreAwake, WakesForAll, IsRow
 
 use crate::fast::{Moves, moves_of};
 use crate::moved_events::wake_moved_events;
+use crate::moved_pairs::none_moved;
 use crate::rivalled::wake_rivalled;
 use crate::state::Decisions;
 use crate::touching::points_of_pairs;
@@ -36,6 +38,7 @@ pub(crate) fn mark_moved(
     added: Option<Name>,
 ) -> Result<(), NoMemory>
     requires seen { IsForestOf standing.now.present net.now.present (forest tree.now) }
+    requires was { HasList net.now.committed }
     requires there { WereThere net.now added }
     requires events { HaveEvents tree.now (table_of decisions.old) }
     requires under { AreUnder standing.now.present decisions.old }
@@ -47,7 +50,7 @@ pub(crate) fn mark_moved(
     net.invariants();
     let _ = decisions.rows.first(1, 0);
     decisions.classes.have_own();
-    if net.moved().is_empty() {
+    if none_moved(net, &added) {
         return Ok(());
     }
     // where no rule ever had a row there is none

@@ -8,6 +8,7 @@ ghost use Rattle.belief_net.specs.MarkLaws.{added_by as name_added};
 ghost use Rattle.belief_net.specs.Marks.{Wakes};
 ghost use Rattle.belief_net.specs.MovedPairs.{WereThere};
 ghost use Rattle.belief_net.specs.Numbered.{AreNumbered, left_under};
+ghost use Rattle.belief_net.specs.Places.{HasList};
 ghost use Rattle.belief_net.specs.Settling.{Begins};
 ghost use Rattle.belief_net.specs.Telling.{IsWeighed};
 ghost use Rattle.belief_net.specs.Turning.{IsFit};
@@ -97,6 +98,7 @@ fn mark_touched(
     before: u32,
 ) -> Result<(), NoMemory>
     requires fit { IsFit standing.now.present net.now.present beliefs.old }
+    requires was { HasList net.now.committed }
     requires there { WereThere net.now (name_added edit.now) }
     ensures ok { OnOk result (Wakes (present beliefs.old.tree) (table_of beliefs.old.decisions) (λ i row. IsTouchedBy edit.now standing.now.committed standing.now.present net.now before beliefs.old row) (λ i row. IsLeftBy edit.now standing.now.committed standing.now.present net.now before beliefs.old row) (dates_in beliefs.old.decisions.waiting) (dates_in beliefs.new.decisions.waiting)) }
     ensures others { beliefs.new ≡ record beliefs.old { decisions = record beliefs.old.decisions { waiting = beliefs.new.decisions.waiting } } }
@@ -123,6 +125,7 @@ fn mark_changed(
     added: Option<Name>,
 ) -> Result<(), NoMemory>
     requires fit { IsFit standing.now.present net.now.present beliefs.old }
+    requires was { HasList net.now.committed }
     requires there { WereThere net.now added }
     ensures ok { OnOk result (Wakes (present beliefs.old.tree) (table_of beliefs.old.decisions) (λ i row. IsChanged added standing.now.committed standing.now.present net.now beliefs.old row) (λ i row. IsUnchanged added standing.now.committed standing.now.present net.now beliefs.old row) (dates_in beliefs.old.decisions.waiting) (dates_in beliefs.new.decisions.waiting)) }
     ensures others { beliefs.new ≡ record beliefs.old { decisions = record beliefs.old.decisions { waiting = beliefs.new.decisions.waiting } } }

@@ -1,11 +1,11 @@
 // Where nodes are, and how far apart they were and are.
-ghost use Rattle.std.specs.Prelude.{◌≡◌, ◌+ℤ◌, ◌-ℤ◌, int_le, true, false, IfSome};
+ghost use Rattle.std.specs.Prelude.{◌≡◌, ◌+ℤ◌, ◌-ℤ◌, ◌≤ℤ◌, int_le, true, false, IfSome};
 ghost use Rattle.tmm_model.specs.Bounds.{bound_plus, bound_less, bound_at_most};
 ghost use Rattle.dist_net.specs.Net.{IsInUse};
 ghost use Rattle.spots.specs.Forest.{IsLive};
 ghost use Rattle.spots.specs.Spots.{net_far};
 ghost use Rattle.occ_tree.specs.Places.{forest};
-ghost use Rattle.belief_net.specs.Places.{IsPlaceOf, net_at, limit, TellsWithin};
+ghost use Rattle.belief_net.specs.Places.{IsPlaceOf, net_at, limit, HasList, IsDateAt, IsOpenUntil, IsSureFrom, TellsWithin};
 
 use dist_net::DistNet;
 use occ_tree::Tree;
@@ -123,4 +123,56 @@ fn is_sum_at_most(far: i64, more: i64, less: i64, most: i64) -> bool
     ensures { result ≡ int_le ((far +ℤ more) -ℤ less) most }
 {
     far as i128 + more as i128 - less as i128 <= most as i128
+}
+
+// The later of two dates.
+pub(crate) fn later(one: i64, other: i64) -> i64
+    ensures one { one ≤ℤ result }
+    ensures other { other ≤ℤ result }
+{
+    if one < other { other } else { one }
+}
+
+// The earliest date of a node at a place, at the last commit or now; none where it is out of range.
+pub(crate) fn date_at(net: &DistNet, before: bool, place: &Place) -> Option<i64>
+    requires list { HasList (net_at net.now before) }
+    requires place { IsInUse (net_at net.now before).names place.now.base }
+    ensures { IfSome result (IsDateAt (net_at net.now before) place.now) }
+{
+    match far_at(net, before, place.base, 0) {
+        Bound::Finite(far) => place.low.checked_sub(far),
+        Bound::Free => None,
+    }
+}
+
+// A date such that a node at a place has not surely begun at events that begin elsewhere and come
+// before it: the earliest date of its point, and the most time that rules take from there.
+pub(crate) fn open_until(net: &DistNet, before: bool, place: &Place) -> Option<i64>
+    requires list { HasList (net_at net.now before) }
+    requires place { IsInUse (net_at net.now before).names place.now.base }
+    ensures { IfSome result (IsOpenUntil (net_at net.now before) place.now) }
+{
+    let Bound::Finite(high) = place.high else {
+        return None;
+    };
+    let Bound::Finite(far) = far_at(net, before, place.base, 0) else {
+        return None;
+    };
+    high.checked_sub(far)
+}
+
+// The latest date of a node at a place, none where nothing bounds it: from then on it has surely
+// begun.
+pub(crate) fn sure_from(net: &DistNet, before: bool, place: &Place) -> Option<i64>
+    requires list { HasList (net_at net.now before) }
+    requires place { IsInUse (net_at net.now before).names place.now.base }
+    ensures { IfSome result (IsSureFrom (net_at net.now before) place.now) }
+{
+    let Bound::Finite(high) = place.high else {
+        return None;
+    };
+    let Bound::Finite(far) = far_at(net, before, 0, place.base) else {
+        return None;
+    };
+    high.checked_add(far)
 }

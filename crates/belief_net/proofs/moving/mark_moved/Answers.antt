@@ -1,4 +1,4 @@
-use Rattle.std.proofs.Common.{◌≡◌, ◌∙◌, length, sym, ap, subst, inr, arith, eqb-true}
+use Rattle.std.proofs.Common.{◌≡◌, ◌∙◌, sym, ap, subst, inr, arith}
 use Rattle.std.specs.List.{Contains}
 use Rattle.undo_rows.specs.Changes.{present as table}
 use Rattle.occ_tree.specs.Places.{forest}
@@ -20,14 +20,13 @@ use Rattle.belief_net.proofs.WatchedPoints.{classed}
 use Rattle.belief_net.proofs.moving.mark_moved.Goals as goal
 use Rattle.belief_net.proofs.moving.mark_moved.Goals.{In_ok-moves, In_ok-wake_classes}
 
-pub returns-then-is_empty-clause-ok : goal.returns-then-is_empty-clause-ok
-returns-then-is_empty-clause-ok c =
+pub returns-then-none_moved-clause-ok : goal.returns-then-none_moved-clause-ok
+returns-then-none_moved-clause-ok c =
     let d = c.args.decisions.now in
     let list = c.args.standing.now.present in
     let f = forest c.args.tree.now in
-    let none : length c.args.net.now.moved ≡ 0 = ap length (sym c.moved.ensures.list) ∙ eqb-true (length c.moved.result.now) 0 (sym c.is_empty.ensures ∙ c.if-is_empty.true) in
     wakes_none (present c.args.tree.now) (table_of d) (λ i row. IsRowMoved c.args.net.now c.args.added list f d row) (λ i row. IsRowAtRest c.args.net.now c.args.added c.args.standing.now.committed list f d row) (dates_in d.waiting)
-    (λ i row at. inr (all_rest c.args.net.now c.args.added c.args.standing.now.committed list f d row c.requires.there c.moved.ensures.moved none))
+    (λ i row at. inr (all_rest c.args.net.now c.args.added c.args.standing.now.committed list f d row (c.none_moved.ensures c.if-none_moved.true)))
 
 pub returns-then-len-eq0-clause-ok : goal.returns-then-len-eq0-clause-ok
 returns-then-len-eq0-clause-ok c =
@@ -43,6 +42,8 @@ moves_of-requires-clause-start c = start_kept c.args.net.now.present.names c.arg
 -- what is told of what moved
 told : (c : In_ok-moves) → TellMoves c.args.net.now c.in_ok-moves.moves
 told c = record {
+  was = c.requires.was;
+  is = (c.args.standing.now.present, c.requires.seen.network);
   places = c.in_ok-moves.ensures.moved.places;
   listed = c.in_ok-moves.ensures.listed;
   itself = no_pair_of_one c.args.net.now c.args.added c.in_ok-moves.moves.pairs.items c.in_ok-moves.ensures.moved;

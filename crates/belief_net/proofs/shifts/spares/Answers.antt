@@ -13,6 +13,12 @@ is_spared-requires-clause-shift c = subst (ShiftHasBoth c.args.net.now) (sym c.i
 pub is_spared-requires-clause-event : goal.is_spared-requires-clause-event
 is_spared-requires-clause-event c = c.requires.fast c.place_of-event.result.base (sym c.is_in.ensures ∙ c.if-not-is_in.false)
 
+pub date_at-was-requires-clause-place : goal.date_at-was-requires-clause-place
+date_at-was-requires-clause-place c = (c.requires.fast c.place_of-event.result.base (sym c.is_in.ensures ∙ c.if-not-is_in.false)).0
+
+pub date_at-is-requires-clause-place : goal.date_at-is-requires-clause-place
+date_at-is-requires-clause-place c = (c.requires.fast c.place_of-event.result.base (sym c.is_in.ensures ∙ c.if-not-is_in.false)).1
+
 pub loop-i-init : goal.loop-i-init
 loop-i-init c k shift less = absurd (omega (arith, less))
 
@@ -21,7 +27,7 @@ loop-i-preserved c k shift less is = elim (cases_order k c.loop-i.i) [
   | inl same ↦
       let one : shift ≡ c.index-shifts-i.result =
       is ∙ ap (λ j. get_or c.args.shifts.now j shift) same ∙ get_or_default c.args.shifts.now c.loop-i.i shift c.index-shifts-i.result c.loop-i-test.true ∙ sym c.index-shifts-i.is in
-      subst (λ (s : Shift). IsSparedBy c.args.net.now.committed s.place s.before.items c.place_of-event.result × IsSparedBy c.args.net.now.present s.place s.after.items c.place_of-event.result) (sym one)
+      subst (λ (s : Shift). IsSparedBy c.args.net.now.committed s.place s.before.tokens.items c.place_of-event.result × IsSparedBy c.args.net.now.present s.place s.after.tokens.items c.place_of-event.result) (sym one)
       (c.is_spared.ensures.before c.if-not-is_spared.false, c.is_spared.ensures.after c.if-not-is_spared.false)
   | inr other ↦ elim other [ inl below ↦ c.loop-i.invariant k shift below is | inr above ↦ absurd (omega (arith, less, above)) ]
 ]

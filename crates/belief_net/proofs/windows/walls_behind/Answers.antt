@@ -29,24 +29,21 @@ place_of-requires-clause-all_live c = rows_live {s = c.requires.tree.list.0} {ne
 pub place_of-requires-clause-by_date : goal.place_of-requires-clause-by_date
 place_of-requires-clause-by_date c = by_date c.requires.tree c.tokens-rows.ensures.rows c.tokens-rows.ensures.in_order
 
-pub is_wall-requires-clause-other : goal.is_wall-requires-clause-other
-is_wall-requires-clause-other c =
-    let within : c.loop-i.i < length c.tokens-rows.result.now = omega (arith, c.loop-i-test.true, c.min-i-end.ensures) in
-    let (x, m, at, made, _) = row_at (forest c.args.order.now.tree.now) c.args.token.now.class c.tokens-rows.result.now c.tokens-rows.ensures.rows c.loop-i.i c.index-rows-i.result within c.index-rows-i.is in
+pub note_wall-requires-clause-other : goal.note_wall-requires-clause-other
+note_wall-requires-clause-other c =
+    let (x, m, at, made, _) = row_at (forest c.args.order.now.tree.now) c.args.token.now.class c.tokens-rows.result.now c.tokens-rows.ensures.rows c.loop-i.i c.index-rows-i.result (omega (arith, c.loop-i-test.true, c.min-i-end.ensures)) c.index-rows-i.is in
     (x, m, at, made)
 
+pub note_wall-requires-clause-class : goal.note_wall-requires-clause-class
+note_wall-requires-clause-class c =
+    let (_, _, _, _, class) = row_at (forest c.args.order.now.tree.now) c.args.token.now.class c.tokens-rows.result.now c.tokens-rows.ensures.rows c.loop-i.i c.index-rows-i.result (omega (arith, c.loop-i-test.true, c.min-i-end.ensures)) c.index-rows-i.is in
+    class
+
+pub note_wall-requires-clause-endless : goal.note_wall-requires-clause-endless
+note_wall-requires-clause-endless c = none_of c.args.token.now.end (sym c.if-is_some.ensures)
+
 pub loop-i-preserved : goal.loop-i-preserved
-loop-i-preserved c = elim c.if-is_wall.branch [
-  | then-is_wall+in_ok-reserve w ↦ (
-      let net = c.args.order.now.net.now.present in
-      let f = forest c.args.order.now.tree.now in
-      let within : c.loop-i.i < length c.tokens-rows.result.now = omega (arith, c.loop-i-test.true, c.min-i-end.ensures) in
-      let (_, _, _, _, class) = row_at f c.args.token.now.class c.tokens-rows.result.now c.tokens-rows.ensures.rows c.loop-i.i c.index-rows-i.result within c.index-rows-i.is in
-      let told = c.is_wall.ensures.0 w.if-is_wall.true in
-      let wall : IsWall net f c.args.moving.now c.args.token.now c.index-rows-i.result =
-      record { of_other = told.0; class = class; after = told.1; endless = none_of c.args.token.now.end (sym c.if-is_some.ensures) } in
-      let grown : c.if-is_wall.walls.items ≡ c.loop-i.walls.items ++ c.index-rows-i.result ∷ [] =
-      ap (λ v. v.items) w.walls-is ∙ w.push_reserved.ensures.items ∙ ap (λ (l : List (TokenRow Spot)). l ++ c.index-rows-i.result ∷ []) w.reserve.ensures.items in
-      subst (All (IsWall net f c.args.moving.now c.args.token.now)) (sym grown) (All-push (IsWall net f c.args.moving.now c.args.token.now) c.loop-i.walls.items c.index-rows-i.result c.loop-i.invariant wall))
-  | else-is_wall w ↦ subst (λ v. All (IsWall c.args.order.now.net.now.present (forest c.args.order.now.tree.now) c.args.moving.now c.args.token.now) v.items) (sym w.walls-is) c.loop-i.invariant
-]
+loop-i-preserved c = c.in_ok-note_wall.ensures c.loop-i.invariant
+
+pub returns-then-len-ge2 : goal.returns-then-len-ge2
+returns-then-len-ge2 c = c.loop-i.invariant
