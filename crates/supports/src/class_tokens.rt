@@ -23,6 +23,8 @@ pub(crate) struct ClassTokens<'a> {
     pub tree: &'a Tree,
     pub fact: Name,
     pub class: Name,
+    // the tokens of the class, which are looked up once
+    pub own: &'a [TokenRow<Spot>],
 }
 
 impl Tokens for ClassTokens<'_> {
@@ -48,7 +50,7 @@ impl ClassTokens<'_> {
         ensures in_order { IsInOrder (order (present self.now.tree.now)) (numbers_in result.now) }
     {
         if i == 0 {
-            self.tree.tokens(&self.class)
+            self.own
         } else {
             self.list_against(self.standing.rivalry(i - 1))
         }

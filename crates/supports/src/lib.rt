@@ -81,21 +81,6 @@ fn node_at(rows: &[TokenRow<Spot>], place: usize) -> u32
     node_of(&rows[place])
 }
 
-// The place of the token of a node.
-fn place_of(order: &Order<'_>, rows: &[TokenRow<Spot>], x: u32) -> usize
-    requires live { All (HasLiveSpots (IsKnown order.now.net.now.present (present order.now.tree.now))) rows.now }
-    requires by_date { IsByDate (spot_early order.now.net.now.present (forest order.now.tree.now)) (spot_cmp order.now.net.now.present (forest order.now.tree.now)) rows.now }
-    requires x_live { IsKnown order.now.net.now.present (present order.now.tree.now) (Spot.Node x) }
-    requires node { HasNode rows.now x }
-    ensures within { result < length rows.now }
-    ensures at { (d : TokenRow Spot) → (slice_index_or rows.now result d).spot ≡ Spot.Node x }
-{
-    match by_date::place_of(order, rows, Spot::Node(x)) {
-        Some(place) => place,
-        None => unreachable!(),
-    }
-}
-
 /// The node of the first token that supports the fact throughout `p` to `q`, none exactly where no
 /// token does.
 pub fn supporter(
@@ -168,7 +153,7 @@ pub enum NodeFault {
 }
 
 /// Why the token at `x` does not support its fact throughout `p` to `q`, where no token does.
-pub fn blame(map: &TimeMap<'_>, x: u32, p: Spot, q: Spot) -> NodeFault
+pub fn blame(map: &TimeMap<'_>, x: u32, at: usize, p: Spot, q: Spot) -> NodeFault
     requires seen { IsTimeMap map.now }
     requires p { IsSpot map.now.net.now.present.names (forest map.now.tree.now) p }
     requires q { IsSpot map.now.net.now.present.names (forest map.now.tree.now) q }
@@ -187,6 +172,7 @@ pub fn blame(map: &TimeMap<'_>, x: u32, p: Spot, q: Spot) -> NodeFault
         tree: map.tree,
         fact: row.what,
         class,
+        own: map.tree.tokens(&class),
     };
     tokens.are_in_order();
     map.tree.have_tokens();
@@ -194,7 +180,6 @@ pub fn blame(map: &TimeMap<'_>, x: u32, p: Spot, q: Spot) -> NodeFault
         tree: map.tree,
         net: map.net,
     };
-    let at = place_of(&order, tokens.list(0), x);
     match across::blame(&order, &tokens, map.standing, Place { list: 0, at }, p, q) {
         Fault::Late => NodeFault::Late,
         Fault::Clipped(c) => NodeFault::Clipped(node_at(tokens.list(c.list), c.at)),

@@ -1,21 +1,16 @@
--- The first of a list in order: put in their places one by one, with only so many kept.
-use Rattle.std.proofs.Common.{◌≡◌, ◌∙◌, ℕ, zero, suc, ◌≤◌, Bool, true, false, List, [], ◌∷◌, map, length, take, refl, ap, subst, inl, inr, arith}
+-- Lists put in order.
+use Rattle.std.proofs.Common.{◌≡◌, ◌∙◌, ℕ, zero, suc, Bool, true, false, List, [], ◌∷◌, map, take, refl, ap, subst, inl, inr}
 use Rattle.std.specs.Prelude.{Option, Some, None}
-use Rattle.std.specs.List.{insert, filter_map, cons_option}
+use Rattle.std.specs.List.{filter_map, cons_option}
 use Rattle.std.specs.declared.cmp.Ordering.{Ordering}
+use Rattle.std.specs.declared.cmp.Ordering.TheVariants.{Less}
 use Rattle.std.specs.Ordering.{is_gt}
+use Rattle.row_links.specs.Lists.{IsOn}
+use Rattle.row_links.proofs.Lists.{IsOn-first, IsOn-rest}
+use Rattle.occ_tree.specs.Tokens.{IsInOrder}
 use Rattle.tmm_model.specs.Firsts.{placed, sorted}
 use Rattle.list_theory.proofs.Elements.{In, In-filter_map, In-map}
 use Rattle.list_theory.proofs.Distinct.{Distinct}
-
-take_less : {X : Type 0} (k : ℕ) (ys : List X) → take k (take (suc k) ys) ≡ take k ys
-take_less zero ys = refl
-take_less (suc k) [] = refl
-take_less (suc k) (y ∷ ys) = ap (λ l. y ∷ l) (take_less k ys)
-
-take_behind : {X : Type 0} (k : ℕ) (y : X) (ys : List X) → take k (y ∷ take k ys) ≡ take k (y ∷ ys)
-take_behind zero y ys = refl
-take_behind (suc k) y ys = ap (λ l. y ∷ l) (take_less k ys)
 
 pub In-take : {X : Type 0} (n : ℕ) (xs : List X) (x : X) → In x (take n xs) → In x xs
 In-take zero xs x at = absurd at
@@ -23,25 +18,15 @@ In-take (suc n) [] x at = absurd at
 In-take (suc n) (y ∷ ys) x (inl e) = inl e
 In-take (suc n) (y ∷ ys) x (inr at) = inr (In-take n ys x at)
 
-module _ {X : Type 0} (cmp : X → X → Ordering) where
-  -- **Only the first so many decide which are the first so many when one more is put in its
-  -- place.**
-  pub take-placed : (n : ℕ) (x : X) (ys : List X) → take n (placed cmp x (take n ys)) ≡ take n (placed cmp x ys)
-  take-placed zero x ys = refl
-  take-placed (suc n) x [] = refl
-  take-placed (suc n) x (y ∷ ys) = by (take-placed n x ys) (is_gt (cmp x y))
-    where
-      by : take n (placed cmp x (take n ys)) ≡ take n (placed cmp x ys) → (g : Bool) → take (suc n) (elim g as (λ _. List X) [ true ↦ y ∷ placed cmp x (take n ys) | false ↦ x ∷ y ∷ take n ys ])
-          ≡ take (suc n) (elim g as (λ _. List X) [ true ↦ y ∷ placed cmp x ys | false ↦ x ∷ y ∷ ys ])
-      by again true = ap (λ l. y ∷ l) again
-      by again false = ap (λ l. x ∷ l) (take_behind n y ys)
+-- what is before all others is put first
+placed_first : (cmp : ℕ → ℕ → Ordering) (x : ℕ) (ys : List ℕ) → ((y : ℕ) → IsOn ys y → cmp x y ≡ Less) → placed cmp x ys ≡ x ∷ ys
+placed_first cmp x [] before = refl
+placed_first cmp x (y ∷ ys) before = ap (λ (r : Ordering). elim (is_gt r) as (λ _. List ℕ) [ true ↦ y ∷ placed cmp x ys | false ↦ x ∷ y ∷ ys ]) (before y (IsOn-first y ys))
 
--- an element put behind k others, where n are kept and then n + 1
-pub insert-first : {X : Type 0} (n k : ℕ) (x : X) (ys : List X) → k ≤ n → k ≤ length ys → insert (take n ys) k x ≡ take (suc n) (insert ys k x)
-insert-first n zero x ys few within = refl
-insert-first zero (suc k) x ys few within = absurd (omega (arith, few))
-insert-first (suc n) (suc k) x [] few within = absurd (omega (arith, within))
-insert-first (suc n) (suc k) x (y ∷ ys) few within = ap (λ l. y ∷ l) (insert-first n k x ys (omega (arith, few)) (omega (arith, within)))
+-- **What stands in order stays as it is.**
+pub sorted_up : (cmp : ℕ → ℕ → Ordering) (xs : List ℕ) → IsInOrder cmp xs → sorted cmp xs ≡ xs
+sorted_up cmp [] up = refl
+sorted_up cmp (x ∷ xs) up = ap (placed cmp x) (sorted_up cmp xs up.1) ∙ placed_first cmp x xs up.0
 
 -- ---- the same order told of other elements
 
@@ -78,18 +63,6 @@ module _ {X Y : Type 0} (cmp : X → X → Ordering) (order : Y → Y → Orderi
 
 pub sorted-In : {X : Type 0} (cmp : X → X → Ordering) (xs : List X) (z : X) → In z (sorted cmp xs) → In z xs
 sorted-In cmp xs z at = in_sorted cmp cmp (λ x. x) xs z at
-
-length-placed : {X : Type 0} (cmp : X → X → Ordering) (x : X) (ys : List X) → length (placed cmp x ys) ≡ suc (length ys)
-length-placed cmp x [] = refl
-length-placed {X} cmp x (y ∷ ys) = by (length-placed cmp x ys) (is_gt (cmp x y))
-  where
-    by : length (placed cmp x ys) ≡ suc (length ys) → (g : Bool) → length (elim g as (λ _. List X) [ true ↦ y ∷ placed cmp x ys | false ↦ x ∷ y ∷ ys ]) ≡ suc (suc (length ys))
-    by again true = ap suc again
-    by again false = refl
-
-pub length-sorted : {X : Type 0} (cmp : X → X → Ordering) (xs : List X) → length (sorted cmp xs) ≡ length xs
-length-sorted cmp [] = refl
-length-sorted cmp (x ∷ xs) = length-placed cmp x (sorted cmp xs) ∙ ap suc (length-sorted cmp xs)
 
 -- what a filter_map has of a list without repeats, where each value comes of one element
 pub Distinct-filter_map : {X Y : Type 0} (h : X → Option Y) → ((x z : X) (y : Y) → h x ≡ Some y → h z ≡ Some y → x ≡ z) → (xs : List X) → Distinct xs → Distinct (filter_map h xs)

@@ -35,8 +35,8 @@ use Rattle.spots.specs.Spots.{AreTokens, row_moment, node_cmp}
 use Rattle.spots.specs.OfLists.{IsForestOf, HasOccurrences}
 use Rattle.spots.proofs.Nodes.{node_at, live_at, moment_at-is}
 use Rattle.spots.proofs.Seen.{order_is, token_is, class_of_member, believed_once}
-use Rattle.tt_query.specs.Firsts.{nodes_of, firsts, token_at_node, blame_at, found_of, failing_of, IsOfFact, HasNoSupporter}
-use Rattle.tt_query.proofs.FirstPlaces.{In-take, map-sorted, sorted-In, length-sorted, Distinct-filter_map, Distinct-map_in, map-alike}
+use Rattle.tt_query.specs.Firsts.{nodes_of, token_at_node, blame_at, found_of, failing_of, IsOfFact, HasNoSupporter}
+use Rattle.tt_query.proofs.FirstPlaces.{In-take, map-sorted, Distinct-filter_map, Distinct-map_in, map-alike}
 use Rattle.tt_query.proofs.FirstNodes.{nodes_once, nodes_own, nodes_all}
 
 module _ (s : Standing) (net : Net) (f : Forest) (seen : IsForestOf s net f) (holds : HasOccurrences (built s).believed f) where
@@ -184,26 +184,23 @@ module _ (s : Standing) (net : Net) (f : Forest) (seen : IsForestOf s net f) (ho
         let u = token_in y there in
         order_is s net f seen x y t.live u.live ∙ (λ i. occ_cmp s (far_in s.premises) (sym t.spot i) (sym u.spot i))
 
-    tokens_are_nodes : map (token_at_node (built s) f) (sorted (node_cmp net f) nodes) ≡ sorted by_spot (filter of_fact all_tokens)
-    tokens_are_nodes = map-sorted (node_cmp net f) by_spot (token_at_node (built s) f) nodes alike ∙ in_order
+    tokens_are_nodes : sorted (node_cmp net f) nodes ≡ nodes → map (token_at_node (built s) f) nodes ≡ sorted by_spot (filter of_fact all_tokens)
+    tokens_are_nodes up = ap (map (token_at_node (built s) f)) (sym up) ∙ map-sorted (node_cmp net f) by_spot (token_at_node (built s) f) nodes alike ∙ in_order
 
     -- **What is found of a fact without a supporter**, told of the nodes of its tokens.
-    pub found_is : (p q : Moment) → failing_of (built s) fact p q ≡ found_of (built s) net f p q (nodes_of fact rows)
-    found_is p q =
-        ap (failing (built s) p q) (sym tokens_are_nodes)
-        ∙ (λ i. fails (blames i) (count i - most_blames))
+    pub found_is : sorted (node_cmp net f) nodes ≡ nodes → (p q : Moment) → failing_of (built s) fact p q ≡ found_of (built s) f p q (nodes_of fact rows)
+    found_is up p q =
+        ap (failing (built s) p q) (sym (tokens_are_nodes up))
+        ∙ (λ i. fails (blames i) (length-map (nodes_of fact rows) (token_at_node (built s) f) i - most_blames))
       where
-        blames : map (λ k. (k.spot, fault (built s) p q k)) (take most_blames (map (token_at_node (built s) f) (sorted (node_cmp net f) (nodes_of fact rows)))) ≡ map (blame_at (built s) f p q) (firsts net f (nodes_of fact rows))
+        blames : map (λ k. (k.spot, fault (built s) p q k)) (take most_blames (map (token_at_node (built s) f) (nodes_of fact rows))) ≡ map (blame_at (built s) f p q) (take most_blames (nodes_of fact rows))
         blames =
-            ap (map (λ k. (k.spot, fault (built s) p q k))) (take-map (token_at_node (built s) f) most_blames (sorted (node_cmp net f) (nodes_of fact rows)))
-            ∙ map-alike (λ k. (k.spot, fault (built s) p q k)) (token_at_node (built s) f) (blame_at (built s) f p q) (firsts net f (nodes_of fact rows))
-            (λ x at i. ((token_of_fact fact x (nodes_own f class rows are fact x (sorted-In (node_cmp net f) (nodes_of fact rows) x (In-take most_blames (sorted (node_cmp net f) (nodes_of fact rows)) x at)))).spot i, fault (built s) p q (token_at_node (built s) f x)))
-
-        count : length (map (token_at_node (built s) f) (sorted (node_cmp net f) (nodes_of fact rows))) ≡ length (nodes_of fact rows)
-        count = length-map (sorted (node_cmp net f) (nodes_of fact rows)) (token_at_node (built s) f) ∙ length-sorted (node_cmp net f) (nodes_of fact rows)
+            ap (map (λ k. (k.spot, fault (built s) p q k))) (take-map (token_at_node (built s) f) most_blames (nodes_of fact rows))
+            ∙ map-alike (λ k. (k.spot, fault (built s) p q k)) (token_at_node (built s) f) (blame_at (built s) f p q) (take most_blames (nodes_of fact rows))
+            (λ x at i. ((token_of_fact fact x (nodes_own f class rows are fact x (In-take most_blames (nodes_of fact rows) x at))).spot i, fault (built s) p q (token_at_node (built s) f x)))
 
     -- **The first tokens of a fact that has no supporter are to be blamed.**
-    pub no_supporters : (p q : Moment) → holder s (far_in s.premises) (built s).believed fact p q ≡ None → (kept : List ℕ) → kept ≡ firsts net f nodes → All (HasNoSupporter s f p q) kept
-    no_supporters p q none kept is =
-        All-from_contains (HasNoSupporter s f p q) kept
-        (λ x at. (fact, nodes_own f class rows are fact x (sorted-In (node_cmp net f) nodes x (In-take most_blames (sorted (node_cmp net f) nodes) x (subst (In x) is (In-from_Contains kept x at)))), none))
+    pub no_supporters : (p q : Moment) → holder s (far_in s.premises) (built s).believed fact p q ≡ None → All (HasNoSupporter s f p q) (take most_blames nodes)
+    no_supporters p q none =
+        All-from_contains (HasNoSupporter s f p q) (take most_blames nodes)
+        (λ x at. (fact, nodes_own f class rows are fact x (In-take most_blames nodes x (In-from_Contains (take most_blames nodes) x at)), none))

@@ -1,20 +1,18 @@
 -- The nodes of a fact's tokens, and the first of them.
-use Rattle.std.specs.Prelude.{◌≡◌, ℕ, true, false, List, [], ◌∷◌, map, take, length, ◌-◌, Option, Some, None, unwrap_or, IsSome}
-use Rattle.std.specs.List.{cons_option}
+use Rattle.std.specs.Prelude.{◌≡◌, ◌<◌, ℕ, true, false, List, [], map, take, length, slice_index_or, ◌-◌, Option, Some, None, unwrap_or, IsSome}
+use Rattle.std.specs.List.{filter_map}
 use Rattle.tmm_model.specs.declared.token.TokenRow.{TokenRow}
 use Rattle.tmm_model.specs.Answers.{Fault, Finding, fails, fault, most_blames, failing, tokens_for}
 use Rattle.tmm_model.specs.Beliefs.{token_of, holder}
-use Rattle.tmm_model.specs.Firsts.{sorted}
 use Rattle.tmm_model.specs.Maps.{TimeMap, built}
 use Rattle.tmm_model.specs.Moments.{Moment, At}
 use Rattle.tmm_model.specs.Points.{same_name}
 use Rattle.tmm_model.specs.Standing.{Standing, far_in}
 use Rattle.tmm_model.specs.declared.point.PointName.TheVariants.{Start}
-use Rattle.dist_net.specs.Net.{Net}
 use Rattle.spots.specs.declared.spot.Spot.{Spot}
 use Rattle.spots.specs.declared.spot.Spot.TheVariants.{Declared, Node}
+use Rattle.tt_query.specs.declared.firsts.Placed.{Placed}
 use Rattle.spots.specs.Forest.{Forest, Member, member, moment_at}
-use Rattle.spots.specs.Spots.{node_cmp}
 
 -- the node at which a row stands
 abbrev pub node_at : Spot → Option ℕ
@@ -25,18 +23,13 @@ node_at (Declared p) = None
 abbrev pub node_for : List ℕ → TokenRow Spot → Option ℕ
 node_for fact row = elim (same_name row.fact fact) [ true ↦ node_at row.spot | false ↦ None ]
 
--- the nodes of the rows of a fact, the last first, and then those that were met before
-abbrev pub met : List ℕ → List (TokenRow Spot) → List ℕ → List ℕ
-met fact [] nodes = nodes
-met fact (row ∷ rows) nodes = met fact rows (cons_option (node_for fact row) nodes)
-
--- the nodes of the rows of a fact, the last first
+-- the nodes of the rows of a fact, in their order
 abbrev pub nodes_of : List ℕ → List (TokenRow Spot) → List ℕ
-nodes_of fact rows = met fact rows []
+nodes_of fact rows = filter_map (node_for fact) rows
 
--- the first of some nodes, in order
-abbrev pub firsts : Net → Forest → List ℕ → List ℕ
-firsts net f nodes = take most_blames (sorted (node_cmp net f) nodes)
+-- the token stands at its place among the rows
+abbrev pub IsAt : List (TokenRow Spot) → Placed → Type 0
+IsAt rows t = (t.place < length rows) × ((d : TokenRow Spot) → (slice_index_or rows t.place d).spot ≡ Node t.node)
 
 -- the token that stands at a node, at a moment; one of no meaning where none does
 abbrev pub token_at_node : TimeMap → Forest → ℕ → TokenRow Moment
@@ -58,6 +51,6 @@ IsOfFact f fact x = (m : Member) × (member f x ≡ Some m) × IsSome m.class ×
 abbrev pub HasNoSupporter : Standing → Forest → Moment → Moment → ℕ → Type 0
 HasNoSupporter s f p q x = (fact : List ℕ) × IsOfFact f fact x × (holder s (far_in s.premises) (built s).believed fact p q ≡ None)
 
--- what is found of a fact that has these tokens and no supporter
-abbrev pub found_of : TimeMap → Net → Forest → Moment → Moment → List ℕ → Finding
-found_of m net f p q nodes = fails (map (blame_at m f p q) (firsts net f nodes)) (length nodes - most_blames)
+-- what is found of a fact that has these tokens, in their order, and no supporter
+abbrev pub found_of : TimeMap → Forest → Moment → Moment → List ℕ → Finding
+found_of m f p q nodes = fails (map (blame_at m f p q) (take most_blames nodes)) (length nodes - most_blames)

@@ -18,7 +18,7 @@ ghost use Rattle.supports.specs.Faults.{fault_at};
 ghost use Rattle.supports.specs.TimeMaps.{IsTimeMap};
 ghost use Rattle.tt_query.specs.Firsts.{blame_at, failing_of, HasNoSupporter};
 
-use crate::firsts::{BLAMES, first_tokens};
+use crate::firsts::{BLAMES, Placed, first_tokens};
 use dist_net::DistNet;
 use occ_tree::Tree;
 use premise_list::Standing;
@@ -110,8 +110,8 @@ fn blamed(
         None => unreachable!(),
     };
     let rows = map.tree.tokens(&class);
-    let first = first_tokens(map.tree, map.net, class, rows, fact);
-    let blames = blames(alloc, map, first.nodes.as_slice(), p, q)?;
+    let first = first_tokens(rows, fact);
+    let blames = blames(alloc, map, first.tokens.as_slice(), p, q)?;
     Ok(Answer::No {
         blames,
         more: first.count.saturating_sub(BLAMES) as u64,
@@ -122,7 +122,7 @@ fn blamed(
 fn blames(
     alloc: Global,
     map: &TimeMap<'_>,
-    nodes: &[u32],
+    tokens: &[Placed],
     p: Spot,
     q: Spot,
 ) -> Result<Seq<Blame>, NoMemory>
@@ -134,8 +134,8 @@ fn blames(
     ensures { IfOk result (λ blames. mapped blame_of blames.items ≡ mapped (blame_at (built map.now.standing.now.present) (forest map.now.tree.now) (spot_moment map.now.net.now.present.names (forest map.now.tree.now) p) (spot_moment map.now.net.now.present.names (forest map.now.tree.now) q)) nodes.now) }
 {
     let mut blames = Seq::make(alloc);
-    for x in nodes {
-        push(&mut blames, blame_node(alloc, map, *x, p, q)?)?;
+    for token in tokens {
+        push(&mut blames, blame_token(alloc, map, *token, p, q)?)?;
     }
     Ok(blames)
 }
@@ -150,7 +150,13 @@ fn push(blames: &mut Seq<Blame>, blame: Blame) -> Result<(), NoMemory>
 }
 
 // A token of a fact that has no supporter, with its fault.
-fn blame_node(alloc: Global, map: &TimeMap<'_>, x: u32, p: Spot, q: Spot) -> Result<Blame, NoMemory>
+fn blame_token(
+    alloc: Global,
+    map: &TimeMap<'_>,
+    token: Placed,
+    p: Spot,
+    q: Spot,
+) -> Result<Blame, NoMemory>
     requires seen { IsTimeMap map.now }
     requires holds { HasOccurrences (built map.now.standing.now.present).believed (forest map.now.tree.now) }
     requires p { IsSpot map.now.net.now.present.names (forest map.now.tree.now) p }
@@ -158,9 +164,9 @@ fn blame_node(alloc: Global, map: &TimeMap<'_>, x: u32, p: Spot, q: Spot) -> Res
     requires none { HasNoSupporter map.now.standing.now.present (forest map.now.tree.now) (spot_moment map.now.net.now.present.names (forest map.now.tree.now) p) (spot_moment map.now.net.now.present.names (forest map.now.tree.now) q) x }
     ensures { IfOk result (λ blame. blame_of blame ≡ blame_at (built map.now.standing.now.present) (forest map.now.tree.now) (spot_moment map.now.net.now.present.names (forest map.now.tree.now) p) (spot_moment map.now.net.now.present.names (forest map.now.tree.now) q) x) }
 {
-    let cause = cause_of(alloc, map.tree, blame(map, x, p, q))?;
+    let cause = cause_of(alloc, map.tree, blame(map, token.node, token.place, p, q))?;
     Ok(Blame {
-        token: map.tree.occ_of(alloc, x)?,
+        token: map.tree.occ_of(alloc, token.node)?,
         cause,
     })
 }
