@@ -136,7 +136,7 @@ module _ (f : Forest) (class : List ℕ) where
 -- ---- one node more
 
 -- a token with its stretch comes behind others
-pub one_more : (old new : List (Stretched Spot)) (row : TokenRow Spot) (first : ℕ) (others all : List (TokenRow Spot)) → new ≡ old ++ record { row = row; first = first } ∷ []
+one_more : (old new : List (Stretched Spot)) (row : TokenRow Spot) (first : ℕ) (others all : List (TokenRow Spot)) → new ≡ old ++ record { row = row; first = first } ∷ []
     → all ≡ others ++ row ∷ [] → rows_of old ≡ others → HaveStretches old → IsStretch (rows_of old) row.fact first (length old) → (rows_of new ≡ all) × HaveStretches new
 one_more old new row first others all pushed is same have stretch = (
   ap rows_of pushed ∙ map-append (λ (t : Stretched Spot). t.row) old (record { row = row; first = first } ∷ []) ∙ ap (λ l. l ++ row ∷ []) same ∙ sym is,

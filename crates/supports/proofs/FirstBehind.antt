@@ -1,15 +1,14 @@
 -- The first token of a class that clips one is the last of those behind it that does.
 use Rattle.std.proofs.Common.{◌≡◌, ◌∙◌, ℕ, zero, suc, ◌+◌, ◌-◌, ◌<◌, ◌≤◌, inl, inr, Bool, true, false, List, [], ◌∷◌, length, refl, sym, ap, subst, arith}
-use Rattle.std.specs.Prelude.{◌≤ℤ◌, Option, Some, None, IsNone, MatchOption, drop, slice_index_or}
+use Rattle.std.specs.Prelude.{Option, Some, None, IsNone, MatchOption, drop, slice_index_or}
 use Rattle.std.specs.Option.{option_map, is_some}
-use Rattle.std.proofs.lemmas.Bool.{cases_lt, both_ways}
-use Rattle.std.proofs.lemmas.Int.{ints}
+use Rattle.std.proofs.lemmas.Bool.{cases_lt}
 use Rattle.std.proofs.lemmas.List.{get_or_append_left, get_or_push, length-append, drop_all, length-map}
 use Rattle.tmm_model.specs.declared.token.TokenRow.{TokenRow}
 use Rattle.tmm_model.specs.Tokens.{of_one_class, clips}
 use Rattle.clip_search.specs.Entries.{no_row, row_at, node_at}
 use Rattle.clip_search.specs.Firsts.{IsFirstOf, IsClipper}
-use Rattle.clip_search.proofs.Entering.{spot_is, node_live}
+use Rattle.clip_search.proofs.Entering.{spot_is}
 use Rattle.tmm_model.specs.Standing.{Standing}
 use Rattle.dist_net.specs.Net.{Net}
 use Rattle.occ_tree.specs.OfLists.{IsTreeIn}
@@ -18,12 +17,12 @@ use Rattle.occ_tree.specs.Standing.{Kept, present, order}
 use Rattle.occ_tree.specs.Tokens.{number_of, numbers_in, IsInOrder}
 use Rattle.spots.specs.declared.spot.Spot.{Spot}
 use Rattle.spots.specs.Forest.{Forest}
-use Rattle.spots.specs.Spots.{AreTokens, IsSpot, spot_distance, spot_early}
+use Rattle.spots.specs.Spots.{AreTokens, spot_distance}
 use Rattle.supports.specs.Behind.{rows_behind, IsLastNode}
 use Rattle.supports.specs.Clips.{IsClipBy}
 use Rattle.supports.proofs.ByDate.{by_date}
 use Rattle.supports.proofs.ClassClips.{one_behind, clip_here}
-use Rattle.supports.proofs.OfLaterDates.{no_later_fails}
+use Rattle.supports.proofs.OfLaterDates.{clipper_behind}
 
 -- what is no span has no end
 pub no_end : (o : Option Spot) → is_some o ≡ false → o ≡ None
@@ -61,22 +60,6 @@ module _ (f : Forest) (class : List ℕ) (rows : List (TokenRow Spot)) (are : Ar
       ]
 
 module _ {net : Net} {k : Kept} (tree : IsTreeIn net k) {class : List ℕ} {rows : List (TokenRow Spot)} (are : AreTokens (forest k) class rows) (up : IsInOrder (order (present k)) (numbers_in rows)) where
-  spot_there : (i : ℕ) → i < length rows → IsSpot net.names (forest k) (row_at rows i).spot
-  spot_there i lt = subst (IsSpot net.names (forest k)) (sym (spot_is (forest k) class rows are i lt)) (node_live (forest k) class rows are i lt)
-
-  -- what clips a token comes behind it
-  clipper_behind : (i j : ℕ) → i < length rows → IsClipper net (forest k) rows i j → i < j
-  clipper_behind i j lt (within, passes) = elim (cases_lt i j) [
-    | inl less ↦ less
-    | inr more ↦ absurd (both_ways (clips of_one_class (spot_distance net (forest k)) (row_at rows i) (row_at rows j)) (no_later_fails tree (row_at rows i) (row_at rows j) (spot_there i lt) (spot_there j within) (early more)) passes)
-  ]
-    where
-      early : j ≤ i → spot_early net (forest k) (row_at rows j).spot ≤ℤ spot_early net (forest k) (row_at rows i).spot
-      early le = elim (cases_lt j i) [
-        | inl less ↦ (by_date tree are up).dates j i no_row less lt
-        | inr more ↦ (let same : i ≡ j = omega (arith, le, more) in subst (λ q. spot_early net (forest k) (row_at rows q).spot ≤ℤ spot_early net (forest k) (row_at rows i).spot) same (omega (arith, ints)))
-      ]
-
   module _ (i : ℕ) (lt : i < length rows) where
     abbrev others : List (TokenRow Spot)
     others = rows_behind (forest k) class (drop (i + 1) (numbers_in rows))
@@ -101,7 +84,7 @@ module _ {net : Net} {k : Kept} (tree : IsTreeIn net k) {class : List ℕ} {rows
     last_node : (found : Option ℕ) → IsFirstOf (IsClipper net (forest k) rows i) found → IsLastNode test others (option_map (node_at rows) found)
     last_node None none = λ p d within. fails p (length rows - (p + 1)) d (omega (arith, within, long)) (omega (arith, within, long)) (none (length rows - (p + 1)))
     last_node (Some j) (is, least) =
-        let less = clipper_behind i j lt is in
+        let less = clipper_behind tree are (by_date tree are up) i j lt is in
         let within : j < length rows = is.0 in
         let p : ℕ = length rows - (j + 1) in
         let sum : p + j + 1 ≡ length rows = omega (arith, within) in (
@@ -114,6 +97,17 @@ module _ {net : Net} {k : Kept} (tree : IsTreeIn net k) {class : List ℕ} {rows
           },
           λ d. ap (λ (r : TokenRow Spot). r.spot) (read p j d sum less) ∙ spot_is (forest k) class rows are j within,
         )
+
+    -- a span has no clip
+    pub span_has_none : is_some (row_at rows i).end ≡ true → (s : Standing) → IsClipBy of_one_class s net (forest k) (slice_index_or (numbers_in rows) i 0) None
+    span_has_none span = clip_here tree are up i no_row (row_at rows i) lt refl others refl None (by (row_at rows i).end span)
+      where
+        nothing : Option ℕ
+        nothing = None
+
+        by : (o : Option Spot) → is_some o ≡ true → MatchOption o (IsLastNode test others nothing) (λ _. IsNone nothing)
+        by None e = cc
+        by (Some p) e = refl
 
     -- **The first that clips it is its clip** by its class, where it is no span.
     pub first_is_clip : (row_at rows i).end ≡ None → (found : Option ℕ) → IsFirstOf (IsClipper net (forest k) rows i) found

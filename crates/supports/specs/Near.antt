@@ -1,17 +1,21 @@
 -- What a search among the nearest tokens tells.
-use Rattle.std.specs.Prelude.{List, IsNone, MatchOption}
+use Rattle.std.specs.Prelude.{◌≡◌, ℕ, ◌<◌, ◌≤◌, List, length}
 use Rattle.tmm_model.specs.declared.token.TokenRow.{TokenRow}
-use Rattle.tmm_model.specs.Tokens.{of_one_class, clips}
+use Rattle.clip_search.specs.Entries.{fact_at}
+use Rattle.clip_search.specs.Firsts.{IsFirstOf, IsClipper}
 use Rattle.dist_net.specs.Net.{Net}
 use Rattle.spots.specs.declared.spot.Spot.{Spot}
 use Rattle.spots.specs.Forest.{Forest}
-use Rattle.spots.specs.Spots.{spot_distance}
-use Rattle.supports.specs.Behind.{IsLastNode}
 use Rattle.supports.specs.declared.near.Near.{Near}
 use Rattle.supports.specs.declared.near.Near.TheVariants.{Found, Open}
+use Rattle.supports.specs.declared.near.Stretch.{Stretch}
 
--- what was found is the node of the last of the tokens that clips k, none for a span; where it
--- stays open, k is no span
-abbrev pub IsNear : Net → Forest → List (TokenRow Spot) → TokenRow Spot → Near → Type 0
-IsNear net f rows k (Found x) = MatchOption k.end (IsLastNode (clips of_one_class (spot_distance net f) k) rows x) (λ _. IsNone x)
-IsNear net f rows k Open = IsNone k.end
+-- the tokens of the stretch are of one fact
+pub record AreAlike (rows : List (TokenRow Spot)) (stretch : Stretch) : Type 0 where
+  pub within : stretch.end ≤ length rows
+  pub alike : (i j : ℕ) → stretch.first ≤ i → i < stretch.end → stretch.first ≤ j → j < stretch.end → fact_at rows i ≡ fact_at rows j
+
+-- what was found is the place of the first of the tokens that clips the one at i
+abbrev pub IsNear : Net → Forest → List (TokenRow Spot) → ℕ → Near → Type 0
+IsNear net f rows i (Found place) = IsFirstOf (IsClipper net f rows i) place
+IsNear net f rows i Open = Unit {0}

@@ -1,5 +1,5 @@
 // What clips the tokens of a tree, all of them at once, or those of a class.
-ghost use Rattle.std.specs.Prelude.{◌≡◌, ◌⊎◌, ◌<◌, ◌≤◌, ◌≤ℤ◌, ◌+◌, ℕ, true, false, List, map, length, drop, None, IfOk, IfSome, IsNone, MatchOption, OnOk, slice_index_or};
+ghost use Rattle.std.specs.Prelude.{◌≡◌, ◌<◌, ◌+◌, ℕ, List, map, length, drop, IfOk, IfSome, IsNone, MatchOption, OnOk, slice_index_or};
 ghost use Rattle.std.specs.List.{All, Contains};
 ghost use Rattle.std.specs.List.Sorted.{IsStrictlySortedBy};
 ghost use Rattle.std.specs.Option.{option_map, ForSome};
@@ -7,25 +7,26 @@ ghost use Rattle.tmm_model.specs.Answers.{clip};
 ghost use Rattle.tmm_model.specs.Moments.{Moment};
 ghost use Rattle.tmm_model.specs.Standing.{Standing as StandingList};
 ghost use Rattle.tmm_model.specs.Tokens.{of_one_class, clips};
+ghost use Rattle.clipping.specs.ByDate.{IsByDate};
 ghost use Rattle.clipping.specs.Stretches.{rows_of, HaveStretches};
 ghost use Rattle.name_lists.specs.Lists.{list_of};
 ghost use Rattle.occ_tree.specs.Ranks.{nodes_of};
-ghost use Rattle.clip_search.specs.Entries.{AreBranches, row_at};
-ghost use Rattle.occ_tree.specs.Tokens.{IsInOrder, number_of, numbers_in};
+ghost use Rattle.clip_search.specs.Entries.{AreBranches};
+ghost use Rattle.clip_search.specs.Firsts.{IsFirstOf, IsClipper};
+ghost use Rattle.occ_tree.specs.Tokens.{IsInOrder, numbers_in};
 ghost use Rattle.spots.specs.Forest.{IsLive, IsOnce, moment_at};
 ghost use Rattle.spots.specs.OfLists.{IsForestOf, HasOccurrences, map_of};
-ghost use Rattle.spots.specs.Spots.{IsSpot, AreTokens, spot_distance, node_cmp};
+ghost use Rattle.spots.specs.Spots.{IsSpot, AreTokens, spot_distance, spot_early, spot_cmp, node_cmp};
 ghost use Rattle.occ_tree.specs.OfLists.{IsTreeIn};
 ghost use Rattle.occ_tree.specs.Places.{forest};
 ghost use Rattle.occ_tree.specs.Standing.{order, present};
 ghost use Rattle.supports.specs.Behind.{AreBehind, IsClip, IsLastNode, token_at};
 ghost use Rattle.supports.specs.ClassClips.{AreClips};
 ghost use Rattle.supports.specs.Clips.{IsClipBy};
-ghost use Rattle.supports.specs.Near.{IsNear};
+ghost use Rattle.supports.specs.Near.{AreAlike};
 ghost use Rattle.supports.specs.Nodes.{IsOfNode};
-ghost use Rattle.supports.specs.declared.near.Near.{Near as ANear};
 
-use crate::near::{Near, near_clip};
+use crate::near::{Near, Stretch, near_clip};
 use crate::{node_of, rivals};
 use clip_search::Branches;
 use clipping::{Stretched, last_clipper, stretch_behind};
@@ -80,125 +81,98 @@ pub fn class_clips(
 {
     let rows = tree.tokens(class);
     let mut clips = Vec::from_elem(alloc, None, rows.len())?;
-    // the tokens behind, the nearest one last
-    let mut behind = Vec::with_capacity(alloc, rows.len())?;
-    // how many of them may clip: the others have dates up to that of the last token
-    let mut later = 0;
-    let mut last = i64::MAX;
+    // what the search for the one before passed over
+    let mut passed = Stretch { first: 0, end: 0 };
     // made where what clips a token is not among those right behind it
     let mut branches = None;
-    let low = first_wanted(wanted);
-    for i in (low..rows.len()).rev() {
-        let row = rows[i];
-        let date = tree.early(node_of(&row));
-        later = count_later(behind.len(), later, last, date);
-        last = date;
-        let asked = &behind[..later];
-        let own = class_clip(alloc, tree, net, rows, i, wanted[i], asked, &mut branches)?;
-        let clip = clip_among_all(standing, tree, net, &row, wanted[i], own);
-        clips[i] = clip;
-        let first = stretch_behind(&behind, &row.fact);
-        behind.push_reserved(Stretched { row, first });
+    for i in (0..rows.len()).rev() {
+        if wanted[i] {
+            let own = class_clip(alloc, tree, net, rows, i, &mut passed, &mut branches)?;
+            clips[i] = rivals::clip(standing, tree, net, &rows[i], own);
+        }
     }
     Ok(clips)
 }
 
-// What clips a token, where that is wanted, given that of its own class that does.
-fn clip_among_all(
-    standing: &Standing,
-    tree: &Tree,
-    net: &DistNet,
-    k: &TokenRow<Spot>,
-    wanted: bool,
-    own: Option<u32>,
-) -> Option<u32>
-    requires dates { IsTreeIn net.now.present tree.now }
-    requires token { token_at (forest tree.now) (number_of k.now.spot) ≡ Some k.now }
-    requires live { IfSome own (IsLive (forest tree.now)) }
-    requires own { wanted ≡ true → IsClipBy of_one_class standing.now.present net.now.present (forest tree.now) (number_of k.now.spot) own }
-    ensures live { IfSome result (IsLive (forest tree.now)) }
-    ensures clip { wanted ≡ true → IsClip standing.now.present net.now.present (forest tree.now) (number_of k.now.spot) result }
-{
-    if wanted {
-        rivals::clip(standing, tree, net, k, own)
-    } else {
-        own
-    }
-}
-
-// The place of the first that is wanted, that behind all where none is.
-fn first_wanted(wanted: &[bool]) -> usize
-    ensures within { result ≤ length wanted.now }
-    ensures none { (j : ℕ) → j < result → slice_index_or wanted.now j false ≡ false }
-{
-    for i in 0..wanted.len() {
-        if wanted[i] {
-            return i;
-        }
-    }
-    wanted.len()
-}
-
-// What clips the token at `i` of those of its class, where that is wanted: among those behind it,
-// the nearest one last, or among all.
+// What clips the token at `i` of those of its class. A span has none.
 fn class_clip(
     alloc: Global,
     tree: &Tree,
     net: &DistNet,
     rows: &[TokenRow<Spot>],
     i: usize,
-    wanted: bool,
-    behind: &[Stretched<Spot>],
+    passed: &mut Stretch,
     branches: &mut Option<Branches>,
 ) -> Result<Option<u32>, NoMemory>
     requires dates { IsTreeIn net.now.present tree.now }
     requires tokens { (class : List ℕ) × AreTokens (forest tree.now) class rows.now }
     requires in_order { IsInOrder (order (present tree.now)) (numbers_in rows.now) }
     requires within { i < length rows.now }
-    requires nodes { All IsOfNode (rows_of behind.now) }
-    requires live { All (λ row. IsSpot net.now.present.names (forest tree.now) row.spot × ForSome row.end (IsSpot net.now.present.names (forest tree.now))) (rows_of behind.now) }
-    requires stretches { HaveStretches behind.now }
-    requires branches { IfSome branches.old (AreBranches (forest tree.now) rows.now) }
-    ensures live { IfOk result (λ clip. IfSome clip (IsLive (forest tree.now))) }
-    ensures clip { IfOk result (λ clip. wanted ≡ true → IsNear net.now.present (forest tree.now) (rows_of behind.now) (row_at rows.now i) (ANear.Found clip) ⊎ ((s : StandingList) → IsClipBy of_one_class s net.now.present (forest tree.now) (slice_index_or (numbers_in rows.now) i 0) clip)) }
-    ensures branches { OnOk result (IfSome branches.new (AreBranches (forest tree.now) rows.now)) }
-{
-    if !wanted {
-        return Ok(None);
-    }
-    match near_clip(tree, net, behind, &rows[i]) {
-        Near::Found(clip) => Ok(clip),
-        Near::Open => far_clip(alloc, tree, net, rows, i, branches),
-    }
-}
-
-// What clips the token at `i`, which is no span, of those of its class, by the nodes under which
-// tokens are. These are gathered where they are first asked for.
-fn far_clip(
-    alloc: Global,
-    tree: &Tree,
-    net: &DistNet,
-    rows: &[TokenRow<Spot>],
-    i: usize,
-    branches: &mut Option<Branches>,
-) -> Result<Option<u32>, NoMemory>
-    requires dates { IsTreeIn net.now.present tree.now }
-    requires tokens { (class : List ℕ) × AreTokens (forest tree.now) class rows.now }
-    requires in_order { IsInOrder (order (present tree.now)) (numbers_in rows.now) }
-    requires within { i < length rows.now }
-    requires no_span { (row_at rows.now i).end ≡ None }
+    requires passed { AreAlike rows.now passed.old }
     requires branches { IfSome branches.old (AreBranches (forest tree.now) rows.now) }
     ensures live { IfOk result (λ clip. IfSome clip (IsLive (forest tree.now))) }
     ensures clip { IfOk result (λ clip. (s : StandingList) → IsClipBy of_one_class s net.now.present (forest tree.now) (slice_index_or (numbers_in rows.now) i 0) clip) }
+    ensures passed { OnOk result (AreAlike rows.now passed.new) }
     ensures branches { OnOk result (IfSome branches.new (AreBranches (forest tree.now) rows.now)) }
 {
-    let table = gathered(alloc, tree, rows, branches.take())?;
-    let place = table.first_clipper(alloc, &Order { tree, net }, rows, i)?;
-    *branches = Some(table);
+    if rows[i].end.is_some() {
+        return Ok(None);
+    }
+    let order = Order { tree, net };
+    let place = clip_place(alloc, &order, rows, i, passed, branches)?;
     match place {
         Some(place) => Ok(Some(node_of(&rows[place]))),
         None => Ok(None),
     }
+}
+
+// The place of the first token that clips the one at `i`, were it no span: among the nearest behind
+// it, or among all.
+fn clip_place(
+    alloc: Global,
+    order: &Order<'_>,
+    rows: &[TokenRow<Spot>],
+    i: usize,
+    passed: &mut Stretch,
+    branches: &mut Option<Branches>,
+) -> Result<Option<usize>, NoMemory>
+    requires dates { IsTreeIn order.now.net.now.present order.now.tree.now }
+    requires tokens { (class : List ℕ) × AreTokens (forest order.now.tree.now) class rows.now }
+    requires by_date { IsByDate (spot_early order.now.net.now.present (forest order.now.tree.now)) (spot_cmp order.now.net.now.present (forest order.now.tree.now)) rows.now }
+    requires within { i < length rows.now }
+    requires passed { AreAlike rows.now passed.old }
+    requires branches { IfSome branches.old (AreBranches (forest order.now.tree.now) rows.now) }
+    ensures first { IfOk result (IsFirstOf (IsClipper order.now.net.now.present (forest order.now.tree.now) rows.now i)) }
+    ensures passed { AreAlike rows.now passed.new }
+    ensures branches { OnOk result (IfSome branches.new (AreBranches (forest order.now.tree.now) rows.now)) }
+{
+    match near_clip(order, rows, i, passed) {
+        Near::Found(place) => Ok(place),
+        Near::Open => far_clip(alloc, order, rows, i, branches),
+    }
+}
+
+// The place of the first token that clips the one at `i`, were it no span, by the nodes under which
+// tokens are. These are gathered where they are first asked for.
+fn far_clip(
+    alloc: Global,
+    order: &Order<'_>,
+    rows: &[TokenRow<Spot>],
+    i: usize,
+    branches: &mut Option<Branches>,
+) -> Result<Option<usize>, NoMemory>
+    requires dates { IsTreeIn order.now.net.now.present order.now.tree.now }
+    requires tokens { (class : List ℕ) × AreTokens (forest order.now.tree.now) class rows.now }
+    requires by_date { IsByDate (spot_early order.now.net.now.present (forest order.now.tree.now)) (spot_cmp order.now.net.now.present (forest order.now.tree.now)) rows.now }
+    requires within { i < length rows.now }
+    requires branches { IfSome branches.old (AreBranches (forest order.now.tree.now) rows.now) }
+    ensures first { IfOk result (IsFirstOf (IsClipper order.now.net.now.present (forest order.now.tree.now) rows.now i)) }
+    ensures branches { OnOk result (IfSome branches.new (AreBranches (forest order.now.tree.now) rows.now)) }
+{
+    let table = gathered(alloc, order.tree, rows, branches.take())?;
+    let place = table.first_clipper(alloc, order, rows, i)?;
+    *branches = Some(table);
+    Ok(place)
 }
 
 // The tokens under the nodes above them, where they are not gathered yet.
@@ -217,14 +191,6 @@ fn gathered(
         Some(branches) => Ok(branches),
         None => Branches::of(alloc, tree, rows),
     }
-}
-
-// How many of the tokens behind may clip one of a date, where all but the first `later` have dates
-// up to `last`: what clips a token has a later date.
-fn count_later(count: usize, later: usize, last: i64, date: i64) -> usize
-    ensures { (result ≡ count) ⊎ ((result ≡ later) × (last ≤ℤ date)) }
-{
-    if date < last { count } else { later }
 }
 
 // What clips the node at a place, given the tokens behind it by their classes, to which its own is
