@@ -10,6 +10,8 @@ use Rattle.tmm_model.specs.Moments.{Moment}
 use Rattle.tmm_model.specs.Standing.{Standing, far_in}
 use Rattle.tmm_model.specs.Tokens.{supports}
 use Rattle.list_theory.proofs.Elements.{In}
+use Rattle.clip_search.specs.Entries.{fact_at, node_at}
+use Rattle.clip_search.proofs.Entering.{spot_is}
 use Rattle.clipping.specs.declared.across.Place.{Place}
 use Rattle.clipping.specs.declared.across.Fault.{Fault as PlaceFault}
 use Rattle.clipping.specs.declared.across.Fault.TheVariants.{Late, Clipped, Ends}
@@ -17,14 +19,19 @@ use Rattle.clipping.specs.Across.{all_of, at_place, IsPlace, IsFault}
 use Rattle.clipping.specs.Rivals.{of_rivals}
 use Rattle.dist_net.specs.Net.{Net}
 use Rattle.spots.specs.declared.spot.Spot.{Spot}
-use Rattle.spots.specs.declared.spot.Spot.TheVariants.{Node}
-use Rattle.spots.specs.Forest.{Forest, Member, member, moment_at}
+use Rattle.spots.specs.Forest.{Forest, moment_at}
 use Rattle.spots.specs.OfLists.{IsForestOf, HasOccurrences, map_of}
 use Rattle.spots.specs.Spots.{IsSpot, AreTokens, spot_moment, spot_distance, spot_cmp, row_moment}
 use Rattle.supports.specs.ClassTokens.{class_lists}
 use Rattle.supports.proofs.AmongLists.{no_support_among, late_among, ends_among, clipped_among}
 use Rattle.supports.proofs.Answered.{row_at}
-use Rattle.supports.proofs.TokenRows.{no_row, at_place as row_in, fact_is, row_token}
+use Rattle.supports.proofs.ClassClips.{class_here}
+use Rattle.supports.proofs.TokenRows.{no_row, at_place as row_in, row_token}
+
+-- tokens of one class are those of the class of each
+pub own_rows : (f : Forest) (rows_in : List ℕ → List (TokenRow Spot)) → ((class : List ℕ) → AreTokens f class (rows_in class)) → (rows : List (TokenRow Spot)) → (class : List ℕ) × (rows ≡ rows_in class)
+    → (at : ℕ) → at < length rows → (row : TokenRow Spot) → row ≡ slice_index_or rows at row → rows ≡ rows_in row.class
+own_rows f rows_in are rows (class, is) at lt row read = is ∙ ap rows_in (sym (ap (λ r. r.class) read ∙ class_here f class rows (subst (AreTokens f class) (sym is) (are class)) at row lt))
 
 module _ (s : Standing) (net : Net) (f : Forest) (rows_in : List ℕ → List (TokenRow Spot)) (fact class : List ℕ) where
   abbrev lists : List (List (TokenRow Spot))
@@ -40,16 +47,9 @@ module _ (s : Standing) (net : Net) (f : Forest) (rows_in : List ℕ → List (T
   pub cutter_placed : (at : ℕ) (p q : Spot) (c : Place) → at < length rows → IsFaultHere at p q (Clipped c) → IsPlace lists c
   cutter_placed at p q c lt h = let first = (row_at rows at (λ row. IsFault (of_rivals (are_rivals s)) (spot_distance net f) (spot_cmp net f) lists row p q (Clipped c)) lt h).2 in record { list = first.list; within = first.within }
 
-  module _ (seen : IsForestOf s net f) (are : (class : List ℕ) → AreTokens f class (rows_in class)) (at x : ℕ) (lt : at < length rows) (spot : (d : TokenRow Spot) → (slice_index_or rows at d).spot ≡ Node x)
-      (of_fact : (m : Member) → member f x ≡ Some m → m.what ≡ fact) (m : Member) (here : member f x ≡ Some m) where
-    own : TokenRow Spot
-    own = slice_index_or rows at no_row
-
+  module _ (seen : IsForestOf s net f) (are : (class : List ℕ) → AreTokens f class (rows_in class)) (at : ℕ) (lt : at < length rows) (is_fact : fact_at rows at ≡ fact) where
     there : In (slice_index_or rows at no_row) rows
     there = row_in seen (are class) at no_row lt
-
-    is_fact : (slice_index_or rows at no_row).fact ≡ fact
-    is_fact = fact_is seen (are class) (slice_index_or rows at no_row) there x (spot no_row) m here ∙ of_fact m here
 
     -- where no token supports the fact, it does not
     pub no_support_here : (p q : Spot) → IsSpot net.names f p → IsSpot net.names f q → (b : List Moment) → HasOccurrences b f → holder s (far_in s.premises) b fact (spot_moment net.names f p) (spot_moment net.names f q) ≡ None
@@ -69,10 +69,10 @@ module _ (s : Standing) (net : Net) (f : Forest) (rows_in : List ℕ → List (T
 
     -- **Its fault** by the place of the first that cuts it.
     pub fault_here : (p q : Spot) → IsSpot net.names f p → IsSpot net.names f q → (cause : PlaceFault) → IsFaultHere at p q cause
-        → (b : List Moment) (k : TokenRow Moment) → HasOccurrences b f → token_of s (moment_at f x) ≡ Some k
+        → (b : List Moment) (k : TokenRow Moment) → HasOccurrences b f → token_of s (moment_at f (node_at rows at)) ≡ Some k
         → fault (map_of s b) (spot_moment net.names f p) (spot_moment net.names f q) k ≡ fault_by cause
     fault_here p q at_p at_q cause h b k holds token =
-        let same : Some k ≡ Some (row_moment net.names f (slice_index_or rows at no_row)) = sym token ∙ row_token seen (are class) x (slice_index_or rows at no_row) there (spot no_row) in
+        let same : Some k ≡ Some (row_moment net.names f (slice_index_or rows at no_row)) = sym token ∙ row_token seen (are class) (node_at rows at) (slice_index_or rows at no_row) there (spot_is f class rows (are class) at lt) in
         let one : k ≡ row_moment net.names f (slice_index_or rows at no_row) = cc in
         ap (fault (map_of s b) (spot_moment net.names f p) (spot_moment net.names f q)) one
         ∙ by cause (row_at rows at (λ row. IsFault (of_rivals (are_rivals s)) (spot_distance net f) (spot_cmp net f) lists row p q cause) lt h)

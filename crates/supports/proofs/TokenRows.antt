@@ -1,5 +1,5 @@
 -- The rows of a class are tokens of the list: where they stand, and what they are at moments.
-use Rattle.std.proofs.Common.{◌≡◌, ℕ, ◌<◌, true, List, [], length, refl, sym, ◌∙◌, ap, subst}
+use Rattle.std.proofs.Common.{◌≡◌, ℕ, ◌<◌, true, List, [], length, sym, ◌∙◌, ap, subst}
 use Rattle.std.specs.Prelude.{Option, Some, None, slice_index_or}
 use Rattle.std.specs.List.{All}
 use Rattle.std.specs.Option.{option_map, option_map_or, ForSome}
@@ -27,7 +27,7 @@ use Rattle.occ_tree.specs.Dated.{IsKnown}
 use Rattle.occ_tree.specs.OfLists.{IsTreeOf}
 use Rattle.occ_tree.specs.Places.{forest}
 use Rattle.occ_tree.specs.Standing.{Kept, present}
-use Rattle.supports.specs.Nodes.{IsOfNode, HasNode}
+use Rattle.supports.specs.Nodes.{IsOfNode}
 
 -- what is read beyond the end of the rows
 abbrev pub no_row : TokenRow Spot
@@ -51,14 +51,7 @@ module _ {s : Standing} {net : Net} {f : Forest} (seen : IsForestOf s net f) {cl
   pub node_of : (row : TokenRow Spot) → In row rows → (x : ℕ) × (m : Member) × IsRowOf f row x m × (row.class ≡ class)
   node_of row at = member_of_token f class rows are row (Contains-from_In rows row at)
 
-  -- the token of a node of this class is among the rows
-  pub has_node : (x : ℕ) (m : Member) → member f x ≡ Some m → m.class ≡ Some class → HasNode rows x
-  has_node x m here of_class =
-      let row : TokenRow Spot = record { spot = Node x; end = option_map Declared m.end; fact = m.what; class = class } in
-      let is : token_row x m ≡ Some row = rw of_class refl in
-      (row, are.all x m row here is refl, refl)
-
-  -- and has its fact
+  -- it has the node's fact
   pub fact_is : (row : TokenRow Spot) → In row rows → (x : ℕ) → row.spot ≡ Node x → (m : Member) → member f x ≡ Some m → row.fact ≡ m.what
   fact_is row at x spot m here =
       let (y, n, is, _) = node_of row at in

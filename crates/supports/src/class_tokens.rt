@@ -23,6 +23,9 @@ pub(crate) struct ClassTokens<'a> {
     pub tree: &'a Tree,
     pub fact: Name,
     pub class: Name,
+    // the tokens of the class, which are looked up once
+    pub own: &'a [TokenRow<Spot>],
+    ghost own_is: { own.now ≡ (present tree.now).tokens class },
 }
 
 impl Tokens for ClassTokens<'_> {
@@ -41,14 +44,14 @@ impl Tokens for ClassTokens<'_> {
 }
 
 impl ClassTokens<'_> {
-    // The tokens of one list, which stand in the order of the tree.
+    // The tokens of one list, which stand in the order of the tree where those of the class do.
     fn list_at(&self, i: usize) -> &[TokenRow<Spot>]
         requires { i < length (class_lists self.now.standing.now.present (present self.now.tree.now).tokens self.now.fact self.now.class) }
         ensures list { result.now ≡ list_at (class_lists self.now.standing.now.present (present self.now.tree.now).tokens self.now.fact self.now.class) i }
-        ensures in_order { IsInOrder (order (present self.now.tree.now)) (numbers_in result.now) }
+        ensures in_order { IsInOrder (order (present self.now.tree.now)) (numbers_in self.now.own.now) → IsInOrder (order (present self.now.tree.now)) (numbers_in result.now) }
     {
         if i == 0 {
-            self.tree.tokens(&self.class)
+            self.own
         } else {
             self.list_against(self.standing.rivalry(i - 1))
         }
@@ -85,8 +88,10 @@ impl ClassTokens<'_> {
         self.standing.class_of(other)
     }
 
-    // Tells the proof that the tokens of each list stand in the order of the tree.
+    // Tells the proof that the tokens of each list stand in the order of the tree, where those of
+    // the class do.
     pub(crate) fn are_in_order(&self)
+        requires { IsInOrder (order (present self.now.tree.now)) (numbers_in self.now.own.now) }
         ensures { AreInOrder self.now.tree.now (class_lists self.now.standing.now.present (present self.now.tree.now).tokens self.now.fact self.now.class) }
     {
         for i in 0..self.count() {

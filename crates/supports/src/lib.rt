@@ -26,17 +26,16 @@ ghost use Rattle.tmm_model.specs.Moments.{Moment};
 ghost use Rattle.tmm_model.specs.Sorts.{class_in};
 ghost use Rattle.tmm_model.specs.Standing.{far_in};
 ghost use Rattle.belief_theory.specs.Outcomes.{first_with};
-ghost use Rattle.spots.specs.Forest.{Member, member, IsLive, moment_at};
+ghost use Rattle.spots.specs.Forest.{IsLive, moment_at};
 ghost use Rattle.spots.specs.OfLists.{HasOccurrences, map_of};
 ghost use Rattle.spots.specs.declared.spot.Spot.{Spot};
-ghost use Rattle.spots.specs.Spots.{IsSpot, spot_moment, spot_early, spot_cmp};
-ghost use Rattle.clipping.specs.ByDate.{IsByDate};
-ghost use Rattle.clipping.specs.Live.{IsLive as HasLiveSpots};
-ghost use Rattle.occ_tree.specs.Dated.{IsKnown};
+ghost use Rattle.spots.specs.Spots.{IsSpot, spot_moment};
+ghost use Rattle.clip_search.specs.Entries.{fact_at, node_at as number_at};
 ghost use Rattle.occ_tree.specs.Places.{forest};
-ghost use Rattle.occ_tree.specs.Standing.{present};
+ghost use Rattle.occ_tree.specs.Standing.{order, present};
+ghost use Rattle.occ_tree.specs.Tokens.{IsInOrder, numbers_in};
 ghost use Rattle.supports.specs.Faults.{fault_at};
-ghost use Rattle.supports.specs.Nodes.{IsOfNode, HasNode};
+ghost use Rattle.supports.specs.Nodes.{IsOfNode};
 ghost use Rattle.supports.specs.TimeMaps.{IsTimeMap};
 
 mod all_clips;
@@ -51,8 +50,8 @@ mod time_map;
 
 pub use all_clips::{class_clips, clips};
 use class_tokens::ClassTokens;
+use clipping::Tokens;
 use clipping::across::{self, Fault, Place};
-use clipping::{Tokens, by_date};
 pub use guesses::Guesses;
 use occ_tree::Order;
 pub use root::add_root;
@@ -79,21 +78,6 @@ fn node_at(rows: &[TokenRow<Spot>], place: usize) -> u32
     ensures { (d : TokenRow Spot) → (slice_index_or rows.now place d).spot ≡ Spot.Node result }
 {
     node_of(&rows[place])
-}
-
-// The place of the token of a node.
-fn place_of(order: &Order<'_>, rows: &[TokenRow<Spot>], x: u32) -> usize
-    requires live { All (HasLiveSpots (IsKnown order.now.net.now.present (present order.now.tree.now))) rows.now }
-    requires by_date { IsByDate (spot_early order.now.net.now.present (forest order.now.tree.now)) (spot_cmp order.now.net.now.present (forest order.now.tree.now)) rows.now }
-    requires x_live { IsKnown order.now.net.now.present (present order.now.tree.now) (Spot.Node x) }
-    requires node { HasNode rows.now x }
-    ensures within { result < length rows.now }
-    ensures at { (d : TokenRow Spot) → (slice_index_or rows.now result d).spot ≡ Spot.Node x }
-{
-    match by_date::place_of(order, rows, Spot::Node(x)) {
-        Some(place) => place,
-        None => unreachable!(),
-    }
 }
 
 /// The node of the first token that supports the fact throughout `p` to `q`, none exactly where no
@@ -167,34 +151,35 @@ pub enum NodeFault {
     Ends,
 }
 
-/// Why the token at `x` does not support its fact throughout `p` to `q`, where no token does.
-pub fn blame(map: &TimeMap<'_>, x: u32, p: Spot, q: Spot) -> NodeFault
+/// Why the token at a place among those of its class does not support its fact throughout `p` to
+/// `q`, where no token does.
+pub fn blame(map: &TimeMap<'_>, rows: &[TokenRow<Spot>], at: usize, p: Spot, q: Spot) -> NodeFault
     requires seen { IsTimeMap map.now }
+    requires rows { (class : List ℕ) × (rows.now ≡ (present map.now.tree.now).tokens class) }
+    requires in_order { IsInOrder (order (present map.now.tree.now)) (numbers_in rows.now) }
+    requires within { at < length rows.now }
     requires p { IsSpot map.now.net.now.present.names (forest map.now.tree.now) p }
     requires q { IsSpot map.now.net.now.present.names (forest map.now.tree.now) q }
-    requires no_supporter { (b : List Moment) × (m : Member) × HasOccurrences b (forest map.now.tree.now) × (member (forest map.now.tree.now) x ≡ Some m) × IsSome m.class
-        × (holder map.now.standing.now.present (far_in map.now.standing.now.present.premises) b m.what (spot_moment map.now.net.now.present.names (forest map.now.tree.now) p) (spot_moment map.now.net.now.present.names (forest map.now.tree.now) q) ≡ None) }
+    requires no_supporter { (b : List Moment) × HasOccurrences b (forest map.now.tree.now)
+        × (holder map.now.standing.now.present (far_in map.now.standing.now.present.premises) b (fact_at rows.now at) (spot_moment map.now.net.now.present.names (forest map.now.tree.now) p) (spot_moment map.now.net.now.present.names (forest map.now.tree.now) q) ≡ None) }
     ensures live { (c : ℕ) → result ≡ NodeFault.Clipped c → IsLive (forest map.now.tree.now) c }
-    ensures fault { (b : List Moment) (k : TokenRow Moment) → HasOccurrences b (forest map.now.tree.now) → token_of map.now.standing.now.present (moment_at (forest map.now.tree.now) x) ≡ Some k
+    ensures fault { (b : List Moment) (k : TokenRow Moment) → HasOccurrences b (forest map.now.tree.now) → token_of map.now.standing.now.present (moment_at (forest map.now.tree.now) (number_at rows.now at)) ≡ Some k
         → fault (map_of map.now.standing.now.present b) (spot_moment map.now.net.now.present.names (forest map.now.tree.now) p) (spot_moment map.now.net.now.present.names (forest map.now.tree.now) q) k ≡ fault_at (forest map.now.tree.now) result }
 {
-    let row = map.tree.row(x);
-    let Some(class) = row.class else {
-        unreachable!()
-    };
+    map.tree.have_tokens();
+    let row = &rows[at];
     let tokens = ClassTokens {
         standing: map.standing,
         tree: map.tree,
-        fact: row.what,
-        class,
+        fact: row.fact,
+        class: row.class,
+        own: rows,
     };
     tokens.are_in_order();
-    map.tree.have_tokens();
     let order = Order {
         tree: map.tree,
         net: map.net,
     };
-    let at = place_of(&order, tokens.list(0), x);
     match across::blame(&order, &tokens, map.standing, Place { list: 0, at }, p, q) {
         Fault::Late => NodeFault::Late,
         Fault::Clipped(c) => NodeFault::Clipped(node_at(tokens.list(c.list), c.at)),

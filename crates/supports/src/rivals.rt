@@ -47,6 +47,7 @@ pub(crate) fn supporter(map: &TimeMap<'_>, fact: Name, p: Spot, q: Spot) -> Opti
         tree: map.tree,
         fact,
         class,
+        own: map.tree.tokens(&class),
     };
     tokens.are_in_order();
     map.tree.have_tokens();
@@ -74,6 +75,7 @@ pub(crate) fn is_supported(map: &TimeMap<'_>, fact: Name, p: Spot, q: Spot) -> b
         tree: map.tree,
         fact,
         class,
+        own: map.tree.tokens(&class),
     };
     tokens.are_in_order();
     map.tree.have_tokens();

@@ -1,10 +1,10 @@
 -- The nodes of a fact's tokens among the rows of its class.
 use Rattle.std.proofs.Common.{◌≡◌, ◌≢◌, ◌∙◌, ℕ, ◌+◌, ◌<◌, ◌≤◌, arith, Bool, true, false, eqb, eqb-true, List, [], ◌∷◌, ◌++◌, take, length, slice_index_or, refl, sym, ap, subst}
-use Rattle.std.proofs.lemmas.List.{take_more, take_all, take-append-le, length-append, append-nil}
+use Rattle.std.proofs.lemmas.List.{take_more, take_all, take-append-le, length-append, append-nil, length-map, get_or-map, get_or_read}
 use Rattle.std.proofs.lemmas.List.Elements.{filter_map-append}
 use Rattle.std.specs.Prelude.{Option, Some, None, is_some}
 use Rattle.std.specs.Option.{option_map}
-use Rattle.std.specs.List.{filter_map, cons_option}
+use Rattle.std.specs.List.{All, filter_map, cons_option}
 use Rattle.std.specs.Cmp.Lexicographic.{bytes_decides}
 use Rattle.std.specs.declared.cmp.Ordering.{Ordering}
 use Rattle.std.specs.declared.cmp.Ordering.TheVariants.{Less}
@@ -31,7 +31,8 @@ use Rattle.occ_tree.specs.Tokens.{number_of, numbers_in, IsInOrder}
 use Rattle.occ_tree.proofs.InOrder.{ordered_same}
 use Rattle.dist_net.specs.Net.{Net}
 use Rattle.tt_query.proofs.FirstPlaces.{sorted_up}
-use Rattle.tt_query.specs.Firsts.{node_at, node_for, nodes_of, IsOfFact}
+use Rattle.tt_query.specs.declared.firsts.Placed.{Placed}
+use Rattle.tt_query.specs.Firsts.{node_at, node_for, nodes_of, placed_nodes, IsOfFact, IsPlaced}
 
 node_for-is : (fact : List ℕ) (row : TokenRow Spot) (x : ℕ) → node_for fact row ≡ Some x → (row.fact ≡ fact) × (row.spot ≡ Node x)
 node_for-is fact row x e = by (same_name row.fact fact) refl e
@@ -168,3 +169,16 @@ module _ (fact : List ℕ) (rows : List (TokenRow Spot)) (i : ℕ) (row : TokenR
         number = keeps.number ∙ ap length (sym same);
         few = omega (arith, keeps.few);
       }
+
+-- ---- tokens at their places
+
+-- a token of the fact stands where its row does
+pub placed_here : (fact : List ℕ) (rows : List (TokenRow Spot)) (i : ℕ) (row : TokenRow Spot) → i < length rows → row ≡ slice_index_or rows i row → (x : ℕ) → node_for fact row ≡ Some x → IsPlaced rows (record { node = x; place = i })
+placed_here fact rows i row within read x e = record {
+  within = within;
+  at = λ d. ap (λ (r : TokenRow Spot). r.spot) (sym (get_or_read rows i row within read d)) ∙ (node_for-is fact row x e).1;
+}
+
+-- what holds of their nodes holds of the tokens
+pub placed_all : (P : ℕ → Type 0) (tokens : List Placed) → All P (placed_nodes tokens) → All (λ t. P t.node) tokens
+placed_all P tokens all i d lt = subst P (get_or-map (λ (t : Placed). t.node) tokens i d 0 lt) (all i 0 (omega (arith, lt, length-map tokens (λ (t : Placed). t.node))))

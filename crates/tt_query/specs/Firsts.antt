@@ -1,5 +1,5 @@
 -- The nodes of a fact's tokens, and the first of them.
-use Rattle.std.specs.Prelude.{◌≡◌, ℕ, true, false, List, [], map, take, length, ◌-◌, Option, Some, None, unwrap_or, IsSome}
+use Rattle.std.specs.Prelude.{◌≡◌, ℕ, ◌<◌, true, false, List, [], map, take, length, ◌-◌, Option, Some, None, unwrap_or, IsSome, slice_index_or}
 use Rattle.std.specs.List.{filter_map}
 use Rattle.tmm_model.specs.declared.token.TokenRow.{TokenRow}
 use Rattle.tmm_model.specs.Answers.{Fault, Finding, fails, fault, most_blames, failing, tokens_for}
@@ -12,6 +12,7 @@ use Rattle.tmm_model.specs.declared.point.PointName.TheVariants.{Start}
 use Rattle.spots.specs.declared.spot.Spot.{Spot}
 use Rattle.spots.specs.declared.spot.Spot.TheVariants.{Declared, Node}
 use Rattle.spots.specs.Forest.{Forest, Member, member, moment_at}
+use Rattle.tt_query.specs.declared.firsts.Placed.{Placed}
 
 -- the node at which a row stands
 abbrev pub node_at : Spot → Option ℕ
@@ -25,6 +26,15 @@ node_for fact row = elim (same_name row.fact fact) [ true ↦ node_at row.spot |
 -- the nodes of the rows of a fact, in their order
 abbrev pub nodes_of : List ℕ → List (TokenRow Spot) → List ℕ
 nodes_of fact rows = filter_map (node_for fact) rows
+
+-- the token of the node stands at the place among the rows
+pub record IsPlaced (rows : List (TokenRow Spot)) (t : Placed) : Type 0 where
+  pub within : t.place < length rows
+  pub at : (d : TokenRow Spot) → (slice_index_or rows t.place d).spot ≡ Node t.node
+
+-- the nodes of tokens
+abbrev pub placed_nodes : List Placed → List ℕ
+placed_nodes tokens = map (λ t. t.node) tokens
 
 -- the token that stands at a node, at a moment; one of no meaning where none does
 abbrev pub token_at_node : TimeMap → Forest → ℕ → TokenRow Moment

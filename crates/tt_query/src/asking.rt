@@ -11,21 +11,23 @@ ghost use Rattle.tmm_model.specs.Sorts.{class_in};
 ghost use Rattle.tmm_model.specs.Standing.{far_in};
 ghost use Rattle.spots.specs.Forest.{IsLive, moment_at};
 ghost use Rattle.spots.specs.OfLists.{IsForestOf, HasList, HasOccurrences};
-ghost use Rattle.spots.specs.Spots.{IsSpot, spot_moment, spot_distance};
+ghost use Rattle.spots.specs.Spots.{IsSpot, AreTokens, spot_moment, spot_distance};
 ghost use Rattle.occ_tree.specs.OfLists.{IsTreeIn, IsTreeOf};
 ghost use Rattle.occ_tree.specs.Places.{forest};
+ghost use Rattle.occ_tree.specs.Standing.{order, present};
+ghost use Rattle.occ_tree.specs.Tokens.{IsInOrder, numbers_in};
 ghost use Rattle.supports.specs.Faults.{fault_at};
 ghost use Rattle.supports.specs.TimeMaps.{IsTimeMap};
-ghost use Rattle.tt_query.specs.Firsts.{blame_at, failing_of, HasNoSupporter};
+ghost use Rattle.tt_query.specs.Firsts.{blame_at, failing_of, placed_nodes, HasNoSupporter, IsPlaced};
 
-use crate::firsts::{BLAMES, first_tokens};
+use crate::firsts::{BLAMES, Placed, first_tokens};
 use dist_net::DistNet;
 use occ_tree::Tree;
 use premise_list::Standing;
 use spots::Spot;
 use std::alloc::Global;
 use supports::{Guesses, NodeFault, TimeMap, blame};
-use tmm_model::{Answer, Blame, Bound, Cause, Name, NoMemory, Seq};
+use tmm_model::{Answer, Blame, Bound, Cause, Name, NoMemory, Seq, TokenRow};
 
 /// Whether a fact holds throughout two spots: it does by its first supporter, and where none is
 /// there, its first 8 tokens in the order of occurrences are blamed. Spots of which the first is
@@ -111,7 +113,7 @@ fn blamed(
     };
     let rows = map.tree.tokens(&class);
     let first = first_tokens(rows, fact);
-    let blames = blames(alloc, map, first.nodes.as_slice(), p, q)?;
+    let blames = blames(alloc, map, rows, first.tokens.as_slice(), p, q)?;
     Ok(Answer::No {
         blames,
         more: first.count.saturating_sub(BLAMES) as u64,
@@ -122,20 +124,25 @@ fn blamed(
 fn blames(
     alloc: Global,
     map: &TimeMap<'_>,
-    nodes: &[u32],
+    rows: &[TokenRow<Spot>],
+    tokens: &[Placed],
     p: Spot,
     q: Spot,
 ) -> Result<Seq<Blame>, NoMemory>
     requires seen { IsTimeMap map.now }
     requires holds { HasOccurrences (built map.now.standing.now.present).believed (forest map.now.tree.now) }
+    requires rows { (class : List ℕ) × (rows.now ≡ (present map.now.tree.now).tokens class) }
+    requires in_order { IsInOrder (order (present map.now.tree.now)) (numbers_in rows.now) }
+    requires tokens { (class : List ℕ) × AreTokens (forest map.now.tree.now) class rows.now }
+    requires places { All (IsPlaced rows.now) tokens.now }
     requires p { IsSpot map.now.net.now.present.names (forest map.now.tree.now) p }
     requires q { IsSpot map.now.net.now.present.names (forest map.now.tree.now) q }
-    requires none { All (HasNoSupporter map.now.standing.now.present (forest map.now.tree.now) (spot_moment map.now.net.now.present.names (forest map.now.tree.now) p) (spot_moment map.now.net.now.present.names (forest map.now.tree.now) q)) nodes.now }
-    ensures { IfOk result (λ blames. mapped blame_of blames.items ≡ mapped (blame_at (built map.now.standing.now.present) (forest map.now.tree.now) (spot_moment map.now.net.now.present.names (forest map.now.tree.now) p) (spot_moment map.now.net.now.present.names (forest map.now.tree.now) q)) nodes.now) }
+    requires none { All (λ token. HasNoSupporter map.now.standing.now.present (forest map.now.tree.now) (spot_moment map.now.net.now.present.names (forest map.now.tree.now) p) (spot_moment map.now.net.now.present.names (forest map.now.tree.now) q) token.node) tokens.now }
+    ensures { IfOk result (λ blames. mapped blame_of blames.items ≡ mapped (blame_at (built map.now.standing.now.present) (forest map.now.tree.now) (spot_moment map.now.net.now.present.names (forest map.now.tree.now) p) (spot_moment map.now.net.now.present.names (forest map.now.tree.now) q)) (placed_nodes tokens.now)) }
 {
     let mut blames = Seq::make(alloc);
-    for x in nodes {
-        push(&mut blames, blame_node(alloc, map, *x, p, q)?)?;
+    for token in tokens {
+        push(&mut blames, blame_token(alloc, map, rows, *token, p, q)?)?;
     }
     Ok(blames)
 }
@@ -150,17 +157,28 @@ fn push(blames: &mut Seq<Blame>, blame: Blame) -> Result<(), NoMemory>
 }
 
 // A token of a fact that has no supporter, with its fault.
-fn blame_node(alloc: Global, map: &TimeMap<'_>, x: u32, p: Spot, q: Spot) -> Result<Blame, NoMemory>
+fn blame_token(
+    alloc: Global,
+    map: &TimeMap<'_>,
+    rows: &[TokenRow<Spot>],
+    token: Placed,
+    p: Spot,
+    q: Spot,
+) -> Result<Blame, NoMemory>
     requires seen { IsTimeMap map.now }
     requires holds { HasOccurrences (built map.now.standing.now.present).believed (forest map.now.tree.now) }
+    requires rows { (class : List ℕ) × (rows.now ≡ (present map.now.tree.now).tokens class) }
+    requires in_order { IsInOrder (order (present map.now.tree.now)) (numbers_in rows.now) }
+    requires tokens { (class : List ℕ) × AreTokens (forest map.now.tree.now) class rows.now }
+    requires place { IsPlaced rows.now token }
     requires p { IsSpot map.now.net.now.present.names (forest map.now.tree.now) p }
     requires q { IsSpot map.now.net.now.present.names (forest map.now.tree.now) q }
-    requires none { HasNoSupporter map.now.standing.now.present (forest map.now.tree.now) (spot_moment map.now.net.now.present.names (forest map.now.tree.now) p) (spot_moment map.now.net.now.present.names (forest map.now.tree.now) q) x }
-    ensures { IfOk result (λ blame. blame_of blame ≡ blame_at (built map.now.standing.now.present) (forest map.now.tree.now) (spot_moment map.now.net.now.present.names (forest map.now.tree.now) p) (spot_moment map.now.net.now.present.names (forest map.now.tree.now) q) x) }
+    requires none { HasNoSupporter map.now.standing.now.present (forest map.now.tree.now) (spot_moment map.now.net.now.present.names (forest map.now.tree.now) p) (spot_moment map.now.net.now.present.names (forest map.now.tree.now) q) token.node }
+    ensures { IfOk result (λ blame. blame_of blame ≡ blame_at (built map.now.standing.now.present) (forest map.now.tree.now) (spot_moment map.now.net.now.present.names (forest map.now.tree.now) p) (spot_moment map.now.net.now.present.names (forest map.now.tree.now) q) token.node) }
 {
-    let cause = cause_of(alloc, map.tree, blame(map, x, p, q))?;
+    let cause = cause_of(alloc, map.tree, blame(map, rows, token.place, p, q))?;
     Ok(Blame {
-        token: map.tree.occ_of(alloc, x)?,
+        token: map.tree.occ_of(alloc, token.node)?,
         cause,
     })
 }

@@ -1,5 +1,10 @@
+use Rattle.std.specs.List.{All}
+use Rattle.tt_query.specs.Firsts.{IsPlaced, placed_nodes}
 use Rattle.tt_query.proofs.FirstNodes.{Keeps}
 use Rattle.tt_query.proofs.firsts.first_tokens.Given as goal
 
-abbrev pub invariant-loop-row : goal.invariant-loop-row
-invariant-loop-row l = Keeps l.fact l.rows l.row-index l.nodes.items l.count
+abbrev pub invariant-loop-place : goal.invariant-loop-place
+invariant-loop-place l = record {
+  nodes : Keeps l.fact l.rows l.place (placed_nodes l.tokens.items) l.count;
+  places : All (IsPlaced l.rows) l.tokens.items;
+}

@@ -15,5 +15,5 @@ loop-i-preserved c j lt = elim (cases_lt j c.loop-i.i) [
       (let here : c.loop-i.i ≡ j = omega (arith, lt, more) in
       let lists = class_lists c.args.self.now.standing.now.present (present c.args.self.now.tree.now).tokens c.args.self.now.fact c.args.self.now.class in
       subst (λ n. IsInOrder (order (present c.args.self.now.tree.now)) (numbers_in (list_at lists n))) here
-      (subst (λ (l : List (TokenRow Spot)). IsInOrder (order (present c.args.self.now.tree.now)) (numbers_in l)) c.list_at-in_order.ensures.list c.list_at-in_order.ensures.in_order))
+      (subst (λ (l : List (TokenRow Spot)). IsInOrder (order (present c.args.self.now.tree.now)) (numbers_in l)) c.list_at-in_order.ensures.list (c.list_at-in_order.ensures.in_order c.requires)))
 ]
