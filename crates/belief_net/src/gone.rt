@@ -8,9 +8,9 @@ ghost use Rattle.occ_tree.specs.Places.{forest};
 ghost use Rattle.belief_net.specs.Gone.{BeginIn, IsBehindGone, BoreNot};
 
 use crate::lists::push;
-use crate::places::{Place, is_surely_within, place_of};
-use crate::shifts::{is_spared_at, place_at};
-use crate::walls::{FastToken, LIMIT};
+use crate::places::{Place, is_not_within, is_surely_within, place_of};
+use crate::shifts::place_at;
+use crate::walls::{FastToken, LIMIT, are_walls};
 use dist_net::DistNet;
 use occ_tree::Tree;
 use spots::Spot;
@@ -90,5 +90,5 @@ pub(crate) fn spares(net: &DistNet, tree: &Tree, gone: &Gone, walls: &[FastToken
     ensures { result ≡ true → BoreNot net.now.committed (forest tree.now) gone.now x }
 {
     let event = place_of(tree, x);
-    is_spared_at(net, true, &gone.place, walls, &event)
+    is_not_within(net, true, &event, &gone.place, false) || are_walls(net, true, walls, &event)
 }

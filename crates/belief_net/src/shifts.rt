@@ -7,7 +7,7 @@ ghost use Rattle.spots.proofs.Rows.{IsRowOf};
 ghost use Rattle.occ_tree.specs.Places.{forest};
 ghost use Rattle.joined.specs.Shifting.{IsSpotOf, SparesClass};
 ghost use Rattle.belief_net.specs.Fast.{IsInBoth, AreInBoth, is_out};
-ghost use Rattle.belief_net.specs.Places.{IsPlaceOf, net_at};
+ghost use Rattle.belief_net.specs.Places.{IsPlaceOf};
 ghost use Rattle.belief_net.specs.PointSets.{is_in, AreThose};
 ghost use Rattle.belief_net.specs.Reach.{IsBaseOf};
 ghost use Rattle.belief_net.specs.Shifts.{stands_fast, IsFastToken, IsSparedBy, TokensHave, TokensHaveBoth, ShiftHasBoth, IsShift, AreShifts, NotesRow};
@@ -222,27 +222,12 @@ fn is_spared(net: &DistNet, shift: &Shift, event: &Place) -> bool
     ensures before { result ≡ true → IsSparedBy net.now.committed shift.now.place shift.now.before.items event.now }
     ensures after { result ≡ true → IsSparedBy net.now.present shift.now.place shift.now.after.items event.now }
 {
-    if !is_spared_at(net, true, &shift.place, &shift.before, event) {
+    // most events come before the token has begun, so that is asked here
+    let place = &shift.place;
+    if !is_not_within(net, true, event, place, false)
+        && !are_walls(net, true, &shift.before, event)
+    {
         return false;
     }
-    is_spared_at(net, false, &shift.place, &shift.after, event)
-}
-
-// Whether a token was or is not sure to have begun by the event, or walls stand between them.
-pub(crate) fn is_spared_at(
-    net: &DistNet,
-    before: bool,
-    place: &Place,
-    behind: &[FastToken],
-    event: &Place,
-) -> bool
-    requires place { IsInUse (net_at net.now before).names place.now.base }
-    requires behind { TokensHave (net_at net.now before) behind.now }
-    requires event { IsInUse (net_at net.now before).names event.now.base }
-    ensures { result ≡ true → IsSparedBy (net_at net.now before) place.now behind.now event.now }
-{
-    if is_not_within(net, before, event, place, false) {
-        return true;
-    }
-    are_walls(net, before, behind, event)
+    is_not_within(net, false, event, place, false) || are_walls(net, false, &shift.after, event)
 }

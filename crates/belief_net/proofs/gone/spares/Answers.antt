@@ -2,12 +2,13 @@ use Rattle.occ_tree.specs.Places.{forest}
 use Rattle.belief_net.proofs.LeftTokens.{place_in_use, walls_in_use}
 use Rattle.belief_net.proofs.gone.spares.Goals as goal
 
-pub is_spared_at-requires-clause-behind : goal.is_spared_at-requires-clause-behind
-is_spared_at-requires-clause-behind c = walls_in_use c.args.net.now.committed (forest c.args.tree.now) c.args.gone.now c.args.walls.now c.requires.nodes c.requires.walls
-
-pub is_spared_at-requires-clause-event : goal.is_spared_at-requires-clause-event
-is_spared_at-requires-clause-event c =
+pub is_not_within-requires-clause-from : goal.is_not_within-requires-clause-from
+is_not_within-requires-clause-from c =
     place_in_use c.args.net.now.committed (forest c.args.tree.now) c.args.x c.place_of-event.result c.requires.nodes c.requires.live c.place_of-event.ensures
 
-pub returns : goal.returns
-returns c is = record { event = c.place_of-event.result; event_is = c.place_of-event.ensures; walls = c.args.walls.now; behind = c.requires.walls; spared = c.is_spared_at.ensures is }
+pub are_walls-requires-clause-event : goal.are_walls-requires-clause-event
+are_walls-requires-clause-event c =
+    place_in_use c.args.net.now.committed (forest c.args.tree.now) c.args.x c.place_of-event.result c.requires.nodes c.requires.live c.place_of-event.ensures
+
+pub are_walls-requires-clause-tokens : goal.are_walls-requires-clause-tokens
+are_walls-requires-clause-tokens c = walls_in_use c.args.net.now.committed (forest c.args.tree.now) c.args.gone.now c.args.walls.now c.requires.nodes c.requires.walls
