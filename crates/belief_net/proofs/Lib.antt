@@ -38,6 +38,7 @@ pub mod Erased
 pub mod Cleared
 pub mod Fitting
 pub mod Noted
+pub mod Heads
 pub mod Ruled
 pub mod Declared
 pub mod Departing

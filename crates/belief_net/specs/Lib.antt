@@ -3,6 +3,7 @@ pub mod Waiting
 pub mod Windows
 pub mod Marks
 pub mod Decided
+pub mod Heads
 pub mod EditMarks
 pub mod Covered
 pub mod Entering

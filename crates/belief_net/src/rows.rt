@@ -12,6 +12,7 @@ ghost use Rattle.projection.specs.Kinds.{AreKnown};
 ghost use Rattle.projection.specs.Places.{name_at, IsRuleAt};
 ghost use Rattle.undo_rows.specs.Tables.{AreListed};
 ghost use Rattle.belief_net.specs.Decided.{table_of, AreUnder, AreOfSome, KeepsLast, AddsRows, DropsRows, AreNoLonger};
+ghost use Rattle.belief_net.specs.Heads.{AreHeads, AddsUnder, NamesMore, HasNamesOf};
 
 use crate::numbers::Numbers;
 use crate::state::Decisions;
@@ -188,8 +189,17 @@ pub(crate) fn facts_read(given: &[Name], exceptions: &[Name]) -> ArrayVec<Name, 
     facts
 }
 
+/// The numbers of a rule and of the classes of what it reads.
+#[derive(Drop)]
+pub(crate) struct Heads {
+    /// The number of the rule.
+    pub rule: u32,
+    /// Those of the classes of its antecedents and exceptions, in order.
+    pub classes: ArrayVec<u32, 6>,
+}
+
 // Adds a row of the rule of this name, which reads these facts.
-pub(crate) fn add_row(
+fn add_row(
     alloc: Global,
     standing: &Standing,
     decisions: &mut Decisions,
@@ -206,11 +216,48 @@ pub(crate) fn add_row(
     ensures under { OnOk result (AreUnder standing.now.present decisions.new) }
     ensures last { KeepsLast decisions.old decisions.new }
 {
+    let heads = heads_of(standing, decisions, rule, read)?;
+    add_under(alloc, decisions, event, date, &heads)
+}
+
+// The numbers of a rule that reads these facts, and of their classes. They serve all rows of the
+// rule that are added after each other.
+pub(crate) fn heads_of(
+    standing: &Standing,
+    decisions: &mut Decisions,
+    rule: Name,
+    read: &[Name],
+) -> Result<Heads, NoMemory>
+    requires read { read.now ≡ read_by (rule_of standing.now.present rule) }
+    requires few { length read.now ≤ 6 }
+    requires facts { All (λ fact. IsSome (class_in standing.now.present.premises fact)) read.now }
+    ensures heads { IfOk result (AreHeads standing.now.present rule decisions.new) }
+    ensures names { NamesMore decisions.old decisions.new }
+{
     let number = decisions.rules.enter(rule)?;
     let classes = numbers_of(standing, &mut decisions.classes, read)?;
+    Ok(Heads {
+        rule: number,
+        classes,
+    })
+}
+
+// Adds a row of the rule and the classes of these numbers.
+pub(crate) fn add_under(
+    alloc: Global,
+    decisions: &mut Decisions,
+    event: u32,
+    date: i64,
+    heads: &Heads,
+) -> Result<(), NoMemory>
+    requires few { length heads.now.classes.items ≤ 6 }
+    ensures adds { OnOk result (AddsUnder (λ rule. AddsRows (rule ∷ []) event date decisions.old decisions.new) heads.now decisions.old decisions.new) }
+    ensures names { HasNamesOf decisions.old decisions.new }
+    ensures last { KeepsLast decisions.old decisions.new }
+{
     let row = decisions
         .rows
-        .add(alloc, event, number, classes.as_slice())?;
+        .add(alloc, event, heads.rule, heads.classes.as_slice())?;
     decisions.waiting.push(row, date)?;
     Ok(())
 }

@@ -10,12 +10,13 @@ ghost use Rattle.occ_tree.specs.Places.{forest};
 ghost use Rattle.belief_net.specs.Adding.{EntersRule, IsEventOf, AddsRule, AddsRuleAt};
 ghost use Rattle.belief_net.specs.Decided.{table_of, AreUnder, KeepsLast};
 ghost use Rattle.belief_net.specs.Entering.{KeepLast};
+ghost use Rattle.belief_net.specs.Heads.{AddsUnder, HasNamesOf};
 ghost use Rattle.belief_net.specs.KindEvents.{HaveOthers, FindsOthers};
 ghost use Rattle.belief_net.specs.Marks.{HaveEvents};
 ghost use Rattle.belief_net.specs.Turning.{IsFit};
 
 use crate::kind_events::events_of;
-use crate::rows::{add_row, facts_read};
+use crate::rows::{Heads, add_under, facts_read, heads_of};
 use crate::state::{BeliefNet, Decisions};
 use dist_net::DistNet;
 use occ_tree::Tree;
@@ -84,68 +85,49 @@ fn add_rule(
     ensures last { KeepsLast decisions.old decisions.new }
 {
     let numbers = events_of(alloc, standing, tree, decisions, rule, kind)?;
-    add_rule_along(
-        alloc,
-        standing,
-        tree,
-        decisions,
-        numbers.as_slice(),
-        rule,
-        kind,
-        read,
-    )?;
+    let heads = heads_of(standing, decisions, rule, read)?;
+    add_rule_along(alloc, tree, decisions, numbers.as_slice(), kind, &heads)?;
     Ok(())
 }
 
-// Adds a row of a rule at each of these nodes that is an event of the kind.
+// Adds a row of the rule of these numbers at each of these nodes that is an event of the kind.
 fn add_rule_along(
     alloc: Global,
-    standing: &Standing,
     tree: &Tree,
     decisions: &mut Decisions,
     numbers: &[u32],
-    rule: Name,
     kind: Name,
-    read: &[Name],
+    heads: &Heads,
 ) -> Result<(), NoMemory>
     requires live { (x : ℕ) → IsOn numbers.now x → IsLive (forest tree.now) x }
     requires once { IsDistinct nat_eq numbers.now }
-    requires read { read.now ≡ read_by (rule_of standing.now.present rule) }
-    requires few { length read.now ≤ 6 }
-    requires facts { All (λ fact. IsSome (class_in standing.now.present.premises fact)) read.now }
-    requires under { AreUnder standing.now.present decisions.old }
-    ensures adds { OnOk result (AddsRuleAt tree.now rule kind numbers.now decisions.old decisions.new) }
-    ensures under { OnOk result (AreUnder standing.now.present decisions.new) }
+    requires few { length heads.now.classes.items ≤ 6 }
+    ensures adds { OnOk result (AddsUnder (λ rule. AddsRuleAt tree.now rule kind numbers.now decisions.old decisions.new) heads.now decisions.old decisions.new) }
     ensures last { KeepsLast decisions.old decisions.new }
 {
     for x in numbers {
-        add_rule_at(alloc, standing, tree, decisions, *x, rule, kind, read)?;
+        add_rule_at(alloc, tree, decisions, *x, kind, heads)?;
     }
     Ok(())
 }
 
-// Adds a row of a rule at a node, if that is an event of this kind.
+// Adds a row of the rule of these numbers at a node, if that is an event of this kind.
 fn add_rule_at(
     alloc: Global,
-    standing: &Standing,
     tree: &Tree,
     decisions: &mut Decisions,
     x: u32,
-    rule: Name,
     kind: Name,
-    read: &[Name],
+    heads: &Heads,
 ) -> Result<(), NoMemory>
-    requires read { read.now ≡ read_by (rule_of standing.now.present rule) }
-    requires few { length read.now ≤ 6 }
-    requires facts { All (λ fact. IsSome (class_in standing.now.present.premises fact)) read.now }
-    requires under { AreUnder standing.now.present decisions.old }
     requires node { IsLive (forest tree.now) x }
-    ensures adds { OnOk result (AddsRuleAt tree.now rule kind (x ∷ []) decisions.old decisions.new) }
-    ensures under { OnOk result (AreUnder standing.now.present decisions.new) }
+    requires few { length heads.now.classes.items ≤ 6 }
+    ensures adds { OnOk result (AddsUnder (λ rule. AddsRuleAt tree.now rule kind (x ∷ []) decisions.old decisions.new) heads.now decisions.old decisions.new) }
+    ensures names { HasNamesOf decisions.old decisions.new }
     ensures last { KeepsLast decisions.old decisions.new }
 {
     if is_event_of(tree, x, kind) {
-        add_row(alloc, standing, decisions, x, tree.early(x), rule, read)?;
+        add_under(alloc, decisions, x, tree.early(x), heads)?;
         Ok(())
     } else {
         Ok(())
