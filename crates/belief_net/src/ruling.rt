@@ -1,5 +1,5 @@
 // Rows of a rule that is declared anew.
-ghost use Rattle.std.specs.Prelude.{◌≡◌, ℕ, ◌≤◌, [], ◌∷◌, length, true, nat_eq, IsSome, OnOk};
+ghost use Rattle.std.specs.Prelude.{◌≡◌, ℕ, ◌≤◌, [], ◌∷◌, length, true, false, nat_eq, IsSome, OnOk};
 ghost use Rattle.std.specs.List.{All, IsDistinct};
 ghost use Rattle.row_links.specs.Lists.{IsOn};
 ghost use Rattle.tmm_model.specs.Moments.{read_by, rule_of};
@@ -85,9 +85,27 @@ fn add_rule(
     ensures last { KeepsLast decisions.old decisions.new }
 {
     let numbers = events_of(alloc, standing, tree, decisions, rule, kind)?;
+    let nodes = numbers.as_slice();
+    // a rule without rows has no number
+    if !has_event(tree, nodes, kind) {
+        return Ok(());
+    }
     let heads = heads_of(standing, decisions, rule, read)?;
-    add_rule_along(alloc, tree, decisions, numbers.as_slice(), kind, &heads)?;
+    add_rule_along(alloc, tree, decisions, nodes, kind, &heads)?;
     Ok(())
+}
+
+// Whether one of these nodes is an event of this kind.
+fn has_event(tree: &Tree, numbers: &[u32], kind: Name) -> bool
+    requires { (x : ℕ) → IsOn numbers.now x → IsLive (forest tree.now) x }
+    ensures { result ≡ false → (x : ℕ) → IsOn numbers.now x → IsEventOf tree.now kind x → ⊥ }
+{
+    for x in numbers {
+        if is_event_of(tree, *x, kind) {
+            return true;
+        }
+    }
+    false
 }
 
 // Adds a row of the rule of these numbers at each of these nodes that is an event of the kind.

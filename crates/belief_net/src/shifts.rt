@@ -1,7 +1,6 @@
 // Tokens that are loose, with fast tokens behind them, and where they bear on no decision.
 ghost use Rattle.std.specs.Prelude.{◌≡◌, ◌<◌, ℕ, List, true, IfOk, OnOk, IfSome, length};
 ghost use Rattle.std.specs.List.{All};
-ghost use Rattle.dist_net.specs.Net.{IsInUse};
 ghost use Rattle.spots.specs.Forest.{Member, IsLive};
 ghost use Rattle.spots.proofs.Rows.{IsRowOf};
 ghost use Rattle.occ_tree.specs.Places.{forest};
@@ -10,7 +9,7 @@ ghost use Rattle.belief_net.specs.Fast.{IsInBoth, AreInBoth, is_out};
 ghost use Rattle.belief_net.specs.Places.{IsPlaceOf};
 ghost use Rattle.belief_net.specs.PointSets.{is_in, AreThose};
 ghost use Rattle.belief_net.specs.Reach.{IsBaseOf};
-ghost use Rattle.belief_net.specs.Shifts.{stands_fast, IsFastToken, IsSparedBy, TokensHave, TokensHaveBoth, ShiftHasBoth, IsShift, AreShifts, NotesRow};
+ghost use Rattle.belief_net.specs.Shifts.{stands_fast, IsFastToken, IsSparedBy, TokensHaveBoth, ShiftHasBoth, IsShift, AreShifts, NotesRow};
 
 use crate::fast::Moves;
 use crate::lists::push;
