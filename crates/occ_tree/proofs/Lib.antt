@@ -41,3 +41,4 @@ pub mod Beside
 pub mod SortedBelow
 pub mod RoomLeft
 pub mod InTurn
+pub mod BySums

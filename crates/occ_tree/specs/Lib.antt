@@ -8,6 +8,7 @@ pub mod Edits
 pub mod EditLaws
 pub mod Ends
 pub mod Asked
+pub mod BySums
 pub mod Dated
 pub mod DatedLaws
 pub mod Named

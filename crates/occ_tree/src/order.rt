@@ -103,10 +103,7 @@ impl Sure for Order<'_> {
     ghost order = { λ o p q. spot_cmp o.net.now.present (forest o.tree.now) p q };
 
     fn at_most(&self, from: Spot, to: Spot, w: i64) -> bool {
-        match self.tree.far(self.net, from, to) {
-            Bound::Finite(far) => far <= w,
-            Bound::Free => false,
-        }
+        self.tree.at_most(self.net, from, to, w)
     }
 
     fn rank(&self, a: Spot, b: Spot) -> Ordering {
