@@ -223,9 +223,11 @@ impl Tree {
         }
     }
 
-    /// Tells the proof that the tokens of each class are those of its nodes. It does nothing.
+    /// Tells the proof that the tokens of each class are those of its nodes, and stand in the order
+    /// of the tree. It does nothing.
     pub fn have_tokens(&self)
-        ensures { (class : List ℕ) → AreTokens (forest (present self.now)) class ((present self.now).tokens class) }
+        ensures rows { (class : List ℕ) → AreTokens (forest (present self.now)) class ((present self.now).tokens class) }
+        ensures in_order { (class : List ℕ) → IsInOrder (order (present self.now)) (numbers_in ((present self.now).tokens class)) }
     {
         // so the proof sees the fields, and what holds of them
         let _ = self.nodes.limit();

@@ -2,6 +2,7 @@
 use Rattle.std.proofs.Common.{◌≡◌, ◌∙◌, ℕ, ◌<◌, false, List, length, sym, ap, subst}
 use Rattle.std.specs.Prelude.{Some, None, IfSome, slice_get, slice_index_or}
 use Rattle.std.specs.Option.{ForSome}
+use Rattle.std.proofs.lemmas.List.{get_or_read}
 use Rattle.std.proofs.lemmas.Option.{slice_get-get_or}
 use Rattle.tmm_model.specs.declared.token.TokenRow.{TokenRow}
 use Rattle.tmm_model.specs.Answers.{Fault, fault, late, clipped, ends}
@@ -28,10 +29,21 @@ use Rattle.supports.proofs.Answered.{row_at}
 use Rattle.supports.proofs.ClassClips.{class_here}
 use Rattle.supports.proofs.TokenRows.{no_row, at_place as row_in, row_token}
 
--- tokens of one class are those of the class of each
-pub own_rows : (f : Forest) (rows_in : List ℕ → List (TokenRow Spot)) → ((class : List ℕ) → AreTokens f class (rows_in class)) → (rows : List (TokenRow Spot)) → (class : List ℕ) × (rows ≡ rows_in class)
-    → (at : ℕ) → at < length rows → (row : TokenRow Spot) → row ≡ slice_index_or rows at row → rows ≡ rows_in row.class
-own_rows f rows_in are rows (class, is) at lt row read = is ∙ ap rows_in (sym (ap (λ r. r.class) read ∙ class_here f class rows (subst (AreTokens f class) (sym is) (are class)) at row lt))
+-- the token at a place of a class's rows, which are those of its own class
+pub record IsOwnPlace (rows_in : List ℕ → List (TokenRow Spot)) (rows : List (TokenRow Spot)) (at : ℕ) (row : TokenRow Spot) : Type 0 where
+  pub rows_are : rows ≡ rows_in row.class
+  pub within : at < length (rows_in row.class)
+  pub fact_is : fact_at (rows_in row.class) at ≡ row.fact
+
+pub own_place : (f : Forest) (rows_in : List ℕ → List (TokenRow Spot)) → ((class : List ℕ) → AreTokens f class (rows_in class)) → (rows : List (TokenRow Spot)) → (class : List ℕ) × (rows ≡ rows_in class)
+    → (at : ℕ) → at < length rows → (row : TokenRow Spot) → row ≡ slice_index_or rows at row → IsOwnPlace rows_in rows at row
+own_place f rows_in are rows (class, is) at lt row read = record { rows_are = own; within = subst (λ rows. at < length rows) own lt; fact_is = fact }
+  where
+    own : rows ≡ rows_in row.class
+    own = is ∙ ap rows_in (sym (ap (λ r. r.class) read ∙ class_here f class rows (subst (AreTokens f class) (sym is) (are class)) at row lt))
+
+    fact : fact_at (rows_in row.class) at ≡ row.fact
+    fact = subst (λ rows. fact_at rows at ≡ row.fact) own (ap (λ (r : TokenRow Spot). r.fact) (sym (get_or_read rows at row lt read no_row)))
 
 module _ (s : Standing) (net : Net) (f : Forest) (rows_in : List ℕ → List (TokenRow Spot)) (fact class : List ℕ) where
   abbrev lists : List (List (TokenRow Spot))

@@ -20,9 +20,9 @@ use Rattle.occ_tree.specs.OfLists.{IsTreeIn, IsTreeOf}
 use Rattle.occ_tree.specs.Places.{forest}
 use Rattle.occ_tree.specs.Standing.{Kept, present, order}
 use Rattle.occ_tree.specs.Tokens.{IsInOrder, numbers_in}
-use Rattle.supports.specs.ClassTokens.{AreInOrder, class_lists}
+use Rattle.supports.specs.ClassTokens.{class_lists}
 use Rattle.supports.specs.Nodes.{IsOfNode}
-use Rattle.supports.proofs.AmongLists.{IsOther, others, of_each}
+use Rattle.supports.proofs.AmongLists.{of_each}
 use Rattle.supports.proofs.ByDate.{by_date}
 use Rattle.supports.proofs.TokenRows.{no_row, rows_live, rows_of_nodes}
 
@@ -58,21 +58,11 @@ module _ {net : Net} {k : Kept} (tree : IsTreeIn net k) (s : Standing) (fact cla
   pub nodes_at : (i : ℕ) → i < length lists → All IsOfNode (list_at lists i)
   nodes_at = of_each s (present k).tokens fact class (All IsOfNode) (nothing IsOfNode) (λ c. rows_of_nodes tree.list.1 (have c))
 
-  pub all_by_date : AreInOrder k lists → All (IsByDate (spot_early net (forest k)) (spot_cmp net (forest k))) lists
-  all_by_date up = each_list (IsByDate (spot_early net (forest k)) (spot_cmp net (forest k))) by
-    where
-      rising : (c : List ℕ) (l : List (TokenRow Spot)) → l ≡ (present k).tokens c → IsInOrder (order (present k)) (numbers_in l) → IsByDate (spot_early net (forest k)) (spot_cmp net (forest k)) l
-      rising c l is in_order = by_date tree (subst (AreTokens (forest k) c) (sym is) (have c)) in_order
-
-      either : (l : List (TokenRow Spot)) → IsOther s (present k).tokens fact class l → IsInOrder (order (present k)) (numbers_in l) → IsByDate (spot_early net (forest k)) (spot_cmp net (forest k)) l
-      either l (inl is) in_order =
-          subst (IsByDate (spot_early net (forest k)) (spot_cmp net (forest k))) (sym is)
-          (record { dates = λ i j d lt within. absurd (omega (arith, within)); before = λ i j d lt within. absurd (omega (arith, within)) })
-      either l (inr (c, is, _)) in_order = rising c l is in_order
-
-      by : (i : ℕ) → i < length lists → IsByDate (spot_early net (forest k)) (spot_cmp net (forest k)) (list_at lists i)
-      by zero lt = rising class (list_at lists 0) refl (up 0 lt)
-      by (suc i) lt = either (list_at lists (suc i)) (others s (present k).tokens fact class i lt) (up (suc i) lt)
+  pub all_by_date : ((c : List ℕ) → IsInOrder (order (present k)) (numbers_in ((present k).tokens c))) → All (IsByDate (spot_early net (forest k)) (spot_cmp net (forest k))) lists
+  all_by_date up = each_list (IsByDate (spot_early net (forest k)) (spot_cmp net (forest k)))
+      (of_each s (present k).tokens fact class (IsByDate (spot_early net (forest k)) (spot_cmp net (forest k)))
+      (record { dates = λ i j d lt within. absurd (omega (arith, within)); before = λ i j d lt within. absurd (omega (arith, within)) })
+      (λ c. by_date tree (have c) (up c)))
 
   -- a token at a place is that of a node that is there
   pub node_live : (i j x : ℕ) → i < length lists → j < length (list_at lists i) → ((d : TokenRow Spot) → (slice_index_or (list_at lists i) j d).spot ≡ Node x) → IsLive (forest k) x

@@ -28,7 +28,3 @@ of_other tokens class (Some other) = elim (same_name other class) [ true ↦ [] 
 -- each other, those of the class of the other fact
 abbrev pub class_lists : Standing → (List ℕ → List (TokenRow Spot)) → List ℕ → List ℕ → List (List (TokenRow Spot))
 class_lists s tokens fact class = tokens class ∷ map (λ pair. of_other tokens class (class_against s fact pair)) (rivalries s.premises)
-
--- the tokens of each list stand in the order of the tree
-abbrev pub AreInOrder : Kept → List (List (TokenRow Spot)) → Type 0
-AreInOrder k lists = (i : ℕ) → i < length lists → IsInOrder (order (present k)) (numbers_in (list_at lists i))

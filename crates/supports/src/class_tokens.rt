@@ -4,9 +4,8 @@ ghost use Rattle.std.specs.Prelude.{◌≡◌, ◌<◌, Some, length};
 ghost use Rattle.tmm_model.specs.declared.token.TokenRow.{TokenRow};
 ghost use Rattle.premise_list.specs.Rivalries.{rivalries};
 ghost use Rattle.clipping.specs.Across.{list_at};
-ghost use Rattle.occ_tree.specs.Standing.{order, present};
-ghost use Rattle.occ_tree.specs.Tokens.{IsInOrder, numbers_in};
-ghost use Rattle.supports.specs.ClassTokens.{other_in, class_against, of_other, class_lists, AreInOrder};
+ghost use Rattle.occ_tree.specs.Standing.{present};
+ghost use Rattle.supports.specs.ClassTokens.{other_in, class_against, of_other, class_lists};
 
 use clipping::Tokens;
 use occ_tree::Tree;
@@ -44,11 +43,10 @@ impl Tokens for ClassTokens<'_> {
 }
 
 impl ClassTokens<'_> {
-    // The tokens of one list, which stand in the order of the tree where those of the class do.
+    // The tokens of one list.
     fn list_at(&self, i: usize) -> &[TokenRow<Spot>]
         requires { i < length (class_lists self.now.standing.now.present (present self.now.tree.now).tokens self.now.fact self.now.class) }
-        ensures list { result.now ≡ list_at (class_lists self.now.standing.now.present (present self.now.tree.now).tokens self.now.fact self.now.class) i }
-        ensures in_order { IsInOrder (order (present self.now.tree.now)) (numbers_in self.now.own.now) → IsInOrder (order (present self.now.tree.now)) (numbers_in result.now) }
+        ensures { result.now ≡ list_at (class_lists self.now.standing.now.present (present self.now.tree.now).tokens self.now.fact self.now.class) i }
     {
         if i == 0 {
             self.own
@@ -59,8 +57,7 @@ impl ClassTokens<'_> {
 
     // The tokens of the class of the other fact of the pair, where it has the fact.
     fn list_against(&self, pair: (Name, Name)) -> &[TokenRow<Spot>]
-        ensures list { result.now ≡ of_other (present self.now.tree.now).tokens self.now.class (class_against self.now.standing.now.present self.now.fact pair) }
-        ensures in_order { IsInOrder (order (present self.now.tree.now)) (numbers_in result.now) }
+        ensures { result.now ≡ of_other (present self.now.tree.now).tokens self.now.class (class_against self.now.standing.now.present self.now.fact pair) }
     {
         match self.class_against(pair) {
             Some(class) => self.of_other(class),
@@ -70,8 +67,7 @@ impl ClassTokens<'_> {
 
     // The tokens of the class, where it is another one.
     fn of_other(&self, class: Name) -> &[TokenRow<Spot>]
-        ensures list { result.now ≡ of_other (present self.now.tree.now).tokens self.now.class (Some class) }
-        ensures in_order { IsInOrder (order (present self.now.tree.now)) (numbers_in result.now) }
+        ensures { result.now ≡ of_other (present self.now.tree.now).tokens self.now.class (Some class) }
     {
         if class == self.class {
             &[]
@@ -86,17 +82,6 @@ impl ClassTokens<'_> {
     {
         let other = other_in(self.fact, pair)?;
         self.standing.class_of(other)
-    }
-
-    // Tells the proof that the tokens of each list stand in the order of the tree, where those of
-    // the class do.
-    pub(crate) fn are_in_order(&self)
-        requires { IsInOrder (order (present self.now.tree.now)) (numbers_in self.now.own.now) }
-        ensures { AreInOrder self.now.tree.now (class_lists self.now.standing.now.present (present self.now.tree.now).tokens self.now.fact self.now.class) }
-    {
-        for i in 0..self.count() {
-            let _in_order = self.list_at(i);
-        }
     }
 }
 

@@ -32,8 +32,7 @@ ghost use Rattle.spots.specs.declared.spot.Spot.{Spot};
 ghost use Rattle.spots.specs.Spots.{IsSpot, spot_moment};
 ghost use Rattle.clip_search.specs.Entries.{fact_at, node_at as number_at};
 ghost use Rattle.occ_tree.specs.Places.{forest};
-ghost use Rattle.occ_tree.specs.Standing.{order, present};
-ghost use Rattle.occ_tree.specs.Tokens.{IsInOrder, numbers_in};
+ghost use Rattle.occ_tree.specs.Standing.{present};
 ghost use Rattle.supports.specs.Faults.{fault_at};
 ghost use Rattle.supports.specs.Nodes.{IsOfNode};
 ghost use Rattle.supports.specs.TimeMaps.{IsTimeMap};
@@ -156,7 +155,6 @@ pub enum NodeFault {
 pub fn blame(map: &TimeMap<'_>, rows: &[TokenRow<Spot>], at: usize, p: Spot, q: Spot) -> NodeFault
     requires seen { IsTimeMap map.now }
     requires rows { (class : List ℕ) × (rows.now ≡ (present map.now.tree.now).tokens class) }
-    requires in_order { IsInOrder (order (present map.now.tree.now)) (numbers_in rows.now) }
     requires within { at < length rows.now }
     requires p { IsSpot map.now.net.now.present.names (forest map.now.tree.now) p }
     requires q { IsSpot map.now.net.now.present.names (forest map.now.tree.now) q }
@@ -175,7 +173,6 @@ pub fn blame(map: &TimeMap<'_>, rows: &[TokenRow<Spot>], at: usize, p: Spot, q: 
         class: row.class,
         own: rows,
     };
-    tokens.are_in_order();
     let order = Order {
         tree: map.tree,
         net: map.net,

@@ -49,7 +49,6 @@ pub(crate) fn supporter(map: &TimeMap<'_>, fact: Name, p: Spot, q: Spot) -> Opti
         class,
         own: map.tree.tokens(&class),
     };
-    tokens.are_in_order();
     map.tree.have_tokens();
     let order = Order {
         tree: map.tree,
@@ -77,7 +76,6 @@ pub(crate) fn is_supported(map: &TimeMap<'_>, fact: Name, p: Spot, q: Spot) -> b
         class,
         own: map.tree.tokens(&class),
     };
-    tokens.are_in_order();
     map.tree.have_tokens();
     let order = Order {
         tree: map.tree,

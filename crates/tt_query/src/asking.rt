@@ -14,8 +14,7 @@ ghost use Rattle.spots.specs.OfLists.{IsForestOf, HasList, HasOccurrences};
 ghost use Rattle.spots.specs.Spots.{IsSpot, AreTokens, spot_moment, spot_distance};
 ghost use Rattle.occ_tree.specs.OfLists.{IsTreeIn, IsTreeOf};
 ghost use Rattle.occ_tree.specs.Places.{forest};
-ghost use Rattle.occ_tree.specs.Standing.{order, present};
-ghost use Rattle.occ_tree.specs.Tokens.{IsInOrder, numbers_in};
+ghost use Rattle.occ_tree.specs.Standing.{present};
 ghost use Rattle.supports.specs.Faults.{fault_at};
 ghost use Rattle.supports.specs.TimeMaps.{IsTimeMap};
 ghost use Rattle.tt_query.specs.Firsts.{blame_at, failing_of, placed_nodes, HasNoSupporter, IsPlaced};
@@ -132,7 +131,6 @@ fn blames(
     requires seen { IsTimeMap map.now }
     requires holds { HasOccurrences (built map.now.standing.now.present).believed (forest map.now.tree.now) }
     requires rows { (class : List ℕ) × (rows.now ≡ (present map.now.tree.now).tokens class) }
-    requires in_order { IsInOrder (order (present map.now.tree.now)) (numbers_in rows.now) }
     requires tokens { (class : List ℕ) × AreTokens (forest map.now.tree.now) class rows.now }
     requires places { All (IsPlaced rows.now) tokens.now }
     requires p { IsSpot map.now.net.now.present.names (forest map.now.tree.now) p }
@@ -168,7 +166,6 @@ fn blame_token(
     requires seen { IsTimeMap map.now }
     requires holds { HasOccurrences (built map.now.standing.now.present).believed (forest map.now.tree.now) }
     requires rows { (class : List ℕ) × (rows.now ≡ (present map.now.tree.now).tokens class) }
-    requires in_order { IsInOrder (order (present map.now.tree.now)) (numbers_in rows.now) }
     requires tokens { (class : List ℕ) × AreTokens (forest map.now.tree.now) class rows.now }
     requires place { IsPlaced rows.now token }
     requires p { IsSpot map.now.net.now.present.names (forest map.now.tree.now) p }

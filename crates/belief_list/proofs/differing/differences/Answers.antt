@@ -58,5 +58,5 @@ loop-x-preserved c =
 pub returns-clause-made : goal.returns-clause-made
 returns-clause-made c = λ edit edited.
     differences_are c.args.map.now.standing.now c.args.map.now.net.now edit c.args.map.now.tree.now c.args.kept.now c.args.nodes.now c.args.classes.now edited c.requires.kept c.requires.covered
-    c.moved.ensures.moved c.have_tokens.ensures c.requires.seen.dated c.loop-x.found.marks.items c.loop-x.found.differences.items c.loop-x.invariant.found
+    c.moved.ensures.moved c.have_tokens.ensures.rows c.requires.seen.dated c.loop-x.found.marks.items c.loop-x.found.differences.items c.loop-x.invariant.found
     (places_marked c.loop-x.found.marks.items c.args.nodes.now (λ j d lt. c.loop-x.invariant.done j d (omega (arith, lt, c.loop-x-test.false)))) c.loop-x.invariant.classes

@@ -1,6 +1,15 @@
-use Rattle.std.proofs.Common.{◌≡◌, ◌≤◌, ◌+◌, ◌-◌, ℕ, arith, subst}
+use Rattle.std.proofs.Common.{◌≡◌, ◌≤◌, ◌+◌, ◌-◌, ℕ, get_or, arith, ap, sym, subst}
+use Rattle.dist_net.specs.Net.{Net}
+use Rattle.list_net.specs.Cutting.{IsNumberListed}
+use Rattle.list_net.specs.Represents.{Names}
 use Rattle.list_net.proofs.Dropping.{IsArranging, IsArranging-moved}
 use Rattle.list_net.proofs.cutting.put_leading_last.Goals as goal
+
+pub is_fallen-requires : goal.is_fallen-requires
+is_fallen-requires c =
+    let edge = get_or c.edges.result.now (c.loop-place.place - 1) c.index-edges-place.result in
+    subst (λ (names : Names). IsNumberListed c.args.standing.now.present.premises c.args.gone.now names edge.from) (ap (λ (n : Net). n.names) (sym c.loop-place.invariant.others))
+    (c.requires.points edge.from)
 
 pub loop-place-preserved-then-not-is_fallen : goal.loop-place-preserved-then-not-is_fallen
 loop-place-preserved-then-not-is_fallen c =

@@ -49,7 +49,7 @@ unmoved-requires-clause-edited c =
     let kept = alike_kept lists.committed lists.present nets.committed nets.present c.args.nodes.now (c.is_still.ensures.alike c.if-is_still.true) c.requires.pending.network c.requires.pending.numbers c.requires.rests.kept in
     subst (IsEdited lists nets c.args.edit.now) (sym c.tree.ensures)
     (still_edited lists nets c.args.edit.now c.args.erased.items c.args.nodes.now c.requires.rests.kept c.requires.pending kept.fit.tree.seen kept.current.holds
-    (subst HasTokens c.tree.ensures c.have_tokens.ensures))
+    (subst HasTokens c.tree.ensures c.have_tokens.ensures.rows))
 
 pub unmoved-requires-clause-others : goal.unmoved-requires-clause-others
 unmoved-requires-clause-others c =

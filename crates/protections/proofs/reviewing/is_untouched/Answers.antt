@@ -17,5 +17,5 @@ returns c passed nets others =
           (let there : list_any (λ y. same_name y class) classes ≡ true = In-list_any (λ y. same_name y class) classes class (In-from_Contains classes class at) (nat_list_eq_equiv.refl class) in
           let wrong : false ≡ true = ap not (sym (c.contains.ensures.value ∙ there)) ∙ passed in
           cc));
-      tokens = c.have_tokens.ensures;
+      tokens = c.have_tokens.ensures.rows;
     }

@@ -31,7 +31,7 @@ returns c =
     let named = c.requires.edited.seen_then.network.sound.well_named in
     let same : (p : Premise) → In p lists.committed.premises → In p lists.present.premises → broken (built lists.present) p ≡ broken (built lists.committed) p =
     λ p before now.
-    all_left_alone lists c.args.map.now.net.now c.args.edit.now c.args.map.now.tree.now c.requires.edited c.moved.ensures.moved c.requires.unmoved c.requires.others c.have_tokens.ensures
+    all_left_alone lists c.args.map.now.net.now c.args.edit.now c.args.map.now.tree.now c.requires.edited c.moved.ensures.moved c.requires.unmoved c.requires.others c.have_tokens.ensures.rows
     p (Contains-from_In lists.committed.premises p before) (Contains-from_In lists.present.premises p now) in
     elim c.match-edit.branch [
       | in-Add+in_ok-look+in_ok-push_some_to w ↦ (
