@@ -150,29 +150,29 @@ module _ (nets : Nets) (added : Option (List ℕ)) (before s : Standing) (st : S
     -- ---- rows that may rest
 
     module _ (fast : StandFast nets added moves.fast.items) (i : ℕ) (row : TableRow Pair 8) (at : (table_of d).row i ≡ Some row) (plain : IsPlainRule before s (rule_in d row))
-        (dated : KeepsDate moves s (forest st) d row) (rests : RestsForFirst st nets moves d (length d.classes) i row) where
+        (dated : KeepsDate moves s (forest st) d row) (rests : RestsForFirst st s nets moves d (length d.classes) i row) where
       abbrev x : ℕ
       x = row.value.trigger
 
       abbrev r : List ℕ
       r = rule_in d row
 
-      by_class : (class : List ℕ) → reads_class s r class ≡ true → RestsFor nets moves f class x
+      by_class : (class : List ℕ) → reads_class s r class ≡ true → RestsFor nets moves s f class r x
       by_class class reads =
           let (k, is) = class_number i row at class reads in
           let name = placed_name d.classes class k is in
-          subst (λ z. RestsFor nets moves f z x) name (rests k (small_number class k is) (on_lists i k row class at is reads))
+          subst (λ z. RestsFor nets moves s f z r x) name (rests k (small_number class k is) (on_lists i k row class at is reads))
         where
           small_number : (class : List ℕ) (k : ℕ) → place_in d.classes class ≡ Some k → k < length d.classes
           small_number class k is = (position-Some (same_name class) d.classes k [] is).0
 
-      unmoved_date : (class : List ℕ) → RestsFor nets moves f class x → is_moved nets added (base_of f (Node x)) 0 ≡ false
+      unmoved_date : (class : List ℕ) → RestsFor nets moves s f class r x → is_moved nets added (base_of f (Node x)) 0 ≡ false
       unmoved_date class rest = elim (cases_Bool (is_moved nets added (base_of f (Node x)) 0)) [
         | inr off ↦ off
         | inl is ↦ absurd (by rest is)
       ]
         where
-          by : RestsFor nets moves f class x → is_moved nets added (base_of f (Node x)) 0 ≡ true → ⊥
+          by : RestsFor nets moves s f class r x → is_moved nets added (base_of f (Node x)) 0 ≡ true → ⊥
           by (inl still) is = still (from_moved (IsSpotOf f class) (class_small f below class) x
               (record { from = Node x; to = Declared 0; from_is = inr refl; to_is = inl (inl refl); most = pos 0; bounded = refl; moved = is }))
           by (inr spares) is = elim (fast.loose.each (base_of f (Node x)) 0 is) [
@@ -211,13 +211,13 @@ module _ (nets : Nets) (added : Option (List ℕ)) (before s : Standing) (st : S
 
     -- it may rest as far as it goes by classes
     abbrev Rests : ℕ → TableRow Pair 8 → Type 0
-    Rests i row = KeepsDate moves s f d row × RestsForFirst st nets moves d (length d.classes) i row
+    Rests i row = KeepsDate moves s f d row × RestsForFirst st s nets moves d (length d.classes) i row
 
     -- **All rows have been looked at**: those of rules that read nothing, those on the lists of
     -- classes, and those of rules that read what other facts contradict.
     pub all_woken : StandFast nets added moves.fast.items → (old mid next new : Dates)
         → Wakes st (table_of d) (λ i row. MovesFrom moves (forest st) row.value.trigger) (λ i row. KeepsDate moves s (forest st) d row) old mid
-        → WakesForAll st nets moves d (length d.classes) mid next
+        → WakesForAll st s nets moves d (length d.classes) mid next
         → Wakes st (table_of d) (λ i row. MovesByRule moves s (forest st) (rule_in d row) row.value.trigger) (λ i row. StaysByRule moves before s (forest st) (rule_in d row) row.value.trigger) next new
         → Wakes st (table_of d) (λ i row. IsRowMoved nets added s (forest st) d row) (λ i row. IsRowAtRest nets added before s (forest st) d row) old new
     all_woken fast old mid next new unread classes rules =
@@ -230,7 +230,7 @@ module _ (nets : Nets) (added : Option (List ℕ)) (before s : Standing) (st : S
           | inr still ↦ inl (still_by_rule row still)
         ])
         (wakes_both st (table_of d) (λ i row. MovesFrom moves f row.value.trigger) (λ i row. KeepsDate moves s f d row)
-        (MovesForSome st moves d) (RestsForFirst st nets moves d (length d.classes))
+        (MovesForSome st moves d) (RestsForFirst st s nets moves d (length d.classes))
         Moved (λ i row. Rests i row) old mid next
         (λ i row at m. from_start row m) (λ i row at m. for_some i row at m) (λ i row at dated rests. (dated, rests))
         unread classes)

@@ -6,6 +6,7 @@ use Rattle.std.proofs.lemmas.List.{get_or_default}
 use Rattle.std.specs.Prelude.{◌↔◌, is_some}
 use Rattle.std.specs.List.{Contains}
 use Rattle.std.specs.Option.{option_map_or}
+use Rattle.tmm_model.specs.Standing.{Standing}
 use Rattle.row_links.specs.Lists.{IsOn}
 use Rattle.dist_net.specs.Net.{Nets}
 use Rattle.spots.specs.declared.spot.Spot.{Spot}
@@ -24,6 +25,7 @@ use Rattle.belief_net.specs.declared.by_event.Events.{Events}
 use Rattle.belief_net.specs.declared.fast.Moves.{Moves}
 use Rattle.belief_net.specs.ByEvent.{is_event_of, IsOnAt}
 use Rattle.belief_net.specs.Marks.{HaveEvents, AreByEvent, Marks, Wakes}
+use Rattle.belief_net.specs.Numbers.{name_in}
 use Rattle.belief_net.specs.PointSets.{is_in, has_pair, HaveBothIn}
 use Rattle.belief_net.specs.Reach.{AreBelow256, IsOff}
 use Rattle.belief_net.specs.Waiting.{Dates}
@@ -169,9 +171,9 @@ module _ (k : Kept) (t : Table Pair 8) (nets : Nets) (moves : Moves) (tells : Te
             untouched.unmoved y m here of (inr (inl (subst (Contains nets.moved) (base_at f y m here) (subst (λ q. Contains nets.moved (base_of f q)) is on))))
         side p (inl (inr (an_end y m e here of ends is))) on = untouched.unmoved y m here of (inr (inr (e, ends, subst (λ q. Contains nets.moved (base_of f q)) is on)))
 
-    pub none_wakes : (are : ℕ → Type 0) (dates : Dates) → AreAwake nets f t dates → WakesFor (present k) t nets moves class are dates dates
-    none_wakes are dates awake =
-        wakes_none (present k) t (λ i row. are i × MovesFor moves f class row.value.trigger) (λ i row. are i → RestsFor nets moves f class row.value.trigger) dates
+    pub none_wakes : (list : Standing) (rules : List (List ℕ)) (are : ℕ → Type 0) (dates : Dates) → AreAwake nets f t dates → WakesFor (present k) t list rules nets moves class are dates dates
+    none_wakes list rules are dates awake =
+        wakes_none (present k) t (λ i row. are i × MovesFor moves f class row.value.trigger) (λ i row. are i → RestsFor nets moves list f class (name_in rules row.value.rule) row.value.trigger) dates
         (λ i row at. elim (cases_Bool (is_some (dates i))) [ inl waits ↦ inl waits | inr not ↦ inr (λ on. inl (none_more i row dates at awake not)) ])
 
   -- so does one none of whose points is a point of a pair
@@ -194,7 +196,7 @@ module _ (k : Kept) (t : Table Pair 8) (nets : Nets) (moves : Moves) (tells : Te
             let no : true ≡ false = sym m.moved ∙ (λ i. has_pair moves.pairs.items (from_is i) (to_is i)) ∙ tells.itself (base_of f (Node x)) (node_small f below x) in
             cc
 
-    pub none_concerned : (are : ℕ → Type 0) (dates : Dates) → WakesFor (present k) t nets moves class are dates dates
-    none_concerned are dates =
-        wakes_none (present k) t (λ i row. are i × MovesFor moves f class row.value.trigger) (λ i row. are i → RestsFor nets moves f class row.value.trigger) dates
+    pub none_concerned : (list : Standing) (rules : List (List ℕ)) (are : ℕ → Type 0) (dates : Dates) → WakesFor (present k) t list rules nets moves class are dates dates
+    none_concerned list rules are dates =
+        wakes_none (present k) t (λ i row. are i × MovesFor moves f class row.value.trigger) (λ i row. are i → RestsFor nets moves list f class (name_in rules row.value.rule) row.value.trigger) dates
         (λ i row at. inr (λ on. inl (none_moves row.value.trigger)))

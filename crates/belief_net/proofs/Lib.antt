@@ -68,3 +68,4 @@ pub mod WatchedPoints
 pub mod ByRule
 pub mod Unread
 pub mod Unlike
+pub mod Borne

@@ -1,5 +1,5 @@
 -- Loose tokens and the fast ones behind them.
-use Rattle.std.proofs.Common.{◌≡◌, ◌∙◌, ℕ, Bool, true, false, not, ◌+◌, ◌<◌, List, [], ◌∷◌, ◌++◌, length, get_or, Option, Some, None, refl, sym, ap, subst, inl, inr, ◌⊎◌, arith}
+use Rattle.std.proofs.Common.{◌≡◌, ◌∙◌, ℕ, Bool, true, false, not, ◌&&◌, ◌+◌, ◌<◌, List, [], ◌∷◌, ◌++◌, length, get_or, Option, Some, None, refl, sym, ap, subst, inl, inr, ◌⊎◌, arith}
 use Rattle.std.proofs.lemmas.Bool.{cases_order, not-false}
 use Rattle.std.proofs.lemmas.List.{get_or_default}
 use Rattle.std.proofs.lemmas.List.Elements.{All-nil, All-push, All-contains, Contains-append_left, Contains-append_right}
@@ -9,6 +9,7 @@ use Rattle.std.specs.Option.{option_map, option_map_or}
 use Rattle.std.specs.List.{All, Contains}
 use Rattle.tmm_model.specs.declared.token.TokenRow.{TokenRow}
 use Rattle.tmm_model.specs.Points.{same_name}
+use Rattle.tmm_model.specs.Standing.{Standing}
 use Rattle.list_theory.proofs.Elements.{both}
 use Rattle.dist_net.specs.Net.{Net, Nets}
 use Rattle.spots.specs.declared.spot.Spot.{Spot}
@@ -17,10 +18,11 @@ use Rattle.spots.specs.Forest.{Forest, Member, member}
 use Rattle.spots.specs.Spots.{base_of, AreTokens, token_row}
 use Rattle.spots.proofs.Rows.{IsRowOf, member_of_token}
 use Rattle.joined.specs.Gaps.{IsClassSpot, begin, an_end}
-use Rattle.joined.specs.Shifting.{IsSpotOf, IsFast, IsWallAt, IsSparedAt, SparesClass}
+use Rattle.joined.specs.Shifting.{IsSpotOf, IsFast, IsWallAt, IsWallTo, IsSparedAt, IsIdleAt, SparesClass, IsReadBy}
 use Rattle.belief_net.specs.declared.places.Place.{Place}
 use Rattle.belief_net.specs.declared.shifts.Shift.{Shift}
 use Rattle.belief_net.specs.declared.walls.FastToken.{FastToken}
+use Rattle.belief_net.specs.Bearing.{IsBorne, AreBorne, IsTokenOf, HaveFast, BearsOnly, ReadsNone}
 use Rattle.belief_net.specs.Fast.{IsInBoth, AreInBoth, is_out}
 use Rattle.belief_net.specs.Places.{IsPlaceOf}
 use Rattle.belief_net.specs.PointSets.{is_in, AreThose}
@@ -45,6 +47,17 @@ module _ (f : Forest) (fast : List Bool) where
       by (Some e) ends h =
           let parts = both (is_in fast place.base) (is_in fast e) h in
           record { begin = begins parts.0; «end» = λ k other. (let one : e ≡ k = (let same : Some e ≡ Some k = sym ends ∙ other in cc) in ap not (subst (λ z. is_in fast z ≡ true) one parts.1)) }
+
+  -- a fast token stands fast
+  pub row_fast : (row : TokenRow Spot) (x : ℕ) (m : Member) (place : Place) → IsRowOf f row x m → IsPlaceOf f x place → IsFast (is_out fast) m → stands_fast fast place row.end ≡ true
+  row_fast row x m place is at h = subst (λ o. stands_fast fast place o ≡ true) (sym is.end) (by m.end refl)
+    where
+      begins : is_in fast place.base ≡ true
+      begins = ap (is_in fast) (sym at.base ∙ node_base f x m is.here) ∙ not-false (is_in fast m.begin) h.begin
+
+      by : (o : Option ℕ) → m.end ≡ o → stands_fast fast place (option_map Declared o) ≡ true
+      by None ends = begins
+      by (Some e) ends = let last = not-false (is_in fast e) (h.end e ends) in λ i. begins i && last i
 
   -- the place of a fast token is one of the set
   pub fast_place : (class : List ℕ) (t : FastToken) → IsFastToken f (is_out fast) class t → is_in fast t.place.base ≡ true
@@ -88,6 +101,14 @@ module _ (net : Net) (f : Forest) (loose : ℕ → Bool) (class : List ℕ) (x y
         },
       )
 
+-- a token of none of whose facts the rule knows is idle for it
+idle_by : (net : Net) (f : Forest) (loose : ℕ → Bool) (class : List ℕ) (s : Standing) (r : List ℕ) (y : ℕ) (m : Member) (facts : List (List ℕ)) → Contains facts m.what
+    → BearsOnly net f loose class y facts → ReadsNone s r facts → IsIdleAt net f loose class (IsReadBy s r) y m
+idle_by net f loose class s r y m facts own bears none = record {
+  unread = λ read. none m.what own read;
+  over = λ v j here of fast no_span read before. elim (bears v j here of fast before) [ inl on ↦ absurd (none j.what on read) | inr wall ↦ wall ];
+}
+
 -- two that have begun, of different facts, are walls
 pub two_begun : (net : Net) (tokens : List FastToken) (event : Place) (one other : FastToken) → Contains tokens one → HasBegunBy net event one
     → Contains tokens other → HasBegunBy net event other → same_name other.fact one.fact ≡ false → AreWallsBy net tokens event
@@ -115,6 +136,29 @@ module _ (f : Forest) (fast : List Bool) where
   none_behind : (net : Net) (class : List ℕ) (y : ℕ) (m : Member) (behind : List FastToken) → behind ≡ [] → All (IsBehindNode net f (is_out fast) class y m) behind
   none_behind net class y m behind none = subst (All (IsBehindNode net f (is_out fast) class y m)) (sym none) (All-nil (IsBehindNode net f (is_out fast) class y m))
 
+  -- what is borne by a place is so by its node
+  bears_node : (net : Net) (class : List ℕ) (y : ℕ) (place : Place) (tokens : List FastToken) (facts : List (List ℕ)) → IsPlaceOf f y place
+      → All (IsFastToken f (is_out fast) class) tokens → HaveFast f (is_out fast) class tokens → AreBorne net place tokens facts → BearsOnly net f (is_out fast) class y facts
+  bears_node net class y place tokens facts at own all are v j here of stands before =
+      let (token, on, is) = all v j here of stands in
+      by token on is (All-contains (IsBorne net place tokens facts) tokens token are on)
+    where
+      by : (token : FastToken) → Contains tokens token → IsTokenOf f v j token → IsBorne net place tokens facts token → Contains facts j.what ⊎ IsWallTo net f (is_out fast) class v y j
+      by token on is (inl told) = inl (subst (Contains facts) is.fact told)
+      by token on is (inr (inl not_before)) = let no : true ≡ false = sym before ∙ not_before f y v at is.place in cc
+      by token on is (inr (inr w)) =
+          let wall = All-contains (IsFastToken f (is_out fast) class) tokens w.wall own w.is in
+          inr (record {
+            node = wall.node;
+            token = wall.token;
+            here = wall.here;
+            of = wall.of;
+            fast = wall.fast;
+            differ = λ same. w.differ (wall.fact ∙ same ∙ sym is.fact);
+            after = w.after f wall.node v wall.place is.place;
+            by = w.by f y wall.node at wall.place;
+          })
+
   behind_both : (nets : Nets) (net : Net) (place : Place) (tokens behind : List FastToken) → TokensHaveBoth nets tokens → AreBehind net place tokens behind → TokensHaveBoth nets behind
   behind_both nets net place tokens behind have are k d less =
       All-contains (λ (t : FastToken). IsInBoth nets t.place.base) tokens (get_or behind k d) have (are k d less).0
@@ -130,9 +174,9 @@ module _ (f : Forest) (fast : List Bool) where
 
     -- a loose one is pushed
     pub noted_loose : (place : Place) (tokens : List FastToken) (shift : Shift) → ((x : ℕ) → row.spot ≡ Node x → IsPlaceOf f x place) → IsInBoth nets place.base
-        → All (IsFastToken f (is_out fast) row.class) tokens → TokensHaveBoth nets tokens → IsShift nets place row.end tokens shift
+        → All (IsFastToken f (is_out fast) row.class) tokens → HaveFast f (is_out fast) row.class tokens → TokensHaveBoth nets tokens → IsShift nets place row.fact row.end tokens shift
         → NotesRow nets f (is_out fast) row old (old ++ shift ∷ [])
-    noted_loose place tokens shift at in_both all have is = record {
+    noted_loose place tokens shift at in_both all each have is = record {
       have = λ before. All-push (ShiftHasBoth nets) old shift before (record {
         place = subst (λ (p : Place). IsInBoth nets p.base) (sym is.at) in_both;
         before = behind_both nets nets.committed place tokens shift.before.items have is.before;
@@ -144,6 +188,9 @@ module _ (f : Forest) (fast : List Bool) where
         Contains-append_right old (shift ∷ []) shift (0, omega arith, refl),
         record {
           place = subst (IsPlaceOf f y) (sym is.at) (at y of.spot);
+          own = subst (Contains shift.facts.items) of.fact is.own;
+          bore = bears_node nets.committed row.class y place tokens shift.facts.items (at y of.spot) all each is.bore;
+          bears = bears_node nets.present row.class y place tokens shift.facts.items (at y of.spot) all each is.bears;
           before = by nets.committed shift.before.items is.before y m of (elim is.spans [ inl none ↦ inl none | inr empty ↦ inr empty.0 ]);
           after = by nets.present shift.after.items is.after y m of (elim is.spans [ inl none ↦ inl none | inr empty ↦ inr empty.1 ]);
         },
@@ -210,24 +257,55 @@ module _ (nets : Nets) (f : Forest) (loose : ℕ → Bool) (class : List ℕ) (r
         first.each k row (subst (λ z. k < z) (sym whole) less) (sym is) y m (record { here = here; spot = refl; «end» = refl; fact = refl; class = of });
   }
 
+-- the fast tokens of the first rows are among these
+abbrev pub FoundFirst : (f : Forest) (loose : ℕ → Bool) (rows : List (TokenRow Spot)) → ℕ → List FastToken → Type 0
+FoundFirst f loose rows n tokens =
+    (k : ℕ) (row : TokenRow Spot) → k < n → row ≡ get_or rows k row → (y : ℕ) (m : Member) → IsRowOf f row y m → IsFast loose m → (token : FastToken) × Contains tokens token × IsTokenOf f y m token
+
+module _ (f : Forest) (loose : ℕ → Bool) (class : List ℕ) (rows : List (TokenRow Spot)) (are : AreTokens f class rows) where
+  pub found_more : (n : ℕ) (row : TokenRow Spot) (old new : List FastToken) → n < length rows → row ≡ get_or rows n row → FoundFirst f loose rows n old
+      → ((token : FastToken) → Contains old token → Contains new token)
+      → ((y : ℕ) (m : Member) → IsRowOf f row y m → IsFast loose m → (token : FastToken) × Contains new token × IsTokenOf f y m token) → FoundFirst f loose rows (n + 1) new
+  found_more n row old new short is first more here k other less at y m of fast = elim (cases_order k n) [
+    | inl same ↦ (
+        let one : other ≡ row = at ∙ ap (λ j. get_or rows j other) same ∙ get_or_default rows n other row short ∙ sym is in
+        here y m (subst (λ (z : TokenRow Spot). IsRowOf f z y m) one of) fast)
+    | inr apart ↦ elim apart [
+      | inl below ↦ (let (token, on, so) = first k other below at y m of fast in (token, more token on, so))
+      | inr above ↦ absurd (omega (arith, less, above))
+    ]
+  ]
+
+  pub found_whole : (n : ℕ) (tokens : List FastToken) → n ≡ length rows → FoundFirst f loose rows n tokens → HaveFast f loose class tokens
+  found_whole n tokens whole first y m here of fast =
+      let row : TokenRow Spot = record { spot = Node y; end = option_map Declared m.end; fact = m.what; class = class } in
+      let made : token_row y m ≡ Some row = ap (λ (o : Option (List ℕ)). option_map (λ c. record { spot = Node y; end = option_map Declared m.end; fact = m.what; class = c }) o) of in
+      let (k, less, is) = are.all y m row here made refl in
+      first k row (subst (λ z. k < z) (sym whole) less) (sym is) y m (record { here = here; spot = refl; «end» = refl; fact = refl; class = of }) fast
+
 pub not_some : {X : Type 0} (o : Option X) → is_some o ≡ false → o ≡ None
 not_some None e = refl
 not_some (Some x) e = cc
 
 -- ---- what is spared
 
--- the events at which all loose tokens are spared
-pub all_spared : (nets : Nets) (f : Forest) (fast : List Bool) (shifts : List Shift) (x : ℕ) (event : Place) → IsPlaceOf f x event → is_in fast event.base ≡ true
-    → ((shift : Shift) → Contains shifts shift → IsSparedBy nets.committed shift.place shift.before.items event × IsSparedBy nets.present shift.place shift.after.items event)
-    → (class : List ℕ) → AreShifts nets f (is_out fast) class shifts → SparesClass nets f (is_out fast) class x
-all_spared nets f fast shifts x event at in_fast spared class are = record {
+-- the events at which all loose tokens are spared, or bear on no fact that the rule reads
+pub all_spared : (nets : Nets) (f : Forest) (fast : List Bool) (shifts : List Shift) (s : Standing) (r : List ℕ) (x : ℕ) (event : Place) → IsPlaceOf f x event → is_in fast event.base ≡ true
+    → ((shift : Shift) → Contains shifts shift → (IsSparedBy nets.committed shift.place shift.before.items event × IsSparedBy nets.present shift.place shift.after.items event) ⊎ ReadsNone s r shift.facts.items)
+    → (class : List ℕ) → AreShifts nets f (is_out fast) class shifts → SparesClass nets f (is_out fast) class (IsReadBy s r) x
+all_spared nets f fast shifts s r x event at in_fast spared class are = record {
   event = ap (is_out fast) at.base ∙ ap not in_fast;
   each = λ y m here of. elim (are.each y m here of) [
     | inl stands ↦ inl stands
-    | inr (shift, on, is) ↦ inr (
-        let h = spared shift on in (
-          spared_by nets.committed f (is_out fast) class x y m event shift.place at is.place shift.before.items is.before h.0,
-          spared_by nets.present f (is_out fast) class x y m event shift.place at is.place shift.after.items is.after h.1,
-        ))
+    | inr (shift, on, is) ↦ inr (elim (spared shift on) [
+      | inl h ↦ (
+        inl (spared_by nets.committed f (is_out fast) class x y m event shift.place at is.place shift.before.items is.before h.0),
+        inl (spared_by nets.present f (is_out fast) class x y m event shift.place at is.place shift.after.items is.after h.1),
+      )
+      | inr none ↦ (
+        inr (idle_by nets.committed f (is_out fast) class s r y m shift.facts.items is.own is.bore none),
+        inr (idle_by nets.present f (is_out fast) class s r y m shift.facts.items is.own is.bears none),
+      )
+    ])
   ];
 }

@@ -3,6 +3,7 @@ use Rattle.std.proofs.Common.{◌≡◌, ◌∙◌, ℕ, true, false, ◌+◌, �
 use Rattle.std.proofs.lemmas.Bool.{cases_order, cases_Bool}
 use Rattle.std.proofs.lemmas.Bool.Decides.{eqb_tells}
 use Rattle.std.specs.Prelude.{IsSome, is_some, OnOk}
+use Rattle.tmm_model.specs.Standing.{Standing}
 use Rattle.row_links.specs.Lists.{IsOn}
 use Rattle.row_links.proofs.Lists.{IsOn-first, IsOn-append_left, IsOn-append_right, IsOn-append_cases}
 use Rattle.undo_rows.specs.declared.row.Row.{Row as TableRow}
@@ -13,7 +14,7 @@ use Rattle.occ_tree.specs.Standing.{State, forest, early}
 use Rattle.joined.specs.Listed.{IsListedUnder}
 use Rattle.belief_net.specs.declared.fast.Moves.{Moves}
 use Rattle.belief_net.specs.declared.state.Decisions.{Decisions}
-use Rattle.belief_net.specs.Decided.{table_of}
+use Rattle.belief_net.specs.Decided.{table_of, rule_in}
 use Rattle.belief_net.specs.Marks.{Marks, Wakes, WakesOf}
 use Rattle.belief_net.specs.Numbers.{name_in}
 use Rattle.belief_net.specs.Waiting.{Dates, Puts}
@@ -56,38 +57,38 @@ module _ (s : State) (t : Table Pair 8) where
 
   -- ---- at events of two kinds
 
-  module _ (M R : ℕ → Type 0) where
+  module _ (M : ℕ → Type 0) (R : TableRow Pair 8 → Type 0) where
     pub for_none : (are : ℕ → Type 0) (dates : Dates) → ((i : ℕ) → are i → ⊥) → WakesOf s t M R are dates dates
     for_none are dates none =
-        wakes_none (λ i row. are i × M row.value.trigger) (λ i row. are i → R row.value.trigger) dates
+        wakes_none (λ i row. are i × M row.value.trigger) (λ i row. are i → R row) dates
         (λ i row at. inr (λ on. absurd (none i on)))
 
     pub for_both : (p q r : ℕ → Type 0) (old mid new : Dates) → ((i : ℕ) → r i → p i ⊎ q i) → ((i : ℕ) → p i → r i) → ((i : ℕ) → q i → r i)
         → WakesOf s t M R p old mid → WakesOf s t M R q mid new → WakesOf s t M R r old new
     for_both p q r old mid new apart from_p from_q =
-        wakes_both (λ i row. p i × M row.value.trigger) (λ i row. p i → R row.value.trigger)
-        (λ i row. q i × M row.value.trigger) (λ i row. q i → R row.value.trigger)
-        (λ i row. r i × M row.value.trigger) (λ i row. r i → R row.value.trigger) old mid new
+        wakes_both (λ i row. p i × M row.value.trigger) (λ i row. p i → R row)
+        (λ i row. q i × M row.value.trigger) (λ i row. q i → R row)
+        (λ i row. r i × M row.value.trigger) (λ i row. r i → R row) old mid new
         (λ i row at h. (from_p i h.0, h.1)) (λ i row at h. (from_q i h.0, h.1))
         (λ i row at first then_ on. elim (apart i on) [ inl here ↦ first here | inr here ↦ then_ here ])
 
     -- a row that waited
     pub waited_on : (i : ℕ) (dates : Dates) → is_some (dates i) ≡ true → WakesOf s t M R (λ j. j ≡ i) dates dates
     waited_on i dates waits =
-        wakes_none (λ j row. (j ≡ i) × M row.value.trigger) (λ j row. j ≡ i → R row.value.trigger) dates
+        wakes_none (λ j row. (j ≡ i) × M row.value.trigger) (λ j row. j ≡ i → R row) dates
         (λ j row at. elim (eqb_tells j i) [
           | inl same ↦ inl (ap (λ k. is_some (dates k)) same.1 ∙ waits)
           | inr other ↦ inr (λ same. absurd (other.1 same))
         ])
 
     -- a row that may rest
-    pub rested : (i : ℕ) (row : TableRow Pair 8) (dates : Dates) → t.row i ≡ Some row → R row.value.trigger → WakesOf s t M R (λ j. j ≡ i) dates dates
+    pub rested : (i : ℕ) (row : TableRow Pair 8) (dates : Dates) → t.row i ≡ Some row → R row → WakesOf s t M R (λ j. j ≡ i) dates dates
     rested i row dates here rests =
-        wakes_none (λ j row. (j ≡ i) × M row.value.trigger) (λ j row. j ≡ i → R row.value.trigger) dates
+        wakes_none (λ j row. (j ≡ i) × M row.value.trigger) (λ j row. j ≡ i → R row) dates
         (λ j other at. inr (λ same.
         (let both : Some row ≡ Some other = sym here ∙ ap t.row (sym same) ∙ at in
         let one : row ≡ other = cc in
-        subst (λ (z : TableRow Pair 8). R z.value.trigger) one rests)))
+        subst R one rests)))
 
     -- a row that may not
     pub woken : (i : ℕ) (row : TableRow Pair 8) (old new : Dates) → t.row i ≡ Some row → M row.value.trigger
@@ -140,28 +141,28 @@ module _ (s : State) (t : Table Pair 8) where
     -- the lists of all six families have been looked at
     pub under_all : (n k : ℕ) (old new : Dates) → n ≡ 6 → WakesOf s t M R (UnderFirst n k) old new → WakesOf s t M R (IsListedUnder t k) old new
     under_all n k old new whole =
-        wakes_alike (λ i row. UnderFirst n k i × M row.value.trigger) (λ i row. UnderFirst n k i → R row.value.trigger)
-        (λ i row. IsListedUnder t k i × M row.value.trigger) (λ i row. IsListedUnder t k i → R row.value.trigger) old new
+        wakes_alike (λ i row. UnderFirst n k i × M row.value.trigger) (λ i row. UnderFirst n k i → R row)
+        (λ i row. IsListedUnder t k i × M row.value.trigger) (λ i row. IsListedUnder t k i → R row) old new
         (λ i row at h. (let less = h.0.1 in ((h.0.0, omega (arith, less, whole), h.0.2), h.1)))
         (λ i row at rests (a, less, on). rests (a, omega (arith, less, whole), on))
 
 -- ---- by classes, one after the other
 
-module _ (s : State) (nets : Nets) (moves : Moves) (d : Decisions) where
-  pub classes_none : (dates : Dates) → WakesForAll s nets moves d 0 dates dates
-  classes_none dates = wakes_none s (table_of d) (MovesForSome s moves d) (RestsForFirst s nets moves d 0) dates (λ i row at. inr (λ k less. absurd (omega (arith, less))))
+module _ (s : State) (list : Standing) (nets : Nets) (moves : Moves) (d : Decisions) where
+  pub classes_none : (dates : Dates) → WakesForAll s list nets moves d 0 dates dates
+  classes_none dates = wakes_none s (table_of d) (MovesForSome s moves d) (RestsForFirst s list nets moves d 0) dates (λ i row at. inr (λ k less. absurd (omega (arith, less))))
 
-  pub classes_next : (n : ℕ) (old mid new : Dates) → n < length d.classes → WakesForAll s nets moves d n old mid
-      → WakesFor s (table_of d) nets moves (name_in d.classes n) (IsListedUnder (table_of d) n) mid new → WakesForAll s nets moves d (n + 1) old new
+  pub classes_next : (n : ℕ) (old mid new : Dates) → n < length d.classes → WakesForAll s list nets moves d n old mid
+      → WakesFor s (table_of d) list d.rules nets moves (name_in d.classes n) (IsListedUnder (table_of d) n) mid new → WakesForAll s list nets moves d (n + 1) old new
   classes_next n old mid new short =
-      wakes_both s (table_of d) (MovesForSome s moves d) (RestsForFirst s nets moves d n)
+      wakes_both s (table_of d) (MovesForSome s moves d) (RestsForFirst s list nets moves d n)
       (λ i row. IsListedUnder (table_of d) n i × MovesFor moves (forest s) (name_in d.classes n) row.value.trigger)
-      (λ i row. IsListedUnder (table_of d) n i → RestsFor nets moves (forest s) (name_in d.classes n) row.value.trigger)
-      (MovesForSome s moves d) (RestsForFirst s nets moves d (n + 1)) old mid new
+      (λ i row. IsListedUnder (table_of d) n i → RestsFor nets moves list (forest s) (name_in d.classes n) (rule_in d row) row.value.trigger)
+      (MovesForSome s moves d) (RestsForFirst s list nets moves d (n + 1)) old mid new
       (λ i row at m. m)
       (λ i row at m. (n, short, m.0, m.1))
       (λ i row at first last k less on. elim (cases_order k n) [
-        | inl same ↦ subst (λ z. RestsFor nets moves (forest s) (name_in d.classes z) row.value.trigger) (sym same) (last (subst (λ z. IsListedUnder (table_of d) z i) same on))
+        | inl same ↦ subst (λ z. RestsFor nets moves list (forest s) (name_in d.classes z) (rule_in d row) row.value.trigger) (sym same) (last (subst (λ z. IsListedUnder (table_of d) z i) same on))
         | inr other ↦ elim other [ inl below ↦ first k below on | inr above ↦ absurd (omega (arith, less, above)) ]
       ])
 

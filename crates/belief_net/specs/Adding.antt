@@ -57,7 +57,7 @@ pub record MarksFacts (s : Standing) (st : State) (facts : List (List ℕ)) (old
 -- all rows have been looked at that read the class of a token that left: of these those that do not
 -- wait are at events at which it bore on no decision
 abbrev pub WakesGone : State → Table Pair 8 → Net → Gone → (ℕ → Type 0) → Dates → Dates → Type 0
-WakesGone s t net gone = WakesOf s t (λ x. Unit {0}) (BoreNot net (forest_of s) gone)
+WakesGone s t net gone = WakesOf s t (λ x. Unit {0}) (λ row. BoreNot net (forest_of s) gone row.value.trigger)
 
 -- so they have, by the number that its class has now
 pub record MarksGone (net : Net) (s : State) (gone : Gone) (old new : Decisions) : Type 0 where

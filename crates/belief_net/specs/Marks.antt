@@ -37,6 +37,6 @@ pub record Wakes (s : State) (t : Table Pair 8) (P R : ℕ → TableRow Pair 8 �
   pub rests : (i : ℕ) (row : TableRow Pair 8) → t.row i ≡ Some row → (is_some (new i) ≡ true) ⊎ R i row
 
 -- Some rows have been looked at: those that wait newly are at events of the first kind, and others of
--- them are at events of the second.
-abbrev pub WakesOf : State → Table Pair 8 → (ℕ → Type 0) → (ℕ → Type 0) → (ℕ → Type 0) → Dates → Dates → Type 0
-WakesOf s t M R are = Wakes s t (λ i row. are i × M row.value.trigger) (λ i row. are i → R row.value.trigger)
+-- them are of the second.
+abbrev pub WakesOf : State → Table Pair 8 → (ℕ → Type 0) → (TableRow Pair 8 → Type 0) → (ℕ → Type 0) → Dates → Dates → Type 0
+WakesOf s t M R are = Wakes s t (λ i row. are i × M row.value.trigger) (λ i row. are i → R row)

@@ -13,6 +13,7 @@ use Rattle.joined.specs.Shifting.{IsFast}
 use Rattle.belief_net.specs.declared.places.Place.{Place}
 use Rattle.belief_net.specs.declared.shifts.Shift.{Shift}
 use Rattle.belief_net.specs.declared.walls.FastToken.{FastToken}
+use Rattle.belief_net.specs.Bearing.{AreBorne, BearsOnly}
 use Rattle.belief_net.specs.Fast.{IsInBoth}
 use Rattle.belief_net.specs.Places.{IsPlaceOf, TellsWithin}
 use Rattle.belief_net.specs.PointSets.{is_in}
@@ -74,10 +75,13 @@ pub record ShiftHasBoth (nets : Nets) (shift : Shift) : Type 0 where
   pub before : TokensHaveBoth nets shift.before.items
   pub after : TokensHaveBoth nets shift.after.items
 
--- A loose token at a place, with those of the tokens that were behind it at the last commit, and
--- that are; with none if it is a span.
-pub record IsShift (nets : Nets) (place : Place) (end_is : Option Spot) (tokens : List FastToken) (shift : Shift) : Type 0 where
+-- A loose token of the fact at a place, with those of the tokens that were behind it at the last
+-- commit, and that are; with none if it is a span. Its facts are all on which it bore or bears.
+pub record IsShift (nets : Nets) (place : Place) (fact : List ℕ) (end_is : Option Spot) (tokens : List FastToken) (shift : Shift) : Type 0 where
   pub at : shift.place ≡ place
+  pub own : Contains shift.facts.items fact
+  pub bore : AreBorne nets.committed place tokens shift.facts.items
+  pub bears : AreBorne nets.present place tokens shift.facts.items
   pub before : AreBehind nets.committed place tokens shift.before.items
   pub after : AreBehind nets.present place tokens shift.after.items
   pub spans : (end_is ≡ None) ⊎ ((shift.before.items ≡ []) × (shift.after.items ≡ []))
@@ -88,9 +92,12 @@ pub record IsBehindNode (net : Net) (f : Forest) (loose : ℕ → Bool) (class :
   pub after : is_before (spot_distance net f) (Node y) (Node token.node) ≡ true
   pub no_span : m.end ≡ None
 
--- it is the token of node y, with fast tokens of the class behind it
+-- it is the token of node y, with fast tokens of the class behind it, and bears on its facts alone
 pub record IsShiftOf (nets : Nets) (f : Forest) (loose : ℕ → Bool) (class : List ℕ) (y : ℕ) (m : Member) (shift : Shift) : Type 0 where
   pub place : IsPlaceOf f y shift.place
+  pub own : Contains shift.facts.items m.what
+  pub bore : BearsOnly nets.committed f loose class y shift.facts.items
+  pub bears : BearsOnly nets.present f loose class y shift.facts.items
   pub before : All (IsBehindNode nets.committed f loose class y m) shift.before.items
   pub after : All (IsBehindNode nets.present f loose class y m) shift.after.items
 

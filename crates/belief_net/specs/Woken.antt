@@ -15,7 +15,7 @@ use Rattle.decision_rows.specs.declared.row.Pair.{Pair}
 use Rattle.occ_tree.specs.Standing.{State, forest}
 use Rattle.joined.specs.Gaps.{IsReadSpot, MovesAt}
 use Rattle.joined.specs.Listed.{IsListedUnder}
-use Rattle.joined.specs.Shifting.{IsSpotOf, MovesAmong, AreLoose, SparesClass, MayRest}
+use Rattle.joined.specs.Shifting.{IsSpotOf, MovesAmong, AreLoose, SparesClass, IsReadBy, MayRest}
 use Rattle.belief_net.specs.declared.fast.Moves.{Moves}
 use Rattle.belief_net.specs.declared.state.Decisions.{Decisions}
 use Rattle.belief_net.specs.declared.woken.ClassMoves.{ClassMoves}
@@ -45,10 +45,10 @@ pub record TellMoves (nets : Nets) (moves : Moves) : Type 0 where
 abbrev pub MovesFor : Moves → Forest → List ℕ → ℕ → Type 0
 MovesFor moves f class x = MovesAmong (has_pair moves.pairs.items) f (IsSpotOf f class) x
 
--- a decision at the event of node x may rest, as far as it reads the class: none moved, or what
--- moved is spared
-abbrev pub RestsFor : Nets → Moves → Forest → List ℕ → ℕ → Type 0
-RestsFor nets moves f class x = (MovesFor moves f class x → ⊥) ⊎ SparesClass nets f (is_out moves.fast.items) class x
+-- the decision of the rule at the event of node x may rest, as far as it reads the class: none moved,
+-- or what moved is spared
+abbrev pub RestsFor : Nets → Moves → Standing → Forest → List ℕ → List ℕ → ℕ → Type 0
+RestsFor nets moves s f class r x = (MovesFor moves f class x → ⊥) ⊎ SparesClass nets f (is_out moves.fast.items) class (IsReadBy s r) x
 
 -- what moved, as far as a class goes: the events at which something did, and the loose tokens, if
 -- they are told
@@ -58,8 +58,12 @@ pub record AreMovesOf (nets : Nets) (moves : Moves) (s : State) (m : ClassMoves)
 
 -- some rows have been looked at: of these those that wait newly are at events for which points
 -- moved, and others may rest
-abbrev pub WakesFor : State → Table Pair 8 → Nets → Moves → List ℕ → (ℕ → Type 0) → Dates → Dates → Type 0
-WakesFor s t nets moves class = WakesOf s t (MovesFor moves (forest s) class) (RestsFor nets moves (forest s) class)
+abbrev pub WakesFor : State → Table Pair 8 → Standing → List (List ℕ) → Nets → Moves → List ℕ → (ℕ → Type 0) → Dates → Dates → Type 0
+WakesFor s t list rules nets moves class = WakesOf s t (MovesFor moves (forest s) class) (λ row. RestsFor nets moves list (forest s) class (name_in rules row.value.rule) row.value.trigger)
+
+-- the rule of each row has a name
+abbrev pub HaveNames : Table Pair 8 → List (List ℕ) → Type 0
+HaveNames t rules = (i : ℕ) (row : TableRow Pair 8) → t.row i ≡ Some row → row.value.rule < length rules
 
 -- ---- all rows
 
@@ -68,16 +72,16 @@ abbrev pub MovesFrom : Moves → Forest → ℕ → Type 0
 MovesFrom moves f x = MovesAmong (has_pair moves.pairs.items) f (λ p. p ≡ Declared 0) x
 
 -- the row may rest as far as it reads the first n classes
-abbrev pub RestsForFirst : State → Nets → Moves → Decisions → ℕ → ℕ → TableRow Pair 8 → Type 0
-RestsForFirst s nets moves d n i row = (k : ℕ) → k < n → IsListedUnder (table_of d) k i → RestsFor nets moves (forest s) (name_in d.classes k) row.value.trigger
+abbrev pub RestsForFirst : State → Standing → Nets → Moves → Decisions → ℕ → ℕ → TableRow Pair 8 → Type 0
+RestsForFirst s list nets moves d n i row = (k : ℕ) → k < n → IsListedUnder (table_of d) k i → RestsFor nets moves list (forest s) (name_in d.classes k) (rule_in d row) row.value.trigger
 
 -- points moved for what reads some class of the row
 abbrev pub MovesForSome : State → Moves → Decisions → ℕ → TableRow Pair 8 → Type 0
 MovesForSome s moves d i row = (k : ℕ) × (k < length d.classes) × IsListedUnder (table_of d) k i × MovesFor moves (forest s) (name_in d.classes k) row.value.trigger
 
 -- all rows have been looked at that read one of the first n classes
-abbrev pub WakesForAll : State → Nets → Moves → Decisions → ℕ → Dates → Dates → Type 0
-WakesForAll s nets moves d n = Wakes s (table_of d) (MovesForSome s moves d) (RestsForFirst s nets moves d n)
+abbrev pub WakesForAll : State → Standing → Nets → Moves → Decisions → ℕ → Dates → Dates → Type 0
+WakesForAll s list nets moves d n = Wakes s (table_of d) (MovesForSome s moves d) (RestsForFirst s list nets moves d n)
 
 -- `start` did not move, and all rows wait whose events begin at a point that moved
 pub record AreAwake (nets : Nets) (f : Forest) (t : Table Pair 8) (dates : Dates) : Type 0 where

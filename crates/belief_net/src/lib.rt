@@ -4,6 +4,7 @@
 
 mod alike_laws;
 mod beginning_laws;
+mod bearing;
 mod by_event;
 mod contradicted;
 mod dates;

@@ -11,7 +11,7 @@ ghost use Rattle.belief_net.specs.MovedPairs.{WereThere};
 ghost use Rattle.belief_net.specs.Reach.{AreBelow256};
 ghost use Rattle.belief_net.specs.Touching.{IsRowMoved};
 ghost use Rattle.belief_net.specs.Waiting.{dates_in};
-ghost use Rattle.belief_net.specs.Woken.{TellMoves, AreAwake, WakesForAll, IsRowAtRest};
+ghost use Rattle.belief_net.specs.Woken.{TellMoves, HaveNames, AreAwake, WakesForAll, IsRowAtRest};
 
 use crate::fast::{Moves, moves_of};
 use crate::moved_events::wake_moved_events;
@@ -67,7 +67,9 @@ pub(crate) fn mark_moved(
         touched.nodes.as_slice(),
     )?;
     let classes = touched.classes.as_slice();
-    wake_classes(alloc, net, tree, decisions, &moves, classes, awake)?;
+    wake_classes(
+        alloc, standing, net, tree, decisions, &moves, classes, awake,
+    )?;
     wake_rivalled(alloc, standing, net, tree, decisions, &moves)?;
     Ok(())
 }
@@ -76,6 +78,7 @@ pub(crate) fn mark_moved(
 // untouched, and where it is said that the rows of events that moved wait, they do.
 fn wake_classes(
     alloc: Global,
+    standing: &Standing,
     net: &DistNet,
     tree: &Tree,
     decisions: &mut Decisions,
@@ -86,9 +89,10 @@ fn wake_classes(
     requires below { AreBelow256 (forest tree.now) }
     requires moves { TellMoves net.now moves.now }
     requires events { HaveEvents tree.now (table_of decisions.old) }
+    requires named { HaveNames (table_of decisions.old) decisions.old.rules }
     requires untouched { (class : List ℕ) → (Contains touched.now class → ⊥) → IsUntouched net.now tree.now class }
     requires awake { awake ≡ true → AreAwake net.now (forest tree.now) (table_of decisions.old) (dates_in decisions.old.waiting) }
-    ensures ok { OnOk result (WakesForAll (present tree.now) net.now moves.now decisions.old (length decisions.old.classes) (dates_in decisions.old.waiting) (dates_in decisions.new.waiting)) }
+    ensures ok { OnOk result (WakesForAll (present tree.now) standing.now.present net.now moves.now decisions.old (length decisions.old.classes) (dates_in decisions.old.waiting) (dates_in decisions.new.waiting)) }
     ensures others { decisions.new ≡ record decisions.old { waiting = decisions.new.waiting } }
 {
     let points = points_of_pairs(alloc, &moves.pairs, net.moved())?;
@@ -96,8 +100,10 @@ fn wake_classes(
         let name = decisions.classes.name(class);
         wake_touched(
             alloc,
+            standing,
             net,
             tree,
+            &decisions.rules,
             &decisions.rows,
             &mut decisions.waiting,
             moves,

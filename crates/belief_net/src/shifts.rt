@@ -1,23 +1,28 @@
 // Tokens that are loose, with fast tokens behind them, and where they bear on no decision.
-ghost use Rattle.std.specs.Prelude.{◌≡◌, ◌<◌, ℕ, List, true, IfOk, OnOk, IfSome, length};
-ghost use Rattle.std.specs.List.{All};
+ghost use Rattle.std.specs.Prelude.{◌≡◌, ◌<◌, ◌⊎◌, ℕ, List, true, false, IfOk, OnOk, IfSome, length};
+ghost use Rattle.std.specs.List.{All, Contains};
 ghost use Rattle.spots.specs.Forest.{Member, IsLive};
 ghost use Rattle.spots.proofs.Rows.{IsRowOf};
 ghost use Rattle.occ_tree.specs.Places.{forest};
-ghost use Rattle.joined.specs.Shifting.{IsSpotOf, SparesClass};
+ghost use Rattle.joined.specs.Shifting.{IsFast, IsReadBy, IsSpotOf, SparesClass};
+ghost use Rattle.belief_net.specs.declared.walls.FastToken.{FastToken};
+ghost use Rattle.belief_net.specs.Bearing.{HaveFast, IsTokenOf, ReadsNone};
 ghost use Rattle.belief_net.specs.Fast.{IsInBoth, AreInBoth, is_out};
 ghost use Rattle.belief_net.specs.Places.{IsPlaceOf};
 ghost use Rattle.belief_net.specs.PointSets.{is_in, AreThose};
 ghost use Rattle.belief_net.specs.Reach.{IsBaseOf};
 ghost use Rattle.belief_net.specs.Shifts.{stands_fast, IsFastToken, IsSparedBy, TokensHaveBoth, ShiftHasBoth, IsShift, AreShifts, NotesRow};
 
+use crate::bearing::facts_borne;
 use crate::fast::Moves;
 use crate::lists::push;
 use crate::places::{Place, is_not_within, place_of};
 use crate::point_sets::is_in;
 use crate::walls::{FastToken, LIMIT, are_walls, tokens_behind};
+use crate::watched::read_of;
 use dist_net::{DistNet, POINTS};
 use occ_tree::Tree;
+use premise_list::Standing;
 use spots::Spot;
 use std::alloc::Global;
 use tmm_model::{Name, NoMemory, TokenRow};
@@ -32,6 +37,8 @@ pub(crate) struct Shift {
     pub before: Vec<FastToken>,
     /// Those that surely begin after it now.
     pub after: Vec<FastToken>,
+    /// The facts on which it may have borne or may bear.
+    pub facts: Vec<Name>,
 }
 
 // The loose tokens of a class; none where they are too many, or one of them is new.
@@ -82,7 +89,8 @@ fn fast_tokens(
     fast: &[bool],
     class: &Name,
 ) -> Result<Vec<FastToken>, NoMemory>
-    ensures { IfOk result (λ tokens. All (IsFastToken (forest tree.now) (is_out fast.now) class.now) tokens.items) }
+    ensures own { IfOk result (λ tokens. All (IsFastToken (forest tree.now) (is_out fast.now) class.now) tokens.items) }
+    ensures all { IfOk result (λ tokens. HaveFast (forest tree.now) (is_out fast.now) class.now tokens.items) }
 {
     let rows = tree.tokens(class);
     let mut tokens = Vec::new(alloc);
@@ -100,7 +108,9 @@ fn note_fast(
     tokens: &mut Vec<FastToken>,
 ) -> Result<(), NoMemory>
     requires row { (x : ℕ) × (m : Member) × IsRowOf (forest tree.now) row.now x m }
-    ensures { OnOk result (All (IsFastToken (forest tree.now) (is_out fast.now) row.now.class) tokens.old.items → All (IsFastToken (forest tree.now) (is_out fast.now) row.now.class) tokens.new.items) }
+    ensures own { OnOk result (All (IsFastToken (forest tree.now) (is_out fast.now) row.now.class) tokens.old.items → All (IsFastToken (forest tree.now) (is_out fast.now) row.now.class) tokens.new.items) }
+    ensures more { OnOk result ((token : FastToken) → Contains tokens.old.items token → Contains tokens.new.items token) }
+    ensures all { OnOk result ((x : ℕ) (m : Member) → IsRowOf (forest tree.now) row.now x m → IsFast (is_out fast.now) m → (token : FastToken) × Contains tokens.new.items token × IsTokenOf (forest tree.now) x m token) }
 {
     let place = place_at(tree, row.spot);
     if !stands_fast(fast, &place, row.end) {
@@ -150,6 +160,7 @@ fn note_row(
     requires fast { AreInBoth net.now moves.now.fast.items }
     requires row { (x : ℕ) × (m : Member) × IsRowOf (forest tree.now) row.now x m }
     requires tokens { All (IsFastToken (forest tree.now) (is_out moves.now.fast.items) row.now.class) tokens.now }
+    requires all { HaveFast (forest tree.now) (is_out moves.now.fast.items) row.now.class tokens.now }
     ensures { IfOk result (λ more. more ≡ true → NotesRow net.now (forest tree.now) (is_out moves.now.fast.items) row.now shifts.old.items shifts.new.items) }
 {
     let place = place_at(tree, row.spot);
@@ -162,7 +173,7 @@ fn note_row(
     if !is_in(&moves.kept, place.base) {
         return Ok(false);
     }
-    let shift = shift_of(alloc, net, place, row.end, tokens)?;
+    let shift = shift_of(alloc, net, place, row.fact, row.end, tokens)?;
     push(shifts, shift)?;
     Ok(true)
 }
@@ -172,18 +183,21 @@ fn shift_of(
     alloc: Global,
     net: &DistNet,
     place: Place,
+    fact: Name,
     end: Option<Spot>,
     tokens: &[FastToken],
 ) -> Result<Shift, NoMemory>
     requires place { IsInBoth net.now place.base }
     requires tokens { TokensHaveBoth net.now tokens.now }
-    ensures { IfOk result (λ shift. IsShift net.now place end tokens.now shift) }
+    ensures { IfOk result (λ shift. IsShift net.now place fact end tokens.now shift) }
 {
+    let facts = facts_borne(alloc, net, tokens, &place, fact)?;
     if end.is_some() {
         return Ok(Shift {
             place,
             before: Vec::new(alloc),
             after: Vec::new(alloc),
+            facts,
         });
     }
     let before = tokens_behind(alloc, net, true, tokens, &place)?;
@@ -192,26 +206,68 @@ fn shift_of(
         place,
         before,
         after,
+        facts,
     })
 }
 
-// Whether all loose tokens of a class bear on no decision at the event of a node, before and after.
-pub(crate) fn spares(net: &DistNet, tree: &Tree, fast: &[bool], shifts: &[Shift], x: u32) -> bool
+// Whether no loose token of a class bears on the decision of a rule at the event of a node, before
+// and after.
+pub(crate) fn spares(
+    standing: &Standing,
+    net: &DistNet,
+    tree: &Tree,
+    fast: &[bool],
+    shifts: &[Shift],
+    x: u32,
+    rule: Name,
+) -> bool
     requires fast { AreInBoth net.now fast.now }
     requires shifts { All (ShiftHasBoth net.now) shifts.now }
     requires node { IsLive (forest tree.now) x }
-    ensures { result ≡ true → (class : List ℕ) → AreShifts net.now (forest tree.now) (is_out fast.now) class shifts.now → SparesClass net.now (forest tree.now) (is_out fast.now) class x }
+    ensures { result ≡ true → (class : List ℕ) → AreShifts net.now (forest tree.now) (is_out fast.now) class shifts.now → SparesClass net.now (forest tree.now) (is_out fast.now) class (IsReadBy standing.now.present rule) x }
 {
     let event = place_of(tree, x);
     if !is_in(fast, event.base) {
         return false;
     }
     for i in 0..shifts.len() {
-        if !is_spared(net, &shifts[i], &event) {
+        if !is_aside(standing, net, &shifts[i], &event, rule) {
             return false;
         }
     }
     true
+}
+
+// Whether a loose token does not bear on the decision of a rule at the event at a place: on none
+// there, or on no fact that the rule reads.
+fn is_aside(
+    standing: &Standing,
+    net: &DistNet,
+    shift: &Shift,
+    event: &Place,
+    rule: Name,
+) -> bool
+    requires shift { ShiftHasBoth net.now shift.now }
+    requires event { IsInBoth net.now event.now.base }
+    ensures { result ≡ true → (IsSparedBy net.now.committed shift.now.place shift.now.before.items event.now × IsSparedBy net.now.present shift.now.place shift.now.after.items event.now) ⊎ ReadsNone standing.now.present rule shift.now.facts.items }
+{
+    if is_spared(net, shift, event) {
+        return true;
+    }
+    !reads_one(standing, rule, &shift.facts)
+}
+
+// Whether a rule reads one of these facts.
+fn reads_one(standing: &Standing, rule: Name, facts: &[Name]) -> bool
+    ensures { result ≡ false → ReadsNone standing.now.present rule facts.now }
+{
+    let read = read_of(standing, rule);
+    for i in 0..facts.len() {
+        if read.as_slice().contains(&facts[i]) {
+            return true;
+        }
+    }
+    false
 }
 
 // Whether a loose token bears on no decision at the event at a place, before and after.

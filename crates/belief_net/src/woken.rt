@@ -1,5 +1,5 @@
 // Rows that wait since points moved, by the classes that they read.
-ghost use Rattle.std.specs.Prelude.{◌≡◌, ℕ, List, true, false, IsSome, IfOk, OnOk};
+ghost use Rattle.std.specs.Prelude.{◌≡◌, ◌<◌, ℕ, List, length, true, false, IsSome, IfOk, OnOk};
 ghost use Rattle.std.specs.List.{Contains};
 ghost use Rattle.row_links.specs.Lists.{IsOn};
 ghost use Rattle.spots.specs.Forest.{IsLive};
@@ -8,16 +8,18 @@ ghost use Rattle.occ_tree.specs.Standing.{present};
 ghost use Rattle.occ_tree.specs.Touched.{IsUntouched};
 ghost use Rattle.undo_rows.specs.Changes.{present as table};
 ghost use Rattle.joined.specs.Listed.{IsListedUnder};
-ghost use Rattle.joined.specs.Shifting.{SparesClass};
+ghost use Rattle.joined.specs.Shifting.{IsReadBy, SparesClass};
 ghost use Rattle.belief_net.specs.Fast.{is_out};
 ghost use Rattle.belief_net.specs.Marks.{HaveEvents};
+ghost use Rattle.belief_net.specs.Numbers.{name_in};
 ghost use Rattle.belief_net.specs.PointSets.{HaveBothIn};
 ghost use Rattle.belief_net.specs.Reach.{AreBelow256};
 ghost use Rattle.belief_net.specs.Waiting.{dates_in};
-ghost use Rattle.belief_net.specs.Woken.{TellMoves, MovesFor, RestsFor, AreMovesOf, AreAwake, WakesFor};
+ghost use Rattle.belief_net.specs.Woken.{TellMoves, HaveNames, MovesFor, RestsFor, AreMovesOf, AreAwake, WakesFor};
 
 use crate::by_event::Events;
 use crate::fast::Moves;
+use crate::numbers::Numbers;
 use crate::reach::{is_class_at, reach_of};
 use crate::shifts::{Shift, shifts_of, spares};
 use crate::touching::touched_by;
@@ -25,6 +27,7 @@ use crate::waiting::Waiting;
 use decision_rows::Rows;
 use dist_net::DistNet;
 use occ_tree::Tree;
+use premise_list::Standing;
 use std::alloc::Global;
 use tmm_model::{Name, NoMemory};
 
@@ -45,8 +48,10 @@ pub(crate) struct ClassMoves {
 // points.
 pub(crate) fn wake_touched(
     alloc: Global,
+    standing: &Standing,
     net: &DistNet,
     tree: &Tree,
+    rules: &Numbers,
     rows: &Rows,
     waiting: &mut Waiting,
     moves: &Moves,
@@ -57,12 +62,13 @@ pub(crate) fn wake_touched(
     points: &[bool],
 ) -> Result<(), NoMemory>
     requires events { HaveEvents tree.now (table rows.now) }
+    requires named { HaveNames (table rows.now) rules.now }
     requires below { AreBelow256 (forest tree.now) }
     requires moves { TellMoves net.now moves.now }
     requires untouched { (other : List ℕ) → (Contains touched.now other → ⊥) → IsUntouched net.now tree.now other }
     requires awake { awake ≡ true → AreAwake net.now (forest tree.now) (table rows.now) (dates_in waiting.old) }
     requires points { HaveBothIn moves.now.pairs.items points.now }
-    ensures { OnOk result (WakesFor (present tree.now) (table rows.now) net.now moves.now class (IsListedUnder (table rows.now) number) (dates_in waiting.old) (dates_in waiting.new)) }
+    ensures { OnOk result (WakesFor (present tree.now) (table rows.now) standing.now.present rules.now net.now moves.now class (IsListedUnder (table rows.now) number) (dates_in waiting.old) (dates_in waiting.new)) }
 {
     if awake && !touched.contains(&class) {
         return Ok(());
@@ -70,14 +76,18 @@ pub(crate) fn wake_touched(
     if !is_class_at(tree, &class, points) {
         return Ok(());
     }
-    wake_class(alloc, net, tree, rows, waiting, moves, number, class)
+    wake_class(
+        alloc, standing, net, tree, rules, rows, waiting, moves, number, class,
+    )
 }
 
 // Lets those rows wait that read a class, by its number, and may not rest.
 fn wake_class(
     alloc: Global,
+    standing: &Standing,
     net: &DistNet,
     tree: &Tree,
+    rules: &Numbers,
     rows: &Rows,
     waiting: &mut Waiting,
     moves: &Moves,
@@ -85,16 +95,19 @@ fn wake_class(
     class: Name,
 ) -> Result<(), NoMemory>
     requires events { HaveEvents tree.now (table rows.now) }
+    requires named { HaveNames (table rows.now) rules.now }
     requires below { AreBelow256 (forest tree.now) }
     requires moves { TellMoves net.now moves.now }
-    ensures { OnOk result (WakesFor (present tree.now) (table rows.now) net.now moves.now class (IsListedUnder (table rows.now) number) (dates_in waiting.old) (dates_in waiting.new)) }
+    ensures { OnOk result (WakesFor (present tree.now) (table rows.now) standing.now.present rules.now net.now moves.now class (IsListedUnder (table rows.now) number) (dates_in waiting.old) (dates_in waiting.new)) }
 {
     let of_class = class_moves(alloc, net, tree, moves, class)?;
     // the families of rows by the classes of what they read follow those by trigger and by rule
     for place in 0..6 {
         wake_list(
+            standing,
             net,
             tree,
+            rules,
             rows,
             waiting,
             moves,
@@ -131,8 +144,10 @@ fn class_moves(
 
 // Lets those rows of a list wait that may not rest.
 fn wake_list(
+    standing: &Standing,
     net: &DistNet,
     tree: &Tree,
+    rules: &Numbers,
     rows: &Rows,
     waiting: &mut Waiting,
     moves: &Moves,
@@ -141,13 +156,16 @@ fn wake_list(
     head: u32,
 ) -> Result<(), NoMemory>
     requires events { HaveEvents tree.now (table rows.now) }
+    requires named { HaveNames (table rows.now) rules.now }
     requires moves { TellMoves net.now moves.now }
     requires class { AreMovesOf net.now moves.now (present tree.now) of_class.now }
-    ensures { OnOk result (WakesFor (present tree.now) (table rows.now) net.now moves.now of_class.now.class (IsOn ((table rows.now).list family head)) (dates_in waiting.old) (dates_in waiting.new)) }
+    ensures { OnOk result (WakesFor (present tree.now) (table rows.now) standing.now.present rules.now net.now moves.now of_class.now.class (IsOn ((table rows.now).list family head)) (dates_in waiting.old) (dates_in waiting.new)) }
 {
     let mut next = rows.first(family, head);
     while let Some(i) = next {
-        wake_row(net, tree, rows, waiting, moves, of_class, i)?;
+        wake_row(
+            standing, net, tree, rules, rows, waiting, moves, of_class, i,
+        )?;
         next = rows.next(family, i);
     }
     Ok(())
@@ -155,8 +173,10 @@ fn wake_list(
 
 // Lets a row wait if it may not rest.
 fn wake_row(
+    standing: &Standing,
     net: &DistNet,
     tree: &Tree,
+    rules: &Numbers,
     rows: &Rows,
     waiting: &mut Waiting,
     moves: &Moves,
@@ -164,44 +184,67 @@ fn wake_row(
     i: u32,
 ) -> Result<(), NoMemory>
     requires events { HaveEvents tree.now (table rows.now) }
+    requires named { HaveNames (table rows.now) rules.now }
     requires moves { TellMoves net.now moves.now }
     requires class { AreMovesOf net.now moves.now (present tree.now) of_class.now }
     requires row { IsSome ((table rows.now).row i) }
-    ensures { OnOk result (WakesFor (present tree.now) (table rows.now) net.now moves.now of_class.now.class (λ j. j ≡ i) (dates_in waiting.old) (dates_in waiting.new)) }
+    ensures { OnOk result (WakesFor (present tree.now) (table rows.now) standing.now.present rules.now net.now moves.now of_class.now.class (λ j. j ≡ i) (dates_in waiting.old) (dates_in waiting.new)) }
 {
     if waiting.has(i) {
         return Ok(());
     }
-    let (trigger, _) = rows.pair(i);
-    if may_rest(net, tree, moves, of_class, trigger) {
+    let (trigger, rule) = rows.pair(i);
+    if may_rest(standing, net, tree, rules, moves, of_class, trigger, rule) {
         Ok(())
     } else {
         waiting.push(i, tree.early(trigger))
     }
 }
 
-// Whether decisions that read a class may rest at the event of a node.
-fn may_rest(net: &DistNet, tree: &Tree, moves: &Moves, of_class: &ClassMoves, x: u32) -> bool
+// Whether the decision of a rule, by its number, at the event of a node may rest, as far as it reads
+// a class.
+fn may_rest(
+    standing: &Standing,
+    net: &DistNet,
+    tree: &Tree,
+    rules: &Numbers,
+    moves: &Moves,
+    of_class: &ClassMoves,
+    x: u32,
+    rule: u32,
+) -> bool
     requires node { IsLive (forest tree.now) x }
+    requires rule { rule < length rules.now }
     requires moves { TellMoves net.now moves.now }
     requires class { AreMovesOf net.now moves.now (present tree.now) of_class.now }
-    ensures rests { result ≡ true → RestsFor net.now moves.now (forest tree.now) of_class.now.class x }
+    ensures rests { result ≡ true → RestsFor net.now moves.now standing.now.present (forest tree.now) of_class.now.class (name_in rules.now rule) x }
     ensures waits { result ≡ false → MovesFor moves.now (forest tree.now) of_class.now.class x }
 {
     // most events are none of these, and that is found sooner
-    !of_class.events.has(tree, x) || is_spared(net, tree, moves, of_class, x)
+    if !of_class.events.has(tree, x) {
+        return true;
+    }
+    is_spared(standing, net, tree, moves, of_class, x, rules.name(rule))
 }
 
-// Whether all loose tokens of the class bear on no decision at the event of a node, before and
-// after.
-fn is_spared(net: &DistNet, tree: &Tree, moves: &Moves, of_class: &ClassMoves, x: u32) -> bool
+// Whether no loose token of the class bears on the decision of a rule at the event of a node, before
+// and after.
+fn is_spared(
+    standing: &Standing,
+    net: &DistNet,
+    tree: &Tree,
+    moves: &Moves,
+    of_class: &ClassMoves,
+    x: u32,
+    rule: Name,
+) -> bool
     requires node { IsLive (forest tree.now) x }
     requires moves { TellMoves net.now moves.now }
     requires class { AreMovesOf net.now moves.now (present tree.now) of_class.now }
-    ensures { result ≡ true → SparesClass net.now (forest tree.now) (is_out moves.now.fast.items) of_class.now.class x }
+    ensures { result ≡ true → SparesClass net.now (forest tree.now) (is_out moves.now.fast.items) of_class.now.class (IsReadBy standing.now.present rule) x }
 {
     match &of_class.shifts {
-        Some(shifts) => spares(net, tree, &moves.fast, shifts, x),
+        Some(shifts) => spares(standing, net, tree, &moves.fast, shifts, x, rule),
         None => false,
     }
 }

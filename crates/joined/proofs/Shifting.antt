@@ -1,6 +1,6 @@
 -- Decisions keep their outcomes where what moved of the tokens that they read is spared.
 use Rattle.std.proofs.Common.{◌≡◌, ◌≢◌, ◌∙◌, ℕ, Bool, true, false, not, ◌&&◌, ◌||◌, List, [], ◌∷◌, refl, sym, ap, subst, inl, inr, arith}
-use Rattle.std.proofs.lemmas.Bool.{cases_Bool, not-true}
+use Rattle.std.proofs.lemmas.Bool.{cases_Bool, not-true, or_left}
 use Rattle.std.proofs.lemmas.Int.{ints}
 use Rattle.std.specs.Prelude.{◌⊎◌, ℤ, pos, negsuc, Option, Some, None}
 use Rattle.std.specs.List.{Contains}
@@ -11,14 +11,14 @@ use Rattle.tmm_model.specs.declared.bound.Bound.TheVariants.{Finite, Free}
 use Rattle.tmm_model.specs.declared.point.PointName.TheVariants.{Start}
 use Rattle.tmm_model.specs.declared.premise.Edit.{Edit}
 use Rattle.tmm_model.specs.declared.token.TokenRow.{TokenRow}
-use Rattle.tmm_model.specs.Beliefs.{contradicts_in, rules_at, token_of}
+use Rattle.tmm_model.specs.Beliefs.{are_rivals, contradicts_in, rules_at, token_of}
 use Rattle.tmm_model.specs.Bounds.{bound_at_most}
 use Rattle.tmm_model.specs.Edits.{next_list}
 use Rattle.tmm_model.specs.Maps.{TimeMap, gap, believed_tokens}
-use Rattle.tmm_model.specs.Moments.{Moment, At, read_by, rule_of}
+use Rattle.tmm_model.specs.Moments.{Moment, At, RuleText, read_by, rule_of}
 use Rattle.tmm_model.specs.Points.{same_name}
 use Rattle.tmm_model.specs.Standing.{Standing, points_in}
-use Rattle.tmm_model.specs.Tokens.{of_one_class, is_by, is_before, cuts, lasts_to}
+use Rattle.tmm_model.specs.Tokens.{of_one_class, is_by, is_before, clips, cuts, lasts_to}
 use Rattle.list_theory.proofs.Elements.{In, In-from_Contains, Contains-from_In, In-filter, filter-In, In-filter_map, filter_map-In, both}
 use Rattle.belief_theory.specs.Right.{Occurs}
 use Rattle.belief_theory.specs.Touched.{is_watched, watched}
@@ -36,12 +36,13 @@ use Rattle.spots.proofs.Nodes.{moment_at-is}
 use Rattle.spots.proofs.Seen.{distance_is, start_is}
 use Rattle.revisions.specs.Maps.{watches}
 use Rattle.revisions.specs.Shifts.{IsShifted}
-use Rattle.revisions.specs.Walls.{IsSpared, IsPlain, IsAside, AllOccur}
+use Rattle.revisions.specs.Walls.{has_begun, IsSpared, IsPlain, IsCutBy, IsIdle, IsAside, AllOccur}
 use Rattle.revisions.proofs.Lawful.{text, token_watched, watched_back}
 use Rattle.revisions.proofs.Shifts.{shifts_keep}
 use Rattle.revisions.proofs.Tokens.{tokens_stay}
+use Rattle.revisions.proofs.Walls.{IsTriangular, triangular, by_by}
 use Rattle.joined.specs.Gaps.{reads_class, ReadsNoRival, begin, an_end, start, read, IsSpotAt, TellsMoves}
-use Rattle.joined.specs.Shifting.{IsSpotOf, MovesAmong, AreLoose, IsFast, IsWallAt, IsSparedAt, SparesClass, MayRest, RestingKeep}
+use Rattle.joined.specs.Shifting.{IsSpotOf, MovesAmong, AreLoose, IsFast, IsWallAt, IsWallTo, IsSparedAt, IsIdleAt, IsAsideAt, SparesClass, IsReadBy, MayRest, RestingKeep}
 use Rattle.joined.proofs.Deciding.{not_both}
 use Rattle.joined.proofs.Gaps.{WasThere, distance_was, token, is_read, IsTokenAt, token_at, spot_was, unmoved_same}
 use Rattle.joined.proofs.Reading.{class_watched, watched_plain, none_rival, plain_have}
@@ -217,7 +218,7 @@ module _ (old : Standing) (edit : Edit) (nets : Nets) (moves : ℕ → ℕ → B
   -- ---- of each class nothing moved, or what moved is spared
 
   abbrev Choice : List ℕ → Type 0
-  Choice class = (reads_class new r class ≡ false) ⊎ ((MovesAmong moves f (IsSpotOf f class) x → ⊥) ⊎ SparesClass nets f loose class x)
+  Choice class = (reads_class new r class ≡ false) ⊎ ((MovesAmong moves f (IsSpotOf f class) x → ⊥) ⊎ SparesClass nets f loose class (IsReadBy new r) x)
 
   choice : (class : List ℕ) → Choice class
   choice class = elim (cases_Bool (reads_class new r class)) [ inl reads ↦ inr (rest.each class reads) | inr none ↦ inl none ]
@@ -395,6 +396,10 @@ module _ (old : Standing) (edit : Edit) (nets : Nets) (moves : ℕ → ℕ → B
 
   -- ---- what is spared
 
+  -- those that stay, of the class, are fast
+  abbrev StayFast : List ℕ → Type 0
+  StayFast class = (j : TokenRow Moment) (on : In j stay) → (stays_own j on).token.class ≡ class → IsFast loose (stays_own j on).token.node
+
   module _ (net : Net) (h : TimeMap) (are : (p q : Spot) → SpotWas p → SpotWas q → spot_distance net f p q ≡ gap h (at p) (at q)) where
     -- a node that is spared is a token that is
     spared_at : (y : ℕ) (k : Member) (class : List ℕ) → member f y ≡ Some k → k.class ≡ Some class → (reads : reads_class new r class ≡ true)
@@ -437,23 +442,126 @@ module _ (old : Standing) (edit : Edit) (nets : Nets) (moves : ℕ → ℕ → B
         begun_other : is_by (gap h) (moment_at f w.other) t ≡ true
         begun_other = begun w.other w.second w.second_is
 
+    -- a node that is idle is a token that is, where it has begun
+    idle_at : IsTriangular h → rule_of h.list r ≡ rule_of new r → ((j c : TokenRow Moment) → In j.fact (read_by (rule_of new r)) → contradicts_in h.list j c ≡ true → j.class ≡ c.class)
+        → (y : ℕ) (k : Member) (class : List ℕ) → member f y ≡ Some k → k.class ≡ Some class → (reads : reads_class new r class ≡ true)
+        → ((v : ℕ) (w : Member) → member f v ≡ Some w → w.class ≡ Some class → IsFast loose w → In (the_token v w class) stay)
+        → StayFast class
+        → IsIdleAt net f loose class (IsReadBy new r) y k → has_begun h t (the_token y k class) ≡ true → IsIdle (λ w. In w stay) h t r (the_token y k class)
+    idle_at far same_rule of_class y k class here of reads fast_stays stays_fast idle begun = record {
+      unread = λ read. idle.unread (subst (λ (z : RuleText). In k.what (read_by z)) same_rule read);
+      over = over;
+    }
+      where
+        spot_of : (v : ℕ) (z : Member) → member f v ≡ Some z → z.class ≡ Some class → SpotWas (Node v)
+        spot_of v z there is = was_at (Node v) (inl (read class reads (begin v z there is refl)))
+
+        over : (j : TokenRow Moment) → In j stay → In j.fact (read_by (rule_of h.list r)) → j.end ≡ None → clips (contradicts_in h.list) (gap h) j (the_token y k class) ≡ true
+            → IsCutBy (λ w. In w stay) h t j
+        over j on given no_span clip = subst (IsCutBy (λ w. In w stay) h t) a.is found
+          where
+            a : TokenAt j
+            a = (stays_own j on).token
+
+            fact_read : In j.fact (read_by (rule_of new r))
+            fact_read = subst (λ (z : RuleText). In j.fact (read_by z)) same_rule given
+
+            parts_of : (contradicts_in h.list j (the_token y k class) ≡ true) × (is_before (gap h) j.spot (moment_at f y) ≡ true)
+            parts_of = both (contradicts_in h.list j (the_token y k class)) (is_before (gap h) j.spot (moment_at f y)) clip
+
+            class_is : a.class ≡ class
+            class_is = ap (λ (z : TokenRow Moment). z.class) a.is ∙ of_class j (the_token y k class) fact_read parts_of.0
+
+            of_same : a.node.class ≡ Some class
+            of_same = a.of ∙ ap (λ c. Some c) class_is
+
+            before_y : is_before (gap h) (moment_at f a.number) (moment_at f y) ≡ true
+            before_y = subst (λ (z : TokenRow Moment). is_before (gap h) z.spot (moment_at f y) ≡ true) (sym a.is) parts_of.1
+
+            open_end : (o : Option ℕ) → a.node.end ≡ o → option_map at (option_map Declared o) ≡ None → a.node.end ≡ None
+            open_end None is same = is
+            open_end (Some e) is same = cc
+
+            wall : IsWallTo net f loose class a.number y a.node
+            wall = idle.over a.number a.node a.here of_same (stays_fast j on class_is)
+                (open_end a.node.end refl (ap (λ (z : TokenRow Moment). z.end) a.is ∙ no_span))
+                (subst (λ z. In z (read_by (rule_of new r))) (sym (ap (λ (z : TokenRow Moment). z.fact) a.is)) fact_read)
+                (ap (λ g. bound_at_most g (negsuc 0)) (are (Node y) (Node a.number) (spot_of y k here of) (spot_of a.number a.node a.here of_same)) ∙ before_y)
+
+            w : TokenRow Moment
+            w = the_token wall.node wall.token class
+
+            after_j : is_before (gap h) (moment_at f a.number) (moment_at f wall.node) ≡ true
+            after_j = ap (λ g. bound_at_most g (negsuc 0)) (sym (are (Node wall.node) (Node a.number) (spot_of wall.node wall.token wall.here wall.of) (spot_of a.number a.node a.here of_same))) ∙ wall.after
+
+            by_y : is_by (gap h) (moment_at f wall.node) (moment_at f y) ≡ true
+            by_y = ap (λ g. bound_at_most g (pos 0)) (sym (are (Node y) (Node wall.node) (spot_of y k here of) (spot_of wall.node wall.token wall.here wall.of))) ∙ wall.by
+
+            by_t : is_by (gap h) (moment_at f wall.node) t ≡ true
+            by_t = by_by h far (moment_at f wall.node) (moment_at f y) t by_y begun
+
+            other : same_name a.node.what wall.token.what ≡ false
+            other = elim (cases_Bool (same_name a.node.what wall.token.what)) [
+              | inr differs ↦ differs
+              | inl same ↦ absurd (wall.differ (sym ((bytes_decides a.node.what wall.token.what).0 same)))
+            ]
+
+            one : same_name a.class class ≡ true
+            one = (bytes_decides a.class class).1 class_is
+
+            contradicts : contradicts_in h.list (the_token a.number a.node a.class) w ≡ true
+            contradicts = or_left (of_one_class (the_token a.number a.node a.class) w) (are_rivals h.list a.node.what wall.token.what) (λ i. one i && not (other i))
+
+            found : IsCutBy (λ w. In w stay) h t (the_token a.number a.node a.class)
+            found = record {
+              by = w;
+              by_stays = fast_stays wall.node wall.token wall.here wall.of wall.fast;
+              cut = λ i. (contradicts i && after_j i) && by_t i;
+            }
+
+    -- so one that bears on nothing of what the rule reads is aside
+    aside_at : IsTriangular h → rule_of h.list r ≡ rule_of new r → ((j c : TokenRow Moment) → In j.fact (read_by (rule_of new r)) → contradicts_in h.list j c ≡ true → j.class ≡ c.class)
+        → ((k : TokenRow Moment) → IsPlain h.list r k)
+        → (y : ℕ) (k : Member) (class : List ℕ) → member f y ≡ Some k → k.class ≡ Some class → (reads : reads_class new r class ≡ true)
+        → ((v : ℕ) (w : Member) → member f v ≡ Some w → w.class ≡ Some class → IsFast loose w → In (the_token v w class) stay)
+        → StayFast class
+        → IsAsideAt net f loose class (IsReadBy new r) x y k → IsAside (λ w. In w stay) h t r (the_token y k class)
+    aside_at far same_rule of_class plain y k class here of reads fast_stays stays_fast (inl spared) =
+        elim (spared_at y k class here of reads fast_stays spared) [ inl not_begun ↦ inl not_begun | inr past ↦ inr (inl (past, plain (the_token y k class))) ]
+    aside_at far same_rule of_class plain y k class here of reads fast_stays stays_fast (inr idle) =
+        elim (cases_Bool (has_begun h t (the_token y k class))) [
+          | inl begun ↦ inr (inr (idle_at far same_rule of_class y k class here of reads fast_stays stays_fast idle begun))
+          | inr not_begun ↦ inl not_begun
+        ]
+
+  -- what contradicts a token of a fact that the rule reads is of its class
+  plain_class : (s : Standing) → ((k : TokenRow Moment) → IsPlain s r k) → rule_of s r ≡ rule_of new r
+      → (k c : TokenRow Moment) → In k.fact (read_by (rule_of new r)) → contradicts_in s k c ≡ true → k.class ≡ c.class
+  plain_class s plain same_rule k c given contradict =
+      let by_class : of_one_class k c ≡ true = sym (contradicts_plain s k c (plain c k.fact (subst (λ (z : RuleText). In k.fact (read_by z)) (sym same_rule) given))) ∙ contradict in
+      (bytes_decides k.class c.class).0 (both (same_name k.class c.class) (not (same_name k.fact c.fact)) by_class).0
+
   spared_by : (k : TokenRow Moment) (a : TokenAt k) (c : Choice a.class) → choice a.class ≡ c → stays_by a.class c a.node ≡ false
-      → IsSpared (λ w. In w stay) m t k × IsSpared (λ w. In w stay) n t k
+      → IsAside (λ w. In w stay) m t r k × IsAside (λ w. In w stay) n t r k
   unfolding stays_by
   spared_by k a (inl none) is goes = not_both (reads_class new r a.class) (class_read k a) none
   spared_by k a (inr (inl still)) is goes = cc
   spared_by k a (inr (inr spares)) is goes = elim (spares.each a.number a.node a.here a.of) [
     | inl fast ↦ not_both (is_fast loose a.node) (is_fast_of loose a.node fast) goes
-    | inr spared ↦
+    | inr aside ↦
         let fast_stays : (v : ℕ) (w : Member) → member f v ≡ Some w → w.class ≡ Some a.class → IsFast loose w → In (the_token v w a.class) stay =
         λ v w there of fast. stays_in v w a.class there of (class_read k a) (subst (λ c. stays_by a.class c w ≡ true) (sym is) (is_fast_of loose w fast)) in
-        subst (λ z. IsSpared (λ w. In w stay) m t z × IsSpared (λ w. In w stay) n t z) a.is (
-          spared_at nets.committed m gap_was a.number a.node a.class a.here a.of (class_read k a) fast_stays spared.0,
-          spared_at nets.present n gap_is a.number a.node a.class a.here a.of (class_read k a) fast_stays spared.1,
+        let stays_fast : StayFast a.class =
+        λ j on same. (let o = stays_own j on in
+            let by_own : stays_by a.class (choice a.class) o.token.node ≡ true = subst (λ z. stays_by z (choice z) o.token.node ≡ true) same o.is in
+            fast_is loose o.token.node (subst (λ c. stays_by a.class c o.token.node ≡ true) is by_own)) in
+        subst (λ z. IsAside (λ w. In w stay) m t r z × IsAside (λ w. In w stay) n t r z) a.is (
+          aside_at nets.committed m gap_was (triangular old before net_old.sound) same_text (plain_class old plain_before same_text) plain_before a.number a.node a.class a.here a.of (class_read k a) fast_stays stays_fast aside.0,
+          aside_at nets.present n gap_is (triangular new b seen.network.sound) refl (plain_class new plain_after refl) plain_after a.number a.node a.class a.here a.of (class_read k a) fast_stays stays_fast aside.1,
         )
   ]
 
-  spared_both : (k : TokenRow Moment) → IsOne false k → IsSpared (λ w. In w stay) m t k × IsSpared (λ w. In w stay) n t k
+  spared_both : (k : TokenRow Moment) → IsOne false k → IsAside (λ w. In w stay) m t r k × IsAside (λ w. In w stay) n t r k
   spared_both k o = spared_by k o.token (choice o.token.class) refl o.is
 
   -- ---- tokens are the same
@@ -478,16 +586,6 @@ module _ (old : Standing) (edit : Edit) (nets : Nets) (moves : ℕ → ℕ → B
       filter-In (is_watched old r) (believed_tokens m) k (filter_map-In (token_of old) before z k (In-from_Contains before z came) is)
       (watched_back old edit net_old.sound seen.network.sound t r k stood stands same_text have (class-token_of old z k is) h.1)
 
-  -- what contradicts a token of a fact that the rule reads is of its class
-  one_class : (k c : TokenRow Moment) → In k.fact (read_by (rule_of new r)) → contradicts_in new k c ≡ true → k.class ≡ c.class
-  one_class k c given contradict =
-      let by_class : of_one_class k c ≡ true = sym (contradicts_plain new k c (plain_after c k.fact given)) ∙ contradict in
-      (bytes_decides k.class c.class).0 (both (same_name k.class c.class) (not (same_name k.fact c.fact)) by_class).0
-
-  aside : (h : TimeMap) (k : TokenRow Moment) → IsPlain h.list r k → IsSpared (λ w. In w stay) h t k → IsAside (λ w. In w stay) h t r k
-  aside h k plain (inl not_begun) = inl not_begun
-  aside h k plain (inr past) = inr (past, plain)
-
   shifted : IsShifted (λ k. In k stay) (map_of old before) (map_of new b) (moment_at f x) r
   shifted = record {
     text = same_text;
@@ -501,8 +599,8 @@ module _ (old : Standing) (edit : Edit) (nets : Nets) (moves : ℕ → ℕ → B
     dates = same_dates;
     begins = same_begins;
     ends = same_ends;
-    among = λ k c on_k on_c given contradict. same_among k c on_k on_c (one_class k c given contradict);
-    spared = λ k on. elim (stays_or k on) [ inl stays ↦ inl stays | inr goes ↦ inr (let h = spared_both k goes in (aside m k (plain_before k) h.0, aside n k (plain_after k) h.1)) ];
+    among = λ k c on_k on_c given contradict. same_among k c on_k on_c (plain_class new plain_after refl k c given contradict);
+    spared = λ k on. elim (stays_or k on) [ inl stays ↦ inl stays | inr goes ↦ inr (spared_both k goes) ];
   }
 
 pub resting_keep : RestingKeep

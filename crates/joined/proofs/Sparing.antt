@@ -81,7 +81,7 @@ module _ (s : Standing) (b c : List Moment) (t : Moment) (r : List ℕ) where
 
   aside : (d : List Moment) (k : TokenRow Moment) → Spared d k → IsAside (λ w. In w (watched (map_of s b) r) × In w (watched (map_of s c) r)) (map_of s d) t r k
   aside d k (inl not_begun) = inl not_begun
-  aside d k (inr (p, none)) = inr (p, none_rival s r k.fact none)
+  aside d k (inr (p, none)) = inr (inl (p, none_rival s r k.fact none))
 
   -- a token among the one list is among the other, or spared
   cases : (d e : List Moment) → ((x : Moment) → Contains d x → Contains e x ⊎ IsSparedIn s b c t r x) → (k : TokenRow Moment) → In k (watched (map_of s d) r)

@@ -6,9 +6,10 @@ use Rattle.tmm_model.specs.declared.bound.Bound.TheVariants.{Finite}
 use Rattle.tmm_model.specs.declared.premise.Edit.{Edit}
 use Rattle.tmm_model.specs.Beliefs.{rules_at}
 use Rattle.tmm_model.specs.Edits.{next_list}
-use Rattle.tmm_model.specs.Moments.{Moment}
+use Rattle.tmm_model.specs.Moments.{Moment, read_by, rule_of}
 use Rattle.tmm_model.specs.Standing.{Standing, points_in, far_in}
 use Rattle.tmm_model.specs.Tokens.{is_by, is_before}
+use Rattle.list_theory.proofs.Elements.{In}
 use Rattle.belief_theory.specs.Outcomes.{outcome}
 use Rattle.dist_net.specs.Net.{Net, Nets}
 use Rattle.list_net.specs.Fits.{IsNetOf}
@@ -75,12 +76,40 @@ pub record IsWalled (net : Net) (f : Forest) (loose : ℕ → Bool) (class : Lis
 abbrev pub IsSparedAt : Net → Forest → (ℕ → Bool) → List ℕ → ℕ → ℕ → Member → Type 0
 IsSparedAt net f loose class x y m = (is_by (spot_distance net f) (Node y) (Node x) ≡ false) ⊎ ((m.end ≡ None) × IsWalled net f loose class x y)
 
--- the event of node x is not loose, and each token of the class is fast, or spared there before and
--- after
-pub record SparesClass (nets : Nets) (f : Forest) (loose : ℕ → Bool) (class : List ℕ) (x : ℕ) : Type 0 where
+-- a fast token of the class, of another fact than j, surely begins after node v and has begun by
+-- node y
+pub record IsWallTo (net : Net) (f : Forest) (loose : ℕ → Bool) (class : List ℕ) (v y : ℕ) (j : Member) : Type 0 where
+  pub node : ℕ
+  pub token : Member
+  pub here : member f node ≡ Some token
+  pub of : token.class ≡ Some class
+  pub fast : IsFast loose token
+  pub differ : token.what ≢ j.what
+  pub after : is_before (spot_distance net f) (Node v) (Node node) ≡ true
+  pub by : is_by (spot_distance net f) (Node node) (Node y) ≡ true
+
+-- The token at node y, which is m, is idle as far as these facts go: its own is none of them, and
+-- between each fast token of one of them, which is no span and which it clips, and it there is a
+-- wall that clips that one as well.
+pub record IsIdleAt (net : Net) (f : Forest) (loose : ℕ → Bool) (class : List ℕ) (facts : List ℕ → Type 0) (y : ℕ) (m : Member) : Type 0 where
+  pub unread : facts m.what → ⊥
+  pub over : (v : ℕ) (j : Member) → member f v ≡ Some j → j.class ≡ Some class → IsFast loose j → j.end ≡ None → facts j.what
+      → is_before (spot_distance net f) (Node v) (Node y) ≡ true → IsWallTo net f loose class v y j
+
+-- so it bears on nothing of these facts there: it is spared, or idle
+abbrev pub IsAsideAt : Net → Forest → (ℕ → Bool) → List ℕ → (List ℕ → Type 0) → ℕ → ℕ → Member → Type 0
+IsAsideAt net f loose class facts x y m = IsSparedAt net f loose class x y m ⊎ IsIdleAt net f loose class facts y m
+
+-- the event of node x is not loose, and each token of the class is fast, or bears on nothing of these
+-- facts there, before and after
+pub record SparesClass (nets : Nets) (f : Forest) (loose : ℕ → Bool) (class : List ℕ) (facts : List ℕ → Type 0) (x : ℕ) : Type 0 where
   pub event : loose (base_of f (Node x)) ≡ false
   pub each : (y : ℕ) (m : Member) → member f y ≡ Some m → m.class ≡ Some class
-      → IsFast loose m ⊎ (IsSparedAt nets.committed f loose class x y m × IsSparedAt nets.present f loose class x y m)
+      → IsFast loose m ⊎ (IsAsideAt nets.committed f loose class facts x y m × IsAsideAt nets.present f loose class facts x y m)
+
+-- the facts that the rule reads
+abbrev pub IsReadBy : Standing → List ℕ → List ℕ → Type 0
+IsReadBy s r fact = In fact (read_by (rule_of s r))
 
 -- The decision of the rule at the event of node x may rest: no premise says that a fact contradicts
 -- one that it reads, the event keeps its date, and of each class that the rule reads no points
@@ -88,7 +117,7 @@ pub record SparesClass (nets : Nets) (f : Forest) (loose : ℕ → Bool) (class 
 pub record MayRest (moves : ℕ → ℕ → Bool) (loose : ℕ → Bool) (s : Standing) (nets : Nets) (f : Forest) (r : List ℕ) (x : ℕ) : Type 0 where
   pub plain : ReadsNoRival s r
   pub date : moves (base_of f (Node x)) 0 ≡ false
-  pub each : (class : List ℕ) → reads_class s r class ≡ true → (MovesAmong moves f (IsSpotOf f class) x → ⊥) ⊎ SparesClass nets f loose class x
+  pub each : (class : List ℕ) → reads_class s r class ≡ true → (MovesAmong moves f (IsSpotOf f class) x → ⊥) ⊎ SparesClass nets f loose class (IsReadBy s r) x
 
 -- **Then it keeps its outcome**, if the decision was there, the horizon is the same, no premise
 -- said that a fact contradicts one that it reads, and no token that it watches left or entered.

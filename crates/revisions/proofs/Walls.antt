@@ -1,5 +1,5 @@
--- Tokens that have not begun at an event, and tokens that are past there, bear on no decision at
--- it.
+-- Tokens that have not begun at an event, tokens that are past there, and tokens that clip nothing
+-- there which is not cut without them bear on no decision at it.
 use Rattle.std.proofs.Common.{◌≡◌, ◌≢◌, ◌∙◌, ℕ, Bool, true, false, not, ◌&&◌, ◌||◌, List, [], ◌∷◌, map, refl, sym, ap, subst, inl, inr, arith}
 use Rattle.std.proofs.lemmas.Bool.{or_left}
 use Rattle.std.proofs.lemmas.Int.{ints}
@@ -33,11 +33,11 @@ use Rattle.belief_theory.proofs.Spelt.{spelt}
 use Rattle.belief_theory.proofs.Timed.{distance_triangle}
 use Rattle.belief_theory.proofs.Untouched.{class_of_token, watches, watched_token}
 use Rattle.spots.specs.OfLists.{map_of}
-use Rattle.revisions.specs.Walls.{has_begun, IsPast, IsPlain, IsAside, AlikeBut, AllOccur, OutcomesStayBut}
+use Rattle.revisions.specs.Walls.{has_begun, IsPast, IsPlain, IsIdle, IsAside, AlikeBut, AllOccur, OutcomesStayBut}
 
 -- ---- distances
 
-abbrev IsTriangular : TimeMap → Type 0
+abbrev pub IsTriangular : TimeMap → Type 0
 IsTriangular m = (x y z : Moment) → IsTighter (gap m x z) (bound_plus (gap m x y) (gap m y z))
 
 then_by : (long one two : Bound) → bound_at_most one (pos 0) ≡ true → bound_at_most two (negsuc 0) ≡ true → IsTighter long (bound_plus one two) → bound_at_most long (negsuc 0) ≡ true
@@ -45,6 +45,16 @@ then_by (Finite x) (Finite y) (Finite z) h g near = grind (arith, ints)
 then_by Free (Finite y) (Finite z) h g near = absurd near
 then_by long (Finite y) Free h g near = cc
 then_by long Free two h g near = cc
+
+by_then : (long one two : Bound) → bound_at_most one (pos 0) ≡ true → bound_at_most two (pos 0) ≡ true → IsTighter long (bound_plus one two) → bound_at_most long (pos 0) ≡ true
+by_then (Finite x) (Finite y) (Finite z) h g near = grind (arith, ints)
+by_then Free (Finite y) (Finite z) h g near = absurd near
+by_then long (Finite y) Free h g near = cc
+by_then long Free two h g near = cc
+
+-- what is at or before x is at or before what x is at or before
+pub by_by : (m : TimeMap) → IsTriangular m → (w y t : Moment) → is_by (gap m) w y ≡ true → is_by (gap m) y t ≡ true → is_by (gap m) w t ≡ true
+by_by m far w y t one two = by_then (gap m t w) (gap m t y) (gap m y w) two one (far t y w)
 
 -- what is surely before x is surely before what is at or after x
 before_by : (m : TimeMap) → IsTriangular m → (k x w : Moment) → is_before (gap m) k x ≡ true → is_by (gap m) x w ≡ true → is_before (gap m) k w ≡ true
@@ -148,9 +158,9 @@ module _ (stays : TokenRow Moment → Type 0) (m n : TimeMap) (t : Moment) (r : 
       (bytes_decides k.class c.class).0 (both (same_name k.class c.class) (not (same_name k.fact c.fact)) one).0
 
   -- a token that is cut in the second map is cut in the first
-  found_back : (k c : TokenRow Moment) → k.fact ≡ f → stays k → k.class ≡ class_of n.list f → In c (believed_tokens n) → Cut n t k c
+  found_back : (k c : TokenRow Moment) → k.fact ≡ f → stays k → k.end ≡ None → k.class ≡ class_of n.list f → In c (believed_tokens n) → Cut n t k c
       → (d : TokenRow Moment) × In d (believed_tokens m) × (cuts_at m t k d ≡ true)
-  found_back k c fact stays_k own at cut = by (a.after c (watches n r f c given_there at (contradicts_bears n.list f k c fact own cut.contradicts)))
+  found_back k c fact stays_k no_span own at cut = by (a.after c (watches n r f c given_there at (contradicts_bears n.list f k c fact own cut.contradicts)))
     where
       among : (d : TokenRow Moment) → stays d → In d (believed_tokens m)
       among d stay = watched_token m r d (a.here d stay)
@@ -158,7 +168,11 @@ module _ (stays : TokenRow Moment → Type 0) (m n : TimeMap) (t : Moment) (r : 
       by : stays c ⊎ IsAside stays n t r c → (d : TokenRow Moment) × In d (believed_tokens m) × (cuts_at m t k d ≡ true)
       by (inl stay) = (c, among c stay, cut_back k c fact stays_k stay cut)
       by (inr (inl not_begun)) = let begun : has_begun n t c ≡ true = cut.begun in cc
-      by (inr (inr (past, plain))) =
+      by (inr (inr (inr idle))) =
+          let clip : clips (contradicts_in n.list) (gap n) k c ≡ true = λ i. cut.contradicts i && cut.before i in
+          let over = idle.over k stays_k (subst (λ z. In z (read_by (rule_of n.list r))) (sym fact) given_there) no_span clip in
+          (over.by, among over.by over.by_stays, cut_back k over.by fact stays_k over.by_stays (cut_is n t k over.by over.cut))
+      by (inr (inr (inl (past, plain)))) =
           let class = plain_class k c fact cut.contradicts plain in
           elim (other_fact k.fact past.one.fact past.other.fact past.walls.differ) [
             | inl differ ↦ (past.one, among past.one past.one_stays, wall_back k c past.one fact stays_k past.one_stays cut class past.walls.one.class past.walls.one.after past.walls.one.begun differ)
@@ -176,7 +190,7 @@ module _ (stays : TokenRow Moment → Type 0) (m n : TimeMap) (t : Moment) (r : 
       by false e = refl
       by true e =
           let (c, at, cut) = list_any-In (cuts_at n t k) (believed_tokens n) e in
-          let (d, here, short) = found_back k c fact stay own at (cut_is n t k c cut) in
+          let (d, here, short) = found_back k c fact stay is own at (cut_is n t k c cut) in
           absurd (cut_short m t k d here short h)
 
   -- a token that is past supports nothing
@@ -211,7 +225,8 @@ module _ (stays : TokenRow Moment → Type 0) (m n : TimeMap) (t : Moment) (r : 
           let lasting = lasts_alike k stay fact k.end refl outer.1 in
           (stay, fact, watched_token n r k (a.there k stay), λ i. (inner.0 i && begun i) && lasting i)
       by (inr (inl not_begun)) = let begun : has_begun m t k ≡ true = inner.1 in cc
-      by (inr (inr (past, plain))) = absurd (none_past k past k.end refl outer.1)
+      by (inr (inr (inl (past, plain)))) = absurd (none_past k past k.end refl outer.1)
+      by (inr (inr (inr idle))) = absurd (idle.unread (subst (λ z. In z (read_by (rule_of m.list r))) (sym fact) given))
 
 abbrev by_begin : TimeMap → TokenRow Moment → TokenRow Moment → Ordering
 by_begin m = on (λ k. k.spot) (order m)
@@ -279,7 +294,7 @@ module _ (stays : TokenRow Moment → Type 0) (m n : TimeMap) (t : Moment) (r : 
 
 -- ---- maps of sound lists
 
-triangular : (s : Standing) (b : List Moment) → IsSound s → IsTriangular (map_of s b)
+pub triangular : (s : Standing) (b : List Moment) → IsSound s → IsTriangular (map_of s b)
 triangular s b sound = distance_triangle s (far_in s.premises) (shortest s sound) (sound_rules s sound)
 
 spelt_in : (s : Standing) (b : List Moment) → IsSound s → AllOccur s b → AllSpelt (map_of s b)

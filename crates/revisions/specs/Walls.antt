@@ -1,6 +1,6 @@
--- Tokens that bear on no decision at an event: those that have not begun there, and those that are
--- past there.
-use Rattle.std.specs.Prelude.{◌≡◌, ◌≢◌, ◌⊎◌, ℕ, pos, int_le, Bool, true, false, List, [], ◌∷◌, Some}
+-- Tokens that bear on no decision at an event: those that have not begun there, those that are past
+-- there, and those that clip nothing there which is not cut without them.
+use Rattle.std.specs.Prelude.{◌≡◌, ◌≢◌, ◌⊎◌, ℕ, pos, int_le, Bool, true, false, List, [], ◌∷◌, Some, None}
 use Rattle.std.specs.List.{Contains}
 use Rattle.tmm_model.specs.declared.bound.Bound.{Bound}
 use Rattle.tmm_model.specs.declared.token.TokenRow.{TokenRow}
@@ -8,7 +8,7 @@ use Rattle.tmm_model.specs.Beliefs.{are_rivals, contradicts_in, due}
 use Rattle.tmm_model.specs.Maps.{TimeMap, gap, order}
 use Rattle.tmm_model.specs.Moments.{Moment, read_by, rule_of}
 use Rattle.tmm_model.specs.Standing.{Standing, far_in}
-use Rattle.tmm_model.specs.Tokens.{of_one_class, is_by, is_before, clips, lasts_to}
+use Rattle.tmm_model.specs.Tokens.{of_one_class, is_by, is_before, clips, cuts, lasts_to}
 use Rattle.list_theory.specs.WellNamed.{IsSound}
 use Rattle.list_theory.proofs.Elements.{In}
 use Rattle.belief_theory.specs.Outcomes.{outcome}
@@ -67,10 +67,22 @@ IsSpared stays m t k = (has_begun m t k ≡ false) ⊎ IsPast stays m t k
 abbrev pub IsPlain : Standing → List ℕ → TokenRow Moment → Type 0
 IsPlain s r k = (f : List ℕ) → In f (read_by (rule_of s r)) → are_rivals s f k.fact ≡ false
 
+-- one of the tokens that stay cuts j at t
+pub record IsCutBy (stays : TokenRow Moment → Type 0) (m : TimeMap) (t : Moment) (j : TokenRow Moment) : Type 0 where
+  pub by : TokenRow Moment
+  pub by_stays : stays by
+  pub cut : cuts (contradicts_in m.list) (gap m) j t by ≡ true
+
+-- k is idle for r at t: r does not read its fact, and each token that stays, of a fact that r reads
+-- and no span, which k clips is cut at t by one that stays as well
+pub record IsIdle (stays : TokenRow Moment → Type 0) (m : TimeMap) (t : Moment) (r : List ℕ) (k : TokenRow Moment) : Type 0 where
+  pub unread : In k.fact (read_by (rule_of m.list r)) → ⊥
+  pub over : (j : TokenRow Moment) → stays j → In j.fact (read_by (rule_of m.list r)) → j.end ≡ None → clips (contradicts_in m.list) (gap m) j k ≡ true → IsCutBy stays m t j
+
 -- k bears on no decision of r at t: it has not surely begun there, or it is past and by its class
--- alone it would
+-- alone it would, or it is idle
 abbrev pub IsAside : (TokenRow Moment → Type 0) → TimeMap → Moment → List ℕ → TokenRow Moment → Type 0
-IsAside stays m t r k = (has_begun m t k ≡ false) ⊎ (IsPast stays m t k × IsPlain m.list r k)
+IsAside stays m t r k = (has_begun m t k ≡ false) ⊎ ((IsPast stays m t k × IsPlain m.list r k) ⊎ IsIdle stays m t r k)
 
 -- **Two maps are alike for the decision of r at t but for tokens that bear on none there.** Tokens
 -- that stay are watched in both, and what is sure of them and t is so in both, as are their order

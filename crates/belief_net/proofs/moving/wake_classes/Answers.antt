@@ -3,7 +3,7 @@ use Rattle.undo_rows.specs.Changes.{present as table}
 use Rattle.occ_tree.specs.Standing.{present, forest}
 use Rattle.joined.specs.Listed.{IsListedUnder}
 use Rattle.belief_net.specs.declared.state.Decisions.{Decisions}
-use Rattle.belief_net.specs.Decided.{table_of}
+use Rattle.belief_net.specs.Decided.{table_of, rule_in}
 use Rattle.belief_net.specs.Numbers.{name_in}
 use Rattle.belief_net.specs.PointSets.{HaveBothIn}
 use Rattle.belief_net.specs.Waiting.{dates_in}
@@ -13,7 +13,7 @@ use Rattle.belief_net.proofs.Waking.{classes_none, classes_next}
 use Rattle.belief_net.proofs.moving.wake_classes.Goals as goal
 
 pub loop-class-init : goal.loop-class-init
-loop-class-init c = record { wakes = classes_none (present c.args.tree.now) c.args.net.now c.args.moves.now c.args.decisions.now (dates_in c.args.decisions.now.waiting); awake = c.requires.awake; others = refl }
+loop-class-init c = record { wakes = classes_none (present c.args.tree.now) c.args.standing.now.present c.args.net.now c.args.moves.now c.args.decisions.now (dates_in c.args.decisions.now.waiting); awake = c.requires.awake; others = refl }
 
 pub loop-class-preserved : goal.loop-class-preserved
 loop-class-preserved c =
@@ -25,13 +25,13 @@ loop-class-preserved c =
     let others = c.loop-class.invariant.others in
     let name = c.name-name.ensures ∙ ap (λ (z : Decisions). name_in z.classes n) others in
     let short : n < length d.classes = omega (arith, c.loop-class-test.true, c.len-class-end.ensures) in
-    let woken = subst (λ class. WakesFor s (table_of d) c.args.net.now c.args.moves.now class (IsListedUnder (table_of d) n) mid new) name
-    (subst (λ r. WakesFor s (table r) c.args.net.now c.args.moves.now c.name-name.result (IsListedUnder (table r) n) mid new) (ap (λ (z : Decisions). z.rows) others) c.in_ok-wake_touched.ensures) in
+    let woken = subst (λ class. WakesFor s (table_of d) c.args.standing.now.present d.rules c.args.net.now c.args.moves.now class (IsListedUnder (table_of d) n) mid new) name
+    (subst (λ (z : Decisions). WakesFor s (table z.rows) c.args.standing.now.present z.rules c.args.net.now c.args.moves.now c.name-name.result (IsListedUnder (table z.rows) n) mid new) others c.in_ok-wake_touched.ensures) in
     record {
-      wakes = classes_next s c.args.net.now c.args.moves.now d n (dates_in d.waiting) mid new short c.loop-class.invariant.wakes woken;
+      wakes = classes_next s c.args.standing.now.present c.args.net.now c.args.moves.now d n (dates_in d.waiting) mid new short c.loop-class.invariant.wakes woken;
       awake = λ is. awake_still c.args.tree.now (table_of d) c.args.net.now c.args.moves.now c.requires.moves c.requires.below
           (λ i row. IsListedUnder (table_of d) n i × MovesFor c.args.moves.now (forest s) (name_in d.classes n) row.value.trigger)
-          (λ i row. IsListedUnder (table_of d) n i → RestsFor c.args.net.now c.args.moves.now (forest s) (name_in d.classes n) row.value.trigger) mid new woken (c.loop-class.invariant.awake is);
+          (λ i row. IsListedUnder (table_of d) n i → RestsFor c.args.net.now c.args.moves.now c.args.standing.now.present (forest s) (name_in d.classes n) (rule_in d row) row.value.trigger) mid new woken (c.loop-class.invariant.awake is);
       others = ap (λ (z : Decisions). record z { waiting = c.wake_touched.new.waiting }) others;
     }
 
@@ -47,4 +47,4 @@ wake_touched-requires-clause-points c =
 pub returns-clause-ok : goal.returns-clause-ok
 returns-clause-ok c =
     let whole : c.loop-class.class ≡ length c.args.decisions.now.classes = omega (arith, c.loop-class-test.false, c.len-class-end.ensures) in
-    subst (λ n. WakesForAll (present c.args.tree.now) c.args.net.now c.args.moves.now c.args.decisions.now n (dates_in c.args.decisions.now.waiting) (dates_in c.loop-class.decisions.waiting)) whole c.loop-class.invariant.wakes
+    subst (λ n. WakesForAll (present c.args.tree.now) c.args.standing.now.present c.args.net.now c.args.moves.now c.args.decisions.now n (dates_in c.args.decisions.now.waiting) (dates_in c.loop-class.decisions.waiting)) whole c.loop-class.invariant.wakes

@@ -8,7 +8,7 @@ use Rattle.belief_net.proofs.moving.wake_classes.Given as goal
 
 abbrev pub invariant-loop-class : goal.invariant-loop-class
 invariant-loop-class l = record {
-  wakes : WakesForAll (present l.tree) l.net l.moves l.fn.decisions l.class (dates_in l.fn.decisions.waiting) (dates_in l.decisions.waiting);
+  wakes : WakesForAll (present l.tree) l.standing.present l.net l.moves l.fn.decisions l.class (dates_in l.fn.decisions.waiting) (dates_in l.decisions.waiting);
   awake : l.awake ≡ true → AreAwake l.net (forest l.tree) (table_of l.fn.decisions) (dates_in l.decisions.waiting);
   others : l.decisions ≡ record l.fn.decisions { waiting = l.decisions.waiting };
 }

@@ -19,7 +19,7 @@ loop-next-init c =
       [],
       sym (ap (λ o. from_on o list) c.first-next.ensures.first ∙ from_first list),
       λ i is. first_is_on list i (sym c.first-next.ensures.first ∙ is),
-      front_start (present c.args.tree.now) (table c.args.rows.now) (λ x. Unit {0}) (BoreNot c.args.net.now.committed (forest c.args.tree.now) c.args.gone.now) (dates_in c.args.waiting.now),
+      front_start (present c.args.tree.now) (table c.args.rows.now) (λ x. Unit {0}) (λ row. BoreNot c.args.net.now.committed (forest c.args.tree.now) c.args.gone.now row.value.trigger) (dates_in c.args.waiting.now),
     )
 
 pub wake_row-requires-clause-row : goal.wake_row-requires-clause-row
@@ -50,7 +50,7 @@ loop-next-preserved c =
       front ++ i ∷ [],
       is ∙ ap (λ l. front ++ l) here ∙ sym (append_assoc front (i ∷ []) (from_on c.next-next.result list)),
       λ j next. next_is_on list i j (sym (c.next-next.ensures c.args.head on) ∙ next),
-      front_next (present c.args.tree.now) (table c.args.rows.now) (λ x. Unit {0}) (BoreNot c.args.net.now.committed (forest c.args.tree.now) c.args.gone.now) front i (dates_in c.args.waiting.now) (dates_in c.loop-next.waiting)
+      front_next (present c.args.tree.now) (table c.args.rows.now) (λ x. Unit {0}) (λ row. BoreNot c.args.net.now.committed (forest c.args.tree.now) c.args.gone.now row.value.trigger) front i (dates_in c.args.waiting.now) (dates_in c.loop-next.waiting)
           (dates_in c.wake_row.new.waiting) wakes c.in_ok-wake_row.ensures,
     )
 

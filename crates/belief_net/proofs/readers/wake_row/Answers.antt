@@ -14,7 +14,7 @@ use Rattle.belief_net.proofs.readers.wake_row.Goals as goal
 
 pub returns-then-has : goal.returns-then-has
 returns-then-has c =
-    waited_on (present c.args.tree.now) (table c.args.rows.now) (λ x. Unit {0}) (BoreNot c.args.net.now.committed (forest c.args.tree.now) c.args.gone.now) c.args.i (dates_in c.args.waiting.now)
+    waited_on (present c.args.tree.now) (table c.args.rows.now) (λ x. Unit {0}) (λ row. BoreNot c.args.net.now.committed (forest c.args.tree.now) c.args.gone.now row.value.trigger) c.args.i (dates_in c.args.waiting.now)
     (sym c.has.ensures ∙ c.if-has.true)
 
 pub spares-requires-clause-live : goal.spares-requires-clause-live
@@ -30,7 +30,7 @@ returns-then-spares c =
     let (row, at) = some_row (t.row c.args.i) c.requires.row in
     let pair = subst (λ o. IfSome o (λ (z : TableRow Pair 8). (c.pair-trigger.result.0 ≡ z.value.trigger) × (c.pair-trigger.result.1 ≡ z.value.rule))) at c.pair-trigger.ensures in
     let bore = BoreNot c.args.net.now.committed (forest c.args.tree.now) c.args.gone.now in
-    rested (present c.args.tree.now) t (λ x. Unit {0}) bore c.args.i row (dates_in c.args.waiting.now) at (subst bore pair.0 (c.spares.ensures c.if-spares.true))
+    rested (present c.args.tree.now) t (λ x. Unit {0}) (λ row. bore row.value.trigger) c.args.i row (dates_in c.args.waiting.now) at (subst bore pair.0 (c.spares.ensures c.if-spares.true))
 
 pub returns-else-spares : goal.returns-else-spares
 returns-else-spares c =
@@ -43,5 +43,5 @@ returns-else-spares c =
     let fits : FitsSigned w64 c.early.result = search rules in
     let date = to_z-of_z w64 c.early.result fits ∙ c.early.ensures.date ∙ ap (early s) pair.0 in
     ok_then c.push.result
-    (λ puts. woken s t (λ x. Unit {0}) (BoreNot c.args.net.now.committed (forest c.args.tree.now) c.args.gone.now) c.args.i row old new at tt (subst (λ (z : ℤ). Puts old new c.args.i (Some z)) date puts))
+    (λ puts. woken s t (λ x. Unit {0}) (λ row. BoreNot c.args.net.now.committed (forest c.args.tree.now) c.args.gone.now row.value.trigger) c.args.i row old new at tt (subst (λ (z : ℤ). Puts old new c.args.i (Some z)) date puts))
     c.push.ensures.ok

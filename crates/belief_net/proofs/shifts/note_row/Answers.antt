@@ -34,4 +34,4 @@ returns c =
     let in_both = c.requires.kept place.base (ap (λ (l : List Bool). is_in l place.base) (sym c.deref-2.ensures.value) ∙ sym c.is_in.ensures ∙ c.if-not-is_in.false) in
     let have = tokens_both f fast nets row.class c.args.tokens.now c.requires.fast c.requires.tokens in
     λ more. subst (NotesRow nets f (is_out fast) row c.args.shifts.now.items) (sym c.in_ok-push.ensures)
-    (noted_loose f fast nets row c.args.shifts.now.items place c.args.tokens.now c.in_ok-shift.shift c.place_at-place.ensures in_both c.requires.tokens have c.in_ok-shift.ensures)
+    (noted_loose f fast nets row c.args.shifts.now.items place c.args.tokens.now c.in_ok-shift.shift c.place_at-place.ensures in_both c.requires.tokens c.requires.all have c.in_ok-shift.ensures)

@@ -16,6 +16,9 @@ returns-then-is_some c =
     let none = λ (net : Net). All-nil (λ (t : FastToken). Contains tokens t × TellsWithin net t.place place (negsuc 0) true) in
     record {
       at = refl;
+      own = c.in_ok-facts.ensures.own;
+      bore = c.in_ok-facts.ensures.before;
+      bears = c.in_ok-facts.ensures.after;
       before = subst (AreBehind c.args.net.now.committed place tokens) (sym c.new.ensures.items) (none c.args.net.now.committed);
       after = subst (AreBehind c.args.net.now.present place tokens) (sym c.new-then-is_some.ensures.items) (none c.args.net.now.present);
       spans = inr (c.new.ensures.items, c.new-then-is_some.ensures.items);
@@ -24,6 +27,9 @@ returns-then-is_some c =
 pub returns : goal.returns
 returns c = record {
   at = refl;
+  own = c.in_ok-facts.ensures.own;
+  bore = c.in_ok-facts.ensures.before;
+  bears = c.in_ok-facts.ensures.after;
   before = c.in_ok-before.ensures;
   after = c.in_ok-after.ensures;
   spans = inl (not_some c.args.end (sym c.is_some.ensures ∙ c.if-is_some.false));

@@ -3,6 +3,7 @@ use Rattle.std.proofs.lemmas.List.Elements.{All-nil}
 use Rattle.std.specs.List.{All}
 use Rattle.occ_tree.specs.Places.{forest}
 use Rattle.belief_net.specs.declared.walls.FastToken.{FastToken}
+use Rattle.belief_net.specs.Bearing.{HaveFast}
 use Rattle.belief_net.specs.Fast.{is_out}
 use Rattle.belief_net.specs.PointSets.{is_in}
 use Rattle.belief_net.specs.Shifts.{IsFastToken, ShiftHasBoth, AreShifts}
@@ -38,7 +39,15 @@ note_row-requires-clause-tokens c =
     let class_is = row_class f c.args.class.now c.tokens-rows.result.now c.tokens-rows.ensures.rows c.loop-i.i c.index-rows-i.result c.loop-i-test.true c.index-rows-i.is in
     subst (λ (l : List FastToken). All (IsFastToken f (is_out c.args.moves.now.fast.items) c.index-rows-i.result.class) l) (sym c.deref-in-loop-i.ensures.value)
     (subst (λ (class : List ℕ). All (IsFastToken f (is_out c.args.moves.now.fast.items) class) c.in_ok-tokens.tokens.items) (sym class_is)
-    (subst (λ (l : List Bool). All (IsFastToken f (is_out l) c.args.class.now) c.in_ok-tokens.tokens.items) c.deref-2.ensures.value c.in_ok-tokens.ensures))
+    (subst (λ (l : List Bool). All (IsFastToken f (is_out l) c.args.class.now) c.in_ok-tokens.tokens.items) c.deref-2.ensures.value c.in_ok-tokens.ensures.own))
+
+pub note_row-requires-clause-all : goal.note_row-requires-clause-all
+note_row-requires-clause-all c =
+    let f = forest c.args.tree.now in
+    let class_is = row_class f c.args.class.now c.tokens-rows.result.now c.tokens-rows.ensures.rows c.loop-i.i c.index-rows-i.result c.loop-i-test.true c.index-rows-i.is in
+    subst (λ (l : List FastToken). HaveFast f (is_out c.args.moves.now.fast.items) c.index-rows-i.result.class l) (sym c.deref-in-loop-i.ensures.value)
+    (subst (λ (class : List ℕ). HaveFast f (is_out c.args.moves.now.fast.items) class c.in_ok-tokens.tokens.items) (sym class_is)
+    (subst (λ (l : List Bool). HaveFast f (is_out l) c.args.class.now c.in_ok-tokens.tokens.items) c.deref-2.ensures.value c.in_ok-tokens.ensures.all))
 
 pub loop-i-preserved : goal.loop-i-preserved
 loop-i-preserved c =

@@ -2,7 +2,7 @@ use Rattle.std.proofs.Common.{List, Bool, Vec, Global, sym, subst}
 use Rattle.std.specs.List.{All}
 use Rattle.std.specs.Prelude.{MatchOption}
 use Rattle.occ_tree.specs.Places.{forest}
-use Rattle.joined.specs.Shifting.{SparesClass}
+use Rattle.joined.specs.Shifting.{SparesClass, IsReadBy}
 use Rattle.belief_net.specs.declared.shifts.Shift.{Shift}
 use Rattle.belief_net.specs.Fast.{is_out}
 use Rattle.belief_net.specs.Shifts.{ShiftHasBoth, AreShifts}
@@ -25,7 +25,7 @@ returns-in-Some c is =
     let fast = c.args.moves.now.fast.items in
     let class = c.args.of_class.now.class in
     let are = told (goal.at.returns-in-Some c).In-Some in
-    subst (λ (l : List Bool). SparesClass nets f (is_out l) class c.args.x) c.deref.ensures.value
+    subst (λ (l : List Bool). SparesClass nets f (is_out l) class (IsReadBy c.args.standing.now.present c.args.rule) c.args.x) c.deref.ensures.value
     (c.spares.ensures is class
     (subst (λ (l : List Bool). AreShifts nets f (is_out l) class c.deref-in-Some.result.now) (sym c.deref.ensures.value)
     (subst (AreShifts nets f (is_out fast) class) (sym c.deref-in-Some.ensures.value) are)))

@@ -3,6 +3,7 @@ use Rattle.row_links.specs.Lists.{IsOn}
 use Rattle.undo_rows.specs.Changes.{present as table}
 use Rattle.occ_tree.specs.Places.{forest}
 use Rattle.occ_tree.specs.Standing.{present}
+use Rattle.belief_net.specs.Numbers.{name_in}
 use Rattle.belief_net.specs.Waiting.{dates_in}
 use Rattle.belief_net.specs.Woken.{MovesFor, RestsFor, WakesFor}
 use Rattle.belief_net.proofs.Waking.{under_none, under_next, under_all}
@@ -12,7 +13,7 @@ pub loop-place-init : goal.loop-place-init
 loop-place-init c = record {
   class = c.in_ok-of_class.ensures.class;
   moves = c.in_ok-of_class.ensures.moves;
-  wakes = under_none (present c.args.tree.now) (table c.args.rows.now) (MovesFor c.args.moves.now (forest c.args.tree.now) c.args.class) (RestsFor c.args.net.now c.args.moves.now (forest c.args.tree.now) c.args.class) c.args.number (dates_in c.args.waiting.now);
+  wakes = under_none (present c.args.tree.now) (table c.args.rows.now) (MovesFor c.args.moves.now (forest c.args.tree.now) c.args.class) (λ row. RestsFor c.args.net.now c.args.moves.now c.args.standing.now.present (forest c.args.tree.now) c.args.class (name_in c.args.rules.now row.value.rule) row.value.trigger) c.args.number (dates_in c.args.waiting.now);
 }
 
 pub wake_list-requires-clause-class : goal.wake_list-requires-clause-class
@@ -24,14 +25,14 @@ loop-place-preserved c =
     record {
       class = c.loop-place.invariant.class;
       moves = c.loop-place.invariant.moves;
-      wakes = under_next (present c.args.tree.now) (table c.args.rows.now) (MovesFor c.args.moves.now (forest c.args.tree.now) c.args.class) (RestsFor c.args.net.now c.args.moves.now (forest c.args.tree.now) c.args.class) n c.args.number (dates_in c.args.waiting.now) (dates_in c.loop-place.waiting)
+      wakes = under_next (present c.args.tree.now) (table c.args.rows.now) (MovesFor c.args.moves.now (forest c.args.tree.now) c.args.class) (λ row. RestsFor c.args.net.now c.args.moves.now c.args.standing.now.present (forest c.args.tree.now) c.args.class (name_in c.args.rules.now row.value.rule) row.value.trigger) n c.args.number (dates_in c.args.waiting.now) (dates_in c.loop-place.waiting)
           (dates_in c.wake_list.new.waiting) c.loop-place.invariant.wakes
-          (subst (λ (class : List ℕ). WakesFor (present c.args.tree.now) (table c.args.rows.now) c.args.net.now c.args.moves.now class (IsOn ((table c.args.rows.now).list (n + 2) c.args.number))
+          (subst (λ (class : List ℕ). WakesFor (present c.args.tree.now) (table c.args.rows.now) c.args.standing.now.present c.args.rules.now c.args.net.now c.args.moves.now class (IsOn ((table c.args.rows.now).list (n + 2) c.args.number))
           (dates_in c.loop-place.waiting) (dates_in c.wake_list.new.waiting))
           c.loop-place.invariant.class c.in_ok-wake_list.ensures);
     }
 
 pub returns : goal.returns
 returns c =
-    under_all (present c.args.tree.now) (table c.args.rows.now) (MovesFor c.args.moves.now (forest c.args.tree.now) c.args.class) (RestsFor c.args.net.now c.args.moves.now (forest c.args.tree.now) c.args.class) c.loop-place.place c.args.number (dates_in c.args.waiting.now) (dates_in c.loop-place.waiting) (omega arith)
+    under_all (present c.args.tree.now) (table c.args.rows.now) (MovesFor c.args.moves.now (forest c.args.tree.now) c.args.class) (λ row. RestsFor c.args.net.now c.args.moves.now c.args.standing.now.present (forest c.args.tree.now) c.args.class (name_in c.args.rules.now row.value.rule) row.value.trigger) c.loop-place.place c.args.number (dates_in c.args.waiting.now) (dates_in c.loop-place.waiting) (omega arith)
     c.loop-place.invariant.wakes

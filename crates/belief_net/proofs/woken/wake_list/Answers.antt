@@ -6,6 +6,7 @@ use Rattle.undo_rows.specs.Changes.{present as table}
 use Rattle.occ_tree.specs.Places.{forest}
 use Rattle.occ_tree.specs.Standing.{present}
 use Rattle.occ_tree.proofs.Walked.{from_on, from_first, from_next, first_is_on, next_is_on}
+use Rattle.belief_net.specs.Numbers.{name_in}
 use Rattle.belief_net.specs.Waiting.{dates_in}
 use Rattle.belief_net.specs.Woken.{MovesFor, RestsFor, WakesFor}
 use Rattle.belief_net.proofs.Marked.{listed_row}
@@ -18,7 +19,7 @@ loop-next-init c =
       [],
       sym (ap (λ o. from_on o list) c.first-next.ensures.first ∙ from_first list),
       λ i is. first_is_on list i (sym c.first-next.ensures.first ∙ is),
-      front_start (present c.args.tree.now) (table c.args.rows.now) (MovesFor c.args.moves.now (forest c.args.tree.now) c.args.of_class.now.class) (RestsFor c.args.net.now c.args.moves.now (forest c.args.tree.now) c.args.of_class.now.class) (dates_in c.args.waiting.now),
+      front_start (present c.args.tree.now) (table c.args.rows.now) (MovesFor c.args.moves.now (forest c.args.tree.now) c.args.of_class.now.class) (λ row. RestsFor c.args.net.now c.args.moves.now c.args.standing.now.present (forest c.args.tree.now) c.args.of_class.now.class (name_in c.args.rules.now row.value.rule) row.value.trigger) (dates_in c.args.waiting.now),
     )
 
 pub wake_row-requires-clause-row : goal.wake_row-requires-clause-row
@@ -49,7 +50,7 @@ loop-next-preserved c =
       front ++ i ∷ [],
       is ∙ ap (λ l. front ++ l) here ∙ sym (append_assoc front (i ∷ []) (from_on c.next-next.result list)),
       λ j next. next_is_on list i j (sym (c.next-next.ensures c.args.head on) ∙ next),
-      front_next (present c.args.tree.now) (table c.args.rows.now) (MovesFor c.args.moves.now (forest c.args.tree.now) c.args.of_class.now.class) (RestsFor c.args.net.now c.args.moves.now (forest c.args.tree.now) c.args.of_class.now.class) front i (dates_in c.args.waiting.now) (dates_in c.loop-next.waiting)
+      front_next (present c.args.tree.now) (table c.args.rows.now) (MovesFor c.args.moves.now (forest c.args.tree.now) c.args.of_class.now.class) (λ row. RestsFor c.args.net.now c.args.moves.now c.args.standing.now.present (forest c.args.tree.now) c.args.of_class.now.class (name_in c.args.rules.now row.value.rule) row.value.trigger) front i (dates_in c.args.waiting.now) (dates_in c.loop-next.waiting)
           (dates_in c.wake_row.new.waiting) wakes c.in_ok-wake_row.ensures,
     )
 
@@ -58,4 +59,4 @@ returns c =
     let list = (table c.args.rows.now).list c.args.family c.args.head in
     let (front, is, there, wakes) = c.loop-next.invariant in
     let whole : front ≡ list = sym (is ∙ ap (λ o. front ++ from_on o list) c.in_default.is ∙ append-nil front) in
-    subst (λ l. WakesFor (present c.args.tree.now) (table c.args.rows.now) c.args.net.now c.args.moves.now c.args.of_class.now.class (IsOn l) (dates_in c.args.waiting.now) (dates_in c.loop-next.waiting)) whole wakes
+    subst (λ l. WakesFor (present c.args.tree.now) (table c.args.rows.now) c.args.standing.now.present c.args.rules.now c.args.net.now c.args.moves.now c.args.of_class.now.class (IsOn l) (dates_in c.args.waiting.now) (dates_in c.loop-next.waiting)) whole wakes

@@ -11,7 +11,7 @@ abbrev pub invariant-loop-next : goal.invariant-loop-next
 invariant-loop-next l =
     (front : List ℕ) × ((table l.rows).list l.family l.head ≡ front ++ from_on l.next ((table l.rows).list l.family l.head))
     × ((i : ℕ) → l.next ≡ Some i → IsOn ((table l.rows).list l.family l.head) i)
-    × WakesFor (present l.tree) (table l.rows) l.net l.moves l.of_class.class (IsOn front) (dates_in l.fn.waiting) (dates_in l.waiting)
+    × WakesFor (present l.tree) (table l.rows) l.standing.present l.rules l.net l.moves l.of_class.class (IsOn front) (dates_in l.fn.waiting) (dates_in l.waiting)
 
 abbrev pub decreases-loop-next : goal.decreases-loop-next
 decreases-loop-next l = length (from_on l.next ((table l.rows).list l.family l.head))

@@ -1,4 +1,4 @@
-use Rattle.std.proofs.Common.{◌≡◌, ◌∙◌, ℕ, ap, sym, subst, rules, w64, Some}
+use Rattle.std.proofs.Common.{◌≡◌, ◌∙◌, ◌<◌, ℕ, length, ap, sym, subst, rules, w64, Some}
 use Rattle.std.specs.Prelude.{ℤ, FitsSigned, IfSome}
 use Rattle.std.proofs.lemmas.Int.{to_z-of_z}
 use Rattle.undo_rows.specs.declared.row.Row.{Row as TableRow}
@@ -6,21 +6,30 @@ use Rattle.undo_rows.specs.Changes.{present as table}
 use Rattle.decision_rows.specs.declared.row.Pair.{Pair}
 use Rattle.occ_tree.specs.Places.{forest}
 use Rattle.occ_tree.specs.Standing.{present, early}
+use Rattle.belief_net.specs.Numbers.{name_in}
 use Rattle.belief_net.specs.Waiting.{dates_in, Puts}
 use Rattle.belief_net.specs.Woken.{MovesFor, RestsFor}
 use Rattle.belief_net.proofs.Waking.{waited_on, rested, woken, some_row, ok_then}
 use Rattle.belief_net.proofs.woken.wake_row.Goals as goal
 
 pub returns-then-has : goal.returns-then-has
-returns-then-has c = waited_on (present c.args.tree.now) (table c.args.rows.now) (MovesFor c.args.moves.now (forest c.args.tree.now) c.args.of_class.now.class) (RestsFor c.args.net.now c.args.moves.now (forest c.args.tree.now) c.args.of_class.now.class) c.args.i (dates_in c.args.waiting.now) (sym c.has.ensures ∙ c.if-has.true)
+returns-then-has c = waited_on (present c.args.tree.now) (table c.args.rows.now) (MovesFor c.args.moves.now (forest c.args.tree.now) c.args.of_class.now.class) (λ row. RestsFor c.args.net.now c.args.moves.now c.args.standing.now.present (forest c.args.tree.now) c.args.of_class.now.class (name_in c.args.rules.now row.value.rule) row.value.trigger) c.args.i (dates_in c.args.waiting.now) (sym c.has.ensures ∙ c.if-has.true)
+
+pub may_rest-requires-clause-rule : goal.may_rest-requires-clause-rule
+may_rest-requires-clause-rule c =
+    let (row, at) = some_row ((table c.args.rows.now).row c.args.i) c.requires.row in
+    let pair = subst (λ o. IfSome o (λ (z : TableRow Pair 8). (c.pair-trigger.result.0 ≡ z.value.trigger) × (c.pair-trigger.result.1 ≡ z.value.rule))) at c.pair-trigger.ensures in
+    subst (λ (k : ℕ). k < length c.args.rules.now) (sym pair.1) (c.requires.named c.args.i row at)
 
 pub returns-then-may_rest : goal.returns-then-may_rest
 returns-then-may_rest c =
     let t = table c.args.rows.now in
     let (row, at) = some_row (t.row c.args.i) c.requires.row in
     let pair = subst (λ o. IfSome o (λ (z : TableRow Pair 8). (c.pair-trigger.result.0 ≡ z.value.trigger) × (c.pair-trigger.result.1 ≡ z.value.rule))) at c.pair-trigger.ensures in
-    rested (present c.args.tree.now) t (MovesFor c.args.moves.now (forest c.args.tree.now) c.args.of_class.now.class) (RestsFor c.args.net.now c.args.moves.now (forest c.args.tree.now) c.args.of_class.now.class) c.args.i row (dates_in c.args.waiting.now) at
-    (subst (λ (x : ℕ). RestsFor c.args.net.now c.args.moves.now (forest c.args.tree.now) c.args.of_class.now.class x) pair.0 (c.may_rest.ensures.rests c.if-may_rest.true))
+    rested (present c.args.tree.now) t (MovesFor c.args.moves.now (forest c.args.tree.now) c.args.of_class.now.class) (λ row. RestsFor c.args.net.now c.args.moves.now c.args.standing.now.present (forest c.args.tree.now) c.args.of_class.now.class (name_in c.args.rules.now row.value.rule) row.value.trigger) c.args.i row (dates_in c.args.waiting.now) at
+    (subst (λ (x : ℕ). RestsFor c.args.net.now c.args.moves.now c.args.standing.now.present (forest c.args.tree.now) c.args.of_class.now.class (name_in c.args.rules.now row.value.rule) x) pair.0
+    (subst (λ (k : ℕ). RestsFor c.args.net.now c.args.moves.now c.args.standing.now.present (forest c.args.tree.now) c.args.of_class.now.class (name_in c.args.rules.now k) c.pair-trigger.result.0) pair.1
+    (c.may_rest.ensures.rests c.if-may_rest.true)))
 
 pub returns-else-may_rest : goal.returns-else-may_rest
 returns-else-may_rest c =
@@ -34,7 +43,7 @@ returns-else-may_rest c =
     let fits : FitsSigned w64 c.early.result = search rules in
     let date = to_z-of_z w64 c.early.result fits ∙ c.early.ensures.date ∙ ap (early s) pair.0 in
     ok_then c.push.result
-    (λ puts. woken s t (MovesFor c.args.moves.now (forest c.args.tree.now) class) (RestsFor c.args.net.now c.args.moves.now (forest c.args.tree.now) class) c.args.i row old new at
+    (λ puts. woken s t (MovesFor c.args.moves.now (forest c.args.tree.now) class) (λ row. RestsFor c.args.net.now c.args.moves.now c.args.standing.now.present (forest c.args.tree.now) class (name_in c.args.rules.now row.value.rule) row.value.trigger) c.args.i row old new at
     (subst (λ (x : ℕ). MovesFor c.args.moves.now (forest c.args.tree.now) class x) pair.0 (c.may_rest.ensures.waits c.if-may_rest.false))
     (subst (λ (z : ℤ). Puts old new c.args.i (Some z)) date puts))
     c.push.ensures.ok

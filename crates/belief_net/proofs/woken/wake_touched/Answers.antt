@@ -19,10 +19,10 @@ returns-then-not-contains c =
     let on = In-list_any (λ y. same_name y class) touched class (In-from_Contains touched class at) (nat_list_eq_equiv.refl class) in
     let no : true ≡ false = sym on ∙ off in
     cc)) in
-    none_wakes c.args.tree.now t c.args.net.now c.args.moves.now c.requires.moves c.requires.below class untouched (IsListedUnder t c.args.number) (dates_in c.args.waiting.now) (c.requires.awake c.if-awake.true)
+    none_wakes c.args.tree.now t c.args.net.now c.args.moves.now c.requires.moves c.requires.below class untouched c.args.standing.now.present c.args.rules.now (IsListedUnder t c.args.number) (dates_in c.args.waiting.now) (c.requires.awake c.if-awake.true)
 
 pub returns-then-not-is_class_at : goal.returns-then-not-is_class_at
 returns-then-not-is_class_at c =
     let t = table c.args.rows.now in
     none_concerned c.args.tree.now t c.args.net.now c.args.moves.now c.requires.moves c.requires.below c.args.class c.args.points.now c.requires.points (c.is_class_at.ensures c.if-not-is_class_at.true)
-    (IsListedUnder t c.args.number) (dates_in c.args.waiting.now)
+    c.args.standing.now.present c.args.rules.now (IsListedUnder t c.args.number) (dates_in c.args.waiting.now)
