@@ -6,7 +6,7 @@ ghost use Rattle.tmm_model.specs.Beliefs.{root_of, roots, rules_at};
 ghost use Rattle.tmm_model.specs.Moments.{Moment, At, moment_of};
 ghost use Rattle.tmm_model.specs.declared.point.PointName.TheVariants.{Begin};
 ghost use Rattle.list_theory.proofs.Elements.{In};
-ghost use Rattle.list_net.specs.Fits.{IsNetOf};
+ghost use Rattle.net_theory.specs.Fits.{IsNetOf};
 ghost use Rattle.spots.specs.Forest.{IsLive, moment_at};
 ghost use Rattle.spots.specs.OfLists.{HasOccurrences};
 ghost use Rattle.occ_tree.specs.OfLists.{IsTreeIn};
