@@ -1,7 +1,7 @@
 use Rattle.std.proofs.Common.{◌≡◌, map, take}
 use Rattle.tmm_model.specs.Moments.{moment_of}
 use Rattle.just_check.specs.Audited.{IsChecked, rows_of}
-use Rattle.just_check.proofs.auditing.audit.Given as goal
+use Rattle.just_check.proofs.auditing.take_all.Given as goal
 
 abbrev pub invariant-loop-row : goal.invariant-loop-row
 invariant-loop-row l = record {

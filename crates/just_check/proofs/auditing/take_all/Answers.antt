@@ -1,15 +1,12 @@
-use Rattle.std.proofs.Common.{◌≡◌, ◌∙◌, ◌∷◌, ◌++◌, [], suc, map, drop, refl, sym, ap, subst, arith}
+use Rattle.std.proofs.Common.{◌≡◌, ◌∙◌, ◌∷◌, ◌++◌, [], suc, map, drop, sym, ap, subst, arith}
 use Rattle.std.proofs.lemmas.List.{take_all}
 use Rattle.tmm_model.specs.Moments.{moment_of}
-use Rattle.spots.specs.Forest.{moment_at}
-use Rattle.occ_tree.specs.Places.{forest}
-use Rattle.just_check.specs.declared.auditing.Checked.{Checked}
 use Rattle.just_check.specs.Audited.{rows_of, Takes}
 use Rattle.just_check.specs.Believed.{believed_in_order}
-use Rattle.just_check.proofs.Answering.{checked_first, is_list, all_there}
+use Rattle.just_check.proofs.Answering.{is_list, all_there}
 use Rattle.just_check.proofs.Places.{mapped_more, mapped_parts}
 use Rattle.just_check.proofs.Prefixes.{next_joins, next_behind}
-use Rattle.just_check.proofs.auditing.audit.Goals as goal
+use Rattle.just_check.proofs.auditing.take_all.Goals as goal
 
 pub returns-then-not-branch : goal.returns-then-not-branch
 returns-then-not-branch c = (
@@ -56,9 +53,4 @@ returns c =
     )
 
 pub loop-row-init : goal.loop-row-init
-loop-row-init c =
-    let first : Checked = record { tree = c.make.result; nodes = c.new.result; decided = 0; expected = c.in_ok-expected_roots.field-0 } in
-    record {
-      checked = checked_first c.args.standing.now.present c.args.net.now.present first c.requires.network c.make.ensures.none c.new.ensures.items refl c.in_ok-expected_roots.ensures;
-      rows = ap (map (moment_at (forest first.tree))) c.new.ensures.items;
-    }
+loop-row-init c = record { checked = c.requires.before; rows = c.requires.none }
