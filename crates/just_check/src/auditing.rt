@@ -56,6 +56,23 @@ fn audit_by(
     ensures { IfOk result (λ good. IsTrue good ↔ (map moment_of rows.now ≡ believed_in_order standing.now.present)) }
 {
     let expected = expected_roots(alloc, standing)?;
+    audit_from(alloc, standing, net, rules, expected, rows)
+}
+
+// The same by what is declared to occur.
+fn audit_from(
+    alloc: Global,
+    standing: &Standing,
+    net: &DistNet,
+    rules: &RulesByKind,
+    expected: Expected,
+    rows: &[Occ],
+) -> Result<bool, NoMemory>
+    requires network { IsNetOf standing.now.present net.now.present }
+    requires rules { AreRules standing.now.present rules.now }
+    requires roots { AwaitsRoots (roots standing.now.present) expected }
+    ensures { IfOk result (λ good. IsTrue good ↔ (map moment_of rows.now ≡ believed_in_order standing.now.present)) }
+{
     let mut checked = Checked::none(alloc, expected);
     take_all(alloc, standing, net, rules, &mut checked, rows)
 }
