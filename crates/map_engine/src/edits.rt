@@ -7,7 +7,7 @@ ghost use Rattle.tmm_model.specs.Verdicts.{list_cause};
 ghost use Rattle.list_net.specs.Fits.{IsNetOf, NothingPending};
 ghost use Rattle.list_net.specs.Network.{PointsKeepNumbers};
 ghost use Rattle.map_engine.specs.Beliefs.{IsLeftOut};
-ghost use Rattle.map_engine.specs.Stops.{StopsEdit, NamesEdited};
+ghost use Rattle.map_core.specs.Stops.{StopsEdit, NamesEdited};
 
 use dist_net::DistNet;
 use list_net::{add_premise, erase_premise};
