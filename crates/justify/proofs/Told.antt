@@ -28,8 +28,9 @@ use Rattle.spots.specs.Spots.{spot_moment, row_moment}
 use Rattle.spots.proofs.Nodes.{moment_at-is}
 use Rattle.spots.proofs.Rows.{token_is}
 use Rattle.occ_tree.specs.declared.ranks.Ranked.{Ranked}
-use Rattle.justify.specs.Lines.{AreOrders, AreLinesOf, AreLinesOfAll, Hears}
-use Rattle.justify.specs.Shapes.{IsShapedLine}
+use Rattle.map_core.specs.Heard.{Hears}
+use Rattle.justify.specs.Lines.{AreOrders, AreLinesOf, AreLinesOfAll}
+use Rattle.map_core.specs.Shapes.{IsShapedLine}
 use Rattle.occ_tree.specs.Ranks.{nodes_of}
 
 AllZip-append : {A B : Type 0} (R : A → B → Type 0) (xs : List A) (us : List B) (ys : List A) (vs : List B) → AllZip R xs us → AllZip R ys vs → AllZip R (xs ++ ys) (us ++ vs)

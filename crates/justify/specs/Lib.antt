@@ -1,4 +1,3 @@
 pub mod Stops
 pub mod Grounds
 pub mod Lines
-pub mod Shapes

@@ -10,11 +10,10 @@
 
 mod grounds;
 mod lines;
-mod listener;
 mod reasons;
 mod upholders;
 mod walks;
 
-pub use listener::Listener;
+pub use map_core::Listener;
 pub use reasons::why;
 pub use walks::steps_between;

@@ -17,7 +17,7 @@ use Rattle.projection.specs.Queues.{IsTooLarge}
 use Rattle.std.specs.Option.{option_map}
 use Rattle.map_engine.specs.declared.beliefs.Beliefs.{Beliefs}
 use Rattle.map_engine.specs.Beliefs.{IsLeftOut}
-use Rattle.map_engine.specs.Stops.{StopsEdit, NamesEdited}
+use Rattle.map_core.specs.Stops.{StopsEdit, NamesEdited}
 
 -- the seven lists, one by one
 pub told : (old new : Standing) (c : CodeChanges) → IsLeftOut old new c.erased.items

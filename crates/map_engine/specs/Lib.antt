@@ -1,4 +1,3 @@
-pub mod Stops
 pub mod Views
 pub mod Beliefs
 pub mod Plain

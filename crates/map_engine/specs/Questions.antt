@@ -7,7 +7,7 @@ use Rattle.tmm_model.specs.declared.refusal.Stop.TheVariants.{Refused, NoMemory}
 use Rattle.tmm_model.specs.Maps.{TimeMap}
 use Rattle.tmm_model.specs.Questions.{point_cause}
 use Rattle.tmm_model.specs.Verdicts.{Cause, Tells}
-use Rattle.map_engine.specs.Stops.{IsUnbelieved, NamesOneOf}
+use Rattle.map_core.specs.Stops.{IsUnbelieved, NamesOneOf}
 
 -- the first cause of two points, from the left
 abbrev pub points_cause : TimeMap → QueryPoint → QueryPoint → Option Cause

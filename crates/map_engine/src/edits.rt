@@ -8,7 +8,7 @@ ghost use Rattle.net_theory.specs.Fits.{IsNetOf};
 ghost use Rattle.list_net.specs.Settled.{NothingPending};
 ghost use Rattle.net_theory.specs.KeptNumbers.{PointsKeepNumbers};
 ghost use Rattle.map_engine.specs.Beliefs.{IsLeftOut};
-ghost use Rattle.map_engine.specs.Stops.{StopsEdit, NamesEdited};
+ghost use Rattle.map_core.specs.Stops.{StopsEdit, NamesEdited};
 
 use dist_net::DistNet;
 use list_net::{add_premise, erase_premise};

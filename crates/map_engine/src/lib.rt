@@ -16,7 +16,6 @@ mod beliefs;
 mod changes;
 mod edits;
 mod kept_view;
-mod map_core;
 mod moved;
 mod net_map;
 mod next;

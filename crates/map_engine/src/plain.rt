@@ -4,13 +4,11 @@ ghost use Rattle.tmm_model.specs.Standing.{empty_list};
 
 use crate::beliefs::{Beliefs, project, project_and_compare};
 use crate::edits::{apply_edit, roll_back};
-use crate::map_core::{MapCore, Pending};
 use crate::questions::{ask_between, bounds_between, path_between, tell_why};
 use crate::view::{audited, told_rows};
 use dist_net::DistNet;
-use justify::Listener;
+use map_core::{Counter, Listener, MapCore, Pending};
 use premise_list::Standing;
-use projection::Counter;
 use protections::copied;
 use std::alloc::Global;
 use std::marker::Model;

@@ -12,11 +12,12 @@ ghost use Rattle.spots.specs.OfLists.{IsForestOf, HasOccurrences};
 ghost use Rattle.spots.specs.Spots.{IsSpot, spot_moment};
 ghost use Rattle.occ_tree.specs.Places.{forest};
 ghost use Rattle.supports.specs.TimeMaps.{IsTimeMap};
-ghost use Rattle.justify.specs.Lines.{AreWhy, Hears, HearsNothing};
+ghost use Rattle.map_core.specs.Heard.{AreWhy, Hears, HearsNothing};
 ghost use Rattle.map_engine.specs.Questions.{points_cause, StopsPoints, NamesPoints};
-ghost use Rattle.map_engine.specs.Stops.{StopsQuery, NamesRefused};
+ghost use Rattle.map_core.specs.Stops.{StopsQuery, NamesRefused};
 
-use justify::{Listener, steps_between, why};
+use justify::{steps_between, why};
+use map_core::Listener;
 use spots::Spot;
 use std::alloc::Global;
 use supports::TimeMap;

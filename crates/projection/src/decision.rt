@@ -16,10 +16,10 @@ ghost use Rattle.projection.specs.Decisions.{outcome_at, AreLive, tried_at};
 use crate::rule::text_in_time;
 use arrayvec::ArrayVec;
 use dist_net::DistNet;
+use map_core::Counter;
 use occ_tree::Tree;
 use premise_list::Standing;
 use spots::Spot;
-use std::marker::Model;
 use supports::{Guesses, TimeMap, first_supported, supporter};
 use tmm_model::Name;
 
@@ -34,44 +34,6 @@ pub enum Decision {
     Barred { exception: usize },
     /// Its effect would begin after the horizon.
     Beyond,
-}
-
-/// How many decisions have been made, up to the greatest number that it can hold.
-#[derive(Drop)]
-pub struct Counter {
-    count: u64,
-}
-
-impl Model for Counter {
-    ghost use Rattle.std.specs.Prelude.{ℕ};
-
-    ghost Value = { ℕ };
-
-    ghost view = { λ c. c.count };
-}
-
-impl Counter {
-    /// A counter of no decisions.
-    pub fn zero() -> Counter
-        ensures { result ≡ 0 }
-    {
-        Counter { count: 0 }
-    }
-
-    /// How many decisions were counted, at most 2^64 - 1.
-    pub fn value(&self) -> u64
-        ensures { result ≡ self.now }
-    {
-        self.count
-    }
-
-    // Counts one decision more.
-    pub(crate) fn raise(&mut self)
-        ensures counted { self.new ≡ min (self.old + 1) 18446744073709551615 }
-        ensures kept { self.old ≤ self.new }
-    {
-        self.count = self.count.saturating_add(1);
-    }
 }
 
 /// Decides a standing rule on the kind of the event at the node `trigger`, among the nodes of the

@@ -21,12 +21,12 @@ ghost use Rattle.projection.specs.Places.{name_at, IsRuleAt};
 ghost use Rattle.projection.specs.Projecting.{IsStarted, IsGrowingWith, Settles, FiresAmong, left};
 ghost use Rattle.projection.specs.Queues.{Queues, weight_at, IsTooLarge};
 
-use crate::decision::Counter;
 use crate::judging::is_free;
 use crate::kinds::RulesByKind;
 use crate::pending::{Pending, Queue};
 use crate::rule::{due_by, text_at};
 use dist_net::DistNet;
+use map_core::Counter;
 use occ_tree::{Order, Tree};
 use premise_list::Standing;
 use std::alloc::Global;

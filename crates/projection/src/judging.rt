@@ -15,9 +15,9 @@ ghost use Rattle.projection.specs.Decisions.{tried_at};
 ghost use Rattle.projection.specs.Places.{name_at, IsRuleAt};
 ghost use Rattle.projection.specs.Verdicts.{verdict_of};
 
-use crate::decision::Counter;
 use crate::rule::{text_at, text_in_time};
 use dist_net::DistNet;
+use map_core::Counter;
 use occ_tree::Tree;
 use premise_list::Standing;
 use spots::Spot;

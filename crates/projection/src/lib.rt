@@ -20,9 +20,10 @@ mod pending;
 mod rule;
 mod weight;
 
-pub use decision::{Counter, Decision, decide};
+pub use decision::{Decision, decide};
 pub use growth::{Projected, rebuild};
 pub use judging::{Verdict, judge};
 pub use kinds::RulesByKind;
 pub use known::KnownKinds;
+pub use map_core::Counter;
 pub use weight::{KindCount, weight_after, weight_of};

@@ -14,8 +14,7 @@ ghost use Rattle.tmm_session.specs.LongLines.{Step-long};
 
 use crate::told::{ReplyKind, Told};
 use crate::why_text::WhyText;
-use map_engine::MapCore;
-use projection::Counter;
+use map_core::{Counter, MapCore};
 use replies::{
     Word, reply_answer, reply_bounds, reply_check, reply_dump, reply_list, reply_no, reply_number,
     reply_ok, reply_path, reply_why,

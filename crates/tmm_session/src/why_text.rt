@@ -2,7 +2,7 @@
 ghost use Rattle.std.specs.Prelude.{◌≡◌, ℕ};
 ghost use Rattle.tmm_model.specs.Replies.{why_lines};
 
-use justify::Listener;
+use map_core::Listener;
 use replies::put_reason;
 use tmm_model::{NoMemory, Seq, WhyLine};
 

@@ -1,17 +1,15 @@
 -- Why a point that a question names has no spot: a refusal, or want of memory for the refused word.
 use Rattle.std.specs.Prelude.{◌≡◌, ℕ, List, [], ◌∷◌, Option, Some, None, IsSome}
 use Rattle.tmm_model.specs.declared.point.Occ.{Occ}
-use Rattle.tmm_model.specs.declared.point.PointName.TheVariants.{Begin}
 use Rattle.tmm_model.specs.declared.point.QueryPoint.{QueryPoint}
 use Rattle.tmm_model.specs.declared.point.QueryPoint.TheVariants.{Declared, Derived}
-use Rattle.tmm_model.specs.declared.refusal.Refusal.{Refusal}
-use Rattle.tmm_model.specs.declared.refusal.Refusal.TheVariants.{Unknown, Sort as IllSorted}
 use Rattle.tmm_model.specs.declared.refusal.Stop.{Stop}
 use Rattle.tmm_model.specs.declared.refusal.Stop.TheVariants.{Refused, NoMemory}
 use Rattle.tmm_model.specs.Maps.{TimeMap}
 use Rattle.tmm_model.specs.Points.{occ_word}
 use Rattle.tmm_model.specs.Questions.{point_cause, derived_cause, why_cause}
 use Rattle.tmm_model.specs.Verdicts.{Cause, Tells, unknown, ill_sorted}
+use Rattle.map_core.specs.Naming.{Names}
 
 -- only the word of a derived occurrence that is not believed asks for memory
 abbrev pub StopsPoint : TimeMap → QueryPoint → Stop → Type 0
@@ -36,27 +34,10 @@ StopsUnknown o NoMemory = Unit {0}
 
 -- ---- how a refusal names what is refused
 
--- the same declared point, or the same derived occurrence
-abbrev pub IsSamePoint : QueryPoint → QueryPoint → Type 0
-IsSamePoint (Declared p) (Declared q) = p ≡ q
-IsSamePoint (Derived o) (Derived u) = (o.root ≡ u.root) × (o.rules.items ≡ u.rules.items)
-IsSamePoint _ _ = ⊥
-
--- the refusal is of a word that is unknown or of another sort, and names it as this very point
-abbrev pub Names : QueryPoint → Refusal → Type 0
-Names point (Unknown named) = IsSamePoint named point
-Names point (IllSorted named) = IsSamePoint named point
-Names point _ = ⊥
-
 -- a refusal names the point as the question does
 abbrev pub NamesPoint : QueryPoint → Stop → Type 0
 NamesPoint point (Refused refusal) = Names point refusal
 NamesPoint point NoMemory = Unit {0}
-
--- an occurrence with these rules as a question names it as a point
-abbrev pub point_of : Occ → List (List ℕ) → QueryPoint
-point_of o [] = Declared (Begin o.root)
-point_of o (r ∷ rules) = Derived o
 
 -- the cause, where there is one, is that this word is unknown or of another sort
 abbrev pub IsOfWord : List ℕ → Option Cause → Type 0

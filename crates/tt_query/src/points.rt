@@ -4,13 +4,14 @@ ghost use Rattle.tmm_model.specs.Lines.{IsWellFormedQueryPoint, IsWellFormedOcc}
 ghost use Rattle.tmm_model.specs.Maps.{built};
 ghost use Rattle.tmm_model.specs.Moments.{moment_of, moment_of_point};
 ghost use Rattle.tmm_model.specs.Questions.{point_cause, why_cause};
+ghost use Rattle.map_core.specs.Naming.{point_of};
 ghost use Rattle.dist_net.specs.Net.{Net};
 ghost use Rattle.spots.specs.Forest.{IsLive, moment_at};
 ghost use Rattle.spots.specs.OfLists.{IsForestOf, HasOccurrences};
 ghost use Rattle.spots.specs.Spots.{IsSpot, spot_moment};
 ghost use Rattle.occ_tree.specs.OfLists.{IsTreeOf};
 ghost use Rattle.occ_tree.specs.Places.{forest};
-ghost use Rattle.tt_query.specs.Stops.{StopsPoint, StopsWhy, StopsUnknown, NamesPoint, point_of};
+ghost use Rattle.tt_query.specs.Stops.{StopsPoint, StopsWhy, StopsUnknown, NamesPoint};
 
 use crate::refused::name_refused;
 use dist_net::DistNet;

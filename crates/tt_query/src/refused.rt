@@ -2,7 +2,8 @@
 ghost use Rattle.std.specs.Prelude.{◌≡◌, Option};
 ghost use Rattle.tmm_model.specs.Points.{point_word};
 ghost use Rattle.tmm_model.specs.Verdicts.{Cause, Tells, told_cause};
-ghost use Rattle.tt_query.specs.Stops.{IsOfWord, Names};
+ghost use Rattle.map_core.specs.Naming.{Names};
+ghost use Rattle.tt_query.specs.Stops.{IsOfWord};
 
 use tmm_model::{PointName, QueryPoint, Refusal};
 

@@ -3,7 +3,8 @@ use Rattle.tmm_model.specs.Maps.{built}
 use Rattle.spots.specs.Forest.{moment_at}
 use Rattle.occ_tree.specs.Ranks.{nodes_of}
 use Rattle.occ_tree.specs.Places.{forest}
-use Rattle.justify.specs.Lines.{AreLinesOfAll, Hears}
+use Rattle.map_core.specs.Heard.{Hears}
+use Rattle.justify.specs.Lines.{AreLinesOfAll}
 use Rattle.justify.proofs.lines.tell_all.Given as goal
 
 abbrev pub invariant-loop-rank : goal.invariant-loop-rank

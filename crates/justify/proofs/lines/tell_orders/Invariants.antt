@@ -4,7 +4,8 @@ use Rattle.tmm_model.specs.Maps.{built}
 use Rattle.tmm_model.specs.Reasons.{pairs_of}
 use Rattle.spots.specs.Forest.{moment_at}
 use Rattle.occ_tree.specs.Places.{forest}
-use Rattle.justify.specs.Lines.{AreOrders, Hears}
+use Rattle.map_core.specs.Heard.{Hears}
+use Rattle.justify.specs.Lines.{AreOrders}
 use Rattle.justify.proofs.lines.tell_orders.Given as goal
 
 abbrev pub invariant-loop-x : goal.invariant-loop-x

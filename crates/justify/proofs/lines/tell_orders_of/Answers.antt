@@ -13,7 +13,8 @@ use Rattle.spots.specs.Forest.{moment_at}
 use Rattle.spots.specs.Spots.{spot_moment}
 use Rattle.occ_tree.specs.Places.{forest}
 use Rattle.spots.proofs.Nodes.{node_at}
-use Rattle.justify.specs.Lines.{IsInOrder, AreOrders, Hears}
+use Rattle.map_core.specs.Heard.{Hears}
+use Rattle.justify.specs.Lines.{IsInOrder, AreOrders}
 use Rattle.justify.proofs.Told.{end_in_use, hears_more, more_orders, pairs_are}
 use Rattle.justify.proofs.lines.tell_orders_of.Goals as goal
 

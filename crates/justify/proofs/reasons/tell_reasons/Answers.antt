@@ -9,7 +9,8 @@ use Rattle.spots.specs.Forest.{IsLive, moment_at}
 use Rattle.occ_tree.specs.declared.ranks.Ranked.{Ranked}
 use Rattle.occ_tree.specs.Ranks.{nodes_of}
 use Rattle.occ_tree.specs.Places.{forest}
-use Rattle.justify.specs.Lines.{AreLinesOfAll, AreWhy}
+use Rattle.map_core.specs.Heard.{AreWhy}
+use Rattle.justify.specs.Lines.{AreLinesOfAll}
 use Rattle.justify.proofs.AllTold.{reasons_are}
 use Rattle.justify.proofs.Told.{hears_so}
 use Rattle.justify.proofs.reasons.tell_reasons.Goals as goal

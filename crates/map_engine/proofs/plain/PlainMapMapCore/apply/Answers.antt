@@ -9,7 +9,7 @@ use Rattle.projection.specs.Queues.{IsTooLarge}
 use Rattle.premise_list.specs.States.{States}
 use Rattle.map_engine.specs.Beliefs.{IsLeftOut}
 use Rattle.map_engine.specs.Plain.{MapState}
-use Rattle.map_engine.specs.Stops.{StopsEdit}
+use Rattle.map_core.specs.Stops.{StopsEdit}
 use Rattle.map_engine.proofs.Told.{none_pending, too_large, named_large}
 use Rattle.map_engine.proofs.plain.PlainMapMapCore.apply.Goals as goal
 

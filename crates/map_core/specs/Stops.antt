@@ -16,7 +16,7 @@ use Rattle.tmm_model.specs.Standing.{Standing}
 use Rattle.tmm_model.specs.Transcript.{RefusesEdit}
 use Rattle.tmm_model.specs.Verdicts.{Cause, Tells, name_cause}
 use Rattle.premise_list.specs.Judged.{NamesPlainly}
-use Rattle.tt_query.specs.Stops.{Names, point_of}
+use Rattle.map_core.specs.Naming.{Names, point_of}
 
 -- why an edit is not made: a refusal has its cause, and there may be no memory
 abbrev pub StopsEdit : Standing → Edit → Stop → Type 0

@@ -12,12 +12,12 @@ ghost use Rattle.tmm_model.specs.Moments.{moment_of, moment_of_point};
 ghost use Rattle.tmm_model.specs.Paths.{GivesPath};
 ghost use Rattle.tmm_model.specs.Questions.{query_cause};
 ghost use Rattle.tmm_model.specs.Standing.{Standing as List};
-ghost use Rattle.justify.specs.Lines.{AreWhy, Hears, HearsNothing};
-ghost use Rattle.map_engine.specs.Stops.{StopsEdit, NamesEdited, StopsQuery, NamesRefused};
+ghost use Rattle.map_core.specs.Heard.{AreWhy, Hears, HearsNothing};
+ghost use Rattle.map_core.specs.Stops.{StopsEdit, NamesEdited, StopsQuery, NamesRefused};
 
-use justify::Listener;
+use crate::counter::Counter;
+use crate::listener::Listener;
 use premise_list::Standing;
-use projection::Counter;
 use std::alloc::Global;
 use tmm_model::{
     Answer, Bound, Changes, Edit, ListRow, Name, NoMemory, Occ, Query, QueryPoint, Report, Seq,

@@ -1,0 +1,4 @@
+pub mod Naming
+pub mod Shapes
+pub mod Heard
+pub mod Stops
