@@ -103,10 +103,7 @@ type Held = (usize, &'static str, i32, i32, Option<usize>);
 // Which token of a list holds a fact from a date to another, and whether any does.
 fn held(tokens: &Lists<'_>, pair: &Pair, case: &Held) -> Option<(Option<usize>, bool)> {
     let (own, fact, p, q, _) = *case;
-    if own >= tokens.count()
-        || !are_by_date(&Dates, tokens)
-        || !is_class_list(tokens, own)
-    {
+    if own >= tokens.count() || !are_by_date(&Dates, tokens) || !is_class_list(tokens, own) {
         return None;
     }
     let (p, q) = ((0, p, 8), (0, q, 8));
@@ -117,10 +114,7 @@ fn held(tokens: &Lists<'_>, pair: &Pair, case: &Held) -> Option<(Option<usize>, 
 
 // Why the token at a place does not support its fact from a date to another, where no token does.
 fn fault(tokens: &Lists<'_>, pair: &Pair, k: Place, p: i32, q: i32) -> Option<Fault> {
-    if k.list >= tokens.count()
-        || !are_by_date(&Dates, tokens)
-        || !is_class_list(tokens, k.list)
-    {
+    if k.list >= tokens.count() || !are_by_date(&Dates, tokens) || !is_class_list(tokens, k.list) {
         return None;
     }
     let token = tokens.list(k.list).get(k.at)?;
