@@ -1,19 +1,11 @@
-"""Drives `tmm`, a time map manager, as a child process.
-
-    import tmm
-
-    with tmm.TimeMap() as time_map:
-        time_map.point("a")
-        time_map.point("b")
-        time_map.dist("d", "a", "b", 3, 7)
-        print(time_map.bounds("a", "b"))    # Bounds(lower=3, upper=7)
+"""The client: replies as values, `TimeMap`, which gives line by line, and `run_script`, which gives all at once.
 
 `TimeMap` has a method for each line of the language, and takes each answer before it gives the next
-line. `run_script` gives a whole script at once. Both read replies by `parse_replies`.
-docs/SCRIPT.md says what lines and replies mean, docs/CLIENTS.md how a program drives `tmm`.
+line. Both read replies by `parse_replies`.
 """
 
 import os
+import shutil
 import subprocess
 from dataclasses import dataclass
 from enum import Enum
@@ -270,6 +262,10 @@ Reply = Union[Changes, Bounds, Walk, Answer, Why, Check, Listing, Dump, Size, Au
 
 class TmmError(Exception):
     """All that this module raises, but for a wrong argument and a program that cannot be started."""
+
+
+class NoProgram(TmmError, FileNotFoundError):
+    """There is no program to start, and none is built from here."""
 
 
 class Refused(TmmError):
@@ -552,13 +548,30 @@ _READERS: Dict[str, Callable[[List[str], List[_Detail]], Reply]] = {
 # ---- the program
 
 
+# The checkout that this file stands in, where it is not installed elsewhere.
+_CHECKOUT = Path(__file__).resolve().parents[3]
+
+
 def find_program() -> str:
-    """What the environment variable TMM names, else the `tmm` of this repository, else that of PATH."""
+    """What the environment variable TMM names, else the `tmm` of PATH, else that of this checkout.
+
+    Nothing is built: where the checkout has no built program, that raises `NoProgram`.
+    """
     named = os.environ.get("TMM")
     if named:
         return named
-    beside = Path(__file__).resolve().parents[2] / "tmm"
-    return str(beside) if beside.is_file() else "tmm"
+    on_path = shutil.which("tmm")
+    if on_path:
+        return on_path
+    script = _CHECKOUT / "tmm"
+    if not (script.is_file() and (_CHECKOUT / "crates" / "tmm_cli").is_dir()):
+        raise NoProgram("there is no program `tmm` on PATH: let the environment variable TMM name one")
+    if not (_CHECKOUT / "crates" / "tmm_cli" / "out" / "tmm_cli").is_file():
+        raise NoProgram(
+            f"tmm is not built: run ./prove in {_CHECKOUT}, which proves and builds it,"
+            " or let the environment variable TMM name a program"
+        )
+    return str(script)
 
 
 def _encoded(line: str) -> bytes:

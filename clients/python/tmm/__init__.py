@@ -1,0 +1,96 @@
+"""Drives `tmm`, a time map manager, as a child process.
+
+    import tmm
+
+    with tmm.TimeMap() as time_map:
+        time_map.point("a")
+        time_map.point("b")
+        time_map.dist("d", "a", "b", 3, 7)
+        print(time_map.bounds("a", "b"))    # Bounds(lower=3, upper=7)
+
+docs/SCRIPT.md says what lines and replies mean, docs/CLIENTS.md how a program drives `tmm`.
+"""
+
+from tmm.client import (
+    Answer,
+    Audit,
+    Blame,
+    BlameCause,
+    Bounds,
+    Broken,
+    Cause,
+    Changes,
+    Check,
+    Clip,
+    Dump,
+    EffectReason,
+    Listing,
+    NoMemory,
+    NoProgram,
+    OrderReason,
+    OutOfMemory,
+    PremiseReason,
+    ProgramEnded,
+    ProtocolError,
+    Reason,
+    Refusal,
+    Refused,
+    RefusedForCycle,
+    Reply,
+    Row,
+    Side,
+    Size,
+    Step,
+    TimeMap,
+    TmmError,
+    Transcript,
+    Verdict,
+    Walk,
+    Why,
+    describe_status,
+    find_program,
+    parse_replies,
+    run_script,
+)
+
+__all__ = [
+    "Answer",
+    "Audit",
+    "Blame",
+    "BlameCause",
+    "Bounds",
+    "Broken",
+    "Cause",
+    "Changes",
+    "Check",
+    "Clip",
+    "Dump",
+    "EffectReason",
+    "Listing",
+    "NoMemory",
+    "NoProgram",
+    "OrderReason",
+    "OutOfMemory",
+    "PremiseReason",
+    "ProgramEnded",
+    "ProtocolError",
+    "Reason",
+    "Refusal",
+    "Refused",
+    "RefusedForCycle",
+    "Reply",
+    "Row",
+    "Side",
+    "Size",
+    "Step",
+    "TimeMap",
+    "TmmError",
+    "Transcript",
+    "Verdict",
+    "Walk",
+    "Why",
+    "describe_status",
+    "find_program",
+    "parse_replies",
+    "run_script",
+]
