@@ -1,12 +1,12 @@
-"""Tests of tmm_picture.py: which items a map has, where they are put, and that the picture is an SVG."""
+"""Tests of tmm.picture: which items a map has, where they are put, and that the picture is an SVG."""
 
 import unittest
 from typing import List
 from xml.etree import ElementTree
 
 import tmm
-import tmm_picture
-from tmm_picture import Drawing, Item, Look, Row
+from tmm import picture
+from tmm.picture import Drawing, Item, Look, Row
 
 DOOR = [
     "class door open shut",
@@ -30,8 +30,8 @@ DOOR = [
 def rows_after(lines: List[str]) -> List[Row]:
     """The rows of the map that a script leaves."""
     with tmm.TimeMap() as time_map:
-        tmm_picture.run_lines(time_map, lines)
-        return tmm_picture.rows_of(time_map)
+        picture.run_lines(time_map, lines)
+        return picture.rows_of(time_map)
 
 
 class RowsTest(unittest.TestCase):
@@ -77,29 +77,29 @@ class DrawingTest(unittest.TestCase):
         first = Item(Look.SPAN, 0, 500, "a")
         within = Item(Look.SPAN, 100, 200, "b")
         behind = Item(Look.SPAN, 600, 700, "c")
-        self.assertEqual(tmm_picture.in_lanes(drawing, [behind, within, first]), [[first, behind], [within]])
+        self.assertEqual(picture.in_lanes(drawing, [behind, within, first]), [[first, behind], [within]])
 
     def test_labels_take_their_room(self) -> None:
         drawing = Drawing(left=0, latest=1000)
         first = Item(Look.MARK, 0, 0, "a-name-of-some-length")
         second = Item(Look.MARK, 20, 20, "b")
-        self.assertEqual(tmm_picture.in_lanes(drawing, [first, second]), [[first], [second]])
+        self.assertEqual(picture.in_lanes(drawing, [first, second]), [[first], [second]])
 
     def test_ticks(self) -> None:
         for latest, step in ((1, 1), (12, 1), (13, 2), (60, 5), (61, 10), (480, 50), (10**9, 10**8)):
-            self.assertEqual(tmm_picture.tick_step(latest), step)
+            self.assertEqual(picture.tick_step(latest), step)
 
     def test_the_picture(self) -> None:
-        root = ElementTree.fromstring(tmm_picture.draw(rows_after(DOOR)))
+        root = ElementTree.fromstring(picture.draw(rows_after(DOOR)))
         self.assertEqual(root.tag, "{http://www.w3.org/2000/svg}svg")
         texts = {text.text: text.get("fill") for text in root.iter("{http://www.w3.org/2000/svg}text")}
-        self.assertEqual(texts["keep: open broken"], tmm_picture.BROKEN_COLOUR)
-        self.assertEqual(texts["see: light kept"], tmm_picture.KEPT_COLOUR)
+        self.assertEqual(texts["keep: open broken"], picture.BROKEN_COLOUR)
+        self.assertEqual(texts["see: light kept"], picture.KEPT_COLOUR)
         for text in ("points", "late", "door", "open held", "shut e/shuts", "day", "light sun", "push", "e"):
             self.assertIn(text, texts)
 
     def test_the_picture_of_an_empty_map(self) -> None:
-        ElementTree.fromstring(tmm_picture.draw([]))
+        ElementTree.fromstring(picture.draw([]))
 
 
 if __name__ == "__main__":

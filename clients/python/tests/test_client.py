@@ -1,4 +1,4 @@
-"""Tests of tmm.py, over the program that `find_program` finds.
+"""Tests of tmm.client, over the program that `find_program` finds.
 
 What is expected is written down from the examples and the tables of docs/SCRIPT.md.
 """
@@ -6,6 +6,7 @@ What is expected is written down from the examples and the tables of docs/SCRIPT
 import os
 import signal
 import sys
+import tempfile
 import unittest
 from pathlib import Path
 from typing import Iterator, List, Tuple
@@ -13,7 +14,7 @@ from unittest import mock
 
 import tmm
 
-REPOSITORY = Path(__file__).resolve().parents[2]
+REPOSITORY = Path(__file__).resolve().parents[3]
 
 
 def reply_of(text: str) -> tmm.Reply:
@@ -43,6 +44,12 @@ def python_program(source: str) -> List[str]:
         "    sys.stdout.flush()\n"
     )
     return [sys.executable, "-c", head + source]
+
+
+def program(path: Path) -> None:
+    """Puts a program there that only fails."""
+    path.write_text("#!/bin/sh\nexit 99\n", encoding="ascii")
+    path.chmod(0o755)
 
 
 class ParseTest(unittest.TestCase):
@@ -286,6 +293,9 @@ class ParseTest(unittest.TestCase):
             "1 dump 1\n  horizon 1000\n",
             "1 size\n",
             "1 audit no\n",
+            "1 bounds 0 0\n  in e\n",
+            "1 yes k\n  k late\n",
+            "1 memory\n  k late\n",
             "usage: tmm [demo N], N from 1 to 1000\n",
         ):
             with self.subTest(text=text), self.assertRaises(tmm.ProtocolError):
@@ -342,7 +352,7 @@ class TimeMapTest(unittest.TestCase):
             (tmm.Row(0, "held", "open", "e/shuts"), tmm.Row(10, "e", "push"), tmm.Row(11, "e/shuts", "shut")),
         )
         self.assertEqual(self.map.size(), 5)
-        self.assertIsNone(self.map.audit())
+        self.map.audit()
         self.assertEqual(
             self.map.dump(),
             tmm.Dump(
@@ -388,8 +398,8 @@ class TimeMapTest(unittest.TestCase):
         self.assertEqual(self.map.dump().premises[-1], "against apart open ringing")
         self.assertEqual(self.map.erase("apart"), tmm.Changes(erased=("apart",), loosened=("held",)))
         with self.assertRaises(tmm.Refused) as caught:
-            self.map.against("apart", "open", "open")
-        self.assertIs(caught.exception.cause, tmm.Cause.FORM)
+            self.map.against("apart", "open", "door")
+        self.assertEqual(caught.exception.refusal, tmm.Refusal(tmm.Cause.SORT, "door"))
 
     def test_the_line_of_each_premise_and_of_the_horizon(self) -> None:
         self.map.horizon(300)
@@ -755,10 +765,42 @@ class FindProgramTest(unittest.TestCase):
         with mock.patch.dict(os.environ, {"TMM": "/somewhere/tmm"}):
             self.assertEqual(tmm.find_program(), "/somewhere/tmm")
 
-    def test_then_the_script_of_the_repository(self) -> None:
-        with mock.patch.dict(os.environ):
+    def found(self, root: Path, path: str = "") -> str:
+        """What is found where the package stands in a checkout at `root`, without TMM."""
+        with mock.patch.dict(os.environ, {"PATH": path}), mock.patch("tmm.program.CHECKOUT", root):
             os.environ.pop("TMM", None)
-            self.assertEqual(tmm.find_program(), str(REPOSITORY / "tmm"))
+            return tmm.find_program()
+
+    def checkout(self, built: bool) -> Path:
+        """A folder that looks like a checkout. What stands for its programs only ever fails."""
+        root = Path(self.enterContext(tempfile.TemporaryDirectory()))
+        (root / "crates" / "tmm_cli" / "out").mkdir(parents=True)
+        program(root / "tmm")
+        if built:
+            program(root / "crates" / "tmm_cli" / "out" / "tmm_cli")
+        return root
+
+    def test_then_path(self) -> None:
+        root = self.checkout(built=True)
+        (root / "bin").mkdir()
+        program(root / "bin" / "tmm")
+        self.assertEqual(self.found(root, str(root / "bin")), str(root / "bin" / "tmm"))
+
+    def test_then_the_script_of_a_checkout_that_is_built(self) -> None:
+        root = self.checkout(built=True)
+        self.assertEqual(self.found(root), str(root / "tmm"))
+
+    def test_nothing_is_built(self) -> None:
+        with self.assertRaisesRegex(tmm.NoProgram, r"\./prove"):
+            self.found(self.checkout(built=False))
+
+    def test_no_checkout(self) -> None:
+        with self.assertRaisesRegex(tmm.NoProgram, "TMM"):
+            self.found(Path(self.enterContext(tempfile.TemporaryDirectory())))
+
+    def test_no_program_is_an_error_of_the_system_too(self) -> None:
+        with self.assertRaises(OSError):
+            self.found(self.checkout(built=False))
 
 
 if __name__ == "__main__":
