@@ -6,9 +6,11 @@
 #![tactic(auto)]
 
 mod demo;
+mod opening;
 mod run;
 #[cfg(test)]
 mod tests;
+mod usage;
 
 use crate::run::run;
 use std::env;
