@@ -5,6 +5,7 @@
 //! each other.
 #![tactic(auto)]
 
+mod command;
 mod demo;
 mod opening;
 mod run;

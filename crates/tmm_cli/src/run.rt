@@ -4,7 +4,8 @@ ghost use Rattle.std.specs.Io.KnownBytes.{Appends, Consumes, IsAtEnd};
 ghost use Rattle.tmm_io.specs.Causes.{Rose};
 ghost use Rattle.tmm_cli.specs.Program.{ProgramEnds, ScriptEnds, SummaryEnds};
 
-use crate::demo::{demo, demo_number};
+use crate::command::{Command, command_of};
+use crate::demo::demo;
 use crate::opening::Opens;
 use crate::usage::tell_usage;
 use map_engine::NetMap;
@@ -33,13 +34,11 @@ pub fn run<S: Source, K: Sink>(
     ensures source_faults { result ≢ Status.ReadFault → S.faults source.new ≡ S.faults source.old }
     ensures sink_faults { result ≢ Status.WriteFault → K.faults sink.new ≡ K.faults sink.old }
 {
-    if let Some(n) = demo_number(words) {
-        return run_demo::<NetMap, K>(alloc, n, sink);
+    match command_of(words) {
+        Command::Script => run_script::<NetMap, S, K>(alloc, source, sink),
+        Command::Demo(n) => run_demo::<NetMap, K>(alloc, n, sink),
+        Command::Usage => tell_usage(sink),
     }
-    if !words.is_empty() {
-        return tell_usage(sink);
-    }
-    run_script::<NetMap, S, K>(alloc, source, sink)
 }
 
 // Answers a script from the empty map on.
