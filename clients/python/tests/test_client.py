@@ -293,6 +293,9 @@ class ParseTest(unittest.TestCase):
             "1 dump 1\n  horizon 1000\n",
             "1 size\n",
             "1 audit no\n",
+            "1 bounds 0 0\n  in e\n",
+            "1 yes k\n  k late\n",
+            "1 memory\n  k late\n",
             "usage: tmm [demo N], N from 1 to 1000\n",
         ):
             with self.subTest(text=text), self.assertRaises(tmm.ProtocolError):
@@ -395,8 +398,8 @@ class TimeMapTest(unittest.TestCase):
         self.assertEqual(self.map.dump().premises[-1], "against apart open ringing")
         self.assertEqual(self.map.erase("apart"), tmm.Changes(erased=("apart",), loosened=("held",)))
         with self.assertRaises(tmm.Refused) as caught:
-            self.map.against("apart", "open", "open")
-        self.assertIs(caught.exception.cause, tmm.Cause.FORM)
+            self.map.against("apart", "open", "door")
+        self.assertEqual(caught.exception.refusal, tmm.Refusal(tmm.Cause.SORT, "door"))
 
     def test_the_line_of_each_premise_and_of_the_horizon(self) -> None:
         self.map.horizon(300)
@@ -764,7 +767,7 @@ class FindProgramTest(unittest.TestCase):
 
     def found(self, root: Path, path: str = "") -> str:
         """What is found where the package stands in a checkout at `root`, without TMM."""
-        with mock.patch.dict(os.environ, {"PATH": path}), mock.patch("tmm.client._CHECKOUT", root):
+        with mock.patch.dict(os.environ, {"PATH": path}), mock.patch("tmm.program.CHECKOUT", root):
             os.environ.pop("TMM", None)
             return tmm.find_program()
 

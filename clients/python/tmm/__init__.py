@@ -11,7 +11,21 @@
 docs/SCRIPT.md says what lines and replies mean, docs/CLIENTS.md how a program drives `tmm`.
 """
 
-from tmm.client import (
+from tmm.client import Mark, Supposition, TimeMap, Transcript, run_script
+from tmm.errors import (
+    NoProgram,
+    OutOfMemory,
+    ProgramEnded,
+    ProtocolError,
+    Refused,
+    RefusedForCycle,
+    TimedOut,
+    TmmError,
+    describe_status,
+)
+from tmm.program import find_program
+from tmm.replies import parse_replies
+from tmm.values import (
     Answer,
     Audit,
     Blame,
@@ -26,31 +40,18 @@ from tmm.client import (
     EffectReason,
     Listing,
     NoMemory,
-    NoProgram,
     OrderReason,
-    OutOfMemory,
     PremiseReason,
-    ProgramEnded,
-    ProtocolError,
     Reason,
     Refusal,
-    Refused,
-    RefusedForCycle,
     Reply,
     Row,
     Side,
     Size,
     Step,
-    TimeMap,
-    TmmError,
-    Transcript,
     Verdict,
     Walk,
     Why,
-    describe_status,
-    find_program,
-    parse_replies,
-    run_script,
 )
 
 __all__ = [
@@ -67,6 +68,7 @@ __all__ = [
     "Dump",
     "EffectReason",
     "Listing",
+    "Mark",
     "NoMemory",
     "NoProgram",
     "OrderReason",
@@ -83,7 +85,9 @@ __all__ = [
     "Side",
     "Size",
     "Step",
+    "Supposition",
     "TimeMap",
+    "TimedOut",
     "TmmError",
     "Transcript",
     "Verdict",

@@ -1,577 +1,55 @@
-"""The client: replies as values, `TimeMap`, which gives line by line, and `run_script`, which gives all at once.
+"""The client: `TimeMap`, which gives line by line, and `run_script`, which gives a whole script at once."""
 
-`TimeMap` has a method for each line of the language, and takes each answer before it gives the next
-line. Both read replies by `parse_replies`.
-"""
-
-import os
-import shutil
 import subprocess
 from dataclasses import dataclass
-from enum import Enum
-from pathlib import Path
 from types import TracebackType
-from typing import Callable, Dict, Iterable, Iterator, List, Optional, Sequence, Tuple, Type, TypeVar, Union
-
-# ---- what replies say
-
-
-class Side(Enum):
-    """What of its premise a step is."""
-
-    UPPER = "hi"
-    LOWER = "lo"
-    # no point is before `start`
-    BASE = "base"
-    # a span lasts at least 1
-    LENGTH = "length"
-
-
-@dataclass(frozen=True)
-class Step:
-    """By this side of this premise, `target` less `origin` is at most `weight`."""
-
-    premise: str
-    side: Side
-    origin: str
-    target: str
-    weight: int
-
-    def __str__(self) -> str:
-        return f"{self.premise} {self.side.value} {self.origin} {self.target} {self.weight}"
-
-
-class BlameCause(Enum):
-    """Why a token does not support a fact."""
-
-    # it does not surely begin in time
-    LATE = "late"
-    # another token clips it
-    CLIPPED = "clipped"
-    # it is a span that may end too early
-    ENDS = "ends"
-
-
-@dataclass(frozen=True)
-class Blame:
-    """A token that does not support a fact, and why; `by` is what clips it."""
-
-    token: str
-    cause: BlameCause
-    by: Optional[str] = None
-
-
-@dataclass(frozen=True)
-class Clip:
-    """A token, and the first that clips it."""
-
-    token: str
-    by: str
-
-
-@dataclass(frozen=True)
-class Broken:
-    """A broken protection: its interval may be out of order, or no token supports its fact.
-
-    So many blames as `more` says are not told.
-    """
-
-    protection: str
-    unordered: bool = False
-    blames: Tuple[Blame, ...] = ()
-    more: int = 0
-
-
-@dataclass(frozen=True)
-class Changes:
-    """What an edit changed."""
-
-    # premises that stand no longer
-    erased: Tuple[str, ...] = ()
-    # effects that are believed no longer, and those that are newly believed
-    left: Tuple[str, ...] = ()
-    entered: Tuple[str, ...] = ()
-    # tokens that are clipped no longer, and those that are newly clipped, or by another token
-    loosened: Tuple[str, ...] = ()
-    clips: Tuple[Clip, ...] = ()
-    # protections that are newly broken, and those that are broken no longer
-    broken: Tuple[Broken, ...] = ()
-    mended: Tuple[str, ...] = ()
-
-
-@dataclass(frozen=True)
-class Bounds:
-    """The least and the greatest distance of two points, None where there is no limit."""
-
-    lower: Optional[int]
-    upper: Optional[int]
-
-
-@dataclass(frozen=True)
-class Walk:
-    """The greatest distance of two points, None where there is no limit, and steps that give it."""
-
-    upper: Optional[int]
-    steps: Tuple[Step, ...] = ()
-
-
-class Verdict(Enum):
-    """Whether a fact holds throughout an interval."""
-
-    YES = "yes"
-    NO = "no"
-
-
-@dataclass(frozen=True)
-class Answer:
-    """Whether a fact holds: a yes has the token that supports it, a no has blames.
-
-    So many blames as `more` says are not told.
-    """
-
-    verdict: Verdict
-    supporter: Optional[str] = None
-    blames: Tuple[Blame, ...] = ()
-    more: int = 0
-
-
-@dataclass(frozen=True)
-class PremiseReason:
-    """The premise of this name declares it."""
-
-    premise: str
-
-
-@dataclass(frozen=True)
-class OrderReason:
-    """`first` is surely at or before `second`: `first` less `second` is at most `at_most`, by these steps."""
-
-    first: str
-    second: str
-    at_most: int
-    steps: Tuple[Step, ...]
-
-
-@dataclass(frozen=True)
-class EffectReason:
-    """The effect is what the rule makes of the event, where these tokens support the rule's facts.
-
-    None of the rule's exceptions, facts too, holds there.
-    """
-
-    effect: str
-    rule: str
-    event: str
-    supporters: Tuple[str, ...] = ()
-    exceptions: Tuple[str, ...] = ()
-
-
-Reason = Union[PremiseReason, OrderReason, EffectReason]
-
-
-@dataclass(frozen=True)
-class Why:
-    """What an occurrence rests on; each reason comes after those that it cites."""
-
-    reasons: Tuple[Reason, ...]
-
-
-@dataclass(frozen=True)
-class Check:
-    """The broken protections."""
-
-    broken: Tuple[Broken, ...] = ()
-
-
-@dataclass(frozen=True)
-class Row:
-    """A believed occurrence: its earliest date, its name, its kind or fact, and what clips it."""
-
-    earliest: int
-    occurrence: str
-    what: str
-    clipped_by: Optional[str] = None
-
-
-@dataclass(frozen=True)
-class Listing:
-    """All believed occurrences, by their earliest dates."""
-
-    rows: Tuple[Row, ...] = ()
-
-
-@dataclass(frozen=True)
-class Dump:
-    """The horizon, and the standing premises, each as the line that declares it; and the version."""
-
-    horizon: int
-    premises: Tuple[str, ...] = ()
-    version: int = 1
-
-
-@dataclass(frozen=True)
-class Size:
-    """The size of the map."""
-
-    number: int
-
-
-@dataclass(frozen=True)
-class Audit:
-    """What is kept was found anew, and is right: there is no other answer."""
-
-
-class Cause(Enum):
-    """Why a line is refused."""
-
-    LINE_TOO_LONG = "limit line"
-    FORM = "form"
-    TAKEN = "taken"
-    UNKNOWN = "unknown"
-    SORT = "sort"
-    TOO_MANY_PREMISES = "limit premises"
-    TOO_MANY_POINTS = "limit points"
-    CYCLE = "cycle"
-    MAP_TOO_LARGE = "limit size"
-    UNORDERED = "unordered"
-
-
-@dataclass(frozen=True)
-class Refusal:
-    """A line is refused, and nothing has changed.
-
-    `word` is the one that is taken, unknown or of the wrong sort. `sum` and `steps` are those of a cycle.
-    """
-
-    cause: Cause
-    word: Optional[str] = None
-    sum: Optional[int] = None
-    steps: Tuple[Step, ...] = ()
-
-
-@dataclass(frozen=True)
-class NoMemory:
-    """There was no memory for a line, and nothing has changed."""
-
-
-Reply = Union[Changes, Bounds, Walk, Answer, Why, Check, Listing, Dump, Size, Audit, Refusal, NoMemory]
-
-
-# ---- what can go wrong
-
-
-class TmmError(Exception):
-    """All that this module raises, but for a wrong argument and a program that cannot be started."""
-
-
-class NoProgram(TmmError, FileNotFoundError):
-    """There is no program to start, and none is built from here."""
-
-
-class Refused(TmmError):
-    """A line was refused. The map is as before, and takes further lines."""
-
-    def __init__(self, line: str, refusal: Refusal) -> None:
-        super().__init__(" ".join(filter(None, [f"`{line}` is refused:", refusal.cause.value, refusal.word])))
-        self.line = line
-        self.refusal = refusal
-
-    @property
-    def cause(self) -> Cause:
-        """Why the line was refused."""
-        return self.refusal.cause
-
-
-class RefusedForCycle(Refused):
-    """No dates keep the constraint together with those that stand.
-
-    The first step is of the refused constraint, and the others lead back to where it begins. Their
-    weights add up to `sum`, which is below 0.
-    """
-
-    def __init__(self, line: str, refusal: Refusal, total: int) -> None:
-        super().__init__(line, refusal)
-        self.sum = total
-        self.steps = refusal.steps
-
-
-class OutOfMemory(TmmError):
-    """There was no memory for a line. The map is as before, and takes further lines."""
-
-
-class ProgramEnded(TmmError):
-    """The program is there no longer, and its map with it.
-
-    `received` is what came of the reply that is due, or in a batch of all replies.
-    """
-
-    def __init__(self, status: int, received: str = "") -> None:
-        super().__init__(f"tmm ended: {describe_status(status)}")
-        self.status = status
-        self.received = received
-
-
-class ProtocolError(TmmError):
-    """What came is not the reply that is due: this is not `tmm`, or an exchange was not finished."""
-
-
-_STATUSES = {
-    0: "all lines are answered, and none is refused",
-    1: "all lines are answered, and some are refused",
-    2: "its words are wrong",
-    3: "a read failed",
-    4: "a write failed",
-    5: "there was no memory to begin with",
-    6: "the script has more than 2^30 bytes",
-    7: "all lines are answered, and some `memory`",
-    8: "its words could not be had",
-    70: "the program could not be built",
-}
-
-# The statuses that come after a reply to every line.
-_ALL_ANSWERED = (0, 1, 7)
-
-
-def describe_status(status: int) -> str:
-    """Says in words how the program ended. A negative number is that of a signal."""
-    if status < 0:
-        return f"signal {-status} stopped it"
-    return f"status {status}, {_STATUSES.get(status, 'which is none of its own')}"
-
-
-# ---- from the text of replies to values
-
-
-@dataclass
-class _Detail:
-    """A line behind two blanks, and the lines behind four that belong to it, as words."""
-
-    words: List[str]
-    parts: List[List[str]]
-
-
-def parse_replies(text: str) -> Iterator[Tuple[int, Reply]]:
-    """The replies in a text, each with the number of its line."""
-    lines: List[str] = []
-    for line in text.splitlines():
-        # Details are indented, so a line that is not begins the next reply.
-        if lines and not line.startswith(" "):
-            yield _parse_reply(lines)
-            lines = []
-        lines.append(line)
-    if lines:
-        yield _parse_reply(lines)
-
-
-def _parse_reply(lines: List[str]) -> Tuple[int, Reply]:
-    try:
-        number, verdict, *words = lines[0].split()
-        return int(number), _READERS[verdict](words, _details(lines[1:]))
-    except (IndexError, KeyError, ValueError) as error:
-        raise ProtocolError("this is no reply of tmm:\n" + "\n".join(lines)) from error
-
-
-def _details(lines: List[str]) -> List[_Detail]:
-    details: List[_Detail] = []
-    for line in lines:
-        if line.startswith("    "):
-            details[-1].parts.append(line.split())
-        else:
-            details.append(_Detail(line.split(), []))
-    return details
-
-
-def _words_of(details: List[_Detail]) -> List[List[str]]:
-    return [detail.words for detail in details]
-
-
-def _bound(word: str) -> Optional[int]:
-    return None if word == "*" else int(word)
-
-
-def _steps(lines: List[List[str]]) -> Tuple[Step, ...]:
-    steps = []
-    for premise, side, origin, target, weight in lines:
-        steps.append(Step(premise, Side(side), origin, target, int(weight)))
-    return tuple(steps)
-
-
-def _blames(lines: List[List[str]]) -> Tuple[Tuple[Blame, ...], int]:
-    blames = []
-    more = 0
-    for token, cause, *rest in lines:
-        # `and 3 more` is no blame. A token may be named `and`, but no cause is a number.
-        if token == "and" and cause.isdigit():
-            more = int(cause)
-        else:
-            blames.append(Blame(token, BlameCause(cause), rest[0] if rest else None))
-    return tuple(blames), more
-
-
-def _broken(words: List[str], parts: List[List[str]]) -> Broken:
-    _, protection, *rest = words
-    blames, more = _blames(parts)
-    return Broken(protection, rest == ["unordered"], blames, more)
-
-
-def _counted(word: str, number: int) -> None:
-    if int(word) != number:
-        raise ValueError("another number of details than is told")
-
-
-def _read_changes(words: List[str], details: List[_Detail]) -> Changes:
-    names: Dict[str, List[str]] = {"erased": [], "out": [], "in": [], "loose": [], "mended": []}
-    clips = []
-    broken = []
-    for detail in details:
-        if detail.words[0] == "clip":
-            _, token, _, by = detail.words
-            clips.append(Clip(token, by))
-        elif detail.words[0] == "broken":
-            broken.append(_broken(detail.words, detail.parts))
-        else:
-            word, name = detail.words
-            names[word].append(name)
-    return Changes(
-        erased=tuple(names["erased"]),
-        left=tuple(names["out"]),
-        entered=tuple(names["in"]),
-        loosened=tuple(names["loose"]),
-        clips=tuple(clips),
-        broken=tuple(broken),
-        mended=tuple(names["mended"]),
-    )
-
-
-def _read_bounds(words: List[str], details: List[_Detail]) -> Bounds:
-    lower, upper = words
-    return Bounds(_bound(lower), _bound(upper))
-
-
-def _read_walk(words: List[str], details: List[_Detail]) -> Walk:
-    (upper,) = words
-    return Walk(_bound(upper), _steps(_words_of(details)))
-
-
-def _read_yes(words: List[str], details: List[_Detail]) -> Answer:
-    (supporter,) = words
-    return Answer(Verdict.YES, supporter)
-
-
-def _read_no(words: List[str], details: List[_Detail]) -> Union[Answer, Refusal]:
-    # A `no` alone answers `ask`. One with a cause is a refusal.
-    if not words:
-        blames, more = _blames(_words_of(details))
-        return Answer(Verdict.NO, None, blames, more)
-    cause = Cause(" ".join(words) if words[0] == "limit" else words[0])
-    if cause is Cause.CYCLE:
-        return Refusal(cause, sum=int(words[1]), steps=_steps(_words_of(details)))
-    if cause in (Cause.TAKEN, Cause.UNKNOWN, Cause.SORT):
-        return Refusal(cause, words[1])
-    return Refusal(cause)
-
-
-def _read_why(words: List[str], details: List[_Detail]) -> Why:
-    reasons: List[Reason] = []
-    for detail in details:
-        if detail.words[0] == "premise":
-            _, premise = detail.words
-            reasons.append(PremiseReason(premise))
-        elif detail.words[0] == "order":
-            _, first, second, at_most = detail.words
-            reasons.append(OrderReason(first, second, int(at_most), _steps(detail.parts)))
-        else:
-            # `O by R on T`, then `with K1 .. Kn` and `unless g1 .. gm` where the rule has facts and
-            # exceptions. No occurrence has the name `unless`.
-            effect, _, rule, _, event, *rest = detail.words
-            end = rest.index("unless") if "unless" in rest else len(rest)
-            supporters, exceptions = rest[:end][1:], rest[end:][1:]
-            reasons.append(EffectReason(effect, rule, event, tuple(supporters), tuple(exceptions)))
-    return Why(tuple(reasons))
-
-
-def _read_check(words: List[str], details: List[_Detail]) -> Check:
-    _counted(words[0], len(details))
-    return Check(tuple(_broken(detail.words, detail.parts) for detail in details))
-
-
-def _read_listing(words: List[str], details: List[_Detail]) -> Listing:
-    _counted(words[0], len(details))
-    rows = []
-    for earliest, occurrence, what, *rest in _words_of(details):
-        rows.append(Row(int(earliest), occurrence, what, rest[1] if rest else None))
-    return Listing(tuple(rows))
-
-
-def _read_dump(words: List[str], details: List[_Detail]) -> Dump:
-    # The line that opens the version, where there is one, and the horizon come first, and are not counted.
-    version = 1
-    if details[0].words[0] == "tmm":
-        version = int(details[0].words[1])
-        details = details[1:]
-    _counted(words[0], len(details) - 1)
-    _, horizon = details[0].words
-    return Dump(int(horizon), tuple(" ".join(detail.words) for detail in details[1:]), version)
-
-
-def _read_size(words: List[str], details: List[_Detail]) -> Size:
-    (number,) = words
-    return Size(int(number))
-
-
-def _read_audit(words: List[str], details: List[_Detail]) -> Audit:
-    if words != ["yes"]:
-        raise ValueError(words)
-    return Audit()
-
-
-def _read_memory(words: List[str], details: List[_Detail]) -> NoMemory:
-    return NoMemory()
-
-
-_READERS: Dict[str, Callable[[List[str], List[_Detail]], Reply]] = {
-    "ok": _read_changes,
-    "bounds": _read_bounds,
-    "path": _read_walk,
-    "yes": _read_yes,
-    "no": _read_no,
-    "why": _read_why,
-    "check": _read_check,
-    "list": _read_listing,
-    "dump": _read_dump,
-    "size": _read_size,
-    "audit": _read_audit,
-    "memory": _read_memory,
-}
-
-
-# ---- the program
-
-
-# The checkout that this file stands in, where it is not installed elsewhere.
-_CHECKOUT = Path(__file__).resolve().parents[3]
-
-
-def find_program() -> str:
-    """What the environment variable TMM names, else the `tmm` of PATH, else that of this checkout.
-
-    Nothing is built: where the checkout has no built program, that raises `NoProgram`.
-    """
-    named = os.environ.get("TMM")
-    if named:
-        return named
-    on_path = shutil.which("tmm")
-    if on_path:
-        return on_path
-    script = _CHECKOUT / "tmm"
-    if not (script.is_file() and (_CHECKOUT / "crates" / "tmm_cli").is_dir()):
-        raise NoProgram("there is no program `tmm` on PATH: let the environment variable TMM name one")
-    if not (_CHECKOUT / "crates" / "tmm_cli" / "out" / "tmm_cli").is_file():
-        raise NoProgram(
-            f"tmm is not built: run ./prove in {_CHECKOUT}, which proves and builds it,"
-            " or let the environment variable TMM name a program"
-        )
-    return str(script)
+from typing import Callable, Dict, Iterable, List, Optional, Sequence, Tuple, Type, TypeVar, Union
+
+from tmm import words
+from tmm.errors import ALL_ANSWERED, OutOfMemory, ProgramEnded, ProtocolError, TimedOut, TmmError, refused
+from tmm.program import find_program
+from tmm.replies import parse_replies
+from tmm.stream import Stream, shown
+from tmm.values import (
+    Answer,
+    Audit,
+    Bounds,
+    Broken,
+    Cause,
+    Changes,
+    Check,
+    Dump,
+    EffectReason,
+    Listing,
+    NoMemory,
+    OrderReason,
+    Reason,
+    Refusal,
+    Reply,
+    Row,
+    Size,
+    Verdict,
+    Walk,
+    Why,
+)
+
+# Given after a line or several. It changes nothing, is never refused, and its reply begins with a number
+# of its own: what comes before that is the whole reply.
+_FENCE = b"bounds start start\n"
+
+# A line that begins so has a reply of one line, whatever it is, and needs no fence.
+_OF_ONE_LINE = frozenset(["bounds", "size", "audit", "point", "kind", "class"])
+
+_PREMISES = frozenset(
+    ["point", "dist", "class", "token", "span", "kind", "event", "rule", "protect", "against"]
+)
+
+FIRST_HORIZON = 1000
+
+ReplyKind = TypeVar("ReplyKind", Changes, Bounds, Walk, Answer, Why, Check, Listing, Dump, Size, Audit)
+
+# Called after each line with it and its reply, None for a comment or a blank line.
+Log = Callable[[str, Optional[Reply]], None]
 
 
 def _encoded(line: str) -> bytes:
@@ -583,45 +61,77 @@ def _encoded(line: str) -> bytes:
     return line.encode("utf-8", "surrogateescape") + b"\n"
 
 
-def _line(words: Sequence[str]) -> str:
-    for word in words:
-        # Such a word would be read as none or several, and with a line end even as another line.
-        if not word or any(part in word for part in " \t\r\n"):
-            raise ValueError(f"not a word of a script: {word!r}")
-    return " ".join(words)
+def _first_word(line: str) -> str:
+    """The first word of a line, nothing where it has none."""
+    return next(iter(line.split(None, 1)), "")
 
 
-def _clause(word: str, facts: Union[str, Sequence[str]]) -> List[str]:
-    """The word and the facts behind it, nothing where there are none."""
-    names = [facts] if isinstance(facts, str) else list(facts)
-    return [word, *names] if names else []
+@dataclass(frozen=True)
+class Mark:
+    """What stands at a moment, for `TimeMap.back`: the premises in their order, the horizon, the version."""
+
+    premises: Tuple[str, ...]
+    horizon: int
+    version: int
 
 
-def _bound_word(bound: Optional[int]) -> str:
-    return "*" if bound is None else str(bound)
+class Supposition:
+    """What `TimeMap.suppose` gives: a block whose edits are undone when it is left."""
 
+    def __init__(self, time_map: "TimeMap") -> None:
+        self._map = time_map
+        self._mark: Optional[Mark] = None
 
-# Given after each line. It changes nothing, is never refused, and its reply begins with a number of
-# its own: what comes before that is the whole reply to the line.
-_FENCE = b"bounds start start\n"
+    def keep(self) -> None:
+        """What the block has edited and will edit stays."""
+        self._mark = None
 
-ReplyKind = TypeVar("ReplyKind", Changes, Bounds, Walk, Answer, Why, Check, Listing, Dump, Size, Audit)
+    def __enter__(self) -> "Supposition":
+        self._mark = self._map.mark()
+        return self
+
+    def __exit__(
+        self,
+        kind: Optional[Type[BaseException]],
+        error: Optional[BaseException],
+        trace: Optional[TracebackType],
+    ) -> None:
+        # Of a map that is gone nothing can be undone, and the error that ended it is the one to tell.
+        if self._mark is not None and (error is None or self._map.is_usable):
+            self._map.back(self._mark)
 
 
 class TimeMap:
     """A map in a `tmm` of its own, which runs until `close`. It serves one thread at a time.
 
     Methods raise `Refused`, `RefusedForCycle` or `OutOfMemory`, after which the map is as before, and
-    `ProgramEnded` or `ProtocolError`, after which it is of no use.
+    `ProgramEnded`, `ProtocolError` or `TimedOut`, after which it is gone. Arguments that no line can have
+    are a `ValueError`, and then nothing is given.
     """
 
-    def __init__(self, command: Optional[Sequence[str]] = None) -> None:
-        """Starts the program: that of `find_program`, or the given command with its words."""
-        self.process = subprocess.Popen(
-            command or [find_program()], stdin=subprocess.PIPE, stdout=subprocess.PIPE
-        )
+    def __init__(
+        self,
+        command: Optional[Sequence[str]] = None,
+        *,
+        timeout: Optional[float] = None,
+        log: Optional[Log] = None,
+    ) -> None:
+        """Starts the program: that of `find_program`, or the given command with its words.
+
+        `timeout` is the most seconds that it may be silent while a reply is due, None for any number;
+        after that `TimedOut` is raised. `log` is called after each line. Raises `NoProgram` and `OSError`.
+        """
+        if timeout is not None and not timeout > 0:
+            raise ValueError(f"a timeout is more than 0 seconds, and not {timeout}")
+        self._stream = Stream(list(command) if command else [find_program()], timeout)
+        self._log = log
         self._lines_given = 0
-        self._closed = False
+        # Why the map is of no use, where it is.
+        self._fault: Optional[str] = None
+        # The standing premises by their names, in the order in which they were given.
+        self._premises: Dict[str, str] = {}
+        self._horizon = FIRST_HORIZON
+        self._version = 1
 
     def __enter__(self) -> "TimeMap":
         return self
@@ -634,97 +144,157 @@ class TimeMap:
     ) -> None:
         self.close()
 
+    @property
+    def process(self) -> "subprocess.Popen[bytes]":
+        """The program."""
+        return self._stream.process
+
+    @property
+    def is_usable(self) -> bool:
+        """Whether the map takes lines: it is not closed, and nothing went wrong with its program."""
+        return self._stream.is_open and self._fault is None
+
     def close(self) -> int:
-        """Ends the script, waits for the program, and gives its exit status."""
-        if not self._closed:
-            self._closed = True
-            # Takes what is still written too, so that the program can end.
-            self.process.communicate()
-        return self.process.returncode
+        """Ends the script, waits for the program, and gives its exit status.
+
+        A program that does not end though its input did is ended after 10 seconds.
+        """
+        return self._stream.close()
+
+    # ---- lines and replies
 
     def send(self, line: str) -> Optional[Reply]:
         """Gives one line of a script, and takes its reply. A comment or a blank line has none.
 
         A refusal is a reply here, and want of memory too: neither is raised.
         """
-        given = _encoded(line) + _FENCE
-        if self._closed:
-            raise ProgramEnded(self.process.returncode)
-        number = self._lines_given + 1
-        self._lines_given += 2
-        text = self._exchange(given, f"{number + 1} ")
-        replies = list(parse_replies(text))
-        if not replies:
-            return None
-        if [told for told, _ in replies] != [number]:
-            raise ProtocolError(f"this is not the reply to line {number}:\n{text}")
-        return replies[0][1]
+        return self._reply(line, _encoded(line), _first_word(line))
 
-    def _exchange(self, given: bytes, fence: str) -> str:
-        """Gives these bytes, and takes the lines before the one that begins with the number of the fence."""
-        assert self.process.stdin is not None and self.process.stdout is not None
-        received: List[str] = []
+    def send_all(self, lines: Iterable[str]) -> List[Optional[Reply]]:
+        """Gives lines of a script by one fence, and takes the reply to each, as `send` does."""
+        given = list(lines)
+        data = b"".join([_encoded(line) for line in given]) + _FENCE
+        self._want_usable()
+        first = self._lines_given + 1
+        fence = first + len(given)
         try:
-            self.process.stdin.write(given)
-            self.process.stdin.flush()
-        except BrokenPipeError:
-            raise self._ended(received) from None
-        while True:
-            line = self.process.stdout.readline().decode("ascii", "backslashreplace")
-            if line.startswith(fence):
-                return "".join(received)
-            received.append(line)
-            # Only at the end of the output a line is without its end.
-            if not line.endswith("\n"):
-                raise self._ended(received)
+            self._lines_given = fence
+            told = dict(parse_replies(shown(self._stream.lines(data, first, fence))))
+            replies = [told.get(number) for number in range(first, fence)]
+            for line, reply in zip(given, replies):
+                if isinstance(reply, Changes):
+                    self._note(line, reply)
+        except BaseException as error:
+            self._give_up(error)
+            raise
+        if self._log is not None:
+            for line, reply in zip(given, replies):
+                self._log(line, reply)
+        return replies
 
-    def _ended(self, received: List[str]) -> ProgramEnded:
-        return ProgramEnded(self.close(), "".join(received))
-
-    def _answer(self, kind: Type[ReplyKind], *words: str) -> ReplyKind:
-        line = _line(words)
-        reply = self.send(line)
-        if isinstance(reply, Refusal):
-            if reply.sum is not None:
-                raise RefusedForCycle(line, reply, reply.sum)
-            raise Refused(line, reply)
-        if isinstance(reply, NoMemory):
-            raise OutOfMemory(f"no memory for `{line}`")
-        if not isinstance(reply, kind):
-            raise ProtocolError(f"`{line}` is answered by {reply!r}")
+    def _reply(self, line: str, data: bytes, word: str) -> Optional[Reply]:
+        self._want_usable()
+        number = self._lines_given + 1
+        try:
+            if word in _OF_ONE_LINE:
+                self._lines_given = number
+                received = self._stream.line(data, number)
+            elif word == "ask":
+                received = self._ask(data, number)
+            else:
+                self._lines_given = number + 1
+                received = self._stream.lines(data + _FENCE, number, number + 1)
+            reply = None
+            if received:
+                replies = list(parse_replies(shown(received)))
+                if len(replies) != 1 or replies[0][0] != number:
+                    raise ProtocolError(f"this is not the reply to line {number}:\n{shown(received)}")
+                reply = replies[0][1]
+                if isinstance(reply, Changes):
+                    self._note(line, reply)
+        except BaseException as error:
+            self._give_up(error)
+            raise
+        if self._log is not None:
+            self._log(line, reply)
         return reply
+
+    def _ask(self, data: bytes, number: int) -> bytes:
+        """The reply to `ask`. Of these a `no` alone may have blames behind it, and wants a fence."""
+        self._lines_given = number
+        received = self._stream.line(data, number)
+        if not received.startswith(b"%d no\n" % number):
+            return received
+        self._lines_given = number + 1
+        return self._stream.lines(_FENCE, number, number + 1, received)
+
+    def _want_usable(self) -> None:
+        """Raises where the map takes no lines."""
+        if self._fault is not None:
+            raise ProtocolError(self._fault)
+        if not self._stream.is_open:
+            raise ProgramEnded(self.close())
+
+    def _give_up(self, error: BaseException) -> None:
+        """An exchange was not finished: whatever comes next would be taken for the reply to another line."""
+        if not isinstance(error, ProgramEnded):
+            self._fault = f"the map is of no use since an exchange was not finished: {error!r}"
+            self._stream.kill()
+
+    def _note(self, line: str, changes: Changes) -> None:
+        """Keeps what stands after an edit that was taken."""
+        first, *rest = line.split()
+        if first in _PREMISES:
+            self._premises[rest[0]] = " ".join([first, *rest])
+        elif first == "erase":
+            for name in changes.erased:
+                del self._premises[name]
+        elif first == "horizon":
+            self._horizon = int(rest[0])
+        else:
+            self._version = int(rest[0])
+
+    def _answer(self, kind: Type[ReplyKind], word: str, line: str) -> ReplyKind:
+        return _wanted(kind, line, self._reply(line, line.encode() + b"\n", word))
+
+    def _answers(self, kind: Type[ReplyKind], lines: List[str]) -> List[ReplyKind]:
+        return [_wanted(kind, line, reply) for line, reply in zip(lines, self.send_all(lines))]
 
     # ---- premises
 
     def point(self, name: str) -> Changes:
         """Declares a point."""
-        return self._answer(Changes, "point", name)
+        return self._answer(Changes, "point", f"point {words.name(name)}")
 
     def dist(
         self, name: str, origin: str, target: str, lower: Optional[int] = None, upper: Optional[int] = None
     ) -> Changes:
         """`lower <= target - origin <= upper`; one of the two may be None, for no bound."""
-        return self._answer(Changes, "dist", name, origin, target, _bound_word(lower), _bound_word(upper))
+        return self._answer(
+            Changes,
+            "dist",
+            f"dist {words.name(name)} {words.point(origin)} {words.point(target)} {words.bounds(lower, upper)}",
+        )
 
     def class_(self, name: str, *facts: str) -> Changes:
         """Declares a class and its facts, each of which contradicts the others."""
-        return self._answer(Changes, "class", name, *facts)
+        return self._answer(Changes, "class", " ".join(["class", words.name(name), *words.facts(facts, words.MOST_FACTS, 1)]))
 
     def token(self, name: str, fact: str) -> Changes:
         """The fact begins to hold at the token, and persists."""
-        return self._answer(Changes, "token", name, fact)
+        return self._answer(Changes, "token", f"token {words.name(name)} {words.name(fact)}")
 
     def span(self, name: str, fact: str) -> Changes:
         """The fact holds from NAME to NAME.end, at least 1 later."""
-        return self._answer(Changes, "span", name, fact)
+        return self._answer(Changes, "span", f"span {words.name(name)} {words.name(fact)}")
 
     def kind(self, name: str) -> Changes:
         """Declares a kind of event."""
-        return self._answer(Changes, "kind", name)
+        return self._answer(Changes, "kind", f"kind {words.name(name)}")
 
     def event(self, name: str, kind: str) -> Changes:
         """Declares an event of a kind."""
-        return self._answer(Changes, "event", name, kind)
+        return self._answer(Changes, "event", f"event {words.name(name)} {words.name(kind)}")
 
     def rule(
         self,
@@ -741,16 +311,30 @@ class TimeMap:
         Where facts are given, it does so only where each of them holds at the event; in version 2 it may
         have exceptions, and then does so only where none of these holds there.
         """
-        condition = [*_clause("if", given), *_clause("unless", unless)]
-        return self._answer(Changes, "rule", name, kind, str(lower), _bound_word(upper), effect, *condition)
+        condition = words.clause("if", given, words.MOST_CONDITIONS)
+        exceptions = words.clause("unless", unless, words.MOST_EXCEPTIONS)
+        return self._answer(
+            Changes,
+            "rule",
+            f"rule {words.name(name)} {words.name(kind)} {words.delay(lower, upper)} {words.name(effect)}"
+            f"{condition}{exceptions}",
+        )
 
     def protect(self, name: str, fact: str, begin: str, end: str) -> Changes:
         """The fact is to hold throughout the interval."""
-        return self._answer(Changes, "protect", name, fact, begin, end)
+        return self._answer(
+            Changes,
+            "protect",
+            f"protect {words.name(name)} {words.name(fact)} {words.point(begin)} {words.point(end)}",
+        )
 
     def against(self, name: str, one: str, other: str) -> Changes:
         """The two facts contradict each other, of whichever classes they are; in version 2 alone."""
-        return self._answer(Changes, "against", name, one, other)
+        if one == other:
+            raise ValueError(f"{one!r} does not contradict itself")
+        return self._answer(
+            Changes, "against", f"against {words.name(name)} {words.name(one)} {words.name(other)}"
+        )
 
     # ---- the other edits
 
@@ -759,53 +343,193 @@ class TimeMap:
 
         In it rules may have exceptions, and facts of two classes may contradict each other.
         """
-        return self._answer(Changes, "tmm", "2")
+        return self._answer(Changes, "tmm", "tmm 2")
 
     def horizon(self, date: int) -> Changes:
         """No effect is believed whose earliest date is past this one."""
-        return self._answer(Changes, "horizon", str(date))
+        return self._answer(Changes, "horizon", f"horizon {words.horizon(date)}")
 
     def erase(self, name: str) -> Changes:
         """Retracts a premise and all that mentions it."""
-        return self._answer(Changes, "erase", name)
+        return self._answer(Changes, "erase", f"erase {words.name(name)}")
+
+    def change(self, name: str, lower: Optional[int] = None, upper: Optional[int] = None) -> Tuple[Changes, Changes]:
+        """Gives a standing constraint other bounds. It then stands last.
+
+        Gives what erasing it changed, and what giving it anew did. A refusal leaves all as it was.
+        """
+        word, _, *points = self._premises.get(name, "none -").split()
+        if word != "dist":
+            raise ValueError(f"no constraint {name!r} stands")
+        line = f"dist {name} {' '.join(points[:2])} {words.bounds(lower, upper)}"
+        with self.suppose() as supposed:
+            both = self.erase(name), self._answer(Changes, "dist", line)
+            supposed.keep()
+        return both
+
+    # ---- trying out
+
+    @property
+    def premises(self) -> Tuple[str, ...]:
+        """The standing premises as lines of a script, in their order: those of `dump`, without asking."""
+        return tuple(self._premises.values())
+
+    def mark(self) -> Mark:
+        """What stands now, to come `back` to."""
+        return Mark(self.premises, self._horizon, self._version)
+
+    def back(self, mark: Mark) -> None:
+        """Undoes what was edited since the mark: the same premises stand in the same order.
+
+        Raises `OutOfMemory`, after which it may be tried again, and `TmmError` for version 2 of the
+        script, which no line takes back.
+        """
+        replies = self.send_all(self._lines_back(mark))
+        if not all(isinstance(reply, Changes) for reply in replies):
+            # On the way some rule may have brought about too much. Up to the date 0 none brings about anything.
+            lines = ["horizon 0", *self._lines_back(mark), f"horizon {mark.horizon}"]
+            for line, reply in zip(lines, self.send_all(lines)):
+                _wanted(Changes, line, reply)
+        if self._version != mark.version:
+            raise TmmError("version 2 of the script stays: no line takes it back")
+
+    def suppose(self) -> Supposition:
+        """A block that tries out: `with time_map.suppose() as supposed:`.
+
+        Where it is left, however that is, its edits are undone, unless `supposed.keep()` was called.
+        """
+        return Supposition(self)
+
+    def _lines_back(self, mark: Mark) -> List[str]:
+        """The edits from what stands to what stood. What was given before the first difference stays."""
+        same = 0
+        for stands, stood in zip(self._premises.values(), mark.premises):
+            if stands != stood:
+                break
+            same += 1
+        # What mentions a premise was given after it, so from the last one on each is erased alone.
+        erased = [f"erase {name}" for name in reversed(list(self._premises)[same:])]
+        horizon = [f"horizon {mark.horizon}"] if mark.horizon != self._horizon else []
+        return [*erased, *mark.premises[same:], *horizon]
 
     # ---- questions
 
     def bounds(self, origin: str, target: str) -> Bounds:
         """The tightest bounds on `target - origin`."""
-        return self._answer(Bounds, "bounds", origin, target)
+        return self._answer(Bounds, "bounds", _bounds_line(origin, target))
 
     def path(self, origin: str, target: str) -> Walk:
         """The upper bound on `target - origin`, and the steps of a walk that give it."""
-        return self._answer(Walk, "path", origin, target)
+        return self._answer(Walk, "path", _path_line(origin, target))
 
     def ask(self, fact: str, begin: str, end: str) -> Answer:
         """Does the fact hold throughout the interval?"""
-        return self._answer(Answer, "ask", fact, begin, end)
+        return self._answer(Answer, "ask", _ask_line(fact, begin, end))
 
-    def why(self, occurrence: str) -> Tuple[Reason, ...]:
-        """What the occurrence rests on."""
-        return self._answer(Why, "why", occurrence).reasons
+    def ask_all(self, questions: Iterable[Tuple[str, str, str]]) -> List[Answer]:
+        """`ask` for each fact and interval, by one fence. A refusal is raised when all are answered."""
+        return self._answers(Answer, [_ask_line(*question) for question in questions])
+
+    def bounds_all(self, pairs: Iterable[Tuple[str, str]]) -> List[Bounds]:
+        """`bounds` for each pair, by one fence. A refusal is raised when all are answered."""
+        return self._answers(Bounds, [_bounds_line(*pair) for pair in pairs])
+
+    def path_all(self, pairs: Iterable[Tuple[str, str]]) -> List[Walk]:
+        """`path` for each pair, by one fence. A refusal is raised when all are answered."""
+        return self._answers(Walk, [_path_line(*pair) for pair in pairs])
+
+    def dates(self, places: Optional[Iterable[str]] = None) -> Dict[str, Bounds]:
+        """The earliest and the latest date of each of these, or else of each declared point.
+
+        Declared points are events, tokens, spans and their ends too, in the order of their premises. A
+        latest date is None where there is no limit.
+        """
+        asked = self._points() if places is None else list(places)
+        return dict(zip(asked, self.bounds_all(("start", place) for place in asked)))
+
+    def _points(self) -> List[str]:
+        points = []
+        for premise in self._premises.values():
+            word, name, *_ = premise.split()
+            if word in ("point", "event", "token", "span"):
+                points.append(name)
+            if word == "span":
+                points.append(f"{name}.end")
+        return points
+
+    def why(self, occurrence: str, depth: Optional[int] = None) -> Tuple[Reason, ...]:
+        """What the occurrence rests on.
+
+        With a depth only so many steps are told: 1 for the reason of the occurrence itself with the orders
+        that it needs, 2 for those of what that cites too, and so on.
+        """
+        if depth is not None and words.number(depth) < 1:
+            raise ValueError(f"a depth is at least 1, and not {depth}")
+        reasons = self._answer(Why, "why", f"why {words.occurrence(occurrence)}").reasons
+        return reasons if depth is None else _down_to(reasons, occurrence, depth)
 
     def check(self) -> Tuple[Broken, ...]:
         """The broken protections."""
-        return self._answer(Check, "check").broken
+        return self._answer(Check, "check", "check").broken
 
     def list(self) -> Tuple[Row, ...]:
         """All believed occurrences, by their earliest dates."""
-        return self._answer(Listing, "list").rows
+        return self._answer(Listing, "list", "list").rows
 
     def dump(self) -> Dump:
         """The horizon, and the standing premises as lines of a script."""
-        return self._answer(Dump, "dump")
+        return self._answer(Dump, "dump", "dump")
 
     def size(self) -> int:
         """The size of the map."""
-        return self._answer(Size, "size").number
+        return self._answer(Size, "size", "size").number
 
     def audit(self) -> None:
         """Has what is believed found anew from the premises, and compared with what is kept."""
-        self._answer(Audit, "audit")
+        self._answer(Audit, "audit", "audit")
+
+
+def _bounds_line(origin: str, target: str) -> str:
+    return f"bounds {words.place(origin)} {words.place(target)}"
+
+
+def _path_line(origin: str, target: str) -> str:
+    return f"path {words.place(origin)} {words.place(target)}"
+
+
+def _ask_line(fact: str, begin: str, end: str) -> str:
+    return f"ask {words.name(fact)} {words.place(begin)} {words.place(end)}"
+
+
+def _wanted(kind: Type[ReplyKind], line: str, reply: Optional[Reply]) -> ReplyKind:
+    """The reply, where it is of this kind. Raises `Refused`, `OutOfMemory` and `ProtocolError`."""
+    if isinstance(reply, kind):
+        return reply
+    if isinstance(reply, Refusal):
+        raise refused(line, reply)
+    if isinstance(reply, NoMemory):
+        raise OutOfMemory(f"no memory for `{line}`")
+    raise ProtocolError(f"`{line}` is answered by {reply!r}")
+
+
+def _down_to(reasons: Tuple[Reason, ...], occurrence: str, depth: int) -> Tuple[Reason, ...]:
+    """The reasons that so many steps down from the occurrence lead to, in their order."""
+    cited = {occurrence}
+    for _ in range(depth - 1):
+        for reason in reasons:
+            if isinstance(reason, EffectReason) and reason.effect in cited:
+                cited = cited | {reason.event, *reason.supporters}
+    told: List[Reason] = []
+    orders: List[Reason] = []
+    for reason in reasons:
+        # The orders that an effect needs come directly before it.
+        if isinstance(reason, OrderReason):
+            orders.append(reason)
+            continue
+        if (reason.effect if isinstance(reason, EffectReason) else reason.premise) in cited:
+            told += [*orders, reason]
+        orders = []
+    return tuple(told)
 
 
 # ---- a whole script at once
@@ -822,11 +546,25 @@ class Transcript:
     status: int
 
 
-def run_script(lines: Iterable[str], command: Optional[Sequence[str]] = None) -> Transcript:
-    """Gives all lines to a program of their own. Raises `ProgramEnded` where some are not answered."""
+def run_script(
+    lines: Iterable[str], command: Optional[Sequence[str]] = None, *, timeout: Optional[float] = None
+) -> Transcript:
+    """Gives all lines to a program of their own.
+
+    Raises `ProgramEnded` where some are not answered, and `TimedOut` where that takes more than `timeout`
+    seconds; `NoProgram` and `OSError` as `TimeMap` does.
+    """
     script = b"".join(_encoded(line) for line in lines)
-    done = subprocess.run(command or [find_program()], input=script, stdout=subprocess.PIPE)
-    output = done.stdout.decode("ascii", "backslashreplace")
-    if done.returncode not in _ALL_ANSWERED:
+    try:
+        done = subprocess.run(
+            list(command) if command else [find_program()],
+            input=script,
+            stdout=subprocess.PIPE,
+            timeout=timeout,
+        )
+    except subprocess.TimeoutExpired:
+        raise TimedOut(f"the script is not answered within {timeout} s") from None
+    output = shown(done.stdout)
+    if done.returncode not in ALL_ANSWERED:
         raise ProgramEnded(done.returncode, output)
     return Transcript(dict(parse_replies(output)), done.returncode)

@@ -14,7 +14,9 @@ from dataclasses import fields, is_dataclass
 from enum import Enum
 from typing import Dict, Iterable, Iterator, List, Sequence, Tuple, Type, Union
 
-from tmm.client import (
+from tmm.errors import ProtocolError
+from tmm.replies import parse_replies
+from tmm.values import (
     Answer,
     Audit,
     Bounds,
@@ -26,13 +28,11 @@ from tmm.client import (
     NoMemory,
     OrderReason,
     PremiseReason,
-    ProtocolError,
     Refusal,
     Reply,
     Size,
     Walk,
     Why,
-    parse_replies,
 )
 
 Json = Union[None, int, str, List["Json"], Dict[str, "Json"]]
