@@ -496,7 +496,8 @@ class ProgramTest(WorkbenchTest):
             pid = Path(folder) / "pid"
             source = f"open({str(pid)!r}, 'w').write(str(os.getpid()))\nsignal.signal(15, signal.SIG_IGN)\n"
             begun = time.monotonic()
-            self.told(python_program(source + "time.sleep(600)"), timeout=3)
+            told = self.told(python_program(source + "time.sleep(600)"), timeout=3)
+            self.assertIn("within 3", told)
             self.assertLess(time.monotonic() - begun, 60)
             self.assertFalse(is_there(int(pid.read_text())))
 

@@ -27,7 +27,6 @@ file that another wrote 409, and 502 where the program failed: with an object th
 """
 
 import argparse
-import io
 import json
 import re
 import secrets
@@ -42,9 +41,10 @@ from types import FrameType
 from typing import Any, Callable, Dict, Iterator, List, Optional, Sequence, Tuple
 
 import tmm
-from tmm import network, picture
+from tmm import network, picture, words
 from tmm.client import _FENCE, _encoded
 from tmm.json_lines import as_json
+from tmm.stream import shown
 
 HOST = "127.0.0.1"
 # of a request; the largest script that a page edits is a part of it
@@ -89,95 +89,33 @@ class Fault(Exception):
 # ---- a program
 
 
-class TooLate(tmm.TmmError):
-    """The program gave no reply in time, and was stopped."""
-
-
 class LiveMap(tmm.TimeMap):
-    """A map that takes many lines at once, and whose program is stopped where it takes too long.
-
-    `command` is that of `TimeMap`, and `timeout` how many seconds the program has for what it is given.
-    """
-
-    def __init__(self, command: Optional[Sequence[str]], timeout: float) -> None:
-        super().__init__(command)
-        self.timeout = timeout
-        self.late = False
-
-    @contextmanager
-    def in_time(self) -> Iterator[None]:
-        """Stops the program where this takes too long. Raises `TooLate`."""
-        timer = threading.Timer(self.timeout, self.stop_late)
-        timer.daemon = True
-        timer.start()
-        try:
-            yield
-        except tmm.TmmError:
-            if self.late:
-                raise TooLate(f"tmm gave no reply within {self.timeout:g} s, and was stopped") from None
-            raise
-        finally:
-            timer.cancel()
-
-    def stop_late(self) -> None:
-        """Stops the program, which is at work for another thread."""
-        self.late = True
-        self.process.kill()
+    """A map that takes many lines at once and gives the texts of their replies, which nobody has to parse."""
 
     def stop(self) -> None:
         """Ends the program, whatever it does."""
-        self.process.kill()
-        self.close()
+        self._stream.kill()
 
     def texts(self, lines: Sequence[str]) -> List[str]:
-        """Gives lines by one write, and takes the text of each reply, empty for a line that has none.
+        """Gives lines by one fence, and takes the text of each reply, empty for a line that has none.
 
-        Raises `ProgramEnded`, `ProtocolError`, and `ValueError` for what is no line.
+        Raises what `TimeMap.send_all` raises.
         """
+        data = b"".join(map(_encoded, lines)) + _FENCE
+        self._want_usable()
         first = self._lines_given + 1
-        last = first + len(lines)
-        given = b"".join(map(_encoded, lines)) + _FENCE
-        self._lines_given = last
-        # Both pipes may be full at once, so it is written beside what is read.
-        writer = threading.Thread(target=self.write, args=(given,), daemon=True)
-        writer.start()
-        received = self.read_to(b"%d " % last)
-        writer.join()
-        told = [""] * len(lines)
-        for reply in re.split(r"\n(?=[^ ])", received):
-            number, _, _ = reply.partition(" ")
-            if reply and not (number.isdecimal() and first <= int(number) < last):
-                raise tmm.ProtocolError(f"this is not the reply to a line from {first} to {last - 1}:\n{reply}")
-            if reply:
-                told[int(number) - first] = reply
-        return told
-
-    def write(self, given: bytes) -> None:
-        """Gives these bytes. Where the program is gone, the end of its output tells that."""
-        assert self.process.stdin is not None
+        fence = first + len(lines)
         try:
-            self.process.stdin.write(given)
-            self.process.stdin.flush()
-        except OSError:
-            pass
-
-    def read_to(self, fence: bytes) -> str:
-        """What comes before the line that begins so."""
-        assert isinstance(self.process.stdout, io.BufferedReader)
-        # Each line is looked at with the end of the one before it.
-        received = bytearray(b"\n")
-        while True:
-            looked_at = len(received)
-            part = self.process.stdout.read1(1 << 16)
-            received += part
-            if not part:
-                raise tmm.ProgramEnded(self.close(), received[1:].decode("ascii", "backslashreplace"))
-            if not received[1:2].isdigit():
-                line, _, _ = received[1:200].partition(b"\n")
-                raise tmm.ProtocolError(f"this is no reply of tmm: {line.decode('ascii', 'backslashreplace')}")
-            place = received.find(b"\n" + fence, max(looked_at - len(fence) - 1, 0))
-            if place >= 0 and received.endswith(b"\n"):
-                return received[1:place].decode("ascii", "backslashreplace")
+            self._lines_given = fence
+            received = shown(self._stream.lines(data, first, fence))
+        except BaseException as error:
+            self._give_up(error)
+            raise
+        told = [""] * len(lines)
+        # A line that does not begin with a blank begins a reply.
+        for reply in filter(None, re.split(r"\n(?! |$)", received.removesuffix("\n"))):
+            told[int(reply.partition(" ")[0]) - first] = reply
+        return told
 
 
 # ---- a map and its programs
@@ -199,10 +137,8 @@ class Kept:
         """Goes on to these lines, to which it leads."""
         given = lines[len(self.lines) :]
         if given:
-            with self.map.in_time():
-                told = self.map.texts(given)
             # The program counts what it was asked too.
-            for number, reply in enumerate(told, start=len(self.lines) + 1):
+            for number, reply in enumerate(self.map.texts(given), start=len(self.lines) + 1):
                 _, blank, said = reply.partition(" ")
                 self.replies.append(f"{number}{blank}{said}" if reply else "")
             self.lines += given
@@ -304,9 +240,9 @@ class Desk:
 
     @contextmanager
     def asked(self, count: int) -> Iterator[Kept]:
-        """A program that stands after so many lines, to be asked in time."""
+        """A program that stands after so many lines, to be asked."""
         kept = self.after(count)
-        with self.dropping(kept), kept.map.in_time():
+        with self.dropping(kept):
             yield kept
 
     def keep(self, kept: Kept) -> None:
@@ -430,15 +366,12 @@ def ends_with_return(text: bytes) -> bool:
     return text.partition(b"\n")[0].endswith(b"\r")
 
 
-def shown(text: bytes) -> str:
+def text_of(text: bytes) -> str:
     """A script as a page shows it, without carriage returns: they are blanks to the program."""
     return text.decode("utf-8", "surrogateescape").replace("\r\n", "\n").replace("\r", " ")
 
 
 # ---- calls
-
-WORD = re.compile(r"[A-Za-z][A-Za-z0-9_-]*(/[A-Za-z][A-Za-z0-9_-]*)*(\.end)?")
-
 
 def is_text(value: Any) -> bool:
     """A text that has bytes: a page may send half of a character."""
@@ -451,9 +384,12 @@ def is_text(value: Any) -> bool:
     return True
 
 
-def is_word(value: Any) -> bool:
-    """A name, or that of the end of a span or of an effect."""
-    return isinstance(value, str) and WORD.fullmatch(value) is not None
+def is_place(value: Any) -> bool:
+    """What a question may name: a point or an occurrence."""
+    try:
+        return isinstance(value, str) and words.place(value) == value
+    except ValueError:
+        return False
 
 
 def is_number(value: Any) -> bool:
@@ -488,9 +424,9 @@ CALLS: Dict[str, Dict[str, Callable[[Any], bool]]] = {
         "rows": is_texts,
         "one_row": is_flag,
     },
-    "why": {"at": is_number, "occurrence": is_word},
-    "between": {"at": is_number, "from": is_word, "to": is_word},
-    "repairs": {"at": is_number, "protection": is_word},
+    "why": {"at": is_number, "occurrence": is_place},
+    "between": {"at": is_number, "from": is_place, "to": is_place},
+    "repairs": {"at": is_number, "protection": is_place},
     "prepare": {"line": is_number},
     "save": {"script": is_text, "over": is_flag},
     "close": {},
@@ -573,7 +509,7 @@ class Workbench:
             self.desks[name] = desk
         if least is not None:
             self.forget(least)
-        return {"map": name, "script": shown(known or b""), "file": self.file and self.file.path}
+        return {"map": name, "script": text_of(known or b""), "file": self.file and self.file.path}
 
     def forget(self, name: str) -> None:
         """Ends the programs of a map, if it is there."""
@@ -633,7 +569,7 @@ class Handler(BaseHTTPRequestHandler):
     disable_nagle_algorithm = True
     server: "Server"
 
-    def log_message(self, format: str, *words: Any) -> None:
+    def log_message(self, format: str, *values: Any) -> None:
         """Tells nothing."""
 
     def do_GET(self) -> None:
@@ -657,11 +593,13 @@ class Handler(BaseHTTPRequestHandler):
             self.refuse(fault)
         except ValueError as error:
             self.refuse(Fault(HTTPStatus.BAD_REQUEST, str(error)))
-        except (OSError, tmm.TmmError) as error:
-            if isinstance(error, (ConnectionError, TimeoutError)):
-                # the page is gone
-                raise
+        except tmm.TmmError as error:
             self.refuse(Fault(HTTPStatus.BAD_GATEWAY, str(error)))
+        except (ConnectionError, TimeoutError):
+            # The page is gone.
+            raise
+        except OSError as error:
+            self.refuse(Fault(HTTPStatus.BAD_GATEWAY, f"The program cannot be started: {error}"))
 
     def path_of(self, must_have_origin: bool) -> str:
         """The path behind the token, if the request is one to this server from a page of its own."""
@@ -740,7 +678,7 @@ class Server(ThreadingHTTPServer):
             file.read()
         self.pages = {name: read_page(name) for name, _ in PAGES.values()}
         self.token = secrets.token_urlsafe(18)
-        self.workbench = Workbench(file, lambda: LiveMap(command, timeout))
+        self.workbench = Workbench(file, lambda: LiveMap(command, timeout=timeout))
         super().__init__((HOST, port), Handler)
         self.names = (f"{HOST}:{self.server_port}", f"localhost:{self.server_port}")
 
@@ -779,7 +717,7 @@ def stop(number: int, frame: Optional[FrameType]) -> None:
 SIGNALS = (signal.SIGINT, signal.SIGTERM, signal.SIGHUP)
 
 
-def main(words: Sequence[str]) -> int:
+def main(arguments: Sequence[str]) -> int:
     """Serves a workbench until it is stopped, and gives the exit status."""
     parser = argparse.ArgumentParser(
         prog="python3 -m tmm workbench",
@@ -790,7 +728,7 @@ def main(words: Sequence[str]) -> int:
     parser.add_argument(
         "--timeout", metavar="SECONDS", type=float, default=TIMEOUT, help="for a reply; %(default)s by default"
     )
-    chosen = parser.parse_args(words)
+    chosen = parser.parse_args(arguments)
     try:
         server = Server(chosen.script, port=chosen.port, timeout=chosen.timeout)
     except (OSError, OverflowError) as error:
