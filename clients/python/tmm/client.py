@@ -3,10 +3,12 @@
 import subprocess
 from dataclasses import dataclass
 from types import TracebackType
-from typing import Callable, Dict, Iterable, List, Optional, Sequence, Tuple, Type, TypeVar, Union
+from typing import Callable, Dict, Iterable, List, Optional, Sequence, Set, Tuple, Type, TypeVar, Union
 
-from tmm import words
+from tmm import explain, words
 from tmm.errors import ALL_ANSWERED, OutOfMemory, ProgramEnded, ProtocolError, TimedOut, TmmError, refused
+from tmm.explain import Threats, WhyNot
+from tmm.handles import New
 from tmm.program import find_program
 from tmm.replies import parse_replies
 from tmm.stream import Stream, shown
@@ -130,6 +132,9 @@ class TimeMap:
         self._fault: Optional[str] = None
         # The standing premises by their names, in the order in which they were given.
         self._premises: Dict[str, str] = {}
+        self._facts: Set[str] = set()
+        # The last number of each word that `new` made names of.
+        self.names_made_up: Dict[str, int] = {}
         self._horizon = FIRST_HORIZON
         self._version = 1
 
@@ -148,6 +153,15 @@ class TimeMap:
     def process(self) -> "subprocess.Popen[bytes]":
         """The program."""
         return self._stream.process
+
+    @property
+    def new(self) -> New:
+        """Declares as the methods below do, gives handles, and makes up names."""
+        return New(self)
+
+    def is_declared(self, name: str) -> bool:
+        """Whether a premise or a fact of this name stands, without asking. All names share one space."""
+        return name in self._premises or name in self._facts
 
     @property
     def is_usable(self) -> bool:
@@ -246,9 +260,13 @@ class TimeMap:
         first, *rest = line.split()
         if first in _PREMISES:
             self._premises[rest[0]] = " ".join([first, *rest])
+            if first == "class":
+                self._facts.update(rest[1:])
         elif first == "erase":
             for name in changes.erased:
-                del self._premises[name]
+                word, _, *others = self._premises.pop(name).split()
+                if word == "class":
+                    self._facts.difference_update(others)
         elif first == "horizon":
             self._horizon = int(rest[0])
         else:
@@ -374,6 +392,11 @@ class TimeMap:
         """The standing premises as lines of a script, in their order: those of `dump`, without asking."""
         return tuple(self._premises.values())
 
+    @property
+    def horizon_date(self) -> int:
+        """The date up to which effects are believed, without asking."""
+        return self._horizon
+
     def mark(self) -> Mark:
         """What stands now, to come `back` to."""
         return Mark(self.premises, self._horizon, self._version)
@@ -467,6 +490,14 @@ class TimeMap:
             raise ValueError(f"a depth is at least 1, and not {depth}")
         reasons = self._answer(Why, "why", f"why {words.occurrence(occurrence)}").reasons
         return reasons if depth is None else _down_to(reasons, occurrence, depth)
+
+    def why_not(self, occurrence: str) -> Optional[WhyNot]:
+        """What stands against the occurrence, followed back to a premise. None where it is believed."""
+        return explain.why_not(self, occurrence)
+
+    def threats(self) -> Threats:
+        """Pairs of contradicting tokens whose order is open, and effects past the horizon."""
+        return explain.threats(self)
 
     def check(self) -> Tuple[Broken, ...]:
         """The broken protections."""
