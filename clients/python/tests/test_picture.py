@@ -1,12 +1,18 @@
 """Tests of tmm.picture: which items a map has, where they are put, and that the picture is an SVG."""
 
+import contextlib
+import io
+import tempfile
 import unittest
+from pathlib import Path
 from typing import List
 from xml.etree import ElementTree
 
 import tmm
 from tmm import picture
-from tmm.picture import Drawing, Item, Look, Row
+from tmm.picture import Bars, Drawing, Item, Look, Row
+
+SVG = "{http://www.w3.org/2000/svg}"
 
 DOOR = [
     "class door open shut",
@@ -67,6 +73,123 @@ class RowsTest(unittest.TestCase):
             ["class c f", "point late", "point early", "dist d start early 7 *", "protect x f early late"]
         )
         self.assertEqual(rows[1], Row("c", [Item(Look.BROKEN, 0, 7, "x: f broken", 0)]))
+
+
+JOBS = [
+    "class saw free busy",
+    "kind cut",
+    "kind cut-end",
+    "rule ends cut 20 30 cut-end",
+    "point s1-1",
+    "point e1-1",
+    "point s2-1",
+    "point e2-1",
+    "point s3-1",
+    "dist d1 start s1-1 5 5",
+    "dist d2 s1-1 e1-1 10 10",
+    "dist d3 e1-1 s2-1 0 0",
+    "dist d4 s2-1 e2-1 7 9",
+    "event cut-a cut",
+    "dist d5 start cut-a 3 3",
+    "span shift free",
+    "dist d6 start shift 2 2",
+    "dist d7 shift shift.end 40 40",
+]
+
+
+class ChoiceTest(unittest.TestCase):
+    """Bars between pairs of points, a choice of rows, and kinds in one row."""
+
+    def setUp(self) -> None:
+        self.map = tmm.TimeMap()
+        self.addCleanup(self.map.close)
+        picture.run_lines(self.map, JOBS)
+
+    def test_bars_between_points(self) -> None:
+        self.assertEqual(
+            picture.rows_of(self.map, [Bars("jobs", "s*", "e*")])[0],
+            # s3-1 has no end
+            Row("jobs", [Item(Look.BETWEEN, 5, 15, "s1-1"), Item(Look.BETWEEN, 15, 22, "s2-1")]),
+        )
+
+    def test_a_row_for_each(self) -> None:
+        self.assertEqual(
+            picture.rows_of(self.map, [Bars("job *", "s*-1", "e*-1")])[:2],
+            [Row("job 1", [Item(Look.BETWEEN, 5, 15, "s1-1")]), Row("job 2", [Item(Look.BETWEEN, 15, 22, "s2-1")])],
+        )
+
+    def test_effects_ends_and_start(self) -> None:
+        bars = [Bars("saw", "cut-*", "cut-*/ends"), Bars("day", "shift", "shift.end"), Bars("day", "start", "s1-1")]
+        self.assertEqual(
+            picture.rows_of(self.map, bars)[:3],
+            [
+                Row("saw", [Item(Look.BETWEEN, 3, 23, "cut-a")]),
+                Row("day", [Item(Look.BETWEEN, 2, 42, "shift"), Item(Look.BETWEEN, 0, 5, "start")]),
+                Row("points", picture.rows_of(self.map)[0].items),
+            ],
+        )
+
+    def test_points_that_are_not_there(self) -> None:
+        for bars in (Bars("x", "t*", "e*"), Bars("x", "s1-1", "s9-1"), Bars("x", "*s", "*e")):
+            with self.assertRaisesRegex(ValueError, "no points"):
+                picture.rows_of(self.map, [bars])
+
+    def test_a_choice_of_rows(self) -> None:
+        bars = [Bars("jobs", "s*", "e*")]
+        self.assertEqual(
+            [row.name for row in picture.rows_of(self.map, bars)], ["jobs", "points", "saw", "cut", "cut-end"]
+        )
+        self.assertEqual(
+            [row.name for row in picture.rows_of(self.map, bars, ["cut", "jobs"])], ["cut", "jobs"]
+        )
+        with self.assertRaisesRegex(ValueError, "no row press"):
+            picture.rows_of(self.map, rows=["press"])
+
+    def test_kinds_in_one_row(self) -> None:
+        rows = picture.rows_of(self.map, kinds_in_one_row=True)
+        self.assertEqual([row.name for row in rows], ["points", "saw", "events"])
+        self.assertEqual(
+            rows[2].items, [Item(Look.MARK, 3, 3, "cut-a"), Item(Look.MARK, 23, 23, "cut-a/ends")]
+        )
+
+    def test_elements_name_what_they_show(self) -> None:
+        self.map.protect("keep", "free", "start", "s1-1")
+        drawn = picture.draw(picture.rows_of(self.map, [Bars("jobs", "s1*", "e1*")]))
+        groups = [dict(group.attrib) for group in ElementTree.fromstring(drawn).iter(f"{SVG}g")]
+        for names in (
+            {"data-begin": "s1-1", "data-end": "e1-1"},
+            {"data-point": "s3-1"},
+            {"data-occurrence": "cut-a/ends", "data-point": "cut-a/ends"},
+            {"data-occurrence": "shift", "data-point": "shift"},
+            {"data-protection": "keep"},
+        ):
+            self.assertIn(names, groups)
+
+
+class CommandTest(unittest.TestCase):
+    """`python3 -m tmm picture`."""
+
+    def test_words_choose_what_is_drawn(self) -> None:
+        with tempfile.TemporaryDirectory() as folder:
+            script, output = Path(folder) / "jobs.tmm", Path(folder) / "jobs.svg"
+            script.write_text("\n".join([*JOBS, "point s1-1"]))
+            with contextlib.redirect_stderr(io.StringIO()) as told:
+                words = [str(script), "-o", str(output), "--bars", "jobs", "s*", "e*", "--kinds-in-one-row"]
+                self.assertEqual(picture.main([*words, "--row", "jobs", "--row", "events"]), 0)
+            self.assertEqual(told.getvalue(), f"line {len(JOBS) + 1} is refused: taken\n")
+            texts = [text.text for text in ElementTree.parse(output).iter(f"{SVG}text")]
+        for text in ("jobs", "s1-1", "s2-1", "events", "cut-a/ends"):
+            self.assertIn(text, texts)
+        self.assertNotIn("s3-1", texts)
+
+    def test_a_row_that_is_not_there(self) -> None:
+        with tempfile.TemporaryDirectory() as folder, contextlib.redirect_stderr(io.StringIO()) as told:
+            script = Path(folder) / "empty.tmm"
+            script.write_text("")
+            self.assertEqual(picture.main([str(script), "--row", "x"]), 1)
+            self.assertEqual(picture.main([str(script), "--bars", "x", "y", "z"]), 1)
+            self.assertEqual(picture.main([f"{script}.none"]), 1)
+        self.assertEqual(len(told.getvalue().splitlines()), 3)
 
 
 class DrawingTest(unittest.TestCase):

@@ -1,19 +1,27 @@
 """Draws what a map believes, over the earliest dates, as an SVG.
 
-    python3 -m tmm picture SCRIPT -o FILE
+    python3 -m tmm picture SCRIPT [-o FILE] [--bars ROW BEGIN END].. [--row NAME].. [--kinds-in-one-row]
 
 runs the script, `-` for standard input, and then draws what is believed: a row for the points, one
 for each kind of event and one for each class of facts. A bar is a token: one with a thick end is
 clipped there, one without lasts to its end, and one that fades has no end. Below the bars are the
 protections of the class, the broken ones in red. Refused lines are told on standard error.
+
+`--bars` adds a row of bars between pairs of points, as a Gantt chart has them. ROW, BEGIN and END may have
+a `*` each: `--bars saw 'cut-*' 'cut-*/ends'` draws a bar for each point whose name is of this form and has
+such an end. `--row` draws this row, in the order in which rows are named, instead of all.
+`--kinds-in-one-row` puts the events of all kinds in a row `events`.
+
+From Python, `draw(rows_of(time_map))` gives the picture of a live map.
 """
 
 import argparse
+import re
 import sys
 from dataclasses import dataclass, field
 from enum import Enum
 from typing import Dict, Iterable, List, Optional, Sequence, Tuple
-from xml.sax.saxutils import escape
+from xml.sax.saxutils import escape, quoteattr
 
 import tmm
 
@@ -27,17 +35,23 @@ class Look(Enum):
     LASTING = "lasting"
     KEPT = "kept"
     BROKEN = "broken"
+    # between two points
+    BETWEEN = "between"
 
 
 @dataclass(frozen=True)
 class Item:
-    """What is drawn from `begin` to `end`; what lasts has no end. `fact` is its fact's place in the class."""
+    """What is drawn from `begin` to `end`; what lasts has no end. `fact` is its fact's place in the class.
+
+    `names` are attributes of its element, by which a page finds what it shows.
+    """
 
     look: Look
     begin: int
     end: Optional[int]
     label: str
     fact: int = 0
+    names: Tuple[Tuple[str, str], ...] = field(default=(), compare=False)
 
 
 @dataclass
@@ -48,30 +62,105 @@ class Row:
     items: List[Item] = field(default_factory=list)
 
 
+@dataclass(frozen=True)
+class Bars:
+    """A row of bars between pairs of points. Each word may have a `*`, which is the same text in all three.
+
+    Where `begin` has none, there is one bar.
+    """
+
+    row: str
+    begin: str
+    end: str
+
+
 # ---- what there is to draw
 
+POINTS = "points"
+EVENTS = "events"
 
 # the row of each kind and fact, and the place of the fact in its class
 Places = Dict[str, Tuple[Row, int]]
 
 
-def rows_of(time_map: tmm.TimeMap) -> List[Row]:
-    """The rows that have an item, in the order of the standing premises; that of the points is the first."""
+def rows_of(
+    time_map: tmm.TimeMap,
+    bars: Sequence[Bars] = (),
+    rows: Optional[Sequence[str]] = None,
+    kinds_in_one_row: bool = False,
+) -> List[Row]:
+    """The rows that have an item: bars first, then the points, then classes and kinds as they were declared.
+
+    `rows` names those that are wanted, in their order; by default all are. `kinds_in_one_row` puts the
+    events of all kinds in a row `events`.
+
+    Raises `ValueError` for a row that is not there and for bars that name no points, and what the questions
+    of `TimeMap` raise.
+    """
     premises = [premise.split() for premise in time_map.dump().premises]
-    points = Row("points")
-    rows = [points]
+    made: Dict[str, Row] = {}
     places: Places = {}
+    points = row_in(made, POINTS)
     for word, name, *rest in premises:
         if word == "point":
-            points.items.append(mark(earliest(time_map, name), name))
+            points.items.append(mark(earliest(time_map, name), name, ("point", name)))
         elif word in ("class", "kind"):
-            row = Row(name)
-            rows.append(row)
+            row = row_in(made, EVENTS if word == "kind" and kinds_in_one_row else name)
             for place, what in enumerate(rest or [name]):
                 places[what] = (row, place)
     add_believed(time_map, premises, places)
     add_protections(time_map, premises, places)
-    return [row for row in rows if row.items]
+    shown = [*rows_of_bars(time_map, premises, bars), *made.values()]
+    if rows is not None:
+        shown = [row for name in rows for row in named_rows(shown, name)]
+    return [row for row in shown if row.items]
+
+
+def row_in(rows: Dict[str, Row], name: str) -> Row:
+    """The row of this name, which is made where it is not there."""
+    return rows.setdefault(name, Row(name))
+
+
+def named_rows(rows: Sequence[Row], name: str) -> List[Row]:
+    """The rows of this name: one of bars and one of facts may have the same."""
+    named = [row for row in rows if row.name == name]
+    if not named:
+        raise ValueError(f"there is no row {name}")
+    return named
+
+
+def rows_of_bars(time_map: tmm.TimeMap, premises: List[List[str]], bars: Sequence[Bars]) -> List[Row]:
+    """The rows of bars between pairs of points."""
+    points = {"start": None}
+    for word, name, *_ in premises:
+        if word in ("point", "event", "token", "span"):
+            points[name] = None
+        if word == "span":
+            points[f"{name}.end"] = None
+    points.update(dict.fromkeys(row.occurrence for row in time_map.list()))
+    rows: Dict[str, Row] = {}
+    for wanted in bars:
+        met = False
+        for begin, text in matching(points, wanted.begin):
+            end = wanted.end.replace("*", text)
+            if end not in points:
+                continue
+            met = True
+            dates = earliest(time_map, begin), earliest(time_map, end)
+            names = (("begin", begin), ("end", end))
+            row = row_in(rows, wanted.row.replace("*", text))
+            row.items.append(Item(Look.BETWEEN, min(dates), max(dates), begin, names=names))
+        if not met:
+            raise ValueError(f"there are no points {wanted.begin} and {wanted.end}")
+    return list(rows.values())
+
+
+def matching(points: Iterable[str], wanted: str) -> List[Tuple[str, str]]:
+    """The points of this form, each with the text in the place of `*`."""
+    before, star, after = wanted.partition("*")
+    form = re.compile(re.escape(before) + ("([^/.]+)" if star else "()") + re.escape(after))
+    met = [(point, form.fullmatch(point)) for point in points]
+    return [(point, found.group(1)) for point, found in met if found]
 
 
 def add_believed(time_map: tmm.TimeMap, premises: List[List[str]], places: Places) -> None:
@@ -84,15 +173,16 @@ def add_believed(time_map: tmm.TimeMap, premises: List[List[str]], places: Place
         row, place = places[occurrence.what]
         begin = occurrence.earliest
         label = f"{occurrence.what} {occurrence.occurrence}"
+        names = (("occurrence", occurrence.occurrence), ("point", occurrence.occurrence))
         if occurrence.what in kinds:
-            row.items.append(mark(begin, occurrence.occurrence))
+            row.items.append(mark(begin, occurrence.occurrence, *names))
         elif occurrence.clipped_by is not None:
-            row.items.append(Item(Look.CLIPPED, begin, dates[occurrence.clipped_by], label, place))
+            row.items.append(Item(Look.CLIPPED, begin, dates[occurrence.clipped_by], label, place, names))
         elif occurrence.occurrence in spans:
             end = earliest(time_map, occurrence.occurrence + ".end")
-            row.items.append(Item(Look.SPAN, begin, end, label, place))
+            row.items.append(Item(Look.SPAN, begin, end, label, place, names))
         else:
-            row.items.append(Item(Look.LASTING, begin, None, label, place))
+            row.items.append(Item(Look.LASTING, begin, None, label, place, names))
 
 
 def add_protections(time_map: tmm.TimeMap, premises: List[List[str]], places: Places) -> None:
@@ -105,15 +195,14 @@ def add_protections(time_map: tmm.TimeMap, premises: List[List[str]], places: Pl
         # Where the order of the two points is not known, their earliest dates may be the other way round.
         begin, end = sorted((earliest(time_map, first), earliest(time_map, last)))
         row, place = places[fact]
-        if name in broken:
-            row.items.append(Item(Look.BROKEN, begin, end, f"{name}: {fact} broken", place))
-        else:
-            row.items.append(Item(Look.KEPT, begin, end, f"{name}: {fact} kept", place))
+        look = Look.BROKEN if name in broken else Look.KEPT
+        label = f"{name}: {fact} {look.value}"
+        row.items.append(Item(look, begin, end, label, place, (("protection", name),)))
 
 
-def mark(date: int, label: str) -> Item:
+def mark(date: int, label: str, *names: Tuple[str, str]) -> Item:
     """A point or an event."""
-    return Item(Look.MARK, date, date, label)
+    return Item(Look.MARK, date, date, label, names=names)
 
 
 def earliest(time_map: tmm.TimeMap, point: str) -> int:
@@ -138,6 +227,7 @@ ROOM_BEHIND = 1.06
 MOST_TICKS = 12
 
 FACT_COLOURS = ("#cfe3f5", "#f6ddb4", "#d5ead0", "#e5d7ee", "#f3d2da", "#d3e9e7", "#ece6c0", "#dcdcdc")
+BETWEEN_COLOUR = "#b9c4d0"
 LINE_COLOUR = "#404a54"
 KEPT_COLOUR = "#3f8f4f"
 BROKEN_COLOUR = "#cc1f1a"
@@ -177,12 +267,14 @@ class Drawing:
 
     def item(self, item: Item, top: float) -> None:
         """Draws an item in the lane of this top."""
+        self.elements.append(f"<g{''.join(f' data-{sort}={quoteattr(name)}' for sort, name in item.names)}>")
         if item.look is Look.MARK:
             self.diamond(item, top)
         elif item.look in (Look.KEPT, Look.BROKEN):
             self.protection(item, top)
         else:
             self.bar(item, top)
+        self.elements.append("</g>")
 
     def diamond(self, item: Item, top: float) -> None:
         """Draws a point or an event."""
@@ -205,14 +297,14 @@ class Drawing:
     def bar(self, item: Item, top: float) -> None:
         """Draws a token."""
         begin, end = self.x(item.begin), self.end_of(item)
-        colour = FACT_COLOURS[item.fact]
+        colour = BETWEEN_COLOUR if item.look is Look.BETWEEN else FACT_COLOURS[item.fact]
         fill = f"url(#fade{item.fact})" if item.look is Look.LASTING else colour
         self.elements.append(
             f'<rect x="{begin:.1f}" y="{top:.1f}" width="{end - begin:.1f}" height="{BAR_HEIGHT}"'
             f' fill="{fill}"/>'
         )
         self.line(begin, top, begin, top + BAR_HEIGHT, LINE_COLOUR, 1)
-        if item.look is Look.SPAN:
+        if item.look in (Look.SPAN, Look.BETWEEN):
             self.line(end, top, end, top + BAR_HEIGHT, LINE_COLOUR, 1)
         if item.look is Look.CLIPPED:
             self.line(end - 2, top, end - 2, top + BAR_HEIGHT, LINE_COLOUR, 4)
@@ -310,26 +402,39 @@ def draw(rows: Sequence[Row]) -> str:
 # ---- the program
 
 
-def run_lines(time_map: tmm.TimeMap, lines: Iterable[str]) -> None:
-    """Runs a script, and tells of each line that was not taken."""
+def lines_of(script: str) -> List[str]:
+    """The lines of a script, `-` for standard input. Raises `OSError`."""
+    # Lines end at byte 10 alone, and comments may hold any bytes.
+    if script == "-":
+        text = sys.stdin.buffer.read()
+    else:
+        with open(script, "rb") as file:
+            text = file.read()
+    lines = text.decode("utf-8", "surrogateescape").split("\n")
+    # what is behind the last line's end is a line where there is something
+    return lines if lines[-1] else lines[:-1]
+
+
+def run_lines(time_map: tmm.TimeMap, lines: Iterable[str]) -> List[Tuple[int, tmm.Refusal]]:
+    """Runs a script, tells on standard error of each line that was not taken, and gives the refusals."""
+    refused = []
     for number, line in enumerate(lines, start=1):
         reply = time_map.send(line)
         if isinstance(reply, tmm.Refusal):
             print(f"line {number} is refused: {reply.cause.value}", file=sys.stderr)
+            refused.append((number, reply))
         elif isinstance(reply, tmm.NoMemory):
             print(f"there was no memory for line {number}", file=sys.stderr)
+    return refused
 
 
-def draw_script(script: str) -> str:
-    """Runs the script of this name, and gives the picture of what it leaves."""
-    with tmm.TimeMap() as time_map:
-        if script == "-":
-            run_lines(time_map, sys.stdin)
-        else:
-            # Lines end at byte 10 alone, and comments may hold any bytes.
-            with open(script, encoding="utf-8", errors="surrogateescape", newline="\n") as lines:
-                run_lines(time_map, lines)
-        return draw(rows_of(time_map))
+def write(text: str, output: Optional[str]) -> None:
+    """Writes a text to a file, or to standard output. Raises `OSError`."""
+    if output is None:
+        sys.stdout.write(text)
+    else:
+        with open(output, "w", encoding="utf-8") as file:
+            file.write(text)
 
 
 def main(words: Sequence[str]) -> int:
@@ -339,15 +444,24 @@ def main(words: Sequence[str]) -> int:
     )
     parser.add_argument("script", metavar="SCRIPT", help="a file, or - for standard input")
     parser.add_argument("-o", "--output", metavar="FILE", help="where to write; standard output by default")
+    parser.add_argument(
+        "--bars",
+        nargs=3,
+        action="append",
+        default=[],
+        metavar=("ROW", "BEGIN", "END"),
+        help="a row of bars from BEGIN to END, points; a * is the same text in all three",
+    )
+    parser.add_argument("--row", action="append", metavar="NAME", help="draw this row; by default all are drawn")
+    parser.add_argument("--kinds-in-one-row", action="store_true", help="put all events in a row `events`")
     chosen = parser.parse_args(words)
     try:
-        drawn = draw_script(chosen.script)
-        if chosen.output is None:
-            sys.stdout.write(drawn)
-        else:
-            with open(chosen.output, "w", encoding="utf-8") as file:
-                file.write(drawn)
-    except (OSError, tmm.TmmError) as error:
+        with tmm.TimeMap() as time_map:
+            run_lines(time_map, lines_of(chosen.script))
+            bars = [Bars(*each) for each in chosen.bars]
+            rows = rows_of(time_map, bars, chosen.row, chosen.kinds_in_one_row)
+        write(draw(rows), chosen.output)
+    except (OSError, ValueError, tmm.TmmError) as error:
         print(f"tmm picture: {error}", file=sys.stderr)
         return 1
     return 0
