@@ -78,6 +78,20 @@ class NotTmmTest(Bounded):
                     time_map.list()
                 self.assert_gone(time_map)
 
+    def test_a_line_of_another_and_then_silence(self) -> None:
+        for text in ("hello\\n", "1 ok\\nhello\\n", "1 ok\\n1 ok\\n", "2 bounds 0 0\\n", "1 ok\\n  in e\\nhello\\n"):
+            with tmm.TimeMap(python_program(f"next(lines); say('{text}'); time.sleep(1000)")) as time_map:
+                with self.subTest(text=text), self.assertRaises(tmm.ProtocolError):
+                    time_map.erase("a")
+                self.assert_gone(time_map)
+
+    def test_a_reply_to_another_line_of_many(self) -> None:
+        for text in ("7 ok\\n3 bounds 0 0\\n", "2 ok\\n1 ok\\n3 bounds 0 0\\n", "hello\\n1 ok\\n2 ok\\n3 bounds 0 0\\n"):
+            with tmm.TimeMap(python_program(f"next(lines); say('{text}'); time.sleep(1000)")) as time_map:
+                with self.subTest(text=text), self.assertRaises(tmm.ProtocolError):
+                    time_map.send_all(["point a", "point b"])
+                self.assert_gone(time_map)
+
     def test_a_second_line_where_one_is_due(self) -> None:
         program = python_program("next(lines, None); say('1 bounds 0 0\\n  in e\\n'); next(lines, None)")
         with tmm.TimeMap(program) as time_map:
@@ -180,7 +194,7 @@ class InterruptTest(Bounded):
 
     def test_an_interrupt_anywhere_in_an_exchange(self) -> None:
         # also between the count of the lines and the write, and behind the read
-        for where in ("tmm.stream.os.write", "tmm.stream.os.read", "tmm.client.parse_replies"):
+        for where in ("tmm.stream.os.write", "tmm.stream.os.read", "tmm.client.parse_reply"):
             with tmm.TimeMap() as time_map:
                 time_map.point("a")
                 with mock.patch(where, side_effect=KeyboardInterrupt), self.assertRaises(KeyboardInterrupt):

@@ -10,7 +10,7 @@ from tmm.errors import ALL_ANSWERED, OutOfMemory, ProgramEnded, ProtocolError, T
 from tmm.explain import Threats, WhyNot
 from tmm.handles import New
 from tmm.program import find_program
-from tmm.replies import parse_replies
+from tmm.replies import parse_replies, parse_reply
 from tmm.stream import Stream, shown
 from tmm.values import (
     Answer,
@@ -209,38 +209,24 @@ class TimeMap:
     def _reply(self, line: str, data: bytes, word: str) -> Optional[Reply]:
         self._want_usable()
         number = self._lines_given + 1
+        reply: Optional[Reply] = None
         try:
             if word in _OF_ONE_LINE:
                 self._lines_given = number
-                received = self._stream.line(data, number)
-            elif word == "ask":
-                received = self._ask(data, number)
+                reply = parse_reply(shown(self._stream.line(data, number)), number)
             else:
                 self._lines_given = number + 1
                 received = self._stream.lines(data + _FENCE, number, number + 1)
-            reply = None
-            if received:
-                replies = list(parse_replies(shown(received)))
-                if len(replies) != 1 or replies[0][0] != number:
-                    raise ProtocolError(f"this is not the reply to line {number}:\n{shown(received)}")
-                reply = replies[0][1]
-                if isinstance(reply, Changes):
-                    self._note(line, reply)
+                if received:
+                    reply = parse_reply(shown(received), number)
+            if isinstance(reply, Changes):
+                self._note(line, reply)
         except BaseException as error:
             self._give_up(error)
             raise
         if self._log is not None:
             self._log(line, reply)
         return reply
-
-    def _ask(self, data: bytes, number: int) -> bytes:
-        """The reply to `ask`. Of these a `no` alone may have blames behind it, and wants a fence."""
-        self._lines_given = number
-        received = self._stream.line(data, number)
-        if not received.startswith(b"%d no\n" % number):
-            return received
-        self._lines_given = number + 1
-        return self._stream.lines(_FENCE, number, number + 1, received)
 
     def _want_usable(self) -> None:
         """Raises where the map takes no lines."""
@@ -273,10 +259,22 @@ class TimeMap:
             self._version = int(rest[0])
 
     def _answer(self, kind: Type[ReplyKind], word: str, line: str) -> ReplyKind:
-        return _wanted(kind, line, self._reply(line, line.encode() + b"\n", word))
+        return self._wanted(kind, line, self._reply(line, line.encode() + b"\n", word))
 
     def _answers(self, kind: Type[ReplyKind], lines: List[str]) -> List[ReplyKind]:
-        return [_wanted(kind, line, reply) for line, reply in zip(lines, self.send_all(lines))]
+        return [self._wanted(kind, line, reply) for line, reply in zip(lines, self.send_all(lines))]
+
+    def _wanted(self, kind: Type[ReplyKind], line: str, reply: Optional[Reply]) -> ReplyKind:
+        """The reply, where it is of this kind. Raises `Refused`, `OutOfMemory` and `ProtocolError`."""
+        if isinstance(reply, kind):
+            return reply
+        if isinstance(reply, Refusal):
+            raise refused(line, reply)
+        if isinstance(reply, NoMemory):
+            raise OutOfMemory(f"no memory for `{line}`")
+        error = ProtocolError(f"`{line}` is answered by {reply!r}")
+        self._give_up(error)
+        raise error
 
     # ---- premises
 
@@ -412,7 +410,7 @@ class TimeMap:
             # On the way some rule may have brought about too much. Up to the date 0 none brings about anything.
             lines = ["horizon 0", *self._lines_back(mark), f"horizon {mark.horizon}"]
             for line, reply in zip(lines, self.send_all(lines)):
-                _wanted(Changes, line, reply)
+                self._wanted(Changes, line, reply)
         if self._version != mark.version:
             raise TmmError("version 2 of the script stays: no line takes it back")
 
@@ -530,17 +528,6 @@ def _path_line(origin: str, target: str) -> str:
 
 def _ask_line(fact: str, begin: str, end: str) -> str:
     return f"ask {words.name(fact)} {words.place(begin)} {words.place(end)}"
-
-
-def _wanted(kind: Type[ReplyKind], line: str, reply: Optional[Reply]) -> ReplyKind:
-    """The reply, where it is of this kind. Raises `Refused`, `OutOfMemory` and `ProtocolError`."""
-    if isinstance(reply, kind):
-        return reply
-    if isinstance(reply, Refusal):
-        raise refused(line, reply)
-    if isinstance(reply, NoMemory):
-        raise OutOfMemory(f"no memory for `{line}`")
-    raise ProtocolError(f"`{line}` is answered by {reply!r}")
 
 
 def _down_to(reasons: Tuple[Reason, ...], occurrence: str, depth: int) -> Tuple[Reason, ...]:
