@@ -293,6 +293,8 @@ class ParseTest(unittest.TestCase):
             "1 dump 1\n  horizon 1000\n",
             "1 size\n",
             "1 audit no\n",
+            "1 path 11\n    d hi a b 7\n",
+            "1 why\n  order a b 0\n      d hi a b 7\n",
             "1 bounds 0 0\n  in e\n",
             "1 yes k\n  k late\n",
             "1 memory\n  k late\n",
