@@ -3,7 +3,9 @@
 What is expected is that of docs/SCRIPT.md and of examples/, or a calculation by hand.
 """
 
+import contextlib
 import http.client
+import io
 import json
 import os
 import pty
@@ -453,8 +455,11 @@ class FileTest(WorkbenchTest):
         self.assertEqual(self.path.read_bytes(), b"point a\r\n# \xff \xc3\xa9\r\nsize\r\n")
 
     def test_one_that_cannot_be_read_or_written(self) -> None:
-        with self.assertRaises(OSError):
-            workbench.Server(str(self.folder))
+        pipe = self.folder / "pipe"
+        os.mkfifo(pipe)
+        for path in (self.folder, pipe):
+            with self.assertRaisesRegex(OSError, "no file"):
+                workbench.Server(str(path))
         self.serve(str(self.folder / "none" / "script.tmm"))
         self.assertIn("not saved", self.fails(409, "save", map=self.open(), script="", over=False))
 
@@ -586,9 +591,16 @@ class CommandTest(unittest.TestCase):
         self.assertFalse(is_there(child))
 
     def test_a_port_that_is_taken(self) -> None:
-        with socket.create_server(("127.0.0.1", 0)) as taken:
+        with socket.create_server(("127.0.0.1", 0)) as taken, contextlib.redirect_stderr(io.StringIO()) as told:
             self.assertEqual(workbench.main(["--port", str(taken.getsockname()[1])]), 1)
-        self.assertEqual(workbench.main(["--port", "70000"]), 1)
+            self.assertEqual(workbench.main(["--port", "70000"]), 1)
+        self.assertEqual(len(told.getvalue().splitlines()), 2)
+
+    def test_wrong_words(self) -> None:
+        for words in ("a b", "--port x", "--timeout 0", "--timeout nan"):
+            with contextlib.redirect_stderr(io.StringIO()), self.assertRaises(SystemExit) as ended:
+                workbench.main(words.split())
+            self.assertEqual(ended.exception.code, 2)
 
 
 if __name__ == "__main__":

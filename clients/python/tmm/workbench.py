@@ -28,6 +28,7 @@ file that another wrote 409, and 502 where the program failed: with an object th
 
 import argparse
 import json
+import os
 import re
 import secrets
 import signal
@@ -265,17 +266,17 @@ class Desk:
         """Brings a program to these lines, and keeps it if they still begin the script."""
         try:
             kept.go_on(lines)
-            failed = False
         except (OSError, tmm.TmmError):
             # The call that needs these lines tells why.
-            failed = True
-        with self.pool:
-            self.preparing = None
-            if failed or self.closed or not kept.leads_to(self.lines):
-                kept.map.stop()
-            else:
-                self.keep(kept)
-            self.pool.notify_all()
+            pass
+        finally:
+            with self.pool:
+                self.preparing = None
+                if kept.lines != lines or self.closed or not kept.leads_to(self.lines):
+                    kept.map.stop()
+                else:
+                    self.keep(kept)
+                self.pool.notify_all()
 
     # ---- what a page asks
 
@@ -298,11 +299,11 @@ class Desk:
         with self.asked(at) as kept:
             steps = steps_of(kept.replies, cycle)
             drawn = network.network_of(kept.map, steps)
-            shown = picture.rows_of(kept.map, rows=rows or None, bars=bars, kinds_in_one_row=one_row)
+            chosen = picture.rows_of(kept.map, rows=rows or None, bars=bars, kinds_in_one_row=one_row)
             broken = kept.map.check()
         if steps and not whole:
             drawn = network.part(drawn, network.points_of(steps))
-        return {"picture": picture.draw(shown), "network": network.draw(drawn), "broken": as_json(broken)}
+        return {"picture": picture.draw(chosen), "network": network.draw(drawn), "broken": as_json(broken)}
 
     def why(self, at: int, occurrence: str) -> Value:
         """The reasons of an occurrence."""
@@ -341,7 +342,11 @@ class File:
     """The script that was named. A carriage return before a line's end is kept, and is not shown."""
 
     def __init__(self, path: str) -> None:
+        """Raises `OSError` for what is there and is no file that can be read again."""
         self.path = path
+        if os.path.exists(path) and not os.path.isfile(path):
+            raise OSError(f"{path} is no file")
+        self.read()
 
     def read(self) -> Optional[bytes]:
         """What it has, None where it is not there yet. Raises `OSError`."""
@@ -674,8 +679,6 @@ class Server(ThreadingHTTPServer):
         timeout: float = TIMEOUT,
     ) -> None:
         file = None if script is None else File(script)
-        if file is not None:
-            file.read()
         self.pages = {name: read_page(name) for name, _ in PAGES.values()}
         self.token = secrets.token_urlsafe(18)
         self.workbench = Workbench(file, lambda: LiveMap(command, timeout=timeout))
@@ -729,6 +732,8 @@ def main(arguments: Sequence[str]) -> int:
         "--timeout", metavar="SECONDS", type=float, default=TIMEOUT, help="for a reply; %(default)s by default"
     )
     chosen = parser.parse_args(arguments)
+    if not chosen.timeout > 0:
+        parser.error("a timeout is more than 0 seconds")
     try:
         server = Server(chosen.script, port=chosen.port, timeout=chosen.timeout)
     except (OSError, OverflowError) as error:

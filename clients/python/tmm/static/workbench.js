@@ -16,6 +16,8 @@ const state = {
   map: "",
   // the text of the reply to each line, "" for none, undefined where it is still to come
   replies: [],
+  // so many first lines have theirs
+  answered: 0,
   count: 0,
   // the line after which things are shown; `follow` keeps it at the end
   at: 0,
@@ -64,6 +66,10 @@ async function work() {
         else await view();
       } catch (error) {
         tell(error.message, true);
+        // What is shown may be of another script, and all of it is asked for again.
+        state.replies = [];
+        state.answered = 0;
+        drawRows();
       }
     }
   } finally {
@@ -77,9 +83,10 @@ async function edit() {
   wanted.view = false;
   const last = Math.ceil((script.scrollTop + script.clientHeight) / ROW) + AHEAD;
   let told = await call("edit", { map: state.map, script: script.value, upto: last });
-  state.count = told.count;
-  state.replies.length = told.first;
   const first = told.first;
+  state.count = told.count;
+  state.answered = Math.min(state.answered, first);
+  state.replies.length = state.answered;
   slider.max = told.count;
   if (state.follow || state.at > told.count) state.at = told.count;
   take(told);
@@ -87,8 +94,8 @@ async function edit() {
   tell(`answered in ${taken} ms`);
   document.body.dataset.answered = taken;
   state.cycle = isCycle(state.replies[first]) ? first + 1 : 0;
-  while (!wanted.edit && state.replies.length < state.count) {
-    told = await call("rest", { map: state.map, first: state.replies.length });
+  while (!wanted.edit && state.answered < state.count) {
+    told = await call("rest", { map: state.map, first: state.answered });
     take(told);
   }
   // Who types on is not to wait for a drawing.
@@ -98,6 +105,7 @@ async function edit() {
 
 function take(told) {
   told.replies.forEach((reply, place) => (state.replies[told.first + place] = reply));
+  if (told.first <= state.answered) state.answered = told.first + told.replies.length;
   drawRows();
 }
 
