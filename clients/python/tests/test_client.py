@@ -788,9 +788,10 @@ class FindProgramTest(unittest.TestCase):
         program(root / "bin" / "tmm")
         self.assertEqual(self.found(root, str(root / "bin")), str(root / "bin" / "tmm"))
 
-    def test_then_the_script_of_a_checkout_that_is_built(self) -> None:
+    def test_then_what_is_built_in_the_checkout(self) -> None:
+        # and not the script beside it, which would build anew where a source has changed
         root = self.checkout(built=True)
-        self.assertEqual(self.found(root), str(root / "tmm"))
+        self.assertEqual(self.found(root), str(root / "crates" / "tmm_cli" / "out" / "tmm_cli"))
 
     def test_nothing_is_built(self) -> None:
         with self.assertRaisesRegex(tmm.NoProgram, r"\./prove"):
