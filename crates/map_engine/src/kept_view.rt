@@ -11,10 +11,10 @@ ghost use Rattle.supports.specs.TimeMaps.{IsTimeMap};
 ghost use Rattle.map_engine.specs.Nexts.{IsUnguarded};
 ghost use Rattle.map_engine.specs.Reads.{IsReadOf, read_of};
 
-use crate::view::occurrences;
 use belief_list::{Difference, KeptRow, list_rows, listed_by_number};
 use belief_net::size_of;
 use just_check::audit;
+use map_parts::occurrences;
 use occ_tree::Tree;
 use premise_list::Standing;
 use protections::{BrokenProtections, Review};

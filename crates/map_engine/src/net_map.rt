@@ -14,14 +14,13 @@ ghost use Rattle.revisions.specs.Counted.{changed};
 ghost use Rattle.map_engine.specs.NetMaps.{CountsEdit, IsHeld};
 ghost use Rattle.map_core.specs.Stops.{StopsEdit, NamesEdited};
 
-use crate::edits::{apply_edit, roll_back};
 use crate::kept_view::{KeptView, audited_view, first_view, kept_rows};
 use crate::next::{Known, Next, draw_next, keep, may_guard};
-use crate::questions::{ask_between, bounds_between, path_between, tell_why};
 use crate::still::{is_ruling, is_unread};
 use belief_net::BeliefNet;
 use dist_net::DistNet;
 use map_core::{Counter, Listener, MapCore, Pending};
+use map_parts::{apply_edit, ask_between, bounds_between, path_between, roll_back, tell_why};
 use premise_list::Standing;
 use std::alloc::Global;
 use std::marker::Model;
@@ -50,7 +49,7 @@ pub struct NetMap {
 }
 
 impl Model for NetMap {
-    ghost use Rattle.map_engine.specs.Plain.{MapState};
+    ghost use Rattle.map_parts.specs.MapStates.{MapState};
     ghost use Rattle.map_engine.specs.Nexts.{pending_list};
     ghost use Rattle.map_engine.specs.NetMaps.{IsNetMap};
 

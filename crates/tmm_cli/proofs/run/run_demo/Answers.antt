@@ -1,5 +1,5 @@
 use Rattle.std.proofs.Common.{ℕ, List, ◌∙◌, ap, subst}
-use Rattle.map_engine.specs.Plain.{MapState}
+use Rattle.map_engine.specs.NetMaps.{MapState}
 use Rattle.tmm_model.specs.Standing.{Standing, empty_list}
 use Rattle.tmm_drive.specs.declared.status.Status.{Status}
 use Rattle.tmm_drive.specs.declared.status.Status.TheVariants.{Clean, SomeRefused, Words, ReadFault, WriteFault, NoMemory, TooLong, SomeMemory}
