@@ -4,6 +4,7 @@
 # five runs. Compare figures of one machine and one run alone.
 set -u
 cd "$(dirname "$0")/.." || exit 1
+./prove >/dev/null || exit 1
 
 # A chain of $1 points, each 1 to 4,000 time units after the one before.
 chain() {

@@ -6,8 +6,8 @@ cd "$(dirname "$0")/.." || exit 1
 export PYTHONPATH=clients/python PYTHONDONTWRITEBYTECODE=1
 failed=0
 
-if ! python3 -c 'import sys; sys.exit(sys.version_info < (3, 8))'; then
-  echo "checks: the Python client takes python3, 3.8 or later" >&2
+if ! python3 -c 'import sys; sys.exit(sys.version_info < (3, 11))'; then
+  echo "checks: the Python client takes python3, 3.11 or later" >&2
   exit 1
 fi
 
@@ -19,7 +19,7 @@ compare() {
   fi
 }
 
-if ! told=$(python3 -m unittest discover -s clients/python 2>&1); then
+if ! told=$(python3 -m unittest discover -s clients/python/tests 2>&1); then
   echo "$told" >&2
   echo "checks: tests of the Python client failed" >&2
   failed=1
@@ -39,7 +39,7 @@ for program in "$shown"/*.py; do
 done
 
 # the picture, after the line that jams the press
-if told=$(head -n 64 examples/workshop.tmm | python3 clients/python/tmm_picture.py - "$shown/workshop.svg" 2>&1); then
+if told=$(head -n 64 examples/workshop.tmm | python3 -m tmm picture - -o "$shown/workshop.svg" 2>&1); then
   compare docs/workshop.svg "docs/workshop.svg" < "$shown/workshop.svg"
 else
   echo "$told" >&2

@@ -3,6 +3,7 @@
 # most bytes that are taken.
 set -u
 cd "$(dirname "$0")/.." || exit 1
+./prove >/dev/null || exit 1
 failed=0
 
 # expect STATUS WHAT: compares the status of the last command with the one that is due.

@@ -1,13 +1,16 @@
 #!/usr/bin/env bash
 # The scripts that the documents show, through the built program: those of examples/ have their replies
-# beside them, those of the README and of the reference behind them.
+# beside them, those of the pages behind them. Where the environment variable TMM names another program, that
+# one is run.
 set -u
 cd "$(dirname "$0")/.." || exit 1
+program=${TMM:-./tmm}
+[ -n "${TMM:-}" ] || ./prove >/dev/null || exit 1
 failed=0
 
 # compare SCRIPT REPLIES NAME
 compare() {
-  if ! diff <(./tmm < "$1") "$2" >&2; then
+  if ! diff <("$program" < "$1") "$2" >&2; then
     echo "checks: $3: other replies than are written down" >&2
     failed=1
   fi
@@ -32,7 +35,7 @@ done
 rmdir "$shown"
 
 demo=$(sed -n 's/^    \(demo 120 lines .*\)$/\1/p' docs/SCRIPT.md)
-if [ -z "$demo" ] || [ "$(./tmm demo 120)" != "$demo" ]; then
+if [ -z "$demo" ] || [ "$("$program" demo 120)" != "$demo" ]; then
   echo "checks: docs/SCRIPT.md: demo 120 writes another line than is shown" >&2
   failed=1
 fi

@@ -3,6 +3,7 @@
 # lines: each line has the reply that is due, and none is `memory`, which contracts would allow anywhere.
 set -u
 cd "$(dirname "$0")/.." || exit 1
+./prove >/dev/null || exit 1
 work=$(mktemp -d) || exit 1
 trap 'rm -rf "$work"' EXIT
 

@@ -12,9 +12,8 @@ trap 'rm -rf "$work"' EXIT
 "${CC:-cc}" -O2 -shared -fPIC -o "$work/memory.so" checks/memory.c || exit 1
 
 # it is built, if need be, before allocations fail
-./tmm < /dev/null || exit 1
+./prove >/dev/null || exit 1
 program=crates/tmm_cli/out/tmm_cli
-[ -x "$program" ] || { echo "checks: there is no program $program" >&2; exit 1; }
 
 if [ "$#" -gt 0 ]; then
   scripts=("$@")

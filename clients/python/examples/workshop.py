@@ -9,7 +9,7 @@ allows. The program shows what stands against that, finds out what gives way, an
 import sys
 from pathlib import Path
 
-# tmm.py is in the folder above.
+# The package is in the folder above.
 sys.path.insert(0, str(Path(__file__).resolve().parents[1]))
 
 import tmm  # noqa: E402

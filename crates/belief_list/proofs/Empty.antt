@@ -4,7 +4,7 @@ use Rattle.std.specs.Prelude.{None, Some}
 use Rattle.std.proofs.lemmas.List.Elements.{All-nil}
 use Rattle.tmm_model.specs.Standing.{empty_list}
 use Rattle.dist_net.specs.Net.{Net}
-use Rattle.list_net.specs.Fits.{IsNetOf}
+use Rattle.net_theory.specs.Fits.{IsNetOf}
 use Rattle.spots.specs.Forest.{Forest, member}
 use Rattle.spots.proofs.Nodes.{node_at}
 use Rattle.occ_tree.specs.OfLists.{IsTreeIn}

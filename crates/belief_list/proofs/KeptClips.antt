@@ -31,8 +31,8 @@ use Rattle.belief_theory.proofs.NextLists.{all_spelt}
 use Rattle.belief_theory.proofs.OneRight.{spot-token_of}
 use Rattle.belief_theory.proofs.Order.{IsSpelt, ordered}
 use Rattle.dist_net.specs.Net.{Net, Nets, IsMovedAt}
-use Rattle.list_net.specs.Network.{PointsKeepNumbers}
-use Rattle.list_net.proofs.Nets.{is_in_use}
+use Rattle.net_theory.specs.KeptNumbers.{PointsKeepNumbers}
+use Rattle.net_theory.proofs.Nets.{is_in_use}
 use Rattle.spots.specs.declared.spot.Spot.{Spot}
 use Rattle.spots.specs.declared.spot.Spot.TheVariants.{Declared, Node}
 use Rattle.spots.specs.Forest.{Forest, Member, member, IsLive, moment, moment_at}

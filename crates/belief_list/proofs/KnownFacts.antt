@@ -17,7 +17,7 @@ use Rattle.list_theory.proofs.KnownNames.{found}
 use Rattle.belief_theory.specs.Right.{Occurs}
 use Rattle.belief_theory.proofs.Rivals.{known_class}
 use Rattle.belief_theory.proofs.Sound.{rule_stands}
-use Rattle.supports.proofs.Facts.{used_after, fact_known, fact-class}
+use Rattle.premise_list.proofs.Facts.{used_after, fact_known, fact-class}
 use Rattle.revisions.proofs.Tokens.{root_named}
 
 module _ (s : Standing) (sound : IsSound s) where

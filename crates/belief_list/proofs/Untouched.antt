@@ -26,7 +26,7 @@ use Rattle.belief_theory.proofs.OneRight.{spot-token_of}
 use Rattle.belief_theory.proofs.Outcomes.{first_token_in}
 use Rattle.premise_list.specs.States.{States}
 use Rattle.dist_net.specs.Net.{Net, Nets, IsMovedAt}
-use Rattle.list_net.specs.Network.{PointsKeepNumbers}
+use Rattle.net_theory.specs.KeptNumbers.{PointsKeepNumbers}
 use Rattle.spots.specs.declared.spot.Spot.{Spot}
 use Rattle.spots.specs.declared.spot.Spot.TheVariants.{Declared, Node}
 use Rattle.spots.specs.Forest.{Forest, Member, member, IsLive, moment_at}

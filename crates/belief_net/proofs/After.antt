@@ -5,7 +5,7 @@ use Rattle.tmm_model.specs.Standing.{Standing}
 use Rattle.belief_theory.specs.KeptLists.{last_horizon}
 use Rattle.dist_net.specs.Net.{Net}
 use Rattle.spots.specs.Forest.{member, moment_at}
-use Rattle.supports.specs.Growing.{MayEnter}
+use Rattle.spots.specs.Growing.{MayEnter}
 use Rattle.occ_tree.specs.Places.{forest}
 use Rattle.occ_tree.specs.Standing.{Kept}
 use Rattle.joined.specs.Rows.{fires_by}

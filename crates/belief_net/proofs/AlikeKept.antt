@@ -15,8 +15,8 @@ use Rattle.belief_theory.proofs.NextLists.{all_spelt}
 use Rattle.belief_theory.proofs.Rivals.{contradicts_is, bears_alike}
 use Rattle.belief_theory.proofs.Untouched.{Alike, class_of_token, watches, watched_token, outcome_alike}
 use Rattle.dist_net.specs.Net.{Net}
-use Rattle.list_net.specs.Fits.{IsNetOf}
-use Rattle.list_net.specs.Network.{PointsKeepNumbers}
+use Rattle.net_theory.specs.Fits.{IsNetOf}
+use Rattle.net_theory.specs.KeptNumbers.{PointsKeepNumbers}
 use Rattle.spots.specs.Forest.{Forest, IsLive, moment_at}
 use Rattle.spots.specs.OfLists.{IsForestOf, HasOccurrences}
 use Rattle.spots.proofs.Nodes.{node_at, moment_at-is}

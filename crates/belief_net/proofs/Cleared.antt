@@ -18,7 +18,7 @@ use Rattle.list_theory.proofs.KnownNames.{finds}
 use Rattle.belief_theory.specs.Right.{Occurs}
 use Rattle.belief_theory.proofs.SoundBeliefs.{believed_right}
 use Rattle.dist_net.specs.Net.{Net}
-use Rattle.supports.proofs.Rules.{rule_there}
+use Rattle.spots.proofs.Rules.{rule_there}
 use Rattle.spots.specs.Forest.{Forest, Member, member, IsLive, moment, moment_at}
 use Rattle.spots.specs.OfLists.{IsForestOf}
 use Rattle.spots.proofs.Nodes.{node_at, live_at, moment_at-is, base-moment}

@@ -17,7 +17,7 @@ use Rattle.list_theory.proofs.Erasure.{kept_before}
 use Rattle.list_theory.proofs.KnownNames.{found}
 use Rattle.belief_theory.specs.Right.{Occurs}
 use Rattle.belief_theory.proofs.Sound.{rule_stands}
-use Rattle.supports.proofs.Grown.{root_name}
+use Rattle.spots.proofs.Grown.{root_name}
 use Rattle.revisions.specs.Standing.{Stands}
 use Rattle.revisions.proofs.Standing.{standing_occurs}
 use Rattle.revisions.proofs.Tokens.{is_of_stays}

@@ -14,7 +14,7 @@ use Rattle.list_theory.specs.WellNamed.{IsSound}
 use Rattle.list_theory.proofs.Elements.{In, both, list_any-In, In-list_any}
 use Rattle.belief_theory.specs.Touched.{contradict}
 use Rattle.belief_theory.proofs.Rivals.{or_cases, or_left, or_right, same_rivals_have}
-use Rattle.list_net.specs.Represents.{Names}
+use Rattle.net_theory.specs.Represents.{Names}
 use Rattle.spots.specs.Forest.{Member, moment}
 use Rattle.spots.specs.OfLists.{IsMemberOf, class_for}
 use Rattle.revisions.specs.Maps.{watches}

@@ -23,7 +23,7 @@ use Rattle.spots.specs.Forest.{Forest, Member, member, IsLive, moment, moment_at
 use Rattle.spots.specs.OfLists.{class_for}
 use Rattle.spots.proofs.Nodes.{node_at, live_at, moment_at-is}
 use Rattle.spots.proofs.Seen.{occurs_at}
-use Rattle.supports.proofs.Grown.{node_cases, node_kept, apart_from}
+use Rattle.spots.proofs.Grown.{node_cases, node_kept, apart_from}
 use Rattle.supports.proofs.OnKinds.{no_rules, rules_of_event}
 use Rattle.undo_rows.specs.declared.row.Row.{Row as TableRow}
 use Rattle.decision_rows.specs.declared.row.Pair.{Pair}

@@ -14,7 +14,7 @@ use Rattle.list_theory.specs.WellNamed.{IsSound}
 use Rattle.belief_theory.specs.Right.{Occurs}
 use Rattle.belief_theory.proofs.SoundBeliefs.{believed_right, sound_timed}
 use Rattle.dist_net.specs.Net.{Net}
-use Rattle.list_net.specs.Represents.{Names}
+use Rattle.net_theory.specs.Represents.{Names}
 use Rattle.spots.specs.Forest.{Forest, Member, member, IsLive, moment, moment_at, SameMembers}
 use Rattle.spots.specs.OfLists.{IsMemberOf}
 use Rattle.spots.proofs.Nodes.{node_at, live_at, moment_at-is}

@@ -15,7 +15,7 @@ use Rattle.tmm_model.specs.Types.{IsTighter}
 use Rattle.list_theory.proofs.Elements.{In-from_Contains}
 use Rattle.belief_theory.proofs.Sound.{shortest}
 use Rattle.dist_net.specs.Net.{Net, IsInUse}
-use Rattle.list_net.proofs.Numbers.{number_far}
+use Rattle.net_theory.proofs.Numbers.{number_far}
 use Rattle.spots.specs.declared.spot.Spot.{Spot}
 use Rattle.spots.specs.declared.spot.Spot.TheVariants.{Declared, Node}
 use Rattle.spots.specs.Forest.{Forest, IsLive, moment}
@@ -27,7 +27,7 @@ use Rattle.occ_tree.specs.Known.{triangle}
 use Rattle.occ_tree.specs.OfLists.{IsTreeIn}
 use Rattle.occ_tree.specs.Places.{forest}
 use Rattle.occ_tree.specs.Standing.{Kept, present, early}
-use Rattle.supports.proofs.TokenRows.{token_row_spots}
+use Rattle.spots.proofs.TokenSpots.{token_row_spots}
 use Rattle.revisions.proofs.StillEdits.{base_root}
 use Rattle.revisions.specs.Walls.{begins_by}
 use Rattle.belief_net.specs.Windows.{are_two, HasBegunFrom, AreTwoFrom, IsOfNode, IsWall}

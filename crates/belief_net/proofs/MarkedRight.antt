@@ -24,9 +24,9 @@ use Rattle.list_theory.proofs.WellNamed.{points_in-push, AllFollow-append}
 use Rattle.belief_theory.specs.Outcomes.{outcome}
 use Rattle.belief_theory.proofs.SoundBeliefs.{believed_occurs}
 use Rattle.dist_net.specs.Net.{Net, Nets, IsInUse}
-use Rattle.list_net.specs.Fits.{IsNetOf}
-use Rattle.list_net.specs.Network.{PointsKeepNumbers}
-use Rattle.list_net.specs.Represents.{Names, IsNumberOf}
+use Rattle.net_theory.specs.Fits.{IsNetOf}
+use Rattle.net_theory.specs.KeptNumbers.{PointsKeepNumbers}
+use Rattle.net_theory.specs.Represents.{Names, IsNumberOf}
 use Rattle.spots.specs.declared.spot.Spot.TheVariants.{Declared, Node}
 use Rattle.spots.specs.Forest.{Forest, IsLive, moment_at}
 use Rattle.spots.specs.OfLists.{IsForestOf, HasOccurrences}

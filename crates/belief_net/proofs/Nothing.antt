@@ -4,7 +4,7 @@ use Rattle.std.specs.Prelude.{ℤ}
 use Rattle.std.specs.Option.{option_map}
 use Rattle.spots.specs.Forest.{member}
 use Rattle.spots.proofs.Nodes.{node_at}
-use Rattle.supports.proofs.Grown.{seen_first}
+use Rattle.spots.proofs.Grown.{seen_first}
 use Rattle.undo_rows.specs.Changes.{present as rows_now, committed as rows_then}
 use Rattle.occ_tree.specs.Places.{forest}
 use Rattle.occ_tree.specs.Standing.{present, committed}

@@ -8,7 +8,7 @@ use Rattle.tmm_model.specs.declared.premise.Premise.{Premise}
 use Rattle.tmm_model.specs.Beliefs.{on_kind}
 use Rattle.list_theory.proofs.Distinct.{Distinct}
 use Rattle.list_theory.proofs.Elements.{In, In-left}
-use Rattle.supports.proofs.Grown.{parted}
+use Rattle.spots.proofs.Grown.{parted}
 
 -- what stands in front in a list without repeats is not what follows
 apart_in : {X : Type 0} (xs ys : List X) → Distinct (xs ++ ys) → (x : X) → In x xs → In x ys → ⊥

@@ -22,8 +22,8 @@ use Rattle.list_theory.proofs.KnownNames.{fresh}
 use Rattle.list_theory.proofs.WellNamed.{AllFollow-append}
 use Rattle.premise_list.specs.States.{States}
 use Rattle.dist_net.specs.Net.{Nets, IsInUse}
-use Rattle.list_net.specs.Fits.{IsNetOf}
-use Rattle.list_net.specs.Network.{PointsKeepNumbers}
+use Rattle.net_theory.specs.Fits.{IsNetOf}
+use Rattle.net_theory.specs.KeptNumbers.{PointsKeepNumbers}
 use Rattle.spots.specs.Forest.{Forest, member, moment, moment_at, IsLive, IsNoRoot}
 use Rattle.spots.specs.OfLists.{IsForestOf, HasList, HasOccurrences}
 use Rattle.spots.specs.Spots.{links_low}

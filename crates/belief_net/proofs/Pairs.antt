@@ -12,7 +12,7 @@ use Rattle.tmm_model.specs.declared.bound.Bound.TheVariants.{Finite, Free}
 use Rattle.tmm_model.specs.declared.point.PointName.{PointName}
 use Rattle.belief_theory.specs.Touched.{same_bound}
 use Rattle.dist_net.specs.Net.{Nets, IsInUse, IsMovedAt}
-use Rattle.list_net.specs.Represents.{Names}
+use Rattle.net_theory.specs.Represents.{Names}
 use Rattle.spots.specs.Spots.{net_far}
 use Rattle.list_theory.proofs.Elements.{both}
 use Rattle.joined.proofs.Deciding.{not_both}

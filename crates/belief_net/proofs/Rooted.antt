@@ -10,8 +10,8 @@ use Rattle.dist_net.specs.Net.{Net}
 use Rattle.spots.specs.Forest.{Member, member, IsLive, moment, IsNoRoot}
 use Rattle.spots.specs.OfLists.{IsForestOf, HasList}
 use Rattle.spots.proofs.Nodes.{node_at, live_at, base-moment}
-use Rattle.supports.specs.Growing.{Adds, AddsRoot}
-use Rattle.supports.proofs.Grown.{adds_seen, node_kept, root_name, root_added, root_skipped}
+use Rattle.spots.specs.Growing.{Adds, AddsRoot}
+use Rattle.spots.proofs.Grown.{adds_seen, node_kept, root_name, root_added, root_skipped}
 use Rattle.undo_rows.specs.Tables.{AreListed}
 use Rattle.occ_tree.specs.Dated.{IsDatedBy}
 use Rattle.occ_tree.specs.Edits.{Enters}

@@ -6,7 +6,7 @@ use Rattle.std.specs.Option.{option_map_or}
 use Rattle.tmm_model.specs.declared.point.PointName.TheVariants.{Start}
 use Rattle.belief_theory.specs.Touched.{same_bound}
 use Rattle.dist_net.specs.Net.{Nets}
-use Rattle.list_net.specs.Represents.{Names, IsNumberOf}
+use Rattle.net_theory.specs.Represents.{Names, IsNumberOf}
 use Rattle.spots.specs.Spots.{net_far}
 use Rattle.joined.proofs.Deciding.{not_both}
 use Rattle.belief_net.specs.Fast.{AreInBoth, is_out, StandFast, IsFastBy}

@@ -27,8 +27,8 @@ use Rattle.spots.specs.Forest.{Forest}
 use Rattle.spots.specs.OfLists.{IsForestOf, class_for}
 use Rattle.spots.specs.Spots.{AreTokens}
 use Rattle.spots.proofs.Rows.{member_of_token}
-use Rattle.supports.proofs.Facts.{fact_known}
-use Rattle.supports.proofs.Grown.{taken}
+use Rattle.premise_list.proofs.Facts.{fact_known}
+use Rattle.spots.proofs.Grown.{taken}
 use Rattle.joined.specs.Gaps.{IsClassSpot, IsFactSpot, IsReadSpot, start, read, rival}
 use Rattle.belief_net.specs.declared.reach.Reach.{Reach}
 use Rattle.belief_net.specs.Reach.{Notes}

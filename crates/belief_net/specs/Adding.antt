@@ -9,7 +9,7 @@ use Rattle.list_theory.proofs.Elements.{In}
 use Rattle.dist_net.specs.Net.{Net}
 use Rattle.row_links.specs.Lists.{IsOn}
 use Rattle.spots.specs.Forest.{Member, member, IsLive, moment_at}
-use Rattle.supports.specs.Growing.{Adds}
+use Rattle.spots.specs.Growing.{Adds}
 use Rattle.undo_rows.specs.declared.row.Row.{Row as TableRow}
 use Rattle.undo_rows.specs.Tables.{Table, AreListed}
 use Rattle.decision_rows.specs.declared.row.Pair.{Pair}

@@ -1,8 +1,8 @@
 -- Lists that are alike in all that beliefs read.
 use Rattle.tmm_model.specs.Standing.{Standing, points_in}
 use Rattle.dist_net.specs.Net.{Net}
-use Rattle.list_net.specs.Fits.{IsNetOf}
-use Rattle.list_net.specs.Network.{PointsKeepNumbers}
+use Rattle.net_theory.specs.Fits.{IsNetOf}
+use Rattle.net_theory.specs.KeptNumbers.{PointsKeepNumbers}
 use Rattle.revisions.specs.Alike.{AreAlike}
 use Rattle.belief_net.specs.declared.state.BeliefNet.{BeliefNet}
 use Rattle.belief_net.specs.Updating.{IsKept}

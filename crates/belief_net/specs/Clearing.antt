@@ -9,8 +9,8 @@ use Rattle.list_theory.specs.WellNamed.{IsSound}
 use Rattle.list_theory.proofs.Elements.{In}
 use Rattle.belief_theory.specs.Right.{Occurs}
 use Rattle.dist_net.specs.Net.{Net}
-use Rattle.list_net.specs.Fits.{IsNetOf}
-use Rattle.list_net.specs.Network.{PointsKeepNumbers}
+use Rattle.net_theory.specs.Fits.{IsNetOf}
+use Rattle.net_theory.specs.KeptNumbers.{PointsKeepNumbers}
 use Rattle.spots.specs.Forest.{Member, member, IsLive, moment, moment_at}
 use Rattle.spots.specs.OfLists.{IsForestOf}
 use Rattle.undo_rows.specs.declared.row.Row.{Row as TableRow}

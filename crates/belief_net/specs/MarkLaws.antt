@@ -11,8 +11,8 @@ use Rattle.tmm_model.specs.Moments.{Moment, rule_of}
 use Rattle.tmm_model.specs.Standing.{Standing, points_in, name_of, far_in}
 use Rattle.belief_theory.specs.Outcomes.{outcome}
 use Rattle.dist_net.specs.Net.{Net, Nets}
-use Rattle.list_net.specs.Fits.{IsNetOf}
-use Rattle.list_net.specs.Network.{PointsKeepNumbers}
+use Rattle.net_theory.specs.Fits.{IsNetOf}
+use Rattle.net_theory.specs.KeptNumbers.{PointsKeepNumbers}
 use Rattle.spots.specs.Forest.{Forest, IsLive, moment_at}
 use Rattle.spots.specs.OfLists.{IsForestOf, HasOccurrences}
 use Rattle.occ_tree.specs.OfLists.{IsTreeOf}

@@ -6,7 +6,7 @@ use Rattle.tmm_model.specs.declared.point.PointName.TheVariants.{Start, Begin, E
 use Rattle.tmm_model.specs.Points.{same_name}
 use Rattle.belief_theory.specs.Touched.{same_bound}
 use Rattle.dist_net.specs.Net.{Nets, IsInUse}
-use Rattle.list_net.specs.Represents.{Names}
+use Rattle.net_theory.specs.Represents.{Names}
 use Rattle.spots.specs.Spots.{net_far}
 use Rattle.belief_net.specs.PointSets.{has_pair}
 

@@ -1,2 +1,4 @@
 mod Seeing
 mod Unheld
+mod Rising
+mod OneClass

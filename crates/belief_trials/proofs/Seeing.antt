@@ -6,8 +6,8 @@ use Rattle.tmm_model.specs.Edits.{list_with}
 use Rattle.tmm_model.specs.Standing.{Standing}
 use Rattle.list_theory.specs.WellNamed.{IsWellNamed}
 use Rattle.dist_net.specs.Net.{Net}
-use Rattle.list_net.specs.Fits.{IsNetOf}
-use Rattle.list_net.specs.Network.{KeepsNumbers}
+use Rattle.net_theory.specs.Fits.{IsNetOf}
+use Rattle.net_theory.specs.KeptNumbers.{KeepsNumbers}
 use Rattle.revisions.specs.Alike.{SayAlike, is_unread}
 use Rattle.revisions.proofs.StillEdits.{stay_seen}
 use Rattle.revisions.proofs.UnreadEdits.{unread_edit}

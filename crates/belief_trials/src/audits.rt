@@ -1,5 +1,5 @@
 //! The audit of right and of wrong rows.
-ghost use Rattle.list_net.specs.Fits.{IsNetOf};
+ghost use Rattle.net_theory.specs.Fits.{IsNetOf};
 
 use crate::premises::{Premises, let_through};
 use just_check::audit;

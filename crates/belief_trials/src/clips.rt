@@ -3,11 +3,10 @@ ghost use Rattle.std.specs.Prelude.{IfOk};
 ghost use Rattle.belief_trials.specs.Dates.{date_far, date_cmp, itself, triangle, ordered, dated};
 ghost use Rattle.clipping.specs.Stretches.{HaveStretches};
 
+use crate::listed::is_by_date;
 use crate::names::name;
-use clipping::{
-    Dated, Fault, Stretched, blame, by_date, first_clipper, holder, is_held, last_clipper,
-    stretch_behind,
-};
+use any_order::{Fault, blame, first_clipper, holder, is_held};
+use clipping::{Dated, Stretched, by_date, last_clipper, stretch_behind};
 use std::alloc::{AllocError, Global};
 use std::cmp::Ordering;
 use std::process::Abort;
@@ -259,7 +258,7 @@ const GUESSES: &[u32] = &[3, 0, 99, 1, 4, 2];
 
 // What the search by dates says of the same questions, where the tokens stand by date.
 fn held_by_date(tokens: &[TokenRow<Spot>], p: i32, q: i32) -> Option<(Option<usize>, bool)> {
-    if !by_date::is_by_date(&Dates, tokens) {
+    if !is_by_date(&Dates, tokens) {
         return None;
     }
     let open = name("open");
@@ -268,28 +267,9 @@ fn held_by_date(tokens: &[TokenRow<Spot>], p: i32, q: i32) -> Option<(Option<usi
     Some((first, by_date::is_held(&Dates, tokens, GUESSES, open, p, q)))
 }
 
-fn clipper_by_date(tokens: &[TokenRow<Spot>], k: usize) -> Option<usize> {
-    if k < tokens.len() && by_date::is_by_date(&Dates, tokens) {
-        by_date::first_clipper(&Dates, tokens, k)
-    } else {
-        None
-    }
-}
-
-fn fault_by_date(tokens: &[TokenRow<Spot>], k: usize, p: i32, q: i32) -> Option<Fault> {
-    let token = tokens.get(k)?;
-    let (p, q) = ((0, p, 8), (0, q, 8));
-    if !by_date::is_by_date(&Dates, tokens)
-        || by_date::is_held(&Dates, tokens, &[], token.fact, p, q)
-    {
-        return None;
-    }
-    Some(by_date::blame(&Dates, tokens, k, p, q))
-}
-
 // Where the token stands that begins at a spot.
 fn place_by_date(tokens: &[TokenRow<Spot>], spot: Spot) -> Option<usize> {
-    if by_date::is_by_date(&Dates, tokens) {
+    if is_by_date(&Dates, tokens) {
         by_date::place_of(&Dates, tokens, spot)
     } else {
         None
@@ -303,16 +283,6 @@ fn check_held_by_date(rt: &impl Abort, tokens: &[TokenRow<Spot>], cases: &[Held]
     }
 }
 
-fn check_clippers_by_date(
-    rt: &impl Abort,
-    tokens: &[TokenRow<Spot>],
-    cases: &[(usize, Option<usize>)],
-) {
-    for (k, found) in cases {
-        assert_eq!(rt; clipper_by_date(tokens, *k), *found, "of {k}");
-    }
-}
-
 fn check_places_by_date(
     rt: &impl Abort,
     tokens: &[TokenRow<Spot>],
@@ -320,16 +290,6 @@ fn check_places_by_date(
 ) {
     for (spot, found) in cases {
         assert_eq!(rt; place_by_date(tokens, *spot), *found);
-    }
-}
-
-fn check_faults_by_date(rt: &impl Abort, tokens: &[TokenRow<Spot>], cases: &[Failing]) {
-    for (k, p, q, why) in cases {
-        assert_eq!(rt;
-            fault_by_date(tokens, *k, *p, *q),
-            Some(*why),
-            "of {k} from {p} to {q}"
-        );
     }
 }
 
@@ -341,35 +301,22 @@ const HELD_BY_DATE: &[Held] = &[
     (-1, -1, None),
 ];
 
-const CLIPPERS_BY_DATE: &[(usize, Option<usize>)] = &[
-    (0, Some(2)),
-    (1, None),
-    (2, Some(5)),
-    (4, None),
-    (5, None),
-];
-
 const PLACES_BY_DATE: &[(Spot, Option<usize>)] = &[
     ((0, 5, 1), Some(2)),
     ((0, 5, 3), None),
     ((0, 9, 0), None),
 ];
 
-const FAULTS_BY_DATE: &[Failing] = &[(0, -1, -1, Fault::Late), (0, 4, 5, Fault::Clipped(2))];
-
 #[test]
 fn tokens_of_a_door_by_date(rt: HostRuntime) {
     let tokens = door_by_date();
     check_held_by_date(&rt, &tokens, HELD_BY_DATE);
-    check_clippers_by_date(&rt, &tokens, CLIPPERS_BY_DATE);
     check_places_by_date(&rt, &tokens, PLACES_BY_DATE);
-    check_faults_by_date(&rt, &tokens, FAULTS_BY_DATE);
-    assert!(rt; !by_date::is_by_date(&Dates, &door()));
+    assert!(rt; !is_by_date(&Dates, &door()));
 }
 
 #[test]
 fn a_span_of_a_door_by_date(rt: HostRuntime) {
     let tokens = span_of_door();
     check_held_by_date(&rt, &tokens, HELD_BY_SPAN);
-    check_faults_by_date(&rt, &tokens, FAULTS_OF_SPAN);
 }

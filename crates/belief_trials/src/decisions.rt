@@ -1,5 +1,5 @@
 //! What the projection of a list makes, counts and decides.
-ghost use Rattle.list_net.specs.Fits.{IsNetOf};
+ghost use Rattle.net_theory.specs.Fits.{IsNetOf};
 ghost use Rattle.tmm_model.specs.Maps.{built};
 ghost use Rattle.spots.specs.Forest.{IsLive};
 ghost use Rattle.spots.specs.OfLists.{HasOccurrences};

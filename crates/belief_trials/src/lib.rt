@@ -1,7 +1,7 @@
-//! Trials of the crates that make, list and check beliefs, by their public calls: `clips` and
-//! `rivals` of `clipping`, `trees` and `orders` of `occ_tree`, `decisions` of `projection`, `told`
-//! of `belief_list`, `audits` of `just_check` and `guards` of `protections`. It has no functions
-//! but its tests, and no crate stands on it.
+//! Trials of the crates that make, list and check beliefs, by their public calls: `clips` of
+//! `clipping` and `any_order`, `rivals` of `clipping`, `trees` and `orders` of `occ_tree`,
+//! `decisions` of `projection`, `told` of `belief_list`, `audits` of `just_check` and `guards` of
+//! `protections`. It has no functions but its tests, and no crate stands on it.
 #![tactic(auto)]
 
 #[cfg(test)]
@@ -12,6 +12,8 @@ mod clips;
 mod decisions;
 #[cfg(test)]
 mod guards;
+#[cfg(test)]
+mod listed;
 #[cfg(test)]
 mod names;
 #[cfg(test)]

@@ -1,6 +1,7 @@
 //! The tokens of a class stay in their order as their event moves, goes and comes back.
 ghost use Rattle.std.specs.Prelude.{IfOk};
-ghost use Rattle.list_net.specs.Fits.{IsNetOf, NothingPending};
+ghost use Rattle.net_theory.specs.Fits.{IsNetOf};
+ghost use Rattle.list_net.specs.Settled.{NothingPending};
 ghost use Rattle.occ_tree.specs.Places.{forest};
 ghost use Rattle.spots.specs.OfLists.{HasList};
 

@@ -2,7 +2,8 @@
 ghost use Rattle.std.specs.Prelude.{◌≡◌, true, IfOk, OnOk};
 ghost use Rattle.tmm_model.specs.Lines.{IsWellFormedEdit};
 ghost use Rattle.tmm_model.specs.Standing.{empty_list};
-ghost use Rattle.list_net.specs.Fits.{IsNetOf, NothingPending};
+ghost use Rattle.net_theory.specs.Fits.{IsNetOf};
+ghost use Rattle.list_net.specs.Settled.{NothingPending};
 ghost use Rattle.revisions.specs.Alike.{is_unread};
 ghost use Rattle.belief_trials.specs.Lists.{SeeTheSame};
 

@@ -3,6 +3,7 @@ ghost use Rattle.std.specs.Prelude.{◌∷◌, []};
 ghost use Rattle.belief_trials.specs.Pairs.{are_pair, none_itself, both_ways};
 
 use crate::clips::{Dates, Spot};
+use crate::listed::{are_by_date, is_class_list};
 use crate::names::name;
 use clipping::Tokens;
 use clipping::across::{self, Fault, Place};
@@ -102,10 +103,7 @@ type Held = (usize, &'static str, i32, i32, Option<usize>);
 // Which token of a list holds a fact from a date to another, and whether any does.
 fn held(tokens: &Lists<'_>, pair: &Pair, case: &Held) -> Option<(Option<usize>, bool)> {
     let (own, fact, p, q, _) = *case;
-    if own >= tokens.count()
-        || !across::are_by_date(&Dates, tokens)
-        || !across::is_class_list(tokens, own)
-    {
+    if own >= tokens.count() || !are_by_date(&Dates, tokens) || !is_class_list(tokens, own) {
         return None;
     }
     let (p, q) = ((0, p, 8), (0, q, 8));
@@ -114,24 +112,9 @@ fn held(tokens: &Lists<'_>, pair: &Pair, case: &Held) -> Option<(Option<usize>, 
     Some((first, any))
 }
 
-// What clips the token at a place.
-fn clipper(tokens: &Lists<'_>, pair: &Pair, k: Place) -> Option<Place> {
-    if k.list >= tokens.count()
-        || k.at >= tokens.list(k.list).len()
-        || !across::are_by_date(&Dates, tokens)
-        || !across::is_class_list(tokens, k.list)
-    {
-        return None;
-    }
-    across::first_clipper(&Dates, tokens, pair, k)
-}
-
 // Why the token at a place does not support its fact from a date to another, where no token does.
 fn fault(tokens: &Lists<'_>, pair: &Pair, k: Place, p: i32, q: i32) -> Option<Fault> {
-    if k.list >= tokens.count()
-        || !across::are_by_date(&Dates, tokens)
-        || !across::is_class_list(tokens, k.list)
-    {
+    if k.list >= tokens.count() || !are_by_date(&Dates, tokens) || !is_class_list(tokens, k.list) {
         return None;
     }
     let token = tokens.list(k.list).get(k.at)?;
@@ -188,39 +171,6 @@ fn a_door_that_is_open_or_locked(rt: HostRuntime) {
     check_held(&rt, &tokens, &Pair::of("open", "locked"), OPEN_AND_LOCKED);
     check_held(&rt, &tokens, &Pair::of("locked", "open"), OPEN_AND_LOCKED);
     check_held(&rt, &tokens, &Pair::of("open", "shut"), OPEN_AND_SHUT);
-}
-
-const CLIPPERS: &[(Place, Option<Place>)] = &[
-    // the first clipper stands in the other list
-    (
-        Place { list: DOOR, at: 0 },
-        Some(Place { list: LOCK, at: 0 }),
-    ),
-    (
-        Place { list: DOOR, at: 1 },
-        Some(Place { list: DOOR, at: 2 }),
-    ),
-    (Place { list: DOOR, at: 2 }, None),
-    // a span has none
-    (Place { list: LOCK, at: 0 }, None),
-    (
-        Place { list: LOCK, at: 1 },
-        Some(Place { list: DOOR, at: 2 }),
-    ),
-    (Place { list: LOCK, at: 2 }, None),
-];
-
-#[test]
-fn what_clips_a_token_of_a_door(rt: HostRuntime) {
-    let (door, lock) = (door(), lock());
-    let tokens = Lists {
-        door: &door,
-        lock: &lock,
-    };
-    let pair = Pair::of("open", "locked");
-    for (k, found) in CLIPPERS {
-        assert_eq!(rt; clipper(&tokens, &pair, *k), *found, "of {k:?}");
-    }
 }
 
 const FAULTS: &[(Place, i32, i32, Fault)] = &[

@@ -1,7 +1,7 @@
 //! What is told where nothing is believed, and what is taken over of an edit.
 ghost use Rattle.std.specs.Prelude.{◌≡◌, ℕ, None};
 ghost use Rattle.tmm_model.specs.Standing.{empty_list};
-ghost use Rattle.list_net.specs.Fits.{IsNetOf};
+ghost use Rattle.net_theory.specs.Fits.{IsNetOf};
 ghost use Rattle.occ_tree.specs.OfLists.{IsTreeIn};
 ghost use Rattle.occ_tree.specs.Standing.{present, committed, forest};
 

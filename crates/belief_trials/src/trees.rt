@@ -2,7 +2,7 @@
 ghost use Rattle.std.specs.Prelude.{◌≡◌, ◌≢◌, ℕ, [], None, Some, IsTrue, IfOk};
 ghost use Rattle.tmm_model.specs.Names.{is_name};
 ghost use Rattle.tmm_model.specs.Standing.{empty_list};
-ghost use Rattle.list_net.specs.Fits.{IsNetOf};
+ghost use Rattle.net_theory.specs.Fits.{IsNetOf};
 ghost use Rattle.spots.specs.Forest.{Member, IsLive, IsTrigger};
 ghost use Rattle.spots.specs.OfLists.{HasList};
 ghost use Rattle.occ_tree.specs.Standing.{present, forest};

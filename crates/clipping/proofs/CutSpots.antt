@@ -1,5 +1,5 @@
 -- A token of another list that cuts one token of a fact cuts those of it that begin before it.
-use Rattle.std.proofs.Common.{◌≡◌, ◌∙◌, ℕ, ◌<◌, ◌≤◌, Bool, true, false, not, ◌&&◌, ◌||◌, List, length, refl, sym, ap, subst, arith}
+use Rattle.std.proofs.Common.{◌≡◌, ◌∙◌, ℕ, ◌<◌, Bool, true, false, not, ◌&&◌, List, length, refl, sym, ap, subst, arith}
 use Rattle.std.specs.Prelude.{Option, Some, None, IsTrue, IsFalse, MatchOption, ℤ, slice_index_or}
 use Rattle.std.specs.Option.{ForSome}
 use Rattle.std.specs.List.{All, list_any}

@@ -1,10 +1,9 @@
 -- The first token of a fact behind a spot.
-use Rattle.std.proofs.Common.{◌≡◌, ℕ, ◌<◌, ◌≤◌, inl, inr, Bool, true, false, ◌&&◌, List, length, refl, ap, arith}
+use Rattle.std.proofs.Common.{◌≡◌, ℕ, ◌<◌, ◌≤◌, inl, inr, Bool, true, false, ◌&&◌, List, length, arith}
 use Rattle.std.proofs.lemmas.Bool.{cases_lt, and_left, and_right, false_from_ne_true}
-use Rattle.std.specs.Prelude.{◌≢◌, Option, Some, None, MatchOption, ℤ, slice_index_or}
+use Rattle.std.specs.Prelude.{Option, Some, None, MatchOption, ℤ, slice_index_or}
 use Rattle.std.specs.List.{All}
 use Rattle.std.specs.declared.cmp.Ordering.{Ordering}
-use Rattle.std.specs.declared.cmp.Ordering.TheVariants.{Less}
 use Rattle.std.specs.Ordering.{is_lt, on}
 use Rattle.belief_theory.specs.FirstPlaces.{IsFirstPlace}
 use Rattle.tmm_model.specs.declared.token.TokenRow.{TokenRow}

@@ -1,9 +1,9 @@
 -- Facts of other classes that contradict a token's: what clips and supports it among all tokens.
-use Rattle.std.proofs.Common.{◌≡◌, ◌≢◌, ◌∙◌, ℕ, suc, ◌<◌, inl, inr, Bool, true, false, not, ◌&&◌, ◌||◌, List, [], ◌∷◌, length, IsTrue, refl, sym, ap, subst, arith, eq-eqb}
-use Rattle.std.specs.Prelude.{Option, Some, None, IsFalse, slice_index_or, nat_eq}
-use Rattle.std.specs.List.{All, list_any, Contains}
+use Rattle.std.proofs.Common.{◌≡◌, ◌≢◌, ◌∙◌, ℕ, suc, ◌<◌, inl, inr, Bool, true, false, not, ◌&&◌, ◌||◌, List, [], ◌∷◌, length, IsTrue, refl, sym, ap, subst, arith}
+use Rattle.std.specs.Prelude.{Option, Some, None, IsFalse, slice_index_or}
+use Rattle.std.specs.List.{list_any, Contains}
 use Rattle.std.specs.Cmp.Lexicographic.{bytes_decides}
-use Rattle.std.proofs.lemmas.Bool.{cases_order, or_left, and_left, and_parts, false_from_ne_true, both_ways, eqb-true, not-true, not-false}
+use Rattle.std.proofs.lemmas.Bool.{cases_order, or_left, and_left, and_parts, false_from_ne_true, not-true, not-false}
 use Rattle.std.proofs.lemmas.List.Elements.{Contains-get_or}
 use Rattle.std.specs.declared.cmp.Ordering.{Ordering}
 use Rattle.belief_theory.specs.FirstPlaces.{IsFirstPlace}
@@ -131,19 +131,3 @@ module _ {P : Type 0} (against : List ℕ → List ℕ → Bool) (irreflexive : 
   pub other_first : (cmp : TokenRow P → TokenRow P → Ordering) (until : Option P) (place : Option ℕ) (i : ℕ) → i < length lists → i ≢ own → IsFirstPlace cmp (clips_until (are_rivals against) far k until) (list_at lists i) place → IsFirstPlace cmp (clips_until (of_rivals against) far k until) (list_at lists i) place
   other_first cmp until place i lt other = first_agrees cmp (clips_until (are_rivals against) far k until) (clips_until (of_rivals against) far k until) (list_at lists i)
       (λ c at. clips_alike (of_rivals against) (are_rivals against) far k c (two_classes against k c (is.apart i k c lt other here at)) until) place
-
--- ---- which tokens are of the list's class
-
-pub class_agrees : {P : Type 0} (lists : List (List (TokenRow P))) (own : ℕ) → IsClassList lists own → (first : TokenRow P) → Contains (list_at lists own) first → (i : ℕ) → i < length lists → All (λ k. same_name k.class first.class ≡ nat_eq i own) (list_at lists i)
-class_agrees {P} lists own is first at i lt j d within = by (nat_eq i own) refl
-  where
-    k : TokenRow P
-    k = slice_index_or (list_at lists i) j d
-
-    here : Contains (list_at lists i) k
-    here = Contains-get_or (list_at lists i) j d within
-
-    by : (b : Bool) → nat_eq i own ≡ b → same_name k.class first.class ≡ b
-    by true e = (bytes_decides k.class first.class).1 (is.same k first (subst (λ m. Contains (list_at lists m) k) (eqb-true i own e) here) at)
-    by false e = false_from_ne_true (same_name k.class first.class)
-        (λ t. is.apart i first k lt (λ same. both_ways (nat_eq i own) e (eq-eqb i own same)) at here (sym ((bytes_decides k.class first.class).0 t)))

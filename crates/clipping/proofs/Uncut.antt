@@ -1,8 +1,7 @@
 -- A persistence that begins in time and is not cut supports its fact.
 use Rattle.std.proofs.Common.{◌≡◌, Bool, true, false, not, ◌&&◌, List, ap, ◌∙◌}
 use Rattle.std.specs.Prelude.{None}
-use Rattle.std.specs.List.{All, list_any}
-use Rattle.std.proofs.lemmas.List.Folds.{list_any_none}
+use Rattle.std.specs.List.{list_any}
 use Rattle.std.specs.Cmp.Lexicographic.{nat_list_eq_equiv}
 use Rattle.tmm_model.specs.declared.bound.Bound.{Bound}
 use Rattle.tmm_model.specs.declared.token.TokenRow.{TokenRow}
@@ -16,7 +15,3 @@ module _ {P : Type 0} (contradicts : TokenRow P → TokenRow P → Bool) (far : 
   -- no token cuts it
   pub none_cut : list_any (cuts contradicts far k q) tokens ≡ false → supports contradicts far tokens k.fact p q k ≡ true
   none_cut uncut = supports_uncut ∙ ap not uncut
-
-  -- each does not
-  pub uncut_supports : All (λ x. cuts contradicts far k q x ≡ false) tokens → supports contradicts far tokens k.fact p q k ≡ true
-  uncut_supports uncut = none_cut (list_any_none (cuts contradicts far k q) tokens uncut)

@@ -5,7 +5,7 @@ use Rattle.std.specs.declared.cmp.Ordering.{Ordering}
 use Rattle.std.specs.Ordering.{is_gt, on}
 use Rattle.tmm_model.specs.declared.bound.Bound.{Bound}
 use Rattle.tmm_model.specs.declared.token.TokenRow.{TokenRow}
-use Rattle.tmm_model.specs.Tokens.{clips, cuts, is_by, is_before}
+use Rattle.tmm_model.specs.Tokens.{cuts, is_by, is_before}
 use Rattle.clipping.specs.declared.across.Place.{Place}
 use Rattle.clipping.specs.declared.across.Fault.{Fault}
 use Rattle.clipping.specs.declared.across.Fault.TheVariants.{Late, Clipped, Ends}
@@ -57,13 +57,9 @@ IsFirstPlaceInLists {A} cmp test lists n place =
 abbrev pub IsFirstPlaceOfAll : {A : Type 0} → (A → A → Ordering) → (A → Bool) → List (List A) → Option Place → Type 0
 IsFirstPlaceOfAll cmp test lists place = IsFirstPlaceInLists cmp test lists (length lists) place
 
--- ---- clips and causes
+-- ---- causes
 
 module _ {P : Type 0} (contradicts : TokenRow P → TokenRow P → Bool) (far : P → P → Bound) (order : P → P → Ordering) (lists : List (List (TokenRow P))) (k : TokenRow P) where
-  -- the place of the first of all tokens that clips k; none for a span
-  abbrev pub IsClipPlace : Option Place → Type 0
-  IsClipPlace place = MatchOption k.end (IsFirstPlaceOfAll (on (λ k. k.spot) order) (clips contradicts far k) lists place) (λ _. IsNone place)
-
   -- the cause for which k does not support its fact throughout p to q
   abbrev pub IsFault : P → P → Fault → Type 0
   IsFault p q Late = IsFalse (is_by far k.spot p)

@@ -1,4 +1,4 @@
-//! The same answers where facts of other classes contradict too, over several lists of tokens, a
+//! Answers where facts of other classes contradict too, over several lists of tokens, a
 //! list for each class, each in the order of their earliest dates.
 //!
 //! Two facts contradict each other where one class declares both or they are against each other by
@@ -14,13 +14,13 @@ ghost use Rattle.tmm_model.specs.declared.token.TokenRow.{TokenRow as Row};
 ghost use Rattle.tmm_model.specs.Points.{same_name};
 ghost use Rattle.tmm_model.specs.Tokens.{is_before, supports, cuts, clips};
 ghost use Rattle.belief_theory.specs.FirstPlaces.{IsFirstPlace};
-ghost use Rattle.clipping.specs.Across.{list_at, all_of, IsCutSpot, IsClassList, IsPlace, at_place, IsFirstPlaceInLists, IsFirstPlaceOfAll, IsClipPlace, IsFault};
+ghost use Rattle.clipping.specs.Across.{list_at, all_of, IsCutSpot, IsClassList, IsPlace, at_place, IsFirstPlaceInLists, IsFirstPlaceOfAll, IsFault};
 ghost use Rattle.clipping.specs.ByDate.{IsByDate, AreUntil, IsAnyPlaceIn, IsFirstPlaceIn};
 ghost use Rattle.clipping.specs.Cutters.{BeginsBy, clips_until};
 ghost use Rattle.clipping.specs.Live.{IsLive};
 ghost use Rattle.clipping.specs.Rivals.{are_rivals, of_rivals};
 
-use crate::by_date::{self, Search, count_on, count_reached, count_until, is_by_date};
+use crate::by_date::{self, Search, count_on, count_reached, count_until};
 use crate::{Dated, Tokens};
 use tmm_model::{Name, Rivals, TokenRow};
 
@@ -42,51 +42,6 @@ pub enum Fault {
     Clipped(Place),
     /// It is a span that does not surely end after the last point.
     Ends,
-}
-
-/// Whether the tokens of each list stand in the order of their dates, which the other calls ask
-/// for.
-pub fn are_by_date<S: Dated, T: Tokens<Spot = S::Spot>>(order: &S, tokens: &T) -> bool
-    requires all_live { All (All (IsLive (S.live order.now))) (T.lists tokens.now) }
-    ensures { IsTrue result ↔ All (IsByDate (S.date order.now) (S.order order.now)) (T.lists tokens.now) }
-{
-    for i in 0..tokens.count() {
-        if !is_by_date(order, tokens.list(i)) {
-            return false;
-        }
-    }
-    true
-}
-
-// Whether the tokens are all of the class, or none is.
-fn agree<P>(tokens: &[TokenRow<P>], class: &Name, of_class: bool) -> bool
-    ensures { IsTrue result ↔ All (λ k. same_name k.class class.now ≡ of_class) tokens.now }
-{
-    for k in tokens {
-        if (k.class == *class) != of_class {
-            return false;
-        }
-    }
-    true
-}
-
-/// Whether the tokens of the list `own` are of one class, of which no other list has a token, which
-/// the other calls ask for.
-pub fn is_class_list<T: Tokens>(tokens: &T, own: usize) -> bool
-    requires own { own < length (T.lists tokens.now) }
-    ensures { IsTrue result ↔ IsClassList (T.lists tokens.now) own }
-{
-    let list = tokens.list(own);
-    if list.is_empty() {
-        return true;
-    }
-    let class = &list[0].class;
-    for i in 0..tokens.count() {
-        if !agree(tokens.list(i), class, i == own) {
-            return false;
-        }
-    }
-    true
 }
 
 // Whether the fact of `c` is against that of `k`, and `c` surely begins after it, and at or before
@@ -524,27 +479,6 @@ fn first_clip<S: Dated, T: Tokens<Spot = S::Spot>, R: Rivals>(
         clip = first_of(order, tokens, clip, i, found);
     }
     clip
-}
-
-/// The place of the first of all tokens that clips the one at `k`, none exactly where no token
-/// does. A span has none. Of each list those with a later date are asked, to the first that does.
-pub fn first_clipper<S: Dated, T: Tokens<Spot = S::Spot>, R: Rivals>(
-    order: &S,
-    tokens: &T,
-    rivals: &R,
-    k: Place,
-) -> Option<Place>
-    requires all_live { All (All (IsLive (S.live order.now))) (T.lists tokens.now) }
-    requires by_date { All (IsByDate (S.date order.now) (S.order order.now)) (T.lists tokens.now) }
-    requires within { IsPlace (T.lists tokens.now) k }
-    requires by_class { IsClassList (T.lists tokens.now) k.list }
-    ensures { IfSome (slice_get (list_at (T.lists tokens.now) k.list) k.at) (λ row. IsClipPlace (of_rivals (R.against rivals.now)) (S.distance order.now) (S.order order.now) (T.lists tokens.now) row result) }
-{
-    let row = &tokens.list(k.list)[k.at];
-    match row.end {
-        Some(_) => None,
-        None => first_clip(order, tokens, rivals, k.list, row, None),
-    }
 }
 
 /// Why the token at `k` does not support its fact throughout `p` to `q` among the tokens of all

@@ -1,5 +1,5 @@
-//! The same answers over tokens in the order of their earliest dates, for a map that keeps those of
-//! each class so.
+//! Answers among tokens of one class in the order of their earliest dates, for a map that keeps
+//! those of each class so.
 //!
 //! The first supporter or clip in the list is the first by the order, so a search stops at the
 //! first that it finds. No search looks at a token whose date alone rules it out: what supports at
@@ -7,54 +7,28 @@
 //! what cuts it before a point has one up to that point's. The bounds of a search are found by
 //! halving. No call takes memory.
 //!
-//! `first_clipper` and `blame` cost what they pass over. `is_held` and `holder` cost, for each
-//! token of the fact that they pass over, one test where it is cut by what cut the one before, and
-//! else the way from there to what cuts this one: little where those that cut stand in the order of
-//! those that they cut. Where they stand in
-//! quite another order it comes to the square of the tokens up to the last point, but for two
-//! things:
+//! `is_held` and `holder` cost, for each token of the fact that they pass over, one test where it
+//! is cut by what cut the one before, and else the way from there to what cuts this one: little
+//! where those that cut stand in the order of those that they cut. Where they stand in quite
+//! another order it comes to the square of the tokens up to the last point, but for two things:
 //!
 //! - `holder_soon` and `is_held_soon` give up when the ways come to more than a caller allows.
 //! - `holder` and `is_held` take guesses of what cuts each token. Each is tried, and none is
 //!   believed: a right one passes over its token in one test, a wrong one costs that test. Where
 //!   all are right, one search is made, for what cuts the token that is found.
-ghost use Rattle.std.specs.Prelude.{◌≡◌, ◌<◌, ◌≤◌, ◌+◌, ◌↔◌, ◌≤ℤ◌, ℕ, length, IsTrue, IsSome, Some, None, true, false, IfSome, MatchOption, slice_get, slice_index_or};
+ghost use Rattle.std.specs.Prelude.{◌≡◌, ◌<◌, ◌≤◌, ◌+◌, length, IsTrue, IsSome, Some, None, true, false, IfSome, MatchOption, slice_index_or};
 ghost use Rattle.std.specs.List.{All, list_any};
 ghost use Rattle.std.specs.Option.{ForSome};
 ghost use Rattle.std.specs.Ordering.{on};
-ghost use Rattle.std.specs.declared.cmp.Ordering.TheVariants.{Less};
 ghost use Rattle.tmm_model.specs.declared.token.TokenRow.{TokenRow};
 ghost use Rattle.tmm_model.specs.Tokens.{of_one_class, supports, cuts};
 ghost use Rattle.belief_theory.specs.FirstPlaces.{IsFirstPlace};
 ghost use Rattle.clipping.specs.ByDate.{IsByDate, AreUntil, AreBefore, IsAnyPlaceIn, IsFirstPlaceIn, IsPlaceOf};
 ghost use Rattle.clipping.specs.Cutters.{BeginsBy, clips_until, is_after, is_between};
-ghost use Rattle.clipping.specs.Faults.{IsClipPlace, IsFault};
 ghost use Rattle.clipping.specs.Live.{IsLive};
 
-use crate::{Dated, Fault, clips_until, cuts_before, is_cut_by};
+use crate::{Dated, clips_until, cuts_before, is_cut_by};
 use tmm_model::{Name, TokenRow};
-
-/// Whether the tokens stand in the order of their dates, which the other calls ask for.
-pub fn is_by_date<S: Dated>(order: &S, tokens: &[TokenRow<S::Spot>]) -> bool
-    requires all_live { All (IsLive (S.live order.now)) tokens.now }
-    ensures { IsTrue result ↔ IsByDate (S.date order.now) (S.order order.now) tokens.now }
-{
-    for i in 1..tokens.len() {
-        if !follows(order, tokens[i - 1].spot, tokens[i].spot) {
-            return false;
-        }
-    }
-    true
-}
-
-// Whether a spot is behind another, with a date that is not lower.
-fn follows<S: Dated>(order: &S, a: S::Spot, b: S::Spot) -> bool
-    requires a_live { S.live order.now a }
-    requires b_live { S.live order.now b }
-    ensures { IsTrue result ↔ ((S.date order.now a ≤ℤ S.date order.now b) × (S.order order.now a b ≡ Less)) }
-{
-    order.date(a) <= order.date(b) && order.rank(a, b).is_lt()
-}
 
 // How many tokens have a date up to this one.
 fn count_by_date<S: Dated>(order: &S, tokens: &[TokenRow<S::Spot>], until: i64) -> usize
@@ -684,50 +658,4 @@ pub fn first_of_fact<S: Dated>(
     let low = count_until(order, tokens, spot);
     let high = count_ahead(order, tokens, before);
     first_after(order, tokens, fact, spot, low, high)
-}
-
-/// The place of the first token that clips the one at `k`, none exactly where no token does. A span
-/// has none. Those with a later date are asked, to the first that does.
-pub fn first_clipper<S: Dated>(order: &S, tokens: &[TokenRow<S::Spot>], k: usize) -> Option<usize>
-    requires all_live { All (IsLive (S.live order.now)) tokens.now }
-    requires by_date { IsByDate (S.date order.now) (S.order order.now) tokens.now }
-    requires within { k < length tokens.now }
-    ensures { IfSome (slice_get tokens.now k) (λ row. IsClipPlace of_one_class (S.distance order.now) (S.order order.now) tokens.now row result) }
-{
-    let row = &tokens[k];
-    match row.end {
-        Some(_) => None,
-        None => first_clip(order, tokens, row, None),
-    }
-}
-
-/// Why the token at `k` does not support its fact throughout `p` to `q`. The caller knows that it
-/// does not. A clip is looked for among those with a later date than the token, up to the date of
-/// `q`.
-pub fn blame<S: Dated>(
-    order: &S,
-    tokens: &[TokenRow<S::Spot>],
-    k: usize,
-    p: S::Spot,
-    q: S::Spot,
-) -> Fault
-    requires all_live { All (IsLive (S.live order.now)) tokens.now }
-    requires by_date { IsByDate (S.date order.now) (S.order order.now) tokens.now }
-    requires p_live { S.live order.now p }
-    requires q_live { S.live order.now q }
-    requires within { k < length tokens.now }
-    requires no_supporter { ForSome (slice_get tokens.now k) (λ row. supports of_one_class (S.distance order.now) tokens.now row.fact p q row ≡ false) }
-    ensures { IfSome (slice_get tokens.now k) (λ row. IsFault of_one_class (S.distance order.now) (S.order order.now) tokens.now row p q result) }
-{
-    let row = &tokens[k];
-    if !order.at_most(p, row.spot, 0) {
-        return Fault::Late;
-    }
-    match row.end {
-        Some(_) => Fault::Ends,
-        None => match first_clip(order, tokens, row, Some(q)) {
-            Some(c) => Fault::Clipped(c),
-            None => Fault::Ends,
-        },
-    }
 }

@@ -16,8 +16,8 @@ use Rattle.dist_net.specs.Net.{Net}
 use Rattle.spots.specs.Forest.{Forest, Member, member, moment, moment_at, IsLive, Withdraws}
 use Rattle.spots.specs.OfLists.{IsForestOf, HasOccurrences}
 use Rattle.spots.proofs.Nodes.{node_at, live_at, moment_at-is}
-use Rattle.supports.specs.Growing.{Adds}
-use Rattle.supports.proofs.Grown.{adds_seen, adds_holds, held_apart, node_kept}
+use Rattle.spots.specs.Growing.{Adds}
+use Rattle.spots.proofs.Grown.{adds_seen, adds_holds, held_apart, node_kept}
 use Rattle.decision_rows.specs.declared.row.Decision.{Decision}
 use Rattle.revisions.specs.Maps.{revision}
 use Rattle.revisions.specs.Revisions.{Revision, is_firing}

@@ -20,7 +20,7 @@ use Rattle.dist_net.specs.Net.{Net}
 use Rattle.spots.specs.declared.link.Link.{Link}
 use Rattle.spots.specs.Forest.{Forest, Member, member, moment, moment_at}
 use Rattle.spots.proofs.Nodes.{node_at, moment_at-is, rules-moment}
-use Rattle.supports.specs.Growing.{MayEnter}
+use Rattle.spots.specs.Growing.{MayEnter}
 use Rattle.decision_rows.specs.declared.row.Decision.{Decision}
 use Rattle.revisions.specs.Maps.{revision}
 use Rattle.revisions.specs.Revisions.{is_firing}

@@ -25,12 +25,12 @@ use Rattle.belief_theory.specs.Touched.{is_watched, watched, watched_points}
 use Rattle.belief_theory.proofs.Rivals.{or_cases}
 use Rattle.belief_theory.proofs.SoundBeliefs.{believed_occurs}
 use Rattle.dist_net.specs.Net.{Nets}
-use Rattle.list_net.specs.Fits.{IsNetOf}
-use Rattle.list_net.specs.Network.{PointsKeepNumbers}
-use Rattle.list_net.specs.Represents.{Names, IsNumberOf}
-use Rattle.list_net.proofs.Named.{name_at-is}
-use Rattle.list_net.proofs.Nets.{is_in_use}
-use Rattle.list_net.proofs.Numbers.{number_far, number_same}
+use Rattle.net_theory.specs.Fits.{IsNetOf}
+use Rattle.net_theory.specs.KeptNumbers.{PointsKeepNumbers}
+use Rattle.net_theory.specs.Represents.{Names, IsNumberOf}
+use Rattle.net_theory.proofs.Named.{name_at-is}
+use Rattle.net_theory.proofs.Nets.{is_in_use}
+use Rattle.net_theory.proofs.Numbers.{number_far, number_same}
 use Rattle.spots.specs.declared.spot.Spot.{Spot}
 use Rattle.spots.specs.declared.spot.Spot.TheVariants.{Declared, Node}
 use Rattle.spots.specs.Forest.{Forest, Member, member, IsLive, moment, moment_at}

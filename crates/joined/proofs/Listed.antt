@@ -12,7 +12,7 @@ use Rattle.tmm_model.specs.Standing.{Standing}
 use Rattle.list_theory.proofs.Elements.{In, In-map, map-In, list_any-In, In-list_any}
 use Rattle.belief_theory.proofs.Rivals.{or_cases, or_left, or_right}
 use Rattle.spots.specs.Forest.{moment}
-use Rattle.supports.proofs.Grown.{stands}
+use Rattle.spots.proofs.Grown.{stands}
 use Rattle.revisions.specs.Maps.{watches}
 use Rattle.row_links.specs.Lists.{IsOn}
 use Rattle.undo_rows.specs.declared.row.Row.{Row as TableRow}

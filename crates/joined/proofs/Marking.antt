@@ -22,7 +22,7 @@ use Rattle.dist_net.specs.Net.{Net}
 use Rattle.spots.specs.Forest.{Forest, Member, member, moment, moment_at}
 use Rattle.spots.specs.OfLists.{IsForestOf, IsMemberOf, HasOccurrences}
 use Rattle.spots.proofs.Nodes.{moment_at-is}
-use Rattle.supports.proofs.Grown.{node_cases, node_kept}
+use Rattle.spots.proofs.Grown.{node_cases, node_kept}
 use Rattle.undo_rows.specs.declared.row.Row.{Row as TableRow}
 use Rattle.undo_rows.specs.Changes.{Logged, present}
 use Rattle.undo_rows.specs.Tables.{AreListed}

@@ -14,7 +14,7 @@ use Rattle.tmm_model.specs.Standing.{Standing, far_in}
 use Rattle.belief_theory.proofs.SoundBeliefs.{believed_occurs}
 use Rattle.list_theory.proofs.Elements.{In-from_Contains}
 use Rattle.dist_net.specs.Net.{Net}
-use Rattle.list_net.specs.Fits.{IsNetOf}
+use Rattle.net_theory.specs.Fits.{IsNetOf}
 use Rattle.spots.specs.Forest.{Forest, member, moment, moment_at}
 use Rattle.spots.specs.OfLists.{HasOccurrences}
 use Rattle.spots.proofs.Nodes.{node_at, moment_at-is}
@@ -24,7 +24,7 @@ use Rattle.revisions.proofs.Agreeing.{ended}
 use Rattle.revisions.proofs.Bounds.{counted_by}
 use Rattle.revisions.proofs.Lawful.{lawful}
 use Rattle.revisions.proofs.StillEdits.{base_root}
-use Rattle.supports.proofs.Grown.{seen_first}
+use Rattle.spots.proofs.Grown.{seen_first}
 use Rattle.joined.specs.Netted.{IsNetted, IsCurrent}
 use Rattle.joined.specs.Rows.{Row, Rows, decision_of, IsWaiting, NoneWaits}
 

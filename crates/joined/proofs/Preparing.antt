@@ -23,7 +23,7 @@ use Rattle.dist_net.specs.Net.{Net}
 use Rattle.spots.specs.Forest.{Forest, Member, member, moment, moment_at, IsLive}
 use Rattle.spots.specs.OfLists.{HasOccurrences}
 use Rattle.spots.proofs.Nodes.{node_at, live_at, moment_at-is}
-use Rattle.supports.proofs.Grown.{root_name}
+use Rattle.spots.proofs.Grown.{root_name}
 use Rattle.revisions.specs.Counted.{AreSeeds}
 use Rattle.revisions.proofs.Lawful.{decided}
 use Rattle.joined.specs.Netted.{IsNetted, IsCurrent}

@@ -25,8 +25,8 @@ use Rattle.belief_theory.specs.Touched.{is_watched, watched}
 use Rattle.belief_theory.proofs.Rivals.{HaveSameRivals, contradicts_plain}
 use Rattle.belief_theory.proofs.Watched.{class-token_of}
 use Rattle.dist_net.specs.Net.{Net, Nets}
-use Rattle.list_net.specs.Fits.{IsNetOf}
-use Rattle.list_net.specs.Network.{PointsKeepNumbers}
+use Rattle.net_theory.specs.Fits.{IsNetOf}
+use Rattle.net_theory.specs.KeptNumbers.{PointsKeepNumbers}
 use Rattle.spots.specs.declared.spot.Spot.{Spot}
 use Rattle.spots.specs.declared.spot.Spot.TheVariants.{Declared, Node}
 use Rattle.spots.specs.Forest.{Forest, Member, member, IsLive, moment_at}

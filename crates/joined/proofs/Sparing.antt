@@ -23,8 +23,8 @@ use Rattle.spots.specs.OfLists.{IsForestOf, HasOccurrences, map_of}
 use Rattle.spots.specs.Spots.{IsSpot, spot_moment, spot_distance, row_moment, token_row}
 use Rattle.spots.proofs.Nodes.{live_at}
 use Rattle.spots.proofs.Seen.{distance_is, end_there, token_is}
-use Rattle.supports.proofs.Moved.{by_alike, cuts_alike}
-use Rattle.supports.proofs.TokenRows.{token_row_spots}
+use Rattle.clipping.proofs.Moved.{by_alike, cuts_alike}
+use Rattle.spots.proofs.TokenSpots.{token_row_spots}
 use Rattle.revisions.specs.Walls.{begins_by, has_begun, IsBetween, AreWallsAt, IsPast, IsSpared, IsAside, AllOccur}
 use Rattle.revisions.proofs.Walls.{outcome_but}
 use Rattle.joined.specs.Gaps.{reads_class, reads_rival}

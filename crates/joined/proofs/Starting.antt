@@ -16,7 +16,7 @@ use Rattle.list_theory.specs.WellNamed.{IsSound}
 use Rattle.tmm_model.specs.Standing.{Standing, far_in}
 use Rattle.belief_theory.specs.Touched.{is_watched, is_decision, is_touched}
 use Rattle.dist_net.specs.Net.{Net}
-use Rattle.list_net.specs.Represents.{Names}
+use Rattle.net_theory.specs.Represents.{Names}
 use Rattle.spots.specs.Forest.{Forest, Member, moment, moment_at, IsLive}
 use Rattle.spots.specs.OfLists.{IsMemberOf, class_for, map_of}
 use Rattle.spots.proofs.Nodes.{node_at, live_at, moment_at-is}

@@ -15,9 +15,9 @@ use Rattle.belief_theory.specs.Right.{Occurs}
 use Rattle.list_theory.proofs.Elements.{In, In-from_Contains, Contains-from_In}
 use Rattle.walk_theory.proofs.Members.{All-from_contains, Contains-map}
 use Rattle.dist_net.specs.Net.{Net}
-use Rattle.list_net.specs.Fits.{IsNetOf}
-use Rattle.list_net.specs.Network.{PointsKeepNumbers}
-use Rattle.list_net.specs.Represents.{IsNumberOf}
+use Rattle.net_theory.specs.Fits.{IsNetOf}
+use Rattle.net_theory.specs.KeptNumbers.{PointsKeepNumbers}
+use Rattle.net_theory.specs.Represents.{IsNumberOf}
 use Rattle.spots.specs.declared.link.Link.{Link}
 use Rattle.spots.specs.Forest.{Forest, Member, member, moment, rules_of}
 use Rattle.spots.specs.OfLists.{IsForestOf, IsMemberOf, IsLinkOf}

@@ -13,9 +13,9 @@ use Rattle.tmm_model.specs.Standing.{Standing, points_in}
 use Rattle.list_theory.proofs.Elements.{In}
 use Rattle.belief_theory.specs.Touched.{watched_points}
 use Rattle.dist_net.specs.Net.{Nets}
-use Rattle.list_net.specs.Fits.{IsNetOf}
-use Rattle.list_net.specs.Network.{PointsKeepNumbers}
-use Rattle.list_net.specs.Represents.{IsNumberOf}
+use Rattle.net_theory.specs.Fits.{IsNetOf}
+use Rattle.net_theory.specs.KeptNumbers.{PointsKeepNumbers}
+use Rattle.net_theory.specs.Represents.{IsNumberOf}
 use Rattle.spots.specs.declared.spot.Spot.{Spot}
 use Rattle.spots.specs.declared.spot.Spot.TheVariants.{Declared, Node}
 use Rattle.spots.specs.Forest.{Forest, Member, member, IsLive, moment_at}

@@ -9,7 +9,7 @@ use Rattle.tmm_model.specs.Standing.{Standing}
 use Rattle.belief_theory.specs.KeptLists.{last_horizon}
 use Rattle.dist_net.specs.Net.{Net}
 use Rattle.spots.specs.Forest.{Forest, Member, member, moment, moment_at}
-use Rattle.supports.specs.Growing.{MayEnter}
+use Rattle.spots.specs.Growing.{MayEnter}
 use Rattle.undo_rows.specs.Changes.{Logged, present}
 use Rattle.undo_rows.specs.Tables.{Table}
 use Rattle.decision_rows.specs.Decisions.{Decides}

@@ -10,7 +10,7 @@ use Rattle.list_theory.specs.WellNamed.{IsSound}
 use Rattle.tmm_model.specs.Standing.{Standing, far_in}
 use Rattle.belief_theory.specs.Touched.{touched}
 use Rattle.dist_net.specs.Net.{Net}
-use Rattle.list_net.specs.Fits.{IsNetOf}
+use Rattle.net_theory.specs.Fits.{IsNetOf}
 use Rattle.spots.specs.Forest.{Forest, member, moment_at}
 use Rattle.spots.specs.OfLists.{IsForestOf, HasOccurrences}
 use Rattle.revisions.specs.Counted.{changed}

@@ -9,9 +9,9 @@ use Rattle.tmm_model.specs.Moments.{Moment}
 use Rattle.tmm_model.specs.Standing.{Standing, points_in}
 use Rattle.belief_theory.specs.Right.{Occurs}
 use Rattle.dist_net.specs.Net.{Net}
-use Rattle.list_net.specs.Fits.{IsNetOf}
-use Rattle.list_net.specs.Network.{PointsKeepNumbers}
-use Rattle.list_net.specs.Represents.{Names}
+use Rattle.net_theory.specs.Fits.{IsNetOf}
+use Rattle.net_theory.specs.KeptNumbers.{PointsKeepNumbers}
+use Rattle.net_theory.specs.Represents.{Names}
 use Rattle.spots.specs.Forest.{Forest, Member, member, moment, Withdraws}
 use Rattle.spots.specs.OfLists.{IsForestOf, IsMemberOf, HasOccurrences}
 use Rattle.revisions.specs.Maps.{watches}

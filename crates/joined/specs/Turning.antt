@@ -8,10 +8,10 @@ use Rattle.tmm_model.specs.Moments.{Moment, After}
 use Rattle.list_theory.specs.WellNamed.{IsSound}
 use Rattle.tmm_model.specs.Standing.{Standing}
 use Rattle.dist_net.specs.Net.{Net}
-use Rattle.list_net.specs.Represents.{Names}
+use Rattle.net_theory.specs.Represents.{Names}
 use Rattle.spots.specs.Forest.{Forest, Member, member, moment, moment_at, Withdraws, IsLive}
 use Rattle.spots.specs.OfLists.{HasOccurrences}
-use Rattle.supports.specs.Growing.{Adds}
+use Rattle.spots.specs.Growing.{Adds}
 use Rattle.decision_rows.specs.declared.row.Decision.{Decision}
 use Rattle.decision_rows.specs.declared.row.Decision.TheVariants.{Beyond}
 use Rattle.revisions.specs.Maps.{revision}

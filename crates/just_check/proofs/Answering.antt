@@ -11,13 +11,13 @@ use Rattle.list_theory.specs.WellNamed.{IsSound}
 use Rattle.tmm_model.specs.Standing.{Standing, name_of}
 use Rattle.list_theory.proofs.Elements.{In, In-from_Contains, Contains-from_In, In-filter_map}
 use Rattle.dist_net.specs.Net.{Net}
-use Rattle.list_net.specs.Fits.{IsNetOf}
+use Rattle.net_theory.specs.Fits.{IsNetOf}
 use Rattle.spots.specs.Forest.{Forest, member, IsLive, moment_at}
 use Rattle.occ_tree.specs.Places.{forest}
 use Rattle.occ_tree.specs.Standing.{present}
 use Rattle.occ_tree.proofs.KeptDates.{none_dated}
 use Rattle.spots.proofs.Nodes.{node_at}
-use Rattle.supports.proofs.Grown.{root_name, seen_first, holds_first}
+use Rattle.spots.proofs.Grown.{root_name, seen_first, holds_first}
 use Rattle.just_check.specs.declared.auditing.Checked.{Checked}
 use Rattle.just_check.specs.declared.expected.Origin.{Origin}
 use Rattle.just_check.specs.declared.expected.Expected.{Expected}

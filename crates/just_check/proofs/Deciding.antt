@@ -21,7 +21,7 @@ use Rattle.occ_tree.specs.OfLists.{IsTreeIn, IsTreeOf}
 use Rattle.occ_tree.specs.Places.{forest}
 use Rattle.occ_tree.specs.Standing.{present}
 use Rattle.supports.proofs.Taken.{next_taken}
-use Rattle.supports.specs.Growing.{Adds}
+use Rattle.spots.specs.Growing.{Adds}
 use Rattle.just_check.specs.declared.auditing.Checked.{Checked}
 use Rattle.just_check.specs.declared.expected.Origin.{Origin}
 use Rattle.just_check.specs.Audited.{date_of, rows_of, decided_in, IsTaken, IsPast, IsChecked, IsReady, DecidesThrough, IsBehind}

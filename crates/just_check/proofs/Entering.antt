@@ -19,8 +19,8 @@ use Rattle.spots.specs.Forest.{Forest, IsLive, moment_at}
 use Rattle.spots.specs.OfLists.{IsForestOf}
 use Rattle.spots.proofs.Nodes.{node_at, live_at, moment_at-is}
 use Rattle.spots.proofs.Seen.{order_is}
-use Rattle.supports.specs.Growing.{Adds}
-use Rattle.supports.proofs.Grown.{node_kept, node_cases, adds_seen, held_apart, adds_holds}
+use Rattle.spots.specs.Growing.{Adds}
+use Rattle.spots.proofs.Grown.{node_kept, node_cases, adds_seen, held_apart, adds_holds}
 use Rattle.just_check.specs.declared.expected.Origin.{Origin}
 use Rattle.just_check.specs.declared.expected.Expected.{Expected}
 use Rattle.just_check.specs.Audited.{date_of, IsBehind, ComesAfter}

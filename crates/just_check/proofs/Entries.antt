@@ -3,7 +3,7 @@ use Rattle.std.proofs.Common.{◌≡◌, ◌≢◌, ◌∙◌, ◌+◌, inl, inr
 use Rattle.std.specs.Prelude.{Option, Some, None, IsSome, is_some, slice_get}
 use Rattle.std.specs.Map.{lookup}
 use Rattle.list_theory.proofs.Elements.{In, In-cases}
-use Rattle.supports.proofs.Grown.{taken}
+use Rattle.spots.proofs.Grown.{taken}
 use Rattle.just_check.specs.declared.expected.Origin.{Origin}
 
 -- what is expected under each of these stands

@@ -15,8 +15,8 @@ use Rattle.dist_net.specs.Net.{Net}
 use Rattle.spots.specs.Forest.{Forest, moment, moment_at, IsLive, IsNoRoot}
 use Rattle.spots.specs.OfLists.{HasOccurrences, HasList}
 use Rattle.spots.proofs.Nodes.{node_at, moment_at-is, base-moment}
-use Rattle.supports.specs.Growing.{Adds, AddsRoot, AddsRootAt}
-use Rattle.supports.proofs.Grown.{root_name, adds_seen}
+use Rattle.spots.specs.Growing.{Adds, AddsRoot, AddsRootAt}
+use Rattle.spots.proofs.Grown.{root_name, adds_seen}
 use Rattle.just_check.specs.Checking.{Joins, AreFirst, AreSoFar, IsNoNode, EntersAs}
 
 -- ---- nodes and occurrences

@@ -10,10 +10,10 @@ use Rattle.tmm_model.specs.Standing.{Standing, far_in}
 use Rattle.list_theory.proofs.Distinct.{Rising}
 use Rattle.list_theory.proofs.Elements.{In}
 use Rattle.dist_net.specs.Net.{Net}
-use Rattle.list_net.specs.Represents.{Names}
+use Rattle.net_theory.specs.Represents.{Names}
 use Rattle.spots.specs.Forest.{Forest, Member, member, moment, moment_at}
 use Rattle.spots.specs.OfLists.{IsForestOf, HasOccurrences}
-use Rattle.supports.specs.Growing.{Adds}
+use Rattle.spots.specs.Growing.{Adds}
 use Rattle.just_check.specs.declared.expected.Origin.{Origin}
 use Rattle.just_check.specs.declared.expected.Expected.{Expected}
 use Rattle.just_check.specs.Origins.{entry_at, Knows}

@@ -1,12 +1,12 @@
 // The audit of rows, in their order.
-ghost use Rattle.std.specs.Prelude.{◌≡◌, ◌↔◌, ◌+◌, ◌<◌, ℤ, ◌++◌, ◌∷◌, [], ℕ, List, map, length, IsTrue, IfOk, OnOk};
+ghost use Rattle.std.specs.Prelude.{◌≡◌, ◌↔◌, ◌+◌, ◌<◌, ℤ, ◌++◌, ◌∷◌, [], ℕ, List, map, length, None, IsTrue, IfOk, OnOk};
 ghost use Rattle.std.specs.List.{All, Contains};
 ghost use Rattle.std.specs.Option.{option_map};
 ghost use Rattle.tmm_model.specs.Beliefs.{root_of, roots, rules_at};
 ghost use Rattle.tmm_model.specs.Moments.{Moment, At, moment_of};
 ghost use Rattle.tmm_model.specs.declared.point.PointName.TheVariants.{Begin};
 ghost use Rattle.list_theory.proofs.Elements.{In};
-ghost use Rattle.list_net.specs.Fits.{IsNetOf};
+ghost use Rattle.net_theory.specs.Fits.{IsNetOf};
 ghost use Rattle.spots.specs.Forest.{IsLive, moment_at};
 ghost use Rattle.spots.specs.OfLists.{HasOccurrences};
 ghost use Rattle.occ_tree.specs.OfLists.{IsTreeIn};
@@ -40,18 +40,64 @@ pub fn audit(
     ensures { IfOk result (λ good. IsTrue good ↔ (map moment_of rows.now ≡ believed_in_order standing.now.present)) }
 {
     let rules = RulesByKind::of(alloc, standing)?;
-    let mut checked = Checked {
-        tree: Tree::make(alloc),
-        nodes: Vec::new(alloc),
-        decided: 0,
-        expected: expected_roots(alloc, standing)?,
-    };
+    audit_by(alloc, standing, net, &rules, rows)
+}
+
+// The same by the standing rules.
+fn audit_by(
+    alloc: Global,
+    standing: &Standing,
+    net: &DistNet,
+    rules: &RulesByKind,
+    rows: &[Occ],
+) -> Result<bool, NoMemory>
+    requires network { IsNetOf standing.now.present net.now.present }
+    requires rules { AreRules standing.now.present rules.now }
+    ensures { IfOk result (λ good. IsTrue good ↔ (map moment_of rows.now ≡ believed_in_order standing.now.present)) }
+{
+    let expected = expected_roots(alloc, standing)?;
+    audit_from(alloc, standing, net, rules, expected, rows)
+}
+
+// The same by what is declared to occur.
+fn audit_from(
+    alloc: Global,
+    standing: &Standing,
+    net: &DistNet,
+    rules: &RulesByKind,
+    expected: Expected,
+    rows: &[Occ],
+) -> Result<bool, NoMemory>
+    requires network { IsNetOf standing.now.present net.now.present }
+    requires rules { AreRules standing.now.present rules.now }
+    requires roots { AwaitsRoots (roots standing.now.present) expected }
+    ensures { IfOk result (λ good. IsTrue good ↔ (map moment_of rows.now ≡ believed_in_order standing.now.present)) }
+{
+    let mut checked = Checked::none(alloc, expected);
+    take_all(alloc, standing, net, rules, &mut checked, rows)
+}
+
+// Takes the rows behind none, and tells whether they are the believed occurrences in their order.
+fn take_all(
+    alloc: Global,
+    standing: &Standing,
+    net: &DistNet,
+    rules: &RulesByKind,
+    checked: &mut Checked,
+    rows: &[Occ],
+) -> Result<bool, NoMemory>
+    requires network { IsNetOf standing.now.present net.now.present }
+    requires rules { AreRules standing.now.present rules.now }
+    requires before { IsChecked standing.now.present net.now.present checked.old }
+    requires none { rows_of checked.old ≡ [] }
+    ensures { IfOk result (λ good. IsTrue good ↔ (map moment_of rows.now ≡ believed_in_order standing.now.present)) }
+{
     for row in rows {
-        if !take(alloc, standing, net, &rules, &mut checked, row)? {
+        if !take(alloc, standing, net, rules, checked, row)? {
             return Ok(false);
         }
     }
-    decide_rest(alloc, standing, net, &rules, &mut checked)?;
+    decide_rest(alloc, standing, net, rules, checked)?;
     Ok(checked.expected.all_stand())
 }
 
@@ -66,6 +112,23 @@ struct Checked {
     decided: usize,
     // what is declared, and what these rules bring about
     expected: Expected,
+}
+
+impl Checked {
+    // No rows yet, where this is to stand among them. It takes no memory.
+    fn none(alloc: Global, expected: Expected) -> Checked
+        ensures tree { (x : ℕ) → forest result.tree x ≡ None }
+        ensures nodes { result.nodes.items ≡ [] }
+        ensures decided { result.decided ≡ 0 }
+        ensures expected { result.expected ≡ expected }
+    {
+        Checked {
+            tree: Tree::make(alloc),
+            nodes: Vec::new(alloc),
+            decided: 0,
+            expected,
+        }
+    }
 }
 
 // All that is declared to occur is to stand among the rows.

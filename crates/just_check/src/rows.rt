@@ -11,7 +11,7 @@ ghost use Rattle.occ_tree.specs.Dated.{IsDatedBy};
 ghost use Rattle.occ_tree.specs.OfLists.{IsTreeOf};
 ghost use Rattle.occ_tree.specs.Places.{forest};
 ghost use Rattle.occ_tree.specs.Standing.{present};
-ghost use Rattle.supports.specs.Growing.{Adds, effect_shape};
+ghost use Rattle.spots.specs.Growing.{Adds, effect_shape};
 ghost use Rattle.just_check.specs.Checking.{Joins, AreSoFar, EntersAs, IsNoNode};
 ghost use Rattle.just_check.specs.Origins.{Knows, IsOriginOf, comes_from, has_event};
 

@@ -19,7 +19,7 @@ use Rattle.tmm_model.specs.Reasons.{Reason, by_rule, reason_of, belief_line, end
 use Rattle.tmm_model.specs.Standing.{Standing}
 use Rattle.walk_theory.proofs.Members.{Contains-map}
 use Rattle.dist_net.specs.Net.{Net, IsInUse}
-use Rattle.list_net.specs.Represents.{IsNumberOf}
+use Rattle.net_theory.specs.Represents.{IsNumberOf}
 use Rattle.spots.specs.declared.spot.Spot.{Spot}
 use Rattle.spots.specs.declared.spot.Spot.TheVariants.{Declared, Node}
 use Rattle.spots.specs.Forest.{Forest, Member, member, IsLive, moment_at}

@@ -16,11 +16,12 @@ use Rattle.tmm_model.specs.Standing.{Standing, far_in}
 use Rattle.walk_theory.proofs.Points.{Decides-same_point}
 use Rattle.belief_theory.proofs.Sound.{shortest}
 use Rattle.dist_net.specs.Net.{Net}
-use Rattle.neg_cycle.specs.Steps.{point_at, steps_in_net, far_in_net}
-use Rattle.list_net.specs.Fits.{IsNetOf}
-use Rattle.list_net.specs.Represents.{IsNumberOf}
-use Rattle.list_net.proofs.Named.{name_at-is}
-use Rattle.list_net.proofs.Numbers.{number_far}
+use Rattle.dist_net.specs.Steps.{point_at, steps_in_net}
+use Rattle.neg_cycle.specs.Steps.{far_in_net}
+use Rattle.net_theory.specs.Fits.{IsNetOf}
+use Rattle.net_theory.specs.Represents.{IsNumberOf}
+use Rattle.net_theory.proofs.Named.{name_at-is}
+use Rattle.net_theory.proofs.Numbers.{number_far}
 use Rattle.list_net.proofs.Owned.{own_steps, IsPath-known}
 
 -- where two moments have a bound, so have their declared points

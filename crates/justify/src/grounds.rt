@@ -9,7 +9,7 @@ ghost use Rattle.tmm_model.specs.Sorts.{class_in};
 ghost use Rattle.spots.specs.Forest.{IsLive, moment_at};
 ghost use Rattle.spots.specs.OfLists.{HasOccurrences};
 ghost use Rattle.occ_tree.specs.Places.{forest};
-ghost use Rattle.supports.specs.Rules.{IsRuleOf};
+ghost use Rattle.spots.specs.Rules.{IsRuleOf};
 ghost use Rattle.supports.specs.TimeMaps.{IsTimeMap};
 ghost use Rattle.justify.specs.Grounds.{IsOrigin, supporters_for};
 

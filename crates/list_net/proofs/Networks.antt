@@ -10,11 +10,11 @@ use Rattle.list_theory.specs.WellNamed.{IsSound, IsWellNamed}
 use Rattle.tmm_model.specs.Standing.{Standing, empty_list, points_in, arcs_in, IsConsistent}
 use Rattle.tmm_model.specs.Walks.{HasDates}
 use Rattle.dist_net.specs.Net.{Net, start_alone, arcs_of, AreInUse, AreDistinct}
-use Rattle.list_net.specs.Fits.{Fits, IsNetOf}
-use Rattle.list_net.specs.Represents.{IsNumberOf}
+use Rattle.net_theory.specs.Fits.{Fits, IsNetOf}
+use Rattle.net_theory.specs.Represents.{IsNumberOf}
 use Rattle.list_net.proofs.Additions.{stands_at_start, steps_at_start}
-use Rattle.list_net.proofs.Representing.{HasDates-named}
-use Rattle.list_net.proofs.Nets.{ends_used}
+use Rattle.net_theory.proofs.Representing.{HasDates-named}
+use Rattle.net_theory.proofs.Nets.{ends_used}
 
 -- some dates satisfy the premises where some satisfy the edges
 pub consistent : (s : Standing) (net : Net) → Fits s net → AreDistinct net.names → IsNumberOf net.names 0 Start → AreInUse net.names net.edges → HasDates 0 (arcs_of net.edges) → IsConsistent s.premises

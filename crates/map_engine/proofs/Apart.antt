@@ -21,7 +21,7 @@ use Rattle.occ_tree.specs.Standing.{Kept}
 use Rattle.occ_tree.specs.Touched.{IsUntouched}
 use Rattle.supports.specs.Apart.{IsApart, HasSameRivals, AreRivalsUntouched, AreOthersApart}
 use Rattle.supports.specs.Edited.{AreOthersUntouched}
-use Rattle.supports.proofs.Facts.{rival_known}
+use Rattle.premise_list.proofs.Facts.{rival_known}
 use Rattle.revisions.specs.Alike.{SayAlike}
 use Rattle.map_engine.specs.RivalClasses.{HasClassOf, HasClassesOf, Follows, IsThereOr, TakesInRivals}
 

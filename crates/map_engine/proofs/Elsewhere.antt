@@ -12,7 +12,7 @@ use Rattle.tmm_model.specs.Standing.{Standing, name_of, premise_in}
 use Rattle.list_theory.specs.WellNamed.{IsWellNamed}
 use Rattle.list_theory.proofs.Elements.{In-from_Contains, In-filter_map, list_all-In}
 use Rattle.list_theory.proofs.KnownNames.{found}
-use Rattle.list_net.specs.Represents.{Names}
+use Rattle.net_theory.specs.Represents.{Names}
 use Rattle.revisions.specs.Alike.{IsAnchor}
 use Rattle.revisions.specs.StillEdits.{AreElsewhere}
 use Rattle.map_engine.specs.Still.{is_anchor, is_elsewhere, are_elsewhere}

@@ -10,8 +10,9 @@ use Rattle.tmm_model.specs.Verdicts.{Cause, list_cause}
 use Rattle.belief_theory.specs.KeptLists.{last_horizon}
 use Rattle.belief_theory.specs.Touched.{touched}
 use Rattle.dist_net.specs.Net.{Net, Nets}
-use Rattle.list_net.specs.Fits.{IsNetOf, NothingPending}
-use Rattle.list_net.specs.Network.{PointsKeepNumbers}
+use Rattle.net_theory.specs.Fits.{IsNetOf}
+use Rattle.list_net.specs.Settled.{NothingPending}
+use Rattle.net_theory.specs.KeptNumbers.{PointsKeepNumbers}
 use Rattle.premise_list.specs.States.{States}
 use Rattle.occ_tree.specs.Places.{forest}
 use Rattle.occ_tree.specs.Standing.{State, present, committed, forest as forest_of}

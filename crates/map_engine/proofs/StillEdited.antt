@@ -13,7 +13,7 @@ use Rattle.tmm_model.specs.Moments.{At}
 use Rattle.tmm_model.specs.Standing.{Standing}
 use Rattle.premise_list.specs.States.{States}
 use Rattle.dist_net.specs.Net.{Nets}
-use Rattle.list_net.specs.Represents.{IsNumberOf}
+use Rattle.net_theory.specs.Represents.{IsNumberOf}
 use Rattle.spots.specs.Forest.{Forest, Member, member, moment, IsLive, moment_at}
 use Rattle.spots.specs.OfLists.{IsForestOf, HasOccurrences}
 use Rattle.spots.specs.Spots.{AreTokens}

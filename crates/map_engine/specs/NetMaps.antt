@@ -8,7 +8,8 @@ use Rattle.tmm_model.specs.Verdicts.{list_cause}
 use Rattle.belief_theory.specs.KeptLists.{last_horizon}
 use Rattle.belief_theory.specs.Touched.{touched}
 use Rattle.dist_net.specs.Net.{Net, Nets}
-use Rattle.list_net.specs.Fits.{IsNetOf, NothingPending}
+use Rattle.net_theory.specs.Fits.{IsNetOf}
+use Rattle.list_net.specs.Settled.{NothingPending}
 use Rattle.premise_list.specs.States.{States}
 use Rattle.occ_tree.specs.Places.{forest}
 use Rattle.joined.specs.Netted.{IsCurrent}

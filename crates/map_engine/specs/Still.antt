@@ -7,7 +7,7 @@ use Rattle.tmm_model.specs.declared.point.PointName.TheVariants.{Start, Begin, E
 use Rattle.tmm_model.specs.declared.premise.Premise.{Premise}
 use Rattle.tmm_model.specs.Beliefs.{as_root}
 use Rattle.tmm_model.specs.Standing.{premise_in}
-use Rattle.list_net.specs.Represents.{Names}
+use Rattle.net_theory.specs.Represents.{Names}
 
 -- whether an event, a token or a span of this name is declared
 abbrev pub occurs_in : List Premise → List ℕ → Bool

@@ -9,7 +9,7 @@ ghost use Rattle.belief_net.specs.Settling.{counted};
 ghost use Rattle.belief_net.specs.Updating.{IsKept};
 ghost use Rattle.occ_tree.specs.Places.{forest};
 ghost use Rattle.spots.specs.Forest.{member};
-ghost use Rattle.list_net.specs.Fits.{NothingPending};
+ghost use Rattle.list_net.specs.Settled.{NothingPending};
 ghost use Rattle.revisions.specs.Counted.{changed};
 ghost use Rattle.map_engine.specs.NetMaps.{CountsEdit, IsHeld};
 ghost use Rattle.map_core.specs.Stops.{StopsEdit, NamesEdited};

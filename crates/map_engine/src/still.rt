@@ -1,8 +1,8 @@
 // Which edits leave beliefs as they are.
 ghost use Rattle.std.specs.Prelude.{◌≡◌, ◌&&◌, None, true, slice_index_or};
 ghost use Rattle.tmm_model.specs.Standing.{points_in};
-ghost use Rattle.list_net.specs.Fits.{IsNetOf};
-ghost use Rattle.list_net.specs.Network.{PointsKeepNumbers};
+ghost use Rattle.net_theory.specs.Fits.{IsNetOf};
+ghost use Rattle.net_theory.specs.KeptNumbers.{PointsKeepNumbers};
 ghost use Rattle.revisions.specs.Alike.{is_read, is_unread, SayAlike, AreAlike};
 ghost use Rattle.revisions.specs.Ruling.{is_ruling};
 ghost use Rattle.map_engine.specs.Still.{occurs_in, is_anchor, is_elsewhere, are_elsewhere};

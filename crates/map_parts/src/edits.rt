@@ -4,8 +4,9 @@ ghost use Rattle.tmm_model.specs.Edits.{next_list};
 ghost use Rattle.tmm_model.specs.Lines.{IsWellFormedEdit};
 ghost use Rattle.tmm_model.specs.Standing.{IsConsistent, points_in};
 ghost use Rattle.tmm_model.specs.Verdicts.{list_cause};
-ghost use Rattle.list_net.specs.Fits.{IsNetOf, NothingPending};
-ghost use Rattle.list_net.specs.Network.{PointsKeepNumbers};
+ghost use Rattle.net_theory.specs.Fits.{IsNetOf};
+ghost use Rattle.list_net.specs.Settled.{NothingPending};
+ghost use Rattle.net_theory.specs.KeptNumbers.{PointsKeepNumbers};
 ghost use Rattle.revisions.specs.Standing.{IsLeftOut};
 ghost use Rattle.map_core.specs.Stops.{StopsEdit, NamesEdited};
 

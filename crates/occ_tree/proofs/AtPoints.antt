@@ -11,7 +11,7 @@ use Rattle.tmm_model.specs.declared.point.PointName.TheVariants.{Begin, End}
 use Rattle.tmm_model.specs.declared.token.Shape.TheVariants.{Span}
 use Rattle.tmm_model.specs.Moments.{At, along}
 use Rattle.dist_net.specs.Net.{Net}
-use Rattle.list_net.specs.Represents.{IsNumberOf}
+use Rattle.net_theory.specs.Represents.{IsNumberOf}
 use Rattle.list_theory.proofs.Elements.{In-list_any, In-from_Contains}
 use Rattle.row_links.specs.Lists.{IsOn}
 use Rattle.spots.specs.declared.link.Link.{Link}

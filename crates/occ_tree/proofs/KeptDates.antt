@@ -15,8 +15,8 @@ use Rattle.tmm_model.specs.Standing.{Standing}
 use Rattle.belief_theory.specs.Right.{Occurs}
 use Rattle.belief_theory.proofs.Sound.{shortest}
 use Rattle.dist_net.specs.Net.{Net}
-use Rattle.list_net.specs.Represents.{IsNumberOf}
-use Rattle.list_net.proofs.Numbers.{number_far}
+use Rattle.net_theory.specs.Represents.{IsNumberOf}
+use Rattle.net_theory.proofs.Numbers.{number_far}
 use Rattle.spots.specs.declared.link.Link.{Link}
 use Rattle.spots.specs.Forest.{Forest, Member, moment, child_member}
 use Rattle.spots.specs.OfLists.{HasList}

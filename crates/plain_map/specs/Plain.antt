@@ -2,7 +2,8 @@
 use Rattle.std.specs.Prelude.{◌≡◌, Option, Some, None}
 use Rattle.tmm_model.specs.Standing.{Standing}
 use Rattle.dist_net.specs.Net.{Nets}
-use Rattle.list_net.specs.Fits.{IsNetOf, NothingPending}
+use Rattle.net_theory.specs.Fits.{IsNetOf}
+use Rattle.list_net.specs.Settled.{NothingPending}
 use Rattle.premise_list.specs.States.{States}
 use Rattle.plain_map.specs.declared.beliefs.Beliefs.{Beliefs}
 use Rattle.plain_map.specs.Beliefs.{AreBeliefs}

@@ -6,7 +6,7 @@ ghost use Rattle.tmm_model.specs.Maps.{built};
 ghost use Rattle.tmm_model.specs.Standing.{Standing as List};
 ghost use Rattle.belief_list.specs.Rows.{IsListing};
 ghost use Rattle.dist_net.specs.Net.{Net};
-ghost use Rattle.list_net.specs.Fits.{IsNetOf};
+ghost use Rattle.net_theory.specs.Fits.{IsNetOf};
 ghost use Rattle.occ_tree.specs.Places.{forest};
 ghost use Rattle.projection.specs.Queues.{IsTooLarge};
 ghost use Rattle.plain_map.specs.Beliefs.{AreBeliefs};

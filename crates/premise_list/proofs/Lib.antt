@@ -5,3 +5,4 @@ pub mod PairsOfFacts
 pub mod Unrivalled
 pub mod Moves
 pub mod Erased
+pub mod Facts

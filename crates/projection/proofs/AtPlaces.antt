@@ -13,9 +13,9 @@ use Rattle.list_theory.specs.WellNamed.{IsWellNamed}
 use Rattle.list_theory.proofs.Elements.{In, In-from_Contains, Contains-from_In, map-In}
 use Rattle.list_theory.proofs.KnownNames.{found}
 use Rattle.belief_theory.proofs.Sound.{named_rule}
-use Rattle.supports.specs.Rules.{IsRule}
+use Rattle.spots.specs.Rules.{IsRule}
 use Rattle.projection.specs.Places.{name_at, IsRuleAt}
-use Rattle.supports.proofs.Grown.{stands}
+use Rattle.spots.proofs.Grown.{stands}
 
 pub named_at : (s : Standing) (place : ℕ) (p : Premise) → slice_get s.premises place ≡ Some p → name_at s place ≡ name_of p
 named_at s place p at = ap (λ o. option_map_or name_of o []) at

@@ -23,7 +23,7 @@ use Rattle.spots.specs.OfLists.{HasOccurrences}
 use Rattle.spots.proofs.Nodes.{node_at, moment_at-is}
 use Rattle.projection.specs.declared.pending.Pending.{Pending}
 use Rattle.projection.specs.Counted.{is_due, due_rules, decisions_due}
-use Rattle.supports.specs.Growing.{Adds, MayEnter}
+use Rattle.spots.specs.Growing.{Adds, MayEnter}
 use Rattle.projection.specs.Places.{rule_at}
 use Rattle.projection.specs.Projecting.{IsEntry, Pends, IsGrown, IsGrowing, IsFirstOf, left}
 use Rattle.projection.specs.Queues.{Queues, weight_at}

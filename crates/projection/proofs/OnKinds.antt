@@ -10,7 +10,7 @@ use Rattle.tmm_model.specs.Moments.{rules}
 use Rattle.tmm_model.specs.Standing.{Standing}
 use Rattle.spots.specs.Forest.{Forest, Member, member, moment, moment_at}
 use Rattle.spots.proofs.Nodes.{moment_at-is, rules-moment}
-use Rattle.supports.proofs.Grown.{taken}
+use Rattle.spots.proofs.Grown.{taken}
 use Rattle.projection.specs.Queues.{weight_at}
 
 pub length-filter_map-le : {X Y : Type 0} (h : X → Option Y) (xs : List X) → length (filter_map h xs) ≤ length xs

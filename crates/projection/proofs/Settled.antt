@@ -21,11 +21,11 @@ use Rattle.spots.specs.Forest.{Forest, moment_at}
 use Rattle.spots.specs.OfLists.{IsForestOf, HasOccurrences}
 use Rattle.projection.specs.declared.pending.Pending.{Pending}
 use Rattle.projection.specs.Counted.{due_rules}
-use Rattle.supports.specs.Growing.{Adds}
+use Rattle.spots.specs.Growing.{Adds}
 use Rattle.projection.specs.Places.{rule_at}
 use Rattle.projection.specs.Projecting.{Pends, IsGrown, IsStarted, IsGrowing}
 use Rattle.projection.specs.Queues.{is_for, Queues, weight_at, IsTooLarge}
-use Rattle.supports.proofs.Grown.{new_root, root_name}
+use Rattle.spots.proofs.Grown.{new_root, root_name}
 use Rattle.projection.proofs.Steps.{push_cases, too_large, pends_kept, pends_new, waits_more, grown_more, root_no_effect, root_believed}
 
 -- ---- what is declared

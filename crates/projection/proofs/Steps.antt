@@ -20,11 +20,11 @@ use Rattle.spots.specs.Forest.{Forest, member, moment_at, IsLive}
 use Rattle.spots.proofs.Nodes.{node_at, live_at, moment_at-is}
 use Rattle.projection.specs.declared.pending.Pending.{Pending}
 use Rattle.projection.specs.Counted.{due_rules}
-use Rattle.supports.specs.Growing.{Adds}
+use Rattle.spots.specs.Growing.{Adds}
 use Rattle.projection.specs.Places.{rule_at}
 use Rattle.projection.specs.Projecting.{IsEntry, Pends, IsGrown}
 use Rattle.projection.specs.Queues.{IsDue, Queues, weight_at}
-use Rattle.supports.proofs.Grown.{held_apart, adds_seen, adds_holds, node_kept, root_name}
+use Rattle.spots.proofs.Grown.{held_apart, adds_seen, adds_holds, node_kept, root_name}
 use Rattle.spots.proofs.Believed.{rules_once}
 use Rattle.projection.proofs.Waiting.{queued_once}
 

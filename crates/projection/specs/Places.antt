@@ -3,7 +3,7 @@ use Rattle.std.specs.Prelude.{◌≡◌, ℕ, List, [], Some, slice_get}
 use Rattle.std.specs.Option.{option_map_or}
 use Rattle.tmm_model.specs.declared.premise.Premise.{Premise}
 use Rattle.tmm_model.specs.Standing.{Standing, name_of}
-use Rattle.supports.specs.Rules.{IsRule}
+use Rattle.spots.specs.Rules.{IsRule}
 use Rattle.projection.specs.declared.pending.Pending.{Pending}
 
 -- the name of the premise at the place, empty where there is none

@@ -29,10 +29,10 @@ use Rattle.belief_theory.specs.Right.{Occurs}
 use Rattle.belief_theory.proofs.Rivals.{class_is, contradict_in_class}
 use Rattle.belief_theory.proofs.Watched.{class-token_of}
 use Rattle.dist_net.specs.Net.{Nets, IsMovedAt}
-use Rattle.list_net.specs.Network.{PointsKeepNumbers, IsThere}
-use Rattle.list_net.specs.Represents.{IsNumberOf}
-use Rattle.list_net.proofs.Named.{name_at-is}
-use Rattle.list_net.proofs.Nets.{is_in_use}
+use Rattle.net_theory.specs.KeptNumbers.{PointsKeepNumbers, IsThere}
+use Rattle.net_theory.specs.Represents.{IsNumberOf}
+use Rattle.net_theory.proofs.Named.{name_at-is}
+use Rattle.net_theory.proofs.Nets.{is_in_use}
 use Rattle.spots.specs.declared.spot.Spot.{Spot}
 use Rattle.spots.specs.declared.spot.Spot.TheVariants.{Declared, Node}
 use Rattle.spots.specs.Forest.{Forest, Member, member, IsLive, moment, moment_at}
@@ -46,7 +46,7 @@ use Rattle.occ_tree.specs.Standing.{Kept, forest, present}
 use Rattle.occ_tree.specs.Touched.{IsAtMoved, IsUntouched}
 use Rattle.supports.specs.Apart.{IsApart, AreOthersApart}
 use Rattle.supports.specs.Edited.{IsEdited, old_forest}
-use Rattle.supports.proofs.Facts.{rival_known}
+use Rattle.premise_list.proofs.Facts.{rival_known}
 use Rattle.revisions.proofs.Names.{class_kept}
 use Rattle.revisions.proofs.Tokens.{tokens_stay}
 use Rattle.joined.proofs.Gaps.{WasThere, start_was, node_was, distance_was, one_base}

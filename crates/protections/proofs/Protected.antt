@@ -15,8 +15,8 @@ use Rattle.list_theory.proofs.Adding.{uses_none}
 use Rattle.list_theory.proofs.Elements.{In, In-left, In-from_Contains, Contains-from_In}
 use Rattle.list_theory.proofs.Places.{place_known}
 use Rattle.dist_net.specs.Net.{Net}
-use Rattle.list_net.specs.Fits.{IsNetOf}
-use Rattle.list_net.specs.Network.{IsThere}
+use Rattle.net_theory.specs.Fits.{IsNetOf}
+use Rattle.net_theory.specs.KeptNumbers.{IsThere}
 use Rattle.tt_query.proofs.Facts.{fact_known}
 
 -- a premise of the list follows those before it

@@ -9,7 +9,7 @@ use Rattle.tmm_model.specs.Maps.{built}
 use Rattle.tmm_model.specs.Sorts.{class_in}
 use Rattle.premise_list.specs.States.{States}
 use Rattle.dist_net.specs.Net.{Nets, IsMovedAt}
-use Rattle.list_net.specs.Represents.{IsNumberOf}
+use Rattle.net_theory.specs.Represents.{IsNumberOf}
 use Rattle.spots.specs.Spots.{AreTokens}
 use Rattle.occ_tree.specs.Standing.{Kept, forest, present}
 use Rattle.supports.specs.Apart.{IsApart}

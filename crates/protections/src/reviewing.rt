@@ -7,7 +7,7 @@ ghost use Rattle.tmm_model.specs.Maps.{built};
 ghost use Rattle.tmm_model.specs.Sorts.{class_in};
 ghost use Rattle.tmm_model.specs.Standing.{Standing as AList};
 ghost use Rattle.dist_net.specs.Net.{Nets, IsMovedAt};
-ghost use Rattle.list_net.specs.Network.{IsThere};
+ghost use Rattle.net_theory.specs.KeptNumbers.{IsThere};
 ghost use Rattle.spots.specs.OfLists.{HasOccurrences};
 ghost use Rattle.occ_tree.specs.OfLists.{IsTreeOf};
 ghost use Rattle.occ_tree.specs.Places.{forest};

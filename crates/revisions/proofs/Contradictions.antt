@@ -23,7 +23,7 @@ use Rattle.belief_theory.specs.Touched.{contradict}
 use Rattle.belief_theory.proofs.NextLists.{AreWithin, one_way}
 use Rattle.belief_theory.proofs.Rivals.{class_is}
 use Rattle.premise_list.specs.Words.{facts_of}
-use Rattle.supports.proofs.Rules.{rule_there, read_known}
+use Rattle.spots.proofs.Rules.{rule_there, read_known}
 use Rattle.revisions.proofs.Names.{class_found, class_after, classes_within}
 
 -- ---- the class of a fact

@@ -18,7 +18,7 @@ use Rattle.belief_theory.proofs.NextLists.{AreWithin, one_way}
 use Rattle.list_theory.proofs.WellNamed.{first_taken-none}
 use Rattle.premise_list.specs.Words.{facts_of, own_sort}
 use Rattle.premise_list.proofs.Lookups.{declarations_parted}
-use Rattle.supports.proofs.Facts.{class_in-cons, sort_in-cons}
+use Rattle.premise_list.proofs.Facts.{class_in-cons, sort_in-cons}
 
 -- each of some new words was not known
 new_of : (known ws : List (List ℕ)) → first_taken known ws ≡ None → (w : List ℕ) → In w ws → list_any (same_name w) known ≡ false

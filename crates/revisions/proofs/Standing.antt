@@ -18,7 +18,7 @@ use Rattle.belief_theory.proofs.NextLists.{one_way}
 use Rattle.list_theory.proofs.Elements.{In, In-from_Contains, Contains-from_In, In-filter_map, filter_map-In, some_value}
 use Rattle.list_theory.proofs.KnownNames.{found, finds}
 use Rattle.belief_theory.proofs.Sound.{named_rule}
-use Rattle.supports.proofs.Rules.{rule_there}
+use Rattle.spots.proofs.Rules.{rule_there}
 use Rattle.revisions.specs.Standing.{Stands}
 use Rattle.revisions.proofs.Tokens.{is_of_stays, root_named}
 

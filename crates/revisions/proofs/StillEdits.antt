@@ -17,11 +17,11 @@ use Rattle.list_theory.proofs.Elements.{In, In-from_Contains, Contains-from_In, 
 use Rattle.list_theory.proofs.KnownNames.{finds}
 use Rattle.walk_theory.proofs.Members.{All-from_contains}
 use Rattle.dist_net.specs.Net.{Net, IsMovedAt}
-use Rattle.list_net.specs.Fits.{IsNetOf}
-use Rattle.list_net.specs.Network.{PointsKeepNumbers}
-use Rattle.list_net.specs.Represents.{IsNumberOf}
-use Rattle.list_net.proofs.Nets.{is_in_use}
-use Rattle.list_net.proofs.Numbers.{number_far}
+use Rattle.net_theory.specs.Fits.{IsNetOf}
+use Rattle.net_theory.specs.KeptNumbers.{PointsKeepNumbers}
+use Rattle.net_theory.specs.Represents.{IsNumberOf}
+use Rattle.net_theory.proofs.Nets.{is_in_use}
+use Rattle.net_theory.proofs.Numbers.{number_far}
 use Rattle.spots.specs.Forest.{Forest, Member, member, moment}
 use Rattle.spots.specs.OfLists.{IsForestOf, IsMemberOf, IsLinkOf, class_for}
 use Rattle.spots.proofs.Nodes.{base-moment}

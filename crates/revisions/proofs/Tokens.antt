@@ -21,8 +21,8 @@ use Rattle.belief_theory.proofs.NextLists.{AreWithin, one_way}
 use Rattle.list_theory.proofs.Elements.{In, In-from_Contains, Contains-from_In, In-filter_map}
 use Rattle.list_theory.proofs.KnownNames.{found}
 use Rattle.belief_theory.proofs.Sound.{rule_stands}
-use Rattle.supports.proofs.Facts.{used_after, fact_known, fact-class}
-use Rattle.supports.proofs.Rules.{rule_there, read_known}
+use Rattle.premise_list.proofs.Facts.{used_after, fact_known, fact-class}
+use Rattle.spots.proofs.Rules.{rule_there, read_known}
 use Rattle.spots.specs.OfLists.{class_for}
 use Rattle.revisions.specs.Maps.{TokensStay, ClassesStay}
 use Rattle.revisions.proofs.Names.{sorts_within, classes_within}

@@ -4,9 +4,9 @@ use Rattle.std.specs.List.{Contains}
 use Rattle.tmm_model.specs.declared.point.PointName.{PointName}
 use Rattle.tmm_model.specs.Standing.{Standing, points_in}
 use Rattle.dist_net.specs.Net.{Net, IsMovedAt}
-use Rattle.list_net.specs.Fits.{IsNetOf}
-use Rattle.list_net.specs.Network.{PointsKeepNumbers}
-use Rattle.list_net.specs.Represents.{Names, IsNumberOf}
+use Rattle.net_theory.specs.Fits.{IsNetOf}
+use Rattle.net_theory.specs.KeptNumbers.{PointsKeepNumbers}
+use Rattle.net_theory.specs.Represents.{Names, IsNumberOf}
 use Rattle.spots.specs.Forest.{Forest}
 use Rattle.spots.specs.OfLists.{IsForestOf}
 use Rattle.revisions.specs.Alike.{IsAnchor, SayAlike, AreAlike}

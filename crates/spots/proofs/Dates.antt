@@ -18,9 +18,9 @@ use Rattle.walk_theory.specs.LeastWalks.{AtMost, IsWalk}
 use Rattle.list_theory.proofs.Elements.{In, In-from_Contains, Contains-from_In, In-flat_map, flat_map-In}
 use Rattle.belief_theory.proofs.Sound.{far_in-IsFar}
 use Rattle.dist_net.specs.Net.{Net, same_number}
-use Rattle.list_net.specs.Represents.{IsNumberOf}
-use Rattle.list_net.proofs.Nets.{is_in_use}
-use Rattle.list_net.proofs.Numbers.{number_far}
+use Rattle.net_theory.specs.Represents.{IsNumberOf}
+use Rattle.net_theory.proofs.Nets.{is_in_use}
+use Rattle.net_theory.proofs.Numbers.{number_far}
 use Rattle.spots.specs.declared.link.Link.{Link}
 use Rattle.spots.specs.declared.spot.Spot.{Spot}
 use Rattle.spots.specs.declared.spot.Spot.TheVariants.{Declared}

@@ -9,3 +9,7 @@ pub mod Delays
 pub mod Apart
 pub mod InUse
 pub mod Distances
+pub mod Effects
+pub mod Grown
+pub mod Rules
+pub mod TokenSpots

@@ -11,9 +11,9 @@ use Rattle.tmm_model.specs.Standing.{Standing}
 use Rattle.list_theory.proofs.Elements.{some_value}
 use Rattle.belief_theory.proofs.Moments.{rules-along, base-along}
 use Rattle.dist_net.specs.Net.{Net}
-use Rattle.list_net.specs.Represents.{IsNumberOf}
-use Rattle.list_net.proofs.Named.{name_at-is}
-use Rattle.list_net.proofs.Nets.{is_used}
+use Rattle.net_theory.specs.Represents.{IsNumberOf}
+use Rattle.net_theory.proofs.Named.{name_at-is}
+use Rattle.net_theory.proofs.Nets.{is_used}
 use Rattle.spots.specs.declared.link.Link.{Link}
 use Rattle.spots.specs.declared.spot.Spot.{Spot}
 use Rattle.spots.specs.declared.spot.Spot.TheVariants.{Declared, Node}

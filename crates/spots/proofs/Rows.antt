@@ -13,9 +13,9 @@ use Rattle.tmm_model.specs.Sorts.{Sort, is_kind, sort_in}
 use Rattle.tmm_model.specs.Standing.{Standing}
 use Rattle.walk_theory.proofs.Members.{All-from_contains}
 use Rattle.dist_net.specs.Net.{Net}
-use Rattle.list_net.specs.Represents.{IsNumberOf}
-use Rattle.list_net.proofs.Named.{name_at-is}
-use Rattle.list_net.proofs.Nets.{is_in_use}
+use Rattle.net_theory.specs.Represents.{IsNumberOf}
+use Rattle.net_theory.proofs.Named.{name_at-is}
+use Rattle.net_theory.proofs.Nets.{is_in_use}
 use Rattle.spots.specs.declared.spot.Spot.{Spot}
 use Rattle.spots.specs.declared.spot.Spot.TheVariants.{Declared, Node}
 use Rattle.spots.specs.Forest.{Forest, Member, member, moment, moment_at}

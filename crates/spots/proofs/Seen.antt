@@ -15,9 +15,9 @@ use Rattle.belief_theory.specs.Right.{Occurs}
 use Rattle.tmm_model.specs.Standing.{Standing, far_in}
 use Rattle.list_theory.proofs.Elements.{In, In-from_Contains, Contains-from_In, In-filter_map, filter_map-In, In-map, map-In}
 use Rattle.dist_net.specs.Net.{Net}
-use Rattle.list_net.proofs.Named.{name_at-is}
-use Rattle.list_net.proofs.Nets.{is_in_use}
-use Rattle.list_net.proofs.Numbers.{number_far, number_same}
+use Rattle.net_theory.proofs.Named.{name_at-is}
+use Rattle.net_theory.proofs.Nets.{is_in_use}
+use Rattle.net_theory.proofs.Numbers.{number_far, number_same}
 use Rattle.spots.specs.declared.spot.Spot.{Spot}
 use Rattle.spots.specs.declared.spot.Spot.TheVariants.{Declared, Node}
 use Rattle.spots.specs.Forest.{Forest, IsLive, moment, moment_at}

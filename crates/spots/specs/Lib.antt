@@ -5,3 +5,5 @@ pub mod Light
 pub mod Sums
 pub mod Rows
 pub mod Laws
+pub mod Growing
+pub mod Rules

@@ -15,7 +15,7 @@ use Rattle.tmm_model.specs.Moments.{Moment, At, negated, printed}
 use Rattle.tmm_model.specs.Points.{same_name}
 use Rattle.tmm_model.specs.Walks.{far}
 use Rattle.dist_net.specs.Net.{Net, arcs_of, same_number, points_in_use, IsInUse}
-use Rattle.list_net.specs.Represents.{Names, name_at}
+use Rattle.net_theory.specs.Represents.{Names, name_at}
 use Rattle.spots.specs.declared.link.Link.{Link}
 use Rattle.spots.specs.declared.spot.Spot.{Spot}
 use Rattle.spots.specs.declared.spot.Spot.TheVariants.{Declared, Node}

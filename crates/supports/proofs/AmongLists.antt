@@ -39,9 +39,9 @@ use Rattle.spots.specs.OfLists.{IsForestOf, HasOccurrences, map_of}
 use Rattle.spots.specs.Spots.{IsSpot, spot_moment, spot_distance, spot_cmp, AreTokens, row_moment}
 use Rattle.supports.specs.ClassTokens.{other_in, class_against, of_other, class_lists}
 use Rattle.supports.proofs.Answered.{first_is, same_rows}
-use Rattle.supports.proofs.Facts.{fact_known}
+use Rattle.premise_list.proofs.Facts.{fact_known}
 use Rattle.supports.proofs.FirstRows.{IsSame, first_of_rows, some_of_rows}
-use Rattle.supports.proofs.Moved.{by_alike, before_alike}
+use Rattle.clipping.proofs.Moved.{by_alike, before_alike}
 use Rattle.premise_list.proofs.Unrivalled.{differ_back}
 use Rattle.supports.proofs.SeveralLists.{first_of_all}
 use Rattle.supports.proofs.TokenRows.{node_of, spots_there, row_there, row_of, tokens_spelt}

@@ -32,7 +32,7 @@ use Rattle.spots.specs.Spots.{IsSpot, spot_moment, spot_distance, spot_cmp, AreT
 use Rattle.premise_list.specs.Rivalries.{has_rivals}
 use Rattle.supports.proofs.NoRivals.{supports_alone}
 use Rattle.supports.proofs.FirstRows.{IsSame, first_of_rows, some_of_rows}
-use Rattle.supports.proofs.Moved.{supports_alike}
+use Rattle.clipping.proofs.Moved.{supports_alike}
 use Rattle.supports.proofs.TokenRows.{no_row, node_of, spots_there, row_there, row_of, tokens_spelt}
 
 module _ {s : Standing} {net : Net} {f : Forest} (seen : IsForestOf s net f) {class : List ℕ} {rows : List (TokenRow Spot)} (are : AreTokens f class rows)

@@ -11,8 +11,8 @@ use Rattle.tmm_model.specs.Moments.{Moment}
 use Rattle.tmm_model.specs.Standing.{Standing, far_in}
 use Rattle.tmm_model.specs.Tokens.{supports}
 use Rattle.list_theory.proofs.Elements.{In}
-use Rattle.clip_search.specs.Entries.{fact_at, node_at}
-use Rattle.clip_search.proofs.Entering.{spot_is}
+use Rattle.supports.specs.Entries.{fact_at, node_at}
+use Rattle.supports.proofs.BranchesEntering.{spot_is}
 use Rattle.clipping.specs.declared.across.Place.{Place}
 use Rattle.clipping.specs.declared.across.Fault.{Fault as PlaceFault}
 use Rattle.clipping.specs.declared.across.Fault.TheVariants.{Late, Clipped, Ends}

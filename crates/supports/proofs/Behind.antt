@@ -33,7 +33,7 @@ use Rattle.spots.proofs.Rows.{end_there}
 use Rattle.supports.specs.Behind.{token_at, of_class, rows_behind, AreBehind}
 use Rattle.supports.specs.Nodes.{IsOfNode}
 use Rattle.supports.proofs.Falling.{Falls, Falls-push, first_less}
-use Rattle.supports.proofs.TokenRows.{token_row_spots}
+use Rattle.spots.proofs.TokenSpots.{token_row_spots}
 
 -- ---- tokens of a class
 

@@ -27,7 +27,7 @@ use Rattle.occ_tree.specs.Tokens.{number_of, numbers_in, IsInOrder}
 use Rattle.occ_tree.proofs.InOrder.{back_more}
 use Rattle.occ_tree.proofs.Ranking.{nodes_total}
 use Rattle.occ_tree.proofs.TokenLists.{on_at, length-numbers}
-use Rattle.supports.proofs.TokenRows.{token_row_spots}
+use Rattle.spots.proofs.TokenSpots.{token_row_spots}
 
 -- where the tree is of a list, it is of some list
 pub tree_in : {s : Standing} {net : Net} {k : Kept} → IsTreeOf s net k → IsTreeIn net k

@@ -40,8 +40,8 @@ use Rattle.spots.specs.Spots.{IsSpot, AreTokens, spot_moment, spot_distance, spo
 use Rattle.supports.specs.Behind.{token_at}
 use Rattle.supports.specs.Clips.{rival_in, of_pairs, clip_by}
 use Rattle.supports.proofs.Answered.{first_is}
-use Rattle.supports.proofs.Facts.{rival_known}
-use Rattle.supports.proofs.Moved.{before_alike}
+use Rattle.premise_list.proofs.Facts.{rival_known}
+use Rattle.clipping.proofs.Moved.{before_alike}
 use Rattle.supports.proofs.Nearest.{token_there, there_token}
 use Rattle.premise_list.proofs.Unrivalled.{differ_back}
 use Rattle.supports.proofs.TokenRows.{node_of, spots_there, tokens_spelt}

@@ -27,7 +27,8 @@ use Rattle.supports.proofs.Behind.{node_of_token, spot_of}
 use Rattle.supports.proofs.ByDate.{by_date}
 use Rattle.supports.proofs.Falling.{rising}
 use Rattle.supports.proofs.Nearest.{nearest_is}
-use Rattle.supports.proofs.TokenRows.{no_row, token_row_spots}
+use Rattle.supports.proofs.TokenRows.{no_row}
+use Rattle.spots.proofs.TokenSpots.{token_row_spots}
 
 -- the number of the node of the token at a place
 pub number_here : (rows : List (TokenRow Spot)) (i : ℕ) (row : TokenRow Spot) → i < length rows → row ≡ slice_index_or rows i row → slice_index_or (numbers_in rows) i 0 ≡ number_of row.spot

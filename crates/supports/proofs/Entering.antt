@@ -26,9 +26,9 @@ use Rattle.spots.specs.declared.link.Link.{Link}
 use Rattle.spots.specs.Forest.{Forest, Member, member, moment, moment_at, rules_of, Enters, IsTrigger, child_member}
 use Rattle.spots.specs.OfLists.{IsLinkOf, class_for, IsForestOf}
 use Rattle.spots.proofs.Nodes.{moment_at-is}
-use Rattle.supports.specs.Growing.{Adds, effect_shape, MayEnter}
-use Rattle.supports.proofs.Facts.{premise_formed}
-use Rattle.supports.proofs.Effects.{effect_is}
+use Rattle.spots.specs.Growing.{Adds, effect_shape, MayEnter}
+use Rattle.premise_list.proofs.Facts.{premise_formed}
+use Rattle.spots.proofs.Effects.{effect_is}
 use Rattle.supports.proofs.OnKinds.{event_of_rules}
 
 -- what a rule leads to begins after the event

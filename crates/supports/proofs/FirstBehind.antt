@@ -6,9 +6,9 @@ use Rattle.std.proofs.lemmas.Bool.{cases_lt}
 use Rattle.std.proofs.lemmas.List.{get_or_append_left, get_or_push, length-append, drop_all, length-map}
 use Rattle.tmm_model.specs.declared.token.TokenRow.{TokenRow}
 use Rattle.tmm_model.specs.Tokens.{of_one_class, clips}
-use Rattle.clip_search.specs.Entries.{no_row, row_at, node_at}
-use Rattle.clip_search.specs.Firsts.{IsFirstOf, IsClipper}
-use Rattle.clip_search.proofs.Entering.{spot_is}
+use Rattle.supports.specs.Entries.{no_row, row_at, node_at}
+use Rattle.supports.specs.Firsts.{IsFirstOf, IsClipper}
+use Rattle.supports.proofs.BranchesEntering.{spot_is}
 use Rattle.tmm_model.specs.Standing.{Standing}
 use Rattle.dist_net.specs.Net.{Net}
 use Rattle.occ_tree.specs.OfLists.{IsTreeIn}

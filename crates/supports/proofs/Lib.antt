@@ -1,5 +1,11 @@
+pub mod Tells
+pub mod Ways
+pub mod BranchesEntering
+pub mod Found
+pub mod Firsts
+pub mod InOrder
+pub mod Unlike
 pub mod Taken
-pub mod Moved
 pub mod FirstRows
 pub mod TokenRows
 pub mod Later
@@ -10,12 +16,8 @@ pub mod SeveralLists
 pub mod Answered
 pub mod AmongLists
 pub mod Nearest
-pub mod Facts
-pub mod Rules
 pub mod FirstFacts
 pub mod OnKinds
-pub mod Effects
-pub mod Grown
 pub mod Entering
 pub mod ByDate
 pub mod ClassClips

@@ -34,7 +34,7 @@ use Rattle.supports.proofs.Behind.{token_made, node_of_token, spot_of, In-behind
 use Rattle.supports.proofs.Falling.{stands_behind, sorted_back, last_is_first}
 use Rattle.supports.proofs.FirstRows.{first_of_rows}
 use Rattle.supports.proofs.Later.{comes_after}
-use Rattle.supports.proofs.Moved.{clips_alike}
+use Rattle.clipping.proofs.Moved.{clips_alike}
 use Rattle.supports.proofs.TokenRows.{no_row, tokens_spelt}
 
 -- what is before another is not behind it

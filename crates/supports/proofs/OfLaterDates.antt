@@ -6,9 +6,9 @@ use Rattle.std.proofs.lemmas.List.{get_or_read, get_or_default}
 use Rattle.std.specs.Prelude.{◌≤ℤ◌, slice_index_or}
 use Rattle.tmm_model.specs.declared.token.TokenRow.{TokenRow}
 use Rattle.tmm_model.specs.Tokens.{of_one_class, clips}
-use Rattle.clip_search.specs.Entries.{no_row, row_at}
-use Rattle.clip_search.specs.Firsts.{IsClipper}
-use Rattle.clip_search.proofs.Entering.{spot_is, node_live}
+use Rattle.supports.specs.Entries.{no_row, row_at}
+use Rattle.supports.specs.Firsts.{IsClipper}
+use Rattle.supports.proofs.BranchesEntering.{spot_is, node_live}
 use Rattle.clipping.specs.ByDate.{IsByDate, AreUntil}
 use Rattle.clipping.proofs.RuledOut.{no_clip}
 use Rattle.dist_net.specs.Net.{Net}

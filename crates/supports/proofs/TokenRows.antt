@@ -17,6 +17,7 @@ use Rattle.belief_theory.proofs.Spelt.{spelt}
 use Rattle.clipping.specs.Live.{IsLive as HasLiveSpots}
 use Rattle.dist_net.specs.Net.{Net}
 use Rattle.spots.proofs.Nodes.{moment_at-is}
+use Rattle.spots.proofs.TokenSpots.{token_row_spots}
 use Rattle.spots.proofs.Seen.{tokens_are, IsRowOf, member_of_token, token_is, rows_there}
 use Rattle.spots.specs.declared.spot.Spot.{Spot}
 use Rattle.spots.specs.declared.spot.Spot.TheVariants.{Declared, Node}
@@ -32,17 +33,6 @@ use Rattle.supports.specs.Nodes.{IsOfNode}
 -- what is read beyond the end of the rows
 abbrev pub no_row : TokenRow Spot
 no_row = record { spot = Node 0; end = None; fact = []; class = [] }
-
--- the token of a node begins at it, and ends where it does
-pub token_row_spots : (x : ℕ) (m : Member) (row : TokenRow Spot) → token_row x m ≡ Some row → (row.spot ≡ Node x) × (row.end ≡ option_map Declared m.end)
-token_row_spots x m row e = by m.class e
-  where
-    by : (o : Option (List ℕ)) → option_map (λ class. record { spot = Node x; end = option_map Declared m.end; fact = m.what; class = class }) o ≡ Some row → (row.spot ≡ Node x) × (row.end ≡ option_map Declared m.end)
-    by None e = cc
-    by (Some class) e =
-        let begins : Some row.spot ≡ Some (Node x) = ap (option_map (λ k. k.spot)) (sym e) in
-        let ends : Some row.end ≡ Some (option_map Declared m.end) = ap (option_map (λ k. k.end)) (sym e) in
-        (cc, cc)
 
 module _ {s : Standing} {net : Net} {f : Forest} (seen : IsForestOf s net f) {class : List ℕ} {rows : List (TokenRow Spot)} (are : AreTokens f class rows) where
   -- ---- nodes of rows

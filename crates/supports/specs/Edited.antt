@@ -7,7 +7,7 @@ use Rattle.tmm_model.specs.Maps.{built}
 use Rattle.tmm_model.specs.Standing.{points_in}
 use Rattle.premise_list.specs.States.{States}
 use Rattle.dist_net.specs.Net.{Nets}
-use Rattle.list_net.specs.Network.{PointsKeepNumbers}
+use Rattle.net_theory.specs.KeptNumbers.{PointsKeepNumbers}
 use Rattle.spots.specs.Forest.{Forest, IsLive, moment_at}
 use Rattle.spots.specs.OfLists.{IsForestOf, HasOccurrences}
 use Rattle.spots.specs.Spots.{AreTokens}

@@ -1,11 +1,12 @@
+pub mod Under
+pub mod Entries
+pub mod Firsts
 pub mod Apart
 pub mod Behind
 pub mod Near
 pub mod ClassClips
 pub mod Faults
 pub mod Nodes
-pub mod Rules
-pub mod Growing
 pub mod Edited
 pub mod ClassTokens
 pub mod Clips

@@ -1,8 +1,8 @@
 -- What a search among the nearest tokens tells.
 use Rattle.std.specs.Prelude.{◌≡◌, ℕ, ◌<◌, ◌≤◌, List, length}
 use Rattle.tmm_model.specs.declared.token.TokenRow.{TokenRow}
-use Rattle.clip_search.specs.Entries.{fact_at}
-use Rattle.clip_search.specs.Firsts.{IsFirstOf, IsClipper}
+use Rattle.supports.specs.Entries.{fact_at}
+use Rattle.supports.specs.Firsts.{IsFirstOf, IsClipper}
 use Rattle.dist_net.specs.Net.{Net}
 use Rattle.spots.specs.declared.spot.Spot.{Spot}
 use Rattle.spots.specs.Forest.{Forest}

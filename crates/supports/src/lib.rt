@@ -1,8 +1,8 @@
 //! Which believed token supports a fact, what clips tokens, and why a token is no supporter: what
 //! `clipping` answers over the tokens of a tree, told of the occurrences of the standing list; what
 //! a standing rule says, whose antecedents want supporters and whose exceptions want none; and what
-//! a premise declares to occur, as a node of a tree. It stands on `occ_tree`, `clipping`,
-//! `clip_search` and `name_lists`.
+//! a premise declares to occur, as a node of a tree. It stands on `occ_tree`, `clipping` and
+//! `name_lists`.
 //!
 //! Two facts of one class contradict each other, and two that a premise sets against each other. A
 //! fact of which no premise speaks asks the tokens of its class alone, any other one the tokens of
@@ -14,6 +14,13 @@
 //! they look for what cuts a token near what cut the one before, and where that takes long they
 //! find out first what may cut each (`Guesses`). So they take little more than the tokens of the
 //! class, in whatever order those that cut stand. Without memory they answer the same.
+//!
+//! Where little is sure of the order of the tokens of a class, asking one token after the other takes
+//! as long as there are pairs of tokens. `branches` takes little more than there are nodes on the ways
+//! to the tokens, and a halving for each of these and for each root. What surely begins behind a token
+//! does so as far as one node tells: the last that the ways to both share, or the root of what begins
+//! behind. Under one node the tokens stand by their dates, so those that surely begin behind a token as
+//! far as this node tells are all from one on (`Branches`).
 #![tactic(auto)]
 
 ghost use Rattle.std.specs.Prelude.{◌≡◌, ◌<◌, ℕ, List, map as mapped, length, None, Some, IsSome, IfSome, slice_index_or};
@@ -30,7 +37,7 @@ ghost use Rattle.spots.specs.Forest.{IsLive, moment_at};
 ghost use Rattle.spots.specs.OfLists.{HasOccurrences, map_of};
 ghost use Rattle.spots.specs.declared.spot.Spot.{Spot};
 ghost use Rattle.spots.specs.Spots.{IsSpot, spot_moment};
-ghost use Rattle.clip_search.specs.Entries.{fact_at, node_at as number_at};
+ghost use Rattle.supports.specs.Entries.{fact_at, node_at as number_at};
 ghost use Rattle.occ_tree.specs.Places.{forest};
 ghost use Rattle.occ_tree.specs.Standing.{present};
 ghost use Rattle.supports.specs.Faults.{fault_at};
@@ -39,13 +46,18 @@ ghost use Rattle.supports.specs.TimeMaps.{IsTimeMap};
 
 mod all_clips;
 mod alone;
+mod branches;
 mod class_tokens;
+mod entries;
 mod guesses;
 mod near;
 mod rivals;
 mod root;
+mod roots;
 mod rule;
+mod skips;
 mod time_map;
+mod way;
 
 pub use all_clips::{class_clips, clips};
 use class_tokens::ClassTokens;

@@ -2,8 +2,8 @@
 ghost use Rattle.std.specs.Prelude.{◌≡◌, ◌<◌, ◌≤◌, ℕ, List, length};
 ghost use Rattle.tmm_model.specs.Tokens.{of_one_class, clips};
 ghost use Rattle.clipping.specs.ByDate.{IsByDate, IsFirstPlaceIn};
-ghost use Rattle.clip_search.specs.Entries.{fact_at};
-ghost use Rattle.clip_search.specs.Firsts.{IsClipper};
+ghost use Rattle.supports.specs.Entries.{fact_at};
+ghost use Rattle.supports.specs.Firsts.{IsClipper};
 ghost use Rattle.spots.specs.declared.spot.Spot.{Spot};
 ghost use Rattle.spots.specs.Spots.{AreTokens, IsSpot, spot_distance, spot_early, spot_cmp};
 ghost use Rattle.occ_tree.specs.OfLists.{IsTreeIn};

@@ -12,8 +12,8 @@ ghost use Rattle.occ_tree.specs.Dated.{IsDatedBy};
 ghost use Rattle.occ_tree.specs.Edits.{Enters};
 ghost use Rattle.occ_tree.specs.Places.{forest};
 ghost use Rattle.occ_tree.specs.Standing.{present, committed};
-ghost use Rattle.list_net.specs.Fits.{IsNetOf};
-ghost use Rattle.supports.specs.Growing.{AddsRoot};
+ghost use Rattle.net_theory.specs.Fits.{IsNetOf};
+ghost use Rattle.spots.specs.Growing.{AddsRoot};
 
 use dist_net::DistNet;
 use list_net::number_of;

@@ -1,7 +1,7 @@
 // What a standing rule says.
 ghost use Rattle.std.specs.Prelude.{◌≡◌, ◌≤◌, length};
 ghost use Rattle.tmm_model.specs.Moments.{rule_of};
-ghost use Rattle.supports.specs.Rules.{IsRuleOf};
+ghost use Rattle.spots.specs.Rules.{IsRuleOf};
 
 use premise_list::Standing;
 use tmm_model::{Name, Premise};

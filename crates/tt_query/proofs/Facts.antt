@@ -23,7 +23,7 @@ use Rattle.list_theory.specs.WellNamed.{Follows, AllFollow, IsWellNamed}
 use Rattle.list_theory.proofs.Elements.{In, In-from_Contains, Contains-from_In, In-filter_map, filter_map-In, In-flat_map, In-map}
 use Rattle.list_theory.proofs.KnownNames.{own_new}
 use Rattle.walk_theory.proofs.Points.{same_name-is}
-use Rattle.supports.proofs.Facts.{fact-class}
+use Rattle.premise_list.proofs.Facts.{fact-class}
 use Rattle.list_theory.proofs.WellNamed.{lookup-append, lookup-unknown, words_known-push}
 
 -- ---- look-ups

@@ -4,7 +4,7 @@ use Rattle.tmm_model.specs.declared.token.TokenRow.{TokenRow}
 use Rattle.tmm_model.specs.Answers.{clipped}
 use Rattle.tmm_model.specs.Beliefs.{holder, token_of}
 use Rattle.tmm_model.specs.Standing.{far_in}
-use Rattle.clip_search.specs.Entries.{fact_at, node_at as number_at}
+use Rattle.supports.specs.Entries.{fact_at, node_at as number_at}
 use Rattle.clipping.specs.declared.across.Fault.TheVariants.{Late, Clipped, Ends}
 use Rattle.spots.specs.declared.spot.Spot.{Spot}
 use Rattle.spots.specs.declared.spot.Spot.TheVariants.{Node}

@@ -7,7 +7,7 @@ use Rattle.spots.specs.Forest.{moment_at}
 use Rattle.occ_tree.specs.Places.{forest}
 use Rattle.occ_tree.specs.Standing.{present, early}
 use Rattle.supports.proofs.ByDate.{tree_in}
-use Rattle.supports.proofs.Rules.{rule_there}
+use Rattle.spots.proofs.Rules.{rule_there}
 use Rattle.belief_net.specs.Decided.{AddsRows}
 use Rattle.belief_net.specs.Entering.{MarksReaders, a_token, an_event}
 use Rattle.belief_net.proofs.Brought.{once_on_kind, rules_on_kind, class_is_at, marks_under}

@@ -17,9 +17,9 @@ use Rattle.occ_tree.specs.Places.{forest}
 use Rattle.occ_tree.specs.Standing.{present, committed, early, forest as forest_of}
 use Rattle.occ_tree.proofs.KeptDates.{effects_keep_dates}
 use Rattle.occ_tree.proofs.Members.{growing_enters}
-use Rattle.supports.specs.Growing.{Adds, effect_shape}
+use Rattle.spots.specs.Growing.{Adds, effect_shape}
 use Rattle.supports.proofs.Entering.{is_trigger, delay_is, effect_adds, word_is}
-use Rattle.supports.proofs.Grown.{adds_seen}
+use Rattle.spots.proofs.Grown.{adds_seen}
 use Rattle.belief_net.specs.Entering.{EntersIn}
 use Rattle.belief_net.proofs.entering.enter_effect.Goals as goal
 

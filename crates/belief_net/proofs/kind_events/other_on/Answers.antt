@@ -4,7 +4,7 @@ use Rattle.std.specs.Cmp.Lexicographic.{bytes_decides}
 use Rattle.tmm_model.specs.Beliefs.{on_kind}
 use Rattle.tmm_model.specs.Points.{same_name}
 use Rattle.list_theory.proofs.Elements.{filter_map-In}
-use Rattle.supports.proofs.Grown.{stands}
+use Rattle.spots.proofs.Grown.{stands}
 use Rattle.belief_net.proofs.kind_events.other_on.Goals as goal
 
 no_both : (v : Bool) → v ≡ true → not v ≡ true → ⊥

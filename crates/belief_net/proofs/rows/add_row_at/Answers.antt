@@ -6,7 +6,7 @@ use Rattle.tmm_model.specs.declared.premise.Premise.TheVariants.{Rule}
 use Rattle.tmm_model.specs.Moments.{as_rule, read_by}
 use Rattle.tmm_model.specs.Sorts.{class_in}
 use Rattle.tmm_model.specs.Standing.{premise_in}
-use Rattle.supports.proofs.Rules.{read_known}
+use Rattle.spots.proofs.Rules.{read_known}
 use Rattle.projection.specs.Places.{name_at}
 use Rattle.projection.proofs.AtPlaces.{found_at, named_at}
 use Rattle.belief_net.specs.Decided.{AddsRows}

@@ -4,7 +4,7 @@ use Rattle.std.specs.List.{filter_map}
 use Rattle.std.proofs.lemmas.Int.{to_z-of_z}
 use Rattle.std.proofs.lemmas.List.{take_all}
 use Rattle.tmm_model.specs.Beliefs.{on_kind}
-use Rattle.supports.proofs.Grown.{stands}
+use Rattle.spots.proofs.Grown.{stands}
 use Rattle.projection.proofs.OnKinds.{next_rules}
 use Rattle.belief_net.specs.Decided.{AddsRows}
 use Rattle.belief_net.proofs.Entered.{adds_more}

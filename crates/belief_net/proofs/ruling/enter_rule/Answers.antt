@@ -5,8 +5,8 @@ use Rattle.tmm_model.specs.Moments.{as_rule, read_by}
 use Rattle.tmm_model.specs.Sorts.{class_in}
 use Rattle.tmm_model.specs.Standing.{premise_in, name_of}
 use Rattle.list_theory.proofs.KnownNames.{found}
-use Rattle.supports.specs.Rules.{IsRule}
-use Rattle.supports.proofs.Rules.{read_known}
+use Rattle.spots.specs.Rules.{IsRule}
+use Rattle.spots.proofs.Rules.{read_known}
 use Rattle.belief_net.specs.declared.state.BeliefNet.{BeliefNet}
 use Rattle.belief_net.specs.Adding.{EntersRule}
 use Rattle.belief_net.proofs.Fitting.{fit_with_rule}

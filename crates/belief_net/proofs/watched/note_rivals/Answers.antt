@@ -1,6 +1,6 @@
 use Rattle.std.proofs.Common.{◌≡◌, take, sym, subst, arith}
 use Rattle.std.proofs.lemmas.List.{take_all}
-use Rattle.supports.proofs.Grown.{stands}
+use Rattle.spots.proofs.Grown.{stands}
 use Rattle.occ_tree.specs.Places.{forest}
 use Rattle.belief_net.specs.Reach.{Notes}
 use Rattle.belief_net.specs.Watched.{IsSpotAgainst}

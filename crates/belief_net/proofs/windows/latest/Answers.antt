@@ -2,7 +2,7 @@ use Rattle.std.proofs.Common.{◌∙◌, w64, sym, subst, rules}
 use Rattle.std.proofs.lemmas.Int.{to_z-of_z}
 use Rattle.std.specs.Prelude.{FitsSigned}
 use Rattle.tmm_model.specs.declared.point.PointName.TheVariants.{Start}
-use Rattle.list_net.proofs.Nets.{is_in_use}
+use Rattle.net_theory.proofs.Nets.{is_in_use}
 use Rattle.occ_tree.specs.Places.{forest}
 use Rattle.belief_net.specs.Windows.{HasBegunFrom}
 use Rattle.belief_net.proofs.Latest.{begun_from, token_spot}

@@ -1,4 +1,5 @@
-use Rattle.list_net.specs.Fits.{IsNetOf, NothingPending}
+use Rattle.net_theory.specs.Fits.{IsNetOf}
+use Rattle.list_net.specs.Settled.{NothingPending}
 use Rattle.belief_trials.proofs.orders.with_rules.Given as goal
 
 abbrev pub invariant-loop-i : goal.invariant-loop-i

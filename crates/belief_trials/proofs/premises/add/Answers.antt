@@ -4,8 +4,8 @@ use Rattle.tmm_model.specs.Edits.{list_with}
 use Rattle.tmm_model.specs.Lines.{IsWellFormedEdit, IsWellFormedPremise}
 use Rattle.tmm_model.specs.Standing.{Standing}
 use Rattle.dist_net.specs.Net.{Net}
-use Rattle.list_net.specs.Fits.{Fits}
-use Rattle.list_net.specs.Network.{KeepsNumbers}
+use Rattle.net_theory.specs.Fits.{Fits}
+use Rattle.net_theory.specs.KeptNumbers.{KeepsNumbers}
 use Rattle.list_net.proofs.Networks.{net_with}
 use Rattle.revisions.specs.Alike.{is_unread}
 use Rattle.belief_trials.proofs.Seeing.{sees_the_same}

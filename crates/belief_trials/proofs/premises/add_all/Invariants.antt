@@ -1,4 +1,5 @@
-use Rattle.list_net.specs.Fits.{IsNetOf, NothingPending}
+use Rattle.net_theory.specs.Fits.{IsNetOf}
+use Rattle.list_net.specs.Settled.{NothingPending}
 use Rattle.belief_trials.proofs.premises.add_all.Given as goal
 
 abbrev pub invariant-loop-line : goal.invariant-loop-line

@@ -4,7 +4,7 @@ use Rattle.std.specs.List.{filter_map}
 use Rattle.std.specs.Option.{option_copied}
 use Rattle.std.proofs.lemmas.List.Elements.{filter_map-append}
 use Rattle.tmm_model.specs.Beliefs.{root_of}
-use Rattle.supports.proofs.Grown.{taken, not_none}
+use Rattle.spots.proofs.Grown.{taken, not_none}
 use Rattle.just_check.specs.Checking.{AwaitsRoots}
 use Rattle.just_check.proofs.auditing.expected_roots.Goals as goal
 use Rattle.just_check.proofs.auditing.expected_roots.Goals.{in-Some+in_ok-expect_root, in_default}

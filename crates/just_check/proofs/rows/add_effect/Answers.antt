@@ -20,11 +20,11 @@ use Rattle.occ_tree.proofs.KeptDates.{effects_keep_dates}
 use Rattle.occ_tree.proofs.Members.{growing_enters}
 use Rattle.spots.specs.declared.link.Link.{Link}
 use Rattle.spots.proofs.Nodes.{node_at}
-use Rattle.supports.specs.Growing.{Adds, effect_shape, MayEnter}
-use Rattle.supports.specs.Rules.{IsRuleOf}
+use Rattle.spots.specs.Growing.{Adds, effect_shape, MayEnter}
+use Rattle.spots.specs.Rules.{IsRuleOf}
 use Rattle.supports.proofs.Entering.{is_trigger, delay_is, effect_adds, word_is}
-use Rattle.supports.proofs.Grown.{adds_seen}
-use Rattle.supports.proofs.Rules.{rule_there}
+use Rattle.spots.proofs.Grown.{adds_seen}
+use Rattle.spots.proofs.Rules.{rule_there}
 use Rattle.just_check.proofs.rows.add_effect.Goals as goal
 
 pub unreachable-requires : goal.unreachable-requires

@@ -4,7 +4,7 @@ use Rattle.std.specs.Option.{option_copied}
 use Rattle.std.proofs.lemmas.Result.{IfOk-weaker}
 use Rattle.tmm_model.specs.declared.point.PointName.TheVariants.{Begin}
 use Rattle.tmm_model.specs.Moments.{Moment, At}
-use Rattle.supports.specs.Growing.{AddsRoot}
+use Rattle.spots.specs.Growing.{AddsRoot}
 use Rattle.just_check.specs.Checking.{AreSoFar, EntersAs}
 use Rattle.just_check.proofs.Joining.{no_premise, premise_stands, no_root_for, root_enters, root_in}
 use Rattle.spots.specs.OfLists.{HasList}

@@ -6,7 +6,7 @@ use Rattle.belief_theory.proofs.SoundBeliefs.{sound_timed}
 use Rattle.spots.specs.Forest.{moment_at}
 use Rattle.occ_tree.specs.Places.{forest}
 use Rattle.spots.proofs.Seen.{early_is, occurs_at}
-use Rattle.supports.proofs.Rules.{rule_there}
+use Rattle.spots.proofs.Rules.{rule_there}
 use Rattle.just_check.specs.Audited.{date_of}
 use Rattle.just_check.proofs.rules.does_fire.Goals as goal
 

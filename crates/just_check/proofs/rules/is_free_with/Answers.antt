@@ -11,7 +11,7 @@ use Rattle.belief_theory.proofs.Outcomes.{is_open}
 use Rattle.spots.specs.Forest.{moment_at}
 use Rattle.occ_tree.specs.Places.{forest}
 use Rattle.supports.proofs.FirstFacts.{told_none}
-use Rattle.supports.proofs.Rules.{rule_there, facts_known, exceptions_known}
+use Rattle.spots.proofs.Rules.{rule_there, facts_known, exceptions_known}
 use Rattle.just_check.proofs.rules.is_free_with.Goals as goal
 
 pub is_supported-requires-clause-fact : goal.is_supported-requires-clause-fact

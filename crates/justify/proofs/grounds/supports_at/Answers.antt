@@ -6,7 +6,7 @@ use Rattle.tmm_model.specs.Sorts.{class_in}
 use Rattle.spots.specs.Forest.{moment_at}
 use Rattle.occ_tree.specs.Places.{forest}
 use Rattle.justify.specs.Grounds.{supporters_for}
-use Rattle.supports.proofs.Rules.{rule_there, facts_known}
+use Rattle.spots.proofs.Rules.{rule_there, facts_known}
 use Rattle.justify.proofs.grounds.supports_at.Goals as goal
 
 pub rule_text-text-requires : goal.rule_text-text-requires

@@ -9,7 +9,7 @@ use Rattle.tmm_model.specs.Reasons.{pairs_of}
 use Rattle.walk_theory.proofs.Members.{All-from_contains, Contains-map}
 use Rattle.spots.specs.Forest.{moment_at}
 use Rattle.occ_tree.specs.Places.{forest}
-use Rattle.supports.proofs.Rules.{rule_there}
+use Rattle.spots.proofs.Rules.{rule_there}
 use Rattle.justify.specs.Lines.{IsInOrder, AreOrders, AreLinesOf}
 use Rattle.justify.proofs.Origins.{rule_at}
 use Rattle.justify.proofs.Supported.{supports_in_order}

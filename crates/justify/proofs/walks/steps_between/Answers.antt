@@ -1,6 +1,6 @@
 use Rattle.std.proofs.Common.{sym, subst}
 use Rattle.dist_net.specs.Net.{IsInUse}
-use Rattle.list_net.specs.Represents.{IsNumberOf}
+use Rattle.net_theory.specs.Represents.{IsNumberOf}
 use Rattle.spots.specs.Spots.{spot_moment}
 use Rattle.occ_tree.specs.Places.{forest}
 use Rattle.spots.proofs.InUse.{base_in_use}

@@ -1,7 +1,7 @@
 use Rattle.std.proofs.Common.{◌≡◌, ◌≤◌, ◌+◌, ◌-◌, ℕ, get_or, arith, ap, sym, subst}
 use Rattle.dist_net.specs.Net.{Net}
 use Rattle.list_net.specs.Cutting.{IsNumberListed}
-use Rattle.list_net.specs.Represents.{Names}
+use Rattle.net_theory.specs.Represents.{Names}
 use Rattle.list_net.proofs.Dropping.{IsArranging, IsArranging-moved}
 use Rattle.list_net.proofs.cutting.put_leading_last.Goals as goal
 

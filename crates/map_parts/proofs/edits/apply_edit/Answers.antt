@@ -6,7 +6,7 @@ use Rattle.tmm_model.specs.Verdicts.{list_cause}
 use Rattle.tmm_model.specs.Standing.{Standing, IsConsistent}
 use Rattle.list_theory.proofs.Erased.{none_gone}
 use Rattle.list_theory.proofs.Opening.{opened_at}
-use Rattle.list_net.specs.Fits.{IsNetOf}
+use Rattle.net_theory.specs.Fits.{IsNetOf}
 use Rattle.premise_list.specs.States.{States}
 use Rattle.revisions.specs.Standing.{IsLeftOut}
 use Rattle.map_parts.proofs.edits.apply_edit.Goals as goal

@@ -19,11 +19,11 @@ use Rattle.occ_tree.proofs.KeptDates.{effects_keep_dates}
 use Rattle.occ_tree.proofs.Members.{growing_enters}
 use Rattle.spots.specs.declared.link.Link.{Link}
 use Rattle.spots.proofs.Nodes.{node_at}
-use Rattle.supports.specs.Growing.{Adds, effect_shape}
+use Rattle.spots.specs.Growing.{Adds, effect_shape}
 use Rattle.projection.specs.Places.{name_at}
 use Rattle.projection.proofs.AtPlaces.{named_at, found_at}
 use Rattle.supports.proofs.Entering.{is_trigger, delay_is, effect_adds, rule_named}
-use Rattle.supports.proofs.Grown.{adds_seen}
+use Rattle.spots.proofs.Grown.{adds_seen}
 use Rattle.projection.proofs.growth.add_effect.Goals as goal
 
 ok_kept : {T E : Type 0} (P Q : T → Type 0) (r : Result T E) → ((x : T) → P x → Q x) → IfOk r P → IfOk r Q

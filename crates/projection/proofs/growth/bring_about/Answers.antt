@@ -12,7 +12,7 @@ use Rattle.projection.specs.Projecting.{IsGrowing, Settles, left}
 use Rattle.projection.specs.Queues.{Queues, weight_at, IsTooLarge}
 use Rattle.projection.proofs.Decided.{entry, may_enter, decided_fires, left_less, effect_too_large}
 use Rattle.projection.proofs.Ends.{ok_four, err_kept}
-use Rattle.supports.proofs.Grown.{adds_seen}
+use Rattle.spots.proofs.Grown.{adds_seen}
 use Rattle.projection.proofs.Settled.{larger}
 use Rattle.projection.proofs.Steps.{new_live}
 use Rattle.projection.proofs.growth.bring_about.Goals as goal

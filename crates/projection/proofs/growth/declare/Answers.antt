@@ -11,7 +11,7 @@ use Rattle.occ_tree.specs.Dated.{IsDatedBy}
 use Rattle.occ_tree.specs.Places.{forest}
 use Rattle.occ_tree.specs.Standing.{present}
 use Rattle.projection.proofs.Ends.{ok_four, err_kept}
-use Rattle.supports.proofs.Grown.{taken, parted, stands, no_root, root_seen, root_added, root_skipped}
+use Rattle.spots.proofs.Grown.{taken, parted, stands, no_root, root_seen, root_added, root_skipped}
 use Rattle.projection.proofs.Settled.{started_none, started_more, root_too_large, larger}
 use Rattle.projection.proofs.Steps.{new_live}
 use Rattle.projection.proofs.growth.declare.Goals as goal

@@ -3,7 +3,7 @@ use Rattle.std.proofs.lemmas.List.{take_all}
 use Rattle.std.proofs.lemmas.List.Sorted.{length_permutation}
 use Rattle.projection.specs.Projecting.{IsStarted, IsGrowing, IsGrowingWith}
 use Rattle.projection.proofs.Decided.{holds_at_end, size_at_end, made_at_end}
-use Rattle.supports.proofs.Grown.{seen_first, holds_first}
+use Rattle.spots.proofs.Grown.{seen_first, holds_first}
 use Rattle.projection.proofs.Settled.{started_first, growing_first}
 use Rattle.occ_tree.specs.Places.{forest}
 use Rattle.occ_tree.specs.Standing.{present}

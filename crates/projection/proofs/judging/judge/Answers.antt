@@ -5,7 +5,7 @@ use Rattle.tmm_model.specs.Sorts.{class_in}
 use Rattle.tmm_model.specs.Standing.{far_in}
 use Rattle.spots.specs.Forest.{moment_at}
 use Rattle.occ_tree.specs.Places.{forest}
-use Rattle.supports.proofs.Rules.{rule_there, facts_known, exceptions_known}
+use Rattle.spots.proofs.Rules.{rule_there, facts_known, exceptions_known}
 use Rattle.projection.specs.Decisions.{tried_at}
 use Rattle.projection.specs.Verdicts.{verdict_of}
 use Rattle.projection.proofs.Tried.{is_tried, is_beyond}

@@ -4,7 +4,7 @@ use Rattle.tmm_model.specs.Beliefs.{due}
 use Rattle.tmm_model.specs.Standing.{far_in}
 use Rattle.spots.specs.Forest.{moment_at}
 use Rattle.occ_tree.specs.Places.{forest}
-use Rattle.supports.proofs.Rules.{rule_there}
+use Rattle.spots.proofs.Rules.{rule_there}
 use Rattle.projection.proofs.Dates.{told_in_time, untold_late, early_seen, delay_seen, due_is}
 use Rattle.projection.proofs.rule.text_in_time.Goals as goal
 

@@ -3,9 +3,9 @@ use Rattle.std.proofs.lemmas.List.{get_or_default}
 use Rattle.std.specs.Prelude.{Some, None, slice_index_or}
 use Rattle.std.specs.Option.{is_some}
 use Rattle.tmm_model.specs.Tokens.{of_one_class}
-use Rattle.clip_search.specs.Entries.{no_row, row_at, node_at}
-use Rattle.clip_search.specs.Firsts.{IsFirstOf, IsClipper}
-use Rattle.clip_search.proofs.Entering.{node_live, node_read, spot_read}
+use Rattle.supports.specs.Entries.{no_row, row_at, node_at}
+use Rattle.supports.specs.Firsts.{IsFirstOf, IsClipper}
+use Rattle.supports.proofs.BranchesEntering.{node_live, node_read, spot_read}
 use Rattle.occ_tree.specs.Places.{forest}
 use Rattle.occ_tree.specs.Tokens.{numbers_in}
 use Rattle.spots.specs.Forest.{IsLive}

@@ -1,7 +1,7 @@
 use Rattle.std.proofs.Common.{◌≡◌, ℕ, ◌<◌, ◌≤◌, true, false}
 use Rattle.std.specs.Prelude.{Option, IfSome, length, slice_index_or}
 use Rattle.std.specs.List.{All}
-use Rattle.clip_search.specs.Entries.{AreBranches}
+use Rattle.supports.specs.Entries.{AreBranches}
 use Rattle.occ_tree.specs.Places.{forest}
 use Rattle.occ_tree.specs.Tokens.{numbers_in}
 use Rattle.spots.specs.Forest.{IsLive}

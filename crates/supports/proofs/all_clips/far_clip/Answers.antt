@@ -1,6 +1,6 @@
 use Rattle.std.proofs.Common.{sym, subst}
 use Rattle.std.specs.Prelude.{IfSome}
-use Rattle.clip_search.specs.Entries.{AreBranches}
+use Rattle.supports.specs.Entries.{AreBranches}
 use Rattle.occ_tree.specs.Places.{forest}
 use Rattle.supports.proofs.all_clips.far_clip.Goals as goal
 

@@ -1,5 +1,5 @@
 use Rattle.std.proofs.Common.{◌≡◌, ℕ, ◌-◌, ◌<◌, ◌≤◌, length}
-use Rattle.clip_search.specs.Entries.{fact_at}
+use Rattle.supports.specs.Entries.{fact_at}
 use Rattle.supports.proofs.near.behind_own.Given as goal
 
 abbrev pub invariant-loop-end : goal.invariant-loop-end

@@ -10,9 +10,9 @@ use Rattle.occ_tree.specs.Places.{forest}
 use Rattle.occ_tree.specs.Standing.{present}
 use Rattle.occ_tree.proofs.KeptDates.{roots_keep_dates}
 use Rattle.occ_tree.proofs.Members.{growing_enters}
-use Rattle.supports.specs.Growing.{AddsRoot}
-use Rattle.supports.proofs.Facts.{fact_known, premise_formed}
-use Rattle.supports.proofs.Grown.{number_there, event_adds, token_adds, span_adds}
+use Rattle.spots.specs.Growing.{AddsRoot}
+use Rattle.premise_list.proofs.Facts.{fact_known, premise_formed}
+use Rattle.spots.proofs.Grown.{number_there, event_adds, token_adds, span_adds}
 use Rattle.supports.proofs.root.add_root.Goals as goal
 
 pub number_of-begin-requires : goal.number_of-begin-requires

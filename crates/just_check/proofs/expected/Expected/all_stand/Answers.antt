@@ -3,7 +3,7 @@ use Rattle.std.specs.Map.Iter.{deref_pair}
 use Rattle.std.specs.Option.{option_map}
 use Rattle.std.specs.Prelude.{slice_get}
 use Rattle.std.proofs.lemmas.List.{take_all}
-use Rattle.supports.proofs.Grown.{not_none}
+use Rattle.spots.proofs.Grown.{not_none}
 use Rattle.just_check.specs.Origins.{same_origin}
 use Rattle.just_check.proofs.Entries.{AllStand, none_awaited, more_stand}
 use Rattle.just_check.proofs.Origins.{none_from}

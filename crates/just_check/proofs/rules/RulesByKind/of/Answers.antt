@@ -6,7 +6,7 @@ use Rattle.std.proofs.lemmas.List.{take_all}
 use Rattle.std.proofs.lemmas.List.Elements.{filter_map-append}
 use Rattle.tmm_model.specs.Beliefs.{on_kind}
 use Rattle.name_lists.specs.Lists.{list_of}
-use Rattle.supports.proofs.Grown.{taken, not_none}
+use Rattle.spots.proofs.Grown.{taken, not_none}
 use Rattle.just_check.proofs.rules.RulesByKind.of.Goals as goal
 use Rattle.just_check.proofs.rules.RulesByKind.of.Goals.{in-Some+in_ok-add, in_default}
 

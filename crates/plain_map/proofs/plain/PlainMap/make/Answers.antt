@@ -1,7 +1,7 @@
 use Rattle.std.proofs.Common.{◌≡◌, ◌∙◌, sym, subst}
 use Rattle.tmm_model.specs.Standing.{Standing}
 use Rattle.dist_net.specs.Net.{Net}
-use Rattle.list_net.specs.Fits.{IsNetOf}
+use Rattle.net_theory.specs.Fits.{IsNetOf}
 use Rattle.plain_map.specs.Beliefs.{AreBeliefs}
 use Rattle.list_net.proofs.Networks.{at_start}
 use Rattle.plain_map.proofs.plain.PlainMap.make.Goals as goal

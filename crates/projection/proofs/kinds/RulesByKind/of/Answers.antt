@@ -7,7 +7,7 @@ use Rattle.tmm_model.specs.Beliefs.{on_kind}
 use Rattle.name_lists.specs.Lists.{list_of}
 use Rattle.projection.specs.Places.{name_at, IsRuleAt}
 use Rattle.projection.proofs.AtPlaces.{next_named, next_places}
-use Rattle.supports.proofs.Grown.{taken, not_none}
+use Rattle.spots.proofs.Grown.{taken, not_none}
 use Rattle.projection.proofs.kinds.RulesByKind.of.Goals as goal
 use Rattle.projection.proofs.kinds.RulesByKind.of.Goals.{in-Some+in_ok-add, in_default}
 

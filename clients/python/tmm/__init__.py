@@ -1,0 +1,100 @@
+"""Drives `tmm`, a time map manager, as a child process.
+
+    import tmm
+
+    with tmm.TimeMap() as time_map:
+        time_map.point("a")
+        time_map.point("b")
+        time_map.dist("d", "a", "b", 3, 7)
+        print(time_map.bounds("a", "b"))    # Bounds(lower=3, upper=7)
+
+docs/SCRIPT.md says what lines and replies mean, docs/CLIENTS.md how a program drives `tmm`.
+"""
+
+from tmm.client import Mark, Supposition, TimeMap, Transcript, run_script
+from tmm.errors import (
+    NoProgram,
+    OutOfMemory,
+    ProgramEnded,
+    ProtocolError,
+    Refused,
+    RefusedForCycle,
+    TimedOut,
+    TmmError,
+    describe_status,
+)
+from tmm.program import find_program
+from tmm.replies import parse_replies
+from tmm.values import (
+    Answer,
+    Audit,
+    Blame,
+    BlameCause,
+    Bounds,
+    Broken,
+    Cause,
+    Changes,
+    Check,
+    Clip,
+    Dump,
+    EffectReason,
+    Listing,
+    NoMemory,
+    OrderReason,
+    PremiseReason,
+    Reason,
+    Refusal,
+    Reply,
+    Row,
+    Side,
+    Size,
+    Step,
+    Verdict,
+    Walk,
+    Why,
+)
+
+__all__ = [
+    "Answer",
+    "Audit",
+    "Blame",
+    "BlameCause",
+    "Bounds",
+    "Broken",
+    "Cause",
+    "Changes",
+    "Check",
+    "Clip",
+    "Dump",
+    "EffectReason",
+    "Listing",
+    "Mark",
+    "NoMemory",
+    "NoProgram",
+    "OrderReason",
+    "OutOfMemory",
+    "PremiseReason",
+    "ProgramEnded",
+    "ProtocolError",
+    "Reason",
+    "Refusal",
+    "Refused",
+    "RefusedForCycle",
+    "Reply",
+    "Row",
+    "Side",
+    "Size",
+    "Step",
+    "Supposition",
+    "TimeMap",
+    "TimedOut",
+    "TmmError",
+    "Transcript",
+    "Verdict",
+    "Walk",
+    "Why",
+    "describe_status",
+    "find_program",
+    "parse_replies",
+    "run_script",
+]

@@ -1,0 +1,570 @@
+"""The client: `TimeMap`, which gives line by line, and `run_script`, which gives a whole script at once."""
+
+import subprocess
+from dataclasses import dataclass
+from types import TracebackType
+from typing import Callable, Dict, Iterable, List, Optional, Sequence, Tuple, Type, TypeVar, Union
+
+from tmm import words
+from tmm.errors import ALL_ANSWERED, OutOfMemory, ProgramEnded, ProtocolError, TimedOut, TmmError, refused
+from tmm.program import find_program
+from tmm.replies import parse_replies
+from tmm.stream import Stream, shown
+from tmm.values import (
+    Answer,
+    Audit,
+    Bounds,
+    Broken,
+    Cause,
+    Changes,
+    Check,
+    Dump,
+    EffectReason,
+    Listing,
+    NoMemory,
+    OrderReason,
+    Reason,
+    Refusal,
+    Reply,
+    Row,
+    Size,
+    Verdict,
+    Walk,
+    Why,
+)
+
+# Given after a line or several. It changes nothing, is never refused, and its reply begins with a number
+# of its own: what comes before that is the whole reply.
+_FENCE = b"bounds start start\n"
+
+# A line that begins so has a reply of one line, whatever it is, and needs no fence.
+_OF_ONE_LINE = frozenset(["bounds", "size", "audit", "point", "kind", "class"])
+
+_PREMISES = frozenset(
+    ["point", "dist", "class", "token", "span", "kind", "event", "rule", "protect", "against"]
+)
+
+FIRST_HORIZON = 1000
+
+ReplyKind = TypeVar("ReplyKind", Changes, Bounds, Walk, Answer, Why, Check, Listing, Dump, Size, Audit)
+
+# Called after each line with it and its reply, None for a comment or a blank line.
+Log = Callable[[str, Optional[Reply]], None]
+
+
+def _encoded(line: str) -> bytes:
+    """The bytes of one line with its end, which may stand there already."""
+    line = line[:-1] if line.endswith("\n") else line
+    if "\n" in line:
+        raise ValueError(f"more than one line: {line!r}")
+    # Bytes of a file that are no text, as a comment may have, are given as they were read.
+    return line.encode("utf-8", "surrogateescape") + b"\n"
+
+
+def _first_word(line: str) -> str:
+    """The first word of a line, nothing where it has none."""
+    return next(iter(line.split(None, 1)), "")
+
+
+@dataclass(frozen=True)
+class Mark:
+    """What stands at a moment, for `TimeMap.back`: the premises in their order, the horizon, the version."""
+
+    premises: Tuple[str, ...]
+    horizon: int
+    version: int
+
+
+class Supposition:
+    """What `TimeMap.suppose` gives: a block whose edits are undone when it is left."""
+
+    def __init__(self, time_map: "TimeMap") -> None:
+        self._map = time_map
+        self._mark: Optional[Mark] = None
+
+    def keep(self) -> None:
+        """What the block has edited and will edit stays."""
+        self._mark = None
+
+    def __enter__(self) -> "Supposition":
+        self._mark = self._map.mark()
+        return self
+
+    def __exit__(
+        self,
+        kind: Optional[Type[BaseException]],
+        error: Optional[BaseException],
+        trace: Optional[TracebackType],
+    ) -> None:
+        # Of a map that is gone nothing can be undone, and the error that ended it is the one to tell.
+        if self._mark is not None and (error is None or self._map.is_usable):
+            self._map.back(self._mark)
+
+
+class TimeMap:
+    """A map in a `tmm` of its own, which runs until `close`. It serves one thread at a time.
+
+    Methods raise `Refused`, `RefusedForCycle` or `OutOfMemory`, after which the map is as before, and
+    `ProgramEnded`, `ProtocolError` or `TimedOut`, after which it is gone. Arguments that no line can have
+    are a `ValueError`, and then nothing is given.
+    """
+
+    def __init__(
+        self,
+        command: Optional[Sequence[str]] = None,
+        *,
+        timeout: Optional[float] = None,
+        log: Optional[Log] = None,
+    ) -> None:
+        """Starts the program: that of `find_program`, or the given command with its words.
+
+        `timeout` is the most seconds that it may be silent while a reply is due, None for any number;
+        after that `TimedOut` is raised. `log` is called after each line. Raises `NoProgram` and `OSError`.
+        """
+        if timeout is not None and not timeout > 0:
+            raise ValueError(f"a timeout is more than 0 seconds, and not {timeout}")
+        self._stream = Stream(list(command) if command else [find_program()], timeout)
+        self._log = log
+        self._lines_given = 0
+        # Why the map is of no use, where it is.
+        self._fault: Optional[str] = None
+        # The standing premises by their names, in the order in which they were given.
+        self._premises: Dict[str, str] = {}
+        self._horizon = FIRST_HORIZON
+        self._version = 1
+
+    def __enter__(self) -> "TimeMap":
+        return self
+
+    def __exit__(
+        self,
+        kind: Optional[Type[BaseException]],
+        error: Optional[BaseException],
+        trace: Optional[TracebackType],
+    ) -> None:
+        self.close()
+
+    @property
+    def process(self) -> "subprocess.Popen[bytes]":
+        """The program."""
+        return self._stream.process
+
+    @property
+    def is_usable(self) -> bool:
+        """Whether the map takes lines: it is not closed, and nothing went wrong with its program."""
+        return self._stream.is_open and self._fault is None
+
+    def close(self) -> int:
+        """Ends the script, waits for the program, and gives its exit status.
+
+        A program that does not end though its input did is ended after 10 seconds.
+        """
+        return self._stream.close()
+
+    # ---- lines and replies
+
+    def send(self, line: str) -> Optional[Reply]:
+        """Gives one line of a script, and takes its reply. A comment or a blank line has none.
+
+        A refusal is a reply here, and want of memory too: neither is raised.
+        """
+        return self._reply(line, _encoded(line), _first_word(line))
+
+    def send_all(self, lines: Iterable[str]) -> List[Optional[Reply]]:
+        """Gives lines of a script by one fence, and takes the reply to each, as `send` does."""
+        given = list(lines)
+        data = b"".join([_encoded(line) for line in given]) + _FENCE
+        self._want_usable()
+        first = self._lines_given + 1
+        fence = first + len(given)
+        try:
+            self._lines_given = fence
+            told = dict(parse_replies(shown(self._stream.lines(data, first, fence))))
+            replies = [told.get(number) for number in range(first, fence)]
+            for line, reply in zip(given, replies):
+                if isinstance(reply, Changes):
+                    self._note(line, reply)
+        except BaseException as error:
+            self._give_up(error)
+            raise
+        if self._log is not None:
+            for line, reply in zip(given, replies):
+                self._log(line, reply)
+        return replies
+
+    def _reply(self, line: str, data: bytes, word: str) -> Optional[Reply]:
+        self._want_usable()
+        number = self._lines_given + 1
+        try:
+            if word in _OF_ONE_LINE:
+                self._lines_given = number
+                received = self._stream.line(data, number)
+            elif word == "ask":
+                received = self._ask(data, number)
+            else:
+                self._lines_given = number + 1
+                received = self._stream.lines(data + _FENCE, number, number + 1)
+            reply = None
+            if received:
+                replies = list(parse_replies(shown(received)))
+                if len(replies) != 1 or replies[0][0] != number:
+                    raise ProtocolError(f"this is not the reply to line {number}:\n{shown(received)}")
+                reply = replies[0][1]
+                if isinstance(reply, Changes):
+                    self._note(line, reply)
+        except BaseException as error:
+            self._give_up(error)
+            raise
+        if self._log is not None:
+            self._log(line, reply)
+        return reply
+
+    def _ask(self, data: bytes, number: int) -> bytes:
+        """The reply to `ask`. Of these a `no` alone may have blames behind it, and wants a fence."""
+        self._lines_given = number
+        received = self._stream.line(data, number)
+        if not received.startswith(b"%d no\n" % number):
+            return received
+        self._lines_given = number + 1
+        return self._stream.lines(_FENCE, number, number + 1, received)
+
+    def _want_usable(self) -> None:
+        """Raises where the map takes no lines."""
+        if self._fault is not None:
+            raise ProtocolError(self._fault)
+        if not self._stream.is_open:
+            raise ProgramEnded(self.close())
+
+    def _give_up(self, error: BaseException) -> None:
+        """An exchange was not finished: whatever comes next would be taken for the reply to another line."""
+        if not isinstance(error, ProgramEnded):
+            self._fault = f"the map is of no use since an exchange was not finished: {error!r}"
+            self._stream.kill()
+
+    def _note(self, line: str, changes: Changes) -> None:
+        """Keeps what stands after an edit that was taken."""
+        first, *rest = line.split()
+        if first in _PREMISES:
+            self._premises[rest[0]] = " ".join([first, *rest])
+        elif first == "erase":
+            for name in changes.erased:
+                del self._premises[name]
+        elif first == "horizon":
+            self._horizon = int(rest[0])
+        else:
+            self._version = int(rest[0])
+
+    def _answer(self, kind: Type[ReplyKind], word: str, line: str) -> ReplyKind:
+        return _wanted(kind, line, self._reply(line, line.encode() + b"\n", word))
+
+    def _answers(self, kind: Type[ReplyKind], lines: List[str]) -> List[ReplyKind]:
+        return [_wanted(kind, line, reply) for line, reply in zip(lines, self.send_all(lines))]
+
+    # ---- premises
+
+    def point(self, name: str) -> Changes:
+        """Declares a point."""
+        return self._answer(Changes, "point", f"point {words.name(name)}")
+
+    def dist(
+        self, name: str, origin: str, target: str, lower: Optional[int] = None, upper: Optional[int] = None
+    ) -> Changes:
+        """`lower <= target - origin <= upper`; one of the two may be None, for no bound."""
+        return self._answer(
+            Changes,
+            "dist",
+            f"dist {words.name(name)} {words.point(origin)} {words.point(target)} {words.bounds(lower, upper)}",
+        )
+
+    def class_(self, name: str, *facts: str) -> Changes:
+        """Declares a class and its facts, each of which contradicts the others."""
+        return self._answer(Changes, "class", " ".join(["class", words.name(name), *words.facts(facts, words.MOST_FACTS, 1)]))
+
+    def token(self, name: str, fact: str) -> Changes:
+        """The fact begins to hold at the token, and persists."""
+        return self._answer(Changes, "token", f"token {words.name(name)} {words.name(fact)}")
+
+    def span(self, name: str, fact: str) -> Changes:
+        """The fact holds from NAME to NAME.end, at least 1 later."""
+        return self._answer(Changes, "span", f"span {words.name(name)} {words.name(fact)}")
+
+    def kind(self, name: str) -> Changes:
+        """Declares a kind of event."""
+        return self._answer(Changes, "kind", f"kind {words.name(name)}")
+
+    def event(self, name: str, kind: str) -> Changes:
+        """Declares an event of a kind."""
+        return self._answer(Changes, "event", f"event {words.name(name)} {words.name(kind)}")
+
+    def rule(
+        self,
+        name: str,
+        kind: str,
+        lower: int,
+        upper: Optional[int],
+        effect: str,
+        given: Union[str, Sequence[str]] = (),
+        unless: Union[str, Sequence[str]] = (),
+    ) -> Changes:
+        """An event of the kind makes the effect, a fact or a kind, `lower` to `upper` later.
+
+        Where facts are given, it does so only where each of them holds at the event; in version 2 it may
+        have exceptions, and then does so only where none of these holds there.
+        """
+        condition = words.clause("if", given, words.MOST_CONDITIONS)
+        exceptions = words.clause("unless", unless, words.MOST_EXCEPTIONS)
+        return self._answer(
+            Changes,
+            "rule",
+            f"rule {words.name(name)} {words.name(kind)} {words.delay(lower, upper)} {words.name(effect)}"
+            f"{condition}{exceptions}",
+        )
+
+    def protect(self, name: str, fact: str, begin: str, end: str) -> Changes:
+        """The fact is to hold throughout the interval."""
+        return self._answer(
+            Changes,
+            "protect",
+            f"protect {words.name(name)} {words.name(fact)} {words.point(begin)} {words.point(end)}",
+        )
+
+    def against(self, name: str, one: str, other: str) -> Changes:
+        """The two facts contradict each other, of whichever classes they are; in version 2 alone."""
+        if one == other:
+            raise ValueError(f"{one!r} does not contradict itself")
+        return self._answer(
+            Changes, "against", f"against {words.name(name)} {words.name(one)} {words.name(other)}"
+        )
+
+    # ---- the other edits
+
+    def upgrade(self) -> Changes:
+        """Opens version 2 of the script, from the empty map alone.
+
+        In it rules may have exceptions, and facts of two classes may contradict each other.
+        """
+        return self._answer(Changes, "tmm", "tmm 2")
+
+    def horizon(self, date: int) -> Changes:
+        """No effect is believed whose earliest date is past this one."""
+        return self._answer(Changes, "horizon", f"horizon {words.horizon(date)}")
+
+    def erase(self, name: str) -> Changes:
+        """Retracts a premise and all that mentions it."""
+        return self._answer(Changes, "erase", f"erase {words.name(name)}")
+
+    def change(self, name: str, lower: Optional[int] = None, upper: Optional[int] = None) -> Tuple[Changes, Changes]:
+        """Gives a standing constraint other bounds. It then stands last.
+
+        Gives what erasing it changed, and what giving it anew did. A refusal leaves all as it was.
+        """
+        word, _, *points = self._premises.get(name, "none -").split()
+        if word != "dist":
+            raise ValueError(f"no constraint {name!r} stands")
+        line = f"dist {name} {' '.join(points[:2])} {words.bounds(lower, upper)}"
+        with self.suppose() as supposed:
+            both = self.erase(name), self._answer(Changes, "dist", line)
+            supposed.keep()
+        return both
+
+    # ---- trying out
+
+    @property
+    def premises(self) -> Tuple[str, ...]:
+        """The standing premises as lines of a script, in their order: those of `dump`, without asking."""
+        return tuple(self._premises.values())
+
+    def mark(self) -> Mark:
+        """What stands now, to come `back` to."""
+        return Mark(self.premises, self._horizon, self._version)
+
+    def back(self, mark: Mark) -> None:
+        """Undoes what was edited since the mark: the same premises stand in the same order.
+
+        Raises `OutOfMemory`, after which it may be tried again, and `TmmError` for version 2 of the
+        script, which no line takes back.
+        """
+        replies = self.send_all(self._lines_back(mark))
+        if not all(isinstance(reply, Changes) for reply in replies):
+            # On the way some rule may have brought about too much. Up to the date 0 none brings about anything.
+            lines = ["horizon 0", *self._lines_back(mark), f"horizon {mark.horizon}"]
+            for line, reply in zip(lines, self.send_all(lines)):
+                _wanted(Changes, line, reply)
+        if self._version != mark.version:
+            raise TmmError("version 2 of the script stays: no line takes it back")
+
+    def suppose(self) -> Supposition:
+        """A block that tries out: `with time_map.suppose() as supposed:`.
+
+        Where it is left, however that is, its edits are undone, unless `supposed.keep()` was called.
+        """
+        return Supposition(self)
+
+    def _lines_back(self, mark: Mark) -> List[str]:
+        """The edits from what stands to what stood. What was given before the first difference stays."""
+        same = 0
+        for stands, stood in zip(self._premises.values(), mark.premises):
+            if stands != stood:
+                break
+            same += 1
+        # What mentions a premise was given after it, so from the last one on each is erased alone.
+        erased = [f"erase {name}" for name in reversed(list(self._premises)[same:])]
+        horizon = [f"horizon {mark.horizon}"] if mark.horizon != self._horizon else []
+        return [*erased, *mark.premises[same:], *horizon]
+
+    # ---- questions
+
+    def bounds(self, origin: str, target: str) -> Bounds:
+        """The tightest bounds on `target - origin`."""
+        return self._answer(Bounds, "bounds", _bounds_line(origin, target))
+
+    def path(self, origin: str, target: str) -> Walk:
+        """The upper bound on `target - origin`, and the steps of a walk that give it."""
+        return self._answer(Walk, "path", _path_line(origin, target))
+
+    def ask(self, fact: str, begin: str, end: str) -> Answer:
+        """Does the fact hold throughout the interval?"""
+        return self._answer(Answer, "ask", _ask_line(fact, begin, end))
+
+    def ask_all(self, questions: Iterable[Tuple[str, str, str]]) -> List[Answer]:
+        """`ask` for each fact and interval, by one fence. A refusal is raised when all are answered."""
+        return self._answers(Answer, [_ask_line(*question) for question in questions])
+
+    def bounds_all(self, pairs: Iterable[Tuple[str, str]]) -> List[Bounds]:
+        """`bounds` for each pair, by one fence. A refusal is raised when all are answered."""
+        return self._answers(Bounds, [_bounds_line(*pair) for pair in pairs])
+
+    def path_all(self, pairs: Iterable[Tuple[str, str]]) -> List[Walk]:
+        """`path` for each pair, by one fence. A refusal is raised when all are answered."""
+        return self._answers(Walk, [_path_line(*pair) for pair in pairs])
+
+    def dates(self, places: Optional[Iterable[str]] = None) -> Dict[str, Bounds]:
+        """The earliest and the latest date of each of these, or else of each declared point.
+
+        Declared points are events, tokens, spans and their ends too, in the order of their premises. A
+        latest date is None where there is no limit.
+        """
+        asked = self._points() if places is None else list(places)
+        return dict(zip(asked, self.bounds_all(("start", place) for place in asked)))
+
+    def _points(self) -> List[str]:
+        points = []
+        for premise in self._premises.values():
+            word, name, *_ = premise.split()
+            if word in ("point", "event", "token", "span"):
+                points.append(name)
+            if word == "span":
+                points.append(f"{name}.end")
+        return points
+
+    def why(self, occurrence: str, depth: Optional[int] = None) -> Tuple[Reason, ...]:
+        """What the occurrence rests on.
+
+        With a depth only so many steps are told: 1 for the reason of the occurrence itself with the orders
+        that it needs, 2 for those of what that cites too, and so on.
+        """
+        if depth is not None and words.number(depth) < 1:
+            raise ValueError(f"a depth is at least 1, and not {depth}")
+        reasons = self._answer(Why, "why", f"why {words.occurrence(occurrence)}").reasons
+        return reasons if depth is None else _down_to(reasons, occurrence, depth)
+
+    def check(self) -> Tuple[Broken, ...]:
+        """The broken protections."""
+        return self._answer(Check, "check", "check").broken
+
+    def list(self) -> Tuple[Row, ...]:
+        """All believed occurrences, by their earliest dates."""
+        return self._answer(Listing, "list", "list").rows
+
+    def dump(self) -> Dump:
+        """The horizon, and the standing premises as lines of a script."""
+        return self._answer(Dump, "dump", "dump")
+
+    def size(self) -> int:
+        """The size of the map."""
+        return self._answer(Size, "size", "size").number
+
+    def audit(self) -> None:
+        """Has what is believed found anew from the premises, and compared with what is kept."""
+        self._answer(Audit, "audit", "audit")
+
+
+def _bounds_line(origin: str, target: str) -> str:
+    return f"bounds {words.place(origin)} {words.place(target)}"
+
+
+def _path_line(origin: str, target: str) -> str:
+    return f"path {words.place(origin)} {words.place(target)}"
+
+
+def _ask_line(fact: str, begin: str, end: str) -> str:
+    return f"ask {words.name(fact)} {words.place(begin)} {words.place(end)}"
+
+
+def _wanted(kind: Type[ReplyKind], line: str, reply: Optional[Reply]) -> ReplyKind:
+    """The reply, where it is of this kind. Raises `Refused`, `OutOfMemory` and `ProtocolError`."""
+    if isinstance(reply, kind):
+        return reply
+    if isinstance(reply, Refusal):
+        raise refused(line, reply)
+    if isinstance(reply, NoMemory):
+        raise OutOfMemory(f"no memory for `{line}`")
+    raise ProtocolError(f"`{line}` is answered by {reply!r}")
+
+
+def _down_to(reasons: Tuple[Reason, ...], occurrence: str, depth: int) -> Tuple[Reason, ...]:
+    """The reasons that so many steps down from the occurrence lead to, in their order."""
+    cited = {occurrence}
+    for _ in range(depth - 1):
+        for reason in reasons:
+            if isinstance(reason, EffectReason) and reason.effect in cited:
+                cited = cited | {reason.event, *reason.supporters}
+    told: List[Reason] = []
+    orders: List[Reason] = []
+    for reason in reasons:
+        # The orders that an effect needs come directly before it.
+        if isinstance(reason, OrderReason):
+            orders.append(reason)
+            continue
+        if (reason.effect if isinstance(reason, EffectReason) else reason.premise) in cited:
+            told += [*orders, reason]
+        orders = []
+    return tuple(told)
+
+
+# ---- a whole script at once
+
+
+@dataclass(frozen=True)
+class Transcript:
+    """The replies to a script by the numbers of its lines, and the exit status of the program.
+
+    Comments and blank lines have no reply. A refusal is a reply, and want of memory too.
+    """
+
+    replies: Dict[int, Reply]
+    status: int
+
+
+def run_script(
+    lines: Iterable[str], command: Optional[Sequence[str]] = None, *, timeout: Optional[float] = None
+) -> Transcript:
+    """Gives all lines to a program of their own.
+
+    Raises `ProgramEnded` where some are not answered, and `TimedOut` where that takes more than `timeout`
+    seconds; `NoProgram` and `OSError` as `TimeMap` does.
+    """
+    script = b"".join(_encoded(line) for line in lines)
+    try:
+        done = subprocess.run(
+            list(command) if command else [find_program()],
+            input=script,
+            stdout=subprocess.PIPE,
+            timeout=timeout,
+        )
+    except subprocess.TimeoutExpired:
+        raise TimedOut(f"the script is not answered within {timeout} s") from None
+    output = shown(done.stdout)
+    if done.returncode not in ALL_ANSWERED:
+        raise ProgramEnded(done.returncode, output)
+    return Transcript(dict(parse_replies(output)), done.returncode)

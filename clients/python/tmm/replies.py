@@ -1,0 +1,250 @@
+"""From the text of replies to values."""
+
+from dataclasses import dataclass
+from typing import Callable, Dict, Iterator, List, Optional, Tuple, Union
+
+from tmm.errors import ProtocolError
+from tmm.values import (
+    Answer,
+    Audit,
+    Blame,
+    BlameCause,
+    Bounds,
+    Broken,
+    Cause,
+    Changes,
+    Check,
+    Clip,
+    Dump,
+    EffectReason,
+    Listing,
+    NoMemory,
+    OrderReason,
+    PremiseReason,
+    Reason,
+    Refusal,
+    Reply,
+    Row,
+    Side,
+    Size,
+    Step,
+    Verdict,
+    Walk,
+    Why,
+)
+
+
+@dataclass
+class _Detail:
+    """A line behind two blanks, and the lines behind four that belong to it, as words."""
+
+    words: List[str]
+    parts: List[List[str]]
+
+
+def parse_replies(text: str) -> Iterator[Tuple[int, Reply]]:
+    """The replies in a text, each with the number of its line. Raises `ProtocolError` for what is none."""
+    lines = text.split("\n")
+    if not lines[-1]:
+        lines.pop()
+    begin = 0
+    while begin < len(lines):
+        end = begin + 1
+        # Details are indented, so a line that is not begins the next reply.
+        while end < len(lines) and lines[end][:1] == " ":
+            end += 1
+        yield _parse_reply(lines[begin:end])
+        begin = end
+
+
+def _parse_reply(lines: List[str]) -> Tuple[int, Reply]:
+    try:
+        number, verdict, *words = lines[0].split()
+        details = _details(lines) if len(lines) > 1 else []
+        if details and verdict in _OF_ONE_LINE:
+            raise ValueError("details of a reply that has none")
+        return int(number), _READERS[verdict](words, details)
+    except (IndexError, KeyError, ValueError) as error:
+        raise ProtocolError("this is no reply of tmm:\n" + "\n".join(lines)) from error
+
+
+def _details(lines: List[str]) -> List[_Detail]:
+    """The details of a reply, whose first line is none."""
+    details: List[_Detail] = []
+    for line in lines[1:]:
+        if line.startswith("    "):
+            details[-1].parts.append(line.split())
+        else:
+            details.append(_Detail(line.split(), []))
+    return details
+
+
+def _words_of(details: List[_Detail]) -> List[List[str]]:
+    return [detail.words for detail in details]
+
+
+def _bound(word: str) -> Optional[int]:
+    return None if word == "*" else int(word)
+
+
+# looked up far faster than `Side(word)`
+_SIDES = {side.value: side for side in Side}
+
+
+def _steps(lines: List[List[str]]) -> Tuple[Step, ...]:
+    steps = []
+    for premise, side, origin, target, weight in lines:
+        steps.append(Step(premise, _SIDES[side], origin, target, int(weight)))
+    return tuple(steps)
+
+
+def _blames(lines: List[List[str]]) -> Tuple[Tuple[Blame, ...], int]:
+    blames = []
+    more = 0
+    for token, cause, *rest in lines:
+        # `and 3 more` is no blame. A token may be named `and`, but no cause is a number.
+        if token == "and" and cause.isdigit():
+            more = int(cause)
+        else:
+            blames.append(Blame(token, BlameCause(cause), rest[0] if rest else None))
+    return tuple(blames), more
+
+
+def _broken(words: List[str], parts: List[List[str]]) -> Broken:
+    _, protection, *rest = words
+    blames, more = _blames(parts)
+    return Broken(protection, rest == ["unordered"], blames, more)
+
+
+def _counted(word: str, number: int) -> None:
+    if int(word) != number:
+        raise ValueError("another number of details than is told")
+
+
+def _read_changes(words: List[str], details: List[_Detail]) -> Changes:
+    names: Dict[str, List[str]] = {"erased": [], "out": [], "in": [], "loose": [], "mended": []}
+    clips = []
+    broken = []
+    for detail in details:
+        if detail.words[0] == "clip":
+            _, token, _, by = detail.words
+            clips.append(Clip(token, by))
+        elif detail.words[0] == "broken":
+            broken.append(_broken(detail.words, detail.parts))
+        else:
+            word, name = detail.words
+            names[word].append(name)
+    return Changes(
+        erased=tuple(names["erased"]),
+        left=tuple(names["out"]),
+        entered=tuple(names["in"]),
+        loosened=tuple(names["loose"]),
+        clips=tuple(clips),
+        broken=tuple(broken),
+        mended=tuple(names["mended"]),
+    )
+
+
+def _read_bounds(words: List[str], details: List[_Detail]) -> Bounds:
+    lower, upper = words
+    return Bounds(_bound(lower), _bound(upper))
+
+
+def _read_walk(words: List[str], details: List[_Detail]) -> Walk:
+    (upper,) = words
+    return Walk(_bound(upper), _steps(_words_of(details)))
+
+
+def _read_yes(words: List[str], details: List[_Detail]) -> Answer:
+    (supporter,) = words
+    return Answer(Verdict.YES, supporter)
+
+
+def _read_no(words: List[str], details: List[_Detail]) -> Union[Answer, Refusal]:
+    # A `no` alone answers `ask`. One with a cause is a refusal.
+    if not words:
+        blames, more = _blames(_words_of(details))
+        return Answer(Verdict.NO, None, blames, more)
+    cause = Cause(" ".join(words) if words[0] == "limit" else words[0])
+    if cause is Cause.CYCLE:
+        return Refusal(cause, sum=int(words[1]), steps=_steps(_words_of(details)))
+    if cause in (Cause.TAKEN, Cause.UNKNOWN, Cause.SORT):
+        return Refusal(cause, words[1])
+    return Refusal(cause)
+
+
+def _read_why(words: List[str], details: List[_Detail]) -> Why:
+    reasons: List[Reason] = []
+    for detail in details:
+        if detail.words[0] == "premise":
+            _, premise = detail.words
+            reasons.append(PremiseReason(premise))
+        elif detail.words[0] == "order":
+            _, first, second, at_most = detail.words
+            reasons.append(OrderReason(first, second, int(at_most), _steps(detail.parts)))
+        else:
+            # `O by R on T`, then `with K1 .. Kn` and `unless g1 .. gm` where the rule has facts and
+            # exceptions. No occurrence has the name `unless`.
+            effect, _, rule, _, event, *rest = detail.words
+            end = rest.index("unless") if "unless" in rest else len(rest)
+            supporters, exceptions = rest[:end][1:], rest[end:][1:]
+            reasons.append(EffectReason(effect, rule, event, tuple(supporters), tuple(exceptions)))
+    return Why(tuple(reasons))
+
+
+def _read_check(words: List[str], details: List[_Detail]) -> Check:
+    _counted(words[0], len(details))
+    return Check(tuple(_broken(detail.words, detail.parts) for detail in details))
+
+
+def _read_listing(words: List[str], details: List[_Detail]) -> Listing:
+    _counted(words[0], len(details))
+    rows = []
+    for earliest, occurrence, what, *rest in _words_of(details):
+        rows.append(Row(int(earliest), occurrence, what, rest[1] if rest else None))
+    return Listing(tuple(rows))
+
+
+def _read_dump(words: List[str], details: List[_Detail]) -> Dump:
+    # The line that opens the version, where there is one, and the horizon come first, and are not counted.
+    version = 1
+    if details[0].words[0] == "tmm":
+        version = int(details[0].words[1])
+        details = details[1:]
+    _counted(words[0], len(details) - 1)
+    _, horizon = details[0].words
+    return Dump(int(horizon), tuple(" ".join(detail.words) for detail in details[1:]), version)
+
+
+def _read_size(words: List[str], details: List[_Detail]) -> Size:
+    (number,) = words
+    return Size(int(number))
+
+
+def _read_audit(words: List[str], details: List[_Detail]) -> Audit:
+    if words != ["yes"]:
+        raise ValueError(words)
+    return Audit()
+
+
+def _read_memory(words: List[str], details: List[_Detail]) -> NoMemory:
+    return NoMemory()
+
+
+_READERS: Dict[str, Callable[[List[str], List[_Detail]], Reply]] = {
+    "ok": _read_changes,
+    "bounds": _read_bounds,
+    "path": _read_walk,
+    "yes": _read_yes,
+    "no": _read_no,
+    "why": _read_why,
+    "check": _read_check,
+    "list": _read_listing,
+    "dump": _read_dump,
+    "size": _read_size,
+    "audit": _read_audit,
+    "memory": _read_memory,
+}
+
+# No details belong to these.
+_OF_ONE_LINE = frozenset(["bounds", "yes", "size", "audit", "memory"])

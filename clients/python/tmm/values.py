@@ -1,0 +1,246 @@
+"""What replies say, as values. docs/SCRIPT.md says what each of them means."""
+
+from dataclasses import dataclass
+from enum import Enum
+from typing import Optional, Tuple, Union
+
+
+class Side(Enum):
+    """What of its premise a step is."""
+
+    UPPER = "hi"
+    LOWER = "lo"
+    # no point is before `start`
+    BASE = "base"
+    # a span lasts at least 1
+    LENGTH = "length"
+
+
+@dataclass(frozen=True)
+class Step:
+    """By this side of this premise, `target` less `origin` is at most `weight`."""
+
+    premise: str
+    side: Side
+    origin: str
+    target: str
+    weight: int
+
+    def __str__(self) -> str:
+        return f"{self.premise} {self.side.value} {self.origin} {self.target} {self.weight}"
+
+
+class BlameCause(Enum):
+    """Why a token does not support a fact."""
+
+    # it does not surely begin in time
+    LATE = "late"
+    # another token clips it
+    CLIPPED = "clipped"
+    # it is a span that may end too early
+    ENDS = "ends"
+
+
+@dataclass(frozen=True)
+class Blame:
+    """A token that does not support a fact, and why; `by` is what clips it."""
+
+    token: str
+    cause: BlameCause
+    by: Optional[str] = None
+
+
+@dataclass(frozen=True)
+class Clip:
+    """A token, and the first that clips it."""
+
+    token: str
+    by: str
+
+
+@dataclass(frozen=True)
+class Broken:
+    """A broken protection: its interval may be out of order, or no token supports its fact.
+
+    So many blames as `more` says are not told.
+    """
+
+    protection: str
+    unordered: bool = False
+    blames: Tuple[Blame, ...] = ()
+    more: int = 0
+
+
+@dataclass(frozen=True)
+class Changes:
+    """What an edit changed."""
+
+    # premises that stand no longer
+    erased: Tuple[str, ...] = ()
+    # effects that are believed no longer, and those that are newly believed
+    left: Tuple[str, ...] = ()
+    entered: Tuple[str, ...] = ()
+    # tokens that are clipped no longer, and those that are newly clipped, or by another token
+    loosened: Tuple[str, ...] = ()
+    clips: Tuple[Clip, ...] = ()
+    # protections that are newly broken, and those that are broken no longer
+    broken: Tuple[Broken, ...] = ()
+    mended: Tuple[str, ...] = ()
+
+
+@dataclass(frozen=True)
+class Bounds:
+    """The least and the greatest distance of two points, None where there is no limit."""
+
+    lower: Optional[int]
+    upper: Optional[int]
+
+
+@dataclass(frozen=True)
+class Walk:
+    """The greatest distance of two points, None where there is no limit, and steps that give it."""
+
+    upper: Optional[int]
+    steps: Tuple[Step, ...] = ()
+
+
+class Verdict(Enum):
+    """Whether a fact holds throughout an interval."""
+
+    YES = "yes"
+    NO = "no"
+
+
+@dataclass(frozen=True)
+class Answer:
+    """Whether a fact holds: a yes has the token that supports it, a no has blames.
+
+    So many blames as `more` says are not told.
+    """
+
+    verdict: Verdict
+    supporter: Optional[str] = None
+    blames: Tuple[Blame, ...] = ()
+    more: int = 0
+
+
+@dataclass(frozen=True)
+class PremiseReason:
+    """The premise of this name declares it."""
+
+    premise: str
+
+
+@dataclass(frozen=True)
+class OrderReason:
+    """`first` is surely at or before `second`: `first` less `second` is at most `at_most`, by these steps."""
+
+    first: str
+    second: str
+    at_most: int
+    steps: Tuple[Step, ...]
+
+
+@dataclass(frozen=True)
+class EffectReason:
+    """The effect is what the rule makes of the event, where these tokens support the rule's facts.
+
+    None of the rule's exceptions, facts too, holds there.
+    """
+
+    effect: str
+    rule: str
+    event: str
+    supporters: Tuple[str, ...] = ()
+    exceptions: Tuple[str, ...] = ()
+
+
+Reason = Union[PremiseReason, OrderReason, EffectReason]
+
+
+@dataclass(frozen=True)
+class Why:
+    """What an occurrence rests on; each reason comes after those that it cites."""
+
+    reasons: Tuple[Reason, ...]
+
+
+@dataclass(frozen=True)
+class Check:
+    """The broken protections."""
+
+    broken: Tuple[Broken, ...] = ()
+
+
+@dataclass(frozen=True)
+class Row:
+    """A believed occurrence: its earliest date, its name, its kind or fact, and what clips it."""
+
+    earliest: int
+    occurrence: str
+    what: str
+    clipped_by: Optional[str] = None
+
+
+@dataclass(frozen=True)
+class Listing:
+    """All believed occurrences, by their earliest dates."""
+
+    rows: Tuple[Row, ...] = ()
+
+
+@dataclass(frozen=True)
+class Dump:
+    """The horizon, and the standing premises, each as the line that declares it; and the version."""
+
+    horizon: int
+    premises: Tuple[str, ...] = ()
+    version: int = 1
+
+
+@dataclass(frozen=True)
+class Size:
+    """The size of the map."""
+
+    number: int
+
+
+@dataclass(frozen=True)
+class Audit:
+    """What is kept was found anew, and is right: there is no other answer."""
+
+
+class Cause(Enum):
+    """Why a line is refused."""
+
+    LINE_TOO_LONG = "limit line"
+    FORM = "form"
+    TAKEN = "taken"
+    UNKNOWN = "unknown"
+    SORT = "sort"
+    TOO_MANY_PREMISES = "limit premises"
+    TOO_MANY_POINTS = "limit points"
+    CYCLE = "cycle"
+    MAP_TOO_LARGE = "limit size"
+    UNORDERED = "unordered"
+
+
+@dataclass(frozen=True)
+class Refusal:
+    """A line is refused, and nothing has changed.
+
+    `word` is the one that is taken, unknown or of the wrong sort. `sum` and `steps` are those of a cycle.
+    """
+
+    cause: Cause
+    word: Optional[str] = None
+    sum: Optional[int] = None
+    steps: Tuple[Step, ...] = ()
+
+
+@dataclass(frozen=True)
+class NoMemory:
+    """There was no memory for a line, and nothing has changed."""
+
+
+Reply = Union[Changes, Bounds, Walk, Answer, Why, Check, Listing, Dump, Size, Audit, Refusal, NoMemory]

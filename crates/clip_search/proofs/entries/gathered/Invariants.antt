@@ -1,6 +1,0 @@
-use Rattle.occ_tree.specs.Places.{forest}
-use Rattle.clip_search.proofs.Entering.{AreEntriesTo}
-use Rattle.clip_search.proofs.entries.gathered.Given as goal
-
-abbrev pub invariant-loop-place : goal.invariant-loop-place
-invariant-loop-place l = AreEntriesTo (forest l.tree) l.rows l.place l.entries.items

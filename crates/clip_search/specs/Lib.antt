@@ -1,3 +1,0 @@
-pub mod Under
-pub mod Entries
-pub mod Firsts

@@ -1,0 +1,5 @@
+pub mod Named
+pub mod Representing
+pub mod Extending
+pub mod Nets
+pub mod Numbers

@@ -1,0 +1,3 @@
+pub mod Represents
+pub mod KeptNumbers
+pub mod Fits
