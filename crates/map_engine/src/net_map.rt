@@ -70,34 +70,29 @@ impl NetMap {
         let net = DistNet::make(alloc)?;
         net.invariants();
         let nodes = BeliefNet::make(alloc);
-        first_map(alloc, standing, net, nodes)
+        Ok(first_map(alloc, standing, net, nodes))
     }
 }
 
 // The map of a list in which nothing is declared to occur, so that there is no node, and no
-// protection stands.
-fn first_map(
-    alloc: Global,
-    standing: Standing,
-    net: DistNet,
-    nodes: BeliefNet,
-) -> Result<NetMap, NoMemory>
+// protection stands. It asks for no memory, so that no way out has all these parts to drop.
+fn first_map(alloc: Global, standing: Standing, net: DistNet, nodes: BeliefNet) -> NetMap
     requires settled { NothingPending standing net }
     requires held { IsHeld standing.present net.present false }
     requires kept { IsKept standing.present net.present nodes }
     requires empty { (x : ℕ) → member (forest nodes.tree) x ≡ None }
-    ensures list { IfOk result (λ m. m.list ≡ standing.committed) }
-    ensures idle { IfOk result (λ m. m.pending ≡ None) }
+    ensures list { result.list ≡ standing.committed }
+    ensures idle { result.pending ≡ None }
 {
-    let view = first_view(alloc, &standing, nodes.tree())?;
-    Ok(NetMap {
+    let view = first_view(alloc);
+    NetMap {
         standing,
         net,
         nodes,
         view,
         guarded: false,
         next: Next::Nothing,
-    })
+    }
 }
 
 impl MapCore for NetMap {
