@@ -7,7 +7,7 @@ With the word `manual` it writes the tables of docs/SCRIPT.md into docs/tmm.1 in
 import re
 import sys
 from pathlib import Path
-from typing import Iterator, List, Tuple
+from typing import Dict, Iterator, List, Tuple
 
 ROOT = Path(__file__).resolve().parents[1]
 DOCUMENTS = [*sorted(ROOT.glob("*.md")), *sorted((ROOT / "docs").glob("*.md"))]
@@ -139,9 +139,25 @@ def wrong_quotes() -> Iterator[str]:
             yield f"{name}: the contract of run is another one"
     readme = text_of(ROOT / "README.md")
     for name in ("first.tmm", "first.out"):
-        shown = "".join(f"      {line}\n" for line in text_of(ROOT / "examples" / name).splitlines())
+        shown = "".join(f"    {line}\n" for line in text_of(ROOT / "examples" / name).splitlines())
         if shown not in readme:
             yield f"README.md: examples/{name} is not shown as it is"
+
+
+def wrong_excerpts() -> Iterator[str]:
+    """Blocks of the tutorial under the name of a file of examples/: their lines stand there, in the same order."""
+    left: Dict[str, Iterator[str]] = {}
+    tutorial = text_of(ROOT / "docs" / "TUTORIAL.md")
+    excerpts = re.findall(r"^```(\w+\.(?:tmm|out))\n(.*?)^```$", tutorial, re.DOTALL | re.MULTILINE)
+    for name, block in excerpts:
+        lines = left.setdefault(name, iter(text_of(ROOT / "examples" / name).splitlines()))
+        for line in block.splitlines():
+            # it takes all lines up to the one that it finds
+            if line not in lines:
+                yield f"TUTORIAL.md: `{line}` does not stand in examples/{name}, behind what was shown before"
+                break
+    if not excerpts:
+        yield "TUTORIAL.md: no example is shown"
 
 
 def main(words: List[str]) -> int:
@@ -155,6 +171,7 @@ def main(words: List[str]) -> int:
         *wrong_lemmas(),
         *wrong_crates(),
         *wrong_quotes(),
+        *wrong_excerpts(),
     ]
     for line in wrong:
         print(f"checks: {line}", file=sys.stderr)

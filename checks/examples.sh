@@ -21,12 +21,21 @@ while read -r script; do
 done < <(find examples -name '*.tmm' | sort)
 
 shown=$(mktemp -d) || exit 1
-for page in README.md docs/SCRIPT.md; do
+for page in README.md docs/SCRIPT.md docs/TUTORIAL.md; do
   awk -v dir="$shown" '
+    # of a session, what was typed stands behind a prompt
+    $0 == "```session" { typed = dir "/line-" NR ".tmm"; told = dir "/line-" NR ".out"; next }
+    typed && sub(/^tmm> /, "") { print > typed; next }
+    typed && $0 != "```" { print > told; next }
     $0 == "```script" { file = dir "/line-" NR ".tmm"; next }
     $0 == "```replies" { sub(/tmm$/, "out", last); file = last; next }
-    $0 == "```" { last = file; file = ""; next }
+    $0 == "```" { last = file; file = typed = ""; next }
     file { print > file }' "$page"
+  if ! ls "$shown"/*.tmm >/dev/null; then
+    echo "checks: $page: no script is shown" >&2
+    failed=1
+    continue
+  fi
   for script in "$shown"/*.tmm; do
     compare "$script" "${script%.tmm}.out" "$page, $(basename "$script" .tmm)"
   done

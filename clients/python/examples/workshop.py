@@ -9,8 +9,8 @@ allows. The program shows what stands against that, finds out what gives way, an
 import sys
 from pathlib import Path
 
-# The package is in the folder above.
-sys.path.insert(0, str(Path(__file__).resolve().parents[1]))
+# Where the package is not installed, it is in the folder above.
+sys.path.append(str(Path(__file__).resolve().parents[1]))
 
 import tmm  # noqa: E402
 

@@ -293,6 +293,8 @@ class ParseTest(unittest.TestCase):
             "1 dump 1\n  horizon 1000\n",
             "1 size\n",
             "1 audit no\n",
+            "1 path 11\n    d hi a b 7\n",
+            "1 why\n  order a b 0\n      d hi a b 7\n",
             "1 bounds 0 0\n  in e\n",
             "1 yes k\n  k late\n",
             "1 memory\n  k late\n",
@@ -786,9 +788,10 @@ class FindProgramTest(unittest.TestCase):
         program(root / "bin" / "tmm")
         self.assertEqual(self.found(root, str(root / "bin")), str(root / "bin" / "tmm"))
 
-    def test_then_the_script_of_a_checkout_that_is_built(self) -> None:
+    def test_then_what_is_built_in_the_checkout(self) -> None:
+        # and not the script beside it, which would build anew where a source has changed
         root = self.checkout(built=True)
-        self.assertEqual(self.found(root), str(root / "tmm"))
+        self.assertEqual(self.found(root), str(root / "crates" / "tmm_cli" / "out" / "tmm_cli"))
 
     def test_nothing_is_built(self) -> None:
         with self.assertRaisesRegex(tmm.NoProgram, r"\./prove"):

@@ -73,13 +73,27 @@ class NotTmmTest(Bounded):
 
     def test_a_number_that_is_not_due(self) -> None:
         for text in ("7 ok\\n", "1 ok\\n3 bounds 0 0\\n", "2 bounds 0 0\\n1 ok\\n", "2 bounds 0 0\\n  in e\\n"):
-            with tmm.TimeMap(python_program(f"next(lines); say('{text}'); next(lines); next(lines)")) as time_map:
+            with tmm.TimeMap(python_program(f"next(lines, None); say('{text}'); next(lines, None); next(lines, None)")) as time_map:
                 with self.subTest(text=text), self.assertRaises(tmm.ProtocolError):
                     time_map.list()
                 self.assert_gone(time_map)
 
+    def test_a_line_of_another_and_then_silence(self) -> None:
+        for text in ("hello\\n", "1 ok\\nhello\\n", "1 ok\\n1 ok\\n", "2 bounds 0 0\\n", "1 ok\\n  in e\\nhello\\n"):
+            with tmm.TimeMap(python_program(f"next(lines); say('{text}'); time.sleep(1000)")) as time_map:
+                with self.subTest(text=text), self.assertRaises(tmm.ProtocolError):
+                    time_map.erase("a")
+                self.assert_gone(time_map)
+
+    def test_a_reply_to_another_line_of_many(self) -> None:
+        for text in ("7 ok\\n3 bounds 0 0\\n", "2 ok\\n1 ok\\n3 bounds 0 0\\n", "hello\\n1 ok\\n2 ok\\n3 bounds 0 0\\n"):
+            with tmm.TimeMap(python_program(f"next(lines); say('{text}'); time.sleep(1000)")) as time_map:
+                with self.subTest(text=text), self.assertRaises(tmm.ProtocolError):
+                    time_map.send_all(["point a", "point b"])
+                self.assert_gone(time_map)
+
     def test_a_second_line_where_one_is_due(self) -> None:
-        program = python_program("next(lines); say('1 bounds 0 0\\n  in e\\n'); next(lines)")
+        program = python_program("next(lines, None); say('1 bounds 0 0\\n  in e\\n'); next(lines, None)")
         with tmm.TimeMap(program) as time_map:
             with self.assertRaises(tmm.ProtocolError):
                 time_map.bounds("start", "start")
@@ -105,7 +119,7 @@ class TimeoutTest(Bounded):
                     time_map.size()
 
     def test_one_that_stops_within_a_reply(self) -> None:
-        program = python_program("next(lines); say('1 list 2\\n  0 a b\\n'); time.sleep(1000)")
+        program = python_program("next(lines, None); say('1 list 2\\n  0 a b\\n'); time.sleep(1000)")
         with tmm.TimeMap(program, timeout=1.0) as time_map:
             with self.assertRaises(tmm.TimedOut):
                 time_map.list()
@@ -170,7 +184,7 @@ class InterruptTest(Bounded):
         self.assert_gone(time_map)
 
     def test_an_interrupt_while_a_reply_is_due(self) -> None:
-        for source in ("time.sleep(1000)", "next(lines); say('1 list 1\\n'); time.sleep(1000)"):
+        for source in ("time.sleep(1000)", "next(lines, None); say('1 list 1\\n'); time.sleep(1000)"):
             with tmm.TimeMap(python_program(source)) as time_map:
                 self.interrupted(time_map, time_map.list)
 
@@ -180,7 +194,7 @@ class InterruptTest(Bounded):
 
     def test_an_interrupt_anywhere_in_an_exchange(self) -> None:
         # also between the count of the lines and the write, and behind the read
-        for where in ("tmm.stream.os.write", "tmm.stream.os.read", "tmm.client.parse_replies"):
+        for where in ("tmm.stream.os.write", "tmm.stream.os.read", "tmm.client.parse_reply"):
             with tmm.TimeMap() as time_map:
                 time_map.point("a")
                 with mock.patch(where, side_effect=KeyboardInterrupt), self.assertRaises(KeyboardInterrupt):

@@ -187,9 +187,9 @@ class WritingTest(unittest.TestCase):
             self.assertIn("/nowhere", told.getvalue())
 
     def test_wrong_words(self) -> None:
-        for words in ([], ["a", "b"], ["a", "--line", "-1"], ["a", "--line", "x"]):
+        for words in ("", "a b", "a --line -1", "a --line x"):
             with contextlib.redirect_stderr(io.StringIO()), self.assertRaises(SystemExit) as ended:
-                network.main(words)
+                network.main(words.split())
             self.assertEqual(ended.exception.code, 2)
 
 

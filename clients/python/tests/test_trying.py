@@ -127,12 +127,12 @@ class TryingTest(unittest.TestCase):
                 time_map.upgrade()
 
     def test_random_histories_come_back(self) -> None:
-        for seed in range(12):
+        for seed in range(5):
             chance = random.Random(seed)
             with self.subTest(seed=seed), self.map.suppose():
                 before = self.state()
                 with self.map.suppose():
-                    for number in range(25):
+                    for number in range(20):
                         self.map.send(self.some_edit(chance, number))
                         self.assertEqual(self.map.premises, self.map.dump().premises)
                 self.assertEqual(self.state(), before)

@@ -3,12 +3,14 @@
 import subprocess
 from dataclasses import dataclass
 from types import TracebackType
-from typing import Callable, Dict, Iterable, List, Optional, Sequence, Tuple, Type, TypeVar, Union
+from typing import Callable, Dict, Iterable, List, Optional, Sequence, Set, Tuple, Type, TypeVar, Union
 
-from tmm import words
+from tmm import explain, words
 from tmm.errors import ALL_ANSWERED, OutOfMemory, ProgramEnded, ProtocolError, TimedOut, TmmError, refused
+from tmm.explain import Threats, WhyNot
+from tmm.handles import New
 from tmm.program import find_program
-from tmm.replies import parse_replies
+from tmm.replies import parse_replies, parse_reply
 from tmm.stream import Stream, shown
 from tmm.values import (
     Answer,
@@ -130,6 +132,9 @@ class TimeMap:
         self._fault: Optional[str] = None
         # The standing premises by their names, in the order in which they were given.
         self._premises: Dict[str, str] = {}
+        self._facts: Set[str] = set()
+        # The last number of each word that `new` made names of.
+        self.names_made_up: Dict[str, int] = {}
         self._horizon = FIRST_HORIZON
         self._version = 1
 
@@ -148,6 +153,15 @@ class TimeMap:
     def process(self) -> "subprocess.Popen[bytes]":
         """The program."""
         return self._stream.process
+
+    @property
+    def new(self) -> New:
+        """Declares as the methods below do, gives handles, and makes up names."""
+        return New(self)
+
+    def is_declared(self, name: str) -> bool:
+        """Whether a premise or a fact of this name stands, without asking. All names share one space."""
+        return name in self._premises or name in self._facts
 
     @property
     def is_usable(self) -> bool:
@@ -195,38 +209,24 @@ class TimeMap:
     def _reply(self, line: str, data: bytes, word: str) -> Optional[Reply]:
         self._want_usable()
         number = self._lines_given + 1
+        reply: Optional[Reply] = None
         try:
             if word in _OF_ONE_LINE:
                 self._lines_given = number
-                received = self._stream.line(data, number)
-            elif word == "ask":
-                received = self._ask(data, number)
+                reply = parse_reply(shown(self._stream.line(data, number)), number)
             else:
                 self._lines_given = number + 1
                 received = self._stream.lines(data + _FENCE, number, number + 1)
-            reply = None
-            if received:
-                replies = list(parse_replies(shown(received)))
-                if len(replies) != 1 or replies[0][0] != number:
-                    raise ProtocolError(f"this is not the reply to line {number}:\n{shown(received)}")
-                reply = replies[0][1]
-                if isinstance(reply, Changes):
-                    self._note(line, reply)
+                if received:
+                    reply = parse_reply(shown(received), number)
+            if isinstance(reply, Changes):
+                self._note(line, reply)
         except BaseException as error:
             self._give_up(error)
             raise
         if self._log is not None:
             self._log(line, reply)
         return reply
-
-    def _ask(self, data: bytes, number: int) -> bytes:
-        """The reply to `ask`. Of these a `no` alone may have blames behind it, and wants a fence."""
-        self._lines_given = number
-        received = self._stream.line(data, number)
-        if not received.startswith(b"%d no\n" % number):
-            return received
-        self._lines_given = number + 1
-        return self._stream.lines(_FENCE, number, number + 1, received)
 
     def _want_usable(self) -> None:
         """Raises where the map takes no lines."""
@@ -246,19 +246,35 @@ class TimeMap:
         first, *rest = line.split()
         if first in _PREMISES:
             self._premises[rest[0]] = " ".join([first, *rest])
+            if first == "class":
+                self._facts.update(rest[1:])
         elif first == "erase":
             for name in changes.erased:
-                del self._premises[name]
+                word, _, *others = self._premises.pop(name).split()
+                if word == "class":
+                    self._facts.difference_update(others)
         elif first == "horizon":
             self._horizon = int(rest[0])
         else:
             self._version = int(rest[0])
 
     def _answer(self, kind: Type[ReplyKind], word: str, line: str) -> ReplyKind:
-        return _wanted(kind, line, self._reply(line, line.encode() + b"\n", word))
+        return self._wanted(kind, line, self._reply(line, line.encode() + b"\n", word))
 
     def _answers(self, kind: Type[ReplyKind], lines: List[str]) -> List[ReplyKind]:
-        return [_wanted(kind, line, reply) for line, reply in zip(lines, self.send_all(lines))]
+        return [self._wanted(kind, line, reply) for line, reply in zip(lines, self.send_all(lines))]
+
+    def _wanted(self, kind: Type[ReplyKind], line: str, reply: Optional[Reply]) -> ReplyKind:
+        """The reply, where it is of this kind. Raises `Refused`, `OutOfMemory` and `ProtocolError`."""
+        if isinstance(reply, kind):
+            return reply
+        if isinstance(reply, Refusal):
+            raise refused(line, reply)
+        if isinstance(reply, NoMemory):
+            raise OutOfMemory(f"no memory for `{line}`")
+        error = ProtocolError(f"`{line}` is answered by {reply!r}")
+        self._give_up(error)
+        raise error
 
     # ---- premises
 
@@ -374,6 +390,11 @@ class TimeMap:
         """The standing premises as lines of a script, in their order: those of `dump`, without asking."""
         return tuple(self._premises.values())
 
+    @property
+    def horizon_date(self) -> int:
+        """The date up to which effects are believed, without asking."""
+        return self._horizon
+
     def mark(self) -> Mark:
         """What stands now, to come `back` to."""
         return Mark(self.premises, self._horizon, self._version)
@@ -389,7 +410,7 @@ class TimeMap:
             # On the way some rule may have brought about too much. Up to the date 0 none brings about anything.
             lines = ["horizon 0", *self._lines_back(mark), f"horizon {mark.horizon}"]
             for line, reply in zip(lines, self.send_all(lines)):
-                _wanted(Changes, line, reply)
+                self._wanted(Changes, line, reply)
         if self._version != mark.version:
             raise TmmError("version 2 of the script stays: no line takes it back")
 
@@ -468,6 +489,14 @@ class TimeMap:
         reasons = self._answer(Why, "why", f"why {words.occurrence(occurrence)}").reasons
         return reasons if depth is None else _down_to(reasons, occurrence, depth)
 
+    def why_not(self, occurrence: str) -> Optional[WhyNot]:
+        """What stands against the occurrence, followed back to a premise. None where it is believed."""
+        return explain.why_not(self, occurrence)
+
+    def threats(self) -> Threats:
+        """Pairs of contradicting tokens whose order is open, and effects past the horizon."""
+        return explain.threats(self)
+
     def check(self) -> Tuple[Broken, ...]:
         """The broken protections."""
         return self._answer(Check, "check", "check").broken
@@ -499,17 +528,6 @@ def _path_line(origin: str, target: str) -> str:
 
 def _ask_line(fact: str, begin: str, end: str) -> str:
     return f"ask {words.name(fact)} {words.place(begin)} {words.place(end)}"
-
-
-def _wanted(kind: Type[ReplyKind], line: str, reply: Optional[Reply]) -> ReplyKind:
-    """The reply, where it is of this kind. Raises `Refused`, `OutOfMemory` and `ProtocolError`."""
-    if isinstance(reply, kind):
-        return reply
-    if isinstance(reply, Refusal):
-        raise refused(line, reply)
-    if isinstance(reply, NoMemory):
-        raise OutOfMemory(f"no memory for `{line}`")
-    raise ProtocolError(f"`{line}` is answered by {reply!r}")
 
 
 def _down_to(reasons: Tuple[Reason, ...], occurrence: str, depth: int) -> Tuple[Reason, ...]:

@@ -92,7 +92,9 @@ def network_of(time_map: tmm.TimeMap, cycle: Sequence[tmm.Step] = ()) -> Network
         elif word == "dist":
             origin, target, lower, upper = rest
             edges.append(Edge(name, origin, target, bound_of(lower), bound_of(upper)))
-    nodes = [dated(time_map, name, sort) for name, sort in sorts.items()]
+    # no point is before `start`, so there is an earliest date
+    dates = time_map.dates(sorts)
+    nodes = [Node(name, sort, dates[name].lower or 0, dates[name].upper) for name, sort in sorts.items()]
     for step in cycle:
         mark_step(edges, step, sorts)
         for name in (step.origin, step.target):
@@ -105,13 +107,6 @@ def network_of(time_map: tmm.TimeMap, cycle: Sequence[tmm.Step] = ()) -> Network
 def bound_of(word: str) -> Optional[int]:
     """The bound that a word of a line says."""
     return None if word == "*" else int(word)
-
-
-def dated(time_map: tmm.TimeMap, name: str, sort: Sort) -> Node:
-    """A point with its dates."""
-    bounds = time_map.bounds(START, name)
-    # no point is before `start`, so there is an earliest date
-    return Node(name, sort, bounds.lower or 0, bounds.upper)
 
 
 def edge_of(step: tmm.Step) -> Edge:

@@ -11,9 +11,10 @@ CHECKOUT = Path(__file__).resolve().parents[3]
 
 
 def find_program() -> str:
-    """What the environment variable TMM names, else the `tmm` of PATH, else that of this checkout.
+    """What the environment variable TMM names, else the `tmm` of PATH, else what was built last in this checkout.
 
-    Nothing is built: where the checkout has no built program, that raises `NoProgram`.
+    Nothing is built from here, so it is the built program itself, and not the script `tmm` beside it, which
+    builds anew where a source has changed. Where nothing is built, that raises `NoProgram`.
     """
     named = os.environ.get("TMM")
     if named:
@@ -22,11 +23,12 @@ def find_program() -> str:
     if on_path:
         return on_path
     crate = CHECKOUT / "crates" / "tmm_cli"
-    if not ((CHECKOUT / "tmm").is_file() and crate.is_dir()):
-        raise NoProgram("there is no program `tmm` on PATH: let the environment variable TMM name one")
-    if not (crate / "out" / "tmm_cli").is_file():
+    built = crate / "out" / "tmm_cli"
+    if built.is_file():
+        return str(built)
+    if crate.is_dir():
         raise NoProgram(
             f"tmm is not built: run ./prove in {CHECKOUT}, which proves and builds it,"
             " or let the environment variable TMM name a program"
         )
-    return str(CHECKOUT / "tmm")
+    raise NoProgram("there is no program `tmm` on PATH: let the environment variable TMM name one")

@@ -1,6 +1,7 @@
 """From the text of replies to values."""
 
 from dataclasses import dataclass
+from functools import lru_cache
 from typing import Callable, Dict, Iterator, List, Optional, Tuple, Union
 
 from tmm.errors import ProtocolError
@@ -36,10 +37,10 @@ from tmm.values import (
 
 @dataclass
 class _Detail:
-    """A line behind two blanks, and the lines behind four that belong to it, as words."""
+    """The words of a line behind two blanks, and the lines behind four that belong to it."""
 
     words: List[str]
-    parts: List[List[str]]
+    parts: List[str]
 
 
 def parse_replies(text: str) -> Iterator[Tuple[int, Reply]]:
@@ -57,11 +58,21 @@ def parse_replies(text: str) -> Iterator[Tuple[int, Reply]]:
         begin = end
 
 
+def parse_reply(text: str, number: int) -> Reply:
+    """The one reply in a text, to the line of this number. Raises `ProtocolError` for anything else."""
+    # most have one line, and then nothing is to be parted
+    lines = [text] if text.find("\n") == len(text) - 1 else text.rstrip("\n").split("\n")
+    told, reply = _parse_reply(lines)
+    if told != number or (len(lines) > 1 and not all([line[:1] == " " for line in lines[1:]])):
+        raise ProtocolError(f"this is not the reply to line {number}:\n{text}")
+    return reply
+
+
 def _parse_reply(lines: List[str]) -> Tuple[int, Reply]:
     try:
         number, verdict, *words = lines[0].split()
-        details = _details(lines) if len(lines) > 1 else []
-        if details and verdict in _OF_ONE_LINE:
+        details = lines[1:]
+        if details and verdict in _WITHOUT_DETAILS:
             raise ValueError("details of a reply that has none")
         return int(number), _READERS[verdict](words, details)
     except (IndexError, KeyError, ValueError) as error:
@@ -69,18 +80,17 @@ def _parse_reply(lines: List[str]) -> Tuple[int, Reply]:
 
 
 def _details(lines: List[str]) -> List[_Detail]:
-    """The details of a reply, whose first line is none."""
     details: List[_Detail] = []
-    for line in lines[1:]:
-        if line.startswith("    "):
-            details[-1].parts.append(line.split())
+    for line in lines:
+        if line.startswith(_INNER):
+            details[-1].parts.append(line)
         else:
             details.append(_Detail(line.split(), []))
     return details
 
 
-def _words_of(details: List[_Detail]) -> List[List[str]]:
-    return [detail.words for detail in details]
+def _words_of(lines: List[str]) -> List[List[str]]:
+    return [detail.words for detail in _details(lines)]
 
 
 def _bound(word: str) -> Optional[int]:
@@ -90,12 +100,21 @@ def _bound(word: str) -> Optional[int]:
 # looked up far faster than `Side(word)`
 _SIDES = {side.value: side for side in Side}
 
+# how details begin, and what belongs to them
+_OUTER, _INNER = "  ", "    "
 
-def _steps(lines: List[List[str]]) -> Tuple[Step, ...]:
-    steps = []
-    for premise, side, origin, target, weight in lines:
-        steps.append(Step(premise, _SIDES[side], origin, target, int(weight)))
-    return tuple(steps)
+
+# The same steps are told again and again, and a step never changes.
+@lru_cache(1 << 14)
+def _step(line: str, indent: str) -> Step:
+    if not line.startswith(indent) or line[len(indent) :].startswith(" "):
+        raise ValueError("a step that stands elsewhere")
+    premise, side, origin, target, weight = line.split()
+    return Step(premise, _SIDES[side], origin, target, int(weight))
+
+
+def _steps(lines: List[str], indent: str) -> Tuple[Step, ...]:
+    return tuple([_step(line, indent) for line in lines])
 
 
 def _blames(lines: List[List[str]]) -> Tuple[Tuple[Blame, ...], int]:
@@ -110,9 +129,9 @@ def _blames(lines: List[List[str]]) -> Tuple[Tuple[Blame, ...], int]:
     return tuple(blames), more
 
 
-def _broken(words: List[str], parts: List[List[str]]) -> Broken:
-    _, protection, *rest = words
-    blames, more = _blames(parts)
+def _broken(detail: _Detail) -> Broken:
+    _, protection, *rest = detail.words
+    blames, more = _blames([part.split() for part in detail.parts])
     return Broken(protection, rest == ["unordered"], blames, more)
 
 
@@ -121,16 +140,22 @@ def _counted(word: str, number: int) -> None:
         raise ValueError("another number of details than is told")
 
 
-def _read_changes(words: List[str], details: List[_Detail]) -> Changes:
+# the reply to most edits
+_NO_CHANGES = Changes()
+
+
+def _read_changes(words: List[str], lines: List[str]) -> Changes:
+    if not lines:
+        return _NO_CHANGES
     names: Dict[str, List[str]] = {"erased": [], "out": [], "in": [], "loose": [], "mended": []}
     clips = []
     broken = []
-    for detail in details:
+    for detail in _details(lines):
         if detail.words[0] == "clip":
             _, token, _, by = detail.words
             clips.append(Clip(token, by))
         elif detail.words[0] == "broken":
-            broken.append(_broken(detail.words, detail.parts))
+            broken.append(_broken(detail))
         else:
             word, name = detail.words
             names[word].append(name)
@@ -145,43 +170,43 @@ def _read_changes(words: List[str], details: List[_Detail]) -> Changes:
     )
 
 
-def _read_bounds(words: List[str], details: List[_Detail]) -> Bounds:
+def _read_bounds(words: List[str], lines: List[str]) -> Bounds:
     lower, upper = words
     return Bounds(_bound(lower), _bound(upper))
 
 
-def _read_walk(words: List[str], details: List[_Detail]) -> Walk:
+def _read_walk(words: List[str], lines: List[str]) -> Walk:
     (upper,) = words
-    return Walk(_bound(upper), _steps(_words_of(details)))
+    return Walk(_bound(upper), _steps(lines, _OUTER))
 
 
-def _read_yes(words: List[str], details: List[_Detail]) -> Answer:
+def _read_yes(words: List[str], lines: List[str]) -> Answer:
     (supporter,) = words
     return Answer(Verdict.YES, supporter)
 
 
-def _read_no(words: List[str], details: List[_Detail]) -> Union[Answer, Refusal]:
+def _read_no(words: List[str], lines: List[str]) -> Union[Answer, Refusal]:
     # A `no` alone answers `ask`. One with a cause is a refusal.
     if not words:
-        blames, more = _blames(_words_of(details))
+        blames, more = _blames(_words_of(lines))
         return Answer(Verdict.NO, None, blames, more)
     cause = Cause(" ".join(words) if words[0] == "limit" else words[0])
     if cause is Cause.CYCLE:
-        return Refusal(cause, sum=int(words[1]), steps=_steps(_words_of(details)))
+        return Refusal(cause, sum=int(words[1]), steps=_steps(lines, _OUTER))
     if cause in (Cause.TAKEN, Cause.UNKNOWN, Cause.SORT):
         return Refusal(cause, words[1])
     return Refusal(cause)
 
 
-def _read_why(words: List[str], details: List[_Detail]) -> Why:
+def _read_why(words: List[str], lines: List[str]) -> Why:
     reasons: List[Reason] = []
-    for detail in details:
+    for detail in _details(lines):
         if detail.words[0] == "premise":
             _, premise = detail.words
             reasons.append(PremiseReason(premise))
         elif detail.words[0] == "order":
             _, first, second, at_most = detail.words
-            reasons.append(OrderReason(first, second, int(at_most), _steps(detail.parts)))
+            reasons.append(OrderReason(first, second, int(at_most), _steps(detail.parts, _INNER)))
         else:
             # `O by R on T`, then `with K1 .. Kn` and `unless g1 .. gm` where the rule has facts and
             # exceptions. No occurrence has the name `unless`.
@@ -192,22 +217,24 @@ def _read_why(words: List[str], details: List[_Detail]) -> Why:
     return Why(tuple(reasons))
 
 
-def _read_check(words: List[str], details: List[_Detail]) -> Check:
+def _read_check(words: List[str], lines: List[str]) -> Check:
+    details = _details(lines)
     _counted(words[0], len(details))
-    return Check(tuple(_broken(detail.words, detail.parts) for detail in details))
+    return Check(tuple(_broken(detail) for detail in details))
 
 
-def _read_listing(words: List[str], details: List[_Detail]) -> Listing:
-    _counted(words[0], len(details))
+def _read_listing(words: List[str], lines: List[str]) -> Listing:
+    _counted(words[0], len(lines))
     rows = []
-    for earliest, occurrence, what, *rest in _words_of(details):
+    for earliest, occurrence, what, *rest in _words_of(lines):
         rows.append(Row(int(earliest), occurrence, what, rest[1] if rest else None))
     return Listing(tuple(rows))
 
 
-def _read_dump(words: List[str], details: List[_Detail]) -> Dump:
+def _read_dump(words: List[str], lines: List[str]) -> Dump:
     # The line that opens the version, where there is one, and the horizon come first, and are not counted.
     version = 1
+    details = _details(lines)
     if details[0].words[0] == "tmm":
         version = int(details[0].words[1])
         details = details[1:]
@@ -216,22 +243,22 @@ def _read_dump(words: List[str], details: List[_Detail]) -> Dump:
     return Dump(int(horizon), tuple(" ".join(detail.words) for detail in details[1:]), version)
 
 
-def _read_size(words: List[str], details: List[_Detail]) -> Size:
+def _read_size(words: List[str], lines: List[str]) -> Size:
     (number,) = words
     return Size(int(number))
 
 
-def _read_audit(words: List[str], details: List[_Detail]) -> Audit:
+def _read_audit(words: List[str], lines: List[str]) -> Audit:
     if words != ["yes"]:
         raise ValueError(words)
     return Audit()
 
 
-def _read_memory(words: List[str], details: List[_Detail]) -> NoMemory:
+def _read_memory(words: List[str], lines: List[str]) -> NoMemory:
     return NoMemory()
 
 
-_READERS: Dict[str, Callable[[List[str], List[_Detail]], Reply]] = {
+_READERS: Dict[str, Callable[[List[str], List[str]], Reply]] = {
     "ok": _read_changes,
     "bounds": _read_bounds,
     "path": _read_walk,
@@ -247,4 +274,4 @@ _READERS: Dict[str, Callable[[List[str], List[_Detail]], Reply]] = {
 }
 
 # No details belong to these.
-_OF_ONE_LINE = frozenset(["bounds", "yes", "size", "audit", "memory"])
+_WITHOUT_DETAILS = frozenset(["bounds", "yes", "size", "audit", "memory"])

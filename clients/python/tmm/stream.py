@@ -58,11 +58,11 @@ class Stream:
         self.process.stdout.close()
 
     def line(self, given: bytes, number: int) -> bytes:
-        """Gives a line, and takes the first line of its reply, and what has come behind it."""
-        received = self._give(given)
+        """Gives a line, and takes the one line of its reply."""
         prefix = b"%d " % number
-        while not (received.startswith(prefix) and b"\n" in received):
-            if not prefix.startswith(received[: len(prefix)]):
+        received = self._give(given)
+        while not (received.startswith(prefix) and received.endswith(b"\n")):
+            if b"\n" in received or not prefix.startswith(received[: len(prefix)]):
                 raise self._wrong(f"this is not the reply to line {number}", received)
             data = self._read(SMALL)
             if not data:
@@ -70,12 +70,18 @@ class Stream:
             received += data
         return received
 
-    def lines(self, given: bytes, first: int, fence: int, received: bytes = b"") -> bytes:
-        """Gives lines from this number on, and takes what comes before the line with that of the fence.
-
-        `received` is what has come of that already.
-        """
-        rest = received + self._give(given)
+    def lines(self, given: bytes, first: int, fence: int) -> bytes:
+        """Gives lines from this number on, and takes what comes before the line with that of the fence."""
+        rest = self._give(given)
+        if not rest and fence == first + 1:
+            # The common case: one read gets a reply of one line, and a second one that of the fence.
+            rest = self._read(SMALL)
+            if rest.startswith(b"%d " % first):
+                if rest.find(b"\n") == len(rest) - 1:
+                    rest += self._read(SMALL)
+                at = rest.find(b"\n%d " % fence) + 1
+                if at and rest.find(b"\n", at) == len(rest) - 1:
+                    return rest[:at]
         # Each line is looked at once. `last` is the number of the reply that it belongs to.
         whole: List[bytes] = []
         last = first - 1

@@ -1,9 +1,8 @@
 """From arguments to the words of a line. What no line can have is a `ValueError` with the reason."""
 
 import re
-from functools import lru_cache
 from operator import index
-from typing import List, Optional, Sequence, Union
+from typing import Callable, List, Optional, Sequence, Set, Union
 
 GREATEST_NUMBER = 1_000_000_000
 LAST_HORIZON = 100_000
@@ -13,48 +12,41 @@ MOST_EXCEPTIONS = 2
 
 _NAME = r"[A-Za-z][A-Za-z0-9_-]{0,23}"
 
-
-def _looked_at(word: str, pattern: "re.Pattern[str]", what: str) -> str:
-    if not isinstance(word, str):
-        raise ValueError(f"{word!r} is no {what}, but a {type(word).__name__}")
-    if not pattern.fullmatch(word):
-        raise ValueError(
-            f"{word!r} is no {what}: a name has 1 to 24 letters, digits, `_` or `-`, of which a letter is the first"
-        )
-    return word
+# A client says the same words again and again, so those that were looked at are known; so many at a time.
+_KNOWN = 1 << 14
 
 
-_NAMES = re.compile(_NAME)
-_POINTS = re.compile(rf"{_NAME}(\.end)?")
-_OCCURRENCES = re.compile(rf"{_NAME}(/{_NAME})*")
-_PLACES = re.compile(rf"{_NAME}(\.end|(/{_NAME})*)")
+def _form(pattern: str, what: str) -> Callable[[str], str]:
+    """A function that gives a word back where it has this form, and else raises `ValueError`."""
+    compiled = re.compile(pattern)
+    known: Set[str] = set()
 
-# A client says the same words again and again, so what was looked at is kept.
-_KEPT = 1 << 14
+    def looked_at(word: str) -> str:
+        if isinstance(word, str) and word in known:
+            return word
+        if not isinstance(word, str):
+            raise ValueError(f"{word!r} is no {what}, but a {type(word).__name__}")
+        if not compiled.fullmatch(word):
+            raise ValueError(
+                f"{word!r} is no {what}: a name has 1 to 24 letters, digits, `_` or `-`, and begins with a letter"
+            )
+        if len(known) == _KNOWN:
+            known.clear()
+        # A handle is a text too, and would keep its map from being closed.
+        known.add(str(word))
+        return word
 
-
-@lru_cache(_KEPT)
-def name(word: str) -> str:
-    """A name, as a line declares it."""
-    return _looked_at(word, _NAMES, "name")
-
-
-@lru_cache(_KEPT)
-def point(word: str) -> str:
-    """`start`, a name, or the end of a span."""
-    return _looked_at(word, _POINTS, "point")
-
-
-@lru_cache(_KEPT)
-def occurrence(word: str) -> str:
-    """What is declared, or what rules make of an event."""
-    return _looked_at(word, _OCCURRENCES, "occurrence")
+    return looked_at
 
 
-@lru_cache(_KEPT)
-def place(word: str) -> str:
-    """A point or an occurrence."""
-    return _looked_at(word, _PLACES, "point or occurrence")
+# a name, as a line declares it
+name = _form(_NAME, "name")
+# `start`, a name, or the end of a span
+point = _form(rf"{_NAME}(\.end)?", "point")
+# what is declared, or what rules make of an event
+occurrence = _form(rf"{_NAME}(/{_NAME})*", "occurrence")
+# a point or an occurrence
+place = _form(rf"{_NAME}(\.end|(/{_NAME})*)", "point or occurrence")
 
 
 def number(value: int) -> int:

@@ -1,5 +1,5 @@
 -- Which tokens are of a list's class.
-use Rattle.std.proofs.Common.{◌≡◌, ℕ, ◌<◌, Bool, true, false, List, length, sym, subst, eq-eqb}
+use Rattle.std.proofs.Common.{◌≡◌, ℕ, ◌<◌, Bool, true, false, List, length, refl, sym, subst, eq-eqb}
 use Rattle.std.specs.Prelude.{slice_index_or, nat_eq}
 use Rattle.std.specs.List.{All, Contains}
 use Rattle.std.specs.Cmp.Lexicographic.{bytes_decides}

@@ -26,9 +26,9 @@ ghost use Rattle.supports.specs.Clips.{IsClipBy};
 ghost use Rattle.supports.specs.Near.{AreAlike};
 ghost use Rattle.supports.specs.Nodes.{IsOfNode};
 
+use crate::branches::Branches;
 use crate::near::{Near, Stretch, near_clip};
 use crate::{node_of, rivals};
-use crate::branches::Branches;
 use clipping::{Stretched, last_clipper, stretch_behind};
 use dist_net::DistNet;
 use name_lists::NameLists;

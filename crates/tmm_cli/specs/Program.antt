@@ -6,8 +6,10 @@ use Rattle.tmm_model.specs.Standing.{empty_list}
 use Rattle.tmm_model.specs.Transcript.{Step}
 use Rattle.tmm_drive.specs.declared.status.Status.{Status}
 use Rattle.tmm_drive.specs.declared.status.Status.TheVariants.{Words, WriteFault, NoMemory}
-use Rattle.tmm_cli.specs.Demo.{IsDemo, DemoEnds}
 use Rattle.tmm_drive.specs.Endings.{Ends}
+use Rattle.tmm_cli.specs.declared.command.Command.{Command}
+use Rattle.tmm_cli.specs.declared.command.Command.TheVariants.{Script, Demo, Usage}
+use Rattle.tmm_cli.specs.Demo.{IsDemo, DemoEnds}
 
 -- what is written for words that are none of the program's
 abbrev pub usage : List ℕ
@@ -31,9 +33,21 @@ abbrev pub SummaryEnds : ℕ → List ℕ → Status → Type 0
 SummaryEnds n output NoMemory = output ≡ []
 SummaryEnds n output status = DemoEnds empty_list n output status
 
--- **What the program may leave**: the bytes that it takes and writes, and its status. With words it
--- takes no byte.
-pub data ProgramEnds (words : List (String Global)) (at_end : Type 0) (taken output : List ℕ) (status : Status) : Type 0 where
-  a_script : words ≡ [] → ScriptEnds at_end taken output status → ProgramEnds words at_end taken output status
-  a_demo : (n : ℕ) → IsDemo words n → taken ≡ [] → SummaryEnds n output status → ProgramEnds words at_end taken output status
-  other_words : words ≢ [] → ((n : ℕ) → IsDemo words n → ⊥) → taken ≡ [] → UsageEnds output status → ProgramEnds words at_end taken output status
+-- the words ask for this command: where there are none, for a script, and where they are none of
+-- the program's, for how it is used
+abbrev pub IsFor : List (String Global) → Command → Type 0
+IsFor words Script = words ≡ []
+IsFor words (Demo n) = IsDemo words n
+IsFor words Usage = (words ≢ []) × ((n : ℕ) → IsDemo words n → ⊥)
+
+-- what a command may leave; it takes bytes for a script alone
+abbrev pub CommandEnds : Command → Type 0 → List ℕ → List ℕ → Status → Type 0
+CommandEnds Script at_end taken output status = ScriptEnds at_end taken output status
+CommandEnds (Demo n) at_end taken output status = (taken ≡ []) × SummaryEnds n output status
+CommandEnds Usage at_end taken output status = (taken ≡ []) × UsageEnds output status
+
+-- **What the program may leave**: the bytes that it takes and writes, and its status.
+pub record ProgramEnds (words : List (String Global)) (at_end : Type 0) (taken output : List ℕ) (status : Status) : Type 0 where
+  pub command : Command
+  pub asked : IsFor words command
+  pub ends : CommandEnds command at_end taken output status

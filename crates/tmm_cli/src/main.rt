@@ -5,10 +5,13 @@
 //! each other.
 #![tactic(auto)]
 
+mod command;
 mod demo;
+mod opening;
 mod run;
 #[cfg(test)]
 mod tests;
+mod usage;
 
 use crate::run::run;
 use std::env;

@@ -1,10 +1,13 @@
 // The top call.
-ghost use Rattle.std.specs.Prelude.{[], IfOk, ◌≡◌, ◌≢◌, ◌<◌, ◌≤◌, List, ℕ, None};
+ghost use Rattle.std.specs.Prelude.{[], IfOk, ◌≡◌, ◌≢◌, ◌≤◌, List, ℕ};
 ghost use Rattle.std.specs.Io.KnownBytes.{Appends, Consumes, IsAtEnd};
 ghost use Rattle.tmm_io.specs.Causes.{Rose};
-ghost use Rattle.tmm_cli.specs.Program.{ProgramEnds, ScriptEnds, SummaryEnds, UsageEnds};
+ghost use Rattle.tmm_cli.specs.Program.{ProgramEnds, ScriptEnds, SummaryEnds};
 
-use crate::demo::{demo, demo_number};
+use crate::command::{Command, command_of};
+use crate::demo::demo;
+use crate::opening::Opens;
+use crate::usage::tell_usage;
 use map_engine::NetMap;
 use std::alloc::Global;
 use tmm_drive::{Status, drive};
@@ -31,57 +34,19 @@ pub fn run<S: Source, K: Sink>(
     ensures source_faults { result ≢ Status.ReadFault → S.faults source.new ≡ S.faults source.old }
     ensures sink_faults { result ≢ Status.WriteFault → K.faults sink.new ≡ K.faults sink.old }
 {
-    if let Some(n) = demo_number(words) {
-        return run_demo(alloc, n, sink);
-    }
-    if !words.is_empty() {
-        return tell_usage(sink);
-    }
-    run_script(alloc, source, sink)
-}
-
-// Writes how the program is used.
-fn tell_usage<K: Sink>(sink: &mut K) -> Status
-    ensures ends { (output : List ℕ)
-        × Appends (K.written sink.old) (K.written sink.new) output
-        × UsageEnds output result }
-    ensures write_fault { result ≡ Status.WriteFault → Rose (K.faults sink.old) (K.faults sink.new) }
-    ensures sink_faults { result ≢ Status.WriteFault → K.faults sink.new ≡ K.faults sink.old }
-{
-    match sink.write_all(b"usage: tmm [demo N], N from 1 to 1000\n") {
-        Ok(()) => Status::Words,
-        Err(_) => Status::WriteFault,
+    match command_of(words) {
+        Command::Script => run_script::<NetMap, S, K>(alloc, source, sink),
+        Command::Demo(n) => run_demo::<NetMap, K>(alloc, n, sink),
+        Command::Usage => tell_usage(sink),
     }
 }
 
 // Answers a script from the empty map on.
-fn run_script<S: Source, K: Sink>(alloc: Global, source: &mut S, sink: &mut K) -> Status
-    ensures ends { (taken output : List ℕ)
-        × Consumes (S.left source.old) (S.left source.new) taken
-        × Appends (K.written sink.old) (K.written sink.new) output
-        × ScriptEnds (IsAtEnd (S.left source.new)) taken output result }
-    ensures read_fault { result ≡ Status.ReadFault → Rose (S.faults source.old) (S.faults source.new) }
-    ensures write_fault { result ≡ Status.WriteFault → Rose (K.faults sink.old) (K.faults sink.new) }
-    ensures source_faults { result ≢ Status.ReadFault → S.faults source.new ≡ S.faults source.old }
-    ensures sink_faults { result ≢ Status.WriteFault → K.faults sink.new ≡ K.faults sink.old }
-{
-    // the room is taken before there is a map to let go
-    let Ok(mut buffer) = line_buffer(alloc) else {
-        return Status::NoMemory;
-    };
-    answer_lines(alloc, &mut buffer, source, sink)
-}
-
-// Answers the lines of a script from the empty map on, with room for the part of a line that is
-// kept.
-fn answer_lines<S: Source, K: Sink>(
+fn run_script<M: Opens + Drop, S: Source, K: Sink>(
     alloc: Global,
-    buffer: &mut Seq<u8>,
     source: &mut S,
     sink: &mut K,
 ) -> Status
-    requires empty { buffer.old.items ≡ [] }
-    requires room { 401 ≤ buffer.old.room }
     ensures ends { (taken output : List ℕ)
         × Consumes (S.left source.old) (S.left source.new) taken
         × Appends (K.written sink.old) (K.written sink.new) output
@@ -91,15 +56,18 @@ fn answer_lines<S: Source, K: Sink>(
     ensures source_faults { result ≢ Status.ReadFault → S.faults source.new ≡ S.faults source.old }
     ensures sink_faults { result ≢ Status.WriteFault → K.faults sink.new ≡ K.faults sink.old }
 {
-    let Ok(core) = NetMap::make(alloc) else {
+    let Ok(mut buffer) = line_buffer(alloc) else {
+        return Status::NoMemory;
+    };
+    let Ok(core) = M::open(alloc) else {
         return Status::NoMemory;
     };
     let mut session = Session::make(core);
-    drive(alloc, &mut session, buffer, source, sink)
+    drive(alloc, &mut session, &mut buffer, source, sink)
 }
 
 // Answers a generated script over the empty map.
-fn run_demo<K: Sink>(alloc: Global, n: u32, sink: &mut K) -> Status
+fn run_demo<M: Opens + Drop, K: Sink>(alloc: Global, n: u32, sink: &mut K) -> Status
     requires { n ≤ 1000 }
     ensures ends { (output : List ℕ)
         × Appends (K.written sink.old) (K.written sink.new) output
@@ -107,7 +75,7 @@ fn run_demo<K: Sink>(alloc: Global, n: u32, sink: &mut K) -> Status
     ensures write_fault { result ≡ Status.WriteFault → Rose (K.faults sink.old) (K.faults sink.new) }
     ensures sink_faults { result ≢ Status.WriteFault → K.faults sink.new ≡ K.faults sink.old }
 {
-    let Ok(core) = NetMap::make(alloc) else {
+    let Ok(core) = M::open(alloc) else {
         return Status::NoMemory;
     };
     let mut session = Session::make(core);

@@ -1,5 +1,4 @@
-use Rattle.std.proofs.Common.{ℕ, List, ◌∙◌, ap, subst}
-use Rattle.map_engine.specs.NetMaps.{MapState}
+use Rattle.std.proofs.Common.{ℕ, List, subst}
 use Rattle.tmm_model.specs.Standing.{Standing, empty_list}
 use Rattle.tmm_drive.specs.declared.status.Status.{Status}
 use Rattle.tmm_drive.specs.declared.status.Status.TheVariants.{Clean, SomeRefused, Words, ReadFault, WriteFault, NoMemory, TooLong, SomeMemory}
@@ -24,5 +23,5 @@ returns-clause-ends g c =
       ends.0,
       ends.1,
       summary_ends c.args.n ends.0 c.demo.result
-          (subst (λ (start : Standing). DemoEnds start c.args.n ends.0 c.demo.result) (ap (λ (m : MapState). m.list) c.make-session.ensures.core ∙ c.in-Ok.ensures.list) ends.2),
+          (subst (λ (start : Standing). DemoEnds start c.args.n ends.0 c.demo.result) (rw c.make-session.ensures.core c.in-Ok.ensures.list) ends.2),
     )
