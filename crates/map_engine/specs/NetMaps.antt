@@ -1,5 +1,4 @@
--- What the map keeps whose nodes and decisions are kept current, and what its callers see of it.
-pub use Rattle.map_parts.specs.MapStates.{MapState}
+-- What the map keeps whose nodes and decisions are kept current.
 use Rattle.std.specs.Prelude.{◌≡◌, ℕ, ◌≤◌, Bool, false, None, MatchOption}
 use Rattle.tmm_model.specs.declared.premise.Edit.{Edit}
 use Rattle.tmm_model.specs.Edits.{next_list}
