@@ -16,7 +16,7 @@ use Rattle.tmm_model.specs.Standing.{Standing, far_in}
 use Rattle.walk_theory.proofs.Points.{Decides-same_point}
 use Rattle.belief_theory.proofs.Sound.{shortest}
 use Rattle.dist_net.specs.Net.{Net}
-use Rattle.neg_cycle.specs.Steps.{point_at, steps_in_net, far_in_net}
+use Rattle.dist_net.specs.Steps.{point_at, steps_in_net, far_in_net}
 use Rattle.list_net.specs.Fits.{IsNetOf}
 use Rattle.list_net.specs.Represents.{IsNumberOf}
 use Rattle.list_net.proofs.Named.{name_at-is}

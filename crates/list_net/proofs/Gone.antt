@@ -21,7 +21,7 @@ use Rattle.walk_theory.proofs.Members.{All-from_contains, Contains-map}
 use Rattle.walk_theory.proofs.Points.{same_name-is, same_name-self}
 use Rattle.dist_net.specs.declared.Edge.{Edge}
 use Rattle.dist_net.specs.Net.{Net}
-use Rattle.neg_cycle.specs.Steps.{step_of, steps_in_net}
+use Rattle.dist_net.specs.Steps.{step_of, steps_in_net}
 use Rattle.list_net.specs.Cutting.{stands_in, IsListedIfFallen, AreListedIfFallen, IsPointListed, AreNumbersListed}
 use Rattle.list_net.specs.Fits.{Fits}
 use Rattle.list_net.proofs.Falling.{named_point}

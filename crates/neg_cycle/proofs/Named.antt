@@ -24,7 +24,7 @@ use Rattle.dist_net.specs.declared.Edge.{Edge}
 use Rattle.dist_net.specs.declared.Conflict.{Conflict}
 use Rattle.dist_net.specs.Net.{IsConflict, Net, arcs_of, same_number, IsInUse, AreInUse, AreDistinct}
 use Rattle.neg_cycle.specs.Ranks.{HasFar, IsLeastPath, IsNext, AppendsPath}
-use Rattle.neg_cycle.specs.Steps.{point_at, step_of, steps_in_net}
+use Rattle.dist_net.specs.Steps.{point_at, step_of, steps_in_net}
 use Rattle.neg_cycle.proofs.Followed.{IsFollowing, IsFollowing-start, IsFollowing-more, IsLeastPath-end}
 
 -- ---- names

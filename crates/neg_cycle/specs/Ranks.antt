@@ -10,7 +10,7 @@ use Rattle.dist_net.specs.declared.Edge.{Edge}
 use Rattle.dist_net.specs.Net.{Net, arcs_of, same_number}
 use Rattle.neg_cycle.specs.declared.ranks.Ways.{Ways}
 use Rattle.neg_cycle.specs.Ends.{IsAt}
-use Rattle.neg_cycle.specs.Steps.{step_of}
+use Rattle.dist_net.specs.Steps.{step_of}
 
 -- there is a walk from a to b
 abbrev pub HasFar : List Edge → ℕ → ℕ → Type 0

@@ -5,7 +5,7 @@ ghost use Rattle.dist_net.specs.Net.{IsInUse, AreInUse, IsConflict, arcs_of};
 ghost use Rattle.tmm_model.specs.Cycles.{sum_of, IsPath, IsCycleBy};
 ghost use Rattle.walk_theory.specs.LeastWalks.{IsFar};
 ghost use Rattle.neg_cycle.specs.Ranks.{HasFar, AreWays, AppendsPath};
-ghost use Rattle.neg_cycle.specs.Steps.{point_at, step_of, steps_in_net, far_in_net};
+ghost use Rattle.dist_net.specs.Steps.{point_at, step_of, steps_in_net, far_in_net};
 
 use crate::ranks::{Ways, find_ways};
 use dist_net::{Conflict, DistNet, Edge};
