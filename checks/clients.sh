@@ -5,6 +5,8 @@
 set -u
 cd "$(dirname "$0")/.." || exit 1
 export PYTHONDONTWRITEBYTECODE=1
+# what is installed knows no checkout
+export TMM=${TMM:-$PWD/tmm}
 failed=0
 
 if ! python3 -c 'import sys; sys.exit(sys.version_info < (3, 11))'; then
