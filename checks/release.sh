@@ -49,7 +49,7 @@ grep -q "\"tmm $version\"" "$work/tmm.1" || refuse "docs/tmm.1 has no head to pu
 
 # put_texts FOLDER: documents, examples and the note
 put_texts() {
-  git archive HEAD README.md CHANGELOG.md VERSION docs examples | tar -x -C "$1" && rm "$1"/docs/tmm.{1,bash} &&
+  git -c tar.umask=022 archive HEAD README.md CHANGELOG.md VERSION docs examples | tar -x -C "$1" && rm "$1"/docs/tmm.{1,bash} &&
     cp "$work/RELEASE" "$1"
 }
 
@@ -57,7 +57,7 @@ put_texts() {
 
 top=$work/$name
 mkdir -p "$top"
-put_texts "$top" && git archive HEAD clients | tar -x -C "$top" && install -m 755 "$packed" "$top/tmm" &&
+put_texts "$top" && git -c tar.umask=022 archive HEAD clients | tar -x -C "$top" && install -m 755 "$packed" "$top/tmm" &&
   cp "$work/tmm.1" docs/tmm.bash "$top/docs" || exit 1
 mkdir -p dist
 archive=dist/$name.tar.gz
