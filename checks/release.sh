@@ -49,7 +49,7 @@ grep -q "\"tmm $version\"" "$work/tmm.1" || refuse "docs/tmm.1 has no head to pu
 
 # put_texts FOLDER: documents, examples and the note
 put_texts() {
-  git archive HEAD README.md CHANGELOG.md VERSION docs examples | tar -x -C "$1" && rm "$1"/docs/tmm.{1,bash} &&
+  git -c tar.umask=022 archive HEAD README.md CHANGELOG.md VERSION docs examples | tar -x -C "$1" && rm "$1"/docs/tmm.{1,bash} &&
     cp "$work/RELEASE" "$1"
 }
 
@@ -57,7 +57,7 @@ put_texts() {
 
 top=$work/$name
 mkdir -p "$top"
-put_texts "$top" && git archive HEAD clients | tar -x -C "$top" && install -m 755 "$packed" "$top/tmm" &&
+put_texts "$top" && git -c tar.umask=022 archive HEAD clients | tar -x -C "$top" && install -m 755 "$packed" "$top/tmm" &&
   cp "$work/tmm.1" docs/tmm.bash "$top/docs" || exit 1
 mkdir -p dist
 archive=dist/$name.tar.gz
@@ -103,21 +103,25 @@ try_program() {
 }
 
 # try_client CLONE MODULES: the tests of the client in a folder laid out as a clone, over these modules
-try_client() {
-  local tests=$1/clients/python told
-  [ ! -d "$tests/tests" ] || tests=$tests/tests
-  if ! told=$(cd "$work" && env -u TMM PYTHONPATH="$2" PYTHONDONTWRITEBYTECODE=1 PATH="$1:$PATH" \
-    python3 -m unittest discover -s "$tests" 2>&1) || ! grep -q '^Ran [1-9]' <<<"$told"; then
-    echo "$told" >&2
-    fail "tests of the client failed over $2"
+try_client() (
+  cd "$work" || exit 1
+  unset TMM
+  export PYTHONPATH=$2 PYTHONDONTWRITEBYTECODE=1 PATH=$1:$PATH
+  if ! python3 -c 'import sys, tmm; sys.exit(not tmm.__file__.startswith(sys.argv[1]))' "$2"; then
+    echo "checks: the release: python3 has another client than that of $2" >&2
+    exit 1
   fi
-}
+  if ! told=$(python3 -m unittest discover -s "$1/clients/python/tests" 2>&1) || ! grep -q '^Ran [1-9]' <<<"$told"; then
+    echo "$told" >&2
+    exit 1
+  fi
+)
 
 unpacked=$work/unpacked
 mkdir "$unpacked"
 tar -xzf "$archive" -C "$unpacked" || exit 1
 try_program "$unpacked/$name/tmm" "$unpacked/$name/examples"
-try_client "$unpacked/$name" "$unpacked/$name/clients/python"
+try_client "$unpacked/$name" "$unpacked/$name/clients/python" || fail "tests of the client failed where it is unpacked"
 
 root=$work/root
 mkdir -p "$root"/var/lib/dpkg/{info,updates}
@@ -134,12 +138,11 @@ try_program "$root/usr/bin/tmm" "$installed/examples"
   fail "the manual page or the note is another"
 bash -c '. "$1"; COMP_WORDS=(tmm d); COMP_CWORD=1; _tmm; [ "${COMPREPLY[*]}" = demo ]' - \
   "$root/usr/share/bash-completion/completions/tmm" || fail "the completion does not know demo"
-# the tests are in no package: beside what is installed they stand as in a clone, without the modules
+# the tests are in no package: they stand beside what is installed, as in a clone
 beside=$work/beside
 mkdir "$beside"
-cp -r "$unpacked/$name/clients" "$installed/docs" "$installed/examples" "$beside" && rm -rf "$beside"/clients/python/tmm*
-cp "$root/usr/bin/tmm" "$beside"
-try_client "$beside" "$root/$library"
+cp -r "$unpacked/$name/clients" "$installed/docs" "$installed/examples" "$root/usr/bin/tmm" "$beside" || exit 1
+try_client "$beside" "$root/$library" || fail "tests of the client failed where it is installed"
 
 (cd dist && sha256sum "$name.tar.gz" "tmm_${version}_amd64.deb" >SHA256SUMS) || exit 1
 if [ "$failed" -ne 0 ]; then
