@@ -25,4 +25,5 @@ pub mod Kept
 pub mod Generator
 pub mod Transcript
 pub mod Cycles
+pub mod Modes
 pub mod Types

@@ -16,6 +16,7 @@ mod changes;
 mod limits;
 mod line;
 mod memory;
+mod mode;
 mod name;
 mod point;
 mod premise;
@@ -38,6 +39,7 @@ pub use limits::{
 };
 pub use line::{Line, Query};
 pub use memory::NoMemory;
+pub use mode::{Mode, ModeCause, ModeLine};
 pub use name::Name;
 pub use point::{Occ, PointName, QueryPoint};
 pub use premise::{Edit, Premise};

@@ -1,5 +1,5 @@
 // Want of memory.
-use std::alloc::AllocError;
+use std::alloc::{AllocError, AllocFailed};
 use thiserror::Error;
 
 /// The allocator gave no memory.
@@ -9,6 +9,12 @@ pub struct NoMemory;
 
 impl From<AllocError> for NoMemory {
     fn from(_: AllocError) -> NoMemory {
+        NoMemory
+    }
+}
+
+impl<T: Drop> From<AllocFailed<T>> for NoMemory {
+    fn from(_: AllocFailed<T>) -> NoMemory {
         NoMemory
     }
 }

@@ -1,4 +1,7 @@
 // Why a line is refused.
+ghost use Rattle.std.specs.Prelude.{◌≡◌};
+
+use crate::memory::NoMemory;
 use crate::point::QueryPoint;
 use crate::seq::Seq;
 use crate::walk::WalkStep;
@@ -35,4 +38,14 @@ pub enum Stop {
     Refused(Refusal),
     /// There was no memory.
     NoMemory,
+}
+
+impl From<NoMemory> for Stop {
+    ghost use Rattle.tmm_model.specs.declared.refusal.Stop.TheVariants.{NoMemory as Wanting};
+
+    ghost from_gives = { λ _ stop. stop ≡ Wanting };
+
+    fn from(_: NoMemory) -> Stop {
+        Stop::NoMemory
+    }
 }

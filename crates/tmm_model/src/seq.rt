@@ -1,5 +1,5 @@
 // A growable list, whose contracts see how many more items it takes without memory.
-ghost use Rattle.std.specs.Prelude.{◌≡◌, ◌+◌, ◌-◌, ◌<◌, ◌≤◌, [], ◌∷◌, ◌++◌, length, IfErr, OnOk, OnErr};
+ghost use Rattle.std.specs.Prelude.{◌≡◌, ◌+◌, ◌-◌, ◌<◌, ◌≤◌, [], ◌∷◌, ◌++◌, length, IfOk, IfErr, OnOk, OnErr};
 ghost use Rattle.tmm_model.specs.Points.{slashed};
 
 use crate::memory::NoMemory;
@@ -73,6 +73,15 @@ impl<T> Seq<T> {
 }
 
 impl<T: Copy> Seq<T> {
+    /// A list of the same items.
+    pub fn copy(&self, alloc: Global) -> Result<Seq<T>, NoMemory>
+        ensures { IfOk result (λ copy. copy.items ≡ self.now.items) }
+    {
+        let mut copy = Seq::make(alloc);
+        copy.extend(self.items())?;
+        Ok(copy)
+    }
+
     /// Appends the items. Without memory, which is asked for only where there is too little room,
     /// the list is as before.
     pub fn extend(&mut self, items: &[T]) -> Result<(), NoMemory>
@@ -100,6 +109,20 @@ impl Seq<u8> {
 }
 
 impl<T: Drop> Seq<T> {
+    /// Appends an item. Without memory, which is asked for only where no room is left, the list is
+    /// as before, and the item is dropped.
+    pub fn append(&mut self, item: T) -> Result<(), NoMemory>
+        ensures ok { OnOk result (self.new.items ≡ self.old.items ++ item ∷ []) }
+        ensures room { self.old.room ≤ self.new.room + 1 }
+        ensures err { OnErr result (self.new.items ≡ self.old.items) }
+        ensures full { OnErr result (self.old.room ≡ 0) }
+    {
+        match self.push(item) {
+            Ok(()) => Ok(()),
+            Err(_) => Err(NoMemory),
+        }
+    }
+
     /// Removes all items, and keeps the room. It takes no memory.
     pub fn clear(&mut self)
         ensures items { self.new.items ≡ [] }
