@@ -16,7 +16,7 @@ const ROOM: usize = 2 * POINTS;
 
 /// The number of each point under its name. A name that is of no point any more may stand there
 /// till there is no room, since to take one out gives no room back. So what is found is to be
-/// looked up. No call but `make` takes memory.
+/// looked up. No call but `make` and `of` takes memory.
 #[derive(Drop)]
 pub struct Index {
     numbers: IndexMap<PointName, u16>,
@@ -43,6 +43,19 @@ impl Index {
             numbers: IndexMap::with_capacity(alloc, ROOM)?,
         };
         index.note(PointName::Start, 0);
+        Ok(index)
+    }
+
+    /// The numbers of these names.
+    pub fn of(alloc: Global, names: &[Option<PointName>]) -> Result<Index, NoMemory>
+        requires places { length names.now ≡ 256 }
+        requires distinct { AreDistinct names.now }
+        ensures { IfOk result (AreIndexed names.now) }
+    {
+        let mut index = Index {
+            numbers: IndexMap::with_capacity(alloc, ROOM)?,
+        };
+        index.fill(names);
         Ok(index)
     }
 
