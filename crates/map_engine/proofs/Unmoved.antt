@@ -20,11 +20,11 @@ use Rattle.spots.specs.OfLists.{HasOccurrences}
 use Rattle.revisions.specs.Alike.{AreAlike, BelieveAlike}
 use Rattle.revisions.proofs.Alike.{alike_believe}
 use Rattle.protections.specs.Found.{AreFound}
-use Rattle.map_engine.specs.Beliefs.{IsLeftOut}
+use Rattle.revisions.specs.Standing.{IsLeftOut}
 use Rattle.map_engine.specs.Reads.{Read, IsReadOf}
 use Rattle.map_engine.specs.Nexts.{IsUnguarded, is_protection, adds_protection}
 use Rattle.map_engine.proofs.Reading.{rows_still}
-use Rattle.map_engine.proofs.Told.{told}
+use Rattle.map_parts.proofs.Told.{told}
 
 -- ---- what is read of the nodes
 

@@ -8,8 +8,8 @@ use Rattle.occ_tree.specs.Places.{forest}
 use Rattle.belief_list.specs.declared.list.BeliefRow.{BeliefRow}
 use Rattle.belief_list.specs.Rows.{IsLiveRow}
 use Rattle.just_check.specs.Believed.{believed_in_order}
-use Rattle.map_engine.proofs.Rows.{rows_in_order}
-use Rattle.map_engine.proofs.Told.{if_ok}
+use Rattle.map_parts.proofs.Rows.{rows_in_order}
+use Rattle.map_parts.proofs.Told.{if_ok}
 use Rattle.map_engine.proofs.kept_view.audited_view.Goals as goal
 
 pub occurrences-requires : goal.occurrences-requires

@@ -1,0 +1,2 @@
+pub mod MapStates
+pub mod Questions
