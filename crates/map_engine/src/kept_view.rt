@@ -10,9 +10,8 @@ ghost use Rattle.supports.specs.TimeMaps.{IsTimeMap};
 ghost use Rattle.map_engine.specs.Nexts.{IsUnguarded};
 ghost use Rattle.map_engine.specs.Reads.{IsReadOf, read_of};
 
-use belief_list::{Difference, KeptRow, list_rows, listed_by_number};
+use belief_list::{Difference, KeptRow, list_rows, listed_by_number, occurrences};
 use just_check::audit;
-use map_parts::occurrences;
 use protections::{BrokenProtections, Review};
 use std::alloc::Global;
 use supports::TimeMap;

@@ -19,8 +19,9 @@ use crate::next::{Known, Next, draw_next, keep, may_guard};
 use crate::still::{is_ruling, is_unread};
 use belief_net::BeliefNet;
 use dist_net::DistNet;
+use justify::{ask_between, bounds_between, path_between, tell_why};
+use list_net::{apply_edit, roll_back};
 use map_core::{Counter, Listener, MapCore, Pending};
-use map_parts::{apply_edit, ask_between, bounds_between, path_between, roll_back, tell_why};
 use premise_list::Standing;
 use std::alloc::Global;
 use std::marker::Model;
@@ -49,7 +50,7 @@ pub struct NetMap {
 }
 
 impl Model for NetMap {
-    ghost use Rattle.map_parts.specs.MapStates.{MapState};
+    ghost use Rattle.map_core.specs.MapStates.{MapState};
     ghost use Rattle.map_engine.specs.Nexts.{pending_list};
     ghost use Rattle.map_engine.specs.NetMaps.{IsNetMap};
 

@@ -10,7 +10,7 @@ ghost use Rattle.net_theory.specs.Fits.{IsNetOf};
 ghost use Rattle.occ_tree.specs.Places.{forest};
 ghost use Rattle.projection.specs.Queues.{IsTooLarge};
 ghost use Rattle.plain_map.specs.Beliefs.{AreBeliefs};
-ghost use Rattle.revisions.specs.Standing.{IsLeftOut};
+ghost use Rattle.list_theory.specs.LeftOut.{IsLeftOut};
 
 use crate::changes::with_reports;
 use crate::view::{View, view_of};

@@ -4,11 +4,10 @@ ghost use Rattle.tmm_model.specs.Answers.{reports, report_of};
 ghost use Rattle.tmm_model.specs.Changes.{changes, delta, delta_of};
 ghost use Rattle.tmm_model.specs.Maps.{TimeMap, built};
 ghost use Rattle.tmm_model.specs.Standing.{Standing as List};
-ghost use Rattle.revisions.specs.Standing.{IsLeftOut};
+ghost use Rattle.list_theory.specs.LeftOut.{IsLeftOut};
 ghost use Rattle.belief_list.specs.Compared.{AreChanges};
 
-use belief_list::BeliefChanges;
-use map_parts::with_protections;
+use belief_list::{BeliefChanges, with_protections};
 use premise_list::Standing;
 use protections::delta;
 use std::alloc::Global;

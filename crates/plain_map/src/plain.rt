@@ -5,8 +5,9 @@ ghost use Rattle.tmm_model.specs.Standing.{empty_list};
 use crate::beliefs::{Beliefs, project, project_and_compare};
 use crate::view::{audited, told_rows};
 use dist_net::DistNet;
+use justify::{ask_between, bounds_between, path_between, tell_why};
+use list_net::{apply_edit, roll_back};
 use map_core::{Counter, Listener, MapCore, Pending};
-use map_parts::{apply_edit, ask_between, bounds_between, path_between, roll_back, tell_why};
 use premise_list::Standing;
 use protections::copied;
 use std::alloc::Global;
@@ -30,7 +31,7 @@ pub struct PlainMap {
 
 impl Model for PlainMap {
     ghost use Rattle.std.specs.Option.{option_map};
-    ghost use Rattle.map_parts.specs.MapStates.{MapState};
+    ghost use Rattle.map_core.specs.MapStates.{MapState};
     ghost use Rattle.plain_map.specs.Plain.{IsPlain};
 
     ghost Value = { MapState };

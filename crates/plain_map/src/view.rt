@@ -9,9 +9,8 @@ ghost use Rattle.spots.specs.OfLists.{HasOccurrences};
 ghost use Rattle.supports.specs.TimeMaps.{IsTimeMap};
 ghost use Rattle.plain_map.specs.Views.{IsViewOf};
 
-use belief_list::{BeliefRow, list_rows, listed};
+use belief_list::{BeliefRow, list_rows, listed, occurrences};
 use just_check::audit;
-use map_parts::occurrences;
 use occ_tree::Tree;
 use protections::report;
 use std::alloc::Global;

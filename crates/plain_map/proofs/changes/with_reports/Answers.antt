@@ -1,7 +1,7 @@
 use Rattle.std.proofs.Common.{◌∙◌, ap, refl}
 use Rattle.tmm_model.specs.Changes.{delta_of}
 use Rattle.tmm_model.specs.Maps.{built}
-use Rattle.map_parts.proofs.Told.{told}
+use Rattle.belief_list.proofs.WholeChanges.{told}
 use Rattle.plain_map.proofs.changes.with_reports.Goals as goal
 
 pub returns : goal.returns

@@ -7,11 +7,11 @@ use Rattle.tmm_model.specs.Maps.{built}
 use Rattle.tmm_model.specs.Standing.{Standing}
 use Rattle.projection.specs.Queues.{IsTooLarge}
 use Rattle.premise_list.specs.States.{States}
-use Rattle.revisions.specs.Standing.{IsLeftOut}
-use Rattle.map_parts.specs.MapStates.{MapState}
+use Rattle.list_theory.specs.LeftOut.{IsLeftOut}
+use Rattle.map_core.specs.MapStates.{MapState}
 use Rattle.map_core.specs.Stops.{StopsEdit}
 use Rattle.plain_map.proofs.Nothing.{none_pending}
-use Rattle.map_parts.proofs.Told.{too_large, named_large}
+use Rattle.belief_list.proofs.WholeChanges.{too_large, named_large}
 use Rattle.plain_map.proofs.plain.PlainMapMapCore.apply.Goals as goal
 
 pub returns-in-Ok-clause-accepted : goal.returns-in-Ok-clause-accepted

@@ -3,7 +3,7 @@ use Rattle.tmm_model.specs.Maps.{built}
 use Rattle.tmm_model.specs.Standing.{Standing}
 use Rattle.spots.specs.OfLists.{HasOccurrences}
 use Rattle.occ_tree.specs.Places.{forest}
-use Rattle.map_parts.specs.MapStates.{MapState}
+use Rattle.map_core.specs.MapStates.{MapState}
 use Rattle.plain_map.proofs.Nothing.{none_pending}
 use Rattle.plain_map.proofs.plain.PlainMapMapCore.bounds.Goals as goal
 

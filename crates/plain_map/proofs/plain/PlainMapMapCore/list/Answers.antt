@@ -1,8 +1,8 @@
 use Rattle.std.proofs.Common.{◌≡◌, map, ap, ◌∙◌}
 use Rattle.tmm_model.specs.Answers.{rows, row_of}
 use Rattle.tmm_model.specs.Maps.{built}
-use Rattle.map_parts.specs.MapStates.{MapState}
-use Rattle.map_parts.proofs.Told.{if_ok}
+use Rattle.map_core.specs.MapStates.{MapState}
+use Rattle.belief_list.proofs.WholeChanges.{if_ok}
 use Rattle.plain_map.proofs.plain.PlainMapMapCore.list.Goals as goal
 
 pub returns : goal.returns

@@ -6,7 +6,7 @@ use Rattle.list_theory.proofs.Elements.{In-left}
 use Rattle.list_theory.proofs.Erased.{none_gone}
 use Rattle.premise_list.specs.States.{States}
 use Rattle.list_net.proofs.Networks.{net_of}
-use Rattle.map_parts.proofs.edits.add.Goals as goal
+use Rattle.list_net.proofs.edits.add.Goals as goal
 
 pub returns-clause-erased : goal.returns-clause-erased
 returns-clause-erased c =

@@ -14,9 +14,10 @@ ghost use Rattle.occ_tree.specs.Places.{forest};
 ghost use Rattle.supports.specs.TimeMaps.{IsTimeMap};
 ghost use Rattle.map_core.specs.Heard.{AreWhy, Hears, HearsNothing};
 ghost use Rattle.map_core.specs.Stops.{StopsQuery, NamesRefused};
-ghost use Rattle.map_parts.specs.Questions.{points_cause, StopsPoints, NamesPoints};
+ghost use Rattle.justify.specs.Questions.{points_cause, StopsPoints, NamesPoints};
 
-use justify::{steps_between, why};
+use crate::reasons::why;
+use crate::walks::steps_between;
 use map_core::Listener;
 use spots::Spot;
 use std::alloc::Global;

@@ -7,11 +7,12 @@ ghost use Rattle.tmm_model.specs.Verdicts.{list_cause};
 ghost use Rattle.net_theory.specs.Fits.{IsNetOf};
 ghost use Rattle.list_net.specs.Settled.{NothingPending};
 ghost use Rattle.net_theory.specs.KeptNumbers.{PointsKeepNumbers};
-ghost use Rattle.revisions.specs.Standing.{IsLeftOut};
+ghost use Rattle.list_theory.specs.LeftOut.{IsLeftOut};
 ghost use Rattle.map_core.specs.Stops.{StopsEdit, NamesEdited};
 
+use crate::addition::add_premise;
+use crate::erasure::erase_premise;
 use dist_net::DistNet;
-use list_net::{add_premise, erase_premise};
 use premise_list::Standing;
 use std::alloc::Global;
 use tmm_model::{Edit, Name, NoMemory, Premise, Seq, Stop};

@@ -1,7 +1,7 @@
 // What an edit changes, of beliefs and of protections.
 ghost use Rattle.std.specs.Prelude.{◌≡◌};
 
-use belief_list::BeliefChanges;
+use crate::changes::BeliefChanges;
 use tmm_model::{Changes, Name, Report, Seq};
 
 /// These changes together.

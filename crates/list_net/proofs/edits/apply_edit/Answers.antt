@@ -8,8 +8,8 @@ use Rattle.list_theory.proofs.Erased.{none_gone}
 use Rattle.list_theory.proofs.Opening.{opened_at}
 use Rattle.net_theory.specs.Fits.{IsNetOf}
 use Rattle.premise_list.specs.States.{States}
-use Rattle.revisions.specs.Standing.{IsLeftOut}
-use Rattle.map_parts.proofs.edits.apply_edit.Goals as goal
+use Rattle.list_theory.specs.LeftOut.{IsLeftOut}
+use Rattle.list_net.proofs.edits.apply_edit.Goals as goal
 
 pub returns-in-Horizon-clause-network : goal.returns-in-Horizon-clause-network
 returns-in-Horizon-clause-network c =

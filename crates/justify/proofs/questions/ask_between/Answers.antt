@@ -2,7 +2,7 @@ use Rattle.std.proofs.Common.{List, IsSome, refl, subst, append-nil, []}
 use Rattle.tmm_model.specs.declared.premise.Premise.{Premise}
 use Rattle.tmm_model.specs.Sorts.{class_in}
 use Rattle.tt_query.proofs.Facts.{fact_known}
-use Rattle.map_parts.proofs.questions.ask_between.Goals as goal
+use Rattle.justify.proofs.questions.ask_between.Goals as goal
 
 pub ask-requires-clause-fact : goal.ask-requires-clause-fact
 ask-requires-clause-fact c =

@@ -14,7 +14,7 @@ use Rattle.tmm_model.specs.Moments.{moment_of}
 use Rattle.tmm_model.specs.Standing.{Standing, IsConsistent}
 use Rattle.tmm_model.specs.Verdicts.{list_cause}
 use Rattle.projection.specs.Queues.{IsTooLarge}
-use Rattle.revisions.specs.Standing.{IsLeftOut}
+use Rattle.list_theory.specs.LeftOut.{IsLeftOut}
 use Rattle.map_core.specs.Stops.{StopsEdit, NamesEdited}
 
 -- the seven lists, one by one

@@ -5,7 +5,7 @@ use Rattle.list_theory.proofs.Erased.{gone_by_erasure}
 use Rattle.belief_theory.proofs.StayKept.{all_without}
 use Rattle.premise_list.specs.States.{States}
 use Rattle.list_net.proofs.Networks.{consistent, net_of}
-use Rattle.map_parts.proofs.edits.erase.Goals as goal
+use Rattle.list_net.proofs.edits.erase.Goals as goal
 
 pub returns-clause-network : goal.returns-clause-network
 returns-clause-network c =

@@ -6,7 +6,7 @@ ghost use Rattle.spots.specs.Forest.{moment_at};
 ghost use Rattle.occ_tree.specs.Places.{forest};
 ghost use Rattle.belief_list.specs.Rows.{IsLiveRow};
 
-use belief_list::BeliefRow;
+use crate::list::BeliefRow;
 use occ_tree::Tree;
 use std::alloc::Global;
 use tmm_model::{NoMemory, Occ, Seq};

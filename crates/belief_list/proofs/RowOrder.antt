@@ -7,7 +7,7 @@ use Rattle.tmm_model.specs.Standing.{Standing}
 use Rattle.spots.specs.Forest.{Forest, moment_at}
 use Rattle.belief_list.specs.declared.list.BeliefRow.{BeliefRow}
 use Rattle.belief_list.specs.Rows.{row_at}
-use Rattle.just_check.specs.Believed.{believed_in_order}
+use Rattle.belief_theory.specs.Believed.{believed_in_order}
 
 nodes_of_rows : (f : Forest) (rs : List BeliefRow) → map (λ r. r.occ) (map (row_at f) rs) ≡ map (λ r. moment_at f r.node) rs
 nodes_of_rows f [] = refl

@@ -1,2 +1,0 @@
-pub mod MapStates
-pub mod Questions
