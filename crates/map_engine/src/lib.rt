@@ -26,6 +26,6 @@ mod still;
 mod touching;
 mod view;
 
-pub use map_core::{MapCore, Pending};
+pub use map_core::{MapCore, Opens, Pending};
 pub use net_map::NetMap;
 pub use plain::PlainMap;

@@ -21,7 +21,7 @@ use crate::questions::{ask_between, bounds_between, path_between, tell_why};
 use crate::still::{is_ruling, is_unread};
 use belief_net::BeliefNet;
 use dist_net::DistNet;
-use map_core::{Counter, Listener, MapCore, Pending};
+use map_core::{Counter, Listener, MapCore, Opens, Pending};
 use premise_list::Standing;
 use std::alloc::Global;
 use std::marker::Model;
@@ -99,6 +99,12 @@ fn first_map(
         guarded: false,
         next: Next::Nothing,
     })
+}
+
+impl Opens for NetMap {
+    fn open(alloc: Global) -> Result<NetMap, NoMemory> {
+        NetMap::make(alloc)
+    }
 }
 
 impl MapCore for NetMap {
