@@ -19,5 +19,5 @@ mod rival_classes;
 mod still;
 mod touching;
 
-pub use map_core::{MapCore, Pending};
+pub use map_core::{MapCore, Opens, Pending};
 pub use net_map::NetMap;

@@ -21,7 +21,7 @@ use belief_net::BeliefNet;
 use dist_net::DistNet;
 use justify::{ask_between, bounds_between, path_between, tell_why};
 use list_net::{apply_edit, roll_back};
-use map_core::{Counter, Listener, MapCore, Pending};
+use map_core::{Counter, Listener, MapCore, Opens, Pending};
 use premise_list::Standing;
 use std::alloc::Global;
 use std::marker::Model;
@@ -93,6 +93,12 @@ fn first_map(alloc: Global, standing: Standing, net: DistNet, nodes: BeliefNet) 
         view,
         guarded: false,
         next: Next::Nothing,
+    }
+}
+
+impl Opens for NetMap {
+    fn open(alloc: Global) -> Result<NetMap, NoMemory> {
+        NetMap::make(alloc)
     }
 }
 
