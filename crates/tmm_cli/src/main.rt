@@ -7,7 +7,6 @@
 
 mod command;
 mod demo;
-mod opening;
 mod run;
 #[cfg(test)]
 mod tests;

@@ -6,9 +6,8 @@ ghost use Rattle.tmm_cli.specs.Program.{ProgramEnds, ScriptEnds, SummaryEnds};
 
 use crate::command::{Command, command_of};
 use crate::demo::demo;
-use crate::opening::Opens;
 use crate::usage::tell_usage;
-use map_engine::NetMap;
+use map_engine::{NetMap, Opens};
 use std::alloc::Global;
 use tmm_drive::{Status, drive};
 use tmm_io::{Sink, Source};

@@ -1,15 +1,10 @@
 //! What no clause says: the text of whole scripts, that calls succeed, and what faults leave.
-ghost use Rattle.std.specs.Prelude.{[], ◌≡◌, ◌≤◌};
-
-use crate::run::{line_buffer, run};
-use map_engine::PlainMap;
+use crate::run::run;
 use std::alloc::Global;
 use std::process::Abort;
 use std::test::Fail;
-use tmm_drive::{Status, drive};
+use tmm_drive::Status;
 use tmm_io::{MemSink, MemSource, RepeatSource, Source, SteadySource};
-use tmm_model::{NoMemory, Seq};
-use tmm_session::Session;
 
 /// Runs a script in pieces of this many bytes, and compares its replies and its status.
 fn expect(
@@ -360,58 +355,6 @@ const ROWS: &[(&[u8], &[u8], Status)] = &[
 fn rows_are_answered(rt: HostRuntime) -> Result<(), Fail> {
     for (script, replies, status) in ROWS {
         expect(&rt, rt.alloc(), script, 4096, replies, *status)?;
-    }
-    Ok(())
-}
-
-/// Edits that leave beliefs as they are, and among them some that do not: points and constraints
-/// that come and go beside a door that a push shuts, protections that they break and mend, roots
-/// that they move, a horizon, a token that is erased, and edits that are refused.
-const STILL: [&[u8]; 2] = [
-    b"class door open shut\nkind push\nrule shuts push 1 2 shut if open\ntoken held open\nevent e push\npoint x\ndist d held e 5 10\nprotect p open held e\npoint y\ndist m x y 3 4\nprotect q open held x\ndist n held x 2 3\ncheck\nbounds held y\nerase n\ncheck\ndist s start held 1 1\nlist\nhorizon 0\nlist\nhorizon 1000\nerase x\naudit\nwhy e/shuts\ndump\n",
-    b"class c f g\nkind k\ntoken t f\nspan s f\npoint a\ndist d t a 2 2\nprotect p f t a\ntoken u g\ndist v t u 1 1\ndist w a start * -9\nerase v\ndist w t s 5 5\ndist z t a 3 3\ndist o s.end a 0 0\ndist o a s.end 9 9\nerase o\nerase d\nerase d\nerase u\nerase p\nrule r k 1 1 g if f\nevent e k\nerase a\ncheck\nlist\nsize\naudit\n",
-];
-
-/// Runs a script over the plain map, which makes beliefs anew at each edit.
-fn run_plain(alloc: Global, script: &[u8], sink: &mut MemSink) -> Result<Status, Fail> {
-    let mut buffer = line_buffer(alloc)?;
-    let mut source = MemSource::make(alloc, script, 4096, &[])?;
-    let status = answer_plain(alloc, &mut buffer, &mut source, sink)?;
-    Ok(status)
-}
-
-/// Answers the lines of a script over the plain map.
-fn answer_plain(
-    alloc: Global,
-    buffer: &mut Seq<u8>,
-    source: &mut MemSource,
-    sink: &mut MemSink,
-) -> Result<Status, NoMemory>
-    requires empty { buffer.old.items ≡ [] }
-    requires room { 401 ≤ buffer.old.room }
-{
-    let mut session = Session::make(PlainMap::make(alloc)?);
-    Ok(drive(alloc, &mut session, buffer, source, sink))
-}
-
-/// The map of the program answers a script as the plain map does.
-fn expect_plain(rt: &impl Abort, alloc: Global, script: &[u8]) -> Result<(), Fail> {
-    let mut plain = MemSink::make(alloc, 1 << 12, &[])?;
-    let status = run_plain(alloc, script, &mut plain)?;
-    let mut sink = MemSink::make(alloc, 1 << 12, &[])?;
-    let mut source = MemSource::make(alloc, script, 4096, &[])?;
-    assert_eq!(rt; run(alloc, &[], &mut source, &mut sink), status);
-    assert_eq!(rt; sink.bytes(), plain.bytes());
-    Ok(())
-}
-
-#[test]
-fn both_maps_answer_alike(rt: HostRuntime) -> Result<(), Fail> {
-    for script in STILL {
-        expect_plain(&rt, rt.alloc(), script)?;
-    }
-    for (script, _, _) in ROWS {
-        expect_plain(&rt, rt.alloc(), script)?;
     }
     Ok(())
 }

@@ -62,20 +62,7 @@ impl<M: MapCore + Drop> Session<M> {
         ensures idle { M.pending self.new.core ≡ None }
     {
         self.lines += 1;
-        if bytes.len() > LONGEST_LINE {
-            return refuse_long(alloc, self.lines);
-        }
-        match first_word(bytes) {
-            None => Told::Silent,
-            Some((word, rest)) => answer_words(
-                alloc,
-                self.lines,
-                word,
-                rest,
-                &mut self.core,
-                &mut self.counter,
-            ),
-        }
+        answer_line(alloc, self.lines, bytes, &mut self.core, &mut self.counter)
     }
 }
 
@@ -94,6 +81,28 @@ impl<M: MapCore + Drop> Lines for Session<M> {
 
     fn line(&mut self, alloc: Global, bytes: &[u8]) -> Turn {
         self.tell(alloc, bytes).turn()
+    }
+}
+
+/// Answers the line of this number, given without its end, over a map in which nothing is pending,
+/// and tells of which kind the reply is. The counter counts the decisions that the map makes.
+pub fn answer_line<M: MapCore>(
+    alloc: Global,
+    line: u64,
+    bytes: &[u8],
+    core: &mut M,
+    counter: &mut Counter,
+) -> Told
+    requires { M.pending core.old ≡ None }
+    ensures tells { TellsLine (M.list core.old) line bytes.now result (M.list core.new) }
+    ensures idle { M.pending core.new ≡ None }
+{
+    if bytes.len() > LONGEST_LINE {
+        return refuse_long(alloc, line);
+    }
+    match first_word(bytes) {
+        None => Told::Silent,
+        Some((word, rest)) => answer_words(alloc, line, word, rest, core, counter),
     }
 }
 
