@@ -7,3 +7,4 @@ pub mod Stood
 pub mod Unbroken
 pub mod Reviews
 pub mod AfterReview
+pub mod Copying

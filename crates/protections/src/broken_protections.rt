@@ -32,6 +32,22 @@ impl BrokenProtections {
         }
     }
 
+    /// The same once more, with memory of its own.
+    pub fn copy(&self, alloc: Global) -> Result<BrokenProtections, NoMemory>
+        ensures { IfOk result (λ made. found_in made ≡ found_in self.now) }
+    {
+        let count = self.reports.len();
+        let mut made = BrokenProtections {
+            reports: IndexMap::with_capacity(alloc, count)?,
+        };
+        for i in (0..count).rev() {
+            if let Some((name, report)) = self.reports.get_index(i) {
+                made.put(*name, Some(copy(alloc, report)?));
+            }
+        }
+        Ok(made)
+    }
+
     /// Whether the protection of this name is broken.
     pub fn has(&self, name: Name) -> bool
         ensures { result ≡ is_some (found_in self.now name) }
