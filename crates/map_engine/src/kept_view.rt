@@ -28,6 +28,19 @@ pub(crate) struct KeptView {
     pub broken: BrokenProtections,
 }
 
+impl KeptView {
+    // The same once more, with memory of its own.
+    pub(crate) fn copy(&self, alloc: Global) -> Result<KeptView, NoMemory>
+        ensures { IfOk result (λ copy. read_of copy ≡ read_of self.now) }
+    {
+        Ok(KeptView {
+            size: self.size,
+            rows: Vec::from_slice(alloc, &self.rows)?,
+            broken: self.broken.copy(alloc)?,
+        })
+    }
+}
+
 // What of it an edit makes another.
 #[derive(Drop)]
 pub(crate) struct NextView {
