@@ -37,3 +37,4 @@ pub mod Updating
 pub mod Numbered
 pub mod Alike
 pub mod Contradicted
+pub mod Copying

@@ -6,6 +6,7 @@ mod alike_laws;
 mod beginning_laws;
 mod by_event;
 mod contradicted;
+mod copying;
 mod dates;
 mod deciding;
 mod edit_marks;

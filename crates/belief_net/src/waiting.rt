@@ -1,5 +1,5 @@
 // Rows that wait to be decided again, the earliest first.
-ghost use Rattle.std.specs.Prelude.{◌≡◌, ◌↔◌, ℕ, ◌<◌, ◌≤ℤ◌, [], ◌∷◌, None, Some, length, IsTrue, MatchOption, OnOk, OnErr};
+ghost use Rattle.std.specs.Prelude.{◌≡◌, ◌↔◌, ℕ, ◌<◌, ◌≤ℤ◌, [], ◌∷◌, None, Some, length, IsTrue, MatchOption, IfOk, OnOk, OnErr};
 ghost use Rattle.std.specs.List.{All};
 ghost use Rattle.std.specs.List.Sorted.{IsPermutation};
 ghost use Rattle.belief_net.specs.Waiting.{dates_in, waits_in, AreQueued, Puts, Takes};
@@ -63,6 +63,15 @@ impl Queue {
         ensures { MatchOption result (self.old ≡ []) (λ e. IsPermutation self.old (e ∷ self.new) × All (λ o. e.early.0 ≤ℤ o.early.0) self.new) }
     {
         self.heap.pop()
+    }
+
+    // The same entries, in a queue of their own. It takes memory.
+    fn copy(&self) -> Result<Queue, NoMemory>
+        ensures { IfOk result (λ copy. copy ≡ self.now) }
+    {
+        Ok(Queue {
+            heap: self.heap.clone()?,
+        })
     }
 
     // Takes all entries out. It takes no memory.
@@ -159,6 +168,16 @@ impl Waiting {
         ensures rests { result ≡ None → (i : ℕ) → dates_in self.new i ≡ None }
     {
         pop_first(&mut self.dates, &mut self.queue)
+    }
+
+    // The same rows, each waiting for the same date, for changes of their own. It takes memory.
+    pub(crate) fn copy(&self, alloc: Global) -> Result<Waiting, NoMemory>
+        ensures { IfOk result (λ copy. copy ≡ self.now) }
+    {
+        Ok(Waiting {
+            dates: Vec::from_slice(alloc, self.dates.as_slice())?,
+            queue: self.queue.copy()?,
+        })
     }
 
     // Lets no row wait. It takes no memory.
