@@ -17,6 +17,7 @@ use Rattle.premise_list.specs.States.{States}
 use Rattle.occ_tree.specs.Places.{forest}
 use Rattle.occ_tree.specs.Standing.{State, present, committed, forest as forest_of}
 use Rattle.belief_net.specs.declared.state.BeliefNet.{BeliefNet}
+use Rattle.belief_net.specs.Copying.{CopiesKept}
 use Rattle.belief_net.specs.Entering.{KeepLast}
 use Rattle.belief_net.specs.Settling.{counted}
 use Rattle.belief_net.specs.Updating.{IsKept, IsPending, IsCountedWithin, CommitsKept, LeadsBack}
@@ -72,6 +73,14 @@ empty_held s net empty network = record {
 -- what rests does so where the same is read
 pub rests_same : (s : Standing) (net : Net) (b : BeliefNet) (view view_new : KeptView) → read_of view_new ≡ read_of view → IsResting s net b view → IsResting s net b view_new
 rests_same s net b view view_new same rests = record { kept = rests.kept; view = subst (IsReadOf s (forest b.tree)) (sym same) rests.view }
+
+-- copies of what rests do so too
+pub copies_rest : (s : Standing) (net : Net) (old new : BeliefNet) (view view_new : KeptView) → CopiesKept old new → present new.tree ≡ present old.tree
+    → read_of view_new ≡ read_of view → IsResting s net old view → IsResting s net new view_new
+copies_rest s net old new view view_new kept tree same rests = record {
+  kept = kept s net rests.kept;
+  view = subst (λ (t : State). IsReadOf s (forest_of t) (read_of view_new)) (sym tree) (subst (IsReadOf s (forest old.tree)) (sym same) rests.view);
+}
 
 -- what an edit made rests once it is committed
 pub commits : (s : Standing) (net : Net) (old new : BeliefNet) (view : KeptView) → AreNodesOf s net old → IsReadOf s (forest old.tree) (read_of view)

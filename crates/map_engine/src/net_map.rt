@@ -11,7 +11,7 @@ ghost use Rattle.occ_tree.specs.Places.{forest};
 ghost use Rattle.spots.specs.Forest.{member};
 ghost use Rattle.list_net.specs.Settled.{NothingPending};
 ghost use Rattle.revisions.specs.Counted.{changed};
-ghost use Rattle.map_engine.specs.NetMaps.{CountsEdit, IsHeld};
+ghost use Rattle.map_engine.specs.NetMaps.{CountsEdit, IsHeld, IsResting};
 ghost use Rattle.map_core.specs.Stops.{StopsEdit, NamesEdited};
 
 use crate::kept_view::{KeptView, audited_view, first_view, kept_rows};
@@ -21,7 +21,7 @@ use belief_net::BeliefNet;
 use dist_net::DistNet;
 use justify::{ask_between, bounds_between, path_between, tell_why};
 use list_net::{apply_edit, roll_back};
-use map_core::{Counter, Listener, MapCore, Opens, Pending};
+use map_core::{Copies, Counter, Listener, MapCore, Opens, Pending};
 use premise_list::Standing;
 use std::alloc::Global;
 use std::marker::Model;
@@ -93,6 +93,40 @@ fn first_map(alloc: Global, standing: Standing, net: DistNet, nodes: BeliefNet) 
         view,
         guarded: false,
         next: Next::Nothing,
+    }
+}
+
+// The map of a list that it may be kept for, with nothing pending. It asks for no memory.
+fn resting_map(
+    standing: Standing,
+    net: DistNet,
+    nodes: BeliefNet,
+    view: KeptView,
+    guarded: bool,
+) -> NetMap
+    requires settled { NothingPending standing net }
+    requires held { IsHeld standing.committed net.committed guarded }
+    requires rests { IsResting standing.committed net.committed nodes view }
+    ensures list { result.list ≡ standing.committed }
+    ensures idle { result.pending ≡ None }
+{
+    NetMap {
+        standing,
+        net,
+        nodes,
+        view,
+        guarded,
+        next: Next::Nothing,
+    }
+}
+
+impl Copies for NetMap {
+    fn copy(&self, alloc: Global) -> Result<NetMap, NoMemory> {
+        let view = self.view.copy(alloc)?;
+        let standing = self.standing.copy(alloc)?;
+        let net = self.net.copy(alloc)?;
+        let nodes = self.nodes.copy(alloc)?;
+        Ok(resting_map(standing, net, nodes, view, self.guarded))
     }
 }
 
