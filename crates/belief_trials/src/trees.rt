@@ -95,6 +95,26 @@ fn a_new_root_goes_with_a_rollback(rt: HostRuntime) -> Result<(), Fail> {
     Ok(())
 }
 
+// A root that was not committed stays in a copy where the tree is rolled back, till the copy is too.
+fn root_stays_in_copy(rt: &impl Abort, alloc: Global, tree: &mut Tree) -> Result<(), NoMemory>
+    requires { (x : ℕ) → forest (present tree.old) x ≡ None }
+{
+    let event = add_event(alloc, tree, name("press"))?;
+    let mut copy = tree.copy(alloc)?;
+    tree.rollback();
+    assert_eq!(rt; (tree.first_root(), copy.first_root()), (None, Some(event)));
+    copy.rollback();
+    assert_eq!(rt; copy.first_root(), None);
+    Ok(())
+}
+
+#[test]
+fn a_copy_of_a_tree_changes_on_its_own(rt: HostRuntime) -> Result<(), Fail> {
+    let mut tree = Tree::make(rt.alloc());
+    root_stays_in_copy(&rt, rt.alloc(), &mut tree)?;
+    Ok(())
+}
+
 // Two roots, and what a rule of the name of the second leads to from the first.
 #[derive(Clone, Copy)]
 struct Sample {
