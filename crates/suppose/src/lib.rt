@@ -6,8 +6,10 @@
 //! top. `SupposeStep` in `specs/Worlds.antt` is the step of the transcript.
 #![tactic(auto)]
 
+mod laws;
 mod stack;
 mod supposing;
 
+pub use laws::dropped_leave_nothing;
 pub use stack::{MOST_SUPPOSITIONS, NoneStands, Stack, StackStop};
 pub use supposing::Supposing;
