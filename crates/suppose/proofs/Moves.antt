@@ -1,5 +1,5 @@
 -- Lines that stay above some maps leave these as they are.
-use Rattle.std.proofs.Common.{◌≡◌, ℕ, ◌+◌, ◌<◌, ◌≤◌, Bool, true, false, List, [], ◌∷◌, ◌++◌, length, length-append, append_assoc, Option, Some, None, refl, sym, ap, ◌∙◌, subst, arith}
+use Rattle.std.proofs.Common.{◌≡◌, ℕ, ◌+◌, ◌≤◌, Bool, true, false, List, [], ◌∷◌, ◌++◌, length, length-append, Option, Some, None, refl, sym, ap, ◌∙◌, subst, arith}
 use Rattle.std.specs.Prelude.{nat_lt}
 use Rattle.tmm_model.specs.declared.mode.Mode.TheVariants.{Suppose as Supposing}
 use Rattle.tmm_model.specs.declared.mode.ModeCause.{ModeCause}
@@ -11,7 +11,7 @@ use Rattle.tmm_model.specs.Modes.{where_true}
 use Rattle.tmm_model.specs.Runs.{Run, is_refused, is_memory}
 use Rattle.tmm_model.specs.Standing.{Standing}
 use Rattle.mode_session.specs.ModeSteps.{own_line, StepAs}
-use Rattle.suppose.specs.Worlds.{World, SupposeOwn, TopStep, SupposeStep, Answers, after, cause_of, supposed, in_place, nearest_of}
+use Rattle.suppose.specs.Worlds.{World, SupposeOwn, TopStep, Answers, after, cause_of, in_place, nearest_of}
 use Rattle.suppose.specs.Suppositions.{IsDone, Above, DroppedLeaveNothing}
 
 -- these maps, and some above them
@@ -102,14 +102,14 @@ pub begun_is : (w begun : World) (k : ℕ) → IsDone w k Suppose begun → begu
 begun_is w begun k done = room_made (nat_lt (length w.below) 8) (record { top = w.top; below = w.top ∷ w.below }) begun (done_after w begun k Suppose done)
 
 -- what stands on a base, and is as high as it, is it
-flat : (upper : List Standing) (base : List Standing) → length (upper ++ base) ≡ length base → upper ≡ []
+pub flat : (upper : List Standing) (base : List Standing) → length (upper ++ base) ≡ length base → upper ≡ []
 flat [] base same = refl
 flat (u ∷ upper) base same = absurd (omega (arith, same, length-append upper base))
 
-nearest_is : (top : Standing) (below : List Standing) (new : World) → nearest_of (top ∷ below) ≡ Some new → new ≡ record { top = top; below = below }
+pub nearest_is : (top : Standing) (below : List Standing) (new : World) → nearest_of (top ∷ below) ≡ Some new → new ≡ record { top = top; below = below }
 nearest_is top below new made = cc
 
-nearest_size : (l : List Standing) (new : World) → nearest_of l ≡ Some new → length l ≡ length new.below + 1
+pub nearest_size : (l : List Standing) (new : World) → nearest_of l ≡ Some new → length l ≡ length new.below + 1
 nearest_size [] new never = cc
 nearest_size (b ∷ below) new made = omega (arith, ap (λ (w : World). length w.below) (nearest_is b below new made))
 
