@@ -7,6 +7,7 @@ use crate::moded::Moded;
 use std::alloc::Global;
 use tmm_drive::Lines;
 use tmm_model::{LONGEST_LINE, Mode, ModeLine, Turn};
+use tmm_script::mode_line;
 
 /// Answers the lines of a script in a mode.
 #[derive(Drop)]
@@ -59,11 +60,4 @@ fn own_line(mode: Mode, bytes: &[u8]) -> Option<ModeLine>
     } else {
         None
     }
-}
-
-ghost use Rattle.tmm_model.specs.Modes.{own_form};
-fn mode_line(mode: Mode, line: &[u8]) -> Option<ModeLine>
-    ensures { result ≡ own_form mode line.now }
-{
-    None
 }
