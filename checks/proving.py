@@ -80,7 +80,9 @@ class Proving(unittest.TestCase):
             source = self.top / "crates" / name / "src"
             source.mkdir(parents=True)
             (source / "lib.rt").write_text("//\n" * lines)
-        shutil.copy(ROOT / "crates/tmm_cli/src/run.rt", self.top / "crates/tmm_cli/src")
+        program = self.top / "crates" / "tmm_program" / "src"
+        program.mkdir(parents=True)
+        shutil.copy(ROOT / "crates/tmm_program/src/usage.rt", program)
         self.script = self.work / "script"
         self.script.write_text("point a\n")
         self.environment = {

@@ -1,7 +1,7 @@
 //! What no clause says: the text of whole scripts, that calls succeed, and what faults leave.
 ghost use Rattle.std.specs.Prelude.{[], ◌≡◌, ◌≤◌};
 
-use crate::run::{line_buffer, run};
+use crate::run::run;
 use map_engine::PlainMap;
 use std::alloc::Global;
 use std::process::Abort;
@@ -9,6 +9,7 @@ use std::test::Fail;
 use tmm_drive::{Status, drive};
 use tmm_io::{MemSink, MemSource, RepeatSource, Source, SteadySource};
 use tmm_model::{NoMemory, Seq};
+use tmm_program::line_buffer;
 use tmm_session::Session;
 
 /// Runs a script in pieces of this many bytes, and compares its replies and its status.

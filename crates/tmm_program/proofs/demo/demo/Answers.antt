@@ -1,7 +1,7 @@
 use Rattle.std.proofs.Common.{◌≡◌, ◌∙◌, take, nat_lt, if◌then◌else◌, refl}
 use Rattle.tmm_drive.specs.declared.status.Status.TheVariants.{Clean, SomeRefused, SomeMemory}
-use Rattle.tmm_cli.proofs.Counted.{demo_ends}
-use Rattle.tmm_cli.proofs.demo.demo.Goals as goal
+use Rattle.tmm_program.proofs.Counted.{demo_ends}
+use Rattle.tmm_program.proofs.demo.demo.Goals as goal
 
 pub returns-in-Ok-clause-ends : goal.returns-in-Ok-clause-ends
 returns-in-Ok-clause-ends g c =

@@ -1,7 +1,7 @@
 use Rattle.std.proofs.Common.{[], refl}
 use Rattle.std.proofs.KnownBytes.{Consumes-nil}
-use Rattle.tmm_cli.specs.declared.command.Command.TheVariants.{Demo, Usage}
-use Rattle.tmm_cli.proofs.run.run.Goals as goal
+use Rattle.tmm_program.specs.declared.command.Command.TheVariants.{Demo, Usage}
+use Rattle.tmm_program.proofs.run.run_over.Goals as goal
 
 pub returns-in-Demo-clause-ends : goal.returns-in-Demo-clause-ends
 returns-in-Demo-clause-ends g c =

@@ -1,5 +1,5 @@
 // What the words of the command line ask for.
-ghost use Rattle.tmm_cli.specs.Program.{IsFor};
+ghost use Rattle.tmm_program.specs.Program.{IsFor};
 
 use crate::demo::demo_number;
 

@@ -5,8 +5,8 @@ use Rattle.tmm_model.specs.Transcript.{Step}
 use Rattle.tmm_drive.specs.declared.status.Status.{Status}
 use Rattle.tmm_drive.specs.declared.status.Status.TheVariants.{Clean, SomeRefused, Words, ReadFault, WriteFault, NoMemory, TooLong, SomeMemory}
 use Rattle.tmm_drive.specs.Endings.{Ends}
-use Rattle.tmm_cli.specs.Program.{ScriptEnds}
-use Rattle.tmm_cli.proofs.run.run_script.Goals as goal
+use Rattle.tmm_program.specs.Program.{ScriptEnds}
+use Rattle.tmm_program.proofs.run.run_script.Goals as goal
 
 -- what the script leaves is what the program leaves
 script_ends : (start : Standing) (at_end : Type 0) (taken output : List ℕ) (status : Status) → start ≡ empty_list

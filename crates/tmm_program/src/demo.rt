@@ -7,13 +7,13 @@ ghost use Rattle.tmm_model.specs.declared.turn.Turn.{Turn};
 ghost use Rattle.tmm_model.specs.Generator.{script_of};
 ghost use Rattle.tmm_model.specs.Replies.{Reply};
 ghost use Rattle.tmm_model.specs.Standing.{Standing};
-ghost use Rattle.tmm_cli.specs.Counts.{AreCounts, counts_text, number_word};
-ghost use Rattle.tmm_cli.specs.Demo.{IsDemo, RunReplied, DemoEnds};
+ghost use Rattle.tmm_program.specs.Counts.{AreCounts, counts_text, number_word};
+ghost use Rattle.tmm_program.specs.Demo.{IsDemo, RunReplied, DemoEnds};
 
 use arrayvec::ArrayVec;
 use demo_gen::line_of;
 use itoa::Buffer;
-use map_engine::MapCore;
+use map_core::MapCore;
 use std::alloc::Global;
 use tmm_drive::Status;
 use tmm_io::Sink;
@@ -107,7 +107,7 @@ pub struct Counts {
 }
 
 impl Counts {
-    ghost use Rattle.tmm_cli.specs.Counts.{HaveRoom, counted, with_kind};
+    ghost use Rattle.tmm_program.specs.Counts.{HaveRoom, counted, with_kind};
 
     fn new() -> Counts
         ensures { AreCounts result [] }

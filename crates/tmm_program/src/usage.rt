@@ -2,7 +2,7 @@
 ghost use Rattle.std.specs.Prelude.{◌≡◌, ◌≢◌, List, ℕ};
 ghost use Rattle.std.specs.Io.KnownBytes.{Appends};
 ghost use Rattle.tmm_io.specs.Causes.{Rose};
-ghost use Rattle.tmm_cli.specs.Program.{UsageEnds};
+ghost use Rattle.tmm_program.specs.Program.{UsageEnds};
 
 use tmm_drive::Status;
 use tmm_io::Sink;

@@ -1,7 +1,7 @@
 use Rattle.std.proofs.Common.{◌≡◌, ◌≤◌, ◌-◌, length, take, None}
 use Rattle.tmm_model.specs.Generator.{script_of}
-use Rattle.tmm_cli.proofs.Counted.{HasRun}
-use Rattle.tmm_cli.proofs.demo.answer_script.Given as goal
+use Rattle.tmm_program.proofs.Counted.{HasRun}
+use Rattle.tmm_program.proofs.demo.answer_script.Given as goal
 
 abbrev pub invariant-lines : goal.invariant-lines
 invariant-lines g l = record {

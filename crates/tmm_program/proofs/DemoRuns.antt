@@ -19,7 +19,7 @@ use Rattle.tmm_model.specs.Standing.{Standing}
 use Rattle.tmm_model.specs.Transcript.{IsReadAs, LineAnswers, Step}
 use Rattle.demo_gen.proofs.Blocks.{last_three}
 use Rattle.tmm_session.specs.Sessions.{reply_told}
-use Rattle.tmm_cli.specs.Demo.{replies_told, RunReplied}
+use Rattle.tmm_program.specs.Demo.{replies_told, RunReplied}
 
 -- ---- no line of the script is silent
 

@@ -12,17 +12,17 @@ use Rattle.tmm_model.specs.Lines.{spaced, behind_spaces}
 use Rattle.tmm_model.specs.Replies.{Reply, Accepted, Refused, BoundsAre, PathIs, Answered, Reasons, BrokenAre, Believed, DumpIs, AuditYes, SizeIs}
 use Rattle.tmm_model.specs.Runs.{is_reply, is_memory, is_refused as is_refused_turn}
 use Rattle.tmm_model.specs.Standing.{Standing}
-use Rattle.tmm_cli.specs.declared.demo.Counts.{Counts}
+use Rattle.tmm_program.specs.declared.demo.Counts.{Counts}
 use Rattle.tmm_drive.specs.declared.status.Status.{Status}
 use Rattle.tmm_drive.specs.declared.status.Status.TheVariants.{Clean, SomeRefused, SomeMemory}
 use Rattle.tmm_session.specs.declared.told.Told.{Told}
 use Rattle.tmm_session.specs.declared.told.Told.TheVariants.{Silent, Reply as ReplyOf, Memory}
-use Rattle.tmm_cli.specs.Counts.{number_word, AreCounts, HaveRoom, with_kind, counted, counts_text}
-use Rattle.tmm_cli.specs.Demo.{RunReplied, Summarizes, DemoEnds}
+use Rattle.tmm_program.specs.Counts.{number_word, AreCounts, HaveRoom, with_kind, counted, counts_text}
+use Rattle.tmm_program.specs.Demo.{RunReplied, Summarizes, DemoEnds}
 use Rattle.tmm_session.specs.Kinds.{reply_kind, turn_of}
 use Rattle.tmm_session.specs.Sessions.{TellsLine, reply_told}
 use Rattle.tmm_drive.specs.Statuses.{status_of}
-use Rattle.tmm_cli.proofs.DemoRuns.{Speaks, speaks_not_silent, RunReplied-push, RunReplied-counted, line_speaks, one_line_more}
+use Rattle.tmm_program.proofs.DemoRuns.{Speaks, speaks_not_silent, RunReplied-push, RunReplied-counted, line_speaks, one_line_more}
 use Rattle.tmm_drive.proofs.Steps.{told_as_three}
 
 last_word-push : (replies : List (Option Reply)) (reply : Option Reply) → last_word (replies ++ reply ∷ []) ≡ size_word reply

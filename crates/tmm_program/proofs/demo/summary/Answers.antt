@@ -1,7 +1,7 @@
 use Rattle.std.proofs.Common.{◌∙◌, [], ◌∷◌, ◌++◌, List, ℕ, codes, decimal, sym, refl, ap}
-use Rattle.tmm_cli.specs.Counts.{number_word}
-use Rattle.tmm_cli.proofs.Counted.{put_on, spaced_line}
-use Rattle.tmm_cli.proofs.demo.summary.Goals as goal
+use Rattle.tmm_program.specs.Counts.{number_word}
+use Rattle.tmm_program.proofs.Counted.{put_on, spaced_line}
+use Rattle.tmm_program.proofs.demo.summary.Goals as goal
 
 pub returns : goal.returns
 returns c =

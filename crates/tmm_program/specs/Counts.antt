@@ -3,7 +3,7 @@ use Rattle.std.specs.Prelude.{ℕ, ◌+◌, ◌<◌, ◌^◌, ◌-◌, ◌≡◌
 use Rattle.tmm_model.specs.Generator.{is_ok, is_yes, is_no, is_refused, is_want, last_word}
 use Rattle.tmm_model.specs.Lines.{spaced}
 use Rattle.tmm_model.specs.Replies.{Reply}
-use Rattle.tmm_cli.specs.declared.demo.Counts.{Counts}
+use Rattle.tmm_program.specs.declared.demo.Counts.{Counts}
 use Rattle.tmm_session.specs.declared.told.ReplyKind.{ReplyKind}
 use Rattle.tmm_session.specs.declared.told.ReplyKind.TheVariants.{Accepted, Yes, No, Refused, Size, Other}
 use Rattle.tmm_session.specs.declared.told.Told.{Told}

@@ -2,9 +2,9 @@ use Rattle.std.proofs.Common.{ℕ, List, subst}
 use Rattle.tmm_model.specs.Standing.{Standing, empty_list}
 use Rattle.tmm_drive.specs.declared.status.Status.{Status}
 use Rattle.tmm_drive.specs.declared.status.Status.TheVariants.{Clean, SomeRefused, Words, ReadFault, WriteFault, NoMemory, TooLong, SomeMemory}
-use Rattle.tmm_cli.specs.Demo.{DemoEnds}
-use Rattle.tmm_cli.specs.Program.{SummaryEnds}
-use Rattle.tmm_cli.proofs.run.run_demo.Goals as goal
+use Rattle.tmm_program.specs.Demo.{DemoEnds}
+use Rattle.tmm_program.specs.Program.{SummaryEnds}
+use Rattle.tmm_program.proofs.run.run_demo.Goals as goal
 
 -- what the lines leave is what the words leave
 summary_ends : (n : ℕ) (output : List ℕ) (status : Status) → DemoEnds empty_list n output status → SummaryEnds n output status

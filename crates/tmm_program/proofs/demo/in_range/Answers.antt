@@ -2,8 +2,8 @@ use Rattle.std.proofs.Common.{arith, ◌≡◌, ℤ, pos, Option, subst}
 use Rattle.std.proofs.lemmas.Int.{ints}
 use Rattle.tmm_model.specs.Lines.{number_word, IsNumber}
 use Rattle.tmm_words.specs.Spelling.{IsSpelling}
-use Rattle.tmm_cli.proofs.DemoWords.{no_number, one_number}
-use Rattle.tmm_cli.proofs.demo.in_range.Goals as goal
+use Rattle.tmm_program.proofs.DemoWords.{no_number, one_number}
+use Rattle.tmm_program.proofs.demo.in_range.Goals as goal
 
 pub returns-in_default : goal.returns-in_default
 returns-in_default c = λ n is some few.

@@ -7,9 +7,9 @@ use Rattle.tmm_model.specs.Transcript.{Step}
 use Rattle.tmm_drive.specs.declared.status.Status.{Status}
 use Rattle.tmm_drive.specs.declared.status.Status.TheVariants.{Words, WriteFault, NoMemory}
 use Rattle.tmm_drive.specs.Endings.{Ends}
-use Rattle.tmm_cli.specs.declared.command.Command.{Command}
-use Rattle.tmm_cli.specs.declared.command.Command.TheVariants.{Script, Demo, Usage}
-use Rattle.tmm_cli.specs.Demo.{IsDemo, DemoEnds}
+use Rattle.tmm_program.specs.declared.command.Command.{Command}
+use Rattle.tmm_program.specs.declared.command.Command.TheVariants.{Script, Demo, Usage}
+use Rattle.tmm_program.specs.Demo.{IsDemo, DemoEnds}
 
 -- what is written for words that are none of the program's
 abbrev pub usage : List ℕ

@@ -2,9 +2,9 @@ use Rattle.std.proofs.Common.{◌∙◌, ◌+◌, ◌-◌, ◌<◌, ◌≤◌, L
 use Rattle.std.proofs.lemmas.List.{length-take}
 use Rattle.std.proofs.lemmas.Option.{slice_get_within}
 use Rattle.tmm_model.specs.Generator.{script_of}
-use Rattle.tmm_cli.proofs.Counted.{HasRun, HasRun-none, HasRun-line, HasRun-room, none_left}
-use Rattle.tmm_cli.proofs.DemoRuns.{script-length}
-use Rattle.tmm_cli.proofs.demo.answer_script.Goals as goal
+use Rattle.tmm_program.proofs.Counted.{HasRun, HasRun-none, HasRun-line, HasRun-room, none_left}
+use Rattle.tmm_program.proofs.DemoRuns.{script-length}
+use Rattle.tmm_program.proofs.demo.answer_script.Goals as goal
 
 fewer_left : (len i : ℕ) → i < len → len - (i + 1) < len - i
 fewer_left len i below = omega (arith, below)

@@ -1,5 +1,5 @@
 use Rattle.std.proofs.Common.{refl}
-use Rattle.tmm_cli.proofs.usage.tell_usage.Goals as goal
+use Rattle.tmm_program.proofs.usage.tell_usage.Goals as goal
 
 pub returns-in-Ok-clause-ends : goal.returns-in-Ok-clause-ends
 returns-in-Ok-clause-ends g c = (_, c.in-Ok.ensures.bytes, refl)
