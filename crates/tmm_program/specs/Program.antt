@@ -2,6 +2,7 @@
 use Rattle.std.specs.Prelude.{ℕ, ◌≡◌, ◌≢◌, List, [], codes, take}
 use Rattle.std.specs.declared.alloc.Global.{Global}
 use Rattle.std.specs.declared.string.String.{String}
+use Rattle.tmm_model.specs.declared.turn.Turn.{Turn}
 use Rattle.tmm_model.specs.Standing.{empty_list}
 use Rattle.tmm_model.specs.Transcript.{Step}
 use Rattle.tmm_drive.specs.declared.status.Status.{Status}
@@ -22,10 +23,11 @@ UsageEnds output Words = output ≡ usage
 UsageEnds output WriteFault = (part : ℕ) × (output ≡ take part usage)
 UsageEnds output status = ⊥
 
--- without words: a script from the empty list, or no memory before any byte is read
-abbrev pub ScriptEnds : Type 0 → List ℕ → List ℕ → Status → Type 0
-ScriptEnds at_end taken output NoMemory = (taken ≡ []) × (output ≡ [])
-ScriptEnds at_end taken output status = Ends Step empty_list at_end taken output status
+-- a script from the first state on, each line by this step, or no memory before any byte is read
+module _ {S : Type 0} (step : S → ℕ → List ℕ → Turn → S → Type 0) (start : S) where
+  abbrev pub ScriptEnds : Type 0 → List ℕ → List ℕ → Status → Type 0
+  ScriptEnds at_end taken output NoMemory = (taken ≡ []) × (output ≡ [])
+  ScriptEnds at_end taken output status = Ends step start at_end taken output status
 
 -- with the words `demo n`: what its lines from the empty list on leave, or no memory before the
 -- first of them
@@ -42,7 +44,7 @@ IsFor words Usage = (words ≢ []) × ((n : ℕ) → IsDemo words n → ⊥)
 
 -- what a command may leave; it takes bytes for a script alone
 abbrev pub CommandEnds : Command → Type 0 → List ℕ → List ℕ → Status → Type 0
-CommandEnds Script at_end taken output status = ScriptEnds at_end taken output status
+CommandEnds Script at_end taken output status = ScriptEnds Step empty_list at_end taken output status
 CommandEnds (Demo n) at_end taken output status = (taken ≡ []) × SummaryEnds n output status
 CommandEnds Usage at_end taken output status = (taken ≡ []) × UsageEnds output status
 

@@ -9,6 +9,7 @@
 mod command;
 mod demo;
 mod run;
+mod sessions;
 mod usage;
 
 pub use command::{Command, command_of};

@@ -6,13 +6,13 @@ ghost use Rattle.tmm_program.specs.Program.{ProgramEnds, ScriptEnds, SummaryEnds
 
 use crate::command::{Command, command_of};
 use crate::demo::demo;
+use crate::sessions::plain_session;
 use crate::usage::tell_usage;
 use map_core::Opens;
 use std::alloc::Global;
-use tmm_drive::{Status, drive};
+use tmm_drive::{Lines, Status, drive};
 use tmm_io::{Sink, Source};
 use tmm_model::{NoMemory, Seq};
-use tmm_session::Session;
 
 /// All that the program does, over any map that opens empty. Without words it reads a script from
 /// the source and writes a reply for each line to the sink. With the words `demo N` it answers a
@@ -35,35 +35,35 @@ pub fn run_over<M: Opens + Drop, S: Source, K: Sink>(
     ensures sink_faults { result ≢ Status.WriteFault → K.faults sink.new ≡ K.faults sink.old }
 {
     match command_of(words) {
-        Command::Script => run_script::<M, S, K>(alloc, source, sink),
+        Command::Script => run_lines(alloc, plain_session::<M>(alloc), source, sink),
         Command::Demo(n) => run_demo::<M, K>(alloc, n, sink),
         Command::Usage => tell_usage(sink),
     }
 }
 
-// Answers a script from the empty map on.
-fn run_script<M: Opens + Drop, S: Source, K: Sink>(
+// Answers the script that it reads, by what was opened for it, where there was memory for that.
+fn run_lines<L: Lines + Drop, S: Source, K: Sink>(
     alloc: Global,
+    opened: Result<L, NoMemory>,
     source: &mut S,
     sink: &mut K,
 ) -> Status
-    ensures ends { (taken output : List ℕ)
+    requires number { IfOk opened (λ lines. L.number lines ≡ 0) }
+    requires ready { IfOk opened L.ready }
+    ensures ends { (start : L.State) → IfOk opened (λ lines. L.state lines ≡ start)
+        → (taken output : List ℕ)
         × Consumes (S.left source.old) (S.left source.new) taken
         × Appends (K.written sink.old) (K.written sink.new) output
-        × ScriptEnds (IsAtEnd (S.left source.new)) taken output result }
+        × ScriptEnds L.step start (IsAtEnd (S.left source.new)) taken output result }
     ensures read_fault { result ≡ Status.ReadFault → Rose (S.faults source.old) (S.faults source.new) }
     ensures write_fault { result ≡ Status.WriteFault → Rose (K.faults sink.old) (K.faults sink.new) }
     ensures source_faults { result ≢ Status.ReadFault → S.faults source.new ≡ S.faults source.old }
     ensures sink_faults { result ≢ Status.WriteFault → K.faults sink.new ≡ K.faults sink.old }
 {
-    let Ok(mut buffer) = line_buffer(alloc) else {
+    let (Ok(mut lines), Ok(mut buffer)) = (opened, line_buffer(alloc)) else {
         return Status::NoMemory;
     };
-    let Ok(core) = M::open(alloc) else {
-        return Status::NoMemory;
-    };
-    let mut session = Session::make(core);
-    drive(alloc, &mut session, &mut buffer, source, sink)
+    drive(alloc, &mut lines, &mut buffer, source, sink)
 }
 
 // Answers a generated script over the empty map.
@@ -75,10 +75,9 @@ fn run_demo<M: Opens + Drop, K: Sink>(alloc: Global, n: u32, sink: &mut K) -> St
     ensures write_fault { result ≡ Status.WriteFault → Rose (K.faults sink.old) (K.faults sink.new) }
     ensures sink_faults { result ≢ Status.WriteFault → K.faults sink.new ≡ K.faults sink.old }
 {
-    let Ok(core) = M::open(alloc) else {
+    let Ok(mut session) = plain_session::<M>(alloc) else {
         return Status::NoMemory;
     };
-    let mut session = Session::make(core);
     demo(alloc, n, &mut session, sink)
 }
 

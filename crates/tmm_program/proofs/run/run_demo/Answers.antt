@@ -23,5 +23,5 @@ returns-clause-ends g c =
       ends.0,
       ends.1,
       summary_ends c.args.n ends.0 c.demo.result
-          (subst (λ (start : Standing). DemoEnds start c.args.n ends.0 c.demo.result) (rw c.make-session.ensures.core c.in-Ok.ensures.list) ends.2),
+          (subst (λ (start : Standing). DemoEnds start c.args.n ends.0 c.demo.result) c.in-Ok.ensures.first ends.2),
     )
