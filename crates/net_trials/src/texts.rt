@@ -3,14 +3,14 @@ use crate::networks::name;
 use arrayvec::ArrayVec;
 use premise_list::Standing;
 use replies::{
-    Word, memory_reply, reply_answer, reply_bounds, reply_check, reply_dump, reply_list, reply_no,
-    reply_number, reply_ok, reply_path, reply_why,
+    Word, memory_reply, reply_answer, reply_bounds, reply_check, reply_dump, reply_list,
+    reply_mode_no, reply_mode_ok, reply_no, reply_number, reply_ok, reply_path, reply_why,
 };
 use std::alloc::Global;
 use std::process::Abort;
 use tmm_model::{
-    Answer, Blame, Bound, Cause, Changes, Clip, ListRow, MOST_EXCEPTIONS, Name, NoMemory, Occ,
-    PointName, QueryPoint, Refusal, Report, Seq, Side, WalkStep, WhyLine,
+    Answer, Blame, Bound, Cause, Changes, Clip, ListRow, MOST_EXCEPTIONS, ModeCause, Name,
+    NoMemory, Occ, PointName, QueryPoint, Refusal, Report, Seq, Side, WalkStep, WhyLine,
 };
 
 /// A reply is this text.
@@ -131,6 +131,21 @@ fn refusals_are_replied(rt: HostRuntime) {
         &reply_no(alloc, 7, &Refusal::LimitLine),
         "7 no limit line\n",
     );
+}
+
+#[test]
+fn modes_are_replied(rt: HostRuntime) {
+    let alloc = rt.alloc();
+    expect(&rt, &reply_mode_ok(alloc, 4), "4 ok\n");
+    for (cause, text) in [
+        (ModeCause::LimitSuppose, "5 no limit suppose\n"),
+        (ModeCause::Suppose, "5 no suppose\n"),
+        (ModeCause::Agent, "5 no agent\n"),
+        (ModeCause::LimitBatch, "5 no limit batch\n"),
+        (ModeCause::LimitAgents, "5 no limit agents\n"),
+    ] {
+        expect(&rt, &reply_mode_no(alloc, 5, cause), text);
+    }
 }
 
 #[test]

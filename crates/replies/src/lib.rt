@@ -10,6 +10,7 @@ mod details;
 mod dump;
 mod edits;
 mod memory;
+mod modes;
 mod questions;
 mod reasons;
 mod words;
@@ -17,6 +18,7 @@ mod words;
 pub use dump::reply_dump;
 pub use edits::{reply_no, reply_ok};
 pub use memory::memory_reply;
+pub use modes::{reply_mode_no, reply_mode_ok};
 pub use questions::{
     Word, reply_answer, reply_bounds, reply_check, reply_list, reply_number, reply_path, reply_why,
 };

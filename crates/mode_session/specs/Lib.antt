@@ -1,0 +1,2 @@
+pub mod ModeSteps
+pub mod LongLines

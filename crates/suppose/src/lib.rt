@@ -1,0 +1,10 @@
+//! The mode `suppose`: a script in which suppositions are put on top of the map, and each is kept
+//! or given up whole.
+//!
+//! mode's own change the stack, and every other line is answered by `tmm_session` on the map on
+//! top. `SupposeStep` in `specs/Worlds.antt` is the step of the transcript.
+#![tactic(auto)]
+
+mod stack;
+
+pub use stack::{MOST_SUPPOSITIONS, NoneStands, Stack, StackStop};
