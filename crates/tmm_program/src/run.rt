@@ -6,19 +6,20 @@ ghost use Rattle.tmm_program.specs.Program.{ProgramEnds, ScriptEnds, SummaryEnds
 
 use crate::command::{Command, command_of};
 use crate::demo::demo;
-use crate::sessions::plain_session;
+use crate::sessions::{plain_session, suppose_session};
 use crate::usage::tell_usage;
-use map_core::Opens;
+use map_core::{Copies, Opens};
 use std::alloc::Global;
 use tmm_drive::{Lines, Status, drive};
 use tmm_io::{Sink, Source};
-use tmm_model::{NoMemory, Seq};
+use tmm_model::{Mode, NoMemory, Seq};
 
-/// All that the program does, over any map that opens empty. Without words it reads a script from
-/// the source and writes a reply for each line to the sink. With the words `demo N` it answers a
-/// generated script, and writes one line that tells of the replies; with any other words it writes
-/// how it is used.
-pub fn run_over<M: Opens + Drop, S: Source, K: Sink>(
+/// All that the program does, over any map that opens empty and can be copied. Without words it
+/// reads a script from the source and writes a reply for each line to the sink; with the word
+/// `suppose` the script may put suppositions on top of the map. With the words `demo N` it answers
+/// a generated script, and writes one line that tells of the replies; with any other words it
+/// writes how it is used.
+pub fn run_over<M: Opens + Copies + Drop, S: Source, K: Sink>(
     alloc: Global,
     words: &[String],
     source: &mut S,
@@ -35,7 +36,12 @@ pub fn run_over<M: Opens + Drop, S: Source, K: Sink>(
     ensures sink_faults { result ≢ Status.WriteFault → K.faults sink.new ≡ K.faults sink.old }
 {
     match command_of(words) {
-        Command::Script => run_lines(alloc, plain_session::<M>(alloc), source, sink),
+        Command::Script(None) => run_lines(alloc, plain_session::<M>(alloc), source, sink),
+        Command::Script(Some(Mode::Suppose)) => {
+            run_lines(alloc, suppose_session::<M>(alloc), source, sink)
+        }
+        // no word asks for it
+        Command::Script(Some(_)) => unreachable!(),
         Command::Demo(n) => run_demo::<M, K>(alloc, n, sink),
         Command::Usage => tell_usage(sink),
     }

@@ -1,12 +1,14 @@
-use Rattle.std.proofs.Common.{[], refl}
+use Rattle.std.proofs.Common.{[], Option, None, refl, subst}
 use Rattle.std.proofs.KnownBytes.{Consumes-nil}
 use Rattle.tmm_model.specs.Standing.{empty_list}
+use Rattle.tmm_model.specs.declared.mode.Mode.{Mode}
+use Rattle.tmm_program.specs.Program.{IsFor}
 use Rattle.tmm_program.specs.declared.command.Command.TheVariants.{Script, Demo, Usage}
 use Rattle.tmm_program.proofs.run.run_over.Goals as goal
 
-pub returns-in-Script-clause-ends : goal.returns-in-Script-clause-ends
-returns-in-Script-clause-ends g c =
-    let ends = c.run_lines.ensures.ends empty_list c.plain_session.ensures.first in (ends.0, ends.1, ends.2, ends.3, record { command = Script; asked = c.in-Script.ensures; ends = ends.4 })
+pub returns-in-Script-None-clause-ends : goal.returns-in-Script-None-clause-ends
+returns-in-Script-None-clause-ends g c =
+    let ends = c.run_lines.ensures.ends empty_list c.plain_session.ensures.first in (ends.0, ends.1, ends.2, ends.3, record { command = Script None; asked = subst (λ (mode : Option Mode). IsFor c.args.words.now (Script mode)) c.in-Script-None.field-0-is c.in-Script-None.ensures; ends = ends.4 })
 
 pub returns-in-Demo-clause-ends : goal.returns-in-Demo-clause-ends
 returns-in-Demo-clause-ends g c =
