@@ -4,6 +4,7 @@ mod WorkedDemo
 mod WorkedEffects
 mod WorkedGuide
 mod WorkedLists
+mod WorkedModes
 mod WorkedPaths
 mod WorkedQuestions
 mod WorkedReasons

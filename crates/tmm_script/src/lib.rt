@@ -6,12 +6,14 @@
 
 mod edits;
 mod fields;
+mod mode_lines;
 mod parse;
 mod print;
 mod queries;
 
 pub use edits::{begins_edit, edit};
 pub use fields::Misread;
+pub use mode_lines::mode_line;
 pub use parse::{first_word, parse_line};
 pub use print::print_premise;
 pub use queries::query;

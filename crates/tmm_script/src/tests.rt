@@ -5,7 +5,7 @@ use super::*;
 use std::alloc::Global;
 use std::process::Abort;
 use std::test::Fail;
-use tmm_model::{Edit, Line, NoMemory, Refusal, Seq, Stop, Version};
+use tmm_model::{Edit, Line, Mode, ModeLine, NoMemory, Refusal, Seq, Stop, Version};
 
 fn told(alloc: Global, version: Version, line: &[u8]) -> &'static str {
     match parse_line(alloc, version, line) {
@@ -128,4 +128,23 @@ fn long_lines_are_refused(rt: HostRuntime) -> Result<(), Fail> {
         is_told(&rt, rt.alloc(), start, length, wanted)?;
     }
     Ok(())
+}
+
+#[test]
+fn lines_of_modes_are_read(rt: HostRuntime) {
+    for (mode, line, wanted) in [
+        (Mode::Suppose, b" keep ".as_slice(), Some(ModeLine::Keep)),
+        (Mode::Suppose, b"keep now", None),
+        (Mode::Agents, b"commit", None),
+        (Mode::Repairs, b"timeline", None),
+        (Mode::Timeline, b"timeline", Some(ModeLine::Timeline)),
+    ] {
+        assert_eq!(rt; mode_line(mode, line), wanted);
+    }
+    assert!(rt;
+        matches!(
+            mode_line(Mode::Agents, b" @p  point a"),
+            Some(ModeLine::Hold { rest: 3, .. })
+        )
+    );
 }

@@ -7,7 +7,8 @@ use Rattle.std.proofs.lemmas.List.{append-nil, drop-drop, take-append-drop, leng
 use Rattle.std.proofs.lemmas.List.Sums.{prefix_len-le-length}
 use Rattle.std.proofs.lemmas.Option.{cond_some, none-some}
 use Rattle.tmm_model.specs.Lines.{is_blank, goes_on, words}
-use Rattle.tmm_grammar.specs.LineCuts.{AreBlanks}
+use Rattle.tmm_model.specs.Modes.{after_word}
+use Rattle.tmm_grammar.specs.LineCuts.{AreBlanks, IsWord}
 use Rattle.tmm_grammar.proofs.LineWords.{words-blanks, words-word}
 use Rattle.tmm_words.specs.Places.{IsFirstWord}
 
@@ -107,6 +108,36 @@ words-first line from begin end f =
     ap words (sym (take-append-drop (begin - from) (drop from line)) ∙ ap (λ (xs : List ℕ). take (begin - from) (drop from line) ++ xs) behind)
     ∙ words-blanks (slice_range line from begin) (slice_range line begin end ++ drop end line) f.gap
     ∙ words-word (slice_range line begin end) (drop end line) f.word f.ends
+
+after-blanks : (gap line : List ℕ) → AreBlanks gap → after_word (gap ++ line) ≡ length gap + after_word line
+after-blanks [] line h = omega arith
+after-blanks (b ∷ gap) line h = let p = and_parts (is_blank b) (list_all is_blank gap) h in rw (p.0, after-blanks gap line p.1) (omega arith)
+
+after-word : (w rest : List ℕ) → IsWord w → goes_on rest ≡ false → after_word (w ++ rest) ≡ length w
+after-word [] rest h ends = absurd (h.0 refl)
+after-word (b ∷ []) rest h ends = let p = and_parts (not (is_blank b)) true h.1 in rw (not-true (is_blank b) p.0, ends) refl
+after-word (b ∷ c ∷ w) rest h ends =
+    let p = and_parts (not (is_blank b)) (list_all (λ b. not (is_blank b)) (c ∷ w)) h.1 in
+    let q = and_parts (not (is_blank c)) (list_all (λ b. not (is_blank b)) w) p.1 in
+    let more : after_word (c ∷ w ++ rest) ≡ length (c ∷ w) = after-word (c ∷ w) rest (λ e. cc, p.1) ends in
+    rw (not-true (is_blank b) p.0, q.0) (rw more (omega arith))
+
+-- the first word of the line ends where the byte after it stands
+pub after-first : (line : List ℕ) (begin end : ℕ) → IsFirstWord line 0 begin end → end ≡ after_word line
+after-first line begin end f =
+    let w = slice_range line begin end in
+    let rest = drop end line in
+    let size : begin + (end - begin) ≡ end = omega (arith, f.some) in
+    let behind : drop begin line ≡ w ++ rest = sym (take-append-drop (end - begin) (drop begin line)) ∙ rw (drop-drop, size) refl in
+    let none : begin - 0 ≡ begin = omega arith in
+    let front : AreBlanks (take begin line) = rw none at f.gap in
+    let gap : length (take begin line) ≡ begin = length-take-le begin line (omega (arith, f.some, f.within)) in
+    let long : length w ≡ end - begin = length-take-le (end - begin) (drop begin line) (omega (arith, length-drop begin line, f.within, f.some)) in
+    let whole : after_word line ≡ length (take begin line) + length w =
+    ap after_word (sym (take-append-drop begin line) ∙ ap (λ (xs : List ℕ). take begin line ++ xs) behind)
+    ∙ after-blanks (take begin line) (w ++ rest) front
+    ∙ ap (λ (n : ℕ). length (take begin line) + n) (after-word w rest f.word f.ends) in
+    omega (arith, whole, gap, long, size)
 
 pub len_of : (m : ℕ) (o : Option ℕ) (w : List ℕ) → m ≡ unwrap_or o (length w) → o ≡ position is_blank w → m ≡ unwrap_or (position is_blank w) (length w)
 len_of m o w h e = h ∙ ap (λ (x : Option ℕ). unwrap_or x (length w)) e
