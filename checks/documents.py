@@ -118,6 +118,12 @@ def wrong_crates() -> Iterator[str]:
             yield f"PROOFS.md: there is no crate {name}"
 
 
+def wrong_version() -> Iterator[str]:
+    version = text_of(ROOT / "VERSION").strip()
+    if f'version = "{version}"' not in text_of(ROOT / "clients" / "python" / "pyproject.toml").splitlines():
+        yield f"clients/python/pyproject.toml: the version is not {version}, as VERSION has it"
+
+
 # ---- what is quoted
 
 
@@ -170,6 +176,7 @@ def main(words: List[str]) -> int:
         *wrong_paths(),
         *wrong_lemmas(),
         *wrong_crates(),
+        *wrong_version(),
         *wrong_quotes(),
         *wrong_excerpts(),
     ]

@@ -82,8 +82,8 @@ STATUSES = {
     5: "there was no memory to begin with",
     6: "the script has more than 2^30 bytes",
     7: "all lines are answered, and some `memory`",
-    8: "its words could not be had",
-    70: "the program could not be built",
+    8: "the command-line arguments could not be read",
+    70: "the program could be neither built nor run without proofs",
 }
 
 # The statuses that come after a reply to every line.
