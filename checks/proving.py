@@ -163,7 +163,7 @@ class Proving(unittest.TestCase):
     def test_other_words(self) -> None:
         for word in ("--help", "word", ""):
             ran = self.run_script("tmm", word)
-            self.assertEqual((ran.returncode, ran.stdout), (2, "usage: tmm [demo N], N from 1 to 1000\n"))
+            self.assertEqual((ran.returncode, ran.stdout), (2, "usage: tmm [demo N | suppose], N from 1 to 1000\n"))
         self.assertEqual(self.take_calls(), [])
 
     def test_no_toolchain(self) -> None:

@@ -12,6 +12,8 @@ pub mod KnownFacts
 pub mod Untouched
 pub mod Rising
 pub mod Told
+pub mod WholeChanges
+pub mod RowOrder
 pub mod Neighbours
 pub mod ByNumber
 pub mod Dates

@@ -10,7 +10,8 @@
 //! touched. From the differences alone `changes_told` answers what of belief changed, and
 //! `size_after` the size of the map. `reach` makes places for new numbers, and `take_over`, which
 //! takes no memory, writes the differences into what is kept. `listed_by_number` puts all rows in
-//! order. Without memory a call answers `NoMemory`.
+//! order. `with_protections` joins what changed of belief with what changed of protections. Without
+//! memory a call answers `NoMemory`.
 #![tactic(auto)]
 
 mod by_number;
@@ -20,9 +21,11 @@ mod kept_rows;
 mod left_nodes;
 mod list;
 mod matched;
+mod of_rows;
 mod places;
 mod size;
 mod told_changes;
+mod whole_changes;
 
 pub use by_number::listed_by_number;
 pub use changes::{BeliefChanges, compare};
@@ -30,5 +33,7 @@ pub use differing::differences;
 pub use kept_rows::{Difference, KeptRow, reach, take_over};
 pub use left_nodes::LeftNode;
 pub use list::{BeliefRow, list_rows, listed};
+pub use of_rows::occurrences;
 pub use size::size_after;
 pub use told_changes::changes_told;
+pub use whole_changes::with_protections;

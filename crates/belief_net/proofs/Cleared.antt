@@ -26,7 +26,8 @@ use Rattle.undo_rows.specs.declared.row.Row.{Row as TableRow}
 use Rattle.decision_rows.specs.declared.row.Pair.{Pair}
 use Rattle.occ_tree.specs.Classes.{place_in}
 use Rattle.occ_tree.specs.Places.{forest}
-use Rattle.revisions.specs.Standing.{Stands, IsLeftOut}
+use Rattle.revisions.specs.Standing.{Stands}
+use Rattle.list_theory.specs.LeftOut.{IsLeftOut}
 use Rattle.revisions.proofs.Lawful.{text}
 use Rattle.revisions.proofs.Standing.{standing_occurs}
 use Rattle.revisions.proofs.Tokens.{classes_stay, root_named}

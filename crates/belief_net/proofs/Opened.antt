@@ -36,7 +36,7 @@ use Rattle.occ_tree.specs.Places.{forest}
 use Rattle.occ_tree.specs.Standing.{Kept, present, committed, early}
 use Rattle.occ_tree.proofs.KeptDates.{points_date_nodes}
 use Rattle.revisions.specs.Maps.{watches}
-use Rattle.revisions.specs.Standing.{IsLeftOut}
+use Rattle.list_theory.specs.LeftOut.{IsLeftOut}
 use Rattle.revisions.specs.Walls.{AllOccur}
 use Rattle.revisions.proofs.StillEdits.{base_root}
 use Rattle.revisions.proofs.Tokens.{root_named}

@@ -16,7 +16,7 @@ use Rattle.spots.specs.OfLists.{IsForestOf}
 use Rattle.undo_rows.specs.declared.row.Row.{Row as TableRow}
 use Rattle.decision_rows.specs.declared.row.Pair.{Pair}
 use Rattle.occ_tree.specs.Places.{forest}
-use Rattle.revisions.specs.Standing.{IsLeftOut}
+use Rattle.list_theory.specs.LeftOut.{IsLeftOut}
 use Rattle.joined.specs.Netted.{IsCurrent}
 use Rattle.joined.specs.Telling.{LeaveFirst}
 use Rattle.belief_net.specs.declared.erasing.Departed.{Departed}

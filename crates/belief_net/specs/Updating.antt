@@ -20,7 +20,7 @@ use Rattle.decision_rows.specs.declared.row.Pair.{Pair}
 use Rattle.occ_tree.specs.Places.{forest}
 use Rattle.occ_tree.specs.Standing.{present, committed}
 use Rattle.revisions.specs.Counted.{changed}
-use Rattle.revisions.specs.Standing.{IsLeftOut}
+use Rattle.list_theory.specs.LeftOut.{IsLeftOut}
 use Rattle.joined.specs.Netted.{IsCurrent}
 use Rattle.joined.specs.Telling.{TellsAll}
 use Rattle.belief_net.specs.declared.state.BeliefNet.{BeliefNet}

@@ -1,3 +1,4 @@
+pub mod Believed
 pub mod FirstPlaces
 pub mod KeptLists
 pub mod Outcomes

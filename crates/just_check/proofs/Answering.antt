@@ -22,7 +22,7 @@ use Rattle.just_check.specs.declared.auditing.Checked.{Checked}
 use Rattle.just_check.specs.declared.expected.Origin.{Origin}
 use Rattle.just_check.specs.declared.expected.Expected.{Expected}
 use Rattle.just_check.specs.Audited.{rows_of, IsChecked, IsDecided}
-use Rattle.just_check.specs.Believed.{believed_in_order}
+use Rattle.belief_theory.specs.Believed.{believed_in_order}
 use Rattle.just_check.specs.Checking.{FiresIn, AreSoFar, AwaitsRoots, is_due, IsDue, Expects}
 use Rattle.just_check.specs.Origins.{comes_of, comes_from, has_event, entry_at}
 use Rattle.just_check.proofs.Deciding.{node_in}

@@ -24,7 +24,7 @@ use Rattle.belief_theory.proofs.SoundBeliefs.{sound_timed, believed_right, map_i
 use Rattle.belief_theory.proofs.Sorts.{sorted_in, sorted_rising}
 use Rattle.belief_theory.proofs.Spelt.{spelt}
 use Rattle.spots.proofs.Seen.{believed_once}
-use Rattle.just_check.specs.Believed.{believed_in_order}
+use Rattle.belief_theory.specs.Believed.{believed_in_order}
 use Rattle.just_check.specs.Checking.{FiresIn, Joins, AreFirst}
 use Rattle.just_check.specs.Audited.{date_of, IsBehind}
 

@@ -1,4 +1,3 @@
-pub mod Believed
 pub mod Kinds
 pub mod Origins
 pub mod Checking

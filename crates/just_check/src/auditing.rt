@@ -13,7 +13,7 @@ ghost use Rattle.occ_tree.specs.OfLists.{IsTreeIn};
 ghost use Rattle.occ_tree.specs.Places.{forest};
 ghost use Rattle.supports.specs.TimeMaps.{IsTimeMap};
 ghost use Rattle.just_check.specs.Audited.{IsTaken, IsChecked, IsReady, rows_of, DecidesThrough, EntersBehind, Takes, ComesAfter, IsDecided};
-ghost use Rattle.just_check.specs.Believed.{believed_in_order};
+ghost use Rattle.belief_theory.specs.Believed.{believed_in_order};
 ghost use Rattle.just_check.specs.Checking.{AwaitsRoots, AwaitsRoot, AwaitsMore};
 ghost use Rattle.just_check.specs.Kinds.{AreRules};
 ghost use Rattle.just_check.specs.Origins.{comes_from, has_event};

@@ -1,3 +1,4 @@
 pub mod Stops
 pub mod Grounds
 pub mod Lines
+pub mod Questions

@@ -1,3 +1,4 @@
 pub mod Fallen
+pub mod LeftOut
 pub mod NegativeCycles
 pub mod WellNamed

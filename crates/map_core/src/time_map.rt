@@ -128,7 +128,7 @@ pub trait MapCore {
         ensures { IfOk result (λ found. map row_of found.items ≡ rows (built (list self.now))) };
 
     /// Whether the map's own rows are the believed occurrences of its list, in their order, each
-    /// once. They are, and it is found anew from the list. Without memory it answers that.
+    /// once. They are: what is believed is found anew from the list for it. Without memory it answers that.
     fn audit(&self, alloc: Global) -> Result<bool, NoMemory>
         requires idle { pending self.now ≡ None }
         ensures { IfOk result (λ good. IsTrue good) };

@@ -1,6 +1,4 @@
 mod AtNode
-mod Told
-mod Rows
 mod Finding
 mod Reading
 mod Ruled

@@ -25,7 +25,7 @@ use Rattle.revisions.specs.Counted.{changed}
 use Rattle.map_engine.specs.declared.next.Next.{Next}
 use Rattle.map_engine.specs.declared.next.Next.TheVariants.{Nothing, Same, Reviewed, Changed}
 use Rattle.map_engine.specs.declared.kept_view.KeptView.{KeptView}
-use Rattle.map_engine.specs.Beliefs.{IsLeftOut}
+use Rattle.list_theory.specs.LeftOut.{IsLeftOut}
 use Rattle.map_engine.specs.NetMaps.{AreNodesOf, IsResting, IsHeld, IsNetMap, CountsEdit}
 use Rattle.map_engine.specs.Nexts.{after, pending_list, HasPlacesIn, IsUnguarded, adds_protection}
 use Rattle.map_engine.specs.Reads.{IsReadOf, read_of}

@@ -1,15 +1,16 @@
 -- What is kept of nodes is that of a list's map, and stays so where the same is believed.
-use Rattle.std.proofs.Common.{◌≡◌, ◌∙◌, ℕ, ◌+◌, List, [], length, refl, sym, ap, subst}
-use Rattle.std.specs.Prelude.{Option, Some, None}
+use Rattle.std.proofs.Common.{◌≡◌, ◌∙◌, ℕ, ◌+◌, List, [], ◌∷◌, length, refl, sym, ap, subst}
+use Rattle.std.specs.Prelude.{Option, Some, None, sum_by}
 use Rattle.std.specs.List.{Contains}
 use Rattle.std.specs.Option.{option_map_or}
 use Rattle.tmm_model.specs.declared.token.Shape.{Shape}
 use Rattle.tmm_model.specs.declared.token.Shape.TheVariants.{Event, Persistence, Span}
-use Rattle.tmm_model.specs.Answers.{row, weight}
+use Rattle.tmm_model.specs.Answers.{row, weight, size}
 use Rattle.tmm_model.specs.Beliefs.{is_of, roots, rules_for}
 use Rattle.tmm_model.specs.Maps.{built}
 use Rattle.tmm_model.specs.Moments.{Moment, At, After, rules}
 use Rattle.tmm_model.specs.Standing.{Standing}
+use Rattle.walk_theory.proofs.Members.{Contains-cons_first}
 use Rattle.list_theory.proofs.Elements.{In-from_Contains}
 use Rattle.belief_theory.specs.Right.{Occurs}
 use Rattle.dist_net.specs.Net.{Net}
@@ -74,5 +75,14 @@ no_rows s f rows none empty =
       own = λ x live. (let (m, here) = node_at f x live in let never : None ≡ Some m = sym (none x) ∙ here in absurd (cc));
       none = λ x gone. refl;
     })
+
+-- and nothing is believed
+none_believed : (b : List Moment) (f : Forest) → HasOccurrences b f → ((x : ℕ) → member f x ≡ None) → b ≡ []
+none_believed [] f holds none = refl
+none_believed (k ∷ b) f holds none = let (x, m, here, is) = holds.all k (Contains-cons_first k b) in let never : None ≡ Some m = sym (none x) ∙ here in absurd (cc)
+
+-- so the map has no size
+pub no_size : (s : Standing) (f : Forest) → HasOccurrences (built s).believed f → ((x : ℕ) → member f x ≡ None) → size (built s) ≡ 0
+no_size s f holds none = ap (sum_by (weight (built s))) (none_believed (built s).believed f holds none)
 
 -- ---- rows that are the same

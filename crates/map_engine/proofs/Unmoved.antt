@@ -20,11 +20,11 @@ use Rattle.spots.specs.OfLists.{HasOccurrences}
 use Rattle.revisions.specs.Alike.{AreAlike, BelieveAlike}
 use Rattle.revisions.proofs.Alike.{alike_believe}
 use Rattle.protections.specs.Found.{AreFound}
-use Rattle.map_engine.specs.Beliefs.{IsLeftOut}
+use Rattle.list_theory.specs.LeftOut.{IsLeftOut}
 use Rattle.map_engine.specs.Reads.{Read, IsReadOf}
 use Rattle.map_engine.specs.Nexts.{IsUnguarded, is_protection, adds_protection}
 use Rattle.map_engine.proofs.Reading.{rows_still}
-use Rattle.map_engine.proofs.Told.{told}
+use Rattle.belief_list.proofs.WholeChanges.{told}
 
 -- ---- what is read of the nodes
 

@@ -1,7 +1,3 @@
-pub mod Views
-pub mod Beliefs
-pub mod Plain
-pub mod Questions
 pub mod Still
 pub mod Reads
 pub mod Nexts

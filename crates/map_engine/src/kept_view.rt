@@ -1,22 +1,17 @@
 // What is kept of the believed occurrences, to be read and to be compared with.
-ghost use Rattle.std.specs.Prelude.{◌≡◌, ◌≤◌, ℕ, None, map as mapped, IsTrue, IfOk};
-ghost use Rattle.tmm_model.specs.Answers.{rows, row_of, size, most_size};
+ghost use Rattle.std.specs.Prelude.{◌≡◌, ℕ, None, map as mapped, IsTrue, IfOk};
+ghost use Rattle.tmm_model.specs.Answers.{rows, row_of};
 ghost use Rattle.tmm_model.specs.Maps.{built};
-ghost use Rattle.dist_net.specs.Net.{Net};
-ghost use Rattle.occ_tree.specs.OfLists.{IsTreeOf};
+ghost use Rattle.tmm_model.specs.Standing.{Standing as List};
 ghost use Rattle.occ_tree.specs.Places.{forest};
-ghost use Rattle.spots.specs.Forest.{member};
+ghost use Rattle.spots.specs.Forest.{Forest, member};
 ghost use Rattle.spots.specs.OfLists.{HasOccurrences};
 ghost use Rattle.supports.specs.TimeMaps.{IsTimeMap};
 ghost use Rattle.map_engine.specs.Nexts.{IsUnguarded};
 ghost use Rattle.map_engine.specs.Reads.{IsReadOf, read_of};
 
-use crate::view::occurrences;
-use belief_list::{Difference, KeptRow, list_rows, listed_by_number};
-use belief_net::size_of;
+use belief_list::{Difference, KeptRow, list_rows, listed_by_number, occurrences};
 use just_check::audit;
-use occ_tree::Tree;
-use premise_list::Standing;
 use protections::{BrokenProtections, Review};
 use std::alloc::Global;
 use supports::TimeMap;
@@ -44,28 +39,15 @@ pub(crate) struct NextView {
     pub review: Review,
 }
 
-// What is kept where there is no node and no protection.
-pub(crate) fn first_view(
-    alloc: Global,
-    standing: &Standing,
-    tree: &Tree,
-) -> Result<KeptView, NoMemory>
-    requires seen { (net : Net) × IsTreeOf standing.now.present net tree.now }
-    requires holds { HasOccurrences (built standing.now.present).believed (forest tree.now) }
-    requires empty { (x : ℕ) → member (forest tree.now) x ≡ None }
-    requires unguarded { IsUnguarded standing.now.present }
-    ensures { IfOk result (λ view. IsReadOf standing.now.present (forest tree.now) (read_of view)) }
+// What is kept where there is no node and no protection. It takes no memory.
+pub(crate) fn first_view(alloc: Global) -> KeptView
+    ensures { (s : List) (f : Forest) → HasOccurrences (built s).believed f → ((x : ℕ) → member f x ≡ None) → IsUnguarded s → IsReadOf s f (read_of result) }
 {
-    let size = match size_of(alloc, standing, tree) {
-        Ok(size) => size,
-        // The map is small, so only memory can be wanting.
-        Err(_) => return Err(NoMemory),
-    };
-    Ok(KeptView {
-        size,
+    KeptView {
+        size: 0,
         rows: Vec::new(alloc),
         broken: BrokenProtections::make(alloc),
-    })
+    }
 }
 
 // The believed occurrences of the last commit, in their order.

@@ -5,27 +5,19 @@
 //!
 //! `MapCore` is its contract: every answer is that of the map which is built of the list from
 //! scratch, an edit is accepted exactly where the definitions say so, and a refusal or want of
-//! memory changes nothing. `PlainMap` meets it by making beliefs anew at each edit, and `NetMap`,
-//! which the program runs, by keeping the believed occurrences and their decisions current: an edit
-//! makes again only the decisions that it touches, and none where it is seen that it touches no
-//! belief.
+//! memory changes nothing. `NetMap`, which the program runs, meets it by keeping the believed
+//! occurrences and their decisions current: an edit makes again only the decisions that it touches,
+//! and none where it is seen that it touches no belief.
 #![tactic(auto)]
 
 mod at_node;
-mod beliefs;
-mod changes;
-mod edits;
 mod kept_view;
 mod moved;
 mod net_map;
 mod next;
-mod plain;
-mod questions;
 mod rival_classes;
 mod still;
 mod touching;
-mod view;
 
 pub use map_core::{MapCore, Opens, Pending};
 pub use net_map::NetMap;
-pub use plain::PlainMap;

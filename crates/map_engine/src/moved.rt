@@ -21,7 +21,7 @@ ghost use Rattle.spots.specs.OfLists.{HasOccurrences};
 ghost use Rattle.supports.specs.Apart.{AreOthersApart};
 ghost use Rattle.supports.specs.Edited.{IsEdited, old_forest};
 ghost use Rattle.supports.specs.TimeMaps.{IsTimeMap};
-ghost use Rattle.map_engine.specs.Beliefs.{IsLeftOut};
+ghost use Rattle.list_theory.specs.LeftOut.{IsLeftOut};
 ghost use Rattle.map_engine.specs.Gone.{seen_left};
 ghost use Rattle.map_engine.specs.NetMaps.{AreNodesOf};
 ghost use Rattle.map_engine.specs.Nexts.{IsUnguarded, read_next, HasPlacesFor};
@@ -29,11 +29,12 @@ ghost use Rattle.map_engine.specs.Reads.{IsReadOf, read_of};
 ghost use Rattle.map_engine.specs.Ruled.{HasRuled};
 ghost use Rattle.map_engine.specs.Touching.{IsToldOf};
 
-use crate::changes::with_protections;
 use crate::kept_view::{KeptView, NextView};
 use crate::next::Known;
 use crate::touching::{push_ruled, roots_named, touched};
-use belief_list::{Difference, KeptRow, LeftNode, changes_told, differences, reach, size_after};
+use belief_list::{
+    Difference, KeptRow, LeftNode, changes_told, differences, reach, size_after, with_protections,
+};
 use belief_net::{BeliefNet, DatedOcc, Told};
 use dist_net::DistNet;
 use map_core::Counter;

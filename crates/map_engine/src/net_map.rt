@@ -14,13 +14,13 @@ ghost use Rattle.revisions.specs.Counted.{changed};
 ghost use Rattle.map_engine.specs.NetMaps.{CountsEdit, IsHeld};
 ghost use Rattle.map_core.specs.Stops.{StopsEdit, NamesEdited};
 
-use crate::edits::{apply_edit, roll_back};
 use crate::kept_view::{KeptView, audited_view, first_view, kept_rows};
 use crate::next::{Known, Next, draw_next, keep, may_guard};
-use crate::questions::{ask_between, bounds_between, path_between, tell_why};
 use crate::still::{is_ruling, is_unread};
 use belief_net::BeliefNet;
 use dist_net::DistNet;
+use justify::{ask_between, bounds_between, path_between, tell_why};
+use list_net::{apply_edit, roll_back};
 use map_core::{Counter, Listener, MapCore, Opens, Pending};
 use premise_list::Standing;
 use std::alloc::Global;
@@ -50,7 +50,7 @@ pub struct NetMap {
 }
 
 impl Model for NetMap {
-    ghost use Rattle.map_engine.specs.Plain.{MapState};
+    ghost use Rattle.map_core.specs.MapStates.{MapState};
     ghost use Rattle.map_engine.specs.Nexts.{pending_list};
     ghost use Rattle.map_engine.specs.NetMaps.{IsNetMap};
 
@@ -71,34 +71,29 @@ impl NetMap {
         let net = DistNet::make(alloc)?;
         net.invariants();
         let nodes = BeliefNet::make(alloc);
-        first_map(alloc, standing, net, nodes)
+        Ok(first_map(alloc, standing, net, nodes))
     }
 }
 
 // The map of a list in which nothing is declared to occur, so that there is no node, and no
-// protection stands.
-fn first_map(
-    alloc: Global,
-    standing: Standing,
-    net: DistNet,
-    nodes: BeliefNet,
-) -> Result<NetMap, NoMemory>
+// protection stands. It asks for no memory, so that no way out has all these parts to drop.
+fn first_map(alloc: Global, standing: Standing, net: DistNet, nodes: BeliefNet) -> NetMap
     requires settled { NothingPending standing net }
     requires held { IsHeld standing.present net.present false }
     requires kept { IsKept standing.present net.present nodes }
     requires empty { (x : ℕ) → member (forest nodes.tree) x ≡ None }
-    ensures list { IfOk result (λ m. m.list ≡ standing.committed) }
-    ensures idle { IfOk result (λ m. m.pending ≡ None) }
+    ensures list { result.list ≡ standing.committed }
+    ensures idle { result.pending ≡ None }
 {
-    let view = first_view(alloc, &standing, nodes.tree())?;
-    Ok(NetMap {
+    let view = first_view(alloc);
+    NetMap {
         standing,
         net,
         nodes,
         view,
         guarded: false,
         next: Next::Nothing,
-    })
+    }
 }
 
 impl Opens for NetMap {

@@ -14,7 +14,7 @@ ghost use Rattle.revisions.specs.Ruling.{is_ruling};
 ghost use Rattle.spots.specs.OfLists.{HasOccurrences};
 ghost use Rattle.supports.specs.Edited.{IsEdited, AreOthersUntouched};
 ghost use Rattle.supports.specs.TimeMaps.{IsTimeMap};
-ghost use Rattle.map_engine.specs.Beliefs.{IsLeftOut};
+ghost use Rattle.list_theory.specs.LeftOut.{IsLeftOut};
 ghost use Rattle.map_engine.specs.NetMaps.{AreNodesOf, IsResting};
 ghost use Rattle.map_engine.specs.Nexts.{after, read_next, HasPlacesFor, HasPlacesIn, pending_list, IsUnguarded, adds_protection};
 ghost use Rattle.map_engine.specs.Reads.{IsReadOf, read_of};

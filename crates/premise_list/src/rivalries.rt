@@ -42,6 +42,19 @@ impl Rivalries {
         }
     }
 
+    // The pairs now, of which none has changed since the last commit.
+    pub(crate) fn copy(&self, alloc: Global) -> Result<Rivalries, NoMemory>
+        ensures present { IfOk result (λ copy. copy.present ≡ self.now.present) }
+        ensures committed { IfOk result (λ copy. copy.committed ≡ self.now.present) }
+    {
+        let pairs = self.present.as_slice();
+        Ok(Rivalries {
+            present: Vec::from_slice(alloc, pairs)?,
+            committed: Vec::from_slice(alloc, pairs)?,
+            moved: false,
+        })
+    }
+
     // The pairs now.
     pub(crate) fn present(&self) -> &[(Name, Name)]
         ensures { result.now ≡ self.now.present }

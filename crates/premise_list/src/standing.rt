@@ -71,6 +71,28 @@ impl Standing {
         }
     }
 
+    /// A list of its own that is like the present one, with nothing pending: a rollback leaves it as
+    /// it is.
+    pub fn copy(&self, alloc: Global) -> Result<Standing, NoMemory>
+        ensures { IfOk result (λ copy. copy ≡ record { present = self.now.present; committed = self.now.present }) }
+    {
+        let table = self.table.copy(alloc)?;
+        let shared = table.premises().len();
+        let rivalries = self.rivalries.copy(alloc)?;
+        Ok(Standing {
+            table,
+            version: self.version,
+            horizon: self.horizon,
+            past: Past {
+                shared,
+                taken: Vec::new(alloc),
+            },
+            rivalries,
+            committed_version: self.version,
+            committed_horizon: self.horizon,
+        })
+    }
+
     /// Whether names and counts let the edit through, and else the first cause against it. A
     /// refused word is told as the point of a name.
     pub fn check(&self, edit: &Edit) -> Result<(), Refusal>

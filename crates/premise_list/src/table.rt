@@ -1,5 +1,5 @@
 // A list of premises with the index of its names.
-ghost use Rattle.std.specs.Prelude.{◌≡◌, ◌<◌, ◌≤◌, ◌+◌, ◌*◌, List, [], ◌∷◌, ◌++◌, false, None, OnErr, OnOk, length, map, take, drop, reverse, slice_get, vec_len, vec_capacity};
+ghost use Rattle.std.specs.Prelude.{◌≡◌, ◌<◌, ◌≤◌, ◌+◌, ◌*◌, List, [], ◌∷◌, ◌++◌, false, None, IfOk, OnErr, OnOk, length, map, take, drop, reverse, slice_get, vec_len, vec_capacity};
 ghost use Rattle.std.specs.List.{flat_map, list_any};
 ghost use Rattle.std.specs.Map.{lookup};
 ghost use Rattle.std.specs.Option.{option_map, option_copied};
@@ -16,7 +16,7 @@ ghost use Rattle.premise_list.specs.Past.{Fits, IsMoreBy, RiseBelow, Stands, com
 ghost use Rattle.premise_list.specs.Table.{at_place, moved_down, placed, word_seen, entry_seen, fact_entry};
 
 use crate::past::{Past, Taken};
-use crate::premise::{Sort, facts_of, name_of, point_count, sort_of};
+use crate::premise::{Sort, copy_of, facts_of, name_of, point_count, sort_of};
 use indexmap::IndexMap;
 use std::alloc::Global;
 use std::marker::Model;
@@ -67,6 +67,20 @@ impl Table {
             words: IndexMap::new(alloc),
             points: 1,
         }
+    }
+
+    // A table of the same premises.
+    pub(crate) fn copy(&self, alloc: Global) -> Result<Table, NoMemory>
+        ensures { IfOk result (λ copy. copy.premises ≡ self.now.premises) }
+    {
+        let premises = copies_of(alloc, self.premises())?;
+        let mut words = IndexMap::with_capacity(alloc, self.words.len())?;
+        let points = declare_anew(&mut words, premises.as_slice());
+        Ok(Table {
+            premises,
+            words,
+            points,
+        })
     }
 
     // The premises, oldest first.
@@ -283,6 +297,17 @@ impl Table {
         put_each(&mut self.premises, taken);
         self.points = declare_anew(&mut self.words, self.premises.as_slice());
     }
+}
+
+// A list of the same premises.
+fn copies_of(alloc: Global, premises: &[Premise]) -> Result<Vec<Premise>, NoMemory>
+    ensures { IfOk result (λ copies. copies.items ≡ premises.now) }
+{
+    let mut copies = Vec::with_capacity(alloc, premises.len())?;
+    for premise in premises {
+        copies.push_reserved(copy_of(premise));
+    }
+    Ok(copies)
 }
 
 // Takes out the premises at these places with their names, and tells how many points they declare.

@@ -16,7 +16,7 @@ use Rattle.list_theory.specs.WellNamed.{IsWellNamed}
 use Rattle.list_theory.proofs.Elements.{In, In-left, In-filter, filter-In, map-In}
 use Rattle.list_theory.proofs.KnownNames.{found as found_named, finds}
 use Rattle.belief_theory.proofs.NextLists.{one_way}
-use Rattle.revisions.specs.Standing.{IsLeftOut}
+use Rattle.list_theory.specs.LeftOut.{IsLeftOut}
 use Rattle.protections.specs.declared.review.Review.{Review}
 use Rattle.protections.specs.declared.review.Reviewed.{Reviewed}
 use Rattle.protections.specs.Found.{Found, AreFound, with_report, without, with_all}

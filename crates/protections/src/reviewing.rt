@@ -11,7 +11,7 @@ ghost use Rattle.net_theory.specs.KeptNumbers.{IsThere};
 ghost use Rattle.spots.specs.OfLists.{HasOccurrences};
 ghost use Rattle.occ_tree.specs.OfLists.{IsTreeOf};
 ghost use Rattle.occ_tree.specs.Places.{forest};
-ghost use Rattle.revisions.specs.Standing.{IsLeftOut};
+ghost use Rattle.list_theory.specs.LeftOut.{IsLeftOut};
 ghost use Rattle.supports.specs.Apart.{AreOthersApart};
 ghost use Rattle.supports.specs.Edited.{IsEdited};
 ghost use Rattle.supports.specs.TimeMaps.{IsTimeMap};

@@ -1,13 +1,12 @@
 -- What of the list before still occurs after an edit: that whose root and whose rules still stand.
-use Rattle.std.specs.Prelude.{◌≡◌, ◌↔◌, ℕ, List, map, filter, IsSome}
-use Rattle.std.specs.Option.{is_none}
+use Rattle.std.specs.Prelude.{◌↔◌, IsSome}
 use Rattle.tmm_model.specs.declared.point.PointName.TheVariants.{Begin}
 use Rattle.tmm_model.specs.declared.premise.Edit.{Edit}
 use Rattle.tmm_model.specs.Edits.{next_list}
 use Rattle.tmm_model.specs.Moments.{Moment, At, After}
 use Rattle.list_theory.specs.WellNamed.{IsSound}
 use Rattle.belief_theory.specs.Right.{Occurs}
-use Rattle.tmm_model.specs.Standing.{Standing, name_of, premise_in}
+use Rattle.tmm_model.specs.Standing.{Standing, premise_in}
 
 -- the root and each rule on the way are premises of the list
 abbrev pub Stands : Standing → Moment → Type 0
@@ -20,7 +19,3 @@ abbrev pub StandingOccur : Type 0
 StandingOccur =
     (old : Standing) (edit : Edit) → IsSound old → IsSound (next_list old edit)
     → (x : Moment) → Occurs old x → Occurs (next_list old edit) x ↔ Stands (next_list old edit) x
-
--- the names are those of the premises of the first list that are not in the second, in their order
-abbrev pub IsLeftOut : Standing → Standing → List (List ℕ) → Type 0
-IsLeftOut old new names = names ≡ filter (λ name. is_none (premise_in new.premises name)) (map name_of old.premises)

@@ -1,16 +1,10 @@
 //! What no clause says: the text of whole scripts, that calls succeed, and what faults leave.
-ghost use Rattle.std.specs.Prelude.{[], ◌≡◌, ◌≤◌};
-
 use crate::run::run;
-use map_engine::PlainMap;
 use std::alloc::Global;
 use std::process::Abort;
 use std::test::Fail;
-use tmm_drive::{Status, drive};
+use tmm_drive::Status;
 use tmm_io::{MemSink, MemSource, RepeatSource, Source, SteadySource};
-use tmm_model::{NoMemory, Seq};
-use tmm_program::line_buffer;
-use tmm_session::Session;
 
 /// Runs a script in pieces of this many bytes, and compares its replies and its status.
 fn expect(
@@ -161,7 +155,7 @@ fn expect_with(
 #[test]
 fn other_words_get_the_usage_line(rt: HostRuntime) -> Result<(), Fail> {
     let alloc = rt.alloc();
-    let wrong: [&[&str]; 8] = [
+    let wrong: [&[&str]; 9] = [
         &["x"],
         &["demo"],
         &["demo", "0"],
@@ -170,13 +164,14 @@ fn other_words_get_the_usage_line(rt: HostRuntime) -> Result<(), Fail> {
         &["demo", "-1"],
         &["demo", ""],
         &["demo", "1", "1"],
+        &["suppose", "suppose"],
     ];
     for words in wrong {
         expect_with(
             &rt,
             alloc,
             words,
-            b"usage: tmm [demo N], N from 1 to 1000\n",
+            b"usage: tmm [demo N | suppose], N from 1 to 1000\n",
             Status::Words,
         )?;
     }
@@ -202,6 +197,33 @@ fn generated_scripts_are_summarized(rt: HostRuntime) -> Result<(), Fail> {
     ];
     for (n, line) in lines {
         expect_with(&rt, alloc, &["demo", n], line, Status::Clean)?;
+    }
+    Ok(())
+}
+
+/// Scripts with suppositions, and their replies.
+const SUPPOSED: [(&[u8], &[u8]); 2] = [
+    // one that is given up, and one that is kept
+    (
+        b"point a\npoint b\ndist d a b 3 7\nsuppose\ndist f a b 5 5\nbounds a b\ndrop\nbounds a b\nsuppose\ndist f a b 2 5\nkeep\nbounds a b\ndrop\n",
+        b"1 ok\n2 ok\n3 ok\n4 ok\n5 ok\n6 bounds 5 5\n7 ok\n8 bounds 3 7\n9 ok\n10 ok\n11 ok\n12 bounds 3 5\n13 no suppose\n",
+    ),
+    // as many as may stand, and one more
+    (
+        b"suppose\nsuppose\nsuppose\nsuppose\nsuppose\nsuppose\nsuppose\nsuppose\nsuppose\n",
+        b"1 ok\n2 ok\n3 ok\n4 ok\n5 ok\n6 ok\n7 ok\n8 ok\n9 no limit suppose\n",
+    ),
+];
+
+#[test]
+fn suppositions_are_kept_or_given_up(rt: HostRuntime) -> Result<(), Fail> {
+    let alloc = rt.alloc();
+    let words = [String::from_str(alloc, "suppose")?];
+    for (script, replies) in SUPPOSED {
+        let mut source = MemSource::make(alloc, script, 4096, &[])?;
+        let mut sink = MemSink::make(alloc, 1 << 10, &[])?;
+        assert_eq!(rt; run(alloc, &words, &mut source, &mut sink), Status::SomeRefused);
+        assert_eq!(rt; sink.bytes(), replies);
     }
     Ok(())
 }
@@ -361,58 +383,6 @@ const ROWS: &[(&[u8], &[u8], Status)] = &[
 fn rows_are_answered(rt: HostRuntime) -> Result<(), Fail> {
     for (script, replies, status) in ROWS {
         expect(&rt, rt.alloc(), script, 4096, replies, *status)?;
-    }
-    Ok(())
-}
-
-/// Edits that leave beliefs as they are, and among them some that do not: points and constraints
-/// that come and go beside a door that a push shuts, protections that they break and mend, roots
-/// that they move, a horizon, a token that is erased, and edits that are refused.
-const STILL: [&[u8]; 2] = [
-    b"class door open shut\nkind push\nrule shuts push 1 2 shut if open\ntoken held open\nevent e push\npoint x\ndist d held e 5 10\nprotect p open held e\npoint y\ndist m x y 3 4\nprotect q open held x\ndist n held x 2 3\ncheck\nbounds held y\nerase n\ncheck\ndist s start held 1 1\nlist\nhorizon 0\nlist\nhorizon 1000\nerase x\naudit\nwhy e/shuts\ndump\n",
-    b"class c f g\nkind k\ntoken t f\nspan s f\npoint a\ndist d t a 2 2\nprotect p f t a\ntoken u g\ndist v t u 1 1\ndist w a start * -9\nerase v\ndist w t s 5 5\ndist z t a 3 3\ndist o s.end a 0 0\ndist o a s.end 9 9\nerase o\nerase d\nerase d\nerase u\nerase p\nrule r k 1 1 g if f\nevent e k\nerase a\ncheck\nlist\nsize\naudit\n",
-];
-
-/// Runs a script over the plain map, which makes beliefs anew at each edit.
-fn run_plain(alloc: Global, script: &[u8], sink: &mut MemSink) -> Result<Status, Fail> {
-    let mut buffer = line_buffer(alloc)?;
-    let mut source = MemSource::make(alloc, script, 4096, &[])?;
-    let status = answer_plain(alloc, &mut buffer, &mut source, sink)?;
-    Ok(status)
-}
-
-/// Answers the lines of a script over the plain map.
-fn answer_plain(
-    alloc: Global,
-    buffer: &mut Seq<u8>,
-    source: &mut MemSource,
-    sink: &mut MemSink,
-) -> Result<Status, NoMemory>
-    requires empty { buffer.old.items ≡ [] }
-    requires room { 401 ≤ buffer.old.room }
-{
-    let mut session = Session::make(PlainMap::make(alloc)?);
-    Ok(drive(alloc, &mut session, buffer, source, sink))
-}
-
-/// The map of the program answers a script as the plain map does.
-fn expect_plain(rt: &impl Abort, alloc: Global, script: &[u8]) -> Result<(), Fail> {
-    let mut plain = MemSink::make(alloc, 1 << 12, &[])?;
-    let status = run_plain(alloc, script, &mut plain)?;
-    let mut sink = MemSink::make(alloc, 1 << 12, &[])?;
-    let mut source = MemSource::make(alloc, script, 4096, &[])?;
-    assert_eq!(rt; run(alloc, &[], &mut source, &mut sink), status);
-    assert_eq!(rt; sink.bytes(), plain.bytes());
-    Ok(())
-}
-
-#[test]
-fn both_maps_answer_alike(rt: HostRuntime) -> Result<(), Fail> {
-    for script in STILL {
-        expect_plain(&rt, rt.alloc(), script)?;
-    }
-    for (script, _, _) in ROWS {
-        expect_plain(&rt, rt.alloc(), script)?;
     }
     Ok(())
 }

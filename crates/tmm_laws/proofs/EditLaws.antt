@@ -14,14 +14,12 @@ use Rattle.tmm_model.specs.declared.premise.Edit.TheVariants.{Add, Horizon, Upgr
 use Rattle.tmm_model.specs.declared.premise.Premise.{Premise}
 use Rattle.tmm_model.specs.declared.version.Version.{Version}
 use Rattle.tmm_model.specs.declared.version.Version.TheVariants.{One, Two}
-use Rattle.tmm_model.specs.Answers.{size, most_size}
 use Rattle.tmm_laws.specs.EditLaws.{AcceptsAll, version_edits, dump_edits, ReadsBack, AllReadBack, GrowsSmall}
 use Rattle.tmm_model.specs.Edits.{list_with}
 use Rattle.belief_theory.specs.KeptLists.{IsKept}
 use Rattle.belief_theory.proofs.StayKept.{upgraded_is_small}
 use Rattle.tmm_model.specs.Kept.{IsAccepted}
 use Rattle.tmm_model.specs.Lines.{IsWellFormedPremise, IsOfVersion, edit_words, spaced, words, ReadsLine}
-use Rattle.tmm_model.specs.Maps.{built}
 use Rattle.list_theory.specs.WellNamed.{Follows, AllFollow}
 use Rattle.tmm_model.specs.Sorts.{declared_by, uses_of}
 use Rattle.tmm_model.specs.Standing.{Standing, empty_list, points_of, points_in, arcs_of, arcs_in, IsConsistent}

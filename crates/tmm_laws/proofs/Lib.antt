@@ -7,3 +7,4 @@ mod KeptRuns
 mod OneText
 mod Timings
 mod Updating
+mod Exceptions

@@ -7,3 +7,4 @@ pub mod EditLaws
 pub mod KeptRuns
 pub mod OneText
 pub mod TimingLaw
+pub mod ExceptionLaw

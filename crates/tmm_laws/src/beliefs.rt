@@ -1,4 +1,5 @@
 // Laws of belief and of reasons.
+ghost use Rattle.tmm_laws.specs.ExceptionLaw.{ExceptionsLackSupport};
 ghost use Rattle.tmm_laws.specs.BeliefLaws.{OneRightSet, BeliefsAreRight, MapsAreRight, FiresWhereBelieved, ReasonsAreEarlier, CitedStandBefore};
 
 /// Two right sets of occurrences have the same members.
@@ -26,4 +27,9 @@ pub fn decisions_fire_where_believed()
 pub fn reasons_are_earlier()
     ensures earlier { ReasonsAreEarlier }
     ensures order { CitedStandBefore }
+{}
+
+/// No exception that the reason of a believed effect names has a supporter at its event.
+pub fn exceptions_lack_support()
+    ensures { ExceptionsLackSupport }
 {}

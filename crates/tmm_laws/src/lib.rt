@@ -10,8 +10,8 @@ mod edits;
 mod transcripts;
 
 pub use beliefs::{
-    beliefs_are_right, decisions_fire_where_believed, maps_are_right, one_right_set,
-    reasons_are_earlier,
+    beliefs_are_right, decisions_fire_where_believed, exceptions_lack_support, maps_are_right,
+    one_right_set, reasons_are_earlier,
 };
 pub use cycles::{cycle_sums_are_one, cycles_refuse};
 pub use distances::{

@@ -1,5 +1,5 @@
--- What contracts of the types and of the layers cite. **Nothing here need be believed**: the
--- contract of the program cites none of it.
+-- What contracts of the types and of the layers cite. The contract of the program reaches two of
+-- these, `Listed` and `IsPadded`: how contracts see a `Seq` and a `Name`.
 use Rattle.std.specs.Prelude.{ℕ, List, refl, ◌≡◌, ◌-◌, ◌≤◌, length, drop, replicate, ℤ, ◌+ℤ◌, ◌≤ℤ◌}
 use Rattle.std.specs.Coded.{Coded, code_by, coded×, coded_list, coded_ℕ}
 use Rattle.std.proofs.Common.{◌∙◌, ap, sym, subst, ◌++◌, take}

@@ -2,8 +2,9 @@
 //! contract of the program cites (`specs/`): names, points and premises, distances over
 //! constraints, what tokens support, what is believed and why, and what each line of a script is
 //! answered. **These definitions are what must be believed**, all but those of `specs/Types.antt`,
-//! which contracts below the program's cite. It stands on no other crate of this repository. The
-//! outline is that of Dean and McDermott (1987) over Dechter, Meiri and Pearl (1991).
+//! which contracts below the program's cite (its own reaches two of these, how a `Seq` and a `Name`
+//! are seen). It stands on no other crate of this repository. The outline is that of Dean and
+//! McDermott (1987) over Dechter, Meiri and Pearl (1991).
 //!
 //! What follows from the definitions stands in crates of its own: `walk_theory`, `list_theory`,
 //! `belief_theory`, `tmm_grammar`, and the laws in `tmm_laws`. `tmm_examples` computes them on

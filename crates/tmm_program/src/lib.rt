@@ -14,5 +14,4 @@ mod run;
 mod sessions;
 mod usage;
 
-pub use command::{Command, command_of};
-pub use run::{line_buffer, run_over};
+pub use run::run_over;

@@ -87,8 +87,8 @@ fn run_demo<M: Opens + Drop, K: Sink>(alloc: Global, n: u32, sink: &mut K) -> St
     demo(alloc, n, &mut session, sink)
 }
 
-/// Room for the part of a line that `drive` keeps.
-pub fn line_buffer(alloc: Global) -> Result<Seq<u8>, NoMemory>
+// Room for the part of a line that `drive` keeps.
+fn line_buffer(alloc: Global) -> Result<Seq<u8>, NoMemory>
     ensures empty { IfOk result (λ buffer. buffer.items ≡ []) }
     ensures room { IfOk result (λ buffer. 401 ≤ buffer.room) }
 {

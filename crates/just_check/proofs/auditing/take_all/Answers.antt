@@ -2,7 +2,7 @@ use Rattle.std.proofs.Common.{◌≡◌, ◌∙◌, ◌∷◌, ◌++◌, [], suc
 use Rattle.std.proofs.lemmas.List.{take_all}
 use Rattle.tmm_model.specs.Moments.{moment_of}
 use Rattle.just_check.specs.Audited.{rows_of, Takes}
-use Rattle.just_check.specs.Believed.{believed_in_order}
+use Rattle.belief_theory.specs.Believed.{believed_in_order}
 use Rattle.just_check.proofs.Answering.{is_list, all_there}
 use Rattle.just_check.proofs.Places.{mapped_more, mapped_parts}
 use Rattle.just_check.proofs.Prefixes.{next_joins, next_behind}

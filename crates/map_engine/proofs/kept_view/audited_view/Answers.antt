@@ -7,9 +7,9 @@ use Rattle.spots.specs.Forest.{moment_at}
 use Rattle.occ_tree.specs.Places.{forest}
 use Rattle.belief_list.specs.declared.list.BeliefRow.{BeliefRow}
 use Rattle.belief_list.specs.Rows.{IsLiveRow}
-use Rattle.just_check.specs.Believed.{believed_in_order}
-use Rattle.map_engine.proofs.Rows.{rows_in_order}
-use Rattle.map_engine.proofs.Told.{if_ok}
+use Rattle.belief_theory.specs.Believed.{believed_in_order}
+use Rattle.belief_list.proofs.RowOrder.{rows_in_order}
+use Rattle.belief_list.proofs.WholeChanges.{if_ok}
 use Rattle.map_engine.proofs.kept_view.audited_view.Goals as goal
 
 pub occurrences-requires : goal.occurrences-requires

@@ -5,7 +5,7 @@ use Rattle.tmm_model.specs.Maps.{built}
 use Rattle.occ_tree.specs.Places.{forest}
 use Rattle.belief_list.specs.declared.list.BeliefRow.{BeliefRow}
 use Rattle.belief_list.specs.Rows.{row_at, IsLiveRow}
-use Rattle.map_engine.proofs.Told.{if_ok}
+use Rattle.belief_list.proofs.WholeChanges.{if_ok}
 use Rattle.map_engine.proofs.kept_view.kept_rows.Goals as goal
 
 pub list_rows-requires : goal.list_rows-requires

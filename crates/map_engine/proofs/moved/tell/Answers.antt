@@ -4,9 +4,9 @@ use Rattle.belief_list.specs.declared.left_nodes.LeftNode.{LeftNode}
 use Rattle.belief_list.specs.LeftNodes.{AreWords}
 use Rattle.occ_tree.specs.Places.{forest}
 use Rattle.supports.specs.Edited.{old_forest}
-use Rattle.map_engine.specs.Beliefs.{IsLeftOut}
+use Rattle.list_theory.specs.LeftOut.{IsLeftOut}
 use Rattle.map_engine.proofs.Gone.{words_are}
-use Rattle.map_engine.proofs.Told.{told}
+use Rattle.belief_list.proofs.WholeChanges.{told}
 use Rattle.map_engine.proofs.moved.tell.Goals as goal
 
 pub changes_told-requires-clause-left : goal.changes_told-requires-clause-left

@@ -12,10 +12,10 @@ use Rattle.premise_list.specs.States.{States}
 use Rattle.revisions.specs.Alike.{SayAlike}
 use Rattle.revisions.specs.Ruling.{is_ruling}
 use Rattle.revisions.proofs.UnreadEdits.{unread_edit}
-use Rattle.map_engine.specs.Plain.{MapState}
+use Rattle.map_core.specs.MapStates.{MapState}
 use Rattle.map_core.specs.Stops.{StopsEdit}
 use Rattle.map_engine.proofs.NetMaps.{counts_edit, counts_least, is_nothing, rests_before, unguarded_before, unguarded_after, pending_edit, edited_map, undone_map}
-use Rattle.map_engine.proofs.Told.{too_large, named_large}
+use Rattle.belief_list.proofs.WholeChanges.{too_large, named_large}
 use Rattle.map_engine.proofs.net_map.NetMapMapCore.apply.Goals as goal
 
 pub draw_next-requires-clause-rests : goal.draw_next-requires-clause-rests

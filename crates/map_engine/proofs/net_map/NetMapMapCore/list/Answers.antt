@@ -6,9 +6,9 @@ use Rattle.occ_tree.specs.OfLists.{IsTreeOf}
 use Rattle.occ_tree.specs.Places.{forest}
 use Rattle.occ_tree.specs.Standing.{Kept}
 use Rattle.spots.specs.OfLists.{HasOccurrences}
-use Rattle.map_engine.specs.Plain.{MapState}
+use Rattle.map_core.specs.MapStates.{MapState}
 use Rattle.map_engine.specs.Reads.{IsReadOf, read_of}
-use Rattle.map_engine.proofs.Told.{if_ok}
+use Rattle.belief_list.proofs.WholeChanges.{if_ok}
 use Rattle.map_engine.proofs.net_map.NetMapMapCore.list.Goals as goal
 
 pub kept_rows-requires-clause-seen : goal.kept_rows-requires-clause-seen

@@ -1,0 +1,3 @@
+pub mod Views
+pub mod Beliefs
+pub mod Plain
