@@ -222,7 +222,10 @@ fn suppositions_are_kept_or_given_up(rt: HostRuntime) -> Result<(), Fail> {
     for (script, replies) in SUPPOSED {
         let mut source = MemSource::make(alloc, script, 4096, &[])?;
         let mut sink = MemSink::make(alloc, 1 << 10, &[])?;
-        assert_eq!(rt; run(alloc, &words, &mut source, &mut sink), Status::SomeRefused);
+        assert_eq!(rt;
+            run(alloc, &words, &mut source, &mut sink),
+            Status::SomeRefused
+        );
         assert_eq!(rt; sink.bytes(), replies);
     }
     Ok(())
