@@ -80,7 +80,9 @@ class Proving(unittest.TestCase):
             source = self.top / "crates" / name / "src"
             source.mkdir(parents=True)
             (source / "lib.rt").write_text("//\n" * lines)
-        shutil.copy(ROOT / "crates/tmm_cli/src/usage.rt", self.top / "crates/tmm_cli/src")
+        program = self.top / "crates" / "tmm_program" / "src"
+        program.mkdir(parents=True)
+        shutil.copy(ROOT / "crates/tmm_program/src/usage.rt", program)
         self.script = self.work / "script"
         self.script.write_text("point a\n")
         self.environment = {
@@ -147,6 +149,11 @@ class Proving(unittest.TestCase):
         self.order("try", 'cat; echo "run=ended status=0 runners=1 proved=no" >&2\n')
         self.assertEqual(self.run_script("tmm").stdout, "point a\n")
 
+    def test_a_file_with_suppositions_is_answered_by_a_try(self) -> None:
+        self.order("try", 'cat; echo "run=ended status=0 runners=1 proved=no" >&2\n')
+        self.assertEqual(self.run_script("tmm", "suppose").stdout, "point a\n")
+        self.assertEqual(self.take_calls()[0], "try -- suppose tmm_cli")
+
     def test_a_demo_is_answered_by_a_try(self) -> None:
         ran = self.run_script("tmm", "demo", "3", given="point a\n")
         self.assertEqual((ran.returncode, ran.stdout), (0, "1 ok\n"))
@@ -159,9 +166,9 @@ class Proving(unittest.TestCase):
         self.assertIn("checked: no-answer: too long\nrun=no-answer proved=no\n", ran.stderr)
 
     def test_other_words(self) -> None:
-        for word in ("--help", "word", ""):
-            ran = self.run_script("tmm", word)
-            self.assertEqual((ran.returncode, ran.stdout), (2, "usage: tmm [demo N], N from 1 to 1000\n"))
+        for words in (["--help"], ["word"], [""], ["suppose", "word"]):
+            ran = self.run_script("tmm", *words)
+            self.assertEqual((ran.returncode, ran.stdout), (2, "usage: tmm [demo N | suppose], N from 1 to 1000\n"))
         self.assertEqual(self.take_calls(), [])
 
     def test_no_toolchain(self) -> None:

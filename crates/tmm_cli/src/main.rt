@@ -1,16 +1,13 @@
-//! `tmm`: a script of lines in, a reply for each line out. Below it, `tmm_drive` cuts a source into
-//! lines and writes replies, `tmm_session` answers a line over a map, and `run` is the whole
-//! program; with the words `demo N` it answers the lines of `demo_gen` instead. The contract of
-//! `run` says what its words, the bytes taken, the bytes written and its status have to do with
-//! each other.
+//! `tmm`: a script of lines in, a reply for each line out. `run` is the whole program, which is
+//! what `tmm_program` does over the map of `map_engine`. Below it, `tmm_drive` cuts a source into
+//! lines and writes replies, and `tmm_session` answers a line over a map; with the words `demo N`
+//! the lines of `demo_gen` are answered instead. The contract of `run` says what its words, the
+//! bytes taken, the bytes written and its status have to do with each other.
 #![tactic(auto)]
 
-mod command;
-mod demo;
 mod run;
 #[cfg(test)]
 mod tests;
-mod usage;
 
 use crate::run::run;
 use std::env;

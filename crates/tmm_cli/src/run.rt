@@ -1,22 +1,19 @@
 // The top call.
-ghost use Rattle.std.specs.Prelude.{[], IfOk, ◌≡◌, ◌≢◌, ◌≤◌, List, ℕ};
+ghost use Rattle.std.specs.Prelude.{◌≡◌, ◌≢◌, List, ℕ};
 ghost use Rattle.std.specs.Io.KnownBytes.{Appends, Consumes, IsAtEnd};
 ghost use Rattle.tmm_io.specs.Causes.{Rose};
-ghost use Rattle.tmm_cli.specs.Program.{ProgramEnds, ScriptEnds, SummaryEnds};
+ghost use Rattle.tmm_program.specs.Program.{ProgramEnds};
 
-use crate::command::{Command, command_of};
-use crate::demo::demo;
-use crate::usage::tell_usage;
-use map_engine::{NetMap, Opens};
+use map_engine::NetMap;
 use std::alloc::Global;
-use tmm_drive::{Status, drive};
+use tmm_drive::Status;
 use tmm_io::{Sink, Source};
-use tmm_model::{NoMemory, Seq};
-use tmm_session::Session;
+use tmm_program::run_over;
 
 /// All that the program does. Without words it reads a script from the source and writes a reply
-/// for each line to the sink. With the words `demo N` it answers a generated script, and writes one
-/// line that tells of the replies; with any other words it writes how it is used.
+/// for each line to the sink; with the word `suppose` the script may put suppositions on top of the
+/// map. With the words `demo N` it answers a generated script, and writes one line that tells of
+/// the replies; with any other words it writes how it is used.
 pub fn run<S: Source, K: Sink>(
     alloc: Global,
     words: &[String],
@@ -33,60 +30,5 @@ pub fn run<S: Source, K: Sink>(
     ensures source_faults { result ≢ Status.ReadFault → S.faults source.new ≡ S.faults source.old }
     ensures sink_faults { result ≢ Status.WriteFault → K.faults sink.new ≡ K.faults sink.old }
 {
-    match command_of(words) {
-        Command::Script => run_script::<NetMap, S, K>(alloc, source, sink),
-        Command::Demo(n) => run_demo::<NetMap, K>(alloc, n, sink),
-        Command::Usage => tell_usage(sink),
-    }
-}
-
-// Answers a script from the empty map on.
-fn run_script<M: Opens + Drop, S: Source, K: Sink>(
-    alloc: Global,
-    source: &mut S,
-    sink: &mut K,
-) -> Status
-    ensures ends { (taken output : List ℕ)
-        × Consumes (S.left source.old) (S.left source.new) taken
-        × Appends (K.written sink.old) (K.written sink.new) output
-        × ScriptEnds (IsAtEnd (S.left source.new)) taken output result }
-    ensures read_fault { result ≡ Status.ReadFault → Rose (S.faults source.old) (S.faults source.new) }
-    ensures write_fault { result ≡ Status.WriteFault → Rose (K.faults sink.old) (K.faults sink.new) }
-    ensures source_faults { result ≢ Status.ReadFault → S.faults source.new ≡ S.faults source.old }
-    ensures sink_faults { result ≢ Status.WriteFault → K.faults sink.new ≡ K.faults sink.old }
-{
-    let Ok(mut buffer) = line_buffer(alloc) else {
-        return Status::NoMemory;
-    };
-    let Ok(core) = M::open(alloc) else {
-        return Status::NoMemory;
-    };
-    let mut session = Session::make(core);
-    drive(alloc, &mut session, &mut buffer, source, sink)
-}
-
-// Answers a generated script over the empty map.
-fn run_demo<M: Opens + Drop, K: Sink>(alloc: Global, n: u32, sink: &mut K) -> Status
-    requires { n ≤ 1000 }
-    ensures ends { (output : List ℕ)
-        × Appends (K.written sink.old) (K.written sink.new) output
-        × SummaryEnds n output result }
-    ensures write_fault { result ≡ Status.WriteFault → Rose (K.faults sink.old) (K.faults sink.new) }
-    ensures sink_faults { result ≢ Status.WriteFault → K.faults sink.new ≡ K.faults sink.old }
-{
-    let Ok(core) = M::open(alloc) else {
-        return Status::NoMemory;
-    };
-    let mut session = Session::make(core);
-    demo(alloc, n, &mut session, sink)
-}
-
-// Room for the part of a line that is kept.
-pub(crate) fn line_buffer(alloc: Global) -> Result<Seq<u8>, NoMemory>
-    ensures empty { IfOk result (λ buffer. buffer.items ≡ []) }
-    ensures room { IfOk result (λ buffer. 401 ≤ buffer.room) }
-{
-    let mut buffer = Seq::make(alloc);
-    buffer.reserve(401)?;
-    Ok(buffer)
+    run_over::<NetMap, S, K>(alloc, words, source, sink)
 }

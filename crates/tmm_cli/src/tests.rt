@@ -155,7 +155,7 @@ fn expect_with(
 #[test]
 fn other_words_get_the_usage_line(rt: HostRuntime) -> Result<(), Fail> {
     let alloc = rt.alloc();
-    let wrong: [&[&str]; 8] = [
+    let wrong: [&[&str]; 9] = [
         &["x"],
         &["demo"],
         &["demo", "0"],
@@ -164,13 +164,14 @@ fn other_words_get_the_usage_line(rt: HostRuntime) -> Result<(), Fail> {
         &["demo", "-1"],
         &["demo", ""],
         &["demo", "1", "1"],
+        &["suppose", "suppose"],
     ];
     for words in wrong {
         expect_with(
             &rt,
             alloc,
             words,
-            b"usage: tmm [demo N], N from 1 to 1000\n",
+            b"usage: tmm [demo N | suppose], N from 1 to 1000\n",
             Status::Words,
         )?;
     }
@@ -196,6 +197,36 @@ fn generated_scripts_are_summarized(rt: HostRuntime) -> Result<(), Fail> {
     ];
     for (n, line) in lines {
         expect_with(&rt, alloc, &["demo", n], line, Status::Clean)?;
+    }
+    Ok(())
+}
+
+/// Scripts with suppositions, and their replies.
+const SUPPOSED: [(&[u8], &[u8]); 2] = [
+    // one that is given up, and one that is kept
+    (
+        b"point a\npoint b\ndist d a b 3 7\nsuppose\ndist f a b 5 5\nbounds a b\ndrop\nbounds a b\nsuppose\ndist f a b 2 5\nkeep\nbounds a b\ndrop\n",
+        b"1 ok\n2 ok\n3 ok\n4 ok\n5 ok\n6 bounds 5 5\n7 ok\n8 bounds 3 7\n9 ok\n10 ok\n11 ok\n12 bounds 3 5\n13 no suppose\n",
+    ),
+    // as many as may stand, and one more
+    (
+        b"suppose\nsuppose\nsuppose\nsuppose\nsuppose\nsuppose\nsuppose\nsuppose\nsuppose\n",
+        b"1 ok\n2 ok\n3 ok\n4 ok\n5 ok\n6 ok\n7 ok\n8 ok\n9 no limit suppose\n",
+    ),
+];
+
+#[test]
+fn suppositions_are_kept_or_given_up(rt: HostRuntime) -> Result<(), Fail> {
+    let alloc = rt.alloc();
+    let words = [String::from_str(alloc, "suppose")?];
+    for (script, replies) in SUPPOSED {
+        let mut source = MemSource::make(alloc, script, 4096, &[])?;
+        let mut sink = MemSink::make(alloc, 1 << 10, &[])?;
+        assert_eq!(rt;
+            run(alloc, &words, &mut source, &mut sink),
+            Status::SomeRefused
+        );
+        assert_eq!(rt; sink.bytes(), replies);
     }
     Ok(())
 }
