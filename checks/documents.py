@@ -16,6 +16,7 @@ MANUAL = ROOT / "docs" / "tmm.1"
 MANUAL_TABLES = [
     ("WORDS", "## Lines and words"),
     ("LINES", "## What a line says"),
+    ("SUPPOSITIONS", "## Suppositions"),
     ("EXIT STATUS", "## Words and endings"),
 ]
 

@@ -1,7 +1,8 @@
 #!/usr/bin/env bash
 # The scripts that the documents show, through the built program: those of examples/ have their replies
-# beside them, those of the pages behind them. Where the environment variable TMM names another program, that
-# one is run.
+# beside them, those of the pages behind them. One that takes a word of the command line has that in the file
+# NAME.words, or on a page behind `script`. Where the environment variable TMM names another program, that one
+# is run.
 set -u
 cd "$(dirname "$0")/.." || exit 1
 program=${TMM:-./tmm}
@@ -10,7 +11,9 @@ failed=0
 
 # compare SCRIPT REPLIES NAME
 compare() {
-  if ! diff <("$program" < "$1") "$2" >&2; then
+  local words=()
+  [ ! -e "${1%.tmm}.words" ] || read -ra words < "${1%.tmm}.words"
+  if ! diff <("$program" "${words[@]}" < "$1") "$2" >&2; then
     echo "checks: $3: other replies than are written down" >&2
     failed=1
   fi
@@ -27,7 +30,11 @@ for page in README.md docs/SCRIPT.md docs/TUTORIAL.md; do
     $0 == "```session" { typed = dir "/line-" NR ".tmm"; told = dir "/line-" NR ".out"; next }
     typed && sub(/^tmm> /, "") { print > typed; next }
     typed && $0 != "```" { print > told; next }
-    $0 == "```script" { file = dir "/line-" NR ".tmm"; next }
+    $1 == "```script" {
+      file = dir "/line-" NR ".tmm"
+      if (sub(/^```script +/, "")) print > (dir "/line-" NR ".words")
+      next
+    }
     $0 == "```replies" { sub(/tmm$/, "out", last); file = last; next }
     $0 == "```" { last = file; file = typed = ""; next }
     file { print > file }' "$page"

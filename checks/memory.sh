@@ -19,20 +19,24 @@ if [ "$#" -gt 0 ]; then
   scripts=("$@")
 else
   awk -v dir="$work" '
-    $0 == "```script" { file = dir "/line-" NR ".tmm"; next }
+    $1 == "```script" {
+      file = dir "/line-" NR ".tmm"
+      if (sub(/^```script +/, "")) print > (dir "/line-" NR ".words")
+      next
+    }
     $0 == "```" || $0 == "```replies" { file = ""; next }
     file { print > file }' docs/SCRIPT.md
   scripts=(examples/*.tmm "$work"/*.tmm)
 fi
 
 # answers SCRIPT FAILING: the output of a run in which this allocation fails, in the file `have`; its status.
-answers() { TMM_FAIL=$2 LD_PRELOAD=$work/memory.so "$program" < "$1" > "$work/have" 2> "$work/errors"; }
+answers() { TMM_FAIL=$2 LD_PRELOAD=$work/memory.so "$program" "${words[@]}" < "$1" > "$work/have" 2> "$work/errors"; }
 
 # asked LINE: the output of the script `script` in which this line is a comment, kept for the next time.
 asked() {
   local file=$work/asked-$1
   if [ ! -e "$file" ]; then
-    awk -v line="$1" 'NR == line { print "#"; next } { print }' "$script" | "$program" > "$file"
+    awk -v line="$1" 'NR == line { print "#"; next } { print }' "$script" | "$program" "${words[@]}" > "$file"
   fi
   echo "$file"
 }
@@ -59,8 +63,11 @@ judge() {
 
 runs=0 before=0 again=0 failed=0
 for script in "${scripts[@]}"; do
+  # of the command line, where the script takes some
+  words=()
+  [ ! -e "${script%.tmm}.words" ] || read -ra words < "${script%.tmm}.words"
   rm -f "$work"/asked-*
-  TMM_FAIL=0 TMM_COUNT=$work/count LD_PRELOAD=$work/memory.so "$program" < "$script" > "$work/plain"
+  TMM_FAIL=0 TMM_COUNT=$work/count LD_PRELOAD=$work/memory.so "$program" "${words[@]}" < "$script" > "$work/plain"
   clean=$?
   count=$(cat "$work/count") || exit 1
   for ((number = 1; number <= count; number++)); do

@@ -5,6 +5,7 @@ It proves and builds nothing, needs no toolchain, and takes some seconds.
 """
 
 import os
+import re
 import shutil
 import signal
 import subprocess
@@ -165,10 +166,16 @@ class Proving(unittest.TestCase):
         self.assertEqual((ran.returncode, ran.stdout), (70, ""))
         self.assertIn("checked: no-answer: too long\nrun=no-answer proved=no\n", ran.stderr)
 
+    def test_suppositions_are_answered_by_a_try(self) -> None:
+        self.order("try", 'echo "$@"; cat; echo "run=ended status=0 runners=1 proved=no" >&2\n')
+        self.assertEqual(self.run_script("tmm", "suppose").stdout, "try -- suppose\npoint a\n")
+
     def test_other_words(self) -> None:
-        for words in (["--help"], ["word"], [""], ["suppose", "word"]):
+        program = (ROOT / "crates" / "tmm_program" / "specs" / "Program.antt").read_text(encoding="utf-8")
+        usage = re.search(r'"(usage: .*)\\n"', program)
+        for words in (["--help"], ["word"], [""], ["suppose", "more"]):
             ran = self.run_script("tmm", *words)
-            self.assertEqual((ran.returncode, ran.stdout), (2, "usage: tmm [demo N | suppose], N from 1 to 1000\n"))
+            self.assertEqual((ran.returncode, ran.stdout), (2, f"{usage and usage.group(1)}\n"))
         self.assertEqual(self.take_calls(), [])
 
     def test_no_toolchain(self) -> None:

@@ -23,15 +23,20 @@ def reply_of(text: str) -> tmm.Reply:
     return reply
 
 
-def documented_scripts() -> Iterator[Tuple[List[str], str]]:
-    """The scripts of docs/SCRIPT.md and of examples/, each with its replies."""
+def documented_scripts() -> Iterator[Tuple[List[str], List[str], str]]:
+    """The scripts of docs/SCRIPT.md and of examples/, each with the words that it wants and its replies."""
     parts = (REPOSITORY / "docs" / "SCRIPT.md").read_text(encoding="utf-8").split("```")
     for script, replies in zip(parts, parts[2:]):
-        if script.startswith("script\n") and replies.startswith("replies\n"):
-            yield script.splitlines()[1:], replies[len("replies\n"):]
+        first, *lines = script.splitlines() or [""]
+        if first.split()[:1] == ["script"] and replies.startswith("replies\n"):
+            yield first.split()[1:], lines, replies[len("replies\n"):]
     for path in sorted((REPOSITORY / "examples").glob("*.tmm")):
-        replies = path.with_suffix(".out").read_text(encoding="utf-8")
-        yield path.read_text(encoding="utf-8").splitlines(), replies
+        words = path.with_suffix(".words")
+        yield (
+            words.read_text(encoding="utf-8").split() if words.exists() else [],
+            path.read_text(encoding="utf-8").splitlines(),
+            path.with_suffix(".out").read_text(encoding="utf-8"),
+        )
 
 
 def python_program(source: str) -> List[str]:
@@ -237,6 +242,8 @@ class ParseTest(unittest.TestCase):
             ("limit premises", tmm.Refusal(tmm.Cause.TOO_MANY_PREMISES)),
             ("limit points", tmm.Refusal(tmm.Cause.TOO_MANY_POINTS)),
             ("limit size", tmm.Refusal(tmm.Cause.MAP_TOO_LARGE)),
+            ("limit suppose", tmm.Refusal(tmm.Cause.TOO_MANY_SUPPOSITIONS)),
+            ("suppose", tmm.Refusal(tmm.Cause.NO_SUPPOSITION)),
             ("unordered", tmm.Refusal(tmm.Cause.UNORDERED)),
         ):
             self.assertEqual(reply_of(f"4 no {text}\n"), refusal)
@@ -311,15 +318,15 @@ class DocumentedScriptsTest(unittest.TestCase):
         self.assertGreater(len(list(documented_scripts())), 15)
 
     def test_in_a_batch(self) -> None:
-        for script, text in documented_scripts():
+        for words, script, text in documented_scripts():
             with self.subTest(script=script):
-                transcript = tmm.run_script(script)
+                transcript = tmm.run_script(script, [tmm.find_program(), *words])
                 self.assertEqual(transcript.replies, dict(tmm.parse_replies(text)))
                 refused = any(isinstance(reply, tmm.Refusal) for reply in transcript.replies.values())
                 self.assertEqual(transcript.status, 1 if refused else 0)
 
     def test_line_by_line(self) -> None:
-        for script, text in documented_scripts():
+        for _, script, text in documented_scripts():
             replies = dict(tmm.parse_replies(text))
             with self.subTest(script=script), tmm.TimeMap() as time_map:
                 for number, line in enumerate(script, start=1):

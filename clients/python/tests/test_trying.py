@@ -1,10 +1,14 @@
 """Tests of what is tried out and undone: the premises, their order, the horizon, and what is believed."""
 
 import random
+import tempfile
 import unittest
+from pathlib import Path
 from typing import List, Tuple
+from unittest import mock
 
 import tmm
+from tmm.program import modes_of
 
 DOOR = [
     "class door open shut",
@@ -21,7 +25,7 @@ DOOR = [
 
 
 class TryingTest(unittest.TestCase):
-    """Over the map of a door."""
+    """Over the map of a door, by suppositions of the program."""
 
     def setUp(self) -> None:
         self.map = tmm.TimeMap()
@@ -121,10 +125,15 @@ class TryingTest(unittest.TestCase):
         self.assertEqual(time_map.dump(), before)
         self.assertEqual(time_map.size(), 3)
 
-    def test_version_2_stays(self) -> None:
-        with tmm.TimeMap() as time_map, self.assertRaisesRegex(tmm.TmmError, "version 2"):
+    def test_version_2(self) -> None:
+        with tmm.TimeMap() as time_map:
             with time_map.suppose():
                 time_map.upgrade()
+            self.assertEqual(time_map.dump(), tmm.Dump(1000))
+            mark = time_map.mark()
+            time_map.upgrade()
+            with self.assertRaisesRegex(tmm.TmmError, "version 2"):
+                time_map.back(mark)
 
     def test_random_histories_come_back(self) -> None:
         for seed in range(5):
@@ -152,6 +161,97 @@ class TryingTest(unittest.TestCase):
             f"horizon {chance.randrange(40)}",
         ]
         return chance.choice(edits)
+
+
+class UndoingTest(TryingTest):
+    """The same over a program without suppositions, by edits that undo."""
+
+    def setUp(self) -> None:
+        self.enterContext(mock.patch("tmm.client.modes_of", return_value=frozenset()))
+        super().setUp()
+
+    def test_version_2(self) -> None:
+        with tmm.TimeMap() as time_map, self.assertRaisesRegex(tmm.TmmError, "version 2"):
+            with time_map.suppose():
+                time_map.upgrade()
+
+
+class SuppositionTest(unittest.TestCase):
+    """Suppositions of the program, and lines that are about them."""
+
+    def setUp(self) -> None:
+        self.told: List[str] = []
+        self.map = tmm.TimeMap(log=lambda line, reply: self.told.append(line))
+        self.addCleanup(self.map.close)
+
+    def test_which_lines_are_given(self) -> None:
+        with self.map.suppose():
+            self.map.point("p")
+        with self.map.suppose() as supposed:
+            supposed.keep()
+            self.map.point("q")
+        self.assertEqual(self.told, ["suppose", "point p", "drop", "suppose", "point q", "keep"])
+        self.assertEqual(self.map.close(), 0)
+
+    def test_more_blocks_than_suppositions(self) -> None:
+        self.open_blocks(12)
+        self.assertEqual(self.told.count("suppose"), 8)
+        self.assertEqual(self.map.dump().premises, ())
+        self.assertEqual(self.map.close(), 0)
+
+    def open_blocks(self, count: int) -> None:
+        with self.map.suppose():
+            self.map.point(f"p{count}")
+            if count > 1:
+                self.open_blocks(count - 1)
+            self.assertEqual(len(self.map.dump().premises), 13 - count)
+
+    def test_lines_that_are_given_as_they_are(self) -> None:
+        for line in ("point a", "suppose", "horizon 5", "erase a", "class c f", "suppose", "point b", " keep "):
+            self.assertEqual(self.map.send(line), tmm.Changes(erased=("a",) if line == "erase a" else ()))
+            self.assertEqual(self.map.premises, self.map.dump().premises)
+        self.assertEqual(self.map.send("drop"), tmm.Changes())
+        self.assertEqual((self.map.premises, self.map.horizon_date), (("point a",), 1000))
+        self.assertFalse(self.map.is_declared("f"))
+        self.assertEqual(self.map.send("drop"), tmm.Refusal(tmm.Cause.NO_SUPPOSITION))
+        replies = self.map.send_all(["suppose"] * 9)
+        self.assertEqual(replies, [tmm.Changes()] * 8 + [tmm.Refusal(tmm.Cause.TOO_MANY_SUPPOSITIONS)])
+
+    def test_lines_within_a_block(self) -> None:
+        with self.map.suppose():
+            self.map.send_all(["point a", "suppose", "suppose", "point b"])
+        self.assertEqual(self.map.send("keep"), tmm.Refusal(tmm.Cause.NO_SUPPOSITION))
+        with self.map.suppose():
+            self.map.send_all(["point a", "keep", "point b"])
+        self.assertEqual(self.map.dump().premises, ("point a", "point b"))
+
+    def test_a_command_with_words_is_started_as_it_is(self) -> None:
+        program = tmm.find_program()
+        with tmm.TimeMap([program, "suppose"]) as time_map, time_map.suppose():
+            time_map.point("a")
+        with mock.patch("tmm.client.modes_of", return_value=frozenset()), tmm.TimeMap([program]) as time_map:
+            self.assertEqual(time_map.send("suppose"), tmm.Refusal(tmm.Cause.FORM))
+
+    def test_the_modes_of_a_program(self) -> None:
+        self.assertIn("suppose", modes_of(tmm.find_program()))
+        for usage, modes in (
+            ("usage: tmm [demo N], N from 1 to 1000", []),
+            ("usage: tmm [demo N | suppose], N from 1 to 1000", ["suppose"]),
+            ("usage: tmm [demo N | suppose | agents], N from 1 to 1000", ["agents", "suppose"]),
+            ("usage: another", []),
+        ):
+            with self.subTest(usage=usage), tempfile.TemporaryDirectory() as folder:
+                program = Path(folder) / "program"
+                program.write_text(f"#!/bin/sh\necho '{usage}'\n", encoding="ascii")
+                program.chmod(0o755)
+                self.assertEqual(sorted(modes_of(str(program))), modes)
+
+    def test_a_program_that_does_not_tell(self) -> None:
+        with tempfile.TemporaryDirectory() as folder:
+            program = Path(folder) / "program"
+            program.write_text("#!/bin/sh\nexec sleep 1000\n", encoding="ascii")
+            program.chmod(0o755)
+            self.assertEqual(modes_of(str(program), 0.2), frozenset())
 
 
 class ChangeTest(unittest.TestCase):

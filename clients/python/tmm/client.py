@@ -9,7 +9,7 @@ from tmm import explain, words
 from tmm.errors import ALL_ANSWERED, OutOfMemory, ProgramEnded, ProtocolError, TimedOut, TmmError, refused
 from tmm.explain import Threats, WhyNot
 from tmm.handles import New
-from tmm.program import find_program
+from tmm.program import SUPPOSE, find_program, modes_of
 from tmm.replies import parse_replies, parse_reply
 from tmm.stream import Stream, shown
 from tmm.values import (
@@ -40,13 +40,18 @@ from tmm.values import (
 _FENCE = b"bounds start start\n"
 
 # A line that begins so has a reply of one line, whatever it is, and needs no fence.
-_OF_ONE_LINE = frozenset(["bounds", "size", "audit", "point", "kind", "class"])
+_OF_ONE_LINE = frozenset(
+    ["bounds", "size", "audit", "point", "kind", "class", "suppose", "keep", "drop"]
+)
 
 _PREMISES = frozenset(
     ["point", "dist", "class", "token", "span", "kind", "event", "rule", "protect", "against"]
 )
 
 FIRST_HORIZON = 1000
+
+# So many suppositions may stand on top of each other.
+MOST_SUPPOSITIONS = 8
 
 ReplyKind = TypeVar("ReplyKind", Changes, Bounds, Walk, Answer, Why, Check, Listing, Dump, Size, Audit)
 
@@ -77,19 +82,39 @@ class Mark:
     version: int
 
 
+@dataclass
+class _Standing:
+    """What stands, as the client notes it."""
+
+    # The premises by their names, in the order in which they were given.
+    premises: Dict[str, str]
+    facts: Set[str]
+    horizon: int = FIRST_HORIZON
+    version: int = 1
+
+    def copy(self) -> "_Standing":
+        return _Standing(dict(self.premises), set(self.facts), self.horizon, self.version)
+
+
 class Supposition:
     """What `TimeMap.suppose` gives: a block whose edits are undone when it is left."""
 
     def __init__(self, time_map: "TimeMap") -> None:
         self._map = time_map
+        self._is_kept = False
+        # How many suppositions of the program stand with that of the block, where it has one of its own.
+        self._depth = 0
+        # Else what stood before.
         self._mark: Optional[Mark] = None
 
     def keep(self) -> None:
         """What the block has edited and will edit stays."""
-        self._mark = None
+        self._is_kept = True
 
     def __enter__(self) -> "Supposition":
-        self._mark = self._map.mark()
+        self._is_kept = False
+        self._depth = self._map._begin_supposition()
+        self._mark = None if self._depth else self._map.mark()
         return self
 
     def __exit__(
@@ -99,7 +124,11 @@ class Supposition:
         trace: Optional[TracebackType],
     ) -> None:
         # Of a map that is gone nothing can be undone, and the error that ended it is the one to tell.
-        if self._mark is not None and (error is None or self._map.is_usable):
+        if error is not None and not self._map.is_usable:
+            return
+        if self._depth:
+            self._map._end_suppositions(self._depth, self._is_kept)
+        elif self._mark is not None and not self._is_kept:
             self._map.back(self._mark)
 
 
@@ -120,23 +149,26 @@ class TimeMap:
     ) -> None:
         """Starts the program: that of `find_program`, or the given command with its words.
 
+        Where it has the mode `suppose`, and the command has no words of its own, it is started in that mode.
         `timeout` is the most seconds that it may be silent while a reply is due, None for any number;
         after that `TimedOut` is raised. `log` is called after each line. Raises `NoProgram` and `OSError`.
         """
         if timeout is not None and not timeout > 0:
             raise ValueError(f"a timeout is more than 0 seconds, and not {timeout}")
-        self._stream = Stream(list(command) if command else [find_program()], timeout)
+        words_given = list(command) if command else [find_program()]
+        if len(words_given) == 1 and SUPPOSE in modes_of(words_given[0], timeout):
+            words_given.append(SUPPOSE)
+        self._has_suppositions = words_given[1:] == [SUPPOSE]
+        self._stream = Stream(words_given, timeout)
         self._log = log
         self._lines_given = 0
         # Why the map is of no use, where it is.
         self._fault: Optional[str] = None
-        # The standing premises by their names, in the order in which they were given.
-        self._premises: Dict[str, str] = {}
-        self._facts: Set[str] = set()
+        self._standing = _Standing({}, set())
+        # What stands below each supposition of the program, the last on top.
+        self._below: List[_Standing] = []
         # The last number of each word that `new` made names of.
         self.names_made_up: Dict[str, int] = {}
-        self._horizon = FIRST_HORIZON
-        self._version = 1
 
     def __enter__(self) -> "TimeMap":
         return self
@@ -161,7 +193,7 @@ class TimeMap:
 
     def is_declared(self, name: str) -> bool:
         """Whether a premise or a fact of this name stands, without asking. All names share one space."""
-        return name in self._premises or name in self._facts
+        return name in self._standing.premises or name in self._standing.facts
 
     @property
     def is_usable(self) -> bool:
@@ -244,19 +276,26 @@ class TimeMap:
     def _note(self, line: str, changes: Changes) -> None:
         """Keeps what stands after an edit that was taken."""
         first, *rest = line.split()
+        standing = self._standing
         if first in _PREMISES:
-            self._premises[rest[0]] = " ".join([first, *rest])
+            standing.premises[rest[0]] = " ".join([first, *rest])
             if first == "class":
-                self._facts.update(rest[1:])
+                standing.facts.update(rest[1:])
         elif first == "erase":
             for name in changes.erased:
-                word, _, *others = self._premises.pop(name).split()
+                word, _, *others = standing.premises.pop(name).split()
                 if word == "class":
-                    self._facts.difference_update(others)
+                    standing.facts.difference_update(others)
         elif first == "horizon":
-            self._horizon = int(rest[0])
+            standing.horizon = int(rest[0])
+        elif first == "suppose":
+            self._below.append(standing.copy())
+        elif first == "keep":
+            self._below.pop()
+        elif first == "drop":
+            self._standing = self._below.pop()
         else:
-            self._version = int(rest[0])
+            standing.version = int(rest[0])
 
     def _answer(self, kind: Type[ReplyKind], word: str, line: str) -> ReplyKind:
         return self._wanted(kind, line, self._reply(line, line.encode() + b"\n", word))
@@ -374,30 +413,34 @@ class TimeMap:
 
         Gives what erasing it changed, and what giving it anew did. A refusal leaves all as it was.
         """
-        word, _, *points = self._premises.get(name, "none -").split()
+        word, _, *points = self._standing.premises.get(name, "none -").split()
         if word != "dist":
             raise ValueError(f"no constraint {name!r} stands")
         line = f"dist {name} {' '.join(points[:2])} {words.bounds(lower, upper)}"
-        with self.suppose() as supposed:
-            both = self.erase(name), self._answer(Changes, "dist", line)
-            supposed.keep()
-        return both
+        # Two edits are undone sooner than a whole map is taken twice.
+        before = self.mark()
+        try:
+            return self.erase(name), self._answer(Changes, "dist", line)
+        except BaseException:
+            if self.is_usable:
+                self.back(before)
+            raise
 
     # ---- trying out
 
     @property
     def premises(self) -> Tuple[str, ...]:
         """The standing premises as lines of a script, in their order: those of `dump`, without asking."""
-        return tuple(self._premises.values())
+        return tuple(self._standing.premises.values())
 
     @property
     def horizon_date(self) -> int:
         """The date up to which effects are believed, without asking."""
-        return self._horizon
+        return self._standing.horizon
 
     def mark(self) -> Mark:
         """What stands now, to come `back` to."""
-        return Mark(self.premises, self._horizon, self._version)
+        return Mark(self.premises, self._standing.horizon, self._standing.version)
 
     def back(self, mark: Mark) -> None:
         """Undoes what was edited since the mark: the same premises stand in the same order.
@@ -411,26 +454,44 @@ class TimeMap:
             lines = ["horizon 0", *self._lines_back(mark), f"horizon {mark.horizon}"]
             for line, reply in zip(lines, self.send_all(lines)):
                 self._wanted(Changes, line, reply)
-        if self._version != mark.version:
+        if self._standing.version != mark.version:
             raise TmmError("version 2 of the script stays: no line takes it back")
 
     def suppose(self) -> Supposition:
         """A block that tries out: `with time_map.suppose() as supposed:`.
 
-        Where it is left, however that is, its edits are undone, unless `supposed.keep()` was called.
+        Where it is left, however that is, its edits are undone, unless `supposed.keep()` was called. Of a
+        program in the mode `suppose` it is a supposition, and else its edits are undone by edits, as by
+        `back`. Raises `OutOfMemory` where it is entered or left, after which what stood stands.
         """
         return Supposition(self)
+
+    def _begin_supposition(self) -> int:
+        """How many suppositions of the program stand with one that is begun here.
+
+        It is 0 where none is begun: the program has no such mode, or as many stand as there may be.
+        """
+        if not self._has_suppositions or len(self._below) == MOST_SUPPOSITIONS:
+            return 0
+        self._answer(Changes, "suppose", "suppose")
+        return len(self._below)
+
+    def _end_suppositions(self, depth: int, keeps: bool) -> None:
+        """Ends the suppositions from the one of this depth on: they are taken over, or given up."""
+        word = "keep" if keeps else "drop"
+        while len(self._below) >= depth:
+            self._answer(Changes, word, word)
 
     def _lines_back(self, mark: Mark) -> List[str]:
         """The edits from what stands to what stood. What was given before the first difference stays."""
         same = 0
-        for stands, stood in zip(self._premises.values(), mark.premises):
+        for stands, stood in zip(self._standing.premises.values(), mark.premises):
             if stands != stood:
                 break
             same += 1
         # What mentions a premise was given after it, so from the last one on each is erased alone.
-        erased = [f"erase {name}" for name in reversed(list(self._premises)[same:])]
-        horizon = [f"horizon {mark.horizon}"] if mark.horizon != self._horizon else []
+        erased = [f"erase {name}" for name in reversed(list(self._standing.premises)[same:])]
+        horizon = [f"horizon {mark.horizon}"] if mark.horizon != self._standing.horizon else []
         return [*erased, *mark.premises[same:], *horizon]
 
     # ---- questions
@@ -470,7 +531,7 @@ class TimeMap:
 
     def _points(self) -> List[str]:
         points = []
-        for premise in self._premises.values():
+        for premise in self._standing.premises.values():
             word, name, *_ = premise.split()
             if word in ("point", "event", "token", "span"):
                 points.append(name)

@@ -223,6 +223,9 @@ class Cause(Enum):
     CYCLE = "cycle"
     MAP_TOO_LARGE = "limit size"
     UNORDERED = "unordered"
+    # eight suppositions stand, and none
+    TOO_MANY_SUPPOSITIONS = "limit suppose"
+    NO_SUPPOSITION = "suppose"
 
 
 @dataclass(frozen=True)

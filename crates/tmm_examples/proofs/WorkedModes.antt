@@ -1,7 +1,7 @@
 -- What single lines say as a mode's own, as the definition computes it.
 use Rattle.std.specs.Prelude.{◌≡◌, codes, Some, None, refl}
 use Rattle.tmm_model.specs.declared.mode.Mode.TheVariants.{Suppose as Supposing, Agents as Sharing, Repairs as Mending, Timeline as Playing}
-use Rattle.tmm_model.specs.declared.mode.ModeLine.TheVariants.{Suppose, Keep, Drop, Hold, Commit, Discard, Repairs, Timeline}
+use Rattle.tmm_model.specs.declared.mode.ModeLine.TheVariants.{Suppose, Keep, Hold, Commit, Repairs, Timeline}
 use Rattle.tmm_model.specs.Lines.{words}
 use Rattle.tmm_model.specs.Modes.{own_form}
 
