@@ -35,6 +35,15 @@ pub struct Changes {
     pub mended: Seq<Name>,
 }
 
+/// What an edit of a batch changed.
+#[derive(Drop)]
+pub struct Taken {
+    /// The number of the line that held the edit.
+    pub line: u64,
+    /// What the edit changed.
+    pub changes: Changes,
+}
+
 /// A line of the reasons of a belief.
 #[derive(Drop)]
 pub enum WhyLine {

@@ -14,6 +14,7 @@
 mod answer;
 mod bound;
 mod changes;
+mod fix;
 mod limits;
 mod line;
 mod memory;
@@ -25,6 +26,7 @@ mod refusal;
 mod rivals;
 mod seq;
 mod sure;
+mod timeline;
 mod token;
 mod turn;
 mod version;
@@ -32,7 +34,8 @@ mod walk;
 
 pub use answer::{Answer, Blame, Cause, Report};
 pub use bound::Bound;
-pub use changes::{Changes, Clip, ListRow, WhyLine};
+pub use changes::{Changes, Clip, ListRow, Taken, WhyLine};
+pub use fix::Fix;
 pub use limits::{
     FIRST_HORIZON, GREATEST_NUMBER, LAST_HORIZON, LONGEST_LINE, LONGEST_NAME, LONGEST_SCRIPT,
     MOST_ANTECEDENTS, MOST_BLAMES, MOST_EDGES, MOST_EVENTS, MOST_EXCEPTIONS, MOST_FACTS,
@@ -48,6 +51,7 @@ pub use refusal::{Refusal, Stop};
 pub use rivals::Rivals;
 pub use seq::Seq;
 pub use sure::Sure;
+pub use timeline::{Dated, PointDate, Timeline};
 pub use token::{Shape, TokenRow};
 pub use turn::Turn;
 pub use version::Version;
