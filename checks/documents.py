@@ -10,7 +10,7 @@ from pathlib import Path
 from typing import Dict, Iterator, List, Tuple
 
 ROOT = Path(__file__).resolve().parents[1]
-DOCUMENTS = [*sorted(ROOT.glob("*.md")), *sorted((ROOT / "docs").glob("*.md"))]
+DOCUMENTS = [*sorted(ROOT.glob("*.md")), *sorted((ROOT / "docs").rglob("*.md"))]
 MANUAL = ROOT / "docs" / "tmm.1"
 # The section of the manual page, and the heading of docs/SCRIPT.md whose table it has.
 MANUAL_TABLES = [
