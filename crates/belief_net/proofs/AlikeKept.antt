@@ -30,10 +30,10 @@ use Rattle.revisions.proofs.Alike.{IsAnchored, IsBetween, tokens_between, rules_
 use Rattle.revisions.proofs.StillEdits.{stay_seen}
 use Rattle.joined.specs.Netted.{IsCurrent}
 use Rattle.joined.specs.Rows.{Row, AreRowsOf, decision_of}
-use Rattle.belief_net.specs.declared.state.BeliefNet.{BeliefNet}
+use Rattle.belief_table.specs.declared.state.Beliefs.{Beliefs}
 use Rattle.belief_net.specs.Alike.{AlikeAreKept}
-use Rattle.belief_net.specs.Decided.{rule_in, AreUnder}
-use Rattle.belief_net.specs.Turning.{rows_of, IsFit}
+use Rattle.belief_table.specs.Decided.{rule_in, AreUnder}
+use Rattle.belief_turns.specs.Turning.{rows_of, IsFit}
 use Rattle.belief_net.specs.Updating.{IsKept}
 
 module _ (s t : Standing) (alike : AreAlike s t) where
@@ -101,7 +101,7 @@ module _ (s t : Standing) (alike : AreAlike s t) where
 
 -- ---- nodes and rows
 
-module _ (s t : Standing) (before net : Net) (b : BeliefNet) (alike : AreAlike s t) (of_t : IsNetOf t net)
+module _ (s t : Standing) (before net : Net) (b : Beliefs) (alike : AreAlike s t) (of_t : IsNetOf t net)
     (keep : PointsKeepNumbers (points_in t.premises) before.names net.names) (kept : IsKept s before b) where
   abbrev f : Forest
   f = forest b.tree

@@ -19,21 +19,22 @@ use Rattle.spots.proofs.Nodes.{node_at, moment_at-is}
 use Rattle.spots.proofs.Seen.{occurs_at}
 use Rattle.occ_tree.specs.Places.{forest}
 use Rattle.occ_tree.specs.Standing.{Kept, present}
-use Rattle.belief_net.specs.declared.erasing.Departed.{Departed}
-use Rattle.belief_net.specs.declared.state.BeliefNet.{BeliefNet}
-use Rattle.belief_net.specs.declared.state.Decisions.{Decisions}
-use Rattle.belief_net.specs.Adding.{MarksLeft, EntersAs, StayAll, AddsRule}
+use Rattle.belief_table.specs.declared.erasing.Departed.{Departed}
+use Rattle.belief_table.specs.declared.state.Beliefs.{Beliefs}
+use Rattle.belief_table.specs.declared.state.Decisions.{Decisions}
+use Rattle.marking.specs.LeftMarks.{MarksLeft}
+use Rattle.belief_net.specs.Adding.{EntersAs, StayAll, AddsRule}
 use Rattle.belief_net.specs.Beginning.{IsBegun, IsReady}
-use Rattle.belief_net.specs.Decided.{KeepsLast}
-use Rattle.belief_net.specs.Turning.{rows_of, IsFit}
+use Rattle.belief_table.specs.Decided.{KeepsLast}
+use Rattle.belief_turns.specs.Turning.{rows_of, IsFit}
 use Rattle.belief_net.proofs.Declared.{root_cases, rule_cases}
 use Rattle.belief_net.proofs.Gained.{gains_none, root_gains, rule_gains}
 use Rattle.belief_net.proofs.Gains.{Gains, gained_ready}
 
-all_same : (m n : BeliefNet) → StayAll m n → n ≡ m
+all_same : (m n : Beliefs) → StayAll m n → n ≡ m
 all_same m n s = λ j. record { tree = s.tree j; decisions = s.decisions j }
 
-module _ (old : Standing) (edit : Edit) (before net : Net) (b e c m r n : BeliefNet) (all : Departed) (h : IsBegun old edit before net b e c m r n all) where
+module _ (old : Standing) (edit : Edit) (before net : Net) (b e c m r n : Beliefs) (all : Departed) (h : IsBegun old edit before net b e c m r n all) where
   abbrev new : Standing
   new = next_list old edit
 
@@ -55,25 +56,25 @@ module _ (old : Standing) (edit : Edit) (before net : Net) (b e c m r n : Belief
       let (k, at) = node_at (forest m.tree) x live in
       subst (Occurs old) (sym (moment_at-is (forest m.tree) x k at)) (h.fit_before.tree.seen.members x k (h.sheds.thins.nodes x k (sym (same x) ∙ at))).occurs
 
-  ready : (z : BeliefNet) → IsFit (next_list old edit) net z → Gains old (next_list old edit) edit m z → IsReady old (next_list old edit) before net (forest b.tree) (forest z.tree) (rows_of b) (rows_of z)
+  ready : (z : Beliefs) → IsFit (next_list old edit) net z → Gains old (next_list old edit) edit m z → IsReady old (next_list old edit) before net (forest b.tree) (forest z.tree) (rows_of b) (rows_of z)
   ready z fit gains = gained_ready old edit before net b e m z all sound_old sound_new h.fit_before h.current h.sheds h.cleared same marks h.fit fit gains
 
   -- where the edit adds neither a root nor a rule
   pub still : StayAll m r → StayAll r n → ((p : Premise) (k : Moment) → edit ≡ Add p → root_of p ≡ Some k → ⊥) → ((p : Premise) (kind rule : List ℕ) → edit ≡ Add p → on_kind kind p ≡ Some rule → ⊥)
       → IsReady old (next_list old edit) before net (forest b.tree) (forest n.tree) (rows_of b) (rows_of n)
   still first then_ no_root no_rule =
-      subst (λ (z : BeliefNet). IsReady old new before net (forest b.tree) (forest z.tree) (rows_of b) (rows_of z)) (sym (all_same r n then_ ∙ all_same m r first)) (ready m h.fit (gains_none old edit m
+      subst (λ (z : Beliefs). IsReady old new before net (forest b.tree) (forest z.tree) (rows_of b) (rows_of z)) (sym (all_same r n then_ ∙ all_same m r first)) (ready m h.fit (gains_none old edit m
       (λ k at. elim (root_cases old edit k at) [ inl was ↦ was | inr added ↦ absurd (no_root added.0 k added.1 added.2) ])
       (λ x rule live stands. elim (rule_cases old edit sound_old sound_new (moment_at (forest m.tree) x) rule (stood x live) (occurs_at new net (forest m.tree) h.fit.tree.seen x live) stands) [
         | inl was ↦ was
         | inr added ↦ absurd (no_rule added.premise added.kind rule added.added added.on)
       ])))
 
-module _ (old : Standing) (p : Premise) (before net : Net) (b e c m r n : BeliefNet) (all : Departed) (h : IsBegun old (Add p) before net b e c m r n all) where
+module _ (old : Standing) (p : Premise) (before net : Net) (b e c m r n : Beliefs) (all : Departed) (h : IsBegun old (Add p) before net b e c m r n all) where
   pub with_root : (k : Moment) → root_of p ≡ Some k → EntersAs (next_list old (Add p)) net k m r → StayAll r n
       → IsReady old (next_list old (Add p)) before net (forest b.tree) (forest n.tree) (rows_of b) (rows_of n)
   with_root k root enters then_ =
-      subst (λ (z : BeliefNet). IsReady old (next_list old (Add p)) before net (forest b.tree) (forest z.tree) (rows_of b) (rows_of z)) (sym (all_same r n then_))
+      subst (λ (z : Beliefs). IsReady old (next_list old (Add p)) before net (forest b.tree) (forest z.tree) (rows_of b) (rows_of z)) (sym (all_same r n then_))
       (ready old (Add p) before net b e c m r n all h r h.fit_root
       (root_gains old p net m r (sound_old old (Add p) before net b e c m r n all h) (sound_new old (Add p) before net b e c m r n all h) (stood old (Add p) before net b e c m r n all h) h.fit h.fit_root h.names_root k root enters))
 
@@ -85,9 +86,9 @@ module _ (old : Standing) (p : Premise) (before net : Net) (b e c m r n : Belief
       let tree_is : n.tree ≡ m.tree = tree ∙ first.tree in
       let n_is : n ≡ record m { decisions = n.decisions } = λ j. record { tree = tree_is j; decisions = n.decisions } in
       let fit_n = subst (IsFit (next_list old (Add p)) net) n_is h.fit_after in
-      let adds_m = subst (λ (z : BeliefNet). AddsRule z.tree name kind z.decisions n.decisions) r_is adds in
+      let adds_m = subst (λ (z : Beliefs). AddsRule z.tree name kind z.decisions n.decisions) r_is adds in
       let last = subst (λ (d : Decisions). KeepsLast d n.decisions) first.decisions h.names_after in
-      subst (λ (z : BeliefNet). IsReady old (next_list old (Add p)) before net (forest b.tree) (forest z.tree) (rows_of b) (rows_of z)) (sym n_is)
+      subst (λ (z : Beliefs). IsReady old (next_list old (Add p)) before net (forest b.tree) (forest z.tree) (rows_of b) (rows_of z)) (sym n_is)
       (ready old (Add p) before net b e c m r n all h (record m { decisions = n.decisions }) fit_n
       (rule_gains old p net m n.decisions (sound_old old (Add p) before net b e c m r n all h) (sound_new old (Add p) before net b e c m r n all h) (stood old (Add p) before net b e c m r n all h) h.fit last
       name kind is_rule named only_on adds_m))
@@ -106,13 +107,13 @@ on_one name trigger lo hi effect given unless_facts other rule is = by (same_nam
 one_added : (p q : Premise) → Add p ≡ Add q → p ≡ q
 one_added p q e = cc
 
-module _ (old : Standing) (p : Premise) (before net : Net) (b e c m r n : BeliefNet) (all : Departed) (h : IsBegun old (Add p) before net b e c m r n all) where
+module _ (old : Standing) (p : Premise) (before net : Net) (b e c m r n : Beliefs) (all : Departed) (h : IsBegun old (Add p) before net b e c m r n all) where
   neither : StayAll m r → StayAll r n → root_of p ≡ None → ((kind : List ℕ) → on_kind kind p ≡ None) → IsReady old (next_list old (Add p)) before net (forest b.tree) (forest n.tree) (rows_of b) (rows_of n)
   neither first then_ no_root no_rule = still old (Add p) before net b e c m r n all h first then_
       (λ q k is root. (let both : None ≡ Some k = sym no_root ∙ ap root_of (one_added p q is) ∙ root in cc))
       (λ q kind rule is on. (let both : None ≡ Some rule = sym (no_rule kind) ∙ ap (on_kind kind) (one_added p q is) ∙ on in cc))
 
-pub begun_ready : (old : Standing) (edit : Edit) (before net : Net) (b e c m r n : BeliefNet) (all : Departed) → IsBegun old edit before net b e c m r n all
+pub begun_ready : (old : Standing) (edit : Edit) (before net : Net) (b e c m r n : Beliefs) (all : Departed) → IsBegun old edit before net b e c m r n all
     → IsReady old (next_list old edit) before net (forest b.tree) (forest n.tree) (rows_of b) (rows_of n)
 begun_ready old (Add (Event name kind)) before net b e c m r n all h = with_root old (Event name kind) before net b e c m r n all h (At (Begin name)) refl h.enters.0 h.enters.1
 begun_ready old (Add (Token name fact)) before net b e c m r n all h = with_root old (Token name fact) before net b e c m r n all h (At (Begin name)) refl h.enters.0 h.enters.1

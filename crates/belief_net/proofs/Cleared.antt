@@ -36,16 +36,16 @@ use Rattle.joined.specs.Netted.{IsCurrent}
 use Rattle.joined.specs.Rows.{Row}
 use Rattle.joined.specs.Telling.{LeaveFirst}
 use Rattle.joined.proofs.Staying.{stay_seen}
-use Rattle.belief_net.specs.declared.erasing.Departed.{Departed}
-use Rattle.belief_net.specs.declared.state.BeliefNet.{BeliefNet}
-use Rattle.belief_net.specs.declared.told.DatedOcc.{DatedOcc}
+use Rattle.belief_table.specs.declared.erasing.Departed.{Departed}
+use Rattle.belief_table.specs.declared.state.Beliefs.{Beliefs}
+use Rattle.belief_table.specs.declared.dated.DatedOcc.{DatedOcc}
 use Rattle.belief_net.specs.Clearing.{IsCleared, AreSeenAfter}
-use Rattle.belief_net.specs.Decided.{table_of, rule_in, AreUnder}
-use Rattle.belief_net.specs.Erasing.{moments_of, HasLeft, ShedsAll, Spares, IsFreeOf}
-use Rattle.belief_net.specs.Numbers.{name_in}
-use Rattle.belief_net.specs.Turning.{rows_of, IsFit}
-use Rattle.belief_net.proofs.Thinned.{one_node, moment_stays, under_less}
-use Rattle.belief_net.proofs.Turned.{row_there, row_of, seen_row}
+use Rattle.belief_table.specs.Decided.{table_of, rule_in, AreUnder}
+use Rattle.belief_table.specs.Erasing.{moments_of, HasLeft, ShedsAll, Spares, IsFreeOf}
+use Rattle.belief_table.specs.Numbers.{name_in}
+use Rattle.belief_turns.specs.Turning.{rows_of, IsFit}
+use Rattle.belief_table.proofs.Thinned.{one_node, moment_stays, under_less}
+use Rattle.belief_turns.proofs.Turned.{row_there, row_of, seen_row}
 
 none_some : {X : Type 0} (x : X) → None ≡ Some x → ⊥
 none_some x e = cc
@@ -60,7 +60,7 @@ left_out : (old new : Standing) (names : List (List ℕ)) → IsLeftOut old new 
 left_out old new names is p at none =
     subst (In (name_of p)) (sym is) (filter-In (λ name. is_none (premise_in new.premises name)) (map name_of old.premises) (name_of p) (map-In name_of old.premises p at) (ap (λ (o : Option Premise). is_none o) none))
 
-module _ (old : Standing) (edit : Edit) (net : Net) (b e : BeliefNet) (all : Departed) (names : List (List ℕ))
+module _ (old : Standing) (edit : Edit) (net : Net) (b e : Beliefs) (all : Departed) (names : List (List ℕ))
     (sound_new : IsSound (next_list old edit)) (fit : IsFit old net b) (current : IsCurrent old net (forest b.tree) (rows_of b)) (out : IsLeftOut old (next_list old edit) names)
     (sheds : ShedsAll b e all) (spares : Spares (next_list old edit) b e) (free : (name : List ℕ) → In name names → IsFreeOf e name) where
   abbrev new : Standing

@@ -9,15 +9,15 @@ use Rattle.decision_rows.specs.declared.row.Pair.{Pair}
 use Rattle.occ_tree.specs.OfLists.{IsTreeOf}
 use Rattle.occ_tree.specs.Places.{forest}
 use Rattle.occ_tree.specs.Standing.{Kept, present, early}
-use Rattle.belief_net.specs.declared.state.BeliefNet.{BeliefNet}
-use Rattle.belief_net.specs.declared.state.Decisions.{Decisions}
+use Rattle.belief_table.specs.declared.state.Beliefs.{Beliefs}
+use Rattle.belief_table.specs.declared.state.Decisions.{Decisions}
 use Rattle.belief_net.specs.Adding.{AddsRule}
-use Rattle.belief_net.specs.Decided.{table_of, AreUnder, AddsRows}
-use Rattle.belief_net.specs.Marks.{Marks, WaitsAt}
-use Rattle.belief_net.specs.Turning.{IsFit}
-use Rattle.belief_net.specs.Waiting.{dates_in}
+use Rattle.belief_table.specs.Decided.{table_of, AreUnder, AddsRows}
+use Rattle.belief_table.specs.Marks.{Marks, WaitsAt}
+use Rattle.belief_turns.specs.Turning.{IsFit}
+use Rattle.belief_table.specs.Waiting.{dates_in}
 
-module _ (s : Standing) (net : Net) (b : BeliefNet) (fit : IsFit s net b) where
+module _ (s : Standing) (net : Net) (b : Beliefs) (fit : IsFit s net b) where
   pub fit_grown : (t : Kept) → IsTreeOf s net t → ((x : ℕ) → IsLive (forest b.tree) x → IsLive (forest t) x)
       → ((x : ℕ) → IsLive (forest b.tree) x → early (present t) x ≡ early (present b.tree) x) → IsFit s net (record b { tree = t })
   fit_grown t of live dates = record {

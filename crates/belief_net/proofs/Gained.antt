@@ -34,19 +34,22 @@ use Rattle.revisions.specs.Maps.{watches}
 use Rattle.joined.specs.Gaps.{reads_rival}
 use Rattle.joined.specs.Listed.{IsListedUnder}
 use Rattle.joined.proofs.Listed.{readers_listed}
-use Rattle.belief_net.specs.declared.state.BeliefNet.{BeliefNet}
-use Rattle.belief_net.specs.declared.state.Decisions.{Decisions}
-use Rattle.belief_net.specs.Adding.{MarksToken, FollowsRoot, a_token, an_event, EntersAs, IsEventOf, AddsRule}
-use Rattle.belief_net.specs.Decided.{table_of, rule_in, AddsRows, IsNewRow, IsSameRow, KeepsLast}
-use Rattle.belief_net.specs.Entering.{what_at, class_at}
-use Rattle.belief_net.specs.Numbers.{name_in}
-use Rattle.belief_net.specs.Turning.{IsFit}
-use Rattle.belief_net.proofs.Brought.{class_is_at, no_event_of_some}
+use Rattle.belief_table.specs.declared.state.Beliefs.{Beliefs}
+use Rattle.belief_table.specs.declared.state.Decisions.{Decisions}
+use Rattle.marking.specs.TokenMarks.{MarksToken}
+use Rattle.belief_net.specs.Adding.{FollowsRoot, a_token, an_event, EntersAs, IsEventOf, AddsRule}
+use Rattle.belief_table.specs.Decided.{table_of, rule_in, AddsRows, IsNewRow, IsSameRow, KeepsLast}
+use Rattle.marking.specs.TokenMarks.{what_at}
+use Rattle.belief_table.specs.Erasing.{class_at}
+use Rattle.belief_table.specs.Numbers.{name_in}
+use Rattle.belief_turns.specs.Turning.{IsFit}
+use Rattle.belief_table.proofs.Classes.{class_is_at}
+use Rattle.belief_turns.proofs.Brought.{no_event_of_some}
 use Rattle.belief_net.proofs.Declared.{root_cases, rule_cases}
-use Rattle.belief_net.proofs.Entered.{one_row}
+use Rattle.belief_table.proofs.Marked.{one_row}
 use Rattle.belief_net.proofs.Gains.{IsAddition, Gains, unread}
-use Rattle.belief_net.proofs.Named.{name_stays, are_numbered}
-use Rattle.belief_net.proofs.Turned.{date_is, seen_row, row_there}
+use Rattle.belief_table.proofs.Named.{name_stays, are_numbered}
+use Rattle.belief_turns.proofs.Turned.{date_is, seen_row, row_there}
 
 none_some : {X : Type 0} (x : X) → None ≡ Some x → ⊥
 none_some x e = cc
@@ -69,7 +72,7 @@ no_root_of_rule (Against name one other) kind r k on root = cc
 
 -- ---- nothing is gained
 
-pub gains_none : (old : Standing) (edit : Edit) (m : BeliefNet)
+pub gains_none : (old : Standing) (edit : Edit) (m : Beliefs)
     → ((k : Moment) → Contains (roots (next_list old edit)) k → Contains (roots old) k)
     → ((x : ℕ) (rule : List ℕ) → IsLive (forest m.tree) x → Contains (rules_at (next_list old edit) (moment_at (forest m.tree) x)) rule → Contains (rules_at old (moment_at (forest m.tree) x)) rule)
     → Gains old (next_list old edit) edit m m
@@ -89,7 +92,7 @@ gains_none old edit m roots_were rules_were = record {
 
 -- ---- a root
 
-module _ (old : Standing) (p : Premise) (net : Net) (m n : BeliefNet) (sound_old : IsSound old) (sound_new : IsSound (next_list old (Add p)))
+module _ (old : Standing) (p : Premise) (net : Net) (m n : Beliefs) (sound_old : IsSound old) (sound_new : IsSound (next_list old (Add p)))
     (stood : (x : ℕ) → IsLive (forest m.tree) x → Occurs old (moment_at (forest m.tree) x)) (fit_m : IsFit (next_list old (Add p)) net m) (fit_n : IsFit (next_list old (Add p)) net n)
     (last : KeepsLast m.decisions n.decisions) (k : Moment) (root : root_of p ≡ Some k) (en : EntersAs (next_list old (Add p)) net k m n) where
   abbrev new : Standing
@@ -279,7 +282,7 @@ module _ (old : Standing) (p : Premise) (net : Net) (m n : BeliefNet) (sound_old
 
 -- ---- a rule
 
-module _ (old : Standing) (p : Premise) (net : Net) (m : BeliefNet) (d : Decisions) (sound_old : IsSound old) (sound_new : IsSound (next_list old (Add p)))
+module _ (old : Standing) (p : Premise) (net : Net) (m : Beliefs) (d : Decisions) (sound_old : IsSound old) (sound_new : IsSound (next_list old (Add p)))
     (stood : (x : ℕ) → IsLive (forest m.tree) x → Occurs old (moment_at (forest m.tree) x)) (fit : IsFit (next_list old (Add p)) net m) (last : KeepsLast m.decisions d)
     (name kind : List ℕ) (is_rule : on_kind kind p ≡ Some name) (named : name_of p ≡ name) (only_on : (other r : List ℕ) → on_kind other p ≡ Some r → (kind ≡ other) × (name ≡ r))
     (adds : AddsRule m.tree name kind m.decisions d) where
@@ -289,7 +292,7 @@ module _ (old : Standing) (p : Premise) (net : Net) (m : BeliefNet) (d : Decisio
   abbrev f : Forest
   f = forest m.tree
 
-  abbrev n : BeliefNet
+  abbrev n : Beliefs
   n = record m { decisions = d }
 
   row_stays : (i : ℕ) (row : TableRow Pair 8) → (table_of m.decisions).row i ≡ Some row → IsSameRow m.decisions d i

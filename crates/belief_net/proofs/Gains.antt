@@ -35,23 +35,23 @@ use Rattle.joined.specs.Gaps.{reads_class, reads_rival}
 use Rattle.joined.specs.Touching.{RivalsStay}
 use Rattle.joined.proofs.Listed.{class_listed, readers_listed}
 use Rattle.joined.proofs.Starting.{reads_by_class}
-use Rattle.belief_net.specs.declared.erasing.Departed.{Departed}
-use Rattle.belief_net.specs.declared.state.BeliefNet.{BeliefNet}
-use Rattle.belief_net.specs.Adding.{ReadsRivalOf, MarksLeft}
+use Rattle.belief_table.specs.declared.erasing.Departed.{Departed}
+use Rattle.belief_table.specs.declared.state.Beliefs.{Beliefs}
+use Rattle.marking.specs.LeftMarks.{ReadsRivalOf, MarksLeft}
 use Rattle.belief_net.specs.Beginning.{IsLeftFrom, BoreOnNone, WaitForMoved, IsReady}
 use Rattle.belief_net.specs.Clearing.{IsCleared}
-use Rattle.belief_net.specs.Decided.{table_of, rule_in}
-use Rattle.belief_net.specs.Erasing.{fact_of, HasLeft, ShedsAll}
-use Rattle.belief_net.specs.Numbers.{name_in}
-use Rattle.belief_net.specs.Turning.{rows_of, IsFit}
-use Rattle.belief_net.specs.Waiting.{dates_in, waits_in}
+use Rattle.belief_table.specs.Decided.{table_of, rule_in}
+use Rattle.belief_table.specs.Erasing.{fact_of, HasLeft, ShedsAll}
+use Rattle.belief_table.specs.Numbers.{name_in}
+use Rattle.belief_turns.specs.Turning.{rows_of, IsFit}
+use Rattle.belief_table.specs.Waiting.{dates_in, waits_in}
 use Rattle.belief_net.proofs.Declared.{occurs_still}
 use Rattle.belief_net.proofs.Departing.{read_now}
-use Rattle.belief_net.proofs.Entered.{one_row}
+use Rattle.belief_table.proofs.Marked.{one_row}
 use Rattle.belief_net.proofs.Idle.{the_gone, gone_noted, left_spared}
-use Rattle.belief_net.proofs.Named.{are_numbered, under_more}
-use Rattle.belief_net.proofs.Thinned.{under_less}
-use Rattle.belief_net.proofs.Turned.{date_is, seen_row, row_there, row_of}
+use Rattle.belief_table.proofs.Named.{are_numbered, under_more}
+use Rattle.belief_table.proofs.Thinned.{under_less}
+use Rattle.belief_turns.proofs.Turned.{date_is, seen_row, row_there, row_of}
 
 none_some : {X : Type 0} (x : X) → None ≡ Some x → ⊥
 none_some x e = cc
@@ -80,7 +80,7 @@ IsAddition edit = (p : Premise) × (edit ≡ Add p)
 
 -- The row is new with the edit: nothing is decided of it, and it waits; its event is new, or its
 -- rule was none there.
-pub record IsFresh (old new : Standing) (edit : Edit) (m n : BeliefNet) (i : ℕ) (row : TableRow Pair 8) : Type 0 where
+pub record IsFresh (old new : Standing) (edit : Edit) (m n : Beliefs) (i : ℕ) (row : TableRow Pair 8) : Type 0 where
   pub addition : IsAddition edit
   pub free : (table_of m.decisions).row i ≡ None
   pub stands : Contains (rules_at new (moment_at (forest n.tree) row.value.trigger)) (rule_in n.decisions row)
@@ -89,7 +89,7 @@ pub record IsFresh (old new : Standing) (edit : Edit) (m n : BeliefNet) (i : ℕ
   pub is_new : (IsLive (forest m.tree) row.value.trigger → ⊥) ⊎ (Contains (rules_at old (moment_at (forest n.tree) row.value.trigger)) (rule_in n.decisions row) → ⊥)
 
 -- What is in n besides what is in m: what the edit adds.
-pub record Gains (old new : Standing) (edit : Edit) (m n : BeliefNet) : Type 0 where
+pub record Gains (old new : Standing) (edit : Edit) (m n : Beliefs) : Type 0 where
   pub nodes : (x : ℕ) (k : Member) → member (forest m.tree) x ≡ Some k → member (forest n.tree) x ≡ Some k
   pub own_nodes : (x : ℕ) (k : Member) → member (forest n.tree) x ≡ Some k → (member (forest m.tree) x ≡ Some k)
       ⊎ (IsAddition edit × (member (forest m.tree) x ≡ None) × Contains (roots new) (moment k))
@@ -108,7 +108,7 @@ pub record Gains (old new : Standing) (edit : Edit) (m n : BeliefNet) : Type 0 w
   pub waits_new : (i x : ℕ) (row : TableRow Pair 8) (k : Member) → (table_of n.decisions).row i ≡ Some row → member (forest m.tree) x ≡ None → member (forest n.tree) x ≡ Some k
       → watches new (rule_in n.decisions row) (moment k) ≡ true → waits_in n.decisions.waiting i ≡ true
 
-module _ (old : Standing) (edit : Edit) (before net : Net) (b e m n : BeliefNet) (all : Departed) (sound_old : IsSound old) (sound_new : IsSound (next_list old edit))
+module _ (old : Standing) (edit : Edit) (before net : Net) (b e m n : Beliefs) (all : Departed) (sound_old : IsSound old) (sound_new : IsSound (next_list old edit))
     (fit_b : IsFit old before b) (current : IsCurrent old before (forest b.tree) (rows_of b)) (sheds : ShedsAll b e all) (cleared : IsCleared old (next_list old edit) b e)
     (same : SameMembers (forest e.tree) (forest m.tree)) (marks : MarksLeft old (next_list old edit) before (present m.tree) all e.decisions m.decisions)
     (fit_m : IsFit (next_list old edit) net m) (fit_n : IsFit (next_list old edit) net n) (gains : Gains old (next_list old edit) edit m n) where

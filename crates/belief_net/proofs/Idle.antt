@@ -13,16 +13,16 @@ use Rattle.spots.specs.Spots.{links_low, links_high, spot_distance, token_row}
 use Rattle.spots.proofs.Nodes.{node_at}
 use Rattle.revisions.specs.Walls.{begins_by}
 use Rattle.joined.specs.Sparing.{StaysIn, HasWalls, IsSparedAt}
-use Rattle.belief_net.specs.declared.gone.Gone.{Gone}
-use Rattle.belief_net.specs.declared.places.Place.{Place}
-use Rattle.belief_net.specs.declared.walls.FastToken.{FastToken}
+use Rattle.bearing.specs.declared.gone_tokens.Gone.{Gone}
+use Rattle.bearing.specs.declared.places.Place.{Place}
+use Rattle.bearing.specs.declared.walls.FastToken.{FastToken}
 use Rattle.belief_net.specs.Beginning.{those_in}
-use Rattle.belief_net.specs.Gone.{gone_of, IsBehindGone, BoreNot}
-use Rattle.belief_net.specs.Places.{IsPlaceOf}
-use Rattle.belief_net.specs.Shifts.{HasBegunBy, AreWallsBy, IsSparedBy}
-use Rattle.belief_net.specs.Windows.{IsWall}
-use Rattle.belief_net.proofs.LeftTokens.{node_place, place_in_both}
-use Rattle.belief_net.proofs.Spared.{between, over}
+use Rattle.bearing.specs.Gone.{gone_of, IsBehindGone, BoreNot}
+use Rattle.bearing.specs.Places.{IsPlaceOf}
+use Rattle.bearing.specs.Shifts.{HasBegunBy, AreWallsBy, IsSparedBy}
+use Rattle.bearing.specs.Windows.{IsWall}
+use Rattle.bearing.proofs.LeftTokens.{node_place, place_in_both}
+use Rattle.bearing.proofs.Spared.{between, over}
 
 -- what is noted of a token of a class
 abbrev pub the_gone : Member → List ℕ → Gone

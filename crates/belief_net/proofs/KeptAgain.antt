@@ -17,13 +17,13 @@ use Rattle.occ_tree.specs.Places.{forest}
 use Rattle.occ_tree.specs.Standing.{State, present, committed, forest as forest_of}
 use Rattle.joined.specs.Netted.{IsCurrent}
 use Rattle.joined.specs.Rows.{Rows, as_row}
-use Rattle.belief_net.specs.declared.state.BeliefNet.{BeliefNet}
-use Rattle.belief_net.specs.Decided.{table_of}
-use Rattle.belief_net.specs.Numbers.{name_in}
-use Rattle.belief_net.specs.Turning.{rows_of, IsFit}
+use Rattle.belief_table.specs.declared.state.Beliefs.{Beliefs}
+use Rattle.belief_table.specs.Decided.{table_of}
+use Rattle.belief_table.specs.Numbers.{name_in}
+use Rattle.belief_turns.specs.Turning.{rows_of, IsFit}
 use Rattle.belief_net.specs.Updating.{IsKept}
-use Rattle.belief_net.specs.Waiting.{dates_in, waits_in}
-use Rattle.belief_net.proofs.Named.{under_more, name_stays}
+use Rattle.belief_table.specs.Waiting.{dates_in, waits_in}
+use Rattle.belief_table.proofs.Named.{under_more, name_stays}
 
 none_some : {X : Type 0} (x : X) → None ≡ Some x → ⊥
 none_some x e = cc
@@ -35,7 +35,7 @@ named_more old new k (more, is) within =
     omega (arith, within, size)
 
 -- the nodes and rows of r are those of b, which are those of the list, and are committed
-module _ (s : Standing) (net : Net) (b r : BeliefNet) (fit : IsFit s net b) (current : IsCurrent s net (forest b.tree) (rows_of b)) (rested : (i : ℕ) → dates_in b.decisions.waiting i ≡ None)
+module _ (s : Standing) (net : Net) (b r : Beliefs) (fit : IsFit s net b) (current : IsCurrent s net (forest b.tree) (rows_of b)) (rested : (i : ℕ) → dates_in b.decisions.waiting i ≡ None)
     (same_tree : present r.tree ≡ present b.tree) (same_rows : table_of r.decisions ≡ table_of b.decisions)
     (rules : HaveMore b.decisions.rules r.decisions.rules) (classes : HaveMore b.decisions.classes r.decisions.classes) (rests : (i : ℕ) → dates_in r.decisions.waiting i ≡ None)
     (tree_then : committed r.tree ≡ present r.tree) (table_then : rows_then r.decisions.rows ≡ rows_now r.decisions.rows) where

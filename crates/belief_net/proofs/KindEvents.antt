@@ -36,20 +36,20 @@ use Rattle.occ_tree.specs.Standing.{Kept}
 use Rattle.occ_tree.proofs.Numbered.{placed_name}
 use Rattle.joined.specs.Netted.{IsCurrent}
 use Rattle.joined.specs.Rows.{Row, HasRow}
-use Rattle.belief_net.specs.declared.state.BeliefNet.{BeliefNet}
-use Rattle.belief_net.specs.declared.state.Decisions.{Decisions}
+use Rattle.belief_table.specs.declared.state.Beliefs.{Beliefs}
+use Rattle.belief_table.specs.declared.state.Decisions.{Decisions}
 use Rattle.belief_net.specs.Adding.{EntersRoot}
 use Rattle.belief_net.specs.Clearing.{IsCleared}
-use Rattle.belief_net.specs.Decided.{table_of, rule_in, AreUnder}
-use Rattle.belief_net.specs.Erasing.{Thins}
+use Rattle.belief_table.specs.Decided.{table_of, rule_in, AreUnder}
+use Rattle.belief_table.specs.Erasing.{Thins}
 use Rattle.belief_net.specs.KindEvents.{HasRowAt, HaveOneEach, HaveOthers, FindsOthers}
-use Rattle.belief_net.specs.Numbers.{name_in, HaveOwnNumbers}
-use Rattle.belief_net.specs.Turning.{rows_of}
+use Rattle.belief_table.specs.Numbers.{name_in, HaveOwnNumbers}
+use Rattle.belief_turns.specs.Turning.{rows_of}
 use Rattle.belief_net.proofs.Declared.{rule_cases}
-use Rattle.belief_net.proofs.Marked.{listed_row}
-use Rattle.belief_net.proofs.OfRules.{on_rule}
-use Rattle.belief_net.proofs.Parted.{in_on, on_in}
-use Rattle.belief_net.proofs.Turned.{seen_row, row_there, row_of}
+use Rattle.belief_table.proofs.Marked.{listed_row}
+use Rattle.belief_table.proofs.OfRules.{on_rule}
+use Rattle.belief_table.proofs.Parted.{in_on, on_in}
+use Rattle.belief_turns.proofs.Turned.{seen_row, row_there, row_of}
 
 -- ---- lists of numbers
 
@@ -123,7 +123,7 @@ module _ (s : Standing) (d : Decisions) (rule : List ℕ) (k : ℕ) (under : Are
       each i j row other at there (sym (trigger_is t i row at) ∙ same ∙ trigger_is t j other there) (named ∙ sym other_named)))
 
 -- a row of those that stand for a list is a row of the table
-pub row_at : (b : BeliefNet) (x : ℕ) (rule : List ℕ) → HasRow (rows_of b) x rule → HasRowAt b.decisions x rule
+pub row_at : (b : Beliefs) (x : ℕ) (rule : List ℕ) → HasRow (rows_of b) x rule → HasRowAt b.decisions x rule
 row_at b x rule (i, q, at, of, named) =
     let (row, there, is) = row_of b i q at in
     (i, row, there, ap (λ (r : Row). r.trigger) (sym is) ∙ of, ap (λ (r : Row). r.rule) (sym is) ∙ named)
@@ -131,7 +131,7 @@ row_at b x rule (i, q, at, of, named) =
 -- ---- what is added
 
 -- a rule adds no root, so the rows are as before
-pub finds_still : (s : Standing) (net : Net) (p : Premise) (m r : BeliefNet) → EntersRoot s net p m r → FindsOthers s p m → FindsOthers s p r
+pub finds_still : (s : Standing) (net : Net) (p : Premise) (m r : Beliefs) → EntersRoot s net p m r → FindsOthers s p m → FindsOthers s p r
 finds_still s net (Rule name trigger lo hi effect given unless_facts) m r stays finds =
     subst (λ (d : Decisions). HaveOthers s r.tree d name trigger) (sym stays.decisions) (subst (λ (k : Kept). HaveOthers s k m.decisions name trigger) (sym stays.tree) finds)
 finds_still s net (Class name facts) m r stays finds = tt
@@ -155,7 +155,7 @@ one_added : (p q : Premise) → Add p ≡ Add q → p ≡ q
 one_added p q e = cc
 
 -- of b, which is kept of the list before, what is left in e is there in m
-module _ (old : Standing) (edit : Edit) (before net : Net) (b e m : BeliefNet) (p : Premise) (added : edit ≡ Add p) (sound_old : IsSound old) (sound_new : IsSound (next_list old edit))
+module _ (old : Standing) (edit : Edit) (before net : Net) (b e m : Beliefs) (p : Premise) (added : edit ≡ Add p) (sound_old : IsSound old) (sound_new : IsSound (next_list old edit))
     (current : IsCurrent old before (forest b.tree) (rows_of b)) (thins : Thins b e) (cleared : IsCleared old (next_list old edit) b e) (seen : IsForestOf (next_list old edit) net (forest e.tree))
     (nodes : forest m.tree ≡ forest e.tree) (rows : m.decisions.rows ≡ e.decisions.rows) (names : m.decisions.rules ≡ e.decisions.rules) where
   abbrev new : Standing

@@ -41,11 +41,11 @@ use Rattle.joined.specs.Gaps.{start, read, ReadsNoRival, MovesAt, TellsMoves}
 use Rattle.joined.specs.Shifting.{IsSpotOf, AreLoose, MayRest}
 use Rattle.joined.proofs.Gaps.{moved_points_touch}
 use Rattle.joined.proofs.Shifting.{resting_keep}
-use Rattle.belief_net.specs.ByEvent.{differ, is_between}
+use Rattle.bearing.specs.Events.{differ, is_between}
 use Rattle.belief_net.specs.MarkLaws.{added_by, PointsWereThere, MovedRowsAreTouched, RestingRowsKeep, DueRowsChange}
-use Rattle.belief_net.specs.MovedPairs.{is_of_premise, is_kept, is_moved}
-use Rattle.belief_net.proofs.AtRest.{among_at}
-use Rattle.belief_net.proofs.Pairs.{not_of_one, moved_parts, moved_by_far, bounds_differ, same_bound_is}
+use Rattle.bearing.specs.MovedPairs.{is_of_premise, is_kept, is_moved}
+use Rattle.marking.proofs.AtRest.{among_at}
+use Rattle.bearing.proofs.Pairs.{not_of_one, moved_parts, moved_by_far, bounds_differ, same_bound_is}
 
 -- ---- points of the premise that is added
 

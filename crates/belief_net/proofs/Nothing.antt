@@ -10,17 +10,17 @@ use Rattle.occ_tree.specs.Places.{forest}
 use Rattle.occ_tree.specs.Standing.{present, committed}
 use Rattle.joined.specs.Rows.{as_row}
 use Rattle.joined.proofs.Netted.{nothing_current}
-use Rattle.belief_net.specs.declared.state.BeliefNet.{BeliefNet}
-use Rattle.belief_net.specs.Decided.{table_of}
-use Rattle.belief_net.specs.Numbers.{name_in}
-use Rattle.belief_net.specs.Turning.{rows_of}
+use Rattle.belief_table.specs.declared.state.Beliefs.{Beliefs}
+use Rattle.belief_table.specs.Decided.{table_of}
+use Rattle.belief_table.specs.Numbers.{name_in}
+use Rattle.belief_turns.specs.Turning.{rows_of}
 use Rattle.belief_net.specs.Updating.{KeepsNothing}
-use Rattle.belief_net.specs.Waiting.{dates_in, waits_in}
+use Rattle.belief_table.specs.Waiting.{dates_in, waits_in}
 
 none_some : {X : Type 0} (x : X) → None ≡ Some x → ⊥
 none_some x e = cc
 
-pub nothing_kept : (b : BeliefNet) → ((x : ℕ) → member (forest b.tree) x ≡ None) → ((i : ℕ) → (table_of b.decisions).row i ≡ None) → b.decisions.waiting ≡ []
+pub nothing_kept : (b : Beliefs) → ((x : ℕ) → member (forest b.tree) x ≡ None) → ((i : ℕ) → (table_of b.decisions).row i ≡ None) → b.decisions.waiting ≡ []
     → committed b.tree ≡ present b.tree → rows_then b.decisions.rows ≡ rows_now b.decisions.rows → KeepsNothing b
 nothing_kept b no_node no_row no_wait tree rows = λ s net network none. record {
   fit = record {

@@ -23,17 +23,17 @@ use Rattle.occ_tree.specs.Standing.{Kept, State, present, committed, forest as f
 use Rattle.revisions.specs.Standing.{Stands}
 use Rattle.revisions.proofs.Tokens.{root_named}
 use Rattle.joined.specs.Telling.{TellsAll}
-use Rattle.belief_net.specs.declared.erasing.Departed.{Departed}
-use Rattle.belief_net.specs.declared.state.BeliefNet.{BeliefNet}
-use Rattle.belief_net.specs.declared.told.DatedOcc.{DatedOcc}
-use Rattle.belief_net.specs.declared.told.Told.{Told}
+use Rattle.belief_table.specs.declared.erasing.Departed.{Departed}
+use Rattle.belief_table.specs.declared.state.Beliefs.{Beliefs}
+use Rattle.belief_table.specs.declared.dated.DatedOcc.{DatedOcc}
+use Rattle.belief_turns.specs.declared.told.Told.{Told}
 use Rattle.belief_net.specs.Adding.{StayAll, EntersAs, EntersRule}
 use Rattle.belief_net.specs.Beginning.{EntersAdded}
-use Rattle.belief_net.specs.Erasing.{HasLeft, ShedsAll, Spares}
-use Rattle.belief_net.specs.Numbered.{then_forest, seen_numbered, left_under, AreNumbered, KeepsNumbers}
-use Rattle.belief_net.specs.Telling.{seen_dated, left_in, ins, outs}
-use Rattle.belief_net.proofs.Telling.{In-reverse}
-use Rattle.belief_net.proofs.Thinned.{moment_stays}
+use Rattle.belief_table.specs.Erasing.{HasLeft, ShedsAll, Spares}
+use Rattle.belief_turns.specs.Numbered.{then_forest, seen_numbered, left_under, AreNumbered, KeepsNumbers}
+use Rattle.belief_turns.specs.Telling.{seen_dated, left_in, ins, outs}
+use Rattle.belief_turns.proofs.Telling.{In-reverse}
+use Rattle.belief_table.proofs.Thinned.{moment_stays}
 
 none_some : {X : Type 0} (x : X) → None ≡ Some x → ⊥
 none_some x e = cc
@@ -77,11 +77,11 @@ module _ (s : Standing) (left : List (ℕ × Moment)) where
       none_some n (sym free ∙ ap (then_forest old) (sym same) ∙ at)))
 
   -- where what an edit adds has entered
-  rule_stays : (p : Premise) (old new : BeliefNet) → EntersRule s p old new → new.tree ≡ old.tree
+  rule_stays : (p : Premise) (old new : Beliefs) → EntersRule s p old new → new.tree ≡ old.tree
   rule_stays (Rule name trigger lo hi effect given unless_facts) old new h = h.0
   rule_stays _ old new h = h.tree
 
-  pub numbered_added : (net : Net) (added : Option Premise) (m r n : BeliefNet) → EntersAdded s net added m r n → committed n.tree ≡ committed m.tree
+  pub numbered_added : (net : Net) (added : Option Premise) (m r n : Beliefs) → EntersAdded s net added m r n → committed n.tree ≡ committed m.tree
       → AreNumbered s m.tree left → AreNumbered s n.tree left
   numbered_added net None m r n h last numbered = subst (λ (t : Kept). AreNumbered s t left) (sym (h.1.tree ∙ h.0.tree)) numbered
   numbered_added net (Some p) m r n h last numbered = by (root_of p) h.0
@@ -97,7 +97,7 @@ module _ (s : Standing) (left : List (ℕ × Moment)) where
 
 -- ---- when erased premises are gone
 
-module _ (s : Standing) (b e : BeliefNet) (all : Departed) (at_commit : committed b.tree ≡ present b.tree) (last : committed e.tree ≡ committed b.tree)
+module _ (s : Standing) (b e : Beliefs) (all : Departed) (at_commit : committed b.tree ≡ present b.tree) (last : committed e.tree ≡ committed b.tree)
     (once : IsOnce (forest b.tree)) (sheds : ShedsAll b e all) (spares : Spares s b e) where
   as_then : then_forest e.tree ≡ forest b.tree
   as_then = ap (λ (k : State). forest_of k) (last ∙ at_commit)

@@ -48,46 +48,46 @@ use Rattle.joined.specs.Telling.{IsToldOf, LeaveFirst}
 use Rattle.joined.proofs.Preparing.{prepared_netted}
 use Rattle.joined.proofs.Telling.{prepared_told}
 use Rattle.joined.proofs.Deciding.{true_false}
-use Rattle.belief_net.specs.declared.erasing.Departed.{Departed}
-use Rattle.belief_net.specs.declared.gone.Gone.{Gone}
-use Rattle.belief_net.specs.declared.state.BeliefNet.{BeliefNet}
-use Rattle.belief_net.specs.declared.state.Decisions.{Decisions}
-use Rattle.belief_net.specs.declared.told.Told.{Told}
-use Rattle.belief_net.specs.Adding.{ReadsOneOf, ReadsRivalOf, SayNone, MarksLeft}
+use Rattle.belief_table.specs.declared.erasing.Departed.{Departed}
+use Rattle.bearing.specs.declared.gone_tokens.Gone.{Gone}
+use Rattle.belief_table.specs.declared.state.Beliefs.{Beliefs}
+use Rattle.belief_table.specs.declared.state.Decisions.{Decisions}
+use Rattle.belief_turns.specs.declared.told.Told.{Told}
+use Rattle.marking.specs.LeftMarks.{ReadsOneOf, ReadsRivalOf, SayNone, MarksLeft}
 use Rattle.belief_net.specs.Beginning.{IsReady, added_by}
-use Rattle.belief_net.specs.ByEvent.{is_between}
+use Rattle.bearing.specs.Events.{is_between}
 use Rattle.belief_net.specs.Clearing.{IsCleared}
-use Rattle.belief_net.specs.Contradicted.{ReadsUnlike, ReadsAlike}
+use Rattle.marking.specs.Contradicted.{ReadsUnlike, ReadsAlike}
 use Rattle.belief_net.specs.Dating.{KeepsNodes, AreDatedBefore}
-use Rattle.belief_net.specs.Decided.{table_of, rule_in, AreUnder, AreOfSome, KeepsLast}
-use Rattle.belief_net.specs.Entering.{KeepLast}
-use Rattle.belief_net.specs.Erasing.{moments_of, ShedsAll, Spares, IsFreeOf}
-use Rattle.belief_net.specs.Gone.{BeginIn}
+use Rattle.belief_table.specs.Decided.{table_of, rule_in, AreUnder, AreOfSome, KeepsLast}
+use Rattle.belief_table.specs.LastCommit.{KeepLast}
+use Rattle.belief_table.specs.Erasing.{moments_of, ShedsAll, Spares, IsFreeOf}
+use Rattle.bearing.specs.Gone.{BeginIn}
 use Rattle.belief_net.specs.MarkLaws.{added_by as name_added}
-use Rattle.belief_net.specs.Marks.{HaveEvents, Wakes}
-use Rattle.belief_net.specs.MovedPairs.{WereThere, is_moved}
-use Rattle.belief_net.specs.Numbered.{AreNumbered, left_under}
-use Rattle.belief_net.specs.Settling.{Begins}
-use Rattle.belief_net.specs.Telling.{entered_in, outs, moments_of as last_first}
-use Rattle.belief_net.specs.Turning.{rows_of, IsFit}
+use Rattle.belief_table.specs.Marks.{HaveEvents, Wakes}
+use Rattle.bearing.specs.MovedPairs.{WereThere, is_moved}
+use Rattle.belief_turns.specs.Numbered.{AreNumbered, left_under}
+use Rattle.belief_turns.specs.Settling.{Begins}
+use Rattle.belief_turns.specs.Telling.{entered_in, outs, moments_of as last_first}
+use Rattle.belief_turns.specs.Turning.{rows_of, IsFit}
 use Rattle.belief_net.specs.Updating.{IsKept, IsPending, MayAdd, Entered, IsChanged, IsUnchanged, IsTouchedBy, IsLeftBy}
-use Rattle.belief_net.specs.Waiting.{dates_in, waits_in}
-use Rattle.belief_net.specs.Woken.{RestsAt}
+use Rattle.belief_table.specs.Waiting.{dates_in, waits_in}
+use Rattle.marking.specs.Woken.{RestsAt}
 use Rattle.belief_net.proofs.Begun.{begun_ready}
-use Rattle.belief_net.proofs.ByRule.{reads_none}
+use Rattle.marking.proofs.ByRule.{reads_none}
 use Rattle.belief_net.proofs.Cleared.{cleared, seen_after, told_first}
-use Rattle.belief_net.proofs.Entered.{one_row}
+use Rattle.belief_table.proofs.Marked.{one_row}
 use Rattle.belief_net.proofs.Fitting.{fit_only}
 use Rattle.belief_net.proofs.KeptAgain.{named_more}
 use Rattle.belief_net.proofs.KindEvents.{finds_left}
-use Rattle.belief_net.proofs.LeftTokens.{gone_base, gone_class, in_at}
+use Rattle.bearing.proofs.LeftTokens.{gone_base, gone_class, in_at}
 use Rattle.belief_net.proofs.MarkedRight.{points_were_there, moved_rows_are_touched, resting_rows_keep, resting_among, is_no_start, unmoved_rests, all_loose, due_rows_change}
-use Rattle.belief_net.proofs.Named.{under_more, last_on}
+use Rattle.belief_table.proofs.Named.{under_more, last_on}
 use Rattle.belief_net.proofs.Numbered.{numbered_on, numbered_added, numbered_erased}
 use Rattle.belief_net.proofs.Readied.{WaitOn, moved_marked, due_marked, prepared_on}
-use Rattle.belief_net.proofs.Telling.{left_first}
-use Rattle.belief_net.proofs.Turned.{seen_row, row_there, row_of}
-use Rattle.belief_net.proofs.Unlike.{plain_before, alike_stay, unlike_changes}
+use Rattle.belief_turns.proofs.Telling.{left_first}
+use Rattle.belief_turns.proofs.Turned.{seen_row, row_there, row_of}
+use Rattle.marking.proofs.Unlike.{plain_before, alike_stay, unlike_changes}
 
 none_some : {X : Type 0} (x : X) → None ≡ Some x → ⊥
 none_some x e = cc
@@ -95,7 +95,7 @@ none_some x e = cc
 -- ---- what is erased
 
 -- from b, which is kept of the list before, what is erased is gone in e
-pub record IsErased (old s : Standing) (nets : Nets) (names : List (List ℕ)) (b e : BeliefNet) (all : Departed) : Type 0 where
+pub record IsErased (old s : Standing) (nets : Nets) (names : List (List ℕ)) (b e : Beliefs) (all : Departed) : Type 0 where
   pub kept : IsKept old nets.committed b
   pub network : IsNetOf s nets.present
   pub numbers : PointsKeepNumbers (points_in s.premises) nets.committed.names nets.present.names
@@ -108,7 +108,7 @@ pub record IsErased (old s : Standing) (nets : Nets) (names : List (List ℕ)) (
 no_delay : (z : ℤ) → z +ℤ pos 0 ≡ z
 no_delay z = omega (arith, ints)
 
-module _ (old : Standing) (edit : Edit) (nets : Nets) (names : List (List ℕ)) (b e : BeliefNet) (all : Departed) (h : IsErased old (next_list old edit) nets names b e all) where
+module _ (old : Standing) (edit : Edit) (nets : Nets) (names : List (List ℕ)) (b e : Beliefs) (all : Departed) (h : IsErased old (next_list old edit) nets names b e all) where
   sound_old : IsSound old
   sound_old = h.kept.fit.tree.seen.network.sound
 
@@ -182,7 +182,7 @@ module _ (old : Standing) (edit : Edit) (nets : Nets) (names : List (List ℕ)) 
 
 -- c is e with the dates of the new network; in m besides rows wait on which what left may have
 -- borne
-pub record IsMarked (old s : Standing) (nets : Nets) (e c m : BeliefNet) (all : Departed) : Type 0 where
+pub record IsMarked (old s : Standing) (nets : Nets) (e c m : Beliefs) (all : Departed) : Type 0 where
   pub keeps : KeepsNodes e.tree c.tree
   pub dated : IsDatedBy nets.present (present c.tree)
   pub same_rows : c.decisions ≡ e.decisions
@@ -199,7 +199,7 @@ marked_under s c m rows last under = record {
     was : (i : ℕ) (row : TableRow Pair 8) → (table_of m).row i ≡ Some row → (table_of c).row i ≡ Some row
     was i row at = ap (λ rs. (table_of (record c { rows = rs })).row i) (sym rows) ∙ at
 
-module _ (old : Standing) (edit : Edit) (nets : Nets) (names : List (List ℕ)) (b e c m : BeliefNet) (all : Departed) (h : IsErased old (next_list old edit) nets names b e all)
+module _ (old : Standing) (edit : Edit) (nets : Nets) (names : List (List ℕ)) (b e c m : Beliefs) (all : Departed) (h : IsErased old (next_list old edit) nets names b e all)
     (k : IsMarked old (next_list old edit) nets e c m all) where
   pub fit_begun : IsFit (next_list old edit) nets.present m
   fit_begun =
@@ -221,16 +221,16 @@ module _ (old : Standing) (edit : Edit) (nets : Nets) (names : List (List ℕ)) 
 
 -- in n what the edit adds has entered, and in z besides rows wait that it touches, and all others
 -- may rest
-pub record IsOpened (old s : Standing) (nets : Nets) (edit : Edit) (before : ℕ) (m n z : BeliefNet) : Type 0 where
+pub record IsOpened (old s : Standing) (nets : Nets) (edit : Edit) (before : ℕ) (m n z : Beliefs) : Type 0 where
   pub entered : Entered s nets.present edit m n
   pub touched : Wakes (present n.tree) (table_of n.decisions) (λ i row. IsTouchedBy edit old s nets before n row) (λ i row. IsLeftBy edit old s nets before n row) (dates_in n.decisions.waiting) (dates_in z.decisions.waiting)
   pub others : z ≡ record n { decisions = record n.decisions { waiting = z.decisions.waiting } }
 
 -- other dates for which rows wait
-abbrev waiting_with : BeliefNet → List (Option ℤ) → BeliefNet
+abbrev waiting_with : Beliefs → List (Option ℤ) → Beliefs
 waiting_with n dates = record n { decisions = record n.decisions { waiting = dates } }
 
-module _ (n : BeliefNet) (dates : List (Option ℤ)) (P R : ℕ → TableRow Pair 8 → Type 0)
+module _ (n : Beliefs) (dates : List (Option ℤ)) (P R : ℕ → TableRow Pair 8 → Type 0)
     (touched : Wakes (present n.tree) (table_of n.decisions) P R (dates_in n.decisions.waiting) (dates_in dates)) where
   wait_still : (i : ℕ) → waits_in n.decisions.waiting i ≡ true → waits_in dates i ≡ true
   wait_still i waited = elim (touched.only i) [ inl same ↦ ap is_some same ∙ waited | inr marked ↦ ap is_some marked.3 ]
@@ -270,7 +270,7 @@ module _ (n : BeliefNet) (dates : List (Option ℤ)) (P R : ℕ → TableRow Pai
       let (row, here, is) = row_of (waiting_with n dates) i q at in
       (row, here, is, elim (touched.rests i row here) [ inl waits ↦ inl (ap (λ (r : Row). r.waits) is ∙ waits) | inr rests ↦ inr rests ])
 
-module _ (old : Standing) (edit : Edit) (nets : Nets) (names : List (List ℕ)) (before : ℕ) (b e c m n z : BeliefNet) (all : Departed) (is_before : before ≡ old.horizon)
+module _ (old : Standing) (edit : Edit) (nets : Nets) (names : List (List ℕ)) (before : ℕ) (b e c m n z : Beliefs) (all : Departed) (is_before : before ≡ old.horizon)
     (h : IsErased old (next_list old edit) nets names b e all) (k : IsMarked old (next_list old edit) nets e c m all) (o : IsOpened old (next_list old edit) nets edit before m n z) where
   abbrev new : Standing
   new = next_list old edit
@@ -281,7 +281,7 @@ module _ (old : Standing) (edit : Edit) (nets : Nets) (names : List (List ℕ)) 
   abbrev g : Forest
   g = forest n.tree
 
-  abbrev y : BeliefNet
+  abbrev y : Beliefs
   y = waiting_with n z.decisions.waiting
 
   sound_before : IsSound old
@@ -381,13 +381,13 @@ module _ (old : Standing) (edit : Edit) (nets : Nets) (names : List (List ℕ)) 
           why q row is (inl unlike) = inr (λ was stands.
               unlike_changes old edit sound_before sound_after (moment_at g q.trigger) q.rule was stands (subst (λ (r : Row). ReadsUnlike old (next_list old edit) r.rule) (sym is) unlike))
 
-module _ (old : Standing) (k : ℕ) (nets : Nets) (names : List (List ℕ)) (before : ℕ) (b e c m n z : BeliefNet) (all : Departed) (is_before : before ≡ old.horizon)
+module _ (old : Standing) (k : ℕ) (nets : Nets) (names : List (List ℕ)) (before : ℕ) (b e c m n z : Beliefs) (all : Departed) (is_before : before ≡ old.horizon)
     (h : IsErased old (next_list old (Horizon k)) nets names b e all) (mk : IsMarked old (next_list old (Horizon k)) nets e c m all)
     (o : IsOpened old (next_list old (Horizon k)) nets (Horizon k) before m n z) where
   abbrev until : Standing
   until = next_list old (Horizon k)
 
-  abbrev v : BeliefNet
+  abbrev v : Beliefs
   v = waiting_with n z.decisions.waiting
 
   ready_until : IsReady old (next_list old (Horizon k)) nets.committed nets.present (forest b.tree) (forest n.tree) (rows_of b) (rows_of n)
@@ -433,7 +433,7 @@ module _ (old : Standing) (k : ℕ) (nets : Nets) (names : List (List ℕ)) (bef
 
 -- ---- so opened, nodes and rows stand for the revision
 
-opened_prepared : (old : Standing) (edit : Edit) (nets : Nets) (names : List (List ℕ)) (before : ℕ) (b e c m n z : BeliefNet) (all : Departed) → before ≡ old.horizon
+opened_prepared : (old : Standing) (edit : Edit) (nets : Nets) (names : List (List ℕ)) (before : ℕ) (b e c m n z : Beliefs) (all : Departed) → before ≡ old.horizon
     → IsErased old (next_list old edit) nets names b e all → IsMarked old (next_list old edit) nets e c m all → IsOpened old (next_list old edit) nets edit before m n z
     → IsPrepared old (next_list old edit) nets.present (forest b.tree) (forest n.tree) (rows_of b) (rows_of (waiting_with n z.decisions.waiting))
 opened_prepared old (Add p) nets names before b e c m n z all is_before h k o = prepared_moved old (Add p) nets names before b e c m n z all is_before h k o (λ row. refl) (λ row. refl) refl
@@ -441,9 +441,9 @@ opened_prepared old (Erase x) nets names before b e c m n z all is_before h k o 
 opened_prepared old Upgrade nets names before b e c m n z all is_before h k o = prepared_moved old Upgrade nets names before b e c m n z all is_before h k o (λ row. refl) (λ row. refl) refl
 opened_prepared old (Horizon d) nets names before b e c m n z all is_before h k o = prepared_until old d nets names before b e c m n z all is_before h k o
 
-module _ (old : Standing) (edit : Edit) (nets : Nets) (names : List (List ℕ)) (before : ℕ) (b e c m n z : BeliefNet) (all : Departed) (is_before : before ≡ old.horizon)
+module _ (old : Standing) (edit : Edit) (nets : Nets) (names : List (List ℕ)) (before : ℕ) (b e c m n z : Beliefs) (all : Departed) (is_before : before ≡ old.horizon)
     (h : IsErased old (next_list old edit) nets names b e all) (k : IsMarked old (next_list old edit) nets e c m all) (o : IsOpened old (next_list old edit) nets edit before m n z) where
-  abbrev w : BeliefNet
+  abbrev w : Beliefs
   w = waiting_with n z.decisions.waiting
 
   prepared : IsPrepared old (next_list old edit) nets.present (forest b.tree) (forest n.tree) (rows_of b) (rows_of (waiting_with n z.decisions.waiting))
@@ -455,7 +455,7 @@ module _ (old : Standing) (edit : Edit) (nets : Nets) (names : List (List ℕ)) 
       (record { classes = o.entered.fit.under.classes; named = o.entered.fit.under.named }) o.touched.only)
 
   pub opened_begins : (told : Told) → entered_in told ≡ [] → told.left.items ≡ all.left.items → Begins old edit nets.present z told
-  opened_begins told none left = subst (λ (x : BeliefNet). Begins old edit nets.present x told) (sym o.others) (record {
+  opened_begins told none left = subst (λ (x : Beliefs). Begins old edit nets.present x told) (sym o.others) (record {
     underway = record {
       sound = sound_old old edit nets names b e all h;
       sound_after = h.network.sound;
@@ -477,7 +477,7 @@ none_of old s names is name at =
     by None e = refl
     by (Some p) e = cc
 
-module _ (lists : States) (nets : Nets) (edit : Edit) (names : List (List ℕ)) (b e : BeliefNet) (all : Departed) (kept : IsKept lists.committed nets.committed b) (pending : IsPending lists nets edit names)
+module _ (lists : States) (nets : Nets) (edit : Edit) (names : List (List ℕ)) (b e : Beliefs) (all : Departed) (kept : IsKept lists.committed nets.committed b) (pending : IsPending lists nets edit names)
     (sheds : ShedsAll b e all) (spares : (s : Standing) → ((name : List ℕ) → In name names → premise_in s.premises name ≡ None) → Spares s b e) (free : (name : List ℕ) → In name names → IsFreeOf e name) where
   abbrev before_edit : Standing
   before_edit = lists.committed
@@ -528,7 +528,7 @@ module _ (lists : States) (nets : Nets) (edit : Edit) (names : List (List ℕ)) 
   pub points_there : WereThere nets (name_added edit)
   points_there = were_there before_edit edit nets names b e all erased_next
 
-  module _ (c m : BeliefNet) (marked : IsMarked lists.committed lists.present nets e c m all) where
+  module _ (c m : Beliefs) (marked : IsMarked lists.committed lists.present nets e c m all) where
     k : IsMarked lists.committed (next_list lists.committed edit) nets e c m all
     k = subst (λ l. IsMarked lists.committed l nets e c m all) pending.list marked
 
@@ -538,7 +538,7 @@ module _ (lists : States) (nets : Nets) (edit : Edit) (names : List (List ℕ)) 
     pub marked_may_add : MayAdd lists.present edit m
     marked_may_add = subst (λ l. MayAdd l edit m) (sym pending.list) (may_add_begun before_edit edit nets names b e c m all erased_next k)
 
-    module _ (before : ℕ) (n z : BeliefNet) (is_before : before ≡ lists.committed.horizon) (o : IsOpened lists.committed lists.present nets edit before m n z) where
+    module _ (before : ℕ) (n z : Beliefs) (is_before : before ≡ lists.committed.horizon) (o : IsOpened lists.committed lists.present nets edit before m n z) where
       opened_next : IsOpened lists.committed (next_list lists.committed edit) nets edit before m n z
       opened_next = subst (λ l. IsOpened lists.committed l nets edit before m n z) pending.list o
 
@@ -556,10 +556,10 @@ module _ (lists : States) (nets : Nets) (edit : Edit) (names : List (List ℕ)) 
           let marked = subst (λ (t : Kept). AreNumbered lists.present t (left_under all.left.items)) (sym k.same_tree) dated in
           let added = numbered_added lists.present (left_under all.left.items) nets.present (added_by edit) m o.entered.mid n o.entered.enters last marked in
           subst (λ l. AreNumbered lists.present z.tree (left_under l)) (sym left)
-          (subst (λ (x : BeliefNet). AreNumbered lists.present x.tree (left_under all.left.items)) (sym o.others) added)
+          (subst (λ (x : Beliefs). AreNumbered lists.present x.tree (left_under all.left.items)) (sym o.others) added)
 
 -- what a rollback leads back to stays from step to step
-pub opened_last : (b e m n z : BeliefNet) → KeepLast b e → committed m.tree ≡ committed e.tree → KeepsLast e.decisions m.decisions → KeepLast m n
+pub opened_last : (b e m n z : Beliefs) → KeepLast b e → committed m.tree ≡ committed e.tree → KeepsLast e.decisions m.decisions → KeepLast m n
     → z ≡ record n { decisions = record n.decisions { waiting = z.decisions.waiting } } → KeepLast b z
 opened_last b e m n z first tree rows added others =
     let kept = last_on b.decisions m.decisions n.decisions (last_on b.decisions e.decisions m.decisions first.decisions rows) added.decisions in

@@ -29,9 +29,9 @@ use Rattle.joined.specs.Touching.{RivalsStay, IsUntouched}
 use Rattle.joined.proofs.Deciding.{some_row, true_false}
 use Rattle.joined.proofs.Preparing.{stays_same, begun_rows}
 use Rattle.joined.proofs.Touching.{resting_marked, believed_among, among_believed, horizons_marked}
-use Rattle.belief_net.specs.Adding.{SayNone}
+use Rattle.marking.specs.LeftMarks.{SayNone}
 use Rattle.belief_net.specs.Beginning.{IsLeftFrom, those_in, BoreOnNone, IsReady}
-use Rattle.belief_net.proofs.ByRule.{reads_none}
+use Rattle.marking.proofs.ByRule.{reads_none}
 use Rattle.belief_net.proofs.Departing.{read_then}
 use Rattle.belief_net.proofs.Staying.{all_or_one, of_both, into_both, stays_or_left, staying, holds_staying, occur_staying, without_left}
 

@@ -17,23 +17,23 @@ use Rattle.occ_tree.specs.Dated.{IsDatedBy}
 use Rattle.occ_tree.specs.Edits.{Enters}
 use Rattle.occ_tree.specs.Places.{forest}
 use Rattle.occ_tree.specs.Standing.{Kept, present, early}
-use Rattle.belief_net.specs.declared.state.BeliefNet.{BeliefNet}
-use Rattle.belief_net.specs.declared.state.Decisions.{Decisions}
+use Rattle.belief_table.specs.declared.state.Beliefs.{Beliefs}
+use Rattle.belief_table.specs.declared.state.Decisions.{Decisions}
 use Rattle.belief_net.specs.Adding.{FollowsRoot, a_token, an_event, EntersRoot, EntersAs, StayAll}
-use Rattle.belief_net.specs.Decided.{table_of, AreUnder}
-use Rattle.belief_net.specs.Turning.{IsFit}
+use Rattle.belief_table.specs.Decided.{table_of, AreUnder}
+use Rattle.belief_turns.specs.Turning.{IsFit}
 use Rattle.belief_net.proofs.Fitting.{fit_grown, fit_marked, fit_with_rows}
 
 none_some : {X : Type 0} (x : X) → None ≡ Some x → ⊥
 none_some x e = cc
 
 -- what becomes of rows leaves nodes and rows fit
-pub follows_fit : (s : Standing) (net : Net) (b : BeliefNet) (d : Decisions) (x : ℕ) → IsFit s net b → IsLive (forest b.tree) x → FollowsRoot s x b.tree b.decisions d → AreUnder s d
+pub follows_fit : (s : Standing) (net : Net) (b : Beliefs) (d : Decisions) (x : ℕ) → IsFit s net b → IsLive (forest b.tree) x → FollowsRoot s x b.tree b.decisions d → AreUnder s d
     → IsFit s net (record b { decisions = d })
 follows_fit s net b d x fit live (a_token class of marks) under = fit_marked s net b fit d _ marks.rows under marks.marks
 follows_fit s net b d x fit live (an_event of adds) under = fit_with_rows s net b fit d _ x live adds under
 
-module _ (s : Standing) (net : Net) (p : Premise) (b : BeliefNet) (t : Kept) (fit : IsFit s net b) (unused : IsNoRoot (forest b.tree) (name_of p)) (o : Option ℕ)
+module _ (s : Standing) (net : Net) (p : Premise) (b : Beliefs) (t : Kept) (fit : IsFit s net b) (unused : IsNoRoot (forest b.tree) (name_of p)) (o : Option ℕ)
     (adds : AddsRoot s net.names p (forest b.tree) (forest t) o) (enters : MatchOption o (t ≡ b.tree) (λ x. (m : Member) × (date : ℤ) × Enters b.tree t x m None date))
     (dated : HasList net (forest t) → IsDatedBy net (present b.tree) → IsDatedBy net (present t)) where
   module _ (x : ℕ) (some : o ≡ Some x) where

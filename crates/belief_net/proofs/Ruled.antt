@@ -11,11 +11,11 @@ use Rattle.row_links.proofs.Lists.{IsOn-first, IsOn-append_left, IsOn-append_rig
 use Rattle.undo_rows.specs.declared.row.Row.{Row as TableRow}
 use Rattle.decision_rows.specs.declared.row.Pair.{Pair}
 use Rattle.occ_tree.specs.Standing.{Kept, present, early}
-use Rattle.belief_net.specs.declared.state.Decisions.{Decisions}
+use Rattle.belief_table.specs.declared.state.Decisions.{Decisions}
 use Rattle.belief_net.specs.Adding.{IsEventOf, AddsRuleAt, AddsRule}
-use Rattle.belief_net.specs.Decided.{table_of, rule_in, AreUnder, IsNewRow, IsSameRow, AddsRows, KeepsLast}
-use Rattle.belief_net.proofs.Entered.{one_row}
-use Rattle.belief_net.proofs.Named.{name_stays}
+use Rattle.belief_table.specs.Decided.{table_of, rule_in, AreUnder, IsNewRow, IsSameRow, AddsRows, KeepsLast}
+use Rattle.belief_table.proofs.Marked.{one_row}
+use Rattle.belief_table.proofs.Named.{name_stays}
 
 none_some : {X : Type 0} (x : X) → None ≡ Some x → ⊥
 none_some x e = cc

@@ -18,13 +18,14 @@ use Rattle.joined.specs.Rows.{Row, Rows}
 use Rattle.joined.specs.Sparing.{IsSparedAt}
 use Rattle.joined.specs.Starting.{NodesBegin, RowsBegin}
 use Rattle.joined.specs.Touching.{RivalsStay}
-use Rattle.belief_net.specs.declared.erasing.Departed.{Departed}
-use Rattle.belief_net.specs.declared.state.BeliefNet.{BeliefNet}
-use Rattle.belief_net.specs.Adding.{MarksLeft, SayNone, StayAll, EntersRoot, EntersRule}
+use Rattle.belief_table.specs.declared.erasing.Departed.{Departed}
+use Rattle.belief_table.specs.declared.state.Beliefs.{Beliefs}
+use Rattle.marking.specs.LeftMarks.{MarksLeft, SayNone}
+use Rattle.belief_net.specs.Adding.{StayAll, EntersRoot, EntersRule}
 use Rattle.belief_net.specs.Clearing.{IsCleared}
-use Rattle.belief_net.specs.Decided.{KeepsLast}
-use Rattle.belief_net.specs.Erasing.{ShedsAll}
-use Rattle.belief_net.specs.Turning.{rows_of, IsFit}
+use Rattle.belief_table.specs.Decided.{KeepsLast}
+use Rattle.belief_table.specs.Erasing.{ShedsAll}
+use Rattle.belief_turns.specs.Turning.{rows_of, IsFit}
 
 -- the premise that the edit adds, if it adds one
 abbrev pub added_by : Edit → Option Premise
@@ -34,14 +35,14 @@ added_by (Horizon n) = None
 added_by Upgrade = None
 
 -- what the premise declares to occur has entered in r, and in n the rows of the rule that it is
-abbrev pub EntersAdded : Standing → Net → Option Premise → BeliefNet → BeliefNet → BeliefNet → Type 0
+abbrev pub EntersAdded : Standing → Net → Option Premise → Beliefs → Beliefs → Beliefs → Type 0
 EntersAdded s net None m r n = StayAll m r × StayAll r n
 EntersAdded s net (Some premise) m r n = EntersRoot s net premise m r × EntersRule s premise r n
 
 -- The steps from b, which has nodes and rows of the list before: in e those are left that still
 -- occur; in c roots have the dates of the new network; in m the rows wait that may read what left;
 -- in r and n what the edit adds has entered.
-pub record IsBegun (old : Standing) (edit : Edit) (before net : Net) (b e c m r n : BeliefNet) (all : Departed) : Type 0 where
+pub record IsBegun (old : Standing) (edit : Edit) (before net : Net) (b e c m r n : Beliefs) (all : Departed) : Type 0 where
   pub fit_before : IsFit old before b
   pub current : IsCurrent old before (forest b.tree) (rows_of b)
   pub sheds : ShedsAll b e all
@@ -93,6 +94,6 @@ pub record IsReady (old new : Standing) (before net : Net) (f g : Forest) (rows 
 -- **So begun, nodes and rows are ready for the list after.**
 abbrev pub BegunAreReady : Type 0
 BegunAreReady =
-    (old : Standing) (edit : Edit) (before net : Net) (b e c m r n : BeliefNet) (all : Departed)
+    (old : Standing) (edit : Edit) (before net : Net) (b e c m r n : Beliefs) (all : Departed)
     → IsBegun old edit before net b e c m r n all
     → IsReady old (next_list old edit) before net (forest b.tree) (forest n.tree) (rows_of b) (rows_of n)

@@ -19,15 +19,15 @@ use Rattle.occ_tree.specs.Places.{forest}
 use Rattle.list_theory.specs.LeftOut.{IsLeftOut}
 use Rattle.joined.specs.Netted.{IsCurrent}
 use Rattle.joined.specs.Telling.{LeaveFirst}
-use Rattle.belief_net.specs.declared.erasing.Departed.{Departed}
-use Rattle.belief_net.specs.declared.state.BeliefNet.{BeliefNet}
-use Rattle.belief_net.specs.Decided.{table_of, rule_in, AreUnder}
-use Rattle.belief_net.specs.Erasing.{moments_of, ShedsAll, Spares, IsFreeOf}
-use Rattle.belief_net.specs.Turning.{rows_of, IsFit}
+use Rattle.belief_table.specs.declared.erasing.Departed.{Departed}
+use Rattle.belief_table.specs.declared.state.Beliefs.{Beliefs}
+use Rattle.belief_table.specs.Decided.{table_of, rule_in, AreUnder}
+use Rattle.belief_table.specs.Erasing.{moments_of, ShedsAll, Spares, IsFreeOf}
+use Rattle.belief_turns.specs.Turning.{rows_of, IsFit}
 
 -- Of the nodes b has of the list before, e has those that occur in the list after, and of their
 -- rows those of rules that stand there.
-pub record IsCleared (old new : Standing) (b e : BeliefNet) : Type 0 where
+pub record IsCleared (old new : Standing) (b e : Beliefs) : Type 0 where
   pub occur : (x : ℕ) (m : Member) → member (forest e.tree) x ≡ Some m → Occurs new (moment m)
   pub nodes : (x : ℕ) (m : Member) → member (forest b.tree) x ≡ Some m → Occurs new (moment m) → member (forest e.tree) x ≡ Some m
   pub stand : (i : ℕ) (row : TableRow Pair 8) → (table_of e.decisions).row i ≡ Some row → Contains (rules_at new (moment_at (forest e.tree) row.value.trigger)) (rule_in e.decisions row)
@@ -36,14 +36,14 @@ pub record IsCleared (old new : Standing) (b e : BeliefNet) : Type 0 where
   pub under : AreUnder new e.decisions
 
 -- the nodes are seen by the list after, in any network of it in which points keep their numbers
-abbrev pub AreSeenAfter : Standing → Net → BeliefNet → Type 0
+abbrev pub AreSeenAfter : Standing → Net → Beliefs → Type 0
 AreSeenAfter new net e = (after : Net) → IsNetOf new after → PointsKeepNumbers (points_in new.premises) net.names after.names → IsForestOf new after (forest e.tree)
 
 -- **When the erased premises are gone, exactly what still occurs is left**, with its rows; and what
 -- left is told.
 abbrev pub ErasedAreCleared : Type 0
 ErasedAreCleared =
-    (old : Standing) (edit : Edit) (net : Net) (b e : BeliefNet) (all : Departed) (names : List (List ℕ))
+    (old : Standing) (edit : Edit) (net : Net) (b e : Beliefs) (all : Departed) (names : List (List ℕ))
     → IsSound (next_list old edit) → IsFit old net b → IsCurrent old net (forest b.tree) (rows_of b) → IsLeftOut old (next_list old edit) names
     → ShedsAll b e all → Spares (next_list old edit) b e → ((name : List ℕ) → In name names → IsFreeOf e name)
     → IsCleared old (next_list old edit) b e × AreSeenAfter (next_list old edit) net e × LeaveFirst old (next_list old edit) (moments_of all.left.items)

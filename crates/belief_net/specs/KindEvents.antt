@@ -8,10 +8,10 @@ use Rattle.list_theory.proofs.Elements.{In}
 use Rattle.undo_rows.specs.declared.row.Row.{Row as TableRow}
 use Rattle.decision_rows.specs.declared.row.Pair.{Pair}
 use Rattle.occ_tree.specs.Standing.{Kept}
-use Rattle.belief_net.specs.declared.state.BeliefNet.{BeliefNet}
-use Rattle.belief_net.specs.declared.state.Decisions.{Decisions}
+use Rattle.belief_table.specs.declared.state.Beliefs.{Beliefs}
+use Rattle.belief_table.specs.declared.state.Decisions.{Decisions}
 use Rattle.belief_net.specs.Adding.{IsEventOf}
-use Rattle.belief_net.specs.Decided.{table_of, rule_in}
+use Rattle.belief_table.specs.Decided.{table_of, rule_in}
 
 -- the rule has a row at the event of node x
 abbrev pub HasRowAt : Decisions → ℕ → List ℕ → Type 0
@@ -28,6 +28,6 @@ pub record HaveOthers (s : Standing) (tree : Kept) (d : Decisions) (rule kind : 
   pub once : HaveOneEach d
 
 -- where the premise is a rule, the others on its kind have their rows
-abbrev pub FindsOthers : Standing → Premise → BeliefNet → Type 0
+abbrev pub FindsOthers : Standing → Premise → Beliefs → Type 0
 FindsOthers s (Rule name trigger lo hi effect given unless_facts) b = HaveOthers s b.tree b.decisions name trigger
 FindsOthers s _ b = Unit {0}

@@ -21,8 +21,8 @@ use Rattle.occ_tree.specs.Standing.{Kept, present, early}
 use Rattle.revisions.specs.Maps.{watches}
 use Rattle.joined.specs.Gaps.{SameGaps, ReadsNoRival, MovesAt}
 use Rattle.joined.specs.Shifting.{AreLoose, MayRest}
-use Rattle.belief_net.specs.ByEvent.{is_between}
-use Rattle.belief_net.specs.MovedPairs.{WereThere, is_moved}
+use Rattle.bearing.specs.Events.{is_between}
+use Rattle.bearing.specs.MovedPairs.{WereThere, is_moved}
 
 -- the name of the premise that the edit adds
 abbrev pub added_by : Edit → Option (List ℕ)

@@ -23,26 +23,26 @@ use Rattle.revisions.specs.Counted.{changed}
 use Rattle.list_theory.specs.LeftOut.{IsLeftOut}
 use Rattle.joined.specs.Netted.{IsCurrent}
 use Rattle.joined.specs.Telling.{TellsAll}
-use Rattle.belief_net.specs.declared.state.BeliefNet.{BeliefNet}
-use Rattle.belief_net.specs.declared.told.Told.{Told}
+use Rattle.belief_table.specs.declared.state.Beliefs.{Beliefs}
+use Rattle.belief_turns.specs.declared.told.Told.{Told}
 use Rattle.belief_net.specs.Beginning.{added_by, EntersAdded}
-use Rattle.belief_net.specs.Contradicted.{ReadsUnlike, ReadsAlike}
-use Rattle.belief_net.specs.Decided.{KeepsLast, rule_in}
-use Rattle.belief_net.specs.Entering.{KeepLast}
-use Rattle.belief_net.specs.Horizons.{IsDueBetween}
+use Rattle.marking.specs.Contradicted.{ReadsUnlike, ReadsAlike}
+use Rattle.belief_table.specs.Decided.{KeepsLast, rule_in}
+use Rattle.belief_table.specs.LastCommit.{KeepLast}
+use Rattle.marking.specs.Horizons.{IsDueBetween}
 use Rattle.belief_net.specs.KindEvents.{FindsOthers}
 use Rattle.belief_net.specs.MarkLaws.{added_by as name_added}
-use Rattle.belief_net.specs.Settling.{counted, IsAtRest}
-use Rattle.belief_net.specs.Telling.{ins, outs}
-use Rattle.belief_net.specs.Touching.{IsRowMoved}
-use Rattle.belief_net.specs.Turning.{rows_of, IsFit}
-use Rattle.belief_net.specs.Waiting.{dates_in}
-use Rattle.belief_net.specs.Woken.{IsRowAtRest}
+use Rattle.belief_turns.specs.Settling.{counted, IsAtRest}
+use Rattle.belief_turns.specs.Telling.{ins, outs}
+use Rattle.marking.specs.Woken.{IsRowMoved}
+use Rattle.belief_turns.specs.Turning.{rows_of, IsFit}
+use Rattle.belief_table.specs.Waiting.{dates_in}
+use Rattle.marking.specs.Woken.{IsRowAtRest}
 
 -- ---- what an update asks for
 
 -- Nodes and rows are those of the list, no row waits, and all is as at the last commit.
-pub record IsKept (s : Standing) (net : Net) (b : BeliefNet) : Type 0 where
+pub record IsKept (s : Standing) (net : Net) (b : Beliefs) : Type 0 where
   pub fit : IsFit s net b
   pub current : IsCurrent s net (forest b.tree) (rows_of b)
   pub none_waits : (i : ℕ) → dates_in b.decisions.waiting i ≡ None
@@ -62,18 +62,18 @@ pub record IsPending (lists : States) (nets : Nets) (edit : Edit) (erased : List
 
 -- A premise that is added stands in the list, and no node is of its name. Where it is a rule, the
 -- others on its kind have their rows.
-pub record MayBeAdded (s : Standing) (b : BeliefNet) (premise : Premise) : Type 0 where
+pub record MayBeAdded (s : Standing) (b : Beliefs) (premise : Premise) : Type 0 where
   pub stands : In premise s.premises
   pub new : IsNoRoot (forest b.tree) (name_of premise)
   pub others : FindsOthers s premise b
 
 -- what the edit adds may be added, if it adds something
-abbrev pub MayAdd : Standing → Edit → BeliefNet → Type 0
+abbrev pub MayAdd : Standing → Edit → Beliefs → Type 0
 MayAdd s edit b = MatchOption (added_by edit) (Unit {0}) (MayBeAdded s b)
 
 -- what the edit adds has entered: first a root, and then the rows of a rule
-pub record Entered (s : Standing) (net : Net) (edit : Edit) (old new : BeliefNet) : Type 0 where
-  pub mid : BeliefNet
+pub record Entered (s : Standing) (net : Net) (edit : Edit) (old new : Beliefs) : Type 0 where
+  pub mid : Beliefs
   pub enters : EntersAdded s net (added_by edit) old mid new
   pub fit_mid : IsFit s net mid
   pub fit : IsFit s net new
@@ -82,22 +82,22 @@ pub record Entered (s : Standing) (net : Net) (edit : Edit) (old new : BeliefNet
 
 -- the row is changed by an edit that adds a premise of this name, or none: other facts contradict
 -- what its rule reads, or points moved on which it depends
-abbrev pub IsChanged : Option (List ℕ) → Standing → Standing → Nets → BeliefNet → TableRow Pair 8 → Type 0
+abbrev pub IsChanged : Option (List ℕ) → Standing → Standing → Nets → Beliefs → TableRow Pair 8 → Type 0
 IsChanged added old s nets b row = ReadsUnlike old s (rule_in b.decisions row) ⊎ IsRowMoved nets added s (forest b.tree) b.decisions row
 
 -- it is not: the same facts contradict what its rule reads, and points that moved let it rest
-abbrev pub IsUnchanged : Option (List ℕ) → Standing → Standing → Nets → BeliefNet → TableRow Pair 8 → Type 0
+abbrev pub IsUnchanged : Option (List ℕ) → Standing → Standing → Nets → Beliefs → TableRow Pair 8 → Type 0
 IsUnchanged added old s nets b row = ReadsAlike old s (rule_in b.decisions row) × IsRowAtRest nets added old s (forest b.tree) b.decisions row
 
 -- The edit touches the row, beside what left and entered: another horizon brings its effect into
 -- time or puts it beyond; another edit changes it.
-abbrev pub IsTouchedBy : Edit → Standing → Standing → Nets → ℕ → BeliefNet → TableRow Pair 8 → Type 0
+abbrev pub IsTouchedBy : Edit → Standing → Standing → Nets → ℕ → Beliefs → TableRow Pair 8 → Type 0
 IsTouchedBy (Horizon n) old s nets before b row = IsDueBetween s (present b.tree) b.decisions before s.horizon row
 IsTouchedBy edit old s nets before b row = IsChanged (name_added edit) old s nets b row
 
 -- It leaves the row as it is, beside what left and entered: another horizon does not touch it, and
 -- another edit does not change it.
-abbrev pub IsLeftBy : Edit → Standing → Standing → Nets → ℕ → BeliefNet → TableRow Pair 8 → Type 0
+abbrev pub IsLeftBy : Edit → Standing → Standing → Nets → ℕ → Beliefs → TableRow Pair 8 → Type 0
 IsLeftBy (Horizon n) old s nets before b row = IsDueBetween s (present b.tree) b.decisions before s.horizon row → ⊥
 IsLeftBy edit old s nets before b row = IsUnchanged (name_added edit) old s nets b row
 
@@ -105,7 +105,7 @@ IsLeftBy edit old s nets before b row = IsUnchanged (name_added edit) old s nets
 
 -- **Nodes and rows are those of the list after the edit**, and none waits. What changed is told,
 -- and at least the decisions that changed are counted.
-pub record IsUpdated (lists : States) (nets : Nets) (b : BeliefNet) (before count : ℕ) (told : Told) : Type 0 where
+pub record IsUpdated (lists : States) (nets : Nets) (b : Beliefs) (before count : ℕ) (told : Told) : Type 0 where
   pub rests : IsAtRest lists.present nets.present b told
   pub current : IsCurrent lists.present nets.present (forest b.tree) (rows_of b)
   pub tells : TellsAll lists.committed lists.present (ins told) (outs told)
@@ -118,16 +118,16 @@ IsCountedWithin lists before count = count ≤ counted before (touched lists.com
 -- ---- before all updates
 
 -- it is kept of every list in which nothing is declared to occur
-abbrev pub KeepsNothing : BeliefNet → Type 0
+abbrev pub KeepsNothing : Beliefs → Type 0
 KeepsNothing b = (s : Standing) (net : Net) → IsNetOf s net → roots s ≡ [] → IsKept s net b
 
 -- ---- what follows an update
 
 -- nodes and rows of a list, of which none waits, are kept once they are committed
-abbrev pub CommitsKept : BeliefNet → BeliefNet → Type 0
+abbrev pub CommitsKept : Beliefs → Beliefs → Type 0
 CommitsKept old new =
     (s : Standing) (net : Net) → IsFit s net old → IsCurrent s net (forest old.tree) (rows_of old) → ((i : ℕ) → dates_in old.decisions.waiting i ≡ None) → IsKept s net new
 
 -- what was kept is so again, if what a rollback leads back to stayed
-abbrev pub LeadsBack : BeliefNet → BeliefNet → Type 0
-LeadsBack old new = (s : Standing) (net : Net) (b : BeliefNet) → IsKept s net b → KeepLast b old → IsKept s net new
+abbrev pub LeadsBack : Beliefs → Beliefs → Type 0
+LeadsBack old new = (s : Standing) (net : Net) (b : Beliefs) → IsKept s net b → KeepLast b old → IsKept s net new

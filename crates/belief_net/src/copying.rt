@@ -2,9 +2,11 @@
 ghost use Rattle.std.specs.Prelude.{◌≡◌, IfOk};
 ghost use Rattle.occ_tree.specs.Edits.{Stays};
 ghost use Rattle.occ_tree.specs.Places.{places};
-ghost use Rattle.belief_net.specs.Copying.{IsCopy, CopiesKept};
+ghost use Rattle.belief_table.specs.Copies.{IsCopy};
+ghost use Rattle.belief_net.specs.Copying.{CopiesKept};
 
-use crate::state::{BeliefNet, Decisions};
+use crate::state::BeliefNet;
+use belief_table::Beliefs;
 use std::alloc::Global;
 use tmm_model::NoMemory;
 
@@ -18,22 +20,10 @@ impl BeliefNet {
         ensures kept { IfOk result (CopiesKept self.now) }
     {
         Ok(BeliefNet {
-            tree: self.tree.copy(alloc)?,
-            decisions: self.decisions.copy(alloc)?,
-        })
-    }
-}
-
-impl Decisions {
-    // The same rows and names, and the same last commit, for changes of their own. It takes memory.
-    fn copy(&self, alloc: Global) -> Result<Decisions, NoMemory>
-        ensures { IfOk result (IsCopy self.now) }
-    {
-        Ok(Decisions {
-            rows: self.rows.copy(alloc)?,
-            rules: self.rules.copy()?,
-            classes: self.classes.copy()?,
-            waiting: self.waiting.copy(alloc)?,
+            beliefs: Beliefs {
+                tree: self.beliefs.tree.copy(alloc)?,
+                decisions: self.beliefs.decisions.copy(alloc)?,
+            },
         })
     }
 }

@@ -10,12 +10,13 @@ ghost use Rattle.spots.specs.Forest.{IsLive, moment_at};
 ghost use Rattle.occ_tree.specs.Places.{forest};
 ghost use Rattle.joined.specs.Netted.{IsCurrent};
 ghost use Rattle.belief_net.specs.Adding.{IsEventOf};
-ghost use Rattle.belief_net.specs.Decided.{table_of, AreUnder, AreOfSome};
+ghost use Rattle.belief_table.specs.Decided.{table_of, AreUnder, AreOfSome};
 ghost use Rattle.belief_net.specs.KindEvents.{HasRowAt, HaveOneEach, HaveOthers};
-ghost use Rattle.belief_net.specs.Marks.{HaveEvents};
-ghost use Rattle.belief_net.specs.Turning.{rows_of, IsFit};
+ghost use Rattle.belief_table.specs.Marks.{HaveEvents};
+ghost use Rattle.belief_turns.specs.Turning.{rows_of, IsFit};
 
-use crate::state::{BeliefNet, Decisions};
+use crate::state::BeliefNet;
+use belief_table::Decisions;
 use occ_tree::Tree;
 use premise_list::Standing;
 use std::alloc::Global;
@@ -29,7 +30,7 @@ impl BeliefNet {
         ensures { IfOk result (λ found. (s : AStanding) (net : Net) (x : ℕ) → IsCurrent s net (forest self.now.tree) (rows_of self.now) → IsLive (forest self.now.tree) x
             → Contains (rules_at s (moment_at (forest self.now.tree) x)) rule → Contains found.items x) }
     {
-        events_with(alloc, &self.decisions, &rule)
+        events_with(alloc, &self.beliefs.decisions, &rule)
     }
 }
 

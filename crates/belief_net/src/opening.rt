@@ -2,29 +2,25 @@
 // it.
 ghost use Rattle.std.specs.Prelude.{◌≡◌, IfOk, OnOk};
 ghost use Rattle.occ_tree.specs.Standing.{present};
-ghost use Rattle.belief_net.specs.Decided.{table_of};
-ghost use Rattle.belief_net.specs.Entering.{KeepLast};
+ghost use Rattle.belief_table.specs.Decided.{table_of};
+ghost use Rattle.belief_table.specs.LastCommit.{KeepLast};
 ghost use Rattle.belief_net.specs.MarkLaws.{added_by as name_added};
-ghost use Rattle.belief_net.specs.Marks.{Wakes};
-ghost use Rattle.belief_net.specs.MovedPairs.{WereThere};
-ghost use Rattle.belief_net.specs.Numbered.{AreNumbered, left_under};
-ghost use Rattle.belief_net.specs.Settling.{Begins};
-ghost use Rattle.belief_net.specs.Telling.{IsWeighed};
-ghost use Rattle.belief_net.specs.Turning.{IsFit};
+ghost use Rattle.belief_table.specs.Marks.{Wakes};
+ghost use Rattle.bearing.specs.MovedPairs.{WereThere};
+ghost use Rattle.belief_turns.specs.Numbered.{AreNumbered, left_under};
+ghost use Rattle.belief_turns.specs.Settling.{Begins};
+ghost use Rattle.belief_turns.specs.Telling.{IsWeighed};
+ghost use Rattle.belief_turns.specs.Turning.{IsFit};
 ghost use Rattle.belief_net.specs.Updating.{IsKept, IsPending, MayAdd, Entered, IsChanged, IsUnchanged, IsTouchedBy, IsLeftBy};
-ghost use Rattle.belief_net.specs.Waiting.{dates_in};
+ghost use Rattle.belief_table.specs.Waiting.{dates_in};
 
-use crate::contradicted::mark_contradicted;
 use crate::dates::re_date_moved;
-use crate::erasing::erase;
-use crate::horizons::mark_horizon;
-use crate::moving::mark_moved;
-use crate::readers::mark_departed;
 use crate::rooting::enter_root;
 use crate::ruling::enter_rule;
-use crate::state::BeliefNet;
-use crate::told::Told;
+use belief_table::{Beliefs, erase};
+use belief_turns::Told;
 use dist_net::DistNet;
+use marking::{mark_contradicted, mark_departed, mark_horizon, mark_moved};
 use premise_list::Standing;
 use std::alloc::Global;
 use tmm_model::{Edit, Name, NoMemory};
@@ -33,7 +29,7 @@ use tmm_model::{Edit, Name, NoMemory};
 // lets all rows wait that the edit touches, for those dates. What left is told.
 pub(crate) fn open(
     alloc: Global,
-    beliefs: &mut BeliefNet,
+    beliefs: &mut Beliefs,
     edit: &Edit,
     erased: &[Name],
     net: &DistNet,
@@ -69,7 +65,7 @@ fn enter_added(
     alloc: Global,
     standing: &Standing,
     net: &DistNet,
-    beliefs: &mut BeliefNet,
+    beliefs: &mut Beliefs,
     edit: &Edit,
 ) -> Result<(), NoMemory>
     requires fit { IsFit standing.now.present net.now.present beliefs.old }
@@ -92,7 +88,7 @@ fn mark_touched(
     alloc: Global,
     standing: &Standing,
     net: &DistNet,
-    beliefs: &mut BeliefNet,
+    beliefs: &mut Beliefs,
     edit: &Edit,
     before: u32,
 ) -> Result<(), NoMemory>
@@ -119,7 +115,7 @@ fn mark_changed(
     alloc: Global,
     standing: &Standing,
     net: &DistNet,
-    beliefs: &mut BeliefNet,
+    beliefs: &mut Beliefs,
     added: Option<Name>,
 ) -> Result<(), NoMemory>
     requires fit { IsFit standing.now.present net.now.present beliefs.old }

@@ -6,15 +6,14 @@ ghost use Rattle.dist_net.specs.Net.{Net};
 ghost use Rattle.spots.specs.Forest.{IsLive, IsNoRoot};
 ghost use Rattle.occ_tree.specs.Places.{forest};
 ghost use Rattle.belief_net.specs.Adding.{FollowsRoot, EntersRoot};
-ghost use Rattle.belief_net.specs.Decided.{AreUnder, KeepsLast};
-ghost use Rattle.belief_net.specs.Entering.{KeepLast};
-ghost use Rattle.belief_net.specs.Turning.{IsFit};
+ghost use Rattle.belief_table.specs.Decided.{AreUnder, KeepsLast};
+ghost use Rattle.belief_table.specs.LastCommit.{KeepLast};
+ghost use Rattle.belief_turns.specs.Turning.{IsFit};
 
-use crate::entering::mark_token;
-use crate::rivals::mark_rivals;
-use crate::rows::add_rows;
-use crate::state::{BeliefNet, Decisions};
+use belief_table::{Beliefs, Decisions};
+use belief_turns::add_rows;
 use dist_net::DistNet;
+use marking::{mark_rivals, mark_token};
 use occ_tree::Tree;
 use premise_list::Standing;
 use std::alloc::Global;
@@ -27,7 +26,7 @@ pub(crate) fn enter_root(
     alloc: Global,
     standing: &Standing,
     net: &DistNet,
-    beliefs: &mut BeliefNet,
+    beliefs: &mut Beliefs,
     premise: &Premise,
 ) -> Result<(), NoMemory>
     requires fit { IsFit standing.now.present net.now.present beliefs.old }

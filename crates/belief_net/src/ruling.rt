@@ -8,16 +8,17 @@ ghost use Rattle.list_theory.proofs.Elements.{In};
 ghost use Rattle.spots.specs.Forest.{IsLive};
 ghost use Rattle.occ_tree.specs.Places.{forest};
 ghost use Rattle.belief_net.specs.Adding.{EntersRule, IsEventOf, AddsRule, AddsRuleAt};
-ghost use Rattle.belief_net.specs.Decided.{table_of, AreUnder, KeepsLast};
-ghost use Rattle.belief_net.specs.Entering.{KeepLast};
-ghost use Rattle.belief_net.specs.Heads.{AddsUnder, HasNamesOf};
+ghost use Rattle.belief_table.specs.Decided.{table_of, AreUnder, KeepsLast};
+ghost use Rattle.belief_table.specs.LastCommit.{KeepLast};
+ghost use Rattle.belief_turns.specs.Heads.{AddsUnder, HasNamesOf};
 ghost use Rattle.belief_net.specs.KindEvents.{HaveOthers, FindsOthers};
-ghost use Rattle.belief_net.specs.Marks.{HaveEvents};
-ghost use Rattle.belief_net.specs.Turning.{IsFit};
+ghost use Rattle.belief_table.specs.Marks.{HaveEvents};
+ghost use Rattle.belief_turns.specs.Turning.{IsFit};
 
 use crate::kind_events::events_of;
-use crate::rows::{Heads, add_under, facts_read, heads_of};
-use crate::state::{BeliefNet, Decisions};
+use bearing::points_of_rule::facts_read;
+use belief_table::{Beliefs, Decisions};
+use belief_turns::{Heads, add_under, heads_of};
 use dist_net::DistNet;
 use occ_tree::Tree;
 use premise_list::Standing;
@@ -30,7 +31,7 @@ pub(crate) fn enter_rule(
     alloc: Global,
     standing: &Standing,
     net: &DistNet,
-    beliefs: &mut BeliefNet,
+    beliefs: &mut Beliefs,
     premise: &Premise,
 ) -> Result<(), NoMemory>
     requires fit { IsFit standing.now.present net.now.present beliefs.old }

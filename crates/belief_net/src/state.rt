@@ -1,18 +1,23 @@
 // What is kept of beliefs.
 ghost use Rattle.std.specs.Prelude.{◌≡◌};
 
-use crate::numbers::Numbers;
-use crate::waiting::Waiting;
-use decision_rows::Rows;
+use belief_table::Beliefs;
 use occ_tree::Tree;
+use std::marker::Model;
 
 /// The believed occurrences, and the decisions on which they rest.
 #[derive(Drop)]
 pub struct BeliefNet {
-    /// The occurrences.
-    pub(crate) tree: Tree,
-    /// The decisions of rules at events.
-    pub(crate) decisions: Decisions,
+    /// Both, as turns change them.
+    pub(crate) beliefs: Beliefs,
+}
+
+impl Model for BeliefNet {
+    ghost use Rattle.belief_table.specs.declared.state.Beliefs.{Beliefs};
+
+    ghost Value = { Beliefs };
+
+    ghost view = { λ b. b.beliefs };
 }
 
 impl BeliefNet {
@@ -20,19 +25,6 @@ impl BeliefNet {
     pub fn tree(&self) -> &Tree
         ensures { result.now ≡ self.now.tree }
     {
-        &self.tree
+        &self.beliefs.tree
     }
-}
-
-/// A row for each decision of a rule at an event.
-#[derive(Drop)]
-pub(crate) struct Decisions {
-    /// The rows, under the numbers of rules and of the classes of what they read.
-    pub rows: Rows,
-    /// The rules by their numbers.
-    pub rules: Numbers,
-    /// The classes by their numbers.
-    pub classes: Numbers,
-    /// The rows that are to be decided again.
-    pub waiting: Waiting,
 }

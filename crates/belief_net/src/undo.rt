@@ -5,9 +5,8 @@ ghost use Rattle.occ_tree.specs.Standing.{present, committed};
 ghost use Rattle.undo_rows.specs.Changes.{present as rows_now, committed as rows_then};
 ghost use Rattle.belief_net.specs.Updating.{CommitsKept, KeepsNothing, LeadsBack};
 
-use crate::numbers::Numbers;
-use crate::state::{BeliefNet, Decisions};
-use crate::waiting::Waiting;
+use crate::state::BeliefNet;
+use belief_table::{Beliefs, Decisions, Numbers, Waiting};
 use decision_rows::Rows;
 use occ_tree::Tree;
 use std::alloc::Global;
@@ -22,12 +21,14 @@ impl BeliefNet {
         ensures kept { KeepsNothing result }
     {
         BeliefNet {
-            tree: Tree::make(alloc),
-            decisions: Decisions {
-                rows: Rows::make(alloc),
-                rules: Numbers::make(alloc),
-                classes: Numbers::make(alloc),
-                waiting: Waiting::make(alloc),
+            beliefs: Beliefs {
+                tree: Tree::make(alloc),
+                decisions: Decisions {
+                    rows: Rows::make(alloc),
+                    rules: Numbers::make(alloc),
+                    classes: Numbers::make(alloc),
+                    waiting: Waiting::make(alloc),
+                },
             },
         }
     }
@@ -43,8 +44,8 @@ impl BeliefNet {
         ensures waits { self.new.decisions.waiting ≡ self.old.decisions.waiting }
         ensures kept { CommitsKept self.old self.new }
     {
-        self.tree.commit();
-        self.decisions.rows.commit();
+        self.beliefs.tree.commit();
+        self.beliefs.decisions.rows.commit();
     }
 
     /// Makes nodes and rows those of the last commit again, of which none waits. Numbers of names
@@ -59,8 +60,8 @@ impl BeliefNet {
         ensures waits { self.new.decisions.waiting ≡ [] }
         ensures kept { LeadsBack self.old self.new }
     {
-        self.tree.rollback();
-        self.decisions.rows.rollback();
-        self.decisions.waiting.clear();
+        self.beliefs.tree.rollback();
+        self.beliefs.decisions.rows.rollback();
+        self.beliefs.decisions.waiting.clear();
     }
 }

@@ -4,14 +4,13 @@ ghost use Rattle.std.specs.Prelude.{◌≡◌, ◌≤◌, IfOk, IfErr, OnOk};
 ghost use Rattle.tmm_model.specs.Answers.{size};
 ghost use Rattle.tmm_model.specs.Maps.{built};
 ghost use Rattle.projection.specs.Queues.{IsTooLarge};
-ghost use Rattle.belief_net.specs.Entering.{KeepLast};
-ghost use Rattle.belief_net.specs.Numbered.{KeepsNumbers, SparesRoots, left_under};
+ghost use Rattle.belief_table.specs.LastCommit.{KeepLast};
+ghost use Rattle.belief_turns.specs.Numbered.{KeepsNumbers, SparesRoots, left_under};
 ghost use Rattle.belief_net.specs.Updating.{IsKept, IsPending, IsUpdated, IsCountedWithin};
 
 use crate::opening::open;
-use crate::settling::settle;
 use crate::state::BeliefNet;
-use crate::told::Told;
+use belief_turns::{Told, settle};
 use dist_net::DistNet;
 use premise_list::Standing;
 use projection::Counter;
@@ -50,9 +49,17 @@ impl BeliefNet {
     {
         // it tells the proof that no count is above the greatest
         let _ = counter.value();
-        match open(alloc, self, edit, erased, net, standing, before) {
+        match open(
+            alloc,
+            &mut self.beliefs,
+            edit,
+            erased,
+            net,
+            standing,
+            before,
+        ) {
             Ok(mut told) => {
-                settle(alloc, standing, net, self, &mut told, counter)?;
+                settle(alloc, standing, net, &mut self.beliefs, &mut told, counter)?;
                 Ok(told)
             }
             Err(_) => Err(Stop::NoMemory),

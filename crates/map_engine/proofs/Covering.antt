@@ -34,12 +34,12 @@ use Rattle.supports.specs.Edited.{IsEdited, old_forest}
 use Rattle.revisions.specs.Standing.{Stands}
 use Rattle.revisions.proofs.Tokens.{root_named, is_of_stays}
 use Rattle.belief_list.specs.KeptRows.{CoverTouched}
-use Rattle.belief_net.specs.declared.told.DatedOcc.{DatedOcc}
-use Rattle.belief_net.specs.declared.told.Told.{Told}
+use Rattle.belief_table.specs.declared.dated.DatedOcc.{DatedOcc}
+use Rattle.belief_turns.specs.declared.told.Told.{Told}
 use Rattle.belief_net.specs.MarkLaws.{added_by as name_added}
-use Rattle.belief_net.specs.Telling.{seen_dated, entered_in, ins}
+use Rattle.belief_turns.specs.Telling.{seen_dated, entered_in, ins}
 use Rattle.belief_net.proofs.Declared.{root_cases}
-use Rattle.belief_net.proofs.Telling.{In-reverse}
+use Rattle.belief_turns.proofs.Telling.{In-reverse}
 use Rattle.map_engine.specs.Ruled.{changes_rules_on, HasRuled}
 use Rattle.map_engine.specs.Touching.{HasNodeOf, entered_of, TakesIn, IsToldOf}
 use Rattle.map_engine.proofs.Ruled.{same_rules_on}

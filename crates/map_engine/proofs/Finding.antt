@@ -7,7 +7,7 @@ use Rattle.tmm_model.specs.Moments.{Moment, At}
 use Rattle.list_theory.proofs.Elements.{In, In-cases}
 use Rattle.spots.specs.Forest.{Forest, Member, member, moment, IsOnce}
 use Rattle.spots.proofs.Nodes.{node_at, moment_at-is}
-use Rattle.belief_net.specs.declared.told.Told.{Told}
+use Rattle.belief_turns.specs.declared.told.Told.{Told}
 use Rattle.map_engine.specs.Touching.{HasNodeOf, TakesIn}
 
 -- the node of an occurrence is the only one

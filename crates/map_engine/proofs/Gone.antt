@@ -7,8 +7,8 @@ use Rattle.occ_tree.specs.Places.{forest}
 use Rattle.occ_tree.specs.Standing.{Kept}
 use Rattle.belief_list.specs.declared.left_nodes.LeftNode.{LeftNode}
 use Rattle.belief_list.specs.LeftNodes.{AreWords}
-use Rattle.belief_net.specs.declared.told.DatedOcc.{DatedOcc}
-use Rattle.belief_net.specs.Numbered.{KeepsNumbers, then_forest, left_under}
+use Rattle.belief_table.specs.declared.dated.DatedOcc.{DatedOcc}
+use Rattle.belief_turns.specs.Numbered.{KeepsNumbers, then_forest, left_under}
 use Rattle.map_engine.specs.Gone.{seen_left}
 
 pub words_are : (tree : Kept) (left : List DatedOcc) (nodes : List LeftNode) → map seen_left nodes ≡ left_under left → KeepsNumbers tree (left_under left)

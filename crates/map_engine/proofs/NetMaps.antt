@@ -16,12 +16,12 @@ use Rattle.net_theory.specs.KeptNumbers.{PointsKeepNumbers}
 use Rattle.premise_list.specs.States.{States}
 use Rattle.occ_tree.specs.Places.{forest}
 use Rattle.occ_tree.specs.Standing.{State, present, committed, forest as forest_of}
-use Rattle.belief_net.specs.declared.state.BeliefNet.{BeliefNet}
+use Rattle.belief_table.specs.declared.state.Beliefs.{Beliefs}
 use Rattle.belief_net.specs.Copying.{CopiesKept}
-use Rattle.belief_net.specs.Entering.{KeepLast}
-use Rattle.belief_net.specs.Settling.{counted}
+use Rattle.belief_table.specs.LastCommit.{KeepLast}
+use Rattle.belief_turns.specs.Settling.{counted}
 use Rattle.belief_net.specs.Updating.{IsKept, IsPending, IsCountedWithin, CommitsKept, LeadsBack}
-use Rattle.belief_net.proofs.Named.{last_stays}
+use Rattle.belief_table.proofs.Named.{last_stays}
 use Rattle.revisions.specs.Counted.{changed}
 use Rattle.map_engine.specs.declared.next.Next.{Next}
 use Rattle.map_engine.specs.declared.next.Next.TheVariants.{Nothing, Same, Reviewed, Changed}
@@ -35,7 +35,7 @@ use Rattle.map_engine.proofs.Unmoved.{still_unguarded}
 -- ---- where nothing is pending
 
 -- what rests is all that the map keeps
-pub at_rest : (lists : States) (nets : Nets) (b : BeliefNet) (view : KeptView) (guarded : Bool) (next : Next) → next ≡ Nothing → NothingPending lists nets
+pub at_rest : (lists : States) (nets : Nets) (b : Beliefs) (view : KeptView) (guarded : Bool) (next : Next) → next ≡ Nothing → NothingPending lists nets
     → IsHeld lists.committed nets.committed guarded → IsResting lists.committed nets.committed b view → IsNetMap lists nets b view guarded next
 at_rest lists nets b view guarded next nothing settled held rests =
     subst (IsNetMap lists nets b view guarded) (sym nothing)
@@ -54,7 +54,7 @@ at_rest lists nets b view guarded next nothing settled held rests =
     })
 
 -- the map of a list in which nothing is declared to occur
-pub first_map : (lists : States) (nets : Nets) (b : BeliefNet) (view : KeptView) → NothingPending lists nets → IsHeld lists.present nets.present false
+pub first_map : (lists : States) (nets : Nets) (b : Beliefs) (view : KeptView) → NothingPending lists nets → IsHeld lists.present nets.present false
     → IsKept lists.present nets.present b → IsReadOf lists.present (forest b.tree) (read_of view)
     → IsNetMap lists nets b view false Nothing
 first_map lists nets b view settled held kept read =
@@ -71,11 +71,11 @@ empty_held s net empty network = record {
 }
 
 -- what rests does so where the same is read
-pub rests_same : (s : Standing) (net : Net) (b : BeliefNet) (view view_new : KeptView) → read_of view_new ≡ read_of view → IsResting s net b view → IsResting s net b view_new
+pub rests_same : (s : Standing) (net : Net) (b : Beliefs) (view view_new : KeptView) → read_of view_new ≡ read_of view → IsResting s net b view → IsResting s net b view_new
 rests_same s net b view view_new same rests = record { kept = rests.kept; view = subst (IsReadOf s (forest b.tree)) (sym same) rests.view }
 
 -- copies of what rests do so too
-pub copies_rest : (s : Standing) (net : Net) (old new : BeliefNet) (view view_new : KeptView) → CopiesKept old new → present new.tree ≡ present old.tree
+pub copies_rest : (s : Standing) (net : Net) (old new : Beliefs) (view view_new : KeptView) → CopiesKept old new → present new.tree ≡ present old.tree
     → read_of view_new ≡ read_of view → IsResting s net old view → IsResting s net new view_new
 copies_rest s net old new view view_new kept tree same rests = record {
   kept = kept s net rests.kept;
@@ -83,7 +83,7 @@ copies_rest s net old new view view_new kept tree same rests = record {
 }
 
 -- what an edit made rests once it is committed
-pub commits : (s : Standing) (net : Net) (old new : BeliefNet) (view : KeptView) → AreNodesOf s net old → IsReadOf s (forest old.tree) (read_of view)
+pub commits : (s : Standing) (net : Net) (old new : Beliefs) (view : KeptView) → AreNodesOf s net old → IsReadOf s (forest old.tree) (read_of view)
     → present new.tree ≡ present old.tree → CommitsKept old new → IsResting s net new view
 commits s net old new view nodes read same kept = record {
   kept = kept s net nodes.fit nodes.current nodes.none_waits;
@@ -91,7 +91,7 @@ commits s net old new view nodes read same kept = record {
 }
 
 -- what rested before does so again after a rollback
-pub leads_back : (s : Standing) (net : Net) (base old new : BeliefNet) (view : KeptView) → IsResting s net base view → KeepLast base old
+pub leads_back : (s : Standing) (net : Net) (base old new : Beliefs) (view : KeptView) → IsResting s net base view → KeepLast base old
     → present new.tree ≡ committed old.tree → LeadsBack old new → IsResting s net new view
 leads_back s net base old new view rests last same back = record {
   kept = back s net base rests.kept last;
@@ -99,8 +99,8 @@ leads_back s net base old new view rests last same back = record {
 }
 
 -- the map after a commit
-pub committed_map : (lists : States) (nets : Nets) (b : BeliefNet) (view : KeptView) (guarded : Bool) (next : Next) → IsNetMap lists nets b view guarded next
-    → (lists_new : States) (nets_new : Nets) (b_new : BeliefNet) (view_new : KeptView) (next_new : Next)
+pub committed_map : (lists : States) (nets : Nets) (b : Beliefs) (view : KeptView) (guarded : Bool) (next : Next) → IsNetMap lists nets b view guarded next
+    → (lists_new : States) (nets_new : Nets) (b_new : Beliefs) (view_new : KeptView) (next_new : Next)
     → lists_new ≡ record { present = lists.present; committed = lists.present }
     → nets_new ≡ record { present = nets.present; committed = nets.present; draft = nets.draft; moved = [] }
     → present b_new.tree ≡ present b.tree → CommitsKept b b_new → read_of view_new ≡ after view next → next_new ≡ Nothing
@@ -113,8 +113,8 @@ committed_map lists nets b view guarded next is lists_new nets_new b_new view_ne
     (commits lists.present nets.present b b_new view_new is.next_nodes (subst (IsReadOf lists.present (forest b.tree)) (sym read) is.next_view) same kept)))
 
 -- the map after a rollback
-pub rolled_back : (lists : States) (nets : Nets) (b : BeliefNet) (view : KeptView) (guarded : Bool) (next : Next) → IsNetMap lists nets b view guarded next
-    → (lists_new : States) (nets_new : Nets) (b_new : BeliefNet) (next_new : Next)
+pub rolled_back : (lists : States) (nets : Nets) (b : Beliefs) (view : KeptView) (guarded : Bool) (next : Next) → IsNetMap lists nets b view guarded next
+    → (lists_new : States) (nets_new : Nets) (b_new : Beliefs) (next_new : Next)
     → lists_new ≡ record lists { present = lists.committed } → nets_new ≡ record nets { present = nets.committed; moved = [] }
     → present b_new.tree ≡ committed b.tree → LeadsBack b b_new → next_new ≡ Nothing
     → IsNetMap lists_new nets_new b_new view guarded next_new
@@ -138,7 +138,7 @@ within s (Erase name) well below = below
 within s (Horizon n) well below = well
 within s Upgrade well below = below
 
-module _ (lists : States) (nets : Nets) (b : BeliefNet) (view : KeptView) (guarded : Bool) (next : Next) (is : IsNetMap lists nets b view guarded next)
+module _ (lists : States) (nets : Nets) (b : Beliefs) (view : KeptView) (guarded : Bool) (next : Next) (is : IsNetMap lists nets b view guarded next)
     (lists_after : States) (edit : Edit) (made : lists_after ≡ record lists { present = next_list lists.present edit }) (well : IsWellFormedEdit edit)
     (nets_after : Nets) (kept : nets_after.committed ≡ nets.committed)
     (guarded_after : Bool) (may : guarded_after ≡ (guarded || adds_protection edit)) where
@@ -189,7 +189,7 @@ module _ (lists : States) (nets : Nets) (b : BeliefNet) (view : KeptView) (guard
       }
 
   -- the map with the edit pending
-  pub edited_map : pending_list lists.present next ≡ None → (b_after : BeliefNet) (view_after : KeptView) (next_after : Next)
+  pub edited_map : pending_list lists.present next ≡ None → (b_after : Beliefs) (view_after : KeptView) (next_after : Next)
       → IsNetOf lists_after.present nets_after.present
       → AreNodesOf lists_after.present nets_after.present b_after
       → read_of view_after ≡ read_of view
@@ -212,7 +212,7 @@ module _ (lists : States) (nets : Nets) (b : BeliefNet) (view : KeptView) (guard
       }
 
   -- an edit that is not made in the end leaves all as it was
-  pub undone_map : pending_list lists.present next ≡ None → (mid b_new : BeliefNet) (view_new : KeptView) (lists_new : States) (nets_new : Nets) → next ≡ Nothing
+  pub undone_map : pending_list lists.present next ≡ None → (mid b_new : Beliefs) (view_new : KeptView) (lists_new : States) (nets_new : Nets) → next ≡ Nothing
       → read_of view_new ≡ read_of view
       → KeepLast b mid
       → lists_new ≡ record lists_after { present = lists_after.committed } → nets_new ≡ record nets_after { present = nets_after.committed; moved = [] }

@@ -25,7 +25,7 @@ use Rattle.supports.specs.Edited.{IsEdited, AreOthersUntouched}
 use Rattle.revisions.specs.StillEdits.{AreElsewhere}
 use Rattle.revisions.proofs.Alike.{span_at}
 use Rattle.revisions.proofs.StillEdits.{base_root}
-use Rattle.belief_net.specs.declared.state.BeliefNet.{BeliefNet}
+use Rattle.belief_table.specs.declared.state.Beliefs.{Beliefs}
 use Rattle.belief_net.specs.Updating.{IsKept, IsPending}
 
 module _ (nets : Nets) (k : Kept) (t : Standing) (seen : IsForestOf t nets.present (forest k)) (elsewhere : AreElsewhere t nets.present.names nets.moved) where
@@ -49,7 +49,7 @@ module _ (nets : Nets) (k : Kept) (t : Standing) (seen : IsForestOf t nets.prese
   }
 
 -- the nodes of both lists are the same
-pub still_edited : (lists : States) (nets : Nets) (edit : Edit) (erased : List (List ℕ)) (b : BeliefNet) → IsKept lists.committed nets.committed b → IsPending lists nets edit erased
+pub still_edited : (lists : States) (nets : Nets) (edit : Edit) (erased : List (List ℕ)) (b : Beliefs) → IsKept lists.committed nets.committed b → IsPending lists nets edit erased
     → IsForestOf lists.present nets.present (forest b.tree) → HasOccurrences (built lists.present).believed (forest b.tree)
     → ((class : List ℕ) → AreTokens (forest_of (present b.tree)) class ((present b.tree).tokens class))
     → IsEdited lists nets edit b.tree

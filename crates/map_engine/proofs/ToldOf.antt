@@ -16,10 +16,10 @@ use Rattle.spots.specs.Forest.{IsLive, moment_at}
 use Rattle.spots.specs.OfLists.{IsForestOf, HasOccurrences}
 use Rattle.occ_tree.specs.Places.{forest}
 use Rattle.occ_tree.specs.Standing.{State, present, committed, forest as forest_of}
-use Rattle.belief_net.specs.declared.state.BeliefNet.{BeliefNet}
-use Rattle.belief_net.specs.declared.told.Told.{Told}
-use Rattle.belief_net.specs.Entering.{KeepLast}
-use Rattle.belief_net.specs.Numbered.{KeepsNumbers, SparesRoots, left_under}
+use Rattle.belief_table.specs.declared.state.Beliefs.{Beliefs}
+use Rattle.belief_turns.specs.declared.told.Told.{Told}
+use Rattle.belief_table.specs.LastCommit.{KeepLast}
+use Rattle.belief_turns.specs.Numbered.{KeepsNumbers, SparesRoots, left_under}
 use Rattle.belief_net.specs.Updating.{IsKept, IsPending, IsUpdated}
 use Rattle.map_engine.specs.Touching.{HasNodeOf, IsToldOf}
 
@@ -40,7 +40,7 @@ is_left_out old new erased out name was gone =
     let among : In name (map name_of old.premises) = subst (λ n. In n (map name_of old.premises)) named (map-In name_of old.premises p there) in
     subst (In name) (sym out) (filter-In (λ n. is_none (premise_in new.premises n)) (map name_of old.premises) name among (ap is_none (none_is (premise_in new.premises name) gone)))
 
-pub told_of : (lists : States) (nets : Nets) (edit : Edit) (erased : List (List ℕ)) (b b_after : BeliefNet) (before count : ℕ) (told : Told) (gone : List ℕ)
+pub told_of : (lists : States) (nets : Nets) (edit : Edit) (erased : List (List ℕ)) (b b_after : Beliefs) (before count : ℕ) (told : Told) (gone : List ℕ)
     → IsKept lists.committed nets.committed b → IsPending lists nets edit erased → KeepLast b b_after
     → IsUpdated lists nets b_after before count told → KeepsNumbers b_after.tree (left_under told.left.items) → SparesRoots lists.present b_after.tree
     → ((name : List ℕ) → In name erased → HasNodeOf (forest b.tree) (At (Begin name)) gone)

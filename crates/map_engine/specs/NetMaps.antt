@@ -12,31 +12,31 @@ use Rattle.list_net.specs.Settled.{NothingPending}
 use Rattle.premise_list.specs.States.{States}
 use Rattle.occ_tree.specs.Places.{forest}
 use Rattle.joined.specs.Netted.{IsCurrent}
-use Rattle.belief_net.specs.declared.state.BeliefNet.{BeliefNet}
-use Rattle.belief_net.specs.Entering.{KeepLast}
-use Rattle.belief_net.specs.Settling.{counted}
-use Rattle.belief_net.specs.Turning.{rows_of, IsFit}
+use Rattle.belief_table.specs.declared.state.Beliefs.{Beliefs}
+use Rattle.belief_table.specs.LastCommit.{KeepLast}
+use Rattle.belief_turns.specs.Settling.{counted}
+use Rattle.belief_turns.specs.Turning.{rows_of, IsFit}
 use Rattle.belief_net.specs.Updating.{IsKept}
-use Rattle.belief_net.specs.Waiting.{dates_in}
+use Rattle.belief_table.specs.Waiting.{dates_in}
 use Rattle.map_engine.specs.declared.next.Next.{Next}
 use Rattle.map_engine.specs.declared.kept_view.KeptView.{KeptView}
 use Rattle.map_engine.specs.Nexts.{after, pending_list, HasPlacesIn, IsUnguarded}
 use Rattle.map_engine.specs.Reads.{IsReadOf, read_of}
 
 -- nodes and decisions are those of the list, and none waits to be made again
-pub record AreNodesOf (s : Standing) (net : Net) (b : BeliefNet) : Type 0 where
+pub record AreNodesOf (s : Standing) (net : Net) (b : Beliefs) : Type 0 where
   pub fit : IsFit s net b
   pub current : IsCurrent s net (forest b.tree) (rows_of b)
   pub none_waits : (i : ℕ) → dates_in b.decisions.waiting i ≡ None
 
 -- nodes and decisions are those of the list, as at the last commit, and so is what is read of them
-pub record IsResting (s : Standing) (net : Net) (b : BeliefNet) (v : KeptView) : Type 0 where
+pub record IsResting (s : Standing) (net : Net) (b : Beliefs) (v : KeptView) : Type 0 where
   pub kept : IsKept s net b
   pub view : IsReadOf s (forest b.tree) (read_of v)
 
 -- a rollback leads back to what rests
-pub record MayRest (s : Standing) (net : Net) (b : BeliefNet) (v : KeptView) : Type 0 where
-  pub base : BeliefNet
+pub record MayRest (s : Standing) (net : Net) (b : Beliefs) (v : KeptView) : Type 0 where
+  pub base : Beliefs
   pub rests : IsResting s net base v
   pub last : KeepLast base b
 
@@ -50,7 +50,7 @@ pub record IsHeld (s : Standing) (net : Net) (guarded : Bool) : Type 0 where
 -- Both states of the list are held. Nodes, decisions and what is read of them are those of the
 -- present state, and lead back to those of the last commit. Where nothing is pending both states
 -- are one.
-pub record IsNetMap (lists : States) (nets : Nets) (nodes : BeliefNet) (view : KeptView) (guarded : Bool) (next : Next) : Type 0 where
+pub record IsNetMap (lists : States) (nets : Nets) (nodes : Beliefs) (view : KeptView) (guarded : Bool) (next : Next) : Type 0 where
   pub held : IsHeld lists.committed nets.committed guarded
   pub before : MayRest lists.committed nets.committed nodes view
   pub settled : pending_list lists.present next ≡ None → NothingPending lists nets

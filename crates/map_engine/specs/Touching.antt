@@ -7,15 +7,15 @@ use Rattle.spots.specs.Spots.{AreTokens}
 use Rattle.occ_tree.specs.Standing.{Kept, committed}
 use Rattle.supports.specs.Edited.{IsEdited, old_forest}
 use Rattle.joined.specs.Telling.{TellsAll}
-use Rattle.belief_net.specs.Telling.{ins, outs}
+use Rattle.belief_turns.specs.Telling.{ins, outs}
 use Rattle.std.specs.Prelude.{◌≡◌, ℕ, List, map, Option, MatchOption, IsSome, IsNone}
 use Rattle.std.specs.List.{Contains}
 use Rattle.tmm_model.specs.declared.point.PointName.TheVariants.{Begin}
 use Rattle.tmm_model.specs.Moments.{Moment, At, moment_of}
 use Rattle.list_theory.proofs.Elements.{In}
 use Rattle.spots.specs.Forest.{Forest, IsLive, moment_at}
-use Rattle.belief_net.specs.declared.told.Told.{Told}
-use Rattle.belief_net.specs.Numbered.{KeepsNumbers, SparesRoots, left_under}
+use Rattle.belief_turns.specs.declared.told.Told.{Told}
+use Rattle.belief_turns.specs.Numbered.{KeepsNumbers, SparesRoots, left_under}
 
 -- every node that is this occurrence is among the numbers
 abbrev pub HasNodeOf : Forest → Moment → List ℕ → Type 0

@@ -5,7 +5,7 @@ ghost use Rattle.tmm_model.specs.Edits.{next_list};
 ghost use Rattle.tmm_model.specs.Kept.{IsAccepted};
 ghost use Rattle.tmm_model.specs.Lines.{IsWellFormedEdit};
 ghost use Rattle.tmm_model.specs.Standing.{empty_list};
-ghost use Rattle.belief_net.specs.Settling.{counted};
+ghost use Rattle.belief_turns.specs.Settling.{counted};
 ghost use Rattle.belief_net.specs.Updating.{IsKept};
 ghost use Rattle.occ_tree.specs.Places.{forest};
 ghost use Rattle.spots.specs.Forest.{member};

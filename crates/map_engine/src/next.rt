@@ -3,8 +3,8 @@ ghost use Rattle.std.specs.Prelude.{◌≡◌, ◌≤◌, ◌||◌, [], Some, tr
 ghost use Rattle.tmm_model.specs.Answers.{size};
 ghost use Rattle.tmm_model.specs.Changes.{changes, delta_of};
 ghost use Rattle.tmm_model.specs.Maps.{built};
-ghost use Rattle.belief_net.specs.Entering.{KeepLast};
-ghost use Rattle.belief_net.specs.Settling.{counted};
+ghost use Rattle.belief_table.specs.LastCommit.{KeepLast};
+ghost use Rattle.belief_turns.specs.Settling.{counted};
 ghost use Rattle.belief_net.specs.Updating.{IsPending, IsCountedWithin};
 ghost use Rattle.occ_tree.specs.Places.{forest};
 ghost use Rattle.projection.specs.Queues.{IsTooLarge};

@@ -18,9 +18,9 @@ ghost use Rattle.supports.specs.TimeMaps.{IsTimeMap};
 ghost use Rattle.revisions.specs.Ruling.{is_ruling};
 ghost use Rattle.joined.specs.Netted.{IsCurrent};
 ghost use Rattle.belief_net.specs.MarkLaws.{added_by as name_added};
-ghost use Rattle.belief_net.specs.Numbered.{left_under};
-ghost use Rattle.belief_net.specs.Turning.{rows_of, IsFit};
-ghost use Rattle.belief_net.specs.declared.told.DatedOcc.{DatedOcc as ADatedOcc};
+ghost use Rattle.belief_turns.specs.Numbered.{left_under};
+ghost use Rattle.belief_turns.specs.Turning.{rows_of, IsFit};
+ghost use Rattle.belief_table.specs.declared.dated.DatedOcc.{DatedOcc as ADatedOcc};
 ghost use Rattle.map_engine.specs.Ruled.{HasRuled};
 ghost use Rattle.map_engine.specs.Touching.{HasNodeOf, entered_of, TakesIn};
 

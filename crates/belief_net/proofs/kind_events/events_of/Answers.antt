@@ -7,7 +7,7 @@ use Rattle.list_theory.proofs.Elements.{In, In-from_Contains, Contains-from_In}
 use Rattle.spots.specs.Forest.{IsLive}
 use Rattle.spots.proofs.Nodes.{live_at}
 use Rattle.occ_tree.specs.Places.{forest}
-use Rattle.belief_net.proofs.Parted.{in_on, on_in}
+use Rattle.belief_table.proofs.Parted.{in_on, on_in}
 use Rattle.belief_net.proofs.kind_events.events_of.Goals as goal
 
 pub events_with-requires : goal.events_with-requires

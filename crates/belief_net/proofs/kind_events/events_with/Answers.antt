@@ -6,9 +6,9 @@ use Rattle.row_links.specs.Lists.{IsOn}
 use Rattle.undo_rows.specs.declared.row.Row.{Row as TableRow}
 use Rattle.decision_rows.specs.declared.row.Pair.{Pair}
 use Rattle.occ_tree.proofs.Walked.{from_on, from_first, from_next, first_is_on, next_is_on}
-use Rattle.belief_net.specs.Decided.{table_of}
+use Rattle.belief_table.specs.Decided.{table_of}
 use Rattle.belief_net.proofs.KindEvents.{trigger_in, trigger_is, none_once, rows_none, rows_own, rows_all, rows_once}
-use Rattle.belief_net.proofs.Marked.{listed_row}
+use Rattle.belief_table.proofs.Marked.{listed_row}
 use Rattle.belief_net.proofs.kind_events.events_with.Goals.{In_default-next}
 use Rattle.belief_net.proofs.kind_events.events_with.Goals as goal
 

@@ -1,7 +1,7 @@
 use Rattle.std.proofs.Common.{◌≡◌, ℕ, List, ◌++◌, map, length, Some}
 use Rattle.row_links.specs.Lists.{IsOn}
 use Rattle.occ_tree.proofs.Walked.{from_on}
-use Rattle.belief_net.specs.Decided.{table_of}
+use Rattle.belief_table.specs.Decided.{table_of}
 use Rattle.belief_net.proofs.KindEvents.{trigger_in}
 use Rattle.belief_net.proofs.kind_events.events_with.Given as goal
 

@@ -1,16 +1,16 @@
 use Rattle.std.proofs.Common.{subst, inl, inr}
 use Rattle.occ_tree.specs.Places.{forest}
 use Rattle.occ_tree.specs.Standing.{present}
-use Rattle.belief_net.specs.declared.state.Decisions.{Decisions}
-use Rattle.belief_net.specs.Contradicted.{ReadsUnlike, IsAlikeRow}
-use Rattle.belief_net.specs.Decided.{table_of, rule_in}
-use Rattle.belief_net.specs.Marks.{Wakes}
-use Rattle.belief_net.specs.Touching.{IsRowMoved}
+use Rattle.belief_table.specs.declared.state.Decisions.{Decisions}
+use Rattle.marking.specs.Contradicted.{ReadsUnlike, IsAlikeRow}
+use Rattle.belief_table.specs.Decided.{table_of, rule_in}
+use Rattle.belief_table.specs.Marks.{Wakes}
+use Rattle.marking.specs.Woken.{IsRowMoved}
 use Rattle.belief_net.specs.Updating.{IsChanged, IsUnchanged}
-use Rattle.belief_net.specs.Waiting.{dates_in}
-use Rattle.belief_net.specs.Woken.{IsRowAtRest}
-use Rattle.belief_net.proofs.Unlike.{none_before_0}
-use Rattle.belief_net.proofs.Waking.{wakes_both, ok_then}
+use Rattle.belief_table.specs.Waiting.{dates_in}
+use Rattle.marking.specs.Woken.{IsRowAtRest}
+use Rattle.belief_net.proofs.NoneBefore.{none_before_0}
+use Rattle.marking.proofs.Waking.{wakes_both, ok_then}
 use Rattle.belief_net.proofs.opening.mark_changed.Goals as goal
 
 pub returns-clause-ok : goal.returns-clause-ok

@@ -6,14 +6,14 @@ use Rattle.tmm_model.specs.Standing.{Standing}
 use Rattle.undo_rows.specs.declared.row.Row.{Row as TableRow}
 use Rattle.decision_rows.specs.declared.row.Pair.{Pair}
 use Rattle.occ_tree.specs.Standing.{State, present, early}
-use Rattle.belief_net.specs.declared.state.Decisions.{Decisions}
-use Rattle.belief_net.specs.ByEvent.{is_between}
-use Rattle.belief_net.specs.Decided.{table_of, rule_in}
-use Rattle.belief_net.specs.Horizons.{IsDueBetween}
-use Rattle.belief_net.specs.Marks.{Wakes}
+use Rattle.belief_table.specs.declared.state.Decisions.{Decisions}
+use Rattle.bearing.specs.Events.{is_between}
+use Rattle.belief_table.specs.Decided.{table_of, rule_in}
+use Rattle.marking.specs.Horizons.{IsDueBetween}
+use Rattle.belief_table.specs.Marks.{Wakes}
 use Rattle.belief_net.specs.Updating.{IsChanged, IsUnchanged, IsTouchedBy, IsLeftBy}
-use Rattle.belief_net.specs.Waiting.{dates_in}
-use Rattle.belief_net.proofs.Waking.{marks_wake}
+use Rattle.belief_table.specs.Waiting.{dates_in}
+use Rattle.marking.proofs.Waking.{marks_wake}
 use Rattle.belief_net.proofs.opening.mark_touched.Goals.{in-Add, in-Erase, in-Upgrade}
 use Rattle.belief_net.proofs.opening.mark_touched.Goals as goal
 

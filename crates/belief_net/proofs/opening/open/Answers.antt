@@ -1,5 +1,5 @@
 use Rattle.std.proofs.Common.{refl}
-use Rattle.belief_net.specs.declared.state.BeliefNet.{BeliefNet}
+use Rattle.belief_table.specs.declared.state.Beliefs.{Beliefs}
 use Rattle.belief_net.proofs.Opened.{list_after, dates_before, events_after, under_after, begin_before, tokens_before, classes_noted, points_there, marked_fit, marked_may_add, opened_fit, opened_stands, opened_numbered, opened_last}
 use Rattle.belief_net.proofs.opening.open.Goals as goal
 
@@ -42,8 +42,8 @@ mark_departed-requires-clause-classes c =
 
 pub enter_added-requires-clause-fit : goal.enter_added-requires-clause-fit
 enter_added-requires-clause-fit c =
-    let dated : BeliefNet = record { tree = c.re_date_moved.new.tree; decisions = c.erase.new.beliefs.decisions } in
-    let marked : BeliefNet = record { tree = c.re_date_moved.new.tree; decisions = c.mark_departed.new.decisions } in
+    let dated : Beliefs = record { tree = c.re_date_moved.new.tree; decisions = c.erase.new.beliefs.decisions } in
+    let marked : Beliefs = record { tree = c.re_date_moved.new.tree; decisions = c.mark_departed.new.decisions } in
     marked_fit c.args.standing.now c.args.net.now c.args.edit.now c.args.erased.now c.args.beliefs.now c.erase.new.beliefs c.in_ok-departed.departed c.requires.kept c.requires.pending
     c.in_ok-departed.ensures.sheds c.in_ok-departed.ensures.spares c.in_ok-departed.ensures.free
     dated marked (record {
@@ -57,8 +57,8 @@ enter_added-requires-clause-fit c =
 
 pub enter_added-requires-clause-may : goal.enter_added-requires-clause-may
 enter_added-requires-clause-may c =
-    let dated : BeliefNet = record { tree = c.re_date_moved.new.tree; decisions = c.erase.new.beliefs.decisions } in
-    let marked : BeliefNet = record { tree = c.re_date_moved.new.tree; decisions = c.mark_departed.new.decisions } in
+    let dated : Beliefs = record { tree = c.re_date_moved.new.tree; decisions = c.erase.new.beliefs.decisions } in
+    let marked : Beliefs = record { tree = c.re_date_moved.new.tree; decisions = c.mark_departed.new.decisions } in
     marked_may_add c.args.standing.now c.args.net.now c.args.edit.now c.args.erased.now c.args.beliefs.now c.erase.new.beliefs c.in_ok-departed.departed c.requires.kept c.requires.pending
     c.in_ok-departed.ensures.sheds c.in_ok-departed.ensures.spares c.in_ok-departed.ensures.free
     dated marked (record {
@@ -77,15 +77,15 @@ mark_touched-requires-clause-there c =
 
 pub returns-in_err-mark_touched-clause-last : goal.returns-in_err-mark_touched-clause-last
 returns-in_err-mark_touched-clause-last c =
-    let dated : BeliefNet = record { tree = c.re_date_moved.new.tree; decisions = c.erase.new.beliefs.decisions } in
-    let marked : BeliefNet = record { tree = c.re_date_moved.new.tree; decisions = c.mark_departed.new.decisions } in
+    let dated : Beliefs = record { tree = c.re_date_moved.new.tree; decisions = c.erase.new.beliefs.decisions } in
+    let marked : Beliefs = record { tree = c.re_date_moved.new.tree; decisions = c.mark_departed.new.decisions } in
     opened_last c.args.beliefs.now c.erase.new.beliefs marked c.enter_added.new.beliefs c.mark_touched.new.beliefs c.in_ok-departed.ensures.last c.in_ok-re_date_moved.ensures.keeps.committed_is
     c.in_ok-mark_departed.ensures.last c.in_ok-enter_added.ensures.last c.in_err-mark_touched.ensures.others
 
 pub returns-clause-fit : goal.returns-clause-fit
 returns-clause-fit c =
-    let dated : BeliefNet = record { tree = c.re_date_moved.new.tree; decisions = c.erase.new.beliefs.decisions } in
-    let marked : BeliefNet = record { tree = c.re_date_moved.new.tree; decisions = c.mark_departed.new.decisions } in
+    let dated : Beliefs = record { tree = c.re_date_moved.new.tree; decisions = c.erase.new.beliefs.decisions } in
+    let marked : Beliefs = record { tree = c.re_date_moved.new.tree; decisions = c.mark_departed.new.decisions } in
     opened_fit c.args.standing.now c.args.net.now c.args.edit.now c.args.erased.now c.args.beliefs.now c.erase.new.beliefs c.in_ok-departed.departed c.requires.kept c.requires.pending
     c.in_ok-departed.ensures.sheds c.in_ok-departed.ensures.spares c.in_ok-departed.ensures.free
     dated marked (record {
@@ -104,8 +104,8 @@ returns-clause-fit c =
 
 pub returns-clause-begins : goal.returns-clause-begins
 returns-clause-begins c =
-    let dated : BeliefNet = record { tree = c.re_date_moved.new.tree; decisions = c.erase.new.beliefs.decisions } in
-    let marked : BeliefNet = record { tree = c.re_date_moved.new.tree; decisions = c.mark_departed.new.decisions } in
+    let dated : Beliefs = record { tree = c.re_date_moved.new.tree; decisions = c.erase.new.beliefs.decisions } in
+    let marked : Beliefs = record { tree = c.re_date_moved.new.tree; decisions = c.mark_departed.new.decisions } in
     opened_stands c.args.standing.now c.args.net.now c.args.edit.now c.args.erased.now c.args.beliefs.now c.erase.new.beliefs c.in_ok-departed.departed c.requires.kept c.requires.pending
     c.in_ok-departed.ensures.sheds c.in_ok-departed.ensures.spares c.in_ok-departed.ensures.free
     dated marked (record {
@@ -125,8 +125,8 @@ returns-clause-begins c =
 
 pub returns-clause-numbered : goal.returns-clause-numbered
 returns-clause-numbered c =
-    let dated : BeliefNet = record { tree = c.re_date_moved.new.tree; decisions = c.erase.new.beliefs.decisions } in
-    let marked : BeliefNet = record { tree = c.re_date_moved.new.tree; decisions = c.mark_departed.new.decisions } in
+    let dated : Beliefs = record { tree = c.re_date_moved.new.tree; decisions = c.erase.new.beliefs.decisions } in
+    let marked : Beliefs = record { tree = c.re_date_moved.new.tree; decisions = c.mark_departed.new.decisions } in
     opened_numbered c.args.standing.now c.args.net.now c.args.edit.now c.args.erased.now c.args.beliefs.now c.erase.new.beliefs c.in_ok-departed.departed c.requires.kept c.requires.pending
     c.in_ok-departed.ensures.sheds c.in_ok-departed.ensures.spares c.in_ok-departed.ensures.free
     dated marked (record {
@@ -146,7 +146,7 @@ returns-clause-numbered c =
 
 pub returns-clause-last : goal.returns-clause-last
 returns-clause-last c =
-    let dated : BeliefNet = record { tree = c.re_date_moved.new.tree; decisions = c.erase.new.beliefs.decisions } in
-    let marked : BeliefNet = record { tree = c.re_date_moved.new.tree; decisions = c.mark_departed.new.decisions } in
+    let dated : Beliefs = record { tree = c.re_date_moved.new.tree; decisions = c.erase.new.beliefs.decisions } in
+    let marked : Beliefs = record { tree = c.re_date_moved.new.tree; decisions = c.mark_departed.new.decisions } in
     opened_last c.args.beliefs.now c.erase.new.beliefs marked c.enter_added.new.beliefs c.mark_touched.new.beliefs c.in_ok-departed.ensures.last c.in_ok-re_date_moved.ensures.keeps.committed_is
     c.in_ok-mark_departed.ensures.last c.in_ok-enter_added.ensures.last c.in_ok-mark_touched.ensures.others

@@ -1,4 +1,4 @@
-use Rattle.belief_net.specs.declared.state.BeliefNet.{BeliefNet}
+use Rattle.belief_table.specs.declared.state.Beliefs.{Beliefs}
 use Rattle.belief_net.proofs.Rooted.{follows_fit, root_fit, root_live, root_enters, skipped_fit, skipped_enters}
 use Rattle.belief_net.proofs.rooting.enter_root.Goals as goal
 
@@ -23,7 +23,7 @@ returns-in_ok-follow_root-in-Some-clause-fit c =
     let s = c.args.standing.now.present in
     let net = c.args.net.now.present in
     let e = c.in_ok-entered.ensures in
-    let b : BeliefNet = record { tree = c.add_root.new.tree; decisions = c.args.beliefs.now.decisions } in
+    let b : Beliefs = record { tree = c.add_root.new.tree; decisions = c.args.beliefs.now.decisions } in
     follows_fit s net b c.follow_root.new.decisions c.in-Some.x
     (root_fit s net c.args.premise.now c.args.beliefs.now c.add_root.new.tree c.requires.fit c.requires.new c.in_ok-entered.entered e.adds e.enters e.dated c.in-Some.x c.in-Some.is)
     (root_live s net c.args.premise.now c.args.beliefs.now c.add_root.new.tree c.requires.fit c.requires.new c.in_ok-entered.entered e.adds e.enters e.dated c.in-Some.x c.in-Some.is)

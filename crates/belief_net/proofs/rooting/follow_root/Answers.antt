@@ -11,13 +11,15 @@ use Rattle.decision_rows.specs.declared.row.Pair.{Pair}
 use Rattle.occ_tree.specs.Places.{forest}
 use Rattle.occ_tree.specs.Standing.{present, early}
 use Rattle.belief_net.specs.Adding.{a_token, an_event}
-use Rattle.belief_net.specs.declared.state.Decisions.{Decisions}
-use Rattle.belief_net.specs.Decided.{AddsRows}
-use Rattle.belief_net.specs.Entering.{MarksRivals, what_at}
-use Rattle.belief_net.specs.Marks.{HaveEvents}
-use Rattle.belief_net.proofs.Brought.{once_on_kind, rules_on_kind, class_is_at, marks_under}
-use Rattle.belief_net.proofs.Named.{last_on}
-use Rattle.belief_net.proofs.Contradicting.{waiting_last, token_marked}
+use Rattle.belief_table.specs.declared.state.Decisions.{Decisions}
+use Rattle.belief_table.specs.Decided.{AddsRows}
+use Rattle.marking.specs.TokenMarks.{MarksRivals, what_at}
+use Rattle.belief_table.specs.Marks.{HaveEvents}
+use Rattle.belief_turns.proofs.Brought.{once_on_kind, rules_on_kind}
+use Rattle.belief_table.proofs.Classes.{class_is_at}
+use Rattle.marking.proofs.MarkedUnder.{marks_under}
+use Rattle.belief_table.proofs.Named.{last_on}
+use Rattle.marking.proofs.Contradicting.{waiting_last, token_marked}
 use Rattle.belief_net.proofs.rooting.follow_root.Goals as goal
 
 pub add_rows-requires-clause-once : goal.add_rows-requires-clause-once

@@ -2,8 +2,9 @@ use Rattle.std.proofs.Common.{sym, subst, nat_eq}
 use Rattle.std.specs.List.{IsDistinct}
 use Rattle.row_links.specs.Lists.{IsOn}
 use Rattle.belief_net.specs.Adding.{AddsRuleAt}
-use Rattle.belief_net.proofs.Heads.{under_named, rule_since, last_since}
-use Rattle.belief_net.proofs.Named.{last_stays}
+use Rattle.belief_turns.proofs.RuleHeads.{under_named, last_since}
+use Rattle.belief_net.proofs.HeadsOfRule.{rule_since}
+use Rattle.belief_table.proofs.Named.{last_stays}
 use Rattle.belief_net.proofs.Ruled.{rule_everywhere, rule_nowhere}
 use Rattle.belief_net.proofs.ruling.add_rule.Goals as goal
 

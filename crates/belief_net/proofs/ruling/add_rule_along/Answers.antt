@@ -1,11 +1,11 @@
 use Rattle.std.proofs.Common.{◌≡◌, ◌∙◌, ◌<◌, false, true, [], length, take, refl, sym, subst, arith}
 use Rattle.std.proofs.lemmas.List.{take_more, take_all}
 use Rattle.belief_net.specs.Adding.{AddsRuleAt}
-use Rattle.belief_net.specs.Heads.{AddsUnder}
-use Rattle.belief_net.proofs.Heads.{heads_stay}
-use Rattle.belief_net.proofs.Named.{last_on, last_stays}
+use Rattle.belief_turns.specs.Heads.{AddsUnder}
+use Rattle.belief_turns.proofs.RuleHeads.{heads_stay}
+use Rattle.belief_table.proofs.Named.{last_on, last_stays}
 use Rattle.belief_net.proofs.Ruled.{rule_nowhere, rule_next, not_before}
-use Rattle.belief_net.proofs.Parted.{on_at}
+use Rattle.belief_table.proofs.Parted.{on_at}
 use Rattle.belief_net.proofs.ruling.add_rule_along.Goals as goal
 
 pub loop-x-init : goal.loop-x-init

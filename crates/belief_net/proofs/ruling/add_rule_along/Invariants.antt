@@ -1,7 +1,7 @@
 use Rattle.std.proofs.Common.{take}
 use Rattle.belief_net.specs.Adding.{AddsRuleAt}
-use Rattle.belief_net.specs.Decided.{KeepsLast}
-use Rattle.belief_net.specs.Heads.{AddsUnder, HasNamesOf}
+use Rattle.belief_table.specs.Decided.{KeepsLast}
+use Rattle.belief_turns.specs.Heads.{AddsUnder, HasNamesOf}
 use Rattle.belief_net.proofs.ruling.add_rule_along.Given as goal
 
 abbrev pub invariant-loop-x : goal.invariant-loop-x

@@ -2,7 +2,7 @@ use Rattle.std.proofs.Common.{◌≡◌, ◌∙◌, true, false, [], ◌∷◌, 
 use Rattle.std.specs.Prelude.{FitsSigned}
 use Rattle.std.proofs.lemmas.Int.{to_z-of_z}
 use Rattle.belief_net.specs.Adding.{IsEventOf}
-use Rattle.belief_net.specs.Decided.{AddsRows}
+use Rattle.belief_table.specs.Decided.{AddsRows}
 use Rattle.belief_net.proofs.Ruled.{alone, rule_here, rule_nowhere}
 use Rattle.belief_net.proofs.ruling.add_rule_at.Goals as goal
 

@@ -7,7 +7,7 @@ use Rattle.tmm_model.specs.Standing.{premise_in, name_of}
 use Rattle.list_theory.proofs.KnownNames.{found}
 use Rattle.spots.specs.Rules.{IsRule}
 use Rattle.spots.proofs.Rules.{read_known}
-use Rattle.belief_net.specs.declared.state.BeliefNet.{BeliefNet}
+use Rattle.belief_table.specs.declared.state.Beliefs.{Beliefs}
 use Rattle.belief_net.specs.Adding.{EntersRule}
 use Rattle.belief_net.proofs.Fitting.{fit_with_rule}
 use Rattle.belief_net.proofs.ruling.enter_rule.Goals as goal
@@ -33,7 +33,7 @@ add_rule-requires-clause-facts c =
 pub returns-in_ok-add_rule-in-Rule-clause-enters : goal.returns-in_ok-add_rule-in-Rule-clause-enters
 returns-in_ok-add_rule-in-Rule-clause-enters c =
     let old = c.args.beliefs.now in
-    let new : BeliefNet = record old { decisions = c.add_rule.new.decisions } in
+    let new : Beliefs = record old { decisions = c.add_rule.new.decisions } in
     subst (λ q. EntersRule c.args.standing.now.present q old new) (sym c.in-Rule.is) (refl, c.in_ok-add_rule-in-Rule.ensures.adds)
 
 pub returns-in_ok-add_rule-in-Rule-clause-fit : goal.returns-in_ok-add_rule-in-Rule-clause-fit

@@ -3,7 +3,7 @@ use Rattle.std.proofs.lemmas.List.{take_more, take_all}
 use Rattle.row_links.specs.Lists.{IsOn}
 use Rattle.row_links.proofs.Lists.{IsOn-append_cases}
 use Rattle.belief_net.specs.Adding.{IsEventOf}
-use Rattle.belief_net.proofs.Parted.{on_at}
+use Rattle.belief_table.proofs.Parted.{on_at}
 use Rattle.belief_net.proofs.Ruled.{alone}
 use Rattle.belief_net.proofs.ruling.has_event.Goals as goal
 

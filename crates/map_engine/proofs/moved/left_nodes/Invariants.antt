@@ -1,5 +1,5 @@
 use Rattle.std.proofs.Common.{◌≡◌, map, take}
-use Rattle.belief_net.specs.Numbered.{seen_numbered}
+use Rattle.belief_turns.specs.Numbered.{seen_numbered}
 use Rattle.map_engine.specs.Gone.{seen_left}
 use Rattle.map_engine.proofs.moved.left_nodes.Given as goal
 

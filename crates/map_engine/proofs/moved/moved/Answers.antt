@@ -5,7 +5,7 @@ use Rattle.tmm_model.specs.Moments.{At}
 use Rattle.tmm_model.specs.Standing.{Standing}
 use Rattle.list_theory.proofs.Elements.{In}
 use Rattle.joined.specs.Netted.{IsCurrent}
-use Rattle.belief_net.specs.Turning.{rows_of}
+use Rattle.belief_turns.specs.Turning.{rows_of}
 use Rattle.belief_net.specs.Updating.{IsPending}
 use Rattle.occ_tree.specs.OfLists.{IsTreeOf}
 use Rattle.occ_tree.specs.Places.{forest}

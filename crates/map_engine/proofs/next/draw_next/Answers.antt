@@ -3,7 +3,7 @@ use Rattle.tmm_model.specs.Edits.{next_list}
 use Rattle.list_theory.specs.WellNamed.{IsSound}
 use Rattle.list_theory.proofs.Elements.{both}
 use Rattle.tmm_model.specs.Maps.{built}
-use Rattle.belief_net.specs.Settling.{counted}
+use Rattle.belief_turns.specs.Settling.{counted}
 use Rattle.belief_net.proofs.AlikeCounted.{none_changed}
 use Rattle.belief_net.proofs.AlikeKept.{alike_kept}
 use Rattle.occ_tree.specs.OfLists.{IsTreeOf}

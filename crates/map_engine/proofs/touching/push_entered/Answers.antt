@@ -4,7 +4,7 @@ use Rattle.tmm_model.specs.Moments.{moment_of}
 use Rattle.list_theory.proofs.Elements.{In, In-from_Contains}
 use Rattle.occ_tree.specs.Places.{forest}
 use Rattle.supports.proofs.Taken.{next_taken}
-use Rattle.belief_net.specs.declared.told.DatedOcc.{DatedOcc}
+use Rattle.belief_table.specs.declared.dated.DatedOcc.{DatedOcc}
 use Rattle.map_engine.specs.Touching.{HasNodeOf}
 use Rattle.map_engine.proofs.Finding.{has_more, in_more}
 use Rattle.map_engine.proofs.touching.push_entered.Goals as goal

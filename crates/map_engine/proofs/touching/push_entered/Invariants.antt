@@ -2,7 +2,7 @@ use Rattle.std.proofs.Common.{ℕ, take}
 use Rattle.std.specs.List.{Contains}
 use Rattle.tmm_model.specs.Moments.{moment_of}
 use Rattle.occ_tree.specs.Places.{forest}
-use Rattle.belief_net.specs.declared.told.DatedOcc.{DatedOcc}
+use Rattle.belief_table.specs.declared.dated.DatedOcc.{DatedOcc}
 use Rattle.list_theory.proofs.Elements.{In}
 use Rattle.map_engine.specs.Touching.{HasNodeOf}
 use Rattle.map_engine.proofs.touching.push_entered.Given as goal

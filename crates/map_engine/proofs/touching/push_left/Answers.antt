@@ -4,8 +4,8 @@ use Rattle.std.specs.List.{Contains}
 use Rattle.tmm_model.specs.Moments.{Moment}
 use Rattle.list_theory.proofs.Elements.{In, In-map}
 use Rattle.supports.proofs.Taken.{next_taken}
-use Rattle.belief_net.specs.declared.told.DatedOcc.{DatedOcc}
-use Rattle.belief_net.specs.Numbered.{left_under, seen_numbered}
+use Rattle.belief_table.specs.declared.dated.DatedOcc.{DatedOcc}
+use Rattle.belief_turns.specs.Numbered.{left_under, seen_numbered}
 use Rattle.list_theory.proofs.Elements.{map-In}
 use Rattle.map_engine.proofs.Finding.{in_more}
 use Rattle.map_engine.proofs.touching.push_left.Goals as goal

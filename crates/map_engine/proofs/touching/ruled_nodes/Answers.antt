@@ -12,7 +12,7 @@ use Rattle.spots.specs.Forest.{IsLive, moment_at}
 use Rattle.occ_tree.specs.Places.{forest}
 use Rattle.occ_tree.specs.Standing.{Kept}
 use Rattle.joined.specs.Netted.{IsCurrent}
-use Rattle.belief_net.specs.Turning.{rows_of}
+use Rattle.belief_turns.specs.Turning.{rows_of}
 use Rattle.map_engine.specs.Ruled.{HasRuled}
 use Rattle.map_engine.proofs.Ruled.{added_ruled, all_ruled}
 use Rattle.map_engine.proofs.touching.ruled_nodes.Goals as goal

@@ -3,8 +3,8 @@ use Rattle.std.specs.List.{Contains}
 use Rattle.tmm_model.specs.Moments.{moment_of}
 use Rattle.list_theory.proofs.Elements.{In, In-map, Contains-from_In}
 use Rattle.occ_tree.specs.Places.{forest}
-use Rattle.belief_net.specs.Numbered.{left_under}
-use Rattle.belief_net.specs.declared.told.DatedOcc.{DatedOcc}
+use Rattle.belief_turns.specs.Numbered.{left_under}
+use Rattle.belief_table.specs.declared.dated.DatedOcc.{DatedOcc}
 use Rattle.map_engine.specs.Touching.{HasNodeOf}
 use Rattle.map_engine.proofs.touching.touched_nodes.Goals as goal
 

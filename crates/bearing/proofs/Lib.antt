@@ -1,0 +1,12 @@
+pub mod Spared
+pub mod Latest
+pub mod Bases
+pub mod Sets
+pub mod Pairs
+pub mod Reached
+pub mod Touched
+pub mod LeftTokens
+pub mod Placed
+pub mod Stood
+pub mod Shifted
+pub mod WatchedPoints

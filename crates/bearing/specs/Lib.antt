@@ -1,0 +1,11 @@
+pub mod Windows
+pub mod PointSets
+pub mod MovedPairs
+pub mod Reach
+pub mod Places
+pub mod Fast
+pub mod Shifts
+pub mod Watched
+pub mod Touching
+pub mod Gone
+pub mod Events

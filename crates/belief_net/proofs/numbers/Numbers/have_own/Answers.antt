@@ -1,7 +1,0 @@
-use Rattle.std.proofs.Common.{subst}
-use Rattle.belief_net.specs.Numbers.{HaveOwnNumbers}
-use Rattle.belief_net.proofs.Named.{own_numbers}
-use Rattle.belief_net.proofs.numbers.Numbers.have_own.Goals as goal
-
-pub returns : goal.returns
-returns c = subst HaveOwnNumbers c.self.view_is (own_numbers c.self.inside.names.keys c.len.ensures.unique)

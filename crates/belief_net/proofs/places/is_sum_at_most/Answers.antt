@@ -1,5 +1,0 @@
-use Rattle.belief_net.proofs.Placed.{sum_seen}
-use Rattle.belief_net.proofs.places.is_sum_at_most.Goals as goal
-
-pub returns : goal.returns
-returns c = sum_seen c.args.far c.args.more c.args.less c.args.most c.ranges.far c.ranges.more c.ranges.less c.ranges.most

@@ -1,8 +1,0 @@
-use Rattle.spots.specs.declared.spot.Spot.{Spot}
-use Rattle.occ_tree.specs.Places.{forest}
-use Rattle.belief_net.specs.Reach.{IsOff}
-use Rattle.belief_net.proofs.Reached.{OfFirstRows}
-use Rattle.belief_net.proofs.reach.has_token_at.Given as goal
-
-abbrev pub invariant-loop-i : goal.invariant-loop-i
-invariant-loop-i l = (p : Spot) → OfFirstRows (forest l.tree) l.rows l.i p → IsOff (forest l.tree) l.points p

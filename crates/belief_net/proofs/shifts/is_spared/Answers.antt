@@ -1,6 +1,0 @@
-use Rattle.std.proofs.Common.{sym, subst}
-use Rattle.belief_net.specs.Shifts.{TokensHave}
-use Rattle.belief_net.proofs.shifts.is_spared.Goals as goal
-
-pub are_walls-requires-clause-tokens : goal.are_walls-requires-clause-tokens
-are_walls-requires-clause-tokens c = subst (TokensHave c.args.net.now.committed) (sym c.deref.ensures.value) (λ k d less. (c.requires.shift.before k d less).0)

@@ -1,7 +1,0 @@
-use Rattle.occ_tree.specs.Places.{forest}
-use Rattle.belief_net.specs.Fast.{is_out}
-use Rattle.belief_net.proofs.Shifted.{NotesFirst}
-use Rattle.belief_net.proofs.shifts.shifts_of.Given as goal
-
-abbrev pub invariant-loop-i : goal.invariant-loop-i
-invariant-loop-i l = NotesFirst l.net (forest l.tree) (is_out l.moves.fast.items) l.class l.rows l.i l.shifts.items

@@ -1,8 +1,0 @@
-use Rattle.std.proofs.Common.{take}
-use Rattle.occ_tree.specs.Places.{forest}
-use Rattle.belief_net.specs.Reach.{Notes}
-use Rattle.belief_net.specs.Watched.{IsSpotAgainst}
-use Rattle.belief_net.proofs.watched.note_rivals.Given as goal
-
-abbrev pub invariant-loop-place : goal.invariant-loop-place
-invariant-loop-place l = Notes (forest l.tree) (IsSpotAgainst (forest l.tree) l.facts (take l.place l.standing.present.premises)) l.fn.reach l.reach

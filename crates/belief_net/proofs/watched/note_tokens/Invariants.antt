@@ -1,7 +1,0 @@
-use Rattle.occ_tree.specs.Places.{forest}
-use Rattle.belief_net.specs.Reach.{Notes}
-use Rattle.belief_net.proofs.WatchedPoints.{OfFirstRowsOf}
-use Rattle.belief_net.proofs.watched.note_tokens.Given as goal
-
-abbrev pub invariant-loop-i : goal.invariant-loop-i
-invariant-loop-i l = Notes (forest l.tree) (OfFirstRowsOf (forest l.tree) l.fact l.rows l.i) l.fn.reach l.reach

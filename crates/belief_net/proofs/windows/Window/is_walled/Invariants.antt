@@ -1,9 +1,0 @@
-use Rattle.std.proofs.Common.{take}
-use Rattle.occ_tree.specs.Places.{forest}
-use Rattle.spots.specs.Spots.{spot_distance}
-use Rattle.belief_net.specs.Windows.{net_in, tree_in}
-use Rattle.belief_net.proofs.Spared.{Seen}
-use Rattle.belief_net.proofs.windows.Window.is_walled.Given as goal
-
-abbrev pub invariant-loop-wall : goal.invariant-loop-wall
-invariant-loop-wall l = Seen (spot_distance (net_in l.self) (forest (tree_in l.self))) l.event l.first (take l.wall-index l.self.walls.items)

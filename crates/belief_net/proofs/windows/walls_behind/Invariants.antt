@@ -1,7 +1,0 @@
-use Rattle.std.specs.List.{All}
-use Rattle.occ_tree.specs.Places.{forest}
-use Rattle.belief_net.specs.Windows.{IsWall}
-use Rattle.belief_net.proofs.windows.walls_behind.Given as goal
-
-abbrev pub invariant-loop-i : goal.invariant-loop-i
-invariant-loop-i l = All (IsWall l.order.net.now.present (forest l.order.tree.now) l.moving l.token) l.walls.items

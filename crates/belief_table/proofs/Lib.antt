@@ -1,0 +1,10 @@
+pub mod Queued
+pub mod Marked
+pub mod Named
+pub mod Dropped
+pub mod OfRules
+pub mod Without
+pub mod Thinned
+pub mod Parted
+pub mod Erased
+pub mod Classes

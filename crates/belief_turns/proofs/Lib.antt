@@ -1,0 +1,17 @@
+pub mod Entered
+pub mod OnKinds
+pub mod Judged
+pub mod Turned
+pub mod Moved
+pub mod Brought
+pub mod Bringing
+pub mod Lost
+pub mod Withdrawn
+pub mod Telling
+pub mod Counted
+pub mod Settled
+pub mod After
+pub mod Rises
+pub mod Numbering
+pub mod LeavingCovered
+pub mod RuleHeads

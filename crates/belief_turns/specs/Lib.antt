@@ -1,0 +1,10 @@
+pub mod Heads
+pub mod Entering
+pub mod Turning
+pub mod Moving
+pub mod Leaving
+pub mod TurnLaws
+pub mod Telling
+pub mod Turns
+pub mod Settling
+pub mod Numbered

@@ -1,0 +1,12 @@
+pub mod Covered
+pub mod Covering
+pub mod Awake
+pub mod LeftMarked
+pub mod Contradicting
+pub mod Noted
+pub mod Waking
+pub mod AtRest
+pub mod ByRule
+pub mod Unread
+pub mod Unlike
+pub mod MarkedUnder

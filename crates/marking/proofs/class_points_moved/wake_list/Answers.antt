@@ -1,0 +1,61 @@
+use Rattle.std.proofs.Common.{◌≡◌, ◌∙◌, [], ◌∷◌, ◌++◌, length, ap, sym, subst, arith}
+use Rattle.std.proofs.lemmas.List.{append_assoc, append-nil}
+use Rattle.std.specs.Prelude.{is_some}
+use Rattle.row_links.specs.Lists.{IsOn}
+use Rattle.undo_rows.specs.Changes.{present as table}
+use Rattle.occ_tree.specs.Places.{forest}
+use Rattle.occ_tree.specs.Standing.{present}
+use Rattle.occ_tree.proofs.Walked.{from_on, from_first, from_next, first_is_on, next_is_on}
+use Rattle.belief_table.specs.Waiting.{dates_in}
+use Rattle.marking.specs.Woken.{MovesFor, RestsFor, WakesFor}
+use Rattle.belief_table.proofs.Marked.{listed_row}
+use Rattle.marking.proofs.Waking.{front_start, front_next}
+use Rattle.marking.proofs.class_points_moved.wake_list.Goals as goal
+
+pub loop-next-init : goal.loop-next-init
+loop-next-init c =
+    let list = (table c.args.rows.now).list c.args.family c.args.head in (
+      [],
+      sym (ap (λ o. from_on o list) c.first-next.ensures.first ∙ from_first list),
+      λ i is. first_is_on list i (sym c.first-next.ensures.first ∙ is),
+      front_start (present c.args.tree.now) (table c.args.rows.now) (MovesFor c.args.moves.now (forest c.args.tree.now) c.args.of_class.now.class) (RestsFor c.args.net.now c.args.moves.now (forest c.args.tree.now) c.args.of_class.now.class) (dates_in c.args.waiting.now),
+    )
+
+pub wake_row-requires-clause-row : goal.wake_row-requires-clause-row
+wake_row-requires-clause-row c =
+    let (r, at) = listed_row (table c.args.rows.now) c.first-next.ensures.listed c.args.family c.args.head c.in-Some.i (c.loop-next.invariant.2 c.in-Some.i c.in-Some.is) in
+    ap is_some at
+
+pub next-next-requires : goal.next-next-requires
+next-next-requires c = (c.args.head, c.loop-next.invariant.2 c.in-Some.i c.in-Some.is)
+
+pub loop-next-smaller : goal.loop-next-smaller
+loop-next-smaller c =
+    let list = (table c.args.rows.now).list c.args.family c.args.head in
+    let i = c.in-Some.i in
+    let on = c.loop-next.invariant.2 i c.in-Some.is in
+    let here : from_on c.loop-next.next list ≡ i ∷ from_on c.next-next.result list =
+    ap (λ o. from_on o list) c.in-Some.is ∙ from_next list i (c.first-next.ensures.listed.once c.args.family c.args.head) on ∙ ap (λ o. i ∷ from_on o list) (sym (c.next-next.ensures c.args.head on)) in
+    omega (arith, ap length here)
+
+pub loop-next-preserved : goal.loop-next-preserved
+loop-next-preserved c =
+    let list = (table c.args.rows.now).list c.args.family c.args.head in
+    let i = c.in-Some.i in
+    let on = c.loop-next.invariant.2 i c.in-Some.is in
+    let (front, is, there, wakes) = c.loop-next.invariant in
+    let here : from_on c.loop-next.next list ≡ i ∷ from_on c.next-next.result list =
+    ap (λ o. from_on o list) c.in-Some.is ∙ from_next list i (c.first-next.ensures.listed.once c.args.family c.args.head) on ∙ ap (λ o. i ∷ from_on o list) (sym (c.next-next.ensures c.args.head on)) in (
+      front ++ i ∷ [],
+      is ∙ ap (λ l. front ++ l) here ∙ sym (append_assoc front (i ∷ []) (from_on c.next-next.result list)),
+      λ j next. next_is_on list i j (sym (c.next-next.ensures c.args.head on) ∙ next),
+      front_next (present c.args.tree.now) (table c.args.rows.now) (MovesFor c.args.moves.now (forest c.args.tree.now) c.args.of_class.now.class) (RestsFor c.args.net.now c.args.moves.now (forest c.args.tree.now) c.args.of_class.now.class) front i (dates_in c.args.waiting.now) (dates_in c.loop-next.waiting)
+          (dates_in c.wake_row.new.waiting) wakes c.in_ok-wake_row.ensures,
+    )
+
+pub returns : goal.returns
+returns c =
+    let list = (table c.args.rows.now).list c.args.family c.args.head in
+    let (front, is, there, wakes) = c.loop-next.invariant in
+    let whole : front ≡ list = sym (is ∙ ap (λ o. front ++ from_on o list) c.in_default.is ∙ append-nil front) in
+    subst (λ l. WakesFor (present c.args.tree.now) (table c.args.rows.now) c.args.net.now c.args.moves.now c.args.of_class.now.class (IsOn l) (dates_in c.args.waiting.now) (dates_in c.loop-next.waiting)) whole wakes
