@@ -21,6 +21,14 @@ chain() { for ((i = 1; i < $1; i++)); do echo "dist d$i p$i p$((i + 1)) $2 $3"; 
 
 effects() { printf 'kind t\nevent e t\ndist z start e 0 0\nhorizon 444\nrule r t 1 1 t\n'; }
 
+# broad N: 390 rules on a kind, of which N events occur, so 390 decisions an event, none of which fires
+broad() {
+  echo "kind k"
+  echo "class c f g"
+  for ((i = 1; i <= 390; i++)); do echo "rule r$i k 1 1 f if g"; done
+  for ((i = 1; i <= $1; i++)); do echo "event e$i k"; done
+}
+
 last "255 ok" "256 points with start" < <(points 255)
 last "256 no limit points" "the 257th point" < <(points 256)
 last "2000 ok" "2,000 premises" < <(points 1; dists 1999)
@@ -38,6 +46,12 @@ last "2003 ok" "a premise in the place of one that was erased" \
 last "6 size 99680" "a chain of 444 effects" < <(effects; echo "size")
 last "6 no limit size" "one effect more than a map may have" < <(effects; echo "horizon 445")
 last "7 size 99680" "the map that a refused edit leaves" < <(effects; echo "horizon 445"; echo "size")
+last "4 no limit size" "a chain of 1,000 effects, brought about by one edit" \
+  < <(printf 'kind t\nevent e t\ndist z start e 0 0\nrule r t 1 1 t\n')
+last "6 audit yes" "the audit of a chain of 444 effects" < <(effects; echo "audit")
+last "643 size 97750" "97,500 decisions, each with its row" < <(broad 250; echo "size")
+last "493 ok" "one edit that makes 39,000 decisions again" < <(broad 100; echo "token t g")
+last "643 ok" "one edit that makes 97,500 decisions again" < <(broad 250; echo "token t g")
 last "" "a line of 400 bytes" < <(printf '# %0398d' 0)
 last "1 no limit line" "a line of 401 bytes" < <(printf '# %0399d' 0)
 

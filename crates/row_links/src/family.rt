@@ -1,5 +1,5 @@
 // One family of lists.
-ghost use Rattle.std.specs.Prelude.{◌≡◌, ℕ, ◌<◌, ◌≤◌, [], ◌∷◌, ◌++◌, length, None, IfSome, IfOk, OnOk, replicate};
+ghost use Rattle.std.specs.Prelude.{◌≡◌, ℕ, ◌+◌, ◌<◌, ◌≤◌, [], ◌∷◌, ◌++◌, length, None, Some, IfSome, IsOk, IfOk, OnOk, replicate};
 ghost use Rattle.row_links.specs.Lists.{Lists, IsOn, IsOnNone, Grows, list_of, with_list, without, row_before, row_after, first_or, last_or, after_gap, put_after, AreOnce};
 
 use crate::place::{Ends, Gap, Link, Place, set_after, set_before};
@@ -51,13 +51,16 @@ impl Family {
     /// Lets there be so many rows and this head, if one is given. The lists stay.
     pub fn reserve_head(&mut self, rows: u32, head: Option<u32>) -> Result<(), NoMemory>
         ensures ok { OnOk result (IfSome head (λ h. (rows ≤ self.new.rows) × (h < length self.new.lists))) }
+        ensures none { head ≡ None → IsOk result }
         ensures kept { Grows self.old self.new }
     {
-        match head {
-            Some(head) if head < u32::MAX => self.reserve(rows, head + 1),
-            Some(_) => Err(NoMemory),
-            None => Ok(()),
-        }
+        let Some(head) = head else {
+            return Ok(());
+        };
+        let Some(heads) = heads_with(head) else {
+            return Err(NoMemory);
+        };
+        self.reserve(rows, heads)
     }
 
     /// Puts a row that is on no list behind all others of a list.
@@ -161,6 +164,14 @@ impl Family {
     {
         self.ends[head as usize].last.row()
     }
+}
+
+// How many heads there are at least where this is one of them, none exactly where that is 2^32.
+fn heads_with(head: u32) -> Option<u32>
+    ensures some { head < 4294967295 → result ≡ Some (head + 1) }
+    ensures none { head ≡ 4294967295 → result ≡ None }
+{
+    head.checked_add(1)
 }
 
 // Lets there be `n` items, if there are fewer, those that are new all the same.

@@ -40,7 +40,7 @@ answer_keeps old new line reply kept (for_length long is same) = unchanged old n
 answer_keeps old new line reply kept (for_form short nothing is same) = unchanged old new kept same
 answer_keeps old new line reply kept (for_meaning meaning read answers) = meaning_keeps old new line meaning reply kept read.reads answers
 
-step_keeps : (old new : Standing) (k : ℕ) (line : List ℕ) (turn : Turn) → IsKept old → Step old k line turn new → IsKept new
+pub step_keeps : (old new : Standing) (k : ℕ) (line : List ℕ) (turn : Turn) → IsKept old → Step old k line turn new → IsKept new
 step_keeps old new k line NoReply kept step = unchanged old new kept step.1
 step_keeps old new k line Memory kept step = unchanged old new kept step.1
 step_keeps old new k line (ReplyOf bytes refused) kept (reply, answers, _, _) = answer_keeps old new line reply kept answers

@@ -8,3 +8,8 @@ mod OneText
 mod Timings
 mod Updating
 mod Exceptions
+mod ShownWalks
+mod Dateless
+mod ToldValues
+mod ToldReasons
+mod EachAnswered

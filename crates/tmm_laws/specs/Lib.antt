@@ -8,3 +8,4 @@ pub mod KeptRuns
 pub mod OneText
 pub mod TimingLaw
 pub mod ExceptionLaw
+pub mod EachAnswered

@@ -20,4 +20,6 @@ pub use distances::{
     timings_are_tightest,
 };
 pub use edits::{dump_reloads, lists_stay_kept, untouched_decisions_keep_outcomes};
-pub use transcripts::{dumps_run, runs_keep_lists, steps_leave_one, texts_are_one};
+pub use transcripts::{
+    dumps_run, lines_are_answered, runs_keep_lists, steps_leave_one, texts_are_one,
+};

@@ -1,6 +1,7 @@
 // Laws of the transcript: what its step says of whole scripts.
 ghost use Rattle.tmm_laws.specs.KeptRuns.{RunsKeepLists};
 ghost use Rattle.tmm_laws.specs.DumpRuns.{DumpsTell, DumpsRun, StepsLeaveOne};
+ghost use Rattle.tmm_laws.specs.EachAnswered.{LinesAreAnswered, ScriptsAreAnswered};
 ghost use Rattle.tmm_laws.specs.OneText.{TextsAreOne};
 
 /// What a dump shows behind its first line, run again from the empty list, is accepted line by line
@@ -24,4 +25,11 @@ pub fn texts_are_one()
 /// Each list that a run leaves, from the empty one on, is kept.
 pub fn runs_keep_lists()
     ensures { RunsKeepLists }
+{}
+
+/// From a kept list each line has a turn that is no want of memory, a silent line none but that
+/// without a reply; so each script has a whole run without want of memory.
+pub fn lines_are_answered()
+    ensures lines { LinesAreAnswered }
+    ensures scripts { ScriptsAreAnswered }
 {}

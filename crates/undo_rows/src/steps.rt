@@ -1,5 +1,5 @@
 // Changes of rows and lists, each logged as it is made, and undone.
-ghost use Rattle.std.specs.Prelude.{◌≡◌, ◌≢◌, ℕ, false, cond, eqb, ◌+◌, ◌<◌, ◌≤◌, [], ◌∷◌, ◌++◌, length, Some, IfSome, IfOk, ◌⊎◌};
+ghost use Rattle.std.specs.Prelude.{◌≡◌, ◌≢◌, ℕ, false, cond, eqb, ◌+◌, ◌<◌, ◌≤◌, [], ◌∷◌, ◌++◌, length, Some, IfSome, IsOk, IfOk, ◌⊎◌};
 ghost use Rattle.std.specs.List.{list_any};
 ghost use Rattle.row_links.specs.Lists.{IsOn, IsOnNone, without};
 ghost use Rattle.row_links.specs.Families.{family_of, list_in, with_list_in};
@@ -130,11 +130,14 @@ pub(crate) fn unlink_all<T: Copy, const F: usize>(
 
 // The number of the next row, as long as it fits, where `slab` would take this key next and holds
 // so many rows: that of a place, or of the next one where each place holds a row. It is always one
-// of these, which `slab` does not promise, so it is asked.
+// of these, which `slab` does not promise, so it is asked. Of these alone the one that is 2^32 - 1
+// has no number, and counts as want of memory.
 pub(crate) fn next_number(key: usize, held: usize, places: u32) -> Result<u32, NoMemory>
     ensures number { IfOk result (λ x. x ≡ key) }
     ensures few { IfOk result (λ x. x < 4294967295) }
     ensures next { IfOk result (λ x. (x < places) ⊎ ((x ≡ places) × (places ≡ held))) }
+    ensures free { key < places → IsOk result }
+    ensures room { key ≡ places → held ≡ places → places < 4294967295 → IsOk result }
 {
     let next = places as usize;
     if key < next {
