@@ -4,11 +4,11 @@ set -u
 cd "$(dirname "$0")/.." || exit 1
 failed=0
 
-# last WANTED WHAT: runs the script on standard input, and compares the last numbered reply. It stands
-# in no pipeline, where what it finds would be lost.
+# last WANTED WHAT WORD..: runs the script on standard input, with these words, and compares the last numbered
+# reply. It stands in no pipeline, where what it finds would be lost.
 last() {
   local have
-  have=$(./tmm | grep -v '^ ' | tail -n 1)
+  have=$(./tmm "${@:3}" | grep -v '^ ' | tail -n 1)
   if [ "$have" != "$1" ]; then
     echo "checks: $2: '$have' instead of '$1'" >&2
     failed=1
@@ -54,5 +54,16 @@ last "493 ok" "one edit that makes 39,000 decisions again" < <(broad 100; echo "
 last "643 ok" "one edit that makes 97,500 decisions again" < <(broad 250; echo "token t g")
 last "" "a line of 400 bytes" < <(printf '# %0398d' 0)
 last "1 no limit line" "a line of 401 bytes" < <(printf '# %0399d' 0)
+
+holds() { for ((i = 1; i <= $1; i++)); do echo "@p horizon 5"; done; }
+agents() { for ((i = 0; i < $1; i++)); do echo "@a$i horizon 5"; done; }
+
+last "100 held 100" "100 edits of an agent" agents < <(holds 100)
+last "101 no limit batch" "the 101st edit of an agent" agents < <(holds 101)
+last "102 ok 100" "a batch of 100 edits" agents < <(holds 101; echo "@p commit")
+last "64 held 1" "the edits of 64 agents" agents < <(agents 64)
+last "65 no limit agents" "an edit of the 65th agent" agents < <(agents 65)
+last "69 ok 0" "an agent in the place of another" agents \
+  < <(agents 65; echo "@a0 discard"; echo "@a64 horizon 5"; echo "@a64 commit"; echo "@a64 commit")
 
 exit $failed

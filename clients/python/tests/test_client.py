@@ -244,9 +244,42 @@ class ParseTest(unittest.TestCase):
             ("limit size", tmm.Refusal(tmm.Cause.MAP_TOO_LARGE)),
             ("limit suppose", tmm.Refusal(tmm.Cause.TOO_MANY_SUPPOSITIONS)),
             ("suppose", tmm.Refusal(tmm.Cause.NO_SUPPOSITION)),
+            ("agent", tmm.Refusal(tmm.Cause.NO_AGENT)),
+            ("limit batch", tmm.Refusal(tmm.Cause.TOO_MANY_EDITS_HELD)),
+            ("limit agents", tmm.Refusal(tmm.Cause.TOO_MANY_AGENTS)),
             ("unordered", tmm.Refusal(tmm.Cause.UNORDERED)),
         ):
             self.assertEqual(reply_of(f"4 no {text}\n"), refusal)
+
+    def test_a_batch(self) -> None:
+        self.assertEqual(reply_of("3 held 2\n"), tmm.Held(2))
+        self.assertEqual(reply_of("3 ok 0\n"), tmm.Batch())
+        broken = tmm.Broken("x", False, (tmm.Blame("k", tmm.BlameCause.LATE, None),), 0)
+        self.assertEqual(
+            reply_of("8 ok 3\n  line 2\n  line 5\n  in e/shuts\n  broken x\n    k late\n  line 6\n  erased line\n"),
+            tmm.Batch(
+                (
+                    tmm.Made(2, tmm.Changes()),
+                    tmm.Made(5, tmm.Changes(entered=("e/shuts",), broken=(broken,))),
+                    tmm.Made(6, tmm.Changes(erased=("line",))),
+                )
+            ),
+        )
+
+    def test_a_batch_that_is_refused(self) -> None:
+        for text, refusal in (
+            ("  unknown b\n", tmm.Refusal(tmm.Cause.UNKNOWN, "b")),
+            ("  limit size\n", tmm.Refusal(tmm.Cause.MAP_TOO_LARGE)),
+            (
+                "  cycle -3\n    e lo a b 0\n    d lo b a -3\n",
+                tmm.Refusal(
+                    tmm.Cause.CYCLE,
+                    sum=-3,
+                    steps=(tmm.Step("e", tmm.Side.LOWER, "a", "b", 0), tmm.Step("d", tmm.Side.LOWER, "b", "a", -3)),
+                ),
+            ),
+        ):
+            self.assertEqual(reply_of(f"4 no batch 3\n{text}"), tmm.NoBatch(3, refusal))
 
     def test_a_cycle(self) -> None:
         steps = (
@@ -305,6 +338,12 @@ class ParseTest(unittest.TestCase):
             "1 bounds 0 0\n  in e\n",
             "1 yes k\n  k late\n",
             "1 memory\n  k late\n",
+            "1 held\n",
+            "1 held 1\n  line 1\n",
+            "1 ok 2\n  line 1\n",
+            "1 ok 1\n  in e\n",
+            "1 no batch 3\n",
+            "1 no batch 3\n  cycle -3\n  e lo a b 0\n",
             "usage: tmm [demo N | suppose], N from 1 to 1000\n",
         ):
             with self.subTest(text=text), self.assertRaises(tmm.ProtocolError):
@@ -322,13 +361,17 @@ class DocumentedScriptsTest(unittest.TestCase):
             with self.subTest(script=script):
                 transcript = tmm.run_script(script, [tmm.find_program(), *words])
                 self.assertEqual(transcript.replies, dict(tmm.parse_replies(text)))
-                refused = any(isinstance(reply, tmm.Refusal) for reply in transcript.replies.values())
+                refused = any(isinstance(reply, (tmm.Refusal, tmm.NoBatch)) for reply in transcript.replies.values())
                 self.assertEqual(transcript.status, 1 if refused else 0)
 
     def test_line_by_line(self) -> None:
-        for _, script, text in documented_scripts():
+        for words, script, text in documented_scripts():
+            if words == ["agents"]:
+                # its replies tell numbers of lines, among which fences count
+                continue
             replies = dict(tmm.parse_replies(text))
-            with self.subTest(script=script), tmm.TimeMap() as time_map:
+            command = [tmm.find_program(), *words] if words else None
+            with self.subTest(script=script), tmm.TimeMap(command) as time_map:
                 for number, line in enumerate(script, start=1):
                     # a comment and a blank line have none
                     self.assertEqual(time_map.send(line), replies.get(number))

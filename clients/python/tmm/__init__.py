@@ -11,8 +11,10 @@
 docs/SCRIPT.md says what lines and replies mean, docs/CLIENTS.md how a program drives `tmm`.
 """
 
+from tmm.agents import Agent, SharedMap
 from tmm.client import Mark, Supposition, TimeMap, Transcript, run_script
 from tmm.errors import (
+    BatchRefused,
     NoProgram,
     OutOfMemory,
     ProgramEnded,
@@ -38,6 +40,7 @@ from tmm.replies import parse_replies
 from tmm.values import (
     Answer,
     Audit,
+    Batch,
     Blame,
     BlameCause,
     Bounds,
@@ -48,7 +51,10 @@ from tmm.values import (
     Clip,
     Dump,
     EffectReason,
+    Held,
     Listing,
+    Made,
+    NoBatch,
     NoMemory,
     OrderReason,
     PremiseReason,
@@ -65,8 +71,11 @@ from tmm.values import (
 )
 
 __all__ = [
+    "Agent",
     "Answer",
     "Audit",
+    "Batch",
+    "BatchRefused",
     "Blame",
     "BlameCause",
     "Bounds",
@@ -82,9 +91,12 @@ __all__ = [
     "EventHandle",
     "Failure",
     "Handle",
+    "Held",
     "Listing",
+    "Made",
     "Mark",
     "New",
+    "NoBatch",
     "NoMemory",
     "NoProgram",
     "Obstacle",
@@ -102,6 +114,7 @@ __all__ = [
     "Reply",
     "Row",
     "Shared",
+    "SharedMap",
     "Side",
     "Size",
     "SpanHandle",

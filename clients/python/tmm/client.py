@@ -6,6 +6,7 @@ from types import TracebackType
 from typing import Callable, Dict, Iterable, List, Optional, Sequence, Set, Tuple, Type, TypeVar, Union
 
 from tmm import explain, words
+from tmm.edits import Edits
 from tmm.errors import ALL_ANSWERED, OutOfMemory, ProgramEnded, ProtocolError, TimedOut, TmmError, refused
 from tmm.explain import Threats, WhyNot
 from tmm.handles import New
@@ -15,6 +16,7 @@ from tmm.stream import Stream, shown
 from tmm.values import (
     Answer,
     Audit,
+    Batch,
     Bounds,
     Broken,
     Cause,
@@ -22,6 +24,7 @@ from tmm.values import (
     Check,
     Dump,
     EffectReason,
+    Held,
     Listing,
     NoMemory,
     OrderReason,
@@ -39,9 +42,12 @@ from tmm.values import (
 # of its own: what comes before that is the whole reply.
 _FENCE = b"bounds start start\n"
 
+# The line of an agent that holds an edit or discards, in the place of its first word.
+OF_AGENT = "@"
+
 # A line that begins so has a reply of one line, whatever it is, and needs no fence.
 _OF_ONE_LINE = frozenset(
-    ["bounds", "size", "audit", "point", "kind", "class", "suppose", "keep", "drop"]
+    ["bounds", "size", "audit", "point", "kind", "class", "suppose", "keep", "drop", OF_AGENT]
 )
 
 _PREMISES = frozenset(
@@ -53,7 +59,9 @@ FIRST_HORIZON = 1000
 # So many suppositions may stand on top of each other.
 MOST_SUPPOSITIONS = 8
 
-ReplyKind = TypeVar("ReplyKind", Changes, Bounds, Walk, Answer, Why, Check, Listing, Dump, Size, Audit)
+ReplyKind = TypeVar(
+    "ReplyKind", Changes, Bounds, Walk, Answer, Why, Check, Listing, Dump, Size, Audit, Held, Batch
+)
 
 # Called after each line with it and its reply, None for a comment or a blank line.
 Log = Callable[[str, Optional[Reply]], None]
@@ -132,7 +140,7 @@ class Supposition:
             self._map.back(self._mark)
 
 
-class TimeMap:
+class TimeMap(Edits[Changes]):
     """A map in a `tmm` of its own, which runs until `close`. It serves one thread at a time.
 
     Methods raise `Refused`, `RefusedForCycle` or `OutOfMemory`, after which the map is as before, and
@@ -227,9 +235,8 @@ class TimeMap:
             self._lines_given = fence
             told = dict(parse_replies(shown(self._stream.lines(data, first, fence))))
             replies = [told.get(number) for number in range(first, fence)]
-            for line, reply in zip(given, replies):
-                if isinstance(reply, Changes):
-                    self._note(line, reply)
+            for at, (line, reply) in enumerate(zip(given, replies), first):
+                self._note_reply(at, line, reply)
         except BaseException as error:
             self._give_up(error)
             raise
@@ -251,8 +258,7 @@ class TimeMap:
                 received = self._stream.lines(data + _FENCE, number, number + 1)
                 if received:
                     reply = parse_reply(shown(received), number)
-            if isinstance(reply, Changes):
-                self._note(line, reply)
+            self._note_reply(number, line, reply)
         except BaseException as error:
             self._give_up(error)
             raise
@@ -272,6 +278,11 @@ class TimeMap:
         if not isinstance(error, ProgramEnded):
             self._fault = f"the map is of no use since an exchange was not finished: {error!r}"
             self._stream.kill()
+
+    def _note_reply(self, number: int, line: str, reply: Optional[Reply]) -> None:
+        """Keeps what stands after the line of this number."""
+        if isinstance(reply, Changes):
+            self._note(line, reply)
 
     def _note(self, line: str, changes: Changes) -> None:
         """Keeps what stands after an edit that was taken."""
@@ -294,7 +305,7 @@ class TimeMap:
             self._below.pop()
         elif first == "drop":
             self._standing = self._below.pop()
-        else:
+        elif first == "tmm":
             standing.version = int(rest[0])
 
     def _answer(self, kind: Type[ReplyKind], word: str, line: str) -> ReplyKind:
@@ -315,83 +326,10 @@ class TimeMap:
         self._give_up(error)
         raise error
 
-    # ---- premises
+    def _edit(self, word: str, line: str) -> Changes:
+        return self._answer(Changes, word, line)
 
-    def point(self, name: str) -> Changes:
-        """Declares a point."""
-        return self._answer(Changes, "point", f"point {words.name(name)}")
-
-    def dist(
-        self, name: str, origin: str, target: str, lower: Optional[int] = None, upper: Optional[int] = None
-    ) -> Changes:
-        """`lower <= target - origin <= upper`; one of the two may be None, for no bound."""
-        return self._answer(
-            Changes,
-            "dist",
-            f"dist {words.name(name)} {words.point(origin)} {words.point(target)} {words.bounds(lower, upper)}",
-        )
-
-    def class_(self, name: str, *facts: str) -> Changes:
-        """Declares a class and its facts, each of which contradicts the others."""
-        return self._answer(Changes, "class", " ".join(["class", words.name(name), *words.facts(facts, words.MOST_FACTS, 1)]))
-
-    def token(self, name: str, fact: str) -> Changes:
-        """The fact begins to hold at the token, and persists."""
-        return self._answer(Changes, "token", f"token {words.name(name)} {words.name(fact)}")
-
-    def span(self, name: str, fact: str) -> Changes:
-        """The fact holds from NAME to NAME.end, at least 1 later."""
-        return self._answer(Changes, "span", f"span {words.name(name)} {words.name(fact)}")
-
-    def kind(self, name: str) -> Changes:
-        """Declares a kind of event."""
-        return self._answer(Changes, "kind", f"kind {words.name(name)}")
-
-    def event(self, name: str, kind: str) -> Changes:
-        """Declares an event of a kind."""
-        return self._answer(Changes, "event", f"event {words.name(name)} {words.name(kind)}")
-
-    def rule(
-        self,
-        name: str,
-        kind: str,
-        lower: int,
-        upper: Optional[int],
-        effect: str,
-        given: Union[str, Sequence[str]] = (),
-        unless: Union[str, Sequence[str]] = (),
-    ) -> Changes:
-        """An event of the kind makes the effect, a fact or a kind, `lower` to `upper` later.
-
-        Where facts are given, it does so only where each of them holds at the event; in version 2 it may
-        have exceptions, and then does so only where none of these holds there.
-        """
-        condition = words.clause("if", given, words.MOST_CONDITIONS)
-        exceptions = words.clause("unless", unless, words.MOST_EXCEPTIONS)
-        return self._answer(
-            Changes,
-            "rule",
-            f"rule {words.name(name)} {words.name(kind)} {words.delay(lower, upper)} {words.name(effect)}"
-            f"{condition}{exceptions}",
-        )
-
-    def protect(self, name: str, fact: str, begin: str, end: str) -> Changes:
-        """The fact is to hold throughout the interval."""
-        return self._answer(
-            Changes,
-            "protect",
-            f"protect {words.name(name)} {words.name(fact)} {words.point(begin)} {words.point(end)}",
-        )
-
-    def against(self, name: str, one: str, other: str) -> Changes:
-        """The two facts contradict each other, of whichever classes they are; in version 2 alone."""
-        if one == other:
-            raise ValueError(f"{one!r} does not contradict itself")
-        return self._answer(
-            Changes, "against", f"against {words.name(name)} {words.name(one)} {words.name(other)}"
-        )
-
-    # ---- the other edits
+    # ---- other edits
 
     def upgrade(self) -> Changes:
         """Opens version 2 of the script, from the empty map alone.
@@ -399,14 +337,6 @@ class TimeMap:
         In it rules may have exceptions, and facts of two classes may contradict each other.
         """
         return self._answer(Changes, "tmm", "tmm 2")
-
-    def horizon(self, date: int) -> Changes:
-        """No effect is believed whose earliest date is past this one."""
-        return self._answer(Changes, "horizon", f"horizon {words.horizon(date)}")
-
-    def erase(self, name: str) -> Changes:
-        """Retracts a premise and all that mentions it."""
-        return self._answer(Changes, "erase", f"erase {words.name(name)}")
 
     def change(self, name: str, lower: Optional[int] = None, upper: Optional[int] = None) -> Tuple[Changes, Changes]:
         """Gives a standing constraint other bounds. It then stands last.

@@ -42,6 +42,17 @@ class RefusedForCycle(Refused):
         return f"`{self.line}` is refused: cycle {self.sum}, by {steps}"
 
 
+class BatchRefused(Refused):
+    """None of the edits that an agent held was made, since this one is refused. None is held any longer.
+
+    `held_at` is the number of the line that held it.
+    """
+
+    def __init__(self, line: str, refusal: Refusal, held_at: int) -> None:
+        super().__init__(line, refusal)
+        self.held_at = held_at
+
+
 def refused(line: str, refusal: Refusal) -> Refused:
     """The exception that a refusal of this line is."""
     if refusal.sum is not None:

@@ -11,6 +11,8 @@ from tmm.errors import NoProgram
 
 # The mode in which a map takes suppositions: a word of the program's command line.
 SUPPOSE = "suppose"
+# The mode in which several agents share a map.
+AGENTS = "agents"
 
 _USAGE = re.compile(rb"usage: tmm \[demo N((?: \| [a-z]+)*)\], N from 1 to 1000\n")
 

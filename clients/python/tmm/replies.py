@@ -8,6 +8,7 @@ from tmm.errors import ProtocolError
 from tmm.values import (
     Answer,
     Audit,
+    Batch,
     Blame,
     BlameCause,
     Bounds,
@@ -18,7 +19,10 @@ from tmm.values import (
     Clip,
     Dump,
     EffectReason,
+    Held,
     Listing,
+    Made,
+    NoBatch,
     NoMemory,
     OrderReason,
     PremiseReason,
@@ -103,6 +107,9 @@ _SIDES = {side.value: side for side in Side}
 # how details begin, and what belongs to them
 _OUTER, _INNER = "  ", "    "
 
+# how the details of an edit of a batch begin
+_HELD_AT = "  line "
+
 
 # The same steps are told again and again, and a step never changes.
 @lru_cache(1 << 14)
@@ -144,7 +151,23 @@ def _counted(word: str, number: int) -> None:
 _NO_CHANGES = Changes()
 
 
-def _read_changes(words: List[str], lines: List[str]) -> Changes:
+def _read_ok(words: List[str], lines: List[str]) -> Union[Changes, Batch]:
+    # A number behind it tells how many edits of an agent were made.
+    return _read_batch(words, lines) if words else _read_changes(lines)
+
+
+def _read_batch(words: List[str], lines: List[str]) -> Batch:
+    made: List[Tuple[int, List[str]]] = []
+    for line in lines:
+        if line.startswith(_HELD_AT):
+            made.append((int(line[len(_HELD_AT) :]), []))
+        else:
+            made[-1][1].append(line)
+    _counted(words[0], len(made))
+    return Batch(tuple([Made(held_at, _read_changes(changes)) for held_at, changes in made]))
+
+
+def _read_changes(lines: List[str]) -> Changes:
     if not lines:
         return _NO_CHANGES
     names: Dict[str, List[str]] = {"erased": [], "out": [], "in": [], "loose": [], "mended": []}
@@ -185,14 +208,20 @@ def _read_yes(words: List[str], lines: List[str]) -> Answer:
     return Answer(Verdict.YES, supporter)
 
 
-def _read_no(words: List[str], lines: List[str]) -> Union[Answer, Refusal]:
+def _read_no(words: List[str], lines: List[str]) -> Union[Answer, NoBatch, Refusal]:
     # A `no` alone answers `ask`. One with a cause is a refusal.
     if not words:
         blames, more = _blames(_words_of(lines))
         return Answer(Verdict.NO, None, blames, more)
+    if words[0] == "batch":
+        return NoBatch(int(words[1]), _read_refusal(lines[0].split(), lines[1:], _INNER))
+    return _read_refusal(words, lines, _OUTER)
+
+
+def _read_refusal(words: List[str], lines: List[str], indent: str) -> Refusal:
     cause = Cause(" ".join(words) if words[0] == "limit" else words[0])
     if cause is Cause.CYCLE:
-        return Refusal(cause, sum=int(words[1]), steps=_steps(lines, _OUTER))
+        return Refusal(cause, sum=int(words[1]), steps=_steps(lines, indent))
     if cause in (Cause.TAKEN, Cause.UNKNOWN, Cause.SORT):
         return Refusal(cause, words[1])
     return Refusal(cause)
@@ -254,16 +283,22 @@ def _read_audit(words: List[str], lines: List[str]) -> Audit:
     return Audit()
 
 
+def _read_held(words: List[str], lines: List[str]) -> Held:
+    (number,) = words
+    return Held(int(number))
+
+
 def _read_memory(words: List[str], lines: List[str]) -> NoMemory:
     return NoMemory()
 
 
 _READERS: Dict[str, Callable[[List[str], List[str]], Reply]] = {
-    "ok": _read_changes,
+    "ok": _read_ok,
     "bounds": _read_bounds,
     "path": _read_walk,
     "yes": _read_yes,
     "no": _read_no,
+    "held": _read_held,
     "why": _read_why,
     "check": _read_check,
     "list": _read_listing,
@@ -274,4 +309,4 @@ _READERS: Dict[str, Callable[[List[str], List[str]], Reply]] = {
 }
 
 # No details belong to these.
-_WITHOUT_DETAILS = frozenset(["bounds", "yes", "size", "audit", "memory"])
+_WITHOUT_DETAILS = frozenset(["bounds", "yes", "size", "audit", "held", "memory"])

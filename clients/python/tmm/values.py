@@ -226,6 +226,10 @@ class Cause(Enum):
     # eight suppositions stand, and none
     TOO_MANY_SUPPOSITIONS = "limit suppose"
     NO_SUPPOSITION = "suppose"
+    # an edit without an agent; 100 edits are held for it; edits of 64 others are held
+    NO_AGENT = "agent"
+    TOO_MANY_EDITS_HELD = "limit batch"
+    TOO_MANY_AGENTS = "limit agents"
 
 
 @dataclass(frozen=True)
@@ -242,8 +246,43 @@ class Refusal:
 
 
 @dataclass(frozen=True)
+class Held:
+    """An edit is held for an agent, and so many are now."""
+
+    number: int
+
+
+@dataclass(frozen=True)
+class Made:
+    """An edit of a batch that was made: the number of the line that held it, and what it changed."""
+
+    held_at: int
+    changes: Changes
+
+
+@dataclass(frozen=True)
+class Batch:
+    """All edits that an agent held were made, one after the other, in this order."""
+
+    edits: Tuple[Made, ...] = ()
+
+
+@dataclass(frozen=True)
+class NoBatch:
+    """None of the edits that an agent held was made, and none is held any longer.
+
+    `held_at` is the number of the line that held the first one that is refused.
+    """
+
+    held_at: int
+    refusal: Refusal
+
+
+@dataclass(frozen=True)
 class NoMemory:
     """There was no memory for a line, and nothing has changed."""
 
 
-Reply = Union[Changes, Bounds, Walk, Answer, Why, Check, Listing, Dump, Size, Audit, Refusal, NoMemory]
+Reply = Union[
+    Changes, Bounds, Walk, Answer, Why, Check, Listing, Dump, Size, Audit, Held, Batch, NoBatch, Refusal, NoMemory
+]

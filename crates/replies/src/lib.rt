@@ -6,6 +6,7 @@
 //! on `premise_list` and `tmm_script`. Without memory for the reply a call answers `NoMemory`.
 #![tactic(auto)]
 
+mod batches;
 mod details;
 mod dump;
 mod edits;
@@ -15,6 +16,7 @@ mod questions;
 mod reasons;
 mod words;
 
+pub use batches::{reply_batch, reply_batch_no, reply_held};
 pub use dump::reply_dump;
 pub use edits::{reply_no, reply_ok};
 pub use memory::memory_reply;

@@ -1,9 +1,12 @@
 // What answers a script, made for its first line.
 ghost use Rattle.std.specs.Prelude.{IfOk, ◌≡◌, None};
+ghost use Rattle.agents.specs.States.{IsReady, world_of as shared_world};
+ghost use Rattle.agents.specs.Worlds.{first_world as first_shared};
 ghost use Rattle.suppose.specs.Stacks.{IsSettled, world_of};
 ghost use Rattle.suppose.specs.Worlds.{first_world};
 ghost use Rattle.tmm_model.specs.Standing.{empty_list};
 
+use agents::Sharing;
 use map_core::{Copies, Opens};
 use mode_session::ModeSession;
 use std::alloc::Global;
@@ -30,5 +33,17 @@ pub(crate) fn suppose_session<M: Opens + Copies + Drop>(
     ensures ready { IfOk result (λ session. IsSettled M.pending session.inner.stack) }
 {
     let inner = Supposing::make(alloc)?;
+    Ok(ModeSession::make(inner))
+}
+
+/// A session of agents, of which none holds an edit, over the empty map of version 2.
+pub(crate) fn agents_session<M: Opens + Copies + Drop>(
+    alloc: Global,
+) -> Result<ModeSession<Sharing<M>>, NoMemory>
+    ensures first { IfOk result (λ session. shared_world M.list session.inner.agents ≡ first_shared) }
+    ensures number { IfOk result (λ session. session.lines ≡ 0) }
+    ensures ready { IfOk result (λ session. IsReady M.list M.pending session.inner.agents) }
+{
+    let inner = Sharing::make(alloc)?;
     Ok(ModeSession::make(inner))
 }

@@ -2,6 +2,7 @@ use Rattle.std.proofs.Common.{◌≡◌, ◌∙◌, List, [], Option, Some, None
 use Rattle.std.specs.declared.alloc.Global.{Global}
 use Rattle.std.specs.declared.string.String.{String}
 use Rattle.std.proofs.KnownBytes.{Consumes-nil}
+use Rattle.agents.specs.Worlds.{first_world as first_shared}
 use Rattle.suppose.specs.Worlds.{first_world}
 use Rattle.tmm_model.specs.Standing.{empty_list}
 use Rattle.tmm_model.specs.declared.mode.Mode.{Mode}
@@ -24,6 +25,13 @@ returns-in-Script-Some-Suppose-clause-ends g c =
     let in_mode = c.in-Script-Some-Suppose in
     let mode = in_mode.field-0-is ∙ ap Some in_mode.field-0-0-is in
     let ends = c.run_lines-in-Script-Some-Suppose.ensures.ends first_world c.suppose_session.ensures.first in
+    (ends.0, ends.1, ends.2, ends.3, record { command = Script (Some _); asked = for_script c.args.words.now _ _ mode in_mode.ensures; ends = ends.4 })
+
+pub returns-in-Script-Some-Agents-clause-ends : goal.returns-in-Script-Some-Agents-clause-ends
+returns-in-Script-Some-Agents-clause-ends g c =
+    let in_mode = c.in-Script-Some-Agents in
+    let mode = in_mode.field-0-is ∙ ap Some in_mode.field-0-0-is in
+    let ends = c.run_lines-in-Script-Some-Agents.ensures.ends first_shared c.agents_session.ensures.first in
     (ends.0, ends.1, ends.2, ends.3, record { command = Script (Some _); asked = for_script c.args.words.now _ _ mode in_mode.ensures; ends = ends.4 })
 
 pub returns-in-Demo-clause-ends : goal.returns-in-Demo-clause-ends

@@ -1,0 +1,10 @@
+pub mod Worlds
+pub mod Batches
+pub mod Commits
+pub mod Sharing
+pub mod LongLines
+pub mod Turns
+pub mod Holdings
+pub mod States
+pub mod Histories
+pub mod Interleavings
