@@ -107,6 +107,34 @@ module _ (agent : List ℕ) where
       by so true = ap (λ (bs : List Batch). batch_of h ∷ bs) so
       by so false = so
 
+-- whoever else holds something goes on, whatever is written at the agent's place
+pub others_kept : (agent : List ℕ) (hs : List Holding) (i : ℕ) (d new : Holding) → i < length hs → is_of agent (get_or hs i d) ≡ true → is_of agent new ≡ true
+    → filter (λ h. not (is_of agent h)) (set hs i new) ≡ filter (λ h. not (is_of agent h)) hs
+others_kept agent [] i d new within here own = absurd (omega (arith, within))
+others_kept agent (h ∷ hs) zero d new within here own = rw (own, here) refl
+others_kept agent (h ∷ hs) (suc i) d new within here own = by (others_kept agent hs i d new (omega (arith, within)) here own) (not (is_of agent h))
+  where
+    by : filter (λ h. not (is_of agent h)) (set hs i new) ≡ filter (λ h. not (is_of agent h)) hs → (b : Bool)
+        → cond b (h ∷ filter (λ h. not (is_of agent h)) (set hs i new)) (filter (λ h. not (is_of agent h)) (set hs i new)) ≡ cond b (h ∷ filter (λ h. not (is_of agent h)) hs) (filter (λ h. not (is_of agent h)) hs)
+    by so true = ap (λ (l : List Holding). h ∷ l) so
+    by so false = so
+
+pub others_in_place : (agent : List ℕ) (hs : List Holding) (i : ℕ) (d new : Holding) → position (is_of agent) hs ≡ Some i → new.agent ≡ (get_or hs i d).agent
+    → filter (λ h. not (is_of agent h)) (set hs i new) ≡ filter (λ h. not (is_of agent h)) hs
+others_in_place agent hs i d new found owner =
+    let at = position-Some (is_of agent) hs i d found in
+    others_kept agent hs i d new at.0 at.1 (ap (λ (a : List ℕ). same_name a agent) owner ∙ at.1)
+
+-- where the agent holds nothing, all go on
+all_kept : (agent : List ℕ) (hs : List Holding) → ((k : ℕ) (d : Holding) → k < length hs → is_of agent (get_or hs k d) ≡ false) → without (map batch_of hs) agent ≡ map batch_of hs
+all_kept agent [] nowhere = refl
+all_kept agent (h ∷ hs) nowhere =
+    let other : is_of agent h ≡ false = nowhere 0 h (omega arith) in
+    rw other (ap (λ (bs : List Batch). batch_of h ∷ bs) (all_kept agent hs (λ k d lt. nowhere (suc k) d (omega (arith, lt)))))
+
+pub all_without_place : (agent : List ℕ) (hs : List Holding) → position (is_of agent) hs ≡ None → without (map batch_of hs) agent ≡ map batch_of hs
+all_without_place agent hs none = all_kept agent hs (none_is agent hs none)
+
 -- ---- one more edit that is held
 
 pub held-with : (bs : List Batch) (agent : List ℕ) (held : Held) → held_by (with_held bs agent held) agent ≡ held_by bs agent ++ held ∷ []

@@ -8,6 +8,7 @@ ghost use Rattle.agents.specs.Batches.{held_by as held_by_of, hold_cause, with_h
 ghost use Rattle.agents.specs.Holdings.{IsHeld, StopsHold, batch_of};
 
 use std::alloc::Global;
+use std::mem;
 use tmm_model::{Edit, Name, NoMemory};
 
 /// The most edits that an agent may hold.
@@ -157,4 +158,21 @@ pub(crate) fn forget(holdings: &mut Vec<Holding>, agent: Name)
     ensures settled { All IsHeld holdings.new.items }
 {
     holdings.retain(|holding| holding.agent != agent);
+}
+
+/// Forgets what an agent holds, and hands it over. It takes no memory.
+pub(crate) fn hand_over(holdings: &mut Vec<Holding>, agent: Name, edits: &mut Vec<Held>)
+    requires settled { All IsHeld holdings.old.items }
+    requires empty { edits.old.items ≡ [] }
+    ensures handed { edits.new.items ≡ held_by_of (map batch_of holdings.old.items) agent }
+    ensures forgotten { map batch_of holdings.new.items ≡ without (map batch_of holdings.old.items) agent }
+    ensures settled { All IsHeld holdings.new.items }
+{
+    match place_of(holdings, agent) {
+        Some(place) => {
+            mem::swap(&mut holdings[place].edits, edits);
+            holdings.retain(|holding| holding.agent != agent);
+        }
+        None => {}
+    }
 }

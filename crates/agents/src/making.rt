@@ -1,14 +1,15 @@
 // Edits that are made one after the other.
-ghost use Rattle.std.specs.Prelude.{◌≡◌, All, None, OnOk, IfOk, IfErr};
+ghost use Rattle.std.specs.Prelude.{◌≡◌, All, None, OnOk, IfOk, IfErr, IfSome};
 ghost use Rattle.tmm_model.specs.Changes.{changes, delta_of};
 ghost use Rattle.tmm_model.specs.Edits.{next_list};
 ghost use Rattle.tmm_model.specs.Kept.{IsAccepted};
 ghost use Rattle.tmm_model.specs.Lines.{IsWellFormedEdit};
 ghost use Rattle.agents.specs.Commits.{AcceptedInTurn, list_after};
 ghost use Rattle.agents.specs.Holdings.{StopsBatch, StopsOne};
+ghost use Rattle.agents.specs.States.{IsLevel};
 
 use crate::batches::Held;
-use map_core::{Counter, MapCore};
+use map_core::{Copies, Counter, MapCore};
 use std::alloc::Global;
 use tmm_model::{NoMemory, Refusal, Seq, Stop, Taken};
 
@@ -28,6 +29,48 @@ impl From<NoMemory> for BatchStop {
 
     fn from(_: NoMemory) -> BatchStop {
         BatchStop::NoMemory
+    }
+}
+
+/// A map, and the edits by which it lags behind another one.
+#[derive(Drop)]
+pub struct Lagging<M> {
+    /// The map.
+    pub map: M,
+    /// The edits, the first of them first.
+    pub lag: Vec<Held>,
+}
+
+/// A copy of a map, which lags behind it by nothing.
+pub(crate) fn copied<M: Copies + Drop>(alloc: Global, core: &M) -> Result<Lagging<M>, NoMemory>
+    requires { M.pending core.now ≡ None }
+    ensures { IfOk result (IsLevel M.list M.pending (M.list core.now)) }
+{
+    let map = core.copy(alloc)?;
+    Ok(Lagging {
+        map,
+        lag: Vec::new(alloc),
+    })
+}
+
+/// A map that has caught up with the edits by which it lagged, none where there is no memory to make
+/// them.
+pub(crate) fn caught_up<M: MapCore + Drop>(
+    alloc: Global,
+    spare: Lagging<M>,
+    counter: &mut Counter,
+) -> Option<Lagging<M>>
+    requires idle { M.pending spare.map ≡ None }
+    requires well_formed { All (λ held. IsWellFormedEdit held.edit) spare.lag.items }
+    ensures { IfSome result (IsLevel M.list M.pending (list_after (M.list spare.map) spare.lag.items)) }
+{
+    let Lagging { mut map, mut lag } = spare;
+    match make_all(alloc, &mut map, lag.as_slice(), counter) {
+        Ok(_) => {
+            lag.clear();
+            Some(Lagging { map, lag })
+        }
+        Err(_) => None,
     }
 }
 

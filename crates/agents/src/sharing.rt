@@ -139,7 +139,7 @@ impl<M: Copies + Drop> Sharing<M> {
 
     // Accepts what is offered, where there is a reply, and else takes it back.
     fn close(&mut self, reply: Result<Seq<u8>, NoMemory>, refused: bool) -> Turn
-        requires settled { IsSettled M.pending self.old.agents }
+        requires settled { IsSettled M.list M.pending self.old.agents }
         requires offers { (o : Offered) × (offered M.list self.old.agents ≡ Some o) }
         ensures answers { (o : Offered) → offered M.list self.old.agents ≡ Some o → TurnIs (Closes reply refused (taken_over o (world_of M.list self.old.agents))) (world_of M.list self.old.agents) result (world_of M.list self.new.agents) }
         ensures ready { IsReady M.list M.pending self.new.agents }

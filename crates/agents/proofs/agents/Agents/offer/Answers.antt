@@ -1,4 +1,4 @@
-use Rattle.std.proofs.Common.{List, sym, subst}
+use Rattle.std.proofs.Common.{List, ap, sym, subst, ◌∙◌}
 use Rattle.std.specs.Prelude.{All}
 use Rattle.tmm_model.specs.Lines.{IsWellFormedEdit}
 use Rattle.agents.specs.declared.batches.Held.{Held}
@@ -10,4 +10,4 @@ use Rattle.agents.proofs.agents.Agents.offer.Goals as goal
 pub make_all-requires-clause-well_formed : goal.make_all-requires-clause-well_formed
 make_all-requires-clause-well_formed g c =
     subst (λ (es : List Held). All (λ held. IsWellFormedEdit held.edit) es) (sym c.held_by-held.ensures)
-    (held_well_formed c.as_slice.result.now c.args.agent (subst (λ (hs : List Holding). All IsHeld hs) (sym c.as_slice.ensures.value) c.requires.settled.held))
+    (held_well_formed c.as_slice.result.now c.args.agent (subst (λ (hs : List Holding). All IsHeld hs) (sym (c.as_slice.ensures.value ∙ ap (λ holdings. holdings.items) c.level.ensures.holdings)) c.requires.settled.held))
